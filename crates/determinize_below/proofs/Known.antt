@@ -1,0 +1,96 @@
+-- What is known after a byte, as a table.
+use Rattle.std.proofs.Common.{◌≡◌, ℕ, ◌<◌, Bool, true, false, not, Option, Some, None, nat_eq, refl, sym, ◌∙◌, arith, lit<}
+use mathlib.Core.Bool.{◌&&◌, ◌||◌}
+use Rattle.std.specs.Bool.{Decides}
+use Rattle.std.proofs.lemmas.Bool.{eq-eqb, or_left, and_right}
+use Rattle.determinize_below.specs.Truth.{IsUnit, crlf_first, crlf_second, exactly_one, holds, all_units, known, behind_test}
+use Rattle.determinize_below.specs.Unit.{is_word_byte, is_word, is_byte, is_nothing}
+use Rattle.determinize_below.proofs.Tests.{by_test}
+use Rattle.determinize_below.proofs.Units.{all_units_at, all_units_from, all_units_fails, all_units_constant}
+use Rattle.determinize_below.specs.declared.look.Look.{Look}
+use Rattle.determinize_below.specs.declared.look.Look.TheVariants.{Start, End, StartLF, EndLF, StartCRLF, EndCRLF, WordAscii, WordAsciiNegate, WordUnicode, WordUnicodeNegate, WordStartAscii, WordEndAscii, WordStartUnicode, WordEndUnicode, WordStartHalfAscii, WordEndHalfAscii, WordStartHalfUnicode, WordEndHalfUnicode}
+
+-- the unit of a word byte
+abbrev letter : Option ℕ
+letter = Some 97
+
+letter_unit : IsUnit letter
+letter_unit = lit< tt
+
+letter_word : is_word letter ≡ true
+unfolding is_word_byte
+letter_word = refl
+
+crlf_unit : (reverse : Bool) → IsUnit (Some (crlf_second reverse))
+crlf_unit true = lit< tt
+crlf_unit false = lit< tt
+
+end_lf : (t : ℕ) → all_units (λ q. is_nothing q || is_byte q t) ≡ false
+end_lf t = by_test (nat_eq 0 t)
+    (λ e. all_units_fails (λ q. is_nothing q || is_byte q t) (Some 1) (lit< tt) (other t e))
+    (λ e. all_units_fails (λ q. is_nothing q || is_byte q t) (Some 0) (lit< tt) e)
+  where
+    other : (t : ℕ) → nat_eq 0 t ≡ true → nat_eq 1 t ≡ false
+    other t e = grind arith
+
+end_crlf : (reverse first : Bool) → all_units (λ q. is_nothing q || is_byte q (crlf_first reverse) || (is_byte q (crlf_second reverse) && not first)) ≡ false
+end_crlf true first = all_units_fails (λ q. is_nothing q || is_byte q 10 || (is_byte q 13 && not first)) (Some 0) (lit< tt) refl
+end_crlf false first = all_units_fails (λ q. is_nothing q || is_byte q 13 || (is_byte q 10 && not first)) (Some 0) (lit< tt) refl
+
+start_crlf : (c first : Bool) (n : ℕ) → n < 256 → all_units (λ q. c || (first && not (is_byte q n))) ≡ c
+start_crlf true first n h = all_units_constant true
+start_crlf false first n h = all_units_fails (λ q. first && not (is_byte q n)) (Some n) h (rw (eq-eqb n n refl) (and_right first false refl))
+
+word : (a : Bool) → all_units (λ q. exactly_one a (is_word q)) ≡ false
+word true = all_units_fails (λ q. exactly_one true (is_word q)) letter letter_unit (rw letter_word)
+word false = all_units_fails (λ q. exactly_one false (is_word q)) None tt refl
+
+word_negate : (a : Bool) → all_units (λ q. not (exactly_one a (is_word q))) ≡ false
+word_negate true = all_units_fails (λ q. not (exactly_one true (is_word q))) None tt refl
+word_negate false = all_units_fails (λ q. not (exactly_one false (is_word q))) letter letter_unit (rw letter_word)
+
+word_start : (a : Bool) → all_units (λ q. not a && is_word q) ≡ false
+word_start a = all_units_fails (λ q. not a && is_word q) None tt (grind arith)
+
+word_end : (a : Bool) → all_units (λ q. a && not (is_word q)) ≡ false
+word_end a = all_units_fails (λ q. a && not (is_word q)) letter letter_unit (rw letter_word (grind arith))
+
+word_end_half : all_units (λ q. not (is_word q)) ≡ false
+word_end_half = all_units_fails (λ q. not (is_word q)) letter letter_unit (rw letter_word)
+
+-- the byte before decides Start, StartLF, StartCRLF and WordStartHalf where it makes them true, and nothing else is known
+pub known_is : (reverse : Bool) (t : ℕ) (p : Option ℕ) (l : Look) → known reverse t p l ≡ behind_test (is_nothing p) (is_nothing p || is_byte p t) (is_nothing p || is_byte p (crlf_second reverse)) (not (is_word p)) l
+known_is reverse t p Start = all_units_constant (is_nothing p)
+known_is reverse t p End = all_units_fails is_nothing (Some 0) (lit< tt) refl
+known_is reverse t p StartLF = all_units_constant (is_nothing p || is_byte p t)
+known_is reverse t p EndLF = end_lf t
+known_is reverse t p StartCRLF = start_crlf (is_nothing p || is_byte p (crlf_second reverse)) (is_byte p (crlf_first reverse)) (crlf_second reverse) (crlf_unit reverse)
+known_is reverse t p EndCRLF = end_crlf reverse (is_byte p (crlf_first reverse))
+known_is reverse t p WordAscii = word (is_word p)
+known_is reverse t p WordAsciiNegate = word_negate (is_word p)
+known_is reverse t p WordUnicode = word (is_word p)
+known_is reverse t p WordUnicodeNegate = word_negate (is_word p)
+known_is reverse t p WordStartAscii = word_start (is_word p)
+known_is reverse t p WordEndAscii = word_end (is_word p)
+known_is reverse t p WordStartUnicode = word_start (is_word p)
+known_is reverse t p WordEndUnicode = word_end (is_word p)
+known_is reverse t p WordStartHalfAscii = all_units_constant (not (is_word p))
+known_is reverse t p WordEndHalfAscii = word_end_half
+known_is reverse t p WordStartHalfUnicode = all_units_constant (not (is_word p))
+known_is reverse t p WordEndHalfUnicode = word_end_half
+
+-- what is known is true whatever unit follows
+pub known-holds : (reverse : Bool) (t : ℕ) (p q : Option ℕ) (l : Look) → known reverse t p l ≡ true → holds reverse t p q l ≡ true
+known-holds reverse t p q l h = from_table reverse t p q l (sym (known_is reverse t p l) ∙ h)
+  where
+    from_table : (reverse : Bool) (t : ℕ) (p q : Option ℕ) (l : Look) → behind_test (is_nothing p) (is_nothing p || is_byte p t) (is_nothing p || is_byte p (crlf_second reverse)) (not (is_word p)) l ≡ true → holds reverse t p q l ≡ true
+    from_table reverse t p q Start h = h
+    from_table reverse t p q StartLF h = h
+    from_table reverse t p q StartCRLF h = or_left _ _ h
+    from_table reverse t p q WordStartHalfAscii h = h
+    from_table reverse t p q WordStartHalfUnicode h = h
+    from_table reverse t p q l h = cc
+
+-- what is known is what holds for every unit
+pub known-every : (reverse : Bool) (t : ℕ) (p : Option ℕ) (l : Look) → Decides (known reverse t p l) ((q : Option ℕ) → IsUnit q → holds reverse t p q l ≡ true)
+known-every reverse t p l = (all_units_at (λ q. holds reverse t p q l), all_units_from (λ q. holds reverse t p q l))

@@ -1,0 +1,90 @@
+-- Laws of lists: pieces, the first that passes, what stands before it, what is left out.
+use Rattle.std.specs.List.{filter, flat_map, list_any}
+use Rattle.std.specs.Option.{option_map}
+use mathlib.Core.Path.{fun_ext}
+use Rattle.std.proofs.Common.{◌+◌, ◌++◌, Bool, List, None, Option, Some, [], ap, arith, false, length, length-append, refl, true, ◌∙◌, ◌∷◌, ◌≡◌, ◌≤◌}
+use Rattle.std.proofs.lemmas.Bool.{false≢true}
+use Rattle.std.proofs.lemmas.List.Concat.{flat_map-append}
+use Rattle.std.proofs.lemmas.List.Elements.{filter-append}
+use Rattle.determinize_below.specs.Runs.{before, first, or_else, without}
+use Rattle.determinize_below.proofs.Tests.{by_test}
+
+pub flat_map-same : {A B : Type 0} (f g : A → List B) (xs : List A) → ((x : A) → f x ≡ g x) → flat_map f xs ≡ flat_map g xs
+flat_map-same f g xs h = ap (λ k. flat_map k xs) (fun_ext h)
+
+pub flat_map-flat_map : {A B C : Type 0} (f : A → List B) (g : B → List C) (xs : List A) → flat_map g (flat_map f xs) ≡ flat_map (λ x. flat_map g (f x)) xs
+flat_map-flat_map f g [] = refl
+flat_map-flat_map f g (x ∷ xs) = grind (arith, flat_map-append, flat_map-flat_map f g xs)
+
+pub flat_map_none : {A B : Type 0} (f : A → List B) (xs : List A) → ((x : A) → f x ≡ []) → flat_map f xs ≡ []
+flat_map_none f [] h = refl
+flat_map_none f (x ∷ xs) h = rw (h x) (flat_map_none f xs h)
+
+pub filter-flat_map : {A B : Type 0} (p : B → Bool) (f : A → List B) (xs : List A) → filter p (flat_map f xs) ≡ flat_map (λ x. filter p (f x)) xs
+filter-flat_map p f [] = refl
+filter-flat_map p f (x ∷ xs) = filter-append p (f x) (flat_map f xs) ∙ ap (λ l. filter p (f x) ++ l) (filter-flat_map p f xs)
+
+pub flat_map-without : {A B : Type 0} (f : A → List B) (cap : A → Bool) (xs : List A) → ((x : A) → cap x ≡ true → f x ≡ []) → flat_map f (without cap xs) ≡ flat_map f xs
+flat_map-without f cap [] h = refl
+flat_map-without f cap (x ∷ xs) h = by_test (cap x)
+    (λ e. rw (e, h x e) (flat_map-without f cap xs h))
+    (λ e. rw e (ap (λ l. f x ++ l) (flat_map-without f cap xs h)))
+
+pub before-without : {A : Type 0} (p cap : A → Bool) (xs : List A) → ((x : A) → p x ≡ true → cap x ≡ false) → before p (without cap xs) ≡ without cap (before p xs)
+before-without p cap [] h = refl
+before-without p cap (x ∷ xs) h = by_test (p x)
+    (λ e. rw (e, h x e) (rw e refl))
+    (λ e. by_test (cap x)
+    (λ k. rw (e, k) (before-without p cap xs h))
+    (λ k. rw (e, k) (rw e (ap (λ l. x ∷ l) (before-without p cap xs h)))))
+
+pub first-without : {A : Type 0} (p cap : A → Bool) (xs : List A) → ((x : A) → p x ≡ true → cap x ≡ false) → first p (without cap xs) ≡ first p xs
+first-without p cap [] h = refl
+first-without p cap (x ∷ xs) h = by_test (p x)
+    (λ e. rw (e, h x e) (rw e refl))
+    (λ e. by_test (cap x)
+    (λ k. rw (e, k) (first-without p cap xs h))
+    (λ k. rw (e, k) (rw e (first-without p cap xs h))))
+
+pub without_twice : {A : Type 0} (cap : A → Bool) (xs : List A) → without cap (without cap xs) ≡ without cap xs
+without_twice cap [] = refl
+without_twice cap (x ∷ xs) = by_test (cap x)
+    (λ e. rw e (without_twice cap xs))
+    (λ e. rw e (rw e (ap (λ l. x ∷ l) (without_twice cap xs))))
+
+pub first-append : {A : Type 0} (p : A → Bool) (xs ys : List A) → first p (xs ++ ys) ≡ or_else (first p xs) (first p ys)
+first-append p [] ys = refl
+first-append p (x ∷ xs) ys = by_test (p x) (λ e. rw e refl) (λ e. rw e (first-append p xs ys))
+
+pub or_else-or_else : {A : Type 0} (a b c : Option A) → or_else (or_else a b) c ≡ or_else a (or_else b c)
+or_else-or_else None b c = refl
+or_else-or_else (Some x) b c = refl
+
+pub or_else_none : {A : Type 0} (o : Option A) → or_else o None ≡ o
+or_else_none None = refl
+or_else_none (Some a) = refl
+
+pub map-or_else : {A B : Type 0} (f : A → B) (a b : Option A) → option_map f (or_else a b) ≡ or_else (option_map f a) (option_map f b)
+map-or_else f None b = refl
+map-or_else f (Some x) b = refl
+
+pub length-flat_map_le : {A B : Type 0} (f : A → List B) (xs : List A) → ((x : A) → length (f x) ≤ 1) → length (flat_map f xs) ≤ length xs
+length-flat_map_le f [] h = omega arith
+length-flat_map_le f (x ∷ xs) h =
+    let a : length (f x ++ flat_map f xs) ≡ length (f x) + length (flat_map f xs) = length-append (f x) (flat_map f xs) in
+    let b : length (f x) ≤ 1 = h x in
+    let c : length (flat_map f xs) ≤ length xs = length-flat_map_le f xs h in omega arith
+
+pub length-before_le : {A : Type 0} (p : A → Bool) (xs : List A) → length (before p xs) ≤ length xs
+length-before_le p [] = omega arith
+length-before_le p (x ∷ xs) = by_test (p x)
+    (λ e. rw e (omega arith))
+    (λ e. let h : length (before p xs) ≤ length xs = length-before_le p xs in rw e (omega arith))
+
+pub list_any_unmet : {A : Type 0} (p : A → Bool) (xs : List A) → ((x : A) → p x ≡ false) → list_any p xs ≡ false
+list_any_unmet p [] h = refl
+list_any_unmet p (x ∷ xs) h = rw (h x) (list_any_unmet p xs h)
+
+pub list_any_some : {A P : Type 0} (p : A → Bool) (xs : List A) → list_any p xs ≡ true → ((x : A) → p x ≡ true → P) → P
+list_any_some p [] h f = absurd (false≢true h)
+list_any_some p (x ∷ xs) h f = by_test (p x) (λ e. f x e) (λ e. list_any_some p xs (rw e at h) f)

@@ -1,0 +1,29 @@
+use Rattle.std.proofs.Common.{ℕ, ◌<◌, ◌^◌, bit_or, lit<}
+use Rattle.std.proofs.lemmas.Nat.{or_lt}
+use Rattle.determinize_below.specs.Look.{bit_of}
+use Rattle.determinize_below.specs.declared.look.Look.{Look}
+use Rattle.determinize_below.specs.declared.look.Look.TheVariants.{Start, End, StartLF, EndLF, StartCRLF, EndCRLF, WordAscii, WordAsciiNegate, WordUnicode, WordUnicodeNegate, WordStartAscii, WordEndAscii, WordStartUnicode, WordEndUnicode, WordStartHalfAscii, WordEndHalfAscii, WordStartHalfUnicode, WordEndHalfUnicode}
+
+-- each bit is below the 18th
+pub bit_small : (l : Look) → bit_of l < 2 ^ 18
+bit_small Start = lit< tt
+bit_small End = lit< tt
+bit_small StartLF = lit< tt
+bit_small EndLF = lit< tt
+bit_small StartCRLF = lit< tt
+bit_small EndCRLF = lit< tt
+bit_small WordAscii = lit< tt
+bit_small WordAsciiNegate = lit< tt
+bit_small WordUnicode = lit< tt
+bit_small WordUnicodeNegate = lit< tt
+bit_small WordStartAscii = lit< tt
+bit_small WordEndAscii = lit< tt
+bit_small WordStartUnicode = lit< tt
+bit_small WordEndUnicode = lit< tt
+bit_small WordStartHalfAscii = lit< tt
+bit_small WordEndHalfAscii = lit< tt
+bit_small WordStartHalfUnicode = lit< tt
+bit_small WordEndHalfUnicode = lit< tt
+
+pub or_of_18 : (a b : ℕ) → a < 262144 → b < 262144 → bit_or a b < 262144
+or_of_18 a b = or_lt 18 a b

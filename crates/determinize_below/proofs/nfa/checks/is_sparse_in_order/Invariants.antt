@@ -1,0 +1,9 @@
+use Rattle.std.proofs.Common.{◌≡◌, ◌≤◌, drop}
+use Rattle.determinize_below.specs.Transition.{is_ascending, ascends_from}
+use Rattle.determinize_below.proofs.nfa.checks.is_sparse_in_order.Given as goal
+
+abbrev pub invariant-loop-t : goal.invariant-loop-t
+invariant-loop-t g l = record {
+  rest : is_ascending l.t-items ≡ ascends_from l.low (drop l.t-index l.t-items);
+  low : l.low ≤ 256;
+}

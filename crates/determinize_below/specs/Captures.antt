@@ -1,0 +1,19 @@
+-- Cycles of captures.
+use Rattle.std.specs.Prelude.{◌≡◌, ◌≤◌, ℕ, zero, suc, true}
+use Rattle.determinize_below.specs.Edges.{is_capture, state_at}
+use Rattle.determinize_below.specs.Nfa.{Nfa}
+use Rattle.determinize_below.specs.Node.{Node, Capture}
+
+-- where a capture leads, 0 for another state
+abbrev pub capture_next : Node → ℕ
+capture_next (Capture next) = next
+capture_next _ = 0
+
+-- where so many captures lead, one after another
+abbrev pub followed : Nfa → ℕ → ℕ → ℕ
+followed nfa zero s = s
+followed nfa (suc count) s = capture_next (state_at nfa (followed nfa count s))
+
+-- no cycle has captures alone
+abbrev pub HasNoCaptureCycle : Nfa → Type 0
+HasNoCaptureCycle nfa = (s k : ℕ) → ((j : ℕ) → j ≤ k → is_capture nfa (followed nfa j s) ≡ true) → followed nfa (suc k) s ≡ s → ⊥

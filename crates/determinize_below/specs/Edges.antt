@@ -1,0 +1,92 @@
+-- What the states of an NFA are, and where they lead.
+use Rattle.std.specs.Prelude.{◌≡◌, ◌+◌, ◌<◌, ℕ, Bool, true, false, cond, Option, Some, None, List, [], ◌∷◌, length, nat_eq, slice_index_or}
+use Rattle.std.specs.List.{flat_map}
+use Rattle.determinize_below.specs.declared.look.Look.{Look as Assertion}
+use Rattle.determinize_below.specs.Node.{Node, ByteRange, Sparse, Dense, Look, Union, BinaryUnion, Capture, Fail, Match}
+use Rattle.determinize_below.specs.Nfa.{Nfa}
+use Rattle.determinize_below.specs.Transition.{matches_unit, sparse_target, dense_target, over_unit}
+use Rattle.determinize_below.specs.Reach.{member, none_held, ordered}
+
+-- the list of what an option holds
+abbrev pub listed : {A : Type 0} → Option A → List A
+listed None = []
+listed (Some x) = x ∷ []
+
+-- whether an option holds something
+abbrev pub holds_some : {A : Type 0} → Option A → Bool
+holds_some None = false
+holds_some (Some x) = true
+
+-- the edges of a state that want no input, under a set of assertions, in the order of preference
+abbrev pub edges_of : (Assertion → Bool) → Node → List ℕ
+edges_of holds (Look look next) = cond (holds look) (next ∷ []) []
+edges_of holds (Union ids) = ids
+edges_of holds (BinaryUnion a b) = a ∷ b ∷ []
+edges_of holds (Capture next) = next ∷ []
+edges_of holds _ = []
+
+-- where a state leads over a unit, a byte or the end of the input
+abbrev pub target_of : Option ℕ → Node → Option ℕ
+target_of u (ByteRange t) = cond (matches_unit t u) (Some t.next) None
+target_of u (Sparse ts) = over_unit (sparse_target ts) u
+target_of u (Dense ids) = over_unit (dense_target ids) u
+target_of u _ = None
+
+-- whether the state is a capture
+abbrev pub tests_capture : Node → Bool
+tests_capture (Capture next) = true
+tests_capture _ = false
+
+-- the pattern that the state accepts
+abbrev pub pattern_in : Node → Option ℕ
+pattern_in (Match pattern) = Some pattern
+pattern_in _ = None
+
+-- the assertion that the state tests
+abbrev pub assertion_in : Node → Option Assertion
+assertion_in (Look look next) = Some look
+assertion_in _ = None
+
+-- the state of an id, `Fail` for an id that is no state's
+abbrev pub state_at : Nfa → ℕ → Node
+state_at nfa s = slice_index_or nfa.states s Fail
+
+-- the same of the state of an id
+abbrev pub edges : Nfa → (Assertion → Bool) → ℕ → List ℕ
+edges nfa holds s = edges_of holds (state_at nfa s)
+
+abbrev pub target : Nfa → Option ℕ → ℕ → List ℕ
+target nfa u s = listed (target_of u (state_at nfa s))
+
+abbrev pub is_capture : Nfa → ℕ → Bool
+is_capture nfa s = tests_capture (state_at nfa s)
+
+abbrev pub pattern_of : Nfa → ℕ → Option ℕ
+pattern_of nfa s = pattern_in (state_at nfa s)
+
+abbrev pub is_match : Nfa → ℕ → Bool
+is_match nfa s = holds_some (pattern_of nfa s)
+
+abbrev pub assertion_of : Nfa → ℕ → Option Assertion
+assertion_of nfa s = assertion_in (state_at nfa s)
+
+-- the patterns of the `Match` states of a list, in order
+abbrev pub patterns_of : Nfa → List ℕ → List ℕ
+patterns_of nfa xs = flat_map (λ s. listed (pattern_of nfa s)) xs
+
+-- the states that paths from the roots meet last, each once, by the first such root and then by the least path
+unfoldable pub reach : Nfa → (Assertion → Bool) → List ℕ → List ℕ
+reach nfa holds roots = ordered nat_eq (edges nfa holds) (length nfa.states + 1) none_held roots
+
+-- the same by paths that meet no held state
+unfoldable pub reach_past : Nfa → (Assertion → Bool) → List ℕ → List ℕ → List ℕ
+reach_past nfa holds held roots = ordered nat_eq (edges nfa holds) (length nfa.states + 1) (member nat_eq held) roots
+
+-- some state of the NFA tests the assertion
+abbrev pub IsTested : Nfa → Assertion → Type 0
+IsTested nfa look = (s : ℕ) × (assertion_of nfa s ≡ Some look)
+
+-- what the checks of an NFA give: an edge leads to a state, and a pattern has one `Match`
+pub record IsSound (nfa : Nfa) : Type 0 where
+  pub resolves : (holds : Assertion → Bool) (s t : ℕ) → member nat_eq (edges nfa holds s) t ≡ true → t < length nfa.states
+  pub one_match : (i j p : ℕ) → pattern_of nfa i ≡ Some p → pattern_of nfa j ≡ Some p → i ≡ j

@@ -1,0 +1,16 @@
+pub mod Captures
+pub mod Classes
+pub mod Edges
+pub mod Look
+pub mod Members
+pub mod Nfa
+pub mod Node
+pub mod Paths
+pub mod Positions
+pub mod Reach
+pub mod ReachLaws
+pub mod Runs
+pub mod Search
+pub mod Transition
+pub mod Truth
+pub mod Unit

@@ -1,0 +1,24 @@
+-- Sets that are lists of distinct ids below a capacity.
+use Rattle.std.specs.Prelude.{ℕ, ◌<◌, ◌≤◌, Bool, List, All, nat_eq}
+use Rattle.std.specs.List.{IsDistinct, list_any}
+
+-- the ids in the order of their insertion, and the number below which they lie
+pub record Members : Type 0 where
+  pub ids : List ℕ
+  pub capacity : ℕ
+
+-- whether the id is among them
+abbrev pub holds : List ℕ → ℕ → Bool
+holds ids id = list_any (nat_eq id) ids
+
+-- the ids are distinct and below the capacity
+pub record AreMembers (set : Members) : Type 0 where
+  pub distinct : IsDistinct nat_eq set.ids
+  pub below : All (λ id. id < set.capacity) set.ids
+
+-- distinct ids below the capacity, for all of which there is room
+pub record IsSparse (ids : List ℕ) (capacity room : ℕ) : Type 0 where
+  pub distinct : IsDistinct nat_eq ids
+  pub below : All (λ id. id < capacity) ids
+  pub small : capacity ≤ 2147483647
+  pub room_for_all : capacity ≤ room

@@ -1,0 +1,99 @@
+-- Thompson NFAs as data, and the checks that their parts pass.
+use Rattle.std.specs.Prelude.{◌≡◌, ℕ, ◌+◌, Bool, true, false, not, Option, Some, None, List, [], ◌∷◌, ◌++◌, nat_lt, nat_eq, length, if◌then◌else◌}
+use mathlib.Core.Bool.{◌&&◌}
+use Rattle.std.specs.List.{list_all, list_any}
+use Rattle.std.specs.Option.{option_or}
+use Rattle.determinize_below.specs.Node.{Node, ByteRange, Sparse, Dense, Look, Union, BinaryUnion, Capture, Fail, Match}
+use Rattle.determinize_below.specs.Transition.{is_ascending}
+use Rattle.determinize_below.specs.Look as looks
+use Rattle.determinize_below.specs.declared.nfa.BuildError.{BuildError}
+use Rattle.determinize_below.specs.declared.nfa.BuildError.TheVariants as refusal
+
+-- an NFA: its states, two start states, its direction, the byte that ends a line, and the set of its assertions
+pub record Nfa : Type 0 where
+  pub states : List Node
+  pub start_anchored : ℕ
+  pub start_unanchored : ℕ
+  pub reverse : Bool
+  pub terminator : ℕ
+  pub look_set_any : ℕ
+
+-- whether each id in the state is below the number of states
+abbrev pub resolves : ℕ → Node → Bool
+resolves count (ByteRange t) = nat_lt t.next count
+resolves count (Sparse ts) = list_all (λ t. nat_lt t.next count) ts
+resolves count (Dense ids) = list_all (λ id. nat_lt id count) ids
+resolves count (Look look next) = nat_lt next count
+resolves count (Union ids) = list_all (λ id. nat_lt id count) ids
+resolves count (BinaryUnion a b) = nat_lt a count && nat_lt b count
+resolves count (Capture next) = nat_lt next count
+resolves count Fail = true
+resolves count (Match pattern) = true
+
+-- whether the ranges of a sparse state ascend
+abbrev pub is_sparse_sound : Node → Bool
+is_sparse_sound (Sparse ts) = is_ascending ts
+is_sparse_sound _ = true
+
+-- whether a dense state has a target for each byte
+abbrev pub is_dense_sound : Node → Bool
+is_dense_sound (Dense ids) = nat_eq (length ids) 256
+is_dense_sound _ = true
+
+-- whether the state is a `Match` of the pattern
+abbrev pub matches : ℕ → Node → Bool
+matches pattern (Match other) = nat_eq pattern other
+matches pattern _ = false
+
+-- whether the state is a `Match` of a pattern that was seen
+abbrev pub repeats : (ℕ → Bool) → Node → Bool
+repeats seen (Match pattern) = seen pattern
+repeats seen _ = false
+
+-- whether an earlier state is a `Match` of the same pattern
+abbrev pub is_repeated : List Node → Node → Bool
+is_repeated earlier node = repeats (λ pattern. list_any (matches pattern) earlier) node
+
+-- the first check of the state at `index` that fails, where it is known whether it repeats a pattern
+abbrev pub failure_of : ℕ → Bool → ℕ → Node → Option BuildError
+failure_of count repeated index node =
+    if not (resolves count node) then Some (refusal.UnresolvedId index)
+    else (if not (is_sparse_sound node) then Some (refusal.BadSparse index)
+    else (if not (is_dense_sound node) then Some (refusal.BadDense index)
+    else (if repeated then Some (refusal.RepeatedPattern index) else None)))
+
+-- the first check of the state at `index` that fails, after the earlier states
+abbrev pub state_failure : ℕ → List Node → ℕ → Node → Option BuildError
+state_failure count earlier index node = failure_of count (is_repeated earlier node) index node
+
+-- the first check that fails from the state at `index` on
+abbrev pub states_failure : ℕ → List Node → ℕ → List Node → Option BuildError
+states_failure count earlier index [] = None
+states_failure count earlier index (node ∷ rest) =
+    option_or (state_failure count earlier index node) (states_failure count (earlier ++ node ∷ []) (index + 1) rest)
+
+-- the first of all checks that fails
+abbrev pub failure : List Node → ℕ → ℕ → Option BuildError
+failure states anchored unanchored =
+    if nat_lt 2147483647 (length states) then Some refusal.TooManyStates
+    else (if not (nat_lt anchored (length states) && nat_lt unanchored (length states)) then Some refusal.UnresolvedStart
+    else states_failure (length states) [] 0 states)
+
+-- the set with the assertion that the state tests
+abbrev pub with_look : ℕ → Node → ℕ
+with_look set (Look look next) = looks.insert set look
+with_look set _ = set
+
+-- the set with the assertions of all the states
+abbrev pub with_looks : ℕ → List Node → ℕ
+with_looks set [] = set
+with_looks set (node ∷ rest) = with_looks (with_look set node) rest
+
+-- the assertions of the states
+abbrev pub looks_of : List Node → ℕ
+looks_of states = with_looks 0 states
+
+-- the NFA has passed every check, and knows its assertions
+pub record IsAccepted (nfa : Nfa) : Type 0 where
+  pub passes : failure nfa.states nfa.start_anchored nfa.start_unanchored ≡ None
+  pub looks : nfa.look_set_any ≡ looks_of nfa.states

@@ -1,0 +1,14 @@
+//! Laws over the definitions, as public functions with empty bodies.
+ghost use Rattle.std.specs.Prelude.{◌≡◌, nat_eq, [], ◌∷◌};
+ghost use Rattle.determinize_below.specs.Reach.{ordered, member, none_held};
+ghost use Rattle.determinize_below.specs.ReachLaws.{EachReachIsInOrder, EachReachIsOne, EachReachIsInTurn, small_graph};
+
+/// The computed list of a search is the one list in the order of reach, and can be found root by root; with worked rows.
+pub fn reach_law()
+    ensures in_order { EachReachIsInOrder }
+    ensures only { EachReachIsOne }
+    ensures in_turn { EachReachIsInTurn }
+    ensures row { ordered nat_eq small_graph 5 none_held (0 ∷ []) ≡ 0 ∷ 1 ∷ 2 ∷ 3 ∷ [] }
+    ensures row_held { ordered nat_eq small_graph 5 (member nat_eq (1 ∷ [])) (0 ∷ []) ≡ 0 ∷ 3 ∷ [] }
+    ensures row_roots { ordered nat_eq small_graph 5 none_held (2 ∷ 7 ∷ 1 ∷ []) ≡ 2 ∷ 0 ∷ 1 ∷ 3 ∷ 7 ∷ [] }
+{}

@@ -1,0 +1,50 @@
+//! Laws of assertions and of sets of them. Each function does nothing: its clauses are the law.
+
+ghost use Rattle.std.specs.Prelude.{◌≡◌, ℕ, Bool, true, false, not, ◌==◌, ◌&&◌, ◌||◌, Option, List};
+ghost use Rattle.std.specs.Bool.{Decides};
+ghost use Rattle.std.specs.Int.{to_le_bytes, w32};
+ghost use Rattle.std.specs.List.{list_any};
+ghost use Rattle.determinize_below.specs.Classes as classes;
+ghost use Rattle.determinize_below.specs.Look as looks;
+ghost use Rattle.determinize_below.specs.Look.{has};
+ghost use Rattle.determinize_below.specs.Truth as truth;
+ghost use Rattle.determinize_below.specs.Unit as units;
+ghost use Rattle.determinize_below.specs.declared.look.Look.{Look as Assertion};
+
+use crate::look::{Look, LookSet};
+
+/// A set is its members: sets with the same members, or with the same four bytes, are equal.
+pub fn look_set_law(set: LookSet, other: LookSet)
+    ensures members { ((l : Assertion) → has set l ≡ has other l) → set ≡ other }
+    ensures bytes { to_le_bytes w32 set ≡ to_le_bytes w32 other → set ≡ other }
+    ensures is_empty { Decides (set == 0) ((l : Assertion) → has set l ≡ false) }
+{
+    let _bits = (set.as_repr(), other.as_repr());
+}
+
+/// What the calls of a set do to its members.
+pub fn look_member_law(set: LookSet, other: LookSet, look: Look, member: Look)
+    ensures insert { has (looks.insert set look) look ≡ true }
+    ensures insert_others { ¬ (member ≡ look) → has (looks.insert set look) member ≡ has set member }
+    ensures remove { has (looks.remove set look) look ≡ false }
+    ensures remove_others { ¬ (member ≡ look) → has (looks.remove set look) member ≡ has set member }
+    ensures union { has (looks.union set other) member ≡ (has set member || has other member) }
+    ensures intersect { has (looks.intersect set other) member ≡ (has set member && has other member) }
+    ensures subtract { has (looks.subtract set other) member ≡ (has set member && not (has other member)) }
+{
+    let _bits = other.as_repr();
+}
+
+/// A set is of a class where it has a member of the class.
+pub fn look_class_law(set: LookSet)
+    ensures haystack { looks.has_haystack set ≡ list_any (has set) classes.haystack_looks }
+    ensures line { looks.has_line set ≡ list_any (has set) classes.line_looks }
+    ensures crlf { looks.has_crlf set ≡ list_any (has set) classes.crlf_looks }
+    ensures word { looks.has_word set ≡ list_any (has set) classes.word_looks }
+{}
+
+/// What is known behind a byte, or behind nothing, is what holds there whatever unit follows; a short table says what that is.
+pub fn known_law(reverse: bool, terminator: u8, before: Option<u8>, look: Look)
+    ensures every { Decides (truth.known reverse terminator before look) ((q : Option ℕ) → truth.IsUnit q → truth.holds reverse terminator before q look ≡ true) }
+    ensures table { truth.known reverse terminator before look ≡ truth.behind_test (units.is_nothing before) (units.is_nothing before || units.is_byte before terminator) (units.is_nothing before || units.is_byte before (truth.crlf_second reverse)) (not (units.is_word before)) look }
+{}

@@ -1,0 +1,143 @@
+//! The checks that the parts of an NFA pass.
+
+ghost use Rattle.std.specs.Prelude.{◌≡◌, ℕ, Bool, Some, None, [], length, map, nat_lt, nat_eq, not, IfOk, OnOk, IfErr, ◌⊎◌, ◌||◌};
+ghost use Rattle.std.specs.List.{list_all, list_any};
+ghost use Rattle.std.specs.HashSet.{contains};
+ghost use Rattle.determinize_below.specs.Node.{node_of};
+ghost use Rattle.determinize_below.specs.Nfa.{resolves, is_sparse_sound, is_dense_sound, matches, looks_of, failure_of, repeats, states_failure};
+
+use crate::look::LookSet;
+use crate::nfa::BuildError;
+use crate::nfa::state::State;
+use crate::nfa::transitions::Transition;
+use crate::primitives::{PatternID, StateID};
+use std::alloc::{AllocError, Allocator};
+use std::collections::HashSet;
+use std::hash::{BuildHasherDefault, FoldHasher};
+
+/// Whether each id in the state is below the number of states.
+fn is_resolved<A: Allocator>(state: &State<A>, count: usize) -> bool
+    ensures { result ≡ resolves count (node_of state.now) }
+{
+    match state {
+        State::ByteRange { trans } => trans.next.as_usize() < count,
+        State::Sparse(sparse) => have_targets_below(sparse.transitions.as_slice(), count),
+        State::Dense(dense) => are_below(dense.transitions.as_slice(), count),
+        State::Look { next, .. } | State::Capture { next } => next.as_usize() < count,
+        State::Union { alternates } => are_below(alternates.as_slice(), count),
+        State::BinaryUnion { alt1, alt2 } => alt1.as_usize() < count && alt2.as_usize() < count,
+        State::Fail | State::Match { .. } => true,
+    }
+}
+
+fn are_below(ids: &[StateID], count: usize) -> bool
+    ensures { result ≡ list_all (λ i. nat_lt i count) ids.now }
+{
+    ids.iter().all(|id| id.as_usize() < count)
+}
+
+fn have_targets_below(transitions: &[Transition], count: usize) -> bool
+    ensures { result ≡ list_all (λ t. nat_lt t.next count) transitions.now }
+{
+    transitions.iter().all(|t| t.next.as_usize() < count)
+}
+
+/// Whether the ranges of a sparse state ascend.
+fn is_sparse_in_order<A: Allocator>(state: &State<A>) -> bool
+    ensures { result ≡ is_sparse_sound (node_of state.now) }
+{
+    let State::Sparse(sparse) = state else {
+        return true;
+    };
+    let mut low = 0u16;
+    for t in &sparse.transitions {
+        if u16::from(t.start) < low || t.end < t.start {
+            return false;
+        }
+        low = u16::from(t.end) + 1;
+    }
+    true
+}
+
+/// Whether a dense state has a target for each byte.
+fn is_dense_whole<A: Allocator>(state: &State<A>) -> bool
+    ensures { result ≡ is_dense_sound (node_of state.now) }
+{
+    match state {
+        State::Dense(dense) => dense.transitions.len() == 256,
+        _ => true,
+    }
+}
+
+/// The assertions of all states.
+pub(crate) fn looks_in<A: Allocator>(states: &[State<A>]) -> LookSet
+    ensures { result ≡ looks_of (map node_of states.now) }
+{
+    let mut looks = LookSet::empty();
+    for state in states {
+        if let State::Look { look, .. } = state {
+            looks = looks.insert(*look);
+        }
+    }
+    looks
+}
+
+/// The patterns that the `Match` states so far accept.
+type Patterns<A> = HashSet<PatternID, BuildHasherDefault<FoldHasher>, A>;
+
+/// Adds the pattern, and answers whether it is new.
+fn add_pattern<A: Allocator + Clone>(
+    seen: &mut Patterns<A>,
+    pattern: PatternID,
+) -> Result<bool, AllocError>
+    ensures added { IfOk result (λ added. added ≡ not (contains nat_eq seen.old pattern)) }
+    ensures after { OnOk result ((q : ℕ) → contains nat_eq seen.new q ≡ (nat_eq q pattern || contains nat_eq seen.old q)) }
+{
+    Ok(seen.insert(pattern)?)
+}
+
+/// The checks of one state, after states that accept the patterns in `seen`. Its own pattern is
+/// added.
+fn check_state<A: Allocator, B: Allocator + Clone>(
+    state: &State<A>,
+    index: usize,
+    count: usize,
+    seen: &mut Patterns<B>,
+) -> Result<(), BuildError>
+    ensures ok { OnOk result (failure_of count (repeats (contains nat_eq seen.old) (node_of state.now)) index (node_of state.now) ≡ None) }
+    ensures after { OnOk result ((q : ℕ) → contains nat_eq seen.new q ≡ (matches q (node_of state.now) || contains nat_eq seen.old q)) }
+    ensures err { IfErr result (λ e. (failure_of count (repeats (contains nat_eq seen.old) (node_of state.now)) index (node_of state.now) ≡ Some e) ⊎ (e ≡ BuildError.OutOfMemory)) }
+{
+    if !is_resolved(state, count) {
+        return Err(BuildError::UnresolvedId(index));
+    }
+    if !is_sparse_in_order(state) {
+        return Err(BuildError::BadSparse(index));
+    }
+    if !is_dense_whole(state) {
+        return Err(BuildError::BadDense(index));
+    }
+    if let State::Match { pattern_id } = state {
+        match add_pattern(seen, *pattern_id) {
+            Ok(true) => {}
+            Ok(false) => return Err(BuildError::RepeatedPattern(index)),
+            Err(_) => return Err(BuildError::OutOfMemory),
+        }
+    }
+    Ok(())
+}
+
+/// The checks of all states, in their order. The first that fails is answered, or want of memory.
+pub(crate) fn check_states<A: Allocator, B: Allocator + Clone>(
+    alloc: B,
+    states: &[State<A>],
+) -> Result<(), BuildError>
+    ensures ok { OnOk result (states_failure (length states.now) [] 0 (map node_of states.now) ≡ None) }
+    ensures err { IfErr result (λ e. (states_failure (length states.now) [] 0 (map node_of states.now) ≡ Some e) ⊎ (e ≡ BuildError.OutOfMemory)) }
+{
+    let mut seen = HashSet::new(alloc);
+    for (index, state) in states.iter().enumerate() {
+        check_state(state, index, states.len(), &mut seen)?;
+    }
+    Ok(())
+}

@@ -1,0 +1,139 @@
+//! Transitions of NFA states over bytes.
+
+ghost use Rattle.std.specs.Prelude.{◌≡◌, ℕ, IsTrue, length, None, Option};
+ghost use Rattle.determinize_below.specs.Transition as transitions;
+ghost use Rattle.determinize_below.specs.Unit.{byte_of};
+
+use crate::alphabet::Unit;
+use crate::primitives::StateID;
+use std::alloc::{Allocator, Global};
+use std::fmt;
+use std::marker::Model;
+
+/// A transition to `next` over each byte from `start` to `end`, both included. Where `start` is
+/// above `end`, it is over no byte.
+#[derive(Clone, Copy, Debug, PartialEq, Eq)]
+pub struct Transition {
+    /// The first byte.
+    pub start: u8,
+    /// The last byte.
+    pub end: u8,
+    /// The state that it leads to.
+    pub next: StateID,
+}
+
+impl Transition {
+    /// Whether the transition is over this byte.
+    pub fn matches_byte(&self, byte: u8) -> bool
+        ensures { result ≡ transitions.matches self.now byte }
+    {
+        self.start <= byte && byte <= self.end
+    }
+
+    /// Whether the transition is over this unit. It is never over the end of the input.
+    pub fn matches_unit(&self, unit: Unit) -> bool
+        ensures { result ≡ transitions.matches_unit self.now (byte_of unit) }
+    {
+        match unit {
+            Unit::U8(byte) => self.matches_byte(byte),
+            Unit::Eoi(_) => false,
+        }
+    }
+}
+
+/// Transitions over ranges of bytes that ascend and do not meet.
+#[derive(Drop)]
+pub struct SparseTransitions<A: Allocator = Global> {
+    /// The transitions, in the order of their bytes.
+    pub transitions: Vec<Transition, A>,
+}
+
+impl<A: Allocator> Model for SparseTransitions<A> {
+    ghost use Rattle.std.specs.Prelude.{List};
+    ghost use Rattle.determinize_below.specs.declared.nfa.transitions.Transition.{Transition};
+
+    ghost Value = { List Transition };
+
+    ghost view = { λ s. s.transitions.items };
+}
+
+impl<A: Allocator> SparseTransitions<A> {
+    /// Where the byte leads, or none where no range holds it.
+    pub fn matches_byte(&self, byte: u8) -> Option<StateID>
+        requires { IsTrue (transitions.is_ascending self.now) }
+        ensures { result ≡ transitions.sparse_target self.now byte }
+    {
+        self.transitions
+            .iter()
+            .find(|t| t.matches_byte(byte))
+            .map(|t| t.next)
+    }
+
+    /// Where the unit leads. The end of the input leads nowhere.
+    pub fn matches_unit(&self, unit: Unit) -> Option<StateID>
+        requires { IsTrue (transitions.is_ascending self.now) }
+        ensures { result ≡ transitions.over_unit (transitions.sparse_target self.now) (byte_of unit) }
+    {
+        match unit {
+            Unit::U8(byte) => self.matches_byte(byte),
+            Unit::Eoi(_) => None,
+        }
+    }
+}
+
+impl<A: Allocator> fmt::Debug for SparseTransitions<A> {
+    fn fmt<W: fmt::Write>(&self, f: &mut fmt::Formatter<W>) -> fmt::Result {
+        f.debug_struct("SparseTransitions")
+            .field("transitions", &self.transitions.as_slice())
+            .finish()
+    }
+}
+
+/// A target for each of the 256 bytes, where id 0 means none.
+#[derive(Drop)]
+pub struct DenseTransitions<A: Allocator = Global> {
+    /// The targets, by byte.
+    pub transitions: Vec<StateID, A>,
+}
+
+impl<A: Allocator> Model for DenseTransitions<A> {
+    ghost use Rattle.std.specs.Prelude.{List, ℕ};
+
+    ghost Value = { List ℕ };
+
+    ghost view = { λ s. s.transitions.items };
+}
+
+impl<A: Allocator> DenseTransitions<A> {
+    /// Where the byte leads, or none.
+    pub fn matches_byte(&self, byte: u8) -> Option<StateID>
+        requires { length self.now ≡ 256 }
+        ensures { result ≡ transitions.dense_target self.now byte }
+    {
+        let next = self.transitions[usize::from(byte)];
+        if next == StateID::ZERO {
+            None
+        } else {
+            Some(next)
+        }
+    }
+
+    /// Where the unit leads. The end of the input leads nowhere.
+    pub fn matches_unit(&self, unit: Unit) -> Option<StateID>
+        requires { length self.now ≡ 256 }
+        ensures { result ≡ transitions.over_unit (transitions.dense_target self.now) (byte_of unit) }
+    {
+        match unit {
+            Unit::U8(byte) => self.matches_byte(byte),
+            Unit::Eoi(_) => None,
+        }
+    }
+}
+
+impl<A: Allocator> fmt::Debug for DenseTransitions<A> {
+    fn fmt<W: fmt::Write>(&self, f: &mut fmt::Formatter<W>) -> fmt::Result {
+        f.debug_struct("DenseTransitions")
+            .field("transitions", &self.transitions.as_slice())
+            .finish()
+    }
+}

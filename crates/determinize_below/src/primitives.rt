@@ -1,0 +1,165 @@
+//! Identifiers of NFA states and of patterns: small numbers in 32 bits.
+//!
+//! Both have the same limit, 2147483646. So the number of states of an NFA fits 31 bits, and the
+//! difference of two ids fits a signed number of 32 bits.
+
+ghost use Rattle.std.specs.Prelude.{◌≡◌, ℕ, ◌≤◌, IfErr};
+ghost use Rattle.std.specs.Result.{OkIff};
+
+use std::marker::Model;
+
+/// The number of a state of an NFA, from 0 to 2147483646.
+#[derive(Clone, Copy, Debug, PartialEq, Eq, PartialOrd, Ord, Hash)]
+pub struct StateID(u32);
+
+impl Model for StateID {
+    ghost Value = { ℕ };
+
+    ghost view = { λ s. s.0 };
+
+    ghost invariant = { λ s. s.0 ≤ 2147483646 };
+
+    ghost inverse = { λ n. record { 0 = n } };
+}
+
+/// A number that is too large for a `StateID`.
+#[derive(Clone, Copy, Debug, PartialEq, Eq)]
+pub struct StateIDError {
+    attempted: u64,
+}
+
+impl Model for StateIDError {
+    ghost Value = { ℕ };
+
+    ghost view = { λ e. e.attempted };
+
+    ghost inverse = { λ n. record { attempted = n } };
+}
+
+impl StateIDError {
+    /// The number that was refused.
+    pub fn attempted(&self) -> u64
+        ensures { result ≡ self.now }
+    {
+        self.attempted
+    }
+}
+
+impl StateID {
+    /// The least id, 0.
+    pub const ZERO: StateID = StateID(0);
+
+    /// The greatest id, 2147483646.
+    pub const MAX: StateID = StateID(2147483646);
+
+    /// The number of bytes of an id that is written out, 4.
+    pub const SIZE: usize = 4;
+
+    /// The id of this number. A number above 2147483646 is refused, and the error gives it back.
+    pub fn new(id: usize) -> Result<StateID, StateIDError>
+        ensures ok { OkIff result (id ≤ 2147483646) id }
+        ensures err { IfErr result (λ e. e ≡ id) }
+    {
+        if id <= 2147483646 {
+            Ok(StateID(id as u32))
+        } else {
+            Err(StateIDError {
+                attempted: id as u64,
+            })
+        }
+    }
+
+    /// The number of the id.
+    pub fn as_u32(self) -> u32
+        ensures value { result ≡ self }
+        ensures small { self ≤ 2147483646 }
+    {
+        self.0
+    }
+
+    /// The number of the id, as an index.
+    pub fn as_usize(self) -> usize
+        ensures value { result ≡ self }
+        ensures small { self ≤ 2147483646 }
+    {
+        self.0 as usize
+    }
+}
+
+/// The number of a pattern, from 0 to 2147483646.
+#[derive(Clone, Copy, Debug, PartialEq, Eq, PartialOrd, Ord, Hash)]
+pub struct PatternID(u32);
+
+impl Model for PatternID {
+    ghost Value = { ℕ };
+
+    ghost view = { λ p. p.0 };
+
+    ghost invariant = { λ p. p.0 ≤ 2147483646 };
+
+    ghost inverse = { λ n. record { 0 = n } };
+}
+
+/// A number that is too large for a `PatternID`.
+#[derive(Clone, Copy, Debug, PartialEq, Eq)]
+pub struct PatternIDError {
+    attempted: u64,
+}
+
+impl Model for PatternIDError {
+    ghost Value = { ℕ };
+
+    ghost view = { λ e. e.attempted };
+
+    ghost inverse = { λ n. record { attempted = n } };
+}
+
+impl PatternIDError {
+    /// The number that was refused.
+    pub fn attempted(&self) -> u64
+        ensures { result ≡ self.now }
+    {
+        self.attempted
+    }
+}
+
+impl PatternID {
+    /// The least id, 0.
+    pub const ZERO: PatternID = PatternID(0);
+
+    /// The greatest id, 2147483646.
+    pub const MAX: PatternID = PatternID(2147483646);
+
+    /// The number of bytes of an id that is written out, 4.
+    pub const SIZE: usize = 4;
+
+    /// The id of this number. A number above 2147483646 is refused, and the error gives it back.
+    pub fn new(id: usize) -> Result<PatternID, PatternIDError>
+        ensures ok { OkIff result (id ≤ 2147483646) id }
+        ensures err { IfErr result (λ e. e ≡ id) }
+    {
+        if id <= 2147483646 {
+            Ok(PatternID(id as u32))
+        } else {
+            Err(PatternIDError {
+                attempted: id as u64,
+            })
+        }
+    }
+
+    /// The number of the id.
+    pub fn as_u32(self) -> u32
+        ensures value { result ≡ self }
+        ensures small { self ≤ 2147483646 }
+    {
+        self.0
+    }
+
+    /// The number of the id, as an index.
+    pub fn as_usize(self) -> usize
+        ensures value { result ≡ self }
+        ensures small { self ≤ 2147483646 }
+    {
+        self.0 as usize
+    }
+}

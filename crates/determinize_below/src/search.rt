@@ -1,0 +1,130 @@
+//! What a search is asked for: where, from which start, and which matches.
+
+ghost use Rattle.std.specs.Prelude.{◌≡◌, ℕ, ◌+◌, ◌≤◌, length};
+ghost use Rattle.determinize_below.specs.Search as search_specs;
+
+use crate::primitives::PatternID;
+use std::marker::Model;
+use std::ops::Range;
+
+/// Which matches a search reports.
+#[derive(Clone, Copy, Debug, PartialEq, Eq)]
+pub enum MatchKind {
+    /// All of them.
+    All,
+    /// Those up to the first one that the pattern prefers.
+    LeftmostFirst,
+}
+
+impl MatchKind {
+    /// Whether a search goes on behind the first match: true for `All` alone.
+    pub fn continue_past_first_match(&self) -> bool
+        ensures { result ≡ search_specs.continues self.now }
+    {
+        match *self {
+            MatchKind::All => true,
+            MatchKind::LeftmostFirst => false,
+        }
+    }
+}
+
+/// Whether a match must begin where the search does.
+#[derive(Clone, Copy, Debug, PartialEq, Eq)]
+pub enum Anchored {
+    /// A match may begin anywhere.
+    No,
+    /// A match begins where the search does.
+    Yes,
+    /// A match of this pattern begins where the search does.
+    Pattern(PatternID),
+}
+
+/// A haystack, the range of it that is searched, and whether the search is anchored.
+#[derive(Clone, Debug, Drop)]
+pub struct Input<'h> {
+    haystack: &'h [u8],
+    start: usize,
+    end: usize,
+    anchored: Anchored,
+}
+
+impl<'h> Model for Input<'h> {
+    ghost use Rattle.std.specs.Prelude.{◌+◌, ◌≤◌, length};
+    ghost use Rattle.determinize_below.specs.Search.{Asked};
+
+    ghost Value = { Asked };
+
+    ghost view = { λ i. record { haystack = i.haystack.now; start = i.start; end = i.end; anchored = i.anchored } };
+
+    ghost invariant = { λ i. (i.end ≤ length i.haystack.now) × (i.start ≤ i.end + 1) };
+}
+
+impl<'h> Input<'h> {
+    /// A search of the whole haystack that isn't anchored.
+    pub fn new(haystack: &'h [u8]) -> Input<'h>
+        ensures { result ≡ record { haystack = haystack.now; start = 0; end = length haystack.now; anchored = Anchored.No } }
+    {
+        Input {
+            haystack,
+            start: 0,
+            end: haystack.len(),
+            anchored: Anchored::No,
+        }
+    }
+
+    /// The same search of this range. The range ends in the haystack or at its end, and starts at most one past its own end.
+    pub fn range(self, range: Range<usize>) -> Input<'h>
+        requires in_haystack { range.end ≤ length self.haystack }
+        requires near { range.start ≤ range.end + 1 }
+        ensures { result ≡ record self.entry { start = range.start; end = range.end } }
+    {
+        Input {
+            haystack: self.haystack,
+            start: range.start,
+            end: range.end,
+            anchored: self.anchored,
+        }
+    }
+
+    /// The same search, anchored as told.
+    pub fn anchored(self, anchored: Anchored) -> Input<'h>
+        ensures { result ≡ record self.entry { anchored = anchored } }
+    {
+        Input {
+            haystack: self.haystack,
+            start: self.start,
+            end: self.end,
+            anchored,
+        }
+    }
+
+    /// Where the range starts: an index into the haystack, at most one past `end`.
+    pub fn start(&self) -> usize
+        ensures value { result ≡ self.now.start }
+        ensures near { result ≤ self.now.end + 1 }
+    {
+        self.start
+    }
+
+    /// Where the range ends: an index into the haystack, at most its length.
+    pub fn end(&self) -> usize
+        ensures value { result ≡ self.now.end }
+        ensures in_haystack { result ≤ length self.now.haystack }
+    {
+        self.end
+    }
+
+    /// The whole haystack, with what is outside of the range.
+    pub fn haystack(&self) -> &'h [u8]
+        ensures { result.now ≡ self.now.haystack }
+    {
+        self.haystack
+    }
+
+    /// Whether the search is anchored.
+    pub fn get_anchored(&self) -> Anchored
+        ensures { result ≡ self.now.anchored }
+    {
+        self.anchored
+    }
+}

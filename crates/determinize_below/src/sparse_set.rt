@@ -1,0 +1,194 @@
+//! Sets of state ids that keep the order in which their ids came.
+
+ghost use Rattle.std.specs.Prelude.{◌≡◌, ℕ, ◌<◌, ◌≤◌, ◌↔◌, [], ◌∷◌, ◌++◌, length, not, IsTrue, IfOk, if◌then◌else◌, vec_len, vec_capacity};
+ghost use Rattle.std.specs.Iterator.{YieldsFirst, item_count};
+ghost use Rattle.determinize_below.specs.Members.{holds};
+
+use crate::primitives::StateID;
+use std::alloc::{AllocError, Allocator, Global};
+use std::fmt;
+use std::marker::Model;
+
+/// Distinct ids below a capacity, in the order of their insertion.
+#[derive(Drop)]
+pub struct SparseSet<A: Allocator = Global> {
+    ids: Vec<StateID, A>,
+    capacity: usize,
+}
+
+impl<A: Allocator> Model for SparseSet<A> {
+    ghost use Rattle.std.specs.Prelude.{vec_capacity};
+    ghost use Rattle.determinize_below.specs.Members.{Members, IsSparse};
+
+    ghost Value = { Members };
+
+    ghost view = { λ s. record { ids = s.ids.items; capacity = s.capacity } };
+
+    ghost invariant = { λ s. IsSparse s.ids.items s.capacity (vec_capacity s.ids) };
+}
+
+impl<A: Allocator> SparseSet<A> {
+    ghost use Rattle.determinize_below.specs.Members.{AreMembers};
+
+    /// An empty set for the ids below the capacity. All memory that it will ever want is taken
+    /// here.
+    pub fn new(alloc: A, capacity: usize) -> Result<SparseSet<A>, AllocError>
+        requires { capacity ≤ 2147483647 }
+        ensures { IfOk result (λ s. s ≡ record { ids = []; capacity = capacity }) }
+    {
+        Ok(SparseSet {
+            ids: Vec::with_capacity(alloc, capacity)?,
+            capacity,
+        })
+    }
+
+    /// The number of ids.
+    pub fn len(&self) -> usize
+        ensures { result ≡ length self.now.ids }
+    {
+        self.ids.len()
+    }
+
+    /// Whether there is no id.
+    pub fn is_empty(&self) -> bool
+        ensures { IsTrue result ↔ (self.now.ids ≡ []) }
+    {
+        self.ids.is_empty()
+    }
+
+    /// The number below which all ids lie.
+    pub fn capacity(&self) -> usize
+        ensures { result ≡ self.now.capacity }
+    {
+        self.capacity
+    }
+
+    /// Whether the id is in the set.
+    pub fn contains(&self, id: StateID) -> bool
+        requires { id < self.now.capacity }
+        ensures { result ≡ holds self.now.ids id }
+    {
+        self.ids.contains(&id)
+    }
+
+    /// Adds the id behind the others, and answers whether it was new. It takes no memory.
+    pub fn insert(&mut self, id: StateID) -> bool
+        requires { id < self.old.capacity }
+        ensures new { result ≡ not (holds self.old.ids id) }
+        ensures after { self.new ≡ record self.old { ids = (if result then self.old.ids ++ id ∷ [] else self.old.ids) } }
+    {
+        if self.contains(id) {
+            return false;
+        }
+        push_into_room(&mut self.ids, id);
+        true
+    }
+
+    /// Removes every id. The capacity stays.
+    pub fn clear(&mut self)
+        ensures { self.new ≡ record self.old { ids = [] } }
+    {
+        self.ids.clear();
+    }
+
+    /// The ids, in the order of their insertion.
+    pub fn iter(&self) -> SparseSetIter<'_>
+        ensures ids { result ≡ self.now.ids }
+        ensures members { AreMembers self.now }
+    {
+        SparseSetIter {
+            ids: self.ids.as_slice(),
+        }
+    }
+}
+
+impl<A: Allocator> fmt::Debug for SparseSet<A> {
+    fn fmt<W: fmt::Write>(&self, f: &mut fmt::Formatter<W>) -> fmt::Result {
+        f.debug_struct("SparseSet")
+            .field("ids", &self.ids.as_slice())
+            .field("capacity", &self.capacity)
+            .finish()
+    }
+}
+
+/// A push that takes no memory.
+fn push_into_room<A: Allocator>(ids: &mut Vec<StateID, A>, id: StateID)
+    requires { vec_len ids.old < vec_capacity ids.old }
+    ensures items { ids.new.items ≡ ids.old.items ++ id ∷ [] }
+    ensures capacity { vec_capacity ids.old ≤ vec_capacity ids.new }
+{
+    let Ok(()) = ids.push(id) else { unreachable!() };
+}
+
+/// The ids of a set that are left, in the order of their insertion.
+#[derive(Debug, Drop)]
+pub struct SparseSetIter<'a> {
+    ids: &'a [StateID],
+}
+
+impl<'a> Model for SparseSetIter<'a> {
+    ghost use Rattle.std.specs.Prelude.{List, ℕ};
+
+    ghost Value = { List ℕ };
+
+    ghost view = { λ s. s.ids.now };
+}
+
+impl<'a> Iterator for SparseSetIter<'a> {
+    type Item = StateID;
+
+    ghost next_gives = { YieldsFirst (λ s. s) };
+
+    ghost remaining = { item_count (λ s. s) };
+
+    fn next(&mut self) -> Option<StateID> {
+        let Some((id, after)) = self.ids.split_first() else {
+            return None;
+        };
+        self.ids = after;
+        Some(*id)
+    }
+}
+
+/// Two sets, as a transition wants them for its work.
+#[derive(Debug, Drop)]
+pub struct SparseSets<A: Allocator = Global> {
+    /// The first set.
+    pub set1: SparseSet<A>,
+    /// The second set.
+    pub set2: SparseSet<A>,
+}
+
+impl<A: Allocator + Copy> SparseSets<A> {
+    /// Two empty sets for the ids below the capacity.
+    pub fn new(alloc: A, capacity: usize) -> Result<SparseSets<A>, AllocError>
+        requires { capacity ≤ 2147483647 }
+        ensures first { IfOk result (λ s. s.set1 ≡ record { ids = []; capacity = capacity }) }
+        ensures second { IfOk result (λ s. s.set2 ≡ record { ids = []; capacity = capacity }) }
+    {
+        Ok(SparseSets {
+            set1: SparseSet::new(alloc, capacity)?,
+            set2: SparseSet::new(alloc, capacity)?,
+        })
+    }
+}
+
+impl<A: Allocator> SparseSets<A> {
+    /// Empties both sets.
+    pub fn clear(&mut self)
+        ensures { self.new ≡ record {
+          set1 = record self.old.set1 { ids = [] };
+          set2 = record self.old.set2 { ids = [] };
+        } }
+    {
+        self.set1.clear();
+        self.set2.clear();
+    }
+
+    /// Exchanges the two sets.
+    pub fn swap(&mut self)
+        ensures { self.new ≡ record { set1 = self.old.set2; set2 = self.old.set1 } }
+    {
+        std::mem::swap(&mut self.set1, &mut self.set2);
+    }
+}
