@@ -1,0 +1,180 @@
+-- The search of a closure, one turn after another.
+use Rattle.std.proofs.Common.{◌≡◌, ℕ, ◌+◌, ◌<◌, ◌≤◌, Bool, true, false, not, List, [], ◌∷◌, ◌++◌, length, nat_eq, All, refl, sym, ap, ◌∙◌, arith, subst, append_assoc, ◌||◌, if◌then◌else◌}
+use Rattle.std.proofs.lemmas.List.{append-nil, append_cancel_left}
+use Rattle.std.proofs.lemmas.List.Elements.{All-head, All-tail, All-append, All-cons, All-nil}
+use Rattle.std.proofs.lemmas.Bool.Decides.{nat_tests}
+use Rattle.determinize_below.specs.declared.look.Look.{Look as Assertion}
+use Rattle.determinize_below.specs.Edges.{edges, edges_of, state_at, reach_past, IsSound}
+use Rattle.determinize_below.specs.Members.{Members, holds}
+use Rattle.determinize_below.specs.Nfa.{Nfa}
+use Rattle.determinize_below.specs.Node.{Node, ByteRange, Sparse, Dense, Look, Union, BinaryUnion, Capture, Fail, Match, is_epsilon}
+use Rattle.determinize_below.proofs.Tests.{by_test}
+use Rattle.std.proofs.lemmas.Bool.{true≢false}
+use Rattle.determinize_below.specs.Reach.{member, ordered}
+use Rattle.determinize_below.specs.Runs.{IsBeginning}
+use Rattle.determinize_below.proofs.Elements.{All-from_member}
+use Rattle.determinize_below.proofs.Nodes.{same_decides}
+use Rattle.determinize_below.proofs.SearchSteps.{closure-held, closure-new, closure-done, tries-held, tries-new}
+use Rattle.determinize_below.proofs.SoundNfa.{edges_enough}
+use Rattle.determinize_core.specs.Closure.{search_end, tries_left, IsTurn}
+
+-- the two tests for being in a list
+pub holds-member : (ids : List ℕ) (id : ℕ) → holds ids id ≡ member nat_eq ids id
+holds-member [] id = refl
+holds-member (x ∷ ids) id = turned x id (holds ids id) ∙ ap (λ b. nat_eq x id || b) (holds-member ids id)
+  where
+    turned : (x id : ℕ) (b : Bool) → (nat_eq id x || b) ≡ (nat_eq x id || b)
+    turned x id b = grind (arith, nat_tests)
+
+module _ (nfa : Nfa) (sound : IsSound nfa) (look : Assertion → Bool) where
+  -- a search with nothing pending has ended
+  pub search_end-done : (met : List ℕ) → search_end nfa look met [] ≡ met
+  unfolding search_end
+  search_end-done met = closure-done same_decides (edges nfa look) (length nfa.states + 1) (edges_enough nfa sound look) met
+
+  -- and tries nothing more
+  pub tries_left-done : (met : List ℕ) → tries_left nfa look met [] ≡ 0
+  unfolding tries_left
+  tries_left-done met = refl
+
+  -- a state that was met is passed over
+  pub turn_held : (met rest : List ℕ) (id : ℕ) → holds met id ≡ true → IsTurn nfa look met met id rest rest
+  unfolding search_end tries_left
+  turn_held met rest id h =
+      let there : member nat_eq met id ≡ true = sym (holds-member met id) ∙ h in
+      record {
+        same = sym (closure-held same_decides (edges nfa look) (length nfa.states + 1) (edges_enough nfa sound look) met id rest there);
+        fewer = tries-held same_decides (edges nfa look) (length nfa.states + 1) (edges_enough nfa sound look) met id rest there;
+        grown = ([], sym (append-nil met));
+        below = λ h. h;
+      }
+
+  -- a new state is met, and its edges are pending before the rest
+  pub turn_new : (met rest : List ℕ) (id : ℕ) → holds met id ≡ false → IsTurn nfa look met (met ++ id ∷ []) id rest (edges nfa look id ++ rest)
+  unfolding search_end tries_left
+  turn_new met rest id h =
+      let free : member nat_eq met id ≡ false = sym (holds-member met id) ∙ h in
+      record {
+        same = sym (closure-new same_decides (edges nfa look) (length nfa.states + 1) (edges_enough nfa sound look) met id rest free);
+        fewer = tries-new same_decides (edges nfa look) (length nfa.states + 1) (edges_enough nfa sound look) met id rest free;
+        grown = (id ∷ [], refl);
+        below = All-append (λ s. s < length nfa.states) (edges nfa look id) rest (All-from_member same_decides (λ s. s < length nfa.states) (edges nfa look id) (λ t m. sound.resolves look id t m));
+      }
+
+  -- the state of a search from a root
+  pub search_end-start : (held : List ℕ) (root : ℕ) → search_end nfa look held (root ∷ []) ≡ held ++ reach_past nfa look held (root ∷ [])
+  unfolding search_end reach_past
+  search_end-start held root = refl
+
+  -- what a search has met is a beginning of what it ends with
+  pub met_so_far : (held met pending : List ℕ) (root : ℕ) → search_end nfa look met pending ≡ search_end nfa look held (root ∷ []) → (grown : (more : List ℕ) × (met ≡ held ++ more))
+      → IsBeginning grown.0 (reach_past nfa look held (root ∷ []))
+  unfolding search_end
+  met_so_far held met pending root same grown =
+      let rest : List ℕ = ordered nat_eq (edges nfa look) (length nfa.states + 1) (member nat_eq met) pending in
+      let whole : (held ++ grown.0) ++ rest ≡ held ++ reach_past nfa look held (root ∷ []) =
+      ap (λ l. l ++ rest) (sym grown.1) ∙ same ∙ search_end-start held root in
+      (rest, sym (append_cancel_left held (grown.0 ++ rest) (reach_past nfa look held (root ∷ [])) (sym (append_assoc held grown.0 rest) ∙ whole)))
+
+pub not_true : (b : Bool) → not b ≡ true → b ≡ false
+not_true b h = grind arith
+
+pub not_false : (b : Bool) → not b ≡ false → b ≡ true
+not_false b h = grind arith
+
+-- a search from a root, after some turns: what was met, what is pending, and the tries before and by now
+pub record IsSoFar (nfa : Nfa) (look : Assertion → Bool) (held : List ℕ) (root : ℕ) (met pending : List ℕ) (before now : ℕ) : Type 0 where
+  pub same : search_end nfa look met pending ≡ search_end nfa look held (root ∷ [])
+  pub counted : now + tries_left nfa look met pending ≡ before + tries_left nfa look held (root ∷ [])
+  pub grown : (more : List ℕ) × (met ≡ held ++ more)
+  pub below : All (λ s. s < length nfa.states) pending
+
+module _ (nfa : Nfa) (sound : IsSound nfa) (look : Assertion → Bool) (held : List ℕ) (root : ℕ) where
+  pub so_far-start : (before : ℕ) → root < length nfa.states → IsSoFar nfa look held root held (root ∷ []) before before
+  so_far-start before h = record {
+    same = refl;
+    counted = refl;
+    grown = ([], sym (append-nil held));
+    below = All-cons (λ s. s < length nfa.states) root [] h (All-nil (λ s. s < length nfa.states));
+  }
+
+  module _ (met pending : List ℕ) (before now : ℕ) (so_far : IsSoFar nfa look held root met pending before now) where
+    pub so_far-turn : (after next rest : List ℕ) (id : ℕ) → pending ≡ id ∷ rest → IsTurn nfa look met after id rest next → IsSoFar nfa look held root after next before (now + 1)
+    so_far-turn after next rest id top turn =
+        let at_top : now + tries_left nfa look met (id ∷ rest) ≡ before + tries_left nfa look held (root ∷ []) = subst (λ l. now + tries_left nfa look met l ≡ before + tries_left nfa look held (root ∷ [])) top so_far.counted in
+        record {
+          same = turn.same ∙ ap (λ l. search_end nfa look met l) (sym top) ∙ so_far.same;
+          counted = omega (arith, turn.fewer, at_top);
+          grown = (so_far.grown.0 ++ turn.grown.0, turn.grown.1 ∙ ap (λ l. l ++ turn.grown.0) so_far.grown.1 ∙ append_assoc held so_far.grown.0 turn.grown.0);
+          below = turn.below (All-tail (λ s. s < length nfa.states) id rest (subst (λ l. All (λ s. s < length nfa.states) l) top so_far.below));
+        }
+
+    pub so_far-fewer : (after next rest : List ℕ) (id : ℕ) → pending ≡ id ∷ rest → IsTurn nfa look met after id rest next → tries_left nfa look after next < tries_left nfa look met pending
+    so_far-fewer after next rest id top turn = rw top (omega (arith, turn.fewer))
+
+    pub so_far-top : (rest : List ℕ) (id : ℕ) → pending ≡ id ∷ rest → id < length nfa.states
+    so_far-top rest id top = All-head (λ s. s < length nfa.states) id rest (subst (λ l. All (λ s. s < length nfa.states) l) top so_far.below)
+
+    pub so_far-end : pending ≡ [] → met ≡ held ++ reach_past nfa look held (root ∷ [])
+    so_far-end none =
+        sym (search_end-done nfa sound look met) ∙ ap (λ l. search_end nfa look met l) (sym none)
+        ∙ so_far.same ∙ search_end-start nfa sound look held root
+
+    pub so_far-counted : pending ≡ [] → now ≡ before + tries_left nfa look held (root ∷ [])
+    so_far-counted none =
+        let left : tries_left nfa look met pending ≡ 0 = ap (λ l. tries_left nfa look met l) none ∙ tries_left-done nfa sound look met in
+        omega (arith, so_far.counted, left)
+
+    pub so_far-bounded : now ≤ before + tries_left nfa look held (root ∷ [])
+    so_far-bounded = omega (arith, so_far.counted)
+
+    pub so_far-part : (more : List ℕ) × (met ≡ held ++ more) × IsBeginning more (reach_past nfa look held (root ∷ []))
+    so_far-part = (so_far.grown.0, so_far.grown.1, met_so_far nfa sound look held met pending root so_far.same so_far.grown)
+
+-- the list that is chosen by what a test answered
+pub inserted : {A : Type 0} (b : Bool) (xs ys : List A) → b ≡ true → (if b then xs else ys) ≡ xs
+inserted b xs ys e = rw e refl
+
+pub not_inserted : {A : Type 0} (b : Bool) (xs ys : List A) → b ≡ false → (if b then xs else ys) ≡ ys
+not_inserted b xs ys e = rw e refl
+
+-- a set by its two parts
+pub members_same : (set : Members) (ids : List ℕ) (capacity : ℕ) → set.ids ≡ ids → set.capacity ≡ capacity → set ≡ record { ids = ids; capacity = capacity }
+members_same set ids capacity i k = ap (λ l. members l set.capacity) i ∙ ap (λ n. members ids n) k
+  where
+    members : List ℕ → ℕ → Members
+    members l n = record { ids = l; capacity = n }
+
+-- a state that is no epsilon state has no edges
+edges_of-leaf : (look : Assertion → Bool) (s : Node) → is_epsilon s ≡ false → edges_of look s ≡ []
+edges_of-leaf look (ByteRange t) e = refl
+edges_of-leaf look (Sparse ts) e = refl
+edges_of-leaf look (Dense ids) e = refl
+edges_of-leaf look (Look l next) e = absurd (true≢false e)
+edges_of-leaf look (Union ids) e = absurd (true≢false e)
+edges_of-leaf look (BinaryUnion a b) e = absurd (true≢false e)
+edges_of-leaf look (Capture next) e = absurd (true≢false e)
+edges_of-leaf look Fail e = refl
+edges_of-leaf look (Match pattern) e = refl
+
+module _ (nfa : Nfa) (sound : IsSound nfa) (look : Assertion → Bool) (held : List ℕ) (root : ℕ) (within : root < length nfa.states) (leaf : is_epsilon (state_at nfa root) ≡ false) where
+  -- the search from such a state ends after one turn
+  one_turn : (new : Bool) → new ≡ not (holds held root) → (before : ℕ) → IsSoFar nfa look held root (if new then held ++ root ∷ [] else held) [] before (before + 1)
+  one_turn new h before = by_test (holds held root)
+      (λ e. let old : new ≡ false = h ∙ ap not e in
+      rw old (so_far-turn nfa sound look held root held (root ∷ []) before before (so_far-start nfa sound look held root before within) held [] [] root refl (turn_held nfa sound look held [] root e)))
+      (λ e. let fresh : new ≡ true = h ∙ ap not e in
+      let no_edges : edges nfa look root ++ [] ≡ [] = ap (λ l. l ++ []) (edges_of-leaf look (state_at nfa root) leaf) in
+      rw fresh (so_far-turn nfa sound look held root held (root ∷ []) before before (so_far-start nfa sound look held root before within) (held ++ root ∷ []) [] [] root refl
+      (subst (λ l. IsTurn nfa look held (held ++ root ∷ []) root [] l) no_edges (turn_new nfa sound look held [] root e))))
+
+  -- what it adds, and its one try
+  pub leaf_set : (new : Bool) → new ≡ not (holds held root) → (if new then held ++ root ∷ [] else held) ≡ held ++ reach_past nfa look held (root ∷ [])
+  leaf_set new h = so_far-end nfa sound look held root _ [] 0 1 (one_turn new h 0) refl
+
+  pub leaf_tries : tries_left nfa look held (root ∷ []) ≡ 1
+  leaf_tries = let k : 1 ≡ 0 + tries_left nfa look held (root ∷ []) = so_far-counted nfa sound look held root _ [] 0 1 (one_turn (not (holds held root)) refl 0) refl in omega arith
+
+-- a test has one value
+pub apart : (b : Bool) → b ≡ true → b ≡ false → ⊥
+apart b h k = grind arith

@@ -1,0 +1,73 @@
+-- Collecting the distinct ids of a list in a set.
+use Rattle.std.proofs.Common.{◌≡◌, ◌<◌, ℕ, All, Bool, true, false, not, List, [], ◌∷◌, ◌++◌, nat_eq, refl, sym, ap, ◌∙◌, arith, append_assoc, subst, ◌||◌, ◌&&◌, if◌then◌else◌}
+use Rattle.std.specs.List.{list_any, IsDistinct, AllByRecursion}
+use Rattle.std.proofs.lemmas.Bool.Decides.{nat_tests}
+use Rattle.std.proofs.lemmas.List.Elements.{All-head, All-tail, All-cons}
+use Rattle.std.proofs.lemmas.List.{append-nil}
+use Rattle.determinize_below.specs.Members.{holds}
+use Rattle.determinize_below.specs.Reach.{member, fresh, joined, none_held, with_node}
+use Rattle.determinize_below.proofs.Nodes.{same_decides}
+use Rattle.determinize_below.proofs.Sets.{fresh-append, member-fresh}
+use Rattle.determinize_below.proofs.Tests.{by_test}
+use Rattle.determinize_core.proofs.ClosureSteps.{holds-member}
+
+-- one more id of a list, at its place in the set if it is new
+pub fresh-push : (xs : List ℕ) (x : ℕ) (new : Bool) → new ≡ not (holds (fresh nat_eq none_held xs) x)
+    → (if new then fresh nat_eq none_held xs ++ x ∷ [] else fresh nat_eq none_held xs) ≡ fresh nat_eq none_held (xs ++ x ∷ [])
+fresh-push xs x new h =
+    by_test (member nat_eq xs x)
+    (λ e. let old : new ≡ false = h ∙ ap not (there ∙ e) in
+    rw old (sym (append-nil (fresh nat_eq none_held xs)) ∙ ap (λ l. fresh nat_eq none_held xs ++ l) (sym (one_seen e)) ∙ sym behind))
+    (λ e. let yes : new ≡ true = h ∙ ap not (there ∙ e) in
+    rw yes (ap (λ l. fresh nat_eq none_held xs ++ l) (sym (one_new e)) ∙ sym behind))
+  where
+    kept : (a : Bool) → (a && not false) ≡ a
+    kept a = grind arith
+
+    there : holds (fresh nat_eq none_held xs) x ≡ member nat_eq xs x
+    there = holds-member (fresh nat_eq none_held xs) x ∙ member-fresh same_decides none_held xs x ∙ kept (member nat_eq xs x)
+
+    behind : fresh nat_eq none_held (xs ++ x ∷ []) ≡ fresh nat_eq none_held xs ++ fresh nat_eq (joined (member nat_eq xs) none_held) (x ∷ [])
+    behind = fresh-append same_decides none_held xs (x ∷ [])
+
+    one_seen : member nat_eq xs x ≡ true → fresh nat_eq (joined (member nat_eq xs) none_held) (x ∷ []) ≡ []
+    one_seen e = rw e refl
+
+    one_new : member nat_eq xs x ≡ false → fresh nat_eq (joined (member nat_eq xs) none_held) (x ∷ []) ≡ x ∷ []
+    one_new e = rw e refl
+
+-- the same of a set that has the distinct ids so far
+pub pushed : (ids xs : List ℕ) (x : ℕ) (new : Bool) → ids ≡ fresh nat_eq none_held xs → new ≡ not (holds ids x) → (if new then ids ++ x ∷ [] else ids) ≡ fresh nat_eq none_held (xs ++ x ∷ [])
+pushed ids xs x new e h =
+    ap (λ l. if new then l ++ x ∷ [] else l) e ∙ fresh-push xs x new (h ∙ ap (λ l. not (holds l x)) e)
+
+-- an iterator's first item, and the items that it has left
+pub first_below : (bound : ℕ) (xs ys : List ℕ) (x : ℕ) → xs ≡ x ∷ ys → All (λ id. id < bound) xs → x < bound
+first_below bound xs ys x e h = All-head (λ id. id < bound) x ys (subst (λ l. All (λ id. id < bound) l) e h)
+
+pub rest_below : (bound : ℕ) (xs ys : List ℕ) (x : ℕ) → xs ≡ x ∷ ys → All (λ id. id < bound) xs → All (λ id. id < bound) ys
+rest_below bound xs ys x e h = All-tail (λ id. id < bound) x ys (subst (λ l. All (λ id. id < bound) l) e h)
+
+pub rest_behind : (working done xs ys : List ℕ) (x : ℕ) → xs ≡ x ∷ ys → done ++ xs ≡ working → (done ++ x ∷ []) ++ ys ≡ working
+rest_behind working done xs ys x e h = append_assoc done (x ∷ []) ys ∙ ap (λ l. done ++ l) (sym e) ∙ h
+
+-- the distinct ids of a list are among it
+pub All-fresh : (P : ℕ → Type 0) (seen : ℕ → Bool) (xs : List ℕ) → All P xs → All P (fresh nat_eq seen xs)
+All-fresh P seen [] h = h
+All-fresh P seen (x ∷ xs) h =
+    by_test (seen x)
+    (λ e. rw e (All-fresh P seen xs (All-tail P x xs h)))
+    (λ e. rw e (All-cons P x (fresh nat_eq (with_node nat_eq seen x) xs) (All-head P x xs h) (All-fresh P (with_node nat_eq seen x) xs (All-tail P x xs h))))
+
+-- an id stands once among distinct ids
+pub distinct_before : (xs ys : List ℕ) (x : ℕ) → IsDistinct nat_eq (xs ++ x ∷ ys) → list_any (nat_eq x) xs ≡ false
+unfolding IsDistinct
+distinct_before [] ys x d = refl
+distinct_before (z ∷ xs) ys x d = neither z x (list_any (nat_eq x) xs) (in_the_middle (λ w. nat_eq z w ≡ false) xs ys x d.0) (distinct_before xs ys x d.1)
+  where
+    in_the_middle : (P : ℕ → Type 0) (xs ys : List ℕ) (x : ℕ) → AllByRecursion P (xs ++ x ∷ ys) → P x
+    in_the_middle P [] ys x a = a.0
+    in_the_middle P (w ∷ xs) ys x a = in_the_middle P xs ys x a.1
+
+    neither : (z x : ℕ) (b : Bool) → nat_eq z x ≡ false → b ≡ false → (nat_eq x z || b) ≡ false
+    neither z x b h k = grind (arith, nat_tests)

@@ -1,0 +1,131 @@
+-- What the start and the loop of a walk keep.
+use Rattle.std.proofs.Common.{◌≡◌, ℕ, suc, ◌+◌, ◌<◌, ◌≤◌, Bool, List, [], ◌∷◌, ◌++◌, All as Each, Option, Some, None, get_or, length, map, nat_eq, take, arith, refl, sym, ap, ◌∙◌, subst}
+use Rattle.std.proofs.Math.Seq.{take-suc}
+use Rattle.std.specs.Int.Bits.{or_zero_l}
+use Rattle.std.proofs.lemmas.Bool.{eqb-true}
+use Rattle.std.proofs.lemmas.List.{map-append, take_all}
+use Rattle.determinize_below.specs.Edges.{reach, reach_past}
+use Rattle.determinize_below.specs.Look.{has}
+use Rattle.determinize_below.specs.Nfa.{Nfa, IsAccepted}
+use Rattle.determinize_below.specs.declared.look.Look.{Look as Assertion}
+use Rattle.determinize_below.specs.declared.search.MatchKind.{MatchKind}
+use Rattle.determinize_below.proofs.Elements.{All-from_member}
+use Rattle.determinize_below.proofs.Nodes.{same_decides}
+use Rattle.determinize_below.proofs.SoundNfa.{accepted_sound, reach_within}
+use Rattle.determinize_below.proofs.Tests.{or_false}
+use Rattle.determinize_core.specs.Chain.{chain, future, value_after}
+use Rattle.determinize_core.specs.StartKinds as kinds
+use Rattle.determinize_core.specs.Starting.{with_start}
+use Rattle.determinize_core.specs.Step.{begun, recorded, start_value, step}
+use Rattle.determinize_core.specs.Tables.{start_from_word, start_half_crlf, start_have}
+use Rattle.determinize_core.specs.Value.{Value, dead}
+use Rattle.determinize_core.specs.declared.start.Start.{Start as Kind}
+use Rattle.determinize_core.proofs.Loops.{future-push, value_after-push}
+use Rattle.determinize_core.proofs.Resolving.{start_resolves, step_resolves}
+
+-- a search past nothing is a search
+reach-past_none : (nfa : Nfa) (holds : Assertion → Bool) (roots : List ℕ) → reach_past nfa holds [] roots ≡ reach nfa holds roots
+unfolding reach reach_past
+reach-past_none nfa holds roots = refl
+
+-- what the start kind adds to the dead value
+started : (nfa : Nfa) (p : Option ℕ) → with_start nfa (kinds.start_kind_of nfa.terminator p) dead ≡ begun (start_from_word nfa p) (start_half_crlf nfa p) (start_have nfa p) []
+unfolding start_from_word start_half_crlf start_have
+started nfa p = rw (or_zero_l (kinds.start_have nfa.reverse nfa.terminator nfa.look_set_any (kinds.start_kind_of nfa.terminator p))) refl
+
+-- the closure of a state into an empty set
+closure_is : (nfa : Nfa) (holds : Assertion → Bool) (s : ℕ) (held ids : List ℕ) → held ≡ [] → ids ≡ held ++ reach_past nfa holds held (s ∷ []) → ids ≡ reach nfa holds (s ∷ [])
+closure_is nfa holds s held ids none e = e ∙ ap (λ xs. xs ++ reach_past nfa holds xs (s ∷ [])) none ∙ reach-past_none nfa holds (s ∷ [])
+
+-- it has states of the NFA alone
+pub closure_resolves : (nfa : Nfa) → IsAccepted nfa → (holds : Assertion → Bool) (s : ℕ) (held ids : List ℕ) → s < length nfa.states → held ≡ [] → ids ≡ held ++ reach_past nfa holds held (s ∷ [])
+    → Each (λ id. id < length nfa.states) ids
+closure_resolves nfa accepted holds s held ids l none e =
+    subst (λ xs. Each (λ id. id < length nfa.states) xs) (sym (closure_is nfa holds s held ids none e))
+    (All-from_member same_decides (λ id. id < length nfa.states) (reach nfa holds (s ∷ []))
+    (reach_within nfa (accepted_sound nfa accepted) holds (s ∷ []) (λ r m. let e : s ≡ r = eqb-true s r (or_false (nat_eq s r) m) in omega arith)))
+
+-- recorded behind what the start kind adds, it makes the first value
+pub start_value-made : (nfa : Nfa) (s : ℕ) (p : Option ℕ) (kind : Kind) (empty told begins made : Value) (have : ℕ) (held ids : List ℕ)
+    → kind ≡ kinds.start_kind_of nfa.terminator p
+    → empty ≡ dead
+    → told ≡ with_start nfa kind empty
+    → have ≡ told.look_have
+    → held ≡ []
+    → ids ≡ held ++ reach_past nfa (has have) held (s ∷ [])
+    → begins ≡ told
+    → made ≡ recorded nfa begins ids
+    → made ≡ start_value nfa s p
+start_value-made nfa s p kind empty told begins made have held ids a b c d e f g h =
+    let first = begun (start_from_word nfa p) (start_half_crlf nfa p) (start_have nfa p) [] in
+    let is_first : told ≡ first = c ∙ ap (λ v. with_start nfa kind v) b ∙ ap (λ k. with_start nfa k dead) a ∙ started nfa p in
+    let has_first : have ≡ start_have nfa p = d ∙ ap (λ (v : Value). v.look_have) is_first in
+    h
+    ∙ ap (λ v. recorded nfa v ids) (g ∙ is_first)
+    ∙ ap (λ xs. recorded nfa first xs) (closure_is nfa (has have) s held ids e f ∙ ap (λ n. reach nfa (has n) (s ∷ [])) has_first)
+
+-- after some bytes, the values before the last and the last
+pub record IsWalked (nfa : Nfa) (kind : MatchKind) (first : Value) (bytes : List ℕ) (values : List Value) (last : Value) : Type 0 where
+  pub all : values ++ last ∷ [] ≡ future nfa kind first (map Some bytes)
+  pub end : last ≡ value_after nfa kind first (map Some bytes)
+
+module _ (nfa : Nfa) (kind : MatchKind) where
+  pub walked-none : (v : Value) → IsWalked nfa kind v [] [] v
+  walked-none v = record { all = refl; end = refl }
+
+  -- the values of one more unit
+  future-more : (first : Value) (bytes : List ℕ) (values : List Value) (last next : Value) (u : Option ℕ) → IsWalked nfa kind first bytes values last
+      → next ≡ step nfa kind last u → (values ++ last ∷ []) ++ next ∷ [] ≡ future nfa kind first (map Some bytes ++ u ∷ [])
+  future-more first bytes values last next u w e =
+      ap (λ vs. vs ++ next ∷ []) w.all
+      ∙ ap (λ v. future nfa kind first (map Some bytes) ++ v ∷ []) (e ∙ ap (λ v. step nfa kind v u) w.end)
+      ∙ sym (future-push nfa kind first (map Some bytes) u)
+
+  -- one more byte of a text
+  pub walked-push : (first : Value) (text : List ℕ) (i d : ℕ) (values more : List Value) (last next : Value) (u : Option ℕ) → i < length text
+      → IsWalked nfa kind first (take i text) values last
+      → u ≡ Some (get_or text i d)
+      → next ≡ step nfa kind last u
+      → more ≡ values ++ last ∷ []
+      → IsWalked nfa kind first (take (i + 1) text) more next
+  walked-push first text i d values more last next u l w a b c =
+      let plus : i + 1 ≡ suc i = omega arith in
+      let one_more : map Some (take (i + 1) text) ≡ map Some (take i text) ++ u ∷ [] =
+      ap (λ n. map Some (take n text)) plus ∙ ap (λ bs. map Some bs) (take-suc text i d l) ∙ map-append Some (take i text) (get_or text i d ∷ []) ∙ ap (λ o. map Some (take i text) ++ o ∷ []) (sym a) in
+      record {
+        all = ap (λ vs. vs ++ next ∷ []) c ∙ future-more first (take i text) values last next u w b ∙ ap (λ us. future nfa kind first us) (sym one_more);
+        end = b ∙ ap (λ v. step nfa kind v u) w.end ∙ sym (value_after-push nfa kind first (map Some (take i text)) u) ∙ ap (λ us. value_after nfa kind first us) (sym one_more);
+      }
+
+  -- the end of the input
+  pub walked-chain : (s : ℕ) (p : Option ℕ) (text : List ℕ) (i : ℕ) (values more whole : List Value) (last next : Value) (u : Option ℕ) → length text ≤ i
+      → IsWalked nfa kind (start_value nfa s p) (take i text) values last
+      → u ≡ None
+      → next ≡ step nfa kind last u
+      → more ≡ values ++ last ∷ []
+      → whole ≡ more ++ next ∷ []
+      → whole ≡ chain nfa kind s p text
+  unfolding chain
+  walked-chain s p text i values more whole last next u l w a b c d =
+      d
+      ∙ ap (λ vs. vs ++ next ∷ []) c
+      ∙ future-more (start_value nfa s p) (take i text) values last next u w b
+      ∙ ap (λ bs. future nfa kind (start_value nfa s p) (map Some bs ++ u ∷ [])) (take_all i text l)
+      ∙ ap (λ o. future nfa kind (start_value nfa s p) (map Some text ++ o ∷ [])) a
+
+  -- what a chain promises, its values promise
+  pub promised : (P : MatchKind → List Value → Type 0) (s : ℕ) (p : Option ℕ) (text : List ℕ) (values : List Value) (other : MatchKind) → values ≡ chain nfa kind s p text
+      → kind ≡ other → P other (chain nfa other s p text) → P kind values
+  promised P s p text values other e k h = subst (λ vs. P kind vs) (sym e) (subst (λ x. P x (chain nfa x s p text)) (sym k) h)
+
+module _ (nfa : Nfa) (accepted : IsAccepted nfa) (kind : MatchKind) where
+  -- values that follow one whose states are states of the NFA
+  after_resolves : (v : Value) (us : List (Option ℕ)) → Each (λ id. id < length nfa.states) v.states → Each (λ id. id < length nfa.states) (value_after nfa kind v us).states
+  after_resolves v [] h = h
+  after_resolves v (u ∷ us) h = after_resolves (step nfa kind v u) us (step_resolves nfa accepted kind v u)
+
+  -- the states of the last value are states of the NFA
+  pub walked-resolves : (s : ℕ) (p : Option ℕ) (bytes : List ℕ) (values : List Value) (last : Value) → s < length nfa.states
+      → IsWalked nfa kind (start_value nfa s p) bytes values last → Each (λ id. id < length nfa.states) last.states
+  walked-resolves s p bytes values last l w =
+      subst (λ (v : Value). Each (λ id. id < length nfa.states) v.states) (sym w.end) (after_resolves (start_value nfa s p) (map Some bytes) (start_resolves nfa accepted s p l))

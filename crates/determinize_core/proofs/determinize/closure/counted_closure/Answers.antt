@@ -1,0 +1,30 @@
+use Rattle.std.proofs.Common.{◌∙◌, sym, ap, arith}
+use Rattle.determinize_below.specs.Look.{has}
+use Rattle.determinize_below.specs.Members.{Members}
+use Rattle.std.proofs.lemmas.Option.{get_or_from_slice_get}
+use Rattle.determinize_below.specs.Node.{is_epsilon, Fail}
+use Rattle.determinize_below.proofs.SoundNfa.{accepted_sound}
+use Rattle.determinize_core.proofs.ClosureSteps.{leaf_set, leaf_tries, apart, members_same}
+use Rattle.determinize_core.proofs.determinize.closure.counted_closure.Goals as goal
+
+pub returns-then-not-is_epsilon-clause-ok : goal.returns-then-not-is_epsilon-clause-ok
+returns-then-not-is_epsilon-clause-ok g c =
+    let leaf = ap is_epsilon (get_or_from_slice_get c.args.nfa.now.states c.args.start _ Fail c.state.ensures.state) ∙ sym c.is_epsilon.ensures ∙ c.if-not-is_epsilon.true in
+    members_same c.visit.new.set _ _
+    (ap (λ (m : Members). m.ids) c.visit.ensures.after ∙ leaf_set c.args.nfa.now (accepted_sound c.args.nfa.now c.state.ensures.accepted) (has c.args.look_have) c.args.set.now.ids c.args.start c.requires.resolves leaf c.visit.result c.visit.ensures.new)
+    (ap (λ (m : Members). m.capacity) c.visit.ensures.after)
+
+pub returns-then-not-is_epsilon-clause-counted : goal.returns-then-not-is_epsilon-clause-counted
+returns-then-not-is_epsilon-clause-counted g c =
+    let leaf = ap is_epsilon (get_or_from_slice_get c.args.nfa.now.states c.args.start _ Fail c.state.ensures.state) ∙ sym c.is_epsilon.ensures ∙ c.if-not-is_epsilon.true in
+    omega (arith, c.visit.ensures.counted, leaf_tries c.args.nfa.now (accepted_sound c.args.nfa.now c.state.ensures.accepted) (has c.args.look_have) c.args.set.now.ids c.args.start c.requires.resolves leaf)
+
+pub returns-then-not-is_epsilon-clause-bounded : goal.returns-then-not-is_epsilon-clause-bounded
+returns-then-not-is_epsilon-clause-bounded g c =
+    let leaf = ap is_epsilon (get_or_from_slice_get c.args.nfa.now.states c.args.start _ Fail c.state.ensures.state) ∙ sym c.is_epsilon.ensures ∙ c.if-not-is_epsilon.true in
+    omega (arith, c.visit.ensures.counted, leaf_tries c.args.nfa.now (accepted_sound c.args.nfa.now c.state.ensures.accepted) (has c.args.look_have) c.args.set.now.ids c.args.start c.requires.resolves leaf)
+
+pub returns-clause-succeeds : goal.returns-clause-succeeds
+returns-clause-succeeds g c = λ leaf.
+    let epsilon = ap is_epsilon (get_or_from_slice_get c.args.nfa.now.states c.args.start _ Fail c.state.ensures.state) ∙ sym c.is_epsilon.ensures ∙ c.if-not-is_epsilon.false in
+    absurd (apart _ epsilon leaf)

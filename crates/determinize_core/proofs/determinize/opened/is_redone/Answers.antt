@@ -1,0 +1,11 @@
+use Rattle.std.proofs.Common.{◌<◌, ◌^◌, arith}
+use Rattle.determinize_below.specs.Look.{meets}
+use Rattle.determinize_core.proofs.Redo.{redone_from_found}
+use Rattle.determinize_core.proofs.determinize.opened.is_redone.Goals as goal
+
+pub returns : goal.returns
+unfolding meets
+returns c =
+    let h : c.args.found < 2 ^ 18 = omega arith in
+    let k : c.args.have < 2 ^ 18 = omega arith in
+    rw (c.is_empty.ensures, c.intersect.ensures, c.subtract.ensures) (redone_from_found c.args.found c.args.have c.args.need h k)

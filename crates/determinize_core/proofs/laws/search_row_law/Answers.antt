@@ -1,0 +1,5 @@
+use Rattle.determinize_core.proofs.WalkRows.{row_22}
+use Rattle.determinize_core.proofs.laws.search_row_law.Goals as goal
+
+pub returns : goal.returns
+returns c = row_22

@@ -1,0 +1,10 @@
+use Rattle.determinize_core.proofs.StepLaws.{each_future_follows, dead_stays, leftmost_gives_one, no_need_no_have}
+use Rattle.determinize_core.proofs.laws.step_law.Goals as goal
+
+pub returns : goal.returns
+returns c = record {
+  future = each_future_follows;
+  dead = dead_stays;
+  settled = no_need_no_have;
+  leftmost = leftmost_gives_one;
+}

@@ -1,0 +1,5 @@
+use Rattle.determinize_core.proofs.TryBounds.{tries_are_few}
+use Rattle.determinize_core.proofs.laws.tries_law.Goals as goal
+
+pub returns : goal.returns
+returns c = tries_are_few

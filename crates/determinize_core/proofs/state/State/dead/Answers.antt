@@ -1,0 +1,8 @@
+use Rattle.determinize_core.proofs.BuildingLaws.{spelled_zeros}
+use Rattle.determinize_core.proofs.state.State.dead.Goals as goal
+
+pub invariant_of-result : goal.invariant_of-result
+invariant_of-result g c = rw c.in_ok-from_slice.ensures.items spelled_zeros.0
+
+pub returns : goal.returns
+returns g c = rw c.in_ok-from_slice.ensures.items spelled_zeros.1

@@ -1,0 +1,28 @@
+-- The values of a walk over a text.
+use Rattle.std.specs.Prelude.{◌≡◌, ℕ, Option, Some, None, List, [], ◌∷◌, ◌++◌, drop, map, slice_get}
+use Rattle.determinize_below.specs.declared.search.MatchKind.{MatchKind}
+use Rattle.determinize_below.specs.Nfa.{Nfa}
+use Rattle.determinize_core.specs.Step.{start_value, step}
+use Rattle.determinize_core.specs.Value.{Value}
+
+-- the value and those that follow it over the units
+abbrev pub future : Nfa → MatchKind → Value → List (Option ℕ) → List Value
+future nfa kind v [] = v ∷ []
+future nfa kind v (u ∷ us) = v ∷ future nfa kind (step nfa kind v u) us
+
+-- the last of them
+abbrev pub value_after : Nfa → MatchKind → Value → List (Option ℕ) → Value
+value_after nfa kind v [] = v
+value_after nfa kind v (u ∷ us) = value_after nfa kind (step nfa kind v u) us
+
+-- the units of a text: its bytes, and the end of the input
+abbrev pub units : List ℕ → List (Option ℕ)
+units text = map Some text ++ None ∷ []
+
+-- the values of the walk from a state, after a look-behind byte or none, over a text
+unfoldable pub chain : Nfa → MatchKind → ℕ → Option ℕ → List ℕ → List Value
+chain nfa kind s p text = future nfa kind (start_value nfa s p) (units text)
+
+-- from each place on, the values are the one there and those that follow it over the units that are left
+abbrev pub FollowsItself : Nfa → MatchKind → List ℕ → List Value → Type 0
+FollowsItself nfa kind text values = (j : ℕ) (v : Value) → slice_get values j ≡ Some v → drop j values ≡ future nfa kind v (drop j (units text))

@@ -1,0 +1,61 @@
+-- Laws of steps and of walks.
+use Rattle.std.specs.Prelude.{◌≡◌, ℕ, ◌+◌, ◌*◌, ◌<◌, ◌≤◌, ◌⊎◌, Bool, true, Option, List, [], ◌∷◌, ◌++◌, length, nat_eq}
+use Rattle.determinize_below.specs.Captures.{HasNoCaptureCycle}
+use Rattle.determinize_below.specs.Edges.{edges, target, reach, reach_past, IsSound}
+use Rattle.determinize_below.specs.Nfa.{Nfa, IsAccepted}
+use Rattle.determinize_below.specs.Positions.{IsPreferredRun}
+use Rattle.determinize_below.specs.Reach.{member}
+use Rattle.determinize_below.specs.declared.look.Look.{Look as Assertion}
+use Rattle.determinize_below.specs.declared.search.MatchKind.{MatchKind}
+use Rattle.determinize_below.specs.declared.search.MatchKind.TheVariants.{All, LeftmostFirst}
+use Rattle.determinize_core.specs.Chain.{FollowsItself, chain}
+use Rattle.determinize_core.specs.Step.{step, with_states}
+use Rattle.determinize_core.specs.Tries.{tries, edges_in_all}
+use Rattle.determinize_core.specs.Value.{Value, dead}
+use Rattle.determinize_core.specs.Walk.{ListsAccepted, IsWalkOfAll, IsLeftmostWalk}
+
+-- of every accepted NFA, the walk over each text says of whole runs what its kind of match promises
+abbrev pub EachChainIsTrue : Type 0
+EachChainIsTrue = (nfa : Nfa) → IsAccepted nfa → (start : ℕ) (p : Option ℕ) (text : List ℕ)
+    → IsWalkOfAll nfa start p text (chain nfa All start p text)
+    × IsLeftmostWalk nfa start p text (chain nfa LeftmostFirst start p text)
+
+-- at most one list has the patterns that runs accept, best run first, and at most one run is the most preferred
+abbrev pub EachAnswerIsOne : Type 0
+EachAnswerIsOne = (nfa : Nfa) (p : Option ℕ) (text : List ℕ) (start : ℕ)
+    → ((i : ℕ) (xs ys : List ℕ) → ListsAccepted nfa p text start i xs → ListsAccepted nfa p text start i ys → xs ≡ ys)
+    × ((i j x y : ℕ) (cs ds : List ℕ) → IsPreferredRun nfa p text start cs i x → IsPreferredRun nfa p text start ds j y → (i ≡ j) × (x ≡ y))
+
+-- a search from one more root goes on with what was reached held
+abbrev pub EachReachGoesOn : Type 0
+EachReachGoesOn = (nfa : Nfa) → IsSound nfa → (holds : Assertion → Bool) (roots : List ℕ) (root : ℕ)
+    → reach nfa holds (roots ++ root ∷ []) ≡ reach nfa holds roots ++ reach_past nfa holds (reach nfa holds roots) (root ∷ [])
+
+-- a state has edges that want no input, or one over a unit, or neither
+abbrev pub EachStateHasOneKind : Type 0
+EachStateHasOneKind = (nfa : Nfa) (holds : Assertion → Bool) (u : Option ℕ) (s : ℕ)
+    → (length (target nfa u s) ≤ 1) × ((edges nfa holds s ≡ []) ⊎ (target nfa u s ≡ []))
+
+-- from each place on, a walk is what follows from the value there
+abbrev pub EachFutureFollows : Type 0
+EachFutureFollows = (nfa : Nfa) (kind : MatchKind) (s : ℕ) (p : Option ℕ) (text : List ℕ) → FollowsItself nfa kind text (chain nfa kind s p text)
+
+-- the dead value stays, and of the values that a step leaves it alone has no pattern and no state
+abbrev pub DeadStays : Type 0
+DeadStays = (nfa : Nfa) (kind : MatchKind) (u : Option ℕ)
+    → (step nfa kind dead u ≡ dead)
+    × ((v : Value) → IsSound nfa → HasNoCaptureCycle nfa → (step nfa kind v u).patterns ≡ [] → (step nfa kind v u).states ≡ [] → step nfa kind v u ≡ dead)
+
+-- a value to which states were recorded has nothing where it needs nothing
+abbrev pub NoNeedNoHave : Type 0
+NoNeedNoHave = (nfa : Nfa) (v : Value) (xs : List ℕ) → (with_states nfa v xs).look_need ≡ 0 → (with_states nfa v xs).look_have ≡ 0
+
+-- where the most preferred match is wanted, a step gives one pattern at most
+abbrev pub LeftmostGivesOne : Type 0
+LeftmostGivesOne = (nfa : Nfa) (v : Value) (u : Option ℕ) → length (step nfa LeftmostFirst v u).patterns ≤ 1
+
+-- a step makes at most two tries for each state and for each edge that wants no input
+abbrev pub TriesAreFew : Type 0
+TriesAreFew = (nfa : Nfa) → IsAccepted nfa → (kind : MatchKind) (v : Value) (u : Option ℕ)
+    → ((s : ℕ) → member nat_eq v.states s ≡ true → s < length nfa.states)
+    → tries nfa kind v u ≤ 2 * (length nfa.states + edges_in_all nfa)

@@ -1,0 +1,109 @@
+-- One step from a value to the next, over a unit.
+use Rattle.std.specs.Prelude.{ℕ, Bool, true, false, cond, ◌==◌, Option, Some, None, List, [], ◌∷◌, ◌++◌, nat_eq, take}
+use mathlib.Core.Bool.{◌&&◌}
+use Rattle.std.specs.List.{flat_map}
+use Rattle.determinize_below.specs.declared.look.Look.{Look as Assertion}
+use Rattle.determinize_below.specs.declared.search.MatchKind.{MatchKind}
+use Rattle.determinize_below.specs.declared.search.MatchKind.TheVariants.{All, LeftmostFirst}
+use Rattle.determinize_below.specs.Look.{has, insert}
+use Rattle.determinize_below.specs.Nfa.{Nfa}
+use Rattle.determinize_below.specs.Edges.{target, is_capture, is_match, assertion_of, patterns_of, reach}
+use Rattle.determinize_below.specs.Reach.{fresh, joined, none_held}
+use Rattle.determinize_below.specs.Runs.{before, without}
+use Rattle.determinize_core.specs.Opened.{is_redone}
+use Rattle.determinize_core.specs.Tables.{opened, seen, from_word_after, half_crlf_after, start_have, start_from_word, start_half_crlf}
+use Rattle.determinize_core.specs.Value.{Value}
+
+-- the set with an assertion, where there is one
+abbrev pub with_assertion : ℕ → Option Assertion → ℕ
+with_assertion set None = set
+with_assertion set (Some look) = insert set look
+
+-- the set with the assertions of the `Look` states of a list
+abbrev pub needs : Nfa → ℕ → List ℕ → ℕ
+needs nfa set [] = set
+needs nfa set (s ∷ xs) = needs nfa (with_assertion set (assertion_of nfa s)) xs
+
+-- the value with these states behind its own, and the assertions that they need; where nothing is needed, nothing is had
+abbrev pub with_states : Nfa → Value → List ℕ → Value
+with_states nfa v xs = record {
+  from_word = v.from_word;
+  half_crlf = v.half_crlf;
+  look_have = cond (needs nfa v.look_need xs == 0) 0 v.look_have;
+  look_need = needs nfa v.look_need xs;
+  patterns = v.patterns;
+  states = v.states ++ xs;
+}
+
+-- the value that records the states of a list, captures left out
+abbrev pub recorded : Nfa → Value → List ℕ → Value
+recorded nfa v entered = with_states nfa v (without (is_capture nfa) entered)
+
+-- a value that records no state yet
+abbrev pub begun : Bool → Bool → ℕ → List ℕ → Value
+begun from_word half_crlf have patterns = record {
+  from_word = from_word;
+  half_crlf = half_crlf;
+  look_have = have;
+  look_need = 0;
+  patterns = patterns;
+  states = [];
+}
+
+-- the value before the first unit, of a search that starts in a state and after a byte or none
+abbrev pub start_value : Nfa → ℕ → Option ℕ → Value
+start_value nfa s p =
+    recorded nfa (begun (start_from_word nfa p) (start_half_crlf nfa p) (start_have nfa p) [])
+    (reach nfa (has (start_have nfa p)) (s ∷ []))
+
+-- the assertions that the unit makes true for the value
+abbrev pub opened_by : Nfa → Value → Option ℕ → Assertion → Bool
+opened_by nfa v u = opened nfa v.from_word v.half_crlf u
+
+-- whether some of them is needed and not had
+abbrev pub is_reopened : Nfa → Value → Option ℕ → Bool
+is_reopened nfa v u = is_redone (opened_by nfa v u) v.look_have v.look_need
+
+-- the states of the value, each once
+abbrev pub distinct_states : Value → List ℕ
+distinct_states v = fresh nat_eq none_held v.states
+
+-- the list that the step reads: the recorded states, or what they reach under all that is true by now
+abbrev pub working_list : Nfa → Value → Option ℕ → List ℕ
+working_list nfa v u =
+    cond (is_reopened nfa v u)
+    (reach nfa (joined (has v.look_have) (opened_by nfa v u)) (distinct_states v))
+    (distinct_states v)
+
+-- the part of it whose targets count: all of it, or what stands before the first match
+abbrev pub part_read : MatchKind → (ℕ → Bool) → List ℕ → List ℕ
+part_read All accepts xs = xs
+part_read LeftmostFirst accepts xs = before accepts xs
+
+-- the part of its patterns that counts: all of them, or the first
+abbrev pub patterns_read : MatchKind → List ℕ → List ℕ
+patterns_read All ps = ps
+patterns_read LeftmostFirst ps = take 1 ps
+
+-- whether a list has an item
+abbrev pub is_nonempty : List ℕ → Bool
+is_nonempty [] = false
+is_nonempty (x ∷ xs) = true
+
+-- the value that a unit leaves, by the patterns found and the states entered; the flags want a state entered
+abbrev pub left_by : Nfa → Option ℕ → List ℕ → List ℕ → Value
+left_by nfa u patterns entered =
+    recorded nfa
+    (begun (is_nonempty entered && from_word_after nfa u) (is_nonempty entered && half_crlf_after nfa u) (seen nfa u) patterns)
+    entered
+
+-- where the states that are read lead over the unit
+abbrev pub targets : Nfa → MatchKind → Value → Option ℕ → List ℕ
+targets nfa kind v u = flat_map (target nfa u) (part_read kind (is_match nfa) (working_list nfa v u))
+
+-- the value after the unit
+unfoldable pub step : Nfa → MatchKind → Value → Option ℕ → Value
+step nfa kind v u =
+    left_by nfa u
+    (patterns_read kind (patterns_of nfa (working_list nfa v u)))
+    (reach nfa (has (seen nfa u)) (targets nfa kind v u))

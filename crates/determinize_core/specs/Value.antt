@@ -1,0 +1,42 @@
+-- What a state of a DFA stands for, apart from its bytes.
+use Rattle.std.specs.Prelude.{ℕ, ◌<◌, ◌≤◌, ◌^◌, Bool, true, false, Option, Some, None, List, [], ◌∷◌, ◌++◌, All, nat_eq}
+use Rattle.std.specs.List.{IsDistinct}
+
+-- the two flags, the two sets of assertions by their bits, the patterns that match, the NFA states
+pub record Value : Type 0 where
+  pub from_word : Bool
+  pub half_crlf : Bool
+  pub look_have : ℕ
+  pub look_need : ℕ
+  pub patterns : List ℕ
+  pub states : List ℕ
+
+-- the value in which nothing is set and nothing is listed
+abbrev pub dead : Value
+dead = record { from_word = false; half_crlf = false; look_have = 0; look_need = 0; patterns = []; states = [] }
+
+-- the sets are of the 18 assertions, no pattern stands twice, all ids are in range
+pub record IsValue (value : Value) : Type 0 where
+  pub have : value.look_have < 2 ^ 18
+  pub need : value.look_need < 2 ^ 18
+  pub distinct : IsDistinct nat_eq value.patterns
+  pub pattern_ids : All (λ id. id ≤ 2147483646) value.patterns
+  pub state_ids : All (λ id. id ≤ 2147483646) value.states
+
+-- whether some pattern is listed
+abbrev pub is_match : List ℕ → Bool
+is_match [] = false
+is_match _ = true
+
+-- the list of the patterns, or none where nothing matches
+abbrev pub listed : List ℕ → Option (List ℕ)
+listed [] = None
+listed (id ∷ ids) = Some (id ∷ ids)
+
+-- the value with one more pattern at the end of its list
+abbrev pub with_pattern : Value → ℕ → Value
+with_pattern value id = record value { patterns = value.patterns ++ id ∷ [] }
+
+-- the value with one more NFA state at the end of its list
+abbrev pub with_state : Value → ℕ → Value
+with_state value id = record value { states = value.states ++ id ∷ [] }

@@ -1,0 +1,16 @@
+//! The steps of determinization: the start state, one transition, and a whole walk.
+
+pub mod closure;
+pub mod lookbehind;
+pub mod opened;
+pub mod recording;
+pub mod steps;
+pub mod transition;
+pub mod walks;
+
+pub use crate::determinize::closure::epsilon_closure;
+pub use crate::determinize::lookbehind::set_lookbehind_from_start;
+pub use crate::determinize::recording::add_nfa_states;
+pub use crate::determinize::steps::Steps;
+pub use crate::determinize::transition::{next, next_counted};
+pub use crate::determinize::walks::walk;

@@ -1,0 +1,220 @@
+//! The epsilon closure: the states that a state leads to without input, in the order of preference.
+
+ghost use Rattle.std.specs.Prelude.{◌≡◌, ℕ, ◌+◌, ◌<◌, ◌≤◌, List, [], ◌∷◌, ◌++◌, false, not, length, reverse, IfNone, IfSome, IfOk, OnOk, OnErr, IsOk, if◌then◌else◌};
+ghost use Rattle.determinize_below.specs.Edges.{edges, listed, state_at, reach_past};
+ghost use Rattle.determinize_below.specs.Look.{has};
+ghost use Rattle.determinize_below.specs.Members.{holds};
+ghost use Rattle.determinize_below.specs.Nfa.{IsAccepted};
+ghost use Rattle.determinize_below.specs.Node.{is_epsilon};
+ghost use Rattle.determinize_core.specs.Closure.{tries_left, AddsBeginning, IsTurn};
+
+use crate::determinize::steps::Steps;
+use determinize_below::nfa::State;
+use determinize_below::{LookSet, NFA, SparseSet, StateID};
+use std::alloc::{AllocError, Allocator};
+use std::marker::Brand;
+use std::sync::ledger::{Blank, Ledger};
+
+/// One try to add a state to a set, which counts whether the state is new or not.
+fn visit<A: Allocator, L: Ledger>(set: &mut SparseSet<A>, id: StateID, steps: &mut Steps<L>) -> bool
+    requires { id < set.old.capacity }
+    ensures counted { steps.new ≡ steps.old + 1 }
+    ensures new { result ≡ not (holds set.old.ids id) }
+    ensures after { set.new ≡ record set.old { ids = (if result then set.old.ids ++ id ∷ [] else set.old.ids) } }
+{
+    steps.tick();
+    set.insert(id)
+}
+
+/// The state to visit next: the one at hand, or else the last of the stack.
+fn take_next<A: Allocator>(at_hand: Option<StateID>, stack: &mut Vec<StateID, A>) -> Option<StateID>
+    ensures none { IfNone result (listed at_hand ++ reverse stack.old.items ≡ []) }
+    ensures some { IfSome result (λ id. listed at_hand ++ reverse stack.old.items ≡ id ∷ reverse stack.new.items) }
+{
+    match at_hand {
+        Some(id) => Some(id),
+        None => stack.pop(),
+    }
+}
+
+/// Puts ids on the stack so that the first of them comes off first.
+fn push_reversed<A: Allocator>(
+    ids: &[StateID],
+    stack: &mut Vec<StateID, A>,
+) -> Result<(), AllocError>
+    ensures { OnOk result (stack.new.items ≡ stack.old.items ++ reverse ids.now) }
+{
+    for id in ids.iter().rev().copied() {
+        stack.push(id)?;
+    }
+    Ok(())
+}
+
+/// Takes the first alternate at hand, and puts the others on the stack.
+fn take_alternates<A: Allocator>(
+    alternates: &[StateID],
+    stack: &mut Vec<StateID, A>,
+) -> Result<Option<StateID>, AllocError>
+    ensures { IfOk result (λ next. listed next ++ reverse stack.new.items ≡ alternates.now ++ reverse stack.old.items) }
+{
+    let Some((first, others)) = alternates.split_first() else {
+        return Ok(None);
+    };
+    push_reversed(others, stack)?;
+    Ok(Some(*first))
+}
+
+/// Where a state leads without input: the first edge at hand, the others on the stack.
+fn follow<N: Allocator, A: Allocator>(
+    nfa: &NFA<N>,
+    id: StateID,
+    look_have: LookSet,
+    stack: &mut Vec<StateID, A>,
+) -> Result<Option<StateID>, AllocError>
+    requires { id < length nfa.now.states }
+    ensures { IfOk result (λ next. listed next ++ reverse stack.new.items ≡ edges nfa.now (has look_have) id ++ reverse stack.old.items) }
+{
+    match nfa.state(id) {
+        State::Look { look, next } => {
+            if look_have.contains(*look) {
+                Ok(Some(*next))
+            } else {
+                Ok(None)
+            }
+        }
+        State::Union { alternates } => take_alternates(alternates.as_slice(), stack),
+        State::BinaryUnion { alt1, alt2 } => {
+            stack.push(*alt2)?;
+            Ok(Some(*alt1))
+        }
+        State::Capture { next } => Ok(Some(*next)),
+        _ => Ok(None),
+    }
+}
+
+/// One turn of a closure: a pending state is visited and, where it is new, followed.
+fn take_turn<N: Allocator, A: Allocator, L: Ledger>(
+    nfa: &NFA<N>,
+    id: StateID,
+    look_have: LookSet,
+    stack: &mut Vec<StateID, A>,
+    set: &mut SparseSet<A>,
+    steps: &mut Steps<L>,
+) -> Result<Option<StateID>, AllocError>
+    requires accepted { IsAccepted nfa.now }
+    requires resolves { id < length nfa.now.states }
+    requires capacity { set.old.capacity ≡ length nfa.now.states }
+    ensures turn { (pending : List ℕ)
+        × IsTurn nfa.now (has look_have) set.old.ids set.new.ids id (reverse stack.old.items) pending
+        × IfOk result (λ next. listed next ++ reverse stack.new.items ≡ pending) }
+    ensures capacity { set.new.capacity ≡ set.old.capacity }
+    ensures counted { steps.new ≡ steps.old + 1 }
+{
+    if visit(set, id, steps) {
+        follow(nfa, id, look_have, stack)
+    } else {
+        Ok(None)
+    }
+}
+
+/// Adds what a state leads to without input. After a refusal the stack is left as it is.
+fn search<N: Allocator, A: Allocator, L: Ledger>(
+    nfa: &NFA<N>,
+    start: StateID,
+    look_have: LookSet,
+    stack: &mut Vec<StateID, A>,
+    set: &mut SparseSet<A>,
+    steps: &mut Steps<L>,
+) -> Result<(), AllocError>
+    requires accepted { IsAccepted nfa.now }
+    requires empty { stack.old.items ≡ [] }
+    requires resolves { start < length nfa.now.states }
+    requires capacity { set.old.capacity ≡ length nfa.now.states }
+    ensures ok { OnOk result (set.new ≡ record set.old { ids = set.old.ids ++ reach_past nfa.now (has look_have) set.old.ids (start ∷ []) }) }
+    ensures err { OnErr result (AddsBeginning set.old set.new (reach_past nfa.now (has look_have) set.old.ids (start ∷ []))) }
+    ensures counted { OnOk result (steps.new ≡ steps.old + tries_left nfa.now (has look_have) set.old.ids (start ∷ [])) }
+    ensures bounded { steps.new ≤ steps.old + tries_left nfa.now (has look_have) set.old.ids (start ∷ []) }
+{
+    let mut at_hand = Some(start);
+    while let Some(id) = take_next(at_hand, stack) {
+        at_hand = take_turn(nfa, id, look_have, stack, set, steps)?;
+    }
+    Ok(())
+}
+
+/// The closure of one state, with a count of its tries.
+pub(crate) fn counted_closure<N: Allocator, A: Allocator, L: Ledger>(
+    nfa: &NFA<N>,
+    start: StateID,
+    look_have: LookSet,
+    stack: &mut Vec<StateID, A>,
+    set: &mut SparseSet<A>,
+    steps: &mut Steps<L>,
+) -> Result<(), AllocError>
+    requires empty { stack.old.items ≡ [] }
+    requires resolves { start < length nfa.now.states }
+    requires capacity { set.old.capacity ≡ length nfa.now.states }
+    ensures ok { OnOk result (set.new ≡ record set.old { ids = set.old.ids ++ reach_past nfa.now (has look_have) set.old.ids (start ∷ []) }) }
+    ensures err { OnErr result (AddsBeginning set.old set.new (reach_past nfa.now (has look_have) set.old.ids (start ∷ []))) }
+    ensures stack { stack.new.items ≡ [] }
+    ensures succeeds { is_epsilon (state_at nfa.now start) ≡ false → IsOk result }
+    ensures counted { OnOk result (steps.new ≡ steps.old + tries_left nfa.now (has look_have) set.old.ids (start ∷ [])) }
+    ensures bounded { steps.new ≤ steps.old + tries_left nfa.now (has look_have) set.old.ids (start ∷ []) }
+{
+    if !nfa.state(start).is_epsilon() {
+        visit(set, start, steps);
+        return Ok(());
+    }
+    let result = search(nfa, start, look_have, stack, set, steps);
+    stack.clear();
+    result
+}
+
+/// The same, with a count that is let go.
+fn closure_from<N: Allocator, A: Allocator, L: Ledger>(
+    nfa: &NFA<N>,
+    start: StateID,
+    look_have: LookSet,
+    stack: &mut Vec<StateID, A>,
+    set: &mut SparseSet<A>,
+    blank: Blank,
+) -> Result<(), AllocError>
+    requires name { blank.name ≡ L.name }
+    requires parts { blank.parts ≡ L.parts }
+    requires some { 0 < L.parts }
+    requires empty { stack.old.items ≡ [] }
+    requires resolves { start < length nfa.now.states }
+    requires capacity { set.old.capacity ≡ length nfa.now.states }
+    ensures ok { OnOk result (set.new ≡ record set.old { ids = set.old.ids ++ reach_past nfa.now (has look_have) set.old.ids (start ∷ []) }) }
+    ensures err { OnErr result (AddsBeginning set.old set.new (reach_past nfa.now (has look_have) set.old.ids (start ∷ []))) }
+    ensures stack { stack.new.items ≡ [] }
+    ensures succeeds { is_epsilon (state_at nfa.now start) ≡ false → IsOk result }
+{
+    let mut steps = Steps::<L>::new(blank);
+    counted_closure(nfa, start, look_have, stack, set, &mut steps)
+}
+
+/// Adds to the set the states that `start` leads to without input, itself included.
+///
+/// They go behind the set's own ids, in the order of preference: depth first, a union's earlier
+/// alternates first, a `Look` followed only where its assertion is in `look_have`. A state that
+/// the set holds is not followed. Only the stack can want memory, and from a state that is no
+/// epsilon state it wants none. The stack is empty afterwards, also after a refusal; the set then
+/// holds its old ids and a beginning of what would have been added.
+pub fn epsilon_closure<N: Allocator, A: Allocator>(
+    nfa: &NFA<N>,
+    start: StateID,
+    look_have: LookSet,
+    stack: &mut Vec<StateID, A>,
+    set: &mut SparseSet<A>,
+) -> Result<(), AllocError>
+    requires empty { stack.old.items ≡ [] }
+    requires resolves { start < length nfa.now.states }
+    requires capacity { set.old.capacity ≡ length nfa.now.states }
+    ensures ok { OnOk result (set.new ≡ record set.old { ids = set.old.ids ++ reach_past nfa.now (has look_have) set.old.ids (start ∷ []) }) }
+    ensures err { OnErr result (AddsBeginning set.old set.new (reach_past nfa.now (has look_have) set.old.ids (start ∷ []))) }
+    ensures stack { stack.new.items ≡ [] }
+    ensures succeeds { is_epsilon (state_at nfa.now start) ≡ false → IsOk result }
+{
+    closure_from::<N, A, Brand>(nfa, start, look_have, stack, set, Blank::new(1))
+}

@@ -1,0 +1,72 @@
+//! Recording a set of NFA states in the builder of a DFA state.
+
+ghost use Rattle.std.specs.Prelude.{◌≡◌, ℕ, ◌<◌, All, length, OnOk, OnErr};
+ghost use Rattle.determinize_below.specs.Edges.{is_capture};
+ghost use Rattle.determinize_below.specs.Runs.{without};
+ghost use Rattle.determinize_core.specs.Marking.{IsGrown};
+ghost use Rattle.determinize_core.specs.Recording.{added, added_one};
+ghost use Rattle.determinize_core.specs.Step.{recorded};
+
+use crate::state::StateBuilderNFA;
+use determinize_below::nfa::State;
+use determinize_below::{LookSet, NFA, SparseSet, StateID};
+use std::alloc::{AllocError, Allocator};
+
+/// Adds one state and, for a `Look`, its assertion; a capture is left out.
+fn add_state<N: Allocator, A: Allocator>(
+    nfa: &NFA<N>,
+    id: StateID,
+    builder: &mut StateBuilderNFA<A>,
+) -> Result<(), AllocError>
+    requires { id < length nfa.now.states }
+    ensures ok { OnOk result (builder.new ≡ added_one nfa.now builder.old id) }
+    ensures err { OnErr result (IsGrown builder.old builder.new) }
+{
+    match nfa.state(id) {
+        State::Capture { .. } => return Ok(()),
+        State::Look { look, .. } => builder.set_look_need(|need| need.insert(*look)),
+        _ => {}
+    }
+    builder.add_nfa_state_id(id)
+}
+
+/// Adds the states of a set. After a refusal the builder has some of them.
+fn add_states<N: Allocator, A: Allocator>(
+    nfa: &NFA<N>,
+    set: &SparseSet<A>,
+    builder: &mut StateBuilderNFA<A>,
+) -> Result<(), AllocError>
+    requires { All (λ id. id < length nfa.now.states) set.now.ids }
+    ensures ok { OnOk result (builder.new ≡ added nfa.now builder.old (without (is_capture nfa.now) set.now.ids)) }
+    ensures err { OnErr result (IsGrown builder.old builder.new) }
+{
+    for id in set.iter() {
+        add_state(nfa, id, builder)?;
+    }
+    Ok(())
+}
+
+/// Records the states of a set in a builder.
+///
+/// The set's ids go behind the builder's own, in the set's order, captures left out. The builder's
+/// look-need gains the assertions of the `Look` states among them. Where look-need is then empty,
+/// look-have is emptied, since nothing will ask for it. After a refusal the builder is unchanged.
+pub fn add_nfa_states<N: Allocator, A: Allocator>(
+    nfa: &NFA<N>,
+    set: &SparseSet<A>,
+    builder: &mut StateBuilderNFA<A>,
+) -> Result<(), AllocError>
+    requires { All (λ id. id < length nfa.now.states) set.now.ids }
+    ensures ok { OnOk result (builder.new ≡ recorded nfa.now builder.old set.now.ids) }
+    ensures err { OnErr result (builder.new ≡ builder.old) }
+{
+    let mark = builder.mark();
+    if let Err(refused) = add_states(nfa, set, builder) {
+        builder.restore(mark);
+        return Err(refused);
+    }
+    if builder.look_need().is_empty() {
+        builder.set_look_have(|_| LookSet::empty());
+    }
+    Ok(())
+}

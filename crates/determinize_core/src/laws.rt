@@ -1,0 +1,73 @@
+//! Laws of walks, steps and searches over the definitions, as public functions with empty bodies.
+ghost use Rattle.determinize_core.specs.WorkedRows as rows;
+ghost use Rattle.determinize_core.specs.Laws.{EachChainIsTrue, EachAnswerIsOne, EachReachGoesOn, EachStateHasOneKind, EachFutureFollows, DeadStays, LeftmostGivesOne, NoNeedNoHave, TriesAreFew};
+
+/// The walk of an accepted NFA over a text, against whole runs. Where all matches are wanted, each value lists the patterns that runs accept
+/// before its unit, best run first, and the NFA states that runs reach by what is known there. Where the most preferred match is wanted,
+/// the last value with a pattern ends the most preferred of all accepting runs, and without such a value no run accepts.
+pub fn walk_law()
+    ensures { EachChainIsTrue }
+{}
+
+/// What the walk answers is determined by the runs: one list of patterns at each position, one most preferred match.
+pub fn answer_law()
+    ensures { EachAnswerIsOne }
+{}
+
+/// A search can go on with one more root, and a state of the NFA leads on without input or over a byte, not both.
+pub fn search_law()
+    ensures goes_on { EachReachGoesOn }
+    ensures kinds { EachStateHasOneKind }
+{}
+
+/// From each of its values a walk goes on as from the start. The dead value stays, and of the values that a step leaves it alone is empty,
+/// where no cycle of the NFA has captures alone. A value to which states were recorded has no assertion in look-have where it has none in
+/// look-need. Where the most preferred match is wanted, a step gives one pattern at most.
+pub fn step_law()
+    ensures future { EachFutureFollows }
+    ensures dead { DeadStays }
+    ensures settled { NoNeedNoHave }
+    ensures leftmost { LeftmostGivesOne }
+{}
+
+/// A step tries to add a state to a set at most twice for each state of the NFA and for each of its edges that want no input.
+pub fn tries_law()
+    ensures { TriesAreFew }
+{}
+
+/// The walks of the program `rows` by the definitions: the bytes of their states, and pattern and end of their last match. Their NFAs pass every check.
+pub fn walk_rows_law()
+    ensures accepted { rows.AreAccepted }
+    ensures row_2 { rows.Row2 }
+    ensures row_3 { rows.Row3 }
+    ensures row_4a { rows.Row4a }
+    ensures row_4b { rows.Row4b }
+    ensures row_5 { rows.Row5 }
+    ensures row_6 { rows.Row6 }
+    ensures row_7 { rows.Row7 }
+    ensures row_8a { rows.Row8a }
+    ensures row_8b { rows.Row8b }
+    ensures row_8c { rows.Row8c }
+    ensures row_9a { rows.Row9a }
+    ensures row_9b { rows.Row9b }
+    ensures row_9c { rows.Row9c }
+    ensures row_10a { rows.Row10a }
+    ensures row_10b { rows.Row10b }
+    ensures row_11a { rows.Row11a }
+    ensures row_11b { rows.Row11b }
+    ensures row_12 { rows.Row12 }
+    ensures row_13 { rows.Row13 }
+    ensures row_14 { rows.Row14 }
+    ensures row_18 { rows.Row18 }
+    ensures row_19 { rows.Row19 }
+    ensures row_20 { rows.Row20 }
+    ensures row_25a { rows.Row25a }
+    ensures row_25b { rows.Row25b }
+    ensures row_27a { rows.Row27a }
+    ensures row_27b { rows.Row27b }
+{}
+
+/// A search from one state into a set that holds another meets no path through the held one.
+pub fn search_row_law()
+    ensures { rows.Row22 }
+{}

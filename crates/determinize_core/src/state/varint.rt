@@ -1,0 +1,117 @@
+//! NFA ids as differences in groups of 7 bits.
+
+ghost use Rattle.std.specs.Prelude.{◌≡◌, ◌+◌, ◌%◌, ◌≤◌, [], ◌∷◌, take, option_map, IfNone, IfSome};
+ghost use Rattle.determinize_core.specs.Varint as format;
+ghost use Rattle.determinize_core.specs.Varint.{read, unzigzag, ids_from, IsDeltas};
+
+use determinize_below::StateID;
+
+/// The difference between two ids as a number, small where the difference is small.
+pub(crate) fn zigzag(from: StateID, to: StateID) -> u32
+    ensures value { result ≡ format.zigzag from to }
+    ensures small { to ≤ 2147483646 }
+{
+    let from = from.as_u32();
+    let to = to.as_u32();
+    if from <= to {
+        2 * (to - from)
+    } else {
+        2 * (from - to) - 1
+    }
+}
+
+/// A number in groups of 7 bits, the low group first, and how many groups it needs. Each byte but
+/// the last has its top bit set.
+#[tactic(auto, unfolding(crate::specs::Varint::varint))]
+pub(crate) fn encode(number: u32) -> ([u8; 5], usize)
+    ensures groups { take result.1 result.0 ≡ format.varint number }
+    ensures within { result.1 ≤ 5 }
+{
+    let second = number / 128;
+    let third = second / 128;
+    let fourth = third / 128;
+    let fifth = fourth / 128;
+    if number < 128 {
+        ([number as u8, 0, 0, 0, 0], 1)
+    } else if second < 128 {
+        ([more(number), second as u8, 0, 0, 0], 2)
+    } else if third < 128 {
+        ([more(number), more(second), third as u8, 0, 0], 3)
+    } else if fourth < 128 {
+        (
+            [more(number), more(second), more(third), fourth as u8, 0],
+            4,
+        )
+    } else {
+        (
+            [
+                more(number),
+                more(second),
+                more(third),
+                more(fourth),
+                fifth as u8,
+            ],
+            5,
+        )
+    }
+}
+
+/// The lowest 7 bits as a group after which another follows.
+fn more(number: u32) -> u8
+    ensures { result ≡ 128 + number % 128 }
+{
+    128 + (number % 128) as u8
+}
+
+/// The first id of the differences from an id on, and the bytes after it.
+pub(crate) fn first_id(from: u32, bytes: &[u8]) -> Option<(StateID, &[u8])>
+    requires { IsDeltas from bytes.now }
+    ensures none { IfNone result (ids_from from 0 1 bytes.now ≡ []) }
+    ensures some { IfSome result (λ r. ids_from from 0 1 bytes.now ≡ r.0 ∷ ids_from r.0 0 1 r.1.now) }
+    ensures rest { IfSome result (λ r. IsDeltas r.0 r.1.now) }
+{
+    match read_number(bytes) {
+        None => None,
+        Some((number, after)) => Some((id_after(from, number), after)),
+    }
+}
+
+/// The number that the bytes begin with, and the bytes after it.
+fn read_number(bytes: &[u8]) -> Option<(u64, &[u8])>
+    ensures { option_map (λ r. (r.0, r.1.now)) result ≡ read 0 1 bytes.now }
+{
+    let mut low = 0u64;
+    let mut weight = 1u64;
+    let mut rest = bytes;
+    while let Some((byte, after)) = rest.split_first() {
+        if weight > 268435456 {
+            return None;
+        }
+        let byte = *byte as u64;
+        if byte < 128 {
+            return Some((low + weight * byte, after));
+        }
+        low += weight * (byte - 128);
+        weight *= 128;
+        rest = after;
+    }
+    None
+}
+
+/// The id whose difference to `from` is this number.
+fn id_after(from: u32, number: u64) -> StateID
+    requires from { from ≤ 2147483646 }
+    requires small { unzigzag from number ≤ 2147483646 }
+    requires back { number ≡ format.zigzag from (unzigzag from number) }
+    ensures { result ≡ unzigzag from number }
+{
+    let id = if number % 2 == 0 {
+        from as u64 + number / 2
+    } else {
+        from as u64 - (number + 1) / 2
+    };
+    let Ok(id) = StateID::new(id as usize) else {
+        unreachable!()
+    };
+    id
+}
