@@ -1,5 +1,5 @@
 -- The checks of an NFA's states, one state after another.
-use Rattle.std.proofs.Common.{◌≡◌, ◌≢◌, ℕ, suc, ◌+◌, ◌<◌, Bool, true, false, Option, Some, None, List, [], ◌∷◌, ◌++◌, length, map, take, drop, get_or, nat_eq, refl, sym, ap, ◌∙◌, arith, ◌||◌, ◌⊎◌, inl, inr, zero}
+use Rattle.std.proofs.Common.{◌≡◌, ℕ, suc, ◌+◌, ◌<◌, Bool, false, Some, None, List, [], ◌∷◌, ◌++◌, length, map, take, drop, get_or, refl, sym, ap, ◌∙◌, arith, ◌||◌, ◌⊎◌, inl, inr, zero}
 use Rattle.std.specs.List.{list_any}
 use Rattle.std.specs.Prelude.{slice_get}
 use Rattle.std.specs.Option.{option_or}
@@ -7,7 +7,7 @@ use Rattle.std.proofs.Math.Seq.{drop-cons}
 use Rattle.std.proofs.lemmas.List.{take_more, map-append}
 use Rattle.std.proofs.lemmas.List.Folds.{list_any-append}
 use Rattle.determinize_below.specs.Node.{Node, ByteRange, Sparse, Dense, Look, Union, BinaryUnion, Capture, Fail, Match}
-use Rattle.determinize_below.specs.Nfa.{matches, repeats, is_repeated, failure_of, state_failure, states_failure}
+use Rattle.determinize_below.specs.Nfa.{matches, repeats, failure_of, state_failure, states_failure}
 use Rattle.determinize_below.specs.declared.nfa.BuildError.{BuildError}
 use Rattle.determinize_below.specs.declared.nfa.BuildError.TheVariants.{OutOfMemory}
 

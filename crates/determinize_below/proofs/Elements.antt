@@ -1,15 +1,13 @@
 -- Elements of lists, and which stand before which.
 use Rattle.std.specs.Bool.{Decides}
-use Rattle.std.specs.List.{list_any}
 use Rattle.std.specs.Prelude.{All, Contains, slice_get}
-use mathlib.Core.List.{reverse-cons}
-use Rattle.std.proofs.Common.{◌++◌, ◌<◌, Bool, List, None, Some, [], arith, false, get_or, length, map, refl, reverse, suc, sym, take, true, zero, ℕ, ◌∙◌, ◌∷◌, ◌≡◌}
+use Rattle.std.proofs.Common.{◌++◌, ◌<◌, Bool, List, None, Some, [], arith, false, get_or, length, map, refl, suc, sym, take, true, zero, ℕ, ◌∙◌, ◌∷◌, ◌≡◌}
 use Rattle.std.proofs.lemmas.Bool.{false≢true, or_left, or_right}
-use Rattle.std.proofs.lemmas.List.Elements.{All-append, All-cons, All-head, All-nil, All-tail}
+use Rattle.std.proofs.lemmas.List.Elements.{All-cons, All-nil}
 use Rattle.determinize_below.specs.Reach.{member}
 use Rattle.determinize_below.specs.Runs.{without}
 use Rattle.determinize_below.proofs.Sets.{eq-self}
-use Rattle.determinize_below.proofs.Tests.{by_test, or_false_left, or_false_right}
+use Rattle.determinize_below.proofs.Tests.{by_test}
 
 -- an element of a list
 abbrev pub In : {A : Type 0} → A → List A → Type 0
@@ -72,10 +70,6 @@ without-In cap (x ∷ xs) s h c = In_cases s x xs h
 pub In_take_one : {A : Type 0} (ps : List A) (x : A) → In x (take 1 ps) → In x ps
 In_take_one [] x h = h
 In_take_one (y ∷ ps) x h = In_append_left x (y ∷ []) ps h
-
-pub list_any_false : {A : Type 0} (p : A → Bool) (xs : List A) (x : A) → list_any p xs ≡ false → In x xs → p x ≡ false
-list_any_false p [] x h i = absurd (let k : Some x ≡ None = sym i.1 in cc)
-list_any_false p (y ∷ xs) x h i = In_cases x y xs i (λ e. rw e (or_false_left (p y) (list_any p xs) h)) (λ k. list_any_false p xs x (or_false_right (p y) (list_any p xs) h) k)
 
 -- what stands before what, in a list
 abbrev pub Earlier : {A : Type 0} → List A → A → A → Type 0
@@ -157,9 +151,3 @@ module _ {N : Type 0} {eq : N → N → Bool} (dec : (a b : N) → Decides (eq a
       go [] k l e = absurd (omega arith)
       go (y ∷ ys) zero l e = rw e (In_head x ys)
       go (y ∷ ys) (suc k) l e = In_tail x y ys (go ys k (omega arith) e)
-
-pub All-reverse : {A : Type 0} (P : A → Type 0) (xs : List A) → All P xs → All P (reverse xs)
-All-reverse P [] h = h
-All-reverse P (x ∷ xs) h =
-    let t : All P (reverse xs ++ x ∷ []) = All-append P (reverse xs) (x ∷ []) (All-reverse P xs (All-tail P x xs h)) (All-cons P x [] (All-head P x xs h) (All-nil P)) in
-    rw (reverse-cons x xs) t

@@ -2,7 +2,7 @@
 use Rattle.std.specs.Bool.{Decides}
 use Rattle.std.specs.Prelude.{nat_eq}
 use Rattle.std.proofs.Common.{◌&&◌, ◌<◌, Bool, List, [], ap, arith, false, length, not, refl, suc, sym, true, zero, ℕ, ◌∙◌, ◌∷◌, ◌≡◌, ◌≤◌}
-use Rattle.std.proofs.lemmas.Bool.{cases_lt, eq-eqb, eqb-true, false≢true, or_left, or_right, true≢false}
+use Rattle.std.proofs.lemmas.Bool.{cases_lt, eq-eqb, or_left, or_right, true≢false}
 use Rattle.std.proofs.lemmas.Bool.Decides.{Decides-eqb}
 use Rattle.determinize_below.specs.Reach.{LeadsBelow, fresh, member, nodes_below, none_held, with_node}
 use Rattle.determinize_below.proofs.Bounds.{weight, weight-fresh}
@@ -21,12 +21,6 @@ below_member (suc n) x l = by_test (nat_eq n x)
     (λ e. by_cases (cases_lt x n)
     (λ k. or_right (nat_eq n x) _ (below_member n x k))
     (λ k. let q : n ≡ x = omega arith in absurd (true≢false (sym (eq-eqb n x q) ∙ e))))
-
-pub member_below : (n x : ℕ) → member nat_eq (nodes_below n) x ≡ true → x < n
-member_below zero x m = absurd (false≢true m)
-member_below (suc n) x m = by_test (nat_eq n x)
-    (λ e. let q : n ≡ x = eqb-true n x e in omega arith)
-    (λ e. let h : x < n = member_below n x (rw e at m) in omega arith)
 
 pub length_below : (n : ℕ) → length (nodes_below n) ≡ n
 length_below zero = refl

@@ -51,22 +51,27 @@ assertion_in _ = None
 abbrev pub state_at : Nfa → ℕ → Node
 state_at nfa s = slice_index_or nfa.states s Fail
 
--- the same of the state of an id
+-- the edges that want no input, of the state of an id, under a set of assertions
 abbrev pub edges : Nfa → (Assertion → Bool) → ℕ → List ℕ
 edges nfa holds s = edges_of holds (state_at nfa s)
 
+-- where the state of an id leads over a unit, as a list of at most one
 abbrev pub target : Nfa → Option ℕ → ℕ → List ℕ
 target nfa u s = listed (target_of u (state_at nfa s))
 
+-- whether the state of an id is a capture
 abbrev pub is_capture : Nfa → ℕ → Bool
 is_capture nfa s = tests_capture (state_at nfa s)
 
+-- the pattern that the state of an id accepts
 abbrev pub pattern_of : Nfa → ℕ → Option ℕ
 pattern_of nfa s = pattern_in (state_at nfa s)
 
+-- whether the state of an id accepts a pattern
 abbrev pub is_match : Nfa → ℕ → Bool
 is_match nfa s = holds_some (pattern_of nfa s)
 
+-- the assertion that the state of an id tests
 abbrev pub assertion_of : Nfa → ℕ → Option Assertion
 assertion_of nfa s = assertion_in (state_at nfa s)
 

@@ -53,16 +53,19 @@ intersect a b = bit_and a b
 unfoldable pub subtract : ℕ → ℕ → ℕ
 subtract a b = bit_and a (bit_not w32 b)
 
--- whether some member is of the class: on the haystack, on lines, on CRLF, on words
+-- whether some member is an assertion on the haystack
 abbrev pub has_haystack : ℕ → Bool
 has_haystack set = meets set 0x3
 
+-- whether some member is an assertion on lines
 abbrev pub has_line : ℕ → Bool
 has_line set = meets set 0x3C
 
+-- whether some member is an assertion on lines that end in a carriage return, a line feed or both
 abbrev pub has_crlf : ℕ → Bool
 has_crlf set = meets set 0x30
 
+-- whether some member is an assertion on words
 abbrev pub has_word : ℕ → Bool
 has_word set = meets set 0x3FFC0
 

@@ -20,7 +20,7 @@ after_at text i = slice_get text i
 unfoldable pub truth : Nfa → Option ℕ → Option ℕ → Assertion → Bool
 truth nfa p q look = truths.holds nfa.reverse nfa.terminator p q look
 
--- the set of those that hold after a byte or none whatever unit follows
+-- the set of the assertions that hold after a byte or none whatever unit follows
 unfoldable pub known : Nfa → Option ℕ → Assertion → Bool
 known nfa p look = truths.known nfa.reverse nfa.terminator p look
 
@@ -28,7 +28,7 @@ known nfa p look = truths.known nfa.reverse nfa.terminator p look
 abbrev pub true_edges : Nfa → Option ℕ → List ℕ → ℕ → ℕ → List ℕ
 true_edges nfa p text i = edges nfa (truth nfa (before_at p text i) (after_at text i))
 
--- those under what is known there before the next unit
+-- the edges that stay at a position, under what is known there before the next unit
 abbrev pub known_edges : Nfa → Option ℕ → List ℕ → ℕ → ℕ → List ℕ
 known_edges nfa p text i = edges nfa (known nfa (before_at p text i))
 

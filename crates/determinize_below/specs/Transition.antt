@@ -30,5 +30,6 @@ abbrev pub ascends_from : ℕ → List Transition → Bool
 ascends_from low [] = true
 ascends_from low (t ∷ ts) = nat_le low t.start && nat_le t.start t.end && ascends_from (suc t.end) ts
 
+-- the ranges ascend from any byte on, do not meet, and none is empty
 abbrev pub is_ascending : List Transition → Bool
 is_ascending ts = ascends_from 0 ts

@@ -30,7 +30,7 @@ impl Unit {
         Unit::U8(byte)
     }
 
-    /// The end of the input, with a number from 0 to 256.
+    /// The end of the input, with a number from 0 to 256 that is kept.
     pub fn eoi(number: usize) -> Unit
         requires { number ≤ 256 }
         ensures { result ≡ Unit.Eoi number }

@@ -1,7 +1,10 @@
-//! Laws over the definitions, as public functions with empty bodies.
+//! Laws over the definitions, as public functions.
+
 ghost use Rattle.std.specs.Prelude.{◌≡◌, nat_eq, [], ◌∷◌};
 ghost use Rattle.determinize_below.specs.Reach.{ordered, member, none_held};
 ghost use Rattle.determinize_below.specs.ReachLaws.{EachReachIsInOrder, EachReachIsOne, EachReachIsInTurn, small_graph};
+
+use crate::primitives::{PatternID, StateID};
 
 /// The computed list of a search is the one list in the order of reach, and can be found root by root; with worked rows.
 pub fn reach_law()
@@ -12,3 +15,21 @@ pub fn reach_law()
     ensures row_held { ordered nat_eq small_graph 5 (member nat_eq (1 ∷ [])) (0 ∷ []) ≡ 0 ∷ 3 ∷ [] }
     ensures row_roots { ordered nat_eq small_graph 5 none_held (2 ∷ 7 ∷ 1 ∷ []) ≡ 2 ∷ 0 ∷ 1 ∷ 3 ∷ 7 ∷ [] }
 {}
+
+/// The least id of a state, the greatest one, and the bytes of one that is written out.
+pub fn state_id_law() -> (StateID, StateID, usize)
+    ensures zero { result.0 ≡ 0 }
+    ensures max { result.1 ≡ 2147483646 }
+    ensures size { result.2 ≡ 4 }
+{
+    (StateID::ZERO, StateID::MAX, StateID::SIZE)
+}
+
+/// The least id of a pattern, the greatest one, and the bytes of one that is written out.
+pub fn pattern_id_law() -> (PatternID, PatternID, usize)
+    ensures zero { result.0 ≡ 0 }
+    ensures max { result.1 ≡ 2147483646 }
+    ensures size { result.2 ≡ 4 }
+{
+    (PatternID::ZERO, PatternID::MAX, PatternID::SIZE)
+}

@@ -56,7 +56,7 @@ impl Look {
     }
 }
 
-/// A set of assertions, kept in 32 bits of which the upper 14 are zero.
+/// A set of assertions, kept in 32 bits of which the upper 14 are zero. No call takes memory.
 #[derive(Clone, Copy, Debug, PartialEq, Eq)]
 pub struct LookSet {
     bits: u32,
@@ -83,7 +83,7 @@ impl LookSet {
         LookSet { bits: 0 }
     }
 
-    /// The set with these bits.
+    /// The set with these bits, of which only the lowest 18 may be set.
     pub fn from_repr(bits: u32) -> LookSet
         requires { bits < 2 ^ 18 }
         ensures { result ≡ bits }
@@ -91,7 +91,7 @@ impl LookSet {
         LookSet { bits }
     }
 
-    /// The bits of the set.
+    /// The bits of the set, the lowest 18 at most.
     pub fn as_repr(self) -> u32
         ensures value { result ≡ self }
         ensures small { self < 2 ^ 18 }
@@ -106,7 +106,7 @@ impl LookSet {
         self.bits & look.as_repr() != 0
     }
 
-    /// The set with the assertion.
+    /// The set with the assertion, which may be a member already.
     pub fn insert(self, look: Look) -> LookSet
         ensures { result ≡ looks.insert self look }
     {
@@ -115,7 +115,7 @@ impl LookSet {
         }
     }
 
-    /// The set without the assertion.
+    /// The set without the assertion, which need not be a member.
     pub fn remove(self, look: Look) -> LookSet
         ensures { result ≡ looks.remove self look }
     {
@@ -209,7 +209,7 @@ impl LookMatcher {
         }
     }
 
-    /// Sets the line terminator, which may be any byte, and gives back the matcher.
+    /// Sets the line terminator, which may be any byte, and gives back this same matcher.
     pub fn set_line_terminator(&mut self, byte: u8) -> &mut LookMatcher
         ensures same { result.ghost_name ≡ self.entry.ghost_name }
         ensures set { result.now ≡ byte }
@@ -227,6 +227,8 @@ impl LookMatcher {
 }
 
 impl Default for LookMatcher {
+    ghost is_default = { λ m. m ≡ 10 };
+
     fn default() -> LookMatcher {
         LookMatcher::new()
     }

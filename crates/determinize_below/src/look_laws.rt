@@ -35,7 +35,7 @@ pub fn look_member_law(set: LookSet, other: LookSet, look: Look, member: Look)
     let _bits = other.as_repr();
 }
 
-/// A set is of a class where it has a member of the class.
+/// A set is of a class exactly where it has a member of the class.
 pub fn look_class_law(set: LookSet)
     ensures haystack { looks.has_haystack set ≡ list_any (has set) classes.haystack_looks }
     ensures line { looks.has_line set ≡ list_any (has set) classes.line_looks }

@@ -9,7 +9,7 @@ use crate::primitives::StateID;
 use std::alloc::{Allocator, Global};
 use std::marker::Model;
 
-pub mod checks;
+mod checks;
 pub mod state;
 pub mod transitions;
 
@@ -80,7 +80,8 @@ impl<A: Allocator> NFA<A> {
     /// The checks go in this order, and the first that fails is answered: the number of states,
     /// the two start ids, and then the states by their index; within a state its ids, a sparse
     /// state's ranges, a dense state's length, and whether a pattern is matched twice.
-    /// `OutOfMemory` comes only where memory for the set of patterns was refused.
+    /// `OutOfMemory` comes only where memory for the set of patterns was refused, whatever later
+    /// checks would have found. That set, which is dropped at the end, takes its memory of `alloc`.
     pub fn from_parts<B: Allocator + Clone>(
         alloc: B,
         states: Vec<State<A>, A>,
@@ -128,7 +129,7 @@ impl<A: Allocator> NFA<A> {
         self.states.len()
     }
 
-    /// The state of this id.
+    /// The state of this id, which is below the number of states.
     pub fn state(&self, id: StateID) -> &State<A>
         requires { id < length self.now.states }
         ensures state { slice_get self.now.states id ≡ Some (node_of result.now) }
@@ -161,16 +162,18 @@ impl<A: Allocator> NFA<A> {
         self.look_set_any
     }
 
-    /// The start state of anchored searches.
+    /// The start state of anchored searches, below the number of states.
     pub fn start_anchored(&self) -> StateID
-        ensures { result ≡ self.now.start_anchored }
+        ensures value { result ≡ self.now.start_anchored }
+        ensures resolves { result < length self.now.states }
     {
         self.start_anchored
     }
 
-    /// The start state of unanchored searches.
+    /// The start state of unanchored searches, below the number of states.
     pub fn start_unanchored(&self) -> StateID
-        ensures { result ≡ self.now.start_unanchored }
+        ensures value { result ≡ self.now.start_unanchored }
+        ensures resolves { result < length self.now.states }
     {
         self.start_unanchored
     }

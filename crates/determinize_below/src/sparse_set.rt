@@ -6,11 +6,11 @@ ghost use Rattle.determinize_below.specs.Members.{holds};
 
 use crate::primitives::StateID;
 use std::alloc::{AllocError, Allocator, Global};
-use std::fmt;
 use std::marker::Model;
 
 /// Distinct ids below a capacity, in the order of their insertion.
 #[derive(Drop)]
+#[derive_where(Debug)]
 pub struct SparseSet<A: Allocator = Global> {
     ids: Vec<StateID, A>,
     capacity: usize,
@@ -30,8 +30,9 @@ impl<A: Allocator> Model for SparseSet<A> {
 impl<A: Allocator> SparseSet<A> {
     ghost use Rattle.determinize_below.specs.Members.{AreMembers};
 
-    /// An empty set for the ids below the capacity. All memory that it will ever want is taken
-    /// here.
+    /// An empty set for the ids below the capacity, which is at most 2147483647. All memory that
+    /// the set will ever want is taken here; an error says that it was refused, and nothing is
+    /// kept.
     pub fn new(alloc: A, capacity: usize) -> Result<SparseSet<A>, AllocError>
         requires { capacity ≤ 2147483647 }
         ensures { IfOk result (λ s. s ≡ record { ids = []; capacity = capacity }) }
@@ -42,14 +43,14 @@ impl<A: Allocator> SparseSet<A> {
         })
     }
 
-    /// The number of ids.
+    /// The number of ids in the set.
     pub fn len(&self) -> usize
         ensures { result ≡ length self.now.ids }
     {
         self.ids.len()
     }
 
-    /// Whether there is no id.
+    /// Whether the set has no id.
     pub fn is_empty(&self) -> bool
         ensures { IsTrue result ↔ (self.now.ids ≡ []) }
     {
@@ -63,7 +64,7 @@ impl<A: Allocator> SparseSet<A> {
         self.capacity
     }
 
-    /// Whether the id is in the set.
+    /// Whether the id, which is below the capacity, is in the set.
     pub fn contains(&self, id: StateID) -> bool
         requires { id < self.now.capacity }
         ensures { result ≡ holds self.now.ids id }
@@ -71,7 +72,8 @@ impl<A: Allocator> SparseSet<A> {
         self.ids.contains(&id)
     }
 
-    /// Adds the id behind the others, and answers whether it was new. It takes no memory.
+    /// Adds the id, which is below the capacity, behind the others, and answers whether it was
+    /// new. A set that has the id already stays as it is. It takes no memory.
     pub fn insert(&mut self, id: StateID) -> bool
         requires { id < self.old.capacity }
         ensures new { result ≡ not (holds self.old.ids id) }
@@ -99,15 +101,6 @@ impl<A: Allocator> SparseSet<A> {
         SparseSetIter {
             ids: self.ids.as_slice(),
         }
-    }
-}
-
-impl<A: Allocator> fmt::Debug for SparseSet<A> {
-    fn fmt<W: fmt::Write>(&self, f: &mut fmt::Formatter<W>) -> fmt::Result {
-        f.debug_struct("SparseSet")
-            .field("ids", &self.ids.as_slice())
-            .field("capacity", &self.capacity)
-            .finish()
     }
 }
 
@@ -151,7 +144,8 @@ impl<'a> Iterator for SparseSetIter<'a> {
 }
 
 /// Two sets, as a transition wants them for its work.
-#[derive(Debug, Drop)]
+#[derive(Drop)]
+#[derive_where(Debug)]
 pub struct SparseSets<A: Allocator = Global> {
     /// The first set.
     pub set1: SparseSet<A>,
@@ -160,7 +154,8 @@ pub struct SparseSets<A: Allocator = Global> {
 }
 
 impl<A: Allocator + Copy> SparseSets<A> {
-    /// Two empty sets for the ids below the capacity.
+    /// Two empty sets for the ids below the capacity, which is at most 2147483647. An error says
+    /// that memory was refused, and neither set is kept.
     pub fn new(alloc: A, capacity: usize) -> Result<SparseSets<A>, AllocError>
         requires { capacity ≤ 2147483647 }
         ensures first { IfOk result (λ s. s.set1 ≡ record { ids = []; capacity = capacity }) }
@@ -174,7 +169,7 @@ impl<A: Allocator + Copy> SparseSets<A> {
 }
 
 impl<A: Allocator> SparseSets<A> {
-    /// Empties both sets.
+    /// Empties both sets. Their capacities stay.
     pub fn clear(&mut self)
         ensures { self.new ≡ record {
           set1 = record self.old.set1 { ids = [] };
@@ -185,7 +180,7 @@ impl<A: Allocator> SparseSets<A> {
         self.set2.clear();
     }
 
-    /// Exchanges the two sets.
+    /// Exchanges the two sets, with their capacities.
     pub fn swap(&mut self)
         ensures { self.new ≡ record { set1 = self.old.set2; set2 = self.old.set1 } }
     {

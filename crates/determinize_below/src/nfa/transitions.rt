@@ -7,7 +7,6 @@ ghost use Rattle.determinize_below.specs.Unit.{byte_of};
 use crate::alphabet::Unit;
 use crate::primitives::StateID;
 use std::alloc::{Allocator, Global};
-use std::fmt;
 use std::marker::Model;
 
 /// A transition to `next` over each byte from `start` to `end`, both included. Where `start` is
@@ -41,8 +40,9 @@ impl Transition {
     }
 }
 
-/// Transitions over ranges of bytes that ascend and do not meet.
+/// Transitions over ranges of bytes that, in an NFA, ascend and do not meet.
 #[derive(Drop)]
+#[derive_where(Debug)]
 pub struct SparseTransitions<A: Allocator = Global> {
     /// The transitions, in the order of their bytes.
     pub transitions: Vec<Transition, A>,
@@ -58,7 +58,8 @@ impl<A: Allocator> Model for SparseTransitions<A> {
 }
 
 impl<A: Allocator> SparseTransitions<A> {
-    /// Where the byte leads, or none where no range holds it.
+    /// Where the byte leads, or none where no range holds it. The ranges ascend and do not meet,
+    /// so at most one holds it.
     pub fn matches_byte(&self, byte: u8) -> Option<StateID>
         requires { IsTrue (transitions.is_ascending self.now) }
         ensures { result ≡ transitions.sparse_target self.now byte }
@@ -69,7 +70,7 @@ impl<A: Allocator> SparseTransitions<A> {
             .map(|t| t.next)
     }
 
-    /// Where the unit leads. The end of the input leads nowhere.
+    /// Where the unit leads, a byte as by `matches_byte`. The end of the input leads nowhere.
     pub fn matches_unit(&self, unit: Unit) -> Option<StateID>
         requires { IsTrue (transitions.is_ascending self.now) }
         ensures { result ≡ transitions.over_unit (transitions.sparse_target self.now) (byte_of unit) }
@@ -81,18 +82,11 @@ impl<A: Allocator> SparseTransitions<A> {
     }
 }
 
-impl<A: Allocator> fmt::Debug for SparseTransitions<A> {
-    fn fmt<W: fmt::Write>(&self, f: &mut fmt::Formatter<W>) -> fmt::Result {
-        f.debug_struct("SparseTransitions")
-            .field("transitions", &self.transitions.as_slice())
-            .finish()
-    }
-}
-
-/// A target for each of the 256 bytes, where id 0 means none.
+/// In an NFA, a target for each of the 256 bytes, where id 0 means none.
 #[derive(Drop)]
+#[derive_where(Debug)]
 pub struct DenseTransitions<A: Allocator = Global> {
-    /// The targets, by byte.
+    /// The targets, the one of byte 0 first.
     pub transitions: Vec<StateID, A>,
 }
 
@@ -105,7 +99,7 @@ impl<A: Allocator> Model for DenseTransitions<A> {
 }
 
 impl<A: Allocator> DenseTransitions<A> {
-    /// Where the byte leads, or none.
+    /// Where the byte leads, or none where its id is 0. There are 256 ids.
     pub fn matches_byte(&self, byte: u8) -> Option<StateID>
         requires { length self.now ≡ 256 }
         ensures { result ≡ transitions.dense_target self.now byte }
@@ -118,7 +112,7 @@ impl<A: Allocator> DenseTransitions<A> {
         }
     }
 
-    /// Where the unit leads. The end of the input leads nowhere.
+    /// Where the unit leads, a byte as by `matches_byte`. The end of the input leads nowhere.
     pub fn matches_unit(&self, unit: Unit) -> Option<StateID>
         requires { length self.now ≡ 256 }
         ensures { result ≡ transitions.over_unit (transitions.dense_target self.now) (byte_of unit) }
@@ -127,13 +121,5 @@ impl<A: Allocator> DenseTransitions<A> {
             Unit::U8(byte) => self.matches_byte(byte),
             Unit::Eoi(_) => None,
         }
-    }
-}
-
-impl<A: Allocator> fmt::Debug for DenseTransitions<A> {
-    fn fmt<W: fmt::Write>(&self, f: &mut fmt::Formatter<W>) -> fmt::Result {
-        f.debug_struct("DenseTransitions")
-            .field("transitions", &self.transitions.as_slice())
-            .finish()
     }
 }

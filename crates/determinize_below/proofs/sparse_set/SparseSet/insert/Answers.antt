@@ -1,4 +1,4 @@
-use Rattle.std.proofs.Common.{◌≡◌, ◌<◌, ◌∙◌, sym, ap, subst, false, ℕ, length, arith, vec_capacity}
+use Rattle.std.proofs.Common.{◌≡◌, ◌<◌, ◌∙◌, sym, ap, subst, false, length, arith, vec_capacity}
 use Rattle.determinize_below.specs.Members.{holds, Members}
 use Rattle.determinize_below.proofs.Sparse.{room_for_one, sparse_push}
 use Rattle.determinize_below.proofs.sparse_set.SparseSet.insert.Goals as goal

@@ -1,4 +1,3 @@
-use Rattle.std.proofs.Common.{arith}
 use Rattle.determinize_below.proofs.Sparse.{sparse_empty}
 use Rattle.determinize_below.proofs.sparse_set.SparseSet.new.Goals as goal
 
