@@ -148,5 +148,12 @@ leftmost_gives_one nfa v u = at_most (patterns_of nfa (working_list nfa v u))
     at_most [] = omega arith
     at_most (p ∷ ps) = omega arith
 
+-- so a value that is such a step has one pattern at most
+pub one_pattern : (nfa : Nfa) (kind : MatchKind) (v : Value) (u : Option ℕ) → kind ≡ LeftmostFirst → (next : Value) → next ≡ step nfa kind v u → length next.patterns ≤ 1
+one_pattern nfa kind v u k next e =
+    let few : length (step nfa LeftmostFirst v u).patterns ≤ 1 = leftmost_gives_one nfa v u in
+    let same : length next.patterns ≡ length (step nfa LeftmostFirst v u).patterns = ap (λ (w : Value). length w.patterns) (e ∙ ap (λ m. step nfa m v u) k) in
+    omega arith
+
 pub no_need_no_have : NoNeedNoHave
 no_need_no_have nfa v xs h = ap (λ n. cond (n == 0) 0 v.look_have) h

@@ -8,6 +8,7 @@ ghost use Rattle.determinize_below.specs.Nfa.{IsAccepted};
 ghost use Rattle.determinize_below.specs.Reach.{joined};
 ghost use Rattle.determinize_below.specs.Search.{continues};
 ghost use Rattle.determinize_below.specs.Unit.{byte_of};
+ghost use Rattle.determinize_below.specs.declared.search.MatchKind.TheVariants as kinds;
 ghost use Rattle.determinize_core.specs.Closure.{tries_left};
 ghost use Rattle.determinize_core.specs.Behind.{behind};
 ghost use Rattle.determinize_core.specs.Recording.{with_flags, with_patterns};
@@ -277,6 +278,7 @@ pub fn next_counted<N: Allocator, A: Allocator, L: Ledger>(
     requires second_capacity { sparses.old.set2.capacity ≡ length nfa.now.states }
     requires resolve { All (λ id. id < length nfa.now.states) state.now.states }
     ensures ok { IfOk result (λ builder. builder ≡ step nfa.now match_kind state.now (byte_of unit)) }
+    ensures single { match_kind ≡ kinds.LeftmostFirst → IfOk result (λ builder. length builder.patterns ≤ 1) }
     ensures first_capacity { sparses.new.set1.capacity ≡ sparses.old.set1.capacity }
     ensures second_capacity { sparses.new.set2.capacity ≡ sparses.old.set2.capacity }
     ensures stack { stack.new.items ≡ [] }
@@ -320,6 +322,7 @@ fn next_from<N: Allocator, A: Allocator, L: Ledger>(
     requires second_capacity { sparses.old.set2.capacity ≡ length nfa.now.states }
     requires resolve { All (λ id. id < length nfa.now.states) state.now.states }
     ensures ok { IfOk result (λ builder. builder ≡ step nfa.now match_kind state.now (byte_of unit)) }
+    ensures single { match_kind ≡ kinds.LeftmostFirst → IfOk result (λ builder. length builder.patterns ≤ 1) }
     ensures first_capacity { sparses.new.set1.capacity ≡ sparses.old.set1.capacity }
     ensures second_capacity { sparses.new.set2.capacity ≡ sparses.old.set2.capacity }
     ensures stack { stack.new.items ≡ [] }
@@ -362,6 +365,7 @@ pub fn next<N: Allocator, A: Allocator>(
     requires second_capacity { sparses.old.set2.capacity ≡ length nfa.now.states }
     requires resolve { All (λ id. id < length nfa.now.states) state.now.states }
     ensures ok { IfOk result (λ builder. builder ≡ step nfa.now match_kind state.now (byte_of unit)) }
+    ensures single { match_kind ≡ kinds.LeftmostFirst → IfOk result (λ builder. length builder.patterns ≤ 1) }
     ensures first_capacity { sparses.new.set1.capacity ≡ sparses.old.set1.capacity }
     ensures second_capacity { sparses.new.set2.capacity ≡ sparses.old.set2.capacity }
     ensures stack { stack.new.items ≡ [] }

@@ -1,10 +1,11 @@
-use Rattle.std.proofs.Common.{◌≡◌, ◌∙◌, ◌+◌, ◌&&◌, ap}
+use Rattle.std.proofs.Common.{◌≡◌, ◌∙◌, ◌+◌, ◌&&◌, ◌≤◌, length, ap}
 use Rattle.std.proofs.lemmas.Result.{IfOk-weaker}
 use Rattle.determinize_below.specs.Unit.{byte_of}
 use Rattle.determinize_core.specs.Value.{Value, dead}
 use Rattle.determinize_core.specs.Tries.{tries}
 use Rattle.determinize_core.specs.Recording.{with_flags}
 use Rattle.determinize_core.specs.Step.{is_nonempty, recorded, step}
+use Rattle.determinize_core.proofs.StepLaws.{one_pattern}
 use Rattle.determinize_core.proofs.Stepping.{on_ok, working_resolves, first_tries, all_tries, tries_within, entered_resolve, stepped}
 use Rattle.determinize_core.proofs.determinize.transition.next_counted.Goals as goal
 
@@ -57,3 +58,9 @@ returns-clause-bounded g c =
     tries_within c.args.nfa.now c.told_after-told.ensures.accepted c.args.match_kind c.args.state.now (byte_of c.args.unit) c.requires.resolve c.fill_working_list.new.sparses.set1.ids c.in_ok-builder.builder
     c.in_ok-fill_working_list.ensures.ok (c.in_ok-builder.ensures ∙ ap (λ have. record dead { look_have = have }) c.told_after-told.ensures.have)
     c.args.steps.now c.fill_working_list.new.steps c.read_working_list.new.steps c.in_ok-fill_working_list.ensures.counted c.read_working_list.ensures.bounded
+
+pub returns-clause-single : goal.returns-clause-single
+returns-clause-single g c = λ kind. IfOk-weaker c.record_entered.result
+    (λ (ended : Value). ended ≡ step c.args.nfa.now c.args.match_kind c.args.state.now (byte_of c.args.unit))
+    (λ (ended : Value). length ended.patterns ≤ 1)
+    (one_pattern c.args.nfa.now c.args.match_kind c.args.state.now (byte_of c.args.unit) kind) (returns-clause-ok g c)
