@@ -1,0 +1,135 @@
+//! Reads the NFA of a job.
+
+use crate::error::JobError;
+use crate::job::Job;
+use crate::values;
+use determinize_below::nfa::State;
+use determinize_below::{
+    DenseTransitions, LookMatcher, NFA, SparseTransitions, StateID, Transition,
+};
+use std::alloc::Global;
+
+/// The matcher with the job's line terminator.
+pub fn matcher(job: &Job<'_>) -> Result<LookMatcher, JobError> {
+    let mut matcher = LookMatcher::new();
+    if let Some(text) = job.value("term") {
+        matcher.set_line_terminator(values::byte(text)?);
+    }
+    Ok(matcher)
+}
+
+/// The NFA of the job. Both of its start ids are 0.
+pub fn nfa(alloc: Global, job: &Job<'_>) -> Result<NFA, JobError> {
+    let nfa = NFA::from_parts(
+        alloc,
+        states(alloc, job.states())?,
+        StateID::ZERO,
+        StateID::ZERO,
+        job.is_reverse()?,
+        matcher(job)?,
+    )?;
+    Ok(nfa)
+}
+
+/// The states of a text, one word each.
+pub fn states(alloc: Global, text: &str) -> Result<Vec<State>, JobError> {
+    let mut states = Vec::new(alloc);
+    for word in text.split(' ') {
+        if !word.is_empty() {
+            let state = state(alloc, word)?;
+            states.push(state)?;
+        }
+    }
+    Ok(states)
+}
+
+/// A state of a word such as `BU:4,1`.
+fn state(alloc: Global, word: &str) -> Result<State, JobError> {
+    let (kind, parts) = word.split_once(':').unwrap_or((word, ""));
+    match kind {
+        "B" => Ok(State::ByteRange {
+            trans: transition(parts)?,
+        }),
+        "S" => sparse(alloc, parts),
+        "D" => dense(alloc, parts),
+        "L" => look(parts),
+        "U" => Ok(State::Union {
+            alternates: values::state_ids(alloc, parts)?,
+        }),
+        "BU" => binary_union(parts),
+        "C" => Ok(State::Capture {
+            next: values::state_id(parts)?,
+        }),
+        "F" => Ok(State::Fail),
+        "M" => Ok(State::Match {
+            pattern_id: values::pattern_id(parts)?,
+        }),
+        _ => Err(JobError::Malformed),
+    }
+}
+
+/// A transition of a text such as `61-7a>1` or `61>1`.
+fn transition(text: &str) -> Result<Transition, JobError> {
+    let Some((range, next)) = text.split_once('>') else {
+        return Err(JobError::Malformed);
+    };
+    let (start, end) = range.split_once('-').unwrap_or((range, range));
+    Ok(Transition {
+        start: values::byte(start)?,
+        end: values::byte(end)?,
+        next: values::state_id(next)?,
+    })
+}
+
+/// A sparse state.
+fn sparse(alloc: Global, parts: &str) -> Result<State, JobError> {
+    let mut transitions = Vec::new(alloc);
+    if !parts.is_empty() {
+        for part in parts.split(',') {
+            let read = transition(part)?;
+            transitions.push(read)?;
+        }
+    }
+    Ok(State::Sparse(SparseTransitions { transitions }))
+}
+
+/// A dense state.
+fn dense(alloc: Global, parts: &str) -> Result<State, JobError> {
+    let mut table = [StateID::ZERO; 256];
+    if !parts.is_empty() {
+        for part in parts.split(',') {
+            write_range(&mut table, transition(part)?);
+        }
+    }
+    let transitions = Vec::from_slice(alloc, &table)?;
+    Ok(State::Dense(DenseTransitions { transitions }))
+}
+
+/// Writes the target of a transition at each of its bytes.
+fn write_range(table: &mut [StateID; 256], transition: Transition) {
+    for byte in transition.start..=transition.end {
+        table[usize::from(byte)] = transition.next;
+    }
+}
+
+/// A state with an assertion.
+fn look(parts: &str) -> Result<State, JobError> {
+    let Some((name, next)) = parts.split_once('>') else {
+        return Err(JobError::Malformed);
+    };
+    Ok(State::Look {
+        look: values::look(name)?,
+        next: values::state_id(next)?,
+    })
+}
+
+/// A union of two states.
+fn binary_union(parts: &str) -> Result<State, JobError> {
+    let Some((first, second)) = parts.split_once(',') else {
+        return Err(JobError::Malformed);
+    };
+    Ok(State::BinaryUnion {
+        alt1: values::state_id(first)?,
+        alt2: values::state_id(second)?,
+    })
+}

@@ -1,0 +1,108 @@
+//! Builds the record of a job, and writes what its readers answer.
+
+ghost use Rattle.std.specs.Prelude.{◌≡◌, ◌<◌, ◌≤◌, [], All, IsTrue, IfOk, OnOk};
+ghost use Rattle.determinize_core.specs.Value.{dead};
+
+use crate::error::JobError;
+use crate::job::Job;
+use crate::values;
+use determinize_below::{LookSet, PatternID, SparseSet, StateID};
+use determinize_core::state::{State, StateBuilderEmpty, StateBuilderMatches, StateBuilderNFA};
+use std::alloc::{AllocError, Global};
+
+/// The flags, look-have and patterns of the job's record.
+fn matches_builder(alloc: Global, job: &Job<'_>) -> Result<StateBuilderMatches, JobError> {
+    let ids = values::pattern_ids(alloc, job.value_or_none("pids"))?;
+    let mut builder = with_patterns(alloc, ids.as_slice())?;
+    if values::flag(job.needed("fw")?)? {
+        builder.set_is_from_word();
+    }
+    if values::flag(job.needed("half")?)? {
+        builder.set_is_half_crlf();
+    }
+    let have = values::look_set(job.value_or_none("have"))?;
+    builder.set_look_have(|_| have);
+    Ok(builder)
+}
+
+/// The whole record of the job.
+pub fn builder(alloc: Global, job: &Job<'_>) -> Result<StateBuilderNFA, JobError> {
+    let mut builder = matches_builder(alloc, job)?.into_nfa();
+    let need = values::look_set(job.value_or_none("need"))?;
+    builder.set_look_need(|_| need);
+    for id in values::state_ids(alloc, job.value_or_none("ids"))?.iter() {
+        builder.add_nfa_state_id(*id)?;
+    }
+    Ok(builder)
+}
+
+/// A builder with these patterns. A pattern that stands twice among them is refused.
+pub fn with_patterns(alloc: Global, ids: &[PatternID]) -> Result<StateBuilderMatches, JobError> {
+    let mut builder = StateBuilderEmpty::new(alloc).into_matches()?;
+    let mut seen = Vec::new(alloc);
+    for id in ids {
+        add_pattern(&mut builder, &mut seen, *id)?;
+    }
+    Ok(builder)
+}
+
+/// Adds a pattern to a builder and to the list of those that it has.
+fn add_pattern(
+    builder: &mut StateBuilderMatches,
+    seen: &mut Vec<PatternID>,
+    id: PatternID,
+) -> Result<(), JobError>
+    requires { builder.old.patterns ≡ seen.old.items }
+    ensures { OnOk result (builder.new.patterns ≡ seen.new.items) }
+{
+    if seen.contains(&id) {
+        return Err(JobError::Malformed);
+    }
+    seen.push(id)?;
+    builder.add_match_pattern_id(id)?;
+    Ok(())
+}
+
+/// A set of these ids, each below the capacity.
+pub fn set(alloc: Global, capacity: usize, ids: &[StateID]) -> Result<SparseSet, JobError>
+    requires { capacity ≤ 2147483647 }
+    ensures { IfOk result (λ set. set.capacity ≡ capacity) }
+{
+    let mut set = SparseSet::new(alloc, capacity)?;
+    for id in ids {
+        if id.as_usize() >= set.capacity() {
+            return Err(JobError::Malformed);
+        }
+        set.insert(*id);
+    }
+    Ok(set)
+}
+
+/// Whether all NFA states of a state are below a number.
+pub fn resolves(state: &State, count: usize) -> bool
+    ensures { IsTrue result → All (λ id. id < count) state.now.states }
+{
+    state.iter_nfa_state_ids().all(|id| id.as_usize() < count)
+}
+
+/// Writes what the readers of a state answer, in three lines.
+pub fn write_readers(text: &mut String, state: &State) -> Result<(), AllocError> {
+    let is_match = u8::from(state.is_match());
+    let count = state.match_len();
+    write!(text, "match={is_match} len={count} pids=")?;
+    match state.match_pattern_ids()? {
+        None => text.push_str("none")?,
+        Some(ids) => values::write_numbers(text, ids.iter().map(|id| id.as_u32()))?,
+    }
+    let usage = state.memory_usage();
+    writeln!(text, " usage={usage}")?;
+    let from_word = u8::from(state.is_from_word());
+    let half_crlf = u8::from(state.is_half_crlf());
+    write!(text, "fw={from_word} half={half_crlf} have=")?;
+    values::write_looks(text, state.look_have())?;
+    text.push_str(" need=")?;
+    values::write_looks(text, state.look_need())?;
+    text.push_str("\nids=")?;
+    values::write_numbers(text, state.iter_nfa_state_ids().map(|id| id.as_u32()))?;
+    text.push('\n')
+}

@@ -1,0 +1,209 @@
+//! Reads and writes the values of jobs: bytes, ids and sets of assertions.
+
+ghost use Rattle.std.specs.Prelude.{◌<◌, IfSome};
+ghost use Rattle.std.specs.Iterator.{IsFinite};
+
+use crate::error::JobError;
+use determinize_below::{Look, LookSet, PatternID, StateID};
+use std::alloc::{AllocError, Global};
+
+/// The assertions by their names, in the order of their bits.
+const LOOKS: [(&str, Look); 18] = [
+    ("Start", Look::Start),
+    ("End", Look::End),
+    ("StartLF", Look::StartLF),
+    ("EndLF", Look::EndLF),
+    ("StartCRLF", Look::StartCRLF),
+    ("EndCRLF", Look::EndCRLF),
+    ("WordAscii", Look::WordAscii),
+    ("WordAsciiNegate", Look::WordAsciiNegate),
+    ("WordUnicode", Look::WordUnicode),
+    ("WordUnicodeNegate", Look::WordUnicodeNegate),
+    ("WordStartAscii", Look::WordStartAscii),
+    ("WordEndAscii", Look::WordEndAscii),
+    ("WordStartUnicode", Look::WordStartUnicode),
+    ("WordEndUnicode", Look::WordEndUnicode),
+    ("WordStartHalfAscii", Look::WordStartHalfAscii),
+    ("WordEndHalfAscii", Look::WordEndHalfAscii),
+    ("WordStartHalfUnicode", Look::WordStartHalfUnicode),
+    ("WordEndHalfUnicode", Look::WordEndHalfUnicode),
+];
+
+/// Whether the text stands for nothing or for an empty list.
+pub fn is_none(text: &str) -> bool {
+    text.is_empty() || text == "-"
+}
+
+/// The value of a hexadecimal digit in lower case.
+fn digit(byte: u8) -> Option<u8>
+    ensures { IfSome result (λ value. value < 16) }
+{
+    match byte {
+        b'0'..=b'9' => Some(byte - b'0'),
+        b'a'..=b'f' => Some(byte - b'a' + 10),
+        _ => None,
+    }
+}
+
+/// The byte of two hexadecimal digits.
+fn pair(digits: &[u8]) -> Result<u8, JobError> {
+    let [high, low] = digits else {
+        return Err(JobError::Malformed);
+    };
+    match (digit(*high), digit(*low)) {
+        (Some(high), Some(low)) => Ok(high * 16 + low),
+        _ => Err(JobError::Malformed),
+    }
+}
+
+/// The byte of a text of two hexadecimal digits.
+pub fn byte(text: &str) -> Result<u8, JobError> {
+    pair(text.as_bytes())
+}
+
+/// A byte, or none.
+pub fn optional_byte(text: &str) -> Result<Option<u8>, JobError> {
+    if is_none(text) {
+        return Ok(None);
+    }
+    Ok(Some(byte(text)?))
+}
+
+/// The bytes of a text of hexadecimal digits.
+pub fn bytes(alloc: Global, text: &str) -> Result<Vec<u8>, JobError> {
+    let mut found = Vec::new(alloc);
+    if is_none(text) {
+        return Ok(found);
+    }
+    for digits in text.as_bytes().chunks(2) {
+        let value = pair(digits)?;
+        found.push(value)?;
+    }
+    Ok(found)
+}
+
+/// A decimal number.
+pub fn number(text: &str) -> Result<usize, JobError> {
+    Ok(text.parse::<usize>()?)
+}
+
+/// A flag, `0` or `1`.
+pub fn flag(text: &str) -> Result<bool, JobError> {
+    match text {
+        "0" => Ok(false),
+        "1" => Ok(true),
+        _ => Err(JobError::Malformed),
+    }
+}
+
+/// The id of an NFA state.
+pub fn state_id(text: &str) -> Result<StateID, JobError> {
+    match StateID::new(number(text)?) {
+        Ok(id) => Ok(id),
+        Err(_) => Err(JobError::Malformed),
+    }
+}
+
+/// The id of a pattern.
+pub fn pattern_id(text: &str) -> Result<PatternID, JobError> {
+    match PatternID::new(number(text)?) {
+        Ok(id) => Ok(id),
+        Err(_) => Err(JobError::Malformed),
+    }
+}
+
+/// A list of ids of NFA states.
+pub fn state_ids(alloc: Global, text: &str) -> Result<Vec<StateID>, JobError> {
+    let mut ids = Vec::new(alloc);
+    if is_none(text) {
+        return Ok(ids);
+    }
+    for word in text.split(',') {
+        let id = state_id(word)?;
+        ids.push(id)?;
+    }
+    Ok(ids)
+}
+
+/// A list of ids of patterns.
+pub fn pattern_ids(alloc: Global, text: &str) -> Result<Vec<PatternID>, JobError> {
+    let mut ids = Vec::new(alloc);
+    if is_none(text) {
+        return Ok(ids);
+    }
+    for word in text.split(',') {
+        let id = pattern_id(word)?;
+        ids.push(id)?;
+    }
+    Ok(ids)
+}
+
+/// The assertion of this name.
+pub fn look(text: &str) -> Result<Look, JobError> {
+    for (name, look) in LOOKS {
+        if name == text {
+            return Ok(look);
+        }
+    }
+    Err(JobError::Malformed)
+}
+
+/// A set of assertions.
+pub fn look_set(text: &str) -> Result<LookSet, JobError> {
+    let mut set = LookSet::empty();
+    if is_none(text) {
+        return Ok(set);
+    }
+    for name in text.split(',') {
+        set = set.insert(look(name)?);
+    }
+    Ok(set)
+}
+
+/// Writes bytes as hexadecimal digits, and ends the line.
+pub fn write_bytes(text: &mut String, bytes: &[u8]) -> Result<(), AllocError> {
+    for byte in bytes {
+        write!(text, "{byte:02x}")?;
+    }
+    text.push('\n')
+}
+
+/// Writes a list of numbers joined by commas, `-` where it is empty.
+pub fn write_numbers<I: Iterator<Item = u32>>(
+    text: &mut String,
+    numbers: I,
+) -> Result<(), AllocError>
+    requires can { I.can_next numbers }
+    requires ends { IsFinite (I.remaining numbers) }
+{
+    let mut is_first = true;
+    for number in numbers {
+        if !is_first {
+            text.push(',')?;
+        }
+        write!(text, "{number}")?;
+        is_first = false;
+    }
+    if is_first {
+        text.push('-')?;
+    }
+    Ok(())
+}
+
+/// Writes the names of a set of assertions joined by commas, `-` where it is empty.
+pub fn write_looks(text: &mut String, set: LookSet) -> Result<(), AllocError> {
+    let mut is_first = true;
+    for (name, look) in LOOKS {
+        if set.contains(look) {
+            if !is_first {
+                text.push(',')?;
+            }
+            text.push_str(name)?;
+            is_first = false;
+        }
+    }
+    if is_first {
+        text.push('-')?;
+    }
+    Ok(())
+}

@@ -1,0 +1,156 @@
+//! Verbs over an NFA.
+
+ghost use Rattle.std.specs.Prelude.{◌<◌, length, IfOk};
+
+use crate::error::JobError;
+use crate::job::Job;
+use crate::{nfas, records, values};
+use determinize_below::{NFA, SparseSets, StateID, Unit};
+use determinize_core::determinize;
+use determinize_core::start::Start;
+use determinize_core::state::{State, StateBuilderEmpty};
+use std::alloc::{AllocError, Global};
+
+/// The id of a state of the NFA.
+fn resolved(nfa: &NFA, text: &str) -> Result<StateID, JobError>
+    ensures { IfOk result (λ id. id < length nfa.now.states) }
+{
+    let id = values::state_id(text)?;
+    if id.as_usize() < nfa.len() {
+        Ok(id)
+    } else {
+        Err(JobError::Malformed)
+    }
+}
+
+/// The states of a walk, or none where a byte after the end is asked for.
+fn states(alloc: Global, job: &Job<'_>) -> Result<Option<Vec<State>>, JobError> {
+    if !values::is_none(job.value_or_none("after")) {
+        return Ok(None);
+    }
+    let nfa = nfas::nfa(alloc, job)?;
+    let start = resolved(&nfa, job.value("start").unwrap_or("0"))?;
+    let look_behind = values::optional_byte(job.value_or_none("lb"))?;
+    let text = values::bytes(alloc, job.value_or_none("text"))?;
+    let kind = job.match_kind()?;
+    let states = determinize::walk(alloc, &nfa, kind, start, look_behind, text.as_slice())?;
+    Ok(Some(states))
+}
+
+/// Answers `walk`: the bytes of each state, and the last match.
+pub fn walk(alloc: Global, job: &Job<'_>, text: &mut String) -> Result<bool, JobError> {
+    let Some(states) = states(alloc, job)? else {
+        return Ok(false);
+    };
+    for state in states.iter() {
+        values::write_bytes(text, state.as_bytes())?;
+    }
+    write_last_match(text, states.as_slice())?;
+    Ok(true)
+}
+
+/// Writes the first pattern of the last match state, and the position that it reports.
+fn write_last_match(text: &mut String, states: &[State]) -> Result<(), AllocError> {
+    let mut last = None;
+    for (end, state) in states.iter().skip(1).enumerate() {
+        if state.match_len() > 0 {
+            last = Some((state.match_pattern(0).as_u32(), end));
+        }
+    }
+    match last {
+        Some((pattern, end)) => writeln!(text, "match {pattern} {end}"),
+        None => text.push_str("none\n"),
+    }
+}
+
+/// Answers `readers`: what the readers of one state of a walk answer.
+pub fn readers(alloc: Global, job: &Job<'_>, text: &mut String) -> Result<bool, JobError> {
+    let Some(states) = states(alloc, job)? else {
+        return Ok(false);
+    };
+    let Some(state) = states.get(values::number(job.needed("at")?)?) else {
+        return Err(JobError::Malformed);
+    };
+    records::write_readers(text, state)?;
+    Ok(true)
+}
+
+/// Answers `closure`: the set after the call.
+pub fn closure(alloc: Global, job: &Job<'_>, text: &mut String) -> Result<(), JobError> {
+    let nfa = nfas::nfa(alloc, job)?;
+    let start = resolved(&nfa, job.needed("from")?)?;
+    let look_have = values::look_set(job.value_or_none("look"))?;
+    let held = values::state_ids(alloc, job.value_or_none("held"))?;
+    let mut set = records::set(alloc, nfa.len(), held.as_slice())?;
+    let mut stack = Vec::new(alloc);
+    determinize::epsilon_closure(&nfa, start, look_have, &mut stack, &mut set)?;
+    text.push_str("set ")?;
+    values::write_numbers(text, set.iter().map(|id| id.as_u32()))?;
+    text.push('\n')?;
+    Ok(())
+}
+
+/// The start kind of this name.
+fn start_kind(text: &str) -> Result<Start, JobError> {
+    match text {
+        "NonWordByte" => Ok(Start::NonWordByte),
+        "WordByte" => Ok(Start::WordByte),
+        "Text" => Ok(Start::Text),
+        "LineLF" => Ok(Start::LineLF),
+        "LineCR" => Ok(Start::LineCR),
+        "CustomLineTerminator" => Ok(Start::CustomLineTerminator),
+        _ => Err(JobError::Malformed),
+    }
+}
+
+/// Answers `lookbehind`: the bytes of an empty record that is told of its start.
+pub fn lookbehind(alloc: Global, job: &Job<'_>, text: &mut String) -> Result<(), JobError> {
+    let nfa = nfas::nfa(alloc, job)?;
+    let kind = start_kind(job.needed("kind")?)?;
+    let mut builder = StateBuilderEmpty::new(alloc).into_matches()?;
+    determinize::set_lookbehind_from_start(&nfa, &kind, &mut builder);
+    values::write_bytes(text, builder.into_nfa().as_bytes())?;
+    Ok(())
+}
+
+/// The unit of a byte or of `eoi`.
+fn unit(text: &str) -> Result<Unit, JobError> {
+    if text == "eoi" {
+        Ok(Unit::eoi(256))
+    } else {
+        Ok(Unit::u8(values::byte(text)?))
+    }
+}
+
+/// Answers `next`: the bytes of the state that follows the job's record.
+pub fn next_state(alloc: Global, job: &Job<'_>, text: &mut String) -> Result<(), JobError> {
+    let nfa = nfas::nfa(alloc, job)?;
+    let state = records::builder(alloc, job)?.to_state()?;
+    if !records::resolves(&state, nfa.len()) {
+        return Err(JobError::Malformed);
+    }
+    let held1 = values::state_ids(alloc, job.value_or_none("set1"))?;
+    let held2 = values::state_ids(alloc, job.value_or_none("set2"))?;
+    let mut sparses = SparseSets {
+        set1: records::set(alloc, nfa.len(), held1.as_slice())?,
+        set2: records::set(alloc, nfa.len(), held2.as_slice())?,
+    };
+    let kind = job.match_kind()?;
+    let unit = unit(job.needed("unit")?)?;
+    let mut stack = Vec::new(alloc);
+    let builder = StateBuilderEmpty::new(alloc);
+    let next = determinize::next(&nfa, kind, &mut sparses, &mut stack, &state, unit, builder)?;
+    values::write_bytes(text, next.as_bytes())?;
+    Ok(())
+}
+
+/// Answers `addstates`: the bytes of the job's record with the states of a set.
+pub fn addstates(alloc: Global, job: &Job<'_>, text: &mut String) -> Result<(), JobError> {
+    let nfa = nfas::nfa(alloc, job)?;
+    let mut builder = records::builder(alloc, job)?;
+    let ids = values::state_ids(alloc, job.value_or_none("set"))?;
+    let set = records::set(alloc, nfa.len(), ids.as_slice())?;
+    determinize::add_nfa_states(&nfa, &set, &mut builder)?;
+    values::write_bytes(text, builder.as_bytes())?;
+    Ok(())
+}

@@ -1,0 +1,105 @@
+//! Verbs without an NFA.
+
+use crate::error::JobError;
+use crate::job::Job;
+use crate::{nfas, records, values};
+use determinize_below::{Input, LookMatcher, NFA, PatternID, StateID, nfa};
+use determinize_core::start::{Config, Start, StartByteMap};
+use determinize_core::state::State;
+use std::alloc::{AllocError, Global};
+
+/// Answers `start`: the start kind and the look-behind byte of a range of a haystack.
+pub fn start(alloc: Global, job: &Job<'_>, text: &mut String) -> Result<(), JobError> {
+    let haystack = values::bytes(alloc, job.value_or_none("hay"))?;
+    let Some((start, end)) = job.needed("range")?.split_once("..") else {
+        return Err(JobError::Malformed);
+    };
+    let start = values::number(start)?;
+    let end = values::number(end)?;
+    if end > haystack.len() || start > end + 1 {
+        return Err(JobError::Malformed);
+    }
+    let input = Input::new(haystack.as_slice()).range(start..end);
+    let config = if job.is_reverse()? {
+        Config::from_input_reverse(&input)
+    } else {
+        Config::from_input_forward(&input)
+    };
+    write_start(text, &nfas::matcher(job)?, config.get_look_behind())?;
+    Ok(())
+}
+
+/// Writes a start kind and the look-behind byte that makes it.
+fn write_start(
+    text: &mut String,
+    matcher: &LookMatcher,
+    look_behind: Option<u8>,
+) -> Result<(), AllocError> {
+    match look_behind {
+        Some(byte) => {
+            let kind = StartByteMap::new(matcher).get(byte);
+            writeln!(text, "kind {kind:?} {byte:02x}")
+        }
+        None => {
+            let kind = Start::Text;
+            writeln!(text, "kind {kind:?} -")
+        }
+    }
+}
+
+/// Answers `bytemap`: the start kind of a byte, or of each.
+pub fn bytemap(job: &Job<'_>, text: &mut String) -> Result<(), JobError> {
+    let map = StartByteMap::new(&nfas::matcher(job)?);
+    let asked = values::optional_byte(job.value_or_none("byte"))?;
+    for byte in 0..=255 {
+        if asked.unwrap_or(byte) == byte {
+            let kind = map.get(byte);
+            writeln!(text, "{byte:02x} {kind:?}")?;
+        }
+    }
+    Ok(())
+}
+
+/// Answers `fromusize`: the start kind of a number.
+pub fn fromusize(job: &Job<'_>, text: &mut String) -> Result<(), JobError> {
+    match Start::from_usize(values::number(job.needed("n")?)?) {
+        Some(kind) => writeln!(text, "some {kind:?}")?,
+        None => text.push_str("none\n")?,
+    }
+    Ok(())
+}
+
+/// Answers `dead`: the bytes of the dead state.
+pub fn dead(alloc: Global, text: &mut String) -> Result<(), JobError> {
+    let state = State::dead(alloc)?;
+    values::write_bytes(text, state.as_bytes())?;
+    Ok(())
+}
+
+/// Answers `build`: the bytes of the job's record, and what its readers answer.
+pub fn build(alloc: Global, job: &Job<'_>, text: &mut String) -> Result<(), JobError> {
+    let builder = records::builder(alloc, job)?;
+    values::write_bytes(text, builder.as_bytes())?;
+    let state = builder.to_state()?;
+    records::write_readers(text, &state)?;
+    Ok(())
+}
+
+/// Answers `size`: the number of states of an NFA of so many states, of which the first match.
+pub fn size(alloc: Global, job: &Job<'_>, text: &mut String) -> Result<(), JobError> {
+    let count = values::number(job.needed("states")?)?;
+    let matches = values::number(job.needed("matches")?)?;
+    let mut states = Vec::new(alloc);
+    for index in 0..count {
+        let state = match PatternID::new(index) {
+            Ok(pattern_id) if index < matches => nfa::State::Match { pattern_id },
+            _ => nfa::State::Fail,
+        };
+        states.push(state)?;
+    }
+    let matcher = LookMatcher::new();
+    let nfa = NFA::from_parts(alloc, states, StateID::ZERO, StateID::ZERO, false, matcher)?;
+    let count = nfa.len();
+    writeln!(text, "states {count}")?;
+    Ok(())
+}
