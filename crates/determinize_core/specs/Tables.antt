@@ -13,19 +13,22 @@ opened nfa from_word half_crlf u look = opening.opened nfa.reverse nfa.terminato
 unfoldable pub seen : Nfa → Option ℕ → ℕ
 seen nfa u = opening.seen nfa.reverse nfa.terminator nfa.look_set_any u
 
--- the flags that it sets, where it enters some state
+-- the flag of a word byte behind that it sets, where it enters some state
 unfoldable pub from_word_after : Nfa → Option ℕ → Bool
 from_word_after nfa u = opening.step_from_word nfa.look_set_any u
 
+-- the flag of half a CRLF behind that it sets there
 unfoldable pub half_crlf_after : Nfa → Option ℕ → Bool
 half_crlf_after nfa u = opening.step_half nfa.reverse nfa.look_set_any u
 
--- the look-have and the flags of a search that starts after a byte or none
+-- the look-have of a search that starts after a byte or none
 unfoldable pub start_have : Nfa → Option ℕ → ℕ
 start_have nfa p = starts.start_have nfa.reverse nfa.terminator nfa.look_set_any (starts.start_kind_of nfa.terminator p)
 
+-- its flag of a word byte behind
 unfoldable pub start_from_word : Nfa → Option ℕ → Bool
 start_from_word nfa p = starts.start_from_word nfa.terminator nfa.look_set_any (starts.start_kind_of nfa.terminator p)
 
+-- its flag of half a CRLF behind
 unfoldable pub start_half_crlf : Nfa → Option ℕ → Bool
 start_half_crlf nfa p = starts.start_half nfa.reverse nfa.look_set_any (starts.start_kind_of nfa.terminator p)
