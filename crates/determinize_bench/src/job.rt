@@ -1,6 +1,6 @@
 //! A job: a verb, its keys, and the states of an NFA.
 
-use crate::error::JobError;
+use crate::error::{JobError, Part};
 use determinize_below::MatchKind;
 
 /// The text of a job, taken apart.
@@ -48,7 +48,7 @@ impl<'a> Job<'a> {
 
     /// The value of a key that the job must have.
     pub fn needed(&self, key: &str) -> Result<&'a str, JobError> {
-        self.value(key).ok_or(JobError::Malformed)
+        self.value(key).ok_or(JobError::Malformed(Part::Key))
     }
 
     /// The match kind, `All` where none is said.
@@ -57,7 +57,7 @@ impl<'a> Job<'a> {
             None => Ok(MatchKind::All),
             Some("all") => Ok(MatchKind::All),
             Some("leftmost-first") => Ok(MatchKind::LeftmostFirst),
-            Some(_) => Err(JobError::Malformed),
+            Some(_) => Err(JobError::Malformed(Part::MatchKind)),
         }
     }
 
@@ -67,7 +67,7 @@ impl<'a> Job<'a> {
             None => Ok(false),
             Some("fwd") => Ok(false),
             Some("rev") => Ok(true),
-            Some(_) => Err(JobError::Malformed),
+            Some(_) => Err(JobError::Malformed(Part::Direction)),
         }
     }
 }

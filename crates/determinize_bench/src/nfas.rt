@@ -1,6 +1,6 @@
 //! Reads the NFA of a job.
 
-use crate::error::JobError;
+use crate::error::{JobError, Part};
 use crate::job::Job;
 use crate::values;
 use determinize_below::nfa::State;
@@ -64,14 +64,14 @@ fn state(alloc: Global, word: &str) -> Result<State, JobError> {
         "M" => Ok(State::Match {
             pattern_id: values::pattern_id(parts)?,
         }),
-        _ => Err(JobError::Malformed),
+        _ => Err(JobError::Malformed(Part::State)),
     }
 }
 
 /// A transition of a text such as `61-7a>1` or `61>1`.
 fn transition(text: &str) -> Result<Transition, JobError> {
     let Some((range, next)) = text.split_once('>') else {
-        return Err(JobError::Malformed);
+        return Err(JobError::Malformed(Part::Transition));
     };
     let (start, end) = range.split_once('-').unwrap_or((range, range));
     Ok(Transition {
@@ -115,7 +115,7 @@ fn write_range(table: &mut [StateID; 256], transition: Transition) {
 /// A state with an assertion.
 fn look(parts: &str) -> Result<State, JobError> {
     let Some((name, next)) = parts.split_once('>') else {
-        return Err(JobError::Malformed);
+        return Err(JobError::Malformed(Part::Look));
     };
     Ok(State::Look {
         look: values::look(name)?,
@@ -126,7 +126,7 @@ fn look(parts: &str) -> Result<State, JobError> {
 /// A union of two states.
 fn binary_union(parts: &str) -> Result<State, JobError> {
     let Some((first, second)) = parts.split_once(',') else {
-        return Err(JobError::Malformed);
+        return Err(JobError::Malformed(Part::Union));
     };
     Ok(State::BinaryUnion {
         alt1: values::state_id(first)?,

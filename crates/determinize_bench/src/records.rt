@@ -3,7 +3,7 @@
 ghost use Rattle.std.specs.Prelude.{◌≡◌, ◌<◌, ◌≤◌, [], All, IsTrue, IfOk, OnOk};
 ghost use Rattle.determinize_core.specs.Value.{dead};
 
-use crate::error::JobError;
+use crate::error::{JobError, Part};
 use crate::job::Job;
 use crate::values;
 use determinize_below::{LookSet, PatternID, SparseSet, StateID};
@@ -56,7 +56,7 @@ fn add_pattern(
     ensures { OnOk result (builder.new.patterns ≡ seen.new.items) }
 {
     if seen.contains(&id) {
-        return Err(JobError::Malformed);
+        return Err(JobError::Malformed(Part::RepeatedPattern));
     }
     seen.push(id)?;
     builder.add_match_pattern_id(id)?;
@@ -71,7 +71,7 @@ pub fn set(alloc: Global, capacity: usize, ids: &[StateID]) -> Result<SparseSet,
     let mut set = SparseSet::new(alloc, capacity)?;
     for id in ids {
         if id.as_usize() >= set.capacity() {
-            return Err(JobError::Malformed);
+            return Err(JobError::Malformed(Part::Unresolved));
         }
         set.insert(*id);
     }

@@ -3,7 +3,7 @@
 ghost use Rattle.std.specs.Prelude.{◌<◌, IfSome};
 ghost use Rattle.std.specs.Iterator.{IsFinite};
 
-use crate::error::JobError;
+use crate::error::{JobError, Part};
 use determinize_below::{Look, LookSet, PatternID, StateID};
 use std::alloc::{AllocError, Global};
 
@@ -48,11 +48,11 @@ fn digit(byte: u8) -> Option<u8>
 /// The byte of two hexadecimal digits.
 fn pair(digits: &[u8]) -> Result<u8, JobError> {
     let [high, low] = digits else {
-        return Err(JobError::Malformed);
+        return Err(JobError::Malformed(Part::Digit));
     };
     match (digit(*high), digit(*low)) {
         (Some(high), Some(low)) => Ok(high * 16 + low),
-        _ => Err(JobError::Malformed),
+        _ => Err(JobError::Malformed(Part::Digit)),
     }
 }
 
@@ -92,7 +92,7 @@ pub fn flag(text: &str) -> Result<bool, JobError> {
     match text {
         "0" => Ok(false),
         "1" => Ok(true),
-        _ => Err(JobError::Malformed),
+        _ => Err(JobError::Malformed(Part::Flag)),
     }
 }
 
@@ -100,7 +100,7 @@ pub fn flag(text: &str) -> Result<bool, JobError> {
 pub fn state_id(text: &str) -> Result<StateID, JobError> {
     match StateID::new(number(text)?) {
         Ok(id) => Ok(id),
-        Err(_) => Err(JobError::Malformed),
+        Err(_) => Err(JobError::Malformed(Part::StateId)),
     }
 }
 
@@ -108,7 +108,7 @@ pub fn state_id(text: &str) -> Result<StateID, JobError> {
 pub fn pattern_id(text: &str) -> Result<PatternID, JobError> {
     match PatternID::new(number(text)?) {
         Ok(id) => Ok(id),
-        Err(_) => Err(JobError::Malformed),
+        Err(_) => Err(JobError::Malformed(Part::PatternId)),
     }
 }
 
@@ -145,7 +145,7 @@ pub fn look(text: &str) -> Result<Look, JobError> {
             return Ok(look);
         }
     }
-    Err(JobError::Malformed)
+    Err(JobError::Malformed(Part::Look))
 }
 
 /// A set of assertions.

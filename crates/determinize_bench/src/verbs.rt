@@ -3,7 +3,7 @@
 mod automata;
 mod small;
 
-use crate::error::JobError;
+use crate::error::{JobError, Part};
 use crate::job::Job;
 use std::alloc::Global;
 
@@ -34,6 +34,6 @@ fn answer_one(alloc: Global, job: &Job<'_>, text: &mut String) -> Result<(), Job
         "dead" => small::dead(alloc, text),
         "build" => small::build(alloc, job, text),
         "size" => small::size(alloc, job, text),
-        _ => Err(JobError::Malformed),
+        _ => Err(JobError::Malformed(Part::Verb)),
     }
 }

@@ -1,7 +1,9 @@
-//! Counted transitions.
+//! A counted transition.
+
+ghost use Rattle.std.specs.Prelude.{◌≡◌, ℕ, ◌<◌, All, length};
 
 use crate::job::Job;
-use crate::nfas;
+use crate::{nfas, records};
 use determinize_below::{MatchKind, NFA, SparseSets, Unit};
 use determinize_core::determinize::{Steps, next_counted};
 use determinize_core::state::{State, StateBuilderEmpty, StateBuilderNFA};
@@ -10,26 +12,31 @@ use std::marker::Brand;
 use std::sync::ledger::{Blank, Ledger};
 use std::test::Fail;
 
-/// One counted transition.
+/// The transition over the end of the input, counted.
 fn counted<L: Ledger>(
     alloc: Global,
     nfa: &NFA,
     state: &State,
-    unit: Unit,
     blank: Blank,
-) -> Result<StateBuilderNFA, AllocError> {
+) -> Result<StateBuilderNFA, AllocError>
+    requires name { blank.name ≡ L.name }
+    requires parts { blank.parts ≡ L.parts }
+    requires some { 0 < L.parts }
+    requires resolve { All (λ id. id < length nfa.now.states) state.now.states }
+{
     let mut sparses = SparseSets::new(alloc, nfa.len())?;
     let mut stack = Vec::new(alloc);
     let mut steps = Steps::<L>::new(blank);
     let builder = StateBuilderEmpty::new(alloc);
     let kind = MatchKind::All;
+    let end = Unit::eoi(256);
     next_counted(
         nfa,
         kind,
         &mut sparses,
         &mut stack,
         state,
-        unit,
+        end,
         builder,
         &mut steps,
     )
@@ -37,10 +44,15 @@ fn counted<L: Ledger>(
 
 #[test]
 fn counted_transition(rt: HostRuntime) -> Result<(), Fail> {
-    let nfa = nfas::nfa(rt.alloc(), &Job::new("nfa | U:1,2 B:61>0 M:5"))?;
-    let state = State::dead(rt.alloc())?;
-    let builder = counted::<Brand>(rt.alloc(), &nfa, &state, Unit::eoi(0), Blank::new(1))?;
-    assert_eq!(rt; builder.as_bytes(), [0; 9].as_slice());
+    let job = Job::new("next fw=0 half=0 ids=0,1,2,3 | U:1,2,3 M:2 M:0 M:1");
+    let nfa = nfas::nfa(rt.alloc(), &job)?;
+    let state = records::builder(rt.alloc(), &job)?.to_state()?;
+    assert!(rt; records::resolves(&state, nfa.len()));
+    let builder = counted::<Brand>(rt.alloc(), &nfa, &state, Blank::new(1))?;
+    let wanted = [
+        3, 0, 0, 0, 0, 0, 0, 0, 0, 3, 0, 0, 0, 2, 0, 0, 0, 0, 0, 0, 0, 1, 0, 0, 0,
+    ];
+    assert_eq!(rt; builder.as_bytes(), wanted.as_slice());
     Ok(())
 }
 

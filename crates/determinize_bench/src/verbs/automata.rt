@@ -2,7 +2,7 @@
 
 ghost use Rattle.std.specs.Prelude.{◌<◌, length, IfOk};
 
-use crate::error::JobError;
+use crate::error::{JobError, Part};
 use crate::job::Job;
 use crate::{nfas, records, values};
 use determinize_below::{NFA, SparseSets, StateID, Unit};
@@ -19,7 +19,7 @@ fn resolved(nfa: &NFA, text: &str) -> Result<StateID, JobError>
     if id.as_usize() < nfa.len() {
         Ok(id)
     } else {
-        Err(JobError::Malformed)
+        Err(JobError::Malformed(Part::Unresolved))
     }
 }
 
@@ -69,7 +69,7 @@ pub fn readers(alloc: Global, job: &Job<'_>, text: &mut String) -> Result<bool, 
         return Ok(false);
     };
     let Some(state) = states.get(values::number(job.needed("at")?)?) else {
-        return Err(JobError::Malformed);
+        return Err(JobError::Malformed(Part::Position));
     };
     records::write_readers(text, state)?;
     Ok(true)
@@ -99,7 +99,7 @@ fn start_kind(text: &str) -> Result<Start, JobError> {
         "LineLF" => Ok(Start::LineLF),
         "LineCR" => Ok(Start::LineCR),
         "CustomLineTerminator" => Ok(Start::CustomLineTerminator),
-        _ => Err(JobError::Malformed),
+        _ => Err(JobError::Malformed(Part::StartKind)),
     }
 }
 
@@ -127,7 +127,7 @@ pub fn next_state(alloc: Global, job: &Job<'_>, text: &mut String) -> Result<(),
     let nfa = nfas::nfa(alloc, job)?;
     let state = records::builder(alloc, job)?.to_state()?;
     if !records::resolves(&state, nfa.len()) {
-        return Err(JobError::Malformed);
+        return Err(JobError::Malformed(Part::Unresolved));
     }
     let held1 = values::state_ids(alloc, job.value_or_none("set1"))?;
     let held2 = values::state_ids(alloc, job.value_or_none("set2"))?;

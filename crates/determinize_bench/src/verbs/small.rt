@@ -1,6 +1,6 @@
 //! Verbs without an NFA.
 
-use crate::error::JobError;
+use crate::error::{JobError, Part};
 use crate::job::Job;
 use crate::{nfas, records, values};
 use determinize_below::{Input, LookMatcher, NFA, PatternID, StateID, nfa};
@@ -12,12 +12,12 @@ use std::alloc::{AllocError, Global};
 pub fn start(alloc: Global, job: &Job<'_>, text: &mut String) -> Result<(), JobError> {
     let haystack = values::bytes(alloc, job.value_or_none("hay"))?;
     let Some((start, end)) = job.needed("range")?.split_once("..") else {
-        return Err(JobError::Malformed);
+        return Err(JobError::Malformed(Part::Range));
     };
     let start = values::number(start)?;
     let end = values::number(end)?;
     if end > haystack.len() || start > end + 1 {
-        return Err(JobError::Malformed);
+        return Err(JobError::Malformed(Part::Range));
     }
     let input = Input::new(haystack.as_slice()).range(start..end);
     let config = if job.is_reverse()? {
