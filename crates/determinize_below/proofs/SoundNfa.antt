@@ -3,7 +3,7 @@ use Rattle.std.proofs.Common.{◌≡◌, ℕ, zero, suc, ◌+◌, ◌<◌, ◌�
 use Rattle.std.specs.Prelude.{slice_get, slice_index, nat_lt, find, option_map}
 use Rattle.std.specs.List.{flat_map, list_all}
 use mathlib.Core.Path.{fun_ext}
-use Rattle.std.proofs.lemmas.Bool.{true≢false, false≢true, eq-eqb, eqb-true, cases_lt, cases_order, or_left}
+use Rattle.std.proofs.lemmas.Bool.{true≢false, false≢true, not-false, eq-eqb, eqb-true, cases_lt, cases_order, or_left}
 use Rattle.std.proofs.lemmas.List.{append-nil, get_or-take}
 use Rattle.std.proofs.lemmas.List.Folds.{list_any_at}
 use Rattle.std.proofs.lemmas.Option.{slice_get-get_or}
@@ -29,9 +29,6 @@ passed : {A : Type 0} (b : Bool) (a : A) (o : Option A) → cond b (Some a) o �
 passed true a o e = some_not_none a e
 passed false a o e = (refl, e)
 
-not_false : (b : Bool) → not b ≡ false → b ≡ true
-not_false b e = grind arith
-
 both_left : (a b : Bool) → (a && b) ≡ true → a ≡ true
 both_left a b h = grind arith
 
@@ -55,9 +52,9 @@ state_passes count earlier i s e =
     let c = passed (not (is_dense_sound s)) _ _ b.1 in
     let d = passed (is_repeated earlier s) _ _ c.1 in
     record {
-      resolves = not_false (resolves count s) a.0;
-      ascends = not_false (is_sparse_sound s) b.0;
-      whole = not_false (is_dense_sound s) c.0;
+      resolves = not-false (resolves count s) a.0;
+      ascends = not-false (is_sparse_sound s) b.0;
+      whole = not-false (is_dense_sound s) c.0;
       first_match = d.0;
     }
 

@@ -1,7 +1,7 @@
 -- The search of a closure, one turn after another.
-use Rattle.std.proofs.Common.{◌≡◌, ℕ, ◌+◌, ◌<◌, ◌≤◌, Bool, true, false, not, List, [], ◌∷◌, ◌++◌, length, nat_eq, All, refl, sym, ap, ◌∙◌, arith, subst, append_assoc, ◌||◌, if◌then◌else◌}
+use Rattle.std.proofs.Common.{◌≡◌, ℕ, ◌+◌, ◌<◌, Bool, true, false, not, List, [], ◌∷◌, ◌++◌, length, nat_eq, All, refl, sym, ap, ◌∙◌, arith, subst, append_assoc, ◌||◌, if◌then◌else◌}
 use Rattle.std.proofs.lemmas.List.{append-nil, append_cancel_left}
-use Rattle.std.proofs.lemmas.List.Elements.{All-head, All-tail, All-append, All-cons, All-nil}
+use Rattle.std.proofs.lemmas.List.Elements.{All-tail, All-append, All-cons, All-nil}
 use Rattle.std.proofs.lemmas.Bool.Decides.{nat_tests}
 use Rattle.determinize_below.specs.declared.look.Look.{Look as Assertion}
 use Rattle.determinize_below.specs.Edges.{edges, edges_of, state_at, reach_past, IsSound}
@@ -76,12 +76,6 @@ module _ (nfa : Nfa) (sound : IsSound nfa) (look : Assertion → Bool) where
       ap (λ l. l ++ rest) (sym grown.1) ∙ same ∙ search_end-start held root in
       (rest, sym (append_cancel_left held (grown.0 ++ rest) (reach_past nfa look held (root ∷ [])) (sym (append_assoc held grown.0 rest) ∙ whole)))
 
-pub not_true : (b : Bool) → not b ≡ true → b ≡ false
-not_true b h = grind arith
-
-pub not_false : (b : Bool) → not b ≡ false → b ≡ true
-not_false b h = grind arith
-
 -- a search from a root, after some turns: what was met, what is pending, and the tries before and by now
 pub record IsSoFar (nfa : Nfa) (look : Assertion → Bool) (held : List ℕ) (root : ℕ) (met pending : List ℕ) (before now : ℕ) : Type 0 where
   pub same : search_end nfa look met pending ≡ search_end nfa look held (root ∷ [])
@@ -109,12 +103,6 @@ module _ (nfa : Nfa) (sound : IsSound nfa) (look : Assertion → Bool) (held : L
           below = turn.below (All-tail (λ s. s < length nfa.states) id rest (subst (λ l. All (λ s. s < length nfa.states) l) top so_far.below));
         }
 
-    pub so_far-fewer : (after next rest : List ℕ) (id : ℕ) → pending ≡ id ∷ rest → IsTurn nfa look met after id rest next → tries_left nfa look after next < tries_left nfa look met pending
-    so_far-fewer after next rest id top turn = rw top (omega (arith, turn.fewer))
-
-    pub so_far-top : (rest : List ℕ) (id : ℕ) → pending ≡ id ∷ rest → id < length nfa.states
-    so_far-top rest id top = All-head (λ s. s < length nfa.states) id rest (subst (λ l. All (λ s. s < length nfa.states) l) top so_far.below)
-
     pub so_far-end : pending ≡ [] → met ≡ held ++ reach_past nfa look held (root ∷ [])
     so_far-end none =
         sym (search_end-done nfa sound look met) ∙ ap (λ l. search_end nfa look met l) (sym none)
@@ -124,9 +112,6 @@ module _ (nfa : Nfa) (sound : IsSound nfa) (look : Assertion → Bool) (held : L
     so_far-counted none =
         let left : tries_left nfa look met pending ≡ 0 = ap (λ l. tries_left nfa look met l) none ∙ tries_left-done nfa sound look met in
         omega (arith, so_far.counted, left)
-
-    pub so_far-bounded : now ≤ before + tries_left nfa look held (root ∷ [])
-    so_far-bounded = omega (arith, so_far.counted)
 
     pub so_far-part : (more : List ℕ) × (met ≡ held ++ more) × IsBeginning more (reach_past nfa look held (root ∷ []))
     so_far-part = (so_far.grown.0, so_far.grown.1, met_so_far nfa sound look held met pending root so_far.same so_far.grown)
@@ -174,7 +159,3 @@ module _ (nfa : Nfa) (sound : IsSound nfa) (look : Assertion → Bool) (held : L
 
   pub leaf_tries : tries_left nfa look held (root ∷ []) ≡ 1
   leaf_tries = let k : 1 ≡ 0 + tries_left nfa look held (root ∷ []) = so_far-counted nfa sound look held root _ [] 0 1 (one_turn (not (holds held root)) refl 0) refl in omega arith
-
--- a test has one value
-pub apart : (b : Bool) → b ≡ true → b ≡ false → ⊥
-apart b h k = grind arith

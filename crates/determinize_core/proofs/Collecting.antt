@@ -41,10 +41,6 @@ pub pushed : (ids xs : List ℕ) (x : ℕ) (new : Bool) → ids ≡ fresh nat_eq
 pushed ids xs x new e h =
     ap (λ l. if new then l ++ x ∷ [] else l) e ∙ fresh-push xs x new (h ∙ ap (λ l. not (holds l x)) e)
 
--- an iterator's first item, and the items that it has left
-pub first_below : (bound : ℕ) (xs ys : List ℕ) (x : ℕ) → xs ≡ x ∷ ys → All (λ id. id < bound) xs → x < bound
-first_below bound xs ys x e h = All-head (λ id. id < bound) x ys (subst (λ l. All (λ id. id < bound) l) e h)
-
 pub rest_below : (bound : ℕ) (xs ys : List ℕ) (x : ℕ) → xs ≡ x ∷ ys → All (λ id. id < bound) xs → All (λ id. id < bound) ys
 rest_below bound xs ys x e h = All-tail (λ id. id < bound) x ys (subst (λ l. All (λ id. id < bound) l) e h)
 

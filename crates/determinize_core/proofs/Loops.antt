@@ -1,16 +1,14 @@
 -- Laws for the invariants of the loops of a step and of a walk.
-use Rattle.std.proofs.Common.{◌≡◌, ℕ, Bool, false, List, [], ◌∷◌, ◌++◌, take, refl, sym, ap, ◌∙◌, Option, Some, nat_eq}
+use Rattle.std.proofs.Common.{◌≡◌, ℕ, false, List, [], ◌∷◌, ◌++◌, take, refl, sym, ap, ◌∙◌, Option, Some, nat_eq}
 use Rattle.std.specs.List.{flat_map, list_any}
 use Rattle.std.proofs.lemmas.Bool.{eq-eqb, eqb-true, true≢false}
 use Rattle.std.proofs.lemmas.List.{append-nil}
 use Rattle.std.proofs.lemmas.List.Concat.{flat_map-append}
-use Rattle.determinize_below.specs.Edges.{is_match, pattern_of, patterns_of, listed, target, reach, reach_past, IsSound}
+use Rattle.determinize_below.specs.Edges.{is_match, pattern_of, patterns_of, listed, target, IsSound}
 use Rattle.determinize_below.specs.Nfa.{Nfa}
 use Rattle.determinize_below.specs.Runs.{before}
-use Rattle.determinize_below.specs.declared.look.Look.{Look as Assertion}
 use Rattle.determinize_below.specs.declared.search.MatchKind.{MatchKind}
 use Rattle.determinize_below.specs.declared.search.MatchKind.TheVariants.{LeftmostFirst}
-use Rattle.determinize_below.proofs.SoundNfa.{reach-append}
 use Rattle.determinize_below.proofs.Tests.{by_option, by_test, or_false_left, or_false_right}
 use Rattle.determinize_core.specs.Chain.{future, value_after}
 use Rattle.determinize_core.specs.Step.{step, part_read, patterns_read}
@@ -33,11 +31,6 @@ patterns-push nfa xs s = flat_map-append (λ x. listed (pattern_of nfa x)) xs (s
 
 pub targets-push : (nfa : Nfa) (u : Option ℕ) (xs : List ℕ) (s : ℕ) → flat_map (target nfa u) (xs ++ s ∷ []) ≡ flat_map (target nfa u) xs ++ target nfa u s
 targets-push nfa u xs s = flat_map-append (target nfa u) xs (s ∷ []) ∙ ap (λ l. flat_map (target nfa u) xs ++ l) (append-nil (target nfa u s))
-
--- the search from the targets of one more state goes on with what was reached held
-pub reach-push : (nfa : Nfa) → IsSound nfa → (holds : Assertion → Bool) (u : Option ℕ) (xs : List ℕ) (s : ℕ)
-    → reach nfa holds (flat_map (target nfa u) (xs ++ s ∷ [])) ≡ reach nfa holds (flat_map (target nfa u) xs) ++ reach_past nfa holds (reach nfa holds (flat_map (target nfa u) xs)) (target nfa u s)
-reach-push nfa sound holds u xs s = ap (λ l. reach nfa holds l) (targets-push nfa u xs s) ∙ reach-append nfa sound holds (flat_map (target nfa u) xs) (target nfa u s)
 
 -- the pattern of one more state is new
 pub pattern_new : (nfa : Nfa) → IsSound nfa → (xs : List ℕ) (s p : ℕ) → list_any (nat_eq s) xs ≡ false → pattern_of nfa s ≡ Some p → list_any (nat_eq p) (patterns_of nfa xs) ≡ false

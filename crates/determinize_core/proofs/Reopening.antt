@@ -1,7 +1,6 @@
 -- Where the working list is closed again.
-use Rattle.std.proofs.Common.{◌≡◌, ℕ, Bool, true, false, Option, Some, None, ◌||◌, refl, sym, ap, ◌∙◌}
+use Rattle.std.proofs.Common.{◌≡◌, ℕ, Bool, true, false, Option, ◌||◌, refl, sym, ap, ◌∙◌}
 use mathlib.Core.Path.{fun_ext}
-use Rattle.std.specs.Option.{IfSome}
 use Rattle.determinize_below.specs.declared.look.Look.{Look as Assertion}
 use Rattle.determinize_below.specs.Edges.{reach}
 use Rattle.determinize_below.specs.Look.{has}
@@ -40,8 +39,3 @@ module _ (nfa : Nfa) (v : Value) (u : Option ℕ) where
 
   pub tries_kept : is_reopened nfa v u ≡ false → tries_again nfa v u ≡ 0
   tries_kept e = rw e refl
-
--- another fact of the value, if there is one
-pub if_some : {A : Type 0} (o : Option A) (P Q : A → Type 0) → ((a : A) → P a → Q a) → IfSome o P → IfSome o Q
-if_some None P Q f h = h
-if_some (Some a) P Q f h = f a h

@@ -70,8 +70,3 @@ opened-flags reverse t any p from_word half u WordEndHalfUnicode f h = ap (λ x.
 pub known_or_opened_any : (reverse : Bool) (t any : ℕ) (p : Option ℕ) (from_word half : Bool) (u : Option ℕ) (l : Look) → IsFlagged reverse any p from_word half
     → has any l ≡ true → (known reverse t p l || opened reverse t from_word half u l) ≡ holds reverse t p u l
 known_or_opened_any reverse t any p from_word half u l f h = rw (opened-flags reverse t any p from_word half u l f h) (known_or_opened reverse t p u l)
-
--- over a unit, look-have with what the unit opens is the truth, among the assertions of the NFA
-pub have_or_opened : (reverse : Bool) (t any : ℕ) (p : Option ℕ) (from_word half : Bool) (have : ℕ) (u : Option ℕ) (l : Look) → IsFlagged reverse any p from_word half
-    → has any l ≡ true → has have l ≡ known reverse t p l → (has have l || opened reverse t from_word half u l) ≡ holds reverse t p u l
-have_or_opened reverse t any p from_word half have u l f h k = rw (k, opened-flags reverse t any p from_word half u l f h) (known_or_opened reverse t p u l)

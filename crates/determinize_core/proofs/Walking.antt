@@ -70,9 +70,6 @@ pub record IsWalked (nfa : Nfa) (kind : MatchKind) (first : Value) (bytes : List
   pub end : last ≡ value_after nfa kind first (map Some bytes)
 
 module _ (nfa : Nfa) (kind : MatchKind) where
-  pub walked-none : (v : Value) → IsWalked nfa kind v [] [] v
-  walked-none v = record { all = refl; end = refl }
-
   -- the values of one more unit
   future-more : (first : Value) (bytes : List ℕ) (values : List Value) (last next : Value) (u : Option ℕ) → IsWalked nfa kind first bytes values last
       → next ≡ step nfa kind last u → (values ++ last ∷ []) ++ next ∷ [] ≡ future nfa kind first (map Some bytes ++ u ∷ [])

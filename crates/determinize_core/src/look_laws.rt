@@ -4,7 +4,7 @@ ghost use Rattle.std.specs.Prelude.{◌≡◌, ℕ, ◌≤◌, Bool, true, false
 ghost use Rattle.determinize_below.specs.Look.{has};
 ghost use Rattle.determinize_below.specs.Truth as truth;
 ghost use Rattle.determinize_core.specs.Behind as behind_specs;
-ghost use Rattle.determinize_core.specs.Opened as steps;
+ghost use Rattle.determinize_core.specs.Opened as opening;
 ghost use Rattle.determinize_core.specs.StartKinds as kinds;
 ghost use Rattle.determinize_core.specs.StartRows as rows;
 
@@ -31,19 +31,19 @@ pub fn start_rows_law(byte: u8)
 pub fn start_law(reverse: bool, terminator: u8, any: LookSet, before: Option<u8>, look: Look)
     ensures known { has (kinds.start_have reverse terminator any (kinds.start_kind_of terminator before)) look ≡ true → truth.known reverse terminator before look ≡ true }
     ensures all { has any look ≡ true → has (kinds.start_have reverse terminator any (kinds.start_kind_of terminator before)) look ≡ truth.known reverse terminator before look }
-    ensures from_word { kinds.start_from_word terminator any (kinds.start_kind_of terminator before) ≡ steps.step_from_word any before }
-    ensures half_crlf { kinds.start_half reverse any (kinds.start_kind_of terminator before) ≡ steps.step_half reverse any before }
+    ensures from_word { kinds.start_from_word terminator any (kinds.start_kind_of terminator before) ≡ opening.step_from_word any before }
+    ensures half_crlf { kinds.start_half reverse any (kinds.start_kind_of terminator before) ≡ opening.step_half reverse any before }
 {}
 
 /// What a step enters over a byte is known behind the next position, and of the assertions of the NFA it is all that is known there.
 pub fn seen_law(reverse: bool, terminator: u8, any: LookSet, byte: u8, look: Look)
-    ensures known { has (steps.seen reverse terminator any (Some byte)) look ≡ true → truth.known reverse terminator (Some byte) look ≡ true }
-    ensures all { has any look ≡ true → has (steps.seen reverse terminator any (Some byte)) look ≡ truth.known reverse terminator (Some byte) look }
+    ensures known { has (opening.seen reverse terminator any (Some byte)) look ≡ true → truth.known reverse terminator (Some byte) look ≡ true }
+    ensures all { has any look ≡ true → has (opening.seen reverse terminator any (Some byte)) look ≡ truth.known reverse terminator (Some byte) look }
 {}
 
 /// The flags that a step sets tell rightly of the byte that it read, and where nothing was read.
 pub fn flags_law(reverse: bool, any: LookSet, before: Option<u8>)
-    ensures { behind_specs.IsFlagged reverse any before (steps.step_from_word any before) (steps.step_half reverse any before) }
+    ensures { behind_specs.IsFlagged reverse any before (opening.step_from_word any before) (opening.step_half reverse any before) }
 {}
 
 /// Under flags that tell rightly of the byte behind, what is known there and what a unit makes true are the truth, for each assertion of the NFA.
@@ -59,7 +59,7 @@ pub fn opened_law(
 )
     requires flags { behind_specs.IsFlagged reverse any before from_word half }
     requires there { has any look ≡ true }
-    ensures { (truth.known reverse terminator before look || steps.opened reverse terminator from_word half unit look) ≡ truth.holds reverse terminator before unit look }
+    ensures { (truth.known reverse terminator before look || opening.opened reverse terminator from_word half unit look) ≡ truth.holds reverse terminator before unit look }
 {}
 
 /// Where no closure is redone, what a unit makes true adds nothing that is needed.
@@ -73,7 +73,7 @@ pub fn redo_law(
     unit: Option<u8>,
     look: Look,
 )
-    requires kept { steps.is_redone (steps.opened reverse terminator from_word half unit) have need ≡ false }
+    requires kept { opening.is_redone (opening.opened reverse terminator from_word half unit) have need ≡ false }
     requires needed { has need look ≡ true }
-    ensures { (has have look || steps.opened reverse terminator from_word half unit look) ≡ has have look }
+    ensures { (has have look || opening.opened reverse terminator from_word half unit look) ≡ has have look }
 {}

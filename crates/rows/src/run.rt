@@ -57,19 +57,14 @@ impl From<io::Error> for RowError {
 pub fn run_rows<W: Write, E: Write>(alloc: Global, words: &[String], out: &mut W, err: &mut E) -> u8
     ensures { result ≤ 2 }
 {
-    run_rows_in(alloc, words, out, err)
+    report(print_row(alloc, words, out), err)
 }
 
-/// The same with any allocator for what the walk takes.
-fn run_rows_in<A: Allocator + Copy, W: Write, E: Write>(
-    alloc: A,
-    words: &[String],
-    out: &mut W,
-    err: &mut E,
-) -> u8
+/// The status of what became of a walk. What kept it from being printed is said on `err`.
+pub(crate) fn report<E: Write>(outcome: Result<(), RowError>, err: &mut E) -> u8
     ensures { result ≤ 2 }
 {
-    match print_row(alloc, words, out) {
+    match outcome {
         Ok(()) => 0,
         Err(RowError::NoSuchRow) => say(err, NO_SUCH_ROW, 2),
         Err(RowError::OutOfMemory) => say(err, OUT_OF_MEMORY, 1),

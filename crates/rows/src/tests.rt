@@ -2,7 +2,9 @@
 
 mod expected;
 
-use crate::run::run_rows;
+use crate::run::{RowError, report, run_rows};
+use determinize_below::BuildError;
+use std::alloc::AllocError;
 use std::io;
 use std::io::Write;
 use std::process::Abort;
@@ -108,5 +110,18 @@ fn keeps_its_status_where_errors_fail(rt: HostRuntime) -> Result<(), Fail> {
     let status = run_rows(rt.alloc(), words.as_slice(), &mut out, &mut err);
     assert_eq!(rt; status, 2);
     assert_eq!(rt; out.as_slice(), [].as_slice());
+    Ok(())
+}
+
+#[test]
+fn tells_of_want_of_memory(rt: HostRuntime) -> Result<(), Fail> {
+    for error in [
+        RowError::from(AllocError),
+        RowError::from(BuildError::OutOfMemory),
+    ] {
+        let mut err = Vec::new(rt.alloc());
+        assert_eq!(rt; report(Err(error), &mut err), 1);
+        assert_eq!(rt; err.as_slice(), b"out of memory\n".as_slice());
+    }
     Ok(())
 }

@@ -7,7 +7,7 @@ ghost use Rattle.determinize_below.specs.Truth as truth;
 ghost use Rattle.determinize_below.specs.Unit as units;
 ghost use Rattle.determinize_below.specs.declared.look.Look.{Look as Assertion};
 ghost use Rattle.determinize_core.specs.Behind as behind_specs;
-ghost use Rattle.determinize_core.specs.Opened as steps;
+ghost use Rattle.determinize_core.specs.Opened as opening;
 ghost use Rattle.determinize_core.specs.StartKinds as kinds;
 ghost use Rattle.determinize_core.specs.Starting.{with_start};
 
@@ -168,9 +168,9 @@ impl LookTables {
 
     /// What a step over a unit tells the next state.
     pub(crate) fn after(self, unit: Unit) -> Entries
-        ensures have { behind_specs.behind result.start result.line_start result.crlf_start result.word_start ≡ steps.seen self.reverse self.terminator self.any (units.byte_of unit) }
-        ensures from_word { result.from_word ≡ steps.step_from_word self.any (units.byte_of unit) }
-        ensures half_crlf { result.half_crlf ≡ steps.step_half self.reverse self.any (units.byte_of unit) }
+        ensures have { behind_specs.behind result.start result.line_start result.crlf_start result.word_start ≡ opening.seen self.reverse self.terminator self.any (units.byte_of unit) }
+        ensures from_word { result.from_word ≡ opening.step_from_word self.any (units.byte_of unit) }
+        ensures half_crlf { result.half_crlf ≡ opening.step_half self.reverse self.any (units.byte_of unit) }
     {
         let line = self.any.contains_anchor_line();
         let crlf = self.any.contains_anchor_crlf();

@@ -4,22 +4,23 @@ ghost use Rattle.std.specs.Prelude.{◌≡◌, ℕ, Bool, IfSome, is_some, ◌<�
 ghost use Rattle.determinize_below.specs.Look.{has};
 ghost use Rattle.determinize_below.specs.Unit as units;
 ghost use Rattle.determinize_below.specs.declared.look.Look.{Look as Assertion};
-ghost use Rattle.determinize_core.specs.Opened as steps;
+ghost use Rattle.determinize_core.specs.Opened as opening;
 
 use crate::determinize::lookbehind::{LookTables, insert_where};
 use determinize_below::{Look, LookSet, Unit};
 
 /// Whether something that was found true is needed and isn't in look-have.
 pub(crate) fn is_redone(found: LookSet, have: LookSet, need: LookSet) -> bool
-    ensures { result ≡ steps.is_redone (has found) have need }
+    ensures { result ≡ opening.is_redone (has found) have need }
 {
+    // The bits are read for the proof alone: they tell that both sets are below 2^18.
     let _bits = (found.as_repr(), have.as_repr());
     !found.subtract(have).intersect(need).is_empty()
 }
 
 /// The assertions on words that are true, by whether word bytes stand behind and ahead.
 pub(crate) fn word_opened(from_word: bool, word: bool) -> LookSet
-    ensures { result ≡ steps.word_opened from_word word }
+    ensures { result ≡ opening.word_opened from_word word }
 {
     let set = LookSet::empty();
     let set = insert_where(set, from_word != word, Look::WordAscii);
@@ -37,7 +38,7 @@ pub(crate) fn word_opened(from_word: bool, word: bool) -> LookSet
 impl LookTables {
     /// The assertions on the haystack and on lines that the unit makes true, by whether the first half of a CRLF stands behind.
     pub(crate) fn line_opened(self, half_crlf: bool, unit: Unit) -> LookSet
-        ensures { result ≡ steps.line_opened self.reverse self.terminator half_crlf (units.byte_of unit) }
+        ensures { result ≡ opening.line_opened self.reverse self.terminator half_crlf (units.byte_of unit) }
     {
         let end = unit.is_eoi();
         let first = unit.is_byte(self.crlf_first());
@@ -50,12 +51,13 @@ impl LookTables {
 
     /// The assertions that the unit makes true behind a state with these flags, beside those in its look-have.
     pub(crate) fn opened(self, from_word: bool, half_crlf: bool, unit: Unit) -> LookSet
-        ensures value { (l : Assertion) → has result l ≡ steps.opened self.reverse self.terminator from_word half_crlf (units.byte_of unit) l }
+        ensures value { (l : Assertion) → has result l ≡ opening.opened self.reverse self.terminator from_word half_crlf (units.byte_of unit) l }
         ensures small { result < 2 ^ 18 }
     {
         let lines = self.line_opened(half_crlf, unit);
         let words = word_opened(from_word, unit.is_word_byte());
         let set = lines.union(words);
+        // Read for the clause `small` alone.
         let _bits = set.as_repr();
         set
     }
@@ -63,7 +65,7 @@ impl LookTables {
 
 /// The assertions under which the closure of a state is redone over a unit, by those that the unit makes true. None where it isn't redone.
 pub(crate) fn look_again(found: LookSet, have: LookSet, need: LookSet) -> Option<LookSet>
-    ensures whether { is_some result ≡ steps.is_redone (has found) have need }
+    ensures whether { is_some result ≡ opening.is_redone (has found) have need }
     ensures set { IfSome result (λ s. (l : Assertion) → has s l ≡ (has have l || has found l)) }
 {
     if is_redone(found, have, need) {

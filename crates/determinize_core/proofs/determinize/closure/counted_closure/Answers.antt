@@ -1,10 +1,11 @@
 use Rattle.std.proofs.Common.{◌∙◌, sym, ap, arith}
 use Rattle.determinize_below.specs.Look.{has}
 use Rattle.determinize_below.specs.Members.{Members}
+use Rattle.std.proofs.lemmas.Bool.{true≢false}
 use Rattle.std.proofs.lemmas.Option.{get_or_from_slice_get}
 use Rattle.determinize_below.specs.Node.{is_epsilon, Fail}
 use Rattle.determinize_below.proofs.SoundNfa.{accepted_sound}
-use Rattle.determinize_core.proofs.ClosureSteps.{leaf_set, leaf_tries, apart, members_same}
+use Rattle.determinize_core.proofs.ClosureSteps.{leaf_set, leaf_tries, members_same}
 use Rattle.determinize_core.proofs.determinize.closure.counted_closure.Goals as goal
 
 pub returns-then-not-is_epsilon-clause-ok : goal.returns-then-not-is_epsilon-clause-ok
@@ -27,4 +28,4 @@ returns-then-not-is_epsilon-clause-bounded g c =
 pub returns-clause-succeeds : goal.returns-clause-succeeds
 returns-clause-succeeds g c = λ leaf.
     let epsilon = ap is_epsilon (get_or_from_slice_get c.args.nfa.now.states c.args.start _ Fail c.state.ensures.state) ∙ sym c.is_epsilon.ensures ∙ c.if-not-is_epsilon.false in
-    absurd (apart _ epsilon leaf)
+    absurd (true≢false (sym epsilon ∙ leaf))

@@ -1,15 +1,16 @@
 use Rattle.std.proofs.Common.{◌≡◌, ◌∙◌, ◌++◌, sym, ap, reverse, refl, subst, List, ℕ, ◌∷◌, []}
+use Rattle.std.proofs.lemmas.Bool.{not-false, not-true}
 use Rattle.determinize_below.specs.Edges.{edges}
 use Rattle.determinize_below.specs.Look.{has}
 use Rattle.determinize_below.specs.Members.{Members}
 use Rattle.determinize_below.proofs.SoundNfa.{accepted_sound}
 use Rattle.determinize_core.specs.Closure.{IsTurn}
-use Rattle.determinize_core.proofs.ClosureSteps.{turn_held, turn_new, not_true, not_false, inserted, not_inserted}
+use Rattle.determinize_core.proofs.ClosureSteps.{turn_held, turn_new, inserted, not_inserted}
 use Rattle.determinize_core.proofs.determinize.closure.take_turn.Goals as goal
 
 pub returns-then-visit-clause-turn : goal.returns-then-visit-clause-turn
 returns-then-visit-clause-turn g c =
-    let new = not_true _ (sym c.visit.ensures.new ∙ c.if-visit.true) in
+    let new = not-true _ (sym c.visit.ensures.new ∙ c.if-visit.true) in
     let turn = turn_new c.args.nfa.now (accepted_sound c.args.nfa.now c.requires.accepted) (has c.args.look_have) c.args.set.now.ids (reverse c.args.stack.now.items) c.args.id new in
     let after : c.visit.new.set.ids ≡ c.args.set.now.ids ++ c.args.id ∷ [] = ap (λ (m : Members). m.ids) c.visit.ensures.after ∙ inserted c.visit.result _ _ c.if-visit.true in (
       edges c.args.nfa.now (has c.args.look_have) c.args.id ++ reverse c.args.stack.now.items,
@@ -19,7 +20,7 @@ returns-then-visit-clause-turn g c =
 
 pub returns-else-visit-clause-turn : goal.returns-else-visit-clause-turn
 returns-else-visit-clause-turn g c =
-    let met = not_false _ (sym c.visit.ensures.new ∙ c.if-visit.false) in
+    let met = not-false _ (sym c.visit.ensures.new ∙ c.if-visit.false) in
     let turn = turn_held c.args.nfa.now (accepted_sound c.args.nfa.now c.requires.accepted) (has c.args.look_have) c.args.set.now.ids (reverse c.args.stack.now.items) c.args.id met in
     let after : c.visit.new.set.ids ≡ c.args.set.now.ids = ap (λ (m : Members). m.ids) c.visit.ensures.after ∙ not_inserted c.visit.result _ _ c.if-visit.false in (
       reverse c.args.stack.now.items,
