@@ -57,7 +57,7 @@ IsUnit (Some b) = b < 256
 abbrev pub known : Bool → ℕ → Option ℕ → Look → Bool
 known reverse t p l = all_units (λ q. holds reverse t p q l)
 
--- the set with Start, StartLF, StartCRLF and the two WordStartHalf assertions, each where its test says so
+-- whether the assertion is Start, StartLF, StartCRLF or one of the two WordStartHalf, and the test for it says so
 abbrev pub behind_test : Bool → Bool → Bool → Bool → Look → Bool
 behind_test start line crlf word Start = start
 behind_test start line crlf word StartLF = line

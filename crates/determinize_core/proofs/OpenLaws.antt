@@ -104,6 +104,11 @@ open_first bytes h none =
       ap (λ (b : List ℕ). has_bit b 2) (sym h.spelled) ∙ open_explicit v ∙ ap is_explicit none,
     )
 
+-- without them nothing is left to be written
+pub open_unlisted : (bytes : List ℕ) → has_bit bytes 2 ≡ false → (value_of_open bytes).patterns ≡ (value_of bytes).patterns
+unfolding value_of_open
+open_unlisted bytes e = rw e refl
+
 pub open_have_at : (bytes : List ℕ) → IsOpen bytes → number_at bytes 1 ≡ (value_of_open bytes).look_have
 unfolding spell_open
 open_have_at bytes h =

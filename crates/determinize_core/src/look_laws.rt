@@ -1,6 +1,6 @@
-//! Laws of starts, and of the tables of assertions. Each function does nothing: its clauses are the law.
+//! Laws of starts, and of the tables of assertions. Each function but the first does nothing: its clauses are the law.
 
-ghost use Rattle.std.specs.Prelude.{◌≡◌, ℕ, ◌≤◌, Bool, true, false, ◌||◌, Option, Some};
+ghost use Rattle.std.specs.Prelude.{◌≡◌, ℕ, ◌≤◌, Bool, true, false, ◌||◌, IfOk, IsOk, Option, Some};
 ghost use Rattle.determinize_below.specs.Look.{has};
 ghost use Rattle.determinize_below.specs.Truth as truth;
 ghost use Rattle.determinize_core.specs.Behind as behind_specs;
@@ -8,8 +8,21 @@ ghost use Rattle.determinize_core.specs.Opened as opening;
 ghost use Rattle.determinize_core.specs.StartKinds as kinds;
 ghost use Rattle.determinize_core.specs.StartRows as rows;
 
-use crate::start::Start;
+use crate::start::{Config, Start, StartByteMap};
 use determinize_below::{Look, LookSet};
+use std::alloc::AllocError;
+
+/// Clones of a configuration and of a map of start kinds: they have the same value, and no memory is wanted.
+pub fn start_clone_law(
+    config: &Config,
+    map: &StartByteMap,
+) -> Result<(Config, StartByteMap), AllocError>
+    ensures succeeds { IsOk result }
+    ensures config { IfOk result (λ r. r.0 ≡ config.now) }
+    ensures map { IfOk result (λ r. r.1 ≡ map.now) }
+{
+    Ok((config.clone()?, map.clone()?))
+}
 
 /// A start kind comes back from its number, and from 6 on there is none.
 pub fn start_number_law(start: Start, number: usize)

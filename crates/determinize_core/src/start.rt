@@ -78,7 +78,7 @@ impl Config {
         }
     }
 
-    /// The byte behind the start, or none where the start is an end of the haystack.
+    /// The byte behind the start, or none where nothing is said to stand there.
     pub fn get_look_behind(&self) -> Option<u8>
         ensures { result ≡ self.now.look_behind }
     {

@@ -5,7 +5,8 @@
 //! equal where their bytes are, and a cache may compare bytes.
 //!
 //! - The first byte holds flags: whether some pattern matches, whether the patterns are written
-//!   out, whether the state was entered by a word byte, whether it stands inside of a CRLF.
+//!   out, whether the state was entered by a word byte, whether by a byte that may be the first
+//!   half of a CRLF.
 //! - Four bytes each, the low byte first, hold look-have and look-need.
 //! - The patterns follow where they are written out: their number and then each of them, four
 //!   bytes each. They aren't written out where there is none, or where `ZERO` is the only one.

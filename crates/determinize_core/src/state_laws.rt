@@ -1,11 +1,11 @@
 //! Facts on states that callers may rely on.
 //!
 //! Each function makes the calls that it speaks of, and its contract says how their answers hang
-//! together.
+//! together. The last one does nothing: its clauses are worked spellings.
 
-ghost use Rattle.std.specs.Prelude.{◌≡◌, ◌↔◌, [], ◌∷◌, false, length, slice_get, IfOk, IfSome, None};
+ghost use Rattle.std.specs.Prelude.{◌≡◌, ◌↔◌, [], ◌∷◌, length, option_map, slice_get, IfOk};
 ghost use Rattle.std.specs.Bool.{Decides};
-ghost use Rattle.determinize_core.specs.Value.{dead, is_match};
+ghost use Rattle.determinize_core.specs.Value.{dead, is_match, listed};
 ghost use Rattle.determinize_core.specs.Spelling.{spell};
 
 use crate::state::{State, StateBuilderNFA};
@@ -43,6 +43,7 @@ pub fn is_built<A: Allocator, B: Allocator>(state: &State<A>, builder: &StateBui
 pub fn are_equal<A: Allocator>(a: &State<A>, b: &State<A>) -> bool
     ensures { Decides result (a.now ≡ b.now) }
 {
+    // The bytes are taken for the proof alone: they tell that both values are well formed.
     let _ = a.as_bytes();
     let _ = b.as_bytes();
     a == b
@@ -51,17 +52,15 @@ pub fn are_equal<A: Allocator>(a: &State<A>, b: &State<A>) -> bool
 /// What the readers of patterns answer: whether there is one, how many there are, all of them, and
 /// the one at an index where the index is below their number.
 ///
-/// The whole list is none exactly where there is no pattern. Otherwise it has that many items, and
-/// the item at the index is that one. The only error is want of memory.
+/// The whole list is none exactly where there is no pattern. The only error is want of memory.
 pub fn patterns_read<A: Allocator + Clone>(
     state: &State<A>,
     index: usize,
 ) -> Result<(bool, usize, Option<Vec<PatternID, A>>, Option<PatternID>), AllocError>
     ensures matches { IfOk result (λ r. r.0 ≡ is_match state.now.patterns) }
     ensures len { IfOk result (λ r. r.1 ≡ length state.now.patterns) }
-    ensures none { IfOk result (λ r. (r.2 ≡ None) ↔ (r.0 ≡ false)) }
-    ensures count { IfOk result (λ r. IfSome r.2 (λ ids. length ids.items ≡ r.1)) }
-    ensures items { IfOk result (λ r. IfSome r.2 (λ ids. slice_get ids.items index ≡ r.3)) }
+    ensures all { IfOk result (λ r. option_map (λ list. list.items) r.2 ≡ listed state.now.patterns) }
+    ensures one { IfOk result (λ r. r.3 ≡ slice_get state.now.patterns index) }
 {
     let ids = state.match_pattern_ids()?;
     let count = state.match_len();
@@ -85,7 +84,7 @@ pub fn nfa_states_read<A: Allocator, B: Allocator>(
     state.iter_nfa_state_ids().collect(alloc)
 }
 
-/// The bytes of some values: the dead one, three with patterns and three with NFA states.
+/// The bytes of some values: the dead one, four with patterns and three with NFA states.
 #[tactic(auto, unfolding(crate::specs::Spelling::spell, crate::specs::Varint::varint))]
 pub fn worked_spellings()
     ensures dead { spell dead ≡ 0 ∷ 0 ∷ 0 ∷ 0 ∷ 0 ∷ 0 ∷ 0 ∷ 0 ∷ 0 ∷ [] }

@@ -39,9 +39,9 @@ pub(crate) struct Entries {
     pub(crate) crlf_start: bool,
     /// The two `WordStartHalf` assertions are known.
     pub(crate) word_start: bool,
-    /// The byte is a word byte.
+    /// The byte is a word byte, and some assertion is on words.
     pub(crate) from_word: bool,
-    /// The byte may be the first half of a CRLF.
+    /// The byte may be the first half of a CRLF, and some assertion is on CRLF.
     pub(crate) half_crlf: bool,
 }
 

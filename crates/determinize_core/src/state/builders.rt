@@ -126,7 +126,9 @@ impl<A: Allocator> StateBuilderMatches<A> {
     }
 
     /// The patterns in order, read from the bytes.
-    pub(crate) fn iter_match_pattern_ids(&self) -> PatternIds<'_> {
+    pub(crate) fn iter_match_pattern_ids(&self) -> PatternIds<'_>
+        ensures { result ≡ self.now.patterns }
+    {
         PatternIds::new(bytes::open_pattern_words(self.bytes.as_slice()))
     }
 

@@ -18,7 +18,7 @@ pub(crate) const EXPLICIT: u8 = 2;
 /// The bit of the first byte for a state that was entered by a word byte.
 pub(crate) const FROM_WORD: u8 = 4;
 
-/// The bit of the first byte for a state inside of a CRLF.
+/// The bit of the first byte for a state that was entered by what may be the first half of a CRLF.
 pub(crate) const HALF_CRLF: u8 = 8;
 
 /// Where the number of patterns stands, and where the NFA ids begin if it doesn't.
@@ -187,7 +187,8 @@ pub(crate) fn pattern_words(bytes: &[u8]) -> &[u8]
 /// The patterns of a state whose number of patterns isn't written yet, four bytes each.
 pub(crate) fn open_pattern_words(bytes: &[u8]) -> &[u8]
     requires { IsOpen bytes.now }
-    ensures { All (λ id. id ≤ 2147483646) (numbers_in result.now) }
+    ensures ids { numbers_in result.now ≡ (value_of_open bytes.now).patterns }
+    ensures small { All (λ id. id ≤ 2147483646) (numbers_in result.now) }
 {
     if !has_bit(bytes, EXPLICIT) {
         return implicit_words(bytes);

@@ -1,4 +1,4 @@
-//! Equality, order, hash and copies of states.
+//! Equality, order and hash of states.
 
 ghost use Rattle.std.specs.Prelude.{◌≡◌, ◌==◌};
 ghost use Rattle.std.specs.Ordering.{nat_cmp, on, as_partial_cmp};
