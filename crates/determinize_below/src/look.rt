@@ -222,7 +222,8 @@ impl LookMatcher {
     pub fn get_line_terminator(&self) -> u8
         ensures { result ≡ self.now }
     {
-        self.line_terminator
+        let LookMatcher { line_terminator } = self;
+        *line_terminator
     }
 }
 

@@ -74,7 +74,8 @@ impl StateID {
         ensures value { result ≡ self }
         ensures small { self ≤ 2147483646 }
     {
-        self.0
+        let StateID(number) = self;
+        number
     }
 
     /// The number of the id, as an index.
@@ -82,7 +83,8 @@ impl StateID {
         ensures value { result ≡ self }
         ensures small { self ≤ 2147483646 }
     {
-        self.0 as usize
+        let StateID(index) = self;
+        index as usize
     }
 }
 
@@ -152,7 +154,8 @@ impl PatternID {
         ensures value { result ≡ self }
         ensures small { self ≤ 2147483646 }
     {
-        self.0
+        let PatternID(number) = self;
+        number
     }
 
     /// The number of the id, as an index.
@@ -160,6 +163,7 @@ impl PatternID {
         ensures value { result ≡ self }
         ensures small { self ≤ 2147483646 }
     {
-        self.0 as usize
+        let PatternID(index) = self;
+        index as usize
     }
 }
