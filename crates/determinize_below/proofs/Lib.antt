@@ -1,5 +1,6 @@
 pub mod Alike
 pub mod Beginnings
+pub mod Bits
 pub mod Bounds
 pub mod Checks
 pub mod EdgeLemmas
@@ -28,6 +29,7 @@ pub mod SearchSteps
 pub mod Sets
 pub mod SoundNfa
 pub mod Sparse
+pub mod TestedLooks
 pub mod Tests
 pub mod Turns
 pub mod Unique

@@ -1,13 +1,15 @@
 -- The law of reach.
 use Rattle.std.specs.Prelude.{nat_eq}
-use Rattle.std.proofs.Common.{◌+◌, List, [], arith, subst, suc, ℕ, ◌≡◌}
+use Rattle.std.proofs.Common.{◌+◌, List, [], arith, length, refl, subst, suc, ℕ, ◌≡◌}
 use Rattle.std.proofs.lemmas.Bool.{false≢true}
+use Rattle.determinize_below.specs.Edges.{edges, reach, reach_past}
 use Rattle.determinize_below.specs.Paths.{IsInOrderOfReach}
 use Rattle.determinize_below.specs.Reach.{LeadsBelow, member, none_held, ordered}
-use Rattle.determinize_below.specs.ReachLaws.{EachReachIsInOrder, EachReachIsInTurn, EachReachIsOne}
+use Rattle.determinize_below.specs.ReachLaws.{EachNfaReachIsInOrder, EachNfaReachIsInTurn, EachNfaReachIsOne, EachReachIsInOrder, EachReachIsInTurn, EachReachIsOne, EachReachIsPastNothing}
 use Rattle.determinize_below.proofs.Ends.{IsEnough, IsEnough-more_held}
 use Rattle.determinize_below.proofs.Least.{ordered_in_order}
 use Rattle.determinize_below.proofs.Nodes.{IsEnough-below, same_decides}
+use Rattle.determinize_below.proofs.SoundNfa.{accepted_sound}
 use Rattle.determinize_below.proofs.Turns.{ordered_in_turn}
 use Rattle.determinize_below.proofs.Unique.{one_order}
 
@@ -28,3 +30,20 @@ each_reach_is_one edges count h held roots xs is = one_order same_decides edges 
 
 pub each_reach_is_in_turn : EachReachIsInTurn
 each_reach_is_in_turn edges count h held roots = ordered_in_turn same_decides edges (count + 1) (enough edges count h []) held roots
+
+-- the same of an accepted NFA, whose edges lead to its states
+pub each_nfa_reach_is_in_order : EachNfaReachIsInOrder
+unfolding reach_past
+each_nfa_reach_is_in_order nfa accepted holds = each_reach_is_in_order (edges nfa holds) (length nfa.states) ((accepted_sound nfa accepted).resolves holds)
+
+pub each_nfa_reach_is_one : EachNfaReachIsOne
+unfolding reach_past
+each_nfa_reach_is_one nfa accepted holds = each_reach_is_one (edges nfa holds) (length nfa.states) ((accepted_sound nfa accepted).resolves holds)
+
+pub each_nfa_reach_is_in_turn : EachNfaReachIsInTurn
+unfolding reach_past
+each_nfa_reach_is_in_turn nfa accepted holds = each_reach_is_in_turn (edges nfa holds) (length nfa.states) ((accepted_sound nfa accepted).resolves holds)
+
+pub each_reach_is_past_nothing : EachReachIsPastNothing
+unfolding reach reach_past
+each_reach_is_past_nothing nfa holds roots = refl

@@ -7,7 +7,7 @@ use Rattle.std.proofs.lemmas.Bool.{true≢false, false≢true, not-false, eq-eqb
 use Rattle.std.proofs.lemmas.List.{append-nil, get_or-take}
 use Rattle.std.proofs.lemmas.List.Folds.{list_any_at}
 use Rattle.std.proofs.lemmas.Option.{slice_get-get_or}
-use Rattle.determinize_below.specs.Edges.{edges_of, target_of, listed, pattern_in, state_at, edges, target, pattern_of, reach, reach_past, IsSound}
+use Rattle.determinize_below.specs.Edges.{edges_of, target_of, listed, pattern_in, state_at, edges, target, pattern_of, reach, reach_past}
 use Rattle.determinize_below.specs.Nfa.{Nfa, IsAccepted, states_failure, state_failure, resolves, is_repeated, matches, is_sparse_sound, is_dense_sound}
 use Rattle.determinize_below.specs.Node.{Node, ByteRange, Sparse, Dense, Look, Union, BinaryUnion, Capture, Fail, Match}
 use Rattle.determinize_below.specs.Reach.{ends, member, none_held, ordered}
@@ -20,6 +20,11 @@ use Rattle.determinize_below.proofs.Nodes.{IsEnough-below, fresh_below, length-f
 use Rattle.determinize_below.proofs.SearchSteps.{ordered-append}
 use Rattle.determinize_below.proofs.Sets.{flat_map-member}
 use Rattle.determinize_below.proofs.Tests.{by_cases, by_option, by_test}
+
+-- what the checks of an NFA give: an edge leads to a state, and a pattern has one `Match`
+pub record IsSound (nfa : Nfa) : Type 0 where
+  pub resolves : (holds : Assertion → Bool) (s t : ℕ) → member nat_eq (edges nfa holds s) t ≡ true → t < length nfa.states
+  pub one_match : (i j p : ℕ) → pattern_of nfa i ≡ Some p → pattern_of nfa j ≡ Some p → i ≡ j
 
 some_not_none : {A P : Type 0} (a : A) → Some a ≡ None → P
 some_not_none a e = absurd cc

@@ -1,5 +1,5 @@
 -- What the states of an NFA are, and where they lead.
-use Rattle.std.specs.Prelude.{◌≡◌, ◌+◌, ◌<◌, ℕ, Bool, true, false, cond, Option, Some, None, List, [], ◌∷◌, length, nat_eq, slice_index_or}
+use Rattle.std.specs.Prelude.{◌≡◌, ◌+◌, ℕ, Bool, true, false, cond, Option, Some, None, List, [], ◌∷◌, length, nat_eq, slice_index_or}
 use Rattle.std.specs.List.{flat_map}
 use Rattle.determinize_below.specs.declared.look.Look.{Look as Assertion}
 use Rattle.determinize_below.specs.Node.{Node, ByteRange, Sparse, Dense, Look, Union, BinaryUnion, Capture, Fail, Match}
@@ -90,8 +90,3 @@ reach_past nfa holds held roots = ordered nat_eq (edges nfa holds) (length nfa.s
 -- some state of the NFA tests the assertion
 abbrev pub IsTested : Nfa → Assertion → Type 0
 IsTested nfa look = (s : ℕ) × (assertion_of nfa s ≡ Some look)
-
--- what the checks of an NFA give: an edge leads to a state, and a pattern has one `Match`
-pub record IsSound (nfa : Nfa) : Type 0 where
-  pub resolves : (holds : Assertion → Bool) (s t : ℕ) → member nat_eq (edges nfa holds s) t ≡ true → t < length nfa.states
-  pub one_match : (i j p : ℕ) → pattern_of nfa i ≡ Some p → pattern_of nfa j ≡ Some p → i ≡ j

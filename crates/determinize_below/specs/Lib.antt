@@ -3,6 +3,7 @@ pub mod Classes
 pub mod Edges
 pub mod Look
 pub mod Members
+pub mod Messages
 pub mod Nfa
 pub mod Node
 pub mod Paths

@@ -1,5 +1,6 @@
 -- Sets that are lists of distinct ids below a capacity.
-use Rattle.std.specs.Prelude.{ℕ, ◌<◌, ◌≤◌, Bool, List, All, nat_eq}
+use Rattle.std.specs.Prelude.{◌≡◌, ℕ, ◌/◌, ◌%◌, ◌<◌, ◌≤◌, Bool, List, All, IsTrue, length, not, nat_eq, slice_index}
+use Rattle.std.specs.Int.{bit_at, div_ceil}
 use Rattle.std.specs.List.{IsDistinct, list_any}
 
 -- the ids in the order of their insertion, and the number below which they lie
@@ -16,9 +17,21 @@ pub record AreMembers (set : Members) : Type 0 where
   pub distinct : IsDistinct nat_eq set.ids
   pub below : All (λ id. id < set.capacity) set.ids
 
--- distinct ids below the capacity, for all of which there is room
-pub record IsSparse (ids : List ℕ) (capacity room : ℕ) : Type 0 where
+-- whether the bit of an id is set in words of 64 bits
+unfoldable pub has_bit : List ℕ → ℕ → Bool
+has_bit words id = nat_eq (bit_at (slice_index words (id / 64)) (id % 64)) 1
+
+-- what is set in the words afterwards was so before, and is none of these ids
+pub record IsCleared (words fewer ids : List ℕ) : Type 0 where
+  pub was : (id : ℕ) → IsTrue (has_bit fewer id) → IsTrue (has_bit words id)
+  pub none : (id : ℕ) → IsTrue (has_bit fewer id) → IsTrue (not (holds ids id))
+
+-- distinct ids below the capacity, for all of which there is room, and the bits of just these ids,
+-- in as many words as the capacity wants
+pub record IsSparse (ids words : List ℕ) (capacity room : ℕ) : Type 0 where
   pub distinct : IsDistinct nat_eq ids
   pub below : All (λ id. id < capacity) ids
   pub small : capacity ≤ 2147483647
   pub room_for_all : capacity ≤ room
+  pub word_for_each : length words ≡ div_ceil capacity 64
+  pub marked : (id : ℕ) → id < capacity → has_bit words id ≡ holds ids id

@@ -1,5 +1,5 @@
 -- Thompson NFAs as data, and the checks that their parts pass.
-use Rattle.std.specs.Prelude.{◌≡◌, ℕ, ◌+◌, Bool, true, false, not, Option, Some, None, List, [], ◌∷◌, ◌++◌, nat_lt, nat_eq, length, if◌then◌else◌}
+use Rattle.std.specs.Prelude.{◌≡◌, ℕ, ◌+◌, ◌<◌, All, Bool, true, false, not, Option, Some, None, List, [], ◌∷◌, ◌++◌, nat_lt, nat_eq, length, if◌then◌else◌}
 use mathlib.Core.Bool.{◌&&◌}
 use Rattle.std.specs.List.{list_all, list_any}
 use Rattle.std.specs.Option.{option_or}
@@ -29,6 +29,10 @@ resolves count (BinaryUnion a b) = nat_lt a count && nat_lt b count
 resolves count (Capture next) = nat_lt next count
 resolves count Fail = true
 resolves count (Match pattern) = true
+
+-- the ids are of states of the NFA
+abbrev pub AllResolve : Nfa → List ℕ → Type 0
+AllResolve nfa ids = All (λ id. id < length nfa.states) ids
 
 -- whether the ranges of a sparse state ascend
 abbrev pub is_sparse_sound : Node → Bool

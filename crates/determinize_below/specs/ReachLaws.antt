@@ -1,5 +1,8 @@
 -- What the law of reach says, and a small graph for its worked rows.
-use Rattle.std.specs.Prelude.{◌+◌, List, [], nat_eq, slice_index_or, ℕ, ◌∷◌, ◌≡◌}
+use Rattle.std.specs.Prelude.{◌+◌, Bool, List, [], nat_eq, slice_index_or, ℕ, ◌∷◌, ◌≡◌}
+use Rattle.determinize_below.specs.declared.look.Look.{Look as Assertion}
+use Rattle.determinize_below.specs.Edges.{edges, reach, reach_past}
+use Rattle.determinize_below.specs.Nfa.{IsAccepted, Nfa}
 use Rattle.determinize_below.specs.Paths.{IsInOrderOfReach, IsListedInTurn}
 use Rattle.determinize_below.specs.Reach.{LeadsBelow, member, ordered}
 
@@ -17,6 +20,26 @@ EachReachIsOne = (edges : ℕ → List ℕ) (count : ℕ) → LeadsBelow edges c
 abbrev pub EachReachIsInTurn : Type 0
 EachReachIsInTurn = (edges : ℕ → List ℕ) (count : ℕ) → LeadsBelow edges count → (held roots : List ℕ)
     → IsListedInTurn edges held roots (ordered nat_eq edges (count + 1) (member nat_eq held) roots)
+
+-- what a search of an accepted NFA lists is in the order of reach, from any roots
+abbrev pub EachNfaReachIsInOrder : Type 0
+EachNfaReachIsInOrder = (nfa : Nfa) → IsAccepted nfa → (holds : Assertion → Bool) (held roots : List ℕ)
+    → IsInOrderOfReach (edges nfa holds) held roots (reach_past nfa holds held roots)
+
+-- no other list is in that order
+abbrev pub EachNfaReachIsOne : Type 0
+EachNfaReachIsOne = (nfa : Nfa) → IsAccepted nfa → (holds : Assertion → Bool) (held roots xs : List ℕ)
+    → IsInOrderOfReach (edges nfa holds) held roots xs → xs ≡ reach_past nfa holds held roots
+
+-- what it lists can be found root by root
+abbrev pub EachNfaReachIsInTurn : Type 0
+EachNfaReachIsInTurn = (nfa : Nfa) → IsAccepted nfa → (holds : Assertion → Bool) (held roots : List ℕ)
+    → IsListedInTurn (edges nfa holds) held roots (reach_past nfa holds held roots)
+
+-- a search with nothing held is one past the empty list
+abbrev pub EachReachIsPastNothing : Type 0
+EachReachIsPastNothing = (nfa : Nfa) (holds : Assertion → Bool) (roots : List ℕ)
+    → reach nfa holds roots ≡ reach_past nfa holds [] roots
 
 -- four nodes: edges from 0 to 1 and 3, from 1 to 2, from 2 back to 0 and to 3
 abbrev pub small_graph : ℕ → List ℕ

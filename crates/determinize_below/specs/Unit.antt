@@ -1,13 +1,33 @@
 -- Units of input, seen as a byte or nothing: every end of the input is one `None`.
 use Rattle.std.specs.Prelude.{ℕ, Bool, true, false, Option, Some, None, nat_eq, nat_le}
 use mathlib.Core.Bool.{◌&&◌, ◌||◌}
-use Rattle.determinize_below.specs.declared.alphabet.Unit as declared
-use Rattle.determinize_below.specs.declared.alphabet.Unit.TheVariants.{U8, Eoi}
+use Rattle.determinize_below.specs.declared.alphabet.UnitKind.{UnitKind}
+use Rattle.determinize_below.specs.declared.alphabet.UnitKind.TheVariants.{U8, Eoi}
+
+-- a unit of input: a byte, or the end with its number
+pub data Symbol : Type 0 where
+  Byte : ℕ → Symbol
+  End : ℕ → Symbol
+
+-- the unit of the program as data
+abbrev pub symbol_of : UnitKind → Symbol
+symbol_of (U8 b) = Byte b
+symbol_of (Eoi n) = End n
+
+-- and back
+abbrev pub kind_of : Symbol → UnitKind
+kind_of (Byte b) = U8 b
+kind_of (End n) = Eoi n
 
 -- the byte of the unit, or none at the end of the input
-abbrev pub byte_of : declared.Unit → Option ℕ
-byte_of (U8 b) = Some b
-byte_of (Eoi n) = None
+abbrev pub byte_of : Symbol → Option ℕ
+byte_of (Byte b) = Some b
+byte_of (End n) = None
+
+-- the number of an end, 0 for a byte
+abbrev pub number_of : Symbol → ℕ
+number_of (Byte b) = 0
+number_of (End n) = n
 
 -- whether the byte is a digit, a letter or an underscore
 unfoldable pub is_word_byte : ℕ → Bool

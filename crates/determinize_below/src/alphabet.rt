@@ -3,6 +3,8 @@
 ghost use Rattle.std.specs.Prelude.{◌≡◌, ℕ, ◌≤◌, Option, Bool};
 ghost use Rattle.determinize_below.specs.Unit as units;
 
+use std::marker::Model;
+
 /// Whether the byte is a digit, a letter or an underscore of ASCII.
 #[tactic(auto, unfolding(crate::specs::Unit::is_word_byte))]
 pub fn is_word_byte(byte: u8) -> bool
@@ -13,38 +15,53 @@ pub fn is_word_byte(byte: u8) -> bool
 
 /// One byte of input, or the end of the input.
 ///
-/// The end carries a number, which equality and `Debug` see and nothing else does.
+/// The end carries a number from 0 to 256, which equality and `Debug` see and nothing else does.
 #[derive(Clone, Copy, Debug, PartialEq, Eq)]
-pub enum Unit {
-    /// One byte.
+pub struct Unit(UnitKind);
+
+#[derive(Clone, Copy, Debug, PartialEq, Eq)]
+enum UnitKind {
     U8(u8),
-    /// The end of the input, with its number.
     Eoi(u16),
+}
+
+impl Model for Unit {
+    ghost use Rattle.std.specs.Prelude.{◌≤◌};
+    ghost use Rattle.determinize_below.specs.Unit.{Symbol, symbol_of, kind_of, number_of};
+
+    ghost Value = { Symbol };
+
+    ghost view = { λ u. symbol_of u.0 };
+
+    ghost invariant = { λ u. number_of (symbol_of u.0) ≤ 256 };
+
+    ghost inverse = { λ s. record { 0 = kind_of s } };
 }
 
 impl Unit {
     /// The unit of this byte.
     pub fn u8(byte: u8) -> Unit
-        ensures { result ≡ Unit.U8 byte }
+        ensures { result ≡ units.Byte byte }
     {
-        Unit::U8(byte)
+        Unit(UnitKind::U8(byte))
     }
 
     /// The end of the input, with a number from 0 to 256 that is kept.
     pub fn eoi(number: usize) -> Unit
         requires { number ≤ 256 }
-        ensures { result ≡ Unit.Eoi number }
+        ensures { result ≡ units.End number }
     {
-        Unit::Eoi(number as u16)
+        Unit(UnitKind::Eoi(number as u16))
     }
 
-    /// The byte, or none at the end of the input.
+    /// The byte, or none at the end of the input, whose number is at most 256.
     pub fn as_u8(self) -> Option<u8>
-        ensures { result ≡ units.byte_of self }
+        ensures byte { result ≡ units.byte_of self }
+        ensures limit { units.number_of self ≤ 256 }
     {
-        match self {
-            Unit::U8(value) => Some(value),
-            Unit::Eoi(_) => None,
+        match self.0 {
+            UnitKind::U8(value) => Some(value),
+            UnitKind::Eoi(_) => None,
         }
     }
 

@@ -14,5 +14,5 @@ pub use alphabet::Unit;
 pub use look::{Look, LookMatcher, LookSet};
 pub use nfa::{BuildError, DenseTransitions, NFA, SparseTransitions, Transition};
 pub use primitives::{PatternID, PatternIDError, StateID, StateIDError};
-pub use search::{Anchored, Input, MatchKind};
+pub use search::{Anchored, HalfMatch, Input, MatchKind};
 pub use sparse_set::{SparseSet, SparseSetIter, SparseSets};

@@ -1,12 +1,15 @@
 //! Laws of assertions and of sets of them. Each function does nothing: its clauses are the law.
 
-ghost use Rattle.std.specs.Prelude.{◌≡◌, ℕ, Bool, true, false, not, ◌==◌, ◌&&◌, ◌||◌, Option, List};
+ghost use Rattle.std.specs.Prelude.{◌≡◌, ℕ, Bool, true, false, not, ◌==◌, ◌&&◌, ◌||◌, Option, Some, List};
 ghost use Rattle.std.specs.Bool.{Decides};
 ghost use Rattle.std.specs.Int.{to_le_bytes, w32};
-ghost use Rattle.std.specs.List.{list_any};
+ghost use Rattle.std.specs.List.{Any, list_any};
 ghost use Rattle.determinize_below.specs.Classes as classes;
+ghost use Rattle.determinize_below.specs.Edges.{assertion_in, IsTested};
 ghost use Rattle.determinize_below.specs.Look as looks;
 ghost use Rattle.determinize_below.specs.Look.{has};
+ghost use Rattle.determinize_below.specs.Nfa.{looks_of, IsAccepted, Nfa};
+ghost use Rattle.determinize_below.specs.Node.{Node};
 ghost use Rattle.determinize_below.specs.Truth as truth;
 ghost use Rattle.determinize_below.specs.Unit as units;
 ghost use Rattle.determinize_below.specs.declared.look.Look.{Look as Assertion};
@@ -47,4 +50,13 @@ pub fn look_class_law(set: LookSet)
 pub fn known_law(reverse: bool, terminator: u8, before: Option<u8>, look: Look)
     ensures every { Decides (truth.known reverse terminator before look) ((q : Option ℕ) → truth.IsUnit q → truth.holds reverse terminator before q look ≡ true) }
     ensures table { truth.known reverse terminator before look ≡ truth.behind_test (units.is_nothing before) (units.is_nothing before || units.is_byte before terminator) (units.is_nothing before || units.is_byte before (truth.crlf_second reverse)) (not (units.is_word before)) look }
+{}
+
+/// An assertion is among those of some states exactly where one of them tests it, and among those
+/// of an accepted NFA exactly where some state of it tests it.
+pub fn look_state_law(look: Look)
+    ensures states { (states : List Node)
+        → Decides (has (looks_of states) look) (Any (λ s. assertion_in s ≡ Some look) states) }
+    ensures nfa { (nfa : Nfa) → IsAccepted nfa
+        → Decides (has nfa.look_set_any look) (IsTested nfa look) }
 {}

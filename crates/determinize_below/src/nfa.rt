@@ -1,12 +1,14 @@
 //! Thompson NFAs, made of parts that are checked.
 
-ghost use Rattle.std.specs.Prelude.{◌≡◌, ℕ, ◌<◌, ◌≤◌, Some, None, true, map, length, slice_get, IfOk, OnOk, IfErr, ◌⊎◌};
+ghost use Rattle.std.specs.Prelude.{◌≡◌, ℕ, ◌<◌, ◌≤◌, Some, None, true, map, length, slice_get, vec_len, IfOk, OnOk, IfErr, IsErrOf, ◌⊎◌};
 ghost use Rattle.determinize_below.specs.Node.{node_of};
 ghost use Rattle.determinize_below.specs.Nfa.{failure, is_dense_sound, is_sparse_sound, looks_of};
 
 use crate::look::{LookMatcher, LookSet};
 use crate::primitives::StateID;
-use std::alloc::{Allocator, Global};
+use std::alloc::{AllocError, Allocator, Global};
+use std::error::Error;
+use std::fmt;
 use std::marker::Model;
 
 mod checks;
@@ -34,6 +36,36 @@ pub enum BuildError {
     /// Memory for the checks was refused.
     OutOfMemory,
 }
+
+impl From<AllocError> for BuildError {
+    ghost use Rattle.determinize_below.specs.declared.nfa.BuildError.TheVariants.{OutOfMemory};
+
+    ghost from_gives = { λ _ e. e ≡ OutOfMemory };
+
+    fn from(_refused: AllocError) -> BuildError {
+        BuildError::OutOfMemory
+    }
+}
+
+impl fmt::Display for BuildError {
+    ghost use Rattle.determinize_below.specs.Messages.{build_refusal};
+
+    ghost output = { λ e. Some (build_refusal e) };
+
+    fn fmt<W: fmt::Write>(&self, f: &mut fmt::Formatter<W>) -> fmt::Result {
+        match self {
+            BuildError::TooManyStates => write!(f, "more than 2147483647 states"),
+            BuildError::UnresolvedStart => write!(f, "no state has the start id"),
+            BuildError::UnresolvedId(index) => write!(f, "state {index} leads to no state"),
+            BuildError::BadSparse(index) => write!(f, "state {index} has a range out of order"),
+            BuildError::BadDense(index) => write!(f, "state {index} has not 256 targets"),
+            BuildError::RepeatedPattern(index) => write!(f, "state {index} repeats a pattern"),
+            BuildError::OutOfMemory => write!(f, "out of memory"),
+        }
+    }
+}
+
+impl Error for BuildError {}
 
 /// A Thompson NFA that has passed every check.
 #[derive(Drop)]
@@ -81,7 +113,9 @@ impl<A: Allocator> NFA<A> {
     /// the two start ids, and then the states by their index; within a state its ids, a sparse
     /// state's ranges, a dense state's length, and whether a pattern is matched twice.
     /// `OutOfMemory` comes only where memory for the set of patterns was refused, whatever later
-    /// checks would have found. That set, which is dropped at the end, takes its memory of `alloc`.
+    /// checks would have found. The number of states and the start ids are checked before any
+    /// memory is taken, so their errors come for certain. The set, which is dropped at the end,
+    /// takes its memory of `alloc`.
     pub fn from_parts<B: Allocator + Clone>(
         alloc: B,
         states: Vec<State<A>, A>,
@@ -100,6 +134,10 @@ impl<A: Allocator> NFA<A> {
         }) }
         ensures accepted { OnOk result (failure (map node_of states.items) start_anchored start_unanchored ≡ None) }
         ensures err { IfErr result (λ e. (failure (map node_of states.items) start_anchored start_unanchored ≡ Some e) ⊎ (e ≡ BuildError.OutOfMemory)) }
+        ensures limit { 2147483647 < vec_len states → IsErrOf result BuildError.TooManyStates }
+        ensures starts { vec_len states ≤ 2147483647
+            → (vec_len states ≤ start_anchored) ⊎ (vec_len states ≤ start_unanchored)
+            → IsErrOf result BuildError.UnresolvedStart }
     {
         let count = states.len();
         if count > 2147483647 {
@@ -149,7 +187,8 @@ impl<A: Allocator> NFA<A> {
 
     /// What the assertions on lines depend on.
     pub fn look_matcher(&self) -> &LookMatcher
-        ensures { result.now ≡ self.now.terminator }
+        ensures value { result.now ≡ self.now.terminator }
+        ensures accepted { IsAccepted self.now }
     {
         &self.look_matcher
     }

@@ -6,6 +6,8 @@
 ghost use Rattle.std.specs.Prelude.{◌≡◌, ℕ, ◌≤◌, IfErr};
 ghost use Rattle.std.specs.Result.{OkIff};
 
+use std::error::Error;
+use std::fmt;
 use std::marker::Model;
 
 /// The number of a state of an NFA, from 0 to 2147483646.
@@ -45,6 +47,20 @@ impl StateIDError {
     }
 }
 
+impl fmt::Display for StateIDError {
+    ghost use Rattle.determinize_below.specs.Messages.{state_id_refusal};
+    ghost use Rattle.std.specs.Prelude.{Some};
+
+    ghost output = { λ n. Some (state_id_refusal n) };
+
+    fn fmt<W: fmt::Write>(&self, f: &mut fmt::Formatter<W>) -> fmt::Result {
+        let attempted = self.attempted;
+        write!(f, "{attempted} is too large for the id of a state")
+    }
+}
+
+impl Error for StateIDError {}
+
 impl StateID {
     /// The least id, 0.
     pub const ZERO: StateID = StateID(0);
@@ -67,6 +83,14 @@ impl StateID {
                 attempted: id as u64,
             })
         }
+    }
+
+    /// The id of this number, which is at most 2147483646.
+    pub fn must(id: usize) -> StateID
+        requires { id ≤ 2147483646 }
+        ensures { result ≡ id }
+    {
+        StateID(id as u32)
     }
 
     /// The number of the id.
@@ -125,6 +149,20 @@ impl PatternIDError {
     }
 }
 
+impl fmt::Display for PatternIDError {
+    ghost use Rattle.determinize_below.specs.Messages.{pattern_id_refusal};
+    ghost use Rattle.std.specs.Prelude.{Some};
+
+    ghost output = { λ n. Some (pattern_id_refusal n) };
+
+    fn fmt<W: fmt::Write>(&self, f: &mut fmt::Formatter<W>) -> fmt::Result {
+        let attempted = self.attempted;
+        write!(f, "{attempted} is too large for the id of a pattern")
+    }
+}
+
+impl Error for PatternIDError {}
+
 impl PatternID {
     /// The least id, 0.
     pub const ZERO: PatternID = PatternID(0);
@@ -147,6 +185,14 @@ impl PatternID {
                 attempted: id as u64,
             })
         }
+    }
+
+    /// The id of this number, which is at most 2147483646.
+    pub fn must(id: usize) -> PatternID
+        requires { id ≤ 2147483646 }
+        ensures { result ≡ id }
+    {
+        PatternID(id as u32)
     }
 
     /// The number of the id.

@@ -128,3 +128,21 @@ impl<'h> Input<'h> {
         self.anchored
     }
 }
+
+/// The end of a match, with the pattern that matched. Where the match begins is not known.
+#[derive(Clone, Copy, Debug, PartialEq, Eq, Hash)]
+pub struct HalfMatch {
+    /// The pattern that matched.
+    pub pattern: PatternID,
+    /// Where the match ends: the number of bytes that were read before its end.
+    pub offset: usize,
+}
+
+impl HalfMatch {
+    /// The match of this pattern that ends behind so many bytes.
+    pub fn new(pattern: PatternID, offset: usize) -> HalfMatch
+        ensures { result ≡ record { pattern = pattern; offset = offset } }
+    {
+        HalfMatch { pattern, offset }
+    }
+}

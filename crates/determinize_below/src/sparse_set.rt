@@ -1,8 +1,8 @@
 //! Sets of state ids that keep the order in which their ids came.
 
-ghost use Rattle.std.specs.Prelude.{◌≡◌, ℕ, ◌<◌, ◌≤◌, ◌↔◌, [], ◌∷◌, ◌++◌, length, not, IsTrue, IfOk, if◌then◌else◌, vec_len, vec_capacity};
+ghost use Rattle.std.specs.Prelude.{◌≡◌, ℕ, ◌*◌, ◌<◌, ◌≤◌, ◌↔◌, [], ◌∷◌, ◌++◌, length, not, All, IsTrue, IfOk, if◌then◌else◌, nat_eq, ◌&&◌, ◌||◌};
 ghost use Rattle.std.specs.Iterator.{YieldsFirst, item_count};
-ghost use Rattle.determinize_below.specs.Members.{holds};
+ghost use Rattle.determinize_below.specs.Members.{IsCleared, has_bit, holds};
 
 use crate::primitives::StateID;
 use std::alloc::{AllocError, Allocator, Global};
@@ -13,6 +13,7 @@ use std::marker::Model;
 #[derive_where(Debug)]
 pub struct SparseSet<A: Allocator = Global> {
     ids: Vec<StateID, A>,
+    bits: Vec<u64, A>,
     capacity: usize,
 }
 
@@ -24,24 +25,30 @@ impl<A: Allocator> Model for SparseSet<A> {
 
     ghost view = { λ s. record { ids = s.ids.items; capacity = s.capacity } };
 
-    ghost invariant = { λ s. IsSparse s.ids.items s.capacity (vec_capacity s.ids) };
+    ghost invariant = { λ s. IsSparse s.ids.items s.bits.items s.capacity (vec_capacity s.ids) };
 }
 
-impl<A: Allocator> SparseSet<A> {
-    ghost use Rattle.determinize_below.specs.Members.{AreMembers};
-
+impl<A: Allocator + Clone> SparseSet<A> {
     /// An empty set for the ids below the capacity, which is at most 2147483647. All memory that
     /// the set will ever want is taken here; an error says that it was refused, and nothing is
     /// kept.
+    #[tactic(auto, using(crate::proofs::Sparse::emptying))]
     pub fn new(alloc: A, capacity: usize) -> Result<SparseSet<A>, AllocError>
         requires { capacity ≤ 2147483647 }
         ensures { IfOk result (λ s. s ≡ record { ids = []; capacity = capacity }) }
     {
+        let ids = Vec::with_capacity(alloc.clone()?, capacity)?;
+        let bits = vec![in alloc; 0u64; capacity.div_ceil(64)]?;
         Ok(SparseSet {
-            ids: Vec::with_capacity(alloc, capacity)?,
+            ids,
+            bits,
             capacity,
         })
     }
+}
+
+impl<A: Allocator> SparseSet<A> {
+    ghost use Rattle.determinize_below.specs.Members.{AreMembers};
 
     /// The number of ids in the set.
     pub fn len(&self) -> usize
@@ -69,27 +76,32 @@ impl<A: Allocator> SparseSet<A> {
         requires { id < self.now.capacity }
         ensures { result ≡ holds self.now.ids id }
     {
-        self.ids.contains(&id)
+        is_bit_set(&self.bits, id)
     }
 
     /// Adds the id, which is below the capacity, behind the others, and answers whether it was
     /// new. A set that has the id already stays as it is. It takes no memory.
+    #[tactic(auto, using(crate::proofs::Sparse::pushing))]
     pub fn insert(&mut self, id: StateID) -> bool
         requires { id < self.old.capacity }
         ensures new { result ≡ not (holds self.old.ids id) }
         ensures after { self.new ≡ record self.old { ids = (if result then self.old.ids ++ id ∷ [] else self.old.ids) } }
+        ensures members { AreMembers self.new }
     {
-        if self.contains(id) {
+        if is_bit_set(&self.bits, id) {
             return false;
         }
-        push_into_room(&mut self.ids, id);
+        set_bit(&mut self.bits, id);
+        self.ids.push_reserved(id);
         true
     }
 
     /// Removes every id. The capacity stays.
+    #[tactic(auto, using(crate::proofs::Sparse::emptying))]
     pub fn clear(&mut self)
         ensures { self.new ≡ record self.old { ids = [] } }
     {
+        clear_bits(&mut self.bits, &self.ids);
         self.ids.clear();
     }
 
@@ -104,13 +116,39 @@ impl<A: Allocator> SparseSet<A> {
     }
 }
 
-/// A push that takes no memory.
-fn push_into_room<A: Allocator>(ids: &mut Vec<StateID, A>, id: StateID)
-    requires { vec_len ids.old < vec_capacity ids.old }
-    ensures items { ids.new.items ≡ ids.old.items ++ id ∷ [] }
-    ensures capacity { vec_capacity ids.old ≤ vec_capacity ids.new }
+/// Whether the bit of the id is set in these words.
+#[tactic(auto, using(crate::proofs::Bits::one_bit))]
+fn is_bit_set(words: &[u64], id: StateID) -> bool
+    requires { id < 64 * length words.now }
+    ensures { result ≡ has_bit words.now id }
 {
-    let Ok(()) = ids.push(id) else { unreachable!() };
+    let index = id.as_usize();
+    (words[index / 64] >> (index % 64)) & 1 == 1
+}
+
+/// Sets the bit of the id.
+#[tactic(auto, using(crate::proofs::Bits::one_bit))]
+fn set_bit(words: &mut [u64], id: StateID)
+    requires { id < 64 * length words.old }
+    ensures { (other : ℕ) → has_bit words.new other ≡ (nat_eq other id || has_bit words.old other) }
+{
+    let index = id.as_usize();
+    words[index / 64] |= 1 << (index % 64);
+}
+
+/// Clears the bits of these ids and sets none. A short list costs its length, a long one the
+/// number of words.
+fn clear_bits(words: &mut [u64], ids: &[StateID])
+    requires { All (λ id. id < 64 * length words.old) ids.now }
+    ensures { IsCleared words.old words.new ids.now }
+{
+    if ids.len() > 16 && ids.len() >= words.len() / 8 {
+        words.fill(0);
+        return;
+    }
+    for id in ids {
+        words[id.as_usize() / 64] = 0;
+    }
 }
 
 /// The ids of a set that are left, in the order of their insertion.

@@ -1,17 +1,14 @@
-//! Why a job has no answer.
+//! Why a job, a line of the input or the input as a whole can't be taken.
 
+use crate::key::Key;
 use determinize_below::BuildError;
 use std::alloc::{AllocError, AllocFailed};
-use std::fmt;
 use std::num::ParseIntError;
+use std::{fmt, io};
 
-/// A part of a job that can't be read, or that no call allows.
+/// A value of a job that can't be read, or that no call allows.
 #[derive(Clone, Copy, Debug, PartialEq, Eq)]
 pub enum Part {
-    /// The verb.
-    Verb,
-    /// A key that the verb needs.
-    Key,
     /// The match kind.
     MatchKind,
     /// The direction.
@@ -34,24 +31,63 @@ pub enum Part {
     Unresolved,
     /// An id of a pattern.
     PatternId,
-    /// A pattern that stands twice in a list.
-    RepeatedPattern,
     /// The name of an assertion.
     Look,
     /// An NFA state.
     State,
     /// A transition.
     Transition,
+    /// A range of bytes whose first is above its last.
+    ByteRange,
     /// A union of two states.
     Union,
 }
 
+impl fmt::Display for Part {
+    fn fmt<W: fmt::Write>(&self, f: &mut fmt::Formatter<W>) -> fmt::Result {
+        f.write_str(match *self {
+            Part::MatchKind => "a match kind",
+            Part::Direction => "a direction",
+            Part::Range => "a range of the haystack",
+            Part::Position => "the number of a state of the walk",
+            Part::StartKind => "a start kind",
+            Part::Number => "a decimal number",
+            Part::Flag => "a flag",
+            Part::Digit => "two hexadecimal digits",
+            Part::StateId => "the id of a state",
+            Part::Unresolved => "the id of a state of the NFA",
+            Part::PatternId => "the id of a pattern",
+            Part::Look => "an assertion",
+            Part::State => "an NFA state",
+            Part::Transition => "a transition",
+            Part::ByteRange => "a range of bytes, the least first",
+            Part::Union => "a union of two states",
+        })
+    }
+}
+
 /// Why a job has no answer.
-#[derive(Clone, Copy, Debug, PartialEq, Eq)]
+#[derive(Debug, Drop)]
 pub enum JobError {
     /// Memory was refused.
     OutOfMemory,
-    /// The job can't be read, or asks for what no call allows.
+    /// There is no verb of this name.
+    UnknownVerb(String),
+    /// This word isn't a key and its value.
+    NoValue(String),
+    /// The verb doesn't take a key of this name.
+    UnknownKey(String),
+    /// The key stands twice.
+    RepeatedKey(Key),
+    /// The key isn't there, and the verb needs it.
+    MissingKey(Key),
+    /// The states of the NFA aren't there.
+    NoStates,
+    /// There are states, and the verb takes none.
+    UnwantedStates,
+    /// A pattern stands twice in a list.
+    RepeatedPattern,
+    /// A value can't be read, or asks for what no call allows.
     Malformed(Part),
     /// The job's states make no NFA.
     Refused(BuildError),
@@ -86,10 +122,104 @@ impl From<ParseIntError> for JobError {
 
 impl fmt::Display for JobError {
     fn fmt<W: fmt::Write>(&self, f: &mut fmt::Formatter<W>) -> fmt::Result {
-        match *self {
+        match self {
             JobError::OutOfMemory => write!(f, "out of memory"),
-            JobError::Malformed(part) => write!(f, "malformed: {part:?}"),
-            JobError::Refused(error) => write!(f, "refused: {error:?}"),
+            JobError::UnknownVerb(name) => write!(f, "unknown verb {name:?}"),
+            JobError::NoValue(word) => write!(f, "no key and value: {word:?}"),
+            JobError::UnknownKey(name) => write!(f, "unknown key {name:?}"),
+            JobError::RepeatedKey(key) => write!(f, "key {key} stands twice"),
+            JobError::MissingKey(key) => write!(f, "key {key} is missing"),
+            JobError::NoStates => write!(f, "the states of the NFA are missing"),
+            JobError::UnwantedStates => write!(f, "the verb takes no states"),
+            JobError::RepeatedPattern => write!(f, "a pattern stands twice"),
+            JobError::Malformed(part) => write!(f, "not {part}"),
+            JobError::Refused(error) => write!(f, "the states make no NFA: {error:?}"),
+        }
+    }
+}
+
+/// Why a line can't be taken.
+#[derive(Debug, Drop)]
+pub enum LineError {
+    /// The line can't be read, or isn't UTF-8.
+    Unreadable,
+    /// The line is neither a job nor a comment, and no job stands before it.
+    NoJob,
+    /// The line is a job that has no answer.
+    Job(JobError),
+}
+
+impl fmt::Display for LineError {
+    fn fmt<W: fmt::Write>(&self, f: &mut fmt::Formatter<W>) -> fmt::Result {
+        match self {
+            LineError::Unreadable => write!(f, "can't be read"),
+            LineError::NoJob => write!(f, "an answer without a job"),
+            LineError::Job(error) => write!(f, "{error}"),
+        }
+    }
+}
+
+/// Why a replay came to no verdict.
+#[derive(Debug, Drop)]
+pub enum ReplayError {
+    /// There are arguments.
+    Arguments,
+    /// The line of this number, from 1 on, can't be taken.
+    Line(u64, LineError),
+    /// No job was replayed.
+    Nothing,
+    /// Memory was refused.
+    OutOfMemory,
+    /// The output can't be written.
+    Output,
+}
+
+impl ReplayError {
+    /// Why the job of this line has no answer.
+    pub fn of_job(number: u64, error: JobError) -> ReplayError {
+        match error {
+            JobError::OutOfMemory => ReplayError::OutOfMemory,
+            error => ReplayError::Line(number, LineError::Job(error)),
+        }
+    }
+
+    /// Why the arguments can't be taken.
+    pub fn of_arguments(error: &io::Error) -> ReplayError {
+        match error.kind() {
+            io::ErrorKind::OutOfMemory => ReplayError::OutOfMemory,
+            _ => ReplayError::Arguments,
+        }
+    }
+
+    /// Why the line of this number can't be read.
+    pub fn of_reading(number: u64, error: &io::Error) -> ReplayError {
+        match error.kind() {
+            io::ErrorKind::OutOfMemory => ReplayError::OutOfMemory,
+            _ => ReplayError::Line(number, LineError::Unreadable),
+        }
+    }
+}
+
+impl From<AllocError> for ReplayError {
+    fn from(_: AllocError) -> ReplayError {
+        ReplayError::OutOfMemory
+    }
+}
+
+impl From<io::Error> for ReplayError {
+    fn from(_: io::Error) -> ReplayError {
+        ReplayError::Output
+    }
+}
+
+impl fmt::Display for ReplayError {
+    fn fmt<W: fmt::Write>(&self, f: &mut fmt::Formatter<W>) -> fmt::Result {
+        match self {
+            ReplayError::Arguments => write!(f, "arguments are not taken"),
+            ReplayError::Line(number, error) => write!(f, "line {number}: {error}"),
+            ReplayError::Nothing => write!(f, "no job was replayed"),
+            ReplayError::OutOfMemory => write!(f, "out of memory"),
+            ReplayError::Output => write!(f, "the output can't be written"),
         }
     }
 }

@@ -1,26 +1,82 @@
-//! A job: a verb, its keys, and the states of an NFA.
+//! A job: a verb, its keys with their values, and the states of an NFA.
 
 use crate::error::{JobError, Part};
+use crate::key::Key;
+use crate::values;
+use crate::verb::Verb;
 use determinize_below::MatchKind;
+use std::alloc::Global;
 
 /// The text of a job, taken apart.
-#[derive(Clone, Copy, Debug)]
+#[derive(Debug, Drop)]
 pub struct Job<'a> {
-    verb: &'a str,
-    keys: &'a str,
+    verb: Verb,
+    values: Vec<(Key, &'a str)>,
     states: &'a str,
 }
 
 impl<'a> Job<'a> {
     /// The job of a line without its mark.
-    pub fn new(line: &'a str) -> Job<'a> {
-        let (words, states) = line.split_once(" | ").unwrap_or((line, ""));
-        let (verb, keys) = words.split_once(' ').unwrap_or((words, ""));
-        Job { verb, keys, states }
+    ///
+    /// Refused are a verb that there isn't, a word that isn't a key and its value, a key that the
+    /// verb doesn't take or that stands twice, the want of a key that the verb needs, an `id` that
+    /// is no number, a `fix` that is no flag, and states where the verb takes none, or none where
+    /// it takes some.
+    pub fn read(alloc: Global, line: &'a str) -> Result<Job<'a>, JobError> {
+        let (words, states) = match line.split_once(" | ") {
+            Some((words, states)) => (words, Some(states)),
+            None => (line, None),
+        };
+        let mut words = words.split(' ');
+        let verb = verb(alloc, words.next().unwrap_or(""))?;
+        let mut job = Job {
+            verb,
+            values: Vec::new(alloc),
+            states: states.unwrap_or(""),
+        };
+        for word in words {
+            job.take_word(alloc, word)?;
+        }
+        for key in verb.needed() {
+            job.needed(*key)?;
+        }
+        job.check_marks()?;
+        match (verb.has_nfa(), states.is_some()) {
+            (true, false) => Err(JobError::NoStates),
+            (false, true) => Err(JobError::UnwantedStates),
+            _ => Ok(job),
+        }
+    }
+
+    /// Takes one more key and its value.
+    fn take_word(&mut self, alloc: Global, word: &'a str) -> Result<(), JobError> {
+        let Some((name, value)) = word.split_once('=') else {
+            return Err(JobError::NoValue(String::from_str(alloc, word)?));
+        };
+        let key = match Key::named(name) {
+            Some(key) if self.verb.takes(key) => key,
+            _ => return Err(JobError::UnknownKey(String::from_str(alloc, name)?)),
+        };
+        if self.value(key).is_some() {
+            return Err(JobError::RepeatedKey(key));
+        }
+        self.values.push((key, value))?;
+        Ok(())
+    }
+
+    /// Judges the values that say where the job comes from. No answer depends on them.
+    fn check_marks(&self) -> Result<(), JobError> {
+        if let Some(text) = self.value(Key::Id) {
+            values::number(text)?;
+        }
+        if let Some(text) = self.value(Key::Fix) {
+            values::flag(text)?;
+        }
+        Ok(())
     }
 
     /// What is asked for.
-    pub fn verb(&self) -> &'a str {
+    pub fn verb(&self) -> Verb {
         self.verb
     }
 
@@ -30,30 +86,28 @@ impl<'a> Job<'a> {
     }
 
     /// The value of a key, or none where the job hasn't the key.
-    pub fn value(&self, key: &str) -> Option<&'a str> {
-        for word in self.keys.split(' ') {
-            if let Some((name, value)) = word.split_once('=') {
-                if name == key {
-                    return Some(value);
-                }
+    pub fn value(&self, key: Key) -> Option<&'a str> {
+        for (found, value) in self.values.iter() {
+            if *found == key {
+                return Some(*value);
             }
         }
         None
     }
 
     /// The value of a key, `-` where the job hasn't the key.
-    pub fn value_or_none(&self, key: &str) -> &'a str {
+    pub fn value_or_none(&self, key: Key) -> &'a str {
         self.value(key).unwrap_or("-")
     }
 
     /// The value of a key that the job must have.
-    pub fn needed(&self, key: &str) -> Result<&'a str, JobError> {
-        self.value(key).ok_or(JobError::Malformed(Part::Key))
+    pub fn needed(&self, key: Key) -> Result<&'a str, JobError> {
+        self.value(key).ok_or(JobError::MissingKey(key))
     }
 
     /// The match kind, `All` where none is said.
     pub fn match_kind(&self) -> Result<MatchKind, JobError> {
-        match self.value("kind") {
+        match self.value(Key::Kind) {
             None => Ok(MatchKind::All),
             Some("all") => Ok(MatchKind::All),
             Some("leftmost-first") => Ok(MatchKind::LeftmostFirst),
@@ -63,11 +117,19 @@ impl<'a> Job<'a> {
 
     /// Whether the direction is reverse, forward where none is said.
     pub fn is_reverse(&self) -> Result<bool, JobError> {
-        match self.value("dir") {
+        match self.value(Key::Direction) {
             None => Ok(false),
             Some("fwd") => Ok(false),
             Some("rev") => Ok(true),
             Some(_) => Err(JobError::Malformed(Part::Direction)),
         }
+    }
+}
+
+/// The verb of this name.
+fn verb(alloc: Global, name: &str) -> Result<Verb, JobError> {
+    match Verb::named(name) {
+        Some(verb) => Ok(verb),
+        None => Err(JobError::UnknownVerb(String::from_str(alloc, name)?)),
     }
 }

@@ -4,32 +4,41 @@
 
 mod error;
 mod job;
+mod key;
 mod nfas;
 mod records;
 mod replay;
+mod run;
 #[cfg(test)]
 mod tests;
 mod values;
+mod verb;
 mod verbs;
 
-use replay::Tally;
-use std::io;
-use std::io::{BufRead, BufReader};
+use error::ReplayError;
+use std::alloc::Global;
 use std::process::ExitCode;
+use std::rt::Env;
+use std::{env, io};
 
-fn main(rt: HostRuntime) -> io::Result<ExitCode> {
+fn main(rt: HostRuntime) -> ExitCode {
     let mut out = io::writer(&rt);
-    let lines = BufReader::new(rt.alloc(), rt.reader())?.lines(rt.alloc());
-    let mut replay = replay::Replay::new(rt.alloc());
-    for line in lines {
-        replay.take_line(line?.as_str(), &mut out)?;
+    let mut err = rt.stderr();
+    let status = match arguments(&rt) {
+        Ok(words) => {
+            let input = rt.reader();
+            run::run(rt.alloc(), words.as_slice(), input, &mut out, &mut err)
+        }
+        Err(error) => run::report(Err(ReplayError::of_arguments(&error)), &mut err),
+    };
+    ExitCode::from(status)
+}
+
+/// The arguments without the program's own name.
+fn arguments(rt: &(impl Env + Alloc<A = Global>)) -> io::Result<Vec<String>> {
+    let mut words = Vec::new(rt.alloc());
+    for word in env::args(rt)?.skip(1) {
+        words.push(word)?;
     }
-    let tally = replay.finish(&mut out)?;
-    let Tally {
-        jobs,
-        differ,
-        skipped,
-    } = tally;
-    println!(rt; "{jobs} jobs, {differ} differ, {skipped} skipped")?;
-    Ok(ExitCode::from(if differ == 0 { 0 } else { 1 }))
+    Ok(words)
 }

@@ -2,6 +2,7 @@
 
 use crate::error::{JobError, Part};
 use crate::job::Job;
+use crate::key::Key;
 use crate::values;
 use determinize_below::nfa::State;
 use determinize_below::{
@@ -12,7 +13,7 @@ use std::alloc::Global;
 /// The matcher with the job's line terminator.
 pub fn matcher(job: &Job<'_>) -> Result<LookMatcher, JobError> {
     let mut matcher = LookMatcher::new();
-    if let Some(text) = job.value("term") {
+    if let Some(text) = job.value(Key::Terminator) {
         matcher.set_line_terminator(values::byte(text)?);
     }
     Ok(matcher)
@@ -93,12 +94,16 @@ fn sparse(alloc: Global, parts: &str) -> Result<State, JobError> {
     Ok(State::Sparse(SparseTransitions { transitions }))
 }
 
-/// A dense state.
+/// A dense state. A range whose first byte is above its last would write nothing, and is refused.
 fn dense(alloc: Global, parts: &str) -> Result<State, JobError> {
     let mut table = [StateID::ZERO; 256];
     if !parts.is_empty() {
         for part in parts.split(',') {
-            write_range(&mut table, transition(part)?);
+            let read = transition(part)?;
+            if read.start > read.end {
+                return Err(JobError::Malformed(Part::ByteRange));
+            }
+            write_range(&mut table, read);
         }
     }
     let transitions = Vec::from_slice(alloc, &table)?;

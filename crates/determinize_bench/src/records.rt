@@ -5,6 +5,7 @@ ghost use Rattle.determinize_core.specs.Value.{dead};
 
 use crate::error::{JobError, Part};
 use crate::job::Job;
+use crate::key::Key;
 use crate::values;
 use determinize_below::{LookSet, PatternID, SparseSet, StateID};
 use determinize_core::state::{State, StateBuilderEmpty, StateBuilderMatches, StateBuilderNFA};
@@ -12,15 +13,15 @@ use std::alloc::{AllocError, Global};
 
 /// The flags, look-have and patterns of the job's record.
 fn matches_builder(alloc: Global, job: &Job<'_>) -> Result<StateBuilderMatches, JobError> {
-    let ids = values::pattern_ids(alloc, job.value_or_none("pids"))?;
+    let ids = values::pattern_ids(alloc, job.value_or_none(Key::Patterns))?;
     let mut builder = with_patterns(alloc, ids.as_slice())?;
-    if values::flag(job.needed("fw")?)? {
+    if values::flag(job.needed(Key::FromWord)?)? {
         builder.set_is_from_word();
     }
-    if values::flag(job.needed("half")?)? {
+    if values::flag(job.needed(Key::HalfCrlf)?)? {
         builder.set_is_half_crlf();
     }
-    let have = values::look_set(job.value_or_none("have"))?;
+    let have = values::look_set(job.value_or_none(Key::LookHave))?;
     builder.set_look_have(|_| have);
     Ok(builder)
 }
@@ -28,9 +29,9 @@ fn matches_builder(alloc: Global, job: &Job<'_>) -> Result<StateBuilderMatches, 
 /// The whole record of the job.
 pub fn builder(alloc: Global, job: &Job<'_>) -> Result<StateBuilderNFA, JobError> {
     let mut builder = matches_builder(alloc, job)?.into_nfa();
-    let need = values::look_set(job.value_or_none("need"))?;
+    let need = values::look_set(job.value_or_none(Key::LookNeed))?;
     builder.set_look_need(|_| need);
-    for id in values::state_ids(alloc, job.value_or_none("ids"))?.iter() {
+    for id in values::state_ids(alloc, job.value_or_none(Key::Ids))?.iter() {
         builder.add_nfa_state_id(*id)?;
     }
     Ok(builder)
@@ -56,7 +57,7 @@ fn add_pattern(
     ensures { OnOk result (builder.new.patterns ≡ seen.new.items) }
 {
     if seen.contains(&id) {
-        return Err(JobError::Malformed(Part::RepeatedPattern));
+        return Err(JobError::RepeatedPattern);
     }
     seen.push(id)?;
     builder.add_match_pattern_id(id)?;

@@ -1,10 +1,13 @@
 //! Replays jobs line by line, and counts what differs.
 
+ghost use Rattle.std.specs.Prelude.{◌≡◌, ◌≤◌, ◌↔◌, IsTrue};
+
+use crate::error::{JobError, LineError, ReplayError};
 use crate::job::Job;
 use crate::verbs;
-use std::alloc::Global;
-use std::io;
+use std::alloc::{AllocError, Global};
 use std::io::Write;
+use std::{fmt, io};
 
 /// What became of the jobs.
 #[derive(Clone, Copy, Debug, PartialEq, Eq)]
@@ -17,11 +20,47 @@ pub struct Tally {
     pub skipped: u64,
 }
 
+impl Tally {
+    /// Whether no job was replayed: there was none, or each was skipped.
+    pub fn is_empty(self) -> bool
+        ensures { IsTrue result ↔ (self.jobs ≡ self.skipped) }
+    {
+        self.jobs == self.skipped
+    }
+
+    /// The status that tells of the jobs: 0 where no answer differs, else 1.
+    pub fn status(self) -> u8
+        ensures agree { (result ≡ 0) ↔ (self.differ ≡ 0) }
+        ensures most { result ≤ 1 }
+    {
+        if self.differ == 0 { 0 } else { 1 }
+    }
+}
+
+impl fmt::Display for Tally {
+    fn fmt<W: fmt::Write>(&self, f: &mut fmt::Formatter<W>) -> fmt::Result {
+        let Tally {
+            jobs,
+            differ,
+            skipped,
+        } = *self;
+        write!(f, "{jobs} jobs, {differ} differ, {skipped} skipped")
+    }
+}
+
+/// A job that waits for the end of its answer.
+#[derive(Drop)]
+struct Pending {
+    line: u64,
+    text: String,
+}
+
 /// A replay in its course: the job at hand and the lines of its answer so far.
 #[derive(Drop)]
 pub struct Replay {
     alloc: Global,
-    job: Option<String>,
+    line: u64,
+    job: Option<Pending>,
     wanted: String,
     tally: Tally,
 }
@@ -31,6 +70,7 @@ impl Replay {
     pub fn new(alloc: Global) -> Replay {
         Replay {
             alloc,
+            line: 1,
             job: None,
             wanted: String::new(alloc),
             tally: Tally {
@@ -41,55 +81,73 @@ impl Replay {
         }
     }
 
+    /// The number of the line that comes next, from 1 on.
+    pub fn line(&self) -> u64 {
+        self.line
+    }
+
     /// Takes one more line: a job, a line of its answer, or a comment.
-    pub fn take_line<W: Write>(&mut self, line: &str, out: &mut W) -> io::Result<()> {
-        if line.starts_with('#') {
+    ///
+    /// A job ends the answer of the job before it, which is judged then: where the answer differs,
+    /// the job and both answers are written to `out`. Refused are a line of an answer before the
+    /// first job, and a job before this line that has no answer. After an error nothing is
+    /// promised of further lines.
+    pub fn take_line<W: Write>(&mut self, text: &str, out: &mut W) -> Result<(), ReplayError> {
+        let line = self.line;
+        self.line = line.saturating_add(1);
+        if text.starts_with('#') {
             return Ok(());
         }
-        match line.strip_prefix("> ") {
-            Some(job) => {
-                self.judge(out)?;
-                self.job = Some(String::from_str(self.alloc, job)?);
-            }
-            None => {
-                self.wanted.push_str(line)?;
-                self.wanted.push('\n')?;
-            }
+        if let Some(job) = text.strip_prefix("> ") {
+            self.judge(out)?;
+            let text = String::from_str(self.alloc, job)?;
+            self.job = Some(Pending { line, text });
+            return Ok(());
         }
+        if self.job.is_none() {
+            return Err(ReplayError::Line(line, LineError::NoJob));
+        }
+        self.take_answer(text)?;
         Ok(())
     }
 
+    /// Takes one more line of the answer of the job at hand.
+    fn take_answer(&mut self, text: &str) -> Result<(), AllocError> {
+        self.wanted.push_str(text)?;
+        self.wanted.push('\n')
+    }
+
     /// Judges the last job, and tells the counts.
-    pub fn finish<W: Write>(mut self, out: &mut W) -> io::Result<Tally> {
+    pub fn finish<W: Write>(mut self, out: &mut W) -> Result<Tally, ReplayError> {
         self.judge(out)?;
         Ok(self.tally)
     }
 
     /// Judges the job at hand, if there is one, and forgets it.
-    fn judge<W: Write>(&mut self, out: &mut W) -> io::Result<()> {
+    fn judge<W: Write>(&mut self, out: &mut W) -> Result<(), ReplayError> {
         if let Some(job) = self.job.take() {
             self.tally.jobs = self.tally.jobs.saturating_add(1);
-            self.judge_job(job.as_str(), out)?;
+            self.judge_job(&job, out)?;
         }
         self.wanted.clear();
         Ok(())
     }
 
     /// Compares the answer of a job with the one that is wanted.
-    fn judge_job<W: Write>(&mut self, job: &str, out: &mut W) -> io::Result<()> {
-        match verbs::answer(self.alloc, &Job::new(job)) {
+    fn judge_job<W: Write>(&mut self, job: &Pending, out: &mut W) -> Result<(), ReplayError> {
+        match answer(self.alloc, job.text.as_str()) {
             Ok(Some(answer)) => {
                 if answer.as_str() != self.wanted.as_str() {
-                    self.tell(job, answer.as_str(), out)?;
+                    self.tell(job.text.as_str(), answer.as_str(), out)?;
                 }
+                Ok(())
             }
-            Ok(None) => self.tally.skipped = self.tally.skipped.saturating_add(1),
-            Err(error) => {
-                let text = format!(in self.alloc; "{error}\n")?;
-                self.tell(job, text.as_str(), out)?;
+            Ok(None) => {
+                self.tally.skipped = self.tally.skipped.saturating_add(1);
+                Ok(())
             }
+            Err(error) => Err(ReplayError::of_job(job.line, error)),
         }
-        Ok(())
     }
 
     /// Counts and prints a job that differs.
@@ -98,4 +156,9 @@ impl Replay {
         let wanted = self.wanted.as_str();
         write!(out, "> {job}\nexpected:\n{wanted}got:\n{answer}")
     }
+}
+
+/// The answer of the job of this text, or none where the library can't do it.
+fn answer(alloc: Global, text: &str) -> Result<Option<String>, JobError> {
+    verbs::answer(alloc, &Job::read(alloc, text)?)
 }

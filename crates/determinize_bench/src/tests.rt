@@ -1,11 +1,21 @@
-//! Tests through public calls alone: worked answers, and each public call once.
+//! Tests through public calls alone: worked answers, each public call once, and the program's own
+//! work.
 
 mod automata;
 mod below;
+mod clones;
+mod dfa;
+mod laws;
 mod map_text;
 mod parts;
+mod readme;
+mod refusals;
+mod replays;
+mod runs;
+mod sparse;
 mod starts;
 mod states;
+mod texts;
 mod worked;
 
 use crate::job::Job;
@@ -16,7 +26,7 @@ use std::test::Fail;
 /// Replays jobs, and compares each answer.
 fn replay<R: Abort + AllocGlobal>(rt: &R, jobs: &[(&str, &str)]) -> Result<(), Fail> {
     for (line, wanted) in jobs {
-        let Some(answer) = verbs::answer(rt.alloc(), &Job::new(line))? else {
+        let Some(answer) = verbs::answer(rt.alloc(), &Job::read(rt.alloc(), line)?)? else {
             panic!(rt; "skipped: {line}");
         };
         assert_eq!(rt; answer.as_str(), *wanted, "{line}");

@@ -82,8 +82,11 @@ pub fn bytes(alloc: Global, text: &str) -> Result<Vec<u8>, JobError> {
     Ok(found)
 }
 
-/// A decimal number.
+/// A decimal number. It is made of digits alone.
 pub fn number(text: &str) -> Result<usize, JobError> {
+    if text.starts_with('+') {
+        return Err(JobError::Malformed(Part::Number));
+    }
     Ok(text.parse::<usize>()?)
 }
 

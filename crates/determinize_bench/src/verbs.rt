@@ -3,37 +3,39 @@
 mod automata;
 mod small;
 
-use crate::error::{JobError, Part};
+use crate::error::JobError;
 use crate::job::Job;
+use crate::key::Key;
+use crate::values;
+use crate::verb::Verb;
 use std::alloc::Global;
 
-/// The lines of the answer of a job, or none where the library can't do the job yet.
+/// The lines of the answer of a job, or none where no call of the library does it: a walk with a
+/// byte after its end. Of such a job the other values and the states aren't read.
 pub fn answer(alloc: Global, job: &Job<'_>) -> Result<Option<String>, JobError> {
+    let after = values::optional_byte(job.value_or_none(Key::After))?;
+    if after.is_some() {
+        return Ok(None);
+    }
     let mut text = String::new(alloc);
-    let is_done = match job.verb() {
-        "walk" => automata::walk(alloc, job, &mut text)?,
-        "readers" => automata::readers(alloc, job, &mut text)?,
-        _ => {
-            answer_one(alloc, job, &mut text)?;
-            true
-        }
-    };
-    Ok(if is_done { Some(text) } else { None })
+    write_answer(alloc, job, &mut text)?;
+    Ok(Some(text))
 }
 
-/// The answer of a job that is a single call.
-fn answer_one(alloc: Global, job: &Job<'_>, text: &mut String) -> Result<(), JobError> {
+/// Writes the lines of the answer of a job.
+fn write_answer(alloc: Global, job: &Job<'_>, text: &mut String) -> Result<(), JobError> {
     match job.verb() {
-        "closure" => automata::closure(alloc, job, text),
-        "lookbehind" => automata::lookbehind(alloc, job, text),
-        "next" => automata::next_state(alloc, job, text),
-        "addstates" => automata::addstates(alloc, job, text),
-        "start" => small::start(alloc, job, text),
-        "bytemap" => small::bytemap(job, text),
-        "fromusize" => small::fromusize(job, text),
-        "dead" => small::dead(alloc, text),
-        "build" => small::build(alloc, job, text),
-        "size" => small::size(alloc, job, text),
-        _ => Err(JobError::Malformed(Part::Verb)),
+        Verb::Walk => automata::walk(alloc, job, text),
+        Verb::Readers => automata::readers(alloc, job, text),
+        Verb::Closure => automata::closure(alloc, job, text),
+        Verb::LookBehind => automata::lookbehind(alloc, job, text),
+        Verb::Next => automata::next_state(alloc, job, text),
+        Verb::AddStates => automata::addstates(alloc, job, text),
+        Verb::Start => small::start(alloc, job, text),
+        Verb::ByteMap => small::bytemap(job, text),
+        Verb::FromUsize => small::fromusize(job, text),
+        Verb::Dead => small::dead(alloc, text),
+        Verb::Build => small::build(alloc, job, text),
+        Verb::Size => small::size(alloc, job, text),
     }
 }

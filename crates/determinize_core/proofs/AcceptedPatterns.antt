@@ -2,13 +2,14 @@
 use Rattle.std.proofs.Common.{◌≡◌, ℕ, zero, suc, ◌<◌, true, false, List, [], ◌∷◌, sym, ap, ◌∙◌, arith, Option, Some, None, subst}
 use Rattle.std.specs.Prelude.{slice_get}
 use Rattle.std.proofs.lemmas.Bool.{cases_order}
-use Rattle.determinize_below.specs.Edges.{is_capture, is_match, pattern_of, patterns_of, listed, holds_some, IsSound}
+use Rattle.determinize_below.specs.Edges.{is_capture, is_match, pattern_of, patterns_of, listed, holds_some}
 use Rattle.determinize_below.specs.Nfa.{Nfa}
 use Rattle.determinize_below.specs.Positions.{choices, IsRun, IsReached, IsBestRun}
 use Rattle.determinize_below.specs.Runs.{IsLeastRun}
 use Rattle.determinize_below.proofs.EdgeLemmas.{match-capture}
 use Rattle.determinize_below.proofs.Elements.{Contains_In, Earlier, Earlier_head, Earlier_tail, In, In_Contains, In_append_right, In_cases, In_head, In_tail}
 use Rattle.determinize_below.proofs.Nodes.{same_decides}
+use Rattle.determinize_below.proofs.SoundNfa.{IsSound}
 use Rattle.determinize_below.proofs.Tests.{by_cases, by_option}
 use Rattle.determinize_core.specs.Walk.{ListsAccepted}
 

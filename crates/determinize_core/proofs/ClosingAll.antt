@@ -1,9 +1,9 @@
 -- The closure of one root after another, into one set.
 use Rattle.std.proofs.Common.{◌≡◌, ℕ, ◌+◌, ◌≤◌, Bool, List, [], ◌++◌, refl, sym, ap, ◌∙◌, arith, append_assoc}
 use Rattle.determinize_below.specs.declared.look.Look.{Look as Assertion}
-use Rattle.determinize_below.specs.Edges.{reach, reach_past, IsSound}
+use Rattle.determinize_below.specs.Edges.{reach, reach_past}
 use Rattle.determinize_below.specs.Nfa.{Nfa}
-use Rattle.determinize_below.proofs.SoundNfa.{reach-append}
+use Rattle.determinize_below.proofs.SoundNfa.{reach-append, IsSound}
 use Rattle.determinize_core.specs.Closure.{tries_left}
 use Rattle.determinize_core.specs.Tries.{tries_of}
 use Rattle.determinize_core.proofs.TriesSums.{tries_of-append, tries_of-some}

@@ -4,7 +4,7 @@ use Rattle.std.proofs.lemmas.List.{append-nil, append_cancel_left}
 use Rattle.std.proofs.lemmas.List.Elements.{All-tail, All-append, All-cons, All-nil}
 use Rattle.std.proofs.lemmas.Bool.Decides.{nat_tests}
 use Rattle.determinize_below.specs.declared.look.Look.{Look as Assertion}
-use Rattle.determinize_below.specs.Edges.{edges, edges_of, state_at, reach_past, IsSound}
+use Rattle.determinize_below.specs.Edges.{edges, edges_of, state_at, reach_past}
 use Rattle.determinize_below.specs.Members.{Members, holds}
 use Rattle.determinize_below.specs.Nfa.{Nfa}
 use Rattle.determinize_below.specs.Node.{Node, ByteRange, Sparse, Dense, Look, Union, BinaryUnion, Capture, Fail, Match, is_epsilon}
@@ -15,7 +15,7 @@ use Rattle.determinize_below.specs.Runs.{IsBeginning}
 use Rattle.determinize_below.proofs.Elements.{All-from_member}
 use Rattle.determinize_below.proofs.Nodes.{same_decides}
 use Rattle.determinize_below.proofs.SearchSteps.{closure-held, closure-new, closure-done, tries-held, tries-new}
-use Rattle.determinize_below.proofs.SoundNfa.{edges_enough}
+use Rattle.determinize_below.proofs.SoundNfa.{edges_enough, IsSound}
 use Rattle.determinize_core.specs.Closure.{search_end, tries_left, IsTurn}
 
 -- the two tests for being in a list

@@ -4,7 +4,9 @@ pub mod BuildingLaws
 pub mod ClosingAll
 pub mod ClosureSteps
 pub mod Collecting
+pub mod FirstReading
 pub mod FlagLaws
+pub mod LastMatches
 pub mod LengthLaws
 pub mod Loops
 pub mod MarkLaws
@@ -13,7 +15,7 @@ pub mod OneAnswer
 pub mod OpenLaws
 pub mod OpenedSet
 pub mod ReadingLaws
-pub mod ReadingSteps
+pub mod Targets
 pub mod RecordingSteps
 pub mod Redo
 pub mod Reopening

@@ -4,11 +4,12 @@ use Rattle.std.specs.List.{flat_map, list_any}
 use Rattle.std.proofs.lemmas.Bool.{eq-eqb, eqb-true, true≢false}
 use Rattle.std.proofs.lemmas.List.{append-nil}
 use Rattle.std.proofs.lemmas.List.Concat.{flat_map-append}
-use Rattle.determinize_below.specs.Edges.{is_match, pattern_of, patterns_of, listed, target, IsSound}
+use Rattle.determinize_below.specs.Edges.{is_match, pattern_of, patterns_of, listed, target}
 use Rattle.determinize_below.specs.Nfa.{Nfa}
 use Rattle.determinize_below.specs.Runs.{before}
 use Rattle.determinize_below.specs.declared.search.MatchKind.{MatchKind}
 use Rattle.determinize_below.specs.declared.search.MatchKind.TheVariants.{LeftmostFirst}
+use Rattle.determinize_below.proofs.SoundNfa.{IsSound}
 use Rattle.determinize_below.proofs.Tests.{by_option, by_test, or_false_left, or_false_right}
 use Rattle.determinize_core.specs.Chain.{future, value_after}
 use Rattle.determinize_core.specs.Step.{step, part_read, patterns_read}

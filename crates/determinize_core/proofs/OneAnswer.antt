@@ -1,9 +1,10 @@
 -- The answers that the walk gives are determined.
-use Rattle.std.proofs.Common.{◌≡◌, ℕ, List, [], sym, ap, ◌∙◌, Option, subst}
-use Rattle.determinize_below.specs.Edges.{pattern_of}
+use Rattle.std.proofs.Common.{◌≡◌, ℕ, Bool, List, [], sym, ap, ◌∙◌, Option, subst}
+use Rattle.determinize_below.specs.Edges.{is_capture, pattern_of}
 use Rattle.determinize_below.specs.Nfa.{Nfa}
 use Rattle.determinize_below.specs.Paths.{Before, IsPath}
-use Rattle.determinize_below.specs.Positions.{choices, IsBestRun, IsPreferredRun}
+use Rattle.determinize_below.specs.Positions.{choices, known_choices, IsBestRun, IsPreferredRun}
+use Rattle.determinize_below.specs.Runs.{IsLeastRun, ListsReached}
 use Rattle.determinize_below.proofs.Elements.{Contains_In, In_Contains, same_by_order}
 use Rattle.determinize_below.proofs.Nodes.{same_decides}
 use Rattle.determinize_below.proofs.Tests.{some_injective}
@@ -36,5 +37,27 @@ module _ (nfa : Nfa) (p : Option ℕ) (text : List ℕ) (start : ℕ) where
       (subst (λ z. IsPath (choices nfa p text) [] (0, start) z (i, a.accepts.0)) e a.accepts.1) b.accepts.1 in
       (ap (λ w. w.0) q, some_injective x y (sym a.accepts.2 ∙ ap (λ w. pattern_of nfa w.1) q ∙ b.accepts.2))
 
+-- a list in the order of the least runs is one
+one_reached : (edges : ℕ × ℕ → List (ℕ × ℕ)) (cap : ℕ → Bool) (start i : ℕ) (xs ys : List ℕ) → ListsReached edges cap start i xs → ListsReached edges cap start i ys → xs ≡ ys
+one_reached edges cap start i xs ys a b = same_by_order IsLess asym xs ys
+    (λ s h. Contains_In same_decides ys s ((b.reached s).1 ((a.reached s).0 (In_Contains same_decides xs s h))))
+    (λ s h. Contains_In same_decides xs s ((a.reached s).1 ((b.reached s).0 (In_Contains same_decides ys s h))))
+    (λ j k s t l u v. a.by_least j k s t l u v)
+    (λ j k s t l u v. b.by_least j k s t l u v)
+  where
+    IsLess : ℕ → ℕ → Type 0
+    IsLess s t = (cs : List ℕ) × (ds : List ℕ) × IsLeastRun edges (0, start) cs (i, s) × IsLeastRun edges (0, start) ds (i, t) × Before cs ds
+
+    asym : (s t : ℕ) → IsLess s t → IsLess t s → ⊥
+    asym s t p q =
+        let e : p.0 ≡ q.1 = same_least p.0 q.1 (p.2.least q.1 q.3.run) (q.3.least p.0 p.2.run) in
+        let f : p.1 ≡ q.0 = same_least p.1 q.0 (p.3.least q.0 q.2.run) (q.2.least p.1 p.3.run) in
+        Before-asym p.0 p.1 p.4 (subst (λ z. Before p.1 z) (sym e) (subst (λ z. Before z q.1) (sym f) q.4))
+
 pub each_answer_is_one : EachAnswerIsOne
-each_answer_is_one nfa p text start = (one_listing nfa p text start, one_preferred nfa p text start)
+each_answer_is_one nfa p text start = (
+  one_listing nfa p text start,
+  one_preferred nfa p text start,
+  λ i. one_reached (known_choices nfa p text i) (is_capture nfa) start i,
+  λ i. one_reached (choices nfa p text) (is_capture nfa) start i,
+)

@@ -9,7 +9,7 @@ use Rattle.determinize_core.specs.Value.{Value, IsValue, is_match, dead, with_pa
 use Rattle.determinize_core.specs.Varint.{deltas}
 use Rattle.determinize_core.specs.Spelling.{is_explicit, words, word, spell, with_word, has_bit, value_of, number_at, numbers_in, flags, pattern_bytes}
 use Rattle.determinize_core.specs.Building.{spell_open, closed, with_bit, with_pattern_bytes, value_of_open, IsOpen}
-use Rattle.determinize_core.proofs.FlagLaws.{has_2, has_1, or_1, or_2, or_3, or_4, or_8}
+use Rattle.determinize_core.proofs.FlagLaws.{has_1, has_2, has_4, has_8, or_1, or_2, or_3, or_4, or_8}
 use Rattle.determinize_core.proofs.SpellingLaws.{dead_valid, value_of-spell, length-words, few, word_back, numbers_in-words}
 use Rattle.determinize_core.proofs.ValueLaws.{with_have, with_have_valid}
 
@@ -20,6 +20,24 @@ open_explicit v = has_2 (is_match v.patterns) (is_explicit v.patterns) v.from_wo
 open_match : (v : Value) → has_bit (spell_open v) 1 ≡ is_match v.patterns
 unfolding spell_open
 open_match v = has_1 (is_match v.patterns) (is_explicit v.patterns) v.from_word v.half_crlf
+
+open_from_word_bit : (v : Value) → has_bit (spell_open v) 4 ≡ v.from_word
+unfolding spell_open
+open_from_word_bit v = has_4 (is_match v.patterns) (is_explicit v.patterns) v.from_word v.half_crlf
+
+open_half_crlf_bit : (v : Value) → has_bit (spell_open v) 8 ≡ v.half_crlf
+unfolding spell_open
+open_half_crlf_bit v = has_8 (is_match v.patterns) (is_explicit v.patterns) v.from_word v.half_crlf
+
+-- the flags of the bytes are those of the value
+pub open_match_of : (bytes : List ℕ) → IsOpen bytes → has_bit bytes 1 ≡ is_match (value_of_open bytes).patterns
+open_match_of bytes h = ap (λ (b : List ℕ). has_bit b 1) (sym h.spelled) ∙ open_match (value_of_open bytes)
+
+pub open_from_word_of : (bytes : List ℕ) → IsOpen bytes → has_bit bytes 4 ≡ (value_of_open bytes).from_word
+open_from_word_of bytes h = ap (λ (b : List ℕ). has_bit b 4) (sym h.spelled) ∙ open_from_word_bit (value_of_open bytes)
+
+pub open_half_crlf_of : (bytes : List ℕ) → IsOpen bytes → has_bit bytes 8 ≡ (value_of_open bytes).half_crlf
+open_half_crlf_of bytes h = ap (λ (b : List ℕ). has_bit b 8) (sym h.spelled) ∙ open_half_crlf_bit (value_of_open bytes)
 
 counted : (v : Value) → is_explicit v.patterns ≡ true → (length (spell_open v) - 13) / 4 ≡ length v.patterns
 unfolding spell_open
@@ -100,7 +118,7 @@ holds_patterns bytes h e =
 pub open_first : (bytes : List ℕ) → IsOpen bytes → (value_of_open bytes).patterns ≡ [] → (has_bit bytes 1 ≡ false) × (has_bit bytes 2 ≡ false)
 open_first bytes h none =
     let v : Value = value_of_open bytes in (
-      ap (λ (b : List ℕ). has_bit b 1) (sym h.spelled) ∙ open_match v ∙ ap is_match none,
+      open_match_of bytes h ∙ ap is_match none,
       ap (λ (b : List ℕ). has_bit b 2) (sym h.spelled) ∙ open_explicit v ∙ ap is_explicit none,
     )
 

@@ -36,3 +36,19 @@ module _ (nfa : Nfa) where
 
       kept : is_capture nfa s ≡ false → without (is_capture nfa) (s ∷ []) ≡ s ∷ []
       kept e = rw e refl
+
+  -- no more state
+  pub added-none : (v : Value) → v ≡ added nfa v []
+  unfolding added_by
+  added-none v = ap (λ l. added_by v v.look_need l) (sym (append-nil v.states))
+
+  -- one more state, unless it is a capture
+  pub added_one-alone : (v : Value) (s : ℕ) → added_one nfa v s ≡ added nfa v (without (is_capture nfa) (s ∷ []))
+  added_one-alone v s = by_test (is_capture nfa s)
+      (λ e. rw e (added-none v))
+      (λ e. rw e refl)
+
+  -- more states behind those of a list
+  pub added-behind : (v : Value) (xs ys : List ℕ) → added nfa (added nfa v (without (is_capture nfa) xs)) (without (is_capture nfa) ys) ≡ added nfa v (without (is_capture nfa) (xs ++ ys))
+  added-behind v xs ys =
+      added-append v (without (is_capture nfa) xs) (without (is_capture nfa) ys) ∙ ap (λ l. added nfa v l) (sym (filter-append (λ x. not (is_capture nfa x)) xs ys))

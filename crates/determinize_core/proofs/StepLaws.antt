@@ -4,7 +4,7 @@ use Rattle.std.specs.Prelude.{◌==◌, cond, slice_get}
 use Rattle.std.specs.List.{flat_map}
 use Rattle.std.proofs.lemmas.Bool.{false≢true, or_left, eqb-true, eq-eqb}
 use Rattle.determinize_below.specs.Captures.{HasNoCaptureCycle, capture_next, followed}
-use Rattle.determinize_below.specs.Edges.{edges, target, is_capture, is_match, state_at, patterns_of, reach, IsSound}
+use Rattle.determinize_below.specs.Edges.{edges, target, is_capture, is_match, state_at, patterns_of, reach}
 use Rattle.determinize_below.specs.Look.{has, each_look}
 use Rattle.determinize_below.specs.Nfa.{Nfa}
 use Rattle.determinize_below.specs.Reach.{ends, fresh, member, none_held, with_node}
@@ -19,7 +19,7 @@ use Rattle.determinize_below.proofs.LookLaws.{has-empty}
 use Rattle.determinize_below.proofs.Nodes.{same_decides}
 use Rattle.determinize_below.proofs.NotNeeded.{roots_closed}
 use Rattle.determinize_below.proofs.Sets.{member-fresh}
-use Rattle.determinize_below.proofs.SoundNfa.{edges_enough, reach-append}
+use Rattle.determinize_below.proofs.SoundNfa.{accepted_sound, edges_enough, reach-append, IsSound}
 use Rattle.determinize_below.proofs.Tests.{by_test, some_injective}
 use Rattle.determinize_core.specs.Chain.{future, units, chain}
 use Rattle.determinize_core.specs.Laws.{EachFutureFollows, EachReachGoesOn, EachStateHasOneKind, DeadStays, LeftmostGivesOne, NoNeedNoHave}
@@ -28,7 +28,7 @@ use Rattle.determinize_core.specs.Tables.{seen}
 use Rattle.determinize_core.specs.Value.{Value, dead}
 
 pub each_reach_goes_on : EachReachGoesOn
-each_reach_goes_on nfa sound holds roots root = reach-append nfa sound holds roots (root ∷ [])
+each_reach_goes_on nfa accepted holds roots root = reach-append nfa (accepted_sound nfa accepted) holds roots (root ∷ [])
 
 pub each_state_has_one_kind : EachStateHasOneKind
 each_state_has_one_kind nfa holds u s = (length-target nfa u s, edges-or-target nfa holds u s)
@@ -133,9 +133,9 @@ pub dead_stays : DeadStays
 unfolding step reach
 dead_stays nfa kind u = (
   step_dead nfa kind u,
-  (λ v sound none ps ss.
+  (λ v accepted none ps ss.
       let roots : List ℕ = flat_map (target nfa u) (part_read kind (is_match nfa) (working_list nfa v u)) in
-      let e : reach nfa (has (seen nfa u)) roots ≡ [] = only_captures nfa sound none (has (seen nfa u)) roots ss in
+      let e : reach nfa (has (seen nfa u)) roots ≡ [] = only_captures nfa (accepted_sound nfa accepted) none (has (seen nfa u)) roots ss in
       ap (λ l. left_by nfa u (patterns_read kind (patterns_of nfa (working_list nfa v u))) l) e
       ∙ ap (λ l. left_by nfa u l []) ps),
 )

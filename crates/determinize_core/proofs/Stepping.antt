@@ -1,23 +1,25 @@
 -- The parts of a step make the step.
-use Rattle.std.proofs.Common.{◌≡◌, ℕ, ◌+◌, ◌*◌, ◌<◌, ◌≤◌, Bool, true, false, ◌&&◌, List, [], ◌∷◌, All as Each, Option, Result, Ok, Err, length, nat_eq, refl, sym, ap, ◌∙◌, arith, subst}
+use Rattle.std.proofs.Common.{◌≡◌, ℕ, suc, ◌+◌, ◌*◌, ◌<◌, ◌≤◌, Bool, true, false, ◌&&◌, List, [], ◌∷◌, All as Each, Option, Result, Ok, Err, length, nat_eq, refl, sym, ap, ◌∙◌, arith, subst}
 use Rattle.std.specs.List.{flat_map}
 use Rattle.std.specs.Result.{OnOk}
 use Rattle.std.proofs.lemmas.Bool.{eqb-true}
 use Rattle.std.proofs.lemmas.List.Elements.{All-head, All-tail}
-use Rattle.determinize_below.specs.Edges.{is_match, patterns_of, reach, target}
+use Rattle.determinize_below.specs.Edges.{edges, is_capture, is_match, patterns_of, reach, target}
 use Rattle.determinize_below.specs.Look.{has}
 use Rattle.determinize_below.specs.Nfa.{Nfa, IsAccepted}
-use Rattle.determinize_below.specs.Reach.{joined, member}
+use Rattle.determinize_below.specs.Runs.{without}
+use Rattle.determinize_below.specs.declared.look.Look.{Look as Assertion}
+use Rattle.determinize_below.specs.Reach.{joined, member, none_held, ordered}
 use Rattle.determinize_below.specs.declared.search.MatchKind.{MatchKind}
 use Rattle.determinize_below.proofs.Elements.{All-from_member}
 use Rattle.determinize_below.proofs.Nodes.{fresh_below, same_decides}
 use Rattle.determinize_below.proofs.SoundNfa.{accepted_sound, reach_within}
 use Rattle.determinize_below.proofs.Tests.{by_test}
-use Rattle.determinize_core.specs.Recording.{with_flags, with_patterns}
+use Rattle.determinize_core.specs.Recording.{added, with_flags, with_patterns}
 use Rattle.determinize_core.specs.Step.{distinct_states, is_nonempty, is_reopened, opened_by, part_read, patterns_read, recorded, step, targets, working_list}
 use Rattle.determinize_core.specs.Tables.{from_word_after, half_crlf_after, seen}
 use Rattle.determinize_core.specs.Tries.{edges_in_all, tries, tries_again, tries_of}
-use Rattle.determinize_core.specs.Value.{Value, dead}
+use Rattle.determinize_core.specs.Value.{Value, dead, settled}
 use Rattle.determinize_core.proofs.Resolving.{targets_resolve}
 use Rattle.determinize_core.proofs.TryBounds.{tries_are_few}
 
@@ -27,6 +29,14 @@ member-below bound [] all s m = absurd (let k : false ≡ true = m in cc)
 member-below bound (x ∷ xs) all s m = by_test (nat_eq x s)
     (λ e. subst (λ t. t < bound) (eqb-true x s e) (All-head (λ id. id < bound) x xs all))
     (λ e. member-below bound xs (All-tail (λ id. id < bound) x xs all) s (rw e at m))
+
+-- a search leads somewhere exactly where it has a root
+is_nonempty-reach : (nfa : Nfa) (holds : Assertion → Bool) (roots : List ℕ) → is_nonempty (reach nfa holds roots) ≡ is_nonempty roots
+unfolding reach
+is_nonempty-reach nfa holds [] = refl
+is_nonempty-reach nfa holds (r ∷ roots) =
+    let more : length nfa.states + 1 ≡ suc (length nfa.states) = omega arith in
+    ap (λ n. is_nonempty (ordered nat_eq (edges nfa holds) n none_held (r ∷ roots))) more
 
 -- a fact beside a value
 pub on_ok : {T E : Type 0} (r : Result T E) (P : Type 0) → P → OnOk r P
@@ -55,40 +65,52 @@ module _ (nfa : Nfa) (accepted : IsAccepted nfa) (kind : MatchKind) (v : Value) 
   unfolding tries
   first_tries before now h = omega (arith, step_tries)
 
-  -- the working list read by a builder that has been told of the unit
-  module _ (working : List ℕ) (begun : Value) (same : working ≡ working_list nfa v u) (told : begun ≡ record dead { look_have = seen nfa u }) where
-    tries_are : tries_of nfa (has begun.look_have) (flat_map (target nfa u) (part_read kind (is_match nfa) working)) ≡ tries_of nfa (has (seen nfa u)) (targets nfa kind v u)
-    tries_are = ap (λ (b : Value). tries_of nfa (has b.look_have) (flat_map (target nfa u) (part_read kind (is_match nfa) working))) told
-        ∙ ap (λ l. tries_of nfa (has (seen nfa u)) (flat_map (target nfa u) (part_read kind (is_match nfa) l))) same
+  -- a builder that was told of the unit and has read the working list, and the states that it kept
+  pub record IsRead (have : ℕ) (from_word half_crlf some : Bool) (told read flagged : Value) (kept : List ℕ) : Type 0 where
+    pub have_is : have ≡ seen nfa u
+    pub word_is : from_word ≡ from_word_after nfa u
+    pub half_is : half_crlf ≡ half_crlf_after nfa u
+    pub told_is : told ≡ record dead { look_have = have }
+    pub read_is : read ≡ with_patterns told (patterns_read kind (patterns_of nfa (working_list nfa v u)))
+    pub some_is : some ≡ is_nonempty (targets nfa kind v u)
+    pub flagged_is : flagged ≡ with_flags read (some && from_word) (some && half_crlf)
+    pub roots_are : flat_map (target nfa u) kept ≡ targets nfa kind v u
+
+  module _ (have : ℕ) (from_word half_crlf some : Bool) (told read flagged : Value) (kept : List ℕ) (is : IsRead have from_word half_crlf some told read flagged kept) where
+    entered : List ℕ
+    entered = reach nfa (has (seen nfa u)) (targets nfa kind v u)
+
+    shape : Bool → Bool → Bool → Value
+    shape b w h = with_flags (with_patterns (record dead { look_have = seen nfa u }) (patterns_read kind (patterns_of nfa (working_list nfa v u)))) (b && w) (b && h)
+
+    shape_is : flagged ≡ shape (is_nonempty entered) (from_word_after nfa u) (half_crlf_after nfa u)
+    unfolding entered shape
+    shape_is =
+        is.flagged_is
+        ∙ ap (λ r. with_flags r (some && from_word) (some && half_crlf)) (is.read_is ∙ ap (λ t. with_patterns t (patterns_read kind (patterns_of nfa (working_list nfa v u)))) (is.told_is ∙ ap (λ n. record dead { look_have = n }) is.have_is))
+        ∙ ap (λ b. shape b from_word half_crlf) (is.some_is ∙ sym (is_nonempty-reach nfa (has (seen nfa u)) (targets nfa kind v u)))
+        ∙ ap (λ w. shape (is_nonempty entered) w half_crlf) is.word_is
+        ∙ ap (λ h. shape (is_nonempty entered) (from_word_after nfa u) h) is.half_is
+
+    -- what is recorded is the next value
+    pub stepped : settled (added nfa flagged (without (is_capture nfa) (reach nfa (has flagged.look_have) (flat_map (target nfa u) kept)))) ≡ step nfa kind v u
+    unfolding entered shape step
+    stepped =
+        ap (λ l. settled (added nfa flagged (without (is_capture nfa) (reach nfa (has flagged.look_have) l)))) is.roots_are
+        ∙ ap (λ (w : Value). settled (added nfa w (without (is_capture nfa) (reach nfa (has w.look_have) (targets nfa kind v u))))) shape_is
+
+    tries_are : tries_of nfa (has flagged.look_have) (flat_map (target nfa u) kept) ≡ tries_of nfa (has (seen nfa u)) (targets nfa kind v u)
+    unfolding entered shape
+    tries_are =
+        ap (λ l. tries_of nfa (has flagged.look_have) l) is.roots_are
+        ∙ ap (λ (w : Value). tries_of nfa (has w.look_have) (targets nfa kind v u)) shape_is
 
     pub all_tries : (before filled now : ℕ) → filled ≡ before + tries_again nfa v u
-        → now ≡ filled + tries_of nfa (has begun.look_have) (flat_map (target nfa u) (part_read kind (is_match nfa) working)) → now ≡ before + tries nfa kind v u
+        → now ≡ filled + tries_of nfa (has flagged.look_have) (flat_map (target nfa u) kept) → now ≡ before + tries nfa kind v u
     unfolding tries
     all_tries before filled now e h = omega (arith, tries_are)
 
     pub tries_within : (before filled now : ℕ) → filled ≡ before + tries_again nfa v u
-        → now ≤ filled + tries_of nfa (has begun.look_have) (flat_map (target nfa u) (part_read kind (is_match nfa) working)) → now ≤ before + 2 * (length nfa.states + edges_in_all nfa)
+        → now ≤ filled + tries_of nfa (has flagged.look_have) (flat_map (target nfa u) kept) → now ≤ before + 2 * (length nfa.states + edges_in_all nfa)
     unfolding tries
     tries_within before filled now e h = omega (arith, tries_are, step_tries)
-
-    module _ (entered : List ℕ) (reached : entered ≡ reach nfa (has begun.look_have) (flat_map (target nfa u) (part_read kind (is_match nfa) working))) where
-      entered_are : entered ≡ reach nfa (has (seen nfa u)) (targets nfa kind v u)
-      entered_are = reached ∙ ap (λ (b : Value). reach nfa (has b.look_have) (flat_map (target nfa u) (part_read kind (is_match nfa) working))) told
-          ∙ ap (λ l. reach nfa (has (seen nfa u)) (flat_map (target nfa u) (part_read kind (is_match nfa) l))) same
-
-      pub entered_resolve : Each (λ id. id < length nfa.states) entered
-      entered_resolve = All-from_member same_decides (λ id. id < length nfa.states) entered (λ x m.
-          reach_within nfa (accepted_sound nfa accepted) (has (seen nfa u)) (targets nfa kind v u) (targets_resolve nfa accepted kind v u) x (ap (λ l. member nat_eq l x) (sym entered_are) ∙ m))
-
-      -- what is recorded is the next value
-      pub stepped : (from_word half_crlf : Bool) → from_word ≡ from_word_after nfa u → half_crlf ≡ half_crlf_after nfa u
-          → (read : Value) → read ≡ with_patterns begun (patterns_read kind (patterns_of nfa working))
-          → recorded nfa (with_flags read (is_nonempty entered && from_word) (is_nonempty entered && half_crlf)) entered ≡ step nfa kind v u
-      unfolding step
-      stepped from_word half_crlf w h read r =
-          let first = record dead { look_have = seen nfa u } in
-          ap (λ (value : Value). recorded nfa (with_flags value (is_nonempty entered && from_word) (is_nonempty entered && half_crlf)) entered)
-          (r ∙ ap (λ (b : Value). with_patterns b (patterns_read kind (patterns_of nfa working))) told ∙ ap (λ l. with_patterns first (patterns_read kind (patterns_of nfa l))) same)
-          ∙ ap (λ flag. recorded nfa (with_flags (with_patterns first (patterns_read kind (patterns_of nfa (working_list nfa v u)))) (is_nonempty entered && flag) (is_nonempty entered && half_crlf)) entered) w
-          ∙ ap (λ flag. recorded nfa (with_flags (with_patterns first (patterns_read kind (patterns_of nfa (working_list nfa v u)))) (is_nonempty entered && from_word_after nfa u) (is_nonempty entered && flag)) entered) h
-          ∙ ap (λ l. recorded nfa (with_flags (with_patterns first (patterns_read kind (patterns_of nfa (working_list nfa v u)))) (is_nonempty l && from_word_after nfa u) (is_nonempty l && half_crlf_after nfa u)) l) entered_are

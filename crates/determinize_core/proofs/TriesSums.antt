@@ -1,10 +1,10 @@
 -- The tries of searches from one root after another.
 use Rattle.std.proofs.Common.{◌≡◌, ℕ, ◌+◌, ◌≤◌, Bool, List, [], ◌∷◌, ◌++◌, length, ap, ◌∙◌, arith, length-append}
 use Rattle.determinize_below.specs.declared.look.Look.{Look as Assertion}
-use Rattle.determinize_below.specs.Edges.{edges, reach, reach_past, IsSound}
+use Rattle.determinize_below.specs.Edges.{edges, reach, reach_past}
 use Rattle.determinize_below.specs.Nfa.{Nfa}
 use Rattle.determinize_below.specs.Reach.{edge_count}
-use Rattle.determinize_below.proofs.SoundNfa.{reach-append}
+use Rattle.determinize_below.proofs.SoundNfa.{reach-append, IsSound}
 use Rattle.determinize_core.specs.Closure.{tries_left}
 use Rattle.determinize_core.specs.Tries.{tries_of}
 

@@ -1,7 +1,7 @@
 -- A step makes few tries.
 use Rattle.std.proofs.Common.{◌≡◌, ℕ, ◌+◌, ◌*◌, ◌<◌, ◌≤◌, Bool, true, cond, List, [], ◌∷◌, length, arith, nat_eq}
 use Rattle.std.specs.List.{flat_map}
-use Rattle.determinize_below.specs.Edges.{edges, target, is_match, reach, IsSound}
+use Rattle.determinize_below.specs.Edges.{edges, target, is_match, reach}
 use Rattle.determinize_below.specs.Look.{has}
 use Rattle.determinize_below.specs.Nfa.{Nfa}
 use Rattle.determinize_below.specs.Reach.{edge_count, joined, member, nodes_below, none_held}
@@ -13,7 +13,7 @@ use Rattle.determinize_below.proofs.EdgeLemmas.{length-edges, length-target}
 use Rattle.determinize_below.proofs.Lists.{length-before_le, length-flat_map_le}
 use Rattle.determinize_below.proofs.Nodes.{below_member, fresh_below, length-fresh_below, same_decides}
 use Rattle.determinize_below.proofs.Sets.{flat_map-member}
-use Rattle.determinize_below.proofs.SoundNfa.{accepted_sound, ends_within_states, length-reach, target_within}
+use Rattle.determinize_below.proofs.SoundNfa.{accepted_sound, ends_within_states, length-reach, target_within, IsSound}
 use Rattle.determinize_below.proofs.Tests.{by_test}
 use Rattle.determinize_core.specs.Laws.{TriesAreFew}
 use Rattle.determinize_core.specs.Step.{opened_by, is_reopened, distinct_states, working_list, part_read}

@@ -4,16 +4,17 @@ use Rattle.std.proofs.Math.Seq.{take-suc}
 use Rattle.std.specs.Int.Bits.{or_zero_l}
 use Rattle.std.proofs.lemmas.Bool.{eqb-true}
 use Rattle.std.proofs.lemmas.List.{map-append, take_all}
+use Rattle.std.proofs.lemmas.List.Elements.{All-cons, All-nil}
 use Rattle.determinize_below.specs.Edges.{reach, reach_past}
 use Rattle.determinize_below.specs.Look.{has}
-use Rattle.determinize_below.specs.Nfa.{Nfa, IsAccepted}
+use Rattle.determinize_below.specs.Nfa.{AllResolve, Nfa, IsAccepted}
 use Rattle.determinize_below.specs.declared.look.Look.{Look as Assertion}
 use Rattle.determinize_below.specs.declared.search.MatchKind.{MatchKind}
 use Rattle.determinize_below.proofs.Elements.{All-from_member}
 use Rattle.determinize_below.proofs.Nodes.{same_decides}
 use Rattle.determinize_below.proofs.SoundNfa.{accepted_sound, reach_within}
 use Rattle.determinize_below.proofs.Tests.{or_false}
-use Rattle.determinize_core.specs.Chain.{chain, future, value_after}
+use Rattle.determinize_core.specs.Chain.{chain, future, units, value_after}
 use Rattle.determinize_core.specs.StartKinds as kinds
 use Rattle.determinize_core.specs.Starting.{with_start}
 use Rattle.determinize_core.specs.Step.{begun, recorded, start_value, step}
@@ -36,14 +37,6 @@ started nfa p = rw (or_zero_l (kinds.start_have nfa.reverse nfa.terminator nfa.l
 -- the closure of a state into an empty set
 closure_is : (nfa : Nfa) (holds : Assertion → Bool) (s : ℕ) (held ids : List ℕ) → held ≡ [] → ids ≡ held ++ reach_past nfa holds held (s ∷ []) → ids ≡ reach nfa holds (s ∷ [])
 closure_is nfa holds s held ids none e = e ∙ ap (λ xs. xs ++ reach_past nfa holds xs (s ∷ [])) none ∙ reach-past_none nfa holds (s ∷ [])
-
--- it has states of the NFA alone
-pub closure_resolves : (nfa : Nfa) → IsAccepted nfa → (holds : Assertion → Bool) (s : ℕ) (held ids : List ℕ) → s < length nfa.states → held ≡ [] → ids ≡ held ++ reach_past nfa holds held (s ∷ [])
-    → Each (λ id. id < length nfa.states) ids
-closure_resolves nfa accepted holds s held ids l none e =
-    subst (λ xs. Each (λ id. id < length nfa.states) xs) (sym (closure_is nfa holds s held ids none e))
-    (All-from_member same_decides (λ id. id < length nfa.states) (reach nfa holds (s ∷ []))
-    (reach_within nfa (accepted_sound nfa accepted) holds (s ∷ []) (λ r m. let e : s ≡ r = eqb-true s r (or_false (nat_eq s r) m) in omega arith)))
 
 -- recorded behind what the start kind adds, it makes the first value
 pub start_value-made : (nfa : Nfa) (s : ℕ) (p : Option ℕ) (kind : Kind) (empty told begins made : Value) (have : ℕ) (held ids : List ℕ)
@@ -77,6 +70,10 @@ module _ (nfa : Nfa) (kind : MatchKind) where
       ap (λ vs. vs ++ next ∷ []) w.all
       ∙ ap (λ v. future nfa kind first (map Some bytes) ++ v ∷ []) (e ∙ ap (λ v. step nfa kind v u) w.end)
       ∙ sym (future-push nfa kind first (map Some bytes) u)
+
+  -- no byte of a text
+  pub walked-start : (first : Value) (values : List Value) (last : Value) → values ≡ [] → last ≡ first → IsWalked nfa kind first [] values last
+  walked-start first values last none e = record { all = ap (λ vs. vs ++ last ∷ []) none ∙ ap (λ (v : Value). v ∷ []) e; end = e }
 
   -- one more byte of a text
   pub walked-push : (first : Value) (text : List ℕ) (i d : ℕ) (values more : List Value) (last next : Value) (u : Option ℕ) → i < length text
@@ -117,12 +114,12 @@ module _ (nfa : Nfa) (kind : MatchKind) where
 
 module _ (nfa : Nfa) (accepted : IsAccepted nfa) (kind : MatchKind) where
   -- values that follow one whose states are states of the NFA
-  after_resolves : (v : Value) (us : List (Option ℕ)) → Each (λ id. id < length nfa.states) v.states → Each (λ id. id < length nfa.states) (value_after nfa kind v us).states
-  after_resolves v [] h = h
-  after_resolves v (u ∷ us) h = after_resolves (step nfa kind v u) us (step_resolves nfa accepted kind v u)
+  future_resolves : (v : Value) (us : List (Option ℕ)) → AllResolve nfa v.states → Each (λ (w : Value). AllResolve nfa w.states) (future nfa kind v us)
+  future_resolves v [] h = All-cons (λ (w : Value). AllResolve nfa w.states) v [] h (All-nil (λ (w : Value). AllResolve nfa w.states))
+  future_resolves v (u ∷ us) h =
+      All-cons (λ (w : Value). AllResolve nfa w.states) v (future nfa kind (step nfa kind v u) us) h (future_resolves (step nfa kind v u) us (step_resolves nfa accepted kind v u))
 
-  -- the states of the last value are states of the NFA
-  pub walked-resolves : (s : ℕ) (p : Option ℕ) (bytes : List ℕ) (values : List Value) (last : Value) → s < length nfa.states
-      → IsWalked nfa kind (start_value nfa s p) bytes values last → Each (λ id. id < length nfa.states) last.states
-  walked-resolves s p bytes values last l w =
-      subst (λ (v : Value). Each (λ id. id < length nfa.states) v.states) (sym w.end) (after_resolves (start_value nfa s p) (map Some bytes) (start_resolves nfa accepted s p l))
+  -- the states of the values of a walk are states of the NFA
+  pub chain_resolves : (s : ℕ) (p : Option ℕ) (text : List ℕ) → s < length nfa.states → Each (λ (w : Value). AllResolve nfa w.states) (chain nfa kind s p text)
+  unfolding chain
+  chain_resolves s p text l = future_resolves (start_value nfa s p) (units text) (start_resolves nfa accepted s p l)

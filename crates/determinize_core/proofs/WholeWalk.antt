@@ -9,13 +9,14 @@ use Rattle.determinize_below.specs.Nfa.{Nfa, IsAccepted}
 use Rattle.determinize_below.specs.Positions.{before_at, after_at, truth, known, true_edges, known_edges, byte_edges, choices, IsRun, Accepts, IsReached, IsKnownReached, IsPreferredRun}
 use Rattle.determinize_below.specs.Reach.{none_held}
 use Rattle.determinize_below.specs.Runs.{IsBeginning, first, or_else, placed, without}
+use Rattle.determinize_below.specs.declared.search.HalfMatch.{HalfMatch}
 use Rattle.determinize_below.specs.declared.search.MatchKind.{MatchKind}
 use Rattle.determinize_below.specs.declared.search.MatchKind.TheVariants.{All, LeftmostFirst}
 use Rattle.determinize_below.proofs.Beginnings.{Beginning-ordered}
 use Rattle.determinize_below.proofs.EdgeLemmas.{edges-more, edges-capture, target-capture, target-end, match-capture, next_of, patterns-without}
 use Rattle.determinize_below.proofs.Elements.{Contains_In, In, In_Contains, In_append_left, In_take_one, without-In}
 use Rattle.determinize_below.proofs.Levels.{last_accepting}
-use Rattle.determinize_below.proofs.Lists.{or_else_none, map-or_else}
+use Rattle.determinize_below.proofs.Lists.{map-or_else}
 use Rattle.determinize_below.proofs.Nodes.{same_decides}
 use Rattle.determinize_below.proofs.Preferred.{IsMostPreferred}
 use Rattle.determinize_below.proofs.SoundNfa.{accepted_sound}
@@ -25,7 +26,7 @@ use Rattle.determinize_core.specs.Chain.{chain}
 use Rattle.determinize_core.specs.Laws.{EachChainIsTrue}
 use Rattle.determinize_core.specs.Step.{start_value}
 use Rattle.determinize_core.specs.Value.{Value}
-use Rattle.determinize_core.specs.Walk.{ListsAccepted, last_match, first_pattern, IsWalkOfAll, IsLeftmostWalk}
+use Rattle.determinize_core.specs.Walk.{ListsAccepted, ended_at, last_ended, last_match, IsWalkOfAll, IsLeftmostWalk}
 use Rattle.determinize_core.proofs.AcceptedPatterns.{patterns_In, match_of, lists_accepted}
 use Rattle.determinize_core.proofs.TableLaws.{known_truth}
 use Rattle.determinize_core.proofs.WalkValues.{value_at, recorded_by, redone_by, states_at_is, patterns_at_is, states_last, chain_item, length-chain}
@@ -41,11 +42,11 @@ is_some_of None e = absurd (false≢true e)
 is_some_of (Some n) e = refl
 
 module _ (nfa : Nfa) where
-  -- the place after a position, with the pattern of the state there
-  abbrev pub named : ℕ × ℕ → ℕ × ℕ
-  named q = (suc q.0, or_zero (pattern_of nfa q.1))
+  -- a position as the end of a match, with the pattern of the state there
+  abbrev pub named : ℕ × ℕ → HalfMatch
+  named q = record { pattern = or_zero (pattern_of nfa q.1); offset = q.0 }
 
-  first-named : (k : ℕ) (xs : List ℕ) → first_pattern (suc k) (take 1 (patterns_of nfa xs)) ≡ option_map named (option_map (placed k) (first (is_match nfa) xs))
+  first-named : (k : ℕ) (xs : List ℕ) → ended_at k (take 1 (patterns_of nfa xs)) ≡ option_map named (option_map (placed k) (first (is_match nfa) xs))
   first-named k [] = refl
   first-named k (z ∷ xs) = by_option (pattern_of nfa z)
       (λ e. rw e (first-named k xs))
@@ -53,19 +54,19 @@ module _ (nfa : Nfa) where
 
   last_named : (value : ℕ → Value) (lists : ℕ → List ℕ) → ((k : ℕ) → (value (suc k)).patterns ≡ take 1 (patterns_of nfa (lists k)))
       → (d k : ℕ) (vs : List Value) → length vs ≡ suc d → ((j : ℕ) → j ≤ d → slice_get vs j ≡ Some (value (suc (k + j))))
-      → last_match (suc k) vs ≡ option_map named (last_accepting lists (is_match nfa) d k)
+      → last_ended k vs ≡ option_map named (last_accepting lists (is_match nfa) d k)
   last_named value lists h d k [] l g = absurd (omega arith)
   last_named value lists h zero k (v ∷ []) l g =
       let z : suc (k + 0) ≡ suc k = omega arith in
       let e : v ≡ value (suc k) = some_injective v (value (suc k)) (g 0 (omega arith) ∙ ap (λ n. Some (value n)) z) in
-      ap (λ u. first_pattern (suc k) u.patterns) e ∙ ap (λ ps. first_pattern (suc k) ps) (h k) ∙ first-named k (lists k)
+      ap (λ u. ended_at k u.patterns) e ∙ ap (λ ps. ended_at k ps) (h k) ∙ first-named k (lists k)
   last_named value lists h zero k (v ∷ w ∷ vs) l g = absurd (omega arith)
   last_named value lists h (suc d) k (v ∷ vs) l g =
       let z : suc (k + 0) ≡ suc k = omega arith in
       let e : v ≡ value (suc k) = some_injective v (value (suc k)) (g 0 (omega arith) ∙ ap (λ n. Some (value n)) z) in
-      let here : first_pattern (suc k) v.patterns ≡ option_map named (option_map (placed k) (first (is_match nfa) (lists k))) =
-      ap (λ u. first_pattern (suc k) u.patterns) e ∙ ap (λ ps. first_pattern (suc k) ps) (h k) ∙ first-named k (lists k) in
-      ap (λ o. or_else o (first_pattern (suc k) v.patterns))
+      let here : ended_at k v.patterns ≡ option_map named (option_map (placed k) (first (is_match nfa) (lists k))) =
+      ap (λ u. ended_at k u.patterns) e ∙ ap (λ ps. ended_at k ps) (h k) ∙ first-named k (lists k) in
+      ap (λ o. or_else o (ended_at k v.patterns))
       (last_named value lists h d (suc k) vs (omega arith) (λ j i. let y : suc (k + suc j) ≡ suc (suc k + j) = omega arith in g (suc j) (omega arith) ∙ ap (λ n. Some (value n)) y))
       ∙ ap (λ o. or_else (option_map named (last_accepting lists (is_match nfa) d (suc k))) o) here
       ∙ sym (map-or_else named (last_accepting lists (is_match nfa) d (suc k)) (option_map (placed k) (first (is_match nfa) (lists k))))
@@ -114,17 +115,14 @@ module _ (nfa : Nfa) (accepted : IsAccepted nfa) (start : ℕ) (p : Option ℕ) 
   }
 
   -- the last match of the chain is the last accepting state of the cut lists
-  last_match_is : last_match 0 (chain nfa LeftmostFirst start p text) ≡ option_map (named nfa) (last_accepting (λ k. redone_by nfa LeftmostFirst start p text k) (is_match nfa) (length text) 0)
+  last_match_is : last_match (chain nfa LeftmostFirst start p text) ≡ option_map (named nfa) (last_accepting (λ k. redone_by nfa LeftmostFirst start p text k) (is_match nfa) (length text) 0)
   last_match_is = by_items (chain nfa LeftmostFirst start p text) (length-chain nfa LeftmostFirst start p text) (λ j l. chain_item nfa LeftmostFirst start p text j l)
     where
       by_items : (vs : List Value) → length vs ≡ length text + 2 → ((j : ℕ) → j ≤ length text + 1 → slice_get vs j ≡ Some (value_at nfa LeftmostFirst start p text j))
-          → last_match 0 vs ≡ option_map (named nfa) (last_accepting (λ k. redone_by nfa LeftmostFirst start p text k) (is_match nfa) (length text) 0)
+          → last_match vs ≡ option_map (named nfa) (last_accepting (λ k. redone_by nfa LeftmostFirst start p text k) (is_match nfa) (length text) 0)
       by_items [] n g = absurd (omega arith)
       by_items (v ∷ vs) n g =
-          let e : v ≡ start_value nfa start p = some_injective v (start_value nfa start p) (g 0 (omega arith)) in
-          ap (λ u. or_else (last_match 1 vs) (first_pattern 0 u.patterns)) e
-          ∙ or_else_none (last_match 1 vs)
-          ∙ last_named nfa (value_at nfa LeftmostFirst start p text) (λ k. redone_by nfa LeftmostFirst start p text k)
+          last_named nfa (value_at nfa LeftmostFirst start p text) (λ k. redone_by nfa LeftmostFirst start p text k)
           (patterns_at_is nfa accepted LeftmostFirst start p text) (length text) 0 vs (omega arith)
           (λ j l. let z : suc j ≡ suc (0 + j) = omega arith in g (suc j) (omega arith) ∙ ap (λ i. Some (value_at nfa LeftmostFirst start p text i)) z)
 
@@ -159,12 +157,11 @@ module _ (nfa : Nfa) (accepted : IsAccepted nfa) (start : ℕ) (p : Option ℕ) 
   leftmost_walk = record {
     count = length-chain nfa LeftmostFirst start p text;
     first = λ v h. ap (λ w. w.patterns) (sym (item_is LeftmostFirst 0 v h));
-    preferred = λ j pattern h. by_option (last_accepting (λ k. redone_by nfa LeftmostFirst start p text k) (is_match nfa) (length text) 0)
-        (λ e. absurd (let z : None ≡ Some (j, pattern) = ap (λ o. option_map (named nfa) o) (sym e) ∙ sym last_match_is ∙ h in cc))
-        (λ q e. let z : Some (named nfa q) ≡ Some (j, pattern) = ap (λ o. option_map (named nfa) o) (sym e) ∙ sym last_match_is ∙ h in
-        let y : named nfa q ≡ (j, pattern) = some_injective (named nfa q) (j, pattern) z in
+    preferred = λ m h. by_option (last_accepting (λ k. redone_by nfa LeftmostFirst start p text k) (is_match nfa) (length text) 0)
+        (λ e. absurd (let z : None ≡ Some m = ap (λ o. option_map (named nfa) o) (sym e) ∙ sym last_match_is ∙ h in cc))
+        (λ q e. let z : Some (named nfa q) ≡ Some m = ap (λ o. option_map (named nfa) o) (sym e) ∙ sym last_match_is ∙ h in
         let r : (cs : List ℕ) × IsPreferredRun nfa p text start cs q.0 (or_zero (pattern_of nfa q.1)) = preferred_of q e in
-        (q.0, sym (ap (λ w. w.0) y), (r.0, subst (λ x. IsPreferredRun nfa p text start r.0 q.0 x) (ap (λ w. w.1) y) r.1)));
+        (r.0, subst (λ (w : HalfMatch). IsPreferredRun nfa p text start r.0 w.offset w.pattern) (some_injective (named nfa q) m z) r.1));
     none = λ h cs i pattern a. by_option (last_accepting (λ k. redone_by nfa LeftmostFirst start p text k) (is_match nfa) (length text) 0)
         (λ e. true≢false (sym (match_of nfa a.0 pattern a.2) ∙ walk.none e cs (i, a.0) a.1))
         (λ q e. let z : Some (named nfa q) ≡ None = ap (λ o. option_map (named nfa) o) (sym e) ∙ sym last_match_is ∙ h in absurd cc);

@@ -1,6 +1,6 @@
 -- One step: the working list against the search under what is true.
 use Rattle.std.proofs.Common.{◌≡◌, ℕ, zero, suc, ◌+◌, Bool, true, false, not, ◌||◌, ◌&&◌, List, length, sym, ap, ◌∙◌, arith, Option, nat_eq}
-use Rattle.determinize_below.specs.Edges.{edges, is_capture, reach, IsTested, IsSound}
+use Rattle.determinize_below.specs.Edges.{edges, is_capture, reach, IsTested}
 use Rattle.determinize_below.specs.Look.{has, each_look}
 use Rattle.determinize_below.specs.Nfa.{Nfa, IsAccepted}
 use Rattle.determinize_below.specs.Positions.{truth, known}
@@ -16,7 +16,7 @@ use Rattle.determinize_below.proofs.Nodes.{IsEnough-below, same_decides}
 use Rattle.determinize_below.proofs.NotNeeded.{not_redone}
 use Rattle.determinize_below.proofs.RunFuel.{run_fuel}
 use Rattle.determinize_below.proofs.Sets.{filter-fresh, fresh-flat_map, fresh-fresh}
-use Rattle.determinize_below.proofs.SoundNfa.{accepted_sound, edges_enough}
+use Rattle.determinize_below.proofs.SoundNfa.{accepted_sound, edges_enough, IsSound}
 use Rattle.determinize_below.proofs.Tests.{by_test}
 use Rattle.determinize_core.specs.Step.{needs, opened_by, is_reopened, distinct_states, working_list}
 use Rattle.determinize_core.specs.Tables.{opened, from_word_after, half_crlf_after}

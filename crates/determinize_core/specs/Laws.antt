@@ -1,9 +1,9 @@
 -- Laws of steps and of walks.
 use Rattle.std.specs.Prelude.{◌≡◌, ℕ, ◌+◌, ◌*◌, ◌<◌, ◌≤◌, ◌⊎◌, Bool, true, Option, List, [], ◌∷◌, ◌++◌, length, nat_eq}
 use Rattle.determinize_below.specs.Captures.{HasNoCaptureCycle}
-use Rattle.determinize_below.specs.Edges.{edges, target, reach, reach_past, IsSound}
+use Rattle.determinize_below.specs.Edges.{edges, target, reach, reach_past}
 use Rattle.determinize_below.specs.Nfa.{Nfa, IsAccepted}
-use Rattle.determinize_below.specs.Positions.{IsPreferredRun}
+use Rattle.determinize_below.specs.Positions.{IsKnownReached, IsPreferredRun, IsReached}
 use Rattle.determinize_below.specs.Reach.{member}
 use Rattle.determinize_below.specs.declared.look.Look.{Look as Assertion}
 use Rattle.determinize_below.specs.declared.search.MatchKind.{MatchKind}
@@ -20,15 +20,17 @@ EachChainIsTrue = (nfa : Nfa) → IsAccepted nfa → (start : ℕ) (p : Option �
     → IsWalkOfAll nfa start p text (chain nfa All start p text)
     × IsLeftmostWalk nfa start p text (chain nfa LeftmostFirst start p text)
 
--- at most one list has the patterns that runs accept, best run first, and at most one run is the most preferred
+-- runs determine one list of patterns, one most preferred match, and one list of the states reached, by what is known or by what is true
 abbrev pub EachAnswerIsOne : Type 0
 EachAnswerIsOne = (nfa : Nfa) (p : Option ℕ) (text : List ℕ) (start : ℕ)
     → ((i : ℕ) (xs ys : List ℕ) → ListsAccepted nfa p text start i xs → ListsAccepted nfa p text start i ys → xs ≡ ys)
     × ((i j x y : ℕ) (cs ds : List ℕ) → IsPreferredRun nfa p text start cs i x → IsPreferredRun nfa p text start ds j y → (i ≡ j) × (x ≡ y))
+    × ((i : ℕ) (xs ys : List ℕ) → IsKnownReached nfa p text start i xs → IsKnownReached nfa p text start i ys → xs ≡ ys)
+    × ((i : ℕ) (xs ys : List ℕ) → IsReached nfa p text start i xs → IsReached nfa p text start i ys → xs ≡ ys)
 
--- a search from one more root goes on with what was reached held
+-- of an accepted NFA, a search from one more root goes on with what was reached held
 abbrev pub EachReachGoesOn : Type 0
-EachReachGoesOn = (nfa : Nfa) → IsSound nfa → (holds : Assertion → Bool) (roots : List ℕ) (root : ℕ)
+EachReachGoesOn = (nfa : Nfa) → IsAccepted nfa → (holds : Assertion → Bool) (roots : List ℕ) (root : ℕ)
     → reach nfa holds (roots ++ root ∷ []) ≡ reach nfa holds roots ++ reach_past nfa holds (reach nfa holds roots) (root ∷ [])
 
 -- a state has edges that want no input, or one over a unit, or neither
@@ -40,11 +42,11 @@ EachStateHasOneKind = (nfa : Nfa) (holds : Assertion → Bool) (u : Option ℕ) 
 abbrev pub EachFutureFollows : Type 0
 EachFutureFollows = (nfa : Nfa) (kind : MatchKind) (s : ℕ) (p : Option ℕ) (text : List ℕ) → FollowsItself nfa kind text (chain nfa kind s p text)
 
--- the dead value stays, and of the values that a step leaves it alone has no pattern and no state
+-- the dead value stays, and of the values that a step over an accepted NFA leaves it alone is empty, where no cycle has captures alone
 abbrev pub DeadStays : Type 0
 DeadStays = (nfa : Nfa) (kind : MatchKind) (u : Option ℕ)
     → (step nfa kind dead u ≡ dead)
-    × ((v : Value) → IsSound nfa → HasNoCaptureCycle nfa → (step nfa kind v u).patterns ≡ [] → (step nfa kind v u).states ≡ [] → step nfa kind v u ≡ dead)
+    × ((v : Value) → IsAccepted nfa → HasNoCaptureCycle nfa → (step nfa kind v u).patterns ≡ [] → (step nfa kind v u).states ≡ [] → step nfa kind v u ≡ dead)
 
 -- a value to which states were recorded has nothing where it needs nothing
 abbrev pub NoNeedNoHave : Type 0

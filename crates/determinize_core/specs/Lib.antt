@@ -5,7 +5,9 @@ pub mod Closure
 pub mod Laws
 pub mod Marking
 pub mod Opened
+pub mod Reading
 pub mod Recording
+pub mod Scratch
 pub mod Spelling
 pub mod StartKinds
 pub mod StartRows

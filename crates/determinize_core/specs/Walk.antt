@@ -4,6 +4,7 @@ use Rattle.determinize_below.specs.Nfa.{Nfa}
 use Rattle.determinize_below.specs.Paths.{Before}
 use Rattle.determinize_below.specs.Positions.{Accepts, IsBestRun, IsPreferredRun, IsKnownReached}
 use Rattle.determinize_below.specs.Runs.{or_else, IsBeginning}
+use Rattle.determinize_below.specs.declared.search.HalfMatch.{HalfMatch}
 use Rattle.determinize_core.specs.Value.{Value}
 
 -- the list has each pattern that some run accepts at the position, once, and no other, best run first
@@ -13,15 +14,20 @@ pub record ListsAccepted (nfa : Nfa) (p : Option ℕ) (text : List ℕ) (start i
   pub best_first : (a b x y : ℕ) → a < b → slice_get patterns a ≡ Some x → slice_get patterns b ≡ Some y
       → (cs : List ℕ) × (ds : List ℕ) × IsBestRun nfa p text start cs i x × IsBestRun nfa p text start ds i y × Before cs ds
 
--- a place with the first of some patterns
-abbrev pub first_pattern : ℕ → List ℕ → Option (ℕ × ℕ)
-first_pattern n [] = None
-first_pattern n (pattern ∷ others) = Some (n, pattern)
+-- the end of a match of the first of some patterns, where there is one
+abbrev pub ended_at : ℕ → List ℕ → Option HalfMatch
+ended_at offset [] = None
+ended_at offset (pattern ∷ others) = Some record { pattern = pattern; offset = offset }
 
--- the last value with a pattern: its place, counted from n, and its first pattern
-abbrev pub last_match : ℕ → List Value → Option (ℕ × ℕ)
-last_match n [] = None
-last_match n (v ∷ vs) = or_else (last_match (suc n) vs) (first_pattern n v.patterns)
+-- the last of the values with a pattern: its first pattern, and its place, counted from n
+abbrev pub last_ended : ℕ → List Value → Option HalfMatch
+last_ended n [] = None
+last_ended n (v ∷ vs) = or_else (last_ended (suc n) vs) (ended_at n v.patterns)
+
+-- the last match of a walk: its first value lists no pattern, the next one tells of position 0, and so on
+abbrev pub last_match : List Value → Option HalfMatch
+last_match [] = None
+last_match (first ∷ others) = last_ended 0 others
 
 -- what the values say where all matches are wanted
 pub record IsWalkOfAll (nfa : Nfa) (start : ℕ) (p : Option ℕ) (text : List ℕ) (values : List Value) : Type 0 where
@@ -35,9 +41,9 @@ pub record IsWalkOfAll (nfa : Nfa) (start : ℕ) (p : Option ℕ) (text : List �
 pub record IsLeftmostWalk (nfa : Nfa) (start : ℕ) (p : Option ℕ) (text : List ℕ) (values : List Value) : Type 0 where
   pub count : length values ≡ length text + 2
   pub first : (v : Value) → slice_get values 0 ≡ Some v → v.patterns ≡ []
-  pub preferred : (j pattern : ℕ) → last_match 0 values ≡ Some (j, pattern)
-      → (i : ℕ) × (j ≡ suc i) × ((cs : List ℕ) × IsPreferredRun nfa p text start cs i pattern)
-  pub none : last_match 0 values ≡ None → (cs : List ℕ) (i pattern : ℕ) → Accepts nfa p text start cs i pattern → ⊥
+  pub preferred : (m : HalfMatch) → last_match values ≡ Some m
+      → (cs : List ℕ) × IsPreferredRun nfa p text start cs m.offset m.pattern
+  pub none : last_match values ≡ None → (cs : List ℕ) (i pattern : ℕ) → Accepts nfa p text start cs i pattern → ⊥
   pub matches : (i : ℕ) (v : Value) → slice_get values (suc i) ≡ Some v → (x : ℕ) → Contains v.patterns x
       → (cs : List ℕ) × Accepts nfa p text start cs i x
   pub ids : (i : ℕ) (v : Value) → i ≤ length text → slice_get values i ≡ Some v

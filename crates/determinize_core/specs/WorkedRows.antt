@@ -1,5 +1,5 @@
 -- The walks of the program `rows`, each under its name there: small NFAs, the bytes of the states, the last match.
-use Rattle.std.specs.Prelude.{◌≡◌, ℕ, zero, suc, ◌-◌, Bool, true, false, Option, Some, None, List, [], ◌∷◌, ◌++◌, map, option_map}
+use Rattle.std.specs.Prelude.{◌≡◌, ℕ, zero, suc, Bool, true, false, Option, Some, None, List, [], ◌∷◌, ◌++◌, map, option_map}
 use Rattle.determinize_below.specs.Edges.{reach_past}
 use Rattle.determinize_below.specs.Look as looks
 use Rattle.determinize_below.specs.Nfa.{Nfa, IsAccepted, looks_of}
@@ -130,7 +130,7 @@ nine_zeros = padded 9 0 []
 
 -- the pattern and the end of the last match of a walk
 abbrev pub match_and_end : List Value → Option (ℕ × ℕ)
-match_and_end values = option_map (λ m. (m.1, m.0 - 1)) (last_match 0 values)
+match_and_end values = option_map (λ m. (m.pattern, m.offset)) (last_match values)
 
 -- the walk has states of these bytes, and this pattern and end of its last match
 abbrev pub IsRow : Nfa → MatchKind → ℕ → Option ℕ → List ℕ → List (List ℕ) → Option (ℕ × ℕ) → Type 0

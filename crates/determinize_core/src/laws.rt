@@ -9,19 +9,22 @@ pub fn walk_law()
     ensures { EachChainIsTrue }
 {}
 
-/// What the walk answers is determined by the runs: one list of patterns at each position, one most preferred match.
+/// What the walk answers is determined by the runs: one list of patterns at each position, one most
+/// preferred match, and one list of the NFA states that runs reach at a position.
 pub fn answer_law()
     ensures { EachAnswerIsOne }
 {}
 
-/// A search can go on with one more root, and a state of the NFA leads on without input or over a byte, not both.
+/// A search of an accepted NFA can go on with one more root, and a state of an NFA leads on without
+/// input or over a byte, not both.
 pub fn search_law()
     ensures goes_on { EachReachGoesOn }
     ensures kinds { EachStateHasOneKind }
 {}
 
-/// From each of its values a walk goes on as from the start. The dead value stays, and of the values that a step leaves it alone is empty,
-/// where no cycle of the NFA has captures alone. A value to which states were recorded has no assertion in look-have where it has none in
+/// From each of its values a walk goes on as from the start. The dead value stays, and of the values
+/// that a step over an accepted NFA leaves it alone is empty, where no cycle of the NFA has captures
+/// alone. A value to which states were recorded has no assertion in look-have where it has none in
 /// look-need. Where the most preferred match is wanted, a step gives one pattern at most.
 pub fn step_law()
     ensures future { EachFutureFollows }

@@ -1,12 +1,17 @@
 //! Laws of starts, and of the tables of assertions. Each function but the first does nothing: its clauses are the law.
 
-ghost use Rattle.std.specs.Prelude.{◌≡◌, ℕ, ◌≤◌, Bool, true, false, ◌||◌, IfOk, IsOk, Option, Some};
+ghost use Rattle.std.specs.Prelude.{◌≡◌, ℕ, ◌≤◌, Bool, true, false, ◌||◌, ◌⊎◌, IfOk, IsOk, List, Option, Some};
+ghost use Rattle.std.specs.Bool.{Decides};
+ghost use Rattle.std.specs.List.{Any};
+ghost use Rattle.determinize_below.specs.Edges.{assertion_of};
 ghost use Rattle.determinize_below.specs.Look.{has};
+ghost use Rattle.determinize_below.specs.Nfa.{Nfa};
 ghost use Rattle.determinize_below.specs.Truth as truth;
 ghost use Rattle.determinize_core.specs.Behind as behind_specs;
 ghost use Rattle.determinize_core.specs.Opened as opening;
 ghost use Rattle.determinize_core.specs.StartKinds as kinds;
 ghost use Rattle.determinize_core.specs.StartRows as rows;
+ghost use Rattle.determinize_core.specs.Step.{needs};
 
 use crate::start::{Config, Start, StartByteMap};
 use determinize_below::{Look, LookSet};
@@ -89,4 +94,12 @@ pub fn redo_law(
     requires kept { opening.is_redone (opening.opened reverse terminator from_word half unit) have need ≡ false }
     requires needed { has need look ≡ true }
     ensures { (has have look || opening.opened reverse terminator from_word half unit look) ≡ has have look }
+{}
+
+/// The assertions that a list of states needs beside a set: an assertion is needed exactly where it
+/// is in the set or some state of the list tests it.
+pub fn need_law(set: LookSet, look: Look)
+    ensures { (nfa : Nfa) (xs : List ℕ)
+        → Decides (has (needs nfa set xs) look)
+        ((has set look ≡ true) ⊎ Any (λ s. assertion_of nfa s ≡ Some look) xs) }
 {}

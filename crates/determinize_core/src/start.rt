@@ -165,6 +165,16 @@ fn start_kind(terminator: u8, byte: u8) -> Start
     }
 }
 
+/// The start kind of the byte behind a search, or of none.
+pub(crate) fn start_kind_of(terminator: u8, look_behind: Option<u8>) -> Start
+    ensures { result ≡ kinds.start_kind_of terminator look_behind }
+{
+    match look_behind {
+        Some(byte) => start_kind(terminator, byte),
+        None => Start::Text,
+    }
+}
+
 /// The start kinds of all bytes.
 #[derive(Clone, Drop)]
 pub struct StartByteMap {

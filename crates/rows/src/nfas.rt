@@ -49,9 +49,7 @@ pub enum Automaton {
 impl Automaton {
     /// The NFA. The error `OutOfMemory` says that memory was refused, and no other comes.
     pub fn nfa<A: Allocator + Copy>(self, alloc: A) -> Result<NFA<A>, BuildError> {
-        let Ok(states) = self.states(alloc) else {
-            return Err(BuildError::OutOfMemory);
-        };
+        let states = self.states(alloc)?;
         let mut matcher = LookMatcher::new();
         matcher.set_line_terminator(self.line_terminator());
         NFA::from_parts(
@@ -111,10 +109,7 @@ impl Automaton {
 fn id(number: u16) -> StateID
     ensures { result ≡ number }
 {
-    match StateID::new(usize::from(number)) {
-        Ok(id) => id,
-        Err(_) => unreachable!(),
-    }
+    StateID::must(usize::from(number))
 }
 
 /// A state that goes on over one byte.
@@ -191,11 +186,9 @@ fn capture<A: Allocator>(next: u16) -> State<A> {
 
 /// A match of a pattern.
 fn matches<A: Allocator>(pattern: u16) -> State<A> {
-    let pattern_id = match PatternID::new(usize::from(pattern)) {
-        Ok(id) => id,
-        Err(_) => unreachable!(),
-    };
-    State::Match { pattern_id }
+    State::Match {
+        pattern_id: PatternID::must(usize::from(pattern)),
+    }
 }
 
 /// A state and behind it a match of pattern 0.

@@ -3,7 +3,8 @@
 ghost use Rattle.std.specs.Prelude.{◌≡◌, ◌≤◌};
 
 use crate::walks::Walk;
-use determinize_below::BuildError;
+use determinize_below::{BuildError, HalfMatch};
+use determinize_core::determinize;
 use determinize_core::state::State;
 use std::alloc::{AllocError, Allocator, Global};
 use std::io;
@@ -108,18 +109,12 @@ fn print_state<A: Allocator, W: Write>(state: &State<A>, out: &mut W) -> io::Res
     writeln!(out)
 }
 
-/// The first pattern of the last match state and the position that it reports, or `none`.
+/// The first pattern of the last match and the position where it ends, or `none`.
 fn print_last_match<A: Allocator, W: Write>(states: &[State<A>], out: &mut W) -> io::Result<()> {
-    let mut last = None;
-    for (end, state) in states.iter().skip(1).enumerate() {
-        if state.match_len() > 0 {
-            last = Some((state.match_pattern(0), end));
-        }
-    }
-    match last {
-        Some((pattern, end)) => {
+    match determinize::last_match(states) {
+        Some(HalfMatch { pattern, offset }) => {
             let pattern = pattern.as_u32();
-            writeln!(out, "match {pattern} {end}")
+            writeln!(out, "match {pattern} {offset}")
         }
         None => writeln!(out, "none"),
     }

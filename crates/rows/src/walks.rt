@@ -101,9 +101,7 @@ impl Walk {
     /// The error is want of memory. A start that is no state of the NFA would make no walk.
     pub fn states<A: Allocator + Copy>(self, alloc: A) -> Result<Vec<State<A>, A>, RowError> {
         let nfa = self.automaton.nfa(alloc)?;
-        let Ok(start) = StateID::new(usize::from(self.start)) else {
-            return Err(RowError::NoSuchRow);
-        };
+        let start = StateID::must(usize::from(self.start));
         if start.as_usize() >= nfa.len() {
             return Err(RowError::NoSuchRow);
         }

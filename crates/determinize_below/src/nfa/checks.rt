@@ -118,10 +118,8 @@ fn check_state<A: Allocator, B: Allocator + Clone>(
         return Err(BuildError::BadDense(index));
     }
     if let State::Match { pattern_id } = state {
-        match add_pattern(seen, *pattern_id) {
-            Ok(true) => {}
-            Ok(false) => return Err(BuildError::RepeatedPattern(index)),
-            Err(_) => return Err(BuildError::OutOfMemory),
+        if !add_pattern(seen, *pattern_id)? {
+            return Err(BuildError::RepeatedPattern(index));
         }
     }
     Ok(())

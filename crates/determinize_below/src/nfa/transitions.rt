@@ -33,9 +33,9 @@ impl Transition {
     pub fn matches_unit(&self, unit: Unit) -> bool
         ensures { result ≡ transitions.matches_unit self.now (byte_of unit) }
     {
-        match unit {
-            Unit::U8(byte) => self.matches_byte(byte),
-            Unit::Eoi(_) => false,
+        match unit.as_u8() {
+            Some(byte) => self.matches_byte(byte),
+            None => false,
         }
     }
 }
@@ -75,9 +75,9 @@ impl<A: Allocator> SparseTransitions<A> {
         requires { IsTrue (transitions.is_ascending self.now) }
         ensures { result ≡ transitions.over_unit (transitions.sparse_target self.now) (byte_of unit) }
     {
-        match unit {
-            Unit::U8(byte) => self.matches_byte(byte),
-            Unit::Eoi(_) => None,
+        match unit.as_u8() {
+            Some(byte) => self.matches_byte(byte),
+            None => None,
         }
     }
 }
@@ -117,9 +117,9 @@ impl<A: Allocator> DenseTransitions<A> {
         requires { length self.now ≡ 256 }
         ensures { result ≡ transitions.over_unit (transitions.dense_target self.now) (byte_of unit) }
     {
-        match unit {
-            Unit::U8(byte) => self.matches_byte(byte),
-            Unit::Eoi(_) => None,
+        match unit.as_u8() {
+            Some(byte) => self.matches_byte(byte),
+            None => None,
         }
     }
 }

@@ -44,7 +44,8 @@ fn counted<L: Ledger>(
 
 #[test]
 fn counted_transition(rt: HostRuntime) -> Result<(), Fail> {
-    let job = Job::new("next fw=0 half=0 ids=0,1,2,3 | U:1,2,3 M:2 M:0 M:1");
+    let line = "next fw=0 half=0 ids=0,1,2,3 unit=eoi | U:1,2,3 M:2 M:0 M:1";
+    let job = Job::read(rt.alloc(), line)?;
     let nfa = nfas::nfa(rt.alloc(), &job)?;
     let state = records::builder(rt.alloc(), &job)?.to_state()?;
     assert!(rt; records::resolves(&state, nfa.len()));

@@ -5,11 +5,10 @@ use determinize_below::{Look, LookSet, PatternID, StateID};
 use determinize_core::state::{State, StateBuilderEmpty, StateBuilderMatches, StateBuilderNFA};
 use std::alloc::Global;
 use std::collections::HashSet;
-use std::process::Abort;
 use std::test::Fail;
 
 /// A builder with these patterns.
-fn with_patterns(alloc: Global, numbers: &[usize]) -> Result<StateBuilderMatches, Fail> {
+pub fn with_patterns(alloc: Global, numbers: &[usize]) -> Result<StateBuilderMatches, Fail> {
     let mut ids = Vec::new(alloc);
     for number in numbers {
         ids.push(PatternID::new(*number)?)?;
@@ -18,7 +17,7 @@ fn with_patterns(alloc: Global, numbers: &[usize]) -> Result<StateBuilderMatches
 }
 
 /// A builder with these NFA states and no pattern.
-fn with_states(alloc: Global, numbers: &[usize]) -> Result<StateBuilderNFA, Fail> {
+pub fn with_states(alloc: Global, numbers: &[usize]) -> Result<StateBuilderNFA, Fail> {
     let mut builder = StateBuilderEmpty::new(alloc).into_matches()?.into_nfa();
     for number in numbers {
         builder.add_nfa_state_id(StateID::new(*number)?)?;
@@ -152,101 +151,5 @@ fn comparison_of_states(rt: HostRuntime) -> Result<(), Fail> {
     assert!(rt; set.insert(dead.clone()?)?);
     assert!(rt; set.insert(one)?);
     assert!(rt; !set.insert(dead)?);
-    Ok(())
-}
-
-/// A builder that was entered by a word byte, with pattern 0, and with a set.
-fn entered_by_word_byte(alloc: Global) -> Result<StateBuilderMatches, Fail> {
-    let mut builder = with_patterns(alloc, &[0])?;
-    builder.set_is_from_word();
-    builder.set_look_have(|have| have.insert(Look::Start));
-    Ok(builder)
-}
-
-/// Fails where the text lacks one of the parts, or has them in another order.
-fn expect_in_order<R: Abort>(rt: &R, text: &str, parts: &[&str]) {
-    let mut rest = text;
-    for part in parts {
-        let Some((_, after)) = rest.split_once(*part) else {
-            panic!(rt; "{part} in {text}");
-        };
-        rest = after;
-    }
-}
-
-#[test]
-fn texts_of_builders(rt: HostRuntime) -> Result<(), Fail> {
-    let matches = with_patterns(rt.alloc(), &[1, 0])?;
-    let text = format!(in rt.alloc(); "{matches:?}")?;
-    expect_in_order(
-        &rt,
-        text.as_str(),
-        &[
-            "is_match: true",
-            "is_from_word: false",
-            "is_half_crlf: false",
-            "look_have: LookSet { bits: 0 }",
-            "look_need: LookSet { bits: 0 }",
-            "match_pattern_ids: [PatternID(1), PatternID(0)]",
-            "nfa_state_ids: []",
-        ],
-    );
-    let mut half = StateBuilderEmpty::new(rt.alloc()).into_matches()?;
-    half.set_is_half_crlf();
-    let text = format!(in rt.alloc(); "{half:?}")?;
-    expect_in_order(
-        &rt,
-        text.as_str(),
-        &[
-            "is_match: false",
-            "is_from_word: false",
-            "is_half_crlf: true",
-            "match_pattern_ids: []",
-        ],
-    );
-    Ok(())
-}
-
-#[test]
-fn texts_of_values(rt: HostRuntime) -> Result<(), Fail> {
-    let open = entered_by_word_byte(rt.alloc())?;
-    let matches = format!(in rt.alloc(); "{open:?}")?;
-    let mut builder = open.into_nfa();
-    builder.set_look_need(|need| need.insert(Look::End));
-    for number in [1, 3] {
-        builder.add_nfa_state_id(StateID::new(number)?)?;
-    }
-    let state = builder.to_state()?;
-    for (text, need, ids) in [
-        (
-            matches,
-            "look_need: LookSet { bits: 0 }",
-            "nfa_state_ids: []",
-        ),
-        (
-            format!(in rt.alloc(); "{builder:?}")?,
-            "look_need: LookSet { bits: 2 }",
-            "nfa_state_ids: [StateID(1), StateID(3)]",
-        ),
-        (
-            format!(in rt.alloc(); "{state:?}")?,
-            "look_need: LookSet { bits: 2 }",
-            "nfa_state_ids: [StateID(1), StateID(3)]",
-        ),
-    ] {
-        expect_in_order(
-            &rt,
-            text.as_str(),
-            &[
-                "is_match: true",
-                "is_from_word: true",
-                "is_half_crlf: false",
-                "look_have: LookSet { bits: 1 }",
-                need,
-                "match_pattern_ids: [PatternID(0)]",
-                ids,
-            ],
-        );
-    }
     Ok(())
 }

@@ -4,8 +4,9 @@ ghost use Rattle.std.specs.Prelude.{◌<◌, length, IfOk};
 
 use crate::error::{JobError, Part};
 use crate::job::Job;
+use crate::key::Key;
 use crate::{nfas, records, values};
-use determinize_below::{NFA, SparseSets, StateID, Unit};
+use determinize_below::{HalfMatch, NFA, SparseSets, StateID, Unit};
 use determinize_core::determinize;
 use determinize_core::start::Start;
 use determinize_core::state::{State, StateBuilderEmpty};
@@ -23,64 +24,54 @@ fn resolved(nfa: &NFA, text: &str) -> Result<StateID, JobError>
     }
 }
 
-/// The states of a walk, or none where a byte after the end is asked for.
-fn states(alloc: Global, job: &Job<'_>) -> Result<Option<Vec<State>>, JobError> {
-    if !values::is_none(job.value_or_none("after")) {
-        return Ok(None);
-    }
+/// The states of a walk.
+fn states(alloc: Global, job: &Job<'_>) -> Result<Vec<State>, JobError> {
     let nfa = nfas::nfa(alloc, job)?;
-    let start = resolved(&nfa, job.value("start").unwrap_or("0"))?;
-    let look_behind = values::optional_byte(job.value_or_none("lb"))?;
-    let text = values::bytes(alloc, job.value_or_none("text"))?;
+    let start = resolved(&nfa, job.value(Key::Start).unwrap_or("0"))?;
+    let look_behind = values::optional_byte(job.value_or_none(Key::LookBehind))?;
+    let text = values::bytes(alloc, job.value_or_none(Key::Text))?;
     let kind = job.match_kind()?;
     let states = determinize::walk(alloc, &nfa, kind, start, look_behind, text.as_slice())?;
-    Ok(Some(states))
+    Ok(states)
 }
 
 /// Answers `walk`: the bytes of each state, and the last match.
-pub fn walk(alloc: Global, job: &Job<'_>, text: &mut String) -> Result<bool, JobError> {
-    let Some(states) = states(alloc, job)? else {
-        return Ok(false);
-    };
+pub fn walk(alloc: Global, job: &Job<'_>, text: &mut String) -> Result<(), JobError> {
+    let states = states(alloc, job)?;
     for state in states.iter() {
         values::write_bytes(text, state.as_bytes())?;
     }
     write_last_match(text, states.as_slice())?;
-    Ok(true)
+    Ok(())
 }
 
-/// Writes the first pattern of the last match state, and the position that it reports.
+/// Writes the last match that the states of a walk tell.
 fn write_last_match(text: &mut String, states: &[State]) -> Result<(), AllocError> {
-    let mut last = None;
-    for (end, state) in states.iter().skip(1).enumerate() {
-        if state.match_len() > 0 {
-            last = Some((state.match_pattern(0).as_u32(), end));
+    match determinize::last_match(states) {
+        Some(HalfMatch { pattern, offset }) => {
+            let pattern = pattern.as_u32();
+            writeln!(text, "match {pattern} {offset}")
         }
-    }
-    match last {
-        Some((pattern, end)) => writeln!(text, "match {pattern} {end}"),
         None => text.push_str("none\n"),
     }
 }
 
 /// Answers `readers`: what the readers of one state of a walk answer.
-pub fn readers(alloc: Global, job: &Job<'_>, text: &mut String) -> Result<bool, JobError> {
-    let Some(states) = states(alloc, job)? else {
-        return Ok(false);
-    };
-    let Some(state) = states.get(values::number(job.needed("at")?)?) else {
+pub fn readers(alloc: Global, job: &Job<'_>, text: &mut String) -> Result<(), JobError> {
+    let states = states(alloc, job)?;
+    let Some(state) = states.get(values::number(job.needed(Key::At)?)?) else {
         return Err(JobError::Malformed(Part::Position));
     };
     records::write_readers(text, state)?;
-    Ok(true)
+    Ok(())
 }
 
 /// Answers `closure`: the set after the call.
 pub fn closure(alloc: Global, job: &Job<'_>, text: &mut String) -> Result<(), JobError> {
     let nfa = nfas::nfa(alloc, job)?;
-    let start = resolved(&nfa, job.needed("from")?)?;
-    let look_have = values::look_set(job.value_or_none("look"))?;
-    let held = values::state_ids(alloc, job.value_or_none("held"))?;
+    let start = resolved(&nfa, job.needed(Key::From)?)?;
+    let look_have = values::look_set(job.value_or_none(Key::Look))?;
+    let held = values::state_ids(alloc, job.value_or_none(Key::Held))?;
     let mut set = records::set(alloc, nfa.len(), held.as_slice())?;
     let mut stack = Vec::new(alloc);
     determinize::epsilon_closure(&nfa, start, look_have, &mut stack, &mut set)?;
@@ -106,7 +97,7 @@ fn start_kind(text: &str) -> Result<Start, JobError> {
 /// Answers `lookbehind`: the bytes of an empty record that is told of its start.
 pub fn lookbehind(alloc: Global, job: &Job<'_>, text: &mut String) -> Result<(), JobError> {
     let nfa = nfas::nfa(alloc, job)?;
-    let kind = start_kind(job.needed("kind")?)?;
+    let kind = start_kind(job.needed(Key::Kind)?)?;
     let mut builder = StateBuilderEmpty::new(alloc).into_matches()?;
     determinize::set_lookbehind_from_start(&nfa, &kind, &mut builder);
     values::write_bytes(text, builder.into_nfa().as_bytes())?;
@@ -129,14 +120,14 @@ pub fn next_state(alloc: Global, job: &Job<'_>, text: &mut String) -> Result<(),
     if !records::resolves(&state, nfa.len()) {
         return Err(JobError::Malformed(Part::Unresolved));
     }
-    let held1 = values::state_ids(alloc, job.value_or_none("set1"))?;
-    let held2 = values::state_ids(alloc, job.value_or_none("set2"))?;
+    let held1 = values::state_ids(alloc, job.value_or_none(Key::Set1))?;
+    let held2 = values::state_ids(alloc, job.value_or_none(Key::Set2))?;
     let mut sparses = SparseSets {
         set1: records::set(alloc, nfa.len(), held1.as_slice())?,
         set2: records::set(alloc, nfa.len(), held2.as_slice())?,
     };
     let kind = job.match_kind()?;
-    let unit = unit(job.needed("unit")?)?;
+    let unit = unit(job.needed(Key::Unit)?)?;
     let mut stack = Vec::new(alloc);
     let builder = StateBuilderEmpty::new(alloc);
     let next = determinize::next(&nfa, kind, &mut sparses, &mut stack, &state, unit, builder)?;
@@ -148,7 +139,7 @@ pub fn next_state(alloc: Global, job: &Job<'_>, text: &mut String) -> Result<(),
 pub fn addstates(alloc: Global, job: &Job<'_>, text: &mut String) -> Result<(), JobError> {
     let nfa = nfas::nfa(alloc, job)?;
     let mut builder = records::builder(alloc, job)?;
-    let ids = values::state_ids(alloc, job.value_or_none("set"))?;
+    let ids = values::state_ids(alloc, job.value_or_none(Key::Set))?;
     let set = records::set(alloc, nfa.len(), ids.as_slice())?;
     determinize::add_nfa_states(&nfa, &set, &mut builder)?;
     values::write_bytes(text, builder.as_bytes())?;

@@ -2,6 +2,7 @@
 
 use crate::error::{JobError, Part};
 use crate::job::Job;
+use crate::key::Key;
 use crate::{nfas, records, values};
 use determinize_below::{Input, LookMatcher, NFA, PatternID, StateID, nfa};
 use determinize_core::start::{Config, Start, StartByteMap};
@@ -10,8 +11,8 @@ use std::alloc::{AllocError, Global};
 
 /// Answers `start`: the start kind and the look-behind byte of a range of a haystack.
 pub fn start(alloc: Global, job: &Job<'_>, text: &mut String) -> Result<(), JobError> {
-    let haystack = values::bytes(alloc, job.value_or_none("hay"))?;
-    let Some((start, end)) = job.needed("range")?.split_once("..") else {
+    let haystack = values::bytes(alloc, job.value_or_none(Key::Haystack))?;
+    let Some((start, end)) = job.needed(Key::Range)?.split_once("..") else {
         return Err(JobError::Malformed(Part::Range));
     };
     let start = values::number(start)?;
@@ -50,7 +51,7 @@ fn write_start(
 /// Answers `bytemap`: the start kind of a byte, or of each.
 pub fn bytemap(job: &Job<'_>, text: &mut String) -> Result<(), JobError> {
     let map = StartByteMap::new(&nfas::matcher(job)?);
-    let asked = values::optional_byte(job.value_or_none("byte"))?;
+    let asked = values::optional_byte(job.value_or_none(Key::Byte))?;
     for byte in 0..=255 {
         if asked.unwrap_or(byte) == byte {
             let kind = map.get(byte);
@@ -62,7 +63,7 @@ pub fn bytemap(job: &Job<'_>, text: &mut String) -> Result<(), JobError> {
 
 /// Answers `fromusize`: the start kind of a number.
 pub fn fromusize(job: &Job<'_>, text: &mut String) -> Result<(), JobError> {
-    match Start::from_usize(values::number(job.needed("n")?)?) {
+    match Start::from_usize(values::number(job.needed(Key::Number)?)?) {
         Some(kind) => writeln!(text, "some {kind:?}")?,
         None => text.push_str("none\n")?,
     }
@@ -87,8 +88,8 @@ pub fn build(alloc: Global, job: &Job<'_>, text: &mut String) -> Result<(), JobE
 
 /// Answers `size`: the number of states of an NFA of so many states, of which the first match.
 pub fn size(alloc: Global, job: &Job<'_>, text: &mut String) -> Result<(), JobError> {
-    let count = values::number(job.needed("states")?)?;
-    let matches = values::number(job.needed("matches")?)?;
+    let count = values::number(job.needed(Key::States)?)?;
+    let matches = values::number(job.needed(Key::Matches)?)?;
     let mut states = Vec::new(alloc);
     for index in 0..count {
         let state = match PatternID::new(index) {

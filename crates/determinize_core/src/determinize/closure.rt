@@ -1,14 +1,18 @@
 //! The epsilon closure: the states that a state leads to without input, in the order of preference.
 
 ghost use Rattle.std.specs.Prelude.{◌≡◌, ℕ, ◌+◌, ◌<◌, ◌≤◌, List, [], ◌∷◌, ◌++◌, false, not, length, reverse, IfNone, IfSome, IfOk, OnOk, OnErr, IsOk, if◌then◌else◌};
-ghost use Rattle.determinize_below.specs.Edges.{edges, listed, state_at, reach_past};
+ghost use Rattle.determinize_below.specs.Edges.{edges, is_capture, listed, state_at};
 ghost use Rattle.determinize_below.specs.Look.{has};
-ghost use Rattle.determinize_below.specs.Members.{holds};
-ghost use Rattle.determinize_below.specs.Nfa.{IsAccepted};
+ghost use Rattle.determinize_below.specs.Members.{AreMembers, holds};
+ghost use Rattle.determinize_below.specs.Nfa.{AllResolve, IsAccepted};
 ghost use Rattle.determinize_below.specs.Node.{is_epsilon};
-ghost use Rattle.determinize_core.specs.Closure.{tries_left, AddsBeginning, IsTurn};
+ghost use Rattle.determinize_below.specs.Runs.{without};
+ghost use Rattle.determinize_core.specs.Closure.{closure_of, closure_tries, AddsBeginning, IsTurn};
+ghost use Rattle.determinize_core.specs.Recording.{added};
 
+use crate::determinize::recording::add_state;
 use crate::determinize::steps::Steps;
+use crate::state::StateBuilderNFA;
 use determinize_below::nfa::State;
 use determinize_below::{LookSet, NFA, SparseSet, StateID};
 use std::alloc::{AllocError, Allocator};
@@ -20,7 +24,9 @@ fn visit<A: Allocator, L: Ledger>(set: &mut SparseSet<A>, id: StateID, steps: &m
     requires { id < set.old.capacity }
     ensures counted { steps.new ≡ steps.old + 1 }
     ensures new { result ≡ not (holds set.old.ids id) }
-    ensures after { set.new ≡ record set.old { ids = (if result then set.old.ids ++ id ∷ [] else set.old.ids) } }
+    ensures after { set.new
+        ≡ record set.old { ids = (if result then set.old.ids ++ id ∷ [] else set.old.ids) } }
+    ensures members { AreMembers set.new }
 {
     steps.tick();
     set.insert(id)
@@ -29,7 +35,8 @@ fn visit<A: Allocator, L: Ledger>(set: &mut SparseSet<A>, id: StateID, steps: &m
 /// The state to visit next: the one at hand, or else the last of the stack.
 fn take_next<A: Allocator>(at_hand: Option<StateID>, stack: &mut Vec<StateID, A>) -> Option<StateID>
     ensures none { IfNone result (listed at_hand ++ reverse stack.old.items ≡ []) }
-    ensures some { IfSome result (λ id. listed at_hand ++ reverse stack.old.items ≡ id ∷ reverse stack.new.items) }
+    ensures some { IfSome result (λ id. listed at_hand ++ reverse stack.old.items
+        ≡ id ∷ reverse stack.new.items) }
 {
     match at_hand {
         Some(id) => Some(id),
@@ -55,7 +62,8 @@ fn take_alternates<A: Allocator>(
     alternates: &[StateID],
     stack: &mut Vec<StateID, A>,
 ) -> Result<Option<StateID>, AllocError>
-    ensures { IfOk result (λ next. listed next ++ reverse stack.new.items ≡ alternates.now ++ reverse stack.old.items) }
+    ensures { IfOk result (λ next. listed next ++ reverse stack.new.items
+        ≡ alternates.now ++ reverse stack.old.items) }
 {
     let Some((first, others)) = alternates.split_first() else {
         return Ok(None);
@@ -72,7 +80,8 @@ fn follow<N: Allocator, A: Allocator>(
     stack: &mut Vec<StateID, A>,
 ) -> Result<Option<StateID>, AllocError>
     requires { id < length nfa.now.states }
-    ensures { IfOk result (λ next. listed next ++ reverse stack.new.items ≡ edges nfa.now (has look_have) id ++ reverse stack.old.items) }
+    ensures { IfOk result (λ next. listed next ++ reverse stack.new.items
+        ≡ edges nfa.now (has look_have) id ++ reverse stack.old.items) }
 {
     match nfa.state(id) {
         State::Look { look, next } => {
@@ -105,9 +114,11 @@ fn take_turn<N: Allocator, A: Allocator, L: Ledger>(
     requires resolves { id < length nfa.now.states }
     requires capacity { set.old.capacity ≡ length nfa.now.states }
     ensures turn { (pending : List ℕ)
-        × IsTurn nfa.now (has look_have) set.old.ids set.new.ids id (reverse stack.old.items) pending
+        × IsTurn nfa.now (has look_have) set.old.ids set.new.ids id (reverse stack.old.items)
+        pending
         × IfOk result (λ next. listed next ++ reverse stack.new.items ≡ pending) }
     ensures capacity { set.new.capacity ≡ set.old.capacity }
+    ensures resolve { AllResolve nfa.now set.new.ids }
     ensures counted { steps.new ≡ steps.old + 1 }
 {
     if visit(set, id, steps) {
@@ -130,12 +141,16 @@ fn search<N: Allocator, A: Allocator, L: Ledger>(
     requires empty { stack.old.items ≡ [] }
     requires resolves { start < length nfa.now.states }
     requires capacity { set.old.capacity ≡ length nfa.now.states }
-    ensures ok { OnOk result (set.new ≡ record set.old { ids = set.old.ids ++ reach_past nfa.now (has look_have) set.old.ids (start ∷ []) }) }
-    ensures err { OnErr result (AddsBeginning set.old set.new (reach_past nfa.now (has look_have) set.old.ids (start ∷ []))) }
-    ensures counted { OnOk result (steps.new ≡ steps.old + tries_left nfa.now (has look_have) set.old.ids (start ∷ [])) }
-    ensures bounded { steps.new ≤ steps.old + tries_left nfa.now (has look_have) set.old.ids (start ∷ []) }
+    ensures ok { OnOk result (set.new
+        ≡ record set.old { ids = set.old.ids ++ closure_of nfa.now look_have set.old.ids start }) }
+    ensures err { OnErr result
+        (AddsBeginning set.old set.new (closure_of nfa.now look_have set.old.ids start)) }
+    ensures resolve { AllResolve nfa.now set.new.ids }
+    ensures counted { OnOk result
+        (steps.new ≡ steps.old + closure_tries nfa.now look_have set.old.ids start) }
+    ensures bounded { steps.new ≤ steps.old + closure_tries nfa.now look_have set.old.ids start }
 {
-    let mut at_hand = Some(start);
+    let mut at_hand = take_turn(nfa, start, look_have, stack, set, steps)?;
     while let Some(id) = take_next(at_hand, stack) {
         at_hand = take_turn(nfa, id, look_have, stack, set, steps)?;
     }
@@ -154,18 +169,113 @@ pub(crate) fn counted_closure<N: Allocator, A: Allocator, L: Ledger>(
     requires empty { stack.old.items ≡ [] }
     requires resolves { start < length nfa.now.states }
     requires capacity { set.old.capacity ≡ length nfa.now.states }
-    ensures ok { OnOk result (set.new ≡ record set.old { ids = set.old.ids ++ reach_past nfa.now (has look_have) set.old.ids (start ∷ []) }) }
-    ensures err { OnErr result (AddsBeginning set.old set.new (reach_past nfa.now (has look_have) set.old.ids (start ∷ []))) }
+    ensures ok { OnOk result (set.new
+        ≡ record set.old { ids = set.old.ids ++ closure_of nfa.now look_have set.old.ids start }) }
+    ensures err { OnErr result
+        (AddsBeginning set.old set.new (closure_of nfa.now look_have set.old.ids start)) }
+    ensures resolve { AllResolve nfa.now set.new.ids }
     ensures stack { stack.new.items ≡ [] }
     ensures succeeds { is_epsilon (state_at nfa.now start) ≡ false → IsOk result }
-    ensures counted { OnOk result (steps.new ≡ steps.old + tries_left nfa.now (has look_have) set.old.ids (start ∷ [])) }
-    ensures bounded { steps.new ≤ steps.old + tries_left nfa.now (has look_have) set.old.ids (start ∷ []) }
+    ensures counted { OnOk result
+        (steps.new ≡ steps.old + closure_tries nfa.now look_have set.old.ids start) }
+    ensures bounded { steps.new ≤ steps.old + closure_tries nfa.now look_have set.old.ids start }
 {
     if !nfa.state(start).is_epsilon() {
         visit(set, start, steps);
         return Ok(());
     }
     let result = search(nfa, start, look_have, stack, set, steps);
+    stack.clear();
+    result
+}
+
+/// One turn of a closure that records: a pending state is visited and, where it is new, recorded in
+/// the builder and followed.
+fn take_recording_turn<N: Allocator, A: Allocator, L: Ledger>(
+    nfa: &NFA<N>,
+    id: StateID,
+    look_have: LookSet,
+    stack: &mut Vec<StateID, A>,
+    set: &mut SparseSet<A>,
+    builder: &mut StateBuilderNFA<A>,
+    steps: &mut Steps<L>,
+) -> Result<Option<StateID>, AllocError>
+    requires accepted { IsAccepted nfa.now }
+    requires resolves { id < length nfa.now.states }
+    requires capacity { set.old.capacity ≡ length nfa.now.states }
+    ensures turn { (pending : List ℕ) × (gained : List ℕ)
+        × IsTurn nfa.now (has look_have) set.old.ids set.new.ids id (reverse stack.old.items)
+        pending
+        × (set.new.ids ≡ set.old.ids ++ gained)
+        × IfOk result (λ next. (listed next ++ reverse stack.new.items ≡ pending)
+        × (builder.new ≡ added nfa.now builder.old (without (is_capture nfa.now) gained))) }
+    ensures capacity { set.new.capacity ≡ set.old.capacity }
+    ensures counted { steps.new ≡ steps.old + 1 }
+{
+    if !visit(set, id, steps) {
+        return Ok(None);
+    }
+    add_state(nfa, id, builder)?;
+    follow(nfa, id, look_have, stack)
+}
+
+/// Adds what a state leads to without input, and records it. After a refusal the stack is left as
+/// it is.
+fn search_recording<N: Allocator, A: Allocator, L: Ledger>(
+    nfa: &NFA<N>,
+    start: StateID,
+    look_have: LookSet,
+    stack: &mut Vec<StateID, A>,
+    set: &mut SparseSet<A>,
+    builder: &mut StateBuilderNFA<A>,
+    steps: &mut Steps<L>,
+) -> Result<(), AllocError>
+    requires accepted { IsAccepted nfa.now }
+    requires empty { stack.old.items ≡ [] }
+    requires resolves { start < length nfa.now.states }
+    requires capacity { set.old.capacity ≡ length nfa.now.states }
+    ensures ok { OnOk result (set.new
+        ≡ record set.old { ids = set.old.ids ++ closure_of nfa.now look_have set.old.ids start }) }
+    ensures recorded { OnOk result (builder.new ≡ added nfa.now builder.old
+        (without (is_capture nfa.now) (closure_of nfa.now look_have set.old.ids start))) }
+    ensures capacity { set.new.capacity ≡ set.old.capacity }
+    ensures counted { OnOk result
+        (steps.new ≡ steps.old + closure_tries nfa.now look_have set.old.ids start) }
+    ensures bounded { steps.new ≤ steps.old + closure_tries nfa.now look_have set.old.ids start }
+{
+    let mut at_hand = Some(start);
+    while let Some(id) = take_next(at_hand, stack) {
+        at_hand = take_recording_turn(nfa, id, look_have, stack, set, builder, steps)?;
+    }
+    Ok(())
+}
+
+/// The closure of one state, each new state of which is recorded in the moment in which it is added
+/// to the set, captures left out. After a refusal nothing is told of the builder.
+pub(crate) fn recording_closure<N: Allocator, A: Allocator, L: Ledger>(
+    nfa: &NFA<N>,
+    start: StateID,
+    look_have: LookSet,
+    stack: &mut Vec<StateID, A>,
+    set: &mut SparseSet<A>,
+    builder: &mut StateBuilderNFA<A>,
+    steps: &mut Steps<L>,
+) -> Result<(), AllocError>
+    requires accepted { IsAccepted nfa.now }
+    requires empty { stack.old.items ≡ [] }
+    requires resolves { start < length nfa.now.states }
+    requires capacity { set.old.capacity ≡ length nfa.now.states }
+    ensures ok { OnOk result (set.new
+        ≡ record set.old { ids = set.old.ids ++ closure_of nfa.now look_have set.old.ids start }) }
+    ensures recorded { OnOk result (builder.new ≡ added nfa.now builder.old
+        (without (is_capture nfa.now) (closure_of nfa.now look_have set.old.ids start))) }
+    ensures capacity { set.new.capacity ≡ set.old.capacity }
+    ensures stack { stack.new.items ≡ [] }
+    ensures counted { OnOk result
+        (steps.new ≡ steps.old + closure_tries nfa.now look_have set.old.ids start) }
+    ensures bounded { steps.new ≤ steps.old + closure_tries nfa.now look_have set.old.ids start }
+{
+    let result = search_recording(nfa, start, look_have, stack, set, builder, steps);
     stack.clear();
     result
 }
@@ -185,8 +295,11 @@ fn closure_from<N: Allocator, A: Allocator, L: Ledger>(
     requires empty { stack.old.items ≡ [] }
     requires resolves { start < length nfa.now.states }
     requires capacity { set.old.capacity ≡ length nfa.now.states }
-    ensures ok { OnOk result (set.new ≡ record set.old { ids = set.old.ids ++ reach_past nfa.now (has look_have) set.old.ids (start ∷ []) }) }
-    ensures err { OnErr result (AddsBeginning set.old set.new (reach_past nfa.now (has look_have) set.old.ids (start ∷ []))) }
+    ensures ok { OnOk result (set.new
+        ≡ record set.old { ids = set.old.ids ++ closure_of nfa.now look_have set.old.ids start }) }
+    ensures err { OnErr result
+        (AddsBeginning set.old set.new (closure_of nfa.now look_have set.old.ids start)) }
+    ensures resolve { AllResolve nfa.now set.new.ids }
     ensures stack { stack.new.items ≡ [] }
     ensures succeeds { is_epsilon (state_at nfa.now start) ≡ false → IsOk result }
 {
@@ -211,8 +324,11 @@ pub fn epsilon_closure<N: Allocator, A: Allocator>(
     requires empty { stack.old.items ≡ [] }
     requires resolves { start < length nfa.now.states }
     requires capacity { set.old.capacity ≡ length nfa.now.states }
-    ensures ok { OnOk result (set.new ≡ record set.old { ids = set.old.ids ++ reach_past nfa.now (has look_have) set.old.ids (start ∷ []) }) }
-    ensures err { OnErr result (AddsBeginning set.old set.new (reach_past nfa.now (has look_have) set.old.ids (start ∷ []))) }
+    ensures ok { OnOk result (set.new
+        ≡ record set.old { ids = set.old.ids ++ closure_of nfa.now look_have set.old.ids start }) }
+    ensures err { OnErr result
+        (AddsBeginning set.old set.new (closure_of nfa.now look_have set.old.ids start)) }
+    ensures resolve { AllResolve nfa.now set.new.ids }
     ensures stack { stack.new.items ≡ [] }
     ensures succeeds { is_epsilon (state_at nfa.now start) ≡ false → IsOk result }
 {

@@ -1,7 +1,8 @@
 //! Recording a set of NFA states in the builder of a DFA state.
 
-ghost use Rattle.std.specs.Prelude.{◌≡◌, ℕ, ◌<◌, All, length, OnOk, OnErr};
+ghost use Rattle.std.specs.Prelude.{◌≡◌, ◌<◌, length, OnOk, OnErr};
 ghost use Rattle.determinize_below.specs.Edges.{is_capture};
+ghost use Rattle.determinize_below.specs.Nfa.{AllResolve};
 ghost use Rattle.determinize_below.specs.Runs.{without};
 ghost use Rattle.determinize_core.specs.Marking.{IsGrown};
 ghost use Rattle.determinize_core.specs.Recording.{added, added_one};
@@ -9,11 +10,11 @@ ghost use Rattle.determinize_core.specs.Step.{recorded};
 
 use crate::state::StateBuilderNFA;
 use determinize_below::nfa::State;
-use determinize_below::{LookSet, NFA, SparseSet, StateID};
+use determinize_below::{NFA, SparseSet, StateID};
 use std::alloc::{AllocError, Allocator};
 
 /// Adds one state and, for a `Look`, its assertion; a capture is left out.
-fn add_state<N: Allocator, A: Allocator>(
+pub(crate) fn add_state<N: Allocator, A: Allocator>(
     nfa: &NFA<N>,
     id: StateID,
     builder: &mut StateBuilderNFA<A>,
@@ -24,7 +25,7 @@ fn add_state<N: Allocator, A: Allocator>(
 {
     match nfa.state(id) {
         State::Capture { .. } => return Ok(()),
-        State::Look { look, .. } => builder.set_look_need(|need| need.insert(*look)),
+        State::Look { look, .. } => builder.add_look_need(*look),
         _ => {}
     }
     builder.add_nfa_state_id(id)
@@ -36,8 +37,9 @@ fn add_states<N: Allocator, A: Allocator>(
     set: &SparseSet<A>,
     builder: &mut StateBuilderNFA<A>,
 ) -> Result<(), AllocError>
-    requires { All (λ id. id < length nfa.now.states) set.now.ids }
-    ensures ok { OnOk result (builder.new ≡ added nfa.now builder.old (without (is_capture nfa.now) set.now.ids)) }
+    requires { AllResolve nfa.now set.now.ids }
+    ensures ok { OnOk result (builder.new
+        ≡ added nfa.now builder.old (without (is_capture nfa.now) set.now.ids)) }
     ensures err { OnErr result (IsGrown builder.old builder.new) }
 {
     for id in set.iter() {
@@ -56,7 +58,7 @@ pub fn add_nfa_states<N: Allocator, A: Allocator>(
     set: &SparseSet<A>,
     builder: &mut StateBuilderNFA<A>,
 ) -> Result<(), AllocError>
-    requires { All (λ id. id < length nfa.now.states) set.now.ids }
+    requires { AllResolve nfa.now set.now.ids }
     ensures ok { OnOk result (builder.new ≡ recorded nfa.now builder.old set.now.ids) }
     ensures err { OnErr result (builder.new ≡ builder.old) }
 {
@@ -65,8 +67,6 @@ pub fn add_nfa_states<N: Allocator, A: Allocator>(
         builder.restore(mark);
         return Err(refused);
     }
-    if builder.look_need().is_empty() {
-        builder.set_look_have(|_| LookSet::empty());
-    }
+    builder.settle();
     Ok(())
 }

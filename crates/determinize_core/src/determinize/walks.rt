@@ -1,82 +1,54 @@
 //! A whole walk: the states of a DFA over a text, from the start state to the end of the input.
 
-ghost use Rattle.std.specs.Prelude.{◌≡◌, ℕ, ◌<◌, [], All, length, IfOk};
-ghost use Rattle.determinize_below.specs.Nfa.{IsAccepted};
-ghost use Rattle.determinize_below.specs.Unit.{byte_of};
+ghost use Rattle.std.specs.Prelude.{◌≡◌, ◌<◌, All, length, IfOk};
+ghost use Rattle.determinize_below.specs.Nfa.{AllResolve};
 ghost use Rattle.determinize_below.specs.declared.search.MatchKind.TheVariants as kinds;
 ghost use Rattle.determinize_core.specs.Chain.{FollowsItself, chain};
-ghost use Rattle.determinize_core.specs.StartKinds.{start_kind_of};
-ghost use Rattle.determinize_core.specs.Step.{start_value, step};
+ghost use Rattle.determinize_core.specs.Scratch.{IsScratch};
+ghost use Rattle.determinize_core.specs.Step.{start_value};
+ghost use Rattle.determinize_core.specs.Walk as specs_of_walks;
 ghost use Rattle.determinize_core.specs.Walk.{IsLeftmostWalk, IsWalkOfAll};
 
 use crate::determinize::closure::epsilon_closure;
 use crate::determinize::lookbehind::set_lookbehind_from_start;
 use crate::determinize::recording::add_nfa_states;
 use crate::determinize::transition::next;
-use crate::start::{Start, StartByteMap};
-use crate::state::{State, StateBuilderEmpty};
-use determinize_below::{MatchKind, NFA, SparseSets, StateID, Unit};
+use crate::start::start_kind_of;
+use crate::state::{State, StateBuilderEmpty, StateBuilderNFA};
+use determinize_below::{HalfMatch, MatchKind, NFA, SparseSets, StateID, Unit};
 use std::alloc::{AllocError, Allocator};
 
-/// The start kind of the byte before a search, or of none.
-fn start_kind<N: Allocator>(nfa: &NFA<N>, look_behind: Option<u8>) -> Start
-    ensures { result ≡ start_kind_of nfa.now.terminator look_behind }
-{
-    match look_behind {
-        Some(byte) => StartByteMap::new(nfa.look_matcher()).get(byte),
-        None => Start::Text,
-    }
-}
-
-/// The state before the first unit.
-fn start_state<N: Allocator, A: Allocator + Copy>(
-    alloc: A,
+/// The state before the first unit, in a builder: where a search stands that starts in an NFA state
+/// and has read nothing yet.
+///
+/// - `start` is the id of the NFA state to start from, below the number of states.
+/// - `look_behind` is the byte that is read just before, or none where nothing stands there.
+/// - `sparses` and `stack` are scratch, as in [`next`].
+///
+/// It lists no pattern. It knows what the byte behind it tells, and records what `start` leads to
+/// without input. The only error is want of memory, and the builder is given up then.
+pub fn start_state<N: Allocator, A: Allocator>(
     nfa: &NFA<N>,
     start: StateID,
     look_behind: Option<u8>,
     sparses: &mut SparseSets<A>,
     stack: &mut Vec<StateID, A>,
-) -> Result<State<A>, AllocError>
-    requires accepted { IsAccepted nfa.now }
+    empty_builder: StateBuilderEmpty<A>,
+) -> Result<StateBuilderNFA<A>, AllocError>
+    requires scratch { IsScratch nfa.now sparses.old.set1 sparses.old.set2 stack.old.items }
     requires resolves { start < length nfa.now.states }
-    requires empty { stack.old.items ≡ [] }
-    requires first_capacity { sparses.old.set1.capacity ≡ length nfa.now.states }
-    requires second_capacity { sparses.old.set2.capacity ≡ length nfa.now.states }
-    ensures value { IfOk result (λ state. state ≡ start_value nfa.now start look_behind) }
-    ensures empty { stack.new.items ≡ [] }
-    ensures first_capacity { sparses.new.set1.capacity ≡ length nfa.now.states }
-    ensures second_capacity { sparses.new.set2.capacity ≡ length nfa.now.states }
+    ensures ok { IfOk result (λ builder. builder ≡ start_value nfa.now start look_behind) }
+    ensures resolve { IfOk result (λ builder. AllResolve nfa.now builder.states) }
+    ensures scratch { IsScratch nfa.now sparses.new.set1 sparses.new.set2 stack.new.items }
 {
-    let mut builder = StateBuilderEmpty::new(alloc).into_matches()?;
-    set_lookbehind_from_start(nfa, &start_kind(nfa, look_behind), &mut builder);
+    let mut builder = empty_builder.into_matches()?;
+    let terminator = nfa.look_matcher().get_line_terminator();
+    set_lookbehind_from_start(nfa, &start_kind_of(terminator, look_behind), &mut builder);
     sparses.clear();
     epsilon_closure(nfa, start, builder.look_have(), stack, &mut sparses.set1)?;
     let mut builder = builder.into_nfa();
     add_nfa_states(nfa, &sparses.set1, &mut builder)?;
-    builder.to_state()
-}
-
-/// The state that follows the last one over a unit.
-fn next_state<N: Allocator, A: Allocator + Copy>(
-    alloc: A,
-    nfa: &NFA<N>,
-    match_kind: MatchKind,
-    state: &State<A>,
-    unit: Unit,
-    sparses: &mut SparseSets<A>,
-    stack: &mut Vec<StateID, A>,
-) -> Result<State<A>, AllocError>
-    requires resolve { All (λ id. id < length nfa.now.states) state.now.states }
-    requires empty { stack.old.items ≡ [] }
-    requires first_capacity { sparses.old.set1.capacity ≡ length nfa.now.states }
-    requires second_capacity { sparses.old.set2.capacity ≡ length nfa.now.states }
-    ensures value { IfOk result (λ s. s ≡ step nfa.now match_kind state.now (byte_of unit)) }
-    ensures empty { stack.new.items ≡ [] }
-    ensures first_capacity { sparses.new.set1.capacity ≡ length nfa.now.states }
-    ensures second_capacity { sparses.new.set2.capacity ≡ length nfa.now.states }
-{
-    let builder = StateBuilderEmpty::new(alloc);
-    next(nfa, match_kind, sparses, stack, state, unit, builder)?.to_state()
+    Ok(builder)
 }
 
 /// Walks a text: the state at the start of a search, and after it the state that follows over each
@@ -106,38 +78,72 @@ pub fn walk<N: Allocator, A: Allocator + Copy>(
     text: &[u8],
 ) -> Result<Vec<State<A>, A>, AllocError>
     requires { start < length nfa.now.states }
-    ensures values { IfOk result (λ states. states.items ≡ chain nfa.now match_kind start look_behind text.now) }
-    ensures all { match_kind ≡ kinds.All → IfOk result (λ states. IsWalkOfAll nfa.now start look_behind text.now states.items) }
-    ensures leftmost_first { match_kind ≡ kinds.LeftmostFirst → IfOk result (λ states. IsLeftmostWalk nfa.now start look_behind text.now states.items) }
-    ensures follows { IfOk result (λ states. FollowsItself nfa.now match_kind text.now states.items) }
+    ensures values { IfOk result
+        (λ states. states.items ≡ chain nfa.now match_kind start look_behind text.now) }
+    ensures all { match_kind ≡ kinds.All → IfOk result
+        (λ states. IsWalkOfAll nfa.now start look_behind text.now states.items) }
+    ensures leftmost_first { match_kind ≡ kinds.LeftmostFirst → IfOk result
+        (λ states. IsLeftmostWalk nfa.now start look_behind text.now states.items) }
+    ensures follows { IfOk result
+        (λ states. FollowsItself nfa.now match_kind text.now states.items) }
+    ensures resolve { IfOk result
+        (λ states. All (λ state. AllResolve nfa.now state.states) states.items) }
 {
     let mut sparses = SparseSets::new(alloc, nfa.len())?;
     let mut stack = Vec::new(alloc);
+    let empty = StateBuilderEmpty::new(alloc);
+    let mut builder = start_state(nfa, start, look_behind, &mut sparses, &mut stack, empty)?;
     let mut states = Vec::new(alloc);
-    let mut state = start_state(alloc, nfa, start, look_behind, &mut sparses, &mut stack)?;
     for byte in text {
-        let following = next_state(
-            alloc,
+        let state = builder.to_state()?;
+        let empty = builder.clear();
+        let unit = Unit::u8(*byte);
+        builder = next(
             nfa,
             match_kind,
-            &state,
-            Unit::u8(*byte),
             &mut sparses,
             &mut stack,
+            &state,
+            unit,
+            empty,
         )?;
         states.push(state)?;
-        state = following;
     }
-    let last = next_state(
-        alloc,
+    let state = builder.to_state()?;
+    let empty = builder.clear();
+    let unit = Unit::eoi(256);
+    let last = next(
         nfa,
         match_kind,
-        &state,
-        Unit::eoi(256),
         &mut sparses,
         &mut stack,
+        &state,
+        unit,
+        empty,
     )?;
     states.push(state)?;
-    states.push(last)?;
+    states.push(last.to_state()?)?;
     Ok(states)
+}
+
+/// The last match that the states of a walk tell: the first pattern of the last state that lists
+/// one, and where the match ends. None where no state lists any.
+///
+/// The first state stands before the first unit and lists no pattern, so it is passed over. The
+/// offset is the number of bytes that were read before the end of the match. In the states of a
+/// walk up to the preferred match these are the pattern and the end of the most preferred match.
+pub fn last_match<A: Allocator>(states: &[State<A>]) -> Option<HalfMatch>
+    ensures { result ≡ specs_of_walks.last_match states.now }
+{
+    let Some((_, others)) = states.split_first() else {
+        return None;
+    };
+    let mut last = None;
+    for (offset, state) in others.iter().enumerate() {
+        if state.is_match() {
+            let pattern = state.match_pattern(0);
+            last = Some(HalfMatch { pattern, offset });
+        }
+    }
+    last
 }

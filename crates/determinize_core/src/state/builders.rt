@@ -2,7 +2,8 @@
 
 ghost use Rattle.std.specs.Prelude.{◌≡◌, ℕ, [], true, false, nat_eq, IfOk, OnOk, OnErr, IsOk};
 ghost use Rattle.std.specs.List.{list_any};
-ghost use Rattle.determinize_core.specs.Value.{Value as StateValue, IsValue, dead, with_pattern, with_state};
+ghost use Rattle.determinize_below.specs.Look.{insert};
+ghost use Rattle.determinize_core.specs.Value.{Value as StateValue, IsValue, dead, is_match, settled, with_pattern, with_state};
 ghost use Rattle.determinize_core.specs.Spelling.{spell};
 ghost use Rattle.determinize_core.specs.Building.{IsOpen, value_of_open};
 ghost use Rattle.determinize_core.specs.Marking.{IsMarkOf, IsGrown};
@@ -10,7 +11,7 @@ ghost use Rattle.determinize_core.specs.Marking.{IsMarkOf, IsGrown};
 use crate::state::nfa_state_ids::NfaStateIds;
 use crate::state::pattern_ids::PatternIds;
 use crate::state::{Mark, State, bytes, varint};
-use determinize_below::{LookSet, PatternID, StateID};
+use determinize_below::{Look, LookSet, PatternID, StateID};
 use std::alloc::{AllocError, Allocator, Global};
 use std::marker::Model;
 
@@ -120,9 +121,25 @@ impl<A: Allocator> StateBuilderMatches<A> {
         bytes::open_look_need(self.bytes.as_slice())
     }
 
-    /// Whether the first byte has the bit of this weight.
-    pub(crate) fn has_bit(&self, weight: u8) -> bool {
-        bytes::has_bit(self.bytes.as_slice(), weight)
+    /// Whether some pattern is listed.
+    pub(crate) fn is_match(&self) -> bool
+        ensures { result ≡ is_match self.now.patterns }
+    {
+        bytes::open_is_match(self.bytes.as_slice())
+    }
+
+    /// Whether it is recorded that the state is entered by a word byte.
+    pub(crate) fn is_from_word(&self) -> bool
+        ensures { result ≡ self.now.from_word }
+    {
+        bytes::open_is_from_word(self.bytes.as_slice())
+    }
+
+    /// Whether it is recorded that the state stands behind the first half of a CRLF.
+    pub(crate) fn is_half_crlf(&self) -> bool
+        ensures { result ≡ self.now.half_crlf }
+    {
+        bytes::open_is_half_crlf(self.bytes.as_slice())
     }
 
     /// The patterns in order, read from the bytes.
@@ -211,9 +228,25 @@ impl<A: Allocator> StateBuilderNFA<A> {
         self.put_look_need(answer);
     }
 
-    /// Whether the first byte has the bit of this weight.
-    pub(crate) fn has_bit(&self, weight: u8) -> bool {
-        bytes::has_bit(self.bytes.as_slice(), weight)
+    /// Whether some pattern is listed.
+    pub(crate) fn is_match(&self) -> bool
+        ensures { result ≡ is_match self.now.patterns }
+    {
+        bytes::is_match(self.bytes.as_slice())
+    }
+
+    /// Whether it is recorded that the state is entered by a word byte.
+    pub(crate) fn is_from_word(&self) -> bool
+        ensures { result ≡ self.now.from_word }
+    {
+        bytes::is_from_word(self.bytes.as_slice())
+    }
+
+    /// Whether it is recorded that the state stands behind the first half of a CRLF.
+    pub(crate) fn is_half_crlf(&self) -> bool
+        ensures { result ≡ self.now.half_crlf }
+    {
+        bytes::is_half_crlf(self.bytes.as_slice())
     }
 
     /// The patterns in order, read from the bytes.
@@ -228,6 +261,25 @@ impl<A: Allocator> StateBuilderNFA<A> {
         ensures { result ≡ self.now.states }
     {
         bytes::nfa_state_ids(self.bytes.as_slice())
+    }
+
+    /// Adds an assertion to look-need, which may have it already.
+    pub(crate) fn add_look_need(&mut self, look: Look)
+        ensures { self.new ≡ record self.old { look_need = insert self.old.look_need look } }
+    {
+        let look_need = bytes::look_need(self.bytes.as_slice());
+        if !look_need.contains(look) {
+            self.put_look_need(look_need.insert(look));
+        }
+    }
+
+    /// Empties look-have where look-need is empty, since nothing will ask for it then.
+    pub(crate) fn settle(&mut self)
+        ensures { self.new ≡ settled self.old }
+    {
+        if self.look_need().is_empty() {
+            self.put_look_have(LookSet::empty());
+        }
     }
 
     /// Writes look-have.

@@ -95,6 +95,30 @@ fn number_at(bytes: &[u8], at: usize) -> u32
     u32::from_le_bytes([bytes[at], bytes[at + 1], bytes[at + 2], bytes[at + 3]])
 }
 
+/// Whether some pattern is listed, where the number of patterns isn't written yet.
+pub(crate) fn open_is_match(bytes: &[u8]) -> bool
+    requires { IsOpen bytes.now }
+    ensures { result ≡ is_match (value_of_open bytes.now).patterns }
+{
+    has_bit(bytes, MATCH)
+}
+
+/// The flag for a word byte, where the number of patterns isn't written yet.
+pub(crate) fn open_is_from_word(bytes: &[u8]) -> bool
+    requires { IsOpen bytes.now }
+    ensures { result ≡ (value_of_open bytes.now).from_word }
+{
+    has_bit(bytes, FROM_WORD)
+}
+
+/// The flag for half a CRLF, where the number of patterns isn't written yet.
+pub(crate) fn open_is_half_crlf(bytes: &[u8]) -> bool
+    requires { IsOpen bytes.now }
+    ensures { result ≡ (value_of_open bytes.now).half_crlf }
+{
+    has_bit(bytes, HALF_CRLF)
+}
+
 /// The set look-have of a state whose number of patterns isn't written yet.
 pub(crate) fn open_look_have(bytes: &[u8]) -> LookSet
     requires { IsOpen bytes.now }

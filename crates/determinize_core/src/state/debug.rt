@@ -2,7 +2,7 @@
 
 use crate::state::nfa_state_ids::NfaStateIds;
 use crate::state::pattern_ids::PatternIds;
-use crate::state::{State, StateBuilderEmpty, StateBuilderMatches, StateBuilderNFA, bytes};
+use crate::state::{State, StateBuilderEmpty, StateBuilderMatches, StateBuilderNFA};
 use std::alloc::Allocator;
 use std::fmt;
 
@@ -42,9 +42,9 @@ impl<A: Allocator> fmt::Debug for StateBuilderEmpty<A> {
 impl<A: Allocator> fmt::Debug for StateBuilderMatches<A> {
     fn fmt<W: fmt::Write>(&self, f: &mut fmt::Formatter<W>) -> fmt::Result {
         f.debug_struct("StateBuilderMatches")
-            .field("is_match", &self.has_bit(bytes::MATCH))
-            .field("is_from_word", &self.has_bit(bytes::FROM_WORD))
-            .field("is_half_crlf", &self.has_bit(bytes::HALF_CRLF))
+            .field("is_match", &self.is_match())
+            .field("is_from_word", &self.is_from_word())
+            .field("is_half_crlf", &self.is_half_crlf())
             .field("look_have", &self.look_have())
             .field("look_need", &self.look_need())
             .field("match_pattern_ids", &self.iter_match_pattern_ids())
@@ -56,9 +56,9 @@ impl<A: Allocator> fmt::Debug for StateBuilderMatches<A> {
 impl<A: Allocator> fmt::Debug for StateBuilderNFA<A> {
     fn fmt<W: fmt::Write>(&self, f: &mut fmt::Formatter<W>) -> fmt::Result {
         f.debug_struct("StateBuilderNFA")
-            .field("is_match", &self.has_bit(bytes::MATCH))
-            .field("is_from_word", &self.has_bit(bytes::FROM_WORD))
-            .field("is_half_crlf", &self.has_bit(bytes::HALF_CRLF))
+            .field("is_match", &self.is_match())
+            .field("is_from_word", &self.is_from_word())
+            .field("is_half_crlf", &self.is_half_crlf())
             .field("look_have", &self.look_have())
             .field("look_need", &self.look_need())
             .field("match_pattern_ids", &self.iter_match_pattern_ids())

@@ -1,44 +1,54 @@
-use Rattle.std.proofs.Common.{ap, refl, List}
+use Rattle.std.proofs.Common.{◌∙◌, ◌∷◌, ◌++◌, [], All, ap, refl, subst, sym, List}
+use Rattle.determinize_below.specs.Nfa.{AllResolve}
 use Rattle.determinize_below.specs.Unit.{byte_of}
 use Rattle.determinize_below.specs.declared.search.MatchKind.{MatchKind}
 use Rattle.determinize_below.specs.declared.search.MatchKind.TheVariants as kinds
 use Rattle.determinize_core.specs.Chain.{FollowsItself}
-use Rattle.determinize_core.specs.Step.{start_value}
+use Rattle.determinize_core.specs.Step.{start_value, step}
 use Rattle.determinize_core.specs.Value.{Value}
 use Rattle.determinize_core.specs.Walk.{IsLeftmostWalk, IsWalkOfAll}
 use Rattle.determinize_core.proofs.StepLaws.{each_future_follows}
-use Rattle.determinize_core.proofs.Walking.{promised, walked-chain, walked-push, walked-resolves}
+use Rattle.determinize_core.proofs.Walking.{chain_resolves, promised, walked-chain, walked-push, walked-start}
 use Rattle.determinize_core.proofs.WholeWalk.{leftmost_walk, walk_of_all}
 use Rattle.determinize_core.proofs.determinize.walks.walk.Goals as goal
 
-pub next_state-requires-clause-resolve : goal.next_state-requires-clause-resolve
-next_state-requires-clause-resolve g c =
-    walked-resolves c.args.nfa.now c.len.ensures.accepted c.args.match_kind c.args.start c.args.look_behind _ _ _ c.requires c.loop-byte.invariant.walked
+pub next-requires-clause-resolve : goal.next-requires-clause-resolve
+next-requires-clause-resolve g c = subst (λ (v : Value). AllResolve c.args.nfa.now v.states) (sym c.in_ok-state.ensures) c.loop-byte.invariant.resolve
 
-pub next_state-requires-2-clause-resolve : goal.next_state-requires-2-clause-resolve
-next_state-requires-2-clause-resolve g c =
-    walked-resolves c.args.nfa.now c.len.ensures.accepted c.args.match_kind c.args.start c.args.look_behind _ _ _ c.requires c.loop-byte.invariant.walked
+pub next-requires-2-clause-resolve : goal.next-requires-2-clause-resolve
+next-requires-2-clause-resolve g c = subst (λ (v : Value). AllResolve c.args.nfa.now v.states) (sym c.in_ok-state-2.ensures) c.loop-byte.invariant.resolve
+
+pub loop-byte-init : goal.loop-byte-init
+loop-byte-init g c = record {
+  walked = walked-start c.args.nfa.now c.args.match_kind (start_value c.args.nfa.now c.args.start c.args.look_behind) _ _ c.new-states.ensures.items c.in_ok-builder.ensures.ok;
+  resolve = c.in_ok-builder.ensures.resolve;
+  scratch = c.in_ok-builder.ensures.scratch;
+}
 
 pub loop-byte-preserved : goal.loop-byte-preserved
 loop-byte-preserved g c = record {
-  walked = walked-push c.args.nfa.now c.args.match_kind (start_value c.args.nfa.now c.args.start c.args.look_behind) c.args.text.now c.loop-byte.byte-index 0 _ _ _ _ (byte_of c.u8.result) c.loop-byte-test.true
+  walked = walked-push c.args.nfa.now c.args.match_kind (start_value c.args.nfa.now c.args.start c.args.look_behind) c.args.text.now c.loop-byte.byte-index 0 _ _ _ _ (byte_of c.u8-unit.result) c.loop-byte-test.true
       c.loop-byte.invariant.walked
-      (ap byte_of c.u8.ensures)
-      c.in_ok-following.ensures.value
-      c.in_ok-push.ensures.items;
-  empty = c.in_ok-following.ensures.empty;
-  first_capacity = c.in_ok-following.ensures.first_capacity;
-  second_capacity = c.in_ok-following.ensures.second_capacity;
+      (ap byte_of c.u8-unit.ensures)
+      (c.in_ok-builder-2.ensures.ok ∙ ap (λ (v : Value). step c.args.nfa.now c.args.match_kind v (byte_of c.u8-unit.result)) c.in_ok-state.ensures)
+      (c.in_ok-push.ensures.items ∙ ap (λ (v : Value). c.loop-byte.states.items ++ v ∷ []) c.in_ok-state.ensures);
+  resolve = c.in_ok-builder-2.ensures.resolve;
+  scratch = c.in_ok-builder-2.ensures.scratch;
 }
 
 pub returns-clause-values : goal.returns-clause-values
 returns-clause-values g c =
-    walked-chain c.args.nfa.now c.args.match_kind c.args.start c.args.look_behind c.args.text.now c.loop-byte.byte-index _ _ _ _ _ (byte_of c.eoi.result) c.loop-byte-test.false
+    walked-chain c.args.nfa.now c.args.match_kind c.args.start c.args.look_behind c.args.text.now c.loop-byte.byte-index _ _ _ _ _ (byte_of c.eoi-unit.result) c.loop-byte-test.false
     c.loop-byte.invariant.walked
-    (ap byte_of c.eoi.ensures)
-    c.in_ok-last.ensures.value
-    c.in_ok-push-2.ensures.items
+    (ap byte_of c.eoi-unit.ensures)
+    (c.in_ok-to_state.ensures ∙ c.in_ok-last.ensures.ok ∙ ap (λ (v : Value). step c.args.nfa.now c.args.match_kind v (byte_of c.eoi-unit.result)) c.in_ok-state-2.ensures)
+    (c.in_ok-push-2.ensures.items ∙ ap (λ (v : Value). c.loop-byte.states.items ++ v ∷ []) c.in_ok-state-2.ensures)
     c.in_ok-push-3.ensures.items
+
+pub returns-clause-resolve : goal.returns-clause-resolve
+returns-clause-resolve g c =
+    subst (λ (vs : List Value). All (λ (v : Value). AllResolve c.args.nfa.now v.states) vs) (sym (returns-clause-values g c))
+    (chain_resolves c.args.nfa.now c.len.ensures.accepted c.args.match_kind c.args.start c.args.look_behind c.args.text.now c.requires)
 
 pub returns-clause-all : goal.returns-clause-all
 returns-clause-all g c = λ kind.

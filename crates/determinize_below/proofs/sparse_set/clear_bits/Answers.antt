@@ -1,0 +1,15 @@
+use Rattle.std.proofs.Common.{◌≡◌, ◌*◌, ◌<◌, get_or, length, arith, ◌∙◌}
+use Rattle.std.proofs.lemmas.Grind.{get_or_default_zero}
+use Rattle.determinize_below.proofs.Sparse.{cleared_all, cleared_more}
+use Rattle.determinize_below.proofs.sparse_set.clear_bits.Goals as goal
+
+pub returns-then-ids-words : goal.returns-then-ids-words
+returns-then-ids-words c = rw (c.fill.ensures.after (λ y e. e)) (cleared_all _ _ _)
+
+pub loop-id-preserved : goal.loop-id-preserved
+loop-id-preserved c =
+    let id : c.as_usize.result ≡ get_or c.args.ids.now c.loop-id.id-index 0 =
+    c.as_usize.ensures.value ∙ c.id-item.is ∙ get_or_default_zero _ _ _ c.loop-id-test.true in
+    let within : get_or c.args.ids.now c.loop-id.id-index 0 < 64 * length c.loop-id.words =
+    omega (arith, c.requires c.loop-id.id-index 0 c.loop-id-test.true) in
+    rw id (cleared_more _ _ _ _ c.loop-id-test.true within c.loop-id.invariant)

@@ -1,0 +1,6 @@
+use Rattle.std.proofs.Common.{take}
+use Rattle.determinize_below.specs.Members.{IsCleared}
+use Rattle.determinize_below.proofs.sparse_set.clear_bits.Given as goal
+
+abbrev pub invariant-loop-id : goal.invariant-loop-id
+invariant-loop-id l = IsCleared l.fn.words l.words (take l.id-index l.ids)

@@ -1,0 +1,22 @@
+-- What the errors print.
+use Rattle.std.specs.Prelude.{ℕ, List, ◌++◌, codes, decimal}
+use Rattle.determinize_below.specs.declared.nfa.BuildError.{BuildError}
+use Rattle.determinize_below.specs.declared.nfa.BuildError.TheVariants.{TooManyStates, UnresolvedStart, UnresolvedId, BadSparse, BadDense, RepeatedPattern, OutOfMemory}
+
+-- a number that no id of a state has
+abbrev pub state_id_refusal : ℕ → List ℕ
+state_id_refusal n = decimal n ++ codes " is too large for the id of a state"
+
+-- a number that no id of a pattern has
+abbrev pub pattern_id_refusal : ℕ → List ℕ
+pattern_id_refusal n = decimal n ++ codes " is too large for the id of a pattern"
+
+-- why parts make no NFA
+abbrev pub build_refusal : BuildError → List ℕ
+build_refusal TooManyStates = codes "more than 2147483647 states"
+build_refusal UnresolvedStart = codes "no state has the start id"
+build_refusal (UnresolvedId i) = codes "state " ++ decimal i ++ codes " leads to no state"
+build_refusal (BadSparse i) = codes "state " ++ decimal i ++ codes " has a range out of order"
+build_refusal (BadDense i) = codes "state " ++ decimal i ++ codes " has not 256 targets"
+build_refusal (RepeatedPattern i) = codes "state " ++ decimal i ++ codes " repeats a pattern"
+build_refusal OutOfMemory = codes "out of memory"

@@ -1,0 +1,152 @@
+//! The keys of jobs.
+
+use std::fmt;
+
+/// What a value of a job is for.
+#[derive(Clone, Copy, Debug, PartialEq, Eq)]
+pub enum Key {
+    /// The number of the job where it was made.
+    Id,
+    /// That the answer is the intended difference from the original.
+    Fix,
+    /// The direction of the NFA or of the search.
+    Direction,
+    /// The line terminator.
+    Terminator,
+    /// The match kind, or the start kind.
+    Kind,
+    /// The id of the NFA state where a walk starts.
+    Start,
+    /// The byte behind the text.
+    LookBehind,
+    /// The text of a walk.
+    Text,
+    /// The byte after the end of the text.
+    After,
+    /// The number of a state of a walk.
+    At,
+    /// The id of the NFA state where a closure starts.
+    From,
+    /// The assertions that are known.
+    Look,
+    /// What a set holds before a closure.
+    Held,
+    /// The haystack of a search.
+    Haystack,
+    /// The range of a search.
+    Range,
+    /// A byte whose start kind is asked for.
+    Byte,
+    /// The number of a start kind.
+    Number,
+    /// The flag from-word of the record.
+    FromWord,
+    /// The flag half-CRLF of the record.
+    HalfCrlf,
+    /// Look-have of the record.
+    LookHave,
+    /// Look-need of the record.
+    LookNeed,
+    /// The patterns of the record.
+    Patterns,
+    /// The NFA states of the record.
+    Ids,
+    /// The unit of a transition.
+    Unit,
+    /// What the first lent set holds.
+    Set1,
+    /// What the second lent set holds.
+    Set2,
+    /// The NFA states that are added.
+    Set,
+    /// How many states an NFA has.
+    States,
+    /// How many of them match.
+    Matches,
+}
+
+/// Every key.
+const KEYS: [Key; 29] = [
+    Key::Id,
+    Key::Fix,
+    Key::Direction,
+    Key::Terminator,
+    Key::Kind,
+    Key::Start,
+    Key::LookBehind,
+    Key::Text,
+    Key::After,
+    Key::At,
+    Key::From,
+    Key::Look,
+    Key::Held,
+    Key::Haystack,
+    Key::Range,
+    Key::Byte,
+    Key::Number,
+    Key::FromWord,
+    Key::HalfCrlf,
+    Key::LookHave,
+    Key::LookNeed,
+    Key::Patterns,
+    Key::Ids,
+    Key::Unit,
+    Key::Set1,
+    Key::Set2,
+    Key::Set,
+    Key::States,
+    Key::Matches,
+];
+
+impl Key {
+    /// The key of this name, or none.
+    pub fn named(text: &str) -> Option<Key> {
+        for key in KEYS {
+            if key.name() == text {
+                return Some(key);
+            }
+        }
+        None
+    }
+
+    /// The name of the key in a job.
+    fn name(self) -> &'static str {
+        match self {
+            Key::Id => "id",
+            Key::Fix => "fix",
+            Key::Direction => "dir",
+            Key::Terminator => "term",
+            Key::Kind => "kind",
+            Key::Start => "start",
+            Key::LookBehind => "lb",
+            Key::Text => "text",
+            Key::After => "after",
+            Key::At => "at",
+            Key::From => "from",
+            Key::Look => "look",
+            Key::Held => "held",
+            Key::Haystack => "hay",
+            Key::Range => "range",
+            Key::Byte => "byte",
+            Key::Number => "n",
+            Key::FromWord => "fw",
+            Key::HalfCrlf => "half",
+            Key::LookHave => "have",
+            Key::LookNeed => "need",
+            Key::Patterns => "pids",
+            Key::Ids => "ids",
+            Key::Unit => "unit",
+            Key::Set1 => "set1",
+            Key::Set2 => "set2",
+            Key::Set => "set",
+            Key::States => "states",
+            Key::Matches => "matches",
+        }
+    }
+}
+
+impl fmt::Display for Key {
+    fn fmt<W: fmt::Write>(&self, f: &mut fmt::Formatter<W>) -> fmt::Result {
+        f.write_str(self.name())
+    }
+}

@@ -1,0 +1,178 @@
+//! A whole DFA, built and run by public calls alone.
+
+ghost use Rattle.std.specs.Prelude.{◌<◌, length};
+
+use crate::error::JobError;
+use crate::nfas;
+use determinize_below::{
+    HalfMatch, LookMatcher, MatchKind, NFA, PatternID, SparseSets, StateID, Unit,
+};
+use determinize_core::determinize::{last_match, next, start_state, walk};
+use determinize_core::state::{State, StateBuilderEmpty};
+use std::alloc::{AllocError, Global};
+use std::collections::HashMap;
+use std::process::Abort;
+use std::test::Fail;
+
+/// The states of a DFA in the order in which they are found, the start state first, and for each
+/// state the indices of those that follow over each byte and, last, over the end of the input.
+#[derive(Drop)]
+struct Dfa {
+    states: Vec<State>,
+    rows: Vec<Vec<usize>>,
+}
+
+/// The unit of a column: a byte, or the end of the input behind the bytes.
+fn unit(column: usize) -> Unit {
+    match u8::try_from(column) {
+        Ok(byte) => Unit::u8(byte),
+        Err(_) => Unit::eoi(256),
+    }
+}
+
+/// The DFA of searches from this NFA state with nothing behind, or none where it has more states
+/// than the limit.
+fn build(
+    alloc: Global,
+    nfa: &NFA,
+    kind: MatchKind,
+    start: StateID,
+    limit: usize,
+) -> Result<Option<Dfa>, AllocError>
+    requires { start < length nfa.now.states }
+{
+    let mut sparses = SparseSets::new(alloc, nfa.len())?;
+    let mut stack = Vec::new(alloc);
+    let empty = StateBuilderEmpty::new(alloc);
+    let mut builder = start_state(nfa, start, None, &mut sparses, &mut stack, empty)?;
+    let mut states = vec![in alloc; builder.to_state()?]?;
+    let mut indices = HashMap::new(alloc);
+    indices.insert(builder.to_state()?, 0)?;
+    let mut rows = Vec::new(alloc);
+    for index in 0..=limit {
+        if index >= states.len() {
+            return Ok(Some(Dfa { states, rows }));
+        }
+        let state = states[index].clone()?;
+        let mut row = Vec::new(alloc);
+        for column in 0..=256 {
+            let unit = unit(column);
+            let empty = builder.clear();
+            builder = next(nfa, kind, &mut sparses, &mut stack, &state, unit, empty)?;
+            let target = builder.to_state()?;
+            let known = indices.get(&target).copied();
+            row.push(known.unwrap_or(states.len()))?;
+            if known.is_none() {
+                indices.insert(target.clone()?, states.len())?;
+                states.push(target)?;
+            }
+        }
+        rows.push(row)?;
+    }
+    Ok(None)
+}
+
+impl Dfa {
+    /// The last match that a search over the text tells.
+    fn last_match(&self, text: &[u8]) -> Option<HalfMatch> {
+        let mut index = 0;
+        let mut last = None;
+        for offset in 0..=text.len() {
+            let column = text.get(offset).map_or(256, |byte| usize::from(*byte));
+            index = *self.rows.get(index)?.get(column)?;
+            let state = self.states.get(index)?;
+            if state.is_match() {
+                last = Some(HalfMatch::new(state.match_pattern(0), offset));
+            }
+        }
+        last
+    }
+}
+
+/// The states of `foo[0-9]+|bar`, in the shape in which the original compiles it without captures:
+/// state 2 starts it anchored, and state 0 starts it behind the prefix `(?s-u:.)*?`. Both
+/// alternates lead straight to the one `Match`, and so does the union of the repetition.
+const FOO_OR_BAR: &str = "\
+BU:2,1 B:00-ff>0 BU:3,8 B:66>4 B:6f>5 B:6f>6 B:30-39>7 BU:6,11 B:62>9 B:61>10 B:72>11 M:0";
+
+/// The NFA of `foo[0-9]+|bar`.
+fn foo_or_bar(alloc: Global) -> Result<NFA, JobError> {
+    let states = nfas::states(alloc, FOO_OR_BAR)?;
+    let anchored = StateID::must(2);
+    let matcher = LookMatcher::new();
+    let nfa = NFA::from_parts(alloc, states, anchored, StateID::ZERO, false, matcher)?;
+    Ok(nfa)
+}
+
+/// The texts that each DFA is run over.
+const TEXTS: [&str; 6] = ["foo12", "xfoo9y", "bar", "ba", "", "barfoo1"];
+
+/// Builds a DFA from this start and runs it. It has so many states, and tells the ends that are
+/// expected, as a walk does.
+fn run<R: Abort + AllocGlobal>(
+    rt: &R,
+    nfa: &NFA,
+    kind: MatchKind,
+    start: StateID,
+    count: usize,
+    ends: [Option<usize>; 6],
+) -> Result<(), Fail>
+    requires { start < length nfa.now.states }
+{
+    let Some(dfa) = build(rt.alloc(), nfa, kind, start, count)? else {
+        panic!(rt; "more than {count} states");
+    };
+    assert_eq!(rt; dfa.states.len(), count);
+    for (text, end) in TEXTS.iter().zip(ends) {
+        let wanted = end.map(|end| HalfMatch::new(PatternID::ZERO, end));
+        assert_eq!(rt; dfa.last_match(text.as_bytes()), wanted, "{text}");
+        let states = walk(rt.alloc(), nfa, kind, start, None, text.as_bytes())?;
+        assert_eq!(rt; last_match(states.as_slice()), wanted, "{text}");
+    }
+    Ok(())
+}
+
+/// Nine states stand before the end of a match: the dead one, and those behind nothing, `f`, `fo`,
+/// `foo`, `foo0`, `b`, `ba` and `bar`. Two tell of a match, behind a digit that goes on and behind
+/// any other unit.
+#[test]
+fn anchored(rt: HostRuntime) -> Result<(), Fail> {
+    let nfa = foo_or_bar(rt.alloc())?;
+    let ends = [Some(5), None, Some(3), None, None, Some(3)];
+    for kind in [MatchKind::All, MatchKind::LeftmostFirst] {
+        run(&rt, &nfa, kind, nfa.start_anchored(), 11, ends)?;
+    }
+    Ok(())
+}
+
+/// The same, since the prefix is dropped behind a match.
+#[test]
+fn unanchored_leftmost_first(rt: HostRuntime) -> Result<(), Fail> {
+    let nfa = foo_or_bar(rt.alloc())?;
+    let ends = [Some(5), Some(5), Some(3), None, None, Some(3)];
+    run(
+        &rt,
+        &nfa,
+        MatchKind::LeftmostFirst,
+        nfa.start_unanchored(),
+        11,
+        ends,
+    )
+}
+
+/// Nine states as before. Five tell of a match: behind a digit that goes on, `f`, `b`, any other
+/// byte, and the end of the input.
+#[test]
+fn unanchored_all(rt: HostRuntime) -> Result<(), Fail> {
+    let nfa = foo_or_bar(rt.alloc())?;
+    let ends = [Some(5), Some(5), Some(3), None, None, Some(7)];
+    run(&rt, &nfa, MatchKind::All, nfa.start_unanchored(), 14, ends)
+}
+
+#[test]
+fn keeps_its_limit(rt: HostRuntime) -> Result<(), Fail> {
+    let nfa = foo_or_bar(rt.alloc())?;
+    let dfa = build(rt.alloc(), &nfa, MatchKind::All, nfa.start_anchored(), 10)?;
+    assert!(rt; dfa.is_none());
+    Ok(())
+}

@@ -1,0 +1,171 @@
+//! A replay line by line: its counts, and what it prints.
+
+use crate::replay::{Replay, Tally};
+use std::process::Abort;
+use std::test::Fail;
+
+/// Replays lines, and compares the counts and all that is printed.
+fn expect<R: Abort + AllocGlobal>(
+    rt: &R,
+    lines: &[&str],
+    wanted: Tally,
+    text: &str,
+) -> Result<(), Fail> {
+    let mut out = Vec::new(rt.alloc());
+    let mut replay = Replay::new(rt.alloc());
+    for line in lines {
+        replay.take_line(line, &mut out)?;
+    }
+    let tally = replay.finish(&mut out)?;
+    assert_eq!(rt; tally, wanted, "{lines:?}");
+    assert_eq!(rt; out.as_slice(), text.as_bytes(), "{lines:?}");
+    Ok(())
+}
+
+/// What is told of one job.
+fn one(differ: u64, skipped: u64) -> Tally {
+    Tally {
+        jobs: 1,
+        differ,
+        skipped,
+    }
+}
+
+#[test]
+fn right_answers(rt: HostRuntime) -> Result<(), Fail> {
+    expect(&rt, &["> dead", "000000000000000000"], one(0, 0), "")?;
+    expect(
+        &rt,
+        &[
+            "> walk text=61 | B:61>1 M:0",
+            "00000000000000000000",
+            "# a comment is no line of an answer",
+            "00000000000000000002",
+            "010000000000000000",
+            "match 0 1",
+        ],
+        one(0, 0),
+        "",
+    )
+}
+
+#[test]
+fn wrong_answers(rt: HostRuntime) -> Result<(), Fail> {
+    expect(
+        &rt,
+        &["> dead", "000000000000000001"],
+        one(1, 0),
+        "> dead\nexpected:\n000000000000000001\ngot:\n000000000000000000\n",
+    )?;
+    expect(
+        &rt,
+        &["> dead"],
+        one(1, 0),
+        "> dead\nexpected:\ngot:\n000000000000000000\n",
+    )?;
+    expect(
+        &rt,
+        &["> fromusize n=6", "none", "none"],
+        one(1, 0),
+        "> fromusize n=6\nexpected:\nnone\nnone\ngot:\nnone\n",
+    )?;
+    expect(
+        &rt,
+        &["> fromusize n=6", ""],
+        one(1, 0),
+        "> fromusize n=6\nexpected:\n\ngot:\nnone\n",
+    )
+}
+
+#[test]
+fn skipped_jobs(rt: HostRuntime) -> Result<(), Fail> {
+    expect(
+        &rt,
+        &["> walk text=61 after=62 | B:61>1 M:0", "no matter what"],
+        one(0, 1),
+        "",
+    )?;
+    expect(
+        &rt,
+        &["> readers after=62 at=0 | B:61>1 M:0"],
+        one(0, 1),
+        "",
+    )
+}
+
+#[test]
+fn counts_of_several_jobs(rt: HostRuntime) -> Result<(), Fail> {
+    expect(
+        &rt,
+        &[
+            "# each of the three",
+            "> fromusize n=5",
+            "some CustomLineTerminator",
+            "> walk text=61 after=62 | B:61>1 M:0",
+            "none",
+            "> fromusize n=6",
+            "some LineLF",
+            "> dead",
+            "000000000000000000",
+            "> fromusize n=0",
+            "none",
+        ],
+        Tally {
+            jobs: 5,
+            differ: 2,
+            skipped: 1,
+        },
+        "\
+> fromusize n=6
+expected:
+some LineLF
+got:
+none
+> fromusize n=0
+expected:
+none
+got:
+some NonWordByte
+",
+    )
+}
+
+#[test]
+fn no_lines(rt: HostRuntime) -> Result<(), Fail> {
+    let none = Tally {
+        jobs: 0,
+        differ: 0,
+        skipped: 0,
+    };
+    expect(&rt, &[], none, "")?;
+    expect(&rt, &["# nothing"], none, "")
+}
+
+#[test]
+fn unreadable_jobs(rt: HostRuntime) -> Result<(), Fail> {
+    let mut out = Vec::new(rt.alloc());
+    let mut replay = Replay::new(rt.alloc());
+    for line in [
+        "# line 1",
+        "> dead",
+        "000000000000000000",
+        "> sleep",
+        "none",
+    ] {
+        replay.take_line(line, &mut out)?;
+    }
+    let Err(error) = replay.take_line("> dead", &mut out) else {
+        panic!(rt; "a job without a verb is taken");
+    };
+    let text = format!(in rt.alloc(); "{error}")?;
+    assert_eq!(rt; text.as_str(), "line 4: unknown verb \"sleep\"");
+    let mut last = Replay::new(rt.alloc());
+    last.take_line("> fromusize n=-1", &mut out)?;
+    let Err(error) = last.finish(&mut out) else {
+        panic!(rt; "a negative number is taken");
+    };
+    let text = format!(in rt.alloc(); "{error}")?;
+    assert_eq!(rt; text.as_str(), "line 1: not a decimal number");
+    assert_eq!(rt; out.as_slice(), [].as_slice());
+    Ok(())
+}

@@ -1,0 +1,272 @@
+-- The first reading of a working list, one state after another.
+use Rattle.std.proofs.Common.{◌≡◌, ℕ, Bool, true, false, not, List, [], ◌∷◌, ◌++◌, Option, Some, None, nat_eq, refl, sym, ap, subst, ◌∙◌, append_assoc, arith, take, ◌&&◌, ◌||◌, if◌then◌else◌, cond}
+use Rattle.std.specs.List.{AllByRecursion, IsDistinct, filter, flat_map, list_any}
+use Rattle.std.proofs.lemmas.Bool.{true≢false, false≢true, eq-eqb, eqb-true, or_left, or_right}
+use Rattle.std.proofs.lemmas.List.{append-nil}
+use Rattle.std.proofs.lemmas.List.Concat.{flat_map-append}
+use Rattle.std.proofs.lemmas.List.Elements.{filter-append}
+use Rattle.std.proofs.lemmas.List.Folds.{list_any-append}
+use Rattle.determinize_below.specs.declared.search.MatchKind.{MatchKind}
+use Rattle.determinize_below.specs.declared.search.MatchKind.TheVariants as kinds
+use Rattle.determinize_below.specs.Edges.{holds_some, is_match, listed, pattern_of, patterns_of, target}
+use Rattle.determinize_below.specs.Members.{holds}
+use Rattle.determinize_below.specs.Nfa.{Nfa}
+use Rattle.determinize_below.specs.Reach.{fresh, joined, member, none_held, with_node}
+use Rattle.determinize_below.specs.Search.{continues}
+use Rattle.determinize_below.proofs.Nodes.{same_decides}
+use Rattle.determinize_below.proofs.Sets.{fresh-append}
+use Rattle.determinize_below.proofs.SoundNfa.{IsSound}
+use Rattle.determinize_below.proofs.Tests.{by_option, by_test, or_false_left, or_false_right}
+use Rattle.determinize_core.specs.Reading.{counts, gained, roots_of}
+use Rattle.determinize_core.specs.Recording.{with_patterns}
+use Rattle.determinize_core.specs.Step.{is_nonempty, part_read, patterns_read}
+use Rattle.determinize_core.specs.Value.{Value}
+use Rattle.determinize_core.proofs.Collecting.{fresh-push}
+use Rattle.determinize_core.proofs.Loops.{goes_on, pattern_new, patterns-push, stops_at, targets-push}
+use Rattle.determinize_core.proofs.Targets.{target-match}
+
+-- the items of a list, each once
+abbrev pub distinct : List ℕ → List ℕ
+distinct xs = fresh nat_eq none_held xs
+
+-- an empty list
+pub empty_of : (xs : List ℕ) → is_nonempty xs ≡ false → xs ≡ []
+empty_of [] e = refl
+empty_of (x ∷ xs) e = absurd (true≢false e)
+
+is_nonempty-append : (xs ys : List ℕ) → is_nonempty (xs ++ ys) ≡ (is_nonempty xs || is_nonempty ys)
+is_nonempty-append [] ys = refl
+is_nonempty-append (x ∷ xs) ys = refl
+
+none_of : (o : Option ℕ) → holds_some o ≡ false → listed o ≡ []
+none_of None e = refl
+none_of (Some x) e = absurd (true≢false e)
+
+-- an item of the filtered list is an item that passes
+holds-filter : (p : ℕ → Bool) (xs : List ℕ) (x : ℕ) → holds (filter p xs) x ≡ (holds xs x && p x)
+holds-filter p [] x = refl
+holds-filter p (y ∷ xs) x = by_test (p y)
+    (λ e. rw e (by_test (nat_eq x y)
+    (λ k. let q : p x ≡ true = ap p (eqb-true x y k) ∙ e in rw (k, q) refl)
+    (λ k. rw k (holds-filter p xs x))))
+    (λ e. rw e (by_test (nat_eq x y)
+    (λ k. let q : p x ≡ false = ap p (eqb-true x y k) ∙ e in rw k (holds-filter p xs x ∙ rw q (neither (holds xs x))))
+    (λ k. rw k (holds-filter p xs x))))
+  where
+    neither : (a : Bool) → (a && false) ≡ false
+    neither a = grind arith
+
+module _ (nfa : Nfa) (u : Option ℕ) where
+  -- a state that does not count has no pattern and leads nowhere
+  pub counts-pattern : (s : ℕ) → counts nfa u s ≡ false → listed (pattern_of nfa s) ≡ []
+  counts-pattern s e = none_of (pattern_of nfa s) (or_false_left (is_match nfa s) (is_nonempty (target nfa u s)) e)
+
+  pub counts-target : (s : ℕ) → counts nfa u s ≡ false → target nfa u s ≡ []
+  counts-target s e = empty_of (target nfa u s) (or_false_right (is_match nfa s) (is_nonempty (target nfa u s)) e)
+
+  -- what states give that count, all give
+  counted_all : (f : ℕ → List ℕ) → ((s : ℕ) → counts nfa u s ≡ false → f s ≡ []) → (xs : List ℕ) → flat_map f (filter (counts nfa u) xs) ≡ flat_map f xs
+  counted_all f h [] = refl
+  counted_all f h (x ∷ xs) = by_test (counts nfa u x)
+      (λ e. rw e (ap (λ l. f x ++ l) (counted_all f h xs)))
+      (λ e. rw e (counted_all f h xs ∙ sym (ap (λ l. l ++ flat_map f xs) (h x e))))
+
+  counted_patterns : (xs : List ℕ) → patterns_of nfa (filter (counts nfa u) xs) ≡ patterns_of nfa xs
+  counted_patterns = counted_all (λ s. listed (pattern_of nfa s)) counts-pattern
+
+  counted_targets : (xs : List ℕ) → flat_map (target nfa u) (filter (counts nfa u) xs) ≡ flat_map (target nfa u) xs
+  counted_targets = counted_all (target nfa u) counts-target
+
+  -- what one more state adds to the distinct ones
+  pub one_more : List ℕ → ℕ → List ℕ
+  one_more xs x = if not (holds (distinct xs) x) then x ∷ [] else []
+
+  distinct-push : (xs : List ℕ) (x : ℕ) → distinct (xs ++ x ∷ []) ≡ distinct xs ++ one_more xs x
+  unfolding one_more
+  distinct-push xs x = by_test (holds (distinct xs) x)
+      (λ e. sym (fresh-push xs x false (sym (ap not e))) ∙ rw e (sym (append-nil (distinct xs))))
+      (λ e. sym (fresh-push xs x true (sym (ap not e))) ∙ rw e refl)
+
+  pub one_more-new : (xs : List ℕ) (x : ℕ) → holds (distinct xs) x ≡ false → one_more xs x ≡ x ∷ []
+  unfolding one_more
+  one_more-new xs x e = rw e refl
+
+  -- and what it adds to those that count
+  gained_is : (xs : List ℕ) (x : ℕ) → gained nfa u (filter (counts nfa u) (distinct xs)) x ≡ filter (counts nfa u) (one_more xs x)
+  unfolding one_more
+  gained_is xs x = by_test (counts nfa u x)
+      (λ e. by_test (holds (distinct xs) x)
+      (λ k. let there : holds (filter (counts nfa u) (distinct xs)) x ≡ true = holds-filter (counts nfa u) (distinct xs) x ∙ rw (k, e) refl in rw (there, k, e) refl)
+      (λ k. let away : holds (filter (counts nfa u) (distinct xs)) x ≡ false = holds-filter (counts nfa u) (distinct xs) x ∙ rw k refl in rw (away, k, e) refl))
+      (λ e. by_test (holds (distinct xs) x)
+      (λ k. rw (k, e) refl)
+      (λ k. rw (k, e) refl))
+
+-- a list read up to some place: the states that count, what the builder has, and whether the unit leads on
+pub record IsFirstRead (nfa : Nfa) (kind : MatchKind) (u : Option ℕ) (done : List ℕ) (begun value : Value) (kept : List ℕ) (some : Bool) : Type 0 where
+  pub kept_are : kept ≡ filter (counts nfa u) (distinct done)
+  pub value_is : value ≡ with_patterns begun (patterns_of nfa (distinct done))
+  pub some_is : some ≡ is_nonempty (flat_map (target nfa u) (distinct done))
+  pub unmatched : continues kind ≡ false → list_any (is_match nfa) (distinct done) ≡ false
+
+-- the list was read, or the reading has stopped at its first match
+pub record IsFirstReadOut (nfa : Nfa) (kind : MatchKind) (u : Option ℕ) (working : List ℕ) (begun value : Value) (kept : List ℕ) (some : Bool) : Type 0 where
+  pub value_is : value ≡ with_patterns begun (patterns_read kind (patterns_of nfa working))
+  pub roots : flat_map (target nfa u) kept ≡ roots_of nfa kind u working
+  pub some_is : some ≡ is_nonempty (roots_of nfa kind u working)
+
+module _ (nfa : Nfa) (kind : MatchKind) (u : Option ℕ) (begun : Value) where
+  pub first_read-start : (kept : List ℕ) → kept ≡ [] → begun.patterns ≡ [] → IsFirstRead nfa kind u [] begun begun kept false
+  first_read-start kept none unread = record {
+    kept_are = none;
+    value_is = sym (ap (λ ps. with_patterns begun ps) (sym unread));
+    some_is = refl;
+    unmatched = λ h. refl;
+  }
+
+  module _ (done : List ℕ) (id : ℕ) (value next : Value) (kept after : List ℕ) (some : Bool)
+      (so_far : IsFirstRead nfa kind u done begun value kept some)
+      (k : after ≡ kept ++ gained nfa u kept id)
+      (v : next ≡ with_patterns value (value.patterns ++ patterns_of nfa (gained nfa u kept id))) where
+    gained_more : gained nfa u kept id ≡ filter (counts nfa u) (one_more nfa u done id)
+    gained_more = ap (λ l. gained nfa u l id) so_far.kept_are ∙ gained_is nfa u done id
+
+    kept_more : after ≡ filter (counts nfa u) (distinct (done ++ id ∷ []))
+    kept_more = k ∙ ap (λ l. l ++ gained nfa u kept id) so_far.kept_are ∙ ap (λ l. filter (counts nfa u) (distinct done) ++ l) gained_more
+        ∙ sym (filter-append (counts nfa u) (distinct done) (one_more nfa u done id)) ∙ ap (λ l. filter (counts nfa u) l) (sym (distinct-push nfa u done id))
+
+    patterns_more : (value.patterns ++ patterns_of nfa (gained nfa u kept id)) ≡ patterns_of nfa (distinct (done ++ id ∷ []))
+    patterns_more = ap (λ (w : Value). w.patterns ++ patterns_of nfa (gained nfa u kept id)) so_far.value_is
+        ∙ ap (λ l. patterns_of nfa (distinct done) ++ l) (ap (λ l. patterns_of nfa l) gained_more ∙ counted_patterns nfa u (one_more nfa u done id))
+        ∙ sym (flat_map-append (λ s. listed (pattern_of nfa s)) (distinct done) (one_more nfa u done id))
+        ∙ ap (λ l. patterns_of nfa l) (sym (distinct-push nfa u done id))
+
+    value_more : next ≡ with_patterns begun (patterns_of nfa (distinct (done ++ id ∷ [])))
+    value_more = v ∙ ap (λ (w : Value). with_patterns w (value.patterns ++ patterns_of nfa (gained nfa u kept id))) so_far.value_is ∙ ap (λ ps. with_patterns begun ps) patterns_more
+
+    -- one more state
+    pub first_read-next : (later : Bool) → later ≡ (some || is_nonempty (flat_map (target nfa u) (gained nfa u kept id)))
+        → (is_match nfa id && not (continues kind)) ≡ false → IsFirstRead nfa kind u (done ++ id ∷ []) begun next after later
+    unfolding one_more
+    first_read-next later s stop = record {
+      kept_are = kept_more;
+      value_is = value_more;
+      some_is = s
+          ∙ ap (λ b. b || is_nonempty (flat_map (target nfa u) (gained nfa u kept id))) so_far.some_is
+          ∙ ap (λ l. is_nonempty (flat_map (target nfa u) (distinct done)) || is_nonempty l) (ap (λ l. flat_map (target nfa u) l) gained_more ∙ counted_targets nfa u (one_more nfa u done id))
+          ∙ sym (is_nonempty-append (flat_map (target nfa u) (distinct done)) (flat_map (target nfa u) (one_more nfa u done id)))
+          ∙ ap is_nonempty (sym (flat_map-append (target nfa u) (distinct done) (one_more nfa u done id)) ∙ ap (λ l. flat_map (target nfa u) l) (sym (distinct-push nfa u done id)));
+      unmatched = λ h. ap (λ l. list_any (is_match nfa) l) (distinct-push nfa u done id) ∙ list_any-append (is_match nfa) (distinct done) (one_more nfa u done id)
+          ∙ none_more (list_any (is_match nfa) (distinct done)) (list_any (is_match nfa) (one_more nfa u done id)) (so_far.unmatched h) (no_match h stop);
+    }
+      where
+        none_more : (a b : Bool) → a ≡ false → b ≡ false → (a || b) ≡ false
+        none_more a b h l = grind arith
+
+        unmatched_of : (a c : Bool) → c ≡ false → (a && not c) ≡ false → a ≡ false
+        unmatched_of a c h l = grind arith
+
+        no_match : continues kind ≡ false → (is_match nfa id && not (continues kind)) ≡ false → list_any (is_match nfa) (one_more nfa u done id) ≡ false
+        no_match h l = by_test (holds (distinct done) id)
+            (λ e. rw e refl)
+            (λ e. let m : is_match nfa id ≡ false = unmatched_of (is_match nfa id) (continues kind) h l in rw (e, m) refl)
+
+-- a match is new behind states without one
+unmatched_new : (nfa : Nfa) (xs : List ℕ) (x : ℕ) → list_any (is_match nfa) xs ≡ false → is_match nfa x ≡ true → holds xs x ≡ false
+unmatched_new nfa [] x h m = refl
+unmatched_new nfa (y ∷ xs) x h m = by_test (nat_eq x y)
+    (λ e. absurd (true≢false (sym (ap (is_match nfa) (sym (eqb-true x y e)) ∙ m) ∙ or_false_left (is_match nfa y) (list_any (is_match nfa) xs) h)))
+    (λ e. rw e (unmatched_new nfa xs x (or_false_right (is_match nfa y) (list_any (is_match nfa) xs) h) m))
+
+module _ (nfa : Nfa) (u : Option ℕ) (begun : Value) where
+  -- the end of the list
+  pub first_read-end : (kind : MatchKind) (done : List ℕ) (value : Value) (kept : List ℕ) (some : Bool) → IsFirstRead nfa kind u done begun value kept some
+      → IsFirstReadOut nfa kind u (distinct done) begun value kept some
+  first_read-end kinds.All done value kept some so_far = record {
+    value_is = so_far.value_is;
+    roots = ap (λ l. flat_map (target nfa u) l) so_far.kept_are ∙ counted_targets nfa u (distinct done);
+    some_is = so_far.some_is;
+  }
+  first_read-end kinds.LeftmostFirst done value kept some so_far =
+      let on : (part_read kinds.LeftmostFirst (is_match nfa) (distinct done) ≡ distinct done) × (patterns_of nfa (distinct done) ≡ []) = goes_on nfa (distinct done) (so_far.unmatched refl) in
+      record {
+        value_is = so_far.value_is ∙ ap (λ ps. with_patterns begun ps) (on.1 ∙ ap (λ ps. take 1 ps) (sym on.1));
+        roots = ap (λ l. flat_map (target nfa u) l) so_far.kept_are ∙ counted_targets nfa u (distinct done) ∙ ap (λ l. flat_map (target nfa u) l) (sym on.0);
+        some_is = so_far.some_is ∙ ap (λ l. is_nonempty (flat_map (target nfa u) l)) (sym on.0);
+      }
+
+  -- the first match, behind which nothing counts
+  pub first_read-stop : (kind : MatchKind) (done left : List ℕ) (id : ℕ) (value next : Value) (kept after : List ℕ) (some : Bool)
+      → IsFirstRead nfa kind u done begun value kept some
+      → after ≡ kept ++ gained nfa u kept id
+      → next ≡ with_patterns value (value.patterns ++ patterns_of nfa (gained nfa u kept id))
+      → (is_match nfa id && not (continues kind)) ≡ true
+      → IsFirstReadOut nfa kind u (distinct (done ++ (id ∷ left))) begun next after some
+  first_read-stop kinds.All done left id value next kept after some so_far k v stop = absurd (never (is_match nfa id) stop)
+    where
+      never : (a : Bool) → (a && not true) ≡ true → ⊥
+      never a h = grind arith
+  first_read-stop kinds.LeftmostFirst done left id value next kept after some so_far k v stop = by_option (pattern_of nfa id)
+      (λ e. absurd (true≢false (sym (matched (is_match nfa id) stop) ∙ ap holds_some e)))
+      (λ p e.
+      let new : holds (distinct done) id ≡ false = unmatched_new nfa (distinct done) id (so_far.unmatched refl) (matched (is_match nfa id) stop) in
+      let behind : List ℕ = fresh nat_eq (joined (member nat_eq (done ++ id ∷ [])) none_held) left in
+      let one : distinct (done ++ id ∷ []) ≡ distinct done ++ id ∷ [] = distinct-push nfa u done id ∙ ap (λ l. distinct done ++ l) (one_more-new nfa u done id new) in
+      let whole : distinct (done ++ (id ∷ left)) ≡ distinct done ++ (id ∷ behind) =
+      ap distinct (sym (append_assoc done (id ∷ []) left)) ∙ fresh-append same_decides none_held (done ++ id ∷ []) left ∙ ap (λ l. l ++ behind) one ∙ append_assoc (distinct done) (id ∷ []) behind in
+      let on : (part_read kinds.LeftmostFirst (is_match nfa) (distinct done) ≡ distinct done) × (patterns_of nfa (distinct done) ≡ []) = goes_on nfa (distinct done) (so_far.unmatched refl) in
+      let at : (part_read kinds.LeftmostFirst (is_match nfa) (distinct done ++ (id ∷ behind)) ≡ distinct done) × (patterns_read kinds.LeftmostFirst (patterns_of nfa (distinct done ++ (id ∷ behind))) ≡ p ∷ []) =
+      stops_at nfa (distinct done) behind id p (so_far.unmatched refl) e in
+      let part : part_read kinds.LeftmostFirst (is_match nfa) (distinct (done ++ (id ∷ left))) ≡ distinct done = ap (λ l. part_read kinds.LeftmostFirst (is_match nfa) l) whole ∙ at.0 in
+      let first : patterns_of nfa (distinct (done ++ id ∷ [])) ≡ p ∷ [] =
+      ap (λ l. patterns_of nfa l) one ∙ patterns-push nfa (distinct done) id ∙ ap (λ l. l ++ listed (pattern_of nfa id)) on.1 ∙ ap (λ o. listed o) e in
+      let roots_are : flat_map (target nfa u) (distinct (done ++ id ∷ [])) ≡ flat_map (target nfa u) (distinct done) =
+      ap (λ l. flat_map (target nfa u) l) one ∙ targets-push nfa u (distinct done) id ∙ ap (λ l. flat_map (target nfa u) (distinct done) ++ l) (target-match nfa u id p e) ∙ append-nil (flat_map (target nfa u) (distinct done)) in
+      record {
+        value_is = value_more nfa kinds.LeftmostFirst u begun done id value next kept after some so_far k v
+            ∙ ap (λ ps. with_patterns begun ps) (first ∙ sym (ap (λ l. take 1 (patterns_of nfa l)) whole ∙ at.1));
+        roots = ap (λ l. flat_map (target nfa u) l) (kept_more nfa kinds.LeftmostFirst u begun done id value next kept after some so_far k v)
+            ∙ counted_targets nfa u (distinct (done ++ id ∷ [])) ∙ roots_are ∙ ap (λ l. flat_map (target nfa u) l) (sym part);
+        some_is = so_far.some_is ∙ ap (λ l. is_nonempty (flat_map (target nfa u) l)) (sym part);
+      })
+    where
+      matched : (a : Bool) → (a && not false) ≡ true → a ≡ true
+      matched a h = grind arith
+
+-- a test beside one that is known
+pub or_with_true : (a b : Bool) → b ≡ true → true ≡ (a || b)
+or_with_true a b h = grind arith
+
+pub or_with_false : (a b : Bool) → b ≡ false → a ≡ (a || b)
+or_with_false a b h = grind arith
+
+-- the items of a list without repeats
+all_at : (P : ℕ → Type 0) (xs : List ℕ) (y : ℕ) → AllByRecursion P xs → member nat_eq xs y ≡ true → P y
+all_at P [] y a m = absurd (false≢true m)
+all_at P (x ∷ xs) y a m = by_test (nat_eq x y)
+    (λ e. subst (λ n. P n) (eqb-true x y e) a.0)
+    (λ e. all_at P xs y a.1 (rw e at m))
+
+fresh_distinct : (seen : ℕ → Bool) (xs : List ℕ) → ((x : ℕ) → member nat_eq xs x ≡ true → seen x ≡ false) → IsDistinct nat_eq xs → fresh nat_eq seen xs ≡ xs
+unfolding IsDistinct
+fresh_distinct seen [] h d = refl
+fresh_distinct seen (x ∷ xs) h d =
+    let first : seen x ≡ false = h x (or_left (nat_eq x x) (member nat_eq xs x) (eq-eqb x x refl)) in
+    rw first (ap (λ l. x ∷ l) (fresh_distinct (with_node nat_eq seen x) xs (λ y m. neither (nat_eq x y) (seen y) (all_at (λ w. nat_eq x w ≡ false) xs y d.0 m) (h y (or_right (nat_eq x y) (member nat_eq xs y) m))) d.1))
+  where
+    neither : (a b : Bool) → a ≡ false → b ≡ false → (a || b) ≡ false
+    neither a b h k = grind arith
+
+pub distinct_same : (xs : List ℕ) → IsDistinct nat_eq xs → distinct xs ≡ xs
+distinct_same xs d = fresh_distinct none_held xs (λ x m. refl) d
+
+-- the pattern of a state that was not kept is new
+pub first_read-new : (nfa : Nfa) → IsSound nfa → (kind : MatchKind) (u : Option ℕ) (done : List ℕ) (begun value : Value) (kept : List ℕ) (some : Bool) (id p : ℕ)
+    → IsFirstRead nfa kind u done begun value kept some → pattern_of nfa id ≡ Some p → holds kept id ≡ false → list_any (nat_eq p) value.patterns ≡ false
+first_read-new nfa sound kind u done begun value kept some id p so_far e h =
+    let counted : counts nfa u id ≡ true = or_left (is_match nfa id) (is_nonempty (target nfa u id)) (ap holds_some e) in
+    let new : holds (distinct done) id ≡ false = and_false (holds (distinct done) id) (counts nfa u id) counted (sym (holds-filter (counts nfa u) (distinct done) id) ∙ ap (λ l. holds l id) (sym so_far.kept_are) ∙ h) in
+    ap (λ (v : Value). list_any (nat_eq p) v.patterns) so_far.value_is ∙ pattern_new nfa sound (distinct done) id p new e
+  where
+    and_false : (a b : Bool) → b ≡ true → (a && b) ≡ false → a ≡ false
+    and_false a b h k = grind arith
