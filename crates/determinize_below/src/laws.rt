@@ -1,4 +1,4 @@
-//! Laws over the definitions, as public functions.
+//! Laws over the definitions, and of clones, as public functions.
 
 ghost use Rattle.std.specs.Prelude.{◌≡◌, nat_eq, [], ◌∷◌, IfOk, IsOk};
 ghost use Rattle.determinize_below.specs.Reach.{ordered, member, none_held};

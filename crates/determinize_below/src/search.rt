@@ -12,7 +12,7 @@ use std::ops::Range;
 pub enum MatchKind {
     /// All of them.
     All,
-    /// Those up to the first one that the pattern prefers.
+    /// The most preferred one alone: a state lists one pattern at most, and reads no further.
     LeftmostFirst,
 }
 

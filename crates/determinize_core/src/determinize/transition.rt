@@ -131,10 +131,10 @@ fn record_targets<N: Allocator, A: Allocator, L: Ledger>(
 
 /// The same as [`next`], with a count of the tries to add a state to a set.
 ///
-/// `steps` counts up by one at each of them, in the closures of the working list and of the states
-/// entered: by a number that the NFA, the state and the unit determine, and by no more than twice
-/// the number of the NFA's states and of their edges that take no input. After a refusal it has
-/// counted what was tried until then.
+/// `steps` counts the tries of the closures of the working list and of the states entered: a number
+/// that the NFA, the match kind, the state and the unit determine, and no more than twice the number
+/// of the NFA's states and of their edges that take no input. After a refusal it has grown by no
+/// more than that bound.
 pub fn next_counted<N: Allocator, A: Allocator, L: Ledger>(
     nfa: &NFA<N>,
     match_kind: MatchKind,

@@ -68,7 +68,8 @@ pub fn start_state<N: Allocator, A: Allocator>(
 /// one, and this is the pattern and the end of the most preferred match; where no state lists any
 /// pattern, there is no match.
 ///
-/// The only error is want of memory, and no state is kept then.
+/// All memory of the answer and of the work is taken of `alloc`. The only error is want of memory, and
+/// no state is kept then.
 pub fn walk<N: Allocator, A: Allocator + Copy>(
     alloc: A,
     nfa: &NFA<N>,
@@ -130,8 +131,9 @@ pub fn walk<N: Allocator, A: Allocator + Copy>(
 /// one, and where the match ends. None where no state lists any.
 ///
 /// The first state stands before the first unit and lists no pattern, so it is passed over. The
-/// offset is the number of bytes that were read before the end of the match. In the states of a
-/// walk up to the preferred match these are the pattern and the end of the most preferred match.
+/// offset is the number of bytes that were read before the end of the match. For the states of a
+/// walk under `MatchKind::LeftmostFirst` these are the pattern and the end of the most preferred
+/// match.
 pub fn last_match<A: Allocator>(states: &[State<A>]) -> Option<HalfMatch>
     ensures { result ≡ specs_of_walks.last_match states.now }
 {

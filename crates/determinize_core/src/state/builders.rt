@@ -152,7 +152,7 @@ impl<A: Allocator> StateBuilderMatches<A> {
     /// Lists a pattern that isn't listed yet, after all others.
     ///
     /// The only error is want of memory, and the builder is as it was then. A first pattern that is
-    /// `ZERO` takes no memory.
+    /// `ZERO` is never refused.
     pub fn add_match_pattern_id(&mut self, id: PatternID) -> Result<(), AllocError>
         requires { list_any (nat_eq id) self.old.patterns ≡ false }
         ensures ok { OnOk result (self.new ≡ with_pattern self.old id) }
@@ -332,7 +332,7 @@ impl<A: Allocator> StateBuilderNFA<A> {
         })
     }
 
-    /// An empty builder with the memory of this one. No memory is taken.
+    /// An empty builder, which may keep the memory of this one. It cannot be refused.
     pub fn clear(self) -> StateBuilderEmpty<A>
         ensures { result ≡ dead }
     {
