@@ -60,12 +60,13 @@ fn build(
             let empty = builder.clear();
             builder = next(nfa, kind, &mut sparses, &mut stack, &state, unit, empty)?;
             let target = builder.to_state()?;
-            let known = indices.get(&target).copied();
-            row.push(known.unwrap_or(states.len()))?;
-            if known.is_none() {
-                indices.insert(target.clone()?, states.len())?;
-                states.push(target)?;
+            if let Some(known) = indices.get(&target) {
+                row.push(*known)?;
+                continue;
             }
+            row.push(states.len())?;
+            indices.insert(target.clone()?, states.len())?;
+            states.push(target)?;
         }
         rows.push(row)?;
     }

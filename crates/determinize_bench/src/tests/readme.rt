@@ -16,7 +16,9 @@ fn letter_states<A: Allocator>(alloc: A) -> Result<Vec<State<A>, A>, AllocError>
         next: StateID::must(1),
     };
     let pattern_id = PatternID::ZERO;
-    let states = vec![in alloc; State::ByteRange { trans }, State::Match { pattern_id }]?;
+    let mut states = Vec::new(alloc);
+    states.push(State::ByteRange { trans })?;
+    states.push(State::Match { pattern_id })?;
     Ok(states)
 }
 
