@@ -304,8 +304,7 @@ impl<A: Allocator> StateBuilderNFA<A> {
         ensures err { OnErr result (self.new ≡ self.old) }
     {
         let difference = varint::zigzag(self.last, id);
-        let (groups, count) = varint::encode(difference);
-        self.bytes.extend_from_slice(&groups[..count])?;
+        varint::write(&mut self.bytes, difference)?;
         self.last = id;
         Ok(())
     }

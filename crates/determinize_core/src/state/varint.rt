@@ -1,10 +1,11 @@
 //! NFA ids as differences in groups of 7 bits.
 
-ghost use Rattle.std.specs.Prelude.{◌≡◌, ◌+◌, ◌%◌, ◌≤◌, [], ◌∷◌, take, option_map, IfNone, IfSome};
+ghost use Rattle.std.specs.Prelude.{◌≡◌, ◌+◌, ◌%◌, ◌≤◌, [], ◌∷◌, ◌++◌, take, option_map, IfNone, IfSome, OnErr, OnOk};
 ghost use Rattle.determinize_core.specs.Varint as format;
 ghost use Rattle.determinize_core.specs.Varint.{read, unzigzag, ids_from, IsDeltas};
 
 use determinize_below::StateID;
+use std::alloc::{AllocError, Allocator};
 
 /// The difference between two ids as a number, small where the difference is small.
 pub(crate) fn zigzag(from: StateID, to: StateID) -> u32
@@ -20,10 +21,33 @@ pub(crate) fn zigzag(from: StateID, to: StateID) -> u32
     }
 }
 
+/// Writes a number at the end, in groups of 7 bits.
+#[tactic(auto, unfolding(crate::specs::Varint::varint))]
+pub(crate) fn write<A: Allocator>(bytes: &mut Vec<u8, A>, number: u32) -> Result<(), AllocError>
+    ensures ok { OnOk result (bytes.new.items ≡ bytes.old.items ++ format.varint number) }
+    ensures err { OnErr result (bytes.new.items ≡ bytes.old.items) }
+{
+    if number < 128 {
+        bytes.push(number as u8)?;
+        return Ok(());
+    }
+    write_groups(bytes, number)
+}
+
+/// The same, in any number of groups.
+#[cold]
+fn write_groups<A: Allocator>(bytes: &mut Vec<u8, A>, number: u32) -> Result<(), AllocError>
+    ensures ok { OnOk result (bytes.new.items ≡ bytes.old.items ++ format.varint number) }
+    ensures err { OnErr result (bytes.new.items ≡ bytes.old.items) }
+{
+    let (groups, count) = encode(number);
+    bytes.extend_from_slice(&groups[..count])
+}
+
 /// A number in groups of 7 bits, the low group first, and how many groups it needs. Each byte but
 /// the last has its top bit set.
 #[tactic(auto, unfolding(crate::specs::Varint::varint))]
-pub(crate) fn encode(number: u32) -> ([u8; 5], usize)
+fn encode(number: u32) -> ([u8; 5], usize)
     ensures groups { take result.1 result.0 ≡ format.varint number }
     ensures within { result.1 ≤ 5 }
 {
@@ -78,6 +102,18 @@ pub(crate) fn first_id(from: u32, bytes: &[u8]) -> Option<(StateID, &[u8])>
 
 /// The number that the bytes begin with, and the bytes after it.
 fn read_number(bytes: &[u8]) -> Option<(u64, &[u8])>
+    ensures { option_map (λ r. (r.0, r.1.now)) result ≡ read 0 1 bytes.now }
+{
+    let (byte, after) = bytes.split_first()?;
+    if *byte < 128 {
+        return Some((*byte as u64, after));
+    }
+    read_groups(bytes)
+}
+
+/// The same, in any number of groups.
+#[cold]
+fn read_groups(bytes: &[u8]) -> Option<(u64, &[u8])>
     ensures { option_map (λ r. (r.0, r.1.now)) result ≡ read 0 1 bytes.now }
 {
     let mut low = 0u64;

@@ -1,6 +1,6 @@
 use Rattle.std.proofs.Common.{◌≡◌, ◌*◌, ◌≤◌, ◌<◌, length}
 use Rattle.determinize_core.specs.Varint.{read}
-use Rattle.determinize_core.proofs.state.varint.read_number.Given as goal
+use Rattle.determinize_core.proofs.state.varint.read_groups.Given as goal
 
 abbrev pub invariant-loop-byte : goal.invariant-loop-byte
 invariant-loop-byte l = record {
