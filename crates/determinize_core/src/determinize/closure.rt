@@ -20,6 +20,7 @@ use std::marker::Brand;
 use std::sync::ledger::{Blank, Ledger};
 
 /// One try to add a state to a set, which counts whether the state is new or not.
+#[inline(always)]
 fn visit<A: Allocator, L: Ledger>(set: &mut SparseSet<A>, id: StateID, steps: &mut Steps<L>) -> bool
     requires { id < set.old.capacity }
     ensures counted { steps.new ≡ steps.old + 1 }
@@ -33,6 +34,7 @@ fn visit<A: Allocator, L: Ledger>(set: &mut SparseSet<A>, id: StateID, steps: &m
 }
 
 /// The state to visit next: the one at hand, or else the last of the stack.
+#[inline(always)]
 fn take_next<A: Allocator>(at_hand: Option<StateID>, stack: &mut Vec<StateID, A>) -> Option<StateID>
     ensures none { IfNone result (listed at_hand ++ reverse stack.old.items ≡ []) }
     ensures some { IfSome result (λ id. listed at_hand ++ reverse stack.old.items
@@ -73,6 +75,7 @@ fn take_alternates<A: Allocator>(
 }
 
 /// Where a state leads without input: the first edge at hand, the others on the stack.
+#[inline(always)]
 fn follow<N: Allocator, A: Allocator>(
     nfa: &NFA<N>,
     id: StateID,
@@ -191,6 +194,7 @@ pub(crate) fn counted_closure<N: Allocator, A: Allocator, L: Ledger>(
 
 /// One turn of a closure that records: a pending state is visited and, where it is new, recorded in
 /// the builder and followed.
+#[inline(always)]
 fn take_recording_turn<N: Allocator, A: Allocator, L: Ledger>(
     nfa: &NFA<N>,
     id: StateID,

@@ -14,6 +14,7 @@ use determinize_below::{NFA, SparseSet, StateID};
 use std::alloc::{AllocError, Allocator};
 
 /// Adds one state and, for a `Look`, its assertion; a capture is left out.
+#[inline(always)]
 pub(crate) fn add_state<N: Allocator, A: Allocator>(
     nfa: &NFA<N>,
     id: StateID,

@@ -299,6 +299,7 @@ impl<A: Allocator> StateBuilderNFA<A> {
     /// Lists an NFA state after all others. It may be listed already.
     ///
     /// The only error is want of memory, and the builder is as it was then.
+    #[inline(always)]
     pub fn add_nfa_state_id(&mut self, id: StateID) -> Result<(), AllocError>
         ensures ok { OnOk result (self.new ≡ with_state self.old id) }
         ensures err { OnErr result (self.new ≡ self.old) }

@@ -56,6 +56,7 @@ impl<'a> Iterator for NfaStateIds<'a> {
     ghost remaining = { item_count (λ s. s) };
 
     /// The next id, or none where all were given.
+    #[inline(always)]
     fn next(&mut self) -> Option<StateID> {
         let Some((id, after)) = first_id(self.from, self.bytes) else {
             return None;

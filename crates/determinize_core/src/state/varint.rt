@@ -8,6 +8,7 @@ use determinize_below::StateID;
 use std::alloc::{AllocError, Allocator};
 
 /// The difference between two ids as a number, small where the difference is small.
+#[inline(always)]
 pub(crate) fn zigzag(from: StateID, to: StateID) -> u32
     ensures value { result ≡ format.zigzag from to }
     ensures small { to ≤ 2147483646 }
@@ -23,6 +24,7 @@ pub(crate) fn zigzag(from: StateID, to: StateID) -> u32
 
 /// Writes a number at the end, in groups of 7 bits.
 #[tactic(auto, unfolding(crate::specs::Varint::varint))]
+#[inline(always)]
 pub(crate) fn write<A: Allocator>(bytes: &mut Vec<u8, A>, number: u32) -> Result<(), AllocError>
     ensures ok { OnOk result (bytes.new.items ≡ bytes.old.items ++ format.varint number) }
     ensures err { OnErr result (bytes.new.items ≡ bytes.old.items) }
@@ -88,6 +90,7 @@ fn more(number: u32) -> u8
 }
 
 /// The first id of the differences from an id on, and the bytes after it.
+#[inline(always)]
 pub(crate) fn first_id(from: u32, bytes: &[u8]) -> Option<(StateID, &[u8])>
     requires { IsDeltas from bytes.now }
     ensures none { IfNone result (ids_from from 0 1 bytes.now ≡ []) }
@@ -101,6 +104,7 @@ pub(crate) fn first_id(from: u32, bytes: &[u8]) -> Option<(StateID, &[u8])>
 }
 
 /// The number that the bytes begin with, and the bytes after it.
+#[inline(always)]
 fn read_number(bytes: &[u8]) -> Option<(u64, &[u8])>
     ensures { option_map (λ r. (r.0, r.1.now)) result ≡ read 0 1 bytes.now }
 {
