@@ -47,6 +47,7 @@ fn take_next<A: Allocator>(at_hand: Option<StateID>, stack: &mut Vec<StateID, A>
 }
 
 /// Puts ids on the stack so that the first of them comes off first.
+#[inline(always)]
 fn push_reversed<A: Allocator>(
     ids: &[StateID],
     stack: &mut Vec<StateID, A>,
@@ -60,6 +61,7 @@ fn push_reversed<A: Allocator>(
 }
 
 /// Takes the first alternate at hand, and puts the others on the stack.
+#[inline(always)]
 fn take_alternates<A: Allocator>(
     alternates: &[StateID],
     stack: &mut Vec<StateID, A>,
@@ -225,6 +227,7 @@ fn take_recording_turn<N: Allocator, A: Allocator, L: Ledger>(
 
 /// Adds what a state leads to without input, and records it. After a refusal the stack is left as
 /// it is.
+#[inline(always)]
 fn search_recording<N: Allocator, A: Allocator, L: Ledger>(
     nfa: &NFA<N>,
     start: StateID,

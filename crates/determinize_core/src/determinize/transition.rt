@@ -65,6 +65,7 @@ fn set_flags<A: Allocator>(told: Entries, enters: bool, builder: &mut StateBuild
 }
 
 /// Records what the unit leads to from a state, where it leads on.
+#[inline(always)]
 fn record_target<N: Allocator, A: Allocator, L: Ledger>(
     nfa: &NFA<N>,
     id: StateID,

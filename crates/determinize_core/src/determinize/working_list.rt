@@ -42,6 +42,7 @@ pub(crate) enum Reading {
 }
 
 /// Where a state of the NFA leads over a unit.
+#[inline(always)]
 pub(crate) fn target<N: Allocator>(nfa: &NFA<N>, id: StateID, unit: Unit) -> Option<StateID>
     requires { id < length nfa.now.states }
     ensures { result ≡ target_of (byte_of unit) (state_at nfa.now id) }
@@ -61,6 +62,7 @@ pub(crate) fn target<N: Allocator>(nfa: &NFA<N>, id: StateID, unit: Unit) -> Opt
 }
 
 /// The pattern that a state of the NFA accepts.
+#[inline(always)]
 fn pattern<N: Allocator>(nfa: &NFA<N>, id: StateID) -> Option<PatternID>
     requires { id < length nfa.now.states }
     ensures { result ≡ pattern_of nfa.now id }
@@ -126,6 +128,7 @@ fn look_again_over<N: Allocator, A: Allocator>(
 }
 
 /// Reads one state: keeps it where it counts and was not kept before, and adds its pattern then.
+#[inline(always)]
 fn read_state<N: Allocator, A: Allocator>(
     nfa: &NFA<N>,
     match_kind: MatchKind,

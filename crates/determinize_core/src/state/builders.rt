@@ -264,6 +264,7 @@ impl<A: Allocator> StateBuilderNFA<A> {
     }
 
     /// Adds an assertion to look-need, which may have it already.
+    #[inline(always)]
     pub(crate) fn add_look_need(&mut self, look: Look)
         ensures { self.new ≡ record self.old { look_need = insert self.old.look_need look } }
     {

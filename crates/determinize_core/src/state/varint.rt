@@ -139,6 +139,7 @@ fn read_groups(bytes: &[u8]) -> Option<(u64, &[u8])>
 }
 
 /// The id whose difference to `from` is this number.
+#[inline(always)]
 fn id_after(from: u32, number: u64) -> StateID
     requires from { from ≤ 2147483646 }
     requires small { unzigzag from number ≤ 2147483646 }
