@@ -3,7 +3,7 @@ use Rattle.std.specs.Bool.{Decides}
 use Rattle.std.specs.List.{flat_map}
 use Rattle.std.proofs.Common.{◌+◌, Bool, List, [], ap, arith, cond, false, length, refl, sym, true, zero, ◌||◌, ℕ, ◌∙◌, ◌∷◌, ◌≡◌, ◌≤◌}
 use Rattle.std.proofs.lemmas.Bool.{false≢true, or_left, or_right, true≢false}
-use Rattle.determinize_below.specs.Reach.{edge_count, ends, fresh, member, none_held, tries, with_node}
+use Rattle.determinize_below.specs.Reach.{edge_count, ends, fresh, member, none_held, search_tries, with_node}
 use Rattle.determinize_below.proofs.Sets.{eq-self}
 use Rattle.determinize_below.proofs.Tests.{by_test, or_false_right}
 
@@ -57,7 +57,7 @@ module _ {N : Type 0} {eq : N → N → Bool} (dec : (a b : N) → Decides (eq a
 
   -- the tries of a search are at most its pending nodes and all edges
   pub tries_bound : (n : ℕ) (met pending : List N) → ((x : N) → member eq (flat_map (ends eq edges n (member eq met)) pending) x ≡ true → member eq nodes x ≡ true)
-      → tries eq edges n met pending ≤ length pending + edge_count edges nodes
+      → search_tries eq edges n met pending ≤ length pending + edge_count edges nodes
   tries_bound n met pending h =
       let all : List N = flat_map (ends eq edges n (member eq met)) pending in
       let a : weight (λ x. length (edges x)) none_held (fresh eq (member eq met) all) ≤ weight (λ x. length (edges x)) (member eq met) nodes =

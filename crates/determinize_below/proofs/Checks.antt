@@ -7,7 +7,7 @@ use Rattle.std.proofs.Math.Seq.{drop-cons}
 use Rattle.std.proofs.lemmas.List.{take_more, map-append}
 use Rattle.std.proofs.lemmas.List.Folds.{list_any-append}
 use Rattle.determinize_below.specs.Node.{Node, ByteRange, Sparse, Dense, Look, Union, BinaryUnion, Capture, Fail, Match}
-use Rattle.determinize_below.specs.Nfa.{matches, repeats, failure_of, state_failure, states_failure}
+use Rattle.determinize_below.specs.Nfa.{repeats, failure_of, state_failure, states_failure, is_match_of}
 use Rattle.determinize_below.specs.declared.nfa.BuildError.{BuildError}
 use Rattle.determinize_below.specs.declared.nfa.BuildError.TheVariants.{OutOfMemory}
 
@@ -44,23 +44,23 @@ module _ {S : Type 0} (f : S → Node) (states : List S) (i : ℕ) (x : S) (with
       ∙ ap (λ l. option_or (state_failure count (map f (take i states)) i (f x)) (states_failure count l (i + 1) (map f (drop (i + 1) states)))) (sym nodes_more)
 
   -- the patterns seen with this state's
-  pub seen-turn : (old new : ℕ → Bool) → ((q : ℕ) → old q ≡ list_any (matches q) (map f (take i states))) → ((q : ℕ) → new q ≡ (matches q (f x) || old q))
-      → (q : ℕ) → new q ≡ list_any (matches q) (map f (take (i + 1) states))
+  pub seen-turn : (old new : ℕ → Bool) → ((q : ℕ) → old q ≡ list_any (is_match_of q) (map f (take i states))) → ((q : ℕ) → new q ≡ (is_match_of q (f x) || old q))
+      → (q : ℕ) → new q ≡ list_any (is_match_of q) (map f (take (i + 1) states))
   seen-turn old new h k q =
-      k q ∙ ap (λ b. matches q (f x) || b) (h q)
-      ∙ turn (matches q (f x)) (list_any (matches q) (map f (take i states)))
-      ∙ sym (ap (λ l. list_any (matches q) l) nodes_more ∙ list_any-append (matches q) (map f (take i states)) (f x ∷ []))
+      k q ∙ ap (λ b. is_match_of q (f x) || b) (h q)
+      ∙ turn (is_match_of q (f x)) (list_any (is_match_of q) (map f (take i states)))
+      ∙ sym (ap (λ l. list_any (is_match_of q) l) nodes_more ∙ list_any-append (is_match_of q) (map f (take i states)) (f x ∷ []))
     where
       turn : (a b : Bool) → (a || b) ≡ (b || (a || false))
       turn a b = grind arith
 
   -- the check of this state by the patterns seen
-  pub state_failure-seen : (seen : ℕ → Bool) (count : ℕ) → ((q : ℕ) → seen q ≡ list_any (matches q) (map f (take i states)))
+  pub state_failure-seen : (seen : ℕ → Bool) (count : ℕ) → ((q : ℕ) → seen q ≡ list_any (is_match_of q) (map f (take i states)))
       → failure_of count (repeats seen (f x)) i (f x) ≡ state_failure count (map f (take i states)) i (f x)
-  state_failure-seen seen count h = ap (λ b. failure_of count b i (f x)) (repeats-same seen (λ q. list_any (matches q) (map f (take i states))) (f x) h)
+  state_failure-seen seen count h = ap (λ b. failure_of count b i (f x)) (repeats-same seen (λ q. list_any (is_match_of q) (map f (take i states))) (f x) h)
 
   -- all checks so far have passed
-  pub goes_on : (seen : ℕ → Bool) (count : ℕ) → ((q : ℕ) → seen q ≡ list_any (matches q) (map f (take i states)))
+  pub goes_on : (seen : ℕ → Bool) (count : ℕ) → ((q : ℕ) → seen q ≡ list_any (is_match_of q) (map f (take i states)))
       → states_failure count [] 0 (map f states) ≡ states_failure count (map f (take i states)) i (map f (drop i states))
       → failure_of count (repeats seen (f x)) i (f x) ≡ None
       → states_failure count [] 0 (map f states) ≡ states_failure count (map f (take (i + 1) states)) (i + 1) (map f (drop (i + 1) states))
@@ -69,7 +69,7 @@ module _ {S : Type 0} (f : S → Node) (states : List S) (i : ℕ) (x : S) (with
       ∙ ap (λ o. option_or o (states_failure count (map f (take (i + 1) states)) (i + 1) (map f (drop (i + 1) states)))) (sym (state_failure-seen seen count h) ∙ none)
 
   -- the check of this state is the first that fails
-  pub fails_here : (seen : ℕ → Bool) (count : ℕ) → ((q : ℕ) → seen q ≡ list_any (matches q) (map f (take i states)))
+  pub fails_here : (seen : ℕ → Bool) (count : ℕ) → ((q : ℕ) → seen q ≡ list_any (is_match_of q) (map f (take i states)))
       → states_failure count [] 0 (map f states) ≡ states_failure count (map f (take i states)) i (map f (drop i states))
       → (e : BuildError) → (failure_of count (repeats seen (f x)) i (f x) ≡ Some e) ⊎ (e ≡ OutOfMemory)
       → (states_failure count [] 0 (map f states) ≡ Some e) ⊎ (e ≡ OutOfMemory)

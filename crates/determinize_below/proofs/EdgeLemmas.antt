@@ -1,9 +1,10 @@
 -- The edges of an NFA under sets of assertions.
 use Rattle.std.proofs.Common.{◌≡◌, ℕ, zero, suc, ◌<◌, ◌≤◌, Bool, true, false, List, [], ◌∷◌, length, get_or, refl, ap, arith, Option, Some, None, nat_eq, ◌⊎◌, inl, inr}
+use Rattle.std.specs.Option.{is_some, option_to_list}
 use mathlib.Core.Path.{fun_ext}
 use Rattle.std.proofs.lemmas.Bool.{false≢true, cases_lt}
 use Rattle.determinize_below.specs.Captures.{capture_next}
-use Rattle.determinize_below.specs.Edges.{edges_of, target_of, tests_capture, pattern_in, assertion_in, state_at, edges, target, is_capture, pattern_of, patterns_of, listed, holds_some, is_match, assertion_of, IsTested}
+use Rattle.determinize_below.specs.Edges.{edges_of, target_of, tests_capture, pattern_in, assertion_in, state_at, edges, target, is_capture, pattern_of, patterns_of, is_match, assertion_of, IsTested}
 use Rattle.determinize_below.specs.Nfa.{Nfa}
 use Rattle.determinize_below.specs.Node.{Node, ByteRange, Sparse, Dense, Look, Union, BinaryUnion, Capture, Fail, Match}
 use Rattle.determinize_below.specs.Reach.{member}
@@ -85,7 +86,7 @@ target_of-capture u (Capture next) e = refl
 target_of-capture u Fail e = refl
 target_of-capture u (Match pattern) e = refl
 
-match_no_capture : (s : Node) → holds_some (pattern_in s) ≡ true → tests_capture s ≡ false
+match_no_capture : (s : Node) → is_some (pattern_in s) ≡ true → tests_capture s ≡ false
 match_no_capture (ByteRange t) e = refl
 match_no_capture (Sparse ts) e = refl
 match_no_capture (Dense ids) e = refl
@@ -119,14 +120,14 @@ module _ (nfa : Nfa) where
   edges-capture holds s e = edges_of-capture holds (state_at nfa s) e
 
   pub target-capture : (u : Option ℕ) (s : ℕ) → is_capture nfa s ≡ true → target nfa u s ≡ []
-  target-capture u s e = ap listed (target_of-capture u (state_at nfa s) e)
+  target-capture u s e = ap option_to_list (target_of-capture u (state_at nfa s) e)
 
   pub match-capture : (s : ℕ) → is_match nfa s ≡ true → is_capture nfa s ≡ false
   match-capture s e = match_no_capture (state_at nfa s) e
 
   -- leaving captures out leaves the patterns
   pub patterns-without : (xs : List ℕ) → patterns_of nfa (without (is_capture nfa) xs) ≡ patterns_of nfa xs
-  patterns-without xs = flat_map-without (λ x. listed (pattern_of nfa x)) (is_capture nfa) xs (λ x e. ap listed (pattern-capture x e))
+  patterns-without xs = flat_map-without (λ x. option_to_list (pattern_of nfa x)) (is_capture nfa) xs (λ x e. ap option_to_list (pattern-capture x e))
 
 target_of-end : (s : Node) → target_of None s ≡ None
 target_of-end (ByteRange t) = refl
@@ -141,15 +142,15 @@ target_of-end (Match pattern) = refl
 
 -- no state leads anywhere over the end of the input
 pub target-end : (nfa : Nfa) (s : ℕ) → target nfa None s ≡ []
-target-end nfa s = ap listed (target_of-end (state_at nfa s))
+target-end nfa s = ap option_to_list (target_of-end (state_at nfa s))
 
-length-listed : {A : Type 0} (o : Option A) → length (listed o) ≤ 1
-length-listed None = omega arith
-length-listed (Some x) = omega arith
+length-option_to_list : {A : Type 0} (o : Option A) → length (option_to_list o) ≤ 1
+length-option_to_list None = omega arith
+length-option_to_list (Some x) = omega arith
 
 -- a state leads to one state at most over a unit
 pub length-target : (nfa : Nfa) (u : Option ℕ) (s : ℕ) → length (target nfa u s) ≤ 1
-length-target nfa u s = length-listed (target_of u (state_at nfa s))
+length-target nfa u s = length-option_to_list (target_of u (state_at nfa s))
 
 edges_or_target : (holds : Assertion → Bool) (u : Option ℕ) (s : Node) → (edges_of holds s ≡ []) ⊎ (target_of u s ≡ None)
 edges_or_target holds u (ByteRange t) = inl refl
@@ -164,7 +165,7 @@ edges_or_target holds u (Match pattern) = inr refl
 
 -- a state leads somewhere without input, or over a unit, or nowhere
 pub edges-or-target : (nfa : Nfa) (holds : Assertion → Bool) (u : Option ℕ) (s : ℕ) → (edges nfa holds s ≡ []) ⊎ (target nfa u s ≡ [])
-edges-or-target nfa holds u s = by_cases (edges_or_target holds u (state_at nfa s)) (λ e. inl e) (λ e. inr (ap listed e))
+edges-or-target nfa holds u s = by_cases (edges_or_target holds u (state_at nfa s)) (λ e. inl e) (λ e. inr (ap option_to_list e))
 
 -- an id that is no state's
 pub state_past : (nfa : Nfa) (s : ℕ) → length nfa.states ≤ s → state_at nfa s ≡ Fail

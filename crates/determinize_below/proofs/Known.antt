@@ -3,7 +3,7 @@ use Rattle.std.proofs.Common.{◌≡◌, ℕ, ◌<◌, Bool, true, false, not, O
 use mathlib.Core.Bool.{◌&&◌, ◌||◌}
 use Rattle.std.specs.Bool.{Decides}
 use Rattle.std.proofs.lemmas.Bool.{eq-eqb, or_left, and_right}
-use Rattle.determinize_below.specs.Truth.{IsUnit, crlf_first, crlf_second, exactly_one, holds, all_units, known, behind_test}
+use Rattle.determinize_below.specs.Truth.{IsUnit, crlf_first, crlf_second, exactly_one, holds, all_units, behind_test, is_known}
 use Rattle.determinize_below.specs.Unit.{is_word_byte, is_word, is_byte, is_nothing}
 use Rattle.determinize_below.proofs.Tests.{by_test}
 use Rattle.determinize_below.proofs.Units.{all_units_at, all_units_from, all_units_fails, all_units_constant}
@@ -59,7 +59,7 @@ word_end_half : all_units (λ q. not (is_word q)) ≡ false
 word_end_half = all_units_fails (λ q. not (is_word q)) letter letter_unit (rw letter_word)
 
 -- the byte before decides Start, StartLF, StartCRLF and WordStartHalf where it makes them true, and nothing else is known
-pub known_is : (reverse : Bool) (t : ℕ) (p : Option ℕ) (l : Look) → known reverse t p l ≡ behind_test (is_nothing p) (is_nothing p || is_byte p t) (is_nothing p || is_byte p (crlf_second reverse)) (not (is_word p)) l
+pub known_is : (reverse : Bool) (t : ℕ) (p : Option ℕ) (l : Look) → is_known reverse t p l ≡ behind_test (is_nothing p) (is_nothing p || is_byte p t) (is_nothing p || is_byte p (crlf_second reverse)) (not (is_word p)) l
 known_is reverse t p Start = all_units_constant (is_nothing p)
 known_is reverse t p End = all_units_fails is_nothing (Some 0) (lit< tt) refl
 known_is reverse t p StartLF = all_units_constant (is_nothing p || is_byte p t)
@@ -80,7 +80,7 @@ known_is reverse t p WordStartHalfUnicode = all_units_constant (not (is_word p))
 known_is reverse t p WordEndHalfUnicode = word_end_half
 
 -- what is known is true whatever unit follows
-pub known-holds : (reverse : Bool) (t : ℕ) (p q : Option ℕ) (l : Look) → known reverse t p l ≡ true → holds reverse t p q l ≡ true
+pub known-holds : (reverse : Bool) (t : ℕ) (p q : Option ℕ) (l : Look) → is_known reverse t p l ≡ true → holds reverse t p q l ≡ true
 known-holds reverse t p q l h = from_table reverse t p q l (sym (known_is reverse t p l) ∙ h)
   where
     from_table : (reverse : Bool) (t : ℕ) (p q : Option ℕ) (l : Look) → behind_test (is_nothing p) (is_nothing p || is_byte p t) (is_nothing p || is_byte p (crlf_second reverse)) (not (is_word p)) l ≡ true → holds reverse t p q l ≡ true
@@ -92,5 +92,5 @@ known-holds reverse t p q l h = from_table reverse t p q l (sym (known_is revers
     from_table reverse t p q l h = cc
 
 -- what is known is what holds for every unit
-pub known-every : (reverse : Bool) (t : ℕ) (p : Option ℕ) (l : Look) → Decides (known reverse t p l) ((q : Option ℕ) → IsUnit q → holds reverse t p q l ≡ true)
+pub known-every : (reverse : Bool) (t : ℕ) (p : Option ℕ) (l : Look) → Decides (is_known reverse t p l) ((q : Option ℕ) → IsUnit q → holds reverse t p q l ≡ true)
 known-every reverse t p l = (all_units_at (λ q. holds reverse t p q l), all_units_from (λ q. holds reverse t p q l))

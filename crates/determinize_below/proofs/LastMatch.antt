@@ -1,7 +1,7 @@
 -- The first accepting node of a search over positions.
 use Rattle.std.specs.Bool.{Decides}
-use Rattle.std.specs.List.{flat_map}
-use Rattle.std.specs.Option.{option_map}
+use Rattle.std.specs.List.{find, flat_map}
+use Rattle.std.specs.Option.{option_map, option_or}
 use mathlib.Core.Path.{fun_ext}
 use Rattle.std.proofs.Common.{◌&&◌, ◌++◌, ◌<◌, Bool, List, None, Option, Some, [], ap, arith, cond, eqb, false, map, refl, suc, sym, true, zero, ◌||◌, ℕ, ◌∙◌, ◌∷◌, ◌≡◌}
 use Rattle.std.proofs.lemmas.Bool.{eq-eqb, false≢true, ne_eqb, or_left, or_right}
@@ -9,62 +9,63 @@ use Rattle.std.proofs.lemmas.List.{map-append}
 use Rattle.std.proofs.lemmas.List.Concat.{flat_map-append}
 use Rattle.std.proofs.lemmas.List.Folds.{flat_map-map}
 use Rattle.determinize_below.specs.Reach.{ends, fresh, member, none_held, ordered, with_node}
-use Rattle.determinize_below.specs.Runs.{before, first, or_else, placed, run_edges}
+use Rattle.determinize_below.specs.Runs.{before, placed, run_edges}
 use Rattle.determinize_below.proofs.Ends.{IsEnough}
 use Rattle.determinize_below.proofs.Layers.{byte_in, ends_forget, eps_in, pair_eq}
-use Rattle.determinize_below.proofs.Lists.{first-append, flat_map-flat_map, or_else-or_else}
+use Rattle.std.proofs.lemmas.List.Folds.{find-append}
+use Rattle.determinize_below.proofs.Lists.{flat_map-flat_map, option_or-assoc}
 use Rattle.determinize_below.proofs.Sets.{eq-self, flat_map-agree}
 use Rattle.determinize_below.proofs.Tests.{by_test}
 
 -- the first accepting node of all runs from some states at a position
 abbrev pub best : {N : Type 0} → (N → N → Bool) → (ℕ → N → List N) → (ℕ → N → List N) → (N → Bool) → ℕ → ℕ → List N → Option (ℕ × N)
 best eq eps bytes acc n i rs =
-    first (λ p. acc p.1) (flat_map (ends (pair_eq eq) (run_edges eps bytes) n none_held) (map (placed i) rs))
+    find (λ p. acc p.1) (flat_map (ends (pair_eq eq) (run_edges eps bytes) n none_held) (map (placed i) rs))
 
 -- the first accepting node of a scan of the states at a position, where `go` is what each leads to later
 abbrev pub scan : {N : Type 0} → (N → Bool) → (N → Option (ℕ × N)) → ℕ → List N → Option (ℕ × N)
 scan acc go i [] = None
-scan acc go i (s ∷ l) = cond (acc s) (Some (i, s)) (or_else (go s) (scan acc go i l))
+scan acc go i (s ∷ l) = cond (acc s) (Some (i, s)) (option_or (go s) (scan acc go i l))
 
-scan-append : {N : Type 0} (acc : N → Bool) (go : N → Option (ℕ × N)) (i : ℕ) (xs ys : List N) → scan acc go i (xs ++ ys) ≡ or_else (scan acc go i xs) (scan acc go i ys)
+scan-append : {N : Type 0} (acc : N → Bool) (go : N → Option (ℕ × N)) (i : ℕ) (xs ys : List N) → scan acc go i (xs ++ ys) ≡ option_or (scan acc go i xs) (scan acc go i ys)
 scan-append acc go i [] ys = refl
 scan-append acc go i (s ∷ xs) ys = by_test (acc s) (λ e. rw e refl)
-    (λ e. rw e (ap (λ o. or_else (go s) o) (scan-append acc go i xs ys) ∙ sym (or_else-or_else (go s) (scan acc go i xs) (scan acc go i ys))))
+    (λ e. rw e (ap (λ o. option_or (go s) o) (scan-append acc go i xs ys) ∙ sym (option_or-assoc (go s) (scan acc go i xs) (scan acc go i ys))))
 
 module _ {N : Type 0} {eq : N → N → Bool} (dec : (a b : N) → Decides (eq a b) (a ≡ b)) where
-  first-flat_map : (acc : N → Bool) (go : N → Option (ℕ × N)) (i : ℕ) (p : ℕ × N → Bool) (f : N → List (ℕ × N)) (g : N → List N) (xs : List N)
-      → ((x : N) → member eq xs x ≡ true → first p (f x) ≡ scan acc go i (g x)) → first p (flat_map f xs) ≡ scan acc go i (flat_map g xs)
-  first-flat_map acc go i p f g [] h = refl
-  first-flat_map acc go i p f g (x ∷ xs) h =
-      first-append p (f x) (flat_map f xs)
-      ∙ ap (λ o. or_else o (first p (flat_map f xs))) (h x (or_left (eq x x) (member eq xs x) (eq-self dec x)))
-      ∙ ap (λ o. or_else (scan acc go i (g x)) o) (first-flat_map acc go i p f g xs (λ y m. h y (or_right (eq x y) (member eq xs y) m)))
+  find-flat_map : (acc : N → Bool) (go : N → Option (ℕ × N)) (i : ℕ) (p : ℕ × N → Bool) (f : N → List (ℕ × N)) (g : N → List N) (xs : List N)
+      → ((x : N) → member eq xs x ≡ true → find p (f x) ≡ scan acc go i (g x)) → find p (flat_map f xs) ≡ scan acc go i (flat_map g xs)
+  find-flat_map acc go i p f g [] h = refl
+  find-flat_map acc go i p f g (x ∷ xs) h =
+      find-append p (f x) (flat_map f xs)
+      ∙ ap (λ o. option_or o (find p (flat_map f xs))) (h x (or_left (eq x x) (member eq xs x) (eq-self dec x)))
+      ∙ ap (λ o. option_or (scan acc go i (g x)) o) (find-flat_map acc go i p f g xs (λ y m. h y (or_right (eq x y) (member eq xs y) m)))
       ∙ sym (scan-append acc go i (g x) (flat_map g xs))
 
   -- the first that passes is new
-  first-fresh : (p seen : N → Bool) (xs : List N) → ((x : N) → seen x ≡ true → p x ≡ false) → first p (fresh eq seen xs) ≡ first p xs
-  first-fresh p seen [] h = refl
-  first-fresh p seen (x ∷ xs) h = by_test (seen x)
-      (λ e. rw (e, h x e) (first-fresh p seen xs h))
+  find-fresh : (p seen : N → Bool) (xs : List N) → ((x : N) → seen x ≡ true → p x ≡ false) → find p (fresh eq seen xs) ≡ find p xs
+  find-fresh p seen [] h = refl
+  find-fresh p seen (x ∷ xs) h = by_test (seen x)
+      (λ e. rw (e, h x e) (find-fresh p seen xs h))
       (λ e. rw e (by_test (p x)
       (λ k. rw k refl)
-      (λ k. rw k (first-fresh p (with_node eq seen x) xs (λ y m. by_test (eq x y)
+      (λ k. rw k (find-fresh p (with_node eq seen x) xs (λ y m. by_test (eq x y)
       (λ q. let z : x ≡ y = (dec x y).0 q in rw z at k)
       (λ q. h y (rw q at m)))))))
 
   -- a node from which none passes may be left out
-  first-flat_map_fresh : {B : Type 0} (p : B → Bool) (f : N → List B) (seen : N → Bool) (xs : List N) → ((x : N) → seen x ≡ true → first p (f x) ≡ None)
-      → first p (flat_map f (fresh eq seen xs)) ≡ first p (flat_map f xs)
-  first-flat_map_fresh p f seen [] h = refl
-  first-flat_map_fresh {B} p f seen (x ∷ xs) h = by_test (seen x)
-      (λ e. rw e (first-flat_map_fresh p f seen xs h ∙ sym (first-append p (f x) (flat_map f xs) ∙ ap (λ o. or_else o (first p (flat_map f xs))) (h x e))))
-      (λ e. rw e (first-append p (f x) (flat_map f (fresh eq (with_node eq seen x) xs))
-      ∙ either_way (first p (f x)) refl (first-flat_map_fresh p f (with_node eq seen x) xs)
-      ∙ sym (first-append p (f x) (flat_map f xs))))
+  find-flat_map_fresh : {B : Type 0} (p : B → Bool) (f : N → List B) (seen : N → Bool) (xs : List N) → ((x : N) → seen x ≡ true → find p (f x) ≡ None)
+      → find p (flat_map f (fresh eq seen xs)) ≡ find p (flat_map f xs)
+  find-flat_map_fresh p f seen [] h = refl
+  find-flat_map_fresh {B} p f seen (x ∷ xs) h = by_test (seen x)
+      (λ e. rw e (find-flat_map_fresh p f seen xs h ∙ sym (find-append p (f x) (flat_map f xs) ∙ ap (λ o. option_or o (find p (flat_map f xs))) (h x e))))
+      (λ e. rw e (find-append p (f x) (flat_map f (fresh eq (with_node eq seen x) xs))
+      ∙ either_way (find p (f x)) refl (find-flat_map_fresh p f (with_node eq seen x) xs)
+      ∙ sym (find-append p (f x) (flat_map f xs))))
     where
-      either_way : (o : Option B) → first p (f x) ≡ o
-          → (((y : N) → with_node eq seen x y ≡ true → first p (f y) ≡ None) → first p (flat_map f (fresh eq (with_node eq seen x) xs)) ≡ first p (flat_map f xs))
-          → or_else o (first p (flat_map f (fresh eq (with_node eq seen x) xs))) ≡ or_else o (first p (flat_map f xs))
+      either_way : (o : Option B) → find p (f x) ≡ o
+          → (((y : N) → with_node eq seen x y ≡ true → find p (f y) ≡ None) → find p (flat_map f (fresh eq (with_node eq seen x) xs)) ≡ find p (flat_map f xs))
+          → option_or o (find p (flat_map f (fresh eq (with_node eq seen x) xs))) ≡ option_or o (find p (flat_map f xs))
       either_way (Some b) q ih = refl
       either_way None q ih = ih (λ y m. by_test (eq x y)
           (λ k. let z : x ≡ y = (dec x y).0 k in rw z at q)
@@ -83,21 +84,21 @@ module _ {N : Type 0} {eq : N → N → Bool} (dec : (a b : N) → Decides (eq a
 
   module _ (eps bytes : ℕ → N → List N) (acc : N → Bool) (m : ℕ) (enough : (p : ℕ × N) → IsEnough (pair_eq eq) (run_edges eps bytes) m none_held p) where
     best_one : (n : ℕ) (held : ℕ × N → Bool) (i : ℕ) (s : N) → IsEnough (pair_eq eq) (run_edges eps bytes) n held (i, s) → ((j : ℕ) (t : N) → i < j → held (j, t) ≡ false)
-        → first (λ p. acc p.1) (ends (pair_eq eq) (run_edges eps bytes) n held (i, s)) ≡ scan acc (λ t. best eq eps bytes acc m (suc i) (bytes i t)) i (ends eq (eps i) n (λ t. held (i, t)) s)
+        → find (λ p. acc p.1) (ends (pair_eq eq) (run_edges eps bytes) n held (i, s)) ≡ scan acc (λ t. best eq eps bytes acc m (suc i) (bytes i t)) i (ends eq (eps i) n (λ t. held (i, t)) s)
     best_one zero held i s a h = refl
     best_one (suc n) held i s a h = by_test (held (i, s))
         (λ e. rw e refl)
         (λ e. rw e (ap (λ o. cond (acc s) (Some (i, s)) o)
-        (ap (λ l. first p l) (flat_map-append f (map (placed (suc i)) (bytes i s)) (map (placed i) (eps i s)))
-        ∙ first-append p (flat_map f (map (placed (suc i)) (bytes i s))) (flat_map f (map (placed i) (eps i s)))
-        ∙ ap (λ l. or_else (first p l) (first p (flat_map f (map (placed i) (eps i s)))))
+        (ap (λ l. find p l) (flat_map-append f (map (placed (suc i)) (bytes i s)) (map (placed i) (eps i s)))
+        ∙ find-append p (flat_map f (map (placed (suc i)) (bytes i s))) (flat_map f (map (placed i) (eps i s)))
+        ∙ ap (λ l. option_or (find p l) (find p (flat_map f (map (placed i) (eps i s)))))
         (flat_map-map f (placed (suc i)) (bytes i s)
         ∙ flat_map-agree dec (λ t. f (suc i, t)) (λ t. ends (pair_eq eq) (run_edges eps bytes) m none_held (suc i, t)) (bytes i s)
         (λ t z. ends_forget dec eps bytes n m more i (suc i, t) (a e (suc i, t) (byte_in dec eps bytes i s t z)) (enough (suc i, t)) above (omega arith))
         ∙ sym (flat_map-map (ends (pair_eq eq) (run_edges eps bytes) m none_held) (placed (suc i)) (bytes i s)))
-        ∙ ap (λ o. or_else (best eq eps bytes acc m (suc i) (bytes i s)) o)
-        (ap (λ l. first p l) (flat_map-map f (placed i) (eps i s))
-        ∙ first-flat_map acc (λ t. best eq eps bytes acc m (suc i) (bytes i t)) i p (λ t. f (i, t)) g (eps i s)
+        ∙ ap (λ o. option_or (best eq eps bytes acc m (suc i) (bytes i s)) o)
+        (ap (λ l. find p l) (flat_map-map f (placed i) (eps i s))
+        ∙ find-flat_map acc (λ t. best eq eps bytes acc m (suc i) (bytes i t)) i p (λ t. f (i, t)) g (eps i s)
         (λ t z. best_one n more i t (a e (i, t) (eps_in dec eps bytes i s t z)) above
         ∙ ap (λ y. scan acc (λ t. best eq eps bytes acc m (suc i) (bytes i t)) i (ends eq (eps i) n y t)) (fun_ext (λ x. rw (eq-eqb i i refl) refl)))))))
       where
@@ -118,16 +119,16 @@ module _ {N : Type 0} {eq : N → N → Bool} (dec : (a b : N) → Decides (eq a
 
     -- a scan, cut at its first accepting state
     scan_cut : (i : ℕ) (l : List N) → scan acc (λ t. best eq eps bytes acc m (suc i) (bytes i t)) i l
-        ≡ or_else (best eq eps bytes acc m (suc i) (flat_map (bytes i) (before acc l))) (option_map (placed i) (first acc l))
+        ≡ option_or (best eq eps bytes acc m (suc i) (flat_map (bytes i) (before acc l))) (option_map (placed i) (find acc l))
     scan_cut i [] = refl
     scan_cut i (s ∷ l) = by_test (acc s)
         (λ e. rw e refl)
-        (λ e. rw e (ap (λ o. or_else (best eq eps bytes acc m (suc i) (bytes i s)) o) (scan_cut i l)
-        ∙ sym (or_else-or_else (best eq eps bytes acc m (suc i) (bytes i s)) (best eq eps bytes acc m (suc i) (flat_map (bytes i) (before acc l))) (option_map (placed i) (first acc l)))
-        ∙ ap (λ o. or_else o (option_map (placed i) (first acc l)))
-        (sym (first-append p (flat_map R (map (placed (suc i)) (bytes i s))) (flat_map R (map (placed (suc i)) (flat_map (bytes i) (before acc l)))))
-        ∙ ap (λ y. first p y) (sym (flat_map-append R (map (placed (suc i)) (bytes i s)) (map (placed (suc i)) (flat_map (bytes i) (before acc l)))))
-        ∙ ap (λ y. first p (flat_map R y)) (sym (map-append (placed (suc i)) (bytes i s) (flat_map (bytes i) (before acc l)))))))
+        (λ e. rw e (ap (λ o. option_or (best eq eps bytes acc m (suc i) (bytes i s)) o) (scan_cut i l)
+        ∙ sym (option_or-assoc (best eq eps bytes acc m (suc i) (bytes i s)) (best eq eps bytes acc m (suc i) (flat_map (bytes i) (before acc l))) (option_map (placed i) (find acc l)))
+        ∙ ap (λ o. option_or o (option_map (placed i) (find acc l)))
+        (sym (find-append p (flat_map R (map (placed (suc i)) (bytes i s))) (flat_map R (map (placed (suc i)) (flat_map (bytes i) (before acc l)))))
+        ∙ ap (λ y. find p y) (sym (flat_map-append R (map (placed (suc i)) (bytes i s)) (map (placed (suc i)) (flat_map (bytes i) (before acc l)))))
+        ∙ ap (λ y. find p (flat_map R y)) (sym (map-append (placed (suc i)) (bytes i s) (flat_map (bytes i) (before acc l)))))))
       where
         p : ℕ × N → Bool
         p q = acc q.1
@@ -143,21 +144,21 @@ module _ {N : Type 0} {eq : N → N → Bool} (dec : (a b : N) → Decides (eq a
         let F : N → List (ℕ × N) = λ x. flat_map (λ t. R (i, t)) (f x) in
         let turn : (l : List N) → flat_map R (map (placed i) (flat_map f l)) ≡ flat_map F l =
         λ l. flat_map-map R (placed i) (flat_map f l) ∙ flat_map-flat_map f (λ t. R (i, t)) l in
-        ap (λ l. first p l) (turn (fresh eq none_held xs))
-        ∙ first-flat_map_fresh p F none_held xs (λ x z. absurd (false≢true z))
-        ∙ sym (ap (λ l. first p l) (turn xs))
+        ap (λ l. find p l) (turn (fresh eq none_held xs))
+        ∙ find-flat_map_fresh p F none_held xs (λ x z. absurd (false≢true z))
+        ∙ sym (ap (λ l. find p l) (turn xs))
 
     -- the first accepting node is the best from the states before the first accepting one, or else that
     pub best_step : (i : ℕ) (rs : List N)
-        → best eq eps bytes acc m i rs ≡ or_else (best eq eps bytes acc m (suc i) (flat_map (bytes i) (before acc (ordered eq (eps i) m none_held rs)))) (option_map (placed i) (first acc (ordered eq (eps i) m none_held rs)))
+        → best eq eps bytes acc m i rs ≡ option_or (best eq eps bytes acc m (suc i) (flat_map (bytes i) (before acc (ordered eq (eps i) m none_held rs)))) (option_map (placed i) (find acc (ordered eq (eps i) m none_held rs)))
     best_step i rs =
         let g : N → List N = ends eq (eps i) m none_held in
         let p : ℕ × N → Bool = λ q. acc q.1 in
         let L : List N = flat_map g rs in
-        ap (λ l. first p l) (flat_map-map (ends (pair_eq eq) (run_edges eps bytes) m none_held) (placed i) rs)
-        ∙ first-flat_map acc (λ t. best eq eps bytes acc m (suc i) (bytes i t)) i p (λ s. ends (pair_eq eq) (run_edges eps bytes) m none_held (i, s)) g rs
+        ap (λ l. find p l) (flat_map-map (ends (pair_eq eq) (run_edges eps bytes) m none_held) (placed i) rs)
+        ∙ find-flat_map acc (λ t. best eq eps bytes acc m (suc i) (bytes i t)) i p (λ s. ends (pair_eq eq) (run_edges eps bytes) m none_held (i, s)) g rs
         (λ s z. best_one m none_held i s (enough (i, s)) (λ j t w. refl))
         ∙ scan_cut i L
-        ∙ ap (λ o. or_else (best eq eps bytes acc m (suc i) (flat_map (bytes i) (before acc L))) (option_map (placed i) o)) (sym (first-fresh acc none_held L (λ x z. absurd (false≢true z))))
-        ∙ ap (λ o. or_else o (option_map (placed i) (first acc (fresh eq none_held L))))
+        ∙ ap (λ o. option_or (best eq eps bytes acc m (suc i) (flat_map (bytes i) (before acc L))) (option_map (placed i) o)) (sym (find-fresh acc none_held L (λ x z. absurd (false≢true z))))
+        ∙ ap (λ o. option_or o (option_map (placed i) (find acc (fresh eq none_held L))))
         (sym (ap (λ l. best eq eps bytes acc m (suc i) (flat_map (bytes i) l)) (before-fresh acc none_held L (λ x z. absurd (false≢true z))) ∙ best-fresh (suc i) (bytes i) (before acc L)))

@@ -1,13 +1,13 @@
 -- The lists that a walk over positions records, and the whole search.
 use Rattle.std.specs.Bool.{Decides}
-use Rattle.std.specs.List.{flat_map}
-use Rattle.std.specs.Option.{option_map}
+use Rattle.std.specs.List.{find, flat_map}
+use Rattle.std.specs.Option.{option_map, option_or}
 use Rattle.std.specs.Prelude.{◌==◌}
 use mathlib.Core.Path.{fun_ext}
 use Rattle.std.proofs.Common.{◌+◌, Bool, List, Option, [], ap, arith, false, refl, suc, sym, true, zero, ℕ, ◌∙◌, ◌∷◌, ◌≡◌, ◌≤◌}
 use Rattle.std.proofs.lemmas.Bool.{eq-eqb, ne_eqb}
 use Rattle.determinize_below.specs.Reach.{member, none_held, ordered}
-use Rattle.determinize_below.specs.Runs.{IsBeginning, before, first, known_at, or_else, placed, run_edges, without}
+use Rattle.determinize_below.specs.Runs.{IsBeginning, before, known_at, placed, run_edges, without}
 use Rattle.determinize_below.proofs.Beginnings.{Beginning-before, Beginning-flat_map, Beginning-ordered, Beginning-self, Beginning-without}
 use Rattle.determinize_below.proofs.Ends.{IsEnough}
 use Rattle.determinize_below.proofs.LastMatch.{best, best_step}
@@ -46,8 +46,8 @@ recorded_cut eq known eps bytes cap acc n start (suc k) =
 
 -- the last accepting state among the positions from k on, d of them after it
 abbrev pub last_accepting : {N : Type 0} → (ℕ → List N) → (N → Bool) → ℕ → ℕ → Option (ℕ × N)
-last_accepting lists acc zero k = option_map (placed k) (first acc (lists k))
-last_accepting lists acc (suc d) k = or_else (last_accepting lists acc d (suc k)) (option_map (placed k) (first acc (lists k)))
+last_accepting lists acc zero k = option_map (placed k) (find acc (lists k))
+last_accepting lists acc (suc d) k = option_or (last_accepting lists acc d (suc k)) (option_map (placed k) (find acc (lists k)))
 
 module _ {N : Type 0} {eq : N → N → Bool} (dec : (a b : N) → Decides (eq a b) (a ≡ b)) where
   module _ (known eps bytes : ℕ → N → List N) (n : ℕ) (start : N) where
@@ -108,13 +108,13 @@ module _ {N : Type 0} {eq : N → N → Bool} (dec : (a b : N) → Decides (eq a
     best_is_last acc enough m stop zero k e rs q =
         let at_end : k ≡ m = omega arith in
         best_step dec eps bytes acc n enough k rs
-        ∙ ap (λ l. or_else (best eq eps bytes acc n (suc k) (flat_map (bytes k) (before acc l))) (option_map (placed k) (first acc l))) q
-        ∙ ap (λ l. or_else (best eq eps bytes acc n (suc k) l) (option_map (placed k) (first acc (level_cut eq eps bytes acc n start k))))
+        ∙ ap (λ l. option_or (best eq eps bytes acc n (suc k) (flat_map (bytes k) (before acc l))) (option_map (placed k) (find acc l))) q
+        ∙ ap (λ l. option_or (best eq eps bytes acc n (suc k) l) (option_map (placed k) (find acc (level_cut eq eps bytes acc n start k))))
         (flat_map_none (bytes k) (before acc (level_cut eq eps bytes acc n start k)) (λ x. rw at_end (stop x)))
     best_is_last acc enough m stop (suc d) k e rs q =
         best_step dec eps bytes acc n enough k rs
-        ∙ ap (λ l. or_else (best eq eps bytes acc n (suc k) (flat_map (bytes k) (before acc l))) (option_map (placed k) (first acc l))) q
-        ∙ ap (λ o. or_else o (option_map (placed k) (first acc (level_cut eq eps bytes acc n start k))))
+        ∙ ap (λ l. option_or (best eq eps bytes acc n (suc k) (flat_map (bytes k) (before acc l))) (option_map (placed k) (find acc l))) q
+        ∙ ap (λ o. option_or o (option_map (placed k) (find acc (level_cut eq eps bytes acc n start k))))
         (best_is_last acc enough m stop d (suc k) (omega arith) (flat_map (bytes k) (before acc (level_cut eq eps bytes acc n start k))) refl)
 
 -- a level goes by the edges up to its position alone
@@ -134,7 +134,7 @@ known_level_is {N} eq known eps bytes n start (suc k) =
     (fun_ext (λ x. let z : (suc k == suc k) ≡ true = eq-eqb (suc k) (suc k) refl in rw z refl))
 
 -- lists with the same first accepting states have the same last one
-pub last_accepting-agree : {N : Type 0} (xs ys : ℕ → List N) (acc : N → Bool) → ((k : ℕ) → first acc (xs k) ≡ first acc (ys k)) → (d k : ℕ) → last_accepting xs acc d k ≡ last_accepting ys acc d k
+pub last_accepting-agree : {N : Type 0} (xs ys : ℕ → List N) (acc : N → Bool) → ((k : ℕ) → find acc (xs k) ≡ find acc (ys k)) → (d k : ℕ) → last_accepting xs acc d k ≡ last_accepting ys acc d k
 last_accepting-agree xs ys acc h zero k = ap (λ o. option_map (placed k) o) (h k)
-last_accepting-agree xs ys acc h (suc d) k = ap (λ o. or_else o (option_map (placed k) (first acc (xs k)))) (last_accepting-agree xs ys acc h d (suc k))
-    ∙ ap (λ o. or_else (last_accepting ys acc d (suc k)) (option_map (placed k) o)) (h k)
+last_accepting-agree xs ys acc h (suc d) k = ap (λ o. option_or o (option_map (placed k) (find acc (xs k)))) (last_accepting-agree xs ys acc h d (suc k))
+    ∙ ap (λ o. option_or (last_accepting ys acc d (suc k)) (option_map (placed k) o)) (h k)

@@ -1,12 +1,12 @@
 -- Laws of lists: pieces, the first that passes, what stands before it, what is left out.
-use Rattle.std.specs.List.{filter, flat_map, list_any}
-use Rattle.std.specs.Option.{option_map}
+use Rattle.std.specs.List.{filter, find, flat_map, list_any}
+use Rattle.std.specs.Option.{option_map, option_or}
 use mathlib.Core.Path.{fun_ext}
 use Rattle.std.proofs.Common.{◌+◌, ◌++◌, Bool, List, None, Option, Some, [], ap, arith, false, length, length-append, refl, true, ◌∙◌, ◌∷◌, ◌≡◌, ◌≤◌}
 use Rattle.std.proofs.lemmas.Bool.{false≢true}
 use Rattle.std.proofs.lemmas.List.Concat.{flat_map-append}
 use Rattle.std.proofs.lemmas.List.Elements.{filter-append}
-use Rattle.determinize_below.specs.Runs.{before, first, or_else, without}
+use Rattle.determinize_below.specs.Runs.{before, without}
 use Rattle.determinize_below.proofs.Tests.{by_test}
 
 pub flat_map-same : {A B : Type 0} (f g : A → List B) (xs : List A) → ((x : A) → f x ≡ g x) → flat_map f xs ≡ flat_map g xs
@@ -38,13 +38,13 @@ before-without p cap (x ∷ xs) h = by_test (p x)
     (λ k. rw (e, k) (before-without p cap xs h))
     (λ k. rw (e, k) (rw e (ap (λ l. x ∷ l) (before-without p cap xs h)))))
 
-pub first-without : {A : Type 0} (p cap : A → Bool) (xs : List A) → ((x : A) → p x ≡ true → cap x ≡ false) → first p (without cap xs) ≡ first p xs
-first-without p cap [] h = refl
-first-without p cap (x ∷ xs) h = by_test (p x)
+pub find-without : {A : Type 0} (p cap : A → Bool) (xs : List A) → ((x : A) → p x ≡ true → cap x ≡ false) → find p (without cap xs) ≡ find p xs
+find-without p cap [] h = refl
+find-without p cap (x ∷ xs) h = by_test (p x)
     (λ e. rw (e, h x e) (rw e refl))
     (λ e. by_test (cap x)
-    (λ k. rw (e, k) (first-without p cap xs h))
-    (λ k. rw (e, k) (rw e (first-without p cap xs h))))
+    (λ k. rw (e, k) (find-without p cap xs h))
+    (λ k. rw (e, k) (rw e (find-without p cap xs h))))
 
 pub without_twice : {A : Type 0} (cap : A → Bool) (xs : List A) → without cap (without cap xs) ≡ without cap xs
 without_twice cap [] = refl
@@ -52,21 +52,17 @@ without_twice cap (x ∷ xs) = by_test (cap x)
     (λ e. rw e (without_twice cap xs))
     (λ e. rw e (rw e (ap (λ l. x ∷ l) (without_twice cap xs))))
 
-pub first-append : {A : Type 0} (p : A → Bool) (xs ys : List A) → first p (xs ++ ys) ≡ or_else (first p xs) (first p ys)
-first-append p [] ys = refl
-first-append p (x ∷ xs) ys = by_test (p x) (λ e. rw e refl) (λ e. rw e (first-append p xs ys))
+pub option_or-assoc : {A : Type 0} (a b c : Option A) → option_or (option_or a b) c ≡ option_or a (option_or b c)
+option_or-assoc None b c = refl
+option_or-assoc (Some x) b c = refl
 
-pub or_else-or_else : {A : Type 0} (a b c : Option A) → or_else (or_else a b) c ≡ or_else a (or_else b c)
-or_else-or_else None b c = refl
-or_else-or_else (Some x) b c = refl
+pub option_or-None : {A : Type 0} (o : Option A) → option_or o None ≡ o
+option_or-None None = refl
+option_or-None (Some a) = refl
 
-pub or_else_none : {A : Type 0} (o : Option A) → or_else o None ≡ o
-or_else_none None = refl
-or_else_none (Some a) = refl
-
-pub map-or_else : {A B : Type 0} (f : A → B) (a b : Option A) → option_map f (or_else a b) ≡ or_else (option_map f a) (option_map f b)
-map-or_else f None b = refl
-map-or_else f (Some x) b = refl
+pub map-option_or : {A B : Type 0} (f : A → B) (a b : Option A) → option_map f (option_or a b) ≡ option_or (option_map f a) (option_map f b)
+map-option_or f None b = refl
+map-option_or f (Some x) b = refl
 
 pub length-flat_map_le : {A B : Type 0} (f : A → List B) (xs : List A) → ((x : A) → length (f x) ≤ 1) → length (flat_map f xs) ≤ length xs
 length-flat_map_le f [] h = omega arith

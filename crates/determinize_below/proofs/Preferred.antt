@@ -1,11 +1,11 @@
 -- The first accepting node of a search ends the most preferred run.
 use Rattle.std.specs.Bool.{Decides}
-use Rattle.std.specs.List.{flat_map}
+use Rattle.std.specs.List.{find, flat_map}
 use Rattle.std.proofs.Common.{Bool, List, None, Some, [], ap, arith, false, inl, inr, map, refl, subst, suc, sym, true, zero, ℕ, ◌∙◌, ◌∷◌, ◌≡◌, ◌⊎◌}
 use Rattle.std.proofs.lemmas.Bool.{false≢true}
 use Rattle.determinize_below.specs.Paths.{Before, IsLeastPath, IsPath, IsPathFrom}
 use Rattle.determinize_below.specs.Reach.{ends, none_held}
-use Rattle.determinize_below.specs.Runs.{IsLeastRun, first}
+use Rattle.determinize_below.specs.Runs.{IsLeastRun}
 use Rattle.determinize_below.proofs.Elements.{In, In_cases, In_head, In_tail}
 use Rattle.determinize_below.proofs.Ends.{IsEnough}
 use Rattle.determinize_below.proofs.Least.{all_ends, all_in_order, all_paths, listed_of, path_of}
@@ -44,7 +44,7 @@ least_run_of {N} edges start cs s h = run_of edges start cs s h.path (λ ds e p.
 
 module _ {N : Type 0} {eq : N → N → Bool} (dec : (a b : N) → Decides (eq a b) (a ≡ b)) where
   -- the first accepting end of ascending paths is that of the least of them
-  first_least : (acc : N → Bool) (ps : List (List ℕ × N)) → Ascending ps → (s : N) → first acc (map (λ p. p.1) ps) ≡ Some s
+  first_least : (acc : N → Bool) (ps : List (List ℕ × N)) → Ascending ps → (s : N) → find acc (map (λ p. p.1) ps) ≡ Some s
       → (k : List ℕ) × In (k, s) ps × (acc s ≡ true) × ((l : List ℕ) (t : N) → In (l, t) ps → acc t ≡ true → (k ≡ l) ⊎ Before k l)
   first_least acc [] a s e = absurd (let k : Some s ≡ None = sym e in cc)
   first_least acc (p ∷ ps) a s e = by_test (acc p.1)
@@ -60,7 +60,7 @@ module _ {N : Type 0} {eq : N → N → Bool} (dec : (a b : N) → Decides (eq a
             (λ m. r.3 l t m k),
       ))
 
-  first_none : (acc : N → Bool) (ps : List (List ℕ × N)) → first acc (map (λ p. p.1) ps) ≡ None → (l : List ℕ) (t : N) → In (l, t) ps → acc t ≡ false
+  first_none : (acc : N → Bool) (ps : List (List ℕ × N)) → find acc (map (λ p. p.1) ps) ≡ None → (l : List ℕ) (t : N) → In (l, t) ps → acc t ≡ false
   first_none acc [] e l t h = absurd (let k : Some (l, t) ≡ None = sym h.1 in cc)
   first_none acc (p ∷ ps) e l t h = by_test (acc p.1)
       (λ q. let w : Some p.1 ≡ None = rw q at e in absurd (cc))
@@ -70,9 +70,9 @@ module _ {N : Type 0} {eq : N → N → Bool} (dec : (a b : N) → Decides (eq a
 
   module _ (edges : N → List N) (n : ℕ) (start : N) (a : (r : N) → IsEnough eq edges n none_held r) (acc : N → Bool) where
     -- the first accepting node of the search ends the most preferred run
-    pub first_is_preferred : (s : N) → first acc (flat_map (ends eq edges n none_held) (start ∷ [])) ≡ Some s → IsMostPreferred edges start acc s
+    pub first_is_preferred : (s : N) → find acc (flat_map (ends eq edges n none_held) (start ∷ [])) ≡ Some s → IsMostPreferred edges start acc s
     first_is_preferred s e =
-        let w : first acc (map (λ p. p.1) (all_paths dec edges n [] (start ∷ []) a)) ≡ Some s = ap (λ l. first acc l) (all_ends dec edges n [] (start ∷ []) a) ∙ e in
+        let w : find acc (map (λ p. p.1) (all_paths dec edges n [] (start ∷ []) a)) ≡ Some s = ap (λ l. find acc l) (all_ends dec edges n [] (start ∷ []) a) ∙ e in
         let r : (k : List ℕ) × In (k, s) (all_paths dec edges n [] (start ∷ []) a) × (acc s ≡ true) × ((l : List ℕ) (t : N) → In (l, t) (all_paths dec edges n [] (start ∷ []) a) → acc t ≡ true → (k ≡ l) ⊎ Before k l)
         = first_least acc (all_paths dec edges n [] (start ∷ []) a) (all_in_order dec edges n [] (start ∷ []) a) s w in
         run_of edges start r.0 s (path_of dec edges n [] (start ∷ []) a r.0 s r.1) (λ cs z p. record {
@@ -84,7 +84,7 @@ module _ {N : Type 0} {eq : N → N → Bool} (dec : (a b : N) → Decides (eq a
         })
 
     -- where it has no accepting node, no run has
-    pub first_none_preferred : first acc (flat_map (ends eq edges n none_held) (start ∷ [])) ≡ None → (ds : List ℕ) (t : N) → IsPath edges [] start ds t → acc t ≡ false
+    pub first_none_preferred : find acc (flat_map (ends eq edges n none_held) (start ∷ [])) ≡ None → (ds : List ℕ) (t : N) → IsPath edges [] start ds t → acc t ≡ false
     first_none_preferred e ds t p =
-        let w : first acc (map (λ p. p.1) (all_paths dec edges n [] (start ∷ []) a)) ≡ None = ap (λ l. first acc l) (all_ends dec edges n [] (start ∷ []) a) ∙ e in
+        let w : find acc (map (λ p. p.1) (all_paths dec edges n [] (start ∷ []) a)) ≡ None = ap (λ l. find acc l) (all_ends dec edges n [] (start ∷ []) a) ∙ e in
         first_none acc (all_paths dec edges n [] (start ∷ []) a) w (0 ∷ ds) t (listed_of dec edges n [] (start ∷ []) a (0 ∷ ds) t (start, refl, p))

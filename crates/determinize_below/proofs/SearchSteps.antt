@@ -6,7 +6,7 @@ use Rattle.std.proofs.Common.{◌&&◌, ◌+◌, ◌++◌, Bool, List, [], ap, a
 use Rattle.std.proofs.lemmas.Bool.{false≢true, or_left}
 use Rattle.std.proofs.lemmas.List.{append-nil}
 use Rattle.std.proofs.lemmas.List.Concat.{flat_map-append}
-use Rattle.determinize_below.specs.Reach.{closure, edge_count, ends, fresh, joined, member, none_held, ordered, tries, with_node}
+use Rattle.determinize_below.specs.Reach.{closure, edge_count, ends, fresh, joined, member, none_held, ordered, search_tries, with_node}
 use Rattle.determinize_below.proofs.Ends.{IsClosed, IsEnough, IsEnough-more_held, ends_closed, fresh-ends_held, fresh-ends_new, fresh-held}
 use Rattle.determinize_below.proofs.Sets.{fresh-append, member-append, member-fresh}
 
@@ -41,10 +41,10 @@ module _ {N : Type 0} {eq : N → N → Bool} (dec : (a b : N) → Decides (eq a
         ap (λ l. met ++ l) (ordered-new met r rs e)
         ∙ sym (append_assoc met (r ∷ []) (ordered eq edges n (member eq (met ++ r ∷ [])) (edges r ++ rs)))
 
-    pub tries-held : (met : List N) (r : N) (rs : List N) → member eq met r ≡ true → tries eq edges n met (r ∷ rs) ≡ suc (tries eq edges n met rs)
+    pub tries-held : (met : List N) (r : N) (rs : List N) → member eq met r ≡ true → search_tries eq edges n met (r ∷ rs) ≡ suc (search_tries eq edges n met rs)
     tries-held met r rs e = let k : edge_count edges (ordered eq edges n (member eq met) (r ∷ rs)) ≡ edge_count edges (ordered eq edges n (member eq met) rs) = ap (λ l. edge_count edges l) (ordered-held met r rs e) in omega arith
 
-    pub tries-new : (met : List N) (r : N) (rs : List N) → member eq met r ≡ false → tries eq edges n met (r ∷ rs) ≡ suc (tries eq edges n (met ++ r ∷ []) (edges r ++ rs))
+    pub tries-new : (met : List N) (r : N) (rs : List N) → member eq met r ≡ false → search_tries eq edges n met (r ∷ rs) ≡ suc (search_tries eq edges n (met ++ r ∷ []) (edges r ++ rs))
     tries-new met r rs e =
         let k : edge_count edges (ordered eq edges n (member eq met) (r ∷ rs)) ≡ length (edges r) + edge_count edges (ordered eq edges n (member eq (met ++ r ∷ [])) (edges r ++ rs))
         = ap (λ l. edge_count edges l) (ordered-new met r rs e) in

@@ -1,5 +1,6 @@
 -- The checks of an NFA give what the walk needs.
 use Rattle.std.proofs.Common.{◌≡◌, ℕ, zero, suc, ◌+◌, ◌<◌, ◌≤◌, Bool, true, false, cond, not, ◌&&◌, ◌||◌, List, [], ◌∷◌, ◌++◌, length, take, get_or, refl, sym, ap, ◌∙◌, arith, Option, Some, None, nat_eq, append_assoc, subst}
+use Rattle.std.specs.Option.{option_to_list}
 use Rattle.std.specs.Prelude.{slice_get, slice_index, nat_lt, find, option_map}
 use Rattle.std.specs.List.{flat_map, list_all}
 use mathlib.Core.Path.{fun_ext}
@@ -7,8 +8,8 @@ use Rattle.std.proofs.lemmas.Bool.{true≢false, false≢true, not-false, eq-eqb
 use Rattle.std.proofs.lemmas.List.{append-nil, get_or-take}
 use Rattle.std.proofs.lemmas.List.Folds.{list_any_at}
 use Rattle.std.proofs.lemmas.Option.{slice_get-get_or}
-use Rattle.determinize_below.specs.Edges.{edges_of, target_of, listed, pattern_in, state_at, edges, target, pattern_of, reach, reach_past}
-use Rattle.determinize_below.specs.Nfa.{Nfa, IsAccepted, states_failure, state_failure, resolves, is_repeated, matches, is_sparse_sound, is_dense_sound}
+use Rattle.determinize_below.specs.Edges.{edges_of, target_of, pattern_in, state_at, edges, target, pattern_of, reach, reach_past}
+use Rattle.determinize_below.specs.Nfa.{Nfa, IsAccepted, states_failure, state_failure, resolves, is_repeated, is_sparse_sound, is_dense_sound, is_match_of}
 use Rattle.determinize_below.specs.Node.{Node, ByteRange, Sparse, Dense, Look, Union, BinaryUnion, Capture, Fail, Match}
 use Rattle.determinize_below.specs.Reach.{ends, member, none_held, ordered}
 use Rattle.determinize_below.specs.Transition as transitions
@@ -103,14 +104,14 @@ edges_resolve count holds (Capture next) t r m = one_member count next t r m
 edges_resolve count holds Fail t r m = absurd (false≢true m)
 edges_resolve count holds (Match pattern) t r m = absurd (false≢true m)
 
-sparse_resolves : (count : ℕ) (p : Transition → Bool) (ts : List Transition) (y : ℕ) → list_all (λ t. nat_lt t.next count) ts ≡ true → member nat_eq (listed (option_map (λ t. t.next) (find p ts))) y ≡ true → nat_lt y count ≡ true
+sparse_resolves : (count : ℕ) (p : Transition → Bool) (ts : List Transition) (y : ℕ) → list_all (λ t. nat_lt t.next count) ts ≡ true → member nat_eq (option_to_list (option_map (λ t. t.next) (find p ts))) y ≡ true → nat_lt y count ≡ true
 sparse_resolves count p [] y a m = absurd (false≢true m)
 sparse_resolves count p (t ∷ ts) y a m = by_test (p t)
     (λ e. one_member count t.next y (both_left (nat_lt t.next count) _ a) (rw e at m))
     (λ e. sparse_resolves count p ts y (both_right (nat_lt t.next count) _ a) (rw e at m))
 
 -- an entry of a dense state that is not 0 is an item of its list
-dense_resolves : (count : ℕ) (ids : List ℕ) (byte y : ℕ) → list_all (λ id. nat_lt id count) ids ≡ true → member nat_eq (listed (transitions.dense_target ids byte)) y ≡ true → nat_lt y count ≡ true
+dense_resolves : (count : ℕ) (ids : List ℕ) (byte y : ℕ) → list_all (λ id. nat_lt id count) ids ≡ true → member nat_eq (option_to_list (transitions.dense_target ids byte)) y ≡ true → nat_lt y count ≡ true
 dense_resolves count ids byte y a m = by_test (nat_eq (slice_index ids byte) 0)
     (λ e. absurd (false≢true (rw e at m)))
     (λ e. one_member count (slice_index ids byte) y (item ids byte a e) (rw e at m))
@@ -121,7 +122,7 @@ dense_resolves count ids byte y a m = by_test (nat_eq (slice_index ids byte) 0)
     item (id ∷ ids) (suc byte) a e = item ids byte (both_right (nat_lt id count) _ a) e
 
 -- the target of a state whose ids resolve
-targets_resolve : (count : ℕ) (byte : ℕ) (s : Node) (t : ℕ) → resolves count s ≡ true → member nat_eq (listed (target_of (Some byte) s)) t ≡ true → nat_lt t count ≡ true
+targets_resolve : (count : ℕ) (byte : ℕ) (s : Node) (t : ℕ) → resolves count s ≡ true → member nat_eq (option_to_list (target_of (Some byte) s)) t ≡ true → nat_lt t count ≡ true
 targets_resolve count byte (ByteRange x) t r m = by_test (transitions.matches x byte)
     (λ e. one_member count x.next t r (rw e at m))
     (λ e. absurd (false≢true (rw e at m)))
@@ -167,7 +168,7 @@ module _ (nfa : Nfa) (a : IsAccepted nfa) where
       let w = each_passes j (Match p) (slice_get-get_or nfa.states j Fail v.0 ∙ ap Some v.1) in
       let z : get_or (take j nfa.states) i Fail ≡ Match p = get_or-take j nfa.states i Fail l ∙ u.1 in
       let k : i < length (take j nfa.states) = short nfa.states i j l u.0 in
-      true≢false (sym (list_any_at (matches p) (take j nfa.states) i Fail k (ap (matches p) z ∙ eq-eqb p p refl)) ∙ w.first_match)
+      true≢false (sym (list_any_at (is_match_of p) (take j nfa.states) i Fail k (ap (is_match_of p) z ∙ eq-eqb p p refl)) ∙ w.first_match)
     where
       short : (xs : List Node) (i j : ℕ) → i < j → i < length xs → i < length (take j xs)
       short [] i j l k = absurd (omega arith)

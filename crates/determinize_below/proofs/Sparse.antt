@@ -10,7 +10,7 @@ use Rattle.std.proofs.lemmas.List.Folds.{list_any-append, list_any_more}
 use Rattle.std.proofs.lemmas.Map.Keys.{IsDistinct-push}
 use Rattle.std.proofs.lemmas.Map.Steps.{length-le_from_distinct_below}
 use Rattle.std.proofs.lemmas.Map.Views.{Contains-from_any}
-use Rattle.determinize_below.specs.Members.{IsCleared, IsSparse, has_bit, holds}
+use Rattle.determinize_below.specs.Members.{IsCleared, IsSparse, has_bit, has_id}
 use Rattle.determinize_below.proofs.Bits.{has_bit-empty}
 pub use Rattle.determinize_below.proofs.Bits.{has_bit-zeros, words_back}
 use Rattle.determinize_below.proofs.Tests.{by_cases}
@@ -21,11 +21,11 @@ unfolding IsDistinct
 distinct_none ids e = rw e tt
 
 -- one more id that is new
-pub distinct_push : (ids : List ℕ) (id : ℕ) → IsDistinct nat_eq ids → holds ids id ≡ false → IsDistinct nat_eq (ids ++ id ∷ [])
+pub distinct_push : (ids : List ℕ) (id : ℕ) → IsDistinct nat_eq ids → has_id ids id ≡ false → IsDistinct nat_eq (ids ++ id ∷ [])
 distinct_push ids id d none = IsDistinct-push nat_eq_equiv ids id d none
 
-pub holds-push : (ids : List ℕ) (id other : ℕ) → holds (ids ++ id ∷ []) other ≡ (nat_eq other id || holds ids other)
-holds-push ids id other = list_any-append (nat_eq other) ids (id ∷ []) ∙ turned (holds ids other) (nat_eq other id)
+pub holds-push : (ids : List ℕ) (id other : ℕ) → has_id (ids ++ id ∷ []) other ≡ (nat_eq other id || has_id ids other)
+holds-push ids id other = list_any-append (nat_eq other) ids (id ∷ []) ∙ turned (has_id ids other) (nat_eq other id)
   where
     turned : (a b : Bool) → (a || (b || false)) ≡ (b || a)
     turned a b = grind arith
@@ -47,7 +47,7 @@ length_at_most ids capacity d below =
 -- so there is room for one whose bit is not set
 pub room_for_one : (ids words : List ℕ) (id capacity room : ℕ) → IsSparse ids words capacity room → id < capacity → has_bit words id ≡ false → length ids < room
 room_for_one ids words id capacity room sparse small unset =
-    let new : holds ids id ≡ false = sym (sparse.marked id small) ∙ unset in
+    let new : has_id ids id ≡ false = sym (sparse.marked id small) ∙ unset in
     let below : All (λ i. i < capacity) (ids ++ id ∷ []) = grind (arith, get_or-push) in
     omega (arith, sparse.room_for_all, length-append ids (id ∷ []), length_at_most (ids ++ id ∷ []) capacity (distinct_push ids id sparse.distinct new) below)
 
@@ -63,7 +63,7 @@ pub cleared_more : (words fewer ids : List ℕ) (i : ℕ) → i < length ids →
 cleared_more words fewer ids i h within so_far = record {
   was = λ id e. so_far.was id (has_bit-empty fewer (get_or ids i 0) id within e).0;
   none = λ id e. let now = has_bit-empty fewer (get_or ids i 0) id within e in
-      rw (list_any_more (nat_eq id) ids i 0 h) (neither (holds (take i ids) id) (nat_eq id (get_or ids i 0)) (so_far.none id now.0) now.1);
+      rw (list_any_more (nat_eq id) ids i 0 h) (neither (has_id (take i ids) id) (nat_eq id (get_or ids i 0)) (so_far.none id now.0) now.1);
 }
   where
     neither : (a b : Bool) → not a ≡ true → b ≡ false → not (a || b) ≡ true

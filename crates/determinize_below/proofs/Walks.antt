@@ -1,14 +1,15 @@
 -- Each automaton's walk is a true one.
 use Rattle.std.specs.Prelude.{◌==◌, nat_eq}
+use Rattle.std.specs.List.{find}
 use Rattle.std.proofs.Common.{Bool, List, None, Some, [], ap, arith, false, suc, sym, true, ℕ, ◌∙◌, ◌∷◌, ◌≡◌, ◌≤◌}
 use Rattle.determinize_below.specs.Paths.{IsPath}
 use Rattle.determinize_below.specs.Reach.{LeadsBelow, member, none_held, ordered}
-use Rattle.determinize_below.specs.Runs.{IsBeginning, ListsReached, first, known_at, run_edges, without}
+use Rattle.determinize_below.specs.Runs.{IsBeginning, ListsReached, known_at, run_edges, without}
 use Rattle.determinize_below.proofs.Ends.{IsEnough}
 use Rattle.determinize_below.proofs.Fuel.{IsEnough-fewer_edges}
 use Rattle.determinize_below.proofs.Layers.{pair_eq}
 use Rattle.determinize_below.proofs.Levels.{known_level_is, last_accepting, last_accepting-agree, level_cut, recorded, recorded_cut, recorded_cut_begins, recorded_cut_is, recorded_is}
-use Rattle.determinize_below.proofs.Lists.{first-without}
+use Rattle.determinize_below.proofs.Lists.{find-without}
 use Rattle.determinize_below.proofs.Nodes.{IsEnough-below, same_decides}
 use Rattle.determinize_below.proofs.Preferred.{IsMostPreferred}
 use Rattle.determinize_below.proofs.RunFuel.{IsEnough-at, IsEnough-runs, run_fuel}
@@ -65,9 +66,9 @@ module _ (states m : ℕ) (known eps bytes : ℕ → ℕ → List ℕ) (cap acc 
 
   last_accepting_same : last_accepting (working_cut states m known eps bytes cap acc start) acc m 0 ≡ last_accepting (level_cut nat_eq eps bytes acc (run_fuel (suc states) m) start) acc m 0
   last_accepting_same = last_accepting-agree (working_cut states m known eps bytes cap acc start) (level_cut nat_eq eps bytes acc (run_fuel (suc states) m) start) acc
-      (λ k. sym (first-without acc cap (working_cut states m known eps bytes cap acc start k) a.cap_acc)
-      ∙ ap (λ l. first acc l) (recorded_cut_is same_decides known eps bytes (run_fuel (suc states) m) start cap next a.cap_known a.cap_eps a.cap_bytes a.fewer eps_enough known_enough acc a.cap_acc k)
-      ∙ first-without acc cap (level_cut nat_eq eps bytes acc (run_fuel (suc states) m) start k) a.cap_acc)
+      (λ k. sym (find-without acc cap (working_cut states m known eps bytes cap acc start k) a.cap_acc)
+      ∙ ap (λ l. find acc l) (recorded_cut_is same_decides known eps bytes (run_fuel (suc states) m) start cap next a.cap_known a.cap_eps a.cap_bytes a.fewer eps_enough known_enough acc a.cap_acc k)
+      ∙ find-without acc cap (level_cut nat_eq eps bytes acc (run_fuel (suc states) m) start k) a.cap_acc)
       m 0
 
   pub true_walk : IsTrueWalk states m known eps bytes cap acc start

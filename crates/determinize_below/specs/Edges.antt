@@ -1,21 +1,12 @@
 -- What the states of an NFA are, and where they lead.
 use Rattle.std.specs.Prelude.{◌≡◌, ◌+◌, ℕ, Bool, true, false, cond, Option, Some, None, List, [], ◌∷◌, length, nat_eq, slice_index_or}
+use Rattle.std.specs.Option.{is_some, option_to_list}
 use Rattle.std.specs.List.{flat_map}
 use Rattle.determinize_below.specs.declared.look.Look.{Look as Assertion}
 use Rattle.determinize_below.specs.Node.{Node, ByteRange, Sparse, Dense, Look, Union, BinaryUnion, Capture, Fail, Match}
 use Rattle.determinize_below.specs.Nfa.{Nfa}
 use Rattle.determinize_below.specs.Transition.{matches_unit, sparse_target, dense_target, over_unit}
 use Rattle.determinize_below.specs.Reach.{member, none_held, ordered}
-
--- the list of what an option holds
-abbrev pub listed : {A : Type 0} → Option A → List A
-listed None = []
-listed (Some x) = x ∷ []
-
--- whether an option holds something
-abbrev pub holds_some : {A : Type 0} → Option A → Bool
-holds_some None = false
-holds_some (Some x) = true
 
 -- the edges of a state that want no input, under a set of assertions, in the order of preference
 abbrev pub edges_of : (Assertion → Bool) → Node → List ℕ
@@ -57,7 +48,7 @@ edges nfa holds s = edges_of holds (state_at nfa s)
 
 -- where the state of an id leads over a unit, as a list of at most one
 abbrev pub target : Nfa → Option ℕ → ℕ → List ℕ
-target nfa u s = listed (target_of u (state_at nfa s))
+target nfa u s = option_to_list (target_of u (state_at nfa s))
 
 -- whether the state of an id is a capture
 abbrev pub is_capture : Nfa → ℕ → Bool
@@ -69,7 +60,7 @@ pattern_of nfa s = pattern_in (state_at nfa s)
 
 -- whether the state of an id accepts a pattern
 abbrev pub is_match : Nfa → ℕ → Bool
-is_match nfa s = holds_some (pattern_of nfa s)
+is_match nfa s = is_some (pattern_of nfa s)
 
 -- the assertion that the state of an id tests
 abbrev pub assertion_of : Nfa → ℕ → Option Assertion
@@ -77,7 +68,7 @@ assertion_of nfa s = assertion_in (state_at nfa s)
 
 -- the patterns of the `Match` states of a list, in order
 abbrev pub patterns_of : Nfa → List ℕ → List ℕ
-patterns_of nfa xs = flat_map (λ s. listed (pattern_of nfa s)) xs
+patterns_of nfa xs = flat_map (λ s. option_to_list (pattern_of nfa s)) xs
 
 -- the states that paths from the roots meet last, each once, by the first such root and then by the least path
 unfoldable pub reach : Nfa → (Assertion → Bool) → List ℕ → List ℕ

@@ -9,8 +9,8 @@ pub record Members : Type 0 where
   pub capacity : ℕ
 
 -- whether the id is among them
-abbrev pub holds : List ℕ → ℕ → Bool
-holds ids id = list_any (nat_eq id) ids
+abbrev pub has_id : List ℕ → ℕ → Bool
+has_id ids id = list_any (nat_eq id) ids
 
 -- the ids are distinct and below the capacity
 pub record AreMembers (set : Members) : Type 0 where
@@ -24,7 +24,7 @@ has_bit words id = nat_eq (bit_at (slice_index words (id / 64)) (id % 64)) 1
 -- what is set in the words afterwards was so before, and is none of these ids
 pub record IsCleared (words fewer ids : List ℕ) : Type 0 where
   pub was : (id : ℕ) → IsTrue (has_bit fewer id) → IsTrue (has_bit words id)
-  pub none : (id : ℕ) → IsTrue (has_bit fewer id) → IsTrue (not (holds ids id))
+  pub none : (id : ℕ) → IsTrue (has_bit fewer id) → IsTrue (not (has_id ids id))
 
 -- distinct ids below the capacity, for all of which there is room, and the bits of just these ids,
 -- in as many words as the capacity wants
@@ -34,4 +34,4 @@ pub record IsSparse (ids words : List ℕ) (capacity room : ℕ) : Type 0 where
   pub small : capacity ≤ 2147483647
   pub room_for_all : capacity ≤ room
   pub word_for_each : length words ≡ div_ceil capacity 64
-  pub marked : (id : ℕ) → id < capacity → has_bit words id ≡ holds ids id
+  pub marked : (id : ℕ) → id < capacity → has_bit words id ≡ has_id ids id

@@ -45,9 +45,9 @@ is_dense_sound (Dense ids) = nat_eq (length ids) 256
 is_dense_sound _ = true
 
 -- whether the state is a `Match` of the pattern
-abbrev pub matches : ℕ → Node → Bool
-matches pattern (Match other) = nat_eq pattern other
-matches pattern _ = false
+abbrev pub is_match_of : ℕ → Node → Bool
+is_match_of pattern (Match other) = nat_eq pattern other
+is_match_of pattern _ = false
 
 -- whether the state is a `Match` of a pattern that was seen
 abbrev pub repeats : (ℕ → Bool) → Node → Bool
@@ -56,7 +56,7 @@ repeats seen _ = false
 
 -- whether an earlier state is a `Match` of the same pattern
 abbrev pub is_repeated : List Node → Node → Bool
-is_repeated earlier node = repeats (λ pattern. list_any (matches pattern) earlier) node
+is_repeated earlier node = repeats (λ pattern. list_any (is_match_of pattern) earlier) node
 
 -- the first check of the state at `index` that fails, where it is known whether it repeats a pattern
 abbrev pub failure_of : ℕ → Bool → ℕ → Node → Option BuildError

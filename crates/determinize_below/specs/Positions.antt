@@ -22,7 +22,7 @@ truth nfa p q look = truths.holds nfa.reverse nfa.terminator p q look
 
 -- the set of the assertions that hold after a byte or none whatever unit follows
 unfoldable pub known : Nfa → Option ℕ → Assertion → Bool
-known nfa p look = truths.known nfa.reverse nfa.terminator p look
+known nfa p look = truths.is_known nfa.reverse nfa.terminator p look
 
 -- the edges that stay at a position, under what is true there
 abbrev pub true_edges : Nfa → Option ℕ → List ℕ → ℕ → ℕ → List ℕ

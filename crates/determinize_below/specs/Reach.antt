@@ -49,8 +49,8 @@ abbrev pub closure : {N : Type 0} → (N → N → Bool) → (N → List N) → 
 closure eq edges n met pending = met ++ ordered eq edges n (member eq met) pending
 
 -- how many times the search still takes a pending node
-abbrev pub tries : {N : Type 0} → (N → N → Bool) → (N → List N) → ℕ → List N → List N → ℕ
-tries eq edges n met pending = length pending + edge_count edges (ordered eq edges n (member eq met) pending)
+abbrev pub search_tries : {N : Type 0} → (N → N → Bool) → (N → List N) → ℕ → List N → List N → ℕ
+search_tries eq edges n met pending = length pending + edge_count edges (ordered eq edges n (member eq met) pending)
 
 -- each edge leads to a number below the count
 abbrev pub LeadsBelow : (ℕ → List ℕ) → ℕ → Type 0

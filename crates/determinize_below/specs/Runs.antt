@@ -1,5 +1,5 @@
 -- Runs: paths over pairs of a position and a state.
-use Rattle.std.specs.List.{filter}
+use Rattle.std.specs.List.{filter, find}
 use Rattle.std.specs.Prelude.{◌++◌, ◌<◌, ◌==◌, Bool, Contains, List, None, Option, Some, [], cond, false, map, not, slice_get, suc, ℕ, ◌↔◌, ◌∷◌, ◌≡◌, ◌⊎◌}
 use Rattle.determinize_below.specs.Paths.{Before, IsPath}
 
@@ -15,20 +15,10 @@ run_edges eps bytes p = map (placed (suc p.0)) (bytes p.0 p.1) ++ map (placed p.
 abbrev pub known_at : {N : Type 0} → ℕ → (ℕ → N → List N) → (ℕ → N → List N) → ℕ → N → List N
 known_at k known eps i s = cond (i == k) (known i s) (eps i s)
 
--- the first element that passes
-abbrev pub first : {A : Type 0} → (A → Bool) → List A → Option A
-first p [] = None
-first p (x ∷ xs) = cond (p x) (Some x) (first p xs)
-
 -- the elements before the first that passes
 abbrev pub before : {A : Type 0} → (A → Bool) → List A → List A
 before p [] = []
 before p (x ∷ xs) = cond (p x) [] (x ∷ before p xs)
-
--- the first answer, or else the second
-abbrev pub or_else : {A : Type 0} → Option A → Option A → Option A
-or_else None b = b
-or_else (Some a) b = Some a
 
 -- the list without the nodes of cap
 abbrev pub without : {N : Type 0} → (N → Bool) → List N → List N

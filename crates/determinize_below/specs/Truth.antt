@@ -54,8 +54,8 @@ IsUnit None = Unit {0}
 IsUnit (Some b) = b < 256
 
 -- whether the assertion holds after p whatever unit follows
-abbrev pub known : Bool → ℕ → Option ℕ → Look → Bool
-known reverse t p l = all_units (λ q. holds reverse t p q l)
+abbrev pub is_known : Bool → ℕ → Option ℕ → Look → Bool
+is_known reverse t p l = all_units (λ q. holds reverse t p q l)
 
 -- whether the assertion is Start, StartLF, StartCRLF or one of the two WordStartHalf, and the test for it says so
 abbrev pub behind_test : Bool → Bool → Bool → Bool → Look → Bool

@@ -48,8 +48,8 @@ pub fn look_class_law(set: LookSet)
 
 /// What is known behind a byte, or behind nothing, is what holds there whatever unit follows; a short table says what that is.
 pub fn known_law(reverse: bool, terminator: u8, before: Option<u8>, look: Look)
-    ensures every { Decides (truth.known reverse terminator before look) ((q : Option ℕ) → truth.IsUnit q → truth.holds reverse terminator before q look ≡ true) }
-    ensures table { truth.known reverse terminator before look ≡ truth.behind_test (units.is_nothing before) (units.is_nothing before || units.is_byte before terminator) (units.is_nothing before || units.is_byte before (truth.crlf_second reverse)) (not (units.is_word before)) look }
+    ensures every { Decides (truth.is_known reverse terminator before look) ((q : Option ℕ) → truth.IsUnit q → truth.holds reverse terminator before q look ≡ true) }
+    ensures table { truth.is_known reverse terminator before look ≡ truth.behind_test (units.is_nothing before) (units.is_nothing before || units.is_byte before terminator) (units.is_nothing before || units.is_byte before (truth.crlf_second reverse)) (not (units.is_word before)) look }
 {}
 
 /// An assertion is among those of some states exactly where one of them tests it, and among those

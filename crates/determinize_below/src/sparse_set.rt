@@ -2,7 +2,7 @@
 
 ghost use Rattle.std.specs.Prelude.{◌≡◌, ℕ, ◌*◌, ◌<◌, ◌≤◌, ◌↔◌, [], ◌∷◌, ◌++◌, length, not, All, IsTrue, IfOk, if◌then◌else◌, nat_eq, ◌&&◌, ◌||◌};
 ghost use Rattle.std.specs.Iterator.{YieldsFirst, item_count};
-ghost use Rattle.determinize_below.specs.Members.{IsCleared, has_bit, holds};
+ghost use Rattle.determinize_below.specs.Members.{IsCleared, has_bit, has_id};
 
 use crate::primitives::StateID;
 use std::alloc::{AllocError, Allocator, Global};
@@ -74,7 +74,7 @@ impl<A: Allocator> SparseSet<A> {
     /// Whether the id, which is below the capacity, is in the set.
     pub fn contains(&self, id: StateID) -> bool
         requires { id < self.now.capacity }
-        ensures { result ≡ holds self.now.ids id }
+        ensures { result ≡ has_id self.now.ids id }
     {
         is_bit_set(&self.bits, id)
     }
@@ -84,7 +84,7 @@ impl<A: Allocator> SparseSet<A> {
     #[tactic(auto, using(crate::proofs::Sparse::pushing))]
     pub fn insert(&mut self, id: StateID) -> bool
         requires { id < self.old.capacity }
-        ensures new { result ≡ not (holds self.old.ids id) }
+        ensures new { result ≡ not (has_id self.old.ids id) }
         ensures after { self.new ≡ record self.old { ids = (if result then self.old.ids ++ id ∷ [] else self.old.ids) } }
         ensures members { AreMembers self.new }
     {

@@ -1,8 +1,9 @@
 -- The patterns of the states that runs reach, in terms of whole runs.
 use Rattle.std.proofs.Common.{◌≡◌, ℕ, zero, suc, ◌<◌, true, false, List, [], ◌∷◌, sym, ap, ◌∙◌, arith, Option, Some, None, subst}
+use Rattle.std.specs.Option.{is_some, option_to_list}
 use Rattle.std.specs.Prelude.{slice_get}
 use Rattle.std.proofs.lemmas.Bool.{cases_order}
-use Rattle.determinize_below.specs.Edges.{is_capture, is_match, pattern_of, patterns_of, listed, holds_some}
+use Rattle.determinize_below.specs.Edges.{is_capture, is_match, pattern_of, patterns_of}
 use Rattle.determinize_below.specs.Nfa.{Nfa}
 use Rattle.determinize_below.specs.Positions.{choices, IsRun, IsReached, IsBestRun}
 use Rattle.determinize_below.specs.Runs.{IsLeastRun}
@@ -26,7 +27,7 @@ module _ (nfa : Nfa) where
   In_patterns [] s x h e = absurd (let k : Some s ≡ None = sym h.1 in cc)
   In_patterns (z ∷ xs) s x h e = In_cases s z xs h
       (λ q. let k : pattern_of nfa z ≡ Some x = ap (λ y. pattern_of nfa y) (sym q) ∙ e in rw k (In_head x (patterns_of nfa xs)))
-      (λ i. In_append_right x (listed (pattern_of nfa z)) (patterns_of nfa xs) (In_patterns xs s x i e))
+      (λ i. In_append_right x (option_to_list (pattern_of nfa z)) (patterns_of nfa xs) (In_patterns xs s x i e))
 
   -- two states with these patterns, in this order
   abbrev AreEarlier : List ℕ → ℕ → ℕ → Type 0
@@ -48,7 +49,7 @@ module _ (nfa : Nfa) where
       go w e (suc a) (suc b) l p q ih = AreEarlier_tail xs x y z (ih a b x y (omega arith) p q)
 
   pub match_of : (s x : ℕ) → pattern_of nfa s ≡ Some x → is_match nfa s ≡ true
-  match_of s x e = ap holds_some e
+  match_of s x e = ap is_some e
 
   module _ (sound : IsSound nfa) (p : Option ℕ) (text : List ℕ) (start : ℕ) where
     -- the patterns of what is reached are those that runs accept, best run first

@@ -5,7 +5,7 @@ use Rattle.std.proofs.lemmas.List.Elements.{All-tail, All-append, All-cons, All-
 use Rattle.std.proofs.lemmas.Bool.Decides.{nat_tests}
 use Rattle.determinize_below.specs.declared.look.Look.{Look as Assertion}
 use Rattle.determinize_below.specs.Edges.{edges, edges_of, state_at, reach_past}
-use Rattle.determinize_below.specs.Members.{Members, holds}
+use Rattle.determinize_below.specs.Members.{Members, has_id}
 use Rattle.determinize_below.specs.Nfa.{Nfa}
 use Rattle.determinize_below.specs.Node.{Node, ByteRange, Sparse, Dense, Look, Union, BinaryUnion, Capture, Fail, Match, is_epsilon}
 use Rattle.determinize_below.proofs.Tests.{by_test}
@@ -19,9 +19,9 @@ use Rattle.determinize_below.proofs.SoundNfa.{edges_enough, IsSound}
 use Rattle.determinize_core.specs.Closure.{search_end, tries_left, IsTurn}
 
 -- the two tests for being in a list
-pub holds-member : (ids : List ℕ) (id : ℕ) → holds ids id ≡ member nat_eq ids id
+pub holds-member : (ids : List ℕ) (id : ℕ) → has_id ids id ≡ member nat_eq ids id
 holds-member [] id = refl
-holds-member (x ∷ ids) id = turned x id (holds ids id) ∙ ap (λ b. nat_eq x id || b) (holds-member ids id)
+holds-member (x ∷ ids) id = turned x id (has_id ids id) ∙ ap (λ b. nat_eq x id || b) (holds-member ids id)
   where
     turned : (x id : ℕ) (b : Bool) → (nat_eq id x || b) ≡ (nat_eq x id || b)
     turned x id b = grind (arith, nat_tests)
@@ -38,7 +38,7 @@ module _ (nfa : Nfa) (sound : IsSound nfa) (look : Assertion → Bool) where
   tries_left-done met = refl
 
   -- a state that was met is passed over
-  pub turn_held : (met rest : List ℕ) (id : ℕ) → holds met id ≡ true → IsTurn nfa look met met id rest rest
+  pub turn_held : (met rest : List ℕ) (id : ℕ) → has_id met id ≡ true → IsTurn nfa look met met id rest rest
   unfolding search_end tries_left
   turn_held met rest id h =
       let there : member nat_eq met id ≡ true = sym (holds-member met id) ∙ h in
@@ -50,7 +50,7 @@ module _ (nfa : Nfa) (sound : IsSound nfa) (look : Assertion → Bool) where
       }
 
   -- a new state is met, and its edges are pending before the rest
-  pub turn_new : (met rest : List ℕ) (id : ℕ) → holds met id ≡ false → IsTurn nfa look met (met ++ id ∷ []) id rest (edges nfa look id ++ rest)
+  pub turn_new : (met rest : List ℕ) (id : ℕ) → has_id met id ≡ false → IsTurn nfa look met (met ++ id ∷ []) id rest (edges nfa look id ++ rest)
   unfolding search_end tries_left
   turn_new met rest id h =
       let free : member nat_eq met id ≡ false = sym (holds-member met id) ∙ h in
@@ -144,8 +144,8 @@ edges_of-leaf look (Match pattern) e = refl
 
 module _ (nfa : Nfa) (sound : IsSound nfa) (look : Assertion → Bool) (held : List ℕ) (root : ℕ) (within : root < length nfa.states) (leaf : is_epsilon (state_at nfa root) ≡ false) where
   -- the search from such a state ends after one turn
-  one_turn : (new : Bool) → new ≡ not (holds held root) → (before : ℕ) → IsSoFar nfa look held root (if new then held ++ root ∷ [] else held) [] before (before + 1)
-  one_turn new h before = by_test (holds held root)
+  one_turn : (new : Bool) → new ≡ not (has_id held root) → (before : ℕ) → IsSoFar nfa look held root (if new then held ++ root ∷ [] else held) [] before (before + 1)
+  one_turn new h before = by_test (has_id held root)
       (λ e. let old : new ≡ false = h ∙ ap not e in
       rw old (so_far-turn nfa sound look held root held (root ∷ []) before before (so_far-start nfa sound look held root before within) held [] [] root refl (turn_held nfa sound look held [] root e)))
       (λ e. let fresh : new ≡ true = h ∙ ap not e in
@@ -154,8 +154,8 @@ module _ (nfa : Nfa) (sound : IsSound nfa) (look : Assertion → Bool) (held : L
       (subst (λ l. IsTurn nfa look held (held ++ root ∷ []) root [] l) no_edges (turn_new nfa sound look held [] root e))))
 
   -- what it adds, and its one try
-  pub leaf_set : (new : Bool) → new ≡ not (holds held root) → (if new then held ++ root ∷ [] else held) ≡ held ++ reach_past nfa look held (root ∷ [])
+  pub leaf_set : (new : Bool) → new ≡ not (has_id held root) → (if new then held ++ root ∷ [] else held) ≡ held ++ reach_past nfa look held (root ∷ [])
   leaf_set new h = so_far-end nfa sound look held root _ [] 0 1 (one_turn new h 0) refl
 
   pub leaf_tries : tries_left nfa look held (root ∷ []) ≡ 1
-  leaf_tries = let k : 1 ≡ 0 + tries_left nfa look held (root ∷ []) = so_far-counted nfa sound look held root _ [] 0 1 (one_turn (not (holds held root)) refl 0) refl in omega arith
+  leaf_tries = let k : 1 ≡ 0 + tries_left nfa look held (root ∷ []) = so_far-counted nfa sound look held root _ [] 0 1 (one_turn (not (has_id held root)) refl 0) refl in omega arith

@@ -1,10 +1,10 @@
 -- Collecting the distinct ids of a list in a set.
 use Rattle.std.proofs.Common.{◌≡◌, ◌<◌, ℕ, All, Bool, true, false, not, List, [], ◌∷◌, ◌++◌, nat_eq, refl, sym, ap, ◌∙◌, arith, append_assoc, subst, ◌||◌, ◌&&◌, if◌then◌else◌}
+use Rattle.determinize_below.specs.Members.{has_id}
 use Rattle.std.specs.List.{list_any, IsDistinct, AllByRecursion}
 use Rattle.std.proofs.lemmas.Bool.Decides.{nat_tests}
 use Rattle.std.proofs.lemmas.List.Elements.{All-head, All-tail, All-cons}
 use Rattle.std.proofs.lemmas.List.{append-nil}
-use Rattle.determinize_below.specs.Members.{holds}
 use Rattle.determinize_below.specs.Reach.{member, fresh, joined, none_held, with_node}
 use Rattle.determinize_below.proofs.Nodes.{same_decides}
 use Rattle.determinize_below.proofs.Sets.{fresh-append, member-fresh}
@@ -12,7 +12,7 @@ use Rattle.determinize_below.proofs.Tests.{by_test}
 use Rattle.determinize_core.proofs.ClosureSteps.{holds-member}
 
 -- one more id of a list, at its place in the set if it is new
-pub fresh-push : (xs : List ℕ) (x : ℕ) (new : Bool) → new ≡ not (holds (fresh nat_eq none_held xs) x)
+pub fresh-push : (xs : List ℕ) (x : ℕ) (new : Bool) → new ≡ not (has_id (fresh nat_eq none_held xs) x)
     → (if new then fresh nat_eq none_held xs ++ x ∷ [] else fresh nat_eq none_held xs) ≡ fresh nat_eq none_held (xs ++ x ∷ [])
 fresh-push xs x new h =
     by_test (member nat_eq xs x)
@@ -24,7 +24,7 @@ fresh-push xs x new h =
     kept : (a : Bool) → (a && not false) ≡ a
     kept a = grind arith
 
-    there : holds (fresh nat_eq none_held xs) x ≡ member nat_eq xs x
+    there : has_id (fresh nat_eq none_held xs) x ≡ member nat_eq xs x
     there = holds-member (fresh nat_eq none_held xs) x ∙ member-fresh same_decides none_held xs x ∙ kept (member nat_eq xs x)
 
     behind : fresh nat_eq none_held (xs ++ x ∷ []) ≡ fresh nat_eq none_held xs ++ fresh nat_eq (joined (member nat_eq xs) none_held) (x ∷ [])
@@ -37,9 +37,9 @@ fresh-push xs x new h =
     one_new e = rw e refl
 
 -- the same of a set that has the distinct ids so far
-pub pushed : (ids xs : List ℕ) (x : ℕ) (new : Bool) → ids ≡ fresh nat_eq none_held xs → new ≡ not (holds ids x) → (if new then ids ++ x ∷ [] else ids) ≡ fresh nat_eq none_held (xs ++ x ∷ [])
+pub pushed : (ids xs : List ℕ) (x : ℕ) (new : Bool) → ids ≡ fresh nat_eq none_held xs → new ≡ not (has_id ids x) → (if new then ids ++ x ∷ [] else ids) ≡ fresh nat_eq none_held (xs ++ x ∷ [])
 pushed ids xs x new e h =
-    ap (λ l. if new then l ++ x ∷ [] else l) e ∙ fresh-push xs x new (h ∙ ap (λ l. not (holds l x)) e)
+    ap (λ l. if new then l ++ x ∷ [] else l) e ∙ fresh-push xs x new (h ∙ ap (λ l. not (has_id l x)) e)
 
 pub rest_below : (bound : ℕ) (xs ys : List ℕ) (x : ℕ) → xs ≡ x ∷ ys → All (λ id. id < bound) xs → All (λ id. id < bound) ys
 rest_below bound xs ys x e h = All-tail (λ id. id < bound) x ys (subst (λ l. All (λ id. id < bound) l) e h)

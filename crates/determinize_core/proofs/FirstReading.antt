@@ -1,5 +1,7 @@
 -- The first reading of a working list, one state after another.
 use Rattle.std.proofs.Common.{◌≡◌, ℕ, Bool, true, false, not, List, [], ◌∷◌, ◌++◌, Option, Some, None, nat_eq, refl, sym, ap, subst, ◌∙◌, append_assoc, arith, take, ◌&&◌, ◌||◌, if◌then◌else◌, cond}
+use Rattle.determinize_below.specs.Members.{has_id}
+use Rattle.std.specs.Option.{is_some, option_to_list}
 use Rattle.std.specs.List.{AllByRecursion, IsDistinct, filter, flat_map, list_any}
 use Rattle.std.proofs.lemmas.Bool.{true≢false, false≢true, eq-eqb, eqb-true, or_left, or_right}
 use Rattle.std.proofs.lemmas.List.{append-nil}
@@ -8,8 +10,7 @@ use Rattle.std.proofs.lemmas.List.Elements.{filter-append}
 use Rattle.std.proofs.lemmas.List.Folds.{list_any-append}
 use Rattle.determinize_below.specs.declared.search.MatchKind.{MatchKind}
 use Rattle.determinize_below.specs.declared.search.MatchKind.TheVariants as kinds
-use Rattle.determinize_below.specs.Edges.{holds_some, is_match, listed, pattern_of, patterns_of, target}
-use Rattle.determinize_below.specs.Members.{holds}
+use Rattle.determinize_below.specs.Edges.{is_match, pattern_of, patterns_of, target}
 use Rattle.determinize_below.specs.Nfa.{Nfa}
 use Rattle.determinize_below.specs.Reach.{fresh, joined, member, none_held, with_node}
 use Rattle.determinize_below.specs.Search.{continues}
@@ -19,8 +20,8 @@ use Rattle.determinize_below.proofs.SoundNfa.{IsSound}
 use Rattle.determinize_below.proofs.Tests.{by_option, by_test, or_false_left, or_false_right}
 use Rattle.determinize_core.specs.Reading.{counts, gained, roots_of}
 use Rattle.determinize_core.specs.Recording.{with_patterns}
-use Rattle.determinize_core.specs.Step.{is_nonempty, part_read, patterns_read}
-use Rattle.determinize_core.specs.Value.{Value}
+use Rattle.determinize_core.specs.Step.{part_read, patterns_read}
+use Rattle.determinize_core.specs.Value.{Value, is_nonempty}
 use Rattle.determinize_core.proofs.Collecting.{fresh-push}
 use Rattle.determinize_core.proofs.Loops.{goes_on, pattern_new, patterns-push, stops_at, targets-push}
 use Rattle.determinize_core.proofs.Targets.{target-match}
@@ -38,19 +39,19 @@ is_nonempty-append : (xs ys : List ℕ) → is_nonempty (xs ++ ys) ≡ (is_nonem
 is_nonempty-append [] ys = refl
 is_nonempty-append (x ∷ xs) ys = refl
 
-none_of : (o : Option ℕ) → holds_some o ≡ false → listed o ≡ []
+none_of : (o : Option ℕ) → is_some o ≡ false → option_to_list o ≡ []
 none_of None e = refl
 none_of (Some x) e = absurd (true≢false e)
 
 -- an item of the filtered list is an item that passes
-holds-filter : (p : ℕ → Bool) (xs : List ℕ) (x : ℕ) → holds (filter p xs) x ≡ (holds xs x && p x)
+holds-filter : (p : ℕ → Bool) (xs : List ℕ) (x : ℕ) → has_id (filter p xs) x ≡ (has_id xs x && p x)
 holds-filter p [] x = refl
 holds-filter p (y ∷ xs) x = by_test (p y)
     (λ e. rw e (by_test (nat_eq x y)
     (λ k. let q : p x ≡ true = ap p (eqb-true x y k) ∙ e in rw (k, q) refl)
     (λ k. rw k (holds-filter p xs x))))
     (λ e. rw e (by_test (nat_eq x y)
-    (λ k. let q : p x ≡ false = ap p (eqb-true x y k) ∙ e in rw k (holds-filter p xs x ∙ rw q (neither (holds xs x))))
+    (λ k. let q : p x ≡ false = ap p (eqb-true x y k) ∙ e in rw k (holds-filter p xs x ∙ rw q (neither (has_id xs x))))
     (λ k. rw k (holds-filter p xs x))))
   where
     neither : (a : Bool) → (a && false) ≡ false
@@ -58,7 +59,7 @@ holds-filter p (y ∷ xs) x = by_test (p y)
 
 module _ (nfa : Nfa) (u : Option ℕ) where
   -- a state that does not count has no pattern and leads nowhere
-  pub counts-pattern : (s : ℕ) → counts nfa u s ≡ false → listed (pattern_of nfa s) ≡ []
+  pub counts-pattern : (s : ℕ) → counts nfa u s ≡ false → option_to_list (pattern_of nfa s) ≡ []
   counts-pattern s e = none_of (pattern_of nfa s) (or_false_left (is_match nfa s) (is_nonempty (target nfa u s)) e)
 
   pub counts-target : (s : ℕ) → counts nfa u s ≡ false → target nfa u s ≡ []
@@ -72,22 +73,22 @@ module _ (nfa : Nfa) (u : Option ℕ) where
       (λ e. rw e (counted_all f h xs ∙ sym (ap (λ l. l ++ flat_map f xs) (h x e))))
 
   counted_patterns : (xs : List ℕ) → patterns_of nfa (filter (counts nfa u) xs) ≡ patterns_of nfa xs
-  counted_patterns = counted_all (λ s. listed (pattern_of nfa s)) counts-pattern
+  counted_patterns = counted_all (λ s. option_to_list (pattern_of nfa s)) counts-pattern
 
   counted_targets : (xs : List ℕ) → flat_map (target nfa u) (filter (counts nfa u) xs) ≡ flat_map (target nfa u) xs
   counted_targets = counted_all (target nfa u) counts-target
 
   -- what one more state adds to the distinct ones
   pub one_more : List ℕ → ℕ → List ℕ
-  one_more xs x = if not (holds (distinct xs) x) then x ∷ [] else []
+  one_more xs x = if not (has_id (distinct xs) x) then x ∷ [] else []
 
   distinct-push : (xs : List ℕ) (x : ℕ) → distinct (xs ++ x ∷ []) ≡ distinct xs ++ one_more xs x
   unfolding one_more
-  distinct-push xs x = by_test (holds (distinct xs) x)
+  distinct-push xs x = by_test (has_id (distinct xs) x)
       (λ e. sym (fresh-push xs x false (sym (ap not e))) ∙ rw e (sym (append-nil (distinct xs))))
       (λ e. sym (fresh-push xs x true (sym (ap not e))) ∙ rw e refl)
 
-  pub one_more-new : (xs : List ℕ) (x : ℕ) → holds (distinct xs) x ≡ false → one_more xs x ≡ x ∷ []
+  pub one_more-new : (xs : List ℕ) (x : ℕ) → has_id (distinct xs) x ≡ false → one_more xs x ≡ x ∷ []
   unfolding one_more
   one_more-new xs x e = rw e refl
 
@@ -95,10 +96,10 @@ module _ (nfa : Nfa) (u : Option ℕ) where
   gained_is : (xs : List ℕ) (x : ℕ) → gained nfa u (filter (counts nfa u) (distinct xs)) x ≡ filter (counts nfa u) (one_more xs x)
   unfolding one_more
   gained_is xs x = by_test (counts nfa u x)
-      (λ e. by_test (holds (distinct xs) x)
-      (λ k. let there : holds (filter (counts nfa u) (distinct xs)) x ≡ true = holds-filter (counts nfa u) (distinct xs) x ∙ rw (k, e) refl in rw (there, k, e) refl)
-      (λ k. let away : holds (filter (counts nfa u) (distinct xs)) x ≡ false = holds-filter (counts nfa u) (distinct xs) x ∙ rw k refl in rw (away, k, e) refl))
-      (λ e. by_test (holds (distinct xs) x)
+      (λ e. by_test (has_id (distinct xs) x)
+      (λ k. let there : has_id (filter (counts nfa u) (distinct xs)) x ≡ true = holds-filter (counts nfa u) (distinct xs) x ∙ rw (k, e) refl in rw (there, k, e) refl)
+      (λ k. let away : has_id (filter (counts nfa u) (distinct xs)) x ≡ false = holds-filter (counts nfa u) (distinct xs) x ∙ rw k refl in rw (away, k, e) refl))
+      (λ e. by_test (has_id (distinct xs) x)
       (λ k. rw (k, e) refl)
       (λ k. rw (k, e) refl))
 
@@ -138,7 +139,7 @@ module _ (nfa : Nfa) (kind : MatchKind) (u : Option ℕ) (begun : Value) where
     patterns_more : (value.patterns ++ patterns_of nfa (gained nfa u kept id)) ≡ patterns_of nfa (distinct (done ++ id ∷ []))
     patterns_more = ap (λ (w : Value). w.patterns ++ patterns_of nfa (gained nfa u kept id)) so_far.value_is
         ∙ ap (λ l. patterns_of nfa (distinct done) ++ l) (ap (λ l. patterns_of nfa l) gained_more ∙ counted_patterns nfa u (one_more nfa u done id))
-        ∙ sym (flat_map-append (λ s. listed (pattern_of nfa s)) (distinct done) (one_more nfa u done id))
+        ∙ sym (flat_map-append (λ s. option_to_list (pattern_of nfa s)) (distinct done) (one_more nfa u done id))
         ∙ ap (λ l. patterns_of nfa l) (sym (distinct-push nfa u done id))
 
     value_more : next ≡ with_patterns begun (patterns_of nfa (distinct (done ++ id ∷ [])))
@@ -167,12 +168,12 @@ module _ (nfa : Nfa) (kind : MatchKind) (u : Option ℕ) (begun : Value) where
         unmatched_of a c h l = grind arith
 
         no_match : continues kind ≡ false → (is_match nfa id && not (continues kind)) ≡ false → list_any (is_match nfa) (one_more nfa u done id) ≡ false
-        no_match h l = by_test (holds (distinct done) id)
+        no_match h l = by_test (has_id (distinct done) id)
             (λ e. rw e refl)
             (λ e. let m : is_match nfa id ≡ false = unmatched_of (is_match nfa id) (continues kind) h l in rw (e, m) refl)
 
 -- a match is new behind states without one
-unmatched_new : (nfa : Nfa) (xs : List ℕ) (x : ℕ) → list_any (is_match nfa) xs ≡ false → is_match nfa x ≡ true → holds xs x ≡ false
+unmatched_new : (nfa : Nfa) (xs : List ℕ) (x : ℕ) → list_any (is_match nfa) xs ≡ false → is_match nfa x ≡ true → has_id xs x ≡ false
 unmatched_new nfa [] x h m = refl
 unmatched_new nfa (y ∷ xs) x h m = by_test (nat_eq x y)
     (λ e. absurd (true≢false (sym (ap (is_match nfa) (sym (eqb-true x y e)) ∙ m) ∙ or_false_left (is_match nfa y) (list_any (is_match nfa) xs) h)))
@@ -207,9 +208,9 @@ module _ (nfa : Nfa) (u : Option ℕ) (begun : Value) where
       never : (a : Bool) → (a && not true) ≡ true → ⊥
       never a h = grind arith
   first_read-stop kinds.LeftmostFirst done left id value next kept after some so_far k v stop = by_option (pattern_of nfa id)
-      (λ e. absurd (true≢false (sym (matched (is_match nfa id) stop) ∙ ap holds_some e)))
+      (λ e. absurd (true≢false (sym (matched (is_match nfa id) stop) ∙ ap is_some e)))
       (λ p e.
-      let new : holds (distinct done) id ≡ false = unmatched_new nfa (distinct done) id (so_far.unmatched refl) (matched (is_match nfa id) stop) in
+      let new : has_id (distinct done) id ≡ false = unmatched_new nfa (distinct done) id (so_far.unmatched refl) (matched (is_match nfa id) stop) in
       let behind : List ℕ = fresh nat_eq (joined (member nat_eq (done ++ id ∷ [])) none_held) left in
       let one : distinct (done ++ id ∷ []) ≡ distinct done ++ id ∷ [] = distinct-push nfa u done id ∙ ap (λ l. distinct done ++ l) (one_more-new nfa u done id new) in
       let whole : distinct (done ++ (id ∷ left)) ≡ distinct done ++ (id ∷ behind) =
@@ -219,7 +220,7 @@ module _ (nfa : Nfa) (u : Option ℕ) (begun : Value) where
       stops_at nfa (distinct done) behind id p (so_far.unmatched refl) e in
       let part : part_read kinds.LeftmostFirst (is_match nfa) (distinct (done ++ (id ∷ left))) ≡ distinct done = ap (λ l. part_read kinds.LeftmostFirst (is_match nfa) l) whole ∙ at.0 in
       let first : patterns_of nfa (distinct (done ++ id ∷ [])) ≡ p ∷ [] =
-      ap (λ l. patterns_of nfa l) one ∙ patterns-push nfa (distinct done) id ∙ ap (λ l. l ++ listed (pattern_of nfa id)) on.1 ∙ ap (λ o. listed o) e in
+      ap (λ l. patterns_of nfa l) one ∙ patterns-push nfa (distinct done) id ∙ ap (λ l. l ++ option_to_list (pattern_of nfa id)) on.1 ∙ ap (λ o. option_to_list o) e in
       let roots_are : flat_map (target nfa u) (distinct (done ++ id ∷ [])) ≡ flat_map (target nfa u) (distinct done) =
       ap (λ l. flat_map (target nfa u) l) one ∙ targets-push nfa u (distinct done) id ∙ ap (λ l. flat_map (target nfa u) (distinct done) ++ l) (target-match nfa u id p e) ∙ append-nil (flat_map (target nfa u) (distinct done)) in
       record {
@@ -262,10 +263,10 @@ distinct_same xs d = fresh_distinct none_held xs (λ x m. refl) d
 
 -- the pattern of a state that was not kept is new
 pub first_read-new : (nfa : Nfa) → IsSound nfa → (kind : MatchKind) (u : Option ℕ) (done : List ℕ) (begun value : Value) (kept : List ℕ) (some : Bool) (id p : ℕ)
-    → IsFirstRead nfa kind u done begun value kept some → pattern_of nfa id ≡ Some p → holds kept id ≡ false → list_any (nat_eq p) value.patterns ≡ false
+    → IsFirstRead nfa kind u done begun value kept some → pattern_of nfa id ≡ Some p → has_id kept id ≡ false → list_any (nat_eq p) value.patterns ≡ false
 first_read-new nfa sound kind u done begun value kept some id p so_far e h =
-    let counted : counts nfa u id ≡ true = or_left (is_match nfa id) (is_nonempty (target nfa u id)) (ap holds_some e) in
-    let new : holds (distinct done) id ≡ false = and_false (holds (distinct done) id) (counts nfa u id) counted (sym (holds-filter (counts nfa u) (distinct done) id) ∙ ap (λ l. holds l id) (sym so_far.kept_are) ∙ h) in
+    let counted : counts nfa u id ≡ true = or_left (is_match nfa id) (is_nonempty (target nfa u id)) (ap is_some e) in
+    let new : has_id (distinct done) id ≡ false = and_false (has_id (distinct done) id) (counts nfa u id) counted (sym (holds-filter (counts nfa u) (distinct done) id) ∙ ap (λ l. has_id l id) (sym so_far.kept_are) ∙ h) in
     ap (λ (v : Value). list_any (nat_eq p) v.patterns) so_far.value_is ∙ pattern_new nfa sound (distinct done) id p new e
   where
     and_false : (a b : Bool) → b ≡ true → (a && b) ≡ false → a ≡ false

@@ -1,10 +1,11 @@
 -- Laws for the invariants of the loops of a step and of a walk.
 use Rattle.std.proofs.Common.{◌≡◌, ℕ, false, List, [], ◌∷◌, ◌++◌, take, refl, sym, ap, ◌∙◌, Option, Some, nat_eq}
+use Rattle.std.specs.Option.{option_to_list}
 use Rattle.std.specs.List.{flat_map, list_any}
 use Rattle.std.proofs.lemmas.Bool.{eq-eqb, eqb-true, true≢false}
 use Rattle.std.proofs.lemmas.List.{append-nil}
 use Rattle.std.proofs.lemmas.List.Concat.{flat_map-append}
-use Rattle.determinize_below.specs.Edges.{is_match, pattern_of, patterns_of, listed, target}
+use Rattle.determinize_below.specs.Edges.{is_match, pattern_of, patterns_of, target}
 use Rattle.determinize_below.specs.Nfa.{Nfa}
 use Rattle.determinize_below.specs.Runs.{before}
 use Rattle.determinize_below.specs.declared.search.MatchKind.{MatchKind}
@@ -27,8 +28,8 @@ value_after-push nfa kind v [] u = refl
 value_after-push nfa kind v (w ∷ us) u = value_after-push nfa kind (step nfa kind v w) us u
 
 -- one more state
-pub patterns-push : (nfa : Nfa) (xs : List ℕ) (s : ℕ) → patterns_of nfa (xs ++ s ∷ []) ≡ patterns_of nfa xs ++ listed (pattern_of nfa s)
-patterns-push nfa xs s = flat_map-append (λ x. listed (pattern_of nfa x)) xs (s ∷ []) ∙ ap (λ l. patterns_of nfa xs ++ l) (append-nil (listed (pattern_of nfa s)))
+pub patterns-push : (nfa : Nfa) (xs : List ℕ) (s : ℕ) → patterns_of nfa (xs ++ s ∷ []) ≡ patterns_of nfa xs ++ option_to_list (pattern_of nfa s)
+patterns-push nfa xs s = flat_map-append (λ x. option_to_list (pattern_of nfa x)) xs (s ∷ []) ∙ ap (λ l. patterns_of nfa xs ++ l) (append-nil (option_to_list (pattern_of nfa s)))
 
 pub targets-push : (nfa : Nfa) (u : Option ℕ) (xs : List ℕ) (s : ℕ) → flat_map (target nfa u) (xs ++ s ∷ []) ≡ flat_map (target nfa u) xs ++ target nfa u s
 targets-push nfa u xs s = flat_map-append (target nfa u) xs (s ∷ []) ∙ ap (λ l. flat_map (target nfa u) xs ++ l) (append-nil (target nfa u s))

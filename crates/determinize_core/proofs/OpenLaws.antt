@@ -5,7 +5,7 @@ use Rattle.std.specs.Cmp.{nat_eq_equiv}
 use Rattle.std.proofs.lemmas.Bool.Decides.{nat_tests}
 use Rattle.std.proofs.lemmas.List.Elements.{All-push}
 use Rattle.std.proofs.lemmas.Map.Keys.{IsDistinct-push}
-use Rattle.determinize_core.specs.Value.{Value, IsValue, is_match, dead, with_pattern}
+use Rattle.determinize_core.specs.Value.{Value, IsValue, dead, with_pattern, is_nonempty}
 use Rattle.determinize_core.specs.Varint.{deltas}
 use Rattle.determinize_core.specs.Spelling.{is_explicit, words, word, spell, with_word, has_bit, value_of, number_at, numbers_in, flags, pattern_bytes}
 use Rattle.determinize_core.specs.Building.{spell_open, closed, with_bit, with_pattern_bytes, value_of_open, IsOpen}
@@ -15,22 +15,22 @@ use Rattle.determinize_core.proofs.ValueLaws.{with_have, with_have_valid}
 
 open_explicit : (v : Value) → has_bit (spell_open v) 2 ≡ is_explicit v.patterns
 unfolding spell_open
-open_explicit v = has_2 (is_match v.patterns) (is_explicit v.patterns) v.from_word v.half_crlf
+open_explicit v = has_2 (is_nonempty v.patterns) (is_explicit v.patterns) v.from_word v.half_crlf
 
-open_match : (v : Value) → has_bit (spell_open v) 1 ≡ is_match v.patterns
+open_match : (v : Value) → has_bit (spell_open v) 1 ≡ is_nonempty v.patterns
 unfolding spell_open
-open_match v = has_1 (is_match v.patterns) (is_explicit v.patterns) v.from_word v.half_crlf
+open_match v = has_1 (is_nonempty v.patterns) (is_explicit v.patterns) v.from_word v.half_crlf
 
 open_from_word_bit : (v : Value) → has_bit (spell_open v) 4 ≡ v.from_word
 unfolding spell_open
-open_from_word_bit v = has_4 (is_match v.patterns) (is_explicit v.patterns) v.from_word v.half_crlf
+open_from_word_bit v = has_4 (is_nonempty v.patterns) (is_explicit v.patterns) v.from_word v.half_crlf
 
 open_half_crlf_bit : (v : Value) → has_bit (spell_open v) 8 ≡ v.half_crlf
 unfolding spell_open
-open_half_crlf_bit v = has_8 (is_match v.patterns) (is_explicit v.patterns) v.from_word v.half_crlf
+open_half_crlf_bit v = has_8 (is_nonempty v.patterns) (is_explicit v.patterns) v.from_word v.half_crlf
 
 -- the flags of the bytes are those of the value
-pub open_match_of : (bytes : List ℕ) → IsOpen bytes → has_bit bytes 1 ≡ is_match (value_of_open bytes).patterns
+pub open_match_of : (bytes : List ℕ) → IsOpen bytes → has_bit bytes 1 ≡ is_nonempty (value_of_open bytes).patterns
 open_match_of bytes h = ap (λ (b : List ℕ). has_bit b 1) (sym h.spelled) ∙ open_match (value_of_open bytes)
 
 pub open_from_word_of : (bytes : List ℕ) → IsOpen bytes → has_bit bytes 4 ≡ (value_of_open bytes).from_word
@@ -118,7 +118,7 @@ holds_patterns bytes h e =
 pub open_first : (bytes : List ℕ) → IsOpen bytes → (value_of_open bytes).patterns ≡ [] → (has_bit bytes 1 ≡ false) × (has_bit bytes 2 ≡ false)
 open_first bytes h none =
     let v : Value = value_of_open bytes in (
-      open_match_of bytes h ∙ ap is_match none,
+      open_match_of bytes h ∙ ap is_nonempty none,
       ap (λ (b : List ℕ). has_bit b 2) (sym h.spelled) ∙ open_explicit v ∙ ap is_explicit none,
     )
 
@@ -155,7 +155,7 @@ open_from_word bytes h =
     let v : Value = value_of_open bytes in
     let w : Value = record v { from_word = true } in
     let valid : IsValue w = record { have = h.valid.have; need = h.valid.need; distinct = h.valid.distinct; pattern_ids = h.valid.pattern_ids; state_ids = h.valid.state_ids } in
-    let same : spell_open w ≡ with_bit (spell_open v) 4 = rw (or_4 (is_match v.patterns) (is_explicit v.patterns) v.from_word v.half_crlf) in
+    let same : spell_open w ≡ with_bit (spell_open v) 4 = rw (or_4 (is_nonempty v.patterns) (is_explicit v.patterns) v.from_word v.half_crlf) in
     opened _ w valid h.stateless (same ∙ ap (λ (b : List ℕ). with_bit b 4) h.spelled)
 
 pub open_half_crlf : (bytes : List ℕ) → IsOpen bytes →
@@ -165,7 +165,7 @@ open_half_crlf bytes h =
     let v : Value = value_of_open bytes in
     let w : Value = record v { half_crlf = true } in
     let valid : IsValue w = record { have = h.valid.have; need = h.valid.need; distinct = h.valid.distinct; pattern_ids = h.valid.pattern_ids; state_ids = h.valid.state_ids } in
-    let same : spell_open w ≡ with_bit (spell_open v) 8 = rw (or_8 (is_match v.patterns) (is_explicit v.patterns) v.from_word v.half_crlf) in
+    let same : spell_open w ≡ with_bit (spell_open v) 8 = rw (or_8 (is_nonempty v.patterns) (is_explicit v.patterns) v.from_word v.half_crlf) in
     opened _ w valid h.stateless (same ∙ ap (λ (b : List ℕ). with_bit b 8) h.spelled)
 
 -- one more pattern
@@ -187,11 +187,11 @@ spell_open-second : (v : Value) (id : ℕ) → v.patterns ≡ 0 ∷ [] → spell
 unfolding spell_open
 spell_open-second v id e = rw (e, or_2 v.from_word v.half_crlf)
 
-explicit_match : (ids : List ℕ) → is_explicit ids ≡ true → is_match ids ≡ true
+explicit_match : (ids : List ℕ) → is_explicit ids ≡ true → is_nonempty ids ≡ true
 explicit_match [] e = (cc)
 explicit_match (n ∷ ids) e = refl
 
-match_push : (ids : List ℕ) (id : ℕ) → is_match (ids ++ id ∷ []) ≡ true
+match_push : (ids : List ℕ) (id : ℕ) → is_nonempty (ids ++ id ∷ []) ≡ true
 match_push [] id = refl
 match_push (n ∷ ids) id = refl
 
@@ -208,11 +208,11 @@ spell_open-more v id e =
     rw (e, explicit_match v.patterns e, explicit_push v.patterns id e, match_push v.patterns id, words-append v.patterns (id ∷ []))
 
 spell_open-pushed : (v : Value) (id : ℕ) (ids : List ℕ) → v.patterns ≡ ids → spell_open (with_pattern v id) ≡ with_pattern_bytes (spell_open v) id
-spell_open-pushed v zero [] e = rw (open_explicit v ∙ ap is_explicit e, open_match v ∙ ap is_match e) (spell_open-first_zero v e)
+spell_open-pushed v zero [] e = rw (open_explicit v ∙ ap is_explicit e, open_match v ∙ ap is_nonempty e) (spell_open-first_zero v e)
 spell_open-pushed v (suc n) [] e =
     let not_zero : nat_eq (suc n) 0 ≡ false = grind (arith, nat_tests) in
-    rw (open_explicit v ∙ ap is_explicit e, open_match v ∙ ap is_match e, not_zero) (spell_open-first v n e)
-spell_open-pushed v id (zero ∷ []) e = rw (open_explicit v ∙ ap is_explicit e, open_match v ∙ ap is_match e) (spell_open-second v id e)
+    rw (open_explicit v ∙ ap is_explicit e, open_match v ∙ ap is_nonempty e, not_zero) (spell_open-first v n e)
+spell_open-pushed v id (zero ∷ []) e = rw (open_explicit v ∙ ap is_explicit e, open_match v ∙ ap is_nonempty e) (spell_open-second v id e)
 spell_open-pushed v id (suc n ∷ []) e = rw (open_explicit v ∙ ap is_explicit e) (spell_open-more v id (ap is_explicit e))
 spell_open-pushed v id (zero ∷ m ∷ ids) e = rw (open_explicit v ∙ ap is_explicit e) (spell_open-more v id (ap is_explicit e))
 spell_open-pushed v id (suc n ∷ m ∷ ids) e = rw (open_explicit v ∙ ap is_explicit e) (spell_open-more v id (ap is_explicit e))

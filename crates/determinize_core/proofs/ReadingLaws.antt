@@ -3,7 +3,7 @@ use Rattle.std.proofs.Common.{◌≡◌, ℕ, ◌+◌, ◌-◌, ◌*◌, ◌<◌
 use Rattle.std.proofs.Math.Seq.{take-length}
 use Rattle.std.proofs.lemmas.List.Elements.{All-head, All-tail}
 use Rattle.std.specs.Int.{from_le_bytes, w32}
-use Rattle.determinize_core.specs.Value.{Value, is_match}
+use Rattle.determinize_core.specs.Value.{Value, is_nonempty}
 use Rattle.determinize_core.specs.Varint.{deltas, ids_from, IsDeltas}
 use Rattle.determinize_core.specs.Spelling.{is_explicit, words, number_at, numbers_in, has_bit, start_in, value_of, IsSpelled}
 use Rattle.determinize_core.proofs.SpellingLaws.{spell_long, match_bit, explicit_bit, count_at, drop-start, length-explicit, few}
@@ -11,7 +11,7 @@ use Rattle.determinize_core.proofs.SpellingLaws.{spell_long, match_bit, explicit
 pub long : (bytes : List ℕ) → IsSpelled bytes → 9 ≤ length bytes
 long bytes h = rw (← h.spelled) (spell_long (value_of bytes))
 
-pub match_of : (bytes : List ℕ) → IsSpelled bytes → has_bit bytes 1 ≡ is_match (value_of bytes).patterns
+pub match_of : (bytes : List ℕ) → IsSpelled bytes → has_bit bytes 1 ≡ is_nonempty (value_of bytes).patterns
 match_of bytes h = ap (λ (b : List ℕ). has_bit b 1) (sym h.spelled) ∙ match_bit (value_of bytes)
 
 explicit_of : (bytes : List ℕ) → IsSpelled bytes → has_bit bytes 2 ≡ is_explicit (value_of bytes).patterns

@@ -10,7 +10,7 @@ use Rattle.std.proofs.lemmas.Nat.{from_le_bytes-to_le_bytes_4}
 use Rattle.std.proofs.lemmas.List.Elements.{All-head, All-tail}
 use Rattle.std.proofs.lemmas.Map.Steps.{length-le_from_distinct_below}
 use Rattle.std.proofs.lemmas.Map.Views.{Contains-from_any}
-use Rattle.determinize_core.specs.Value.{Value, IsValue, is_match, dead}
+use Rattle.determinize_core.specs.Value.{Value, IsValue, dead, is_nonempty}
 use Rattle.determinize_core.specs.Varint.{deltas}
 use Rattle.determinize_core.specs.Spelling.{is_explicit, word, words, spell, number_at, numbers_in, has_bit, start_in, patterns_in, value_of, IsSpelled}
 use Rattle.determinize_core.proofs.VarintLaws.{ids_from-deltas}
@@ -64,21 +64,21 @@ few ids distinct all = distinct_below ids 2147483647 distinct (λ k id h. omega 
 
 -- what stands at each place of a spelling
 
-pub match_bit : (v : Value) → has_bit (spell v) 1 ≡ is_match v.patterns
+pub match_bit : (v : Value) → has_bit (spell v) 1 ≡ is_nonempty v.patterns
 unfolding spell
-match_bit v = has_1 (is_match v.patterns) (is_explicit v.patterns) v.from_word v.half_crlf
+match_bit v = has_1 (is_nonempty v.patterns) (is_explicit v.patterns) v.from_word v.half_crlf
 
 pub explicit_bit : (v : Value) → has_bit (spell v) 2 ≡ is_explicit v.patterns
 unfolding spell
-explicit_bit v = has_2 (is_match v.patterns) (is_explicit v.patterns) v.from_word v.half_crlf
+explicit_bit v = has_2 (is_nonempty v.patterns) (is_explicit v.patterns) v.from_word v.half_crlf
 
 from_word_bit : (v : Value) → has_bit (spell v) 4 ≡ v.from_word
 unfolding spell
-from_word_bit v = has_4 (is_match v.patterns) (is_explicit v.patterns) v.from_word v.half_crlf
+from_word_bit v = has_4 (is_nonempty v.patterns) (is_explicit v.patterns) v.from_word v.half_crlf
 
 half_crlf_bit : (v : Value) → has_bit (spell v) 8 ≡ v.half_crlf
 unfolding spell
-half_crlf_bit v = has_8 (is_match v.patterns) (is_explicit v.patterns) v.from_word v.half_crlf
+half_crlf_bit v = has_8 (is_nonempty v.patterns) (is_explicit v.patterns) v.from_word v.half_crlf
 
 have_at : (v : Value) → IsValue v → number_at (spell v) 1 ≡ v.look_have
 unfolding spell
@@ -118,7 +118,7 @@ drop-if true m n xs = refl
 drop-if false m n xs = refl
 
 -- the patterns that aren't written out
-pub implicit : (ids : List ℕ) → is_explicit ids ≡ false → (if is_match ids then 0 ∷ [] else []) ≡ ids
+pub implicit : (ids : List ℕ) → is_explicit ids ≡ false → (if is_nonempty ids then 0 ∷ [] else []) ≡ ids
 implicit [] e = refl
 implicit (zero ∷ []) e = refl
 implicit (suc n ∷ []) e = (cc)
@@ -129,7 +129,7 @@ pub explicit_words : (v : Value) → IsValue v → is_explicit v.patterns ≡ tr
 explicit_words v h e = rw (count_at v h e, after_count v e) (take-words v.patterns (deltas 0 v.states))
 
 patterns_at : (v : Value) → IsValue v → (b : Bool) → is_explicit v.patterns ≡ b →
-    (if b then numbers_in (take (4 * number_at (spell v) 9) (drop 13 (spell v))) else (if is_match v.patterns then 0 ∷ [] else [])) ≡ v.patterns
+    (if b then numbers_in (take (4 * number_at (spell v) 9) (drop 13 (spell v))) else (if is_nonempty v.patterns then 0 ∷ [] else [])) ≡ v.patterns
 patterns_at v h true e = rw (explicit_words v h e) (numbers_in-words v.patterns h.pattern_ids)
 patterns_at v h false e = implicit v.patterns e
 

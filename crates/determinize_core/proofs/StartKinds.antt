@@ -3,7 +3,7 @@ use Rattle.std.proofs.Common.{◌≡◌, ℕ, Bool, true, false, not, Option, So
 use mathlib.Core.Bool.{◌&&◌}
 use Rattle.std.proofs.lemmas.Bool.{eqb-true, eq-eqb, and_parts, and_right}
 use Rattle.determinize_below.specs.Look.{has}
-use Rattle.determinize_below.specs.Truth.{crlf_first, crlf_second, known, behind_test}
+use Rattle.determinize_below.specs.Truth.{crlf_first, crlf_second, behind_test, is_known}
 use Rattle.determinize_below.specs.Unit.{is_word_byte}
 use Rattle.determinize_below.proofs.Known.{known_is}
 use Rattle.determinize_below.proofs.Tests.{by_test}
@@ -81,7 +81,7 @@ right reverse t any l h = by_kind t (IsRight reverse t any l)
     (λ b e k m w. has-behind _ _ _ _ l ∙ behind-agree any _ _ _ _ _ _ _ _ l h (λ _. refl) (λ _. sym m) (λ _ _. sym (not_second reverse b e k)) (λ d. rw w d))
 
 pub has-start : (reverse : Bool) (t any : ℕ) (p : Option ℕ) (l : Look) → has any l ≡ true
-    → has (start_have reverse t any (start_kind_of t p)) l ≡ known reverse t p l
+    → has (start_have reverse t any (start_kind_of t p)) l ≡ is_known reverse t p l
 has-start reverse t any None l h =
     has-behind _ _ _ _ l
     ∙ behind-agree any _ _ _ _ _ _ _ _ l h (λ e. e) (λ e. e) (λ e _. e) (λ e. e)
@@ -101,14 +101,14 @@ start_within reverse t any l = by_kind t (IsKnown reverse t any l)
     (λ b e k m w h. behind-within _ _ _ _ _ _ _ _ l (λ e. e) absent absent absent (sym (has-behind _ _ _ _ l) ∙ h))
     (λ b e k m w h. behind-within _ _ _ _ _ _ _ _ l (λ e. e) absent absent (λ _. rw w) (sym (has-behind _ _ _ _ l) ∙ h))
 
-pub start-known : (reverse : Bool) (t any : ℕ) (p : Option ℕ) (l : Look) → has (start_have reverse t any (start_kind_of t p)) l ≡ true → known reverse t p l ≡ true
+pub start-known : (reverse : Bool) (t any : ℕ) (p : Option ℕ) (l : Look) → has (start_have reverse t any (start_kind_of t p)) l ≡ true → is_known reverse t p l ≡ true
 start-known reverse t any None l h =
     known_is reverse t None l
     ∙ behind-within _ _ _ _ _ _ _ _ l (λ _. refl) (λ _. refl) (λ _. refl) (λ _. refl) (sym (has-behind _ _ _ _ l) ∙ h)
 start-known reverse t any (Some b) l h = known_is reverse t (Some b) l ∙ start_within reverse t any l b h
 
 -- the same of a start kind that what stands behind the start has
-pub start-known_at : (reverse : Bool) (t any : ℕ) (kind : Kind) (p : Option ℕ) (l : Look) → start_kind_of t p ≡ kind → has (start_have reverse t any kind) l ≡ true → known reverse t p l ≡ true
+pub start-known_at : (reverse : Bool) (t any : ℕ) (kind : Kind) (p : Option ℕ) (l : Look) → start_kind_of t p ≡ kind → has (start_have reverse t any kind) l ≡ true → is_known reverse t p l ≡ true
 start-known_at reverse t any kind p l e h = start-known reverse t any p l (subst (λ k. has (start_have reverse t any k) l ≡ true) (sym e) h)
 
 and_true : (a : Bool) → (a && true) ≡ a

@@ -3,7 +3,7 @@ use Rattle.std.proofs.Common.{◌≡◌, ℕ, Bool, true, false, not, Option, So
 use mathlib.Core.Bool.{◌||◌}
 use Rattle.std.proofs.lemmas.Bool.{and_parts}
 use Rattle.determinize_below.specs.Look.{has}
-use Rattle.determinize_below.specs.Truth.{crlf_first, holds, known, behind_test, crlf_second}
+use Rattle.determinize_below.specs.Truth.{crlf_first, holds, behind_test, crlf_second, is_known}
 use Rattle.determinize_below.specs.Unit.{is_word, is_byte, is_nothing}
 use Rattle.determinize_below.proofs.Known.{known_is}
 use Rattle.determinize_below.specs.declared.look.Look.{Look}
@@ -13,14 +13,14 @@ use Rattle.determinize_core.specs.Opened.{opened, seen, step_from_word, step_hal
 use Rattle.determinize_core.proofs.Behind.{under, has-behind, behind-agree, behind-within, word_class, crlf_class}
 
 -- what a step enters over a byte is what is known after it, among the assertions of the NFA
-pub has-seen : (reverse : Bool) (t any b : ℕ) (l : Look) → has any l ≡ true → has (seen reverse t any (Some b)) l ≡ known reverse t (Some b) l
+pub has-seen : (reverse : Bool) (t any b : ℕ) (l : Look) → has any l ≡ true → has (seen reverse t any (Some b)) l ≡ is_known reverse t (Some b) l
 has-seen reverse t any b l h =
     has-behind _ _ _ _ l
     ∙ behind-agree any _ _ _ _ _ _ _ _ l h (λ _. refl) (λ e. under _ _ e) (λ _ e. under _ _ e) (λ e. under _ _ e)
     ∙ sym (known_is reverse t (Some b) l)
 
 -- and it is known in any case
-pub seen-known : (reverse : Bool) (t any b : ℕ) (l : Look) → has (seen reverse t any (Some b)) l ≡ true → known reverse t (Some b) l ≡ true
+pub seen-known : (reverse : Bool) (t any b : ℕ) (l : Look) → has (seen reverse t any (Some b)) l ≡ true → is_known reverse t (Some b) l ≡ true
 seen-known reverse t any b l h =
     known_is reverse t (Some b) l
     ∙ behind-within _ _ _ _ _ _ _ _ l (λ e. e) (λ e. (and_parts _ _ e).1) (λ e. (and_parts _ _ e).1) (λ e. (and_parts _ _ e).1) (sym (has-behind _ _ _ _ l) ∙ h)
@@ -30,7 +30,7 @@ pub IsFlagged-step : (reverse : Bool) (any : ℕ) (p : Option ℕ) → IsFlagged
 IsFlagged-step reverse any p = record { word = (λ h. under _ _ h); crlf = (λ h. under _ _ h) }
 
 -- with right flags, what is known and what the unit opens are the truth
-pub known_or_opened : (reverse : Bool) (t : ℕ) (p u : Option ℕ) (l : Look) → (known reverse t p l || opened reverse t (is_word p) (is_byte p (crlf_first reverse)) u l) ≡ holds reverse t p u l
+pub known_or_opened : (reverse : Bool) (t : ℕ) (p u : Option ℕ) (l : Look) → (is_known reverse t p l || opened reverse t (is_word p) (is_byte p (crlf_first reverse)) u l) ≡ holds reverse t p u l
 known_or_opened reverse t p u l = rw (known_is reverse t p l) (each l)
   where
     or_false : (a : Bool) → (a || false) ≡ a
@@ -68,5 +68,5 @@ opened-flags reverse t any p from_word half u WordEndHalfUnicode f h = ap (λ x.
 
 -- with flags that are right where they are asked, what is known and what the unit opens are the truth, among the assertions of the NFA
 pub known_or_opened_any : (reverse : Bool) (t any : ℕ) (p : Option ℕ) (from_word half : Bool) (u : Option ℕ) (l : Look) → IsFlagged reverse any p from_word half
-    → has any l ≡ true → (known reverse t p l || opened reverse t from_word half u l) ≡ holds reverse t p u l
+    → has any l ≡ true → (is_known reverse t p l || opened reverse t from_word half u l) ≡ holds reverse t p u l
 known_or_opened_any reverse t any p from_word half u l f h = rw (opened-flags reverse t any p from_word half u l f h) (known_or_opened reverse t p u l)

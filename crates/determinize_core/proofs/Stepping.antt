@@ -16,10 +16,10 @@ use Rattle.determinize_below.proofs.Nodes.{fresh_below, same_decides}
 use Rattle.determinize_below.proofs.SoundNfa.{accepted_sound, reach_within}
 use Rattle.determinize_below.proofs.Tests.{by_test}
 use Rattle.determinize_core.specs.Recording.{added, with_flags, with_patterns}
-use Rattle.determinize_core.specs.Step.{distinct_states, is_nonempty, is_reopened, opened_by, part_read, patterns_read, recorded, step, targets, working_list}
+use Rattle.determinize_core.specs.Step.{distinct_states, is_reopened, opened_by, part_read, patterns_read, recorded, step, targets, working_list}
 use Rattle.determinize_core.specs.Tables.{from_word_after, half_crlf_after, seen}
 use Rattle.determinize_core.specs.Tries.{edges_in_all, tries, tries_again, tries_of}
-use Rattle.determinize_core.specs.Value.{Value, dead, settled}
+use Rattle.determinize_core.specs.Value.{Value, dead, is_nonempty, settled}
 use Rattle.determinize_core.proofs.Resolving.{targets_resolve}
 use Rattle.determinize_core.proofs.TryBounds.{tries_are_few}
 

@@ -21,9 +21,9 @@ use Rattle.determinize_below.proofs.Sets.{member-filter}
 use Rattle.determinize_below.proofs.SoundNfa.{accepted_sound}
 use Rattle.determinize_below.proofs.Tests.{by_test}
 use Rattle.determinize_core.specs.Chain.{future, units, chain}
-use Rattle.determinize_core.specs.Step.{needs, recorded, begun, left_by, start_value, working_list, is_nonempty, part_read, patterns_read, step}
+use Rattle.determinize_core.specs.Step.{needs, recorded, begun, left_by, start_value, working_list, part_read, patterns_read, step}
 use Rattle.determinize_core.specs.Tables.{seen, from_word_after, half_crlf_after, start_have, start_from_word, start_half_crlf}
-use Rattle.determinize_core.specs.Value.{Value}
+use Rattle.determinize_core.specs.Value.{Value, is_nonempty}
 use Rattle.determinize_core.proofs.TableLaws.{seen_known, start_known, start_word_same, start_half_same}
 use Rattle.determinize_core.proofs.WorkingLists.{fuel, listing, IsEntered, reach_is, working_is}
 

@@ -1,14 +1,15 @@
 -- The values of a chain against whole runs.
 use Rattle.std.proofs.Common.{◌≡◌, ℕ, zero, suc, ◌+◌, ◌<◌, ◌≤◌, true, false, List, [], ◌∷◌, length, take, refl, sym, ap, ◌∙◌, arith, Option, Some, None, subst}
+use Rattle.std.specs.List.{find}
 use Rattle.std.specs.Prelude.{slice_get, Contains}
-use Rattle.std.specs.Option.{option_map}
+use Rattle.std.specs.Option.{is_some, option_map, option_or}
 use Rattle.std.proofs.lemmas.Bool.{true≢false, false≢true}
 use Rattle.std.proofs.lemmas.Option.{slice_get_within, slice_get_past}
-use Rattle.determinize_below.specs.Edges.{is_capture, is_match, pattern_of, patterns_of, target, holds_some}
+use Rattle.determinize_below.specs.Edges.{is_capture, is_match, pattern_of, patterns_of, target}
 use Rattle.determinize_below.specs.Nfa.{Nfa, IsAccepted}
 use Rattle.determinize_below.specs.Positions.{before_at, after_at, truth, known, true_edges, known_edges, byte_edges, choices, IsRun, Accepts, IsReached, IsKnownReached, IsPreferredRun}
 use Rattle.determinize_below.specs.Reach.{none_held}
-use Rattle.determinize_below.specs.Runs.{IsBeginning, first, or_else, placed, without}
+use Rattle.determinize_below.specs.Runs.{IsBeginning, placed, without}
 use Rattle.determinize_below.specs.declared.search.HalfMatch.{HalfMatch}
 use Rattle.determinize_below.specs.declared.search.MatchKind.{MatchKind}
 use Rattle.determinize_below.specs.declared.search.MatchKind.TheVariants.{All, LeftmostFirst}
@@ -16,7 +17,7 @@ use Rattle.determinize_below.proofs.Beginnings.{Beginning-ordered}
 use Rattle.determinize_below.proofs.EdgeLemmas.{edges-more, edges-capture, target-capture, target-end, match-capture, next_of, patterns-without}
 use Rattle.determinize_below.proofs.Elements.{Contains_In, In, In_Contains, In_append_left, In_take_one, without-In}
 use Rattle.determinize_below.proofs.Levels.{last_accepting}
-use Rattle.determinize_below.proofs.Lists.{map-or_else}
+use Rattle.determinize_below.proofs.Lists.{map-option_or}
 use Rattle.determinize_below.proofs.Nodes.{same_decides}
 use Rattle.determinize_below.proofs.Preferred.{IsMostPreferred}
 use Rattle.determinize_below.proofs.SoundNfa.{accepted_sound}
@@ -37,7 +38,7 @@ abbrev pub or_zero : Option ℕ → ℕ
 or_zero None = 0
 or_zero (Some n) = n
 
-is_some_of : (o : Option ℕ) → holds_some o ≡ true → o ≡ Some (or_zero o)
+is_some_of : (o : Option ℕ) → is_some o ≡ true → o ≡ Some (or_zero o)
 is_some_of None e = absurd (false≢true e)
 is_some_of (Some n) e = refl
 
@@ -46,7 +47,7 @@ module _ (nfa : Nfa) where
   abbrev pub named : ℕ × ℕ → HalfMatch
   named q = record { pattern = or_zero (pattern_of nfa q.1); offset = q.0 }
 
-  first-named : (k : ℕ) (xs : List ℕ) → ended_at k (take 1 (patterns_of nfa xs)) ≡ option_map named (option_map (placed k) (first (is_match nfa) xs))
+  first-named : (k : ℕ) (xs : List ℕ) → ended_at k (take 1 (patterns_of nfa xs)) ≡ option_map named (option_map (placed k) (find (is_match nfa) xs))
   first-named k [] = refl
   first-named k (z ∷ xs) = by_option (pattern_of nfa z)
       (λ e. rw e (first-named k xs))
@@ -64,12 +65,12 @@ module _ (nfa : Nfa) where
   last_named value lists h (suc d) k (v ∷ vs) l g =
       let z : suc (k + 0) ≡ suc k = omega arith in
       let e : v ≡ value (suc k) = some_injective v (value (suc k)) (g 0 (omega arith) ∙ ap (λ n. Some (value n)) z) in
-      let here : ended_at k v.patterns ≡ option_map named (option_map (placed k) (first (is_match nfa) (lists k))) =
+      let here : ended_at k v.patterns ≡ option_map named (option_map (placed k) (find (is_match nfa) (lists k))) =
       ap (λ u. ended_at k u.patterns) e ∙ ap (λ ps. ended_at k ps) (h k) ∙ first-named k (lists k) in
-      ap (λ o. or_else o (ended_at k v.patterns))
+      ap (λ o. option_or o (ended_at k v.patterns))
       (last_named value lists h d (suc k) vs (omega arith) (λ j i. let y : suc (k + suc j) ≡ suc (suc k + j) = omega arith in g (suc j) (omega arith) ∙ ap (λ n. Some (value n)) y))
-      ∙ ap (λ o. or_else (option_map named (last_accepting lists (is_match nfa) d (suc k))) o) here
-      ∙ sym (map-or_else named (last_accepting lists (is_match nfa) d (suc k)) (option_map (placed k) (first (is_match nfa) (lists k))))
+      ∙ ap (λ o. option_or (option_map named (last_accepting lists (is_match nfa) d (suc k))) o) here
+      ∙ sym (map-option_or named (last_accepting lists (is_match nfa) d (suc k)) (option_map (placed k) (find (is_match nfa) (lists k))))
 
 module _ (nfa : Nfa) (accepted : IsAccepted nfa) (start : ℕ) (p : Option ℕ) (text : List ℕ) where
   automaton : IsAutomaton (length nfa.states) (length text) (known_edges nfa p text) (true_edges nfa p text) (byte_edges nfa text) (is_capture nfa) (is_match nfa) (next_of nfa)

@@ -5,7 +5,7 @@ use Rattle.determinize_below.specs.Edges.{edges, reach_past}
 use Rattle.determinize_below.specs.Look.{has}
 use Rattle.determinize_below.specs.Members.{Members}
 use Rattle.determinize_below.specs.Nfa.{Nfa}
-use Rattle.determinize_below.specs.Reach.{closure, tries}
+use Rattle.determinize_below.specs.Reach.{closure, search_tries}
 use Rattle.determinize_below.specs.Runs.{IsBeginning}
 
 -- the states of a search when it ends, from those met so far and those that are pending
@@ -14,7 +14,7 @@ search_end nfa holds met pending = closure nat_eq (edges nfa holds) (length nfa.
 
 -- how often it still tries to add a state
 unfoldable pub tries_left : Nfa → (Assertion → Bool) → List ℕ → List ℕ → ℕ
-tries_left nfa holds met pending = tries nat_eq (edges nfa holds) (length nfa.states + 1) met pending
+tries_left nfa holds met pending = search_tries nat_eq (edges nfa holds) (length nfa.states + 1) met pending
 
 -- what the closure of a state adds to a set that holds some states, under a set of assertions
 abbrev pub closure_of : Nfa → ℕ → List ℕ → ℕ → List ℕ

@@ -1,12 +1,13 @@
 -- The first reading of a working list: which of its states count, and for what.
 use Rattle.std.specs.Prelude.{ℕ, Bool, true, false, not, Option, List, [], ◌∷◌, if◌then◌else◌}
+use Rattle.determinize_core.specs.Value.{is_nonempty}
+use Rattle.determinize_below.specs.Members.{has_id}
 use mathlib.Core.Bool.{◌&&◌, ◌||◌}
 use Rattle.std.specs.List.{flat_map}
 use Rattle.determinize_below.specs.declared.search.MatchKind.{MatchKind}
 use Rattle.determinize_below.specs.Edges.{is_match, target}
-use Rattle.determinize_below.specs.Members.{holds}
 use Rattle.determinize_below.specs.Nfa.{Nfa}
-use Rattle.determinize_core.specs.Step.{is_nonempty, part_read}
+use Rattle.determinize_core.specs.Step.{part_read}
 use Rattle.determinize_core.specs.declared.determinize.working_list.Reading.{Reading}
 use Rattle.determinize_core.specs.declared.determinize.working_list.Reading.TheVariants.{Passed, Enters, Ends}
 
@@ -20,7 +21,7 @@ counts nfa u s = is_match nfa s || is_nonempty (target nfa u s)
 
 -- what reading a state adds to those that count, each once
 abbrev pub gained : Nfa → Option ℕ → List ℕ → ℕ → List ℕ
-gained nfa u kept s = if counts nfa u s && not (holds kept s) then s ∷ [] else []
+gained nfa u kept s = if counts nfa u s && not (has_id kept s) then s ∷ [] else []
 
 -- whether the reading found that the unit leads on
 abbrev pub enters : Reading → Bool

@@ -1,7 +1,7 @@
 -- The bytes of a state: each value has one spelling.
 use Rattle.std.specs.Prelude.{◌≡◌, ℕ, ◌+◌, ◌*◌, ◌/◌, ◌%◌, Bool, true, false, not, List, [], ◌∷◌, ◌++◌, bit_and, nat_eq, zero, length, take, drop, slice_index, slice_set, if◌then◌else◌}
 use Rattle.std.specs.Int.{to_le_bytes, from_le_bytes, w32}
-use Rattle.determinize_core.specs.Value.{Value, IsValue, is_match}
+use Rattle.determinize_core.specs.Value.{Value, IsValue, is_nonempty}
 use Rattle.determinize_core.specs.Varint.{deltas, ids_from}
 
 -- the weight where the flag is set, else 0
@@ -16,7 +16,7 @@ is_explicit _ = true
 
 -- the first byte: whether it matches, whether the patterns are written out, and the two flags
 abbrev pub flags : Value → ℕ
-flags value = bit (is_match value.patterns) 1 + bit (is_explicit value.patterns) 2 + bit value.from_word 4 + bit value.half_crlf 8
+flags value = bit (is_nonempty value.patterns) 1 + bit (is_explicit value.patterns) 2 + bit value.from_word 4 + bit value.half_crlf 8
 
 -- a number in four bytes, the low byte first
 abbrev pub word : ℕ → List ℕ

@@ -12,7 +12,7 @@ use Rattle.determinize_below.specs.Reach.{fresh, joined, none_held}
 use Rattle.determinize_below.specs.Runs.{before, without}
 use Rattle.determinize_core.specs.Opened.{is_redone}
 use Rattle.determinize_core.specs.Tables.{opened, seen, from_word_after, half_crlf_after, start_have, start_from_word, start_half_crlf}
-use Rattle.determinize_core.specs.Value.{Value}
+use Rattle.determinize_core.specs.Value.{Value, is_nonempty}
 
 -- the set with an assertion, where there is one
 abbrev pub with_assertion : ℕ → Option Assertion → ℕ
@@ -84,11 +84,6 @@ part_read LeftmostFirst accepts xs = before accepts xs
 abbrev pub patterns_read : MatchKind → List ℕ → List ℕ
 patterns_read All ps = ps
 patterns_read LeftmostFirst ps = take 1 ps
-
--- whether a list has an item
-abbrev pub is_nonempty : List ℕ → Bool
-is_nonempty [] = false
-is_nonempty (x ∷ xs) = true
 
 -- the value that a unit leaves, by the patterns found and the states entered; the flags want a state entered
 abbrev pub left_by : Nfa → Option ℕ → List ℕ → List ℕ → Value

@@ -23,10 +23,10 @@ pub record IsValue (value : Value) : Type 0 where
   pub pattern_ids : All (λ id. id ≤ 2147483646) value.patterns
   pub state_ids : All (λ id. id ≤ 2147483646) value.states
 
--- whether some pattern is listed
-abbrev pub is_match : List ℕ → Bool
-is_match [] = false
-is_match _ = true
+-- whether a list has an item
+abbrev pub is_nonempty : List ℕ → Bool
+is_nonempty [] = false
+is_nonempty (x ∷ xs) = true
 
 -- the list of the patterns, or none where nothing matches
 abbrev pub listed : List ℕ → Option (List ℕ)

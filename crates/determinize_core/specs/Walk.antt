@@ -1,9 +1,10 @@
 -- What the values of a walk say of whole runs.
 use Rattle.std.specs.Prelude.{◌≡◌, ℕ, suc, ◌+◌, ◌<◌, ◌≤◌, Option, Some, None, List, [], ◌∷◌, length, slice_get, Contains, ◌↔◌}
+use Rattle.std.specs.Option.{option_or}
 use Rattle.determinize_below.specs.Nfa.{Nfa}
 use Rattle.determinize_below.specs.Paths.{Before}
 use Rattle.determinize_below.specs.Positions.{Accepts, IsBestRun, IsPreferredRun, IsKnownReached}
-use Rattle.determinize_below.specs.Runs.{or_else, IsBeginning}
+use Rattle.determinize_below.specs.Runs.{IsBeginning}
 use Rattle.determinize_below.specs.declared.search.HalfMatch.{HalfMatch}
 use Rattle.determinize_core.specs.Value.{Value}
 
@@ -22,7 +23,7 @@ ended_at offset (pattern ∷ others) = Some record { pattern = pattern; offset =
 -- the last of the values with a pattern: its first pattern, and its place, counted from n
 abbrev pub last_ended : ℕ → List Value → Option HalfMatch
 last_ended n [] = None
-last_ended n (v ∷ vs) = or_else (last_ended (suc n) vs) (ended_at n v.patterns)
+last_ended n (v ∷ vs) = option_or (last_ended (suc n) vs) (ended_at n v.patterns)
 
 -- the last match of a walk: its first value lists no pattern, the next one tells of position 0, and so on
 abbrev pub last_match : List Value → Option HalfMatch

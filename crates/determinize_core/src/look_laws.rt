@@ -47,16 +47,16 @@ pub fn start_rows_law(byte: u8)
 
 /// What a start kind enters is known behind the start, and of the assertions of the NFA it is all that is known there. The flags are those that a step over the byte there would set.
 pub fn start_law(reverse: bool, terminator: u8, any: LookSet, before: Option<u8>, look: Look)
-    ensures known { has (kinds.start_have reverse terminator any (kinds.start_kind_of terminator before)) look ≡ true → truth.known reverse terminator before look ≡ true }
-    ensures all { has any look ≡ true → has (kinds.start_have reverse terminator any (kinds.start_kind_of terminator before)) look ≡ truth.known reverse terminator before look }
+    ensures known { has (kinds.start_have reverse terminator any (kinds.start_kind_of terminator before)) look ≡ true → truth.is_known reverse terminator before look ≡ true }
+    ensures all { has any look ≡ true → has (kinds.start_have reverse terminator any (kinds.start_kind_of terminator before)) look ≡ truth.is_known reverse terminator before look }
     ensures from_word { kinds.start_from_word terminator any (kinds.start_kind_of terminator before) ≡ opening.step_from_word any before }
     ensures half_crlf { kinds.start_half reverse any (kinds.start_kind_of terminator before) ≡ opening.step_half reverse any before }
 {}
 
 /// What a step enters over a byte is known behind the next position, and of the assertions of the NFA it is all that is known there.
 pub fn seen_law(reverse: bool, terminator: u8, any: LookSet, byte: u8, look: Look)
-    ensures known { has (opening.seen reverse terminator any (Some byte)) look ≡ true → truth.known reverse terminator (Some byte) look ≡ true }
-    ensures all { has any look ≡ true → has (opening.seen reverse terminator any (Some byte)) look ≡ truth.known reverse terminator (Some byte) look }
+    ensures known { has (opening.seen reverse terminator any (Some byte)) look ≡ true → truth.is_known reverse terminator (Some byte) look ≡ true }
+    ensures all { has any look ≡ true → has (opening.seen reverse terminator any (Some byte)) look ≡ truth.is_known reverse terminator (Some byte) look }
 {}
 
 /// The flags that a step sets tell rightly of the byte that it read, and where nothing was read.
@@ -77,7 +77,7 @@ pub fn opened_law(
 )
     requires flags { behind_specs.IsFlagged reverse any before from_word half }
     requires there { has any look ≡ true }
-    ensures { (truth.known reverse terminator before look || opening.opened reverse terminator from_word half unit look) ≡ truth.holds reverse terminator before unit look }
+    ensures { (truth.is_known reverse terminator before look || opening.opened reverse terminator from_word half unit look) ≡ truth.holds reverse terminator before unit look }
 {}
 
 /// Where no closure is redone, what a unit makes true adds nothing that is needed.

@@ -26,7 +26,7 @@ mod pattern_ids;
 mod varint;
 
 ghost use Rattle.std.specs.Prelude.{◌≡◌, ◌+◌, ◌*◌, ◌<◌, ◌≤◌, [], length, slice_index, option_map, IfOk, Ok, None};
-ghost use Rattle.determinize_core.specs.Value.{IsValue, dead, is_match, listed};
+ghost use Rattle.determinize_core.specs.Value.{IsValue, dead, is_nonempty, listed};
 ghost use Rattle.determinize_core.specs.Spelling.{spell};
 
 pub use builders::{StateBuilderEmpty, StateBuilderMatches, StateBuilderNFA};
@@ -68,7 +68,7 @@ impl<A: Allocator> State<A> {
 
     /// Whether some pattern matches.
     pub fn is_match(&self) -> bool
-        ensures { result ≡ is_match self.now.patterns }
+        ensures { result ≡ is_nonempty self.now.patterns }
     {
         bytes::is_match(self.bytes.as_slice())
     }

@@ -5,7 +5,7 @@
 
 ghost use Rattle.std.specs.Prelude.{◌≡◌, ◌↔◌, [], ◌∷◌, length, option_map, slice_get, IfOk};
 ghost use Rattle.std.specs.Bool.{Decides};
-ghost use Rattle.determinize_core.specs.Value.{dead, is_match, listed};
+ghost use Rattle.determinize_core.specs.Value.{dead, is_nonempty, listed};
 ghost use Rattle.determinize_core.specs.Spelling.{spell};
 
 use crate::state::{State, StateBuilderNFA};
@@ -57,7 +57,7 @@ pub fn patterns_read<A: Allocator + Clone>(
     state: &State<A>,
     index: usize,
 ) -> Result<(bool, usize, Option<Vec<PatternID, A>>, Option<PatternID>), AllocError>
-    ensures matches { IfOk result (λ r. r.0 ≡ is_match state.now.patterns) }
+    ensures matches { IfOk result (λ r. r.0 ≡ is_nonempty state.now.patterns) }
     ensures len { IfOk result (λ r. r.1 ≡ length state.now.patterns) }
     ensures all { IfOk result (λ r. option_map (λ list. list.items) r.2 ≡ listed state.now.patterns) }
     ensures one { IfOk result (λ r. r.3 ≡ slice_get state.now.patterns index) }

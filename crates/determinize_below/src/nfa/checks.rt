@@ -4,7 +4,7 @@ ghost use Rattle.std.specs.Prelude.{◌≡◌, ℕ, Bool, Some, None, [], length
 ghost use Rattle.std.specs.List.{list_all, list_any};
 ghost use Rattle.std.specs.HashSet.{contains};
 ghost use Rattle.determinize_below.specs.Node.{node_of};
-ghost use Rattle.determinize_below.specs.Nfa.{resolves, is_sparse_sound, is_dense_sound, matches, looks_of, failure_of, repeats, states_failure};
+ghost use Rattle.determinize_below.specs.Nfa.{resolves, is_sparse_sound, is_dense_sound, looks_of, failure_of, repeats, states_failure, is_match_of};
 
 use crate::look::LookSet;
 use crate::nfa::BuildError;
@@ -105,7 +105,7 @@ fn check_state<A: Allocator, B: Allocator + Clone>(
     seen: &mut Patterns<B>,
 ) -> Result<(), BuildError>
     ensures ok { OnOk result (failure_of count (repeats (contains nat_eq seen.old) (node_of state.now)) index (node_of state.now) ≡ None) }
-    ensures after { OnOk result ((q : ℕ) → contains nat_eq seen.new q ≡ (matches q (node_of state.now) || contains nat_eq seen.old q)) }
+    ensures after { OnOk result ((q : ℕ) → contains nat_eq seen.new q ≡ (is_match_of q (node_of state.now) || contains nat_eq seen.old q)) }
     ensures err { IfErr result (λ e. (failure_of count (repeats (contains nat_eq seen.old) (node_of state.now)) index (node_of state.now) ≡ Some e) ⊎ (e ≡ BuildError.OutOfMemory)) }
 {
     if !is_resolved(state, count) {

@@ -1,9 +1,10 @@
 //! The epsilon closure: the states that a state leads to without input, in the order of preference.
 
 ghost use Rattle.std.specs.Prelude.{◌≡◌, ℕ, ◌+◌, ◌<◌, ◌≤◌, List, [], ◌∷◌, ◌++◌, false, not, length, reverse, IfNone, IfSome, IfOk, OnOk, OnErr, IsOk, if◌then◌else◌};
-ghost use Rattle.determinize_below.specs.Edges.{edges, is_capture, listed, state_at};
+ghost use Rattle.std.specs.Option.{option_to_list};
+ghost use Rattle.determinize_below.specs.Edges.{edges, is_capture, state_at};
 ghost use Rattle.determinize_below.specs.Look.{has};
-ghost use Rattle.determinize_below.specs.Members.{AreMembers, holds};
+ghost use Rattle.determinize_below.specs.Members.{AreMembers, has_id};
 ghost use Rattle.determinize_below.specs.Nfa.{AllResolve, IsAccepted};
 ghost use Rattle.determinize_below.specs.Node.{is_epsilon};
 ghost use Rattle.determinize_below.specs.Runs.{without};
@@ -24,7 +25,7 @@ use std::sync::ledger::{Blank, Ledger};
 fn visit<A: Allocator, L: Ledger>(set: &mut SparseSet<A>, id: StateID, steps: &mut Steps<L>) -> bool
     requires { id < set.old.capacity }
     ensures counted { steps.new ≡ steps.old + 1 }
-    ensures new { result ≡ not (holds set.old.ids id) }
+    ensures new { result ≡ not (has_id set.old.ids id) }
     ensures after { set.new
         ≡ record set.old { ids = (if result then set.old.ids ++ id ∷ [] else set.old.ids) } }
     ensures members { AreMembers set.new }
@@ -36,8 +37,8 @@ fn visit<A: Allocator, L: Ledger>(set: &mut SparseSet<A>, id: StateID, steps: &m
 /// The state to visit next: the one at hand, or else the last of the stack.
 #[inline(always)]
 fn take_next<A: Allocator>(at_hand: Option<StateID>, stack: &mut Vec<StateID, A>) -> Option<StateID>
-    ensures none { IfNone result (listed at_hand ++ reverse stack.old.items ≡ []) }
-    ensures some { IfSome result (λ id. listed at_hand ++ reverse stack.old.items
+    ensures none { IfNone result (option_to_list at_hand ++ reverse stack.old.items ≡ []) }
+    ensures some { IfSome result (λ id. option_to_list at_hand ++ reverse stack.old.items
         ≡ id ∷ reverse stack.new.items) }
 {
     match at_hand {
@@ -66,7 +67,7 @@ fn take_alternates<A: Allocator>(
     alternates: &[StateID],
     stack: &mut Vec<StateID, A>,
 ) -> Result<Option<StateID>, AllocError>
-    ensures { IfOk result (λ next. listed next ++ reverse stack.new.items
+    ensures { IfOk result (λ next. option_to_list next ++ reverse stack.new.items
         ≡ alternates.now ++ reverse stack.old.items) }
 {
     let Some((first, others)) = alternates.split_first() else {
@@ -85,7 +86,7 @@ fn follow<N: Allocator, A: Allocator>(
     stack: &mut Vec<StateID, A>,
 ) -> Result<Option<StateID>, AllocError>
     requires { id < length nfa.now.states }
-    ensures { IfOk result (λ next. listed next ++ reverse stack.new.items
+    ensures { IfOk result (λ next. option_to_list next ++ reverse stack.new.items
         ≡ edges nfa.now (has look_have) id ++ reverse stack.old.items) }
 {
     match nfa.state(id) {
@@ -121,7 +122,7 @@ fn take_turn<N: Allocator, A: Allocator, L: Ledger>(
     ensures turn { (pending : List ℕ)
         × IsTurn nfa.now (has look_have) set.old.ids set.new.ids id (reverse stack.old.items)
         pending
-        × IfOk result (λ next. listed next ++ reverse stack.new.items ≡ pending) }
+        × IfOk result (λ next. option_to_list next ++ reverse stack.new.items ≡ pending) }
     ensures capacity { set.new.capacity ≡ set.old.capacity }
     ensures resolve { AllResolve nfa.now set.new.ids }
     ensures counted { steps.new ≡ steps.old + 1 }
@@ -213,7 +214,7 @@ fn take_recording_turn<N: Allocator, A: Allocator, L: Ledger>(
         × IsTurn nfa.now (has look_have) set.old.ids set.new.ids id (reverse stack.old.items)
         pending
         × (set.new.ids ≡ set.old.ids ++ gained)
-        × IfOk result (λ next. (listed next ++ reverse stack.new.items ≡ pending)
+        × IfOk result (λ next. (option_to_list next ++ reverse stack.new.items ≡ pending)
         × (builder.new ≡ added nfa.now builder.old (without (is_capture nfa.now) gained))) }
     ensures capacity { set.new.capacity ≡ set.old.capacity }
     ensures counted { steps.new ≡ steps.old + 1 }

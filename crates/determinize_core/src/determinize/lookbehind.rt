@@ -193,7 +193,7 @@ pub fn set_lookbehind_from_start<N: Allocator, A: Allocator>(
     ensures told { builder.new ≡ with_start nfa.now start.now builder.old }
     ensures known { (p : Option ℕ) (look : Assertion) → kinds.start_kind_of nfa.now.terminator p ≡ start.now
         → has (kinds.start_have nfa.now.reverse nfa.now.terminator nfa.now.look_set_any start.now) look ≡ true
-        → truth.known nfa.now.reverse nfa.now.terminator p look ≡ true }
+        → truth.is_known nfa.now.reverse nfa.now.terminator p look ≡ true }
 {
     let told = LookTables::of(nfa).at_start(*start);
     builder.set_look_have(|have| have.union(told.looks()));

@@ -5,10 +5,11 @@
 //! the patterns, and the states that count: those that match, and those that the unit leads on from.
 
 ghost use Rattle.std.specs.Prelude.{◌≡◌, ℕ, ◌+◌, ◌<◌, ◌≤◌, ◌++◌, [], All, Some, false, length, nat_eq, is_some, not, IfOk, IfSome, OnOk, ◌&&◌, ◌||◌};
+ghost use Rattle.determinize_core.specs.Value.{is_nonempty};
+ghost use Rattle.determinize_below.specs.Members.{has_id};
 ghost use Rattle.std.specs.List.{flat_map, list_any};
 ghost use Rattle.determinize_below.specs.Edges.{is_match, pattern_of, patterns_of, reach, state_at, target, target_of};
 ghost use Rattle.determinize_below.specs.Look.{has};
-ghost use Rattle.determinize_below.specs.Members.{holds};
 ghost use Rattle.determinize_below.specs.Nfa.{AllResolve, IsAccepted};
 ghost use Rattle.determinize_below.specs.Reach.{joined};
 ghost use Rattle.determinize_below.specs.Search.{continues};
@@ -16,7 +17,7 @@ ghost use Rattle.determinize_below.specs.Unit.{byte_of};
 ghost use Rattle.determinize_core.specs.Reading.{ends, enters, gained, roots_of};
 ghost use Rattle.determinize_core.specs.Recording.{with_patterns};
 ghost use Rattle.determinize_core.specs.Scratch.{IsScratch};
-ghost use Rattle.determinize_core.specs.Step.{distinct_states, is_nonempty, is_reopened, opened_by, patterns_read, working_list};
+ghost use Rattle.determinize_core.specs.Step.{distinct_states, is_reopened, opened_by, patterns_read, working_list};
 ghost use Rattle.determinize_core.specs.Tries.{tries_again, tries_of};
 
 use crate::determinize::closure::counted_closure;
@@ -139,7 +140,7 @@ fn read_state<N: Allocator, A: Allocator>(
 ) -> Result<Reading, AllocError>
     requires resolves { id < length nfa.now.states }
     requires capacity { kept.old.capacity ≡ length nfa.now.states }
-    requires new_pattern { (p : ℕ) → pattern_of nfa.now id ≡ Some p → holds kept.old.ids id ≡ false
+    requires new_pattern { (p : ℕ) → pattern_of nfa.now id ≡ Some p → has_id kept.old.ids id ≡ false
         → list_any (nat_eq p) builder.old.patterns ≡ false }
     ensures kept { OnOk result
         (kept.new.ids ≡ kept.old.ids ++ gained nfa.now (byte_of unit) kept.old.ids id) }

@@ -3,7 +3,7 @@
 ghost use Rattle.std.specs.Prelude.{◌≡◌, ℕ, [], true, false, nat_eq, IfOk, OnOk, OnErr, IsOk};
 ghost use Rattle.std.specs.List.{list_any};
 ghost use Rattle.determinize_below.specs.Look.{insert};
-ghost use Rattle.determinize_core.specs.Value.{Value as StateValue, IsValue, dead, is_match, settled, with_pattern, with_state};
+ghost use Rattle.determinize_core.specs.Value.{Value as StateValue, IsValue, dead, settled, with_pattern, with_state, is_nonempty};
 ghost use Rattle.determinize_core.specs.Spelling.{spell};
 ghost use Rattle.determinize_core.specs.Building.{IsOpen, value_of_open};
 ghost use Rattle.determinize_core.specs.Marking.{IsMarkOf, IsGrown};
@@ -123,7 +123,7 @@ impl<A: Allocator> StateBuilderMatches<A> {
 
     /// Whether some pattern is listed.
     pub(crate) fn is_match(&self) -> bool
-        ensures { result ≡ is_match self.now.patterns }
+        ensures { result ≡ is_nonempty self.now.patterns }
     {
         bytes::open_is_match(self.bytes.as_slice())
     }
@@ -230,7 +230,7 @@ impl<A: Allocator> StateBuilderNFA<A> {
 
     /// Whether some pattern is listed.
     pub(crate) fn is_match(&self) -> bool
-        ensures { result ≡ is_match self.now.patterns }
+        ensures { result ≡ is_nonempty self.now.patterns }
     {
         bytes::is_match(self.bytes.as_slice())
     }

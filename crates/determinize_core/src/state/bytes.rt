@@ -1,7 +1,7 @@
 //! Reading the bytes of a state, and writing some of them.
 
 ghost use Rattle.std.specs.Prelude.{◌≡◌, ◌+◌, ◌*◌, ◌<◌, ◌≤◌, ◌^◌, [], ◌∷◌, if◌then◌else◌, length, slice_index, vec_len, true, false, All, OnOk, OnErr, IsOk};
-ghost use Rattle.determinize_core.specs.Value.{is_match};
+ghost use Rattle.determinize_core.specs.Value.{is_nonempty};
 ghost use Rattle.determinize_core.specs.Spelling.{IsSpelled, value_of, number_at, numbers_in, words, with_word, has_bit, start_in};
 ghost use Rattle.determinize_core.specs.Building.{IsOpen, value_of_open, closed, with_bit, with_pattern_bytes};
 
@@ -41,7 +41,7 @@ pub(crate) fn has_bit(bytes: &[u8], weight: u8) -> bool
 /// Whether some pattern matches.
 pub(crate) fn is_match(bytes: &[u8]) -> bool
     requires { IsSpelled bytes.now }
-    ensures { result ≡ is_match (value_of bytes.now).patterns }
+    ensures { result ≡ is_nonempty (value_of bytes.now).patterns }
 {
     has_bit(bytes, MATCH)
 }
@@ -98,7 +98,7 @@ fn number_at(bytes: &[u8], at: usize) -> u32
 /// Whether some pattern is listed, where the number of patterns isn't written yet.
 pub(crate) fn open_is_match(bytes: &[u8]) -> bool
     requires { IsOpen bytes.now }
-    ensures { result ≡ is_match (value_of_open bytes.now).patterns }
+    ensures { result ≡ is_nonempty (value_of_open bytes.now).patterns }
 {
     has_bit(bytes, MATCH)
 }

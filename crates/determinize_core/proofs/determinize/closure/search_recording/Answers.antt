@@ -1,6 +1,7 @@
 use Rattle.std.proofs.Common.{◌≡◌, ◌∙◌, ◌++◌, ◌∷◌, [], ℕ, List, ap, append_assoc, refl, reverse, subst, sym}
+use Rattle.std.specs.Option.{option_to_list}
 use Rattle.std.proofs.lemmas.List.{append-nil, append_cancel_left}
-use Rattle.determinize_below.specs.Edges.{is_capture, listed}
+use Rattle.determinize_below.specs.Edges.{is_capture}
 use Rattle.determinize_below.specs.Look.{has}
 use Rattle.determinize_below.specs.Runs.{without}
 use Rattle.determinize_below.proofs.SoundNfa.{accepted_sound}
@@ -27,10 +28,10 @@ loop-id-preserved g c =
     let sound = accepted_sound c.args.nfa.now c.requires.accepted in
     let turn = c.in_ok-at_hand.ensures.turn in
     let recorded = c.loop-id.invariant.recorded in
-    let next : IsTurn c.args.nfa.now (has c.args.look_have) c.loop-id.set.ids c.take_recording_turn.new.set.ids c.in-Some.id (reverse c.take_next.new.stack.items) (listed c.in_ok-at_hand.at_hand ++ reverse c.take_recording_turn.new.stack.items) =
+    let next : IsTurn c.args.nfa.now (has c.args.look_have) c.loop-id.set.ids c.take_recording_turn.new.set.ids c.in-Some.id (reverse c.take_next.new.stack.items) (option_to_list c.in_ok-at_hand.at_hand ++ reverse c.take_recording_turn.new.stack.items) =
     subst (λ (l : List ℕ). IsTurn c.args.nfa.now (has c.args.look_have) c.loop-id.set.ids c.take_recording_turn.new.set.ids c.in-Some.id (reverse c.take_next.new.stack.items) l) (sym turn.4.0) turn.2 in
     record {
-      so_far = subst (λ (n : ℕ). IsSoFar c.args.nfa.now (has c.args.look_have) c.args.set.now.ids c.args.start c.take_recording_turn.new.set.ids (listed c.in_ok-at_hand.at_hand ++ reverse c.take_recording_turn.new.stack.items) c.args.steps.now n) (sym c.in_ok-at_hand.ensures.counted)
+      so_far = subst (λ (n : ℕ). IsSoFar c.args.nfa.now (has c.args.look_have) c.args.set.now.ids c.args.start c.take_recording_turn.new.set.ids (option_to_list c.in_ok-at_hand.at_hand ++ reverse c.take_recording_turn.new.stack.items) c.args.steps.now n) (sym c.in_ok-at_hand.ensures.counted)
           (so_far-turn c.args.nfa.now sound (has c.args.look_have) c.args.set.now.ids c.args.start _ _ _ _ c.loop-id.invariant.so_far _ _ (reverse c.take_next.new.stack.items) c.in-Some.id c.in-Some.ensures.some next);
       recorded = (
         recorded.0 ++ turn.1,

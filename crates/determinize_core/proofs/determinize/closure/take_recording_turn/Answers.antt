@@ -1,8 +1,9 @@
 use Rattle.std.proofs.Common.{◌≡◌, ◌∙◌, ◌++◌, ◌∷◌, [], ℕ, List, Option, ap, refl, reverse, subst, sym}
+use Rattle.std.specs.Option.{option_to_list}
 use Rattle.std.proofs.lemmas.Bool.{not-false, not-true}
 use Rattle.std.proofs.lemmas.List.{append-nil}
 use Rattle.std.proofs.lemmas.Result.{err_from_is_err_and, IfOk-weaker}
-use Rattle.determinize_below.specs.Edges.{edges, is_capture, listed}
+use Rattle.determinize_below.specs.Edges.{edges, is_capture}
 use Rattle.determinize_below.specs.Look.{has}
 use Rattle.determinize_below.specs.Members.{Members}
 use Rattle.determinize_below.specs.Runs.{without}
@@ -51,7 +52,7 @@ returns-clause-turn g c =
       subst (λ (l : List ℕ). IsTurn c.args.nfa.now (has c.args.look_have) c.args.set.now.ids l c.args.id (reverse c.args.stack.now.items) pending) (sym after) turn,
       after,
       IfOk-weaker c.follow.result
-          (λ (next : Option ℕ). listed next ++ reverse c.follow.new.stack.items ≡ pending)
-          (λ (next : Option ℕ). (listed next ++ reverse c.follow.new.stack.items ≡ pending) × (c.add_state.new.builder ≡ added c.args.nfa.now c.args.builder.now (without (is_capture c.args.nfa.now) (c.args.id ∷ []))))
+          (λ (next : Option ℕ). option_to_list next ++ reverse c.follow.new.stack.items ≡ pending)
+          (λ (next : Option ℕ). (option_to_list next ++ reverse c.follow.new.stack.items ≡ pending) × (c.add_state.new.builder ≡ added c.args.nfa.now c.args.builder.now (without (is_capture c.args.nfa.now) (c.args.id ∷ []))))
           (λ next e. (e, recorded)) c.follow.ensures,
     )
