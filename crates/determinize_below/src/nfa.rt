@@ -6,7 +6,7 @@ ghost use Rattle.determinize_below.specs.Nfa.{failure, is_dense_sound, is_sparse
 
 use crate::look::{LookMatcher, LookSet};
 use crate::primitives::StateID;
-use std::alloc::{AllocError, Allocator, Global};
+use std::alloc::{AllocError, AllocFailed, Allocator, Global};
 use std::error::Error;
 use std::fmt;
 use std::marker::Model;
@@ -43,6 +43,16 @@ impl From<AllocError> for BuildError {
     ghost from_gives = { λ _ e. e ≡ OutOfMemory };
 
     fn from(_refused: AllocError) -> BuildError {
+        BuildError::OutOfMemory
+    }
+}
+
+impl<T: Drop> From<AllocFailed<T>> for BuildError {
+    ghost use Rattle.determinize_below.specs.declared.nfa.BuildError.TheVariants.{OutOfMemory};
+
+    ghost from_gives = { λ _ e. e ≡ OutOfMemory };
+
+    fn from(_refused: AllocFailed<T>) -> BuildError {
         BuildError::OutOfMemory
     }
 }

@@ -62,7 +62,7 @@ impl<A: Allocator> State<A> {
         ensures { IfOk result (λ s. s ≡ dead) }
     {
         Ok(State {
-            bytes: Vec::from_slice(alloc, &[0; 9])?,
+            bytes: Vec::from_slice(alloc, &[0; bytes::COUNT])?,
         })
     }
 

@@ -49,7 +49,7 @@ impl<A: Allocator> StateBuilderEmpty<A> {
         ensures { IfOk result (λ builder. builder ≡ dead) }
     {
         let mut bytes = self.bytes;
-        bytes.extend_from_slice(&[0; 9])?;
+        bytes.extend_from_slice(&[0; bytes::COUNT])?;
         Ok(StateBuilderMatches { bytes })
     }
 
@@ -111,7 +111,7 @@ impl<A: Allocator> StateBuilderMatches<A> {
     fn put_look_have(&mut self, look_have: LookSet)
         ensures { self.new ≡ record self.old { look_have = look_have } }
     {
-        bytes::put_number(&mut self.bytes, 1, look_have.as_repr());
+        bytes::put_number(&mut self.bytes, bytes::LOOK_HAVE, look_have.as_repr());
     }
 
     /// The assertions that are asked for, of which this builder records none.
@@ -287,14 +287,14 @@ impl<A: Allocator> StateBuilderNFA<A> {
     fn put_look_have(&mut self, look_have: LookSet)
         ensures { self.new ≡ record self.old { look_have = look_have } }
     {
-        bytes::put_number(&mut self.bytes, 1, look_have.as_repr());
+        bytes::put_number(&mut self.bytes, bytes::LOOK_HAVE, look_have.as_repr());
     }
 
     /// Writes look-need.
     fn put_look_need(&mut self, look_need: LookSet)
         ensures { self.new ≡ record self.old { look_need = look_need } }
     {
-        bytes::put_number(&mut self.bytes, 5, look_need.as_repr());
+        bytes::put_number(&mut self.bytes, bytes::LOOK_NEED, look_need.as_repr());
     }
 
     /// Lists an NFA state after all others. It may be listed already.
@@ -362,8 +362,8 @@ impl<A: Allocator> StateBuilderNFA<A> {
     {
         self.bytes.truncate(mark.bytes);
         self.last = mark.last;
-        bytes::put_number(&mut self.bytes, 1, mark.look_have.as_repr());
-        bytes::put_number(&mut self.bytes, 5, mark.look_need.as_repr());
+        bytes::put_number(&mut self.bytes, bytes::LOOK_HAVE, mark.look_have.as_repr());
+        bytes::put_number(&mut self.bytes, bytes::LOOK_NEED, mark.look_need.as_repr());
     }
 }
 

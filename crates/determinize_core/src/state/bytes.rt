@@ -21,6 +21,12 @@ pub(crate) const FROM_WORD: u8 = 4;
 /// The bit of the first byte for a state that was entered by what may be the first half of a CRLF.
 pub(crate) const HALF_CRLF: u8 = 8;
 
+/// Where look-have stands.
+pub(crate) const LOOK_HAVE: usize = 1;
+
+/// Where look-need stands.
+pub(crate) const LOOK_NEED: usize = 5;
+
 /// Where the number of patterns stands, and where the NFA ids begin if it doesn't.
 pub(crate) const COUNT: usize = 9;
 
@@ -67,7 +73,7 @@ pub(crate) fn look_have(bytes: &[u8]) -> LookSet
     requires { IsSpelled bytes.now }
     ensures { result ≡ (value_of bytes.now).look_have }
 {
-    look_set_at(bytes, 1)
+    look_set_at(bytes, LOOK_HAVE)
 }
 
 /// The set look-need.
@@ -75,7 +81,7 @@ pub(crate) fn look_need(bytes: &[u8]) -> LookSet
     requires { IsSpelled bytes.now }
     ensures { result ≡ (value_of bytes.now).look_need }
 {
-    look_set_at(bytes, 5)
+    look_set_at(bytes, LOOK_NEED)
 }
 
 /// The set in the four bytes from a place on.
@@ -124,7 +130,7 @@ pub(crate) fn open_look_have(bytes: &[u8]) -> LookSet
     requires { IsOpen bytes.now }
     ensures { result ≡ (value_of_open bytes.now).look_have }
 {
-    look_set_at(bytes, 1)
+    look_set_at(bytes, LOOK_HAVE)
 }
 
 /// The set look-need of a state whose number of patterns isn't written yet.
@@ -132,7 +138,7 @@ pub(crate) fn open_look_need(bytes: &[u8]) -> LookSet
     requires { IsOpen bytes.now }
     ensures { result ≡ (value_of_open bytes.now).look_need }
 {
-    look_set_at(bytes, 5)
+    look_set_at(bytes, LOOK_NEED)
 }
 
 /// Sets a bit of the first byte.
