@@ -6,6 +6,7 @@ pub mod ClosureSteps
 pub mod Collecting
 pub mod FirstReading
 pub mod FlagLaws
+pub mod HostileRows
 pub mod LastMatches
 pub mod LengthLaws
 pub mod Loops

@@ -2,6 +2,7 @@ pub mod Behind
 pub mod Building
 pub mod Chain
 pub mod Closure
+pub mod HostileRows
 pub mod Laws
 pub mod Marking
 pub mod Opened

@@ -1,5 +1,6 @@
 //! Laws of walks, steps and searches over the definitions, as public functions with empty bodies.
 ghost use Rattle.determinize_core.specs.WorkedRows as rows;
+ghost use Rattle.determinize_core.specs.HostileRows as hostile;
 ghost use Rattle.determinize_core.specs.Laws.{EachChainIsTrue, EachAnswerIsOne, EachReachGoesOn, EachStateHasOneKind, EachFutureFollows, DeadStays, LeftmostGivesOne, NoNeedNoHave, TriesAreFew};
 
 /// The walk of an accepted NFA over a text, against whole runs. Where all matches are wanted, each value lists the patterns that runs accept
@@ -68,6 +69,8 @@ pub fn walk_rows_law()
     ensures row_25b { rows.Row25b }
     ensures row_27a { rows.Row27a }
     ensures row_27b { rows.Row27b }
+    ensures hostile_accepted { hostile.AreHostileAccepted }
+    ensures hostile { hostile.AreHostileRows }
 {}
 
 /// A search from one state into a set that holds another meets no path through the held one.

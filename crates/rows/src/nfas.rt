@@ -44,6 +44,30 @@ pub enum Automaton {
     LineEnd,
     /// The same backwards.
     LineEndBackwards,
+    /// `a` into a capture of itself, and nothing else.
+    CaptureAlone,
+    /// A union with itself among its alternates, which stand several times.
+    RepeatedAlternates,
+    /// Two unions that lead to each other, and each to a match.
+    UnionsOfEachOther,
+    /// A union of no states, preferred to a match.
+    EmptyUnion,
+    /// `a*`.
+    ManyLetters,
+    /// `a*?`.
+    FewLetters,
+    /// The start of a line that ends in a carriage return.
+    LineOfCarriageReturn,
+    /// The byte ff and then the start of a line that ends in it.
+    LineOfLastByte,
+    /// The end of a line that ends in the byte ff.
+    LineEndAtLastByte,
+    /// `a`, which ends lines, and then the start of a line or the end of a word.
+    LineOrWordEnd,
+    /// `a`, and an assertion on words that nothing leads to.
+    UnreachedAssertion,
+    /// The greatest pattern, which matches nothing.
+    GreatestPattern,
 }
 
 impl Automaton {
@@ -76,7 +100,9 @@ impl Automaton {
     fn line_terminator(self) -> u8 {
         match self {
             Automaton::LineOfXBackwards => b'x',
-            Automaton::LineOfWordByte => b'a',
+            Automaton::LineOfWordByte | Automaton::LineOrWordEnd => b'a',
+            Automaton::LineOfCarriageReturn => b'\r',
+            Automaton::LineOfLastByte | Automaton::LineEndAtLastByte => 0xff,
             _ => b'\n',
         }
     }
@@ -88,9 +114,11 @@ impl Automaton {
             Automaton::ThreeEmpty => three_empty(alloc),
             Automaton::BoundaryOrPercent => boundary_or_percent(alloc),
             Automaton::WholeWord => whole_word(alloc),
-            Automaton::CarriageReturn => line_start_behind(alloc, b'\r'),
-            Automaton::LineFeedBackwards => line_start_behind(alloc, b'\n'),
-            Automaton::LineOfXBackwards => before_match(alloc, look(Look::StartLF, 1)),
+            Automaton::CarriageReturn => look_behind(alloc, b'\r', Look::StartCRLF),
+            Automaton::LineFeedBackwards => look_behind(alloc, b'\n', Look::StartCRLF),
+            Automaton::LineOfXBackwards | Automaton::LineOfCarriageReturn => {
+                before_match(alloc, look(Look::StartLF, 1))
+            }
             Automaton::CaptureOfItself => capture_of_itself(alloc),
             Automaton::UnionOfItself => before_match(alloc, two(0, 1)),
             Automaton::LineOfWordByte => line_of_word_byte(alloc),
@@ -101,6 +129,17 @@ impl Automaton {
             Automaton::LineEnd | Automaton::LineEndBackwards => {
                 unanchored_look(alloc, Look::EndCRLF)
             }
+            Automaton::CaptureAlone => two_states(alloc, byte(b'a', 1), capture(1)),
+            Automaton::RepeatedAlternates => before_match(alloc, union(alloc, &[0, 0, 1, 1, 0])?),
+            Automaton::UnionsOfEachOther => unions_of_each_other(alloc),
+            Automaton::EmptyUnion => empty_union(alloc),
+            Automaton::ManyLetters => letters(alloc, two(1, 2)),
+            Automaton::FewLetters => letters(alloc, two(2, 1)),
+            Automaton::LineOfLastByte => look_behind(alloc, 0xff, Look::StartLF),
+            Automaton::LineEndAtLastByte => before_match(alloc, look(Look::EndLF, 1)),
+            Automaton::LineOrWordEnd => line_or_word_end(alloc),
+            Automaton::UnreachedAssertion => unreached_assertion(alloc),
+            Automaton::GreatestPattern => greatest_pattern(alloc),
         }
     }
 }
@@ -191,12 +230,21 @@ fn matches<A: Allocator>(pattern: u16) -> State<A> {
     }
 }
 
-/// A state and behind it a match of pattern 0.
-fn before_match<A: Allocator>(alloc: A, first: State<A>) -> Result<Vec<State<A>, A>, AllocError> {
+/// Two states.
+fn two_states<A: Allocator>(
+    alloc: A,
+    first: State<A>,
+    second: State<A>,
+) -> Result<Vec<State<A>, A>, AllocError> {
     let mut states = Vec::new(alloc);
     states.push(first)?;
-    states.push(matches(0))?;
+    states.push(second)?;
     Ok(states)
+}
+
+/// A state and behind it a match of pattern 0.
+fn before_match<A: Allocator>(alloc: A, first: State<A>) -> Result<Vec<State<A>, A>, AllocError> {
+    two_states(alloc, first, matches(0))
 }
 
 /// The states of three patterns that match nothing.
@@ -234,14 +282,15 @@ fn whole_word<A: Allocator + Copy>(alloc: A) -> Result<Vec<State<A>, A>, AllocEr
     Ok(states)
 }
 
-/// The states of a byte and the start of a line behind it.
-fn line_start_behind<A: Allocator + Copy>(
+/// The states of a byte and an assertion behind it.
+fn look_behind<A: Allocator + Copy>(
     alloc: A,
     first: u8,
+    asserted: Look,
 ) -> Result<Vec<State<A>, A>, AllocError> {
     let mut states = Vec::new(alloc);
     states.push(byte(first, 1))?;
-    states.push(look(Look::StartCRLF, 2))?;
+    states.push(look(asserted, 2))?;
     states.push(matches(0))?;
     Ok(states)
 }
@@ -319,5 +368,62 @@ fn all_kinds<A: Allocator + Copy>(alloc: A) -> Result<Vec<State<A>, A>, AllocErr
     states.push(ranges(alloc, &[(b'a', b'c'), (b'x', b'x')], 5)?)?;
     states.push(table(alloc, b'b', 5)?)?;
     states.push(matches(0))?;
+    Ok(states)
+}
+
+/// The states of two unions that lead to each other.
+fn unions_of_each_other<A: Allocator + Copy>(alloc: A) -> Result<Vec<State<A>, A>, AllocError> {
+    let mut states = Vec::new(alloc);
+    states.push(two(1, 2))?;
+    states.push(two(0, 3))?;
+    states.push(matches(0))?;
+    states.push(matches(1))?;
+    Ok(states)
+}
+
+/// The states of a union of an empty union and a match.
+fn empty_union<A: Allocator + Copy>(alloc: A) -> Result<Vec<State<A>, A>, AllocError> {
+    let mut states = Vec::new(alloc);
+    states.push(union(alloc, &[1, 2])?)?;
+    states.push(union(alloc, &[])?)?;
+    states.push(matches(0))?;
+    Ok(states)
+}
+
+/// The states of `a` repeated, where the first state prefers to go on or to match.
+fn letters<A: Allocator + Copy>(alloc: A, first: State<A>) -> Result<Vec<State<A>, A>, AllocError> {
+    let mut states = Vec::new(alloc);
+    states.push(first)?;
+    states.push(byte(b'a', 0))?;
+    states.push(matches(0))?;
+    Ok(states)
+}
+
+/// The states of `a` and two assertions behind it.
+fn line_or_word_end<A: Allocator + Copy>(alloc: A) -> Result<Vec<State<A>, A>, AllocError> {
+    let mut states = Vec::new(alloc);
+    states.push(byte(b'a', 1))?;
+    states.push(union(alloc, &[2, 3])?)?;
+    states.push(look(Look::StartLF, 4))?;
+    states.push(look(Look::WordEndAscii, 5))?;
+    states.push(matches(0))?;
+    states.push(matches(1))?;
+    Ok(states)
+}
+
+/// The states of `a`, and one that nothing leads to.
+fn unreached_assertion<A: Allocator + Copy>(alloc: A) -> Result<Vec<State<A>, A>, AllocError> {
+    let mut states = Vec::new(alloc);
+    states.push(byte(b'a', 1))?;
+    states.push(matches(0))?;
+    states.push(look(Look::WordAscii, 1))?;
+    Ok(states)
+}
+
+/// The one state of the greatest pattern.
+fn greatest_pattern<A: Allocator>(alloc: A) -> Result<Vec<State<A>, A>, AllocError> {
+    let pattern_id = PatternID::MAX;
+    let mut states = Vec::new(alloc);
+    states.push(State::Match { pattern_id })?;
     Ok(states)
 }

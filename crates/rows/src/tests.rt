@@ -69,7 +69,7 @@ fn prints_each_walk(rt: HostRuntime) -> Result<(), Fail> {
 #[test]
 fn refuses_other_words(rt: HostRuntime) -> Result<(), Fail> {
     for text in [
-        "", "3 3", "3 4a", "1", "4", "03", "4A", "15", "21", "28a", "-3",
+        "", "3 3", "3 4a", "1", "4", "03", "4A", "15", "21", "28", "-3",
     ] {
         let words = words(&rt, text)?;
         expect(&rt, words.as_slice(), 2, "", "no such row\n");

@@ -52,6 +52,29 @@ impl Walk {
             "25b" => Walk::over(Automaton::AllKinds, b"d"),
             "27a" => Walk::over(Automaton::LineEnd, b"\r\n"),
             "27b" => Walk::over(Automaton::LineEndBackwards, b"\n\r"),
+            _ => return Walk::hostile(name),
+        };
+        Some(walk)
+    }
+
+    /// The walk of this name through an NFA that asks for trouble: cycles, odd unions, odd
+    /// terminators, a state that nothing leads to, the greatest pattern.
+    fn hostile(name: &str) -> Option<Walk> {
+        let walk = match name {
+            "28a" => Walk::over(Automaton::CaptureAlone, b"a"),
+            "28b" => Walk::over(Automaton::RepeatedAlternates, b""),
+            "28c" => Walk::over(Automaton::UnionsOfEachOther, b""),
+            "28d" => Walk::over(Automaton::UnionsOfEachOther, b"").leftmost_first(),
+            "28e" => Walk::over(Automaton::EmptyUnion, b""),
+            "28f" => Walk::over(Automaton::ManyLetters, b"aa"),
+            "28g" => Walk::over(Automaton::FewLetters, b"aa").leftmost_first(),
+            "29a" => Walk::over(Automaton::LineOfCarriageReturn, b"").behind(b'\r'),
+            "29b" => Walk::over(Automaton::LineOfCarriageReturn, b"").behind(b'\n'),
+            "29c" => Walk::over(Automaton::LineOfLastByte, b"\xff"),
+            "29d" => Walk::over(Automaton::LineEndAtLastByte, b"\xff"),
+            "29e" => Walk::over(Automaton::LineOrWordEnd, b"a"),
+            "30a" => Walk::over(Automaton::UnreachedAssertion, b"a"),
+            "30b" => Walk::over(Automaton::GreatestPattern, b""),
             _ => return None,
         };
         Some(walk)
