@@ -1,5 +1,5 @@
 -- The first reading of a working list, one state after another.
-use Rattle.std.proofs.Common.{◌≡◌, ℕ, Bool, true, false, not, List, [], ◌∷◌, ◌++◌, Option, Some, None, nat_eq, refl, sym, ap, subst, ◌∙◌, append_assoc, arith, take, ◌&&◌, ◌||◌, if◌then◌else◌, cond}
+use Rattle.std.proofs.Common.{◌≡◌, ℕ, Bool, true, false, not, List, [], ◌∷◌, ◌++◌, Option, Some, None, nat_eq, refl, sym, ap, subst, ◌∙◌, append_assoc, arith, take, ◌&&◌, ◌||◌, if◌then◌else◌}
 use Rattle.determinize_below.specs.Members.{has_id}
 use Rattle.std.specs.Option.{is_some, option_to_list}
 use Rattle.std.specs.List.{AllByRecursion, IsDistinct, filter, flat_map, list_any}
@@ -19,9 +19,8 @@ use Rattle.determinize_below.proofs.Sets.{fresh-append}
 use Rattle.determinize_below.proofs.SoundNfa.{IsSound}
 use Rattle.determinize_below.proofs.Tests.{by_option, by_test, or_false_left, or_false_right}
 use Rattle.determinize_core.specs.Reading.{counts, gained, roots_of}
-use Rattle.determinize_core.specs.Recording.{with_patterns}
 use Rattle.determinize_core.specs.Step.{part_read, patterns_read}
-use Rattle.determinize_core.specs.Value.{Value, is_nonempty}
+use Rattle.determinize_core.specs.Value.{Value, is_nonempty, with_patterns}
 use Rattle.determinize_core.proofs.Collecting.{fresh-push}
 use Rattle.determinize_core.proofs.Loops.{goes_on, pattern_new, patterns-push, stops_at, targets-push}
 use Rattle.determinize_core.proofs.Targets.{target-match}

@@ -3,16 +3,15 @@ use Rattle.std.proofs.Common.{refl}
 use Rattle.determinize_below.specs.Edges.{reach}
 use Rattle.determinize_below.specs.Look.{has, insert, meets}
 use Rattle.determinize_below.specs.Unit.{is_word_byte}
-use Rattle.determinize_core.specs.Behind.{insert_where, behind}
 use Rattle.determinize_core.specs.Chain.{chain}
 use Rattle.determinize_core.specs.HostileRows.{AreHostileAccepted, AreHostileRows}
 use Rattle.determinize_core.specs.Spelling.{spell}
 use Rattle.determinize_core.specs.Step.{step}
-use Rattle.determinize_core.specs.Tables.{opened, seen, from_word_after, half_crlf_after, start_have, start_from_word, start_half_crlf}
+use Rattle.determinize_core.specs.LookTables.{insert_where, known_set, word_opened, line_opened, opened, have_after, from_word_after, half_crlf_after, start_have, start_from_word, start_half_crlf, have_at_start, from_word_at_start, half_crlf_at_start}
 use Rattle.determinize_core.specs.Varint.{varint}
 
 pub are_hostile_rows : AreHostileRows
-unfolding has insert is_word_byte meets insert_where behind opened seen from_word_after half_crlf_after start_have start_from_word start_half_crlf reach step chain spell varint
+unfolding has insert is_word_byte meets insert_where known_set word_opened line_opened opened have_after from_word_after half_crlf_after start_have start_from_word start_half_crlf have_at_start from_word_at_start half_crlf_at_start reach step chain spell varint
 are_hostile_rows = record {
   row_28a = (refl, refl);
   row_28b = (refl, refl);

@@ -1,5 +1,4 @@
 pub mod AcceptedPatterns
-pub mod Behind
 pub mod BuildingLaws
 pub mod ClosingAll
 pub mod ClosureSteps
@@ -7,6 +6,7 @@ pub mod Collecting
 pub mod FirstReading
 pub mod FlagLaws
 pub mod HostileRows
+pub mod KnownSet
 pub mod LastMatches
 pub mod LengthLaws
 pub mod Loops

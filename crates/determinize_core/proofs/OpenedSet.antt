@@ -1,32 +1,33 @@
--- The set that is built for a unit, member by member.
-use Rattle.std.proofs.Common.{◌≡◌, ℕ, Bool, false, not, bit_or, Option, refl, arith}
+-- The sets that are built for a unit, member by member.
+use Rattle.std.proofs.Common.{◌≡◌, ℕ, Bool, false, not, Option, refl}
 use mathlib.Core.Bool.{◌&&◌, ◌||◌}
 use Rattle.determinize_below.specs.Look.{has}
 use Rattle.determinize_below.specs.Truth.{crlf_first, crlf_second, exactly_one}
-use Rattle.determinize_below.specs.Unit.{is_nothing, is_byte, is_word}
-use Rattle.determinize_below.proofs.LookLaws.{has-union, has-empty, same, index_of}
+use Rattle.determinize_below.specs.Unit.{is_nothing, is_byte}
+use Rattle.determinize_below.proofs.LookLaws.{has-empty, same, index_of}
 use Rattle.determinize_below.specs.declared.look.Look.{Look}
-use Rattle.determinize_below.specs.declared.look.Look.TheVariants.{Start, End, StartLF, EndLF, StartCRLF, EndCRLF, WordAscii, WordAsciiNegate, WordUnicode, WordUnicodeNegate, WordStartAscii, WordEndAscii, WordStartUnicode, WordEndUnicode, WordStartHalfAscii, WordEndHalfAscii, WordStartHalfUnicode, WordEndHalfUnicode}
-use Rattle.determinize_core.specs.Opened.{opened, line_opened, word_opened}
-use Rattle.determinize_core.proofs.Behind.{has-insert_where}
+use Rattle.determinize_below.specs.declared.look.Look.TheVariants.{End, EndLF, StartCRLF, EndCRLF, WordAscii, WordAsciiNegate, WordUnicode, WordUnicodeNegate, WordStartAscii, WordEndAscii, WordStartUnicode, WordEndUnicode, WordEndHalfAscii, WordEndHalfUnicode}
+use Rattle.determinize_core.specs.LookTables.{Tables, insert_where, word_opened, line_opened}
+use Rattle.determinize_core.proofs.KnownSet.{has-insert_where, or_none}
 
-or_false : (a : Bool) → (a || false) ≡ a
-or_false a = grind arith
+-- the set that is built for words
+abbrev pub word_set : Bool → Bool → ℕ
+word_set f w =
+    insert_where (insert_where (insert_where (insert_where (insert_where (insert_where (insert_where (insert_where (insert_where (insert_where 0
+    (exactly_one f w) WordAscii)
+    (exactly_one f w) WordUnicode)
+    (not (exactly_one f w)) WordAsciiNegate)
+    (not (exactly_one f w)) WordUnicodeNegate)
+    (not f && w) WordStartAscii)
+    (not f && w) WordStartUnicode)
+    (f && not w) WordEndAscii)
+    (f && not w) WordEndUnicode)
+    (not w) WordEndHalfAscii)
+    (not w) WordEndHalfUnicode
 
--- the members of the set for line ends
-abbrev lines : Bool → ℕ → Bool → Option ℕ → Look → Bool
-lines reverse t half u k =
-    (same StartCRLF k && (half && not (is_byte u (crlf_second reverse))))
-    || ((same EndCRLF k && (is_nothing u || is_byte u (crlf_first reverse) || (is_byte u (crlf_second reverse) && not half)))
-    || ((same EndLF k && (is_nothing u || is_byte u t)) || ((same End k && is_nothing u) || false)))
-
-has-line_opened : (reverse : Bool) (t : ℕ) (half : Bool) (u : Option ℕ) (k : Look) → has (line_opened reverse t half u) k ≡ lines reverse t half u k
-has-line_opened reverse t half u k = simp (has-insert_where, has-empty)
-
--- the members of the set for words
-abbrev words : Bool → Bool → Look → Bool
-words f w k =
-    (same WordEndHalfUnicode k && not w)
+-- its members, the last one that was inserted first
+word_each : (f w : Bool) (k : Look)
+    → ((same WordEndHalfUnicode k && not w)
     || ((same WordEndHalfAscii k && not w)
     || ((same WordEndUnicode k && (f && not w))
     || ((same WordEndAscii k && (f && not w))
@@ -35,34 +36,43 @@ words f w k =
     || ((same WordUnicodeNegate k && not (exactly_one f w))
     || ((same WordAsciiNegate k && not (exactly_one f w))
     || ((same WordUnicode k && exactly_one f w)
-    || ((same WordAscii k && exactly_one f w) || false)))))))))
+    || ((same WordAscii k && exactly_one f w) || false)))))))))) ≡ word_opened f w k
+unfolding same index_of word_opened
+word_each f w WordAscii = or_none _
+word_each f w WordAsciiNegate = or_none _
+word_each f w WordUnicode = or_none _
+word_each f w WordUnicodeNegate = or_none _
+word_each f w WordStartAscii = or_none _
+word_each f w WordEndAscii = or_none _
+word_each f w WordStartUnicode = or_none _
+word_each f w WordEndUnicode = or_none _
+word_each f w WordEndHalfAscii = or_none _
+word_each f w WordEndHalfUnicode = or_none _
+word_each f w k = refl
 
-has-word_opened : (f w : Bool) (k : Look) → has (word_opened f w) k ≡ words f w k
-has-word_opened f w k = simp (has-insert_where, has-empty)
+pub has-word_set : (f w : Bool) (k : Look) → has (word_set f w) k ≡ word_opened f w k
+has-word_set f w k = simp (has-insert_where, has-empty) (word_each f w k)
 
-line_only : (a : Bool) → ((a || false) || false) ≡ a
-line_only a = grind arith
+-- the set that is built for the haystack and lines
+abbrev pub line_set : Tables → Bool → Option ℕ → ℕ
+line_set t half u =
+    insert_where (insert_where (insert_where (insert_where 0
+    (is_nothing u) End)
+    (is_nothing u || is_byte u t.terminator) EndLF)
+    (is_nothing u || is_byte u (crlf_first t.reverse) || (is_byte u (crlf_second t.reverse) && not half)) EndCRLF)
+    (half && not (is_byte u (crlf_second t.reverse))) StartCRLF
 
-each : (reverse : Bool) (t : ℕ) (f half : Bool) (u : Option ℕ) (l : Look) → (lines reverse t half u l || words f (is_word u) l) ≡ opened reverse t f half u l
-unfolding same index_of
-each reverse t f half u Start = refl
-each reverse t f half u End = line_only _
-each reverse t f half u StartLF = refl
-each reverse t f half u EndLF = line_only _
-each reverse t f half u StartCRLF = line_only _
-each reverse t f half u EndCRLF = line_only _
-each reverse t f half u WordAscii = or_false _
-each reverse t f half u WordAsciiNegate = or_false _
-each reverse t f half u WordUnicode = or_false _
-each reverse t f half u WordUnicodeNegate = or_false _
-each reverse t f half u WordStartAscii = or_false _
-each reverse t f half u WordEndAscii = or_false _
-each reverse t f half u WordStartUnicode = or_false _
-each reverse t f half u WordEndUnicode = or_false _
-each reverse t f half u WordStartHalfAscii = refl
-each reverse t f half u WordEndHalfAscii = or_false _
-each reverse t f half u WordStartHalfUnicode = refl
-each reverse t f half u WordEndHalfUnicode = or_false _
+-- its members
+line_each : (t : Tables) (half : Bool) (u : Option ℕ) (k : Look)
+    → ((same StartCRLF k && (half && not (is_byte u (crlf_second t.reverse))))
+    || ((same EndCRLF k && (is_nothing u || is_byte u (crlf_first t.reverse) || (is_byte u (crlf_second t.reverse) && not half)))
+    || ((same EndLF k && (is_nothing u || is_byte u t.terminator)) || ((same End k && is_nothing u) || false)))) ≡ line_opened t half u k
+unfolding same index_of line_opened
+line_each t half u End = or_none _
+line_each t half u EndLF = or_none _
+line_each t half u StartCRLF = or_none _
+line_each t half u EndCRLF = or_none _
+line_each t half u k = refl
 
-pub has-opened : (reverse : Bool) (t : ℕ) (f half : Bool) (u : Option ℕ) (l : Look) → has (bit_or (line_opened reverse t half u) (word_opened f (is_word u))) l ≡ opened reverse t f half u l
-has-opened reverse t f half u l = rw (has-union (line_opened reverse t half u) (word_opened f (is_word u)) l, has-line_opened reverse t half u l, has-word_opened f (is_word u) l) (each reverse t f half u l)
+pub has-line_set : (t : Tables) (half : Bool) (u : Option ℕ) (k : Look) → has (line_set t half u) k ≡ line_opened t half u k
+has-line_set t half u k = simp (has-insert_where, has-empty) (line_each t half u k)

@@ -9,7 +9,7 @@ use Rattle.determinize_below.specs.Look.{has, meets, subtract, each_look}
 use Rattle.determinize_below.proofs.LookLaws.{has-subtract}
 use Rattle.determinize_below.proofs.LookMeets.{meets-some, each_look-false}
 use Rattle.determinize_below.specs.declared.look.Look.{Look}
-use Rattle.determinize_core.specs.Opened.{is_redone}
+use Rattle.determinize_core.specs.Step.{is_redone}
 
 small : (a b c : ℕ) → a < 2 ^ 18 → bit_and (subtract a b) c < 2 ^ 18
 unfolding subtract

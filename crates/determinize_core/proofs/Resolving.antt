@@ -12,16 +12,16 @@ use Rattle.determinize_below.proofs.Sets.{flat_map-member, member-filter}
 use Rattle.determinize_below.proofs.SoundNfa.{accepted_sound, reach_within, target_within}
 use Rattle.determinize_below.proofs.Tests.{or_false}
 use Rattle.determinize_core.specs.Step.{part_read, start_value, step, targets, working_list}
-use Rattle.determinize_core.specs.Tables.{seen, start_have}
+use Rattle.determinize_core.specs.LookTables.{tables_of, have_after, have_at_start}
 use Rattle.determinize_core.specs.Value.{Value}
 
 module _ (nfa : Nfa) (accepted : IsAccepted nfa) where
   -- the value before the first unit, of a search that starts in a state of the NFA
   pub start_resolves : (s : ℕ) (p : Option ℕ) → s < length nfa.states → Each (λ id. id < length nfa.states) (start_value nfa s p).states
   start_resolves s p l = All-from_member same_decides (λ id. id < length nfa.states) (start_value nfa s p).states (λ x m.
-      reach_within nfa (accepted_sound nfa accepted) (has (start_have nfa p)) (s ∷ [])
+      reach_within nfa (accepted_sound nfa accepted) (has (have_at_start (tables_of nfa) p)) (s ∷ [])
       (λ r k. let e : s ≡ r = eqb-true s r (or_false (nat_eq s r) k) in omega arith) x
-      (member-filter same_decides (λ y. not (is_capture nfa y)) (reach nfa (has (start_have nfa p)) (s ∷ [])) x m))
+      (member-filter same_decides (λ y. not (is_capture nfa y)) (reach nfa (has (have_at_start (tables_of nfa) p)) (s ∷ [])) x m))
 
   -- the targets that a step enters
   pub targets_resolve : (kind : MatchKind) (v : Value) (u : Option ℕ) (r : ℕ) → member nat_eq (targets nfa kind v u) r ≡ true → r < length nfa.states
@@ -32,5 +32,5 @@ module _ (nfa : Nfa) (accepted : IsAccepted nfa) where
   pub step_resolves : (kind : MatchKind) (v : Value) (u : Option ℕ) → Each (λ id. id < length nfa.states) (step nfa kind v u).states
   unfolding step
   step_resolves kind v u = All-from_member same_decides (λ id. id < length nfa.states) (step nfa kind v u).states (λ x m.
-      reach_within nfa (accepted_sound nfa accepted) (has (seen nfa u)) (targets nfa kind v u) (targets_resolve kind v u) x
-      (member-filter same_decides (λ y. not (is_capture nfa y)) (reach nfa (has (seen nfa u)) (targets nfa kind v u)) x m))
+      reach_within nfa (accepted_sound nfa accepted) (has (have_after (tables_of nfa) u)) (targets nfa kind v u) (targets_resolve kind v u) x
+      (member-filter same_decides (λ y. not (is_capture nfa y)) (reach nfa (has (have_after (tables_of nfa) u)) (targets nfa kind v u)) x m))

@@ -24,7 +24,7 @@ use Rattle.determinize_below.proofs.Tests.{by_test, some_injective}
 use Rattle.determinize_core.specs.Chain.{future, units, chain}
 use Rattle.determinize_core.specs.Laws.{EachFutureFollows, EachReachGoesOn, EachStateHasOneKind, DeadStays, LeftmostGivesOne, NoNeedNoHave}
 use Rattle.determinize_core.specs.Step.{start_value, step, left_by, working_list, is_reopened, opened_by, part_read, patterns_read}
-use Rattle.determinize_core.specs.Tables.{seen}
+use Rattle.determinize_core.specs.LookTables.{tables_of, have_after}
 use Rattle.determinize_core.specs.Value.{Value, dead}
 
 pub each_reach_goes_on : EachReachGoesOn
@@ -62,8 +62,8 @@ working_dead nfa u =
 step_dead : (nfa : Nfa) (kind : MatchKind) (u : Option ℕ) → step nfa kind dead u ≡ dead
 unfolding step reach
 step_dead nfa kind u =
-    ap (λ l. left_by nfa u (patterns_read kind (patterns_of nfa l)) (reach nfa (has (seen nfa u)) (flat_map (target nfa u) (part_read kind (is_match nfa) l)))) (working_dead nfa u)
-    ∙ ap (λ l. left_by nfa u (patterns_read kind []) (reach nfa (has (seen nfa u)) (flat_map (target nfa u) l))) (read_none kind (is_match nfa))
+    ap (λ l. left_by nfa u (patterns_read kind (patterns_of nfa l)) (reach nfa (has (have_after (tables_of nfa) u)) (flat_map (target nfa u) (part_read kind (is_match nfa) l)))) (working_dead nfa u)
+    ∙ ap (λ l. left_by nfa u (patterns_read kind []) (reach nfa (has (have_after (tables_of nfa) u)) (flat_map (target nfa u) l))) (read_none kind (is_match nfa))
     ∙ ap (λ ps. left_by nfa u ps []) (no_patterns kind)
 
 -- a list of captures alone
@@ -135,7 +135,7 @@ dead_stays nfa kind u = (
   step_dead nfa kind u,
   (λ v accepted none ps ss.
       let roots : List ℕ = flat_map (target nfa u) (part_read kind (is_match nfa) (working_list nfa v u)) in
-      let e : reach nfa (has (seen nfa u)) roots ≡ [] = only_captures nfa (accepted_sound nfa accepted) none (has (seen nfa u)) roots ss in
+      let e : reach nfa (has (have_after (tables_of nfa) u)) roots ≡ [] = only_captures nfa (accepted_sound nfa accepted) none (has (have_after (tables_of nfa) u)) roots ss in
       ap (λ l. left_by nfa u (patterns_read kind (patterns_of nfa (working_list nfa v u))) l) e
       ∙ ap (λ l. left_by nfa u l []) ps),
 )

@@ -4,7 +4,7 @@ use Rattle.std.specs.List.{flat_map}
 use Rattle.std.specs.Result.{OnOk}
 use Rattle.std.proofs.lemmas.Bool.{eqb-true}
 use Rattle.std.proofs.lemmas.List.Elements.{All-head, All-tail}
-use Rattle.determinize_below.specs.Edges.{edges, is_capture, is_match, patterns_of, reach, target}
+use Rattle.determinize_below.specs.Edges.{edges, is_capture, patterns_of, reach, target}
 use Rattle.determinize_below.specs.Look.{has}
 use Rattle.determinize_below.specs.Nfa.{Nfa, IsAccepted}
 use Rattle.determinize_below.specs.Runs.{without}
@@ -15,12 +15,11 @@ use Rattle.determinize_below.proofs.Elements.{All-from_member}
 use Rattle.determinize_below.proofs.Nodes.{fresh_below, same_decides}
 use Rattle.determinize_below.proofs.SoundNfa.{accepted_sound, reach_within}
 use Rattle.determinize_below.proofs.Tests.{by_test}
-use Rattle.determinize_core.specs.Recording.{added, with_flags, with_patterns}
-use Rattle.determinize_core.specs.Step.{distinct_states, is_reopened, opened_by, part_read, patterns_read, recorded, step, targets, working_list}
-use Rattle.determinize_core.specs.Tables.{from_word_after, half_crlf_after, seen}
+use Rattle.determinize_core.specs.Recording.{added}
+use Rattle.determinize_core.specs.Step.{distinct_states, is_reopened, opened_by, patterns_read, step, targets, working_list}
+use Rattle.determinize_core.specs.LookTables.{tables_of, from_word_after, half_crlf_after, have_after}
 use Rattle.determinize_core.specs.Tries.{edges_in_all, tries, tries_again, tries_of}
-use Rattle.determinize_core.specs.Value.{Value, dead, is_nonempty, settled}
-use Rattle.determinize_core.proofs.Resolving.{targets_resolve}
+use Rattle.determinize_core.specs.Value.{Value, dead, is_nonempty, settled, with_flags, with_patterns}
 use Rattle.determinize_core.proofs.TryBounds.{tries_are_few}
 
 -- each member of a list is below what all its items are below
@@ -67,9 +66,9 @@ module _ (nfa : Nfa) (accepted : IsAccepted nfa) (kind : MatchKind) (v : Value) 
 
   -- a builder that was told of the unit and has read the working list, and the states that it kept
   pub record IsRead (have : ℕ) (from_word half_crlf some : Bool) (told read flagged : Value) (kept : List ℕ) : Type 0 where
-    pub have_is : have ≡ seen nfa u
-    pub word_is : from_word ≡ from_word_after nfa u
-    pub half_is : half_crlf ≡ half_crlf_after nfa u
+    pub have_is : have ≡ have_after (tables_of nfa) u
+    pub word_is : from_word ≡ from_word_after (tables_of nfa) u
+    pub half_is : half_crlf ≡ half_crlf_after (tables_of nfa) u
     pub told_is : told ≡ record dead { look_have = have }
     pub read_is : read ≡ with_patterns told (patterns_read kind (patterns_of nfa (working_list nfa v u)))
     pub some_is : some ≡ is_nonempty (targets nfa kind v u)
@@ -78,19 +77,19 @@ module _ (nfa : Nfa) (accepted : IsAccepted nfa) (kind : MatchKind) (v : Value) 
 
   module _ (have : ℕ) (from_word half_crlf some : Bool) (told read flagged : Value) (kept : List ℕ) (is : IsRead have from_word half_crlf some told read flagged kept) where
     entered : List ℕ
-    entered = reach nfa (has (seen nfa u)) (targets nfa kind v u)
+    entered = reach nfa (has (have_after (tables_of nfa) u)) (targets nfa kind v u)
 
     shape : Bool → Bool → Bool → Value
-    shape b w h = with_flags (with_patterns (record dead { look_have = seen nfa u }) (patterns_read kind (patterns_of nfa (working_list nfa v u)))) (b && w) (b && h)
+    shape b w h = with_flags (with_patterns (record dead { look_have = have_after (tables_of nfa) u }) (patterns_read kind (patterns_of nfa (working_list nfa v u)))) (b && w) (b && h)
 
-    shape_is : flagged ≡ shape (is_nonempty entered) (from_word_after nfa u) (half_crlf_after nfa u)
+    shape_is : flagged ≡ shape (is_nonempty entered) (from_word_after (tables_of nfa) u) (half_crlf_after (tables_of nfa) u)
     unfolding entered shape
     shape_is =
         is.flagged_is
         ∙ ap (λ r. with_flags r (some && from_word) (some && half_crlf)) (is.read_is ∙ ap (λ t. with_patterns t (patterns_read kind (patterns_of nfa (working_list nfa v u)))) (is.told_is ∙ ap (λ n. record dead { look_have = n }) is.have_is))
-        ∙ ap (λ b. shape b from_word half_crlf) (is.some_is ∙ sym (is_nonempty-reach nfa (has (seen nfa u)) (targets nfa kind v u)))
+        ∙ ap (λ b. shape b from_word half_crlf) (is.some_is ∙ sym (is_nonempty-reach nfa (has (have_after (tables_of nfa) u)) (targets nfa kind v u)))
         ∙ ap (λ w. shape (is_nonempty entered) w half_crlf) is.word_is
-        ∙ ap (λ h. shape (is_nonempty entered) (from_word_after nfa u) h) is.half_is
+        ∙ ap (λ h. shape (is_nonempty entered) (from_word_after (tables_of nfa) u) h) is.half_is
 
     -- what is recorded is the next value
     pub stepped : settled (added nfa flagged (without (is_capture nfa) (reach nfa (has flagged.look_have) (flat_map (target nfa u) kept)))) ≡ step nfa kind v u
@@ -99,7 +98,7 @@ module _ (nfa : Nfa) (accepted : IsAccepted nfa) (kind : MatchKind) (v : Value) 
         ap (λ l. settled (added nfa flagged (without (is_capture nfa) (reach nfa (has flagged.look_have) l)))) is.roots_are
         ∙ ap (λ (w : Value). settled (added nfa w (without (is_capture nfa) (reach nfa (has w.look_have) (targets nfa kind v u))))) shape_is
 
-    tries_are : tries_of nfa (has flagged.look_have) (flat_map (target nfa u) kept) ≡ tries_of nfa (has (seen nfa u)) (targets nfa kind v u)
+    tries_are : tries_of nfa (has flagged.look_have) (flat_map (target nfa u) kept) ≡ tries_of nfa (has (have_after (tables_of nfa) u)) (targets nfa kind v u)
     unfolding entered shape
     tries_are =
         ap (λ l. tries_of nfa (has flagged.look_have) l) is.roots_are

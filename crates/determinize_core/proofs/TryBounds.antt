@@ -17,7 +17,7 @@ use Rattle.determinize_below.proofs.SoundNfa.{accepted_sound, ends_within_states
 use Rattle.determinize_below.proofs.Tests.{by_test}
 use Rattle.determinize_core.specs.Laws.{TriesAreFew}
 use Rattle.determinize_core.specs.Step.{opened_by, is_reopened, distinct_states, working_list, part_read}
-use Rattle.determinize_core.specs.Tables.{seen}
+use Rattle.determinize_core.specs.LookTables.{tables_of, have_after}
 use Rattle.determinize_core.specs.Tries.{tries, tries_of, edges_in_all}
 
 length-read : (kind : MatchKind) (p : ℕ → Bool) (xs : List ℕ) → length (part_read kind p xs) ≤ length xs
@@ -56,7 +56,7 @@ tries_are_few nfa a kind v u inside =
     let roots : List ℕ = flat_map (target nfa u) (part_read kind (is_match nfa) working) in
     let few_roots : length roots ≤ length (part_read kind (is_match nfa) working) = length-flat_map_le (target nfa u) (part_read kind (is_match nfa) working) (length-target nfa u) in
     let few_read : length (part_read kind (is_match nfa) working) ≤ length working = length-read kind (is_match nfa) working in
-    let second_part : tries_of nfa (has (seen nfa u)) roots ≤ length roots + edges_in_all nfa = tries_of-bound nfa sound (has (seen nfa u)) roots
+    let second_part : tries_of nfa (has (have_after (tables_of nfa) u)) roots ≤ length roots + edges_in_all nfa = tries_of-bound nfa sound (has (have_after (tables_of nfa) u)) roots
     (λ r m. flat_map-member same_decides (target nfa u) (part_read kind (is_match nfa) working) r m (λ s l z. target_within nfa a u s r z)) in
-    let sum : cond (is_reopened nfa v u) (tries_of nfa all ids) 0 + tries_of nfa (has (seen nfa u)) roots ≤ 2 * (length nfa.states + edges_in_all nfa) = omega arith in
+    let sum : cond (is_reopened nfa v u) (tries_of nfa all ids) 0 + tries_of nfa (has (have_after (tables_of nfa) u)) roots ≤ 2 * (length nfa.states + edges_in_all nfa) = omega arith in
     sum

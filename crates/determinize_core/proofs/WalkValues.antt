@@ -22,9 +22,10 @@ use Rattle.determinize_below.proofs.SoundNfa.{accepted_sound}
 use Rattle.determinize_below.proofs.Tests.{by_test}
 use Rattle.determinize_core.specs.Chain.{future, units, chain}
 use Rattle.determinize_core.specs.Step.{needs, recorded, begun, left_by, start_value, working_list, part_read, patterns_read, step}
-use Rattle.determinize_core.specs.Tables.{seen, from_word_after, half_crlf_after, start_have, start_from_word, start_half_crlf}
+use Rattle.determinize_core.specs.LookTables.{tables_of, have_after, from_word_after, half_crlf_after, have_at_start, from_word_at_start, half_crlf_at_start}
 use Rattle.determinize_core.specs.Value.{Value, is_nonempty}
-use Rattle.determinize_core.proofs.TableLaws.{seen_known, start_known, start_word_same, start_half_same}
+use Rattle.determinize_core.proofs.StartKinds.{from_word-same, half_crlf-same}
+use Rattle.determinize_core.proofs.TableLaws.{have_after_known, start_known}
 use Rattle.determinize_core.proofs.WorkingLists.{fuel, listing, IsEntered, reach_is, working_is}
 
 nonempty_member : (xs : List ℕ) (s : ℕ) → member nat_eq xs s ≡ true → is_nonempty xs ≡ true
@@ -39,7 +40,7 @@ read-without LeftmostFirst accepts cap xs h = before-without accepts cap xs h
 module _ (nfa : Nfa) (accepted : IsAccepted nfa) (m : ℕ) where
   recorded_entered : (b : Option ℕ) (w h : Bool) (have : ℕ) (ps entered roots : List ℕ) → entered ≡ listing nfa m (known nfa b) roots
       → ((l : Assertion) → IsTested nfa l → has have l ≡ known nfa b l)
-      → ((s : ℕ) → member nat_eq entered s ≡ true → (w ≡ from_word_after nfa b) × (h ≡ half_crlf_after nfa b))
+      → ((s : ℕ) → member nat_eq entered s ≡ true → (w ≡ from_word_after (tables_of nfa) b) × (h ≡ half_crlf_after (tables_of nfa) b))
       → IsEntered nfa m b (recorded nfa (begun w h have ps) entered) roots
   recorded_entered b w h have ps entered roots e k f = record {
     states = ap (λ l. without (is_capture nfa) l) e;
@@ -52,27 +53,27 @@ module _ (nfa : Nfa) (accepted : IsAccepted nfa) (m : ℕ) where
   }
 
   start_entered : (p : Option ℕ) (s : ℕ) → IsEntered nfa m p (start_value nfa s p) (s ∷ [])
-  start_entered p s = recorded_entered p (start_from_word nfa p) (start_half_crlf nfa p) (start_have nfa p) [] (reach nfa (has (start_have nfa p)) (s ∷ [])) (s ∷ [])
-      (reach_is nfa (accepted_sound nfa accepted) m (has (start_have nfa p)) (s ∷ [])
-      ∙ ap (λ g. ordered nat_eq g (fuel nfa m) none_held (s ∷ [])) (edges-same nfa (has (start_have nfa p)) (known nfa p) (start_known nfa accepted p)))
+  start_entered p s = recorded_entered p (from_word_at_start (tables_of nfa) p) (half_crlf_at_start (tables_of nfa) p) (have_at_start (tables_of nfa) p) [] (reach nfa (has (have_at_start (tables_of nfa) p)) (s ∷ [])) (s ∷ [])
+      (reach_is nfa (accepted_sound nfa accepted) m (has (have_at_start (tables_of nfa) p)) (s ∷ [])
+      ∙ ap (λ g. ordered nat_eq g (fuel nfa m) none_held (s ∷ [])) (edges-same nfa (has (have_at_start (tables_of nfa) p)) (known nfa p) (start_known nfa accepted p)))
       (start_known nfa accepted p)
-      (λ x i. (start_word_same nfa p, start_half_same nfa p))
+      (λ x i. (from_word-same (tables_of nfa) p, half_crlf-same (tables_of nfa) p))
 
-  left_entered : (u : Option ℕ) (ps roots : List ℕ) → (u ≡ None → roots ≡ []) → IsEntered nfa m u (left_by nfa u ps (reach nfa (has (seen nfa u)) roots)) roots
+  left_entered : (u : Option ℕ) (ps roots : List ℕ) → (u ≡ None → roots ≡ []) → IsEntered nfa m u (left_by nfa u ps (reach nfa (has (have_after (tables_of nfa) u)) roots)) roots
   unfolding reach
-  left_entered None ps roots h = subst (λ r. IsEntered nfa m None (left_by nfa None ps (reach nfa (has (seen nfa None)) r)) r) (sym (h refl)) (record {
+  left_entered None ps roots h = subst (λ r. IsEntered nfa m None (left_by nfa None ps (reach nfa (has (have_after (tables_of nfa) None)) r)) r) (sym (h refl)) (record {
     states = refl;
     need = refl;
     have = λ k n. absurd (true≢false (sym n ∙ has-empty k));
     flags = λ s i. absurd (false≢true i);
   })
   left_entered (Some b) ps roots h =
-      let entered : List ℕ = reach nfa (has (seen nfa (Some b))) roots in
-      recorded_entered (Some b) (is_nonempty entered && from_word_after nfa (Some b)) (is_nonempty entered && half_crlf_after nfa (Some b)) (seen nfa (Some b)) ps entered roots
-      (reach_is nfa (accepted_sound nfa accepted) m (has (seen nfa (Some b))) roots
-      ∙ ap (λ g. ordered nat_eq g (fuel nfa m) none_held roots) (edges-same nfa (has (seen nfa (Some b))) (known nfa (Some b)) (seen_known nfa accepted b)))
-      (seen_known nfa accepted b)
-      (λ s i. (ap (λ c. c && from_word_after nfa (Some b)) (nonempty_member entered s i), ap (λ c. c && half_crlf_after nfa (Some b)) (nonempty_member entered s i)))
+      let entered : List ℕ = reach nfa (has (have_after (tables_of nfa) (Some b))) roots in
+      recorded_entered (Some b) (is_nonempty entered && from_word_after (tables_of nfa) (Some b)) (is_nonempty entered && half_crlf_after (tables_of nfa) (Some b)) (have_after (tables_of nfa) (Some b)) ps entered roots
+      (reach_is nfa (accepted_sound nfa accepted) m (has (have_after (tables_of nfa) (Some b))) roots
+      ∙ ap (λ g. ordered nat_eq g (fuel nfa m) none_held roots) (edges-same nfa (has (have_after (tables_of nfa) (Some b))) (known nfa (Some b)) (have_after_known nfa accepted b)))
+      (have_after_known nfa accepted b)
+      (λ s i. (ap (λ c. c && from_word_after (tables_of nfa) (Some b)) (nonempty_member entered s i), ap (λ c. c && half_crlf_after (tables_of nfa) (Some b)) (nonempty_member entered s i)))
 
 -- the value at each place
 abbrev pub value_at : Nfa → MatchKind → ℕ → Option ℕ → List ℕ → ℕ → Value

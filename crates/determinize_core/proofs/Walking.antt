@@ -1,8 +1,7 @@
 -- What the start and the loop of a walk keep.
-use Rattle.std.proofs.Common.{◌≡◌, ℕ, suc, ◌+◌, ◌<◌, ◌≤◌, Bool, List, [], ◌∷◌, ◌++◌, All as Each, Option, Some, None, get_or, length, map, nat_eq, take, arith, refl, sym, ap, ◌∙◌, subst}
+use Rattle.std.proofs.Common.{◌≡◌, ℕ, suc, ◌+◌, ◌<◌, ◌≤◌, Bool, List, [], ◌∷◌, ◌++◌, All as Each, Option, Some, None, get_or, length, map, take, arith, refl, sym, ap, ◌∙◌, subst}
 use Rattle.std.proofs.Math.Seq.{take-suc}
 use Rattle.std.specs.Int.Bits.{or_zero_l}
-use Rattle.std.proofs.lemmas.Bool.{eqb-true}
 use Rattle.std.proofs.lemmas.List.{map-append, take_all}
 use Rattle.std.proofs.lemmas.List.Elements.{All-cons, All-nil}
 use Rattle.determinize_below.specs.Edges.{reach, reach_past}
@@ -10,15 +9,10 @@ use Rattle.determinize_below.specs.Look.{has}
 use Rattle.determinize_below.specs.Nfa.{AllResolve, Nfa, IsAccepted}
 use Rattle.determinize_below.specs.declared.look.Look.{Look as Assertion}
 use Rattle.determinize_below.specs.declared.search.MatchKind.{MatchKind}
-use Rattle.determinize_below.proofs.Elements.{All-from_member}
-use Rattle.determinize_below.proofs.Nodes.{same_decides}
-use Rattle.determinize_below.proofs.SoundNfa.{accepted_sound, reach_within}
-use Rattle.determinize_below.proofs.Tests.{or_false}
 use Rattle.determinize_core.specs.Chain.{chain, future, units, value_after}
 use Rattle.determinize_core.specs.StartKinds as kinds
-use Rattle.determinize_core.specs.Starting.{with_start}
 use Rattle.determinize_core.specs.Step.{begun, recorded, start_value, step}
-use Rattle.determinize_core.specs.Tables.{start_from_word, start_half_crlf, start_have}
+use Rattle.determinize_core.specs.LookTables.{tables_of, start_have, with_start, from_word_at_start, half_crlf_at_start, have_at_start}
 use Rattle.determinize_core.specs.Value.{Value, dead}
 use Rattle.determinize_core.specs.declared.start.Start.{Start as Kind}
 use Rattle.determinize_core.proofs.Loops.{future-push, value_after-push}
@@ -30,9 +24,9 @@ unfolding reach reach_past
 reach-past_none nfa holds roots = refl
 
 -- what the start kind adds to the dead value
-started : (nfa : Nfa) (p : Option ℕ) → with_start nfa (kinds.start_kind_of nfa.terminator p) dead ≡ begun (start_from_word nfa p) (start_half_crlf nfa p) (start_have nfa p) []
-unfolding start_from_word start_half_crlf start_have
-started nfa p = rw (or_zero_l (kinds.start_have nfa.reverse nfa.terminator nfa.look_set_any (kinds.start_kind_of nfa.terminator p))) refl
+started : (nfa : Nfa) (p : Option ℕ) → with_start nfa (kinds.start_kind_of nfa.terminator p) dead ≡ begun (from_word_at_start (tables_of nfa) p) (half_crlf_at_start (tables_of nfa) p) (have_at_start (tables_of nfa) p) []
+unfolding from_word_at_start half_crlf_at_start have_at_start
+started nfa p = rw (or_zero_l (start_have (tables_of nfa) (kinds.start_kind_of nfa.terminator p))) refl
 
 -- the closure of a state into an empty set
 closure_is : (nfa : Nfa) (holds : Assertion → Bool) (s : ℕ) (held ids : List ℕ) → held ≡ [] → ids ≡ held ++ reach_past nfa holds held (s ∷ []) → ids ≡ reach nfa holds (s ∷ [])
@@ -50,9 +44,9 @@ pub start_value-made : (nfa : Nfa) (s : ℕ) (p : Option ℕ) (kind : Kind) (emp
     → made ≡ recorded nfa begins ids
     → made ≡ start_value nfa s p
 start_value-made nfa s p kind empty told begins made have held ids a b c d e f g h =
-    let first = begun (start_from_word nfa p) (start_half_crlf nfa p) (start_have nfa p) [] in
+    let first = begun (from_word_at_start (tables_of nfa) p) (half_crlf_at_start (tables_of nfa) p) (have_at_start (tables_of nfa) p) [] in
     let is_first : told ≡ first = c ∙ ap (λ v. with_start nfa kind v) b ∙ ap (λ k. with_start nfa k dead) a ∙ started nfa p in
-    let has_first : have ≡ start_have nfa p = d ∙ ap (λ (v : Value). v.look_have) is_first in
+    let has_first : have ≡ have_at_start (tables_of nfa) p = d ∙ ap (λ (v : Value). v.look_have) is_first in
     h
     ∙ ap (λ v. recorded nfa v ids) (g ∙ is_first)
     ∙ ap (λ xs. recorded nfa first xs) (closure_is nfa (has have) s held ids e f ∙ ap (λ n. reach nfa (has n) (s ∷ [])) has_first)

@@ -25,7 +25,6 @@ use Rattle.determinize_below.proofs.Tests.{by_option, some_injective}
 use Rattle.determinize_below.proofs.Walks.{IsAutomaton, IsTrueWalk, true_walk}
 use Rattle.determinize_core.specs.Chain.{chain}
 use Rattle.determinize_core.specs.Laws.{EachChainIsTrue}
-use Rattle.determinize_core.specs.Step.{start_value}
 use Rattle.determinize_core.specs.Value.{Value}
 use Rattle.determinize_core.specs.Walk.{ListsAccepted, ended_at, last_ended, last_match, IsWalkOfAll, IsLeftmostWalk}
 use Rattle.determinize_core.proofs.AcceptedPatterns.{patterns_In, match_of, lists_accepted}

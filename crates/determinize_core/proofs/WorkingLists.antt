@@ -19,7 +19,7 @@ use Rattle.determinize_below.proofs.Sets.{filter-fresh, fresh-flat_map, fresh-fr
 use Rattle.determinize_below.proofs.SoundNfa.{accepted_sound, edges_enough, IsSound}
 use Rattle.determinize_below.proofs.Tests.{by_test}
 use Rattle.determinize_core.specs.Step.{needs, opened_by, is_reopened, distinct_states, working_list}
-use Rattle.determinize_core.specs.Tables.{opened, from_word_after, half_crlf_after}
+use Rattle.determinize_core.specs.LookTables.{tables_of, opened, from_word_after, half_crlf_after}
 use Rattle.determinize_core.specs.Value.{Value}
 use Rattle.determinize_core.proofs.NeedLemmas.{needs_member, needs_some}
 use Rattle.determinize_core.proofs.TableLaws.{known_truth, opened_truth}
@@ -37,7 +37,7 @@ pub record IsEntered (nfa : Nfa) (m : ℕ) (b : Option ℕ) (v : Value) (roots :
   pub states : v.states ≡ without (is_capture nfa) (listing nfa m (known nfa b) roots)
   pub need : v.look_need ≡ needs nfa 0 v.states
   pub have : (k : Assertion) → has v.look_need k ≡ true → (l : Assertion) → IsTested nfa l → has v.look_have l ≡ known nfa b l
-  pub flags : (s : ℕ) → member nat_eq v.states s ≡ true → (v.from_word ≡ from_word_after nfa b) × (v.half_crlf ≡ half_crlf_after nfa b)
+  pub flags : (s : ℕ) → member nat_eq v.states s ≡ true → (v.from_word ≡ from_word_after (tables_of nfa) b) × (v.half_crlf ≡ half_crlf_after (tables_of nfa) b)
 
 module _ (nfa : Nfa) (sound : IsSound nfa) where
   fuel_enough : (m : ℕ) (holds : Assertion → Bool) (s : ℕ) → IsEnough nat_eq (edges nfa holds) (fuel nfa m) none_held s
@@ -53,8 +53,8 @@ module _ (nfa : Nfa) (accepted : IsAccepted nfa) (m : ℕ) where
   sound : IsSound nfa
   sound = accepted_sound nfa accepted
 
-  opened_is : (b u : Option ℕ) (v : Value) → (v.from_word ≡ from_word_after nfa b) × (v.half_crlf ≡ half_crlf_after nfa b) → opened_by nfa v u ≡ opened nfa (from_word_after nfa b) (half_crlf_after nfa b) u
-  opened_is b u v f = ap (λ w. opened nfa w v.half_crlf u) f.0 ∙ ap (λ h. opened nfa (from_word_after nfa b) h u) f.1
+  opened_is : (b u : Option ℕ) (v : Value) → (v.from_word ≡ from_word_after (tables_of nfa) b) × (v.half_crlf ≡ half_crlf_after (tables_of nfa) b) → opened_by nfa v u ≡ opened (tables_of nfa) (from_word_after (tables_of nfa) b) (half_crlf_after (tables_of nfa) b) u
+  opened_is b u v f = ap (λ w. opened (tables_of nfa) w v.half_crlf u) f.0 ∙ ap (λ h. opened (tables_of nfa) (from_word_after (tables_of nfa) b) h u) f.1
 
   -- where the closure is redone, it is redone under what is true
   redo_same : (b u : Option ℕ) (v : Value) (roots : List ℕ) → IsEntered nfa m b v roots → is_reopened nfa v u ≡ true

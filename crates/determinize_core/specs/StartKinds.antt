@@ -1,10 +1,7 @@
--- Where a search starts: what stands behind it, the kind of start that this makes, and what the kind enters into the first state.
-use Rattle.std.specs.Prelude.{ℕ, suc, zero, Bool, false, not, cond, Option, Some, None, nat_eq, List, [], ◌∷◌, slice_get}
-use mathlib.Core.Bool.{◌&&◌}
-use Rattle.determinize_below.specs.Look.{has_haystack, has_line, has_crlf, has_word}
+-- Where a search starts: what stands behind it, and the kind of start that this makes.
+use Rattle.std.specs.Prelude.{ℕ, suc, zero, cond, Option, Some, None, nat_eq, List, [], ◌∷◌, slice_get}
 use Rattle.determinize_below.specs.Unit.{is_word_byte}
 use Rattle.determinize_below.specs.declared.search.Anchored.{Anchored}
-use Rattle.determinize_core.specs.Behind.{behind}
 use Rattle.determinize_core.specs.declared.start.Start.{Start as Kind}
 use Rattle.determinize_core.specs.declared.start.Start.TheVariants.{NonWordByte, WordByte, Text, LineLF, LineCR, CustomLineTerminator}
 
@@ -47,24 +44,3 @@ start_kind t b =
 abbrev pub start_kind_of : ℕ → Option ℕ → Kind
 start_kind_of t None = Text
 start_kind_of t (Some b) = start_kind t b
-
--- the assertions that a start kind adds to look-have, for an NFA with the assertions any
-abbrev pub start_have : Bool → ℕ → ℕ → Kind → ℕ
-start_have reverse t any NonWordByte = behind false false false (has_word any)
-start_have reverse t any WordByte = behind false false false false
-start_have reverse t any Text = behind (has_haystack any) (has_line any) (has_line any) (has_word any)
-start_have reverse t any LineLF = behind false (has_line any && nat_eq t 10) (not reverse && has_line any) (has_word any)
-start_have reverse t any LineCR = behind false (has_line any && nat_eq t 13) (reverse && has_crlf any) (has_word any)
-start_have reverse t any CustomLineTerminator = behind false (has_line any) false (has_word any && not (is_word_byte t))
-
--- whether a start kind sets the flag from-word
-abbrev pub start_from_word : ℕ → ℕ → Kind → Bool
-start_from_word t any WordByte = has_word any
-start_from_word t any CustomLineTerminator = has_word any && is_word_byte t
-start_from_word t any _ = false
-
--- whether a start kind sets the flag half-CRLF
-abbrev pub start_half : Bool → ℕ → Kind → Bool
-start_half reverse any LineLF = reverse && has_crlf any
-start_half reverse any LineCR = not reverse && has_crlf any
-start_half reverse any _ = false

@@ -1,6 +1,7 @@
 -- Starts as they come out for small searches.
 use Rattle.std.specs.Prelude.{◌≡◌, ℕ, Bool, true, false, List, [], ◌∷◌, codes, slice_get}
-use Rattle.determinize_core.specs.StartKinds.{byte_before, start_kind, start_kind_of, start_have, start_from_word, start_half}
+use Rattle.determinize_core.specs.LookTables.{tables, start_have, start_from_word, start_half_crlf}
+use Rattle.determinize_core.specs.StartKinds.{byte_before, start_kind, start_kind_of}
 use Rattle.determinize_core.specs.declared.start.Start.{Start as Kind}
 use Rattle.determinize_core.specs.declared.start.Start.TheVariants.{NonWordByte, WordByte, Text, LineLF, LineCR, CustomLineTerminator}
 
@@ -44,28 +45,32 @@ ByteRows =
     × (start_kind 13 13 ≡ LineCR)
     × (start_kind 13 10 ≡ LineLF)
 
--- what a start kind enters, for an NFA with Start, StartLF, StartCRLF and WordAscii: look-have, from-word and half-CRLF
-abbrev IsEntered : Bool → ℕ → Kind → ℕ → Bool → Bool → Type 0
-IsEntered reverse t kind have from_word half =
-    (start_have reverse t 0x55 kind ≡ have) × (start_from_word t 0x55 kind ≡ from_word) × (start_half reverse 0x55 kind ≡ half)
+-- what a start kind tells, for an NFA with Start, StartLF, StartCRLF and WordAscii: look-have, from-word and half-CRLF
+abbrev IsTold : Bool → ℕ → Kind → ℕ → Bool → Bool → Type 0
+IsTold reverse terminator kind have from_word half =
+    (start_have (tables reverse terminator 0x55) kind ≡ have)
+    × (start_from_word (tables reverse terminator 0x55) kind ≡ from_word)
+    × (start_half_crlf (tables reverse terminator 0x55) kind ≡ half)
 
 -- the terminators are a line feed, a carriage return, x, a and a semicolon
-abbrev pub EntryRows : Type 0
-EntryRows =
-    IsEntered false 10 NonWordByte 0x14000 false false
-    × IsEntered false 10 WordByte 0 true false
-    × IsEntered false 10 Text 0x14015 false false
-    × IsEntered false 10 LineLF 0x14014 false false
-    × IsEntered true 10 LineLF 0x14004 false true
-    × IsEntered true 120 LineLF 0x14000 false true
-    × IsEntered false 10 LineCR 0x14000 false true
-    × IsEntered true 10 LineCR 0x14010 false false
-    × IsEntered false 13 LineCR 0x14004 false true
-    × IsEntered false 97 CustomLineTerminator 0x4 true false
-    × IsEntered false 59 CustomLineTerminator 0x14004 false false
+abbrev pub ToldRows : Type 0
+ToldRows =
+    IsTold false 10 NonWordByte 0x14000 false false
+    × IsTold false 10 WordByte 0 true false
+    × IsTold false 10 Text 0x14015 false false
+    × IsTold false 10 LineLF 0x14014 false false
+    × IsTold true 10 LineLF 0x14004 false true
+    × IsTold true 120 LineLF 0x14000 false true
+    × IsTold false 10 LineCR 0x14000 false true
+    × IsTold true 10 LineCR 0x14010 false false
+    × IsTold false 13 LineCR 0x14004 false true
+    × IsTold false 97 CustomLineTerminator 0x4 true false
+    × IsTold false 59 CustomLineTerminator 0x14004 false false
 
--- an NFA without assertions enters nothing
-abbrev pub NothingEntered : Type 0
-NothingEntered =
+-- an NFA without assertions has nothing to tell
+abbrev pub NothingTold : Type 0
+NothingTold =
     (reverse : Bool) (t : ℕ) (kind : Kind)
-    → (start_have reverse t 0 kind ≡ 0) × (start_from_word t 0 kind ≡ false) × (start_half reverse 0 kind ≡ false)
+    → (start_have (tables reverse t 0) kind ≡ 0)
+    × (start_from_word (tables reverse t 0) kind ≡ false)
+    × (start_half_crlf (tables reverse t 0) kind ≡ false)

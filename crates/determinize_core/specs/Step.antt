@@ -1,17 +1,16 @@
 -- One step from a value to the next, over a unit.
-use Rattle.std.specs.Prelude.{ℕ, Bool, true, false, cond, ◌==◌, Option, Some, None, List, [], ◌∷◌, ◌++◌, nat_eq, take}
+use Rattle.std.specs.Prelude.{ℕ, Bool, true, false, not, cond, ◌==◌, Option, Some, None, List, [], ◌∷◌, ◌++◌, nat_eq, take}
 use mathlib.Core.Bool.{◌&&◌}
-use Rattle.std.specs.List.{flat_map}
+use Rattle.std.specs.List.{flat_map, list_any}
 use Rattle.determinize_below.specs.declared.look.Look.{Look as Assertion}
 use Rattle.determinize_below.specs.declared.search.MatchKind.{MatchKind}
 use Rattle.determinize_below.specs.declared.search.MatchKind.TheVariants.{All, LeftmostFirst}
-use Rattle.determinize_below.specs.Look.{has, insert}
+use Rattle.determinize_below.specs.Look.{has, insert, each_look}
 use Rattle.determinize_below.specs.Nfa.{Nfa}
 use Rattle.determinize_below.specs.Edges.{target, is_capture, is_match, assertion_of, patterns_of, reach}
 use Rattle.determinize_below.specs.Reach.{fresh, joined, none_held}
 use Rattle.determinize_below.specs.Runs.{before, without}
-use Rattle.determinize_core.specs.Opened.{is_redone}
-use Rattle.determinize_core.specs.Tables.{opened, seen, from_word_after, half_crlf_after, start_have, start_from_word, start_half_crlf}
+use Rattle.determinize_core.specs.LookTables.{tables_of, opened, have_after, from_word_after, half_crlf_after, have_at_start, from_word_at_start, half_crlf_at_start}
 use Rattle.determinize_core.specs.Value.{Value, is_nonempty}
 
 -- the set with an assertion, where there is one
@@ -53,12 +52,16 @@ begun from_word half_crlf have patterns = record {
 -- the value before the first unit, of a search that starts in a state and after a byte or none
 abbrev pub start_value : Nfa → ℕ → Option ℕ → Value
 start_value nfa s p =
-    recorded nfa (begun (start_from_word nfa p) (start_half_crlf nfa p) (start_have nfa p) [])
-    (reach nfa (has (start_have nfa p)) (s ∷ []))
+    recorded nfa (begun (from_word_at_start (tables_of nfa) p) (half_crlf_at_start (tables_of nfa) p) (have_at_start (tables_of nfa) p) [])
+    (reach nfa (has (have_at_start (tables_of nfa) p)) (s ∷ []))
+
+-- whether some assertion that is found true is needed and isn't in look-have
+abbrev pub is_redone : (Assertion → Bool) → ℕ → ℕ → Bool
+is_redone found have need = list_any (λ l. found l && has need l && not (has have l)) each_look
 
 -- the assertions that the unit makes true for the value
 abbrev pub opened_by : Nfa → Value → Option ℕ → Assertion → Bool
-opened_by nfa v u = opened nfa v.from_word v.half_crlf u
+opened_by nfa v u = opened (tables_of nfa) v.from_word v.half_crlf u
 
 -- whether some of them is needed and not had
 abbrev pub is_reopened : Nfa → Value → Option ℕ → Bool
@@ -89,7 +92,7 @@ patterns_read LeftmostFirst ps = take 1 ps
 abbrev pub left_by : Nfa → Option ℕ → List ℕ → List ℕ → Value
 left_by nfa u patterns entered =
     recorded nfa
-    (begun (is_nonempty entered && from_word_after nfa u) (is_nonempty entered && half_crlf_after nfa u) (seen nfa u) patterns)
+    (begun (is_nonempty entered && from_word_after (tables_of nfa) u) (is_nonempty entered && half_crlf_after (tables_of nfa) u) (have_after (tables_of nfa) u) patterns)
     entered
 
 -- where the states that are read lead over the unit
@@ -101,4 +104,4 @@ unfoldable pub step : Nfa → MatchKind → Value → Option ℕ → Value
 step nfa kind v u =
     left_by nfa u
     (patterns_read kind (patterns_of nfa (working_list nfa v u)))
-    (reach nfa (has (seen nfa u)) (targets nfa kind v u))
+    (reach nfa (has (have_after (tables_of nfa) u)) (targets nfa kind v u))

@@ -7,7 +7,7 @@ use Rattle.determinize_below.specs.Look.{has}
 use Rattle.determinize_below.specs.Nfa.{Nfa}
 use Rattle.determinize_below.specs.Reach.{edge_count, joined, nodes_below}
 use Rattle.determinize_core.specs.Step.{opened_by, is_reopened, distinct_states, targets}
-use Rattle.determinize_core.specs.Tables.{seen}
+use Rattle.determinize_core.specs.LookTables.{tables_of, have_after}
 use Rattle.determinize_core.specs.Value.{Value}
 
 -- the tries of a search into the empty set: its roots, and the edges of all states that it lists
@@ -22,7 +22,7 @@ tries_again nfa v u = cond (is_reopened nfa v u) (tries_of nfa (joined (has v.lo
 unfoldable pub tries : Nfa → MatchKind → Value → Option ℕ → ℕ
 tries nfa kind v u =
     tries_again nfa v u
-    + tries_of nfa (has (seen nfa u)) (targets nfa kind v u)
+    + tries_of nfa (has (have_after (tables_of nfa) u)) (targets nfa kind v u)
 
 -- the edges of the NFA that want no input, with all assertions counted
 abbrev pub edges_in_all : Nfa → ℕ

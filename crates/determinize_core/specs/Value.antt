@@ -1,5 +1,6 @@
 -- What a state of a DFA stands for, apart from its bytes.
-use Rattle.std.specs.Prelude.{ℕ, ◌<◌, ◌≤◌, ◌^◌, ◌==◌, Bool, true, false, cond, Option, Some, None, List, [], ◌∷◌, ◌++◌, All, nat_eq}
+use Rattle.std.specs.Prelude.{ℕ, ◌<◌, ◌≤◌, ◌^◌, ◌==◌, Bool, true, false, cond, Option, Some, None, List, [], ◌∷◌, ◌++◌, All, nat_eq, bit_or}
+use mathlib.Core.Bool.{◌||◌}
 use Rattle.std.specs.List.{IsDistinct}
 
 -- the two flags, the two sets of assertions by their bits, the patterns that match, the NFA states
@@ -44,3 +45,15 @@ with_state value id = record value { states = value.states ++ id ∷ [] }
 -- the value that has no assertion where it needs none
 abbrev pub settled : Value → Value
 settled value = record value { look_have = cond (value.look_need == 0) 0 value.look_have }
+
+-- the value with these patterns
+abbrev pub with_patterns : Value → List ℕ → Value
+with_patterns value patterns = record value { patterns = patterns }
+
+-- the value with these assertions added to look-have
+abbrev pub with_looks : Value → ℕ → Value
+with_looks value looks = record value { look_have = bit_or value.look_have looks }
+
+-- the value with these flags set beside its own
+abbrev pub with_flags : Value → Bool → Bool → Value
+with_flags value from_word half_crlf = record value { from_word = value.from_word || from_word; half_crlf = value.half_crlf || half_crlf }

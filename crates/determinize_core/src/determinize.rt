@@ -1,8 +1,7 @@
 //! The steps of determinization: the start state, one transition, and a whole walk.
 
 pub mod closure;
-pub mod lookbehind;
-pub mod opened;
+pub mod look_tables;
 pub mod recording;
 pub mod steps;
 pub mod transition;
@@ -10,7 +9,7 @@ pub mod walks;
 mod working_list;
 
 pub use crate::determinize::closure::epsilon_closure;
-pub use crate::determinize::lookbehind::set_lookbehind_from_start;
+pub use crate::determinize::look_tables::set_lookbehind_from_start;
 pub use crate::determinize::recording::add_nfa_states;
 pub use crate::determinize::steps::Steps;
 pub use crate::determinize::transition::{next, next_counted};

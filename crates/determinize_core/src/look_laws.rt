@@ -1,4 +1,5 @@
-//! Laws of starts, and of the tables of assertions. Each function but the first does nothing: its clauses are the law.
+//! Laws of starts, and of the tables of assertions. Each function but the first does nothing: its
+//! clauses are the law.
 
 ghost use Rattle.std.specs.Prelude.{◌≡◌, ℕ, ◌≤◌, Bool, true, false, ◌||◌, ◌⊎◌, IfOk, IsOk, List, Option, Some};
 ghost use Rattle.std.specs.Bool.{Decides};
@@ -7,17 +8,17 @@ ghost use Rattle.determinize_below.specs.Edges.{assertion_of};
 ghost use Rattle.determinize_below.specs.Look.{has};
 ghost use Rattle.determinize_below.specs.Nfa.{Nfa};
 ghost use Rattle.determinize_below.specs.Truth as truth;
-ghost use Rattle.determinize_core.specs.Behind as behind_specs;
-ghost use Rattle.determinize_core.specs.Opened as opening;
+ghost use Rattle.determinize_core.specs.LookTables.{IsFlagged, from_word_after, from_word_at_start, half_crlf_after, half_crlf_at_start, have_after, have_at_start, opened, tables};
 ghost use Rattle.determinize_core.specs.StartKinds as kinds;
 ghost use Rattle.determinize_core.specs.StartRows as rows;
-ghost use Rattle.determinize_core.specs.Step.{needs};
+ghost use Rattle.determinize_core.specs.Step.{is_redone, needs};
 
 use crate::start::{Config, Start, StartByteMap};
 use determinize_below::{Look, LookSet};
 use std::alloc::AllocError;
 
-/// Clones of a configuration and of a map of start kinds: they have the same value, and no memory is wanted.
+/// Clones of a configuration and of a map of start kinds: they have the same value, and no memory is
+/// wanted.
 pub fn start_clone_law(
     config: &Config,
     map: &StartByteMap,
@@ -35,36 +36,49 @@ pub fn start_number_law(start: Start, number: usize)
     ensures past { 6 ≤ number → kinds.start_of_number number ≡ None }
 {}
 
-/// Small searches and the kinds of their starts; what the kinds enter into a state.
+/// Small searches and the kinds of their starts; what the kinds tell a state.
 pub fn start_rows_law(byte: u8)
     ensures forward { rows.ForwardRows }
     ensures reverse { rows.ReverseRows }
     ensures bytes { rows.ByteRows }
     ensures no_custom { ¬ (kinds.start_kind 13 byte ≡ Start.CustomLineTerminator) }
-    ensures entries { rows.EntryRows }
-    ensures nothing { rows.NothingEntered }
+    ensures told { rows.ToldRows }
+    ensures nothing { rows.NothingTold }
 {}
 
-/// What a start kind enters is known behind the start, and of the assertions of the NFA it is all that is known there. The flags are those that a step over the byte there would set.
+/// What a start kind tells is known at the start, and of the assertions of the NFA it is all that
+/// is known there. The flags are those that a step over the byte behind would set.
 pub fn start_law(reverse: bool, terminator: u8, any: LookSet, before: Option<u8>, look: Look)
-    ensures known { has (kinds.start_have reverse terminator any (kinds.start_kind_of terminator before)) look ≡ true → truth.is_known reverse terminator before look ≡ true }
-    ensures all { has any look ≡ true → has (kinds.start_have reverse terminator any (kinds.start_kind_of terminator before)) look ≡ truth.is_known reverse terminator before look }
-    ensures from_word { kinds.start_from_word terminator any (kinds.start_kind_of terminator before) ≡ opening.step_from_word any before }
-    ensures half_crlf { kinds.start_half reverse any (kinds.start_kind_of terminator before) ≡ opening.step_half reverse any before }
+    ensures known { has (have_at_start (tables reverse terminator any) before) look ≡ true
+        → truth.is_known reverse terminator before look ≡ true }
+    ensures all { has any look ≡ true
+        → has (have_at_start (tables reverse terminator any) before) look
+        ≡ truth.is_known reverse terminator before look }
+    ensures from_word { from_word_at_start (tables reverse terminator any) before
+        ≡ from_word_after (tables reverse terminator any) before }
+    ensures half_crlf { half_crlf_at_start (tables reverse terminator any) before
+        ≡ half_crlf_after (tables reverse terminator any) before }
 {}
 
-/// What a step enters over a byte is known behind the next position, and of the assertions of the NFA it is all that is known there.
+/// What a step tells over a byte is known at the next position, and of the assertions of the NFA it
+/// is all that is known there.
 pub fn seen_law(reverse: bool, terminator: u8, any: LookSet, byte: u8, look: Look)
-    ensures known { has (opening.seen reverse terminator any (Some byte)) look ≡ true → truth.is_known reverse terminator (Some byte) look ≡ true }
-    ensures all { has any look ≡ true → has (opening.seen reverse terminator any (Some byte)) look ≡ truth.is_known reverse terminator (Some byte) look }
+    ensures known { has (have_after (tables reverse terminator any) (Some byte)) look ≡ true
+        → truth.is_known reverse terminator (Some byte) look ≡ true }
+    ensures all { has any look ≡ true
+        → has (have_after (tables reverse terminator any) (Some byte)) look
+        ≡ truth.is_known reverse terminator (Some byte) look }
 {}
 
 /// The flags that a step sets tell rightly of the byte that it read, and where nothing was read.
-pub fn flags_law(reverse: bool, any: LookSet, before: Option<u8>)
-    ensures { behind_specs.IsFlagged reverse any before (opening.step_from_word any before) (opening.step_half reverse any before) }
+pub fn flags_law(reverse: bool, terminator: u8, any: LookSet, before: Option<u8>)
+    ensures { IsFlagged (tables reverse terminator any) before
+        (from_word_after (tables reverse terminator any) before)
+        (half_crlf_after (tables reverse terminator any) before) }
 {}
 
-/// Under flags that tell rightly of the byte behind, what is known there and what a unit makes true are the truth, for each assertion of the NFA.
+/// Under flags that tell rightly of the byte behind, what is known there and what a unit makes true
+/// are the truth, for each assertion of the NFA.
 pub fn opened_law(
     reverse: bool,
     terminator: u8,
@@ -75,15 +89,18 @@ pub fn opened_law(
     unit: Option<u8>,
     look: Look,
 )
-    requires flags { behind_specs.IsFlagged reverse any before from_word half }
+    requires flags { IsFlagged (tables reverse terminator any) before from_word half }
     requires there { has any look ≡ true }
-    ensures { (truth.is_known reverse terminator before look || opening.opened reverse terminator from_word half unit look) ≡ truth.holds reverse terminator before unit look }
+    ensures { (truth.is_known reverse terminator before look
+        || opened (tables reverse terminator any) from_word half unit look)
+        ≡ truth.holds reverse terminator before unit look }
 {}
 
-/// Where no closure is redone, what a unit makes true adds nothing that is needed.
+/// Where no closure is redone, what is found true adds nothing that is needed.
 pub fn redo_law(
     reverse: bool,
     terminator: u8,
+    any: LookSet,
     from_word: bool,
     half: bool,
     have: LookSet,
@@ -91,9 +108,11 @@ pub fn redo_law(
     unit: Option<u8>,
     look: Look,
 )
-    requires kept { opening.is_redone (opening.opened reverse terminator from_word half unit) have need ≡ false }
+    requires kept { is_redone (opened (tables reverse terminator any) from_word half unit) have need
+        ≡ false }
     requires needed { has need look ≡ true }
-    ensures { (has have look || opening.opened reverse terminator from_word half unit look) ≡ has have look }
+    ensures { (has have look || opened (tables reverse terminator any) from_word half unit look)
+        ≡ has have look }
 {}
 
 /// The assertions that a list of states needs beside a set: an assertion is needed exactly where it

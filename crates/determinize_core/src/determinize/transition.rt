@@ -8,17 +8,16 @@ ghost use Rattle.determinize_below.specs.Nfa.{AllResolve, IsAccepted};
 ghost use Rattle.determinize_below.specs.Runs.{without};
 ghost use Rattle.determinize_below.specs.Unit.{byte_of};
 ghost use Rattle.determinize_below.specs.declared.search.MatchKind.TheVariants as kinds;
-ghost use Rattle.determinize_core.specs.Behind.{behind};
 ghost use Rattle.determinize_core.specs.Closure.{tries_left};
-ghost use Rattle.determinize_core.specs.Recording.{added, with_flags};
+ghost use Rattle.determinize_core.specs.LookTables.{from_word_after, half_crlf_after, have_after, tables_of};
+ghost use Rattle.determinize_core.specs.Recording.{added};
 ghost use Rattle.determinize_core.specs.Scratch.{IsScratch};
 ghost use Rattle.determinize_core.specs.Step.{step};
-ghost use Rattle.determinize_core.specs.Tables.{from_word_after, half_crlf_after, seen};
 ghost use Rattle.determinize_core.specs.Tries.{edges_in_all, tries, tries_of};
-ghost use Rattle.determinize_core.specs.Value.{dead};
+ghost use Rattle.determinize_core.specs.Value.{dead, with_flags};
 
 use crate::determinize::closure::recording_closure;
-use crate::determinize::lookbehind::{Entries, LookTables};
+use crate::determinize::look_tables::{LookTables, Told};
 use crate::determinize::steps::Steps;
 use crate::determinize::working_list::{read_working_list, target};
 use crate::state::{State, StateBuilderEmpty, StateBuilderMatches, StateBuilderNFA};
@@ -28,12 +27,10 @@ use std::marker::Brand;
 use std::sync::ledger::{Blank, Ledger};
 
 /// What the next state is told of the unit that is read.
-#[tactic(auto, unfolding(crate::specs::Tables::seen, crate::specs::Tables::from_word_after, crate::specs::Tables::half_crlf_after))]
-fn told_after<N: Allocator>(nfa: &NFA<N>, unit: Unit) -> Entries
-    ensures have { behind result.start result.line_start result.crlf_start result.word_start
-        ≡ seen nfa.now (byte_of unit) }
-    ensures from_word { result.from_word ≡ from_word_after nfa.now (byte_of unit) }
-    ensures half_crlf { result.half_crlf ≡ half_crlf_after nfa.now (byte_of unit) }
+fn told_after<N: Allocator>(nfa: &NFA<N>, unit: Unit) -> Told
+    ensures looks { result.looks ≡ have_after (tables_of nfa.now) (byte_of unit) }
+    ensures from_word { result.from_word ≡ from_word_after (tables_of nfa.now) (byte_of unit) }
+    ensures half_crlf { result.half_crlf ≡ half_crlf_after (tables_of nfa.now) (byte_of unit) }
     ensures accepted { IsAccepted nfa.now }
 {
     LookTables::of(nfa).after(unit)
@@ -41,21 +38,18 @@ fn told_after<N: Allocator>(nfa: &NFA<N>, unit: Unit) -> Entries
 
 /// Starts a builder: it has what the unit tells, and no pattern and no flag yet.
 fn tell<A: Allocator>(
-    told: Entries,
+    told: Told,
     empty_builder: StateBuilderEmpty<A>,
 ) -> Result<StateBuilderMatches<A>, AllocError>
-    ensures { IfOk result (λ builder. builder ≡ record dead {
-      look_have = behind told.start told.line_start told.crlf_start told.word_start;
-    }) }
+    ensures { IfOk result (λ builder. builder ≡ record dead { look_have = told.looks }) }
 {
     let mut builder = empty_builder.into_matches()?;
-    let look_have = told.looks();
-    builder.set_look_have(|_| look_have);
+    builder.set_look_have(|_| told.looks);
     Ok(builder)
 }
 
 /// Sets the flags that the unit tells, where it leads on.
-fn set_flags<A: Allocator>(told: Entries, enters: bool, builder: &mut StateBuilderMatches<A>)
+fn set_flags<A: Allocator>(told: Told, enters: bool, builder: &mut StateBuilderMatches<A>)
     ensures { builder.new
         ≡ with_flags builder.old (enters && told.from_word) (enters && told.half_crlf) }
 {

@@ -10,7 +10,7 @@ ghost use Rattle.determinize_core.specs.Walk as specs_of_walks;
 ghost use Rattle.determinize_core.specs.Walk.{IsLeftmostWalk, IsWalkOfAll};
 
 use crate::determinize::closure::epsilon_closure;
-use crate::determinize::lookbehind::set_lookbehind_from_start;
+use crate::determinize::look_tables::set_lookbehind_from_start;
 use crate::determinize::recording::add_nfa_states;
 use crate::determinize::transition::next;
 use crate::start::start_kind_of;

@@ -5,7 +5,6 @@
 //! the patterns, and the states that count: those that match, and those that the unit leads on from.
 
 ghost use Rattle.std.specs.Prelude.{◌≡◌, ℕ, ◌+◌, ◌<◌, ◌≤◌, ◌++◌, [], All, Some, false, length, nat_eq, is_some, not, IfOk, IfSome, OnOk, ◌&&◌, ◌||◌};
-ghost use Rattle.determinize_core.specs.Value.{is_nonempty};
 ghost use Rattle.determinize_below.specs.Members.{has_id};
 ghost use Rattle.std.specs.List.{flat_map, list_any};
 ghost use Rattle.determinize_below.specs.Edges.{is_match, pattern_of, patterns_of, reach, state_at, target, target_of};
@@ -15,14 +14,14 @@ ghost use Rattle.determinize_below.specs.Reach.{joined};
 ghost use Rattle.determinize_below.specs.Search.{continues};
 ghost use Rattle.determinize_below.specs.Unit.{byte_of};
 ghost use Rattle.determinize_core.specs.Reading.{ends, enters, gained, roots_of};
-ghost use Rattle.determinize_core.specs.Recording.{with_patterns};
 ghost use Rattle.determinize_core.specs.Scratch.{IsScratch};
+ghost use Rattle.determinize_core.specs.Step as specs_of_steps;
 ghost use Rattle.determinize_core.specs.Step.{distinct_states, is_reopened, opened_by, patterns_read, working_list};
 ghost use Rattle.determinize_core.specs.Tries.{tries_again, tries_of};
+ghost use Rattle.determinize_core.specs.Value.{is_nonempty, with_patterns};
 
 use crate::determinize::closure::counted_closure;
-use crate::determinize::lookbehind::LookTables;
-use crate::determinize::opened::look_again;
+use crate::determinize::look_tables::LookTables;
 use crate::determinize::steps::Steps;
 use crate::state::{State, StateBuilderMatches};
 use determinize_below::{
@@ -112,6 +111,15 @@ fn close_all<N: Allocator, A: Allocator, L: Ledger>(
     Ok(())
 }
 
+/// Whether something that was found true is needed and isn't in look-have.
+fn is_redone(found: LookSet, have: LookSet, need: LookSet) -> bool
+    ensures { result ≡ specs_of_steps.is_redone (has found) have need }
+{
+    // The bits are read for the proof alone: they tell that both sets are below 2^18.
+    let _bits = (found.as_repr(), have.as_repr());
+    !found.subtract(have).intersect(need).is_empty()
+}
+
 /// The assertions under which the working list is closed again over a unit, where it is: the unit
 /// makes something true that the state needs and does not have.
 fn look_again_over<N: Allocator, A: Allocator>(
@@ -125,7 +133,8 @@ fn look_again_over<N: Allocator, A: Allocator>(
 {
     let tables = LookTables::of(nfa);
     let found = tables.opened(state.is_from_word(), state.is_half_crlf(), unit);
-    look_again(found, state.look_have(), state.look_need())
+    let have = state.look_have();
+    is_redone(found, have, state.look_need()).then_some(have.union(found))
 }
 
 /// Reads one state: keeps it where it counts and was not kept before, and adds its pattern then.
@@ -147,7 +156,8 @@ fn read_state<N: Allocator, A: Allocator>(
     ensures patterns { OnOk result (builder.new ≡ with_patterns builder.old (builder.old.patterns
         ++ patterns_of nfa.now (gained nfa.now (byte_of unit) kept.old.ids id))) }
     ensures enters { IfOk result (λ reading. enters reading ≡ is_nonempty
-        (flat_map (target nfa.now (byte_of unit)) (gained nfa.now (byte_of unit) kept.old.ids id))) }
+        (flat_map (target nfa.now (byte_of unit))
+        (gained nfa.now (byte_of unit) kept.old.ids id))) }
     ensures ends { IfOk result
         (λ reading. ends reading ≡ (is_match nfa.now id && not (continues match_kind))) }
     ensures capacity { kept.new.capacity ≡ kept.old.capacity }
@@ -261,7 +271,8 @@ pub(crate) fn read_working_list<N: Allocator, A: Allocator, L: Ledger>(
     requires second_empty { sparses.old.set2.ids ≡ [] }
     requires resolve { AllResolve nfa.now state.now.states }
     requires unread { builder.old.patterns ≡ [] }
-    ensures patterns { OnOk result (builder.new ≡ with_patterns builder.old (patterns_read match_kind
+    ensures patterns { OnOk result (builder.new ≡ with_patterns builder.old
+        (patterns_read match_kind
         (patterns_of nfa.now (working_list nfa.now state.now (byte_of unit))))) }
     ensures roots { OnOk result (flat_map (target nfa.now (byte_of unit)) sparses.new.set1.ids
         ≡ roots_of nfa.now match_kind (byte_of unit)

@@ -1,4 +1,4 @@
-use Rattle.determinize_core.proofs.StartRows.{forward_rows, reverse_rows, byte_rows, entry_rows, nothing_entered, no_custom}
+use Rattle.determinize_core.proofs.StartRows.{forward_rows, reverse_rows, byte_rows, told_rows, nothing_told, no_custom}
 use Rattle.determinize_core.proofs.look_laws.start_rows_law.Goals as goal
 
 pub returns-clause-forward : goal.returns-clause-forward
@@ -13,8 +13,8 @@ returns-clause-bytes c = byte_rows
 pub returns-clause-no_custom : goal.returns-clause-no_custom
 returns-clause-no_custom c = no_custom c.args.byte
 
-pub returns-clause-entries : goal.returns-clause-entries
-returns-clause-entries c = entry_rows
+pub returns-clause-told : goal.returns-clause-told
+returns-clause-told c = told_rows
 
 pub returns-clause-nothing : goal.returns-clause-nothing
-returns-clause-nothing c = nothing_entered
+returns-clause-nothing c = nothing_told

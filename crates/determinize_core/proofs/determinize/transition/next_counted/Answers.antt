@@ -1,9 +1,7 @@
-use Rattle.std.proofs.Common.{◌≡◌, ◌∙◌, ◌≤◌, length, ap, subst, sym}
+use Rattle.std.proofs.Common.{◌∙◌, ap, subst, sym}
 use Rattle.determinize_below.specs.Nfa.{AllResolve}
 use Rattle.determinize_below.specs.Unit.{byte_of}
-use Rattle.determinize_core.specs.Behind.{behind}
 use Rattle.determinize_core.specs.Value.{Value, settled}
-use Rattle.determinize_core.specs.Step.{step}
 use Rattle.determinize_core.proofs.Resolving.{step_resolves}
 use Rattle.determinize_core.proofs.StepLaws.{one_pattern}
 use Rattle.determinize_core.proofs.Stepping.{IsRead, first_tries, all_tries, tries_within, stepped}
@@ -16,10 +14,10 @@ returns-in_err-enters-clause-bounded g c =
 pub returns-in_err-record_targets-clause-bounded : goal.returns-in_err-record_targets-clause-bounded
 returns-in_err-record_targets-clause-bounded g c =
     let read : IsRead c.args.nfa.now c.told_after-told.ensures.accepted c.args.match_kind c.args.state.now (byte_of c.args.unit) c.requires.resolve
-    (behind c.told_after-told.result.start c.told_after-told.result.line_start c.told_after-told.result.crlf_start c.told_after-told.result.word_start)
+    c.told_after-told.result.looks
     c.told_after-told.result.from_word c.told_after-told.result.half_crlf c.in_ok-enters.enters c.in_ok-builder.builder c.read_working_list.new.builder c.into_nfa-builder.result c.read_working_list.new.sparses.set1.ids =
     record {
-      have_is = c.told_after-told.ensures.have;
+      have_is = c.told_after-told.ensures.looks;
       word_is = c.told_after-told.ensures.from_word;
       half_is = c.told_after-told.ensures.half_crlf;
       told_is = c.in_ok-builder.ensures;
@@ -34,10 +32,10 @@ returns-in_err-record_targets-clause-bounded g c =
 pub returns-clause-ok : goal.returns-clause-ok
 returns-clause-ok g c =
     let read : IsRead c.args.nfa.now c.told_after-told.ensures.accepted c.args.match_kind c.args.state.now (byte_of c.args.unit) c.requires.resolve
-    (behind c.told_after-told.result.start c.told_after-told.result.line_start c.told_after-told.result.crlf_start c.told_after-told.result.word_start)
+    c.told_after-told.result.looks
     c.told_after-told.result.from_word c.told_after-told.result.half_crlf c.in_ok-enters.enters c.in_ok-builder.builder c.read_working_list.new.builder c.into_nfa-builder.result c.read_working_list.new.sparses.set1.ids =
     record {
-      have_is = c.told_after-told.ensures.have;
+      have_is = c.told_after-told.ensures.looks;
       word_is = c.told_after-told.ensures.from_word;
       half_is = c.told_after-told.ensures.half_crlf;
       told_is = c.in_ok-builder.ensures;
@@ -51,10 +49,10 @@ returns-clause-ok g c =
 pub returns-clause-counted : goal.returns-clause-counted
 returns-clause-counted g c =
     let read : IsRead c.args.nfa.now c.told_after-told.ensures.accepted c.args.match_kind c.args.state.now (byte_of c.args.unit) c.requires.resolve
-    (behind c.told_after-told.result.start c.told_after-told.result.line_start c.told_after-told.result.crlf_start c.told_after-told.result.word_start)
+    c.told_after-told.result.looks
     c.told_after-told.result.from_word c.told_after-told.result.half_crlf c.in_ok-enters.enters c.in_ok-builder.builder c.read_working_list.new.builder c.into_nfa-builder.result c.read_working_list.new.sparses.set1.ids =
     record {
-      have_is = c.told_after-told.ensures.have;
+      have_is = c.told_after-told.ensures.looks;
       word_is = c.told_after-told.ensures.from_word;
       half_is = c.told_after-told.ensures.half_crlf;
       told_is = c.in_ok-builder.ensures;
@@ -69,10 +67,10 @@ returns-clause-counted g c =
 pub returns-clause-bounded : goal.returns-clause-bounded
 returns-clause-bounded g c =
     let read : IsRead c.args.nfa.now c.told_after-told.ensures.accepted c.args.match_kind c.args.state.now (byte_of c.args.unit) c.requires.resolve
-    (behind c.told_after-told.result.start c.told_after-told.result.line_start c.told_after-told.result.crlf_start c.told_after-told.result.word_start)
+    c.told_after-told.result.looks
     c.told_after-told.result.from_word c.told_after-told.result.half_crlf c.in_ok-enters.enters c.in_ok-builder.builder c.read_working_list.new.builder c.into_nfa-builder.result c.read_working_list.new.sparses.set1.ids =
     record {
-      have_is = c.told_after-told.ensures.have;
+      have_is = c.told_after-told.ensures.looks;
       word_is = c.told_after-told.ensures.from_word;
       half_is = c.told_after-told.ensures.half_crlf;
       told_is = c.in_ok-builder.ensures;

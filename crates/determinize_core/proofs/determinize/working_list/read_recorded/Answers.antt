@@ -1,4 +1,4 @@
-use Rattle.std.proofs.Common.{◌≡◌, ◌∙◌, ◌<◌, ◌++◌, ◌∷◌, [], All, ap, sym, subst, refl, true, List, ℕ, length}
+use Rattle.std.proofs.Common.{◌≡◌, ◌∙◌, ◌<◌, ◌++◌, ◌∷◌, All, ap, sym, subst, refl, true, List, ℕ, length}
 use Rattle.std.proofs.lemmas.List.{append-nil}
 use Rattle.determinize_below.specs.Unit.{byte_of}
 use Rattle.determinize_below.proofs.SoundNfa.{accepted_sound}
