@@ -5,6 +5,7 @@ mod automata;
 mod below;
 mod clones;
 mod dfa;
+mod large;
 mod laws;
 mod map_text;
 mod parts;
