@@ -1,31 +1,16 @@
 -- The sets that are built for a unit, member by member.
-use Rattle.std.proofs.Common.{◌≡◌, ℕ, Bool, false, not, Option, refl}
+use Rattle.std.proofs.Common.{◌≡◌, ℕ, Bool, false, not, bit_or, Option, refl}
 use mathlib.Core.Bool.{◌&&◌, ◌||◌}
 use Rattle.determinize_below.specs.Look.{has}
 use Rattle.determinize_below.specs.Truth.{crlf_first, crlf_second, exactly_one}
-use Rattle.determinize_below.specs.Unit.{is_nothing, is_byte}
-use Rattle.determinize_below.proofs.LookLaws.{has-empty, same, index_of}
+use Rattle.determinize_below.specs.Unit.{is_nothing, is_byte, is_word}
+use Rattle.determinize_below.proofs.LookLaws.{has-empty, has-union, same, index_of}
 use Rattle.determinize_below.specs.declared.look.Look.{Look}
 use Rattle.determinize_below.specs.declared.look.Look.TheVariants.{End, EndLF, StartCRLF, EndCRLF, WordAscii, WordAsciiNegate, WordUnicode, WordUnicodeNegate, WordStartAscii, WordEndAscii, WordStartUnicode, WordEndUnicode, WordEndHalfAscii, WordEndHalfUnicode}
-use Rattle.determinize_core.specs.LookTables.{Tables, insert_where, word_opened, line_opened}
+use Rattle.determinize_core.specs.LookTables.{Tables, word_set, line_set, word_opened, line_opened, opened}
 use Rattle.determinize_core.proofs.KnownSet.{has-insert_where, or_none}
 
--- the set that is built for words
-abbrev pub word_set : Bool → Bool → ℕ
-word_set f w =
-    insert_where (insert_where (insert_where (insert_where (insert_where (insert_where (insert_where (insert_where (insert_where (insert_where 0
-    (exactly_one f w) WordAscii)
-    (exactly_one f w) WordUnicode)
-    (not (exactly_one f w)) WordAsciiNegate)
-    (not (exactly_one f w)) WordUnicodeNegate)
-    (not f && w) WordStartAscii)
-    (not f && w) WordStartUnicode)
-    (f && not w) WordEndAscii)
-    (f && not w) WordEndUnicode)
-    (not w) WordEndHalfAscii)
-    (not w) WordEndHalfUnicode
-
--- its members, the last one that was inserted first
+-- the members of the set for words, the last one that was inserted first
 word_each : (f w : Bool) (k : Look)
     → ((same WordEndHalfUnicode k && not w)
     || ((same WordEndHalfAscii k && not w)
@@ -53,16 +38,7 @@ word_each f w k = refl
 pub has-word_set : (f w : Bool) (k : Look) → has (word_set f w) k ≡ word_opened f w k
 has-word_set f w k = simp (has-insert_where, has-empty) (word_each f w k)
 
--- the set that is built for the haystack and lines
-abbrev pub line_set : Tables → Bool → Option ℕ → ℕ
-line_set t half u =
-    insert_where (insert_where (insert_where (insert_where 0
-    (is_nothing u) End)
-    (is_nothing u || is_byte u t.terminator) EndLF)
-    (is_nothing u || is_byte u (crlf_first t.reverse) || (is_byte u (crlf_second t.reverse) && not half)) EndCRLF)
-    (half && not (is_byte u (crlf_second t.reverse))) StartCRLF
-
--- its members
+-- the members of the set for the haystack and lines
 line_each : (t : Tables) (half : Bool) (u : Option ℕ) (k : Look)
     → ((same StartCRLF k && (half && not (is_byte u (crlf_second t.reverse))))
     || ((same EndCRLF k && (is_nothing u || is_byte u (crlf_first t.reverse) || (is_byte u (crlf_second t.reverse) && not half)))
@@ -76,3 +52,8 @@ line_each t half u k = refl
 
 pub has-line_set : (t : Tables) (half : Bool) (u : Option ℕ) (k : Look) → has (line_set t half u) k ≡ line_opened t half u k
 has-line_set t half u k = simp (has-insert_where, has-empty) (line_each t half u k)
+
+-- the members of both
+pub has-opened : (t : Tables) (f half : Bool) (u : Option ℕ) (k : Look) → has (bit_or (word_set f (is_word u)) (line_set t half u)) k ≡ opened t f half u k
+unfolding opened
+has-opened t f half u k = rw (has-union (word_set f (is_word u)) (line_set t half u) k, has-word_set f (is_word u) k, has-line_set t half u k) refl

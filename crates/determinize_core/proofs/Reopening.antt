@@ -4,23 +4,21 @@ use mathlib.Core.Path.{fun_ext}
 use Rattle.std.specs.Bool.{then_some}
 use Rattle.determinize_below.specs.declared.look.Look.{Look as Assertion}
 use Rattle.determinize_below.specs.Edges.{reach}
-use Rattle.determinize_below.specs.Look.{has}
+use Rattle.determinize_below.specs.Look.{has, union}
 use Rattle.determinize_below.specs.Nfa.{Nfa}
 use Rattle.determinize_below.specs.Reach.{joined}
+use Rattle.determinize_below.proofs.LookLaws.{has-union}
 use Rattle.determinize_core.specs.Step.{distinct_states, is_reopened, opened_by, working_list}
 use Rattle.determinize_core.specs.Tries.{tries_again, tries_of}
 use Rattle.determinize_core.specs.Value.{Value}
 
--- a value that is given where a test says so
-pub IfSome-then_some : (P : ℕ → Type 0) (b : Bool) (set : ℕ) → P set → IfSome (then_some b set) P
-IfSome-then_some P true set h = h
-IfSome-then_some P false set h = tt
+-- the set under which the list is closed again, where it is
+pub IfSome-again : (nfa : Nfa) (v : Value) (u : Option ℕ) (found : ℕ) (redone : Bool) → ((look : Assertion) → has found look ≡ opened_by nfa v u look)
+    → IfSome (then_some redone (union v.look_have found)) (λ set. has set ≡ joined (has v.look_have) (opened_by nfa v u))
+IfSome-again nfa v u found true h = fun_ext (λ look. has-union v.look_have found look ∙ ap (λ b. has v.look_have look || b) (h look))
+IfSome-again nfa v u found false h = tt
 
 module _ (nfa : Nfa) (v : Value) (u : Option ℕ) where
-  -- the set under which the list is closed again
-  pub joined_is : (set found : ℕ) → has found ≡ opened_by nfa v u → ((look : Assertion) → has set look ≡ (has v.look_have look || has found look)) → has set ≡ joined (has v.look_have) (opened_by nfa v u)
-  joined_is set found e h = fun_ext (λ look. h look ∙ ap (λ f. has v.look_have look || f look) e)
-
   -- the working list, closed again or kept, and the tries for it
   pub working_again : (set : ℕ) → is_reopened nfa v u ≡ true → has set ≡ joined (has v.look_have) (opened_by nfa v u) → working_list nfa v u ≡ reach nfa (has set) (distinct_states v)
   working_again set e h = rw e (ap (λ f. reach nfa f (distinct_states v)) (sym h))

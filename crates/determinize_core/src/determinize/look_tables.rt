@@ -75,7 +75,7 @@ fn insert_where(set: LookSet, test: bool, look: Look) -> LookSet
 
 /// The assertions on words that are true, by whether word bytes stand behind and ahead.
 fn word_opened(from_word: bool, word: bool) -> LookSet
-    ensures { (look : Assertion) → has result look ≡ tables.word_opened from_word word look }
+    ensures { result ≡ tables.word_set from_word word }
 {
     let set = LookSet::empty();
     let set = insert_where(set, from_word != word, Look::WordAscii);
@@ -214,8 +214,7 @@ impl LookTables {
     /// The assertions on the haystack and on lines that the unit makes true, by whether the first
     /// half of a CRLF stands behind.
     fn line_opened(self, half_crlf: bool, unit: Unit) -> LookSet
-        ensures { (look : Assertion)
-            → has result look ≡ tables.line_opened self half_crlf (byte_of unit) look }
+        ensures { result ≡ tables.line_set self half_crlf (byte_of unit) }
     {
         let end = unit.is_eoi();
         let first = unit.is_byte(self.crlf_first());
