@@ -9,7 +9,7 @@ ghost use Rattle.determinize_below.specs.Nfa.{AllResolve, IsAccepted};
 ghost use Rattle.determinize_below.specs.Node.{is_epsilon};
 ghost use Rattle.determinize_below.specs.Runs.{without};
 ghost use Rattle.determinize_core.specs.Closure.{closure_of, closure_tries, AddsBeginning, IsTurn};
-ghost use Rattle.determinize_core.specs.Recording.{added};
+ghost use Rattle.determinize_core.specs.Recording.{added, added_one};
 
 use crate::determinize::recording::add_state;
 use crate::determinize::steps::Steps;
@@ -195,6 +195,29 @@ pub(crate) fn counted_closure<N: Allocator, A: Allocator, L: Ledger>(
     result
 }
 
+/// Records a state in the builder, and answers where it leads without input: a state that is no
+/// epsilon state, as most are, leads nowhere, and is recorded at once.
+#[inline(always)]
+fn record_and_follow<N: Allocator, A: Allocator>(
+    nfa: &NFA<N>,
+    id: StateID,
+    look_have: LookSet,
+    stack: &mut Vec<StateID, A>,
+    builder: &mut StateBuilderNFA<A>,
+) -> Result<Option<StateID>, AllocError>
+    requires { id < length nfa.now.states }
+    ensures pending { IfOk result (λ next. option_to_list next ++ reverse stack.new.items
+        ≡ edges nfa.now (has look_have) id ++ reverse stack.old.items) }
+    ensures recorded { OnOk result (builder.new ≡ added_one nfa.now builder.old id) }
+{
+    if !nfa.state(id).is_epsilon() {
+        builder.add_nfa_state_id(id)?;
+        return Ok(None);
+    }
+    add_state(nfa, id, builder)?;
+    follow(nfa, id, look_have, stack)
+}
+
 /// One turn of a closure that records: a pending state is visited and, where it is new, recorded in
 /// the builder and followed.
 #[inline(always)]
@@ -219,11 +242,11 @@ fn take_recording_turn<N: Allocator, A: Allocator, L: Ledger>(
     ensures capacity { set.new.capacity ≡ set.old.capacity }
     ensures counted { steps.new ≡ steps.old + 1 }
 {
-    if !visit(set, id, steps) {
-        return Ok(None);
+    if visit(set, id, steps) {
+        record_and_follow(nfa, id, look_have, stack, builder)
+    } else {
+        Ok(None)
     }
-    add_state(nfa, id, builder)?;
-    follow(nfa, id, look_have, stack)
 }
 
 /// Adds what a state leads to without input, and records it. After a refusal the stack is left as

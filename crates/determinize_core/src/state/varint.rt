@@ -151,8 +151,5 @@ fn id_after(from: u32, number: u64) -> StateID
     } else {
         from as u64 - (number + 1) / 2
     };
-    let Ok(id) = StateID::new(id as usize) else {
-        unreachable!()
-    };
-    id
+    StateID::must(id as usize)
 }

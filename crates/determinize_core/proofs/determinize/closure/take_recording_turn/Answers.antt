@@ -2,57 +2,44 @@ use Rattle.std.proofs.Common.{◌≡◌, ◌∙◌, ◌++◌, ◌∷◌, [], ℕ
 use Rattle.std.specs.Option.{option_to_list}
 use Rattle.std.proofs.lemmas.Bool.{not-false, not-true}
 use Rattle.std.proofs.lemmas.List.{append-nil}
-use Rattle.std.proofs.lemmas.Result.{err_from_is_err_and, IfOk-weaker}
 use Rattle.determinize_below.specs.Edges.{edges, is_capture}
 use Rattle.determinize_below.specs.Look.{has}
 use Rattle.determinize_below.specs.Members.{Members}
 use Rattle.determinize_below.specs.Runs.{without}
 use Rattle.determinize_below.proofs.SoundNfa.{accepted_sound}
 use Rattle.determinize_core.specs.Closure.{IsTurn}
-use Rattle.determinize_core.specs.Recording.{added}
+use Rattle.determinize_core.specs.Recording.{added, added_one}
 use Rattle.determinize_core.proofs.ClosureSteps.{turn_held, turn_new, inserted, not_inserted}
-use Rattle.determinize_core.proofs.RecordingSteps.{added-none, added_one-alone}
+use Rattle.determinize_core.proofs.RecordingSteps.{added-none, added_one-alone, with_fact}
 use Rattle.determinize_core.proofs.determinize.closure.take_recording_turn.Goals as goal
 
-pub returns-then-not-visit-clause-turn : goal.returns-then-not-visit-clause-turn
-returns-then-not-visit-clause-turn g c =
-    let met = not-false _ (sym c.visit.ensures.new ∙ c.if-not-visit.true) in
+pub returns-then-visit-clause-turn : goal.returns-then-visit-clause-turn
+returns-then-visit-clause-turn g c =
+    let new = not-true _ (sym c.visit.ensures.new ∙ c.if-visit.true) in
+    let turn = turn_new c.args.nfa.now (accepted_sound c.args.nfa.now c.requires.accepted) (has c.args.look_have) c.args.set.now.ids (reverse c.args.stack.now.items) c.args.id new in
+    let after : c.visit.new.set.ids ≡ c.args.set.now.ids ++ c.args.id ∷ [] = ap (λ (m : Members). m.ids) c.visit.ensures.after ∙ inserted c.visit.result _ _ c.if-visit.true in
+    let pending : List ℕ = edges c.args.nfa.now (has c.args.look_have) c.args.id ++ reverse c.args.stack.now.items in (
+      pending,
+      c.args.id ∷ [],
+      subst (λ (l : List ℕ). IsTurn c.args.nfa.now (has c.args.look_have) c.args.set.now.ids l c.args.id (reverse c.args.stack.now.items) pending) (sym after) turn,
+      after,
+      with_fact c.record_and_follow.result
+          (λ (next : Option ℕ). option_to_list next ++ reverse c.record_and_follow.new.stack.items ≡ pending)
+          (c.record_and_follow.new.builder ≡ added_one c.args.nfa.now c.args.builder.now c.args.id)
+          (c.record_and_follow.new.builder ≡ added c.args.nfa.now c.args.builder.now (without (is_capture c.args.nfa.now) (c.args.id ∷ [])))
+          (λ e. e ∙ added_one-alone c.args.nfa.now c.args.builder.now c.args.id)
+          c.record_and_follow.ensures.pending
+          c.record_and_follow.ensures.recorded,
+    )
+
+pub returns-else-visit-clause-turn : goal.returns-else-visit-clause-turn
+returns-else-visit-clause-turn g c =
+    let met = not-false _ (sym c.visit.ensures.new ∙ c.if-visit.false) in
     let turn = turn_held c.args.nfa.now (accepted_sound c.args.nfa.now c.requires.accepted) (has c.args.look_have) c.args.set.now.ids (reverse c.args.stack.now.items) c.args.id met in
-    let after : c.visit.new.set.ids ≡ c.args.set.now.ids = ap (λ (m : Members). m.ids) c.visit.ensures.after ∙ not_inserted c.visit.result _ _ c.if-not-visit.true in (
+    let after : c.visit.new.set.ids ≡ c.args.set.now.ids = ap (λ (m : Members). m.ids) c.visit.ensures.after ∙ not_inserted c.visit.result _ _ c.if-visit.false in (
       reverse c.args.stack.now.items,
       [],
       subst (λ (l : List ℕ). IsTurn c.args.nfa.now (has c.args.look_have) c.args.set.now.ids l c.args.id (reverse c.args.stack.now.items) (reverse c.args.stack.now.items)) (sym after) turn,
       after ∙ sym (append-nil c.args.set.now.ids),
       (refl, added-none c.args.nfa.now c.args.builder.now),
-    )
-
-pub returns-in_err-add_state-clause-turn : goal.returns-in_err-add_state-clause-turn
-returns-in_err-add_state-clause-turn g c =
-    let p = err_from_is_err_and c.from_residual.result c.from_residual.ensures.1 in
-    let new = not-true _ (sym c.visit.ensures.new ∙ c.if-not-visit.false) in
-    let turn = turn_new c.args.nfa.now (accepted_sound c.args.nfa.now c.requires.accepted) (has c.args.look_have) c.args.set.now.ids (reverse c.args.stack.now.items) c.args.id new in
-    let after : c.visit.new.set.ids ≡ c.args.set.now.ids ++ c.args.id ∷ [] = ap (λ (m : Members). m.ids) c.visit.ensures.after ∙ inserted c.visit.result _ _ c.if-not-visit.false in (
-      edges c.args.nfa.now (has c.args.look_have) c.args.id ++ reverse c.args.stack.now.items,
-      c.args.id ∷ [],
-      subst (λ (l : List ℕ). IsTurn c.args.nfa.now (has c.args.look_have) c.args.set.now.ids l c.args.id (reverse c.args.stack.now.items) (edges c.args.nfa.now (has c.args.look_have) c.args.id ++ reverse c.args.stack.now.items)) (sym after) turn,
-      after,
-      rw p.1 tt,
-    )
-
-pub returns-clause-turn : goal.returns-clause-turn
-returns-clause-turn g c =
-    let new = not-true _ (sym c.visit.ensures.new ∙ c.if-not-visit.false) in
-    let turn = turn_new c.args.nfa.now (accepted_sound c.args.nfa.now c.requires.accepted) (has c.args.look_have) c.args.set.now.ids (reverse c.args.stack.now.items) c.args.id new in
-    let after : c.visit.new.set.ids ≡ c.args.set.now.ids ++ c.args.id ∷ [] = ap (λ (m : Members). m.ids) c.visit.ensures.after ∙ inserted c.visit.result _ _ c.if-not-visit.false in
-    let pending : List ℕ = edges c.args.nfa.now (has c.args.look_have) c.args.id ++ reverse c.args.stack.now.items in
-    let recorded : c.add_state.new.builder ≡ added c.args.nfa.now c.args.builder.now (without (is_capture c.args.nfa.now) (c.args.id ∷ [])) =
-    c.in_ok-add_state.ensures.ok ∙ added_one-alone c.args.nfa.now c.args.builder.now c.args.id in (
-      pending,
-      c.args.id ∷ [],
-      subst (λ (l : List ℕ). IsTurn c.args.nfa.now (has c.args.look_have) c.args.set.now.ids l c.args.id (reverse c.args.stack.now.items) pending) (sym after) turn,
-      after,
-      IfOk-weaker c.follow.result
-          (λ (next : Option ℕ). option_to_list next ++ reverse c.follow.new.stack.items ≡ pending)
-          (λ (next : Option ℕ). (option_to_list next ++ reverse c.follow.new.stack.items ≡ pending) × (c.add_state.new.builder ≡ added c.args.nfa.now c.args.builder.now (without (is_capture c.args.nfa.now) (c.args.id ∷ []))))
-          (λ next e. (e, recorded)) c.follow.ensures,
     )
