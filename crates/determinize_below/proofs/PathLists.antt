@@ -12,7 +12,7 @@ use Rattle.determinize_below.proofs.Ends.{IsEnough}
 use Rattle.determinize_below.proofs.Lists.{flat_map-same}
 use Rattle.determinize_below.proofs.Tests.{by_test}
 
--- a path's numbers and its end, behind one more number
+-- a path's numbers and its end, after one more number
 abbrev pub step : {N : Type 0} → ℕ → List ℕ × N → List ℕ × N
 step i p = (i ∷ p.0, p.1)
 

@@ -19,19 +19,19 @@ pub record IsMostPreferred {N : Type 0} (edges : N → List N) (start : N) (acce
   pub accepted : accepts s ≡ true
   pub preferred : (ds : List ℕ) (t : N) → IsPath edges [] start ds t → accepts t ≡ true → (choices ≡ ds) ⊎ Before choices ds
 
--- a path from one root is a run behind the number 0
+-- a path from one root is a run after the number 0
 pub run_of : {N P : Type 0} (edges : N → List N) (start : N) (cs : List ℕ) (s : N) → IsPathFrom edges [] (start ∷ []) cs s → ((ds : List ℕ) → cs ≡ 0 ∷ ds → IsPath edges [] start ds s → P) → P
 run_of edges start [] s h k = absurd h
 run_of edges start (zero ∷ ds) s h k = k ds refl (let g : Some start ≡ Some h.0 = h.1 in let e : start ≡ h.0 = cc in rw (← e) at h.2)
 run_of edges start (suc i ∷ ds) s h k = absurd (let g : None ≡ Some h.0 = h.1 in cc)
 
--- behind the same first number, the order is that of the others
+-- after the same first number, the order is that of the others
 pub same_root : (cs ds : List ℕ) → (0 ∷ cs ≡ 0 ∷ ds) ⊎ Before (0 ∷ cs) (0 ∷ ds) → (cs ≡ ds) ⊎ Before cs ds
 same_root cs ds h = by_cases h
     (λ e. inl cc)
     (λ b. by_cases b (λ l. absurd (omega arith)) (λ l. inr l.1))
 
--- a least path from one root is a least run behind the number 0
+-- a least path from one root is a least run after the number 0
 pub least_run_of : {N : Type 0} (edges : N → List N) (start : N) (cs : List ℕ) (s : N) → IsLeastPath edges [] (start ∷ []) cs s → (ds : List ℕ) × (cs ≡ 0 ∷ ds) × IsLeastRun edges start ds s
 least_run_of {N} edges start cs s h = run_of edges start cs s h.path (λ ds e p. (
   ds,

@@ -4,7 +4,7 @@ use Rattle.determinize_below.specs.declared.search.Anchored.{Anchored}
 use Rattle.determinize_below.specs.declared.search.MatchKind.{MatchKind}
 use Rattle.determinize_below.specs.declared.search.MatchKind.TheVariants.{All, LeftmostFirst}
 
--- whether a search goes on behind the first match
+-- whether a search goes on after the first match
 abbrev pub continues : MatchKind → Bool
 continues All = true
 continues LeftmostFirst = false

@@ -17,7 +17,7 @@ pub enum MatchKind {
 }
 
 impl MatchKind {
-    /// Whether a search goes on behind the first match: true for `All` alone.
+    /// Whether a search goes on after the first match: true for `All` alone.
     pub fn continue_past_first_match(&self) -> bool
         ensures { result ≡ search_specs.continues self.now }
     {
@@ -139,7 +139,7 @@ pub struct HalfMatch {
 }
 
 impl HalfMatch {
-    /// The match of this pattern that ends behind so many bytes.
+    /// The match of this pattern that ends after so many bytes.
     pub fn new(pattern: PatternID, offset: usize) -> HalfMatch
         ensures { result ≡ record { pattern = pattern; offset = offset } }
     {

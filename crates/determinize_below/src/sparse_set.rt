@@ -79,7 +79,7 @@ impl<A: Allocator> SparseSet<A> {
         is_bit_set(&self.bits, id)
     }
 
-    /// Adds the id, which is below the capacity, behind the others, and answers whether it was
+    /// Adds the id, which is below the capacity, after the others, and answers whether it was
     /// new. A set that has the id already stays as it is. It takes no memory.
     #[tactic(auto, using(crate::proofs::Sparse::pushing))]
     pub fn insert(&mut self, id: StateID) -> bool

@@ -17,9 +17,9 @@ pub fresh-push : (xs : List ℕ) (x : ℕ) (new : Bool) → new ≡ not (has_id 
 fresh-push xs x new h =
     by_test (member nat_eq xs x)
     (λ e. let old : new ≡ false = h ∙ ap not (there ∙ e) in
-    rw old (sym (append-nil (fresh nat_eq none_held xs)) ∙ ap (λ l. fresh nat_eq none_held xs ++ l) (sym (one_seen e)) ∙ sym behind))
+    rw old (sym (append-nil (fresh nat_eq none_held xs)) ∙ ap (λ l. fresh nat_eq none_held xs ++ l) (sym (one_seen e)) ∙ sym later))
     (λ e. let yes : new ≡ true = h ∙ ap not (there ∙ e) in
-    rw yes (ap (λ l. fresh nat_eq none_held xs ++ l) (sym (one_new e)) ∙ sym behind))
+    rw yes (ap (λ l. fresh nat_eq none_held xs ++ l) (sym (one_new e)) ∙ sym later))
   where
     kept : (a : Bool) → (a && not false) ≡ a
     kept a = grind arith
@@ -27,8 +27,8 @@ fresh-push xs x new h =
     there : has_id (fresh nat_eq none_held xs) x ≡ member nat_eq xs x
     there = holds-member (fresh nat_eq none_held xs) x ∙ member-fresh same_decides none_held xs x ∙ kept (member nat_eq xs x)
 
-    behind : fresh nat_eq none_held (xs ++ x ∷ []) ≡ fresh nat_eq none_held xs ++ fresh nat_eq (joined (member nat_eq xs) none_held) (x ∷ [])
-    behind = fresh-append same_decides none_held xs (x ∷ [])
+    later : fresh nat_eq none_held (xs ++ x ∷ []) ≡ fresh nat_eq none_held xs ++ fresh nat_eq (joined (member nat_eq xs) none_held) (x ∷ [])
+    later = fresh-append same_decides none_held xs (x ∷ [])
 
     one_seen : member nat_eq xs x ≡ true → fresh nat_eq (joined (member nat_eq xs) none_held) (x ∷ []) ≡ []
     one_seen e = rw e refl

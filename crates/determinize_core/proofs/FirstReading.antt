@@ -18,7 +18,7 @@ use Rattle.determinize_below.proofs.Nodes.{same_decides}
 use Rattle.determinize_below.proofs.Sets.{fresh-append}
 use Rattle.determinize_below.proofs.SoundNfa.{IsSound}
 use Rattle.determinize_below.proofs.Tests.{by_option, by_test, or_false_left, or_false_right}
-use Rattle.determinize_core.specs.Reading.{counts, gained, roots_of}
+use Rattle.determinize_core.specs.Reading.{matters, gained, roots_of}
 use Rattle.determinize_core.specs.Step.{part_read, patterns_read}
 use Rattle.determinize_core.specs.Value.{Value, is_nonempty, with_patterns}
 use Rattle.determinize_core.proofs.Collecting.{fresh-push}
@@ -57,25 +57,25 @@ holds-filter p (y ∷ xs) x = by_test (p y)
     neither a = grind arith
 
 module _ (nfa : Nfa) (u : Option ℕ) where
-  -- a state that does not count has no pattern and leads nowhere
-  pub counts-pattern : (s : ℕ) → counts nfa u s ≡ false → option_to_list (pattern_of nfa s) ≡ []
-  counts-pattern s e = none_of (pattern_of nfa s) (or_false_left (is_match nfa s) (is_nonempty (target nfa u s)) e)
+  -- a state that does not matter has no pattern and leads nowhere
+  pub matters-pattern : (s : ℕ) → matters nfa u s ≡ false → option_to_list (pattern_of nfa s) ≡ []
+  matters-pattern s e = none_of (pattern_of nfa s) (or_false_left (is_match nfa s) (is_nonempty (target nfa u s)) e)
 
-  pub counts-target : (s : ℕ) → counts nfa u s ≡ false → target nfa u s ≡ []
-  counts-target s e = empty_of (target nfa u s) (or_false_right (is_match nfa s) (is_nonempty (target nfa u s)) e)
+  pub matters-target : (s : ℕ) → matters nfa u s ≡ false → target nfa u s ≡ []
+  matters-target s e = empty_of (target nfa u s) (or_false_right (is_match nfa s) (is_nonempty (target nfa u s)) e)
 
-  -- what states give that count, all give
-  counted_all : (f : ℕ → List ℕ) → ((s : ℕ) → counts nfa u s ≡ false → f s ≡ []) → (xs : List ℕ) → flat_map f (filter (counts nfa u) xs) ≡ flat_map f xs
-  counted_all f h [] = refl
-  counted_all f h (x ∷ xs) = by_test (counts nfa u x)
-      (λ e. rw e (ap (λ l. f x ++ l) (counted_all f h xs)))
-      (λ e. rw e (counted_all f h xs ∙ sym (ap (λ l. l ++ flat_map f xs) (h x e))))
+  -- what the states give that matter, all give
+  all_that_matters : (f : ℕ → List ℕ) → ((s : ℕ) → matters nfa u s ≡ false → f s ≡ []) → (xs : List ℕ) → flat_map f (filter (matters nfa u) xs) ≡ flat_map f xs
+  all_that_matters f h [] = refl
+  all_that_matters f h (x ∷ xs) = by_test (matters nfa u x)
+      (λ e. rw e (ap (λ l. f x ++ l) (all_that_matters f h xs)))
+      (λ e. rw e (all_that_matters f h xs ∙ sym (ap (λ l. l ++ flat_map f xs) (h x e))))
 
-  counted_patterns : (xs : List ℕ) → patterns_of nfa (filter (counts nfa u) xs) ≡ patterns_of nfa xs
-  counted_patterns = counted_all (λ s. option_to_list (pattern_of nfa s)) counts-pattern
+  patterns-that_matter : (xs : List ℕ) → patterns_of nfa (filter (matters nfa u) xs) ≡ patterns_of nfa xs
+  patterns-that_matter = all_that_matters (λ s. option_to_list (pattern_of nfa s)) matters-pattern
 
-  counted_targets : (xs : List ℕ) → flat_map (target nfa u) (filter (counts nfa u) xs) ≡ flat_map (target nfa u) xs
-  counted_targets = counted_all (target nfa u) counts-target
+  targets-that_matter : (xs : List ℕ) → flat_map (target nfa u) (filter (matters nfa u) xs) ≡ flat_map (target nfa u) xs
+  targets-that_matter = all_that_matters (target nfa u) matters-target
 
   -- what one more state adds to the distinct ones
   pub one_more : List ℕ → ℕ → List ℕ
@@ -91,20 +91,20 @@ module _ (nfa : Nfa) (u : Option ℕ) where
   unfolding one_more
   one_more-new xs x e = rw e refl
 
-  -- and what it adds to those that count
-  gained_is : (xs : List ℕ) (x : ℕ) → gained nfa u (filter (counts nfa u) (distinct xs)) x ≡ filter (counts nfa u) (one_more xs x)
+  -- and what it adds to those that matter
+  gained_is : (xs : List ℕ) (x : ℕ) → gained nfa u (filter (matters nfa u) (distinct xs)) x ≡ filter (matters nfa u) (one_more xs x)
   unfolding one_more
-  gained_is xs x = by_test (counts nfa u x)
+  gained_is xs x = by_test (matters nfa u x)
       (λ e. by_test (has_id (distinct xs) x)
-      (λ k. let there : has_id (filter (counts nfa u) (distinct xs)) x ≡ true = holds-filter (counts nfa u) (distinct xs) x ∙ rw (k, e) refl in rw (there, k, e) refl)
-      (λ k. let away : has_id (filter (counts nfa u) (distinct xs)) x ≡ false = holds-filter (counts nfa u) (distinct xs) x ∙ rw k refl in rw (away, k, e) refl))
+      (λ k. let there : has_id (filter (matters nfa u) (distinct xs)) x ≡ true = holds-filter (matters nfa u) (distinct xs) x ∙ rw (k, e) refl in rw (there, k, e) refl)
+      (λ k. let away : has_id (filter (matters nfa u) (distinct xs)) x ≡ false = holds-filter (matters nfa u) (distinct xs) x ∙ rw k refl in rw (away, k, e) refl))
       (λ e. by_test (has_id (distinct xs) x)
       (λ k. rw (k, e) refl)
       (λ k. rw (k, e) refl))
 
--- a list read up to some place: the states that count, what the builder has, and whether the unit leads on
+-- a list read up to some place: the states that matter, what the builder has, and whether the unit leads on
 pub record IsFirstRead (nfa : Nfa) (kind : MatchKind) (u : Option ℕ) (done : List ℕ) (begun value : Value) (kept : List ℕ) (some : Bool) : Type 0 where
-  pub kept_are : kept ≡ filter (counts nfa u) (distinct done)
+  pub kept_are : kept ≡ filter (matters nfa u) (distinct done)
   pub value_is : value ≡ with_patterns begun (patterns_of nfa (distinct done))
   pub some_is : some ≡ is_nonempty (flat_map (target nfa u) (distinct done))
   pub unmatched : continues kind ≡ false → list_any (is_match nfa) (distinct done) ≡ false
@@ -128,16 +128,16 @@ module _ (nfa : Nfa) (kind : MatchKind) (u : Option ℕ) (begun : Value) where
       (so_far : IsFirstRead nfa kind u done begun value kept some)
       (k : after ≡ kept ++ gained nfa u kept id)
       (v : next ≡ with_patterns value (value.patterns ++ patterns_of nfa (gained nfa u kept id))) where
-    gained_more : gained nfa u kept id ≡ filter (counts nfa u) (one_more nfa u done id)
+    gained_more : gained nfa u kept id ≡ filter (matters nfa u) (one_more nfa u done id)
     gained_more = ap (λ l. gained nfa u l id) so_far.kept_are ∙ gained_is nfa u done id
 
-    kept_more : after ≡ filter (counts nfa u) (distinct (done ++ id ∷ []))
-    kept_more = k ∙ ap (λ l. l ++ gained nfa u kept id) so_far.kept_are ∙ ap (λ l. filter (counts nfa u) (distinct done) ++ l) gained_more
-        ∙ sym (filter-append (counts nfa u) (distinct done) (one_more nfa u done id)) ∙ ap (λ l. filter (counts nfa u) l) (sym (distinct-push nfa u done id))
+    kept_more : after ≡ filter (matters nfa u) (distinct (done ++ id ∷ []))
+    kept_more = k ∙ ap (λ l. l ++ gained nfa u kept id) so_far.kept_are ∙ ap (λ l. filter (matters nfa u) (distinct done) ++ l) gained_more
+        ∙ sym (filter-append (matters nfa u) (distinct done) (one_more nfa u done id)) ∙ ap (λ l. filter (matters nfa u) l) (sym (distinct-push nfa u done id))
 
     patterns_more : (value.patterns ++ patterns_of nfa (gained nfa u kept id)) ≡ patterns_of nfa (distinct (done ++ id ∷ []))
     patterns_more = ap (λ (w : Value). w.patterns ++ patterns_of nfa (gained nfa u kept id)) so_far.value_is
-        ∙ ap (λ l. patterns_of nfa (distinct done) ++ l) (ap (λ l. patterns_of nfa l) gained_more ∙ counted_patterns nfa u (one_more nfa u done id))
+        ∙ ap (λ l. patterns_of nfa (distinct done) ++ l) (ap (λ l. patterns_of nfa l) gained_more ∙ patterns-that_matter nfa u (one_more nfa u done id))
         ∙ sym (flat_map-append (λ s. option_to_list (pattern_of nfa s)) (distinct done) (one_more nfa u done id))
         ∙ ap (λ l. patterns_of nfa l) (sym (distinct-push nfa u done id))
 
@@ -153,7 +153,7 @@ module _ (nfa : Nfa) (kind : MatchKind) (u : Option ℕ) (begun : Value) where
       value_is = value_more;
       some_is = s
           ∙ ap (λ b. b || is_nonempty (flat_map (target nfa u) (gained nfa u kept id))) so_far.some_is
-          ∙ ap (λ l. is_nonempty (flat_map (target nfa u) (distinct done)) || is_nonempty l) (ap (λ l. flat_map (target nfa u) l) gained_more ∙ counted_targets nfa u (one_more nfa u done id))
+          ∙ ap (λ l. is_nonempty (flat_map (target nfa u) (distinct done)) || is_nonempty l) (ap (λ l. flat_map (target nfa u) l) gained_more ∙ targets-that_matter nfa u (one_more nfa u done id))
           ∙ sym (is_nonempty-append (flat_map (target nfa u) (distinct done)) (flat_map (target nfa u) (one_more nfa u done id)))
           ∙ ap is_nonempty (sym (flat_map-append (target nfa u) (distinct done) (one_more nfa u done id)) ∙ ap (λ l. flat_map (target nfa u) l) (sym (distinct-push nfa u done id)));
       unmatched = λ h. ap (λ l. list_any (is_match nfa) l) (distinct-push nfa u done id) ∙ list_any-append (is_match nfa) (distinct done) (one_more nfa u done id)
@@ -171,7 +171,7 @@ module _ (nfa : Nfa) (kind : MatchKind) (u : Option ℕ) (begun : Value) where
             (λ e. rw e refl)
             (λ e. let m : is_match nfa id ≡ false = unmatched_of (is_match nfa id) (continues kind) h l in rw (e, m) refl)
 
--- a match is new behind states without one
+-- a match is new after states without one
 unmatched_new : (nfa : Nfa) (xs : List ℕ) (x : ℕ) → list_any (is_match nfa) xs ≡ false → is_match nfa x ≡ true → has_id xs x ≡ false
 unmatched_new nfa [] x h m = refl
 unmatched_new nfa (y ∷ xs) x h m = by_test (nat_eq x y)
@@ -184,18 +184,18 @@ module _ (nfa : Nfa) (u : Option ℕ) (begun : Value) where
       → IsFirstReadOut nfa kind u (distinct done) begun value kept some
   first_read-end kinds.All done value kept some so_far = record {
     value_is = so_far.value_is;
-    roots = ap (λ l. flat_map (target nfa u) l) so_far.kept_are ∙ counted_targets nfa u (distinct done);
+    roots = ap (λ l. flat_map (target nfa u) l) so_far.kept_are ∙ targets-that_matter nfa u (distinct done);
     some_is = so_far.some_is;
   }
   first_read-end kinds.LeftmostFirst done value kept some so_far =
       let on : (part_read kinds.LeftmostFirst (is_match nfa) (distinct done) ≡ distinct done) × (patterns_of nfa (distinct done) ≡ []) = goes_on nfa (distinct done) (so_far.unmatched refl) in
       record {
         value_is = so_far.value_is ∙ ap (λ ps. with_patterns begun ps) (on.1 ∙ ap (λ ps. take 1 ps) (sym on.1));
-        roots = ap (λ l. flat_map (target nfa u) l) so_far.kept_are ∙ counted_targets nfa u (distinct done) ∙ ap (λ l. flat_map (target nfa u) l) (sym on.0);
+        roots = ap (λ l. flat_map (target nfa u) l) so_far.kept_are ∙ targets-that_matter nfa u (distinct done) ∙ ap (λ l. flat_map (target nfa u) l) (sym on.0);
         some_is = so_far.some_is ∙ ap (λ l. is_nonempty (flat_map (target nfa u) l)) (sym on.0);
       }
 
-  -- the first match, behind which nothing counts
+  -- the first match, after which nothing matters
   pub first_read-stop : (kind : MatchKind) (done left : List ℕ) (id : ℕ) (value next : Value) (kept after : List ℕ) (some : Bool)
       → IsFirstRead nfa kind u done begun value kept some
       → after ≡ kept ++ gained nfa u kept id
@@ -210,13 +210,13 @@ module _ (nfa : Nfa) (u : Option ℕ) (begun : Value) where
       (λ e. absurd (true≢false (sym (matched (is_match nfa id) stop) ∙ ap is_some e)))
       (λ p e.
       let new : has_id (distinct done) id ≡ false = unmatched_new nfa (distinct done) id (so_far.unmatched refl) (matched (is_match nfa id) stop) in
-      let behind : List ℕ = fresh nat_eq (joined (member nat_eq (done ++ id ∷ [])) none_held) left in
+      let later : List ℕ = fresh nat_eq (joined (member nat_eq (done ++ id ∷ [])) none_held) left in
       let one : distinct (done ++ id ∷ []) ≡ distinct done ++ id ∷ [] = distinct-push nfa u done id ∙ ap (λ l. distinct done ++ l) (one_more-new nfa u done id new) in
-      let whole : distinct (done ++ (id ∷ left)) ≡ distinct done ++ (id ∷ behind) =
-      ap distinct (sym (append_assoc done (id ∷ []) left)) ∙ fresh-append same_decides none_held (done ++ id ∷ []) left ∙ ap (λ l. l ++ behind) one ∙ append_assoc (distinct done) (id ∷ []) behind in
+      let whole : distinct (done ++ (id ∷ left)) ≡ distinct done ++ (id ∷ later) =
+      ap distinct (sym (append_assoc done (id ∷ []) left)) ∙ fresh-append same_decides none_held (done ++ id ∷ []) left ∙ ap (λ l. l ++ later) one ∙ append_assoc (distinct done) (id ∷ []) later in
       let on : (part_read kinds.LeftmostFirst (is_match nfa) (distinct done) ≡ distinct done) × (patterns_of nfa (distinct done) ≡ []) = goes_on nfa (distinct done) (so_far.unmatched refl) in
-      let at : (part_read kinds.LeftmostFirst (is_match nfa) (distinct done ++ (id ∷ behind)) ≡ distinct done) × (patterns_read kinds.LeftmostFirst (patterns_of nfa (distinct done ++ (id ∷ behind))) ≡ p ∷ []) =
-      stops_at nfa (distinct done) behind id p (so_far.unmatched refl) e in
+      let at : (part_read kinds.LeftmostFirst (is_match nfa) (distinct done ++ (id ∷ later)) ≡ distinct done) × (patterns_read kinds.LeftmostFirst (patterns_of nfa (distinct done ++ (id ∷ later))) ≡ p ∷ []) =
+      stops_at nfa (distinct done) later id p (so_far.unmatched refl) e in
       let part : part_read kinds.LeftmostFirst (is_match nfa) (distinct (done ++ (id ∷ left))) ≡ distinct done = ap (λ l. part_read kinds.LeftmostFirst (is_match nfa) l) whole ∙ at.0 in
       let first : patterns_of nfa (distinct (done ++ id ∷ [])) ≡ p ∷ [] =
       ap (λ l. patterns_of nfa l) one ∙ patterns-push nfa (distinct done) id ∙ ap (λ l. l ++ option_to_list (pattern_of nfa id)) on.1 ∙ ap (λ o. option_to_list o) e in
@@ -226,7 +226,7 @@ module _ (nfa : Nfa) (u : Option ℕ) (begun : Value) where
         value_is = value_more nfa kinds.LeftmostFirst u begun done id value next kept after some so_far k v
             ∙ ap (λ ps. with_patterns begun ps) (first ∙ sym (ap (λ l. take 1 (patterns_of nfa l)) whole ∙ at.1));
         roots = ap (λ l. flat_map (target nfa u) l) (kept_more nfa kinds.LeftmostFirst u begun done id value next kept after some so_far k v)
-            ∙ counted_targets nfa u (distinct (done ++ id ∷ [])) ∙ roots_are ∙ ap (λ l. flat_map (target nfa u) l) (sym part);
+            ∙ targets-that_matter nfa u (distinct (done ++ id ∷ [])) ∙ roots_are ∙ ap (λ l. flat_map (target nfa u) l) (sym part);
         some_is = so_far.some_is ∙ ap (λ l. is_nonempty (flat_map (target nfa u) l)) (sym part);
       })
     where
@@ -264,8 +264,8 @@ distinct_same xs d = fresh_distinct none_held xs (λ x m. refl) d
 pub first_read-new : (nfa : Nfa) → IsSound nfa → (kind : MatchKind) (u : Option ℕ) (done : List ℕ) (begun value : Value) (kept : List ℕ) (some : Bool) (id p : ℕ)
     → IsFirstRead nfa kind u done begun value kept some → pattern_of nfa id ≡ Some p → has_id kept id ≡ false → list_any (nat_eq p) value.patterns ≡ false
 first_read-new nfa sound kind u done begun value kept some id p so_far e h =
-    let counted : counts nfa u id ≡ true = or_left (is_match nfa id) (is_nonempty (target nfa u id)) (ap is_some e) in
-    let new : has_id (distinct done) id ≡ false = and_false (has_id (distinct done) id) (counts nfa u id) counted (sym (holds-filter (counts nfa u) (distinct done) id) ∙ ap (λ l. has_id l id) (sym so_far.kept_are) ∙ h) in
+    let counted : matters nfa u id ≡ true = or_left (is_match nfa id) (is_nonempty (target nfa u id)) (ap is_some e) in
+    let new : has_id (distinct done) id ≡ false = and_false (has_id (distinct done) id) (matters nfa u id) counted (sym (holds-filter (matters nfa u) (distinct done) id) ∙ ap (λ l. has_id l id) (sym so_far.kept_are) ∙ h) in
     ap (λ (v : Value). list_any (nat_eq p) v.patterns) so_far.value_is ∙ pattern_new nfa sound (distinct done) id p new e
   where
     and_false : (a b : Bool) → b ≡ true → (a && b) ≡ false → a ≡ false

@@ -28,6 +28,7 @@ pub mod StepLaws
 pub mod StepTables
 pub mod Stepping
 pub mod TableLaws
+pub mod ToldNothing
 pub mod TriesSums
 pub mod TryBounds
 pub mod ValueLaws

@@ -25,9 +25,9 @@ module _ (nfa : Nfa) where
       ap (λ n. added_by v n ((v.states ++ xs) ++ ys)) (sym (needs-append v.look_need xs ys))
       ∙ ap (λ l. added_by v (needs nfa v.look_need (xs ++ ys)) l) (append_assoc v.states xs ys)
 
-  -- one more state behind those of a list
-  pub added_one-behind : (v : Value) (xs : List ℕ) (s : ℕ) → added_one nfa (added nfa v (without (is_capture nfa) xs)) s ≡ added nfa v (without (is_capture nfa) (xs ++ s ∷ []))
-  added_one-behind v xs s =
+  -- one more state after those of a list
+  pub added_one-after : (v : Value) (xs : List ℕ) (s : ℕ) → added_one nfa (added nfa v (without (is_capture nfa) xs)) s ≡ added nfa v (without (is_capture nfa) (xs ++ s ∷ []))
+  added_one-after v xs s =
       by_test (is_capture nfa s)
       (λ e. rw e (ap (λ l. added nfa v l) (sym (append-nil (without (is_capture nfa) xs)) ∙ ap (λ l. without (is_capture nfa) xs ++ l) (sym (dropped e)) ∙ sym (filter-append (λ x. not (is_capture nfa x)) xs (s ∷ [])))))
       (λ e. rw e (added-append v (without (is_capture nfa) xs) (s ∷ []) ∙ ap (λ l. added nfa v l) (ap (λ l. without (is_capture nfa) xs ++ l) (sym (kept e)) ∙ sym (filter-append (λ x. not (is_capture nfa x)) xs (s ∷ [])))))
@@ -49,9 +49,9 @@ module _ (nfa : Nfa) where
       (λ e. rw e (added-none v))
       (λ e. rw e refl)
 
-  -- more states behind those of a list
-  pub added-behind : (v : Value) (xs ys : List ℕ) → added nfa (added nfa v (without (is_capture nfa) xs)) (without (is_capture nfa) ys) ≡ added nfa v (without (is_capture nfa) (xs ++ ys))
-  added-behind v xs ys =
+  -- more states after those of a list
+  pub added-after : (v : Value) (xs ys : List ℕ) → added nfa (added nfa v (without (is_capture nfa) xs)) (without (is_capture nfa) ys) ≡ added nfa v (without (is_capture nfa) (xs ++ ys))
+  added-after v xs ys =
       added-append v (without (is_capture nfa) xs) (without (is_capture nfa) ys) ∙ ap (λ l. added nfa v l) (sym (filter-append (λ x. not (is_capture nfa x)) xs ys))
 
 -- of one answer, a fact of its value and what follows from another fact

@@ -6,7 +6,7 @@ use Rattle.std.proofs.lemmas.Nat.{and_le_l}
 use Rattle.std.specs.Int.{bit_not, w32}
 use Rattle.std.specs.List.{list_any}
 use Rattle.determinize_below.specs.Look.{has, meets, subtract, each_look}
-use Rattle.determinize_below.proofs.LookLaws.{has-subtract}
+use Rattle.determinize_below.proofs.LookLaws.{has-empty, has-subtract}
 use Rattle.determinize_below.proofs.LookMeets.{meets-some, each_look-false}
 use Rattle.determinize_below.specs.declared.look.Look.{Look}
 use Rattle.determinize_core.specs.Step.{is_redone}
@@ -31,3 +31,10 @@ not_redone found have need l h k = from_test (found l) (has need l) (has have l)
   where
     from_test : (f n h : Bool) → n ≡ true → (f && n && not h) ≡ false → (h || f) ≡ h
     from_test f n h k e = grind arith
+
+-- where nothing is needed, no closure is redone
+pub unneeded : (found : Look → Bool) (have : ℕ) → is_redone found have 0 ≡ false
+unneeded found have = ap (λ (t : Look → Bool). list_any t each_look) (fun_ext (λ l. ap (λ n. found l && n && not (has have l)) (has-empty l) ∙ without_need (found l) (not (has have l))))
+  where
+    without_need : (f h : Bool) → (f && false && h) ≡ false
+    without_need f h = grind arith

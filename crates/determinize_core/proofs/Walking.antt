@@ -32,7 +32,7 @@ started nfa p = rw (or_zero_l (start_have (tables_of nfa) (kinds.start_kind_of n
 closure_is : (nfa : Nfa) (holds : Assertion → Bool) (s : ℕ) (held ids : List ℕ) → held ≡ [] → ids ≡ held ++ reach_past nfa holds held (s ∷ []) → ids ≡ reach nfa holds (s ∷ [])
 closure_is nfa holds s held ids none e = e ∙ ap (λ xs. xs ++ reach_past nfa holds xs (s ∷ [])) none ∙ reach-past_none nfa holds (s ∷ [])
 
--- recorded behind what the start kind adds, it makes the first value
+-- recorded after what the start kind adds, it makes the first value
 pub start_value-made : (nfa : Nfa) (s : ℕ) (p : Option ℕ) (kind : Kind) (empty told begins made : Value) (have : ℕ) (held ids : List ℕ)
     → kind ≡ kinds.start_kind_of nfa.terminator p
     → empty ≡ dead

@@ -5,7 +5,7 @@ use Rattle.determinize_below.specs.Nfa.{Nfa}
 use Rattle.determinize_core.specs.Step.{needs}
 use Rattle.determinize_core.specs.Value.{Value}
 
--- the value with these states behind its own, and the assertions that they need
+-- the value with these states after its own, and the assertions that they need
 abbrev pub added : Nfa → Value → List ℕ → Value
 added nfa v xs = record v { look_need = needs nfa v.look_need xs; states = v.states ++ xs }
 

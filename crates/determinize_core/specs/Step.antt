@@ -23,7 +23,7 @@ abbrev pub needs : Nfa → ℕ → List ℕ → ℕ
 needs nfa set [] = set
 needs nfa set (s ∷ xs) = needs nfa (with_assertion set (assertion_of nfa s)) xs
 
--- the value with these states behind its own, and the assertions that they need; where nothing is needed, nothing is had
+-- the value with these states after its own, and the assertions that they need; where nothing is needed, nothing is had
 abbrev pub with_states : Nfa → Value → List ℕ → Value
 with_states nfa v xs = record {
   from_word = v.from_word;
@@ -78,12 +78,12 @@ working_list nfa v u =
     (reach nfa (joined (has v.look_have) (opened_by nfa v u)) (distinct_states v))
     (distinct_states v)
 
--- the part of it whose targets count: all of it, or what stands before the first match
+-- the part of it whose targets matter: all of it, or what stands before the first match
 abbrev pub part_read : MatchKind → (ℕ → Bool) → List ℕ → List ℕ
 part_read All accepts xs = xs
 part_read LeftmostFirst accepts xs = before accepts xs
 
--- the part of its patterns that counts: all of them, or the first
+-- the part of its patterns that matters: all of them, or the first
 abbrev pub patterns_read : MatchKind → List ℕ → List ℕ
 patterns_read All ps = ps
 patterns_read LeftmostFirst ps = take 1 ps

@@ -89,7 +89,7 @@ n12 = automaton false 10 (BinaryUnion 2 1 ∷ ByteRange (over 0x00 0xFF 0) ∷ L
 abbrev pub n13 : Nfa
 n13 = automaton false 10 (BinaryUnion 2 1 ∷ ByteRange (over 0x00 0xFF 0) ∷ Union (3 ∷ 6 ∷ []) ∷ ByteRange (over 0x61 0x7A 4) ∷ BinaryUnion 3 5 ∷ Match 0 ∷ ByteRange (over 0x30 0x39 7) ∷ BinaryUnion 6 8 ∷ Match 1 ∷ [])
 
--- a sparse and a dense state behind a capture and a union
+-- a sparse and a dense state after a capture and a union
 abbrev pub n14 : Nfa
 n14 = automaton false 10 (Capture 1 ∷ Union (2 ∷ 3 ∷ 4 ∷ []) ∷ Fail ∷ Sparse (over 0x61 0x63 5 ∷ over 0x78 0x78 5 ∷ []) ∷ Dense (padded 0x62 0 (5 ∷ padded 157 0 [])) ∷ Match 0 ∷ [])
 

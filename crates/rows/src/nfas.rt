@@ -242,7 +242,7 @@ fn two_states<A: Allocator>(
     Ok(states)
 }
 
-/// A state and behind it a match of pattern 0.
+/// A state and after it a match of pattern 0.
 fn before_match<A: Allocator>(alloc: A, first: State<A>) -> Result<Vec<State<A>, A>, AllocError> {
     two_states(alloc, first, matches(0))
 }
@@ -282,7 +282,7 @@ fn whole_word<A: Allocator + Copy>(alloc: A) -> Result<Vec<State<A>, A>, AllocEr
     Ok(states)
 }
 
-/// The states of a byte and an assertion behind it.
+/// The states of a byte and an assertion after it.
 fn look_behind<A: Allocator + Copy>(
     alloc: A,
     first: u8,
@@ -399,7 +399,7 @@ fn letters<A: Allocator + Copy>(alloc: A, first: State<A>) -> Result<Vec<State<A
     Ok(states)
 }
 
-/// The states of `a` and two assertions behind it.
+/// The states of `a` and two assertions after it.
 fn line_or_word_end<A: Allocator + Copy>(alloc: A) -> Result<Vec<State<A>, A>, AllocError> {
     let mut states = Vec::new(alloc);
     states.push(byte(b'a', 1))?;

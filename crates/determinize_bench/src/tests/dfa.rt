@@ -22,7 +22,7 @@ struct Dfa {
     rows: Vec<Vec<usize>>,
 }
 
-/// The unit of a column: a byte, or the end of the input behind the bytes.
+/// The unit of a column: a byte, or the end of the input after the bytes.
 fn unit(column: usize) -> Unit {
     match u8::try_from(column) {
         Ok(byte) => Unit::u8(byte),
@@ -91,7 +91,7 @@ impl Dfa {
 }
 
 /// The states of `foo[0-9]+|bar`, in the shape in which the original compiles it without captures:
-/// state 2 starts it anchored, and state 0 starts it behind the prefix `(?s-u:.)*?`. Both
+/// state 2 starts it anchored, and state 0 starts it after the prefix `(?s-u:.)*?`. Both
 /// alternates lead straight to the one `Match`, and so does the union of the repetition.
 const FOO_OR_BAR: &str = "\
 BU:2,1 B:00-ff>0 BU:3,8 B:66>4 B:6f>5 B:6f>6 B:30-39>7 BU:6,11 B:62>9 B:61>10 B:72>11 M:0";
@@ -133,8 +133,8 @@ fn run<R: Abort + AllocGlobal>(
     Ok(())
 }
 
-/// Nine states stand before the end of a match: the dead one, and those behind nothing, `f`, `fo`,
-/// `foo`, `foo0`, `b`, `ba` and `bar`. Two tell of a match, behind a digit that goes on and behind
+/// Nine states stand before the end of a match: the dead one, and those after nothing, `f`, `fo`,
+/// `foo`, `foo0`, `b`, `ba` and `bar`. Two tell of a match, after a digit that goes on and after
 /// any other unit.
 #[test]
 fn anchored(rt: HostRuntime) -> Result<(), Fail> {
@@ -146,7 +146,7 @@ fn anchored(rt: HostRuntime) -> Result<(), Fail> {
     Ok(())
 }
 
-/// The same, since the prefix is dropped behind a match.
+/// The same, since the prefix is dropped after a match.
 #[test]
 fn unanchored_leftmost_first(rt: HostRuntime) -> Result<(), Fail> {
     let nfa = foo_or_bar(rt.alloc())?;
@@ -161,7 +161,7 @@ fn unanchored_leftmost_first(rt: HostRuntime) -> Result<(), Fail> {
     )
 }
 
-/// Nine states as before. Five tell of a match: behind a digit that goes on, `f`, `b`, any other
+/// Nine states as before. Five tell of a match: after a digit that goes on, `f`, `b`, any other
 /// byte, and the end of the input.
 #[test]
 fn unanchored_all(rt: HostRuntime) -> Result<(), Fail> {

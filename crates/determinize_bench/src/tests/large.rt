@@ -42,7 +42,7 @@ impl Link {
     }
 }
 
-/// A chain, and behind it `a` and back to the first state, or else a match of pattern 0.
+/// A chain, and after it `a` and back to the first state, or else a match of pattern 0.
 fn chain(alloc: Global, link: Link) -> Result<Vec<nfa::State>, Fail> {
     let mut states = Vec::new(alloc);
     for next in 1..=LINKS {
@@ -153,7 +153,7 @@ fn first_pattern(end: usize) -> Option<HalfMatch> {
     Some(HalfMatch::new(PatternID::ZERO, end))
 }
 
-/// The text goes through the whole chain before `a` and behind it. Captures are not listed.
+/// The text goes through the whole chain before `a` and after it. Captures are not listed.
 #[test]
 fn chains_of_unions_and_captures(rt: HostRuntime) -> Result<(), Fail> {
     for (link, first) in [(Link::BinaryUnion, 0), (Link::Capture, LINKS)] {
@@ -169,7 +169,7 @@ fn chains_of_unions_and_captures(rt: HostRuntime) -> Result<(), Fail> {
     Ok(())
 }
 
-/// A line and a word start before `a`, and behind it neither does, nor does a word end. Before `a`
+/// A line and a word start before `a`, and after it neither does, nor does a word end. Before `a`
 /// is read the line is known and the word is not.
 #[test]
 fn chains_of_assertions(rt: HostRuntime) -> Result<(), Fail> {

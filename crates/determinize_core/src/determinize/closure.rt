@@ -117,7 +117,7 @@ fn take_turn<N: Allocator, A: Allocator, L: Ledger>(
     steps: &mut Steps<L>,
 ) -> Result<Option<StateID>, AllocError>
     requires accepted { IsAccepted nfa.now }
-    requires resolves { id < length nfa.now.states }
+    requires resolve { id < length nfa.now.states }
     requires capacity { set.old.capacity ≡ length nfa.now.states }
     ensures turn { (pending : List ℕ)
         × IsTurn nfa.now (has look_have) set.old.ids set.new.ids id (reverse stack.old.items)
@@ -144,8 +144,8 @@ fn search<N: Allocator, A: Allocator, L: Ledger>(
     steps: &mut Steps<L>,
 ) -> Result<(), AllocError>
     requires accepted { IsAccepted nfa.now }
-    requires empty { stack.old.items ≡ [] }
-    requires resolves { start < length nfa.now.states }
+    requires stack { stack.old.items ≡ [] }
+    requires resolve { start < length nfa.now.states }
     requires capacity { set.old.capacity ≡ length nfa.now.states }
     ensures ok { OnOk result (set.new
         ≡ record set.old { ids = set.old.ids ++ closure_of nfa.now look_have set.old.ids start }) }
@@ -172,8 +172,8 @@ pub(crate) fn counted_closure<N: Allocator, A: Allocator, L: Ledger>(
     set: &mut SparseSet<A>,
     steps: &mut Steps<L>,
 ) -> Result<(), AllocError>
-    requires empty { stack.old.items ≡ [] }
-    requires resolves { start < length nfa.now.states }
+    requires stack { stack.old.items ≡ [] }
+    requires resolve { start < length nfa.now.states }
     requires capacity { set.old.capacity ≡ length nfa.now.states }
     ensures ok { OnOk result (set.new
         ≡ record set.old { ids = set.old.ids ++ closure_of nfa.now look_have set.old.ids start }) }
@@ -231,7 +231,7 @@ fn take_recording_turn<N: Allocator, A: Allocator, L: Ledger>(
     steps: &mut Steps<L>,
 ) -> Result<Option<StateID>, AllocError>
     requires accepted { IsAccepted nfa.now }
-    requires resolves { id < length nfa.now.states }
+    requires resolve { id < length nfa.now.states }
     requires capacity { set.old.capacity ≡ length nfa.now.states }
     ensures turn { (pending : List ℕ) × (gained : List ℕ)
         × IsTurn nfa.now (has look_have) set.old.ids set.new.ids id (reverse stack.old.items)
@@ -262,8 +262,8 @@ fn search_recording<N: Allocator, A: Allocator, L: Ledger>(
     steps: &mut Steps<L>,
 ) -> Result<(), AllocError>
     requires accepted { IsAccepted nfa.now }
-    requires empty { stack.old.items ≡ [] }
-    requires resolves { start < length nfa.now.states }
+    requires stack { stack.old.items ≡ [] }
+    requires resolve { start < length nfa.now.states }
     requires capacity { set.old.capacity ≡ length nfa.now.states }
     ensures ok { OnOk result (set.new
         ≡ record set.old { ids = set.old.ids ++ closure_of nfa.now look_have set.old.ids start }) }
@@ -293,8 +293,8 @@ pub(crate) fn recording_closure<N: Allocator, A: Allocator, L: Ledger>(
     steps: &mut Steps<L>,
 ) -> Result<(), AllocError>
     requires accepted { IsAccepted nfa.now }
-    requires empty { stack.old.items ≡ [] }
-    requires resolves { start < length nfa.now.states }
+    requires stack { stack.old.items ≡ [] }
+    requires resolve { start < length nfa.now.states }
     requires capacity { set.old.capacity ≡ length nfa.now.states }
     ensures ok { OnOk result (set.new
         ≡ record set.old { ids = set.old.ids ++ closure_of nfa.now look_have set.old.ids start }) }
@@ -323,8 +323,8 @@ fn closure_from<N: Allocator, A: Allocator, L: Ledger>(
     requires name { blank.name ≡ L.name }
     requires parts { blank.parts ≡ L.parts }
     requires some { 0 < L.parts }
-    requires empty { stack.old.items ≡ [] }
-    requires resolves { start < length nfa.now.states }
+    requires stack { stack.old.items ≡ [] }
+    requires resolve { start < length nfa.now.states }
     requires capacity { set.old.capacity ≡ length nfa.now.states }
     ensures ok { OnOk result (set.new
         ≡ record set.old { ids = set.old.ids ++ closure_of nfa.now look_have set.old.ids start }) }
@@ -340,7 +340,7 @@ fn closure_from<N: Allocator, A: Allocator, L: Ledger>(
 
 /// Adds to the set the states that `start` leads to without input, itself included.
 ///
-/// They go behind the set's own ids, in the order of preference: depth first, a union's earlier
+/// They go after the set's own ids, in the order of preference: depth first, a union's earlier
 /// alternates first, a `Look` followed only where its assertion is in `look_have`. A state that
 /// the set holds is not followed. Only the stack can want memory, and from a state that is no
 /// epsilon state it wants none. The stack is empty afterwards, also after a refusal; the set then
@@ -352,8 +352,8 @@ pub fn epsilon_closure<N: Allocator, A: Allocator>(
     stack: &mut Vec<StateID, A>,
     set: &mut SparseSet<A>,
 ) -> Result<(), AllocError>
-    requires empty { stack.old.items ≡ [] }
-    requires resolves { start < length nfa.now.states }
+    requires stack { stack.old.items ≡ [] }
+    requires resolve { start < length nfa.now.states }
     requires capacity { set.old.capacity ≡ length nfa.now.states }
     ensures ok { OnOk result (set.new
         ≡ record set.old { ids = set.old.ids ++ closure_of nfa.now look_have set.old.ids start }) }

@@ -42,6 +42,19 @@ impl Model for Told {
 }
 
 impl Told {
+    /// Nothing.
+    fn nothing() -> Told
+        ensures looks { result.looks ≡ 0 }
+        ensures from_word { result.from_word ≡ false }
+        ensures half_crlf { result.half_crlf ≡ false }
+    {
+        Told {
+            looks: LookSet::empty(),
+            from_word: false,
+            half_crlf: false,
+        }
+    }
+
     /// The same, with the assertion where the test says so.
     fn with(self, test: bool, look: Look) -> Told
         ensures { result ≡ record self { looks = tables.insert_where self.looks test look } }
@@ -193,13 +206,16 @@ impl LookTables {
         }
     }
 
-    /// What a step over a unit tells the next state.
+    /// What a step over a unit tells the next state: nothing, where the NFA has no assertion.
     #[tactic(auto, unfolding(crate::specs::LookTables::known_set, crate::specs::LookTables::insert_where, crate::specs::LookTables::have_after, crate::specs::LookTables::from_word_after, crate::specs::LookTables::half_crlf_after))]
     pub(crate) fn after(self, unit: Unit) -> Told
         ensures looks { result.looks ≡ tables.have_after self (byte_of unit) }
         ensures from_word { result.from_word ≡ tables.from_word_after self (byte_of unit) }
         ensures half_crlf { result.half_crlf ≡ tables.half_crlf_after self (byte_of unit) }
     {
+        if self.any.is_empty() {
+            return Told::nothing();
+        }
         let line = self.any.contains_anchor_line();
         let crlf = self.any.contains_anchor_crlf();
         Told {

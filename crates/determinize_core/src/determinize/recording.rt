@@ -51,7 +51,7 @@ fn add_states<N: Allocator, A: Allocator>(
 
 /// Records the states of a set in a builder.
 ///
-/// The set's ids go behind the builder's own, in the set's order, captures left out. The builder's
+/// The set's ids go after the builder's own, in the set's order, captures left out. The builder's
 /// look-need gains the assertions of the `Look` states among them. Where look-need is then empty,
 /// look-have is emptied, since nothing will ask for it. After a refusal the builder is unchanged.
 pub fn add_nfa_states<N: Allocator, A: Allocator>(

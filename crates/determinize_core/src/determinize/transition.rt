@@ -49,11 +49,11 @@ fn tell<A: Allocator>(
 }
 
 /// Sets the flags that the unit tells, where it leads on.
-fn set_flags<A: Allocator>(told: Told, enters: bool, builder: &mut StateBuilderMatches<A>)
+fn set_flags<A: Allocator>(told: Told, leads_on: bool, builder: &mut StateBuilderMatches<A>)
     ensures { builder.new
-        ≡ with_flags builder.old (enters && told.from_word) (enters && told.half_crlf) }
+        ≡ with_flags builder.old (leads_on && told.from_word) (leads_on && told.half_crlf) }
 {
-    if enters {
+    if leads_on {
         told.set_flags(builder);
     }
 }
@@ -71,8 +71,8 @@ fn record_target<N: Allocator, A: Allocator, L: Ledger>(
     steps: &mut Steps<L>,
 ) -> Result<(), AllocError>
     requires accepted { IsAccepted nfa.now }
-    requires resolves { id < length nfa.now.states }
-    requires empty { stack.old.items ≡ [] }
+    requires resolve { id < length nfa.now.states }
+    requires stack { stack.old.items ≡ [] }
     requires capacity { entered.old.capacity ≡ length nfa.now.states }
     ensures entered { OnOk result (entered.new.ids ≡ entered.old.ids ++ reach_past nfa.now
         (has look_have) entered.old.ids (target nfa.now (byte_of unit) id)) }
@@ -155,7 +155,7 @@ pub fn next_counted<N: Allocator, A: Allocator, L: Ledger>(
     let told = told_after(nfa, unit);
     sparses.clear();
     let mut builder = tell(told, empty_builder)?;
-    let enters = read_working_list(
+    let leads_on = read_working_list(
         nfa,
         match_kind,
         state,
@@ -165,7 +165,7 @@ pub fn next_counted<N: Allocator, A: Allocator, L: Ledger>(
         &mut builder,
         steps,
     )?;
-    set_flags(told, enters, &mut builder);
+    set_flags(told, leads_on, &mut builder);
     let mut builder = builder.into_nfa();
     let SparseSets { set1, set2 } = sparses;
     record_targets(nfa, set1, unit, stack, set2, &mut builder, steps)?;

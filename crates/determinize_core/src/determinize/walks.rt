@@ -36,7 +36,7 @@ pub fn start_state<N: Allocator, A: Allocator>(
     empty_builder: StateBuilderEmpty<A>,
 ) -> Result<StateBuilderNFA<A>, AllocError>
     requires scratch { IsScratch nfa.now sparses.old.set1 sparses.old.set2 stack.old.items }
-    requires resolves { start < length nfa.now.states }
+    requires resolve { start < length nfa.now.states }
     ensures ok { IfOk result (λ builder. builder ≡ start_value nfa.now start look_behind) }
     ensures resolve { IfOk result (λ builder. AllResolve nfa.now builder.states) }
     ensures scratch { IsScratch nfa.now sparses.new.set1 sparses.new.set2 stack.new.items }

@@ -2,7 +2,7 @@
 //!
 //! The working list is what a transition reads: the NFA states that a state records, each once, or
 //! what they lead to where the unit makes an assertion true that they need. The first reading finds
-//! the patterns, and the states that count: those that match, and those that the unit leads on from.
+//! the patterns, and the states that matter: those that match, and those that the unit leads on from.
 
 ghost use Rattle.std.specs.Prelude.{◌≡◌, ℕ, ◌+◌, ◌<◌, ◌≤◌, ◌++◌, [], All, Some, false, length, nat_eq, is_some, not, IfOk, IfSome, OnOk, ◌&&◌, ◌||◌};
 ghost use Rattle.determinize_below.specs.Members.{has_id};
@@ -13,7 +13,7 @@ ghost use Rattle.determinize_below.specs.Nfa.{AllResolve, IsAccepted};
 ghost use Rattle.determinize_below.specs.Reach.{joined};
 ghost use Rattle.determinize_below.specs.Search.{continues};
 ghost use Rattle.determinize_below.specs.Unit.{byte_of};
-ghost use Rattle.determinize_core.specs.Reading.{ends, enters, gained, roots_of};
+ghost use Rattle.determinize_core.specs.Reading.{stops, leads_on, gained, roots_of};
 ghost use Rattle.determinize_core.specs.Scratch.{IsScratch};
 ghost use Rattle.determinize_core.specs.Step as specs_of_steps;
 ghost use Rattle.determinize_core.specs.Step.{distinct_states, is_reopened, opened_by, patterns_read, working_list};
@@ -33,12 +33,12 @@ use std::sync::ledger::Ledger;
 /// What the first reading finds in a state.
 #[derive(Clone, Copy)]
 pub(crate) enum Reading {
-    /// Nothing, or what it has found before; or a match behind which the reading goes on.
+    /// Nothing, or what it has found before; or a match after which the reading goes on.
     Passed,
     /// The unit leads on from it.
-    Enters,
-    /// The match behind which nothing counts.
-    Ends,
+    LeadsOn,
+    /// The match after which nothing matters.
+    Stops,
 }
 
 /// Where a state of the NFA leads over a unit.
@@ -131,13 +131,17 @@ fn look_again_over<N: Allocator, A: Allocator>(
     ensures set { IfSome result (λ set. has set
         ≡ joined (has state.now.look_have) (opened_by nfa.now state.now (byte_of unit))) }
 {
+    let need = state.look_need();
+    if need.is_empty() {
+        return None;
+    }
     let tables = LookTables::of(nfa);
     let found = tables.opened(state.is_from_word(), state.is_half_crlf(), unit);
     let have = state.look_have();
-    is_redone(found, have, state.look_need()).then_some(have.union(found))
+    is_redone(found, have, need).then_some(have.union(found))
 }
 
-/// Reads one state: keeps it where it counts and was not kept before, and adds its pattern then.
+/// Reads one state: keeps it where it matters and was not kept before, and adds its pattern then.
 #[inline(always)]
 fn read_state<N: Allocator, A: Allocator>(
     nfa: &NFA<N>,
@@ -147,7 +151,7 @@ fn read_state<N: Allocator, A: Allocator>(
     kept: &mut SparseSet<A>,
     builder: &mut StateBuilderMatches<A>,
 ) -> Result<Reading, AllocError>
-    requires resolves { id < length nfa.now.states }
+    requires resolve { id < length nfa.now.states }
     requires capacity { kept.old.capacity ≡ length nfa.now.states }
     requires new_pattern { (p : ℕ) → pattern_of nfa.now id ≡ Some p → has_id kept.old.ids id ≡ false
         → list_any (nat_eq p) builder.old.patterns ≡ false }
@@ -155,11 +159,11 @@ fn read_state<N: Allocator, A: Allocator>(
         (kept.new.ids ≡ kept.old.ids ++ gained nfa.now (byte_of unit) kept.old.ids id) }
     ensures patterns { OnOk result (builder.new ≡ with_patterns builder.old (builder.old.patterns
         ++ patterns_of nfa.now (gained nfa.now (byte_of unit) kept.old.ids id))) }
-    ensures enters { IfOk result (λ reading. enters reading ≡ is_nonempty
+    ensures leads_on { IfOk result (λ reading. leads_on reading ≡ is_nonempty
         (flat_map (target nfa.now (byte_of unit))
         (gained nfa.now (byte_of unit) kept.old.ids id))) }
-    ensures ends { IfOk result
-        (λ reading. ends reading ≡ (is_match nfa.now id && not (continues match_kind))) }
+    ensures stops { IfOk result
+        (λ reading. stops reading ≡ (is_match nfa.now id && not (continues match_kind))) }
     ensures capacity { kept.new.capacity ≡ kept.old.capacity }
 {
     if let Some(pattern) = pattern(nfa, id) {
@@ -169,20 +173,20 @@ fn read_state<N: Allocator, A: Allocator>(
         return Ok(ending(match_kind));
     }
     if target(nfa, id, unit).is_some() && kept.insert(id) {
-        return Ok(Reading::Enters);
+        return Ok(Reading::LeadsOn);
     }
     Ok(Reading::Passed)
 }
 
-/// What a match is to the reading: its end, where no match behind it counts.
+/// What a match is to the reading: its end, where no match after it matters.
 fn ending(match_kind: MatchKind) -> Reading
-    ensures enters { enters result ≡ false }
-    ensures ends { ends result ≡ not (continues match_kind) }
+    ensures leads_on { leads_on result ≡ false }
+    ensures stops { stops result ≡ not (continues match_kind) }
 {
     if match_kind.continue_past_first_match() {
         Reading::Passed
     } else {
-        Reading::Ends
+        Reading::Stops
     }
 }
 
@@ -205,7 +209,7 @@ fn read_recorded<N: Allocator, A: Allocator>(
         (patterns_read match_kind (patterns_of nfa.now (distinct_states state.now)))) }
     ensures roots { OnOk result (flat_map (target nfa.now (byte_of unit)) kept.new.ids
         ≡ roots_of nfa.now match_kind (byte_of unit) (distinct_states state.now)) }
-    ensures enters { IfOk result (λ some. some ≡ is_nonempty
+    ensures leads_on { IfOk result (λ some. some ≡ is_nonempty
         (roots_of nfa.now match_kind (byte_of unit) (distinct_states state.now))) }
     ensures capacity { kept.new.capacity ≡ kept.old.capacity }
 {
@@ -213,8 +217,8 @@ fn read_recorded<N: Allocator, A: Allocator>(
     for id in state.iter_nfa_state_ids() {
         match read_state(nfa, match_kind, id, unit, kept, builder)? {
             Reading::Passed => {}
-            Reading::Enters => some = true,
-            Reading::Ends => return Ok(some),
+            Reading::LeadsOn => some = true,
+            Reading::Stops => return Ok(some),
         }
     }
     Ok(some)
@@ -238,7 +242,7 @@ fn read_closed<N: Allocator, A: Allocator>(
         (patterns_read match_kind (patterns_of nfa.now working.now.ids))) }
     ensures roots { OnOk result (flat_map (target nfa.now (byte_of unit)) kept.new.ids
         ≡ roots_of nfa.now match_kind (byte_of unit) working.now.ids) }
-    ensures enters { IfOk result
+    ensures leads_on { IfOk result
         (λ some. some ≡ is_nonempty (roots_of nfa.now match_kind (byte_of unit) working.now.ids)) }
     ensures capacity { kept.new.capacity ≡ kept.old.capacity }
 {
@@ -246,15 +250,15 @@ fn read_closed<N: Allocator, A: Allocator>(
     for id in working.iter() {
         match read_state(nfa, match_kind, id, unit, kept, builder)? {
             Reading::Passed => {}
-            Reading::Enters => some = true,
-            Reading::Ends => return Ok(some),
+            Reading::LeadsOn => some = true,
+            Reading::Stops => return Ok(some),
         }
     }
     Ok(some)
 }
 
 /// The first reading of the working list: the builder gets its patterns, and the first set the
-/// states that count. Answers whether the unit leads on from some state that is read.
+/// states that matter. Answers whether the unit leads on from some state that is read.
 pub(crate) fn read_working_list<N: Allocator, A: Allocator, L: Ledger>(
     nfa: &NFA<N>,
     match_kind: MatchKind,
@@ -277,7 +281,7 @@ pub(crate) fn read_working_list<N: Allocator, A: Allocator, L: Ledger>(
     ensures roots { OnOk result (flat_map (target nfa.now (byte_of unit)) sparses.new.set1.ids
         ≡ roots_of nfa.now match_kind (byte_of unit)
         (working_list nfa.now state.now (byte_of unit))) }
-    ensures enters { IfOk result (λ some. some ≡ is_nonempty (roots_of nfa.now match_kind
+    ensures leads_on { IfOk result (λ some. some ≡ is_nonempty (roots_of nfa.now match_kind
         (byte_of unit) (working_list nfa.now state.now (byte_of unit)))) }
     ensures second { OnOk result (sparses.new.set2.ids ≡ []) }
     ensures scratch { IsScratch nfa.now sparses.new.set1 sparses.new.set2 stack.new.items }

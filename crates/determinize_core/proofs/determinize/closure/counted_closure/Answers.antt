@@ -12,18 +12,18 @@ pub returns-then-not-is_epsilon-clause-ok : goal.returns-then-not-is_epsilon-cla
 returns-then-not-is_epsilon-clause-ok g c =
     let leaf = ap is_epsilon (get_or_from_slice_get c.args.nfa.now.states c.args.start _ Fail c.state.ensures.state) ∙ sym c.is_epsilon.ensures ∙ c.if-not-is_epsilon.true in
     members_same c.visit.new.set _ _
-    (ap (λ (m : Members). m.ids) c.visit.ensures.after ∙ leaf_set c.args.nfa.now (accepted_sound c.args.nfa.now c.state.ensures.accepted) (has c.args.look_have) c.args.set.now.ids c.args.start c.requires.resolves leaf c.visit.result c.visit.ensures.new)
+    (ap (λ (m : Members). m.ids) c.visit.ensures.after ∙ leaf_set c.args.nfa.now (accepted_sound c.args.nfa.now c.state.ensures.accepted) (has c.args.look_have) c.args.set.now.ids c.args.start c.requires.resolve leaf c.visit.result c.visit.ensures.new)
     (ap (λ (m : Members). m.capacity) c.visit.ensures.after)
 
 pub returns-then-not-is_epsilon-clause-counted : goal.returns-then-not-is_epsilon-clause-counted
 returns-then-not-is_epsilon-clause-counted g c =
     let leaf = ap is_epsilon (get_or_from_slice_get c.args.nfa.now.states c.args.start _ Fail c.state.ensures.state) ∙ sym c.is_epsilon.ensures ∙ c.if-not-is_epsilon.true in
-    omega (arith, c.visit.ensures.counted, leaf_tries c.args.nfa.now (accepted_sound c.args.nfa.now c.state.ensures.accepted) (has c.args.look_have) c.args.set.now.ids c.args.start c.requires.resolves leaf)
+    omega (arith, c.visit.ensures.counted, leaf_tries c.args.nfa.now (accepted_sound c.args.nfa.now c.state.ensures.accepted) (has c.args.look_have) c.args.set.now.ids c.args.start c.requires.resolve leaf)
 
 pub returns-then-not-is_epsilon-clause-bounded : goal.returns-then-not-is_epsilon-clause-bounded
 returns-then-not-is_epsilon-clause-bounded g c =
     let leaf = ap is_epsilon (get_or_from_slice_get c.args.nfa.now.states c.args.start _ Fail c.state.ensures.state) ∙ sym c.is_epsilon.ensures ∙ c.if-not-is_epsilon.true in
-    omega (arith, c.visit.ensures.counted, leaf_tries c.args.nfa.now (accepted_sound c.args.nfa.now c.state.ensures.accepted) (has c.args.look_have) c.args.set.now.ids c.args.start c.requires.resolves leaf)
+    omega (arith, c.visit.ensures.counted, leaf_tries c.args.nfa.now (accepted_sound c.args.nfa.now c.state.ensures.accepted) (has c.args.look_have) c.args.set.now.ids c.args.start c.requires.resolve leaf)
 
 pub returns-clause-succeeds : goal.returns-clause-succeeds
 returns-clause-succeeds g c = λ leaf.

@@ -13,10 +13,10 @@ loop-id-init g c =
     let turn = c.in_ok-at_hand.ensures.turn in
     let next : IsTurn c.args.nfa.now (has c.args.look_have) c.args.set.now.ids c.take_turn.new.set.ids c.args.start (reverse c.args.stack.now.items) (option_to_list c.in_ok-at_hand.at_hand ++ reverse c.take_turn.new.stack.items) =
     subst (λ (l : List ℕ). IsTurn c.args.nfa.now (has c.args.look_have) c.args.set.now.ids c.take_turn.new.set.ids c.args.start (reverse c.args.stack.now.items) l) (sym turn.2) turn.1 in
-    let none : c.args.start ∷ [] ≡ c.args.start ∷ reverse c.args.stack.now.items = sym (ap (λ (l : List ℕ). c.args.start ∷ reverse l) c.requires.empty) in
+    let none : c.args.start ∷ [] ≡ c.args.start ∷ reverse c.args.stack.now.items = sym (ap (λ (l : List ℕ). c.args.start ∷ reverse l) c.requires.stack) in
     record {
       so_far = subst (λ (n : ℕ). IsSoFar c.args.nfa.now (has c.args.look_have) c.args.set.now.ids c.args.start c.take_turn.new.set.ids (option_to_list c.in_ok-at_hand.at_hand ++ reverse c.take_turn.new.stack.items) c.args.steps.now n) (sym c.in_ok-at_hand.ensures.counted)
-          (so_far-turn c.args.nfa.now sound (has c.args.look_have) c.args.set.now.ids c.args.start _ _ _ _ (so_far-start c.args.nfa.now sound (has c.args.look_have) c.args.set.now.ids c.args.start c.args.steps.now c.requires.resolves) _ _ (reverse c.args.stack.now.items) c.args.start none next);
+          (so_far-turn c.args.nfa.now sound (has c.args.look_have) c.args.set.now.ids c.args.start _ _ _ _ (so_far-start c.args.nfa.now sound (has c.args.look_have) c.args.set.now.ids c.args.start c.args.steps.now c.requires.resolve) _ _ (reverse c.args.stack.now.items) c.args.start none next);
       capacity = c.in_ok-at_hand.ensures.capacity;
       resolve = c.in_ok-at_hand.ensures.resolve;
     }
@@ -26,8 +26,8 @@ returns-in_err-at_hand-clause-err g c =
     let p = err_from_is_err_and c.from_residual.result c.from_residual.ensures.1 in
     let sound = accepted_sound c.args.nfa.now c.requires.accepted in
     let turn = c.in_err-at_hand.ensures.turn in
-    let none : c.args.start ∷ [] ≡ c.args.start ∷ reverse c.args.stack.now.items = sym (ap (λ (l : List ℕ). c.args.start ∷ reverse l) c.requires.empty) in
-    let so_far = so_far-turn c.args.nfa.now sound (has c.args.look_have) c.args.set.now.ids c.args.start _ _ _ _ (so_far-start c.args.nfa.now sound (has c.args.look_have) c.args.set.now.ids c.args.start c.args.steps.now c.requires.resolves) _ turn.0 (reverse c.args.stack.now.items) c.args.start none turn.1 in
+    let none : c.args.start ∷ [] ≡ c.args.start ∷ reverse c.args.stack.now.items = sym (ap (λ (l : List ℕ). c.args.start ∷ reverse l) c.requires.stack) in
+    let so_far = so_far-turn c.args.nfa.now sound (has c.args.look_have) c.args.set.now.ids c.args.start _ _ _ _ (so_far-start c.args.nfa.now sound (has c.args.look_have) c.args.set.now.ids c.args.start c.args.steps.now c.requires.resolve) _ turn.0 (reverse c.args.stack.now.items) c.args.start none turn.1 in
     rw p.1 record {
       capacity = c.in_err-at_hand.ensures.capacity;
       part = so_far-part c.args.nfa.now sound (has c.args.look_have) c.args.set.now.ids c.args.start _ _ _ _ so_far;

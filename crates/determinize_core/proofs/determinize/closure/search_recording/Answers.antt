@@ -9,16 +9,16 @@ use Rattle.determinize_core.specs.Closure.{closure_of, IsTurn}
 use Rattle.determinize_core.specs.Recording.{added}
 use Rattle.determinize_core.specs.Value.{Value}
 use Rattle.determinize_core.proofs.ClosureSteps.{IsSoFar, so_far-start, so_far-turn, so_far-end, so_far-counted, members_same}
-use Rattle.determinize_core.proofs.RecordingSteps.{added-none, added-behind}
+use Rattle.determinize_core.proofs.RecordingSteps.{added-none, added-after}
 use Rattle.determinize_core.proofs.determinize.closure.search_recording.Goals as goal
 
 pub loop-id-init : goal.loop-id-init
 loop-id-init g c =
     let sound = accepted_sound c.args.nfa.now c.requires.accepted in
-    let none : c.args.start ∷ [] ≡ c.args.start ∷ reverse c.args.stack.now.items = sym (ap (λ (l : List ℕ). c.args.start ∷ reverse l) c.requires.empty) in
+    let none : c.args.start ∷ [] ≡ c.args.start ∷ reverse c.args.stack.now.items = sym (ap (λ (l : List ℕ). c.args.start ∷ reverse l) c.requires.stack) in
     record {
       so_far = subst (λ (l : List ℕ). IsSoFar c.args.nfa.now (has c.args.look_have) c.args.set.now.ids c.args.start c.args.set.now.ids l c.args.steps.now c.args.steps.now) none
-          (so_far-start c.args.nfa.now sound (has c.args.look_have) c.args.set.now.ids c.args.start c.args.steps.now c.requires.resolves);
+          (so_far-start c.args.nfa.now sound (has c.args.look_have) c.args.set.now.ids c.args.start c.args.steps.now c.requires.resolve);
       recorded = ([], sym (append-nil c.args.set.now.ids), added-none c.args.nfa.now c.args.builder.now);
       capacity = refl;
     }
@@ -36,7 +36,7 @@ loop-id-preserved g c =
       recorded = (
         recorded.0 ++ turn.1,
         turn.3 ∙ ap (λ (l : List ℕ). l ++ turn.1) recorded.1 ∙ append_assoc c.args.set.now.ids recorded.0 turn.1,
-        turn.4.1 ∙ ap (λ (v : Value). added c.args.nfa.now v (without (is_capture c.args.nfa.now) turn.1)) recorded.2 ∙ added-behind c.args.nfa.now c.args.builder.now recorded.0 turn.1,
+        turn.4.1 ∙ ap (λ (v : Value). added c.args.nfa.now v (without (is_capture c.args.nfa.now) turn.1)) recorded.2 ∙ added-after c.args.nfa.now c.args.builder.now recorded.0 turn.1,
       );
       capacity = c.in_ok-at_hand.ensures.capacity ∙ c.loop-id.invariant.capacity;
     }

@@ -10,8 +10,8 @@ use Rattle.determinize_core.proofs.RecordingSteps.{added-none}
 use Rattle.determinize_core.proofs.Targets.{reach_past-none, reach_past-nothing, target_below, tries_left-none}
 use Rattle.determinize_core.proofs.determinize.transition.record_target.Goals as goal
 
-pub recording_closure-requires-clause-resolves : goal.recording_closure-requires-clause-resolves
-recording_closure-requires-clause-resolves g c =
+pub recording_closure-requires-clause-resolve : goal.recording_closure-requires-clause-resolve
+recording_closure-requires-clause-resolve g c =
     target_below c.args.nfa.now c.requires.accepted (byte_of c.args.unit) c.args.id c.in-Some.next (sym c.in-Some.ensures)
 
 pub returns-in-None-clause-entered : goal.returns-in-None-clause-entered

@@ -12,7 +12,7 @@ use Rattle.determinize_core.specs.Value.{Value}
 use Rattle.determinize_core.proofs.ClosingAll.{reach-none, tries_of-none, reach_next, tries_next, tries_within}
 use Rattle.determinize_core.proofs.Collecting.{rest_below, rest_behind}
 use Rattle.determinize_core.proofs.Loops.{targets-push}
-use Rattle.determinize_core.proofs.RecordingSteps.{added-none, added-behind}
+use Rattle.determinize_core.proofs.RecordingSteps.{added-none, added-after}
 use Rattle.determinize_core.proofs.determinize.transition.record_targets.Goals as goal
 
 pub loop-id-init : goal.loop-id-init
@@ -42,7 +42,7 @@ loop-id-preserved g c =
       entered = c.in_ok-record_target.ensures.entered ∙ reach_next c.args.nfa.now sound holds c.loop-id.entered.ids roots inv.entered more ∙ ap (λ (l : List ℕ). reach c.args.nfa.now holds l) (sym pushed);
       recorded = c.in_ok-record_target.ensures.recorded
           ∙ ap (λ (v : Value). added c.args.nfa.now v (without (is_capture c.args.nfa.now) (reach_past c.args.nfa.now holds c.loop-id.entered.ids more))) inv.recorded
-          ∙ added-behind c.args.nfa.now c.args.builder.now c.loop-id.entered.ids (reach_past c.args.nfa.now holds c.loop-id.entered.ids more)
+          ∙ added-after c.args.nfa.now c.args.builder.now c.loop-id.entered.ids (reach_past c.args.nfa.now holds c.loop-id.entered.ids more)
           ∙ ap (λ (l : List ℕ). added c.args.nfa.now c.args.builder.now (without (is_capture c.args.nfa.now) l)) (sym c.in_ok-record_target.ensures.entered);
       counted = tries_next c.args.nfa.now sound holds c.loop-id.entered.ids roots inv.entered more c.args.steps.now c.loop-id.steps c.record_target.new.steps inv.counted c.in_ok-record_target.ensures.counted
           ∙ ap (λ (l : List ℕ). c.args.steps.now + tries_of c.args.nfa.now holds l) (sym pushed);

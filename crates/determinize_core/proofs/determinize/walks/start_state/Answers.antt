@@ -23,4 +23,4 @@ returns-clause-ok g c =
 pub returns-clause-resolve : goal.returns-clause-resolve
 returns-clause-resolve g c =
     subst (λ (v : Value). AllResolve c.args.nfa.now v.states) (sym (returns-clause-ok g c))
-    (start_resolves c.args.nfa.now c.look_matcher.ensures.accepted c.args.start c.args.look_behind c.requires.resolves)
+    (start_resolves c.args.nfa.now c.look_matcher.ensures.accepted c.args.start c.args.look_behind c.requires.resolve)

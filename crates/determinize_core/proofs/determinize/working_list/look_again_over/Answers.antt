@@ -1,8 +1,17 @@
-use Rattle.std.proofs.Common.{◌∙◌, ap, Bool}
+use Rattle.std.proofs.Common.{◌≡◌, ◌∙◌, ap, sym, Bool, ℕ}
+use Rattle.std.proofs.lemmas.Bool.{eqb-true}
 use Rattle.determinize_below.specs.Unit.{byte_of}
 use Rattle.determinize_core.specs.LookTables.{Tables, opened, tables_of}
+use Rattle.determinize_core.specs.Step.{is_redone, opened_by}
+use Rattle.determinize_core.proofs.Redo.{unneeded}
 use Rattle.determinize_core.proofs.Reopening.{IfSome-again}
 use Rattle.determinize_core.proofs.determinize.working_list.look_again_over.Goals as goal
+
+pub returns-then-is_empty-clause-whether : goal.returns-then-is_empty-clause-whether
+returns-then-is_empty-clause-whether g c =
+    let none : c.args.state.now.look_need ≡ 0 = sym c.look_need-need.ensures ∙ eqb-true c.look_need-need.result 0 (sym c.is_empty.ensures ∙ c.if-is_empty.true) in
+    sym (ap (λ (n : ℕ). is_redone (opened_by c.args.nfa.now c.args.state.now (byte_of c.args.unit)) c.args.state.now.look_have n) none
+    ∙ unneeded (opened_by c.args.nfa.now c.args.state.now (byte_of c.args.unit)) c.args.state.now.look_have)
 
 pub returns-clause-set : goal.returns-clause-set
 returns-clause-set g c =

@@ -2,7 +2,7 @@ use Rattle.std.proofs.Common.{◌≡◌, ◌∙◌, ◌<◌, ◌++◌, ◌∷◌
 use Rattle.std.proofs.lemmas.List.{append-nil}
 use Rattle.determinize_below.specs.Unit.{byte_of}
 use Rattle.determinize_below.proofs.SoundNfa.{accepted_sound}
-use Rattle.determinize_core.specs.Reading.{ends, enters}
+use Rattle.determinize_core.specs.Reading.{stops, leads_on}
 use Rattle.determinize_core.proofs.Collecting.{rest_below, rest_behind}
 use Rattle.determinize_core.proofs.FirstReading.{IsFirstReadOut, distinct, first_read-start, first_read-new, first_read-next, first_read-stop, first_read-end, or_with_true, or_with_false}
 use Rattle.determinize_core.proofs.determinize.working_list.read_recorded.Goals as goal
@@ -24,7 +24,7 @@ read_state-requires-clause-new_pattern g c = λ p e h.
 pub loop-id-preserved : goal.loop-id-preserved
 loop-id-preserved g c = record {
   so_far = first_read-next c.args.nfa.now c.args.match_kind (byte_of c.args.unit) c.args.builder.now c.loop-id.yielded c.in-Some.id _ _ _ _ c.loop-id.some c.loop-id.invariant.so_far c.in_ok-read_state.ensures.kept c.in_ok-read_state.ensures.patterns
-      true (or_with_true c.loop-id.some _ (sym c.in_ok-read_state.ensures.enters ∙ ap enters c.in-Enters.is)) (sym c.in_ok-read_state.ensures.ends ∙ ap ends c.in-Enters.is);
+      true (or_with_true c.loop-id.some _ (sym c.in_ok-read_state.ensures.leads_on ∙ ap leads_on c.in-LeadsOn.is)) (sym c.in_ok-read_state.ensures.stops ∙ ap stops c.in-LeadsOn.is);
   split = rest_behind c.args.state.now.states c.loop-id.yielded c.loop-id.id-iterator c.next.new.self c.in-Some.id c.in-Some.ensures.steps c.loop-id.invariant.split;
   capacity = c.in_ok-read_state.ensures.capacity ∙ c.loop-id.invariant.capacity;
   left = rest_below (length c.args.nfa.now.states) c.loop-id.id-iterator c.next.new.self c.in-Some.id c.in-Some.ensures.steps c.loop-id.invariant.left;
@@ -33,32 +33,32 @@ loop-id-preserved g c = record {
 pub loop-id-preserved-in-Passed : goal.loop-id-preserved-in-Passed
 loop-id-preserved-in-Passed g c = record {
   so_far = first_read-next c.args.nfa.now c.args.match_kind (byte_of c.args.unit) c.args.builder.now c.loop-id.yielded c.in-Some.id _ _ _ _ c.loop-id.some c.loop-id.invariant.so_far c.in_ok-read_state.ensures.kept c.in_ok-read_state.ensures.patterns
-      c.loop-id.some (or_with_false c.loop-id.some _ (sym c.in_ok-read_state.ensures.enters ∙ ap enters c.in-Passed.is)) (sym c.in_ok-read_state.ensures.ends ∙ ap ends c.in-Passed.is);
+      c.loop-id.some (or_with_false c.loop-id.some _ (sym c.in_ok-read_state.ensures.leads_on ∙ ap leads_on c.in-Passed.is)) (sym c.in_ok-read_state.ensures.stops ∙ ap stops c.in-Passed.is);
   split = rest_behind c.args.state.now.states c.loop-id.yielded c.loop-id.id-iterator c.next.new.self c.in-Some.id c.in-Some.ensures.steps c.loop-id.invariant.split;
   capacity = c.in_ok-read_state.ensures.capacity ∙ c.loop-id.invariant.capacity;
   left = rest_below (length c.args.nfa.now.states) c.loop-id.id-iterator c.next.new.self c.in-Some.id c.in-Some.ensures.steps c.loop-id.invariant.left;
 }
 
-pub returns-in-Ends-clause-patterns : goal.returns-in-Ends-clause-patterns
-returns-in-Ends-clause-patterns g c =
+pub returns-in-Stops-clause-patterns : goal.returns-in-Stops-clause-patterns
+returns-in-Stops-clause-patterns g c =
     let whole : c.loop-id.yielded ++ (c.in-Some.id ∷ c.next.new.self) ≡ c.args.state.now.states = ap (λ (l : List ℕ). c.loop-id.yielded ++ l) (sym c.in-Some.ensures.steps) ∙ c.loop-id.invariant.split in
     (subst (λ (l : List ℕ). IsFirstReadOut c.args.nfa.now c.args.match_kind (byte_of c.args.unit) l c.args.builder.now c.read_state.new.builder c.read_state.new.kept.ids c.loop-id.some) (ap distinct whole)
     (first_read-stop c.args.nfa.now (byte_of c.args.unit) c.args.builder.now c.args.match_kind c.loop-id.yielded c.next.new.self c.in-Some.id _ _ _ _ c.loop-id.some c.loop-id.invariant.so_far c.in_ok-read_state.ensures.kept c.in_ok-read_state.ensures.patterns
-    (sym c.in_ok-read_state.ensures.ends ∙ ap ends c.in-Ends.is))).value_is
+    (sym c.in_ok-read_state.ensures.stops ∙ ap stops c.in-Stops.is))).value_is
 
-pub returns-in-Ends-clause-roots : goal.returns-in-Ends-clause-roots
-returns-in-Ends-clause-roots g c =
+pub returns-in-Stops-clause-roots : goal.returns-in-Stops-clause-roots
+returns-in-Stops-clause-roots g c =
     let whole : c.loop-id.yielded ++ (c.in-Some.id ∷ c.next.new.self) ≡ c.args.state.now.states = ap (λ (l : List ℕ). c.loop-id.yielded ++ l) (sym c.in-Some.ensures.steps) ∙ c.loop-id.invariant.split in
     (subst (λ (l : List ℕ). IsFirstReadOut c.args.nfa.now c.args.match_kind (byte_of c.args.unit) l c.args.builder.now c.read_state.new.builder c.read_state.new.kept.ids c.loop-id.some) (ap distinct whole)
     (first_read-stop c.args.nfa.now (byte_of c.args.unit) c.args.builder.now c.args.match_kind c.loop-id.yielded c.next.new.self c.in-Some.id _ _ _ _ c.loop-id.some c.loop-id.invariant.so_far c.in_ok-read_state.ensures.kept c.in_ok-read_state.ensures.patterns
-    (sym c.in_ok-read_state.ensures.ends ∙ ap ends c.in-Ends.is))).roots
+    (sym c.in_ok-read_state.ensures.stops ∙ ap stops c.in-Stops.is))).roots
 
-pub returns-in-Ends-clause-enters : goal.returns-in-Ends-clause-enters
-returns-in-Ends-clause-enters g c =
+pub returns-in-Stops-clause-leads_on : goal.returns-in-Stops-clause-leads_on
+returns-in-Stops-clause-leads_on g c =
     let whole : c.loop-id.yielded ++ (c.in-Some.id ∷ c.next.new.self) ≡ c.args.state.now.states = ap (λ (l : List ℕ). c.loop-id.yielded ++ l) (sym c.in-Some.ensures.steps) ∙ c.loop-id.invariant.split in
     (subst (λ (l : List ℕ). IsFirstReadOut c.args.nfa.now c.args.match_kind (byte_of c.args.unit) l c.args.builder.now c.read_state.new.builder c.read_state.new.kept.ids c.loop-id.some) (ap distinct whole)
     (first_read-stop c.args.nfa.now (byte_of c.args.unit) c.args.builder.now c.args.match_kind c.loop-id.yielded c.next.new.self c.in-Some.id _ _ _ _ c.loop-id.some c.loop-id.invariant.so_far c.in_ok-read_state.ensures.kept c.in_ok-read_state.ensures.patterns
-    (sym c.in_ok-read_state.ensures.ends ∙ ap ends c.in-Ends.is))).some_is
+    (sym c.in_ok-read_state.ensures.stops ∙ ap stops c.in-Stops.is))).some_is
 
 pub returns-clause-patterns : goal.returns-clause-patterns
 returns-clause-patterns g c =
@@ -72,8 +72,8 @@ returns-clause-roots g c =
     (subst (λ (l : List ℕ). IsFirstReadOut c.args.nfa.now c.args.match_kind (byte_of c.args.unit) l c.args.builder.now c.loop-id.builder c.loop-id.kept.ids c.loop-id.some) (ap distinct whole)
     (first_read-end c.args.nfa.now (byte_of c.args.unit) c.args.builder.now c.args.match_kind c.loop-id.yielded _ _ c.loop-id.some c.loop-id.invariant.so_far)).roots
 
-pub returns-clause-enters : goal.returns-clause-enters
-returns-clause-enters g c =
+pub returns-clause-leads_on : goal.returns-clause-leads_on
+returns-clause-leads_on g c =
     let whole : c.loop-id.yielded ≡ c.args.state.now.states = sym (append-nil c.loop-id.yielded) ∙ ap (λ (l : List ℕ). c.loop-id.yielded ++ l) (sym c.in-None.ensures.steps.0) ∙ c.loop-id.invariant.split in
     (subst (λ (l : List ℕ). IsFirstReadOut c.args.nfa.now c.args.match_kind (byte_of c.args.unit) l c.args.builder.now c.loop-id.builder c.loop-id.kept.ids c.loop-id.some) (ap distinct whole)
     (first_read-end c.args.nfa.now (byte_of c.args.unit) c.args.builder.now c.args.match_kind c.loop-id.yielded _ _ c.loop-id.some c.loop-id.invariant.so_far)).some_is
