@@ -6,7 +6,7 @@ use crate::walks::Walk;
 use determinize_below::{BuildError, HalfMatch};
 use determinize_core::determinize;
 use determinize_core::state::State;
-use std::alloc::{AllocError, Allocator, Global};
+use std::alloc::{AllocError, Allocator};
 use std::io;
 use std::io::Write;
 
@@ -55,7 +55,12 @@ impl From<io::Error> for RowError {
 /// walk are answered by 2, and `err` says so. Where memory is refused the status is 1, `err` says
 /// so, and `out` has a beginning of the lines. Where `out` fails the status is 1. A write to
 /// `err` that fails changes no status.
-pub fn run_rows<W: Write, E: Write>(alloc: Global, words: &[String], out: &mut W, err: &mut E) -> u8
+pub fn run_rows<A: Allocator + Copy, W: Write, E: Write>(
+    alloc: A,
+    words: &[String],
+    out: &mut W,
+    err: &mut E,
+) -> u8
     ensures { result ≤ 2 }
 {
     report(print_row(alloc, words, out), err)

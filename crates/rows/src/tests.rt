@@ -1,6 +1,7 @@
 //! Tests of the program's work: each name, each status, and writers that fail.
 
 mod expected;
+mod memory;
 
 use crate::run::{RowError, report, run_rows};
 use determinize_below::BuildError;
