@@ -29,6 +29,7 @@ pub mod SearchSteps
 pub mod Sets
 pub mod SoundNfa
 pub mod Sparse
+pub mod SparseScan
 pub mod TestedLooks
 pub mod Tests
 pub mod Turns

@@ -1,6 +1,6 @@
 -- Runs: paths over pairs of a position and a state.
-use Rattle.std.specs.List.{filter, find}
-use Rattle.std.specs.Prelude.{◌++◌, ◌<◌, ◌==◌, Bool, Contains, List, None, Option, Some, [], cond, false, map, not, slice_get, suc, ℕ, ◌↔◌, ◌∷◌, ◌≡◌, ◌⊎◌}
+use Rattle.std.specs.List.{filter}
+use Rattle.std.specs.Prelude.{◌++◌, ◌<◌, ◌==◌, Bool, Contains, List, Some, [], cond, false, map, not, slice_get, suc, ℕ, ◌↔◌, ◌∷◌, ◌≡◌, ◌⊎◌}
 use Rattle.determinize_below.specs.Paths.{Before, IsPath}
 
 -- a state, at a position

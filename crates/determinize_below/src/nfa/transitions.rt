@@ -1,6 +1,8 @@
 //! Transitions of NFA states over bytes.
 
-ghost use Rattle.std.specs.Prelude.{◌≡◌, ℕ, IsTrue, length, None, Option};
+ghost use Rattle.std.specs.Prelude.{◌≡◌, ℕ, IsTrue, length, None, Option, nat_le, Some, if◌then◌else◌};
+ghost use Rattle.std.specs.List.{find};
+ghost use Rattle.std.specs.Option.{option_map};
 ghost use Rattle.determinize_below.specs.Transition as transitions;
 ghost use Rattle.determinize_below.specs.Unit.{byte_of};
 
@@ -27,6 +29,13 @@ impl Transition {
         ensures { result ≡ transitions.matches self.now byte }
     {
         self.start <= byte && byte <= self.end
+    }
+
+    /// Whether the transition does not end before this byte.
+    fn reaches(&self, byte: u8) -> bool
+        ensures { result ≡ nat_le byte self.now.end }
+    {
+        self.end >= byte
     }
 
     /// Whether the transition is over this unit. It is never over the end of the input.
@@ -64,10 +73,21 @@ impl<A: Allocator> SparseTransitions<A> {
         requires { IsTrue (transitions.is_ascending self.now) }
         ensures { result ≡ transitions.sparse_target self.now byte }
     {
+        match self.first_reaching(byte) {
+            Some(found) => { if found.0 <= byte { Some(found.1) } else { None } }
+            None => None,
+        }
+    }
+
+    /// Where the first transition that does not end before the byte begins, and where it leads.
+    fn first_reaching(&self, byte: u8) -> Option<(u8, StateID)>
+        ensures { result
+            ≡ option_map (λ t. (t.start, t.next)) (find (λ t. nat_le byte t.end) self.now) }
+    {
         self.transitions
             .iter()
-            .find(|t| t.matches_byte(byte))
-            .map(|t| t.next)
+            .find(|t| t.reaches(byte))
+            .map(|t| (t.start, t.next))
     }
 
     /// Where the unit leads, a byte as by `matches_byte`. The end of the input leads nowhere.
