@@ -26,8 +26,8 @@ pub record IsCleared (words fewer ids : List ℕ) : Type 0 where
   pub was : (id : ℕ) → IsTrue (has_bit fewer id) → IsTrue (has_bit words id)
   pub none : (id : ℕ) → IsTrue (has_bit fewer id) → IsTrue (not (has_id ids id))
 
--- distinct ids below the capacity, for all of which there is room, and the bits of just these ids,
--- in as many words as the capacity wants
+-- distinct ids below the capacity, for all of which there is room, and of the bits below the
+-- capacity those of just these ids, in as many words as the capacity wants
 pub record IsSparse (ids words : List ℕ) (capacity room : ℕ) : Type 0 where
   pub distinct : IsDistinct nat_eq ids
   pub below : All (λ id. id < capacity) ids

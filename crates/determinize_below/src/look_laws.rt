@@ -1,4 +1,5 @@
-//! Laws of assertions and of sets of them. Each function does nothing: its clauses are the law.
+//! Laws of assertions and of sets of them. The clauses of each function are the law; two of them
+//! read bits, for the proof alone.
 
 ghost use Rattle.std.specs.Prelude.{◌≡◌, ℕ, Bool, true, false, not, ◌==◌, ◌&&◌, ◌||◌, Option, Some, List};
 ghost use Rattle.std.specs.Bool.{Decides};

@@ -78,13 +78,15 @@ with_start nfa kind v =
     (start_from_word (tables_of nfa) kind)
     (start_half_crlf (tables_of nfa) kind)
 
--- the same three for a search that starts after a byte or none
+-- the assertions that the start kind of a byte or none tells
 unfoldable pub have_at_start : Tables → Option ℕ → ℕ
 have_at_start t p = start_have t (start_kind_of t.terminator p)
 
+-- whether it sets the flag from-word
 unfoldable pub from_word_at_start : Tables → Option ℕ → Bool
 from_word_at_start t p = start_from_word t (start_kind_of t.terminator p)
 
+-- whether it sets the flag half-CRLF
 unfoldable pub half_crlf_at_start : Tables → Option ℕ → Bool
 half_crlf_at_start t p = start_half_crlf t (start_kind_of t.terminator p)
 

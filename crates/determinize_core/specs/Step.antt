@@ -1,5 +1,5 @@
 -- One step from a value to the next, over a unit.
-use Rattle.std.specs.Prelude.{ℕ, Bool, true, false, not, cond, ◌==◌, Option, Some, None, List, [], ◌∷◌, ◌++◌, nat_eq, take}
+use Rattle.std.specs.Prelude.{ℕ, Bool, not, cond, ◌==◌, Option, Some, None, List, [], ◌∷◌, ◌++◌, nat_eq, take}
 use mathlib.Core.Bool.{◌&&◌}
 use Rattle.std.specs.List.{flat_map, list_any}
 use Rattle.determinize_below.specs.declared.look.Look.{Look as Assertion}

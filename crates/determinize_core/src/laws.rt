@@ -3,15 +3,18 @@ ghost use Rattle.determinize_core.specs.WorkedRows as rows;
 ghost use Rattle.determinize_core.specs.HostileRows as hostile;
 ghost use Rattle.determinize_core.specs.Laws.{EachChainIsTrue, EachAnswerIsOne, EachReachGoesOn, EachStateHasOneKind, EachFutureFollows, DeadStays, LeftmostGivesOne, NoNeedNoHave, TriesAreFew};
 
-/// The walk of an accepted NFA over a text, against whole runs. Where all matches are wanted, each value lists the patterns that runs accept
-/// before its unit, best run first, and the NFA states that runs reach by what is known there. Where the most preferred match is wanted,
-/// the last value with a pattern ends the most preferred of all accepting runs, and without such a value no run accepts.
+/// The walk of an accepted NFA over a text, against whole runs. Where all matches are wanted, each
+/// value lists the patterns that runs accept before its unit, best run first, and, captures left
+/// out, the NFA states that runs reach by what is known there. Where the most preferred match is
+/// wanted, the last value with a pattern ends the most preferred of all accepting runs, and without
+/// such a value no run accepts.
 pub fn walk_law()
     ensures { EachChainIsTrue }
 {}
 
 /// What the walk answers is determined by the runs: one list of patterns at each position, one most
-/// preferred match, and one list of the NFA states that runs reach at a position.
+/// preferred match, and one list of the NFA states, captures left out, that runs reach at a
+/// position, by what is known there and by what is true.
 pub fn answer_law()
     ensures { EachAnswerIsOne }
 {}

@@ -311,7 +311,7 @@ pub(crate) fn recording_closure<N: Allocator, A: Allocator, L: Ledger>(
     result
 }
 
-/// The same, with a count that is let go.
+/// The closure of one state, with a count that is let go.
 fn closure_from<N: Allocator, A: Allocator, L: Ledger>(
     nfa: &NFA<N>,
     start: StateID,
