@@ -2,20 +2,11 @@
 //! prints each answer that differs.
 #![tactic(auto)]
 
-mod error;
-mod job;
-mod key;
-mod nfas;
-mod records;
-mod replay;
-mod run;
 #[cfg(test)]
 mod tests;
-mod values;
-mod verb;
-mod verbs;
 
-use error::ReplayError;
+use determinize_replay::error::ReplayError;
+use determinize_replay::run;
 use std::alloc::Global;
 use std::process::ExitCode;
 use std::rt::Env;

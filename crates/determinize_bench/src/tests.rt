@@ -8,6 +8,7 @@ mod dfa;
 mod large;
 mod laws;
 mod map_text;
+mod memory;
 mod parts;
 mod readme;
 mod refusals;
@@ -19,8 +20,8 @@ mod states;
 mod texts;
 mod worked;
 
-use crate::job::Job;
-use crate::verbs;
+use determinize_replay::job::Job;
+use determinize_replay::verbs;
 use std::process::Abort;
 use std::test::Fail;
 

@@ -2,11 +2,11 @@
 
 ghost use Rattle.std.specs.Prelude.{◌≡◌, ℕ, ◌<◌, All, length};
 
-use crate::job::Job;
-use crate::{nfas, records};
 use determinize_below::{MatchKind, NFA, SparseSets, Unit};
 use determinize_core::determinize::{Steps, next_counted};
 use determinize_core::state::{State, StateBuilderEmpty, StateBuilderNFA};
+use determinize_replay::job::Job;
+use determinize_replay::{nfas, records};
 use std::alloc::{AllocError, Global};
 use std::marker::Brand;
 use std::sync::ledger::{Blank, Ledger};

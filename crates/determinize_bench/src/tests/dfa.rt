@@ -2,13 +2,13 @@
 
 ghost use Rattle.std.specs.Prelude.{◌<◌, length};
 
-use crate::error::JobError;
-use crate::nfas;
 use determinize_below::{
     HalfMatch, LookMatcher, MatchKind, NFA, PatternID, SparseSets, StateID, Unit,
 };
 use determinize_core::determinize::{last_match, next, start_state, walk};
 use determinize_core::state::{State, StateBuilderEmpty};
+use determinize_replay::error::JobError;
+use determinize_replay::nfas;
 use std::alloc::{AllocError, Global};
 use std::collections::HashMap;
 use std::process::Abort;

@@ -1,9 +1,9 @@
 //! Laws: what their calls answer.
 
 use crate::tests::states::{with_patterns, with_states};
-use determinize_below::laws::{pattern_id_law, state_id_law};
+use determinize_below::laws::{clone_law, pattern_id_law, state_id_law};
 use determinize_below::look_laws::{look_member_law, look_set_law};
-use determinize_below::{Anchored, Look, LookMatcher, LookSet, PatternID, StateID};
+use determinize_below::{Anchored, Input, Look, LookMatcher, LookSet, PatternID, StateID};
 use determinize_core::look_laws::start_clone_law;
 use determinize_core::start::{Config, Start, StartByteMap};
 use determinize_core::state::State;
@@ -142,4 +142,17 @@ fn sets_by_their_laws(rt: HostRuntime) {
     assert!(rt; one.insert(Look::End).contains(Look::StartLF));
     assert!(rt; !one.remove(Look::StartLF).contains(Look::StartLF));
     assert!(rt; one.remove(Look::StartLF).contains(Look::EndCRLF));
+}
+
+#[test]
+fn clones_of_a_matcher_and_an_input(rt: HostRuntime) -> Result<(), Fail> {
+    let mut matcher = LookMatcher::new();
+    matcher.set_line_terminator(b'x');
+    let input = Input::new(b"abc").range(1..2).anchored(Anchored::Yes);
+    let (matcher, input) = clone_law(&matcher, &input)?;
+    assert_eq!(rt; matcher.get_line_terminator(), b'x');
+    assert_eq!(rt; input.haystack(), b"abc".as_slice());
+    assert_eq!(rt; (input.start(), input.end()), (1usize, 2usize));
+    assert_eq!(rt; input.get_anchored(), Anchored::Yes);
+    Ok(())
 }

@@ -1,8 +1,8 @@
 //! Making an NFA of parts.
 
-use crate::nfas;
 use determinize_below::nfa::State;
 use determinize_below::{BuildError, DenseTransitions, Look, LookMatcher, LookSet, NFA, StateID};
+use determinize_replay::nfas;
 use std::alloc::Global;
 use std::test::Fail;
 

@@ -1,6 +1,6 @@
 //! A replay line by line: its counts, and what it prints.
 
-use crate::replay::{Replay, Tally};
+use determinize_replay::replay::{Replay, Tally};
 use std::process::Abort;
 use std::test::Fail;
 

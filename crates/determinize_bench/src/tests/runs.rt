@@ -1,7 +1,7 @@
 //! The program's work: its statuses, and readers and writers that fail.
 
-use crate::error::ReplayError;
-use crate::run::{report, run};
+use determinize_replay::error::ReplayError;
+use determinize_replay::run::{report, run};
 use std::alloc::AllocError;
 use std::io;
 use std::io::{Read, Write};
@@ -165,7 +165,7 @@ fn tells_of_want_of_memory(rt: HostRuntime) {
         ReplayError::from(AllocError),
         ReplayError::of_reading(3, &memory),
         ReplayError::of_arguments(&memory),
-        ReplayError::of_job(3, crate::error::JobError::from(AllocError)),
+        ReplayError::of_job(3, determinize_replay::error::JobError::from(AllocError)),
     ] {
         let mut err = Vec::new(rt.alloc());
         assert_eq!(rt; report(Err(error), &mut err), 2);

@@ -1,8 +1,8 @@
 //! States and their builders.
 
-use crate::records;
 use determinize_below::{Look, LookSet, PatternID, StateID};
 use determinize_core::state::{State, StateBuilderEmpty, StateBuilderMatches, StateBuilderNFA};
+use determinize_replay::records;
 use std::alloc::Global;
 use std::collections::HashSet;
 use std::test::Fail;

@@ -9,7 +9,7 @@ use crate::key::Key;
 use crate::values;
 use determinize_below::{LookSet, PatternID, SparseSet, StateID};
 use determinize_core::state::{State, StateBuilderEmpty, StateBuilderMatches, StateBuilderNFA};
-use std::alloc::{AllocError, Global};
+use std::alloc::{AllocError, Allocator, Global};
 
 /// The flags, look-have and patterns of the job's record.
 fn matches_builder(alloc: Global, job: &Job<'_>) -> Result<StateBuilderMatches, JobError> {
@@ -65,7 +65,11 @@ fn add_pattern(
 }
 
 /// A set of these ids, each below the capacity.
-pub fn set(alloc: Global, capacity: usize, ids: &[StateID]) -> Result<SparseSet, JobError>
+pub fn set<A: Allocator + Clone>(
+    alloc: A,
+    capacity: usize,
+    ids: &[StateID],
+) -> Result<SparseSet<A>, JobError>
     requires { capacity ≤ 2147483647 }
     ensures { IfOk result (λ set. set.capacity ≡ capacity) }
 {
@@ -80,7 +84,7 @@ pub fn set(alloc: Global, capacity: usize, ids: &[StateID]) -> Result<SparseSet,
 }
 
 /// Whether all NFA states of a state are below a number.
-pub fn resolves(state: &State, count: usize) -> bool
+pub fn resolves<A: Allocator>(state: &State<A>, count: usize) -> bool
     ensures { IsTrue result → All (λ id. id < count) state.now.states }
 {
     state.iter_nfa_state_ids().all(|id| id.as_usize() < count)

@@ -1,5 +1,5 @@
 use Rattle.std.proofs.Common.{◌≡◌}
-use Rattle.determinize_bench.proofs.records.with_patterns.Given as goal
+use Rattle.determinize_replay.proofs.records.with_patterns.Given as goal
 
 abbrev pub invariant-loop-id : goal.invariant-loop-id
 invariant-loop-id l = l.builder.patterns ≡ l.seen.items

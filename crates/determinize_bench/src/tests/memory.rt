@@ -1,0 +1,144 @@
+//! Each growth of memory refused in turn, and the calls that take no memory.
+
+ghost use Rattle.std.specs.Prelude.{◌<◌, All, length, IfOk};
+ghost use Rattle.determinize_below.specs.Nfa.{AllResolve};
+
+mod builders;
+mod sets;
+mod states;
+mod steps;
+mod without;
+
+use crate::tests::worked;
+use determinize_below::{MatchKind, NFA, StateID, Unit};
+use determinize_core::determinize;
+use determinize_core::state::State;
+use determinize_replay::error::JobError;
+use determinize_replay::job::Job;
+use determinize_replay::key::Key;
+use determinize_replay::{nfas, values};
+use refusing::{Finding, Refusing, in_turn};
+use std::alloc::{AllocError, Global};
+use std::process::Abort;
+use std::test::Fail;
+
+/// The memory of a run.
+pub type Heap = Refusing<Global>;
+
+/// Makes a run with the first growth of its calls refused, then with the second, and so on, until a
+/// run meets no refusal. The run tells whether all of its calls were answered. Some may not be only
+/// where a growth was refused. After each run all memory has been given back.
+pub fn refuse_in_turn<R: Abort + AllocGlobal, F: FnMut(&Heap) -> Result<bool, Fail>>(
+    rt: &R,
+    run: F,
+) -> Result<(), Fail>
+    requires { F.IsAlwaysCallable run }
+{
+    assert_eq!(rt; in_turn(rt.alloc(), run)?, Finding::Sound);
+    Ok(())
+}
+
+/// Makes a call under the refusals of the memory, and then again with ample memory.
+pub fn call_twice<T: Drop, F: FnMut() -> Result<T, AllocError>>(
+    heap: &Heap,
+    mut call: F,
+) -> Result<(Option<T>, T), Fail>
+    requires { F.IsAlwaysCallable call }
+{
+    heap.begin();
+    let first = call();
+    heap.end();
+    Ok((first.ok(), call()?))
+}
+
+/// A worked walk, and the bytes of its states.
+#[derive(Drop)]
+pub struct Row {
+    nfa: NFA,
+    kind: MatchKind,
+    start: StateID,
+    look_behind: Option<u8>,
+    text: Vec<u8>,
+    states: Vec<Vec<u8>>,
+}
+
+impl Row {
+    /// Reads a walk and the lines of its answer, of which the last tells the match.
+    fn read(alloc: Global, line: &str, answer: &str) -> Result<Row, JobError> {
+        let job = Job::read(alloc, line)?;
+        let mut states = Vec::new(alloc);
+        if let Some((lines, _)) = answer.trim_end().rsplit_once('\n') {
+            for line in lines.lines() {
+                let bytes = values::bytes(alloc, line)?;
+                states.push(bytes)?;
+            }
+        }
+        Ok(Row {
+            nfa: nfas::nfa(alloc, &job)?,
+            kind: job.match_kind()?,
+            start: values::state_id(job.value(Key::Start).unwrap_or("0"))?,
+            look_behind: values::optional_byte(job.value_or_none(Key::LookBehind))?,
+            text: values::bytes(alloc, job.value_or_none(Key::Text))?,
+            states,
+        })
+    }
+
+    /// The state that the walk starts from.
+    fn start(&self) -> Result<StateID, Fail>
+        ensures { IfOk result (λ id. id < length self.now.nfa.states) }
+    {
+        if self.start.as_usize() < self.nfa.len() {
+            Ok(self.start)
+        } else {
+            Err(Fail::new("no state of the NFA has the start id"))
+        }
+    }
+
+    /// The states of the walk from this state.
+    fn walk<'a>(
+        &self,
+        heap: &'a Heap,
+        start: StateID,
+    ) -> Result<Vec<State<&'a Heap>, &'a Heap>, AllocError>
+        requires { start < length self.now.nfa.states }
+        ensures { IfOk result (λ states.
+            All (λ state. AllResolve self.now.nfa state.states) states.items) }
+    {
+        let text = self.text.as_slice();
+        determinize::walk(heap, &self.nfa, self.kind, start, self.look_behind, text)
+    }
+
+    /// The bytes of the state of this index, and none where the walk has no such state.
+    fn bytes(&self, index: usize) -> &[u8] {
+        match self.states.get(index) {
+            Some(bytes) => bytes.as_slice(),
+            None => &[],
+        }
+    }
+
+    /// Asks that these are the states of the walk.
+    fn expect(&self, rt: &impl Abort, states: &[State<&Heap>]) {
+        assert_eq!(rt; states.len(), self.states.len());
+        for (index, state) in states.iter().enumerate() {
+            assert_eq!(rt; state.as_bytes(), self.bytes(index));
+        }
+    }
+
+    /// The unit over which the state of this index is left.
+    fn unit(&self, index: usize) -> Unit {
+        match self.text.get(index) {
+            Some(byte) => Unit::u8(*byte),
+            None => Unit::eoi(256),
+        }
+    }
+}
+
+/// All worked walks.
+pub fn rows(alloc: Global) -> Result<Vec<Row>, JobError> {
+    let mut rows = Vec::new(alloc);
+    for (line, answer) in worked::WALKS {
+        let row = Row::read(alloc, line, answer)?;
+        rows.push(row)?;
+    }
+    Ok(rows)
+}

@@ -1,0 +1,162 @@
+//! Builders, and the states that they make.
+
+ghost use Rattle.std.specs.Prelude.{◌≡◌, [], OnOk};
+
+use crate::tests::memory::{Heap, Row, call_twice, refuse_in_turn, rows};
+use determinize_below::{PatternID, StateID};
+use determinize_core::state::{State, StateBuilderEmpty, StateBuilderMatches, StateBuilderNFA};
+use std::process::Abort;
+use std::test::Fail;
+
+/// Adds a pattern and puts it behind those that the builder has. A builder that was refused is as
+/// it was, and takes the pattern with ample memory.
+fn add_pattern(
+    rt: &impl Abort,
+    heap: &Heap,
+    builder: &mut StateBuilderMatches<&Heap>,
+    patterns: &mut Vec<PatternID>,
+    id: PatternID,
+) -> Result<bool, Fail>
+    requires { builder.old.patterns ≡ patterns.old.items }
+    ensures { OnOk result (builder.new.patterns ≡ patterns.new.items) }
+{
+    if patterns.contains(&id) {
+        return Err(Fail::new("a pattern stands twice"));
+    }
+    patterns.push(id)?;
+    let before = builder.clone()?.into_nfa();
+    heap.begin();
+    let added = builder.add_match_pattern_id(id);
+    heap.end();
+    if added.is_ok() {
+        return Ok(true);
+    }
+    let after = builder.clone()?.into_nfa();
+    assert_eq!(rt; after.as_bytes(), before.as_bytes());
+    builder.add_match_pattern_id(id)?;
+    Ok(false)
+}
+
+/// Adds an NFA state. A builder that was refused is as it was, and takes the state with ample
+/// memory.
+fn add_state(
+    rt: &impl Abort,
+    heap: &Heap,
+    builder: &mut StateBuilderNFA<&Heap>,
+    id: StateID,
+) -> Result<bool, Fail> {
+    let before = builder.clone()?;
+    heap.begin();
+    let added = builder.add_nfa_state_id(id);
+    heap.end();
+    if added.is_ok() {
+        return Ok(true);
+    }
+    assert_eq!(rt; builder.as_bytes(), before.as_bytes());
+    builder.add_nfa_state_id(id)?;
+    Ok(false)
+}
+
+/// Lists the patterns of a state in a builder that has none.
+fn add_patterns<'a, R: Abort + AllocGlobal>(
+    rt: &R,
+    heap: &'a Heap,
+    mut builder: StateBuilderMatches<&'a Heap>,
+    state: &State<&'a Heap>,
+) -> Result<(bool, StateBuilderMatches<&'a Heap>), Fail>
+    requires { builder.patterns ≡ [] }
+{
+    let mut is_answered = true;
+    let mut patterns = Vec::new(rt.alloc());
+    if let Some(ids) = state.match_pattern_ids()? {
+        for id in ids.iter() {
+            is_answered &= add_pattern(rt, heap, &mut builder, &mut patterns, *id)?;
+        }
+    }
+    Ok((is_answered, builder))
+}
+
+/// Asks that both builders have these bytes, and tells whether the first is there.
+pub fn are_spelled<'a>(
+    rt: &impl Abort,
+    builders: &(Option<StateBuilderNFA<&'a Heap>>, StateBuilderNFA<&'a Heap>),
+    bytes: &[u8],
+) -> bool {
+    let (first, second) = builders;
+    for builder in first.iter().chain(Some(second)) {
+        assert_eq!(rt; builder.as_bytes(), bytes);
+    }
+    first.is_some()
+}
+
+/// A builder with the flags, look-have and patterns of a state.
+fn build_matches<'a, R: Abort + AllocGlobal>(
+    rt: &R,
+    heap: &'a Heap,
+    state: &State<&'a Heap>,
+) -> Result<(bool, StateBuilderMatches<&'a Heap>), Fail> {
+    let (first, empty) = call_twice(heap, || StateBuilderEmpty::new(heap).clone())?;
+    let mut is_answered = first.is_some();
+    assert_eq!(rt; empty.capacity(), 0);
+    let (first, second) = call_twice(heap, || StateBuilderEmpty::new(heap).into_matches())?;
+    is_answered &= first.is_some();
+    assert_eq!(rt; second.into_nfa().as_bytes(), [0; 9].as_slice());
+    let matches = StateBuilderEmpty::new(heap).into_matches()?;
+    let (are_added, mut matches) = add_patterns(rt, heap, matches, state)?;
+    is_answered &= are_added;
+    if state.is_from_word() {
+        matches.set_is_from_word();
+    }
+    if state.is_half_crlf() {
+        matches.set_is_half_crlf();
+    }
+    let have = state.look_have();
+    matches.set_look_have(|_| have);
+    Ok((is_answered, matches))
+}
+
+/// Builds a state anew. Each builder on the way is cloned.
+fn build<'a, R: Abort + AllocGlobal>(
+    rt: &R,
+    heap: &'a Heap,
+    state: &State<&'a Heap>,
+    bytes: &[u8],
+) -> Result<bool, Fail> {
+    let (mut is_answered, matches) = build_matches(rt, heap, state)?;
+    let (first, second) = call_twice(heap, || matches.clone())?;
+    let clones = (first.map(|builder| builder.into_nfa()), second.into_nfa());
+    let mut builder = matches.into_nfa();
+    is_answered &= are_spelled(rt, &clones, builder.as_bytes());
+    let need = state.look_need();
+    builder.set_look_need(|_| need);
+    for id in state.iter_nfa_state_ids() {
+        is_answered &= add_state(rt, heap, &mut builder, id)?;
+    }
+    let clones = call_twice(heap, || builder.clone())?;
+    is_answered &= are_spelled(rt, &clones, bytes);
+    let (first, second) = call_twice(heap, || builder.to_state())?;
+    for made in first.iter().chain(Some(&second)) {
+        assert_eq!(rt; made.as_bytes(), bytes);
+    }
+    assert_eq!(rt; builder.as_bytes(), bytes);
+    Ok(is_answered && first.is_some())
+}
+
+/// Builds each state of a walk anew.
+fn build_states<R: Abort + AllocGlobal>(rt: &R, heap: &Heap, row: &Row) -> Result<bool, Fail> {
+    let start = row.start()?;
+    let states = row.walk(heap, start)?;
+    let mut is_answered = true;
+    for (state, bytes) in states.iter().zip(row.states.iter()) {
+        is_answered &= build(rt, heap, state, bytes.as_slice())?;
+    }
+    Ok(is_answered)
+}
+
+#[test]
+fn states_of_walks(rt: HostRuntime) -> Result<(), Fail> {
+    for row in rows(rt.alloc())?.iter() {
+        refuse_in_turn(&rt, |heap| build_states(&rt, heap, row))?;
+    }
+    Ok(())
+}

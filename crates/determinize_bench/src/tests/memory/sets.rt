@@ -1,0 +1,82 @@
+//! Sets and NFAs.
+
+ghost use Rattle.std.specs.Prelude.{◌≤◌};
+
+use crate::tests::memory::{Heap, Row, call_twice, refuse_in_turn, rows};
+use crate::tests::worked;
+use determinize_below::{BuildError, NFA, SparseSet, SparseSets, StateID};
+use determinize_replay::job::Job;
+use determinize_replay::nfas;
+use std::process::Abort;
+use std::test::Fail;
+
+/// Makes a set.
+fn make_set(rt: &impl Abort, heap: &Heap, capacity: usize) -> Result<bool, Fail>
+    requires { capacity ≤ 2147483647 }
+{
+    let (first, second) = call_twice(heap, || SparseSet::new(heap, capacity))?;
+    for set in first.iter().chain(Some(&second)) {
+        assert!(rt; set.is_empty());
+        assert_eq!(rt; set.capacity(), capacity);
+    }
+    Ok(first.is_some())
+}
+
+/// Makes two sets.
+fn make_sets(rt: &impl Abort, heap: &Heap, capacity: usize) -> Result<bool, Fail>
+    requires { capacity ≤ 2147483647 }
+{
+    let (first, second) = call_twice(heap, || SparseSets::new(heap, capacity))?;
+    for sets in first.iter().chain(Some(&second)) {
+        assert!(rt; sets.set1.is_empty() && sets.set2.is_empty());
+        assert_eq!(rt; sets.set1.capacity(), capacity);
+        assert_eq!(rt; sets.set2.capacity(), capacity);
+    }
+    Ok(first.is_some())
+}
+
+/// The sets have room for the states of the NFAs of walks.
+#[test]
+fn sets(rt: HostRuntime) -> Result<(), Fail> {
+    for row in rows(rt.alloc())?.iter() {
+        let capacity = row.nfa.len();
+        refuse_in_turn(&rt, |heap| make_set(&rt, heap, capacity))?;
+        refuse_in_turn(&rt, |heap| make_sets(&rt, heap, capacity))?;
+    }
+    Ok(())
+}
+
+/// Makes an NFA, and walks through it with ample memory.
+fn make_nfa<R: Abort + AllocGlobal>(
+    rt: &R,
+    heap: &Heap,
+    line: &str,
+    answer: &str,
+) -> Result<bool, Fail> {
+    let mut row = Row::read(rt.alloc(), line, answer)?;
+    let job = Job::read(rt.alloc(), line)?;
+    let states = nfas::states(rt.alloc(), job.states())?;
+    let start = StateID::ZERO;
+    let (is_reverse, matcher) = (job.is_reverse()?, nfas::matcher(&job)?);
+    heap.begin();
+    let made = NFA::from_parts(heap, states, start, start, is_reverse, matcher);
+    heap.end();
+    match made {
+        Ok(nfa) => row.nfa = nfa,
+        Err(error) => {
+            assert_eq!(rt; error, BuildError::OutOfMemory);
+            return Ok(false);
+        }
+    }
+    let start = row.start()?;
+    row.expect(rt, row.walk(heap, start)?.as_slice());
+    Ok(true)
+}
+
+#[test]
+fn nfa(rt: HostRuntime) -> Result<(), Fail> {
+    for (line, answer) in worked::WALKS {
+        refuse_in_turn(&rt, |heap| make_nfa(&rt, heap, line, answer))?;
+    }
+    Ok(())
+}

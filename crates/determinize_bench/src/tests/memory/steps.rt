@@ -1,0 +1,286 @@
+//! Closures, recordings, transitions and whole walks.
+
+ghost use Rattle.std.specs.Prelude.{◌≡◌, ◌<◌, length};
+ghost use Rattle.determinize_below.specs.Nfa.{AllResolve};
+ghost use Rattle.determinize_core.specs.Scratch.{IsScratch};
+
+use crate::tests::memory::builders::are_spelled;
+use crate::tests::memory::{Heap, Row, call_twice, refuse_in_turn, rows};
+use determinize_below::{SparseSet, SparseSets, StateID, Unit};
+use determinize_core::determinize::{
+    Steps, add_nfa_states, epsilon_closure, next, next_counted, set_lookbehind_from_start,
+    start_state,
+};
+use determinize_core::start::{Start, StartByteMap};
+use determinize_core::state::{State, StateBuilderEmpty, StateBuilderNFA};
+use determinize_replay::job::Job;
+use determinize_replay::key::Key;
+use determinize_replay::{nfas, records, values};
+use std::alloc::AllocError;
+use std::marker::Brand;
+use std::process::Abort;
+use std::sync::ledger::{Blank, Ledger};
+use std::test::Fail;
+
+/// Closures of the start states of walks, and one past a state that is held: the states that the
+/// set holds in the end.
+const CLOSURES: [(&str, &str); 5] = [
+    ("closure from=0 | U:1,2,3 M:2 M:0 M:1", "0,1,2,3"),
+    (
+        "closure from=0 | BU:4,1 B:00-ff>0 L:WordAscii>5 B:25>5 BU:2,3 BU:4,6 M:0",
+        "0,4,2,3,1",
+    ),
+    (
+        "closure from=4 | BU:4,1 B:00-ff>0 L:WordAscii>5 B:25>5 BU:2,3 BU:4,6 M:0",
+        "4,2,3",
+    ),
+    (
+        "closure from=4 look=WordAscii held=5 | BU:4,1 B:00-ff>0 L:WordAscii>5 B:25>5 BU:2,3 BU:4,6 M:0",
+        "5,4,2,3",
+    ),
+    (
+        "closure from=0 | BU:2,1 B:00-ff>0 U:3,6 B:61-7a>4 BU:3,5 M:0 B:30-39>7 BU:6,8 M:1",
+        "0,2,3,6,1",
+    ),
+];
+
+/// Adds a closure to a set. A set that was refused has what it had and a beginning of the rest.
+fn close<R: Abort + AllocGlobal>(
+    rt: &R,
+    heap: &Heap,
+    line: &str,
+    wanted: &[StateID],
+) -> Result<bool, Fail> {
+    let job = Job::read(rt.alloc(), line)?;
+    let nfa = nfas::nfa(rt.alloc(), &job)?;
+    let start = values::state_id(job.needed(Key::From)?)?;
+    let have = values::look_set(job.value_or_none(Key::Look))?;
+    let held = values::state_ids(rt.alloc(), job.value_or_none(Key::Held))?;
+    assert!(rt; start.as_usize() < nfa.len());
+    let mut stack = Vec::new(heap);
+    let mut set = records::set(heap, nfa.len(), held.as_slice())?;
+    heap.begin();
+    let added = epsilon_closure(&nfa, start, have, &mut stack, &mut set);
+    heap.end();
+    assert!(rt; stack.is_empty());
+    let found: Vec<StateID> = set.iter().collect(rt.alloc())?;
+    assert!(rt; found.starts_with(held.as_slice()));
+    assert!(rt; wanted.starts_with(found.as_slice()));
+    let mut set = records::set(heap, nfa.len(), held.as_slice())?;
+    epsilon_closure(&nfa, start, have, &mut stack, &mut set)?;
+    let again: Vec<StateID> = set.iter().collect(rt.alloc())?;
+    assert_eq!(rt; again.as_slice(), wanted);
+    if added.is_ok() {
+        assert_eq!(rt; found.as_slice(), wanted);
+    }
+    Ok(added.is_ok())
+}
+
+#[test]
+fn closures(rt: HostRuntime) -> Result<(), Fail> {
+    for (line, wanted) in CLOSURES {
+        let wanted = values::state_ids(rt.alloc(), wanted)?;
+        refuse_in_turn(&rt, |heap| close(&rt, heap, line, wanted.as_slice()))?;
+    }
+    Ok(())
+}
+
+/// The kind of the start of a walk.
+pub fn start_kind(row: &Row) -> Start {
+    match row.look_behind {
+        Some(byte) => StartByteMap::new(row.nfa.look_matcher()).get(byte),
+        None => Start::Text,
+    }
+}
+
+/// Records the first closure of a walk. A builder that was refused is as it was, and takes the
+/// states with ample memory.
+fn record(rt: &impl Abort, heap: &Heap, row: &Row) -> Result<bool, Fail> {
+    let start = row.start()?;
+    let mut matches = StateBuilderEmpty::new(heap).into_matches()?;
+    set_lookbehind_from_start(&row.nfa, &start_kind(row), &mut matches);
+    let mut set = SparseSet::new(heap, row.nfa.len())?;
+    let mut stack = Vec::new(heap);
+    epsilon_closure(&row.nfa, start, matches.look_have(), &mut stack, &mut set)?;
+    let mut builder = matches.into_nfa();
+    let before = builder.clone()?;
+    heap.begin();
+    let added = add_nfa_states(&row.nfa, &set, &mut builder);
+    heap.end();
+    if added.is_err() {
+        assert_eq!(rt; builder.as_bytes(), before.as_bytes());
+        add_nfa_states(&row.nfa, &set, &mut builder)?;
+    }
+    assert_eq!(rt; builder.as_bytes(), row.bytes(0));
+    Ok(added.is_ok())
+}
+
+#[test]
+fn recordings(rt: HostRuntime) -> Result<(), Fail> {
+    for row in rows(rt.alloc())?.iter() {
+        refuse_in_turn(&rt, |heap| record(&rt, heap, row))?;
+    }
+    Ok(())
+}
+
+/// Starts a walk.
+fn start(rt: &impl Abort, heap: &Heap, row: &Row) -> Result<bool, Fail> {
+    let nfa = &row.nfa;
+    let id = row.start()?;
+    let mut sparses = SparseSets::new(heap, nfa.len())?;
+    let mut stack = Vec::new(heap);
+    let empty = StateBuilderEmpty::new(heap);
+    heap.begin();
+    let first = start_state(nfa, id, row.look_behind, &mut sparses, &mut stack, empty);
+    heap.end();
+    assert!(rt; stack.is_empty());
+    assert_eq!(rt; sparses.set1.capacity(), nfa.len());
+    assert_eq!(rt; sparses.set2.capacity(), nfa.len());
+    let empty = StateBuilderEmpty::new(heap);
+    let second = start_state(nfa, id, row.look_behind, &mut sparses, &mut stack, empty)?;
+    Ok(are_spelled(rt, &(first.ok(), second), row.bytes(0)))
+}
+
+#[test]
+fn starts(rt: HostRuntime) -> Result<(), Fail> {
+    for row in rows(rt.alloc())?.iter() {
+        refuse_in_turn(&rt, |heap| start(&rt, heap, row))?;
+    }
+    Ok(())
+}
+
+/// The transition from a state, with a count that is let go.
+fn count<'a, L: Ledger>(
+    row: &Row,
+    sparses: &mut SparseSets<&'a Heap>,
+    stack: &mut Vec<StateID, &'a Heap>,
+    state: &State<&'a Heap>,
+    unit: Unit,
+    empty: StateBuilderEmpty<&'a Heap>,
+    blank: Blank,
+) -> Result<StateBuilderNFA<&'a Heap>, AllocError>
+    requires name { blank.name ≡ L.name }
+    requires parts { blank.parts ≡ L.parts }
+    requires some { 0 < L.parts }
+    requires scratch { IsScratch row.now.nfa sparses.old.set1 sparses.old.set2 stack.old.items }
+    requires resolve { AllResolve row.now.nfa state.now.states }
+    ensures { IsScratch row.now.nfa sparses.new.set1 sparses.new.set2 stack.new.items }
+{
+    let mut steps = Steps::<L>::new(blank);
+    next_counted(
+        &row.nfa, row.kind, sparses, stack, state, unit, empty, &mut steps,
+    )
+}
+
+/// The transition from a state, counted or not.
+fn step<'a>(
+    row: &Row,
+    is_counted: bool,
+    sparses: &mut SparseSets<&'a Heap>,
+    stack: &mut Vec<StateID, &'a Heap>,
+    state: &State<&'a Heap>,
+    unit: Unit,
+    empty: StateBuilderEmpty<&'a Heap>,
+) -> Result<StateBuilderNFA<&'a Heap>, AllocError>
+    requires scratch { IsScratch row.now.nfa sparses.old.set1 sparses.old.set2 stack.old.items }
+    requires resolve { AllResolve row.now.nfa state.now.states }
+    ensures { IsScratch row.now.nfa sparses.new.set1 sparses.new.set2 stack.new.items }
+{
+    if is_counted {
+        count::<Brand>(row, sparses, stack, state, unit, empty, Blank::new(1))
+    } else {
+        next(&row.nfa, row.kind, sparses, stack, state, unit, empty)
+    }
+}
+
+/// Leaves a state of a walk over its unit. The sets and the stack can be used again.
+fn leave<'a>(
+    rt: &impl Abort,
+    heap: &'a Heap,
+    row: &Row,
+    is_counted: bool,
+    state: &State<&'a Heap>,
+    index: usize,
+) -> Result<bool, Fail>
+    requires { AllResolve row.now.nfa state.now.states }
+{
+    let unit = row.unit(index);
+    let count = row.nfa.len();
+    let mut sparses = SparseSets::new(heap, count)?;
+    let mut stack = Vec::new(heap);
+    let empty = StateBuilderEmpty::new(heap);
+    heap.begin();
+    let first = step(
+        row,
+        is_counted,
+        &mut sparses,
+        &mut stack,
+        state,
+        unit,
+        empty,
+    );
+    heap.end();
+    assert!(rt; stack.is_empty());
+    assert_eq!(rt; sparses.set1.capacity(), count);
+    assert_eq!(rt; sparses.set2.capacity(), count);
+    let empty = StateBuilderEmpty::new(heap);
+    let second = step(
+        row,
+        is_counted,
+        &mut sparses,
+        &mut stack,
+        state,
+        unit,
+        empty,
+    )?;
+    let bytes = row.bytes(index.saturating_add(1));
+    Ok(are_spelled(rt, &(first.ok(), second), bytes))
+}
+
+/// Leaves each state of a walk.
+fn leave_states(rt: &impl Abort, heap: &Heap, row: &Row, is_counted: bool) -> Result<bool, Fail> {
+    let start = row.start()?;
+    let states = row.walk(heap, start)?;
+    let mut is_answered = true;
+    for (index, state) in states.iter().enumerate() {
+        if index <= row.text.len() {
+            assert!(rt; records::resolves(state, row.nfa.len()));
+            is_answered &= leave(rt, heap, row, is_counted, state, index)?;
+        }
+    }
+    Ok(is_answered)
+}
+
+#[test]
+fn transitions(rt: HostRuntime) -> Result<(), Fail> {
+    for row in rows(rt.alloc())?.iter() {
+        refuse_in_turn(&rt, |heap| leave_states(&rt, heap, row, false))?;
+    }
+    Ok(())
+}
+
+#[test]
+fn counted_transitions(rt: HostRuntime) -> Result<(), Fail> {
+    for row in rows(rt.alloc())?.iter() {
+        refuse_in_turn(&rt, |heap| leave_states(&rt, heap, row, true))?;
+    }
+    Ok(())
+}
+
+/// Walks.
+fn walk(rt: &impl Abort, heap: &Heap, row: &Row) -> Result<bool, Fail> {
+    let start = row.start()?;
+    let (first, second) = call_twice(heap, || row.walk(heap, start))?;
+    for states in first.iter().chain(Some(&second)) {
+        row.expect(rt, states.as_slice());
+    }
+    Ok(first.is_some())
+}
+
+#[test]
+fn walks(rt: HostRuntime) -> Result<(), Fail> {
+    for row in rows(rt.alloc())?.iter() {
+        refuse_in_turn(&rt, |heap| walk(&rt, heap, row))?;
+    }
+    Ok(())
+}

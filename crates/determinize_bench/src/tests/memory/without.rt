@@ -1,0 +1,153 @@
+//! The calls that take no memory: they are answered while every growth is refused, and ask for none.
+
+use crate::tests::memory::steps::start_kind;
+use crate::tests::memory::{Heap, Row, refuse_in_turn, rows};
+use determinize_below::{Input, Look, LookSet, PatternID, SparseSet, SparseSets, StateID};
+use determinize_core::determinize::{epsilon_closure, set_lookbehind_from_start};
+use determinize_core::start::Config;
+use determinize_core::state::{State, StateBuilderEmpty};
+use std::process::Abort;
+use std::test::Fail;
+
+/// Asks that no growth was asked for.
+fn has_asked_none(rt: &impl Abort, heap: &Heap) -> bool {
+    heap.end();
+    assert_eq!(rt; heap.asked(), 0);
+    true
+}
+
+/// Ids are inserted, found and removed.
+fn fill_sets(rt: &impl Abort, heap: &Heap) -> Result<bool, Fail> {
+    let mut sparses = SparseSets::new(heap, 70)?;
+    heap.begin();
+    for number in [5usize, 69, 0] {
+        let id = StateID::new(number)?;
+        assert!(rt; id.as_usize() < sparses.set1.capacity());
+        assert!(rt; sparses.set1.insert(id));
+        assert!(rt; id.as_usize() < sparses.set1.capacity());
+        assert!(rt; sparses.set1.contains(id));
+    }
+    assert_eq!(rt; sparses.set1.iter().map(|id| id.as_usize()).max(), Some(69));
+    sparses.swap();
+    assert_eq!(rt; (sparses.set1.len(), sparses.set2.len()), (0, 3));
+    sparses.clear();
+    sparses.set1.clear();
+    assert!(rt; sparses.set1.is_empty() && sparses.set2.is_empty());
+    Ok(has_asked_none(rt, heap))
+}
+
+/// A builder is told of flags, sets and the pattern `ZERO`, goes on to the NFA states and is
+/// cleared.
+fn build(rt: &impl Abort, heap: &Heap) -> Result<bool, Fail> {
+    heap.begin();
+    let empty = StateBuilderEmpty::new(heap);
+    assert_eq!(rt; empty.capacity(), 0);
+    heap.end();
+    let mut matches = empty.into_matches()?;
+    heap.begin();
+    matches.set_is_from_word();
+    matches.set_is_half_crlf();
+    matches.set_look_have(|have| have.insert(Look::Start));
+    assert!(rt; matches.look_have().contains(Look::Start));
+    assert!(rt; matches.add_match_pattern_id(PatternID::ZERO).is_ok());
+    let mut builder = matches.into_nfa();
+    builder.set_look_have(|have| have.remove(Look::Start));
+    builder.set_look_need(|need| need.insert(Look::End));
+    assert!(rt; builder.look_have().is_empty());
+    assert!(rt; builder.look_need().contains(Look::End));
+    assert_eq!(rt; builder.as_bytes(), [13, 0, 0, 0, 0, 2, 0, 0, 0].as_slice());
+    let empty = builder.clear();
+    assert!(rt; empty.capacity() > 0);
+    Ok(has_asked_none(rt, heap))
+}
+
+/// A builder with written patterns goes on to the NFA states.
+fn close_patterns(rt: &impl Abort, heap: &Heap) -> Result<bool, Fail> {
+    let mut matches = StateBuilderEmpty::new(heap).into_matches()?;
+    matches.add_match_pattern_id(PatternID::must(1))?;
+    heap.begin();
+    let builder = matches.into_nfa();
+    let bytes = [3, 0, 0, 0, 0, 0, 0, 0, 0, 1, 0, 0, 0, 1, 0, 0, 0];
+    assert_eq!(rt; builder.as_bytes(), bytes.as_slice());
+    Ok(has_asked_none(rt, heap))
+}
+
+/// The text of a walk is looked at, and a builder is told of its start.
+fn begin_walk(rt: &impl Abort, heap: &Heap, row: &Row) -> Result<bool, Fail> {
+    let mut matches = StateBuilderEmpty::new(heap).into_matches()?;
+    heap.begin();
+    let input = Input::new(row.text.as_slice());
+    assert_eq!(rt; Config::from_input_forward(&input).get_look_behind(), None);
+    assert_eq!(rt; Config::from_input_reverse(&input).get_look_behind(), None);
+    set_lookbehind_from_start(&row.nfa, &start_kind(row), &mut matches);
+    Ok(has_asked_none(rt, heap))
+}
+
+/// The closures of the states that take input or match.
+fn close_states(rt: &impl Abort, heap: &Heap, row: &Row) -> Result<bool, Fail> {
+    let mut set = SparseSet::new(heap, row.nfa.len())?;
+    heap.begin();
+    for number in 0..row.nfa.len() {
+        let id = StateID::must(number);
+        let mut stack = Vec::new(heap);
+        assert_eq!(rt; set.capacity(), row.nfa.len());
+        if !row.nfa.state(id).is_epsilon() {
+            let added = epsilon_closure(&row.nfa, id, LookSet::empty(), &mut stack, &mut set);
+            assert!(rt; added.is_ok());
+        }
+    }
+    Ok(has_asked_none(rt, heap))
+}
+
+/// Asks all readers of a state.
+fn read_state(rt: &impl Abort, state: &State<&Heap>, bytes: &[u8]) {
+    assert_eq!(rt; state.as_bytes(), bytes);
+    assert_eq!(rt; state.memory_usage(), bytes.len());
+    assert!(rt; state == state && state <= state);
+    assert_eq!(rt; state.is_match(), state.match_len() > 0);
+    if state.match_len() > 0 {
+        assert!(rt; state.match_pattern(0) <= PatternID::MAX);
+    } else {
+        assert!(rt; matches!(state.match_pattern_ids(), Ok(None)));
+    }
+    let flags = bytes
+        .first()
+        .map(|first| (*first & 4 != 0, *first & 8 != 0));
+    assert_eq!(rt; flags, Some((state.is_from_word(), state.is_half_crlf())));
+    assert!(rt; state.look_have().is_empty() || !state.look_need().is_empty());
+    for id in state.iter_nfa_state_ids() {
+        assert!(rt; id <= StateID::MAX);
+    }
+}
+
+/// Asks all readers of each state of a walk.
+fn read_states(rt: &impl Abort, heap: &Heap, row: &Row) -> Result<bool, Fail> {
+    let start = row.start()?;
+    let states = row.walk(heap, start)?;
+    heap.begin();
+    for (state, bytes) in states.iter().zip(row.states.iter()) {
+        read_state(rt, state, bytes.as_slice());
+    }
+    Ok(has_asked_none(rt, heap))
+}
+
+#[test]
+fn sets(rt: HostRuntime) -> Result<(), Fail> {
+    refuse_in_turn(&rt, |heap| fill_sets(&rt, heap))
+}
+
+#[test]
+fn builders(rt: HostRuntime) -> Result<(), Fail> {
+    refuse_in_turn(&rt, |heap| build(&rt, heap))?;
+    refuse_in_turn(&rt, |heap| close_patterns(&rt, heap))
+}
+
+#[test]
+fn walks(rt: HostRuntime) -> Result<(), Fail> {
+    for row in rows(rt.alloc())?.iter() {
+        refuse_in_turn(&rt, |heap| begin_walk(&rt, heap, row))?;
+        refuse_in_turn(&rt, |heap| close_states(&rt, heap, row))?;
+        refuse_in_turn(&rt, |heap| read_states(&rt, heap, row))?;
+    }
+    Ok(())
+}
