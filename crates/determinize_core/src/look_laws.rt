@@ -62,7 +62,7 @@ pub fn start_law(reverse: bool, terminator: u8, any: LookSet, before: Option<u8>
 
 /// What a step tells over a byte is known at the next position, and of the assertions of the NFA it
 /// is all that is known there.
-pub fn seen_law(reverse: bool, terminator: u8, any: LookSet, byte: u8, look: Look)
+pub fn told_law(reverse: bool, terminator: u8, any: LookSet, byte: u8, look: Look)
     ensures known { has (have_after (tables reverse terminator any) (Some byte)) look ≡ true
         → truth.is_known reverse terminator (Some byte) look ≡ true }
     ensures all { has any look ≡ true

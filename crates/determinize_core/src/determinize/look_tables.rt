@@ -87,7 +87,7 @@ fn insert_where(set: LookSet, test: bool, look: Look) -> LookSet
 }
 
 /// The assertions on words that are true, by whether word bytes stand behind and ahead.
-fn word_opened(from_word: bool, word: bool) -> LookSet
+fn word_set(from_word: bool, word: bool) -> LookSet
     ensures { result ≡ tables.word_set from_word word }
 {
     let set = LookSet::empty();
@@ -229,7 +229,7 @@ impl LookTables {
 
     /// The assertions on the haystack and on lines that the unit makes true, by whether the first
     /// half of a CRLF stands behind.
-    fn line_opened(self, half_crlf: bool, unit: Unit) -> LookSet
+    fn line_set(self, half_crlf: bool, unit: Unit) -> LookSet
         ensures { result ≡ tables.line_set self half_crlf (byte_of unit) }
     {
         let end = unit.is_eoi();
@@ -247,8 +247,8 @@ impl LookTables {
         ensures { (look : Assertion)
             → has result look ≡ tables.opened self from_word half_crlf (byte_of unit) look }
     {
-        let words = word_opened(from_word, unit.is_word_byte());
-        words.union(self.line_opened(half_crlf, unit))
+        let words = word_set(from_word, unit.is_word_byte());
+        words.union(self.line_set(half_crlf, unit))
     }
 }
 

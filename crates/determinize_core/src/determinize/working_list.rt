@@ -48,13 +48,7 @@ pub(crate) fn target<N: Allocator>(nfa: &NFA<N>, id: StateID, unit: Unit) -> Opt
     ensures { result ≡ target_of (byte_of unit) (state_at nfa.now id) }
 {
     match nfa.state(id) {
-        nfa::State::ByteRange { trans } => {
-            if trans.matches_unit(unit) {
-                Some(trans.next)
-            } else {
-                None
-            }
-        }
+        nfa::State::ByteRange { trans } => trans.matches_unit(unit).then_some(trans.next),
         nfa::State::Sparse(sparse) => sparse.matches_unit(unit),
         nfa::State::Dense(dense) => dense.matches_unit(unit),
         _ => None,
