@@ -28,9 +28,7 @@ use std::test::Fail;
 /// Replays jobs, and compares each answer.
 fn replay<R: Abort + AllocGlobal>(rt: &R, jobs: &[(&str, &str)]) -> Result<(), Fail> {
     for (line, wanted) in jobs {
-        let Some(answer) = verbs::answer(rt.alloc(), &Job::read(rt.alloc(), line)?)? else {
-            panic!(rt; "skipped: {line}");
-        };
+        let answer = verbs::answer(rt.alloc(), &Job::read(rt.alloc(), line)?)?;
         assert_eq!(rt; answer.as_str(), *wanted, "{line}");
     }
     Ok(())

@@ -16,16 +16,14 @@ pub struct Tally {
     pub jobs: u64,
     /// How many answers differ.
     pub differ: u64,
-    /// How many jobs the library can't do.
-    pub skipped: u64,
 }
 
 impl Tally {
-    /// Whether no job was replayed: there was none, or each was skipped.
+    /// Whether there was no job.
     pub fn is_empty(self) -> bool
-        ensures { IsTrue result ↔ (self.jobs ≡ self.skipped) }
+        ensures { IsTrue result ↔ (self.jobs ≡ 0) }
     {
-        self.jobs == self.skipped
+        self.jobs == 0
     }
 
     /// The status that tells of the jobs: 0 where no answer differs, else 1.
@@ -37,14 +35,11 @@ impl Tally {
     }
 }
 
+/// The counts in a line. No job is skipped, and the line says so.
 impl fmt::Display for Tally {
     fn fmt<W: fmt::Write>(&self, f: &mut fmt::Formatter<W>) -> fmt::Result {
-        let Tally {
-            jobs,
-            differ,
-            skipped,
-        } = *self;
-        write!(f, "{jobs} jobs, {differ} differ, {skipped} skipped")
+        let Tally { jobs, differ } = *self;
+        write!(f, "{jobs} jobs, {differ} differ, 0 skipped")
     }
 }
 
@@ -73,11 +68,7 @@ impl Replay {
             line: 1,
             job: None,
             wanted: String::new(alloc),
-            tally: Tally {
-                jobs: 0,
-                differ: 0,
-                skipped: 0,
-            },
+            tally: Tally { jobs: 0, differ: 0 },
         }
     }
 
@@ -136,14 +127,10 @@ impl Replay {
     /// Compares the answer of a job with the one that is wanted.
     fn judge_job<W: Write>(&mut self, job: &Pending, out: &mut W) -> Result<(), ReplayError> {
         match answer(self.alloc, job.text.as_str()) {
-            Ok(Some(answer)) => {
+            Ok(answer) => {
                 if answer.as_str() != self.wanted.as_str() {
                     self.tell(job.text.as_str(), answer.as_str(), out)?;
                 }
-                Ok(())
-            }
-            Ok(None) => {
-                self.tally.skipped = self.tally.skipped.saturating_add(1);
                 Ok(())
             }
             Err(error) => Err(ReplayError::of_job(job.line, error)),
@@ -158,7 +145,7 @@ impl Replay {
     }
 }
 
-/// The answer of the job of this text, or none where the library can't do it.
-fn answer(alloc: Global, text: &str) -> Result<Option<String>, JobError> {
+/// The answer of the job of this text.
+fn answer(alloc: Global, text: &str) -> Result<String, JobError> {
     verbs::answer(alloc, &Job::read(alloc, text)?)
 }

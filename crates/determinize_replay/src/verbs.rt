@@ -5,21 +5,14 @@ mod small;
 
 use crate::error::JobError;
 use crate::job::Job;
-use crate::key::Key;
-use crate::values;
 use crate::verb::Verb;
 use std::alloc::Global;
 
-/// The lines of the answer of a job, or none where no call of the library does it: a walk with a
-/// byte after its end. Of such a job the other values and the states aren't read.
-pub fn answer(alloc: Global, job: &Job<'_>) -> Result<Option<String>, JobError> {
-    let after = values::optional_byte(job.value_or_none(Key::After))?;
-    if after.is_some() {
-        return Ok(None);
-    }
+/// The lines of the answer of a job.
+pub fn answer(alloc: Global, job: &Job<'_>) -> Result<String, JobError> {
     let mut text = String::new(alloc);
     write_answer(alloc, job, &mut text)?;
-    Ok(Some(text))
+    Ok(text)
 }
 
 /// Writes the lines of the answer of a job.

@@ -7,7 +7,8 @@ use determinize_core::determinize;
 use determinize_core::state::State;
 use std::alloc::Allocator;
 
-/// A walk: through which NFA, under which kind, from where, behind which byte, over which text.
+/// A walk: through which NFA, under which kind, from where, over which text, after which byte and
+/// before which.
 #[derive(Clone, Copy, Debug)]
 pub struct Walk {
     automaton: Automaton,
@@ -15,6 +16,7 @@ pub struct Walk {
     start: u16,
     look_behind: Option<u8>,
     text: &'static [u8],
+    look_ahead: Option<u8>,
 }
 
 impl Walk {
@@ -75,12 +77,28 @@ impl Walk {
             "29e" => Walk::over(Automaton::LineOrWordEnd, b"a"),
             "30a" => Walk::over(Automaton::UnreachedAssertion, b"a"),
             "30b" => Walk::over(Automaton::GreatestPattern, b""),
+            _ => return Walk::between(name),
+        };
+        Some(walk)
+    }
+
+    /// The walk of this name that shows what a byte ahead of the text changes.
+    fn between(name: &str) -> Option<Walk> {
+        let walk = match name {
+            "31a" => Walk::over(Automaton::WholeWord, b"quar")
+                .leftmost_first()
+                .with_ahead(b't'),
+            "31b" => Walk::over(Automaton::WholeWord, b"quar")
+                .leftmost_first()
+                .with_ahead(b' '),
+            "31c" => Walk::over(Automaton::WholeWord, b"quar").leftmost_first(),
+            "32" => Walk::over(Automaton::CarriageReturn, b"\r").with_ahead(b'\n'),
             _ => return None,
         };
         Some(walk)
     }
 
-    /// A walk that reports all matches, from state 0, with nothing behind.
+    /// A walk that reports all matches, from state 0, with nothing behind and nothing ahead.
     fn over(automaton: Automaton, text: &'static [u8]) -> Walk {
         Walk {
             automaton,
@@ -88,6 +106,7 @@ impl Walk {
             start: 0,
             look_behind: None,
             text,
+            look_ahead: None,
         }
     }
 
@@ -119,6 +138,14 @@ impl Walk {
         }
     }
 
+    /// The same with this byte ahead of the text.
+    fn with_ahead(self, byte: u8) -> Walk {
+        Walk {
+            look_ahead: Some(byte),
+            ..self
+        }
+    }
+
     /// The states of the walk.
     ///
     /// The error is want of memory. A start that is no state of the NFA would make no walk.
@@ -128,7 +155,15 @@ impl Walk {
         if start.as_usize() >= nfa.len() {
             return Err(RowError::NoSuchRow);
         }
-        let states = determinize::walk(alloc, &nfa, self.kind, start, self.look_behind, self.text)?;
+        let states = determinize::walk_between(
+            alloc,
+            &nfa,
+            self.kind,
+            start,
+            self.look_behind,
+            self.text,
+            self.look_ahead,
+        )?;
         Ok(states)
     }
 }

@@ -59,6 +59,7 @@ pub struct Row {
     start: StateID,
     look_behind: Option<u8>,
     text: Vec<u8>,
+    look_ahead: Option<u8>,
     states: Vec<Vec<u8>>,
 }
 
@@ -79,6 +80,7 @@ impl Row {
             start: values::state_id(job.value(Key::Start).unwrap_or("0"))?,
             look_behind: values::optional_byte(job.value_or_none(Key::LookBehind))?,
             text: values::bytes(alloc, job.value_or_none(Key::Text))?,
+            look_ahead: values::optional_byte(job.value_or_none(Key::After))?,
             states,
         })
     }
@@ -104,8 +106,12 @@ impl Row {
         ensures { IfOk result (λ states.
             All (λ state. AllResolve self.now.nfa state.states) states.items) }
     {
+        let (nfa, kind, behind) = (&self.nfa, self.kind, self.look_behind);
         let text = self.text.as_slice();
-        determinize::walk(heap, &self.nfa, self.kind, start, self.look_behind, text)
+        match self.look_ahead {
+            None => determinize::walk(heap, nfa, kind, start, behind, text),
+            ahead => determinize::walk_between(heap, nfa, kind, start, behind, text, ahead),
+        }
     }
 
     /// The bytes of the state of this index, and none where the walk has no such state.
@@ -126,8 +132,8 @@ impl Row {
 
     /// The unit over which the state of this index is left.
     fn unit(&self, index: usize) -> Unit {
-        match self.text.get(index) {
-            Some(byte) => Unit::u8(*byte),
+        match self.text.get(index).copied().or(self.look_ahead) {
+            Some(byte) => Unit::u8(byte),
             None => Unit::eoi(256),
         }
     }

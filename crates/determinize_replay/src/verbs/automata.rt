@@ -30,8 +30,18 @@ fn states(alloc: Global, job: &Job<'_>) -> Result<Vec<State>, JobError> {
     let start = resolved(&nfa, job.value(Key::Start).unwrap_or("0"))?;
     let look_behind = values::optional_byte(job.value_or_none(Key::LookBehind))?;
     let text = values::bytes(alloc, job.value_or_none(Key::Text))?;
+    let look_ahead = values::optional_byte(job.value_or_none(Key::After))?;
     let kind = job.match_kind()?;
-    let states = determinize::walk(alloc, &nfa, kind, start, look_behind, text.as_slice())?;
+    let text = text.as_slice();
+    let states = determinize::walk_between(
+        alloc,
+        &nfa,
+        kind,
+        start,
+        look_behind,
+        text,
+        look_ahead,
+    )?;
     Ok(states)
 }
 
