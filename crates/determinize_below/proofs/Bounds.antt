@@ -3,7 +3,8 @@ use Rattle.std.specs.Bool.{Decides}
 use Rattle.std.specs.List.{flat_map}
 use Rattle.std.proofs.Common.{◌+◌, Bool, List, [], ap, arith, cond, false, length, refl, sym, true, zero, ◌||◌, ℕ, ◌∙◌, ◌∷◌, ◌≡◌, ◌≤◌}
 use Rattle.std.proofs.lemmas.Bool.{false≢true, or_left, or_right, true≢false}
-use Rattle.determinize_below.specs.Reach.{edge_count, ends, fresh, member, none_held, search_tries, with_node}
+use Rattle.determinize_below.specs.Reach.{edge_count, ends, fresh, member, none_held, with_node}
+use Rattle.determinize_below.specs.Private.Searching.{search_tries}
 use Rattle.determinize_below.proofs.Sets.{eq-self}
 use Rattle.determinize_below.proofs.Tests.{by_test, or_false_right}
 

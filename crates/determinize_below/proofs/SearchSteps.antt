@@ -6,7 +6,8 @@ use Rattle.std.proofs.Common.{◌&&◌, ◌+◌, ◌++◌, Bool, List, [], ap, a
 use Rattle.std.proofs.lemmas.Bool.{false≢true, or_left}
 use Rattle.std.proofs.lemmas.List.{append-nil}
 use Rattle.std.proofs.lemmas.List.Concat.{flat_map-append}
-use Rattle.determinize_below.specs.Reach.{closure, edge_count, ends, fresh, joined, member, none_held, ordered, search_tries, with_node}
+use Rattle.determinize_below.specs.Private.Searching.{closure, search_tries}
+use Rattle.determinize_below.specs.Reach.{edge_count, ends, fresh, joined, member, none_held, ordered, with_node}
 use Rattle.determinize_below.proofs.Ends.{IsClosed, IsEnough, IsEnough-more_held, ends_closed, fresh-ends_held, fresh-ends_new, fresh-held}
 use Rattle.determinize_below.proofs.Sets.{fresh-append, member-append, member-fresh}
 

@@ -8,6 +8,7 @@ pub mod Nfa
 pub mod Node
 pub mod Paths
 pub mod Positions
+pub mod Private
 pub mod Reach
 pub mod ReachLaws
 pub mod Reached

@@ -1,5 +1,5 @@
 -- Sets that are lists of distinct ids below a capacity.
-use Rattle.std.specs.Prelude.{◌≡◌, ℕ, ◌/◌, ◌%◌, ◌<◌, ◌≤◌, Bool, List, All, IsTrue, length, not, nat_eq, slice_index}
+use Rattle.std.specs.Prelude.{◌≡◌, ℕ, ◌/◌, ◌%◌, ◌<◌, ◌≤◌, Bool, List, All, length, nat_eq, slice_index}
 use Rattle.std.specs.Int.{bit_at, div_ceil}
 use Rattle.std.specs.List.{IsDistinct, list_any}
 
@@ -20,11 +20,6 @@ pub record AreMembers (set : Members) : Type 0 where
 -- whether the bit of an id is set in words of 64 bits
 unfoldable pub has_bit : List ℕ → ℕ → Bool
 has_bit words id = nat_eq (bit_at (slice_index words (id / 64)) (id % 64)) 1
-
--- what is set in the words afterwards was so before, and is none of these ids
-pub record IsCleared (words fewer ids : List ℕ) : Type 0 where
-  pub was : (id : ℕ) → IsTrue (has_bit fewer id) → IsTrue (has_bit words id)
-  pub none : (id : ℕ) → IsTrue (has_bit fewer id) → IsTrue (not (has_id ids id))
 
 -- distinct ids below the capacity, for all of which there is room, and of the bits below the
 -- capacity those of just these ids, in as many words as the capacity wants

@@ -1,6 +1,6 @@
 -- Nodes that are reached along loop-free paths, in the order of the paths, computed.
 use Rattle.std.specs.List.{flat_map}
-use Rattle.std.specs.Prelude.{◌+◌, ◌++◌, ◌<◌, Bool, List, [], cond, false, length, nat_eq, suc, true, zero, ◌||◌, ℕ, ◌∷◌, ◌≡◌}
+use Rattle.std.specs.Prelude.{◌+◌, ◌<◌, Bool, List, [], cond, false, length, nat_eq, suc, true, zero, ◌||◌, ℕ, ◌∷◌, ◌≡◌}
 
 -- whether x is in the list
 abbrev pub member : {N : Type 0} → (N → N → Bool) → List N → N → Bool
@@ -43,14 +43,6 @@ edge_count edges (x ∷ xs) = length (edges x) + edge_count edges xs
 abbrev pub nodes_below : ℕ → List ℕ
 nodes_below zero = []
 nodes_below (suc n) = n ∷ nodes_below n
-
--- the set of a depth-first search with a stack, from the nodes met so far and those that are pending
-abbrev pub closure : {N : Type 0} → (N → N → Bool) → (N → List N) → ℕ → List N → List N → List N
-closure eq edges n met pending = met ++ ordered eq edges n (member eq met) pending
-
--- how many times the search still takes a pending node
-abbrev pub search_tries : {N : Type 0} → (N → N → Bool) → (N → List N) → ℕ → List N → List N → ℕ
-search_tries eq edges n met pending = length pending + edge_count edges (ordered eq edges n (member eq met) pending)
 
 -- each edge leads to a number below the count
 abbrev pub LeadsBelow : (ℕ → List ℕ) → ℕ → Type 0

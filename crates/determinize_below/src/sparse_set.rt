@@ -2,7 +2,8 @@
 
 ghost use Rattle.std.specs.Prelude.{◌≡◌, ℕ, ◌*◌, ◌<◌, ◌≤◌, ◌↔◌, [], ◌∷◌, ◌++◌, length, not, All, IsTrue, IfOk, if◌then◌else◌, nat_eq, ◌&&◌, ◌||◌};
 ghost use Rattle.std.specs.Iterator.{YieldsFirst, item_count};
-ghost use Rattle.determinize_below.specs.Members.{IsCleared, has_bit, has_id};
+ghost use Rattle.determinize_below.specs.Private.Clearing.{IsCleared};
+ghost use Rattle.determinize_below.specs.Members.{has_bit, has_id};
 
 use crate::primitives::StateID;
 use std::alloc::{AllocError, Allocator, Global};

@@ -4,7 +4,7 @@ use Rattle.determinize_below.specs.declared.look.Look.{Look as Assertion}
 use Rattle.determinize_below.specs.Edges.{reach, reach_past}
 use Rattle.determinize_below.specs.Nfa.{Nfa}
 use Rattle.determinize_below.proofs.SoundNfa.{reach-append, IsSound}
-use Rattle.determinize_core.specs.Closure.{tries_left}
+use Rattle.determinize_core.specs.Private.Search.{tries_left}
 use Rattle.determinize_core.specs.Tries.{tries_of}
 use Rattle.determinize_core.proofs.TriesSums.{tries_of-append, tries_of-some}
 

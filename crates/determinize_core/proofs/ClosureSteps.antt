@@ -16,7 +16,7 @@ use Rattle.determinize_below.proofs.Elements.{All-from_member}
 use Rattle.determinize_below.proofs.Nodes.{same_decides}
 use Rattle.determinize_below.proofs.SearchSteps.{closure-held, closure-new, closure-done, tries-held, tries-new}
 use Rattle.determinize_below.proofs.SoundNfa.{edges_enough, IsSound}
-use Rattle.determinize_core.specs.Closure.{search_end, tries_left, IsTurn}
+use Rattle.determinize_core.specs.Private.Search.{search_end, tries_left, IsTurn}
 
 -- the two tests for being in a list
 pub holds-member : (ids : List ℕ) (id : ℕ) → has_id ids id ≡ member nat_eq ids id

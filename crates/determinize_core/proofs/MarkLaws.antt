@@ -7,7 +7,7 @@ use Rattle.determinize_core.specs.Value.{Value, IsValue}
 use Rattle.determinize_core.specs.Varint.{deltas, varint, zigzag, last_id}
 use Rattle.determinize_core.specs.Spelling.{spell, with_word, value_of, IsSpelled}
 use Rattle.determinize_core.specs.Building.{IsBuilding}
-use Rattle.determinize_core.specs.Marking.{IsMarkOf, IsGrown}
+use Rattle.determinize_core.specs.Private.Marking.{IsMarkOf, IsGrown}
 use Rattle.determinize_core.specs.declared.state.mark.Mark.{Mark}
 use Rattle.determinize_core.proofs.SpellingLaws.{spell_long}
 use Rattle.determinize_core.proofs.BuildingLaws.{built}

@@ -8,7 +8,8 @@ use Rattle.std.proofs.lemmas.Map.Keys.{IsDistinct-push}
 use Rattle.determinize_core.specs.Value.{Value, IsValue, dead, with_pattern, is_nonempty}
 use Rattle.determinize_core.specs.Varint.{deltas}
 use Rattle.determinize_core.specs.Spelling.{is_explicit, words, word, spell, with_word, has_bit, value_of, number_at, numbers_in, flags, pattern_bytes}
-use Rattle.determinize_core.specs.Building.{spell_open, closed, with_bit, with_pattern_bytes, value_of_open, IsOpen}
+use Rattle.determinize_core.specs.Building.{spell_open, closed, value_of_open, IsOpen}
+use Rattle.determinize_core.specs.Private.PatternBytes.{with_bit, with_pattern_bytes}
 use Rattle.determinize_core.proofs.FlagLaws.{has_1, has_2, has_4, has_8, or_1, or_2, or_3, or_4, or_8}
 use Rattle.determinize_core.proofs.SpellingLaws.{dead_valid, value_of-spell, length-words, few, word_back, numbers_in-words}
 use Rattle.determinize_core.proofs.ValueLaws.{with_have, with_have_valid}

@@ -7,7 +7,8 @@ use Rattle.determinize_below.specs.Unit.{is_nothing, is_byte, is_word}
 use Rattle.determinize_below.proofs.LookLaws.{has-empty, has-union, same, index_of}
 use Rattle.determinize_below.specs.declared.look.Look.{Look}
 use Rattle.determinize_below.specs.declared.look.Look.TheVariants.{End, EndLF, StartCRLF, EndCRLF, WordAscii, WordAsciiNegate, WordUnicode, WordUnicodeNegate, WordStartAscii, WordEndAscii, WordStartUnicode, WordEndUnicode, WordEndHalfAscii, WordEndHalfUnicode}
-use Rattle.determinize_core.specs.LookTables.{Tables, word_set, line_set, word_opened, line_opened, opened}
+use Rattle.determinize_core.specs.LookTables.{Tables, word_opened, line_opened, opened}
+use Rattle.determinize_core.specs.Private.LookSets.{word_set, line_set}
 use Rattle.determinize_core.proofs.KnownSet.{has-insert_where, or_none}
 
 -- the members of the set for words, the last one that was inserted first

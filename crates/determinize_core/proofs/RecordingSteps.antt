@@ -7,7 +7,7 @@ use Rattle.determinize_below.specs.Edges.{is_capture, assertion_of}
 use Rattle.determinize_below.specs.Nfa.{Nfa}
 use Rattle.determinize_below.specs.Runs.{without}
 use Rattle.determinize_below.proofs.Tests.{by_test}
-use Rattle.determinize_core.specs.Recording.{added, added_one}
+use Rattle.determinize_core.specs.Private.Recording.{added, added_one}
 use Rattle.determinize_core.specs.Step.{needs, with_assertion}
 use Rattle.determinize_core.specs.Value.{Value}
 

@@ -9,7 +9,7 @@ use Rattle.determinize_below.specs.Nfa.{Nfa, IsAccepted}
 use Rattle.determinize_below.specs.Node.{Node, ByteRange, Sparse, Dense, Look, Union, BinaryUnion, Capture, Fail, Match}
 use Rattle.determinize_below.specs.Reach.{member}
 use Rattle.determinize_below.proofs.SoundNfa.{target_within}
-use Rattle.determinize_core.specs.Closure.{tries_left}
+use Rattle.determinize_core.specs.Private.Search.{tries_left}
 
 -- a match leads nowhere
 target_of-match : (u : Option ℕ) (s : Node) (p : ℕ) → pattern_in s ≡ Some p → target_of u s ≡ None

@@ -5,7 +5,7 @@ use Rattle.determinize_below.specs.Edges.{edges, reach, reach_past}
 use Rattle.determinize_below.specs.Nfa.{Nfa}
 use Rattle.determinize_below.specs.Reach.{edge_count}
 use Rattle.determinize_below.proofs.SoundNfa.{reach-append, IsSound}
-use Rattle.determinize_core.specs.Closure.{tries_left}
+use Rattle.determinize_core.specs.Private.Search.{tries_left}
 use Rattle.determinize_core.specs.Tries.{tries_of}
 
 edge_count-append : (edges : ℕ → List ℕ) (xs ys : List ℕ) → edge_count edges (xs ++ ys) ≡ edge_count edges xs + edge_count edges ys

@@ -1,9 +1,9 @@
 use Rattle.std.proofs.Common.{◌≡◌, inl, inr, ℕ, ◌+◌, ◌-◌, ◌*◌, ◌/◌, ◌%◌, ◌^◌, ◌<◌, ◌≤◌, true, false, Option, Some, None, List, [], ◌∷◌, ◌++◌, All, nat_lt, suc, zero, refl, arith, sym, ap, ◌∙◌, append_assoc, zero-add, lit≤, subst, append-nil}
-use Rattle.determinize_core.specs.Varint.{IsDeltas}
+use Rattle.determinize_core.specs.Varint.{IsDeltas, zigzag, unzigzag, groups, varint, deltas, ids_from, last_id}
 use Rattle.std.proofs.Math.Nat.{pow-suc, one-mul, mul-le-mul_left}
 use Rattle.std.proofs.lemmas.List.Elements.{All-head, All-tail}
 use Rattle.std.proofs.lemmas.Bool.Decides.{leb_tells, nat_tests}
-use Rattle.determinize_core.specs.Varint.{zigzag, unzigzag, groups, varint, deltas, read, ids_from, last_id}
+use Rattle.determinize_core.specs.Private.Groups.{read}
 
 pub unzigzag-zigzag : (from to : ℕ) → unzigzag from (zigzag from to) ≡ to
 unzigzag-zigzag from to = grind (arith, nat_tests)

@@ -1,5 +1,5 @@
 -- The bytes of a state that is being made.
-use Rattle.std.specs.Prelude.{◌≡◌, ℕ, ◌-◌, ◌/◌, List, [], ◌∷◌, ◌++◌, length, nat_eq, bit_or, slice_index, slice_set, if◌then◌else◌}
+use Rattle.std.specs.Prelude.{◌≡◌, ℕ, ◌-◌, ◌/◌, List, [], ◌∷◌, ◌++◌, length, if◌then◌else◌}
 use Rattle.determinize_core.specs.Value.{Value, IsValue}
 use Rattle.determinize_core.specs.Spelling.{flags, word, words, is_explicit, has_bit, with_word, value_of, IsSpelled}
 use Rattle.determinize_core.specs.Varint.{last_id}
@@ -9,18 +9,6 @@ unfoldable pub spell_open : Value → List ℕ
 spell_open value =
     flags value ∷ word value.look_have ++ word value.look_need
     ++ (if is_explicit value.patterns then word 0 ++ words value.patterns else [])
-
--- the bytes with the bits of this weight set in the first
-abbrev pub with_bit : List ℕ → ℕ → List ℕ
-with_bit bytes weight = slice_set bytes 0 (bit_or (slice_index bytes 0) weight)
-
--- the bytes with one more pattern, the number of patterns not written before or after
-abbrev pub with_pattern_bytes : List ℕ → ℕ → List ℕ
-with_pattern_bytes bytes id =
-    if has_bit bytes 2 then bytes ++ word id
-    else (if has_bit bytes 1 then with_bit (bytes ++ (word 0 ++ word 0 ++ word id)) 2
-    else (if nat_eq id 0 then with_bit bytes 1
-    else with_bit (bytes ++ (word 0 ++ word id)) 3))
 
 -- the bytes with the number of patterns written
 abbrev pub closed : List ℕ → List ℕ

@@ -5,9 +5,7 @@ pub mod Closure
 pub mod HostileRows
 pub mod Laws
 pub mod LookTables
-pub mod Marking
-pub mod Reading
-pub mod Recording
+pub mod Private
 pub mod Scratch
 pub mod Spelling
 pub mod StartKinds

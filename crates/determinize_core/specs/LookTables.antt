@@ -132,27 +132,3 @@ line_opened t half_crlf u _ = false
 -- the assertions that a state with these flags finds true over u, beside those in its look-have
 unfoldable pub opened : Tables → Bool → Bool → Option ℕ → Look → Bool
 opened t from_word half_crlf u look = word_opened from_word (is_word u) look || line_opened t half_crlf u look
-
--- the set of the assertions on words that are found true
-abbrev pub word_set : Bool → Bool → ℕ
-word_set from_word word =
-    insert_where (insert_where (insert_where (insert_where (insert_where (insert_where (insert_where (insert_where (insert_where (insert_where 0
-    (exactly_one from_word word) WordAscii)
-    (exactly_one from_word word) WordUnicode)
-    (not (exactly_one from_word word)) WordAsciiNegate)
-    (not (exactly_one from_word word)) WordUnicodeNegate)
-    (not from_word && word) WordStartAscii)
-    (not from_word && word) WordStartUnicode)
-    (from_word && not word) WordEndAscii)
-    (from_word && not word) WordEndUnicode)
-    (not word) WordEndHalfAscii)
-    (not word) WordEndHalfUnicode
-
--- the set of those on the haystack and on lines
-abbrev pub line_set : Tables → Bool → Option ℕ → ℕ
-line_set t half_crlf u =
-    insert_where (insert_where (insert_where (insert_where 0
-    (is_nothing u) End)
-    (is_nothing u || is_byte u t.terminator) EndLF)
-    (is_nothing u || is_byte u (crlf_first t.reverse) || (is_byte u (crlf_second t.reverse) && not half_crlf)) EndCRLF)
-    (half_crlf && not (is_byte u (crlf_second t.reverse))) StartCRLF

@@ -1,5 +1,5 @@
 -- What a state of a DFA stands for, apart from its bytes.
-use Rattle.std.specs.Prelude.{ℕ, ◌<◌, ◌≤◌, ◌^◌, ◌==◌, Bool, true, false, cond, Option, Some, None, List, [], ◌∷◌, ◌++◌, All, nat_eq, bit_or}
+use Rattle.std.specs.Prelude.{ℕ, ◌<◌, ◌≤◌, ◌^◌, Bool, true, false, Option, Some, None, List, [], ◌∷◌, ◌++◌, All, nat_eq, bit_or}
 use mathlib.Core.Bool.{◌||◌}
 use Rattle.std.specs.List.{IsDistinct}
 
@@ -41,14 +41,6 @@ with_pattern value id = record value { patterns = value.patterns ++ id ∷ [] }
 -- the value with one more NFA state at the end of its list
 abbrev pub with_state : Value → ℕ → Value
 with_state value id = record value { states = value.states ++ id ∷ [] }
-
--- the value that has no assertion where it needs none
-abbrev pub settled : Value → Value
-settled value = record value { look_have = cond (value.look_need == 0) 0 value.look_have }
-
--- the value with these patterns
-abbrev pub with_patterns : Value → List ℕ → Value
-with_patterns value patterns = record value { patterns = patterns }
 
 -- the value with these assertions added to look-have
 abbrev pub with_looks : Value → ℕ → Value

@@ -1,5 +1,5 @@
 -- How NFA ids stand in the bytes of a state: by their differences, in groups of 7 bits.
-use Rattle.std.specs.Prelude.{◌≡◌, ℕ, ◌+◌, ◌-◌, ◌*◌, ◌/◌, ◌%◌, ◌≤◌, Option, Some, None, List, [], ◌∷◌, ◌++◌, All, nat_lt, nat_le, nat_eq, suc, zero, if◌then◌else◌}
+use Rattle.std.specs.Prelude.{◌≡◌, ℕ, ◌+◌, ◌-◌, ◌*◌, ◌/◌, ◌%◌, ◌≤◌, List, [], ◌∷◌, ◌++◌, All, nat_lt, nat_le, nat_eq, suc, zero, if◌then◌else◌}
 
 -- the difference of two ids as a number: 2d for d of 0 or more, 2d - 1 where the second is d less
 abbrev pub zigzag : ℕ → ℕ → ℕ
@@ -27,14 +27,6 @@ deltas from (id ∷ ids) = varint (zigzag from id) ++ deltas id ids
 abbrev pub last_id : ℕ → List ℕ → ℕ
 last_id from [] = from
 last_id from (id ∷ ids) = last_id id ids
-
--- the number that the bytes begin with, of which `low` is read, at a group of this weight, and the bytes after it
-abbrev pub read : ℕ → ℕ → List ℕ → Option (ℕ × List ℕ)
-read low weight [] = None
-read low weight (byte ∷ bytes) =
-    if nat_lt 268435456 weight then None
-    else (if nat_lt byte 128 then Some (low + weight * byte, bytes)
-    else read (low + weight * (byte - 128)) (weight * 128) bytes)
 
 -- the ids whose differences the bytes give, of the first of which `low` is read, at a group of this weight
 abbrev pub ids_from : ℕ → ℕ → ℕ → List ℕ → List ℕ

@@ -2,7 +2,9 @@
 
 use crate::tests::map_text::MAP_OF_B;
 use determinize_below::{Anchored, Input, LookMatcher};
-use determinize_core::start::{Config, Start, StartByteMap};
+use determinize_core::start::{
+    Config, Start, StartByteMap, look_ahead_forward, look_ahead_reverse,
+};
 use std::test::Fail;
 
 #[test]
@@ -21,6 +23,16 @@ fn configurations(rt: HostRuntime) -> Result<(), Fail> {
     assert_eq!(rt; set.get_look_behind(), Some(0));
     assert_eq!(rt; set.get_anchored(), Anchored::Yes);
     Ok(())
+}
+
+#[test]
+fn bytes_ahead(rt: HostRuntime) {
+    let input = Input::new(b"abc").range(1..2);
+    assert_eq!(rt; look_ahead_forward(&input), Some(b'c'));
+    assert_eq!(rt; look_ahead_reverse(&input), Some(b'a'));
+    let empty = Input::new(b"").range(1..0);
+    assert_eq!(rt; look_ahead_forward(&empty), None);
+    assert_eq!(rt; look_ahead_reverse(&empty), None);
 }
 
 #[test]

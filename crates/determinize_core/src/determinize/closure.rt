@@ -8,8 +8,9 @@ ghost use Rattle.determinize_below.specs.Members.{AreMembers, has_id};
 ghost use Rattle.determinize_below.specs.Nfa.{AllResolve, IsAccepted};
 ghost use Rattle.determinize_below.specs.Node.{is_epsilon};
 ghost use Rattle.determinize_below.specs.Runs.{without};
-ghost use Rattle.determinize_core.specs.Closure.{closure_of, closure_tries, AddsBeginning, IsTurn};
-ghost use Rattle.determinize_core.specs.Recording.{added, added_one};
+ghost use Rattle.determinize_core.specs.Closure.{closure_of, AddsBeginning};
+ghost use Rattle.determinize_core.specs.Private.Search.{closure_tries, IsTurn};
+ghost use Rattle.determinize_core.specs.Private.Recording.{added, added_one};
 
 use crate::determinize::recording::add_state;
 use crate::determinize::steps::Steps;

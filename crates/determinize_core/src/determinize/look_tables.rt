@@ -9,6 +9,7 @@ ghost use Rattle.determinize_below.specs.Truth as truth;
 ghost use Rattle.determinize_below.specs.Unit.{byte_of};
 ghost use Rattle.determinize_below.specs.declared.look.Look.{Look as Assertion};
 ghost use Rattle.determinize_core.specs.LookTables as tables;
+ghost use Rattle.determinize_core.specs.Private.LookSets as sets;
 ghost use Rattle.determinize_core.specs.LookTables.{known_set, tables_of, with_start};
 ghost use Rattle.determinize_core.specs.StartKinds.{start_kind_of};
 ghost use Rattle.determinize_core.specs.Value.{with_flags};
@@ -88,7 +89,7 @@ fn insert_where(set: LookSet, test: bool, look: Look) -> LookSet
 
 /// The assertions on words that are true, by whether word bytes stand behind and ahead.
 fn word_set(from_word: bool, word: bool) -> LookSet
-    ensures { result ≡ tables.word_set from_word word }
+    ensures { result ≡ sets.word_set from_word word }
 {
     let set = LookSet::empty();
     let set = insert_where(set, from_word != word, Look::WordAscii);
@@ -230,7 +231,7 @@ impl LookTables {
     /// The assertions on the haystack and on lines that the unit makes true, by whether the first
     /// half of a CRLF stands behind.
     fn line_set(self, half_crlf: bool, unit: Unit) -> LookSet
-        ensures { result ≡ tables.line_set self half_crlf (byte_of unit) }
+        ensures { result ≡ sets.line_set self half_crlf (byte_of unit) }
     {
         let end = unit.is_eoi();
         let first = unit.is_byte(self.crlf_first());

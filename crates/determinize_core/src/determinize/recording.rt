@@ -4,8 +4,8 @@ ghost use Rattle.std.specs.Prelude.{◌≡◌, ◌<◌, length, OnOk, OnErr};
 ghost use Rattle.determinize_below.specs.Edges.{is_capture};
 ghost use Rattle.determinize_below.specs.Nfa.{AllResolve};
 ghost use Rattle.determinize_below.specs.Runs.{without};
-ghost use Rattle.determinize_core.specs.Marking.{IsGrown};
-ghost use Rattle.determinize_core.specs.Recording.{added, added_one};
+ghost use Rattle.determinize_core.specs.Private.Marking.{IsGrown};
+ghost use Rattle.determinize_core.specs.Private.Recording.{added, added_one};
 ghost use Rattle.determinize_core.specs.Step.{recorded};
 
 use crate::state::StateBuilderNFA;

@@ -1,13 +1,13 @@
 //! A whole walk: the states of a DFA over a text, from the start state to the end of the input.
 
-ghost use Rattle.std.specs.Prelude.{◌≡◌, ◌<◌, All, None, length, IfOk};
+ghost use Rattle.std.specs.Prelude.{◌≡◌, ◌<◌, ◌∷◌, ◌++◌, [], All, None, length, IfOk, OnOk};
 ghost use Rattle.determinize_below.specs.Nfa.{AllResolve};
 ghost use Rattle.determinize_below.specs.Positions.{between};
 ghost use Rattle.determinize_below.specs.Unit.{byte_of};
 ghost use Rattle.determinize_below.specs.declared.search.MatchKind.TheVariants as kinds;
 ghost use Rattle.determinize_core.specs.Chain.{FollowsItself, chain};
 ghost use Rattle.determinize_core.specs.Scratch.{IsScratch};
-ghost use Rattle.determinize_core.specs.Step.{start_value};
+ghost use Rattle.determinize_core.specs.Step.{start_value, step};
 ghost use Rattle.determinize_core.specs.Walk as specs_of_walks;
 ghost use Rattle.determinize_core.specs.Walk.{IsLeftmostWalk, IsWalkOfAll};
 ghost use Rattle.determinize_core.specs.WalkStates.{RecordsReached};
@@ -133,33 +133,71 @@ pub fn walk_between<N: Allocator, A: Allocator + Copy>(
     let mut builder = start_state(nfa, start, look_behind, &mut sparses, &mut stack, empty)?;
     let mut states = Vec::new(alloc);
     for byte in text {
-        let state = builder.to_state()?;
-        let empty = builder.clear();
         let unit = Unit::u8(*byte);
-        builder = next(
+        builder = advance(
             nfa,
             match_kind,
             &mut sparses,
             &mut stack,
-            &state,
+            builder,
             unit,
-            empty,
+            &mut states,
         )?;
-        states.push(state)?;
     }
-    let state = builder.to_state()?;
-    let empty = builder.clear();
     let unit = unit_ahead(look_ahead);
-    let last = next(
+    let states = finish(
         nfa,
         match_kind,
         &mut sparses,
         &mut stack,
-        &state,
+        builder,
         unit,
-        empty,
+        states,
     )?;
+    Ok(states)
+}
+
+/// Finishes the state in the builder, puts it after the others, and leaves it over a unit.
+#[inline(always)]
+fn advance<N: Allocator, A: Allocator + Clone>(
+    nfa: &NFA<N>,
+    match_kind: MatchKind,
+    sparses: &mut SparseSets<A>,
+    stack: &mut Vec<StateID, A>,
+    builder: StateBuilderNFA<A>,
+    unit: Unit,
+    states: &mut Vec<State<A>, A>,
+) -> Result<StateBuilderNFA<A>, AllocError>
+    requires scratch { IsScratch nfa.now sparses.old.set1 sparses.old.set2 stack.old.items }
+    requires resolve { AllResolve nfa.now builder.states }
+    ensures ok { IfOk result (λ after. after ≡ step nfa.now match_kind builder (byte_of unit)) }
+    ensures pushed { OnOk result (states.new.items ≡ states.old.items ++ builder ∷ []) }
+    ensures resolve { IfOk result (λ after. AllResolve nfa.now after.states) }
+    ensures scratch { IsScratch nfa.now sparses.new.set1 sparses.new.set2 stack.new.items }
+{
+    let state = builder.to_state()?;
+    let empty = builder.clear();
+    let after = next(nfa, match_kind, sparses, stack, &state, unit, empty)?;
     states.push(state)?;
+    Ok(after)
+}
+
+/// Leaves the last state of a walk over the last unit, and gives all of its states.
+fn finish<N: Allocator, A: Allocator + Clone>(
+    nfa: &NFA<N>,
+    match_kind: MatchKind,
+    sparses: &mut SparseSets<A>,
+    stack: &mut Vec<StateID, A>,
+    builder: StateBuilderNFA<A>,
+    unit: Unit,
+    mut states: Vec<State<A>, A>,
+) -> Result<Vec<State<A>, A>, AllocError>
+    requires scratch { IsScratch nfa.now sparses.old.set1 sparses.old.set2 stack.old.items }
+    requires resolve { AllResolve nfa.now builder.states }
+    ensures { IfOk result (λ all. all.items
+        ≡ (states.items ++ builder ∷ []) ++ step nfa.now match_kind builder (byte_of unit) ∷ []) }
+{
+    let last = advance(nfa, match_kind, sparses, stack, builder, unit, &mut states)?;
     states.push(last.to_state()?)?;
     Ok(states)
 }

@@ -13,12 +13,13 @@ ghost use Rattle.determinize_below.specs.Nfa.{AllResolve, IsAccepted};
 ghost use Rattle.determinize_below.specs.Reach.{joined};
 ghost use Rattle.determinize_below.specs.Search.{continues};
 ghost use Rattle.determinize_below.specs.Unit.{byte_of};
-ghost use Rattle.determinize_core.specs.Reading.{stops, leads_on, gained, roots_of};
+ghost use Rattle.determinize_core.specs.Private.Reading.{stops, leads_on, gained, roots_of};
 ghost use Rattle.determinize_core.specs.Scratch.{IsScratch};
 ghost use Rattle.determinize_core.specs.Step as specs_of_steps;
 ghost use Rattle.determinize_core.specs.Step.{distinct_states, is_reopened, opened_by, patterns_read, working_list};
 ghost use Rattle.determinize_core.specs.Tries.{tries_again, tries_of};
-ghost use Rattle.determinize_core.specs.Value.{is_nonempty, with_patterns};
+ghost use Rattle.determinize_core.specs.Value.{is_nonempty};
+ghost use Rattle.determinize_core.specs.Private.Changes.{with_patterns};
 
 use crate::determinize::closure::counted_closure;
 use crate::determinize::look_tables::LookTables;

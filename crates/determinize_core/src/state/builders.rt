@@ -3,10 +3,11 @@
 ghost use Rattle.std.specs.Prelude.{◌≡◌, ℕ, [], true, false, nat_eq, IfOk, OnOk, OnErr, IsOk};
 ghost use Rattle.std.specs.List.{list_any};
 ghost use Rattle.determinize_below.specs.Look.{insert};
-ghost use Rattle.determinize_core.specs.Value.{Value as StateValue, IsValue, dead, settled, with_pattern, with_state, is_nonempty};
+ghost use Rattle.determinize_core.specs.Value.{Value as StateValue, IsValue, dead, with_pattern, with_state, is_nonempty};
+ghost use Rattle.determinize_core.specs.Private.Changes.{settled};
 ghost use Rattle.determinize_core.specs.Spelling.{spell};
 ghost use Rattle.determinize_core.specs.Building.{IsOpen, value_of_open};
-ghost use Rattle.determinize_core.specs.Marking.{IsMarkOf, IsGrown};
+ghost use Rattle.determinize_core.specs.Private.Marking.{IsMarkOf, IsGrown};
 
 use crate::state::nfa_state_ids::NfaStateIds;
 use crate::state::pattern_ids::PatternIds;

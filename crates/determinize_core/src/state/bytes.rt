@@ -3,7 +3,8 @@
 ghost use Rattle.std.specs.Prelude.{◌≡◌, ◌+◌, ◌*◌, ◌<◌, ◌≤◌, ◌^◌, [], ◌∷◌, if◌then◌else◌, length, slice_index, vec_len, true, false, All, OnOk, OnErr, IsOk};
 ghost use Rattle.determinize_core.specs.Value.{is_nonempty};
 ghost use Rattle.determinize_core.specs.Spelling.{IsSpelled, value_of, number_at, numbers_in, words, with_word, has_bit, start_in};
-ghost use Rattle.determinize_core.specs.Building.{IsOpen, value_of_open, closed, with_bit, with_pattern_bytes};
+ghost use Rattle.determinize_core.specs.Building.{IsOpen, value_of_open, closed};
+ghost use Rattle.determinize_core.specs.Private.PatternBytes.{with_bit, with_pattern_bytes};
 
 use crate::state::nfa_state_ids::NfaStateIds;
 use determinize_below::{LookSet, PatternID};

@@ -2,7 +2,8 @@
 
 ghost use Rattle.std.specs.Prelude.{◌≡◌, ◌+◌, ◌%◌, ◌≤◌, [], ◌∷◌, ◌++◌, take, option_map, IfNone, IfSome, OnErr, OnOk};
 ghost use Rattle.determinize_core.specs.Varint as format;
-ghost use Rattle.determinize_core.specs.Varint.{read, unzigzag, ids_from, IsDeltas};
+ghost use Rattle.determinize_core.specs.Private.Groups.{read};
+ghost use Rattle.determinize_core.specs.Varint.{unzigzag, ids_from, IsDeltas};
 
 use determinize_below::StateID;
 use std::alloc::{AllocError, Allocator};

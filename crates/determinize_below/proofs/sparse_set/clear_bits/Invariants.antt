@@ -1,5 +1,5 @@
 use Rattle.std.proofs.Common.{take}
-use Rattle.determinize_below.specs.Members.{IsCleared}
+use Rattle.determinize_below.specs.Private.Clearing.{IsCleared}
 use Rattle.determinize_below.proofs.sparse_set.clear_bits.Given as goal
 
 abbrev pub invariant-loop-id : goal.invariant-loop-id

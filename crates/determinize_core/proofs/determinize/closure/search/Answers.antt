@@ -3,7 +3,7 @@ use Rattle.std.specs.Option.{option_to_list}
 use Rattle.std.proofs.lemmas.Result.{err_from_is_err_and}
 use Rattle.determinize_below.specs.Look.{has}
 use Rattle.determinize_below.proofs.SoundNfa.{accepted_sound}
-use Rattle.determinize_core.specs.Closure.{IsTurn}
+use Rattle.determinize_core.specs.Private.Search.{IsTurn}
 use Rattle.determinize_core.proofs.ClosureSteps.{IsSoFar, so_far-start, so_far-turn, so_far-end, so_far-counted, so_far-part, members_same}
 use Rattle.determinize_core.proofs.determinize.closure.search.Goals as goal
 

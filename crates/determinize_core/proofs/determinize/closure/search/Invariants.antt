@@ -2,7 +2,7 @@ use Rattle.std.proofs.Common.{◌≡◌, ◌++◌, reverse}
 use Rattle.std.specs.Option.{option_to_list}
 use Rattle.determinize_below.specs.Look.{has}
 use Rattle.determinize_below.specs.Nfa.{AllResolve}
-use Rattle.determinize_core.specs.Closure.{tries_left}
+use Rattle.determinize_core.specs.Private.Search.{tries_left}
 use Rattle.determinize_core.proofs.ClosureSteps.{IsSoFar}
 use Rattle.determinize_core.proofs.determinize.closure.search.Given as goal
 

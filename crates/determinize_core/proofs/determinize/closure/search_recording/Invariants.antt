@@ -3,8 +3,8 @@ use Rattle.std.specs.Option.{option_to_list}
 use Rattle.determinize_below.specs.Edges.{is_capture}
 use Rattle.determinize_below.specs.Look.{has}
 use Rattle.determinize_below.specs.Runs.{without}
-use Rattle.determinize_core.specs.Closure.{tries_left}
-use Rattle.determinize_core.specs.Recording.{added}
+use Rattle.determinize_core.specs.Private.Search.{tries_left}
+use Rattle.determinize_core.specs.Private.Recording.{added}
 use Rattle.determinize_core.proofs.ClosureSteps.{IsSoFar}
 use Rattle.determinize_core.proofs.determinize.closure.search_recording.Given as goal
 

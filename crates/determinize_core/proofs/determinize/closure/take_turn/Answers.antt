@@ -4,7 +4,7 @@ use Rattle.determinize_below.specs.Edges.{edges}
 use Rattle.determinize_below.specs.Look.{has}
 use Rattle.determinize_below.specs.Members.{Members}
 use Rattle.determinize_below.proofs.SoundNfa.{accepted_sound}
-use Rattle.determinize_core.specs.Closure.{IsTurn}
+use Rattle.determinize_core.specs.Private.Search.{IsTurn}
 use Rattle.determinize_core.proofs.ClosureSteps.{turn_held, turn_new, inserted, not_inserted}
 use Rattle.determinize_core.proofs.determinize.closure.take_turn.Goals as goal
 

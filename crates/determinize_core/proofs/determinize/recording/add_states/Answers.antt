@@ -1,5 +1,5 @@
 use Rattle.std.proofs.Common.{◌∙◌, ap, length}
-use Rattle.determinize_core.specs.Recording.{added_one}
+use Rattle.determinize_core.specs.Private.Recording.{added_one}
 use Rattle.determinize_core.specs.Value.{Value}
 use Rattle.determinize_core.proofs.Collecting.{rest_below}
 use Rattle.determinize_core.proofs.RecordingSteps.{added_one-after}

@@ -1,7 +1,7 @@
 use Rattle.std.proofs.Common.{◌≡◌, ◌<◌, All, length}
 use Rattle.determinize_below.specs.Edges.{is_capture}
 use Rattle.determinize_below.specs.Runs.{without}
-use Rattle.determinize_core.specs.Recording.{added}
+use Rattle.determinize_core.specs.Private.Recording.{added}
 use Rattle.determinize_core.proofs.determinize.recording.add_states.Given as goal
 
 abbrev pub invariant-loop-id : goal.invariant-loop-id

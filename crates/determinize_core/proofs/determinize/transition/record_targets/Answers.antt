@@ -6,7 +6,7 @@ use Rattle.determinize_below.specs.Look.{has}
 use Rattle.determinize_below.specs.Runs.{without}
 use Rattle.determinize_below.specs.Unit.{byte_of}
 use Rattle.determinize_below.proofs.SoundNfa.{accepted_sound}
-use Rattle.determinize_core.specs.Recording.{added}
+use Rattle.determinize_core.specs.Private.Recording.{added}
 use Rattle.determinize_core.specs.Tries.{tries_of}
 use Rattle.determinize_core.specs.Value.{Value}
 use Rattle.determinize_core.proofs.ClosingAll.{reach-none, tries_of-none, reach_next, tries_next, tries_within}

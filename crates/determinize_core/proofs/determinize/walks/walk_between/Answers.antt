@@ -14,12 +14,6 @@ use Rattle.determinize_core.proofs.Walking.{chain_resolves, promised, walked-cha
 use Rattle.determinize_core.proofs.WholeWalk.{leftmost_walk, records_reached, walk_of_all}
 use Rattle.determinize_core.proofs.determinize.walks.walk_between.Goals as goal
 
-pub next-requires-clause-resolve : goal.next-requires-clause-resolve
-next-requires-clause-resolve g c = subst (λ (v : Value). AllResolve c.args.nfa.now v.states) (sym c.in_ok-state.ensures) c.loop-byte.invariant.resolve
-
-pub next-requires-2-clause-resolve : goal.next-requires-2-clause-resolve
-next-requires-2-clause-resolve g c = subst (λ (v : Value). AllResolve c.args.nfa.now v.states) (sym c.in_ok-state-2.ensures) c.loop-byte.invariant.resolve
-
 pub loop-byte-init : goal.loop-byte-init
 loop-byte-init g c = record {
   walked = walked-start c.args.nfa.now c.args.match_kind (start_value c.args.nfa.now c.args.start c.args.look_behind) _ _ c.new-states.ensures.items c.in_ok-builder.ensures.ok;
@@ -32,8 +26,8 @@ loop-byte-preserved g c = record {
   walked = walked-push c.args.nfa.now c.args.match_kind (start_value c.args.nfa.now c.args.start c.args.look_behind) c.args.text.now c.loop-byte.byte-index 0 _ _ _ _ (byte_of c.u8-unit.result) c.loop-byte-test.true
       c.loop-byte.invariant.walked
       (ap byte_of c.u8-unit.ensures)
-      (c.in_ok-builder-2.ensures.ok ∙ ap (λ (v : Value). step c.args.nfa.now c.args.match_kind v (byte_of c.u8-unit.result)) c.in_ok-state.ensures)
-      (c.in_ok-push.ensures.items ∙ ap (λ (v : Value). c.loop-byte.states.items ++ v ∷ []) c.in_ok-state.ensures);
+      c.in_ok-builder-2.ensures.ok
+      c.in_ok-builder-2.ensures.pushed;
   resolve = c.in_ok-builder-2.ensures.resolve;
   scratch = c.in_ok-builder-2.ensures.scratch;
 }
@@ -43,9 +37,9 @@ returns-clause-values g c =
     walked-chain c.args.nfa.now c.args.match_kind c.args.start (between c.args.look_behind c.args.text.now c.args.look_ahead) c.loop-byte.byte-index _ _ _ _ _ (byte_of c.unit_ahead-unit.result) c.loop-byte-test.false
     c.loop-byte.invariant.walked
     c.unit_ahead-unit.ensures
-    (c.in_ok-to_state.ensures ∙ c.in_ok-last.ensures.ok ∙ ap (λ (v : Value). step c.args.nfa.now c.args.match_kind v (byte_of c.unit_ahead-unit.result)) c.in_ok-state-2.ensures)
-    (c.in_ok-push-2.ensures.items ∙ ap (λ (v : Value). c.loop-byte.states.items ++ v ∷ []) c.in_ok-state-2.ensures)
-    c.in_ok-push-3.ensures.items
+    refl
+    refl
+    c.in_ok-states.ensures
 
 pub returns-clause-resolve : goal.returns-clause-resolve
 returns-clause-resolve g c =

@@ -1,6 +1,6 @@
 use Rattle.std.proofs.Common.{◌≡◌, ◌∙◌, ◌++◌, sym, ap, List, ℕ, true, false}
 use Rattle.determinize_core.specs.Spelling.{has_bit, word}
-use Rattle.determinize_core.specs.Building.{with_bit}
+use Rattle.determinize_core.specs.Private.PatternBytes.{with_bit}
 use Rattle.determinize_core.proofs.state.bytes.add_pattern.Goals as goal
 
 pub returns-in_ok-extend_from_slice-2-clause-ok : goal.returns-in_ok-extend_from_slice-2-clause-ok

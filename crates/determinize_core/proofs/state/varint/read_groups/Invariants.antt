@@ -1,5 +1,5 @@
 use Rattle.std.proofs.Common.{◌≡◌, ◌*◌, ◌≤◌, ◌<◌, length}
-use Rattle.determinize_core.specs.Varint.{read}
+use Rattle.determinize_core.specs.Private.Groups.{read}
 use Rattle.determinize_core.proofs.state.varint.read_groups.Given as goal
 
 abbrev pub invariant-loop-byte : goal.invariant-loop-byte

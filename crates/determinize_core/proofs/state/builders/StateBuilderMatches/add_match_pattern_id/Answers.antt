@@ -1,7 +1,8 @@
 use Rattle.std.proofs.Common.{◌≡◌, ap, ◌∙◌, arith, false, true, nat_eq}
 use Rattle.std.specs.List.{list_any}
 use Rattle.determinize_core.specs.Value.{Value, with_pattern}
-use Rattle.determinize_core.specs.Building.{value_of_open, with_pattern_bytes}
+use Rattle.determinize_core.specs.Building.{value_of_open}
+use Rattle.determinize_core.specs.Private.PatternBytes.{with_pattern_bytes}
 use Rattle.determinize_core.proofs.OpenLaws.{open_long, open_with_pattern, open_first}
 use Rattle.determinize_core.proofs.state.builders.StateBuilderMatches.add_match_pattern_id.Goals as goal
 

@@ -1,6 +1,6 @@
 use Rattle.std.proofs.Common.{sym, arith, subst}
 use Rattle.determinize_core.specs.Value.{Value}
-use Rattle.determinize_core.specs.Marking.{IsGrown}
+use Rattle.determinize_core.specs.Private.Marking.{IsGrown}
 use Rattle.determinize_core.proofs.MarkLaws.{mark_within, come_back}
 use Rattle.determinize_core.proofs.state.builders.StateBuilderNFA.restore.Goals as goal
 

@@ -1,0 +1,10 @@
+-- How a number is read from groups of 7 bits.
+use Rattle.std.specs.Prelude.{ℕ, ◌+◌, ◌-◌, ◌*◌, Option, Some, None, List, [], ◌∷◌, nat_lt, if◌then◌else◌}
+
+-- the number that the bytes begin with, of which `low` is read, at a group of this weight, and the bytes after it
+abbrev pub read : ℕ → ℕ → List ℕ → Option (ℕ × List ℕ)
+read low weight [] = None
+read low weight (byte ∷ bytes) =
+    if nat_lt 268435456 weight then None
+    else (if nat_lt byte 128 then Some (low + weight * byte, bytes)
+    else read (low + weight * (byte - 128)) (weight * 128) bytes)
