@@ -1,5 +1,6 @@
-use Rattle.std.proofs.Common.{◌≡◌, inl, inr, ℕ, ◌+◌, ◌-◌, ◌*◌, ◌/◌, ◌%◌, ◌^◌, ◌<◌, ◌≤◌, true, false, Option, Some, None, List, [], ◌∷◌, ◌++◌, All, nat_lt, suc, zero, refl, arith, sym, ap, ◌∙◌, append_assoc, zero-add, lit≤, subst, append-nil}
+use Rattle.std.proofs.Common.{◌≡◌, inl, inr, ℕ, ◌+◌, ◌-◌, ◌*◌, ◌/◌, ◌%◌, ◌^◌, ◌<◌, ◌≤◌, true, false, Option, Some, None, List, [], ◌∷◌, ◌++◌, All, nat_lt, suc, zero, refl, arith, sym, ap, ◌∙◌, append_assoc, zero-add, lit≤, subst, append-nil, length, take}
 use Rattle.determinize_core.specs.Varint.{IsDeltas, zigzag, unzigzag, groups, varint, deltas, ids_from, last_id}
+use Rattle.std.proofs.lemmas.List.{length-take, take-append-le}
 use Rattle.std.proofs.Math.Nat.{pow-suc, one-mul, mul-le-mul_left}
 use Rattle.std.proofs.lemmas.List.Elements.{All-head, All-tail}
 use Rattle.std.proofs.lemmas.Bool.Decides.{leb_tells, nat_tests}
@@ -138,3 +139,37 @@ first_some from bytes number after h some = go (ids_from from 0 1 bytes) refl
 pub deltas-push : (from : ℕ) (ids : List ℕ) (id : ℕ) → deltas from (ids ++ id ∷ []) ≡ deltas from ids ++ varint (zigzag (last_id from ids) id)
 deltas-push from [] id = append-nil (varint (zigzag from id))
 deltas-push from (i ∷ ids) id = rw (deltas-push i ids id) (sym (append_assoc (varint (zigzag from i)) (deltas i ids) (varint (zigzag (last_id i ids) id))))
+
+-- a number that so many groups hold has no more groups where one more is granted
+groups-one_more : (more n : ℕ) → n < 128 * 128 ^ more → groups (suc more) n ≡ groups more n
+groups-one_more zero n small = let one : nat_lt n 128 ≡ true = grind (arith, nat_tests) in rw one
+groups-one_more (suc more) n small =
+    elim (leb_tells (suc n) 128) [
+      | inl h ↦ rw h.0
+      | inr h ↦ rw (h.0, groups-one_more more (n / 128) (fits_after more n small))
+    ]
+
+-- a number of one group
+pub varint-one : (n : ℕ) → n < 128 → varint n ≡ n ∷ []
+unfolding varint
+varint-one n small = let one : nat_lt n 128 ≡ true = grind (arith, nat_tests) in rw one
+
+-- a number of more groups: its low group, and the groups of the rest
+pub varint-more : (n : ℕ) → 128 ≤ n → n < 4294967296 → varint n ≡ (128 + n % 128) ∷ varint (n / 128)
+unfolding varint
+varint-more n big small =
+    let more_groups : nat_lt n 128 ≡ false = grind (arith, nat_tests) in
+    let fits : n / 128 < 128 * 128 ^ 3 = omega arith in
+    rw more_groups (ap (λ r. (128 + n % 128) ∷ r) (sym (groups-one_more 3 (n / 128) fits)))
+
+-- after its low group, the groups of the rest are those of the number
+pub append-varint : (bytes : List ℕ) (n : ℕ) → 128 ≤ n → n < 4294967296 →
+    (bytes ++ (128 + n % 128) ∷ []) ++ varint (n / 128) ≡ bytes ++ varint n
+append-varint bytes n big small = rw (varint-more n big small) (append_assoc bytes ((128 + n % 128) ∷ []) (varint (n / 128)))
+
+-- what bytes begin with, they still begin with when more are added
+pub begins_still : (beginning bytes added : List ℕ) → take (length beginning) bytes ≡ beginning →
+    take (length beginning) (bytes ++ added) ≡ beginning
+begins_still beginning bytes added begins =
+    let within : length beginning ≤ length bytes = omega (arith, length-take (length beginning) bytes, ap length begins) in
+    rw take-append-le begins

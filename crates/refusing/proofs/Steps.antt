@@ -1,4 +1,4 @@
--- What both walks of `Refusing` share: a `&Refusing` as a `&` to each field, and the gate's answers at its two calls. Assumes `Logic`.
+-- What both walks of `Refusing` share: their parameters, a `&Refusing` as a `&` to each field, and the gate's answers at its two calls. Assumes `Logic`.
 use Rattle.std.proofs.Common.{◌≡◌, ℕ, ◌+◌, Bool, List, [], ◌∷◌, refl, ap}
 use seplogic.Ra.Ura.{Ura}
 use mir.Syntax.{Args, a_type, dnil, dcons}
@@ -16,7 +16,8 @@ use denote.Param.{bounded, param}
 use denote.Opens.{unhide}
 use denote.Laws.{shows}
 use denote.Plain.{bool_Tells}
-use denote.Builtin.{bool, unit}
+use denote.Builtin.{bool, unit, usize, RefOf}
+use denote.Signature.{Slot, plain}
 use denote.Steps.{nothing, only, facts}
 use denote.Triple.Statement.{Contract}
 use denote.Triple.Spec.{triple_of}
@@ -27,12 +28,20 @@ use Rattle.refusing.specs.contracts.Gate.refuses as refuses
 use Rattle.refusing.specs.contracts.Gate.take_back as take_back
 use Rattle.refusing.specs.contracts.Refusing as whole
 
+-- a size or an alignment
+abbrev pub number : Slot 2
+number = plain (λ _. usize)
+
 module _ (Z : Al) where
   abbrev pub given : Args
   given = bounded (a_type ∷ []) (Z.row, tt) (dcons Z.d (dcons Z.drops dnil))
 
   abbrev pub Whole : RattleType
   Whole = whole.the_row (param 0 Z.row)
+
+  -- the `&Refusing`
+  abbrev pub self : Slot 2
+  self = RefOf (0 ∷ []) tt (plain (λ _. Whole)) (λ _. tt)
 
   -- where the fields of a `Refusing` at an address lie
   abbrev pub inner_at : ℕ × ℕ → ℕ × ℕ
@@ -62,7 +71,7 @@ module _ {M : Type 1} {𝓤 : Ura M} (𝓛 : Logic 𝓤) (at_mem : Memory → SP
     at_asks = (((κ, tt), (q, tt), tt, (record { ref_ptr = c; now = x }, tt), (vptr c.0 c.1 ∷ [], tt)), tt)
 
     abbrev pub at_backs : Backs.Ghost
-    at_backs = (((κ, tt), (q, tt), tt, (record { ref_ptr = c; now = x }, tt), (vptr c.0 c.1 ∷ [], tt)), tt)
+    at_backs = at_asks
 
     pub Asks-goes : ent 𝓤 (sep 𝓤 (sem 𝓛 (hidden_shr gate.the_row κ x c.0 c.1)) (A.lft κ q)) (Asks.pre at_asks)
     Asks-goes =
@@ -71,10 +80,7 @@ module _ {M : Type 1} {𝓤 : Ura M} (𝓛 : Logic 𝓤) (at_mem : Memory → SP
         nothing ! $ move ! (1 ∷ 0 ∷ []) $ join ! $ done !
 
     pub Backs-goes : ent 𝓤 (sep 𝓤 (sem 𝓛 (hidden_shr gate.the_row κ x c.0 c.1)) (A.lft κ q)) (Backs.pre at_backs)
-    Backs-goes =
-        qed 𝓛 (‵ (hidden_shr gate.the_row κ x c.0 c.1) ∷ ‵ (flft κ q) ∷ []) ∵ feq_i ! (List Val) (vptr c.0 c.1 ∷ []) _ refl $ fjoin ! $
-        nothing ! $ move ! (1 ∷ 0 ∷ []) $ fjoin ! $ nothing ! $ move ! (2 ∷ 0 ∷ []) $ join ! $ move ! (0 ∷ 1 ∷ []) $ join ! $
-        nothing ! $ move ! (1 ∷ 0 ∷ []) $ join ! $ done !
+    Backs-goes = Asks-goes
 
     -- a flag came back, and the token
     pub Asks-gives : (v : Val) → ent 𝓤 (Asks.post at_asks v) (H.⇛ (ex 𝓤 (λ (y : Bool). guard 𝓤 (v ≡ vbool y) (A.lft κ q))))

@@ -2,6 +2,7 @@
 
 ghost use Rattle.std.specs.Prelude.{◌<◌, length};
 
+use crate::tests::memory::{Heap, refuse_in_turn};
 use determinize_below::{
     HalfMatch, LookMatcher, MatchKind, NFA, PatternID, SparseSets, StateID, Unit,
 };
@@ -9,7 +10,7 @@ use determinize_core::determinize::{last_match, next, start_state, walk};
 use determinize_core::state::{State, StateBuilderEmpty};
 use determinize_replay::error::JobError;
 use determinize_replay::nfas;
-use std::alloc::{AllocError, Global};
+use std::alloc::{AllocError, Allocator, Global};
 use std::collections::HashMap;
 use std::process::Abort;
 use std::test::Fail;
@@ -17,9 +18,9 @@ use std::test::Fail;
 /// The states of a DFA in the order in which they are found, the start state first, and for each
 /// state the indices of those that follow over each byte and, last, over the end of the input.
 #[derive(Drop)]
-struct Dfa {
-    states: Vec<State>,
-    rows: Vec<Vec<usize>>,
+struct Dfa<A: Allocator = Global> {
+    states: Vec<State<A>, A>,
+    rows: Vec<Vec<usize, A>, A>,
 }
 
 /// The unit of a column: a byte, or the end of the input after the bytes.
@@ -32,20 +33,21 @@ fn unit(column: usize) -> Unit {
 
 /// The DFA of searches from this NFA state with nothing behind, or none where it has more states
 /// than the limit.
-fn build(
-    alloc: Global,
+fn build<A: Allocator + Copy>(
+    alloc: A,
     nfa: &NFA,
     kind: MatchKind,
     start: StateID,
     limit: usize,
-) -> Result<Option<Dfa>, AllocError>
+) -> Result<Option<Dfa<A>>, AllocError>
     requires { start < length nfa.now.states }
 {
     let mut sparses = SparseSets::new(alloc, nfa.len())?;
     let mut stack = Vec::new(alloc);
     let empty = StateBuilderEmpty::new(alloc);
     let mut builder = start_state(nfa, start, None, &mut sparses, &mut stack, empty)?;
-    let mut states = vec![in alloc; builder.to_state()?]?;
+    let mut states = Vec::new(alloc);
+    states.push(builder.to_state()?)?;
     let mut indices = HashMap::new(alloc);
     indices.insert(builder.to_state()?, 0)?;
     let mut rows = Vec::new(alloc);
@@ -73,7 +75,7 @@ fn build(
     Ok(None)
 }
 
-impl Dfa {
+impl<A: Allocator> Dfa<A> {
     /// The last match that a search over the text tells.
     fn last_match(&self, text: &[u8]) -> Option<HalfMatch> {
         let mut index = 0;
@@ -96,13 +98,17 @@ impl Dfa {
 const FOO_OR_BAR: &str = "\
 BU:2,1 B:00-ff>0 BU:3,8 B:66>4 B:6f>5 B:6f>6 B:30-39>7 BU:6,11 B:62>9 B:61>10 B:72>11 M:0";
 
-/// The NFA of `foo[0-9]+|bar`.
-fn foo_or_bar(alloc: Global) -> Result<NFA, JobError> {
-    let states = nfas::states(alloc, FOO_OR_BAR)?;
-    let anchored = StateID::must(2);
+/// The NFA of these states, whose anchored start is this one and whose unanchored start is 0.
+fn nfa(alloc: Global, states: &str, anchored: StateID) -> Result<NFA, JobError> {
+    let states = nfas::states(alloc, states)?;
     let matcher = LookMatcher::new();
     let nfa = NFA::from_parts(alloc, states, anchored, StateID::ZERO, false, matcher)?;
     Ok(nfa)
+}
+
+/// The NFA of `foo[0-9]+|bar`.
+fn foo_or_bar(alloc: Global) -> Result<NFA, JobError> {
+    nfa(alloc, FOO_OR_BAR, StateID::must(2))
 }
 
 /// The texts that each DFA is run over.
@@ -176,4 +182,43 @@ fn keeps_its_limit(rt: HostRuntime) -> Result<(), Fail> {
     let dfa = build(rt.alloc(), &nfa, MatchKind::All, nfa.start_anchored(), 10)?;
     assert!(rt; dfa.is_none());
     Ok(())
+}
+
+/// The DFA of a loop over the byte `a` has two states. The byte leads back to the start, and all
+/// else to the dead one.
+fn expect_loop<A: Allocator>(rt: &impl Abort, dfa: &Dfa<A>) {
+    let states: [&[u8]; 2] = [&[0; 10], &[0; 9]];
+    assert_eq!(rt; dfa.states.len(), states.len());
+    for (state, bytes) in dfa.states.iter().zip(states) {
+        assert_eq!(rt; state.as_bytes(), bytes);
+    }
+    let dead = [1; 257];
+    let mut start = dead;
+    start[usize::from(b'a')] = 0;
+    let rows = [start, dead];
+    assert_eq!(rt; dfa.rows.len(), rows.len());
+    for (row, indices) in dfa.rows.iter().zip(rows.iter()) {
+        assert_eq!(rt; row.as_slice(), indices.as_slice());
+    }
+}
+
+/// Builds the DFA of that loop.
+fn build_loop<R: Abort + AllocGlobal>(rt: &R, heap: &Heap) -> Result<bool, Fail> {
+    let nfa = nfa(rt.alloc(), "B:61>0", StateID::ZERO)?;
+    heap.begin();
+    let built = build(heap, &nfa, MatchKind::All, nfa.start_anchored(), 2);
+    heap.end();
+    let Ok(dfa) = built else {
+        return Ok(false);
+    };
+    let Some(dfa) = dfa else {
+        panic!(rt; "more than 2 states");
+    };
+    expect_loop(rt, &dfa);
+    Ok(true)
+}
+
+#[test]
+fn under_refusals(rt: HostRuntime) -> Result<(), Fail> {
+    refuse_in_turn(&rt, |heap| build_loop(&rt, heap))
 }

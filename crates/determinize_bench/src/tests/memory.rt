@@ -140,11 +140,24 @@ impl Row {
 }
 
 /// All worked walks.
-pub fn rows(alloc: Global) -> Result<Vec<Row>, JobError> {
+fn rows(alloc: Global) -> Result<Vec<Row>, JobError> {
     let mut rows = Vec::new(alloc);
     for (line, answer) in worked::WALKS {
         let row = Row::read(alloc, line, answer)?;
         rows.push(row)?;
     }
     Ok(rows)
+}
+
+/// Makes the runs of [`refuse_in_turn`] with each worked walk.
+pub fn refuse_over_walks<R: Abort + AllocGlobal, F: Fn(&Heap, &Row) -> Result<bool, Fail>>(
+    rt: &R,
+    run: F,
+) -> Result<(), Fail>
+    requires { F.IsAlwaysCallable run }
+{
+    for row in rows(rt.alloc())?.iter() {
+        refuse_in_turn(rt, |heap| run(heap, row))?;
+    }
+    Ok(())
 }

@@ -1,6 +1,6 @@
 //! NFA ids as differences in groups of 7 bits.
 
-ghost use Rattle.std.specs.Prelude.{◌≡◌, ◌+◌, ◌%◌, ◌≤◌, [], ◌∷◌, ◌++◌, take, option_map, IfNone, IfSome, OnErr, OnOk};
+ghost use Rattle.std.specs.Prelude.{◌≡◌, ◌+◌, ◌%◌, ◌≤◌, [], ◌∷◌, ◌++◌, length, take, option_map, IfNone, IfSome, OnErr, OnOk};
 ghost use Rattle.determinize_core.specs.Varint as format;
 ghost use Rattle.determinize_core.specs.Private.Groups.{read};
 ghost use Rattle.determinize_core.specs.Varint.{unzigzag, ids_from, IsDeltas};
@@ -43,44 +43,27 @@ fn write_groups<A: Allocator>(bytes: &mut Vec<u8, A>, number: u32) -> Result<(),
     ensures ok { OnOk result (bytes.new.items ≡ bytes.old.items ++ format.varint number) }
     ensures err { OnErr result (bytes.new.items ≡ bytes.old.items) }
 {
-    let (groups, count) = encode(number);
-    bytes.extend_from_slice(&groups[..count])
+    let before = bytes.len();
+    let pushed = push_groups(bytes, number);
+    if pushed.is_err() {
+        bytes.truncate(before);
+    }
+    pushed
 }
 
-/// A number in groups of 7 bits, the low group first, and how many groups it needs. Each byte but
-/// the last has its top bit set.
-#[tactic(auto, unfolding(crate::specs::Varint::varint))]
-fn encode(number: u32) -> ([u8; 5], usize)
-    ensures groups { take result.1 result.0 ≡ format.varint number }
-    ensures within { result.1 ≤ 5 }
+/// Adds the groups of a number, the low group first, until memory is refused. Each byte but the
+/// last has its top bit set.
+fn push_groups<A: Allocator>(bytes: &mut Vec<u8, A>, number: u32) -> Result<(), AllocError>
+    ensures ok { OnOk result (bytes.new.items ≡ bytes.old.items ++ format.varint number) }
+    ensures begins { take (length bytes.old.items) bytes.new.items ≡ bytes.old.items }
 {
-    let second = number / 128;
-    let third = second / 128;
-    let fourth = third / 128;
-    let fifth = fourth / 128;
-    if number < 128 {
-        ([number as u8, 0, 0, 0, 0], 1)
-    } else if second < 128 {
-        ([more(number), second as u8, 0, 0, 0], 2)
-    } else if third < 128 {
-        ([more(number), more(second), third as u8, 0, 0], 3)
-    } else if fourth < 128 {
-        (
-            [more(number), more(second), more(third), fourth as u8, 0],
-            4,
-        )
-    } else {
-        (
-            [
-                more(number),
-                more(second),
-                more(third),
-                more(fourth),
-                fifth as u8,
-            ],
-            5,
-        )
+    let mut rest = number;
+    while rest >= 128 {
+        bytes.push(more(rest))?;
+        rest /= 128;
     }
+    bytes.push(rest as u8)?;
+    Ok(())
 }
 
 /// The lowest 7 bits as a group after which another follows.

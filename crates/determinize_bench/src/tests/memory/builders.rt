@@ -2,7 +2,7 @@
 
 ghost use Rattle.std.specs.Prelude.{◌≡◌, [], OnOk};
 
-use crate::tests::memory::{Heap, Row, call_twice, refuse_in_turn, rows};
+use crate::tests::memory::{Heap, Row, call_twice, refuse_over_walks};
 use determinize_below::{PatternID, StateID};
 use determinize_core::state::{State, StateBuilderEmpty, StateBuilderMatches, StateBuilderNFA};
 use std::process::Abort;
@@ -155,8 +155,5 @@ fn build_states<R: Abort + AllocGlobal>(rt: &R, heap: &Heap, row: &Row) -> Resul
 
 #[test]
 fn states_of_walks(rt: HostRuntime) -> Result<(), Fail> {
-    for row in rows(rt.alloc())?.iter() {
-        refuse_in_turn(&rt, |heap| build_states(&rt, heap, row))?;
-    }
-    Ok(())
+    refuse_over_walks(&rt, |heap, row| build_states(&rt, heap, row))
 }

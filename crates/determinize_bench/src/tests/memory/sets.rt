@@ -2,7 +2,7 @@
 
 ghost use Rattle.std.specs.Prelude.{◌≤◌};
 
-use crate::tests::memory::{Heap, Row, call_twice, refuse_in_turn, rows};
+use crate::tests::memory::{Heap, Row, call_twice, refuse_in_turn, refuse_over_walks};
 use crate::tests::worked;
 use determinize_below::{BuildError, NFA, SparseSet, SparseSets, StateID};
 use determinize_replay::job::Job;
@@ -38,12 +38,8 @@ fn make_sets(rt: &impl Abort, heap: &Heap, capacity: usize) -> Result<bool, Fail
 /// The sets have room for the states of the NFAs of walks.
 #[test]
 fn sets(rt: HostRuntime) -> Result<(), Fail> {
-    for row in rows(rt.alloc())?.iter() {
-        let capacity = row.nfa.len();
-        refuse_in_turn(&rt, |heap| make_set(&rt, heap, capacity))?;
-        refuse_in_turn(&rt, |heap| make_sets(&rt, heap, capacity))?;
-    }
-    Ok(())
+    refuse_over_walks(&rt, |heap, row| make_set(&rt, heap, row.nfa.len()))?;
+    refuse_over_walks(&rt, |heap, row| make_sets(&rt, heap, row.nfa.len()))
 }
 
 /// Makes an NFA, and walks through it with ample memory.

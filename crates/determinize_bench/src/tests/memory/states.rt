@@ -1,6 +1,6 @@
 //! States, and what is read of them.
 
-use crate::tests::memory::{Heap, Row, call_twice, refuse_in_turn, rows};
+use crate::tests::memory::{Heap, Row, call_twice, refuse_in_turn, refuse_over_walks};
 use determinize_core::state::State;
 use std::process::Abort;
 use std::test::Fail;
@@ -44,10 +44,7 @@ fn clone_states(rt: &impl Abort, heap: &Heap, row: &Row) -> Result<bool, Fail> {
 
 #[test]
 fn clones(rt: HostRuntime) -> Result<(), Fail> {
-    for row in rows(rt.alloc())?.iter() {
-        refuse_in_turn(&rt, |heap| clone_states(&rt, heap, row))?;
-    }
-    Ok(())
+    refuse_over_walks(&rt, |heap, row| clone_states(&rt, heap, row))
 }
 
 /// Reads the patterns of each state of a walk.
@@ -75,8 +72,5 @@ fn read_patterns(rt: &impl Abort, heap: &Heap, row: &Row) -> Result<bool, Fail> 
 
 #[test]
 fn patterns(rt: HostRuntime) -> Result<(), Fail> {
-    for row in rows(rt.alloc())?.iter() {
-        refuse_in_turn(&rt, |heap| read_patterns(&rt, heap, row))?;
-    }
-    Ok(())
+    refuse_over_walks(&rt, |heap, row| read_patterns(&rt, heap, row))
 }

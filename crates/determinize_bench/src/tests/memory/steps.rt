@@ -5,7 +5,7 @@ ghost use Rattle.determinize_below.specs.Nfa.{AllResolve};
 ghost use Rattle.determinize_core.specs.Scratch.{IsScratch};
 
 use crate::tests::memory::builders::are_spelled;
-use crate::tests::memory::{Heap, Row, call_twice, refuse_in_turn, rows};
+use crate::tests::memory::{Heap, Row, call_twice, refuse_in_turn, refuse_over_walks};
 use determinize_below::{SparseSet, SparseSets, StateID, Unit};
 use determinize_core::determinize::{
     Steps, add_nfa_states, epsilon_closure, next, next_counted, set_lookbehind_from_start,
@@ -117,10 +117,7 @@ fn record(rt: &impl Abort, heap: &Heap, row: &Row) -> Result<bool, Fail> {
 
 #[test]
 fn recordings(rt: HostRuntime) -> Result<(), Fail> {
-    for row in rows(rt.alloc())?.iter() {
-        refuse_in_turn(&rt, |heap| record(&rt, heap, row))?;
-    }
-    Ok(())
+    refuse_over_walks(&rt, |heap, row| record(&rt, heap, row))
 }
 
 /// Starts a walk.
@@ -143,10 +140,7 @@ fn start(rt: &impl Abort, heap: &Heap, row: &Row) -> Result<bool, Fail> {
 
 #[test]
 fn starts(rt: HostRuntime) -> Result<(), Fail> {
-    for row in rows(rt.alloc())?.iter() {
-        refuse_in_turn(&rt, |heap| start(&rt, heap, row))?;
-    }
-    Ok(())
+    refuse_over_walks(&rt, |heap, row| start(&rt, heap, row))
 }
 
 /// The transition from a state, with a count that is let go.
@@ -253,18 +247,12 @@ fn leave_states(rt: &impl Abort, heap: &Heap, row: &Row, is_counted: bool) -> Re
 
 #[test]
 fn transitions(rt: HostRuntime) -> Result<(), Fail> {
-    for row in rows(rt.alloc())?.iter() {
-        refuse_in_turn(&rt, |heap| leave_states(&rt, heap, row, false))?;
-    }
-    Ok(())
+    refuse_over_walks(&rt, |heap, row| leave_states(&rt, heap, row, false))
 }
 
 #[test]
 fn counted_transitions(rt: HostRuntime) -> Result<(), Fail> {
-    for row in rows(rt.alloc())?.iter() {
-        refuse_in_turn(&rt, |heap| leave_states(&rt, heap, row, true))?;
-    }
-    Ok(())
+    refuse_over_walks(&rt, |heap, row| leave_states(&rt, heap, row, true))
 }
 
 /// Walks.
@@ -279,8 +267,5 @@ fn walk(rt: &impl Abort, heap: &Heap, row: &Row) -> Result<bool, Fail> {
 
 #[test]
 fn walks(rt: HostRuntime) -> Result<(), Fail> {
-    for row in rows(rt.alloc())?.iter() {
-        refuse_in_turn(&rt, |heap| walk(&rt, heap, row))?;
-    }
-    Ok(())
+    refuse_over_walks(&rt, |heap, row| walk(&rt, heap, row))
 }

@@ -1,7 +1,7 @@
 //! The calls that take no memory: they are answered while every growth is refused, and ask for none.
 
 use crate::tests::memory::steps::start_kind;
-use crate::tests::memory::{Heap, Row, refuse_in_turn, rows};
+use crate::tests::memory::{Heap, Row, refuse_in_turn, refuse_over_walks};
 use determinize_below::{Input, Look, LookSet, PatternID, SparseSet, SparseSets, StateID};
 use determinize_core::determinize::{epsilon_closure, set_lookbehind_from_start};
 use determinize_core::start::Config;
@@ -144,10 +144,7 @@ fn builders(rt: HostRuntime) -> Result<(), Fail> {
 
 #[test]
 fn walks(rt: HostRuntime) -> Result<(), Fail> {
-    for row in rows(rt.alloc())?.iter() {
-        refuse_in_turn(&rt, |heap| begin_walk(&rt, heap, row))?;
-        refuse_in_turn(&rt, |heap| close_states(&rt, heap, row))?;
-        refuse_in_turn(&rt, |heap| read_states(&rt, heap, row))?;
-    }
-    Ok(())
+    refuse_over_walks(&rt, |heap, row| begin_walk(&rt, heap, row))?;
+    refuse_over_walks(&rt, |heap, row| close_states(&rt, heap, row))?;
+    refuse_over_walks(&rt, |heap, row| read_states(&rt, heap, row))
 }

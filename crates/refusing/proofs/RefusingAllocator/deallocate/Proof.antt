@@ -22,7 +22,6 @@ use denote.RattleType.{owns}
 use denote.Ref.{shr_vals}
 use denote.Memory.{hidden_shr}
 use denote.Plain.{uint_vals, uint_Tells}
-use denote.Builtin.{usize, RefOf}
 use denote.RawPtr.{Ptr, RawPtr, block_ptr, null_ptr, ptr_val, room_for, in_a_block, rawptr_vals, rawptr_Tells}
 use denote.Signature.{Slot, plain, types_at}
 use denote.Steps.{heard, nothing}
@@ -32,7 +31,7 @@ use denote.Triple.Statement.{Triple}
 use denote.Triple.Table.{framed}
 use denote.Triple.Walked.{Stays, stay_dropped, walk_of, ends_at, Goes-dropped}
 use Rattle.std.proofs.alloc.Calls.{Al, seen, token, gives_key, Gives, at_gives, Gives-goes, Gives-Gives}
-use Rattle.refusing.proofs.Steps.{given, Whole, inner_at, gate_at, both_fields, Backs, at_backs, Backs-goes, Backs-gives}
+use Rattle.refusing.proofs.Steps.{given, number, self, Whole, inner_at, gate_at, both_fields, Backs, at_backs, Backs-goes, Backs-gives}
 use Rattle.refusing.proofs.Gate.take_back.Symbol as noted
 use Rattle.refusing.proofs.Gate.take_back.Met as noted_met
 use Rattle.refusing.specs.contracts.Gate as gate
@@ -41,9 +40,6 @@ use Rattle.refusing.specs.contracts.RefusingAllocator.deallocate.Key as key
 use Rattle.refusing.proofs.RefusingAllocator.deallocate.Statement.{statement}
 use Rattle.refusing.proofs.RefusingAllocator.deallocate.Code as code
 
-abbrev number : Slot 2
-number = plain (λ _. usize)
-
 abbrev pointer : Slot 2
 pointer = plain (λ _. RawPtr)
 
@@ -51,14 +47,11 @@ module _ (Z : Al) where
   abbrev here : Fn
   here = inst_fn (given Z) code.function
 
-  abbrev self : Slot 2
-  self = RefOf (0 ∷ []) tt (plain (λ _. Whole Z)) (λ _. tt)
-
   abbrev ended : Ended
   ended = f.ended Z.row Z.g Z.d Z.drops
 
   abbrev stayed : Stays ended.signature.params ended.kept
-  stayed = (stay_dropped self yes, (stay_dropped pointer yes, (stay_dropped number yes, (stay_dropped number yes, tt))))
+  stayed = (stay_dropped (self Z) yes, (stay_dropped pointer yes, (stay_dropped number yes, (stay_dropped number yes, tt))))
 
 module _ (Z : Al) {M : Type 1} {𝓤 : Ura M} (𝓛 : Logic 𝓤) (𝓜 : Model 𝓤 𝓛.H) (𝓡 : Running 𝓤 𝓛.H 𝓜) where
   open 𝓛 use {H}

@@ -1,14 +1,38 @@
--- One more state of the worklist resolves.
-use Rattle.std.proofs.Common.{All, List, subst, sym}
-use Rattle.std.proofs.lemmas.List.Elements.{All-push}
-use Rattle.determinize_below.specs.Nfa.{AllResolve}
+-- The states of the worklist resolve: the first, one more, and the one that is left.
+use Rattle.std.proofs.Common.{◌≡◌, ◌<◌, ◌++◌, ◌∷◌, ◌∙◌, All, List, [], ap, arith, length, subst, sym}
+use Rattle.std.proofs.lemmas.List.Elements.{All-nil, All-push}
+use Rattle.determinize_below.specs.Nfa.{AllResolve, Nfa}
 use Rattle.determinize_core.specs.Value.{Value}
 use Rattle.determinize_bench.proofs.tests.dfa.build.Goals as goal
 
-pub loop-column-preserved : goal.loop-column-preserved
-loop-column-preserved c = record {
-  scratch = c.in_ok-builder-2.ensures.scratch;
-  resolve = subst (λ (vs : List Value). All (λ (v : Value). AllResolve c.args.nfa.now v.states) vs) (sym c.in_ok-push-3.ensures.items)
-      (All-push (λ (v : Value). AllResolve c.args.nfa.now v.states) c.loop-column.states.items c.in_ok-target.target c.loop-column.invariant.resolve
-      (subst (λ (v : Value). AllResolve c.args.nfa.now v.states) (sym c.in_ok-target.ensures) c.in_ok-builder-2.ensures.resolve));
+-- the ids of the state are states of the NFA
+abbrev Resolves : Nfa → Value → Type 0
+Resolves nfa state = AllResolve nfa state.states
+
+-- one more state, which a builder made
+one_more : (nfa : Nfa) (states more : List Value) (built state : Value) → more ≡ states ++ state ∷ [] → state ≡ built →
+    All (Resolves nfa) states → Resolves nfa built → All (Resolves nfa) more
+one_more nfa states more built state pushed made all resolves =
+    subst (All (Resolves nfa)) (sym pushed) (All-push (Resolves nfa) states state all (subst (Resolves nfa) (sym made) resolves))
+
+pub loop-index-init : goal.loop-index-init
+loop-index-init g c = record {
+  scratch = c.in_ok-builder.ensures.scratch;
+  resolve = one_more c.args.nfa.now [] _ _ c.in_ok-to_state.field-0
+      (c.in_ok-push.ensures.items ∙ ap (λ (l : List Value). l ++ c.in_ok-to_state.field-0 ∷ []) c.new-states.ensures.items)
+      c.in_ok-to_state.ensures (All-nil (Resolves c.args.nfa.now)) c.in_ok-builder.ensures.resolve;
 }
+
+pub loop-column-preserved : goal.loop-column-preserved
+loop-column-preserved g c = record {
+  scratch = c.in_ok-builder-2.ensures.scratch;
+  resolve = one_more c.args.nfa.now c.loop-column.states.items _ _ c.in_ok-target.target c.in_ok-push-4.ensures.items
+      c.in_ok-target.ensures c.loop-column.invariant.resolve c.in_ok-builder-2.ensures.resolve;
+}
+
+pub next-requires-clause-resolve : goal.next-requires-clause-resolve
+next-requires-clause-resolve g c =
+    let below : c.loop-index.index < length c.loop-index.states.items =
+    omega (arith, c.len-in-loop-index.ensures, c.loop-index.states.ok.0, c.if-index-len.false) in
+    subst (Resolves c.args.nfa.now) (sym c.index.ensures ∙ c.in_ok-state.ensures.cases)
+    (c.loop-index.invariant.resolve c.loop-index.index c.index.result.now below)

@@ -5,13 +5,13 @@ use Rattle.determinize_core.specs.Value.{Value}
 use Rattle.determinize_bench.proofs.tests.dfa.build.Given as goal
 
 abbrev pub invariant-loop-index : goal.invariant-loop-index
-invariant-loop-index l = record {
+invariant-loop-index g l = record {
   scratch : IsScratch l.nfa l.sparses.set1 l.sparses.set2 l.stack.items;
   resolve : All (λ (state : Value). AllResolve l.nfa state.states) l.states.items;
 }
 
 abbrev pub invariant-loop-column : goal.invariant-loop-column
-invariant-loop-column l = record {
+invariant-loop-column g l = record {
   scratch : IsScratch l.nfa l.sparses.set1 l.sparses.set2 l.stack.items;
   resolve : All (λ (state : Value). AllResolve l.nfa state.states) l.states.items;
 }
