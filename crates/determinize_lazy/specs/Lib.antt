@@ -1,0 +1,6 @@
+pub mod Kept
+pub mod Order
+pub mod Pairs
+pub mod Places
+pub mod Rows
+pub mod Units
