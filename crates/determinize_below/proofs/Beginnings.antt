@@ -6,7 +6,8 @@ use Rattle.std.proofs.lemmas.List.{append-nil}
 use Rattle.std.proofs.lemmas.List.Concat.{flat_map-append}
 use Rattle.std.proofs.lemmas.List.Elements.{filter-append}
 use Rattle.determinize_below.specs.Reach.{ends, fresh, joined, member, ordered}
-use Rattle.determinize_below.specs.Runs.{IsBeginning, before, without}
+use Rattle.determinize_below.specs.Runs.{before, without}
+use Rattle.determinize_below.specs.Reached.{IsBeginning}
 use Rattle.determinize_below.proofs.Sets.{fresh-append}
 use Rattle.determinize_below.proofs.Tests.{by_test}
 

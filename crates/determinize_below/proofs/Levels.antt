@@ -7,7 +7,8 @@ use mathlib.Core.Path.{fun_ext}
 use Rattle.std.proofs.Common.{◌+◌, Bool, List, Option, [], ap, arith, false, refl, suc, sym, true, zero, ℕ, ◌∙◌, ◌∷◌, ◌≡◌, ◌≤◌}
 use Rattle.std.proofs.lemmas.Bool.{eq-eqb, ne_eqb}
 use Rattle.determinize_below.specs.Reach.{member, none_held, ordered}
-use Rattle.determinize_below.specs.Runs.{IsBeginning, before, known_at, placed, run_edges, without}
+use Rattle.determinize_below.specs.Runs.{before, placed, run_edges, without}
+use Rattle.determinize_below.specs.Reached.{IsBeginning, known_at}
 use Rattle.determinize_below.proofs.Beginnings.{Beginning-before, Beginning-flat_map, Beginning-ordered, Beginning-self, Beginning-without}
 use Rattle.determinize_below.proofs.Ends.{IsEnough}
 use Rattle.determinize_below.proofs.LastMatch.{best, best_step}

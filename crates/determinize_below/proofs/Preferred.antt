@@ -5,7 +5,7 @@ use Rattle.std.proofs.Common.{Bool, List, None, Some, [], ap, arith, false, inl,
 use Rattle.std.proofs.lemmas.Bool.{false≢true}
 use Rattle.determinize_below.specs.Paths.{Before, IsLeastPath, IsPath, IsPathFrom}
 use Rattle.determinize_below.specs.Reach.{ends, none_held}
-use Rattle.determinize_below.specs.Runs.{IsLeastRun}
+use Rattle.determinize_below.specs.Reached.{IsLeastRun}
 use Rattle.determinize_below.proofs.Elements.{In, In_cases, In_head, In_tail}
 use Rattle.determinize_below.proofs.Ends.{IsEnough}
 use Rattle.determinize_below.proofs.Least.{all_ends, all_in_order, all_paths, listed_of, path_of}

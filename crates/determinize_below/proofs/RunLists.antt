@@ -5,7 +5,8 @@ use Rattle.std.proofs.Common.{◌<◌, Bool, List, None, Some, [], arith, false,
 use Rattle.std.proofs.lemmas.Bool.{cases_order, eq-eqb, eqb-true}
 use Rattle.determinize_below.specs.Paths.{Before, IsInOrderOfReach, IsPath, IsPathFrom}
 use Rattle.determinize_below.specs.Reach.{none_held, ordered}
-use Rattle.determinize_below.specs.Runs.{IsLeastRun, ListsReached, run_edges, without}
+use Rattle.determinize_below.specs.Runs.{run_edges, without}
+use Rattle.determinize_below.specs.Reached.{IsLeastRun, ListsReached}
 use Rattle.determinize_below.proofs.Elements.{Contains_In, Earlier, Earlier-without, Earlier_head, Earlier_tail, In, In-without, In_Contains, In_cases, In_head, In_tail, without-In}
 use Rattle.determinize_below.proofs.Ends.{IsEnough}
 use Rattle.determinize_below.proofs.LastMatch.{best}

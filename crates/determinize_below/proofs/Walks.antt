@@ -4,7 +4,8 @@ use Rattle.std.specs.List.{find}
 use Rattle.std.proofs.Common.{Bool, List, None, Some, [], ap, arith, false, suc, sym, true, ℕ, ◌∙◌, ◌∷◌, ◌≡◌, ◌≤◌}
 use Rattle.determinize_below.specs.Paths.{IsPath}
 use Rattle.determinize_below.specs.Reach.{LeadsBelow, member, none_held, ordered}
-use Rattle.determinize_below.specs.Runs.{IsBeginning, ListsReached, known_at, run_edges, without}
+use Rattle.determinize_below.specs.Runs.{run_edges, without}
+use Rattle.determinize_below.specs.Reached.{IsBeginning, ListsReached, known_at}
 use Rattle.determinize_below.proofs.Ends.{IsEnough}
 use Rattle.determinize_below.proofs.Fuel.{IsEnough-fewer_edges}
 use Rattle.determinize_below.proofs.Layers.{pair_eq}

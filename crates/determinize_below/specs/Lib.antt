@@ -10,6 +10,7 @@ pub mod Paths
 pub mod Positions
 pub mod Reach
 pub mod ReachLaws
+pub mod Reached
 pub mod Runs
 pub mod Search
 pub mod Transition

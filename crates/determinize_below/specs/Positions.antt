@@ -1,71 +1,62 @@
 -- Positions in a text, and the runs of an NFA over them.
 use Rattle.std.specs.Prelude.{◌≡◌, ℕ, zero, suc, Bool, Option, Some, List, [], slice_get, ◌⊎◌}
+use Rattle.std.specs.Option.{option_or}
 use Rattle.determinize_below.specs.declared.look.Look.{Look as Assertion}
 use Rattle.determinize_below.specs.Nfa.{Nfa}
-use Rattle.determinize_below.specs.Edges.{edges, target, is_capture, pattern_of}
+use Rattle.determinize_below.specs.Edges.{edges, target, pattern_of}
 use Rattle.determinize_below.specs.Truth as truths
 use Rattle.determinize_below.specs.Paths.{IsPath, Before}
-use Rattle.determinize_below.specs.Runs.{run_edges, known_at, ListsReached}
+use Rattle.determinize_below.specs.Runs.{run_edges}
 
--- what stands before a position: the look-behind byte or none, or a byte of the text
-abbrev pub before_at : Option ℕ → List ℕ → ℕ → Option ℕ
-before_at p text zero = p
-before_at p text (suc i) = slice_get text i
+-- what a walk reads, in the order of reading: its bytes, and the byte behind the first and ahead of the last, or none
+pub record Text : Type 0 where
+  pub behind : Option ℕ
+  pub bytes : List ℕ
+  pub ahead : Option ℕ
 
--- what stands after it: a byte of the text, or none for the end of the input
-abbrev pub after_at : List ℕ → ℕ → Option ℕ
-after_at text i = slice_get text i
+-- these bytes, with what stands behind and ahead of them
+abbrev pub between : Option ℕ → List ℕ → Option ℕ → Text
+between behind bytes ahead = record { behind = behind; bytes = bytes; ahead = ahead }
+
+-- what stands before a position: what is behind the text, or a byte of it
+abbrev pub before_at : Text → ℕ → Option ℕ
+before_at text zero = text.behind
+before_at text (suc i) = slice_get text.bytes i
+
+-- what stands after it: a byte of the text, or what is ahead of it, where none is the end of the input
+abbrev pub after_at : Text → ℕ → Option ℕ
+after_at text i = option_or (slice_get text.bytes i) text.ahead
 
 -- the set of the assertions that hold between a byte or none and a unit
 unfoldable pub truth : Nfa → Option ℕ → Option ℕ → Assertion → Bool
 truth nfa p q look = truths.holds nfa.reverse nfa.terminator p q look
 
--- the set of the assertions that hold after a byte or none whatever unit follows
-unfoldable pub known : Nfa → Option ℕ → Assertion → Bool
-known nfa p look = truths.is_known nfa.reverse nfa.terminator p look
-
 -- the edges that stay at a position, under what is true there
-abbrev pub true_edges : Nfa → Option ℕ → List ℕ → ℕ → ℕ → List ℕ
-true_edges nfa p text i = edges nfa (truth nfa (before_at p text i) (after_at text i))
+abbrev pub true_edges : Nfa → Text → ℕ → ℕ → List ℕ
+true_edges nfa text i = edges nfa (truth nfa (before_at text i) (after_at text i))
 
--- the edges that stay at a position, under what is known there before the next unit
-abbrev pub known_edges : Nfa → Option ℕ → List ℕ → ℕ → ℕ → List ℕ
-known_edges nfa p text i = edges nfa (known nfa (before_at p text i))
-
--- the edges over the next byte
-abbrev pub byte_edges : Nfa → List ℕ → ℕ → ℕ → List ℕ
-byte_edges nfa text i = target nfa (after_at text i)
+-- the edges over the next byte of the text; no edge leaves the last position
+abbrev pub byte_edges : Nfa → Text → ℕ → ℕ → List ℕ
+byte_edges nfa text i = target nfa (slice_get text.bytes i)
 
 -- the choices at a pair of a position and a state
-abbrev pub choices : Nfa → Option ℕ → List ℕ → ℕ × ℕ → List (ℕ × ℕ)
-choices nfa p text = run_edges (true_edges nfa p text) (byte_edges nfa text)
-
--- the choices where at position i only what is known there counts
-abbrev pub known_choices : Nfa → Option ℕ → List ℕ → ℕ → ℕ × ℕ → List (ℕ × ℕ)
-known_choices nfa p text i = run_edges (known_at i (known_edges nfa p text) (true_edges nfa p text)) (byte_edges nfa text)
+abbrev pub choices : Nfa → Text → ℕ × ℕ → List (ℕ × ℕ)
+choices nfa text = run_edges (true_edges nfa text) (byte_edges nfa text)
 
 -- the choices lead from the start to the pair of a position and a state, and meet no pair twice
-abbrev pub IsRun : Nfa → Option ℕ → List ℕ → ℕ → List ℕ → ℕ × ℕ → Type 0
-IsRun nfa p text start cs q = IsPath (choices nfa p text) [] (0, start) cs q
+abbrev pub IsRun : Nfa → Text → ℕ → List ℕ → ℕ × ℕ → Type 0
+IsRun nfa text start cs q = IsPath (choices nfa text) [] (0, start) cs q
 
 -- the run accepts the pattern at the position
-abbrev pub Accepts : Nfa → Option ℕ → List ℕ → ℕ → List ℕ → ℕ → ℕ → Type 0
-Accepts nfa p text start cs i pattern = (s : ℕ) × IsRun nfa p text start cs (i, s) × (pattern_of nfa s ≡ Some pattern)
-
--- the list has the states, captures aside, in which some run ends at the position, each once, by the least such run
-abbrev pub IsReached : Nfa → Option ℕ → List ℕ → ℕ → ℕ → List ℕ → Type 0
-IsReached nfa p text start i xs = ListsReached (choices nfa p text) (is_capture nfa) start i xs
-
--- the same, where at that position only what is known there counts
-abbrev pub IsKnownReached : Nfa → Option ℕ → List ℕ → ℕ → ℕ → List ℕ → Type 0
-IsKnownReached nfa p text start i xs = ListsReached (known_choices nfa p text i) (is_capture nfa) start i xs
+abbrev pub Accepts : Nfa → Text → ℕ → List ℕ → ℕ → ℕ → Type 0
+Accepts nfa text start cs i pattern = (s : ℕ) × IsRun nfa text start cs (i, s) × (pattern_of nfa s ≡ Some pattern)
 
 -- the best of the runs that accept the pattern at the position
-pub record IsBestRun (nfa : Nfa) (p : Option ℕ) (text : List ℕ) (start : ℕ) (cs : List ℕ) (i pattern : ℕ) : Type 0 where
-  pub accepts : Accepts nfa p text start cs i pattern
-  pub best : (ds : List ℕ) → Accepts nfa p text start ds i pattern → (cs ≡ ds) ⊎ Before cs ds
+pub record IsBestRun (nfa : Nfa) (text : Text) (start : ℕ) (cs : List ℕ) (i pattern : ℕ) : Type 0 where
+  pub accepts : Accepts nfa text start cs i pattern
+  pub best : (ds : List ℕ) → Accepts nfa text start ds i pattern → (cs ≡ ds) ⊎ Before cs ds
 
 -- the most preferred of all accepting runs, of any pattern and at any position
-pub record IsPreferredRun (nfa : Nfa) (p : Option ℕ) (text : List ℕ) (start : ℕ) (cs : List ℕ) (i pattern : ℕ) : Type 0 where
-  pub accepts : Accepts nfa p text start cs i pattern
-  pub preferred : (ds : List ℕ) (j other : ℕ) → Accepts nfa p text start ds j other → (cs ≡ ds) ⊎ Before cs ds
+pub record IsPreferredRun (nfa : Nfa) (text : Text) (start : ℕ) (cs : List ℕ) (i pattern : ℕ) : Type 0 where
+  pub accepts : Accepts nfa text start cs i pattern
+  pub preferred : (ds : List ℕ) (j other : ℕ) → Accepts nfa text start ds j other → (cs ≡ ds) ⊎ Before cs ds

@@ -5,8 +5,8 @@ use Rattle.std.specs.Prelude.{slice_get}
 use Rattle.std.proofs.lemmas.Bool.{cases_order}
 use Rattle.determinize_below.specs.Edges.{is_capture, is_match, pattern_of, patterns_of}
 use Rattle.determinize_below.specs.Nfa.{Nfa}
-use Rattle.determinize_below.specs.Positions.{choices, IsRun, IsReached, IsBestRun}
-use Rattle.determinize_below.specs.Runs.{IsLeastRun}
+use Rattle.determinize_below.specs.Positions.{Text, choices, IsRun, IsBestRun}
+use Rattle.determinize_below.specs.Reached.{IsReached, IsLeastRun}
 use Rattle.determinize_below.proofs.EdgeLemmas.{match-capture}
 use Rattle.determinize_below.proofs.Elements.{Contains_In, Earlier, Earlier_head, Earlier_tail, In, In_Contains, In_append_right, In_cases, In_head, In_tail}
 use Rattle.determinize_below.proofs.Nodes.{same_decides}
@@ -51,13 +51,13 @@ module _ (nfa : Nfa) where
   pub match_of : (s x : ℕ) → pattern_of nfa s ≡ Some x → is_match nfa s ≡ true
   match_of s x e = ap is_some e
 
-  module _ (sound : IsSound nfa) (p : Option ℕ) (text : List ℕ) (start : ℕ) where
+  module _ (sound : IsSound nfa) (text : Text) (start : ℕ) where
     -- the patterns of what is reached are those that runs accept, best run first
-    pub lists_accepted : (i : ℕ) (xs : List ℕ) → IsReached nfa p text start i xs → ListsAccepted nfa p text start i (patterns_of nfa xs)
+    pub lists_accepted : (i : ℕ) (xs : List ℕ) → IsReached nfa text start i xs → ListsAccepted nfa text start i (patterns_of nfa xs)
     lists_accepted i xs is = record {
       accepted = λ x. (
         (λ c. patterns_In xs x (Contains_In same_decides (patterns_of nfa xs) x c) (λ s j e.
-            let r : (is_capture nfa s ≡ false) × ((cs : List ℕ) × IsRun nfa p text start cs (i, s)) = (is.reached s).0 (In_Contains same_decides xs s j) in
+            let r : (is_capture nfa s ≡ false) × ((cs : List ℕ) × IsRun nfa text start cs (i, s)) = (is.reached s).0 (In_Contains same_decides xs s j) in
             (r.1.0, (s, r.1.1, e)))),
         (λ h. In_Contains same_decides (patterns_of nfa xs) x (In_patterns xs h.1.0 x
             (Contains_In same_decides xs h.1.0 ((is.reached h.1.0).1 (match-capture nfa h.1.0 (match_of h.1.0 x h.1.2), (h.0, h.1.1))))
@@ -78,9 +78,9 @@ module _ (nfa : Nfa) where
             let e : r.2.0 ≡ r.2.1 = is.once r.2.0 r.2.1 r.0 r.2.3 (r.2.4 ∙ ap Some (sym same)) in
             let k : r.2.0 < r.2.1 = r.2.2 in omega arith
 
-        best_of : (cs : List ℕ) (s x : ℕ) → pattern_of nfa s ≡ Some x → IsLeastRun (choices nfa p text) (0, start) cs (i, s) → IsBestRun nfa p text start cs i x
+        best_of : (cs : List ℕ) (s x : ℕ) → pattern_of nfa s ≡ Some x → IsLeastRun (choices nfa text) (0, start) cs (i, s) → IsBestRun nfa text start cs i x
         best_of cs s x e h = record {
           accepts = (s, h.run, e);
           best = λ ds a. let same : a.0 ≡ s = sound.one_match a.0 s x a.2 e in
-              h.least ds (subst (λ z. IsRun nfa p text start ds (i, z)) same a.1);
+              h.least ds (subst (λ z. IsRun nfa text start ds (i, z)) same a.1);
         }

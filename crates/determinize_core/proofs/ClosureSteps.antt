@@ -11,7 +11,7 @@ use Rattle.determinize_below.specs.Node.{Node, ByteRange, Sparse, Dense, Look, U
 use Rattle.determinize_below.proofs.Tests.{by_test}
 use Rattle.std.proofs.lemmas.Bool.{true≢false}
 use Rattle.determinize_below.specs.Reach.{member, ordered}
-use Rattle.determinize_below.specs.Runs.{IsBeginning}
+use Rattle.determinize_below.specs.Reached.{IsBeginning}
 use Rattle.determinize_below.proofs.Elements.{All-from_member}
 use Rattle.determinize_below.proofs.Nodes.{same_decides}
 use Rattle.determinize_below.proofs.SearchSteps.{closure-held, closure-new, closure-done, tries-held, tries-new}

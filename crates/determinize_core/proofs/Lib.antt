@@ -1,4 +1,5 @@
 pub mod AcceptedPatterns
+pub mod AheadRows
 pub mod BuildingLaws
 pub mod ClosingAll
 pub mod ClosureSteps
@@ -16,7 +17,6 @@ pub mod OneAnswer
 pub mod OpenLaws
 pub mod OpenedSet
 pub mod ReadingLaws
-pub mod Targets
 pub mod RecordingSteps
 pub mod Redo
 pub mod Reopening
@@ -28,9 +28,11 @@ pub mod StepLaws
 pub mod StepTables
 pub mod Stepping
 pub mod TableLaws
+pub mod Targets
 pub mod ToldNothing
 pub mod TriesSums
 pub mod TryBounds
+pub mod UnitLists
 pub mod ValueLaws
 pub mod VarintLaws
 pub mod WalkRows

@@ -3,8 +3,8 @@ use Rattle.std.proofs.Common.{◌≡◌, ℕ, Bool, List, [], sym, ap, ◌∙◌
 use Rattle.determinize_below.specs.Edges.{is_capture, pattern_of}
 use Rattle.determinize_below.specs.Nfa.{Nfa}
 use Rattle.determinize_below.specs.Paths.{Before, IsPath}
-use Rattle.determinize_below.specs.Positions.{choices, known_choices, IsBestRun, IsPreferredRun}
-use Rattle.determinize_below.specs.Runs.{IsLeastRun, ListsReached}
+use Rattle.determinize_below.specs.Positions.{Text, choices, IsBestRun, IsPreferredRun}
+use Rattle.determinize_below.specs.Reached.{known_choices, IsLeastRun, ListsReached}
 use Rattle.determinize_below.proofs.Elements.{Contains_In, In_Contains, same_by_order}
 use Rattle.determinize_below.proofs.Nodes.{same_decides}
 use Rattle.determinize_below.proofs.Tests.{some_injective}
@@ -12,10 +12,10 @@ use Rattle.determinize_below.proofs.Unique.{Before-asym, one_end, same_least}
 use Rattle.determinize_core.specs.Laws.{EachAnswerIsOne}
 use Rattle.determinize_core.specs.Walk.{ListsAccepted}
 
-module _ (nfa : Nfa) (p : Option ℕ) (text : List ℕ) (start : ℕ) where
+module _ (nfa : Nfa) (text : Text) (start : ℕ) where
   -- the best run of one pattern is before that of another
   abbrev IsBetter : ℕ → ℕ → ℕ → Type 0
-  IsBetter i x y = (cs : List ℕ) × (ds : List ℕ) × IsBestRun nfa p text start cs i x × IsBestRun nfa p text start ds i y × Before cs ds
+  IsBetter i x y = (cs : List ℕ) × (ds : List ℕ) × IsBestRun nfa text start cs i x × IsBestRun nfa text start ds i y × Before cs ds
 
   better_asym : (i x y : ℕ) → IsBetter i x y → IsBetter i y x → ⊥
   better_asym i x y a b =
@@ -23,18 +23,18 @@ module _ (nfa : Nfa) (p : Option ℕ) (text : List ℕ) (start : ℕ) where
       let f : a.1 ≡ b.0 = same_least a.1 b.0 (a.3.best b.0 b.2.accepts) (b.2.best a.1 a.3.accepts) in
       Before-asym a.0 a.1 a.4 (subst (λ z. Before a.1 z) (sym e) (subst (λ z. Before z b.1) (sym f) b.4))
 
-  one_listing : (i : ℕ) (ps qs : List ℕ) → ListsAccepted nfa p text start i ps → ListsAccepted nfa p text start i qs → ps ≡ qs
+  one_listing : (i : ℕ) (ps qs : List ℕ) → ListsAccepted nfa text start i ps → ListsAccepted nfa text start i qs → ps ≡ qs
   one_listing i ps qs a b = same_by_order (λ x y. IsBetter i x y) (better_asym i) ps qs
       (λ x h. Contains_In same_decides qs x ((b.accepted x).1 ((a.accepted x).0 (In_Contains same_decides ps x h))))
       (λ x h. Contains_In same_decides ps x ((a.accepted x).1 ((b.accepted x).0 (In_Contains same_decides qs x h))))
       (λ j k x y l u v. a.best_first j k x y l u v)
       (λ j k x y l u v. b.best_first j k x y l u v)
 
-  one_preferred : (i j x y : ℕ) (cs ds : List ℕ) → IsPreferredRun nfa p text start cs i x → IsPreferredRun nfa p text start ds j y → (i ≡ j) × (x ≡ y)
+  one_preferred : (i j x y : ℕ) (cs ds : List ℕ) → IsPreferredRun nfa text start cs i x → IsPreferredRun nfa text start ds j y → (i ≡ j) × (x ≡ y)
   one_preferred i j x y cs ds a b =
       let e : cs ≡ ds = same_least cs ds (a.preferred ds j y b.accepts) (b.preferred cs i x a.accepts) in
-      let q : (i, a.accepts.0) ≡ (j, b.accepts.0) = one_end (choices nfa p text) [] (0, start) ds (i, a.accepts.0) (j, b.accepts.0)
-      (subst (λ z. IsPath (choices nfa p text) [] (0, start) z (i, a.accepts.0)) e a.accepts.1) b.accepts.1 in
+      let q : (i, a.accepts.0) ≡ (j, b.accepts.0) = one_end (choices nfa text) [] (0, start) ds (i, a.accepts.0) (j, b.accepts.0)
+      (subst (λ z. IsPath (choices nfa text) [] (0, start) z (i, a.accepts.0)) e a.accepts.1) b.accepts.1 in
       (ap (λ w. w.0) q, some_injective x y (sym a.accepts.2 ∙ ap (λ w. pattern_of nfa w.1) q ∙ b.accepts.2))
 
 -- a list in the order of the least runs is one
@@ -55,9 +55,9 @@ one_reached edges cap start i xs ys a b = same_by_order IsLess asym xs ys
         Before-asym p.0 p.1 p.4 (subst (λ z. Before p.1 z) (sym e) (subst (λ z. Before z q.1) (sym f) q.4))
 
 pub each_answer_is_one : EachAnswerIsOne
-each_answer_is_one nfa p text start = (
-  one_listing nfa p text start,
-  one_preferred nfa p text start,
-  λ i. one_reached (known_choices nfa p text i) (is_capture nfa) start i,
-  λ i. one_reached (choices nfa p text) (is_capture nfa) start i,
+each_answer_is_one nfa text start = (
+  one_listing nfa text start,
+  one_preferred nfa text start,
+  λ i. one_reached (known_choices nfa text i) (is_capture nfa) start i,
+  λ i. one_reached (choices nfa text) (is_capture nfa) start i,
 )

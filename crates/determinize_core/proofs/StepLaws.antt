@@ -41,7 +41,7 @@ drop-future nfa kind (u ∷ us) v w (suc j) h = drop-future nfa kind us (step nf
 
 pub each_future_follows : EachFutureFollows
 unfolding chain
-each_future_follows nfa kind s p text j v h = drop-future nfa kind (units text) (start_value nfa s p) v j h
+each_future_follows nfa kind s text j v h = drop-future nfa kind (units text) (start_value nfa s text.behind) v j h
 
 read_none : (kind : MatchKind) (accepts : ℕ → Bool) → part_read kind accepts [] ≡ []
 read_none All accepts = refl

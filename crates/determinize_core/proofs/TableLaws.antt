@@ -3,7 +3,8 @@ use Rattle.std.proofs.Common.{◌≡◌, ℕ, true, ◌||◌, Option, Some}
 use Rattle.determinize_below.specs.Edges.{IsTested}
 use Rattle.determinize_below.specs.Look.{has}
 use Rattle.determinize_below.specs.Nfa.{Nfa, IsAccepted}
-use Rattle.determinize_below.specs.Positions.{truth, known}
+use Rattle.determinize_below.specs.Positions.{truth}
+use Rattle.determinize_below.specs.Reached.{known}
 use Rattle.determinize_below.specs.declared.look.Look.{Look as Assertion}
 use Rattle.determinize_below.proofs.Known.{known-holds}
 use Rattle.determinize_below.proofs.TestedLooks.{Decides-look_set_any}

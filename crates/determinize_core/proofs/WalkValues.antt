@@ -1,12 +1,15 @@
 -- The values of a chain record what the walk over positions records.
-use Rattle.std.proofs.Common.{◌≡◌, ℕ, zero, suc, ◌+◌, ◌≤◌, Bool, true, false, not, ◌&&◌, List, [], ◌∷◌, length, refl, sym, ap, ◌∙◌, arith, Option, Some, None, nat_eq, subst}
+use Rattle.std.proofs.Common.{◌≡◌, ℕ, zero, suc, ◌+◌, ◌<◌, ◌≤◌, Bool, true, false, not, ◌&&◌, List, [], ◌∷◌, length, map, refl, sym, ap, ◌∙◌, arith, Option, Some, None, nat_eq, subst}
 use Rattle.std.specs.Prelude.{◌==◌, slice_get}
-use Rattle.std.specs.List.{flat_map}
+use Rattle.std.specs.List.{flat_map, range_with_len}
+use Rattle.std.specs.Option.{option_or}
 use Rattle.std.proofs.lemmas.Bool.{true≢false, false≢true, eqb-true}
+use Rattle.std.proofs.lemmas.Option.{slice_get_past}
 use Rattle.determinize_below.specs.Edges.{target, is_capture, is_match, patterns_of, reach, IsTested}
 use Rattle.determinize_below.specs.Look.{has}
 use Rattle.determinize_below.specs.Nfa.{Nfa, IsAccepted}
-use Rattle.determinize_below.specs.Positions.{truth, known, before_at, after_at, true_edges, known_edges, byte_edges}
+use Rattle.determinize_below.specs.Positions.{Text, between, truth, before_at, after_at, true_edges, byte_edges}
+use Rattle.determinize_below.specs.Reached.{known, known_edges}
 use Rattle.determinize_below.specs.Reach.{member, none_held, ordered}
 use Rattle.determinize_below.specs.Runs.{without}
 use Rattle.determinize_below.specs.declared.look.Look.{Look as Assertion}
@@ -14,14 +17,14 @@ use Rattle.determinize_below.specs.declared.search.MatchKind.{MatchKind}
 use Rattle.determinize_below.specs.declared.search.MatchKind.TheVariants.{All, LeftmostFirst}
 use Rattle.determinize_below.proofs.EdgeLemmas.{edges-same, target-capture, target-end, match-capture, patterns-without}
 use Rattle.determinize_below.proofs.Levels as levels
-use Rattle.determinize_below.proofs.Lists.{before-without, flat_map-without, flat_map_none}
+use Rattle.determinize_below.proofs.Lists.{before-without, flat_map-without, flat_map_none, option_or-None}
 use Rattle.determinize_below.proofs.LookLaws.{has-empty}
 use Rattle.determinize_below.proofs.Nodes.{same_decides}
 use Rattle.determinize_below.proofs.Sets.{member-filter}
 use Rattle.determinize_below.proofs.SoundNfa.{accepted_sound}
 use Rattle.determinize_below.proofs.Tests.{by_test}
 use Rattle.determinize_core.specs.Chain.{future, units, chain}
-use Rattle.determinize_core.specs.Step.{needs, recorded, begun, left_by, start_value, working_list, part_read, patterns_read, step}
+use Rattle.determinize_core.specs.Step.{needs, recorded, begun, left_by, start_value, working_list, part_read, patterns_read, step, targets}
 use Rattle.determinize_core.specs.LookTables.{tables_of, have_after, from_word_after, half_crlf_after, have_at_start, from_word_at_start, half_crlf_at_start}
 use Rattle.determinize_core.specs.Value.{Value, is_nonempty}
 use Rattle.determinize_core.proofs.StartKinds.{from_word-same, half_crlf-same}
@@ -76,116 +79,124 @@ module _ (nfa : Nfa) (accepted : IsAccepted nfa) (m : ℕ) where
       (λ s i. (ap (λ c. c && from_word_after (tables_of nfa) (Some b)) (nonempty_member entered s i), ap (λ c. c && half_crlf_after (tables_of nfa) (Some b)) (nonempty_member entered s i)))
 
 -- the value at each place
-abbrev pub value_at : Nfa → MatchKind → ℕ → Option ℕ → List ℕ → ℕ → Value
-value_at nfa kind s p text zero = start_value nfa s p
-value_at nfa kind s p text (suc k) = step nfa kind (value_at nfa kind s p text k) (after_at text k)
+abbrev pub value_at : Nfa → MatchKind → ℕ → Text → ℕ → Value
+value_at nfa kind s text zero = start_value nfa s text.behind
+value_at nfa kind s text (suc k) = step nfa kind (value_at nfa kind s text k) (after_at text k)
 
 -- the roots of its search
-abbrev pub roots_at : Nfa → MatchKind → ℕ → Option ℕ → List ℕ → ℕ → List ℕ
-roots_at nfa kind s p text zero = s ∷ []
-roots_at nfa kind s p text (suc k) =
-    flat_map (byte_edges nfa text k) (part_read kind (is_match nfa) (working_list nfa (value_at nfa kind s p text k) (after_at text k)))
+abbrev pub roots_at : Nfa → MatchKind → ℕ → Text → ℕ → List ℕ
+roots_at nfa kind s text zero = s ∷ []
+roots_at nfa kind s text (suc k) =
+    flat_map (byte_edges nfa text k) (part_read kind (is_match nfa) (working_list nfa (value_at nfa kind s text k) (after_at text k)))
 
 -- what the walk over positions records
-abbrev pub recorded_by : Nfa → MatchKind → ℕ → Option ℕ → List ℕ → ℕ → List ℕ
-recorded_by nfa All s p text k =
-    levels.recorded nat_eq (known_edges nfa p text) (true_edges nfa p text) (byte_edges nfa text) (is_capture nfa) (fuel nfa (length text)) s k
-recorded_by nfa LeftmostFirst s p text k =
-    levels.recorded_cut nat_eq (known_edges nfa p text) (true_edges nfa p text) (byte_edges nfa text) (is_capture nfa) (is_match nfa) (fuel nfa (length text)) s k
+abbrev pub recorded_by : Nfa → MatchKind → ℕ → Text → ℕ → List ℕ
+recorded_by nfa All s text k =
+    levels.recorded nat_eq (known_edges nfa text) (true_edges nfa text) (byte_edges nfa text) (is_capture nfa) (fuel nfa (length text.bytes)) s k
+recorded_by nfa LeftmostFirst s text k =
+    levels.recorded_cut nat_eq (known_edges nfa text) (true_edges nfa text) (byte_edges nfa text) (is_capture nfa) (is_match nfa) (fuel nfa (length text.bytes)) s k
 
 -- the search redone at a position
-abbrev pub redone_by : Nfa → MatchKind → ℕ → Option ℕ → List ℕ → ℕ → List ℕ
-redone_by nfa kind s p text k = listing nfa (length text) (truth nfa (before_at p text k) (after_at text k)) (recorded_by nfa kind s p text k)
+abbrev pub redone_by : Nfa → MatchKind → ℕ → Text → ℕ → List ℕ
+redone_by nfa kind s text k = listing nfa (length text.bytes) (truth nfa (before_at text k) (after_at text k)) (recorded_by nfa kind s text k)
 
-recorded_by-zero : (nfa : Nfa) (kind : MatchKind) (s : ℕ) (p : Option ℕ) (text : List ℕ)
-    → recorded_by nfa kind s p text 0 ≡ without (is_capture nfa) (listing nfa (length text) (known nfa p) (s ∷ []))
-recorded_by-zero nfa All s p text = refl
-recorded_by-zero nfa LeftmostFirst s p text = refl
+recorded_by-zero : (nfa : Nfa) (kind : MatchKind) (s : ℕ) (text : Text)
+    → recorded_by nfa kind s text 0 ≡ without (is_capture nfa) (listing nfa (length text.bytes) (known nfa text.behind) (s ∷ []))
+recorded_by-zero nfa All s text = refl
+recorded_by-zero nfa LeftmostFirst s text = refl
 
-recorded_by-suc : (nfa : Nfa) (kind : MatchKind) (s : ℕ) (p : Option ℕ) (text : List ℕ) (k : ℕ)
-    → recorded_by nfa kind s p text (suc k)
-    ≡ without (is_capture nfa) (listing nfa (length text) (known nfa (slice_get text k)) (flat_map (byte_edges nfa text k) (part_read kind (is_match nfa) (redone_by nfa kind s p text k))))
-recorded_by-suc nfa All s p text k = refl
-recorded_by-suc nfa LeftmostFirst s p text k = refl
+recorded_by-suc : (nfa : Nfa) (kind : MatchKind) (s : ℕ) (text : Text) (k : ℕ)
+    → recorded_by nfa kind s text (suc k)
+    ≡ without (is_capture nfa) (listing nfa (length text.bytes) (known nfa (slice_get text.bytes k)) (flat_map (byte_edges nfa text k) (part_read kind (is_match nfa) (redone_by nfa kind s text k))))
+recorded_by-suc nfa All s text k = refl
+recorded_by-suc nfa LeftmostFirst s text k = refl
 
-module _ (nfa : Nfa) (accepted : IsAccepted nfa) (kind : MatchKind) (s : ℕ) (p : Option ℕ) (text : List ℕ) where
-  entered_at : (k : ℕ) → IsEntered nfa (length text) (before_at p text k) (value_at nfa kind s p text k) (roots_at nfa kind s p text k)
+-- inside a text a byte stands after each position
+after_inside : (behind ahead : Option ℕ) (bytes : List ℕ) (k : ℕ) → k < length bytes → after_at (between behind bytes ahead) k ≡ slice_get bytes k
+after_inside behind ahead [] k l = absurd (omega arith)
+after_inside behind ahead (b ∷ bytes) zero l = refl
+after_inside behind ahead (b ∷ bytes) (suc k) l = after_inside behind ahead bytes k (omega arith)
+
+module _ (nfa : Nfa) (accepted : IsAccepted nfa) (kind : MatchKind) (s : ℕ) (text : Text) where
+  entered_after : (k : ℕ) → after_at text k ≡ slice_get text.bytes k
+      → IsEntered nfa (length text.bytes) (slice_get text.bytes k) (value_at nfa kind s text (suc k)) (roots_at nfa kind s text (suc k))
   unfolding step
-  entered_at zero = start_entered nfa accepted (length text) p s
-  entered_at (suc k) = left_entered nfa accepted (length text) (after_at text k) _ (roots_at nfa kind s p text (suc k))
-      (λ e. flat_map_none (byte_edges nfa text k) _ (λ x. ap (λ u. target nfa u x) e ∙ target-end nfa x))
+  entered_after k e = subst (λ u. IsEntered nfa (length text.bytes) u (value_at nfa kind s text (suc k))
+      (flat_map (target nfa u) (part_read kind (is_match nfa) (working_list nfa (value_at nfa kind s text k) (after_at text k))))) e
+      (left_entered nfa accepted (length text.bytes) (after_at text k) _ (targets nfa kind (value_at nfa kind s text k) (after_at text k))
+      (λ n. flat_map_none (target nfa (after_at text k)) _ (λ x. ap (λ u. target nfa u x) n ∙ target-end nfa x)))
 
-  working_at : (k : ℕ) → without (is_capture nfa) (working_list nfa (value_at nfa kind s p text k) (after_at text k))
-      ≡ without (is_capture nfa) (listing nfa (length text) (truth nfa (before_at p text k) (after_at text k)) (value_at nfa kind s p text k).states)
-  working_at k = working_is nfa accepted (length text) (before_at p text k) (after_at text k) (value_at nfa kind s p text k) (roots_at nfa kind s p text k) (entered_at k)
+  entered_at : (k : ℕ) → k ≤ length text.bytes → IsEntered nfa (length text.bytes) (before_at text k) (value_at nfa kind s text k) (roots_at nfa kind s text k)
+  entered_at zero l = start_entered nfa accepted (length text.bytes) text.behind s
+  entered_at (suc k) l = entered_after k (after_inside text.behind text.ahead text.bytes k l)
+
+  working_at : (k : ℕ) → k ≤ length text.bytes → without (is_capture nfa) (working_list nfa (value_at nfa kind s text k) (after_at text k))
+      ≡ without (is_capture nfa) (listing nfa (length text.bytes) (truth nfa (before_at text k) (after_at text k)) (value_at nfa kind s text k).states)
+  working_at k l = working_is nfa accepted (length text.bytes) (before_at text k) (after_at text k) (value_at nfa kind s text k) (roots_at nfa kind s text k) (entered_at k l)
 
   targets-without : (k : ℕ) (xs : List ℕ) → flat_map (byte_edges nfa text k) (part_read kind (is_match nfa) xs) ≡ flat_map (byte_edges nfa text k) (part_read kind (is_match nfa) (without (is_capture nfa) xs))
   targets-without k xs = sym (ap (λ l. flat_map (byte_edges nfa text k) l) (read-without kind (is_match nfa) (is_capture nfa) xs (match-capture nfa))
-      ∙ flat_map-without (byte_edges nfa text k) (is_capture nfa) (part_read kind (is_match nfa) xs) (target-capture nfa (after_at text k)))
+      ∙ flat_map-without (byte_edges nfa text k) (is_capture nfa) (part_read kind (is_match nfa) xs) (target-capture nfa (slice_get text.bytes k)))
 
-  pub states_at_is : (k : ℕ) → (value_at nfa kind s p text k).states ≡ recorded_by nfa kind s p text k
-  states_at_is zero = (entered_at 0).states ∙ sym (recorded_by-zero nfa kind s p text)
-  states_at_is (suc k) =
-      (entered_at (suc k)).states
-      ∙ ap (λ l. without (is_capture nfa) (listing nfa (length text) (known nfa (slice_get text k)) l))
-      (targets-without k (working_list nfa (value_at nfa kind s p text k) (after_at text k))
-      ∙ ap (λ l. flat_map (byte_edges nfa text k) (part_read kind (is_match nfa) l)) (working_at k)
-      ∙ sym (targets-without k (listing nfa (length text) (truth nfa (before_at p text k) (after_at text k)) (value_at nfa kind s p text k).states))
-      ∙ ap (λ l. flat_map (byte_edges nfa text k) (part_read kind (is_match nfa) (listing nfa (length text) (truth nfa (before_at p text k) (after_at text k)) l))) (states_at_is k))
-      ∙ sym (recorded_by-suc nfa kind s p text k)
+  pub states_at_is : (k : ℕ) → k ≤ length text.bytes → (value_at nfa kind s text k).states ≡ recorded_by nfa kind s text k
+  states_at_is zero l = (entered_at 0 l).states ∙ sym (recorded_by-zero nfa kind s text)
+  states_at_is (suc k) l =
+      (entered_at (suc k) l).states
+      ∙ ap (λ l. without (is_capture nfa) (listing nfa (length text.bytes) (known nfa (slice_get text.bytes k)) l))
+      (targets-without k (working_list nfa (value_at nfa kind s text k) (after_at text k))
+      ∙ ap (λ l. flat_map (byte_edges nfa text k) (part_read kind (is_match nfa) l)) (working_at k (omega arith))
+      ∙ sym (targets-without k (listing nfa (length text.bytes) (truth nfa (before_at text k) (after_at text k)) (value_at nfa kind s text k).states))
+      ∙ ap (λ l. flat_map (byte_edges nfa text k) (part_read kind (is_match nfa) (listing nfa (length text.bytes) (truth nfa (before_at text k) (after_at text k)) l))) (states_at_is k (omega arith)))
+      ∙ sym (recorded_by-suc nfa kind s text k)
 
   -- the patterns of a value are those of what was reached at the position before its unit
-  pub patterns_at_is : (k : ℕ) → (value_at nfa kind s p text (suc k)).patterns ≡ patterns_read kind (patterns_of nfa (redone_by nfa kind s p text k))
+  pub patterns_at_is : (k : ℕ) → k ≤ length text.bytes → (value_at nfa kind s text (suc k)).patterns ≡ patterns_read kind (patterns_of nfa (redone_by nfa kind s text k))
   unfolding step
-  patterns_at_is k = ap (λ l. patterns_read kind l)
-      (sym (patterns-without nfa (working_list nfa (value_at nfa kind s p text k) (after_at text k)))
-      ∙ ap (λ l. patterns_of nfa l) (working_at k)
-      ∙ patterns-without nfa (listing nfa (length text) (truth nfa (before_at p text k) (after_at text k)) (value_at nfa kind s p text k).states)
-      ∙ ap (λ l. patterns_of nfa (listing nfa (length text) (truth nfa (before_at p text k) (after_at text k)) l)) (states_at_is k))
+  patterns_at_is k l = ap (λ l. patterns_read kind l)
+      (sym (patterns-without nfa (working_list nfa (value_at nfa kind s text k) (after_at text k)))
+      ∙ ap (λ l. patterns_of nfa l) (working_at k l)
+      ∙ patterns-without nfa (listing nfa (length text.bytes) (truth nfa (before_at text k) (after_at text k)) (value_at nfa kind s text k).states)
+      ∙ ap (λ l. patterns_of nfa (listing nfa (length text.bytes) (truth nfa (before_at text k) (after_at text k)) l)) (states_at_is k l))
 
-  -- no state is recorded after the end
-  pub states_last : (value_at nfa kind s p text (suc (length text))).states ≡ []
-  states_last = (entered_at (suc (length text))).states
-      ∙ ap (λ l. without (is_capture nfa) (listing nfa (length text) (known nfa (slice_get text (length text))) l))
-      (flat_map_none (byte_edges nfa text (length text)) _ (λ x. ap (λ u. target nfa u x) (at_end text) ∙ target-end nfa x))
-    where
-      at_end : (xs : List ℕ) → slice_get xs (length xs) ≡ None
-      at_end [] = refl
-      at_end (x ∷ xs) = at_end xs
+  -- no state is recorded after the end of the input
+  pub states_last : text.ahead ≡ None → (value_at nfa kind s text (suc (length text.bytes))).states ≡ []
+  states_last e =
+      let past : slice_get text.bytes (length text.bytes) ≡ None = slice_get_past text.bytes (length text.bytes) (omega arith) in
+      (entered_after (length text.bytes) (ap (λ a. option_or (slice_get text.bytes (length text.bytes)) a) e ∙ option_or-None _)).states
+      ∙ ap (λ l. without (is_capture nfa) (listing nfa (length text.bytes) (known nfa (slice_get text.bytes (length text.bytes))) l))
+      (flat_map_none (byte_edges nfa text (length text.bytes)) _ (λ x. ap (λ u. target nfa u x) past ∙ target-end nfa x))
 
 -- the items of a chain
-module _ (nfa : Nfa) (kind : MatchKind) (s : ℕ) (p : Option ℕ) (text : List ℕ) where
-  items_from : (rest : List ℕ) (k : ℕ) → ((i : ℕ) → slice_get text (k + i) ≡ slice_get rest i) → (j : ℕ) → j ≤ length rest + 1
-      → slice_get (future nfa kind (value_at nfa kind s p text k) (units rest)) j ≡ Some (value_at nfa kind s p text (k + j))
-  items_from [] k h zero l = let z : k ≡ k + 0 = omega arith in ap (λ i. Some (value_at nfa kind s p text i)) z
-  items_from [] k h (suc zero) l =
-      let z : suc k ≡ k + 1 = omega arith in
-      let y : k ≡ k + 0 = omega arith in
-      ap (λ u. Some (step nfa kind (value_at nfa kind s p text k) u)) (sym (ap (λ i. slice_get text i) y ∙ h 0))
-      ∙ ap (λ i. Some (value_at nfa kind s p text i)) z
-  items_from [] k h (suc (suc j)) l = absurd (omega arith)
-  items_from (b ∷ rest) k h zero l = let z : k ≡ k + 0 = omega arith in ap (λ i. Some (value_at nfa kind s p text i)) z
-  items_from (b ∷ rest) k h (suc j) l =
-      let z : suc k + j ≡ k + suc j = omega arith in
-      let y : k ≡ k + 0 = omega arith in
-      ap (λ u. slice_get (future nfa kind (step nfa kind (value_at nfa kind s p text k) u) (units rest)) j) (sym (ap (λ i. slice_get text i) y ∙ h 0))
-      ∙ items_from rest (suc k) (λ i. let x : suc k + i ≡ k + suc i = omega arith in ap (λ n. slice_get text n) x ∙ h (suc i)) j (omega arith)
-      ∙ ap (λ i. Some (value_at nfa kind s p text i)) z
+module _ (nfa : Nfa) (kind : MatchKind) (s : ℕ) (text : Text) where
+  items_from : (n k j : ℕ) → j ≤ n → slice_get (future nfa kind (value_at nfa kind s text k) (map (after_at text) (range_with_len k n))) j ≡ Some (value_at nfa kind s text (k + j))
+  items_from n k zero l =
+      let here : k ≡ k + 0 = omega arith in
+      begins n ∙ ap (λ i. Some (value_at nfa kind s text i)) here
+    where
+      begins : (n : ℕ) → slice_get (future nfa kind (value_at nfa kind s text k) (map (after_at text) (range_with_len k n))) 0 ≡ Some (value_at nfa kind s text k)
+      begins zero = refl
+      begins (suc n) = refl
+  items_from zero k (suc j) l = absurd (omega arith)
+  items_from (suc n) k (suc j) l =
+      let one : k + 1 ≡ suc k = omega arith in
+      let next : suc k + j ≡ k + suc j = omega arith in
+      ap (λ m. slice_get (future nfa kind (value_at nfa kind s text (suc k)) (map (after_at text) (range_with_len m n))) j) one
+      ∙ items_from n (suc k) j (omega arith) ∙ ap (λ i. Some (value_at nfa kind s text i)) next
 
-  pub chain_item : (j : ℕ) → j ≤ length text + 1 → slice_get (chain nfa kind s p text) j ≡ Some (value_at nfa kind s p text j)
+  pub chain_item : (j : ℕ) → j ≤ length text.bytes + 1 → slice_get (chain nfa kind s text) j ≡ Some (value_at nfa kind s text j)
   unfolding chain
-  chain_item j l = let z : 0 + j ≡ j = omega arith in
-      items_from text 0 (λ i. let y : 0 + i ≡ i = omega arith in ap (λ n. slice_get text n) y) j l ∙ ap (λ i. Some (value_at nfa kind s p text i)) z
+  chain_item j l = let same : 0 + j ≡ j = omega arith in
+      items_from (suc (length text.bytes)) 0 j (omega arith) ∙ ap (λ i. Some (value_at nfa kind s text i)) same
 
   length-future : (us : List (Option ℕ)) (v : Value) → length (future nfa kind v us) ≡ suc (length us)
   length-future [] v = refl
   length-future (u ∷ us) v = ap suc (length-future us (step nfa kind v u))
 
-  length-units : (xs : List ℕ) → length (units xs) ≡ suc (length xs)
-  length-units [] = refl
-  length-units (x ∷ xs) = ap suc (length-units xs)
+  length-units : (k n : ℕ) → length (map (after_at text) (range_with_len k n)) ≡ n
+  length-units k zero = refl
+  length-units k (suc n) = ap suc (length-units (k + 1) n)
 
-  pub length-chain : length (chain nfa kind s p text) ≡ length text + 2
+  pub length-chain : length (chain nfa kind s text) ≡ length text.bytes + 2
   unfolding chain
-  length-chain = let z : suc (suc (length text)) ≡ length text + 2 = omega arith in
-      length-future (units text) (start_value nfa s p) ∙ ap suc (length-units text) ∙ z
+  length-chain = let more : suc (suc (length text.bytes)) ≡ length text.bytes + 2 = omega arith in
+      length-future (units text) (start_value nfa s text.behind) ∙ ap suc (length-units 0 (suc (length text.bytes))) ∙ more

@@ -7,6 +7,7 @@ use Rattle.std.proofs.lemmas.List.Elements.{All-cons, All-nil}
 use Rattle.determinize_below.specs.Edges.{reach, reach_past}
 use Rattle.determinize_below.specs.Look.{has}
 use Rattle.determinize_below.specs.Nfa.{AllResolve, Nfa, IsAccepted}
+use Rattle.determinize_below.specs.Positions.{Text}
 use Rattle.determinize_below.specs.declared.look.Look.{Look as Assertion}
 use Rattle.determinize_below.specs.declared.search.MatchKind.{MatchKind}
 use Rattle.determinize_core.specs.Chain.{chain, future, units, value_after}
@@ -17,6 +18,7 @@ use Rattle.determinize_core.specs.Value.{Value, dead}
 use Rattle.determinize_core.specs.declared.start.Start.{Start as Kind}
 use Rattle.determinize_core.proofs.Loops.{future-push, value_after-push}
 use Rattle.determinize_core.proofs.Resolving.{start_resolves, step_resolves}
+use Rattle.determinize_core.proofs.UnitLists.{units_are}
 
 -- a search past nothing is a search
 reach-past_none : (nfa : Nfa) (holds : Assertion → Bool) (roots : List ℕ) → reach_past nfa holds [] roots ≡ reach nfa holds roots
@@ -85,26 +87,27 @@ module _ (nfa : Nfa) (kind : MatchKind) where
         end = b ∙ ap (λ v. step nfa kind v u) w.end ∙ sym (value_after-push nfa kind first (map Some (take i text)) u) ∙ ap (λ us. value_after nfa kind first us) (sym one_more);
       }
 
-  -- the end of the input
-  pub walked-chain : (s : ℕ) (p : Option ℕ) (text : List ℕ) (i : ℕ) (values more whole : List Value) (last next : Value) (u : Option ℕ) → length text ≤ i
-      → IsWalked nfa kind (start_value nfa s p) (take i text) values last
-      → u ≡ None
+  -- what is ahead of the text
+  pub walked-chain : (s : ℕ) (text : Text) (i : ℕ) (values more whole : List Value) (last next : Value) (u : Option ℕ) → length text.bytes ≤ i
+      → IsWalked nfa kind (start_value nfa s text.behind) (take i text.bytes) values last
+      → u ≡ text.ahead
       → next ≡ step nfa kind last u
       → more ≡ values ++ last ∷ []
       → whole ≡ more ++ next ∷ []
-      → whole ≡ chain nfa kind s p text
+      → whole ≡ chain nfa kind s text
   unfolding chain
-  walked-chain s p text i values more whole last next u l w a b c d =
+  walked-chain s text i values more whole last next u l w a b c d =
       d
       ∙ ap (λ vs. vs ++ next ∷ []) c
-      ∙ future-more (start_value nfa s p) (take i text) values last next u w b
-      ∙ ap (λ bs. future nfa kind (start_value nfa s p) (map Some bs ++ u ∷ [])) (take_all i text l)
-      ∙ ap (λ o. future nfa kind (start_value nfa s p) (map Some text ++ o ∷ [])) a
+      ∙ future-more (start_value nfa s text.behind) (take i text.bytes) values last next u w b
+      ∙ ap (λ bs. future nfa kind (start_value nfa s text.behind) (map Some bs ++ u ∷ [])) (take_all i text.bytes l)
+      ∙ ap (λ o. future nfa kind (start_value nfa s text.behind) (map Some text.bytes ++ o ∷ [])) a
+      ∙ ap (λ us. future nfa kind (start_value nfa s text.behind) us) (sym (units_are text.behind text.ahead text.bytes))
 
   -- what a chain promises, its values promise
-  pub promised : (P : MatchKind → List Value → Type 0) (s : ℕ) (p : Option ℕ) (text : List ℕ) (values : List Value) (other : MatchKind) → values ≡ chain nfa kind s p text
-      → kind ≡ other → P other (chain nfa other s p text) → P kind values
-  promised P s p text values other e k h = subst (λ vs. P kind vs) (sym e) (subst (λ x. P x (chain nfa x s p text)) (sym k) h)
+  pub promised : (P : MatchKind → List Value → Type 0) (s : ℕ) (text : Text) (values : List Value) (other : MatchKind) → values ≡ chain nfa kind s text
+      → kind ≡ other → P other (chain nfa other s text) → P kind values
+  promised P s text values other e k h = subst (λ vs. P kind vs) (sym e) (subst (λ x. P x (chain nfa x s text)) (sym k) h)
 
 module _ (nfa : Nfa) (accepted : IsAccepted nfa) (kind : MatchKind) where
   -- values that follow one whose states are states of the NFA
@@ -114,6 +117,6 @@ module _ (nfa : Nfa) (accepted : IsAccepted nfa) (kind : MatchKind) where
       All-cons (λ (w : Value). AllResolve nfa w.states) v (future nfa kind (step nfa kind v u) us) h (future_resolves (step nfa kind v u) us (step_resolves nfa accepted kind v u))
 
   -- the states of the values of a walk are states of the NFA
-  pub chain_resolves : (s : ℕ) (p : Option ℕ) (text : List ℕ) → s < length nfa.states → Each (λ (w : Value). AllResolve nfa w.states) (chain nfa kind s p text)
+  pub chain_resolves : (s : ℕ) (text : Text) → s < length nfa.states → Each (λ (w : Value). AllResolve nfa w.states) (chain nfa kind s text)
   unfolding chain
-  chain_resolves s p text l = future_resolves (start_value nfa s p) (units text) (start_resolves nfa accepted s p l)
+  chain_resolves s text l = future_resolves (start_value nfa s text.behind) (units text) (start_resolves nfa accepted s text.behind l)

@@ -3,7 +3,8 @@ use Rattle.std.proofs.Common.{◌≡◌, ℕ, zero, suc, ◌+◌, Bool, true, fa
 use Rattle.determinize_below.specs.Edges.{edges, is_capture, reach, IsTested}
 use Rattle.determinize_below.specs.Look.{has, each_look}
 use Rattle.determinize_below.specs.Nfa.{Nfa, IsAccepted}
-use Rattle.determinize_below.specs.Positions.{truth, known}
+use Rattle.determinize_below.specs.Positions.{truth}
+use Rattle.determinize_below.specs.Reached.{known}
 use Rattle.determinize_below.specs.Reach.{ends, fresh, joined, member, none_held, ordered}
 use Rattle.determinize_below.specs.Runs.{without}
 use Rattle.determinize_below.specs.declared.look.Look.{Look as Assertion}

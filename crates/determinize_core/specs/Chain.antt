@@ -1,7 +1,9 @@
 -- The values of a walk over a text.
-use Rattle.std.specs.Prelude.{◌≡◌, ℕ, Option, Some, None, List, [], ◌∷◌, ◌++◌, drop, map, slice_get}
+use Rattle.std.specs.Prelude.{◌≡◌, ℕ, suc, Option, Some, List, [], ◌∷◌, drop, length, map, slice_get}
+use Rattle.std.specs.List.{range_with_len}
 use Rattle.determinize_below.specs.declared.search.MatchKind.{MatchKind}
 use Rattle.determinize_below.specs.Nfa.{Nfa}
+use Rattle.determinize_below.specs.Positions.{Text, after_at}
 use Rattle.determinize_core.specs.Step.{start_value, step}
 use Rattle.determinize_core.specs.Value.{Value}
 
@@ -15,14 +17,14 @@ abbrev pub value_after : Nfa → MatchKind → Value → List (Option ℕ) → V
 value_after nfa kind v [] = v
 value_after nfa kind v (u ∷ us) = value_after nfa kind (step nfa kind v u) us
 
--- the units of a text: its bytes, and the end of the input
-abbrev pub units : List ℕ → List (Option ℕ)
-units text = map Some text ++ None ∷ []
+-- the units of a text: what stands after each of its positions
+abbrev pub units : Text → List (Option ℕ)
+units text = map (after_at text) (range_with_len 0 (suc (length text.bytes)))
 
--- the values of the walk from a state, after a look-behind byte or none, over a text
-unfoldable pub chain : Nfa → MatchKind → ℕ → Option ℕ → List ℕ → List Value
-chain nfa kind s p text = future nfa kind (start_value nfa s p) (units text)
+-- the values of the walk from a state over a text
+unfoldable pub chain : Nfa → MatchKind → ℕ → Text → List Value
+chain nfa kind s text = future nfa kind (start_value nfa s text.behind) (units text)
 
 -- from each place on, the values are the one there and those that follow it over the units that are left
-abbrev pub FollowsItself : Nfa → MatchKind → List ℕ → List Value → Type 0
+abbrev pub FollowsItself : Nfa → MatchKind → Text → List Value → Type 0
 FollowsItself nfa kind text values = (j : ℕ) (v : Value) → slice_get values j ≡ Some v → drop j values ≡ future nfa kind v (drop j (units text))

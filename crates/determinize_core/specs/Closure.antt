@@ -6,7 +6,7 @@ use Rattle.determinize_below.specs.Look.{has}
 use Rattle.determinize_below.specs.Members.{Members}
 use Rattle.determinize_below.specs.Nfa.{Nfa}
 use Rattle.determinize_below.specs.Reach.{closure, search_tries}
-use Rattle.determinize_below.specs.Runs.{IsBeginning}
+use Rattle.determinize_below.specs.Reached.{IsBeginning}
 
 -- the states of a search when it ends, from those met so far and those that are pending
 unfoldable pub search_end : Nfa → (Assertion → Bool) → List ℕ → List ℕ → List ℕ

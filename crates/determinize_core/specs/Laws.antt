@@ -1,9 +1,10 @@
 -- Laws of steps and of walks.
-use Rattle.std.specs.Prelude.{◌≡◌, ℕ, ◌+◌, ◌*◌, ◌<◌, ◌≤◌, ◌⊎◌, Bool, true, Option, List, [], ◌∷◌, ◌++◌, length, nat_eq}
+use Rattle.std.specs.Prelude.{◌≡◌, ℕ, ◌+◌, ◌*◌, ◌<◌, ◌≤◌, ◌⊎◌, Bool, true, Option, Some, List, [], ◌∷◌, ◌++◌, length, nat_eq}
 use Rattle.determinize_below.specs.Captures.{HasNoCaptureCycle}
 use Rattle.determinize_below.specs.Edges.{edges, target, reach, reach_past}
 use Rattle.determinize_below.specs.Nfa.{Nfa, IsAccepted}
-use Rattle.determinize_below.specs.Positions.{IsKnownReached, IsPreferredRun, IsReached}
+use Rattle.determinize_below.specs.Positions.{Text, between, IsPreferredRun}
+use Rattle.determinize_below.specs.Reached.{IsKnownReached, IsReached}
 use Rattle.determinize_below.specs.Reach.{member}
 use Rattle.determinize_below.specs.declared.look.Look.{Look as Assertion}
 use Rattle.determinize_below.specs.declared.search.MatchKind.{MatchKind}
@@ -13,20 +14,31 @@ use Rattle.determinize_core.specs.Step.{step, with_states}
 use Rattle.determinize_core.specs.Tries.{tries, edges_in_all}
 use Rattle.determinize_core.specs.Value.{Value, dead}
 use Rattle.determinize_core.specs.Walk.{ListsAccepted, IsWalkOfAll, IsLeftmostWalk}
+use Rattle.determinize_core.specs.WalkStates.{RecordsReached}
 
 -- of every accepted NFA, the walk over each text says of whole runs what its kind of match promises
 abbrev pub EachChainIsTrue : Type 0
-EachChainIsTrue = (nfa : Nfa) → IsAccepted nfa → (start : ℕ) (p : Option ℕ) (text : List ℕ)
-    → IsWalkOfAll nfa start p text (chain nfa All start p text)
-    × IsLeftmostWalk nfa start p text (chain nfa LeftmostFirst start p text)
+EachChainIsTrue = (nfa : Nfa) → IsAccepted nfa → (start : ℕ) (text : Text)
+    → IsWalkOfAll nfa start text (chain nfa All start text)
+    × IsLeftmostWalk nfa start text (chain nfa LeftmostFirst start text)
+
+-- and records of NFA states what runs reach
+abbrev pub EachChainReaches : Type 0
+EachChainReaches = (nfa : Nfa) → IsAccepted nfa → (kind : MatchKind) (start : ℕ) (text : Text)
+    → RecordsReached nfa kind start text (chain nfa kind start text)
+
+-- with a byte ahead, the values are all but the last of those over the text with this byte as one more
+abbrev pub EachByteAheadIsNext : Type 0
+EachByteAheadIsNext = (nfa : Nfa) (kind : MatchKind) (start : ℕ) (behind : Option ℕ) (bytes : List ℕ) (byte : ℕ) (ahead : Option ℕ)
+    → (last : Value) × (chain nfa kind start (between behind (bytes ++ byte ∷ []) ahead) ≡ chain nfa kind start (between behind bytes (Some byte)) ++ last ∷ [])
 
 -- runs determine one list of patterns, one most preferred match, and one list of the states reached, by what is known or by what is true
 abbrev pub EachAnswerIsOne : Type 0
-EachAnswerIsOne = (nfa : Nfa) (p : Option ℕ) (text : List ℕ) (start : ℕ)
-    → ((i : ℕ) (xs ys : List ℕ) → ListsAccepted nfa p text start i xs → ListsAccepted nfa p text start i ys → xs ≡ ys)
-    × ((i j x y : ℕ) (cs ds : List ℕ) → IsPreferredRun nfa p text start cs i x → IsPreferredRun nfa p text start ds j y → (i ≡ j) × (x ≡ y))
-    × ((i : ℕ) (xs ys : List ℕ) → IsKnownReached nfa p text start i xs → IsKnownReached nfa p text start i ys → xs ≡ ys)
-    × ((i : ℕ) (xs ys : List ℕ) → IsReached nfa p text start i xs → IsReached nfa p text start i ys → xs ≡ ys)
+EachAnswerIsOne = (nfa : Nfa) (text : Text) (start : ℕ)
+    → ((i : ℕ) (xs ys : List ℕ) → ListsAccepted nfa text start i xs → ListsAccepted nfa text start i ys → xs ≡ ys)
+    × ((i j x y : ℕ) (cs ds : List ℕ) → IsPreferredRun nfa text start cs i x → IsPreferredRun nfa text start ds j y → (i ≡ j) × (x ≡ y))
+    × ((i : ℕ) (xs ys : List ℕ) → IsKnownReached nfa text start i xs → IsKnownReached nfa text start i ys → xs ≡ ys)
+    × ((i : ℕ) (xs ys : List ℕ) → IsReached nfa text start i xs → IsReached nfa text start i ys → xs ≡ ys)
 
 -- of an accepted NFA, a search from one more root goes on with what was reached held
 abbrev pub EachReachGoesOn : Type 0
@@ -40,7 +52,7 @@ EachStateHasOneKind = (nfa : Nfa) (holds : Assertion → Bool) (u : Option ℕ) 
 
 -- from each place on, a walk is what follows from the value there
 abbrev pub EachFutureFollows : Type 0
-EachFutureFollows = (nfa : Nfa) (kind : MatchKind) (s : ℕ) (p : Option ℕ) (text : List ℕ) → FollowsItself nfa kind text (chain nfa kind s p text)
+EachFutureFollows = (nfa : Nfa) (kind : MatchKind) (s : ℕ) (text : Text) → FollowsItself nfa kind text (chain nfa kind s text)
 
 -- the dead value stays, and of the values that a step over an accepted NFA leaves it alone is empty, where no cycle has captures alone
 abbrev pub DeadStays : Type 0

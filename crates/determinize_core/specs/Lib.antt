@@ -1,3 +1,4 @@
+pub mod AheadRows
 pub mod Building
 pub mod Chain
 pub mod Closure
@@ -16,4 +17,5 @@ pub mod Tries
 pub mod Value
 pub mod Varint
 pub mod Walk
+pub mod WalkStates
 pub mod WorkedRows

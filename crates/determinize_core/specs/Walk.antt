@@ -1,19 +1,18 @@
 -- What the values of a walk say of whole runs.
-use Rattle.std.specs.Prelude.{◌≡◌, ℕ, suc, ◌+◌, ◌<◌, ◌≤◌, Option, Some, None, List, [], ◌∷◌, length, slice_get, Contains, ◌↔◌}
+use Rattle.std.specs.Prelude.{◌≡◌, ℕ, suc, ◌+◌, ◌<◌, Option, Some, None, List, [], ◌∷◌, length, slice_get, Contains, ◌↔◌}
 use Rattle.std.specs.Option.{option_or}
 use Rattle.determinize_below.specs.Nfa.{Nfa}
 use Rattle.determinize_below.specs.Paths.{Before}
-use Rattle.determinize_below.specs.Positions.{Accepts, IsBestRun, IsPreferredRun, IsKnownReached}
-use Rattle.determinize_below.specs.Runs.{IsBeginning}
+use Rattle.determinize_below.specs.Positions.{Text, Accepts, IsBestRun, IsPreferredRun}
 use Rattle.determinize_below.specs.declared.search.HalfMatch.{HalfMatch}
 use Rattle.determinize_core.specs.Value.{Value}
 
 -- the list has each pattern that some run accepts at the position, once, and no other, best run first
-pub record ListsAccepted (nfa : Nfa) (p : Option ℕ) (text : List ℕ) (start i : ℕ) (patterns : List ℕ) : Type 0 where
-  pub accepted : (x : ℕ) → (Contains patterns x) ↔ ((cs : List ℕ) × Accepts nfa p text start cs i x)
+pub record ListsAccepted (nfa : Nfa) (text : Text) (start i : ℕ) (patterns : List ℕ) : Type 0 where
+  pub accepted : (x : ℕ) → (Contains patterns x) ↔ ((cs : List ℕ) × Accepts nfa text start cs i x)
   pub once : (a b x : ℕ) → slice_get patterns a ≡ Some x → slice_get patterns b ≡ Some x → a ≡ b
   pub best_first : (a b x y : ℕ) → a < b → slice_get patterns a ≡ Some x → slice_get patterns b ≡ Some y
-      → (cs : List ℕ) × (ds : List ℕ) × IsBestRun nfa p text start cs i x × IsBestRun nfa p text start ds i y × Before cs ds
+      → (cs : List ℕ) × (ds : List ℕ) × IsBestRun nfa text start cs i x × IsBestRun nfa text start ds i y × Before cs ds
 
 -- the end of a match of the first of some patterns, where there is one
 abbrev pub ended_at : ℕ → List ℕ → Option HalfMatch
@@ -31,22 +30,17 @@ last_match [] = None
 last_match (first ∷ others) = last_ended 0 others
 
 -- what the values say where all matches are wanted
-pub record IsWalkOfAll (nfa : Nfa) (start : ℕ) (p : Option ℕ) (text : List ℕ) (values : List Value) : Type 0 where
-  pub count : length values ≡ length text + 2
+pub record IsWalkOfAll (nfa : Nfa) (start : ℕ) (text : Text) (values : List Value) : Type 0 where
+  pub count : length values ≡ length text.bytes + 2
   pub first : (v : Value) → slice_get values 0 ≡ Some v → v.patterns ≡ []
-  pub matches : (i : ℕ) (v : Value) → slice_get values (suc i) ≡ Some v → ListsAccepted nfa p text start i v.patterns
-  pub ids : (i : ℕ) (v : Value) → i ≤ length text → slice_get values i ≡ Some v → IsKnownReached nfa p text start i v.states
-  pub last : (v : Value) → slice_get values (suc (length text)) ≡ Some v → v.states ≡ []
+  pub matches : (i : ℕ) (v : Value) → slice_get values (suc i) ≡ Some v → ListsAccepted nfa text start i v.patterns
 
 -- what they say where the most preferred match is wanted
-pub record IsLeftmostWalk (nfa : Nfa) (start : ℕ) (p : Option ℕ) (text : List ℕ) (values : List Value) : Type 0 where
-  pub count : length values ≡ length text + 2
+pub record IsLeftmostWalk (nfa : Nfa) (start : ℕ) (text : Text) (values : List Value) : Type 0 where
+  pub count : length values ≡ length text.bytes + 2
   pub first : (v : Value) → slice_get values 0 ≡ Some v → v.patterns ≡ []
   pub preferred : (m : HalfMatch) → last_match values ≡ Some m
-      → (cs : List ℕ) × IsPreferredRun nfa p text start cs m.offset m.pattern
-  pub none : last_match values ≡ None → (cs : List ℕ) (i pattern : ℕ) → Accepts nfa p text start cs i pattern → ⊥
+      → (cs : List ℕ) × IsPreferredRun nfa text start cs m.offset m.pattern
+  pub none : last_match values ≡ None → (cs : List ℕ) (i pattern : ℕ) → Accepts nfa text start cs i pattern → ⊥
   pub matches : (i : ℕ) (v : Value) → slice_get values (suc i) ≡ Some v → (x : ℕ) → Contains v.patterns x
-      → (cs : List ℕ) × Accepts nfa p text start cs i x
-  pub ids : (i : ℕ) (v : Value) → i ≤ length text → slice_get values i ≡ Some v
-      → (xs : List ℕ) × IsKnownReached nfa p text start i xs × IsBeginning v.states xs
-  pub last : (v : Value) → slice_get values (suc (length text)) ≡ Some v → v.states ≡ []
+      → (cs : List ℕ) × Accepts nfa text start cs i x

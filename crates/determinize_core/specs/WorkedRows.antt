@@ -3,6 +3,7 @@ use Rattle.std.specs.Prelude.{◌≡◌, ℕ, zero, suc, Bool, true, false, Opti
 use Rattle.determinize_below.specs.Edges.{reach_past}
 use Rattle.determinize_below.specs.Look as looks
 use Rattle.determinize_below.specs.Nfa.{Nfa, IsAccepted, looks_of}
+use Rattle.determinize_below.specs.Positions.{Text, between}
 use Rattle.determinize_below.specs.Node.{Node, ByteRange, Sparse, Dense, Look, Union, BinaryUnion, Capture, Fail, Match}
 use Rattle.determinize_below.specs.declared.look.Look.TheVariants.{StartLF, StartCRLF, EndCRLF, WordAscii, WordUnicode, WordStartHalfAscii}
 use Rattle.determinize_below.specs.declared.nfa.transitions.Transition.{Transition}
@@ -132,10 +133,14 @@ nine_zeros = padded 9 0 []
 abbrev pub match_and_end : List Value → Option (ℕ × ℕ)
 match_and_end values = option_map (λ m. (m.pattern, m.offset)) (last_match values)
 
--- the walk has states of these bytes, and this pattern and end of its last match
+-- the walk over a text has states of these bytes, and this pattern and end of its last match
+abbrev pub IsRowOf : Nfa → MatchKind → ℕ → Text → List (List ℕ) → Option (ℕ × ℕ) → Type 0
+IsRowOf nfa kind start text states match =
+    (map spell (chain nfa kind start text) ≡ states) × (match_and_end (chain nfa kind start text) ≡ match)
+
+-- the same of a text from what is behind it to the end of the input
 abbrev pub IsRow : Nfa → MatchKind → ℕ → Option ℕ → List ℕ → List (List ℕ) → Option (ℕ × ℕ) → Type 0
-IsRow nfa kind start before text states match =
-    (map spell (chain nfa kind start before text) ≡ states) × (match_and_end (chain nfa kind start before text) ≡ match)
+IsRow nfa kind start behind bytes states match = IsRowOf nfa kind start (between behind bytes None) states match
 
 -- the walk `2`: over the empty text
 abbrev pub Row2 : Type 0

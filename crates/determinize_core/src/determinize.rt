@@ -13,4 +13,4 @@ pub use crate::determinize::look_tables::set_lookbehind_from_start;
 pub use crate::determinize::recording::add_nfa_states;
 pub use crate::determinize::steps::Steps;
 pub use crate::determinize::transition::{next, next_counted};
-pub use crate::determinize::walks::{last_match, start_state, walk};
+pub use crate::determinize::walks::{last_match, start_state, walk, walk_between};

@@ -1,15 +1,24 @@
 //! Laws of walks, steps and searches over the definitions, as public functions with empty bodies.
 ghost use Rattle.determinize_core.specs.WorkedRows as rows;
 ghost use Rattle.determinize_core.specs.HostileRows as hostile;
-ghost use Rattle.determinize_core.specs.Laws.{EachChainIsTrue, EachAnswerIsOne, EachReachGoesOn, EachStateHasOneKind, EachFutureFollows, DeadStays, LeftmostGivesOne, NoNeedNoHave, TriesAreFew};
+ghost use Rattle.determinize_core.specs.AheadRows as ahead;
+ghost use Rattle.determinize_core.specs.Laws.{EachChainIsTrue, EachChainReaches, EachByteAheadIsNext, EachAnswerIsOne, EachReachGoesOn, EachStateHasOneKind, EachFutureFollows, DeadStays, LeftmostGivesOne, NoNeedNoHave, TriesAreFew};
 
 /// The walk of an accepted NFA over a text, against whole runs. Where all matches are wanted, each
-/// value lists the patterns that runs accept before its unit, best run first, and, captures left
-/// out, the NFA states that runs reach by what is known there. Where the most preferred match is
-/// wanted, the last value with a pattern ends the most preferred of all accepting runs, and without
-/// such a value no run accepts.
+/// value lists the patterns that runs accept before its unit, best run first. Where the most
+/// preferred match is wanted, the last value with a pattern ends the most preferred of all accepting
+/// runs, and without such a value no run accepts. Captures left out, the values record the NFA
+/// states that runs reach by what is known there, or a beginning of their list where the most
+/// preferred match is wanted.
 pub fn walk_law()
-    ensures { EachChainIsTrue }
+    ensures runs { EachChainIsTrue }
+    ensures records { EachChainReaches }
+{}
+
+/// A byte ahead of a text is one more byte of the text, short of the last state: the values with it
+/// ahead are all but the last of those over the text with this byte at its end.
+pub fn ahead_law()
+    ensures { EachByteAheadIsNext }
 {}
 
 /// What the walk answers is determined by the runs: one list of patterns at each position, one most
@@ -74,6 +83,7 @@ pub fn walk_rows_law()
     ensures row_27b { rows.Row27b }
     ensures hostile_accepted { hostile.AreHostileAccepted }
     ensures hostile { hostile.AreHostileRows }
+    ensures ahead { ahead.AreAheadRows }
 {}
 
 /// A search from one state into a set that holds another meets no path through the held one.

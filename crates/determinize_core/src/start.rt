@@ -38,12 +38,8 @@ impl Config {
     pub fn from_input_forward(input: &Input<'_>) -> Config
         ensures { result ≡ record { look_behind = kinds.byte_before input.now.haystack input.now.start; anchored = input.now.anchored } }
     {
-        let look_behind = match input.start() {
-            0 => None,
-            start => input.haystack().get(start - 1).copied(),
-        };
         Config {
-            look_behind,
+            look_behind: byte_before_start(input),
             anchored: input.get_anchored(),
         }
     }
@@ -53,7 +49,7 @@ impl Config {
         ensures { result ≡ record { look_behind = slice_get input.now.haystack input.now.end; anchored = input.now.anchored } }
     {
         Config {
-            look_behind: input.haystack().get(input.end()).copied(),
+            look_behind: byte_at_end(input),
             anchored: input.get_anchored(),
         }
     }
@@ -90,6 +86,37 @@ impl Config {
         ensures { result ≡ self.now.anchored }
     {
         self.anchored
+    }
+}
+
+/// The byte ahead of a forward search, for [`walk_between`](crate::determinize::walk_between): the
+/// one at the input's end, or none where the haystack ends there.
+pub fn look_ahead_forward(input: &Input<'_>) -> Option<u8>
+    ensures { result ≡ slice_get input.now.haystack input.now.end }
+{
+    byte_at_end(input)
+}
+
+/// The byte ahead of a reverse search: the one before the input's start, or none where the haystack
+/// has none there.
+pub fn look_ahead_reverse(input: &Input<'_>) -> Option<u8>
+    ensures { result ≡ kinds.byte_before input.now.haystack input.now.start }
+{
+    byte_before_start(input)
+}
+
+fn byte_at_end(input: &Input<'_>) -> Option<u8>
+    ensures { result ≡ slice_get input.now.haystack input.now.end }
+{
+    input.haystack().get(input.end()).copied()
+}
+
+fn byte_before_start(input: &Input<'_>) -> Option<u8>
+    ensures { result ≡ kinds.byte_before input.now.haystack input.now.start }
+{
+    match input.start() {
+        0 => None,
+        start => input.haystack().get(start - 1).copied(),
     }
 }
 

@@ -4,7 +4,7 @@
 ghost use Rattle.std.specs.Prelude.{◌≡◌, ℕ, Bool, true, false, not, ◌&&◌, Option};
 ghost use Rattle.determinize_below.specs.Look.{has, has_word};
 ghost use Rattle.determinize_below.specs.Nfa.{IsAccepted};
-ghost use Rattle.determinize_below.specs.Positions as positions;
+ghost use Rattle.determinize_below.specs.Reached as reached;
 ghost use Rattle.determinize_below.specs.Truth as truth;
 ghost use Rattle.determinize_below.specs.Unit.{byte_of};
 ghost use Rattle.determinize_below.specs.declared.look.Look.{Look as Assertion};
@@ -263,7 +263,7 @@ pub fn set_lookbehind_from_start<N: Allocator, A: Allocator>(
     ensures known { (p : Option ℕ) (look : Assertion)
         → start_kind_of nfa.now.terminator p ≡ start.now
         → has (tables.start_have (tables_of nfa.now) start.now) look ≡ true
-        → positions.known nfa.now p look ≡ true }
+        → reached.known nfa.now p look ≡ true }
 {
     let told = LookTables::of(nfa).at_start(*start);
     builder.set_look_have(|have| have.union(told.looks));

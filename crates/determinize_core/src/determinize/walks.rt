@@ -1,13 +1,16 @@
 //! A whole walk: the states of a DFA over a text, from the start state to the end of the input.
 
-ghost use Rattle.std.specs.Prelude.{◌≡◌, ◌<◌, All, length, IfOk};
+ghost use Rattle.std.specs.Prelude.{◌≡◌, ◌<◌, All, None, length, IfOk};
 ghost use Rattle.determinize_below.specs.Nfa.{AllResolve};
+ghost use Rattle.determinize_below.specs.Positions.{between};
+ghost use Rattle.determinize_below.specs.Unit.{byte_of};
 ghost use Rattle.determinize_below.specs.declared.search.MatchKind.TheVariants as kinds;
 ghost use Rattle.determinize_core.specs.Chain.{FollowsItself, chain};
 ghost use Rattle.determinize_core.specs.Scratch.{IsScratch};
 ghost use Rattle.determinize_core.specs.Step.{start_value};
 ghost use Rattle.determinize_core.specs.Walk as specs_of_walks;
 ghost use Rattle.determinize_core.specs.Walk.{IsLeftmostWalk, IsWalkOfAll};
+ghost use Rattle.determinize_core.specs.WalkStates.{RecordsReached};
 
 use crate::determinize::closure::epsilon_closure;
 use crate::determinize::look_tables::set_lookbehind_from_start;
@@ -51,25 +54,10 @@ pub fn start_state<N: Allocator, A: Allocator>(
     Ok(builder)
 }
 
-/// Walks a text: the state at the start of a search, and after it the state that follows over each
-/// byte and, last, over the end of the input.
+/// Walks a text to the end of the input: [`walk_between`] with no byte ahead.
 ///
-/// - `start` is the id of the NFA state to start from, below the number of states. It may be any
-///   state, and is mostly one of the NFA's two start states.
-/// - `text` holds the bytes in the order in which they are read: an NFA that reads backwards gets
-///   its haystack from the end.
-/// - `look_behind` is the byte that is read just before the text, or none where the text begins at
-///   an end of the haystack.
-///
-/// There are `text.len() + 2` states. A match is told one unit late: the state at index `j` lists
-/// the patterns that match at position `j - 1` of the text, and the first state lists none. Where
-/// all matches are wanted these are all the patterns with a match that ends there, the most
-/// preferred first. Where the leftmost match is wanted, the last state that lists a pattern lists
-/// one, and this is the pattern and the end of the most preferred match; where no state lists any
-/// pattern, there is no match.
-///
-/// All memory of the answer and of the work is taken of `alloc`. The only error is want of memory, and
-/// no state is kept then.
+/// All that is said there holds, and the last state records no NFA states, since nothing is read
+/// after the end of the input.
 pub fn walk<N: Allocator, A: Allocator + Copy>(
     alloc: A,
     nfa: &NFA<N>,
@@ -80,13 +68,62 @@ pub fn walk<N: Allocator, A: Allocator + Copy>(
 ) -> Result<Vec<State<A>, A>, AllocError>
     requires { start < length nfa.now.states }
     ensures values { IfOk result
-        (λ states. states.items ≡ chain nfa.now match_kind start look_behind text.now) }
+        (λ states. states.items ≡ chain nfa.now match_kind start (between look_behind text.now None)) }
     ensures all { match_kind ≡ kinds.All → IfOk result
-        (λ states. IsWalkOfAll nfa.now start look_behind text.now states.items) }
+        (λ states. IsWalkOfAll nfa.now start (between look_behind text.now None) states.items) }
     ensures leftmost_first { match_kind ≡ kinds.LeftmostFirst → IfOk result
-        (λ states. IsLeftmostWalk nfa.now start look_behind text.now states.items) }
+        (λ states. IsLeftmostWalk nfa.now start (between look_behind text.now None) states.items) }
+    ensures records { IfOk result
+        (λ states. RecordsReached nfa.now match_kind start (between look_behind text.now None) states.items) }
     ensures follows { IfOk result
-        (λ states. FollowsItself nfa.now match_kind text.now states.items) }
+        (λ states. FollowsItself nfa.now match_kind (between look_behind text.now None) states.items) }
+    ensures resolve { IfOk result
+        (λ states. All (λ state. AllResolve nfa.now state.states) states.items) }
+{
+    walk_between(alloc, nfa, match_kind, start, look_behind, text, None)
+}
+
+/// Walks a text that may be a part of a haystack: the state at the start of a search, and after it
+/// the state that follows over each byte and, last, over what stands ahead of the text.
+///
+/// - `start` is the id of the NFA state to start from, below the number of states. It may be any
+///   state, and is mostly one of the NFA's two start states.
+/// - `text` holds the bytes in the order in which they are read: an NFA that reads backwards gets
+///   its haystack from the end.
+/// - `look_behind` is the byte that is read just before the text, or none where the text begins at
+///   an end of the haystack.
+/// - `look_ahead` is the byte that would be read just after the text, or none where the text ends
+///   at the other end of the haystack. It is looked at and not read: no match goes on over it.
+///
+/// There are `text.len() + 2` states. A match is told one unit late: the state at index `j` lists
+/// the patterns that match at position `j - 1` of the text, and the first state lists none. Where
+/// all matches are wanted these are all the patterns with a match that ends there, the most
+/// preferred first. Where the leftmost match is wanted, the last state that lists a pattern lists
+/// one, and this is the pattern and the end of the most preferred match; where no state lists any
+/// pattern, there is no match.
+///
+/// All memory of the answer and of the work is taken of `alloc`. The only error is want of memory, and
+/// no state is kept then.
+pub fn walk_between<N: Allocator, A: Allocator + Copy>(
+    alloc: A,
+    nfa: &NFA<N>,
+    match_kind: MatchKind,
+    start: StateID,
+    look_behind: Option<u8>,
+    text: &[u8],
+    look_ahead: Option<u8>,
+) -> Result<Vec<State<A>, A>, AllocError>
+    requires { start < length nfa.now.states }
+    ensures values { IfOk result
+        (λ states. states.items ≡ chain nfa.now match_kind start (between look_behind text.now look_ahead)) }
+    ensures all { match_kind ≡ kinds.All → IfOk result
+        (λ states. IsWalkOfAll nfa.now start (between look_behind text.now look_ahead) states.items) }
+    ensures leftmost_first { match_kind ≡ kinds.LeftmostFirst → IfOk result
+        (λ states. IsLeftmostWalk nfa.now start (between look_behind text.now look_ahead) states.items) }
+    ensures records { IfOk result
+        (λ states. RecordsReached nfa.now match_kind start (between look_behind text.now look_ahead) states.items) }
+    ensures follows { IfOk result
+        (λ states. FollowsItself nfa.now match_kind (between look_behind text.now look_ahead) states.items) }
     ensures resolve { IfOk result
         (λ states. All (λ state. AllResolve nfa.now state.states) states.items) }
 {
@@ -112,7 +149,7 @@ pub fn walk<N: Allocator, A: Allocator + Copy>(
     }
     let state = builder.to_state()?;
     let empty = builder.clear();
-    let unit = Unit::eoi(256);
+    let unit = unit_ahead(look_ahead);
     let last = next(
         nfa,
         match_kind,
@@ -125,6 +162,16 @@ pub fn walk<N: Allocator, A: Allocator + Copy>(
     states.push(state)?;
     states.push(last.to_state()?)?;
     Ok(states)
+}
+
+/// The unit after a text: the byte ahead of it, or the end of the input.
+fn unit_ahead(look_ahead: Option<u8>) -> Unit
+    ensures { byte_of result ≡ look_ahead }
+{
+    match look_ahead {
+        Some(byte) => Unit::u8(byte),
+        None => Unit::eoi(256),
+    }
 }
 
 /// The last match that the states of a walk tell: the first pattern of the last state that lists

@@ -1,5 +1,8 @@
-use Rattle.determinize_core.proofs.WholeWalk.{each_chain_is_true}
+use Rattle.determinize_core.proofs.WholeWalk.{each_chain_is_true, each_chain_reaches}
 use Rattle.determinize_core.proofs.laws.walk_law.Goals as goal
 
 pub returns : goal.returns
-returns c = each_chain_is_true
+returns c = record {
+  runs = each_chain_is_true;
+  records = each_chain_reaches;
+}

@@ -1,4 +1,4 @@
-use Rattle.determinize_below.specs.Positions.{known}
+use Rattle.determinize_below.specs.Reached.{known}
 use Rattle.determinize_core.specs.LookTables.{tables_of}
 use Rattle.determinize_core.proofs.StartKinds.{start_have-known}
 use Rattle.determinize_core.proofs.determinize.look_tables.set_lookbehind_from_start.Goals as goal

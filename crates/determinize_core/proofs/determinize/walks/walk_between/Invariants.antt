@@ -3,7 +3,7 @@ use Rattle.determinize_below.specs.Nfa.{AllResolve}
 use Rattle.determinize_core.specs.Scratch.{IsScratch}
 use Rattle.determinize_core.specs.Step.{start_value}
 use Rattle.determinize_core.proofs.Walking.{IsWalked}
-use Rattle.determinize_core.proofs.determinize.walks.walk.Given as goal
+use Rattle.determinize_core.proofs.determinize.walks.walk_between.Given as goal
 
 abbrev pub invariant-loop-byte : goal.invariant-loop-byte
 invariant-loop-byte g l = record {
