@@ -1,8 +1,10 @@
 -- A bounded cache of transitions, and the rule of what it keeps.
 use Rattle.std.specs.Prelude.{◌≡◌, ℕ, ◌+◌, Bool, true, false, cond, Option, List, [], ◌∷◌, ◌++◌, min, length, nat_le, slice_get, MatchOption, Some}
 use Rattle.determinize_below.specs.Nfa.{Nfa}
+use Rattle.determinize_below.specs.Positions.{Text}
 use Rattle.determinize_below.specs.declared.search.MatchKind.{MatchKind}
-use Rattle.determinize_core.specs.Step.{step}
+use Rattle.determinize_core.specs.Chain.{units}
+use Rattle.determinize_core.specs.Step.{start_value, step}
 use Rattle.determinize_core.specs.Value.{Value}
 use Rattle.determinize_lazy.specs.Pairs.{Pair, is_kept, values_of}
 
@@ -45,7 +47,7 @@ module _ (f : Value → Option ℕ → Value) (limit : ℕ) where
   missed pairs v [] = 0
   missed pairs v (u ∷ us) = cond (is_kept pairs v u) 0 1 + missed (after_pair pairs record { value = v; unit = u }) (f v u) us
 
--- the cache after so many more computed steps, where its count stays at the greatest number of 64 bits
+-- the count after so many more computed steps, which stays at the greatest number of 64 bits
 abbrev pub count_after : ℕ → ℕ → ℕ
 count_after computed more = min (computed + more) 18446744073709551615
 
@@ -62,6 +64,10 @@ after_walk c v us = record c {
   pairs = kept (step_of c) c.limit c.pairs v us;
   computed = count_after c.computed (missed (step_of c) c.limit c.pairs v us);
 }
+
+-- the cache after the walk from an NFA state over a text
+unfoldable pub after_text : Cache → ℕ → Text → Cache
+after_text c start text = after_walk c (start_value c.nfa start text.behind) (units text)
 
 -- the place of the value that follows, where the transition is kept, else none
 abbrev pub IsKnown : Cache → Value → Option ℕ → Option ℕ → Type 0

@@ -2,5 +2,5 @@ pub mod Kept
 pub mod Order
 pub mod Pairs
 pub mod Places
+pub mod Plenty
 pub mod Rows
-pub mod Units

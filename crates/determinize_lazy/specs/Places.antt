@@ -16,9 +16,13 @@ EachApart values = (p : ℕ) (v : Value) → slice_get values p ≡ Some v → p
 abbrev pub IsPlace : List Value → Value → Option ℕ → Type 0
 IsPlace values v place = MatchOption place (list_any (same v) values ≡ false) (λ p. slice_get values p ≡ Some v)
 
+-- each of the values is one that a state can have
+abbrev pub AreValid : List Value → Type 0
+AreValid values = (p : ℕ) (v : Value) → slice_get values p ≡ Some v → IsValue v
+
 -- values apart, each one that a state can have, and a map to their places, which are numbers of 32 bits
 pub record IsPlaces (values : List Value) (at : Value → Option ℕ) : Type 0 where
   pub mapped : (q : Value) → at q ≡ place_in values q
   pub apart : EachApart values
-  pub valid : (p : ℕ) (v : Value) → slice_get values p ≡ Some v → IsValue v
+  pub valid : AreValid values
   pub few : length values ≤ 4294967295

@@ -2,13 +2,14 @@
 
 ghost use Rattle.std.specs.Prelude.{◌≡◌, ◌<◌, ◌≤◌, ◌++◌, ◌∷◌, [], true, false, cond, length, nat_le, slice_get, IfOk, OnErr, OnOk, Some, None};
 ghost use Rattle.determinize_below.specs.Nfa.{AllResolve};
-ghost use Rattle.determinize_core.specs.Chain.{chain, future};
+ghost use Rattle.determinize_below.specs.Positions.{between};
+ghost use Rattle.determinize_core.specs.Chain.{chain, future, units};
 ghost use Rattle.determinize_core.specs.Step.{start_value};
-ghost use Rattle.determinize_core.specs.Value.{Value as StateValue};
-ghost use Rattle.determinize_lazy.specs.Kept.{Cache, IsKnown, after_turn, after_walk, count_after, held_values, keep, step_of};
-ghost use Rattle.determinize_lazy.specs.Pairs.{is_kept, with_value};
-ghost use Rattle.determinize_lazy.specs.Places.{EachApart, IsPlace};
-ghost use Rattle.determinize_lazy.specs.Units.{units_between};
+ghost use Rattle.determinize_core.specs.Value.{IsValue, Value as StateValue};
+ghost use Rattle.determinize_lazy.specs.Kept.{Cache, IsKnown, after_text, after_turn, after_walk, count_after, held_values, keep, step_of};
+ghost use Rattle.determinize_lazy.specs.Pairs.{HaveValidValues, is_kept, with_value};
+ghost use Rattle.determinize_lazy.specs.Places.{AreValid, EachApart, IsPlace};
+ghost use Rattle.determinize_lazy.specs.Plenty.{HasRoom, KeepsAll};
 
 use crate::scratch::Scratch;
 use crate::table::{Table, UNITS, column};
@@ -117,8 +118,9 @@ impl<'n, N: Allocator, A: Allocator + Copy> Lazy<'n, N, A> {
     /// limit.
     fn fits(&self, state: &State<A>, place: Option<u32>, following: &State<A>) -> bool
         requires { IsPlace (held_values self.now) state.now place }
-        ensures { result ≡ nat_le (length (with_value (with_value (held_values self.now) state.now)
-            following.now)) self.now.limit }
+        ensures fits { result ≡ nat_le (length (with_value (with_value (held_values self.now)
+            state.now) following.now)) self.now.limit }
+        ensures valid { IsValue following.now }
     {
         let source = one_if(place.is_none());
         let target = one_if(self.table.places.is_new(following, state));
@@ -172,6 +174,7 @@ impl<'n, N: Allocator, A: Allocator + Copy> Lazy<'n, N, A> {
               record { value = state.now; unit = unit };
         }) }
         ensures place { IfOk result (λ place. IsPlace (held_values self.new) following.now place) }
+        ensures valid { IsValue following.now }
         ensures err { OnErr result (self.new ≡ record self.old { pairs = [] }) }
     {
         if self.fits(state, place, following) {
@@ -297,6 +300,7 @@ impl<'n, N: Allocator, A: Allocator + Copy> Lazy<'n, N, A> {
         requires place { IsPlace (held_values self.old) state.now place }
         ensures state { IfOk result
             (λ reached. reached.state ≡ step_of self.old state.now unit) }
+        ensures valid { IfOk result (λ reached. IsValue reached.state) }
         ensures place { IfOk result
             (λ reached. IsPlace (held_values self.new) reached.state reached.place) }
         ensures after { OnOk result (self.new ≡ after_turn self.old state.now unit) }
@@ -326,6 +330,7 @@ impl<'n, N: Allocator, A: Allocator + Copy> Lazy<'n, N, A> {
         requires place { IsPlace (held_values self.old) state.now place }
         ensures state { IfOk result
             (λ reached. reached.state ≡ step_of self.old state.now unit) }
+        ensures valid { IfOk result (λ reached. IsValue reached.state) }
         ensures place { IfOk result
             (λ reached. IsPlace (held_values self.new) reached.state reached.place) }
         ensures after { OnOk result (self.new ≡ after_turn self.old state.now unit) }
@@ -348,7 +353,9 @@ impl<'n, N: Allocator, A: Allocator + Copy> Lazy<'n, N, A> {
 
     /// The place of a state, or none where it isn't held.
     fn place_of(&self, state: &State<A>) -> Option<u32>
-        ensures { IsPlace (held_values self.now) state.now result }
+        ensures place { IsPlace (held_values self.now) state.now result }
+        ensures valid { IsValue state.now }
+        ensures pairs { HaveValidValues self.now.pairs }
     {
         self.table.places.place_of(state)
     }
@@ -363,9 +370,11 @@ impl<'n, N: Allocator, A: Allocator + Copy> Lazy<'n, N, A> {
     ) -> Result<Vec<State<A>, A>, AllocError>
         requires { AllResolve self.old.nfa first.states }
         ensures values { IfOk result (λ states. states.items
-            ≡ future self.old.nfa self.old.kind first (units_between text.now look_ahead)) }
+            ≡ future self.old.nfa self.old.kind first (units (between None text.now look_ahead))) }
         ensures after { OnOk result
-            (self.new ≡ after_walk self.old first (units_between text.now look_ahead)) }
+            (self.new ≡ after_walk self.old first (units (between None text.now look_ahead))) }
+        ensures valid { IfOk result (λ states. AreValid states.items) }
+        ensures pairs { HaveValidValues self.old.pairs }
         ensures nfa { self.new.nfa ≡ self.old.nfa }
         ensures kind { self.new.kind ≡ self.old.kind }
         ensures limit { self.new.limit ≡ self.old.limit }
@@ -405,9 +414,11 @@ impl<'n, N: Allocator, A: Allocator + Copy> Lazy<'n, N, A> {
     ) -> Result<Vec<State<A>, A>, AllocError>
         requires { start < length self.old.nfa.states }
         ensures values { IfOk result (λ states. states.items
-            ≡ chain self.old.nfa self.old.kind start look_behind text.now) }
-        ensures after { OnOk result (self.new ≡ after_walk self.old
-            (start_value self.old.nfa start look_behind) (units_between text.now None)) }
+            ≡ chain self.old.nfa self.old.kind start (between look_behind text.now None)) }
+        ensures after { OnOk result
+            (self.new ≡ after_text self.old start (between look_behind text.now None)) }
+        ensures plenty { HasRoom self.old start (between look_behind text.now None) → OnOk result
+            (KeepsAll self.old start (between look_behind text.now None) self.new) }
         ensures nfa { self.new.nfa ≡ self.old.nfa }
         ensures kind { self.new.kind ≡ self.old.kind }
         ensures limit { self.new.limit ≡ self.old.limit }
@@ -429,10 +440,12 @@ impl<'n, N: Allocator, A: Allocator + Copy> Lazy<'n, N, A> {
         look_ahead: Option<u8>,
     ) -> Result<Vec<State<A>, A>, AllocError>
         requires { start < length self.old.nfa.states }
-        ensures values { IfOk result (λ states. states.items ≡ future self.old.nfa self.old.kind
-            (start_value self.old.nfa start look_behind) (units_between text.now look_ahead)) }
-        ensures after { OnOk result (self.new ≡ after_walk self.old
-            (start_value self.old.nfa start look_behind) (units_between text.now look_ahead)) }
+        ensures values { IfOk result (λ states. states.items
+            ≡ chain self.old.nfa self.old.kind start (between look_behind text.now look_ahead)) }
+        ensures after { OnOk result
+            (self.new ≡ after_text self.old start (between look_behind text.now look_ahead)) }
+        ensures plenty { HasRoom self.old start (between look_behind text.now look_ahead) → OnOk result
+            (KeepsAll self.old start (between look_behind text.now look_ahead) self.new) }
         ensures nfa { self.new.nfa ≡ self.old.nfa }
         ensures kind { self.new.kind ≡ self.old.kind }
         ensures limit { self.new.limit ≡ self.old.limit }

@@ -2,8 +2,9 @@
 
 ghost use Rattle.std.specs.Prelude.{◌≡◌, ◌++◌, ◌∷◌, ◌<◌, ◌≤◌, [], Some, ◌||◌, not, false, length, slice_get, IfOk, OnErr, OnOk};
 ghost use Rattle.std.specs.List.{list_any};
+ghost use Rattle.determinize_core.specs.Value.{IsValue};
 ghost use Rattle.determinize_lazy.specs.Pairs.{same};
-ghost use Rattle.determinize_lazy.specs.Places.{EachApart, IsPlace};
+ghost use Rattle.determinize_lazy.specs.Places.{AreValid, EachApart, IsPlace};
 
 use determinize_core::state::State;
 use std::alloc::{AllocError, Allocator, Global};
@@ -57,7 +58,9 @@ impl<A: Allocator + Copy> Places<A> {
 
     /// The place of a state, or none where it isn't held.
     pub(crate) fn place_of(&self, state: &State<A>) -> Option<u32>
-        ensures { IsPlace self.now state.now result }
+        ensures place { IsPlace self.now state.now result }
+        ensures valid { IsValue state.now }
+        ensures held { AreValid self.now }
     {
         // The bytes are taken for the proof alone: they tell that the value is well formed.
         let _ = state.as_bytes();
@@ -66,7 +69,9 @@ impl<A: Allocator + Copy> Places<A> {
 
     /// Whether a state isn't held, nor the same as another one.
     pub(crate) fn is_new(&self, state: &State<A>, other: &State<A>) -> bool
-        ensures { result ≡ not (list_any (same state.now) self.now || same other.now state.now) }
+        ensures new { result
+            ≡ not (list_any (same state.now) self.now || same other.now state.now) }
+        ensures valid { IsValue state.now }
     {
         self.place_of(state).is_none() && other != state
     }
@@ -74,7 +79,8 @@ impl<A: Allocator + Copy> Places<A> {
     /// The state at a place.
     pub(crate) fn at(&self, place: u32) -> &State<A>
         requires { place < length self.now }
-        ensures { slice_get self.now place ≡ Some result.now }
+        ensures value { slice_get self.now place ≡ Some result.now }
+        ensures valid { IsValue result.now }
     {
         &self.states[place as usize]
     }
