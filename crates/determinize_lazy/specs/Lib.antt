@@ -4,3 +4,4 @@ pub mod Pairs
 pub mod Places
 pub mod Plenty
 pub mod Rows
+pub mod WorkedRows

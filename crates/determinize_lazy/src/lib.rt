@@ -3,6 +3,7 @@
 //! [`Lazy`] borrows an NFA and answers what `determinize_core::determinize::walk` answers.
 #![tactic(auto)]
 
+pub mod laws;
 pub mod lazy;
 mod places;
 mod scratch;
