@@ -1,0 +1,23 @@
+-- The worked walks over one cache, computed.
+use Rattle.std.proofs.Common.{refl}
+use Rattle.determinize_below.specs.Edges.{reach}
+use Rattle.determinize_below.specs.Look.{has, insert, meets}
+use Rattle.determinize_below.specs.Unit.{is_word_byte}
+use Rattle.determinize_core.specs.LookTables.{insert_where, known_set, word_opened, line_opened, opened, have_after, from_word_after, half_crlf_after, start_have, start_from_word, start_half_crlf, have_at_start, from_word_at_start, half_crlf_at_start}
+use Rattle.determinize_core.specs.Spelling.{spell}
+use Rattle.determinize_core.specs.Step.{step}
+use Rattle.determinize_core.specs.Varint.{varint}
+use Rattle.determinize_lazy.specs.Kept.{after_text}
+use Rattle.determinize_lazy.specs.WorkedRows.{AreWorkedRows}
+
+pub are_worked_rows : AreWorkedRows
+unfolding has insert is_word_byte meets insert_where known_set word_opened line_opened opened have_after from_word_after half_crlf_after start_have start_from_word start_half_crlf have_at_start from_word_at_start half_crlf_at_start reach step spell varint after_text
+are_worked_rows = record {
+  room_for_all = (refl, refl);
+  room_again = (refl, refl);
+  cleared = (refl, refl);
+  room_for_two = (refl, refl);
+  room_for_two_again = (refl, refl);
+  room_for_none = (refl, refl);
+  other_states = (refl, refl);
+}

@@ -1,0 +1,23 @@
+use Rattle.std.proofs.Common.{rules, ◌≡◌, ◌<◌, ◌++◌, ◌∷◌, [], Some, cond, false, length, ap, ◌∙◌, arith}
+use Rattle.std.specs.List.{list_any}
+use Rattle.std.specs.HashMap.{get}
+use Rattle.std.specs.Map.{lookup}
+use Rattle.determinize_lazy.specs.Pairs.{same}
+use Rattle.determinize_lazy.proofs.Holding.{places-pop, places-push}
+use Rattle.determinize_lazy.proofs.places.Places.hold.Goals as goal
+
+pub invariant_of-self-in-Ok : goal.invariant_of-self-in-Ok
+invariant_of-self-in-Ok g c =
+    let none : list_any (same c.args.state.now) c.self.inside.states.items ≡ false = rw c.self.view_is c.requires in
+    let len : c.len-len.result ≡ length c.self.inside.states.items = search rules in
+    let key : c.in_ok-key.key ≡ c.args.state.now = search rules in
+    let few : c.len-len.result < 4294967295 = omega (arith, c.if-len.false) in
+    let more : c.push.new.self.items ≡ c.self.inside.states.items ++ c.args.state.now ∷ [] = search rules in
+    places-push c.self.inside.states.items _ c.args.state.now (get same c.self.inside.places) (get same c.insert.new.self) c.len-len.result c.self.invariant c.as_bytes.ensures.valid none len few more
+    (λ q. c.in-Ok.ensures.updates.0 q ∙ ap (λ k. cond (same k q) (Some c.len-len.result) (get same c.self.inside.places q)) key)
+
+pub invariant_of-self-in-Err : goal.invariant_of-self-in-Err
+invariant_of-self-in-Err g c =
+    let more : c.push.new.self.items ≡ c.self.inside.states.items ++ c.args.state.now ∷ [] = search rules in
+    places-pop c.self.inside.states.items c.push.new.self.items c.pop.new.self.items c.args.state.now (get same c.self.inside.places) (get same c.insert.new.self) _ c.self.invariant more (search rules) c.pop.ensures.rest
+    (λ q. ap (λ es. lookup (same q) es) c.in-Err.ensures.err)

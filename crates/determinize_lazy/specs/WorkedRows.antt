@@ -1,0 +1,40 @@
+-- Worked walks over one cache of the NFA `\b\w+\b`, the preferred match wanted: how many steps are computed, and how many states are held then.
+use Rattle.std.specs.Prelude.{◌≡◌, ℕ, Option, Some, None, List, [], ◌∷◌, length}
+use Rattle.determinize_below.specs.declared.search.MatchKind.TheVariants.{LeftmostFirst}
+use Rattle.determinize_below.specs.Positions.{Text, between}
+use Rattle.determinize_core.specs.WorkedRows.{n4}
+use Rattle.determinize_lazy.specs.Kept.{Cache, after_text, held_values}
+
+-- an empty cache of at most so many states
+abbrev pub empty : ℕ → Cache
+empty limit = record { nfa = n4; kind = LeftmostFirst; limit = limit; pairs = []; computed = 0 }
+
+-- `quartz`, a whole word
+abbrev pub whole_word : Text
+whole_word = between None (0x71 ∷ 0x75 ∷ 0x61 ∷ 0x72 ∷ 0x74 ∷ 0x7A ∷ []) None
+
+-- `uartz` with nothing behind it, and with `q` behind it
+abbrev pub rest_of_a_word : Text
+rest_of_a_word = between None (0x75 ∷ 0x61 ∷ 0x72 ∷ 0x74 ∷ 0x7A ∷ []) None
+
+abbrev pub inside_a_word : Text
+inside_a_word = between (Some 0x71) (0x75 ∷ 0x61 ∷ 0x72 ∷ 0x74 ∷ 0x7A ∷ []) None
+
+-- the cache after walks over texts, where none clears it
+abbrev pub after_texts : Cache → List (Option Text) → Cache
+after_texts c [] = c
+after_texts c (None ∷ texts) = after_texts (record c { pairs = [] }) texts
+after_texts c (Some text ∷ texts) = after_texts (after_text c 0 text) texts
+
+-- after the texts so many steps are computed and so many states held
+abbrev pub Leaves : ℕ → List (Option Text) → ℕ → ℕ → Type 0
+Leaves limit texts computed held = ((after_texts (empty limit) texts).computed ≡ computed) × (length (held_values (after_texts (empty limit) texts)) ≡ held)
+
+pub record AreWorkedRows : Type 0 where
+  pub room_for_all : Leaves 16 (Some whole_word ∷ []) 7 3
+  pub room_again : Leaves 16 (Some whole_word ∷ Some whole_word ∷ []) 7 3
+  pub cleared : Leaves 16 (Some whole_word ∷ None ∷ Some whole_word ∷ []) 14 3
+  pub room_for_two : Leaves 2 (Some whole_word ∷ []) 7 2
+  pub room_for_two_again : Leaves 2 (Some whole_word ∷ Some whole_word ∷ []) 14 2
+  pub room_for_none : Leaves 0 (Some whole_word ∷ Some whole_word ∷ []) 14 0
+  pub other_states : Leaves 16 (Some rest_of_a_word ∷ Some inside_a_word ∷ []) 12 5

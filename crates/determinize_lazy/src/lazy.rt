@@ -1,0 +1,457 @@
+//! A bounded cache of transitions, and walks over it.
+
+ghost use Rattle.std.specs.Prelude.{◌≡◌, ◌<◌, ◌≤◌, ◌++◌, ◌∷◌, [], true, false, cond, length, nat_le, slice_get, IfOk, OnErr, OnOk, Some, None};
+ghost use Rattle.determinize_below.specs.Nfa.{AllResolve};
+ghost use Rattle.determinize_below.specs.Positions.{between};
+ghost use Rattle.determinize_core.specs.Chain.{chain, future, units};
+ghost use Rattle.determinize_core.specs.Step.{start_value};
+ghost use Rattle.determinize_core.specs.Value.{IsValue, Value as StateValue};
+ghost use Rattle.determinize_lazy.specs.Kept.{Cache, IsKnown, after_text, after_turn, after_walk, count_after, held_values, keep, step_of};
+ghost use Rattle.determinize_lazy.specs.Pairs.{HaveValidValues, is_kept, with_value};
+ghost use Rattle.determinize_lazy.specs.Places.{AreValid, EachApart, IsPlace};
+ghost use Rattle.determinize_lazy.specs.Plenty.{HasRoom, KeepsAll};
+
+use crate::scratch::Scratch;
+use crate::table::{Table, UNITS, column};
+use determinize_below::{MatchKind, NFA, StateID};
+use determinize_core::state::{State, StateBuilderNFA};
+use std::alloc::{AllocError, Allocator, Global};
+use std::marker::Model;
+
+/// An NFA with a bounded cache of the transitions of its DFA.
+///
+/// The cache holds a state where it is the source or the target of a kept transition, and never
+/// holds more states than its limit. A computed transition is kept where the states held, together
+/// with its source and its target, are at most as many as the limit. Else the cache is emptied, and
+/// the transition is kept where its two states alone are at most as many; else nothing is.
+#[derive(Drop)]
+pub struct Lazy<'n, N: Allocator = Global, A: Allocator = Global> {
+    alloc: A,
+    nfa: &'n NFA<N>,
+    match_kind: MatchKind,
+    limit: usize,
+    computed: u64,
+    scratch: Option<Scratch<A>>,
+    table: Table<A>,
+}
+
+impl<'n, N: Allocator, A: Allocator> Model for Lazy<'n, N, A> {
+    ghost use Rattle.determinize_lazy.specs.Kept.{Cache};
+    ghost use Rattle.determinize_lazy.specs.Order.{IsLazy, pairs_of};
+
+    ghost Value = { Cache };
+
+    ghost view = { λ a. record {
+      nfa = a.nfa.now;
+      kind = a.match_kind;
+      limit = a.limit;
+      pairs = pairs_of a.table.places a.table.order.items;
+      computed = a.computed;
+    } };
+
+    ghost invariant = { λ a. IsLazy a.nfa.now a.match_kind a.limit a.scratch a.table.places a.table.rows.items a.table.order.items };
+}
+
+/// A state of a walk, and its place where it is held.
+#[derive(Drop)]
+struct Reached<A: Allocator> {
+    state: State<A>,
+    place: Option<u32>,
+}
+
+/// One where the test holds, else none.
+fn one_if(test: bool) -> usize
+    ensures { result ≡ cond test 1 0 }
+{
+    if test { 1 } else { 0 }
+}
+
+impl<'n, N: Allocator, A: Allocator + Copy> Lazy<'n, N, A> {
+    /// An empty cache of at most `limit` states. No memory is taken; what the cache and its walks
+    /// want later is taken of `alloc`.
+    pub fn new(alloc: A, nfa: &'n NFA<N>, match_kind: MatchKind, limit: usize) -> Lazy<'n, N, A>
+        ensures { result ≡ record {
+          nfa = nfa.now;
+          kind = match_kind;
+          limit = limit;
+          pairs = [];
+          computed = 0;
+        } }
+    {
+        // Called for the proof alone: it tells that the NFA has passed every check.
+        let _ = nfa.len();
+        Lazy {
+            alloc,
+            nfa,
+            match_kind,
+            limit,
+            computed: 0,
+            scratch: None,
+            table: Table::new(alloc),
+        }
+    }
+
+    /// The number of states held, no two of them the same.
+    pub fn states_kept(&self) -> usize
+        ensures value { result ≡ length (held_values self.now) }
+        ensures apart { EachApart (held_values self.now) }
+        ensures limit { result ≤ self.now.limit }
+    {
+        self.table.places.len()
+    }
+
+    /// How many transitions were computed since `new`. It stays at the greatest number once there.
+    pub fn computed(&self) -> u64
+        ensures { result ≡ self.now.computed }
+    {
+        self.computed
+    }
+
+    /// Lets go of all transitions, and so of all states. What was computed stays counted.
+    pub fn clear(&mut self)
+        ensures { self.new ≡ record self.old { pairs = [] } }
+    {
+        self.table.clear();
+    }
+
+    /// Whether the states held, with the two of one more transition, are at most as many as the
+    /// limit.
+    fn fits(&self, state: &State<A>, place: Option<u32>, following: &State<A>) -> bool
+        requires { IsPlace (held_values self.now) state.now place }
+        ensures fits { result ≡ nat_le (length (with_value (with_value (held_values self.now)
+            state.now) following.now)) self.now.limit }
+        ensures valid { IsValue following.now }
+    {
+        let source = one_if(place.is_none());
+        let target = one_if(self.table.places.is_new(following, state));
+        self.table.places.len() + source + target <= self.limit
+    }
+
+    /// Keeps one more transition, which fits, and answers the place of its target.
+    ///
+    /// The only error is want of memory, and the cache is empty then.
+    fn add(
+        &mut self,
+        state: &State<A>,
+        place: Option<u32>,
+        unit: Option<u8>,
+        following: &State<A>,
+    ) -> Result<u32, AllocError>
+        requires follows { following.now ≡ step_of self.old state.now unit }
+        requires place { IsPlace (held_values self.old) state.now place }
+        requires fits { nat_le (length (with_value (with_value (held_values self.old) state.now)
+            following.now)) self.old.limit ≡ true }
+        ensures after { OnOk result (self.new ≡ record self.old {
+          pairs = self.old.pairs ++ record { value = state.now; unit = unit } ∷ [];
+        }) }
+        ensures place { IfOk result
+            (λ place. slice_get (held_values self.new) place ≡ Some following.now) }
+        ensures err { OnErr result (self.new ≡ record self.old { pairs = [] }) }
+    {
+        match self.table.record(state, place, unit, following) {
+            Ok(place) => Ok(place),
+            Err(refused) => {
+                self.table.clear();
+                Err(refused)
+            }
+        }
+    }
+
+    /// Keeps a transition by the rule, and answers the place of its target where it is held then.
+    ///
+    /// The only error is want of memory, and the cache is empty then.
+    fn keep(
+        &mut self,
+        state: &State<A>,
+        place: Option<u32>,
+        unit: Option<u8>,
+        following: &State<A>,
+    ) -> Result<Option<u32>, AllocError>
+        requires follows { following.now ≡ step_of self.old state.now unit }
+        requires place { IsPlace (held_values self.old) state.now place }
+        ensures after { OnOk result (self.new ≡ record self.old {
+          pairs = keep (step_of self.old) self.old.limit self.old.pairs
+              record { value = state.now; unit = unit };
+        }) }
+        ensures place { IfOk result (λ place. IsPlace (held_values self.new) following.now place) }
+        ensures valid { IsValue following.now }
+        ensures err { OnErr result (self.new ≡ record self.old { pairs = [] }) }
+    {
+        if self.fits(state, place, following) {
+            let place = self.add(state, place, unit, following)?;
+            return Ok(Some(place));
+        }
+        self.clear();
+        if self.fits(state, None, following) {
+            let place = self.add(state, None, unit, following)?;
+            return Ok(Some(place));
+        }
+        Ok(None)
+    }
+
+    /// The place of the state that follows the one at a place, where that transition is kept.
+    fn entry(&self, place: u32, unit: Option<u8>) -> Option<u32>
+        requires { place < length (held_values self.now) }
+        ensures { (v : StateValue) → slice_get (held_values self.now) place ≡ Some v
+            → IsKnown self.now v unit result }
+    {
+        let column = column(unit);
+        let entry = self.table.rows[place as usize * UNITS + column];
+        if (entry as usize) < self.table.places.len() {
+            Some(entry)
+        } else {
+            None
+        }
+    }
+
+    /// The place of the state that follows, where that transition is kept.
+    fn known(&self, state: &State<A>, place: Option<u32>, unit: Option<u8>) -> Option<u32>
+        requires { IsPlace (held_values self.now) state.now place }
+        ensures { IsKnown self.now state.now unit result }
+    {
+        let _ = &self.limit;
+        match place {
+            Some(place) => self.entry(place, unit),
+            None => None,
+        }
+    }
+
+    /// The scratch, which is made where there is none. The cache is without it until it is put
+    /// back. The only error is want of memory.
+    fn take_scratch(&mut self) -> Result<Scratch<A>, AllocError>
+        ensures room { IfOk result (λ scratch. scratch ≡ length self.old.nfa.states) }
+        ensures unchanged { self.new ≡ self.old }
+    {
+        match self.scratch.take() {
+            Some(scratch) => Ok(scratch),
+            None => Scratch::new(self.alloc, self.nfa),
+        }
+    }
+
+    /// The state before the first unit. The only error is want of memory.
+    fn start_state(
+        &mut self,
+        start: StateID,
+        look_behind: Option<u8>,
+    ) -> Result<State<A>, AllocError>
+        requires { start < length self.old.nfa.states }
+        ensures value { IfOk result
+            (λ state. state ≡ start_value self.old.nfa start look_behind) }
+        ensures resolve { IfOk result (λ state. AllResolve self.old.nfa state.states) }
+        ensures unchanged { self.new ≡ self.old }
+    {
+        let mut scratch = self.take_scratch()?;
+        let state = scratch.start(self.alloc, self.nfa, start, look_behind);
+        self.scratch = Some(scratch);
+        state
+    }
+
+    /// The answer of `next` for a state and a unit, which is counted. This is the one call through
+    /// which the cache computes. The only error is want of memory, and nothing is counted then.
+    fn compute(
+        &mut self,
+        scratch: &mut Scratch<A>,
+        state: &State<A>,
+        unit: Option<u8>,
+    ) -> Result<StateBuilderNFA<A>, AllocError>
+        requires room { scratch.old ≡ length self.old.nfa.states }
+        requires resolve { AllResolve self.old.nfa state.now.states }
+        ensures ok { IfOk result (λ builder. builder ≡ step_of self.old state.now unit) }
+        ensures counted { OnOk result
+            (self.new ≡ record self.old { computed = count_after self.old.computed 1 }) }
+        ensures err { OnErr result (self.new ≡ self.old) }
+        ensures computed { self.old.computed ≤ self.new.computed }
+        ensures room { scratch.new ≡ scratch.old }
+    {
+        let builder = scratch.next(self.alloc, self.nfa, self.match_kind, state, unit)?;
+        self.computed = self.computed.saturating_add(1);
+        Ok(builder)
+    }
+
+    /// The state that follows, computed. The only error is want of memory.
+    fn next_state(&mut self, state: &State<A>, unit: Option<u8>) -> Result<State<A>, AllocError>
+        requires { AllResolve self.old.nfa state.now.states }
+        ensures value { IfOk result (λ following. following ≡ step_of self.old state.now unit) }
+        ensures counted { OnOk result
+            (self.new ≡ record self.old { computed = count_after self.old.computed 1 }) }
+        ensures changed { self.new ≡ record self.old { computed = self.new.computed } }
+        ensures computed { self.old.computed ≤ self.new.computed }
+    {
+        let mut scratch = self.take_scratch()?;
+        let following = match self.compute(&mut scratch, state, unit) {
+            Ok(builder) => scratch.finish(builder),
+            Err(refused) => Err(refused),
+        };
+        self.scratch = Some(scratch);
+        following
+    }
+
+    /// A step that isn't kept: it is computed, counted and kept by the rule.
+    ///
+    /// The only error is want of memory.
+    fn miss(
+        &mut self,
+        state: &State<A>,
+        place: Option<u32>,
+        unit: Option<u8>,
+    ) -> Result<Reached<A>, AllocError>
+        requires resolve { AllResolve self.old.nfa state.now.states }
+        requires absent { is_kept self.old.pairs state.now unit ≡ false }
+        requires place { IsPlace (held_values self.old) state.now place }
+        ensures state { IfOk result
+            (λ reached. reached.state ≡ step_of self.old state.now unit) }
+        ensures valid { IfOk result (λ reached. IsValue reached.state) }
+        ensures place { IfOk result
+            (λ reached. IsPlace (held_values self.new) reached.state reached.place) }
+        ensures after { OnOk result (self.new ≡ after_turn self.old state.now unit) }
+        ensures nfa { self.new.nfa ≡ self.old.nfa }
+        ensures kind { self.new.kind ≡ self.old.kind }
+        ensures limit { self.new.limit ≡ self.old.limit }
+        ensures computed { self.old.computed ≤ self.new.computed }
+    {
+        let following = self.next_state(state, unit)?;
+        let place = self.keep(state, place, unit, &following)?;
+        Ok(Reached {
+            state: following,
+            place,
+        })
+    }
+
+    /// One step of a walk: over a kept transition it reads one entry and copies a state.
+    ///
+    /// The only error is want of memory.
+    fn turn(
+        &mut self,
+        state: &State<A>,
+        place: Option<u32>,
+        unit: Option<u8>,
+    ) -> Result<Reached<A>, AllocError>
+        requires resolve { AllResolve self.old.nfa state.now.states }
+        requires place { IsPlace (held_values self.old) state.now place }
+        ensures state { IfOk result
+            (λ reached. reached.state ≡ step_of self.old state.now unit) }
+        ensures valid { IfOk result (λ reached. IsValue reached.state) }
+        ensures place { IfOk result
+            (λ reached. IsPlace (held_values self.new) reached.state reached.place) }
+        ensures after { OnOk result (self.new ≡ after_turn self.old state.now unit) }
+        ensures nfa { self.new.nfa ≡ self.old.nfa }
+        ensures kind { self.new.kind ≡ self.old.kind }
+        ensures limit { self.new.limit ≡ self.old.limit }
+        ensures computed { self.old.computed ≤ self.new.computed }
+    {
+        match self.known(state, place, unit) {
+            Some(entry) => {
+                let following = self.table.places.at(entry).clone()?;
+                Ok(Reached {
+                    state: following,
+                    place: Some(entry),
+                })
+            }
+            None => self.miss(state, place, unit),
+        }
+    }
+
+    /// The place of a state, or none where it isn't held.
+    fn place_of(&self, state: &State<A>) -> Option<u32>
+        ensures place { IsPlace (held_values self.now) state.now result }
+        ensures valid { IsValue state.now }
+        ensures pairs { HaveValidValues self.now.pairs }
+    {
+        self.table.places.place_of(state)
+    }
+
+    /// Walks from a state: the state, and after it the state that follows over each byte and, last,
+    /// over the unit behind them. The only error is want of memory.
+    fn walk_from(
+        &mut self,
+        first: State<A>,
+        text: &[u8],
+        look_ahead: Option<u8>,
+    ) -> Result<Vec<State<A>, A>, AllocError>
+        requires { AllResolve self.old.nfa first.states }
+        ensures values { IfOk result (λ states. states.items
+            ≡ future self.old.nfa self.old.kind first (units (between None text.now look_ahead))) }
+        ensures after { OnOk result
+            (self.new ≡ after_walk self.old first (units (between None text.now look_ahead))) }
+        ensures valid { IfOk result (λ states. AreValid states.items) }
+        ensures pairs { HaveValidValues self.old.pairs }
+        ensures nfa { self.new.nfa ≡ self.old.nfa }
+        ensures kind { self.new.kind ≡ self.old.kind }
+        ensures limit { self.new.limit ≡ self.old.limit }
+        ensures computed { self.old.computed ≤ self.new.computed }
+    {
+        let mut states = Vec::new(self.alloc);
+        let mut place = self.place_of(&first);
+        let mut state = first;
+        for byte in text {
+            let Reached {
+                state: following,
+                place: next,
+            } = self.turn(&state, place, Some(*byte))?;
+            states.push(state)?;
+            state = following;
+            place = next;
+        }
+        let reached = self.turn(&state, place, look_ahead)?;
+        states.push(state)?;
+        states.push(reached.state)?;
+        Ok(states)
+    }
+
+    /// Walks a text as `walk` of `determinize_core` does: the state at the start of a search, and
+    /// after it the state that follows over each byte and, last, over the end of the input.
+    ///
+    /// - `start` is the id of the NFA state to start from, below the number of states.
+    /// - `look_behind` is the byte that is read just before the text, or none.
+    ///
+    /// The only error is want of memory. The cache holds right transitions then, and is as good for
+    /// later walks.
+    pub fn walk(
+        &mut self,
+        start: StateID,
+        look_behind: Option<u8>,
+        text: &[u8],
+    ) -> Result<Vec<State<A>, A>, AllocError>
+        requires { start < length self.old.nfa.states }
+        ensures values { IfOk result (λ states. states.items
+            ≡ chain self.old.nfa self.old.kind start (between look_behind text.now None)) }
+        ensures after { OnOk result
+            (self.new ≡ after_text self.old start (between look_behind text.now None)) }
+        ensures plenty { HasRoom self.old start (between look_behind text.now None) → OnOk result
+            (KeepsAll self.old start (between look_behind text.now None) self.new) }
+        ensures nfa { self.new.nfa ≡ self.old.nfa }
+        ensures kind { self.new.kind ≡ self.old.kind }
+        ensures limit { self.new.limit ≡ self.old.limit }
+        ensures computed { self.old.computed ≤ self.new.computed }
+    {
+        self.walk_between(start, look_behind, text, None)
+    }
+
+    /// Walks a text that has a byte ahead of its end: the same as `walk`, and the last state is the
+    /// one that follows over this byte. Where none is given, it follows over the end of the input.
+    ///
+    /// The only error is want of memory. The cache holds right transitions then, and is as good for
+    /// later walks.
+    pub fn walk_between(
+        &mut self,
+        start: StateID,
+        look_behind: Option<u8>,
+        text: &[u8],
+        look_ahead: Option<u8>,
+    ) -> Result<Vec<State<A>, A>, AllocError>
+        requires { start < length self.old.nfa.states }
+        ensures values { IfOk result (λ states. states.items
+            ≡ chain self.old.nfa self.old.kind start (between look_behind text.now look_ahead)) }
+        ensures after { OnOk result
+            (self.new ≡ after_text self.old start (between look_behind text.now look_ahead)) }
+        ensures plenty { HasRoom self.old start (between look_behind text.now look_ahead) → OnOk result
+            (KeepsAll self.old start (between look_behind text.now look_ahead) self.new) }
+        ensures nfa { self.new.nfa ≡ self.old.nfa }
+        ensures kind { self.new.kind ≡ self.old.kind }
+        ensures limit { self.new.limit ≡ self.old.limit }
+        ensures computed { self.old.computed ≤ self.new.computed }
+    {
+        let first = self.start_state(start, look_behind)?;
+        self.walk_from(first, text, look_ahead)
+    }
+}

@@ -1,0 +1,124 @@
+//! What a cache borrows to its steps: memory that holds nothing between them.
+
+ghost use Rattle.std.specs.Prelude.{◌≡◌, ◌<◌, length, IfOk};
+ghost use Rattle.determinize_below.specs.Nfa.{AllResolve};
+ghost use Rattle.determinize_below.specs.Unit.{byte_of};
+ghost use Rattle.determinize_core.specs.Step.{start_value, step};
+
+use determinize_below::{MatchKind, NFA, SparseSets, StateID, Unit};
+use determinize_core::determinize::{next, start_state};
+use determinize_core::state::{State, StateBuilderEmpty, StateBuilderNFA};
+use std::alloc::{AllocError, Allocator, Global};
+use std::marker::Model;
+use std::mem;
+
+/// Two sets and a stack for steps over one NFA, and the memory of the state that was built last.
+///
+/// It is seen as the number of states for which the sets have room.
+#[derive(Drop)]
+pub(crate) struct Scratch<A: Allocator = Global> {
+    sparses: SparseSets<A>,
+    stack: Vec<StateID, A>,
+    empty_builder: StateBuilderEmpty<A>,
+}
+
+impl<A: Allocator> Model for Scratch<A> {
+    ghost use Rattle.std.specs.Prelude.{◌≡◌, ℕ, []};
+
+    ghost Value = { ℕ };
+
+    ghost view = { λ s. s.sparses.set1.capacity };
+
+    ghost invariant = { λ s. (s.sparses.set2.capacity ≡ s.sparses.set1.capacity) × (s.stack.items ≡ []) };
+}
+
+/// The unit of a byte, or the end of the input.
+fn unit_of(unit: Option<u8>) -> Unit
+    ensures { byte_of result ≡ unit }
+{
+    match unit {
+        Some(byte) => Unit::u8(byte),
+        None => Unit::eoi(256),
+    }
+}
+
+impl<A: Allocator + Copy> Scratch<A> {
+    /// Scratch for this NFA. The only error is want of memory.
+    pub(crate) fn new<N: Allocator>(alloc: A, nfa: &NFA<N>) -> Result<Scratch<A>, AllocError>
+        ensures { IfOk result (λ scratch. scratch ≡ length nfa.now.states) }
+    {
+        Ok(Scratch {
+            sparses: SparseSets::new(alloc, nfa.len())?,
+            stack: Vec::new(alloc),
+            empty_builder: StateBuilderEmpty::new(alloc),
+        })
+    }
+
+    /// The state before the first unit, of a search from an NFA state and after a byte or none.
+    ///
+    /// The only error is want of memory.
+    pub(crate) fn start<N: Allocator>(
+        &mut self,
+        alloc: A,
+        nfa: &NFA<N>,
+        start: StateID,
+        look_behind: Option<u8>,
+    ) -> Result<State<A>, AllocError>
+        requires room { self.old ≡ length nfa.now.states }
+        requires resolve { start < length nfa.now.states }
+        ensures value { IfOk result (λ state. state ≡ start_value nfa.now start look_behind) }
+        ensures resolve { IfOk result (λ state. AllResolve nfa.now state.states) }
+        ensures room { self.new ≡ self.old }
+    {
+        let empty = mem::replace(&mut self.empty_builder, StateBuilderEmpty::new(alloc));
+        let builder = start_state(
+            nfa,
+            start,
+            look_behind,
+            &mut self.sparses,
+            &mut self.stack,
+            empty,
+        )?;
+        self.finish(builder)
+    }
+
+    /// The state that follows a state over a unit, in a builder, as `next` of the steps answers it.
+    ///
+    /// The only error is want of memory.
+    pub(crate) fn next<N: Allocator>(
+        &mut self,
+        alloc: A,
+        nfa: &NFA<N>,
+        match_kind: MatchKind,
+        state: &State<A>,
+        unit: Option<u8>,
+    ) -> Result<StateBuilderNFA<A>, AllocError>
+        requires room { self.old ≡ length nfa.now.states }
+        requires resolve { AllResolve nfa.now state.now.states }
+        ensures ok { IfOk result (λ builder. builder ≡ step nfa.now match_kind state.now unit) }
+        ensures room { self.new ≡ self.old }
+    {
+        let empty = mem::replace(&mut self.empty_builder, StateBuilderEmpty::new(alloc));
+        next(
+            nfa,
+            match_kind,
+            &mut self.sparses,
+            &mut self.stack,
+            state,
+            unit_of(unit),
+            empty,
+        )
+    }
+
+    /// The state that was built. The builder's memory serves the next one.
+    ///
+    /// The only error is want of memory.
+    pub(crate) fn finish(&mut self, builder: StateBuilderNFA<A>) -> Result<State<A>, AllocError>
+        ensures state { IfOk result (λ state. state ≡ builder) }
+        ensures room { self.new ≡ self.old }
+    {
+        let state = builder.to_state();
+        self.empty_builder = builder.clear();
+        state
+    }
+}

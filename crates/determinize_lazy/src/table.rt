@@ -1,0 +1,152 @@
+//! Kept transitions: the states that they join, and a row of places for each.
+
+ghost use Rattle.std.specs.Prelude.{◌≡◌, ◌+◌, ◌*◌, ◌<◌, ◌≤◌, ◌++◌, ◌∷◌, [], ℕ, false, true, List, Option, length, replicate, slice_get, slice_index, IfOk, OnOk, MatchOption, Some};
+ghost use Rattle.std.specs.List.{list_any};
+ghost use Rattle.determinize_core.specs.Value.{Value as StateValue};
+ghost use Rattle.determinize_lazy.specs.Pairs.{Pair, same, with_value};
+ghost use Rattle.determinize_lazy.specs.Places.{IsPlace};
+ghost use Rattle.determinize_lazy.specs.Rows.{IsRows, IsUnit, column};
+
+use crate::places::{NO_PLACE, Places};
+use determinize_core::state::State;
+use std::alloc::{AllocError, Allocator, Global};
+
+/// The number of units: the bytes, and the end of the input.
+pub(crate) const UNITS: usize = 257;
+
+/// A kept transition: the place of its source, and its unit.
+#[derive(Clone, Copy)]
+pub(crate) struct Kept {
+    pub(crate) source: u32,
+    pub(crate) unit: Option<u8>,
+}
+
+/// Kept transitions, as a table of places and in the order in which they came.
+#[derive(Drop)]
+pub(crate) struct Table<A: Allocator = Global> {
+    pub(crate) places: Places<A>,
+    pub(crate) rows: Vec<u32, A>,
+    pub(crate) order: Vec<Kept, A>,
+}
+
+/// The column of a unit: that of a byte, or the last one at the end of the input.
+pub(crate) fn column(unit: Option<u8>) -> usize
+    ensures value { result ≡ column unit }
+    ensures limit { result < 257 }
+    ensures unit { IsUnit unit }
+{
+    match unit {
+        Some(byte) => byte as usize,
+        None => 256,
+    }
+}
+
+/// One more row, in which nothing is kept. The only error is want of memory.
+fn push_row<A: Allocator>(rows: &mut Vec<u32, A>) -> Result<(), AllocError>
+    ensures { OnOk result (rows.new.items ≡ rows.old.items ++ replicate 257 4294967295) }
+{
+    rows.resize(rows.len() + UNITS, NO_PLACE)
+}
+
+impl<A: Allocator + Copy> Table<A> {
+    ghost use Rattle.determinize_lazy.specs.Order.{IsOrder, pairs_of};
+
+    /// No transitions. No memory is taken.
+    pub(crate) fn new(alloc: A) -> Table<A>
+        ensures places { result.places ≡ [] }
+        ensures rows { result.rows.items ≡ [] }
+        ensures order { result.order.items ≡ [] }
+    {
+        Table {
+            places: Places::new(alloc),
+            rows: Vec::new(alloc),
+            order: Vec::new(alloc),
+        }
+    }
+
+    /// Lets go of all transitions.
+    pub(crate) fn clear(&mut self)
+        ensures places { self.new.places ≡ [] }
+        ensures rows { self.new.rows.items ≡ [] }
+        ensures order { self.new.order.items ≡ [] }
+    {
+        self.places.clear();
+        self.rows.clear();
+        self.order.clear();
+    }
+
+    /// Holds one more state, and answers its place. The only error is want of memory.
+    fn hold(&mut self, state: &State<A>) -> Result<u32, AllocError>
+        requires { list_any (same state.now) self.old.places ≡ false }
+        ensures place { IfOk result (λ place. place ≡ length self.old.places) }
+        ensures places { OnOk result (self.new.places ≡ self.old.places ++ state.now ∷ []) }
+        ensures rows { OnOk result
+            (self.new.rows.items ≡ self.old.rows.items ++ replicate 257 4294967295) }
+        ensures order { OnOk result (self.new.order.items ≡ self.old.order.items) }
+    {
+        let place = self.places.hold(state)?;
+        push_row(&mut self.rows)?;
+        Ok(place)
+    }
+
+    /// The place of a state, which is held from then on. The only error is want of memory.
+    fn place_for(&mut self, state: &State<A>, place: Option<u32>) -> Result<u32, AllocError>
+        requires { IsPlace self.old.places state.now place }
+        ensures place { IfOk result
+            (λ place. slice_get self.new.places place ≡ Some state.now) }
+        ensures places { OnOk result (self.new.places ≡ with_value self.old.places state.now) }
+        ensures rows { OnOk result
+            ((f : StateValue → Option ℕ → StateValue) (pairs : List Pair)
+            → IsRows f self.old.places self.old.rows.items pairs
+            → IsRows f self.new.places self.new.rows.items pairs) }
+        ensures size { OnOk result
+            (length self.old.rows.items ≡ length self.old.places * 257
+            → length self.new.rows.items ≡ length self.new.places * 257) }
+        ensures order { OnOk result (self.new.order.items ≡ self.old.order.items) }
+    {
+        match place {
+            Some(place) => Ok(place),
+            None => {
+                let place = self.hold(state)?;
+                Ok(place)
+            }
+        }
+    }
+
+    /// Keeps one more transition, and answers the place of its target.
+    ///
+    /// The only error is want of memory, and what the table holds then is not told.
+    pub(crate) fn record(
+        &mut self,
+        state: &State<A>,
+        place: Option<u32>,
+        unit: Option<u8>,
+        following: &State<A>,
+    ) -> Result<u32, AllocError>
+        requires place { IsPlace self.old.places state.now place }
+        requires size { length self.old.rows.items ≡ length self.old.places * 257 }
+        requires ordered { IsOrder self.old.places self.old.order.items }
+        ensures place { IfOk result
+            (λ place. slice_get self.new.places place ≡ Some following.now) }
+        ensures places { OnOk result (self.new.places
+            ≡ with_value (with_value self.old.places state.now) following.now) }
+        ensures rows { OnOk result
+            ((f : StateValue → Option ℕ → StateValue) (pairs : List Pair)
+            → following.now ≡ f state.now unit
+            → IsRows f self.old.places self.old.rows.items pairs
+            → IsRows f self.new.places self.new.rows.items
+            (pairs ++ record { value = state.now; unit = unit } ∷ [])) }
+        ensures ordered { OnOk result (IsOrder self.new.places self.new.order.items) }
+        ensures pairs { OnOk result (pairs_of self.new.places self.new.order.items
+            ≡ pairs_of self.old.places self.old.order.items
+            ++ record { value = state.now; unit = unit } ∷ []) }
+    {
+        let source = self.place_for(state, place)?;
+        let known = self.places.place_of(following);
+        let target = self.place_for(following, known)?;
+        let column = column(unit);
+        self.rows[source as usize * UNITS + column] = target;
+        self.order.push(Kept { source, unit })?;
+        Ok(target)
+    }
+}
