@@ -16,7 +16,8 @@ pub fn reach_law()
     ensures in_turn { EachReachIsInTurn }
     ensures row { ordered nat_eq small_graph 5 none_held (0 ∷ []) ≡ 0 ∷ 1 ∷ 2 ∷ 3 ∷ [] }
     ensures row_held { ordered nat_eq small_graph 5 (member nat_eq (1 ∷ [])) (0 ∷ []) ≡ 0 ∷ 3 ∷ [] }
-    ensures row_roots { ordered nat_eq small_graph 5 none_held (2 ∷ 7 ∷ 1 ∷ []) ≡ 2 ∷ 0 ∷ 1 ∷ 3 ∷ 7 ∷ [] }
+    ensures row_roots { ordered nat_eq small_graph 5 none_held (2 ∷ 7 ∷ 1 ∷ [])
+        ≡ 2 ∷ 0 ∷ 1 ∷ 3 ∷ 7 ∷ [] }
 {}
 
 /// What a search of an accepted NFA lists, past any held states and from any roots, is the one list

@@ -29,12 +29,16 @@ pub fn look_set_law(set: LookSet, other: LookSet)
 /// What the calls of a set do to its members.
 pub fn look_member_law(set: LookSet, other: LookSet, look: Look, member: Look)
     ensures insert { has (looks.insert set look) look ≡ true }
-    ensures insert_others { ¬ (member ≡ look) → has (looks.insert set look) member ≡ has set member }
+    ensures insert_others { ¬ (member ≡ look)
+        → has (looks.insert set look) member ≡ has set member }
     ensures remove { has (looks.remove set look) look ≡ false }
-    ensures remove_others { ¬ (member ≡ look) → has (looks.remove set look) member ≡ has set member }
+    ensures remove_others { ¬ (member ≡ look)
+        → has (looks.remove set look) member ≡ has set member }
     ensures union { has (looks.union set other) member ≡ (has set member || has other member) }
-    ensures intersect { has (looks.intersect set other) member ≡ (has set member && has other member) }
-    ensures subtract { has (looks.subtract set other) member ≡ (has set member && not (has other member)) }
+    ensures intersect { has (looks.intersect set other) member
+        ≡ (has set member && has other member) }
+    ensures subtract { has (looks.subtract set other) member
+        ≡ (has set member && not (has other member)) }
 {
     let _bits = other.as_repr();
 }
@@ -49,8 +53,13 @@ pub fn look_class_law(set: LookSet)
 
 /// What is known behind a byte, or behind nothing, is what holds there whatever unit follows; a short table says what that is.
 pub fn known_law(reverse: bool, terminator: u8, before: Option<u8>, look: Look)
-    ensures every { Decides (truth.is_known reverse terminator before look) ((q : Option ℕ) → truth.IsUnit q → truth.holds reverse terminator before q look ≡ true) }
-    ensures table { truth.is_known reverse terminator before look ≡ truth.behind_test (units.is_nothing before) (units.is_nothing before || units.is_byte before terminator) (units.is_nothing before || units.is_byte before (truth.crlf_second reverse)) (not (units.is_word before)) look }
+    ensures every { Decides (truth.is_known reverse terminator before look)
+        ((q : Option ℕ) → truth.IsUnit q → truth.holds reverse terminator before q look ≡ true) }
+    ensures table { truth.is_known reverse terminator before look ≡ truth.behind_test
+        (units.is_nothing before)
+        (units.is_nothing before || units.is_byte before terminator)
+        (units.is_nothing before || units.is_byte before (truth.crlf_second reverse))
+        (not (units.is_word before)) look }
 {}
 
 /// An assertion is among those of some states exactly where one of them tests it, and among those

@@ -142,8 +142,11 @@ impl<A: Allocator> NFA<A> {
           terminator = look_matcher;
           look_set_any = looks_of (map node_of states.items);
         }) }
-        ensures accepted { OnOk result (failure (map node_of states.items) start_anchored start_unanchored ≡ None) }
-        ensures err { IfErr result (λ e. (failure (map node_of states.items) start_anchored start_unanchored ≡ Some e) ⊎ (e ≡ BuildError.OutOfMemory)) }
+        ensures accepted { OnOk result
+            (failure (map node_of states.items) start_anchored start_unanchored ≡ None) }
+        ensures err { IfErr result (λ e.
+            (failure (map node_of states.items) start_anchored start_unanchored ≡ Some e)
+            ⊎ (e ≡ BuildError.OutOfMemory)) }
         ensures limit { 2147483647 < vec_len states → IsErrOf result BuildError.TooManyStates }
         ensures starts { vec_len states ≤ 2147483647
             → (vec_len states ≤ start_anchored) ⊎ (vec_len states ≤ start_unanchored)

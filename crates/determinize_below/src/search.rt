@@ -54,7 +54,12 @@ impl<'h> Model for Input<'h> {
 
     ghost Value = { Asked };
 
-    ghost view = { λ i. record { haystack = i.haystack.now; start = i.start; end = i.end; anchored = i.anchored } };
+    ghost view = { λ i. record {
+      haystack = i.haystack.now;
+      start = i.start;
+      end = i.end;
+      anchored = i.anchored;
+    } };
 
     ghost invariant = { λ i. (i.end ≤ length i.haystack.now) × (i.start ≤ i.end + 1) };
 }
@@ -62,7 +67,12 @@ impl<'h> Model for Input<'h> {
 impl<'h> Input<'h> {
     /// A search of the whole haystack that isn't anchored.
     pub fn new(haystack: &'h [u8]) -> Input<'h>
-        ensures { result ≡ record { haystack = haystack.now; start = 0; end = length haystack.now; anchored = Anchored.No } }
+        ensures { result ≡ record {
+          haystack = haystack.now;
+          start = 0;
+          end = length haystack.now;
+          anchored = Anchored.No;
+        } }
     {
         Input {
             haystack,

@@ -86,7 +86,9 @@ impl<A: Allocator> SparseSet<A> {
     pub fn insert(&mut self, id: StateID) -> bool
         requires { id < self.old.capacity }
         ensures new { result ≡ not (has_id self.old.ids id) }
-        ensures after { self.new ≡ record self.old { ids = (if result then self.old.ids ++ id ∷ [] else self.old.ids) } }
+        ensures after { self.new ≡ record self.old {
+          ids = (if result then self.old.ids ++ id ∷ [] else self.old.ids);
+        } }
         ensures members { AreMembers self.new }
     {
         if is_bit_set(&self.bits, id) {

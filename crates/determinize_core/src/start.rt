@@ -36,7 +36,10 @@ impl Config {
 
     /// The start of a forward search: behind it is the byte before the input's start, where the haystack has it.
     pub fn from_input_forward(input: &Input<'_>) -> Config
-        ensures { result ≡ record { look_behind = kinds.byte_before input.now.haystack input.now.start; anchored = input.now.anchored } }
+        ensures { result ≡ record {
+          look_behind = kinds.byte_before input.now.haystack input.now.start;
+          anchored = input.now.anchored;
+        } }
     {
         Config {
             look_behind: byte_before_start(input),
@@ -46,7 +49,10 @@ impl Config {
 
     /// The start of a reverse search: behind it is the byte at the input's end, where the haystack has it.
     pub fn from_input_reverse(input: &Input<'_>) -> Config
-        ensures { result ≡ record { look_behind = slice_get input.now.haystack input.now.end; anchored = input.now.anchored } }
+        ensures { result ≡ record {
+          look_behind = slice_get input.now.haystack input.now.end;
+          anchored = input.now.anchored;
+        } }
     {
         Config {
             look_behind: byte_at_end(input),
@@ -221,7 +227,8 @@ impl StartByteMap {
     /// The start kinds under the matcher's line terminator.
     pub fn new(matcher: &LookMatcher) -> StartByteMap
         ensures bytes { length result ≡ 256 }
-        ensures kinds { (b : ℕ) → b < 256 → get_or result b Start.Text ≡ kinds.start_kind matcher.now b }
+        ensures kinds { (b : ℕ) → b < 256
+            → get_or result b Start.Text ≡ kinds.start_kind matcher.now b }
     {
         let terminator = matcher.get_line_terminator();
         let mut kinds = [Start::NonWordByte; 256];

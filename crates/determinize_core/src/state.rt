@@ -123,7 +123,8 @@ impl<A: Allocator> State<A> {
     pub fn match_pattern_ids(&self) -> Result<Option<Vec<PatternID, A>>, AllocError>
     where
         A: Clone,
-        ensures ids { IfOk result (λ ids. option_map (λ list. list.items) ids ≡ listed self.now.patterns) }
+        ensures ids { IfOk result (λ ids.
+            option_map (λ list. list.items) ids ≡ listed self.now.patterns) }
         ensures none { self.now.patterns ≡ [] → result ≡ Ok None }
     {
         if !self.is_match() {

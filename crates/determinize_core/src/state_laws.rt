@@ -59,7 +59,8 @@ pub fn patterns_read<A: Allocator + Clone>(
 ) -> Result<(bool, usize, Option<Vec<PatternID, A>>, Option<PatternID>), AllocError>
     ensures matches { IfOk result (λ r. r.0 ≡ is_nonempty state.now.patterns) }
     ensures len { IfOk result (λ r. r.1 ≡ length state.now.patterns) }
-    ensures all { IfOk result (λ r. option_map (λ list. list.items) r.2 ≡ listed state.now.patterns) }
+    ensures all { IfOk result (λ r.
+        option_map (λ list. list.items) r.2 ≡ listed state.now.patterns) }
     ensures one { IfOk result (λ r. r.3 ≡ slice_get state.now.patterns index) }
 {
     let ids = state.match_pattern_ids()?;
@@ -88,11 +89,22 @@ pub fn nfa_states_read<A: Allocator, B: Allocator>(
 #[tactic(auto, unfolding(crate::specs::Spelling::spell, crate::specs::Varint::varint))]
 pub fn worked_spellings()
     ensures dead { spell dead ≡ 0 ∷ 0 ∷ 0 ∷ 0 ∷ 0 ∷ 0 ∷ 0 ∷ 0 ∷ 0 ∷ [] }
-    ensures zero { spell (record dead { patterns = 0 ∷ [] }) ≡ 1 ∷ 0 ∷ 0 ∷ 0 ∷ 0 ∷ 0 ∷ 0 ∷ 0 ∷ 0 ∷ [] }
-    ensures zero_two { spell (record dead { patterns = 0 ∷ 2 ∷ [] }) ≡ 3 ∷ 0 ∷ 0 ∷ 0 ∷ 0 ∷ 0 ∷ 0 ∷ 0 ∷ 0 ∷ 2 ∷ 0 ∷ 0 ∷ 0 ∷ 0 ∷ 0 ∷ 0 ∷ 0 ∷ 2 ∷ 0 ∷ 0 ∷ 0 ∷ [] }
-    ensures one_zero { spell (record dead { patterns = 1 ∷ 0 ∷ [] }) ≡ 3 ∷ 0 ∷ 0 ∷ 0 ∷ 0 ∷ 0 ∷ 0 ∷ 0 ∷ 0 ∷ 2 ∷ 0 ∷ 0 ∷ 0 ∷ 1 ∷ 0 ∷ 0 ∷ 0 ∷ 0 ∷ 0 ∷ 0 ∷ 0 ∷ [] }
-    ensures three { spell (record dead { patterns = 2 ∷ 0 ∷ 1 ∷ [] }) ≡ 3 ∷ 0 ∷ 0 ∷ 0 ∷ 0 ∷ 0 ∷ 0 ∷ 0 ∷ 0 ∷ 3 ∷ 0 ∷ 0 ∷ 0 ∷ 2 ∷ 0 ∷ 0 ∷ 0 ∷ 0 ∷ 0 ∷ 0 ∷ 0 ∷ 1 ∷ 0 ∷ 0 ∷ 0 ∷ [] }
-    ensures far { spell (record dead { states = 2147483646 ∷ 0 ∷ [] }) ≡ 0 ∷ 0 ∷ 0 ∷ 0 ∷ 0 ∷ 0 ∷ 0 ∷ 0 ∷ 0 ∷ 0xfc ∷ 0xff ∷ 0xff ∷ 0xff ∷ 0x0f ∷ 0xfb ∷ 0xff ∷ 0xff ∷ 0xff ∷ 0x0f ∷ [] }
-    ensures middle { spell (record dead { states = 300 ∷ [] }) ≡ 0 ∷ 0 ∷ 0 ∷ 0 ∷ 0 ∷ 0 ∷ 0 ∷ 0 ∷ 0 ∷ 0xd8 ∷ 4 ∷ [] }
-    ensures near { spell (record dead { states = 1 ∷ 3 ∷ 2 ∷ [] }) ≡ 0 ∷ 0 ∷ 0 ∷ 0 ∷ 0 ∷ 0 ∷ 0 ∷ 0 ∷ 0 ∷ 2 ∷ 4 ∷ 1 ∷ [] }
+    ensures zero { spell (record dead { patterns = 0 ∷ [] }) ≡
+        1 ∷ 0 ∷ 0 ∷ 0 ∷ 0 ∷ 0 ∷ 0 ∷ 0 ∷ 0 ∷ [] }
+    ensures zero_two { spell (record dead { patterns = 0 ∷ 2 ∷ [] }) ≡
+        3 ∷ 0 ∷ 0 ∷ 0 ∷ 0 ∷ 0 ∷ 0 ∷ 0 ∷ 0 ∷ 2 ∷ 0 ∷ 0 ∷ 0 ∷
+        0 ∷ 0 ∷ 0 ∷ 0 ∷ 2 ∷ 0 ∷ 0 ∷ 0 ∷ [] }
+    ensures one_zero { spell (record dead { patterns = 1 ∷ 0 ∷ [] }) ≡
+        3 ∷ 0 ∷ 0 ∷ 0 ∷ 0 ∷ 0 ∷ 0 ∷ 0 ∷ 0 ∷ 2 ∷ 0 ∷ 0 ∷ 0 ∷
+        1 ∷ 0 ∷ 0 ∷ 0 ∷ 0 ∷ 0 ∷ 0 ∷ 0 ∷ [] }
+    ensures three { spell (record dead { patterns = 2 ∷ 0 ∷ 1 ∷ [] }) ≡
+        3 ∷ 0 ∷ 0 ∷ 0 ∷ 0 ∷ 0 ∷ 0 ∷ 0 ∷ 0 ∷ 3 ∷ 0 ∷ 0 ∷ 0 ∷
+        2 ∷ 0 ∷ 0 ∷ 0 ∷ 0 ∷ 0 ∷ 0 ∷ 0 ∷ 1 ∷ 0 ∷ 0 ∷ 0 ∷ [] }
+    ensures far { spell (record dead { states = 2147483646 ∷ 0 ∷ [] }) ≡
+        0 ∷ 0 ∷ 0 ∷ 0 ∷ 0 ∷ 0 ∷ 0 ∷ 0 ∷ 0 ∷
+        0xfc ∷ 0xff ∷ 0xff ∷ 0xff ∷ 0x0f ∷ 0xfb ∷ 0xff ∷ 0xff ∷ 0xff ∷ 0x0f ∷ [] }
+    ensures middle { spell (record dead { states = 300 ∷ [] }) ≡
+        0 ∷ 0 ∷ 0 ∷ 0 ∷ 0 ∷ 0 ∷ 0 ∷ 0 ∷ 0 ∷ 0xd8 ∷ 4 ∷ [] }
+    ensures near { spell (record dead { states = 1 ∷ 3 ∷ 2 ∷ [] }) ≡
+        0 ∷ 0 ∷ 0 ∷ 0 ∷ 0 ∷ 0 ∷ 0 ∷ 0 ∷ 0 ∷ 2 ∷ 4 ∷ 1 ∷ [] }
 {}

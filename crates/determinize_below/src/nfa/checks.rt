@@ -91,7 +91,8 @@ fn add_pattern<A: Allocator + Clone>(
     pattern: PatternID,
 ) -> Result<bool, AllocError>
     ensures added { IfOk result (λ added. added ≡ not (contains nat_eq seen.old pattern)) }
-    ensures after { OnOk result ((q : ℕ) → contains nat_eq seen.new q ≡ (nat_eq q pattern || contains nat_eq seen.old q)) }
+    ensures after { OnOk result ((q : ℕ) →
+        contains nat_eq seen.new q ≡ (nat_eq q pattern || contains nat_eq seen.old q)) }
 {
     Ok(seen.insert(pattern)?)
 }
@@ -104,9 +105,13 @@ fn check_state<A: Allocator, B: Allocator + Clone>(
     count: usize,
     seen: &mut Patterns<B>,
 ) -> Result<(), BuildError>
-    ensures ok { OnOk result (failure_of count (repeats (contains nat_eq seen.old) (node_of state.now)) index (node_of state.now) ≡ None) }
-    ensures after { OnOk result ((q : ℕ) → contains nat_eq seen.new q ≡ (is_match_of q (node_of state.now) || contains nat_eq seen.old q)) }
-    ensures err { IfErr result (λ e. (failure_of count (repeats (contains nat_eq seen.old) (node_of state.now)) index (node_of state.now) ≡ Some e) ⊎ (e ≡ BuildError.OutOfMemory)) }
+    ensures ok { let node = node_of state.now in OnOk result
+        (failure_of count (repeats (contains nat_eq seen.old) node) index node ≡ None) }
+    ensures after { OnOk result ((q : ℕ) → contains nat_eq seen.new q
+        ≡ (is_match_of q (node_of state.now) || contains nat_eq seen.old q)) }
+    ensures err { let node = node_of state.now in IfErr result (λ e.
+        (failure_of count (repeats (contains nat_eq seen.old) node) index node ≡ Some e)
+        ⊎ (e ≡ BuildError.OutOfMemory)) }
 {
     if !is_resolved(state, count) {
         return Err(BuildError::UnresolvedId(index));
@@ -130,8 +135,11 @@ pub(crate) fn check_states<A: Allocator, B: Allocator + Clone>(
     alloc: B,
     states: &[State<A>],
 ) -> Result<(), BuildError>
-    ensures ok { OnOk result (states_failure (length states.now) [] 0 (map node_of states.now) ≡ None) }
-    ensures err { IfErr result (λ e. (states_failure (length states.now) [] 0 (map node_of states.now) ≡ Some e) ⊎ (e ≡ BuildError.OutOfMemory)) }
+    ensures ok { OnOk result
+        (states_failure (length states.now) [] 0 (map node_of states.now) ≡ None) }
+    ensures err { IfErr result (λ e.
+        (states_failure (length states.now) [] 0 (map node_of states.now) ≡ Some e)
+        ⊎ (e ≡ BuildError.OutOfMemory)) }
 {
     let mut seen = HashSet::new(alloc);
     for (index, state) in states.iter().enumerate() {

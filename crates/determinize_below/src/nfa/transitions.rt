@@ -93,7 +93,8 @@ impl<A: Allocator> SparseTransitions<A> {
     /// Where the unit leads, a byte as by `matches_byte`. The end of the input leads nowhere.
     pub fn matches_unit(&self, unit: Unit) -> Option<StateID>
         requires { IsTrue (transitions.is_ascending self.now) }
-        ensures { result ≡ transitions.over_unit (transitions.sparse_target self.now) (byte_of unit) }
+        ensures { result
+            ≡ transitions.over_unit (transitions.sparse_target self.now) (byte_of unit) }
     {
         match unit.as_u8() {
             Some(byte) => self.matches_byte(byte),
@@ -135,7 +136,8 @@ impl<A: Allocator> DenseTransitions<A> {
     /// Where the unit leads, a byte as by `matches_byte`. The end of the input leads nowhere.
     pub fn matches_unit(&self, unit: Unit) -> Option<StateID>
         requires { length self.now ≡ 256 }
-        ensures { result ≡ transitions.over_unit (transitions.dense_target self.now) (byte_of unit) }
+        ensures { result
+            ≡ transitions.over_unit (transitions.dense_target self.now) (byte_of unit) }
     {
         match unit.as_u8() {
             Some(byte) => self.matches_byte(byte),

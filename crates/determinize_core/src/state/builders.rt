@@ -102,7 +102,8 @@ impl<A: Allocator> StateBuilderMatches<A> {
     /// Replaces look-have by what `set` makes of it. It is called once.
     pub fn set_look_have<F: FnMut(LookSet) -> LookSet>(&mut self, mut set: F)
         requires { F.pre set self.old.look_have }
-        ensures { (answer : ℕ) × F.post set self.old.look_have answer × (self.new ≡ record self.old { look_have = answer }) }
+        ensures { (answer : ℕ) × F.post set self.old.look_have answer
+            × (self.new ≡ record self.old { look_have = answer }) }
     {
         let look_have = set(self.look_have());
         self.put_look_have(look_have);
@@ -214,7 +215,8 @@ impl<A: Allocator> StateBuilderNFA<A> {
     /// Replaces look-have by what `set` makes of it. It is called once.
     pub fn set_look_have<F: FnMut(LookSet) -> LookSet>(&mut self, mut set: F)
         requires { F.pre set self.old.look_have }
-        ensures { (answer : ℕ) × F.post set self.old.look_have answer × (self.new ≡ record self.old { look_have = answer }) }
+        ensures { (answer : ℕ) × F.post set self.old.look_have answer
+            × (self.new ≡ record self.old { look_have = answer }) }
     {
         let answer = set(self.look_have());
         self.put_look_have(answer);
@@ -223,7 +225,8 @@ impl<A: Allocator> StateBuilderNFA<A> {
     /// Replaces look-need by what `set` makes of it. It is called once.
     pub fn set_look_need<F: FnMut(LookSet) -> LookSet>(&mut self, mut set: F)
         requires { F.pre set self.old.look_need }
-        ensures { (answer : ℕ) × F.post set self.old.look_need answer × (self.new ≡ record self.old { look_need = answer }) }
+        ensures { (answer : ℕ) × F.post set self.old.look_need answer
+            × (self.new ≡ record self.old { look_need = answer }) }
     {
         let answer = set(self.look_need());
         self.put_look_need(answer);
@@ -359,7 +362,8 @@ impl<A: Allocator> StateBuilderNFA<A> {
     /// added and sets were replaced and nothing else.
     pub(crate) fn restore(&mut self, mark: Mark)
         requires { (value : StateValue) × IsMarkOf mark value × IsGrown value self.old }
-        ensures { (value : StateValue) → IsMarkOf mark value → IsGrown value self.old → self.new ≡ value }
+        ensures { (value : StateValue) → IsMarkOf mark value → IsGrown value self.old
+            → self.new ≡ value }
     {
         self.bytes.truncate(mark.bytes);
         self.last = mark.last;

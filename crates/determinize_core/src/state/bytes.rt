@@ -156,7 +156,8 @@ pub(crate) fn add_pattern<A: Allocator>(bytes: &mut Vec<u8, A>, id: u32) -> Resu
     requires { 0 < vec_len bytes.old }
     ensures ok { OnOk result (bytes.new.items ≡ with_pattern_bytes bytes.old.items id) }
     ensures err { OnErr result (bytes.new.items ≡ bytes.old.items) }
-    ensures first { has_bit bytes.old.items 1 ≡ false → has_bit bytes.old.items 2 ≡ false → id ≡ 0 → IsOk result }
+    ensures first { has_bit bytes.old.items 1 ≡ false → has_bit bytes.old.items 2 ≡ false
+        → id ≡ 0 → IsOk result }
 {
     let [a, b, c, d] = id.to_le_bytes();
     if has_bit(bytes, EXPLICIT) {
