@@ -1,11 +1,14 @@
 //! A bounded cache of transitions, and walks over it.
 
-ghost use Rattle.std.specs.Prelude.{◌≡◌, ◌<◌, ◌≤◌, ◌++◌, ◌∷◌, [], true, false, cond, length, nat_le, slice_get, IfOk, OnErr, OnOk, Some, None};
-ghost use Rattle.determinize_below.specs.Nfa.{AllResolve};
+ghost use Rattle.std.specs.Prelude.{All, ◌≡◌, ◌<◌, ◌≤◌, ◌++◌, ◌∷◌, [], true, false, cond, length, nat_le, slice_get, IfOk, OnErr, OnOk, Some, None};
+ghost use Rattle.determinize_below.specs.Nfa.{AllResolve, IsAccepted};
 ghost use Rattle.determinize_below.specs.Positions.{between};
-ghost use Rattle.determinize_core.specs.Chain.{chain, future, units};
+ghost use Rattle.determinize_below.specs.declared.search.MatchKind.TheVariants as kinds;
+ghost use Rattle.determinize_core.specs.Chain.{FollowsItself, chain, future, units};
 ghost use Rattle.determinize_core.specs.Step.{start_value};
 ghost use Rattle.determinize_core.specs.Value.{IsValue, Value as StateValue};
+ghost use Rattle.determinize_core.specs.Walk.{IsLeftmostWalk, IsWalkOfAll};
+ghost use Rattle.determinize_core.specs.WalkStates.{RecordsReached};
 ghost use Rattle.determinize_lazy.specs.Kept.{Cache, IsKnown, after_text, after_turn, after_walk, count_after, held_values, keep, step_of};
 ghost use Rattle.determinize_lazy.specs.Pairs.{HaveValidValues, is_kept, with_value};
 ghost use Rattle.determinize_lazy.specs.Places.{AreValid, EachApart, IsPlace};
@@ -89,6 +92,23 @@ impl<'n, N: Allocator, A: Allocator + Copy> Lazy<'n, N, A> {
             scratch: None,
             table: Table::new(alloc),
         }
+    }
+
+    /// The NFA whose walks these are.
+    pub fn nfa(&self) -> &'n NFA<N>
+        ensures value { result.now ≡ self.now.nfa }
+        ensures accepted { IsAccepted self.now.nfa }
+    {
+        // Called for the proof alone: it tells that the NFA has passed every check.
+        let _ = self.nfa.len();
+        self.nfa
+    }
+
+    /// Which matches its walks report.
+    pub fn match_kind(&self) -> MatchKind
+        ensures { result ≡ self.now.kind }
+    {
+        self.match_kind
     }
 
     /// The number of states held, no two of them the same.
@@ -415,6 +435,17 @@ impl<'n, N: Allocator, A: Allocator + Copy> Lazy<'n, N, A> {
         requires { start < length self.old.nfa.states }
         ensures values { IfOk result (λ states. states.items
             ≡ chain self.old.nfa self.old.kind start (between look_behind text.now None)) }
+        ensures all { self.old.kind ≡ kinds.All → IfOk result
+            (λ states. IsWalkOfAll self.old.nfa start (between look_behind text.now None) states.items) }
+        ensures leftmost_first { self.old.kind ≡ kinds.LeftmostFirst → IfOk result
+            (λ states. IsLeftmostWalk self.old.nfa start (between look_behind text.now None) states.items) }
+        ensures records { IfOk result
+            (λ states. RecordsReached self.old.nfa self.old.kind start (between look_behind text.now None)
+            states.items) }
+        ensures follows { IfOk result
+            (λ states. FollowsItself self.old.nfa self.old.kind (between look_behind text.now None) states.items) }
+        ensures resolve { IfOk result
+            (λ states. All (λ state. AllResolve self.old.nfa state.states) states.items) }
         ensures after { OnOk result
             (self.new ≡ after_text self.old start (between look_behind text.now None)) }
         ensures plenty { HasRoom self.old start (between look_behind text.now None) → OnOk result
@@ -442,6 +473,17 @@ impl<'n, N: Allocator, A: Allocator + Copy> Lazy<'n, N, A> {
         requires { start < length self.old.nfa.states }
         ensures values { IfOk result (λ states. states.items
             ≡ chain self.old.nfa self.old.kind start (between look_behind text.now look_ahead)) }
+        ensures all { self.old.kind ≡ kinds.All → IfOk result
+            (λ states. IsWalkOfAll self.old.nfa start (between look_behind text.now look_ahead) states.items) }
+        ensures leftmost_first { self.old.kind ≡ kinds.LeftmostFirst → IfOk result
+            (λ states. IsLeftmostWalk self.old.nfa start (between look_behind text.now look_ahead) states.items) }
+        ensures records { IfOk result
+            (λ states. RecordsReached self.old.nfa self.old.kind start (between look_behind text.now look_ahead)
+            states.items) }
+        ensures follows { IfOk result
+            (λ states. FollowsItself self.old.nfa self.old.kind (between look_behind text.now look_ahead) states.items) }
+        ensures resolve { IfOk result
+            (λ states. All (λ state. AllResolve self.old.nfa state.states) states.items) }
         ensures after { OnOk result
             (self.new ≡ after_text self.old start (between look_behind text.now look_ahead)) }
         ensures plenty { HasRoom self.old start (between look_behind text.now look_ahead) → OnOk result
@@ -451,6 +493,8 @@ impl<'n, N: Allocator, A: Allocator + Copy> Lazy<'n, N, A> {
         ensures limit { self.new.limit ≡ self.old.limit }
         ensures computed { self.old.computed ≤ self.new.computed }
     {
+        // Called for the proof alone: it tells that the NFA has passed every check.
+        let _ = self.nfa();
         let first = self.start_state(start, look_behind)?;
         self.walk_from(first, text, look_ahead)
     }

@@ -162,7 +162,7 @@ impl fmt::Display for LineError {
 /// Why a replay came to no verdict.
 #[derive(Debug, Drop)]
 pub enum ReplayError {
-    /// There are arguments.
+    /// The arguments are none that the program takes.
     Arguments,
     /// The line of this number, from 1 on, can't be taken.
     Line(u64, LineError),
@@ -202,6 +202,12 @@ impl ReplayError {
 
 impl From<AllocError> for ReplayError {
     fn from(_: AllocError) -> ReplayError {
+        ReplayError::OutOfMemory
+    }
+}
+
+impl<T: Drop> From<AllocFailed<T>> for ReplayError {
+    fn from(_: AllocFailed<T>) -> ReplayError {
         ReplayError::OutOfMemory
     }
 }

@@ -2,9 +2,11 @@
 //! program `determinize_bench` does.
 #![tactic(auto)]
 
+pub mod caches;
 pub mod error;
 pub mod job;
 pub mod key;
+pub mod mode;
 pub mod nfas;
 pub mod records;
 pub mod replay;

@@ -2,6 +2,7 @@
 
 ghost use Rattle.std.specs.Prelude.{◌≡◌, ◌≤◌, ◌↔◌, IsTrue};
 
+use crate::caches::Caches;
 use crate::error::{JobError, LineError, ReplayError};
 use crate::job::Job;
 use crate::verbs;
@@ -52,19 +53,21 @@ struct Pending {
 
 /// A replay in its course: the job at hand and the lines of its answer so far.
 #[derive(Drop)]
-pub struct Replay {
+pub struct Replay<'n> {
     alloc: Global,
+    caches: Option<Caches<'n>>,
     line: u64,
     job: Option<Pending>,
     wanted: String,
     tally: Tally,
 }
 
-impl Replay {
-    /// A replay of no lines so far.
-    pub fn new(alloc: Global) -> Replay {
+impl<'n> Replay<'n> {
+    /// A replay of no lines so far. Walks are made through the caches, where there are some.
+    pub fn new(alloc: Global, caches: Option<Caches<'n>>) -> Replay<'n> {
         Replay {
             alloc,
+            caches,
             line: 1,
             job: None,
             wanted: String::new(alloc),
@@ -126,7 +129,7 @@ impl Replay {
 
     /// Compares the answer of a job with the one that is wanted.
     fn judge_job<W: Write>(&mut self, job: &Pending, out: &mut W) -> Result<(), ReplayError> {
-        match answer(self.alloc, job.text.as_str()) {
+        match self.answer(job.text.as_str()) {
             Ok(answer) => {
                 if answer.as_str() != self.wanted.as_str() {
                     self.tell(job.text.as_str(), answer.as_str(), out)?;
@@ -137,15 +140,21 @@ impl Replay {
         }
     }
 
+    /// The answer of the job of this text.
+    fn answer(&mut self, text: &str) -> Result<String, JobError> {
+        let job = Job::read(self.alloc, text)?;
+        if let Some(caches) = self.caches.as_mut() {
+            if let Some(cache) = caches.of(&job)? {
+                return verbs::cached_answer(self.alloc, &job, cache);
+            }
+        }
+        verbs::answer(self.alloc, &job)
+    }
+
     /// Counts and prints a job that differs.
     fn tell<W: Write>(&mut self, job: &str, answer: &str, out: &mut W) -> io::Result<()> {
         self.tally.differ = self.tally.differ.saturating_add(1);
         let wanted = self.wanted.as_str();
         write!(out, "> {job}\nexpected:\n{wanted}got:\n{answer}")
     }
-}
-
-/// The answer of the job of this text.
-fn answer(alloc: Global, text: &str) -> Result<String, JobError> {
-    verbs::answer(alloc, &Job::read(alloc, text)?)
 }

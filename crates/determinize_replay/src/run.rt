@@ -2,17 +2,24 @@
 
 ghost use Rattle.std.specs.Prelude.{◌≡◌, ◌≤◌, ◌↔◌, IfOk, OnErr};
 
-use crate::error::ReplayError;
+use crate::caches::Automata;
+use crate::error::{JobError, ReplayError};
+use crate::job::Job;
+use crate::mode::Mode;
 use crate::replay::{Replay, Tally};
 use std::alloc::Global;
 use std::io::{BufRead, BufReader, Read, Write};
 
 /// Replays the jobs of `input`, and answers the status.
 ///
+/// Without `words`, the arguments, each walk is a call of its own. The two words `cache` and a limit
+/// ask for walks through caches of at most that many states, one for each NFA and match kind, which
+/// their walks share in the order of the input; the whole input is read first then.
+///
 /// Each job whose answer differs is written to `out`, with both answers, and then the counts in a
 /// line. The status is 0 where every job that was replayed agrees, and 1 where some differ. Where
-/// there is no verdict the status is 2, and a line on `err` says why: `words`, the arguments, are
-/// not none, a line of the input can't be taken, no job was replayed, memory was refused, or `out`
+/// there is no verdict the status is 2, and a line on `err` says why: `words` are none of these, a
+/// line of the input can't be taken, no job was replayed, memory was refused, or `out`
 /// failed. The counts aren't written then, except where no job was replayed. A write to `err` that
 /// fails changes no status.
 pub fn run<R: Read + Drop, W: Write, E: Write>(
@@ -49,19 +56,77 @@ fn replay<R: Read + Drop, W: Write>(
     input: R,
     out: &mut W,
 ) -> Result<Tally, ReplayError> {
-    if !words.is_empty() {
-        return Err(ReplayError::Arguments);
-    }
+    let mode = Mode::read(words)?;
     let Ok(input) = BufReader::new(alloc, input) else {
         return Err(ReplayError::OutOfMemory);
     };
-    let mut replay = Replay::new(alloc);
+    match mode {
+        Mode::Single => replay_single(alloc, input, out),
+        Mode::Cached(limit) => replay_cached(alloc, limit, input, out),
+    }
+}
+
+/// Replays each line as it is read.
+fn replay_single<I: BufRead + Drop, W: Write>(
+    alloc: Global,
+    input: I,
+    out: &mut W,
+) -> Result<Tally, ReplayError> {
+    let mut replay = Replay::new(alloc, None);
     for line in input.lines(alloc) {
         match line {
             Ok(line) => replay.take_line(line.as_str(), out)?,
             Err(error) => return Err(ReplayError::of_reading(replay.line(), &error)),
         }
     }
+    finish(replay, out)
+}
+
+/// Reads all lines, and then replays them through caches of this limit.
+fn replay_cached<I: BufRead + Drop, W: Write>(
+    alloc: Global,
+    limit: usize,
+    input: I,
+    out: &mut W,
+) -> Result<Tally, ReplayError> {
+    let mut lines = Vec::new(alloc);
+    let mut number = 1u64;
+    for line in input.lines(alloc) {
+        match line {
+            Ok(line) => lines.push(line)?,
+            Err(error) => return Err(ReplayError::of_reading(number, &error)),
+        }
+        number = number.saturating_add(1);
+    }
+    let automata = automata(alloc, lines.as_slice())?;
+    let mut replay = Replay::new(alloc, Some(automata.caches(limit)?));
+    for line in lines.iter() {
+        replay.take_line(line.as_str(), out)?;
+    }
+    finish(replay, out)
+}
+
+/// The NFAs of all walks. A job that can't be read has none here: the replay refuses it later.
+fn automata(alloc: Global, lines: &[String]) -> Result<Automata, ReplayError> {
+    let mut automata = Automata::new(alloc);
+    for line in lines {
+        let Some(text) = line.as_str().strip_prefix("> ") else {
+            continue;
+        };
+        if let Err(JobError::OutOfMemory) = take_job(&mut automata, alloc, text) {
+            return Err(ReplayError::OutOfMemory);
+        }
+    }
+    Ok(automata)
+}
+
+/// Takes the NFA of the job of this text.
+fn take_job(automata: &mut Automata, alloc: Global, text: &str) -> Result<(), JobError> {
+    automata.take(&Job::read(alloc, text)?)
+}
+
+/// Judges the last job, and writes the counts.
+fn finish<W: Write>(replay: Replay<'_>, out: &mut W) -> Result<Tally, ReplayError> {
     let tally = replay.finish(out)?;
     writeln!(out, "{tally}")?;
     if tally.is_empty() {

@@ -6,12 +6,24 @@ mod small;
 use crate::error::JobError;
 use crate::job::Job;
 use crate::verb::Verb;
+use determinize_lazy::Lazy;
 use std::alloc::Global;
 
 /// The lines of the answer of a job.
 pub fn answer(alloc: Global, job: &Job<'_>) -> Result<String, JobError> {
     let mut text = String::new(alloc);
     write_answer(alloc, job, &mut text)?;
+    Ok(text)
+}
+
+/// The lines of the answer of a walk, made through a cache.
+pub fn cached_answer(
+    alloc: Global,
+    job: &Job<'_>,
+    cache: &mut Lazy<'_>,
+) -> Result<String, JobError> {
+    let mut text = String::new(alloc);
+    automata::cached_walk(alloc, job, cache, &mut text)?;
     Ok(text)
 }
 

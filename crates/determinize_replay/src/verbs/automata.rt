@@ -10,6 +10,7 @@ use determinize_below::{HalfMatch, NFA, SparseSets, StateID, Unit};
 use determinize_core::determinize;
 use determinize_core::start::Start;
 use determinize_core::state::{State, StateBuilderEmpty};
+use determinize_lazy::Lazy;
 use std::alloc::{AllocError, Global};
 
 /// The id of a state of the NFA.
@@ -24,34 +25,71 @@ fn resolved(nfa: &NFA, text: &str) -> Result<StateID, JobError>
     }
 }
 
+/// What a walk reads: its bytes, and the bytes behind and ahead of them.
+#[derive(Drop)]
+struct Text {
+    look_behind: Option<u8>,
+    bytes: Vec<u8>,
+    look_ahead: Option<u8>,
+}
+
+impl Text {
+    /// The text of a walk.
+    fn read(alloc: Global, job: &Job<'_>) -> Result<Text, JobError> {
+        Ok(Text {
+            look_behind: values::optional_byte(job.value_or_none(Key::LookBehind))?,
+            bytes: values::bytes(alloc, job.value_or_none(Key::Text))?,
+            look_ahead: values::optional_byte(job.value_or_none(Key::After))?,
+        })
+    }
+}
+
 /// The states of a walk.
 fn states(alloc: Global, job: &Job<'_>) -> Result<Vec<State>, JobError> {
     let nfa = nfas::nfa(alloc, job)?;
     let start = resolved(&nfa, job.value(Key::Start).unwrap_or("0"))?;
-    let look_behind = values::optional_byte(job.value_or_none(Key::LookBehind))?;
-    let text = values::bytes(alloc, job.value_or_none(Key::Text))?;
-    let look_ahead = values::optional_byte(job.value_or_none(Key::After))?;
-    let kind = job.match_kind()?;
-    let text = text.as_slice();
+    let text = Text::read(alloc, job)?;
     let states = determinize::walk_between(
         alloc,
         &nfa,
-        kind,
+        job.match_kind()?,
         start,
-        look_behind,
-        text,
-        look_ahead,
+        text.look_behind,
+        text.bytes.as_slice(),
+        text.look_ahead,
     )?;
     Ok(states)
 }
 
 /// Answers `walk`: the bytes of each state, and the last match.
 pub fn walk(alloc: Global, job: &Job<'_>, text: &mut String) -> Result<(), JobError> {
-    let states = states(alloc, job)?;
-    for state in states.iter() {
+    write_states(text, states(alloc, job)?.as_slice())
+}
+
+/// Answers `walk` through a cache.
+pub fn cached_walk(
+    alloc: Global,
+    job: &Job<'_>,
+    cache: &mut Lazy<'_>,
+    text: &mut String,
+) -> Result<(), JobError> {
+    let start = resolved(cache.nfa(), job.value(Key::Start).unwrap_or("0"))?;
+    let read = Text::read(alloc, job)?;
+    let states = cache.walk_between(
+        start,
+        read.look_behind,
+        read.bytes.as_slice(),
+        read.look_ahead,
+    )?;
+    write_states(text, states.as_slice())
+}
+
+/// Writes the bytes of each state, and the last match.
+fn write_states(text: &mut String, states: &[State]) -> Result<(), JobError> {
+    for state in states {
         values::write_bytes(text, state.as_bytes())?;
     }
-    write_last_match(text, states.as_slice())?;
+    write_last_match(text, states)?;
     Ok(())
 }
 

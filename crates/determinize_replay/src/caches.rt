@@ -1,0 +1,91 @@
+//! Caches of transitions, which the walks of one NFA under one match kind share.
+
+use crate::error::JobError;
+use crate::job::Job;
+use crate::key::Key;
+use crate::nfas;
+use crate::verb::Verb;
+use determinize_below::{MatchKind, NFA};
+use determinize_lazy::Lazy;
+use std::alloc::{AllocError, Global};
+use std::collections::HashMap;
+
+/// The NFAs of walks, each once for a match kind, by their text.
+#[derive(Drop)]
+pub struct Automata {
+    alloc: Global,
+    places: HashMap<String, usize>,
+    automata: Vec<(NFA, MatchKind)>,
+}
+
+impl Automata {
+    /// No NFAs.
+    pub fn new(alloc: Global) -> Automata {
+        Automata {
+            alloc,
+            places: HashMap::new(alloc),
+            automata: Vec::new(alloc),
+        }
+    }
+
+    /// Takes the NFA of a job, unless the job is no walk or its NFA is there. Refused is a walk
+    /// whose NFA or match kind can't be read.
+    pub fn take(&mut self, job: &Job<'_>) -> Result<(), JobError> {
+        if job.verb() != Verb::Walk {
+            return Ok(());
+        }
+        let name = name(self.alloc, job)?;
+        if self.places.contains_key(&name) {
+            return Ok(());
+        }
+        let nfa = nfas::nfa(self.alloc, job)?;
+        let kind = job.match_kind()?;
+        self.places.insert(name, self.automata.len())?;
+        self.automata.push((nfa, kind))?;
+        Ok(())
+    }
+
+    /// An empty cache of at most `limit` states for each NFA and match kind.
+    pub fn caches(&self, limit: usize) -> Result<Caches<'_>, AllocError> {
+        let mut caches = Vec::new(self.alloc);
+        for (nfa, kind) in self.automata.iter() {
+            caches.push(Lazy::new(self.alloc, nfa, *kind, limit))?;
+        }
+        Ok(Caches {
+            alloc: self.alloc,
+            places: &self.places,
+            caches,
+        })
+    }
+}
+
+/// The caches of NFAs, by the text of the NFA and its match kind.
+#[derive(Drop)]
+pub struct Caches<'n> {
+    alloc: Global,
+    places: &'n HashMap<String, usize>,
+    caches: Vec<Lazy<'n>>,
+}
+
+impl<'n> Caches<'n> {
+    /// The cache for a job, or none where the job is no walk or its NFA isn't there.
+    pub fn of(&mut self, job: &Job<'_>) -> Result<Option<&mut Lazy<'n>>, AllocError> {
+        if job.verb() != Verb::Walk {
+            return Ok(None);
+        }
+        let name = name(self.alloc, job)?;
+        match self.places.get(&name) {
+            Some(place) => Ok(self.caches.get_mut(*place)),
+            None => Ok(None),
+        }
+    }
+}
+
+/// What tells the NFA and the match kind of a job from those of others: their text.
+fn name(alloc: Global, job: &Job<'_>) -> Result<String, AllocError> {
+    let kind = job.value_or_none(Key::Kind);
+    let direction = job.value_or_none(Key::Direction);
+    let terminator = job.value_or_none(Key::Terminator);
+    let states = job.states();
+    format!(in alloc; "{kind} {direction} {terminator} {states}")
+}
