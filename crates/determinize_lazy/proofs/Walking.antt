@@ -32,7 +32,7 @@ module _ (nfa : Nfa) (kind : MatchKind) where
       ∙ sym (add_assoc (cond (is_kept pairs v w) 0 1) (missed (step nfa kind) limit (after_pair (step nfa kind) limit pairs record { value = v; unit = w }) (step nfa kind v w) us) _)
 
   -- the value after some units has states of the NFA, where the first has
-  after_resolves : IsAccepted nfa → (v : Value) (us : List (Option ℕ)) → AllResolve nfa v.states → AllResolve nfa (value_after nfa kind v us).states
+  pub after_resolves : IsAccepted nfa → (v : Value) (us : List (Option ℕ)) → AllResolve nfa v.states → AllResolve nfa (value_after nfa kind v us).states
   after_resolves accepted v [] h = h
   after_resolves accepted v (u ∷ us) h = after_resolves accepted (step nfa kind v u) us (step_resolves nfa accepted kind v u)
 
@@ -53,7 +53,8 @@ pub record IsWalked (old : Cache) (first : Value) (us : List (Option ℕ)) (valu
   pub at : IsPlace (held_values new) last place
   pub valid : AreValid (values ++ last ∷ [])
 
-after_walk-push : (old : Cache) (first : Value) (us : List (Option ℕ)) (u : Option ℕ) → old.computed ≤ 18446744073709551615
+-- one more unit of a walk
+pub after_walk-push : (old : Cache) (first : Value) (us : List (Option ℕ)) (u : Option ℕ) → old.computed ≤ 18446744073709551615
     → after_turn (after_walk old first us) (value_after old.nfa old.kind first us) u ≡ after_walk old first (us ++ u ∷ [])
 after_walk-push old first us u h =
     ap (λ (n : ℕ). record old { pairs = after_pair (step_of old) old.limit (kept (step_of old) old.limit old.pairs first us) record { value = value_after old.nfa old.kind first us; unit = u }; computed = n })

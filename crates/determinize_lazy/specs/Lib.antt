@@ -1,3 +1,4 @@
+pub mod Found
 pub mod Kept
 pub mod Order
 pub mod Pairs

@@ -5,7 +5,7 @@ use determinize_below::nfa::State;
 use determinize_below::{
     Look, LookMatcher, MatchKind, NFA, PatternID, SparseTransitions, StateID, Transition,
 };
-use determinize_core::determinize::walk;
+use determinize_core::determinize::{last_match, walk};
 use std::alloc::{AllocError, Global};
 use std::process::Abort;
 use std::test::Fail;
@@ -104,4 +104,37 @@ fn room_for_none(rt: HostRuntime) -> Result<(), Fail> {
 #[test]
 fn other_states_of_the_same_ids(rt: HostRuntime) -> Result<(), Fail> {
     expect(&rt, 16, &[Some(REST_OF_A_WORD), Some(INSIDE_A_WORD)], 12, 5)
+}
+
+/// Searches a text over one cache, and compares with the last match of its walk.
+fn expect_match<R: Abort + AllocGlobal>(
+    rt: &R,
+    kind: MatchKind,
+    text: Text,
+    ahead: Option<u8>,
+    wanted: Option<usize>,
+) -> Result<(), Fail> {
+    let (behind, bytes) = text;
+    let nfa = whole_word(rt.alloc())?;
+    let start = nfa.start_anchored();
+    let mut lazy = Lazy::new(rt.alloc(), &nfa, kind, 16);
+    let first = lazy.search(start, behind, bytes, ahead)?;
+    let again = lazy.search(start, behind, bytes, ahead)?;
+    assert_eq!(rt; first.map(|found| found.offset), wanted);
+    assert_eq!(rt; again, first);
+    let states = lazy.walk_between(start, behind, bytes, ahead)?;
+    assert_eq!(rt; last_match(states.as_slice()), first);
+    Ok(())
+}
+
+#[test]
+fn searched(rt: HostRuntime) -> Result<(), Fail> {
+    for kind in [MatchKind::All, MatchKind::LeftmostFirst] {
+        expect_match(&rt, kind, WHOLE_WORD, None, Some(6))?;
+        expect_match(&rt, kind, REST_OF_A_WORD, None, Some(5))?;
+        expect_match(&rt, kind, INSIDE_A_WORD, None, None)?;
+        expect_match(&rt, kind, WHOLE_WORD, Some(b'-'), Some(6))?;
+        expect_match(&rt, kind, WHOLE_WORD, Some(b'a'), None)?;
+    }
+    Ok(())
 }
