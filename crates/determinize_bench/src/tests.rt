@@ -7,6 +7,7 @@ mod clones;
 mod dfa;
 mod large;
 mod laws;
+mod lazy;
 mod map_text;
 mod memory;
 mod parts;

@@ -1,4 +1,4 @@
--- The walks of the program `rows` over texts with a byte ahead of them.
+-- The walks of the program `rows` that show what a byte ahead of the text changes.
 use Rattle.std.specs.Prelude.{Option, Some, None, [], ◌∷◌, ◌++◌}
 use Rattle.determinize_below.specs.Positions.{between}
 use Rattle.determinize_below.specs.declared.search.MatchKind.TheVariants.{All, LeftmostFirst}

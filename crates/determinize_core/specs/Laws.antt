@@ -1,5 +1,5 @@
 -- Laws of steps and of walks.
-use Rattle.std.specs.Prelude.{◌≡◌, ℕ, ◌+◌, ◌*◌, ◌<◌, ◌≤◌, ◌⊎◌, Bool, true, Option, Some, List, [], ◌∷◌, ◌++◌, length, nat_eq}
+use Rattle.std.specs.Prelude.{◌≡◌, ℕ, ◌+◌, ◌*◌, ◌<◌, ◌≤◌, ◌⊎◌, Bool, true, Option, None, Some, List, [], ◌∷◌, ◌++◌, length, nat_eq}
 use Rattle.determinize_below.specs.Captures.{HasNoCaptureCycle}
 use Rattle.determinize_below.specs.Edges.{edges, target, reach, reach_past}
 use Rattle.determinize_below.specs.Nfa.{Nfa, IsAccepted}
@@ -22,7 +22,7 @@ EachChainIsTrue = (nfa : Nfa) → IsAccepted nfa → (start : ℕ) (text : Text)
     → IsWalkOfAll nfa start text (chain nfa All start text)
     × IsLeftmostWalk nfa start text (chain nfa LeftmostFirst start text)
 
--- and records of NFA states what runs reach
+-- and its values but the last record of NFA states what runs reach
 abbrev pub EachChainReaches : Type 0
 EachChainReaches = (nfa : Nfa) → IsAccepted nfa → (kind : MatchKind) (start : ℕ) (text : Text)
     → RecordsReached nfa kind start text (chain nfa kind start text)
@@ -49,6 +49,10 @@ EachReachGoesOn = (nfa : Nfa) → IsAccepted nfa → (holds : Assertion → Bool
 abbrev pub EachStateHasOneKind : Type 0
 EachStateHasOneKind = (nfa : Nfa) (holds : Assertion → Bool) (u : Option ℕ) (s : ℕ)
     → (length (target nfa u s) ≤ 1) × ((edges nfa holds s ≡ []) ⊎ (target nfa u s ≡ []))
+
+-- no state leads on over the end of the input
+abbrev pub NothingLeadsOverTheEnd : Type 0
+NothingLeadsOverTheEnd = (nfa : Nfa) (s : ℕ) → target nfa None s ≡ []
 
 -- from each place on, a walk is what follows from the value there
 abbrev pub EachFutureFollows : Type 0

@@ -12,7 +12,7 @@ abbrev pub IsPartKept : MatchKind → List ℕ → List ℕ → Type 0
 IsPartKept All part whole = part ≡ whole
 IsPartKept LeftmostFirst part whole = IsBeginning part whole
 
--- the values record what runs reach at their positions, by what is known there before the next unit, and nothing once the input has ended
+-- each value but the last records what runs reach at its position, by what is known there before the next unit; the last one nothing, where the input has ended
 pub record RecordsReached (nfa : Nfa) (kind : MatchKind) (start : ℕ) (text : Text) (values : List Value) : Type 0 where
   pub ids : (i : ℕ) (v : Value) → i ≤ length text.bytes → slice_get values i ≡ Some v
       → (xs : List ℕ) × IsKnownReached nfa text start i xs × IsPartKept kind v.states xs

@@ -2,14 +2,14 @@
 ghost use Rattle.determinize_core.specs.WorkedRows as rows;
 ghost use Rattle.determinize_core.specs.HostileRows as hostile;
 ghost use Rattle.determinize_core.specs.AheadRows as ahead;
-ghost use Rattle.determinize_core.specs.Laws.{EachChainIsTrue, EachChainReaches, EachByteAheadIsNext, EachAnswerIsOne, EachReachGoesOn, EachStateHasOneKind, EachFutureFollows, DeadStays, LeftmostGivesOne, NoNeedNoHave, TriesAreFew};
+ghost use Rattle.determinize_core.specs.Laws.{EachChainIsTrue, EachChainReaches, EachByteAheadIsNext, EachAnswerIsOne, EachReachGoesOn, EachStateHasOneKind, NothingLeadsOverTheEnd, EachFutureFollows, DeadStays, LeftmostGivesOne, NoNeedNoHave, TriesAreFew};
 
 /// The walk of an accepted NFA over a text, against whole runs. Where all matches are wanted, each
 /// value lists the patterns that runs accept before its unit, best run first. Where the most
 /// preferred match is wanted, the last value with a pattern ends the most preferred of all accepting
-/// runs, and without such a value no run accepts. Captures left out, the values record the NFA
-/// states that runs reach by what is known there, or a beginning of their list where the most
-/// preferred match is wanted.
+/// runs, and without such a value no run accepts. Captures left out, the values but the last record
+/// the NFA states that runs reach by what is known there, or a beginning of their list where the
+/// most preferred match is wanted.
 pub fn walk_law()
     ensures runs { EachChainIsTrue }
     ensures records { EachChainReaches }
@@ -29,10 +29,11 @@ pub fn answer_law()
 {}
 
 /// A search of an accepted NFA can go on with one more root, and a state of an NFA leads on without
-/// input or over a byte, not both.
+/// input or over a byte, not both, and never over the end of the input.
 pub fn search_law()
     ensures goes_on { EachReachGoesOn }
     ensures kinds { EachStateHasOneKind }
+    ensures ends { NothingLeadsOverTheEnd }
 {}
 
 /// From each of its values a walk goes on as from the start. The dead value stays, and of the values

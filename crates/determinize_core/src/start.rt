@@ -42,7 +42,7 @@ impl Config {
         } }
     {
         Config {
-            look_behind: byte_before_start(input),
+            look_behind: look_ahead_reverse(input),
             anchored: input.get_anchored(),
         }
     }
@@ -55,7 +55,7 @@ impl Config {
         } }
     {
         Config {
-            look_behind: byte_at_end(input),
+            look_behind: look_ahead_forward(input),
             anchored: input.get_anchored(),
         }
     }
@@ -95,29 +95,17 @@ impl Config {
     }
 }
 
-/// The byte ahead of a forward search, for [`walk_between`](crate::determinize::walk_between): the
-/// one at the input's end, or none where the haystack ends there.
+/// The byte ahead of a forward search, which is the one behind a reverse search: the one at the
+/// input's end, or none where the haystack ends there.
 pub fn look_ahead_forward(input: &Input<'_>) -> Option<u8>
-    ensures { result ≡ slice_get input.now.haystack input.now.end }
-{
-    byte_at_end(input)
-}
-
-/// The byte ahead of a reverse search: the one before the input's start, or none where the haystack
-/// has none there.
-pub fn look_ahead_reverse(input: &Input<'_>) -> Option<u8>
-    ensures { result ≡ kinds.byte_before input.now.haystack input.now.start }
-{
-    byte_before_start(input)
-}
-
-fn byte_at_end(input: &Input<'_>) -> Option<u8>
     ensures { result ≡ slice_get input.now.haystack input.now.end }
 {
     input.haystack().get(input.end()).copied()
 }
 
-fn byte_before_start(input: &Input<'_>) -> Option<u8>
+/// The byte ahead of a reverse search, which is the one behind a forward search: the one before the
+/// input's start, or none where the haystack has none there.
+pub fn look_ahead_reverse(input: &Input<'_>) -> Option<u8>
     ensures { result ≡ kinds.byte_before input.now.haystack input.now.start }
 {
     match input.start() {

@@ -7,7 +7,7 @@ use Rattle.std.proofs.lemmas.Option.{get_or_from_slice_get, slice_get_within}
 use Rattle.std.specs.List.{flat_map, list_any}
 use Rattle.determinize_below.proofs.Lists.{option_or-assoc, option_or-None}
 use Rattle.determinize_core.proofs.ClosingAll.{reach-none}
-use Rattle.determinize_core.proofs.Loops.{value_after-push}
+use Rattle.determinize_core.proofs.Loops.{value_after, value_after-push}
 use Rattle.determinize_core.proofs.StepLaws.{dead_stays}
 use Rattle.determinize_core.proofs.UnitLists.{units_are}
 use Rattle.determinize_lazy.specs.Pairs.{is_kept, same}
@@ -15,7 +15,7 @@ use Rattle.determinize_lazy.specs.Places.{IsPlace}
 use Rattle.determinize_lazy.specs.Found.{IsStanding, value_at}
 use Rattle.determinize_lazy.specs.Kept.{after_turn, after_walk, Cache, count_after, held_values, keep, missed, step_of}
 use Rattle.determinize_core.specs.Value.{dead, Value}
-use Rattle.determinize_core.specs.Chain.{future, units, value_after}
+use Rattle.determinize_core.specs.Chain.{future, units}
 use Rattle.determinize_core.specs.Step.{distinct_states, is_reopened, left_by, opened_by, part_read, patterns_read, step, working_list}
 use Rattle.determinize_core.specs.Walk.{ended_at, last_ended, last_match}
 use Rattle.determinize_core.specs.LookTables.{have_after, tables_of}

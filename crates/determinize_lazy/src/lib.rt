@@ -8,7 +8,5 @@ pub mod lazy;
 mod places;
 mod scratch;
 mod table;
-#[cfg(test)]
-mod tests;
 
 pub use crate::lazy::Lazy;

@@ -4,6 +4,7 @@ ghost use Rattle.std.specs.Prelude.{◌<◌, All, length, IfOk};
 ghost use Rattle.determinize_below.specs.Nfa.{AllResolve};
 
 mod builders;
+mod lazy;
 mod sets;
 mod states;
 mod steps;

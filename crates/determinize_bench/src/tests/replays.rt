@@ -12,7 +12,7 @@ fn expect<R: Abort + AllocGlobal>(
     text: &str,
 ) -> Result<(), Fail> {
     let mut out = Vec::new(rt.alloc());
-    let mut replay = Replay::new(rt.alloc());
+    let mut replay = Replay::new(rt.alloc(), None);
     for line in lines {
         replay.take_line(line, &mut out)?;
     }
@@ -118,7 +118,7 @@ fn no_lines(rt: HostRuntime) -> Result<(), Fail> {
 #[test]
 fn unreadable_jobs(rt: HostRuntime) -> Result<(), Fail> {
     let mut out = Vec::new(rt.alloc());
-    let mut replay = Replay::new(rt.alloc());
+    let mut replay = Replay::new(rt.alloc(), None);
     for line in [
         "# line 1",
         "> dead",
@@ -133,7 +133,7 @@ fn unreadable_jobs(rt: HostRuntime) -> Result<(), Fail> {
     };
     let text = format!(in rt.alloc(); "{error}")?;
     assert_eq!(rt; text.as_str(), "line 4: unknown verb \"sleep\"");
-    let mut last = Replay::new(rt.alloc());
+    let mut last = Replay::new(rt.alloc(), None);
     last.take_line("> fromusize n=-1", &mut out)?;
     let Err(error) = last.finish(&mut out) else {
         panic!(rt; "a negative number is taken");

@@ -95,16 +95,115 @@ fn nothing_replayed(rt: HostRuntime) {
     }
 }
 
+/// The words of a line.
+fn words<R: Abort + AllocGlobal>(rt: &R, line: &str) -> Result<Vec<String>, Fail> {
+    let mut words = Vec::new(rt.alloc());
+    for word in line.split(' ') {
+        words.push(String::from_str(rt.alloc(), word)?)?;
+    }
+    Ok(words)
+}
+
+/// A walk, one with a wrong answer, the first again, one of another match kind with a byte ahead,
+/// and a job that is no walk.
+const JOBS: &str = "\
+> walk text=61 | B:61>1 M:0
+00000000000000000000
+00000000000000000002
+010000000000000000
+match 0 1
+> walk text=- | M:0
+none
+> walk text=61 | B:61>1 M:0
+00000000000000000000
+00000000000000000002
+010000000000000000
+match 0 1
+> walk kind=leftmost-first text=61 after=61 | B:61>1 M:0
+00000000000000000000
+00000000000000000002
+010000000000000000
+match 0 1
+> dead
+000000000000000000
+";
+
+/// What the program prints of these jobs, through caches or without.
+const VERDICT: &str = "\
+> walk text=- | M:0
+expected:
+none
+got:
+00000000000000000000
+010000000000000000
+match 0 0
+5 jobs, 1 differ, 0 skipped
+";
+
+#[test]
+fn walks_through_caches(rt: HostRuntime) -> Result<(), Fail> {
+    expect(&rt, JOBS.as_bytes(), 1, VERDICT, "");
+    for line in ["cache 0", "cache 1", "cache 2", "cache 64"] {
+        let words = words(&rt, line)?;
+        let mut out = Vec::new(rt.alloc());
+        let mut err = Vec::new(rt.alloc());
+        let status = run(
+            rt.alloc(),
+            words.as_slice(),
+            JOBS.as_bytes(),
+            &mut out,
+            &mut err,
+        );
+        assert_eq!(rt; out.as_slice(), VERDICT.as_bytes(), "{line}");
+        assert_eq!(rt; err.as_slice(), [].as_slice(), "{line}");
+        assert_eq!(rt; status, 1, "{line}");
+    }
+    Ok(())
+}
+
+#[test]
+fn refusals_before_caches(rt: HostRuntime) -> Result<(), Fail> {
+    for (text, said) in [
+        (
+            "> walk start=2 | M:0\nnone\n",
+            "line 1: not the id of a state of the NFA\n",
+        ),
+        ("# \n> walk | X:0\nnone\n", "line 2: not an NFA state\n"),
+    ] {
+        let words = words(&rt, "cache 3")?;
+        let mut out = Vec::new(rt.alloc());
+        let mut err = Vec::new(rt.alloc());
+        let status = run(
+            rt.alloc(),
+            words.as_slice(),
+            text.as_bytes(),
+            &mut out,
+            &mut err,
+        );
+        assert_eq!(rt; err.as_slice(), said.as_bytes(), "{text}");
+        assert_eq!(rt; status, 2, "{text}");
+    }
+    Ok(())
+}
+
 #[test]
 fn arguments(rt: HostRuntime) -> Result<(), Fail> {
-    for word in ["stdin", "--help", ""] {
-        let words = vec![in rt.alloc(); String::from_str(rt.alloc(), word)?]?;
+    for line in [
+        "stdin",
+        "--help",
+        "",
+        "cache",
+        "cache x",
+        "cache 1 2",
+        "search 1",
+    ] {
+        let words = words(&rt, line)?;
         let input = b"> dead\n000000000000000000\n".as_slice();
         let mut out = Vec::new(rt.alloc());
         let mut err = Vec::new(rt.alloc());
         let status = run(rt.alloc(), words.as_slice(), input, &mut out, &mut err);
-        assert_eq!(rt; status, 2, "{word}");
-        assert_eq!(rt; out.as_slice(), [].as_slice(), "{word}");
+        assert_eq!(rt; status, 2, "{line}");
+        assert_eq!(rt; out.as_slice(), [].as_slice(), "{line}");
         assert_eq!(rt; err.as_slice(), b"arguments are not taken\n".as_slice());
     }
     let error = io::Error::from(io::ErrorKind::InvalidData);

@@ -1,4 +1,4 @@
-//! A whole walk: the states of a DFA over a text, from the start state to the end of the input.
+//! A whole walk: the states of a DFA over a text, from the start state on.
 
 ghost use Rattle.std.specs.Prelude.{◌≡◌, ◌<◌, ◌∷◌, ◌++◌, [], All, None, length, IfOk, OnOk};
 ghost use Rattle.determinize_below.specs.Nfa.{AllResolve};
@@ -67,16 +67,20 @@ pub fn walk<N: Allocator, A: Allocator + Copy>(
     text: &[u8],
 ) -> Result<Vec<State<A>, A>, AllocError>
     requires { start < length nfa.now.states }
-    ensures values { IfOk result
-        (λ states. states.items ≡ chain nfa.now match_kind start (between look_behind text.now None)) }
+    ensures values { IfOk result (λ states. states.items
+        ≡ chain nfa.now match_kind start (between look_behind text.now None)) }
     ensures all { match_kind ≡ kinds.All → IfOk result
-        (λ states. IsWalkOfAll nfa.now start (between look_behind text.now None) states.items) }
+        (λ states. IsWalkOfAll nfa.now start (between look_behind text.now None)
+        states.items) }
     ensures leftmost_first { match_kind ≡ kinds.LeftmostFirst → IfOk result
-        (λ states. IsLeftmostWalk nfa.now start (between look_behind text.now None) states.items) }
+        (λ states. IsLeftmostWalk nfa.now start (between look_behind text.now None)
+        states.items) }
     ensures records { IfOk result
-        (λ states. RecordsReached nfa.now match_kind start (between look_behind text.now None) states.items) }
+        (λ states. RecordsReached nfa.now match_kind start (between look_behind text.now None)
+        states.items) }
     ensures follows { IfOk result
-        (λ states. FollowsItself nfa.now match_kind (between look_behind text.now None) states.items) }
+        (λ states. FollowsItself nfa.now match_kind (between look_behind text.now None)
+        states.items) }
     ensures resolve { IfOk result
         (λ states. All (λ state. AllResolve nfa.now state.states) states.items) }
 {
@@ -102,8 +106,8 @@ pub fn walk<N: Allocator, A: Allocator + Copy>(
 /// one, and this is the pattern and the end of the most preferred match; where no state lists any
 /// pattern, there is no match.
 ///
-/// All memory of the answer and of the work is taken of `alloc`. The only error is want of memory, and
-/// no state is kept then.
+/// All memory of the answer and of the work is taken of `alloc`. The only error is want of memory,
+/// and no state is kept then.
 pub fn walk_between<N: Allocator, A: Allocator + Copy>(
     alloc: A,
     nfa: &NFA<N>,
@@ -114,16 +118,20 @@ pub fn walk_between<N: Allocator, A: Allocator + Copy>(
     look_ahead: Option<u8>,
 ) -> Result<Vec<State<A>, A>, AllocError>
     requires { start < length nfa.now.states }
-    ensures values { IfOk result
-        (λ states. states.items ≡ chain nfa.now match_kind start (between look_behind text.now look_ahead)) }
+    ensures values { IfOk result (λ states. states.items
+        ≡ chain nfa.now match_kind start (between look_behind text.now look_ahead)) }
     ensures all { match_kind ≡ kinds.All → IfOk result
-        (λ states. IsWalkOfAll nfa.now start (between look_behind text.now look_ahead) states.items) }
+        (λ states. IsWalkOfAll nfa.now start (between look_behind text.now look_ahead)
+        states.items) }
     ensures leftmost_first { match_kind ≡ kinds.LeftmostFirst → IfOk result
-        (λ states. IsLeftmostWalk nfa.now start (between look_behind text.now look_ahead) states.items) }
+        (λ states. IsLeftmostWalk nfa.now start (between look_behind text.now look_ahead)
+        states.items) }
     ensures records { IfOk result
-        (λ states. RecordsReached nfa.now match_kind start (between look_behind text.now look_ahead) states.items) }
+        (λ states. RecordsReached nfa.now match_kind start (between look_behind text.now look_ahead)
+        states.items) }
     ensures follows { IfOk result
-        (λ states. FollowsItself nfa.now match_kind (between look_behind text.now look_ahead) states.items) }
+        (λ states. FollowsItself nfa.now match_kind (between look_behind text.now look_ahead)
+        states.items) }
     ensures resolve { IfOk result
         (λ states. All (λ state. AllResolve nfa.now state.states) states.items) }
 {
@@ -158,7 +166,6 @@ pub fn walk_between<N: Allocator, A: Allocator + Copy>(
 }
 
 /// Finishes the state in the builder, puts it after the others, and leaves it over a unit.
-#[inline(always)]
 fn advance<N: Allocator, A: Allocator + Clone>(
     nfa: &NFA<N>,
     match_kind: MatchKind,

@@ -1,0 +1,152 @@
+//! Worked walks and searches over one cache: what they answer, keep and count.
+
+use determinize_below::{LookMatcher, MatchKind, NFA, StateID};
+use determinize_core::determinize::{last_match, walk_between};
+use determinize_core::state::State;
+use determinize_lazy::Lazy;
+use determinize_replay::nfas;
+use std::process::Abort;
+use std::test::Fail;
+
+/// A text, after a byte or none, and before a byte or none.
+type Text = (Option<u8>, &'static [u8], Option<u8>);
+
+const WHOLE_WORD: Text = (None, b"quartz", None);
+
+const INSIDE_A_WORD: Text = (Some(b'q'), b"uartz", None);
+
+const REST_OF_A_WORD: Text = (None, b"uartz", None);
+
+/// `\b\w+\b` of ASCII words.
+const WORDS: &str = "L:WordAscii>1 S:30-39>2,41-5a>2,5f-5f>2,61-7a>2 BU:1,3 L:WordAscii>4 M:0";
+
+/// `\b` of Unicode words, from anywhere.
+const BOUNDARY: &str = "BU:2,1 B:00-ff>0 L:WordUnicode>3 M:0";
+
+/// The NFA of these states.
+fn nfa<R: Abort + AllocGlobal>(rt: &R, states: &str) -> Result<NFA, Fail> {
+    let states = nfas::states(rt.alloc(), states)?;
+    let zero = StateID::ZERO;
+    let matcher = LookMatcher::new();
+    Ok(NFA::from_parts(rt.alloc(), states, zero, zero, false, matcher)?)
+}
+
+/// Asks that a walk through the cache answers what a walk without it does.
+fn walk_through<R: Abort + AllocGlobal>(
+    rt: &R,
+    lazy: &mut Lazy<'_>,
+    text: Text,
+) -> Result<Vec<State>, Fail> {
+    let (behind, bytes, ahead) = text;
+    let nfa = lazy.nfa();
+    let start = nfa.start_anchored();
+    let wanted = walk_between(
+        rt.alloc(),
+        nfa,
+        lazy.match_kind(),
+        start,
+        behind,
+        bytes,
+        ahead,
+    )?;
+    let states = lazy.walk_between(start, behind, bytes, ahead)?;
+    assert!(rt; states == wanted);
+    Ok(states)
+}
+
+/// Walks texts in order over one cache, where none clears it, and compares how many transitions
+/// were computed and how many states are held then.
+fn expect<R: Abort + AllocGlobal>(
+    rt: &R,
+    limit: usize,
+    texts: &[Option<Text>],
+    computed: u64,
+    kept: usize,
+) -> Result<(), Fail> {
+    let nfa = nfa(rt, WORDS)?;
+    let mut lazy = Lazy::new(rt.alloc(), &nfa, MatchKind::LeftmostFirst, limit);
+    for text in texts {
+        match text {
+            Some(text) => {
+                walk_through(rt, &mut lazy, *text)?;
+            }
+            None => lazy.clear(),
+        }
+    }
+    assert_eq!(rt; lazy.computed(), computed, "limit {limit}");
+    assert_eq!(rt; lazy.states_kept(), kept, "limit {limit}");
+    Ok(())
+}
+
+#[test]
+fn what_is_kept(rt: HostRuntime) -> Result<(), Fail> {
+    let whole = Some(WHOLE_WORD);
+    let inside = Some(INSIDE_A_WORD);
+    let rest = Some(REST_OF_A_WORD);
+    expect(&rt, 16, &[whole], 7, 3)?;
+    expect(&rt, 16, &[whole, whole], 7, 3)?;
+    expect(&rt, 16, &[whole, None, whole], 14, 3)?;
+    expect(&rt, 2, &[whole], 7, 2)?;
+    expect(&rt, 2, &[whole, whole], 14, 2)?;
+    expect(&rt, 0, &[whole, whole], 14, 0)?;
+    expect(&rt, 16, &[rest, inside], 12, 5)?;
+    expect(&rt, 1, &[inside, inside], 12, 1)
+}
+
+#[test]
+fn bytes_ahead(rt: HostRuntime) -> Result<(), Fail> {
+    let nfa = nfa(&rt, WORDS)?;
+    let mut lazy = Lazy::new(rt.alloc(), &nfa, MatchKind::LeftmostFirst, 16);
+    for (ahead, end) in [(Some(b't'), None), (Some(b' '), Some(4)), (None, Some(4))] {
+        let states = walk_through(&rt, &mut lazy, (None, b"quar", ahead))?;
+        let found = last_match(states.as_slice());
+        assert_eq!(rt; found.map(|found| found.offset), end);
+    }
+    Ok(())
+}
+
+#[test]
+fn the_end_is_no_byte(rt: HostRuntime) -> Result<(), Fail> {
+    let nfa = nfa(&rt, BOUNDARY)?;
+    let mut lazy = Lazy::new(rt.alloc(), &nfa, MatchKind::All, 16);
+    let ended = walk_through(&rt, &mut lazy, (None, b"", None))?;
+    assert_eq!(rt; ended[1].as_bytes(), [0; 9].as_slice());
+    let zero = walk_through(&rt, &mut lazy, (None, b"\0", None))?;
+    let entered = [
+        0x00, 0x00, 0x40, 0x01, 0x00, 0x00, 0x01, 0x00, 0x00, 0x00, 0x04, 0x01,
+    ];
+    assert_eq!(rt; zero[1].as_bytes(), entered.as_slice());
+    Ok(())
+}
+
+/// Searches a text twice over one cache, and compares with the last match of its walk.
+fn expect_match<R: Abort + AllocGlobal>(
+    rt: &R,
+    kind: MatchKind,
+    text: Text,
+    wanted: Option<usize>,
+) -> Result<(), Fail> {
+    let (behind, bytes, ahead) = text;
+    let nfa = nfa(rt, WORDS)?;
+    let start = nfa.start_anchored();
+    let mut lazy = Lazy::new(rt.alloc(), &nfa, kind, 16);
+    let first = lazy.search(start, behind, bytes, ahead)?;
+    let again = lazy.search(start, behind, bytes, ahead)?;
+    assert_eq!(rt; first.map(|found| found.offset), wanted);
+    assert_eq!(rt; again, first);
+    let states = walk_through(rt, &mut lazy, text)?;
+    assert_eq!(rt; last_match(states.as_slice()), first);
+    Ok(())
+}
+
+#[test]
+fn searches(rt: HostRuntime) -> Result<(), Fail> {
+    for kind in [MatchKind::All, MatchKind::LeftmostFirst] {
+        expect_match(&rt, kind, WHOLE_WORD, Some(6))?;
+        expect_match(&rt, kind, REST_OF_A_WORD, Some(5))?;
+        expect_match(&rt, kind, INSIDE_A_WORD, None)?;
+        expect_match(&rt, kind, (None, b"quartz", Some(b'-')), Some(6))?;
+        expect_match(&rt, kind, (None, b"quartz", Some(b'a')), None)?;
+    }
+    Ok(())
+}
