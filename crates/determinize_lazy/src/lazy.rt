@@ -190,6 +190,7 @@ impl<'n, N: Allocator, A: Allocator + Copy> Lazy<'n, N, A> {
     }
 
     /// The place of the state that follows the one at a place, where that transition is kept.
+    #[inline(always)]
     fn entry(&self, place: u32, unit: Option<u8>) -> Option<u32>
         requires { place < length (held_values self.now) }
         ensures { (v : StateValue) → slice_get (held_values self.now) place ≡ Some v
@@ -205,6 +206,7 @@ impl<'n, N: Allocator, A: Allocator + Copy> Lazy<'n, N, A> {
     }
 
     /// The place of the state that follows, where that transition is kept.
+    #[inline(always)]
     fn known(&self, state: &State<A>, place: Option<u32>, unit: Option<u8>) -> Option<u32>
         requires { IsPlace (held_values self.now) state.now place }
         ensures { IsKnown self.now state.now unit result }
@@ -289,6 +291,8 @@ impl<'n, N: Allocator, A: Allocator + Copy> Lazy<'n, N, A> {
     /// A step that isn't kept: it is computed, counted and kept by the rule.
     ///
     /// The only error is want of memory.
+    #[cold]
+    #[inline(never)]
     fn miss(
         &mut self,
         state: &State<A>,
@@ -320,6 +324,7 @@ impl<'n, N: Allocator, A: Allocator + Copy> Lazy<'n, N, A> {
     /// One step of a walk: over a kept transition it reads one entry and copies a state.
     ///
     /// The only error is want of memory.
+    #[inline(always)]
     fn turn(
         &mut self,
         state: &State<A>,
@@ -380,8 +385,8 @@ impl<'n, N: Allocator, A: Allocator + Copy> Lazy<'n, N, A> {
         ensures limit { self.new.limit ≡ self.old.limit }
         ensures computed { self.old.computed ≤ self.new.computed }
     {
-        let mut states = Vec::new(self.alloc);
         let mut place = self.place_of(&first);
+        let mut states = Vec::with_capacity(self.alloc, text.len() + 2)?;
         let mut state = first;
         for byte in text {
             let Reached {

@@ -48,6 +48,7 @@ impl<A: Allocator + Copy> Places<A> {
     }
 
     /// The number of states, at most 4294967295.
+    #[inline(always)]
     pub(crate) fn len(&self) -> usize
         ensures value { result ≡ length self.now }
         ensures limit { result ≤ 4294967295 }
@@ -77,6 +78,7 @@ impl<A: Allocator + Copy> Places<A> {
     }
 
     /// The state at a place.
+    #[inline(always)]
     pub(crate) fn at(&self, place: u32) -> &State<A>
         requires { place < length self.now }
         ensures value { slice_get self.now place ≡ Some result.now }

@@ -30,6 +30,7 @@ pub(crate) struct Table<A: Allocator = Global> {
 }
 
 /// The column of a unit: that of a byte, or the last one at the end of the input.
+#[inline(always)]
 pub(crate) fn column(unit: Option<u8>) -> usize
     ensures value { result ≡ column unit }
     ensures limit { result < 257 }
