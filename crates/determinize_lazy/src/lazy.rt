@@ -116,15 +116,21 @@ impl<'n, N: Allocator, A: Allocator + Copy> Lazy<'n, N, A> {
 
     /// Whether the states held, with the two of one more transition, are at most as many as the
     /// limit.
-    fn fits(&self, state: &State<A>, place: Option<u32>, following: &State<A>) -> bool
-        requires { IsPlace (held_values self.now) state.now place }
-        ensures fits { result ≡ nat_le (length (with_value (with_value (held_values self.now)
+    fn fits(
+        &self,
+        state: &State<A>,
+        place: Option<u32>,
+        following: &State<A>,
+        target: Option<u32>,
+    ) -> bool
+        requires place { IsPlace (held_values self.now) state.now place }
+        requires target { IsPlace (held_values self.now) following.now target }
+        ensures { result ≡ nat_le (length (with_value (with_value (held_values self.now)
             state.now) following.now)) self.now.limit }
-        ensures valid { IsValue following.now }
     {
-        let source = one_if(place.is_none());
-        let target = one_if(self.table.places.is_new(following, state));
-        self.table.places.len() + source + target <= self.limit
+        let sources = one_if(place.is_none());
+        let targets = one_if(self.table.places.is_new(following, target, state));
+        self.table.places.len() + sources + targets <= self.limit
     }
 
     /// Keeps one more transition, which fits, and answers the place of its target.
@@ -136,9 +142,11 @@ impl<'n, N: Allocator, A: Allocator + Copy> Lazy<'n, N, A> {
         place: Option<u32>,
         unit: Option<u8>,
         following: &State<A>,
+        target: Option<u32>,
     ) -> Result<u32, AllocError>
         requires follows { following.now ≡ step_of self.old state.now unit }
         requires place { IsPlace (held_values self.old) state.now place }
+        requires target { IsPlace (held_values self.old) following.now target }
         requires fits { nat_le (length (with_value (with_value (held_values self.old) state.now)
             following.now)) self.old.limit ≡ true }
         ensures after { OnOk result (self.new ≡ record self.old {
@@ -148,7 +156,7 @@ impl<'n, N: Allocator, A: Allocator + Copy> Lazy<'n, N, A> {
             (λ place. slice_get (held_values self.new) place ≡ Some following.now) }
         ensures err { OnErr result (self.new ≡ record self.old { pairs = [] }) }
     {
-        match self.table.record(state, place, unit, following) {
+        match self.table.record(state, place, unit, following, target) {
             Ok(place) => Ok(place),
             Err(refused) => {
                 self.table.clear();
@@ -177,13 +185,14 @@ impl<'n, N: Allocator, A: Allocator + Copy> Lazy<'n, N, A> {
         ensures valid { IsValue following.now }
         ensures err { OnErr result (self.new ≡ record self.old { pairs = [] }) }
     {
-        if self.fits(state, place, following) {
-            let place = self.add(state, place, unit, following)?;
+        let target = self.place_of(following);
+        if self.fits(state, place, following, target) {
+            let place = self.add(state, place, unit, following, target)?;
             return Ok(Some(place));
         }
         self.clear();
-        if self.fits(state, None, following) {
-            let place = self.add(state, None, unit, following)?;
+        if self.fits(state, None, following, None) {
+            let place = self.add(state, None, unit, following, None)?;
             return Ok(Some(place));
         }
         Ok(None)
