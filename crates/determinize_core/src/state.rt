@@ -171,8 +171,9 @@ impl<A: Allocator + Clone> Clone for State<A> {
     ghost is_clone = { λ a b. a ≡ b };
 
     fn clone(&self) -> Result<State<A>, AllocError> {
+        let alloc = self.bytes.allocator().clone()?;
         Ok(State {
-            bytes: self.bytes.clone()?,
+            bytes: Vec::from_slice(alloc, self.bytes.as_slice())?,
         })
     }
 }

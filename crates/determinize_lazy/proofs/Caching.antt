@@ -38,6 +38,10 @@ any_with values v w =
     or_nothing true = refl
     or_nothing false = refl
 
+-- a state that isn't there, nor the same as one more, isn't there with that one
+pub none_with : (values : List Value) (v w : Value) → list_any (same w) values ≡ false → same v w ≡ false → list_any (same w) (with_value values v) ≡ false
+none_with values v w none apart = any_with values v w ∙ ap (λ b. b || same v w) none ∙ apart
+
 -- how many values there are with two more
 pub length_with_two : (values : List Value) (v w : Value) → length (with_value (with_value values v) w) ≡ length values + cond (list_any (same v) values) 0 1 + cond (list_any (same w) values || same v w) 0 1
 length_with_two values v w = length_with (with_value values v) w ∙ ap (λ n. n + cond (list_any (same w) (with_value values v)) 0 1) (length_with values v)

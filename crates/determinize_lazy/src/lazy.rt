@@ -138,15 +138,21 @@ impl<'n, N: Allocator, A: Allocator + Copy> Lazy<'n, N, A> {
 
     /// Whether the states held, with the two of one more transition, are at most as many as the
     /// limit.
-    fn fits(&self, state: &State<A>, place: Option<u32>, following: &State<A>) -> bool
-        requires { IsPlace (held_values self.now) state.now place }
-        ensures fits { result ≡ nat_le (length (with_value (with_value (held_values self.now)
+    fn fits(
+        &self,
+        state: &State<A>,
+        place: Option<u32>,
+        following: &State<A>,
+        target: Option<u32>,
+    ) -> bool
+        requires place { IsPlace (held_values self.now) state.now place }
+        requires target { IsPlace (held_values self.now) following.now target }
+        ensures { result ≡ nat_le (length (with_value (with_value (held_values self.now)
             state.now) following.now)) self.now.limit }
-        ensures valid { IsValue following.now }
     {
-        let source = one_if(place.is_none());
-        let target = one_if(self.table.places.is_new(following, state));
-        self.table.places.len() + source + target <= self.limit
+        let sources = one_if(place.is_none());
+        let targets = one_if(self.table.places.is_new(following, target, state));
+        self.table.places.len() + sources + targets <= self.limit
     }
 
     /// Keeps one more transition, which fits, and answers the place of its target.
@@ -158,9 +164,11 @@ impl<'n, N: Allocator, A: Allocator + Copy> Lazy<'n, N, A> {
         place: Option<u32>,
         unit: Option<u8>,
         following: &State<A>,
+        target: Option<u32>,
     ) -> Result<u32, AllocError>
         requires follows { following.now ≡ step_of self.old state.now unit }
         requires place { IsPlace (held_values self.old) state.now place }
+        requires target { IsPlace (held_values self.old) following.now target }
         requires fits { nat_le (length (with_value (with_value (held_values self.old) state.now)
             following.now)) self.old.limit ≡ true }
         ensures after { OnOk result (self.new ≡ record self.old {
@@ -170,7 +178,7 @@ impl<'n, N: Allocator, A: Allocator + Copy> Lazy<'n, N, A> {
             (λ place. slice_get (held_values self.new) place ≡ Some following.now) }
         ensures err { OnErr result (self.new ≡ record self.old { pairs = [] }) }
     {
-        match self.table.record(state, place, unit, following) {
+        match self.table.record(state, place, unit, following, target) {
             Ok(place) => Ok(place),
             Err(refused) => {
                 self.table.clear();
@@ -199,19 +207,21 @@ impl<'n, N: Allocator, A: Allocator + Copy> Lazy<'n, N, A> {
         ensures valid { IsValue following.now }
         ensures err { OnErr result (self.new ≡ record self.old { pairs = [] }) }
     {
-        if self.fits(state, place, following) {
-            let place = self.add(state, place, unit, following)?;
+        let target = self.place_of(following);
+        if self.fits(state, place, following, target) {
+            let place = self.add(state, place, unit, following, target)?;
             return Ok(Some(place));
         }
         self.clear();
-        if self.fits(state, None, following) {
-            let place = self.add(state, None, unit, following)?;
+        if self.fits(state, None, following, None) {
+            let place = self.add(state, None, unit, following, None)?;
             return Ok(Some(place));
         }
         Ok(None)
     }
 
     /// The place of the state that follows the one at a place, where that transition is kept.
+    #[inline(always)]
     fn entry(&self, place: u32, unit: Option<u8>) -> Option<u32>
         requires { place < length (held_values self.now) }
         ensures { (v : StateValue) → slice_get (held_values self.now) place ≡ Some v
@@ -227,6 +237,7 @@ impl<'n, N: Allocator, A: Allocator + Copy> Lazy<'n, N, A> {
     }
 
     /// The place of the state that follows, where that transition is kept.
+    #[inline(always)]
     fn known(&self, state: &State<A>, place: Option<u32>, unit: Option<u8>) -> Option<u32>
         requires { IsPlace (held_values self.now) state.now place }
         ensures { IsKnown self.now state.now unit result }
@@ -311,6 +322,8 @@ impl<'n, N: Allocator, A: Allocator + Copy> Lazy<'n, N, A> {
     /// A step that isn't kept: it is computed, counted and kept by the rule.
     ///
     /// The only error is want of memory.
+    #[cold]
+    #[inline(never)]
     fn miss(
         &mut self,
         state: &State<A>,
@@ -342,6 +355,7 @@ impl<'n, N: Allocator, A: Allocator + Copy> Lazy<'n, N, A> {
     /// One step of a walk: over a kept transition it reads one entry and copies a state.
     ///
     /// The only error is want of memory.
+    #[inline(always)]
     fn turn(
         &mut self,
         state: &State<A>,
@@ -402,8 +416,8 @@ impl<'n, N: Allocator, A: Allocator + Copy> Lazy<'n, N, A> {
         ensures limit { self.new.limit ≡ self.old.limit }
         ensures computed { self.old.computed ≤ self.new.computed }
     {
-        let mut states = Vec::new(self.alloc);
         let mut place = self.place_of(&first);
+        let mut states = Vec::with_capacity(self.alloc, text.len() + 2)?;
         let mut state = first;
         for byte in text {
             let Reached {

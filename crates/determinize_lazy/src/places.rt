@@ -48,6 +48,7 @@ impl<A: Allocator + Copy> Places<A> {
     }
 
     /// The number of states, at most 4294967295.
+    #[inline(always)]
     pub(crate) fn len(&self) -> usize
         ensures value { result ≡ length self.now }
         ensures limit { result ≤ 4294967295 }
@@ -67,16 +68,17 @@ impl<A: Allocator + Copy> Places<A> {
         self.places.get(state).copied()
     }
 
-    /// Whether a state isn't held, nor the same as another one.
-    pub(crate) fn is_new(&self, state: &State<A>, other: &State<A>) -> bool
-        ensures new { result
+    /// Whether a state of this place isn't held, nor the same as another one.
+    pub(crate) fn is_new(&self, state: &State<A>, place: Option<u32>, other: &State<A>) -> bool
+        requires { IsPlace self.now state.now place }
+        ensures { result
             ≡ not (list_any (same state.now) self.now || same other.now state.now) }
-        ensures valid { IsValue state.now }
     {
-        self.place_of(state).is_none() && other != state
+        place.is_none() && other != state
     }
 
     /// The state at a place.
+    #[inline(always)]
     pub(crate) fn at(&self, place: u32) -> &State<A>
         requires { place < length self.now }
         ensures value { slice_get self.now place ≡ Some result.now }

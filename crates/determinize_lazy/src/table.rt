@@ -30,6 +30,7 @@ pub(crate) struct Table<A: Allocator = Global> {
 }
 
 /// The column of a unit: that of a byte, or the last one at the end of the input.
+#[inline(always)]
 pub(crate) fn column(unit: Option<u8>) -> usize
     ensures value { result ≡ column unit }
     ensures limit { result < 257 }
@@ -113,6 +114,33 @@ impl<A: Allocator + Copy> Table<A> {
         }
     }
 
+    /// The place of a target of which a place is told that it had before its source was held.
+    fn place_now(
+        &self,
+        state: &State<A>,
+        source: u32,
+        following: &State<A>,
+        target: Option<u32>,
+    ) -> Option<u32>
+        requires { slice_get self.now.places source ≡ Some state.now }
+        ensures { (before : List StateValue) → self.now.places ≡ with_value before state.now
+            → IsPlace before following.now target → IsPlace self.now.places following.now result }
+    {
+        // The bytes are taken for the proof alone: they tell that the values are well formed.
+        let _ = state.as_bytes();
+        let _ = following.as_bytes();
+        match target {
+            Some(place) => Some(place),
+            None => {
+                if state == following {
+                    Some(source)
+                } else {
+                    None
+                }
+            }
+        }
+    }
+
     /// Keeps one more transition, and answers the place of its target.
     ///
     /// The only error is want of memory, and what the table holds then is not told.
@@ -122,8 +150,10 @@ impl<A: Allocator + Copy> Table<A> {
         place: Option<u32>,
         unit: Option<u8>,
         following: &State<A>,
+        target: Option<u32>,
     ) -> Result<u32, AllocError>
         requires place { IsPlace self.old.places state.now place }
+        requires target { IsPlace self.old.places following.now target }
         requires size { length self.old.rows.items ≡ length self.old.places * 257 }
         requires ordered { IsOrder self.old.places self.old.order.items }
         ensures place { IfOk result
@@ -142,7 +172,7 @@ impl<A: Allocator + Copy> Table<A> {
             ++ record { value = state.now; unit = unit } ∷ []) }
     {
         let source = self.place_for(state, place)?;
-        let known = self.places.place_of(following);
+        let known = self.place_now(state, source, following, target);
         let target = self.place_for(following, known)?;
         let column = column(unit);
         self.rows[source as usize * UNITS + column] = target;

@@ -1,12 +1,12 @@
 //! Equality, order and hash of states.
 
-ghost use Rattle.std.specs.Prelude.{◌≡◌, ◌==◌};
+ghost use Rattle.std.specs.Prelude.{◌≡◌, ◌==◌, ◌++◌, ◌∷◌, [], length};
 ghost use Rattle.std.specs.Ordering.{nat_cmp, on, as_partial_cmp};
 ghost use Rattle.std.specs.Cmp.{partial_order_from_own_ties};
-ghost use Rattle.std.specs.Cmp.Lexicographic.{pointwise, slice_cmp};
-ghost use Rattle.std.specs.Cmp.Rules.{comparing, hashing};
+ghost use Rattle.std.specs.Cmp.Lexicographic.{bytes_decides, pointwise, slice_cmp};
+ghost use Rattle.std.specs.Cmp.Rules.{comparing};
 ghost use Rattle.std.specs.Hash as fed;
-ghost use Rattle.std.proofs.Common.{rules};
+ghost use Rattle.std.proofs.Common.{ap, rules};
 ghost use Rattle.determinize_core.specs.Spelling.{spell};
 
 use crate::state::State;
@@ -54,13 +54,15 @@ impl<A: Allocator> PartialOrd for State<A> {
     }
 }
 
-/// The hash of the bytes.
+/// The hash of the bytes: their number, and then all of them at once.
 impl<A: Allocator> Hash for State<A> {
-    ghost hash_input = { λ s. fed.slice fed.u8 (spell s) };
+    ghost hash_input = { λ s. fed.usize (length (spell s)) ++ spell s ∷ [] };
 
-    ghost respects_eq = { Prim.search (hashing, rules) };
+    ghost respects_eq = { λ s t same. ap (λ bytes. fed.usize (length bytes) ++ bytes ∷ []) ((bytes_decides (spell s) (spell t)).0 same) };
 
     fn hash<H: Hasher>(&self, state: &mut H) {
-        self.as_bytes().hash(state);
+        let bytes = self.as_bytes();
+        state.write_usize(bytes.len());
+        state.write(bytes);
     }
 }

@@ -2,6 +2,9 @@ use Rattle.std.proofs.Common.{◌∙◌, ap, ◌++◌, ◌∷◌, []}
 use Rattle.determinize_lazy.proofs.Ordering.{order_record, pairs_record, rows_record}
 use Rattle.determinize_lazy.proofs.table.Table.record.Goals as goal
 
+pub place_for-requires-2 : goal.place_for-requires-2
+place_for-requires-2 g c = c.place_now-known.ensures c.args.self.now.places c.in_ok-source.ensures.places c.requires.target
+
 pub returns-clause-rows : goal.returns-clause-rows
 returns-clause-rows g c = λ f pairs follows r.
     rows_record f _ _ _ pairs _ _ _ c.args.state.now c.args.following.now c.args.unit (c.in_ok-target.ensures.rows f pairs (c.in_ok-source.ensures.rows f pairs r)) c.in_ok-source.ensures.place
