@@ -105,17 +105,25 @@ fn bytes_ahead(rt: HostRuntime) -> Result<(), Fail> {
     Ok(())
 }
 
+/// The bytes of the second state, or none where there is no second one.
+fn second(states: &[State]) -> &[u8] {
+    match states.get(1) {
+        Some(state) => state.as_bytes(),
+        None => &[],
+    }
+}
+
 #[test]
 fn the_end_is_no_byte(rt: HostRuntime) -> Result<(), Fail> {
     let nfa = nfa(&rt, BOUNDARY)?;
     let mut lazy = Lazy::new(rt.alloc(), &nfa, MatchKind::All, 16);
     let ended = walk_through(&rt, &mut lazy, (None, b"", None))?;
-    assert_eq!(rt; ended[1].as_bytes(), [0; 9].as_slice());
+    assert_eq!(rt; second(ended.as_slice()), [0; 9].as_slice());
     let zero = walk_through(&rt, &mut lazy, (None, b"\0", None))?;
     let entered = [
         0x00, 0x00, 0x40, 0x01, 0x00, 0x00, 0x01, 0x00, 0x00, 0x00, 0x04, 0x01,
     ];
-    assert_eq!(rt; zero[1].as_bytes(), entered.as_slice());
+    assert_eq!(rt; second(zero.as_slice()), entered.as_slice());
     Ok(())
 }
 
