@@ -29,6 +29,9 @@ use std::marker::Model;
 /// holds more states than its limit. A computed transition is kept where the states held, together
 /// with its source and its target, are at most as many as the limit. Else the cache is emptied, and
 /// the transition is kept where its two states alone are at most as many; else nothing is.
+///
+/// Places of states are numbers of 32 bits. Where more than 4294967295 states would be held, a call
+/// answers `AllocError`, as it does for want of memory.
 #[derive(Drop)]
 pub struct Lazy<'n, N: Allocator = Global, A: Allocator = Global> {
     alloc: A,
@@ -674,7 +677,7 @@ impl<'n, N: Allocator, A: Allocator + Copy> Lazy<'n, N, A> {
     }
 
     /// Searches a text: the last match that `walk_between` over the same tells, without a list of
-    /// its states, or none. It stops where a state records no NFA states, since nothing follows.
+    /// its states, or none. It may stop before the end of the text, where nothing can follow.
     ///
     /// Where the leftmost match is wanted, this is the pattern and the end of the most preferred
     /// match. The only error is want of memory. The cache holds right transitions then, and is as

@@ -1,4 +1,4 @@
-//! A lazy DFA: walks that compute each transition once and keep what fits into a bounded cache.
+//! A lazy DFA: walks and searches through a bounded cache of transitions.
 //!
 //! [`Lazy`] borrows an NFA and answers what `determinize_core::determinize::walk` answers.
 #![tactic(auto)]
