@@ -7,9 +7,9 @@ use Rattle.std.proofs.lemmas.List.Folds.{list_any-append}
 use Rattle.std.proofs.lemmas.Option.{slice_get_within}
 use Rattle.std.proofs.lemmas.Map.Steps.{list_any_congr}
 use Rattle.determinize_lazy.specs.Pairs.{is_kept, Pair, same, values_after, values_of, with_value}
-use Rattle.determinize_lazy.specs.Places.{IsPlace}
-use Rattle.determinize_lazy.specs.Rows.{IsEntry, IsRows}
-use Rattle.determinize_lazy.specs.Order.{IsCache, IsOrder, pairs_of}
+use Rattle.determinize_lazy.specs.Private.Places.{IsPlace}
+use Rattle.determinize_lazy.specs.Private.Rows.{IsEntry, IsRows}
+use Rattle.determinize_lazy.specs.Private.Order.{IsCache, IsOrder, pairs_of}
 use Rattle.determinize_lazy.specs.Kept.{Cache, fits, keep}
 use Rattle.determinize_lazy.specs.declared.table.Kept.{Kept}
 use Rattle.determinize_core.specs.Value.{Value}

@@ -1,12 +1,13 @@
 -- States held, and the map to their places.
-use Rattle.std.proofs.Common.{◌≡◌, ℕ, ◌+◌, ◌-◌, ◌<◌, ◌≤◌, true, false, cond, inl, inr, Option, Some, None, List, [], ◌∷◌, ◌++◌, length, take, sym, ap, ◌∙◌, subst, arith, length-append}
+use Rattle.std.proofs.Common.{◌≡◌, ℕ, ◌+◌, ◌-◌, ◌<◌, ◌≤◌, true, false, cond, inl, inr, Option, Some, None, List, [], ◌∷◌, ◌++◌, length, map, take, sym, ap, ◌∙◌, subst, arith, length-append}
 use Rattle.std.specs.Prelude.{slice_get}
 use Rattle.std.specs.Cmp.{IsEquivalence, on_equiv}
 use Rattle.std.specs.Cmp.Lexicographic.{bytes_decides, nat_list_eq_equiv}
 use Rattle.std.specs.List.{list_any}
-use Rattle.std.proofs.lemmas.List.{length_push, take_at}
+use Rattle.std.proofs.lemmas.List.{length_push, map-append, take_at, take-map}
 use Rattle.determinize_lazy.specs.Pairs.{same}
-use Rattle.determinize_lazy.specs.Places.{IsPlace, IsPlaces, place_in}
+use Rattle.determinize_lazy.specs.Places.{place_in}
+use Rattle.determinize_lazy.specs.Private.Places.{IsPlace, IsPlaces}
 use Rattle.determinize_core.specs.Spelling.{spell}
 use Rattle.determinize_core.specs.Value.{IsValue, Value}
 use Rattle.determinize_core.proofs.SpellingLaws.{spell_tells}
@@ -51,3 +52,12 @@ places-pop values more back v at at' n placed more_is len back_is same_map =
     let n_is : length values ≡ n - 1 = let k : n ≡ length values + 1 = len ∙ ap length more_is ∙ length_push values v in omega (arith, k) in
     subst (λ xs. IsPlaces xs at') (sym (back_is ∙ ap (λ xs. take (n - 1) xs) more_is ∙ take_at values (v ∷ []) (n - 1) n_is))
     record { mapped = λ q. same_map q ∙ placed.mapped q; apart = placed.apart; valid = placed.valid; few = placed.few }
+
+module _ {H : Type 0} (f : H → Value) where
+  -- one more held state, told by its value
+  pub held-push : (held more : List H) (h : H) (v : Value) → more ≡ held ++ h ∷ [] → f h ≡ v → map f more ≡ map f held ++ v ∷ []
+  held-push held more h v more_is v_is = ap (λ hs. map f hs) more_is ∙ map-append f held (h ∷ []) ∙ ap (λ w. map f held ++ w ∷ []) v_is
+
+  -- and the last one taken back
+  pub held-pop : (more back : List H) (n : ℕ) → back ≡ take n more → map f back ≡ take n (map f more)
+  held-pop more back n back_is = ap (λ hs. map f hs) back_is ∙ sym (take-map f n more)

@@ -4,10 +4,11 @@ use Rattle.std.specs.Prelude.{slice_get, slice_index_or, slice_set}
 use Rattle.std.specs.List.{list_any}
 use Rattle.std.proofs.lemmas.List.{get_or_append_left, length_push, map-append}
 use Rattle.std.proofs.lemmas.Option.{get_or_from_slice_get, slice_get-get_or, slice_get_within}
-use Rattle.determinize_lazy.specs.Pairs.{HaveValidValues, Pair, same, with_value}
-use Rattle.determinize_lazy.specs.Places.{AreValid}
-use Rattle.determinize_lazy.specs.Rows.{column, IsRows, IsUnit}
-use Rattle.determinize_lazy.specs.Order.{IsOrder, pair_at, pairs_of}
+use Rattle.determinize_lazy.specs.Pairs.{Pair, same, with_value}
+use Rattle.determinize_lazy.specs.Private.Places.{HaveValidValues}
+use Rattle.determinize_lazy.specs.Private.Places.{AreValid}
+use Rattle.determinize_lazy.specs.Private.Rows.{column, IsRows, IsUnit}
+use Rattle.determinize_lazy.specs.Private.Order.{IsOrder, pair_at, pairs_of}
 use Rattle.determinize_lazy.specs.declared.table.Kept.{Kept}
 use Rattle.determinize_core.specs.Value.{dead, Value}
 use Rattle.determinize_lazy.proofs.Holding.{same_laws}

@@ -1,18 +1,18 @@
 -- With room for all, each pair of a walk is kept and computed once.
-use Rattle.std.proofs.Common.{◌≡◌, ℕ, ◌+◌, ◌-◌, ◌≤◌, Bool, true, false, cond, ◌&&◌, ◌||◌, Option, List, [], ◌∷◌, ◌++◌, length, map, suc, refl, sym, ap, ◌∙◌, subst, arith}
+use Rattle.std.proofs.Common.{◌≡◌, ℕ, ◌+◌, ◌-◌, ◌≤◌, Bool, true, false, cond, ◌&&◌, ◌||◌, Option, List, [], ◌∷◌, ◌++◌, length, suc, refl, sym, ap, ◌∙◌, subst, arith}
 use Rattle.std.specs.Prelude.{min, nat_le, Result, Ok, Err, IfOk, OnOk}
-use Rattle.std.specs.List.{list_any, range_with_len}
+use Rattle.std.specs.List.{list_any}
 use Rattle.std.proofs.lemmas.List.{append_assoc, length_push}
 use Rattle.std.proofs.lemmas.List.Folds.{list_any-append}
 use mathlib.Core.Bool.{true≢false}
-use Rattle.determinize_lazy.specs.Pairs.{chain_pairs, HaveValidValues, is_kept, Pair, same, same_unit, values_after, values_of, with_pair, with_pairs, with_value, with_values}
-use Rattle.determinize_lazy.specs.Places.{AreValid}
-use Rattle.determinize_lazy.specs.Plenty.{HasRoom, KeepsAll, pairs_over}
-use Rattle.determinize_lazy.specs.Kept.{after_pair, after_text, after_walk, Cache, count_after, fits, held_values, keep, kept, missed, step_of}
+use Rattle.determinize_lazy.specs.Pairs.{chain_pairs, is_kept, Pair, same, same_unit, values_after, values_of, with_pair, with_pairs, with_value, with_values}
+use Rattle.determinize_lazy.specs.Private.Places.{HaveValidValues}
+use Rattle.determinize_lazy.specs.Private.Places.{AreValid}
+use Rattle.determinize_lazy.specs.Plenty.{HasRoom, KeepsAll}
+use Rattle.determinize_lazy.specs.Kept.{after_pair, after_walk, Cache, count_after, fits, held_values, keep, kept, missed, step_of}
 use Rattle.determinize_core.specs.Value.{IsValue, Value}
-use Rattle.determinize_core.specs.Chain.{chain, future}
-use Rattle.determinize_core.specs.Step.{start_value, step}
-use Rattle.determinize_below.specs.Positions.{after_at, Text}
+use Rattle.determinize_core.specs.Chain.{future}
+use Rattle.determinize_core.specs.Step.{step}
 use Rattle.determinize_below.specs.Nfa.{Nfa}
 use Rattle.determinize_below.specs.declared.search.MatchKind.{MatchKind}
 use Rattle.determinize_lazy.proofs.Caching.{any_with, length_with}
@@ -65,7 +65,7 @@ kept_added pairs (p ∷ more) x w h =
       | false ↦ λ _ rest. kept_added (with_pair pairs p) more x w rest
     ] refl h
 
-valid-push : (pairs : List Pair) (p : Pair) → HaveValidValues pairs → IsValue p.value → HaveValidValues (pairs ++ p ∷ [])
+pub valid-push : (pairs : List Pair) (p : Pair) → HaveValidValues pairs → IsValue p.value → HaveValidValues (pairs ++ p ∷ [])
 valid-push [] p h v = (v, tt)
 valid-push (q ∷ qs) p h v = (h.0, valid-push qs p h.1 v)
 
@@ -175,11 +175,26 @@ module _ (nfa : Nfa) (kind : MatchKind) where
 count_none : (a m : ℕ) → min (min a m + 0) m ≡ min a m
 count_none a m = grind arith
 
-module _ (old : Cache) (v : Value) (u : Option ℕ) (us : List (Option ℕ)) (valid : HaveValidValues old.pairs) (chained : AreValid (future old.nfa old.kind v (u ∷ us)))
-    (few : length (with_values (held_values old) (future old.nfa old.kind v (u ∷ us))) ≤ old.limit) where
+-- the count after no more steps
+count_stays : (a m : ℕ) → a ≤ m → min (a + 0) m ≡ a
+count_stays a m h = grind arith
+
+count_same : (a n m : ℕ) → min (a + 0) m ≡ min (a + (n - n)) m
+count_same a n m = grind arith
+
+-- over no units nothing changes
+keeps_none : (old : Cache) (v : Value) → old.computed ≤ 18446744073709551615 → KeepsAll old v [] (after_walk old v [])
+keeps_none old v few = record {
+  pairs = refl;
+  once = count_same old.computed (length old.pairs) 18446744073709551615;
+  again = ap (λ n. record old { computed = n }) (count_none (old.computed + 0) 18446744073709551615);
+}
+
+module _ (old : Cache) (v : Value) (u : Option ℕ) (us : List (Option ℕ)) (valid : HaveValidValues old.pairs) (chained : HaveValidValues (chain_pairs (step_of old) v (u ∷ us)))
+    (few : HasRoom old v (u ∷ us)) where
   all : (kept (step_of old) old.limit old.pairs v (u ∷ us) ≡ with_pairs old.pairs (chain_pairs (step_of old) v (u ∷ us)))
       × (missed (step_of old) old.limit old.pairs v (u ∷ us) + length old.pairs ≡ length (with_pairs old.pairs (chain_pairs (step_of old) v (u ∷ us))))
-  all = kept_all (step_of old) old.limit old.pairs v (u ∷ us) valid (chain_valid old.nfa old.kind v (u ∷ us) chained)
+  all = kept_all (step_of old) old.limit old.pairs v (u ∷ us) valid chained
       (subst (λ vs. length vs ≤ old.limit) (sym (values_after-append (step_of old) old.pairs (chain_pairs (step_of old) v (u ∷ us)) [] ∙ values_after-chain old.nfa old.kind (held_values old) v u us)) few)
 
   pub kept_pairs : (after_walk old v (u ∷ us)).pairs ≡ with_pairs old.pairs (chain_pairs (step_of old) v (u ∷ us))
@@ -202,21 +217,21 @@ module _ (old : Cache) (v : Value) (u : Option ℕ) (us : List (Option ℕ)) (va
       ∙ ap (λ (n : ℕ). record old { pairs = kept (step_of old) old.limit old.pairs v (u ∷ us); computed = n })
       (ap (λ n. count_after (count_after old.computed (missed (step_of old) old.limit old.pairs v (u ∷ us))) n) stays.0 ∙ count_none (old.computed + missed (step_of old) old.limit old.pairs v (u ∷ us)) 18446744073709551615)
 
--- with room for all, a walk over a text keeps all its pairs
-pub keeps_all : (old : Cache) (start : ℕ) (text : Text) → HaveValidValues old.pairs → AreValid (chain old.nfa old.kind start text) → HasRoom old start text → KeepsAll old start text (after_text old start text)
-unfolding chain after_text pairs_over
-keeps_all old start text valid chained few = record {
-  pairs = kept_pairs old (start_value old.nfa start text.behind) (after_at text 0) (map (after_at text) (range_with_len 1 (length text.bytes))) valid chained few;
-  once = counted_once old (start_value old.nfa start text.behind) (after_at text 0) (map (after_at text) (range_with_len 1 (length text.bytes))) valid chained few;
-  again = walked_again old (start_value old.nfa start text.behind) (after_at text 0) (map (after_at text) (range_with_len 1 (length text.bytes))) valid chained few;
+-- with room for all, a walk keeps all its pairs
+pub keeps_all : (old : Cache) (v : Value) (us : List (Option ℕ)) → old.computed ≤ 18446744073709551615 → HaveValidValues old.pairs → HaveValidValues (chain_pairs (step_of old) v us) → HasRoom old v us → KeepsAll old v us (after_walk old v us)
+keeps_all old v [] small valid chained few = keeps_none old v small
+keeps_all old v (u ∷ us) small valid chained few = record {
+  pairs = kept_pairs old v u us valid chained few;
+  once = counted_once old v u us valid chained few;
+  again = walked_again old v u us valid chained few;
 }
 
 -- the same of a walk that answers its values
-pub keeps_all_where_ok : {T E : Type 0} (r : Result T E) (values_in : T → List Value) (old new : Cache) (start : ℕ) (text : Text) → HaveValidValues old.pairs
-    → IfOk r (λ answer. values_in answer ≡ chain old.nfa old.kind start text)
+pub keeps_all_where_ok : {T E : Type 0} (r : Result T E) (values_in : T → List Value) (old new : Cache) (v : Value) (us : List (Option ℕ)) → old.computed ≤ 18446744073709551615 → HaveValidValues old.pairs
+    → IfOk r (λ answer. values_in answer ≡ future old.nfa old.kind v us)
     → IfOk r (λ answer. AreValid (values_in answer))
-    → OnOk r (new ≡ after_text old start text)
-    → HasRoom old start text → OnOk r (KeepsAll old start text new)
-keeps_all_where_ok (Ok answer) values_in old new start text valid chained answered after room =
-    subst (λ (c : Cache). KeepsAll old start text c) (sym after) (keeps_all old start text valid (subst (λ vs. AreValid vs) chained answered) room)
-keeps_all_where_ok (Err error) values_in old new start text valid chained answered after room = tt
+    → OnOk r (new ≡ after_walk old v us)
+    → HasRoom old v us → OnOk r (KeepsAll old v us new)
+keeps_all_where_ok (Ok answer) values_in old new v us small valid chained answered after room =
+    subst (λ (c : Cache). KeepsAll old v us c) (sym after) (keeps_all old v us small valid (chain_valid old.nfa old.kind v us (subst (λ vs. AreValid vs) chained answered)) room)
+keeps_all_where_ok (Err error) values_in old new v us small valid chained answered after room = tt

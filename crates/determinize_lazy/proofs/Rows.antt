@@ -7,7 +7,7 @@ use Rattle.std.proofs.lemmas.List.Folds.{list_any-append}
 use Rattle.std.proofs.lemmas.Option.{slice_get_within}
 use mathlib.Core.Bool.{true≢false}
 use Rattle.determinize_lazy.specs.Pairs.{is_kept, Pair, same, same_unit}
-use Rattle.determinize_lazy.specs.Rows.{column, IsEntry, IsRows, IsUnit}
+use Rattle.determinize_lazy.specs.Private.Rows.{column, IsEntry, IsRows, IsUnit}
 use Rattle.determinize_core.specs.Value.{Value}
 use Rattle.determinize_lazy.proofs.Holding.{same_laws}
 use Rattle.determinize_lazy.proofs.Placing.{apart-push, get_more, get_push, not_both, of_some, one_passes, position_from-same}

@@ -1,196 +1,117 @@
 -- A search, one step more at a time.
-use Rattle.std.proofs.Common.{◌≡◌, ℕ, suc, ◌+◌, ◌<◌, ◌≤◌, cond, Option, Some, None, true, false, List, [], ◌∷◌, ◌++◌, length, map, take, drop, refl, sym, ap, ◌∙◌, subst, arith, get_or}
-use Rattle.std.specs.Option.{option_or}
+use Rattle.std.proofs.Common.{◌≡◌, ℕ, Bool, ◌+◌, ◌<◌, ◌≤◌, cond, Option, Some, None, true, false, List, [], ◌∷◌, ◌++◌, length, map, not, suc, take, drop, refl, sym, ap, ◌∙◌, subst, arith, get_or}
+use Rattle.std.specs.Option.{IfSome, option_or}
 use Rattle.std.specs.Prelude.{min}
-use Rattle.std.proofs.lemmas.List.{append_assoc, length-map, length-take-le, map-append, take_all, take_at, take_more, take-append-drop}
-use Rattle.std.proofs.lemmas.Option.{get_or_from_slice_get, slice_get_within}
-use Rattle.std.specs.List.{flat_map, list_any}
-use Rattle.determinize_below.proofs.Lists.{option_or-assoc, option_or-None}
-use Rattle.determinize_core.proofs.ClosingAll.{reach-none}
+use Rattle.std.proofs.lemmas.List.{append-nil, append_assoc, length-map, length-reverse, length-take-le, map-append, take_all, take_more, take-append-drop}
+use Rattle.std.proofs.lemmas.Option.{get_or_from_slice_get, slice_get-get_or, slice_get_within}
+use Rattle.std.proofs.lemmas.List.FromFn.{length-map-range_with_len}
+use Rattle.std.specs.List.{list_any}
+use mathlib.Core.Bool.{true≢false}
 use Rattle.determinize_core.proofs.Loops.{value_after, value_after-push}
-use Rattle.determinize_core.proofs.StepLaws.{dead_stays}
 use Rattle.determinize_core.proofs.UnitLists.{units_are}
-use Rattle.determinize_lazy.specs.Pairs.{is_kept, same}
-use Rattle.determinize_lazy.specs.Places.{IsPlace}
-use Rattle.determinize_lazy.specs.Found.{IsStanding, value_at}
-use Rattle.determinize_lazy.specs.Kept.{after_turn, after_walk, Cache, count_after, held_values, keep, missed, step_of}
-use Rattle.determinize_core.specs.Value.{dead, Value}
+use Rattle.determinize_lazy.specs.Pairs.{chain_pairs, is_kept, Pair, same}
+use Rattle.determinize_lazy.specs.Private.Places.{AreValid, HaveValidValues, IsPlace}
+use Rattle.determinize_lazy.specs.Plenty.{HasRoom, KeepsAll}
+use Rattle.determinize_lazy.specs.Private.Over.{IsOver}
+use Rattle.determinize_lazy.specs.Private.Standing.{current, IsStanding}
+use Rattle.determinize_lazy.specs.Kept.{after_walk, Cache, count_after, held_values, keep, missed, step_of}
+use Rattle.determinize_lazy.specs.Private.Turns.{after_turn}
+use Rattle.determinize_lazy.specs.Searches.{in_order, units_read}
+use Rattle.determinize_core.specs.Value.{dead, is_nonempty, IsValue, Value}
 use Rattle.determinize_core.specs.Chain.{future, units}
-use Rattle.determinize_core.specs.Step.{distinct_states, is_reopened, left_by, opened_by, part_read, patterns_read, step, working_list}
-use Rattle.determinize_core.specs.Walk.{ended_at, last_ended, last_match}
-use Rattle.determinize_core.specs.LookTables.{have_after, tables_of}
-use Rattle.determinize_below.specs.Edges.{is_match, patterns_of, reach, target}
-use Rattle.determinize_below.specs.Look.{has}
-use Rattle.determinize_below.specs.Reach.{joined}
+use Rattle.determinize_core.specs.Walk.{ended_at, last_match}
 use Rattle.determinize_below.specs.declared.search.HalfMatch.{HalfMatch}
-use Rattle.determinize_below.specs.Positions.{between}
+use Rattle.determinize_below.specs.Positions.{after_at, between}
 use Rattle.determinize_below.specs.Nfa.{AllResolve, IsAccepted, Nfa}
-use Rattle.determinize_below.specs.declared.search.MatchKind.{MatchKind}
+use Rattle.determinize_lazy.proofs.LastUnits.{last_match-over, last_match-push, last_match-within}
+use Rattle.determinize_lazy.proofs.Plenty.{keeps_all, valid-push}
 use Rattle.determinize_lazy.proofs.Walking.{after_resolves, after_walk-push}
 
--- a value that records no NFA states
+empty_is : (xs : List ℕ) → is_nonempty xs ≡ false → xs ≡ []
+empty_is [] h = refl
+empty_is (x ∷ xs) h = absurd (true≢false h)
 
-working_none : (nfa : Nfa) (v : Value) (u : Option ℕ) → v.states ≡ [] → working_list nfa v u ≡ []
-working_none nfa v u none =
-    let distinct : distinct_states v ≡ [] = rw none refl in
-    ap (λ xs. cond (is_reopened nfa v u) (reach nfa (joined (has v.look_have) (opened_by nfa v u)) xs) xs) distinct
-    ∙ elim (is_reopened nfa v u) as (λ b. cond b (reach nfa (joined (has v.look_have) (opened_by nfa v u)) []) [] ≡ []) [ true ↦ reach-none nfa (joined (has v.look_have) (opened_by nfa v u)) | false ↦ refl ]
+not_true : (b : Bool) → not b ≡ true → b ≡ false
+not_true true h = absurd (true≢false (sym h))
+not_true false h = refl
 
-step_none : (nfa : Nfa) (kind : MatchKind) (v : Value) (u : Option ℕ) → v.states ≡ [] → step nfa kind v u ≡ step nfa kind dead u
-unfolding step
-step_none nfa kind v u none =
-    ap (λ l. left_by nfa u (patterns_read kind (patterns_of nfa l)) (reach nfa (has (have_after (tables_of nfa) u)) (flat_map (target nfa u) (part_read kind (is_match nfa) l)))) (working_none nfa v u none ∙ sym (working_none nfa dead u refl))
+not_false : (b : Bool) → not b ≡ false → b ≡ true
+not_false true h = refl
+not_false false h = absurd (true≢false h)
 
-step_over : (nfa : Nfa) (kind : MatchKind) (v : Value) (u : Option ℕ) → v.states ≡ [] → step nfa kind v u ≡ dead
-step_over nfa kind v u none = step_none nfa kind v u none ∙ (dead_stays nfa kind u).0
+-- nothing is read after a value that records no NFA states
+read_none : (f : Value → Option ℕ → Value) (v : Value) (us : List (Option ℕ)) → is_nonempty v.states ≡ false → units_read f v us ≡ []
+read_none f v [] h = refl
+read_none f v (u ∷ us) h = ap (λ b. cond b (u ∷ units_read f (f v u) us) []) h
 
-module _ (nfa : Nfa) (kind : MatchKind) where
-  -- the values that follow, without the first
-  abbrev tail : Value → List (Option ℕ) → List Value
-  tail v [] = []
-  tail v (u ∷ us) = future nfa kind (step nfa kind v u) us
+-- the pairs of one unit more
+pairs-push : (c : Cache) (v : Value) (us : List (Option ℕ)) (u : Option ℕ)
+    → chain_pairs (step_of c) v (us ++ u ∷ []) ≡ chain_pairs (step_of c) v us ++ record { value = value_after c.nfa c.kind v us; unit = u } ∷ []
+pairs-push c v [] u = refl
+pairs-push c v (w ∷ us) u = ap (λ (ps : List Pair). record { value = v; unit = w } ∷ ps) (pairs-push c (step_of c v w) us u)
 
-  future_is : (v : Value) (us : List (Option ℕ)) → future nfa kind v us ≡ v ∷ tail v us
-  future_is v [] = refl
-  future_is v (u ∷ us) = refl
-
-  -- no match is told after the dead value
-  none_dead : (n : ℕ) (us : List (Option ℕ)) → last_ended n (future nfa kind dead us) ≡ None
-  none_dead n [] = refl
-  none_dead n (u ∷ us) = ap (λ v. option_or (last_ended (suc n) (future nfa kind v us)) None) (dead_stays nfa kind u).0 ∙ ap (λ o. option_or o None) (none_dead (suc n) us)
-
-  -- nor after a value that records no NFA states
-  tail-over : (n : ℕ) (v : Value) (us rest : List (Option ℕ)) → (value_after nfa kind v us).states ≡ [] → last_ended n (tail v (us ++ rest)) ≡ last_ended n (tail v us)
-  tail-over n v [] [] h = refl
-  tail-over n v [] (u ∷ rest) h = ap (λ w. last_ended n (future nfa kind w rest)) (step_over nfa kind v u h) ∙ none_dead n rest
-  tail-over n v (u ∷ us) rest h =
-      ap (λ vs. last_ended n vs) (future_is (step nfa kind v u) (us ++ rest))
-      ∙ ap (λ o. option_or o (ended_at n (step nfa kind v u).patterns)) (tail-over (suc n) (step nfa kind v u) us rest h)
-      ∙ sym (ap (λ vs. last_ended n vs) (future_is (step nfa kind v u) us))
-
-  -- one more unit
-  tail-push : (n : ℕ) (v : Value) (us : List (Option ℕ)) (u : Option ℕ)
-      → last_ended n (tail v (us ++ u ∷ [])) ≡ option_or (ended_at (n + length us) (value_after nfa kind v (us ++ u ∷ [])).patterns) (last_ended n (tail v us))
-  tail-push n v [] u =
-      let z : n ≡ n + 0 = omega arith in
-      ap (λ k. ended_at k (step nfa kind v u).patterns) z ∙ sym (option_or-None (ended_at (n + 0) (step nfa kind v u).patterns))
-  tail-push n v (w ∷ us) u =
-      let z : suc n + length us ≡ n + suc (length us) = omega arith in
-      ap (λ vs. last_ended n vs) (future_is (step nfa kind v w) (us ++ u ∷ []))
-      ∙ ap (λ o. option_or o (ended_at n (step nfa kind v w).patterns)) (tail-push (suc n) (step nfa kind v w) us u)
-      ∙ option_or-assoc (ended_at (suc n + length us) (value_after nfa kind (step nfa kind v w) (us ++ u ∷ [])).patterns) (last_ended (suc n) (tail (step nfa kind v w) us)) (ended_at n (step nfa kind v w).patterns)
-      ∙ ap (λ k. option_or (ended_at k (value_after nfa kind (step nfa kind v w) (us ++ u ∷ [])).patterns) (option_or (last_ended (suc n) (tail (step nfa kind v w) us)) (ended_at n (step nfa kind v w).patterns))) z
-      ∙ ap (λ vs. option_or (ended_at (n + suc (length us)) (value_after nfa kind (step nfa kind v w) (us ++ u ∷ [])).patterns) (last_ended n vs)) (sym (future_is (step nfa kind v w) us))
-
-  last_match-tail : (v : Value) (us : List (Option ℕ)) → last_match (future nfa kind v us) ≡ last_ended 0 (tail v us)
-  last_match-tail v us = ap last_match (future_is v us)
-
-  -- the last match over one more unit
-  pub last_match-push : (v : Value) (us : List (Option ℕ)) (u : Option ℕ)
-      → last_match (future nfa kind v (us ++ u ∷ [])) ≡ option_or (ended_at (length us) (value_after nfa kind v (us ++ u ∷ [])).patterns) (last_match (future nfa kind v us))
-  last_match-push v us u =
-      let z : 0 + length us ≡ length us = omega arith in
-      last_match-tail v (us ++ u ∷ []) ∙ tail-push 0 v us u
-      ∙ ap (λ k. option_or (ended_at k (value_after nfa kind v (us ++ u ∷ [])).patterns) (last_ended 0 (tail v us))) z
-      ∙ ap (λ o. option_or (ended_at (length us) (value_after nfa kind v (us ++ u ∷ [])).patterns) o) (sym (last_match-tail v us))
-
-  -- the last match stays where no NFA state is left
-  pub last_match-over : (v : Value) (us rest : List (Option ℕ)) → (value_after nfa kind v us).states ≡ [] → last_match (future nfa kind v us) ≡ last_match (future nfa kind v (us ++ rest))
-  last_match-over v us rest h = last_match-tail v us ∙ sym (tail-over 0 v us rest h) ∙ sym (last_match-tail v (us ++ rest))
-
--- a search over some units: the value at hand, the place, the last match, the cache before and after
-pub record IsSearched (old : Cache) (first : Value) (us : List (Option ℕ)) (hand : Value) (place : Option ℕ) (last : Option HalfMatch) (new : Cache) : Type 0 where
-  pub end : value_at new hand place ≡ value_after old.nfa old.kind first us
-  pub standing : IsStanding new hand place
+-- a search over some units: its own value, the place, the last match, the cache before and after
+pub record IsSearched (old : Cache) (first : Value) (us : List (Option ℕ)) (own : Value) (place : Option ℕ) (last : Option HalfMatch) (new : Cache) : Type 0 where
+  pub end : current new own place ≡ value_after old.nfa old.kind first us
+  pub standing : IsStanding new own place
   pub after : new ≡ after_walk old first us
   pub told : last ≡ last_match (future old.nfa old.kind first us)
+  pub valid : HaveValidValues (chain_pairs (step_of old) first us)
+  pub read : (rest : List (Option ℕ)) → units_read (step_of old) first (us ++ rest) ≡ us ++ units_read (step_of old) (value_after old.nfa old.kind first us) rest
 
 -- no unit yet
-pub searched_none : (old new : Cache) (first hand : Value) (place : Option ℕ) (last : Option HalfMatch) → old.computed ≤ 18446744073709551615 → hand ≡ first → new ≡ old → IsPlace (held_values new) first place → last ≡ None
-    → IsSearched old first [] hand place last new
-searched_none old new first hand place last few hand_is new_is at none = record {
-  end = at_place place at ∙ hand_is;
+pub searched_none : (old new : Cache) (first own : Value) (place : Option ℕ) (last : Option HalfMatch) → old.computed ≤ 18446744073709551615 → own ≡ first → new ≡ old → IsPlace (held_values new) first place → last ≡ None
+    → IsSearched old first [] own place last new
+searched_none old new first own place last few own_is new_is at none = record {
+  end = at_place place at ∙ own_is;
   standing = standing_at place at;
   after = new_is ∙ ap (λ n. record old { computed = n }) (let r : old.computed ≡ min (old.computed + 0) 18446744073709551615 = grind arith in r);
   told = none;
+  valid = tt;
+  read = λ rest. refl;
 }
   where
-    at_place : (o : Option ℕ) → IsPlace (held_values new) first o → value_at new hand o ≡ hand
+    at_place : (o : Option ℕ) → IsPlace (held_values new) first o → current new own o ≡ own
     at_place None h = refl
-    at_place (Some p) h = get_or_from_slice_get (held_values new) p first dead h ∙ sym hand_is
+    at_place (Some p) h = get_or_from_slice_get (held_values new) p first dead h ∙ sym own_is
 
-    standing_at : (o : Option ℕ) → IsPlace (held_values new) first o → IsStanding new hand o
-    standing_at None h = ap (λ v. list_any (same v) (held_values new)) hand_is ∙ h
+    standing_at : (o : Option ℕ) → IsPlace (held_values new) first o → IsStanding new own o
+    standing_at None h = ap (λ v. list_any (same v) (held_values new)) own_is ∙ h
     standing_at (Some p) h = slice_get_within (held_values new) p first h
 
+-- the value at a place is one that a state can have
+pub current-valid : (c : Cache) (own : Value) (place : Option ℕ) (p : ℕ) → place ≡ Some p → AreValid (held_values c) → IsStanding c own place → IsValue (current c own place)
+current-valid c own place p at valid standing =
+    subst (λ o. IsStanding c own o → IsValue (current c own o)) (sym at) (λ within. valid p _ (slice_get-get_or (held_values c) p dead within)) standing
+
 -- one more unit
-pub searched-push : (old : Cache) (first : Value) (us : List (Option ℕ)) (u : Option ℕ) (hand hand' : Value) (place place' : Option ℕ) (last last' : Option HalfMatch) (new newer : Cache) → old.computed ≤ 18446744073709551615
-    → IsSearched old first us hand place last new
-    → value_at newer hand' place' ≡ step_of new (value_at new hand place) u
-    → IsStanding newer hand' place'
-    → newer ≡ after_turn new (value_at new hand place) u
-    → last' ≡ option_or (ended_at (length us) (value_at newer hand' place').patterns) last
-    → IsSearched old first (us ++ u ∷ []) hand' place' last' newer
-searched-push old first us u hand hand' place place' last last' new newer few s value standing newer_is last_is =
-    let ends : value_at newer hand' place' ≡ value_after old.nfa old.kind first (us ++ u ∷ []) =
-    value ∙ ap (λ (c : Cache). step_of c (value_at new hand place) u) s.after ∙ ap (λ v. step_of old v u) s.end ∙ sym (value_after-push old.nfa old.kind first us u) in
+pub searched-push : (old : Cache) (first : Value) (us : List (Option ℕ)) (u : Option ℕ) (own own' : Value) (place place' : Option ℕ) (last last' : Option HalfMatch) (new newer : Cache) → old.computed ≤ 18446744073709551615
+    → IsSearched old first us own place last new
+    → IsValue (current new own place)
+    → not (is_nonempty (current new own place).states) ≡ false
+    → current newer own' place' ≡ step_of new (current new own place) u
+    → IsStanding newer own' place'
+    → newer ≡ after_turn new (current new own place) u
+    → last' ≡ option_or (ended_at (length us) (current newer own' place').patterns) last
+    → IsSearched old first (us ++ u ∷ []) own' place' last' newer
+searched-push old first us u own own' place place' last last' new newer few s valid more value standing newer_is last_is =
+    let ends : current newer own' place' ≡ value_after old.nfa old.kind first (us ++ u ∷ []) =
+    value ∙ ap (λ (c : Cache). step_of c (current new own place) u) s.after ∙ ap (λ v. step_of old v u) s.end ∙ sym (value_after-push old.nfa old.kind first us u) in
     record {
       end = ends;
       standing = standing;
-      after = newer_is ∙ ap (λ c. after_turn c (value_at new hand place) u) s.after ∙ ap (λ v. after_turn (after_walk old first us) v u) s.end ∙ after_walk-push old first us u few;
+      after = newer_is ∙ ap (λ c. after_turn c (current new own place) u) s.after ∙ ap (λ v. after_turn (after_walk old first us) v u) s.end ∙ after_walk-push old first us u few;
       told = last_is ∙ ap (λ (v : Value). option_or (ended_at (length us) v.patterns) last) ends
           ∙ ap (λ o. option_or (ended_at (length us) (value_after old.nfa old.kind first (us ++ u ∷ [])).patterns) o) s.told
           ∙ sym (last_match-push old.nfa old.kind first us u);
+      valid = subst (λ ps. HaveValidValues ps) (sym (pairs-push old first us u)) (valid-push (chain_pairs (step_of old) first us) record { value = value_after old.nfa old.kind first us; unit = u } s.valid (subst IsValue s.end valid));
+      read = λ rest.
+          ap (λ all. units_read (step_of old) first all) (append_assoc us (u ∷ []) rest)
+          ∙ s.read (u ∷ rest)
+          ∙ ap (λ b. us ++ cond b (u ∷ units_read (step_of old) (step_of old (value_after old.nfa old.kind first us) u) rest) []) (sym (ap (λ (v : Value). is_nonempty v.states) s.end) ∙ not_false (is_nonempty (current new own place).states) more)
+          ∙ ap (λ v. us ++ u ∷ units_read (step_of old) v rest) (sym (value_after-push old.nfa old.kind first us u))
+          ∙ sym (append_assoc us (u ∷ []) (units_read (step_of old) (value_after old.nfa old.kind first (us ++ u ∷ [])) rest));
     }
-
-module _ (old : Cache) (first : Value) (text : List ℕ) (i d : ℕ) (hand hand' : Value) (place place' : Option ℕ) (last last' : Option HalfMatch) (new newer : Cache) (few : old.computed ≤ 18446744073709551615)
-    (s : IsSearched old first (map Some (take i text)) hand place last new) where
-  -- one more byte
-  pub searched_byte : i < length text
-      → value_at newer hand' place' ≡ step_of new (value_at new hand place) (Some (get_or text i d))
-      → IsStanding newer hand' place'
-      → newer ≡ after_turn new (value_at new hand place) (Some (get_or text i d))
-      → last' ≡ option_or (ended_at i (value_at newer hand' place').patterns) last
-      → IsSearched old first (map Some (take (i + 1) text)) hand' place' last' newer
-  searched_byte within value standing newer_is last_is =
-      let read : length (map Some (take i text)) ≡ i = length-map (take i text) Some ∙ length-take-le i text (let k : i ≤ length text = omega arith in k) in
-      subst (λ us. IsSearched old first us hand' place' last' newer) (sym (ap (λ bs. map Some bs) (take_more text i d within) ∙ map-append Some (take i text) (get_or text i d ∷ [])))
-      (searched-push old first (map Some (take i text)) (Some (get_or text i d)) hand hand' place place' last last' new newer few s value standing newer_is
-      (last_is ∙ ap (λ k. option_or (ended_at k (value_at newer hand' place').patterns) last) (sym read)))
-
-  -- the unit behind the last byte
-  pub searched_end : (ahead : Option ℕ) → length text ≤ i
-      → value_at newer hand' place' ≡ step_of new (value_at new hand place) ahead
-      → IsStanding newer hand' place'
-      → newer ≡ after_turn new (value_at new hand place) ahead
-      → last' ≡ option_or (ended_at (length text) (value_at newer hand' place').patterns) last
-      → IsSearched old first (units (between None text ahead)) hand' place' last' newer
-  searched_end ahead past value standing newer_is last_is =
-      let whole : take i text ≡ text = take_all i text past in
-      let read : length (map Some (take i text)) ≡ length text = length-map (take i text) Some ∙ ap length whole in
-      subst (λ us. IsSearched old first us hand' place' last' newer) (ap (λ bs. map Some bs ++ ahead ∷ []) whole ∙ sym (units_are None ahead text))
-      (searched-push old first (map Some (take i text)) ahead hand hand' place place' last last' new newer few s value standing newer_is
-      (last_is ∙ ap (λ k. option_or (ended_at k (value_at newer hand' place').patterns) last) (sym read)))
-
--- the value where a search stands has states of the NFA, where the first has
-pub searched_resolves : (old : Cache) (first : Value) (us : List (Option ℕ)) (hand : Value) (place : Option ℕ) (last : Option HalfMatch) (new : Cache) → IsAccepted old.nfa → AllResolve old.nfa first.states
-    → IsSearched old first us hand place last new → AllResolve new.nfa (value_at new hand place).states
-searched_resolves old first us hand place last new accepted h s =
-    subst (λ (n : Nfa). AllResolve n (value_at new hand place).states) (sym (ap (λ (c : Cache). c.nfa) s.after))
-    (subst (λ (v : Value). AllResolve old.nfa v.states) (sym s.end) (after_resolves old.nfa old.kind accepted first us h))
-
--- no step is uncounted
-pub searched_computed : (old : Cache) (first : Value) (us : List (Option ℕ)) (hand : Value) (place : Option ℕ) (last : Option HalfMatch) (new : Cache) → old.computed ≤ 18446744073709551615
-    → IsSearched old first us hand place last new → old.computed ≤ new.computed
-searched_computed old first us hand place last new few s =
-    subst (λ n. old.computed ≤ n) (sym (ap (λ (c : Cache). c.computed) s.after)) (at_most old.computed (missed (step_of old) old.limit old.pairs first us) 18446744073709551615 few)
-  where
-    at_most : (a b m : ℕ) → a ≤ m → a ≤ min (a + b) m
-    at_most a b m h = grind arith
-
--- what a step from a place finds where the transition is kept
-pub turn_known : (c : Cache) (v : Value) (u : Option ℕ) → is_kept c.pairs v u ≡ true → c ≡ after_turn c v u
-turn_known c v u k = ap (λ b. record c { pairs = cond b c.pairs (keep (step_of c) c.limit c.pairs record { value = v; unit = u }); computed = cond b c.computed (count_after c.computed 1) }) (sym k)
 
 -- the units of a text, some bytes of it apart
 units_split : (text : List ℕ) (ahead : Option ℕ) (i : ℕ) → units (between None text ahead) ≡ map Some (take i text) ++ (map Some (drop i text) ++ ahead ∷ [])
@@ -200,16 +121,111 @@ units_split text ahead i =
     ∙ ap (λ us. us ++ ahead ∷ []) (map-append Some (take i text) (drop i text))
     ∙ append_assoc (map Some (take i text)) (map Some (drop i text)) (ahead ∷ [])
 
-module _ (old : Cache) (first : Value) (text : List ℕ) (ahead : Option ℕ) (i : ℕ) (hand : Value) (place : Option ℕ) (last : Option HalfMatch) (new : Cache)
-    (s : IsSearched old first (map Some (take i text)) hand place last new) where
-  -- what was told so far is the answer where no NFA state is left
-  pub told_over : (value_at new hand place).states ≡ [] → last ≡ last_match (future old.nfa old.kind first (units (between None text ahead)))
-  told_over none =
-      s.told ∙ last_match-over old.nfa old.kind first (map Some (take i text)) (map Some (drop i text) ++ ahead ∷ []) (ap (λ (v : Value). v.states) (sym s.end) ∙ none)
-      ∙ ap (λ us. last_match (future old.nfa old.kind first us)) (sym (units_split text ahead i))
+module _ (old : Cache) (first : Value) (text : List ℕ) (ahead : Option ℕ) (own : Value) (place : Option ℕ) (last : Option HalfMatch) (new : Cache) where
+  -- where no NFA state is left, what was told so far is the answer
+  pub stopped : (i : ℕ) → IsSearched old first (map Some (take i text)) own place last new → not (is_nonempty (current new own place).states) ≡ true
+      → IsOver old first (units (between None text ahead)) last new
+  stopped i s none =
+      let rest : List (Option ℕ) = map Some (drop i text) ++ ahead ∷ [] in
+      let over : is_nonempty (value_after old.nfa old.kind first (map Some (take i text))).states ≡ false = sym (ap (λ (v : Value). is_nonempty v.states) s.end) ∙ not_true (is_nonempty (current new own place).states) none in
+      let read : units_read (step_of old) first (units (between None text ahead)) ≡ map Some (take i text) =
+      ap (λ us. units_read (step_of old) first us) (units_split text ahead i) ∙ s.read rest
+      ∙ ap (λ us. map Some (take i text) ++ us) (read_none (step_of old) (value_after old.nfa old.kind first (map Some (take i text))) rest over) ∙ append-nil (map Some (take i text)) in
+      record {
+        found = s.told ∙ last_match-over old.nfa old.kind first (map Some (take i text)) rest (empty_is _ over) ∙ ap (λ us. last_match (future old.nfa old.kind first us)) (sym (units_split text ahead i));
+        after = s.after ∙ ap (λ us. after_walk old first us) (sym read);
+        valid = subst (λ us. HaveValidValues (chain_pairs (step_of old) first us)) (sym read) s.valid;
+      }
 
-  -- and the cache has kept a beginning of the walk
-  pub part_after : i ≤ length text → new ≡ after_walk old first (take i (units (between None text ahead)))
-  part_after within =
-      let read : length (map Some (take i text)) ≡ i = length-map (take i text) Some ∙ length-take-le i text within in
-      s.after ∙ ap (λ us. after_walk old first us) (sym (ap (λ us. take i us) (units_split text ahead i) ∙ take_at (map Some (take i text)) (map Some (drop i text) ++ ahead ∷ []) i read))
+  -- at the end of the text too
+  pub finished : IsSearched old first (units (between None text ahead)) own place last new → IsOver old first (units (between None text ahead)) last new
+  finished s =
+      let us : List (Option ℕ) = units (between None text ahead) in
+      let read : units_read (step_of old) first us ≡ us = ap (λ all. units_read (step_of old) first all) (sym (append-nil us)) ∙ s.read [] ∙ append-nil us in
+      record {
+        found = s.told;
+        after = s.after ∙ ap (λ all. after_walk old first all) (sym read);
+        valid = subst (λ all. HaveValidValues (chain_pairs (step_of old) first all)) (sym read) s.valid;
+      }
+
+module _ (old : Cache) (first : Value) (text : List ℕ) (count i : ℕ) (whole : length text ≡ count) (own own' : Value) (place place' : Option ℕ) (last last' : Option HalfMatch) (new newer : Cache) (few : old.computed ≤ 18446744073709551615)
+    (s : IsSearched old first (map Some (take i text)) own place last new) (valid : IsValue (current new own place)) (more : not (is_nonempty (current new own place).states) ≡ false) where
+  -- one more byte
+  pub searched_byte : (byte d : ℕ) → byte ≡ get_or text i d → i < count
+      → current newer own' place' ≡ step_of new (current new own place) (Some byte)
+      → IsStanding newer own' place'
+      → newer ≡ after_turn new (current new own place) (Some byte)
+      → last' ≡ option_or (ended_at i (current newer own' place').patterns) last
+      → IsSearched old first (map Some (take (i + 1) text)) own' place' last' newer
+  searched_byte byte d byte_is within value standing newer_is last_is =
+      let inside : i < length text = omega (arith, within, whole) in
+      let read : length (map Some (take i text)) ≡ i = length-map (take i text) Some ∙ length-take-le i text (let k : i ≤ length text = omega (arith, inside) in k) in
+      subst (λ us. IsSearched old first us own' place' last' newer) (ap (λ b. map Some (take i text) ++ Some b ∷ []) byte_is ∙ sym (ap (λ bs. map Some bs) (take_more text i d inside) ∙ map-append Some (take i text) (get_or text i d ∷ [])))
+      (searched-push old first (map Some (take i text)) (Some byte) own own' place place' last last' new newer few s valid more value standing newer_is
+      (last_is ∙ ap (λ k. option_or (ended_at k (current newer own' place').patterns) last) (sym read)))
+
+  -- the unit behind the last byte
+  pub searched_end : (ahead : Option ℕ) → count ≤ i
+      → current newer own' place' ≡ step_of new (current new own place) ahead
+      → IsStanding newer own' place'
+      → newer ≡ after_turn new (current new own place) ahead
+      → last' ≡ option_or (ended_at count (current newer own' place').patterns) last
+      → IsOver old first (units (between None text ahead)) last' newer
+  searched_end ahead past value standing newer_is last_is =
+      let all : take i text ≡ text = take_all i text (let k : length text ≤ i = omega (arith, past, whole) in k) in
+      let read : length (map Some (take i text)) ≡ count = length-map (take i text) Some ∙ ap length all ∙ whole in
+      finished old first text ahead own' place' last' newer
+      (subst (λ us. IsSearched old first us own' place' last' newer) (ap (λ bs. map Some bs ++ ahead ∷ []) all ∙ sym (units_are None ahead text))
+      (searched-push old first (map Some (take i text)) ahead own own' place place' last last' new newer few s valid more value standing newer_is
+      (last_is ∙ ap (λ k. option_or (ended_at k (current newer own' place').patterns) last) (sym read))))
+
+-- the value where a search stands has states of the NFA, where the first has
+pub searched_resolves : (old : Cache) (first : Value) (us : List (Option ℕ)) (own : Value) (place : Option ℕ) (last : Option HalfMatch) (new : Cache) → IsAccepted old.nfa → AllResolve old.nfa first.states
+    → IsSearched old first us own place last new → AllResolve new.nfa (current new own place).states
+searched_resolves old first us own place last new accepted h s =
+    subst (λ (n : Nfa). AllResolve n (current new own place).states) (sym (ap (λ (c : Cache). c.nfa) s.after))
+    (subst (λ (v : Value). AllResolve old.nfa v.states) (sym s.end) (after_resolves old.nfa old.kind accepted first us h))
+
+-- the answer lies within what was read
+pub over-within : (old : Cache) (first : Value) (behind ahead : Option ℕ) (text : List ℕ) (last : Option HalfMatch) (new : Cache) → IsOver old first (units (between behind text ahead)) last new → IfSome last (λ m. m.offset ≤ length text)
+over-within old first behind ahead text last new o =
+    let count : length (units (between behind text ahead)) ≡ length text + 1 = length-map-range_with_len (after_at (between behind text ahead)) 0 (suc (length text)) ∙ (let e : suc (length text) ≡ length text + 1 = omega arith in e) in
+    subst (λ m. IfSome m (λ m. m.offset ≤ length text)) (sym o.found) (below (last_match (future old.nfa old.kind first (units (between behind text ahead)))) (last_match-within old.nfa old.kind first (units (between behind text ahead))) count)
+  where
+    below : (m : Option HalfMatch) → IfSome m (λ m. m.offset < length (units (between behind text ahead))) → length (units (between behind text ahead)) ≡ length text + 1 → IfSome m (λ m. m.offset ≤ length text)
+    below None h count = tt
+    below (Some m) h count = omega (arith, h, count)
+
+-- no step is uncounted
+pub searched_computed : (old : Cache) (first : Value) (us : List (Option ℕ)) (own : Value) (place : Option ℕ) (last : Option HalfMatch) (new : Cache) → old.computed ≤ 18446744073709551615
+    → IsSearched old first us own place last new → old.computed ≤ new.computed
+searched_computed old first us own place last new few s =
+    subst (λ n. old.computed ≤ n) (sym (ap (λ (c : Cache). c.computed) s.after)) (at_most old.computed (missed (step_of old) old.limit old.pairs first us) 18446744073709551615 few)
+  where
+    at_most : (a b m : ℕ) → a ≤ m → a ≤ min (a + b) m
+    at_most a b m h = grind arith
+
+-- nor by a later step
+pub searched_later : (old : Cache) (first : Value) (us : List (Option ℕ)) (own : Value) (place : Option ℕ) (last : Option HalfMatch) (new newer : Cache) → old.computed ≤ 18446744073709551615
+    → IsSearched old first us own place last new → new.computed ≤ newer.computed → old.computed ≤ newer.computed
+searched_later old first us own place last new newer few s later =
+    let so_far : old.computed ≤ new.computed = searched_computed old first us own place last new few s in
+    omega (arith, so_far, later)
+
+-- what a step from a place finds where the transition is kept
+pub turn_known : (c : Cache) (v : Value) (u : Option ℕ) → is_kept c.pairs v u ≡ true → c ≡ after_turn c v u
+turn_known c v u k = ap (λ b. record c { pairs = cond b c.pairs (keep (step_of c) c.limit c.pairs record { value = v; unit = u }); computed = cond b c.computed (count_after c.computed 1) }) (sym k)
+
+-- the bytes in either order are as many
+pub length-in_order : (backward : Bool) (bytes : List ℕ) → length (in_order backward bytes) ≡ length bytes
+length-in_order false bytes = refl
+length-in_order true bytes = length-reverse bytes
+
+-- a search from a start that was made
+pub over-from : (old now : Cache) (first v : Value) (us : List (Option ℕ)) (last : Option HalfMatch) (new : Cache) → first ≡ v → now ≡ old → IsOver now first us last new → IsOver old v us last new
+over-from old now first v us last new first_is now_is o = subst (λ x. IsOver old x us last new) first_is (subst (λ x. IsOver x first us last new) now_is o)
+
+-- with room for all that was read, a search keeps all its pairs
+pub over-keeps : (old : Cache) (v : Value) (us : List (Option ℕ)) (last : Option HalfMatch) (new : Cache) → old.computed ≤ 18446744073709551615 → HaveValidValues old.pairs → IsOver old v us last new
+    → HasRoom old v (units_read (step_of old) v us) → KeepsAll old v (units_read (step_of old) v us) new
+over-keeps old v us last new few valid o room = subst (λ c. KeepsAll old v (units_read (step_of old) v us) c) (sym o.after) (keeps_all old v (units_read (step_of old) v us) few valid o.valid room)

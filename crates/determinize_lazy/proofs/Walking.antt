@@ -3,8 +3,9 @@ use Rattle.std.proofs.Common.{◌≡◌, ℕ, ◌+◌, ◌<◌, ◌≤◌, Bool,
 use Rattle.std.specs.Prelude.{get_or, min, slice_get}
 use Rattle.std.proofs.lemmas.List.{map-append, take_all, take_more}
 use Rattle.determinize_lazy.specs.Pairs.{is_kept, Pair}
-use Rattle.determinize_lazy.specs.Places.{AreValid, IsPlace}
-use Rattle.determinize_lazy.specs.Kept.{after_pair, after_turn, after_walk, Cache, held_values, kept, missed, step_of}
+use Rattle.determinize_lazy.specs.Private.Places.{AreValid, IsPlace}
+use Rattle.determinize_lazy.specs.Kept.{after_pair, after_walk, Cache, held_values, kept, missed, step_of}
+use Rattle.determinize_lazy.specs.Private.Turns.{after_turn}
 use Rattle.determinize_core.specs.Value.{IsValue, Value}
 use Rattle.determinize_core.specs.Chain.{future, units}
 use Rattle.determinize_core.specs.Step.{step}

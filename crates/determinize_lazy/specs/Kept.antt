@@ -1,5 +1,5 @@
 -- A bounded cache of transitions, and the rule of what it keeps.
-use Rattle.std.specs.Prelude.{◌≡◌, ℕ, ◌+◌, Bool, true, false, cond, Option, List, [], ◌∷◌, ◌++◌, min, length, nat_le, slice_get, MatchOption, Some}
+use Rattle.std.specs.Prelude.{ℕ, ◌+◌, Bool, cond, Option, List, [], ◌∷◌, ◌++◌, min, length, nat_le}
 use Rattle.determinize_below.specs.Nfa.{Nfa}
 use Rattle.determinize_below.specs.Positions.{Text}
 use Rattle.determinize_below.specs.declared.search.MatchKind.{MatchKind}
@@ -51,13 +51,6 @@ module _ (f : Value → Option ℕ → Value) (limit : ℕ) where
 abbrev pub count_after : ℕ → ℕ → ℕ
 count_after computed more = min (computed + more) 18446744073709551615
 
--- the cache after one step of a walk
-abbrev pub after_turn : Cache → Value → Option ℕ → Cache
-after_turn c v u = record c {
-  pairs = after_pair (step_of c) c.limit c.pairs record { value = v; unit = u };
-  computed = cond (is_kept c.pairs v u) c.computed (count_after c.computed 1);
-}
-
 -- the cache after a walk from a value over units
 abbrev pub after_walk : Cache → Value → List (Option ℕ) → Cache
 after_walk c v us = record c {
@@ -68,8 +61,3 @@ after_walk c v us = record c {
 -- the cache after the walk from an NFA state over a text
 unfoldable pub after_text : Cache → ℕ → Text → Cache
 after_text c start text = after_walk c (start_value c.nfa start text.behind) (units text)
-
--- the place of the value that follows, where the transition is kept, else none
-abbrev pub IsKnown : Cache → Value → Option ℕ → Option ℕ → Type 0
-IsKnown c v u place = MatchOption place (is_kept c.pairs v u ≡ false)
-    (λ p. (is_kept c.pairs v u ≡ true) × (slice_get (held_values c) p ≡ Some (step_of c v u)))

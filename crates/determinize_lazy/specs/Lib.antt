@@ -1,8 +1,7 @@
-pub mod Found
 pub mod Kept
-pub mod Order
 pub mod Pairs
 pub mod Places
 pub mod Plenty
-pub mod Rows
+pub mod Private
+pub mod Searches
 pub mod WorkedRows

@@ -1,11 +1,11 @@
 -- Kept transitions as pairs of a value and a unit, and the values that they hold.
-use Rattle.std.specs.Prelude.{ℕ, Bool, cond, ◌&&◌, ◌==◌, Option, List, [], ◌∷◌, ◌++◌, ⊤, nat_eq}
+use Rattle.std.specs.Prelude.{ℕ, Bool, cond, ◌&&◌, ◌==◌, Option, List, [], ◌∷◌, ◌++◌, nat_eq}
 use Rattle.std.specs.Cmp.Lexicographic.{pointwise}
 use Rattle.std.specs.List.{list_any}
 use Rattle.std.specs.Option.{option_eq}
 use Rattle.std.specs.Ordering.{on}
 use Rattle.determinize_core.specs.Spelling.{spell}
-use Rattle.determinize_core.specs.Value.{IsValue, Value}
+use Rattle.determinize_core.specs.Value.{Value}
 
 -- a value and the unit that is read in it: a byte, or none at the end of the input
 pub record Pair : Type 0 where
@@ -32,11 +32,6 @@ with_pair pairs pair = cond (is_kept pairs pair.value pair.unit) pairs (pairs ++
 abbrev pub with_pairs : List Pair → List Pair → List Pair
 with_pairs pairs [] = pairs
 with_pairs pairs (pair ∷ more) = with_pairs (with_pair pairs pair) more
-
--- the value of each pair is one that a state can have
-abbrev pub HaveValidValues : List Pair → Type 0
-HaveValidValues [] = ⊤
-HaveValidValues (pair ∷ pairs) = IsValue pair.value × HaveValidValues pairs
 
 -- the values with one more at the end, unless it is there
 abbrev pub with_value : List Value → Value → List Value

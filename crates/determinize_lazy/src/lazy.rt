@@ -1,24 +1,25 @@
 //! A bounded cache of transitions, and walks over it.
 
-ghost use Rattle.std.specs.Prelude.{All, ◌≡◌, ◌<◌, ◌≤◌, ◌++◌, ◌∷◌, [], true, false, cond, length, nat_le, slice_get, IfOk, OnErr, OnOk, Some, None, ℕ, ◌↔◌, take, IsTrue};
+ghost use Rattle.std.specs.Prelude.{All, ◌≡◌, ◌<◌, ◌≤◌, ◌++◌, ◌∷◌, [], true, false, cond, length, nat_le, slice_get, IfOk, OnErr, OnOk, Some, None};
 ghost use Rattle.determinize_below.specs.Nfa.{AllResolve, IsAccepted};
-ghost use Rattle.std.specs.Option.{option_or};
 ghost use Rattle.determinize_below.specs.Positions.{between};
 ghost use Rattle.determinize_below.specs.declared.search.MatchKind.TheVariants as kinds;
 ghost use Rattle.determinize_core.specs.Chain.{FollowsItself, chain, future, units};
 ghost use Rattle.determinize_core.specs.Step.{start_value};
 ghost use Rattle.determinize_core.specs.Value.{IsValue, Value as StateValue};
-ghost use Rattle.determinize_core.specs.Walk.{IsLeftmostWalk, IsWalkOfAll, ended_at, last_match};
+ghost use Rattle.determinize_core.specs.Walk.{IsLeftmostWalk, IsWalkOfAll};
 ghost use Rattle.determinize_core.specs.WalkStates.{RecordsReached};
-ghost use Rattle.determinize_lazy.specs.Found.{IsAfterPart, IsStanding, value_at};
-ghost use Rattle.determinize_lazy.specs.Kept.{Cache, IsKnown, after_text, after_turn, after_walk, count_after, held_values, keep, step_of};
-ghost use Rattle.determinize_lazy.specs.Pairs.{HaveValidValues, is_kept, with_value};
-ghost use Rattle.determinize_lazy.specs.Places.{AreValid, EachApart, IsPlace};
+ghost use Rattle.determinize_lazy.specs.Kept.{Cache, after_text, after_walk, count_after, held_values, keep, step_of};
+ghost use Rattle.determinize_lazy.specs.Private.Turns.{IsKnown, after_turn};
+ghost use Rattle.determinize_lazy.specs.Pairs.{is_kept, with_value};
+ghost use Rattle.determinize_lazy.specs.Private.Places.{HaveValidValues};
+ghost use Rattle.determinize_lazy.specs.Places.{EachApart};
+ghost use Rattle.determinize_lazy.specs.Private.Places.{AreValid, IsPlace};
 ghost use Rattle.determinize_lazy.specs.Plenty.{HasRoom, KeepsAll};
 
 use crate::scratch::Scratch;
 use crate::table::{Table, UNITS, column};
-use determinize_below::{HalfMatch, MatchKind, NFA, StateID};
+use determinize_below::{MatchKind, NFA, StateID};
 use determinize_core::state::{State, StateBuilderNFA};
 use std::alloc::{AllocError, Allocator, Global};
 use std::marker::Model;
@@ -35,17 +36,17 @@ use std::marker::Model;
 #[derive(Drop)]
 pub struct Lazy<'n, N: Allocator = Global, A: Allocator = Global> {
     alloc: A,
-    nfa: &'n NFA<N>,
+    pub(crate) nfa: &'n NFA<N>,
     match_kind: MatchKind,
-    limit: usize,
+    pub(crate) limit: usize,
     computed: u64,
     scratch: Option<Scratch<A>>,
-    table: Table<A>,
+    pub(crate) table: Table<A>,
 }
 
 impl<'n, N: Allocator, A: Allocator> Model for Lazy<'n, N, A> {
     ghost use Rattle.determinize_lazy.specs.Kept.{Cache};
-    ghost use Rattle.determinize_lazy.specs.Order.{IsLazy, pairs_of};
+    ghost use Rattle.determinize_lazy.specs.Private.Order.{IsLazy, pairs_of};
 
     ghost Value = { Cache };
 
@@ -62,9 +63,9 @@ impl<'n, N: Allocator, A: Allocator> Model for Lazy<'n, N, A> {
 
 /// A state of a walk, and its place where it is held.
 #[derive(Drop)]
-struct Reached<A: Allocator> {
-    state: State<A>,
-    place: Option<u32>,
+pub(crate) struct Reached<A: Allocator> {
+    pub(crate) state: State<A>,
+    pub(crate) place: Option<u32>,
 }
 
 /// One where the test holds, else none.
@@ -225,7 +226,7 @@ impl<'n, N: Allocator, A: Allocator + Copy> Lazy<'n, N, A> {
 
     /// The place of the state that follows the one at a place, where that transition is kept.
     #[inline(always)]
-    fn entry(&self, place: u32, unit: Option<u8>) -> Option<u32>
+    pub(crate) fn entry(&self, place: u32, unit: Option<u8>) -> Option<u32>
         requires { place < length (held_values self.now) }
         ensures { (v : StateValue) → slice_get (held_values self.now) place ≡ Some v
             → IsKnown self.now v unit result }
@@ -265,7 +266,7 @@ impl<'n, N: Allocator, A: Allocator + Copy> Lazy<'n, N, A> {
     }
 
     /// The state before the first unit. The only error is want of memory.
-    fn start_state(
+    pub(crate) fn start_state(
         &mut self,
         start: StateID,
         look_behind: Option<u8>,
@@ -274,6 +275,8 @@ impl<'n, N: Allocator, A: Allocator + Copy> Lazy<'n, N, A> {
         ensures value { IfOk result
             (λ state. state ≡ start_value self.old.nfa start look_behind) }
         ensures resolve { IfOk result (λ state. AllResolve self.old.nfa state.states) }
+        ensures accepted { OnOk result (IsAccepted self.old.nfa) }
+        ensures small { OnOk result (self.old.computed ≤ 18446744073709551615) }
         ensures unchanged { self.new ≡ self.old }
     {
         let mut scratch = self.take_scratch()?;
@@ -359,7 +362,7 @@ impl<'n, N: Allocator, A: Allocator + Copy> Lazy<'n, N, A> {
     ///
     /// The only error is want of memory.
     #[inline(always)]
-    fn turn(
+    pub(crate) fn turn(
         &mut self,
         state: &State<A>,
         place: Option<u32>,
@@ -391,7 +394,7 @@ impl<'n, N: Allocator, A: Allocator + Copy> Lazy<'n, N, A> {
     }
 
     /// The place of a state, or none where it isn't held.
-    fn place_of(&self, state: &State<A>) -> Option<u32>
+    pub(crate) fn place_of(&self, state: &State<A>) -> Option<u32>
         ensures place { IsPlace (held_values self.now) state.now result }
         ensures valid { IsValue state.now }
         ensures pairs { HaveValidValues self.now.pairs }
@@ -467,8 +470,9 @@ impl<'n, N: Allocator, A: Allocator + Copy> Lazy<'n, N, A> {
             (λ states. All (λ state. AllResolve self.old.nfa state.states) states.items) }
         ensures after { OnOk result
             (self.new ≡ after_text self.old start (between look_behind text.now None)) }
-        ensures plenty { HasRoom self.old start (between look_behind text.now None) → OnOk result
-            (KeepsAll self.old start (between look_behind text.now None) self.new) }
+        ensures plenty { let first = start_value self.old.nfa start look_behind
+            in let read = units (between look_behind text.now None)
+            in HasRoom self.old first read → OnOk result (KeepsAll self.old first read self.new) }
         ensures nfa { self.new.nfa ≡ self.old.nfa }
         ensures kind { self.new.kind ≡ self.old.kind }
         ensures limit { self.new.limit ≡ self.old.limit }
@@ -505,201 +509,15 @@ impl<'n, N: Allocator, A: Allocator + Copy> Lazy<'n, N, A> {
             (λ states. All (λ state. AllResolve self.old.nfa state.states) states.items) }
         ensures after { OnOk result
             (self.new ≡ after_text self.old start (between look_behind text.now look_ahead)) }
-        ensures plenty { HasRoom self.old start (between look_behind text.now look_ahead) → OnOk result
-            (KeepsAll self.old start (between look_behind text.now look_ahead) self.new) }
+        ensures plenty { let first = start_value self.old.nfa start look_behind
+            in let read = units (between look_behind text.now look_ahead)
+            in HasRoom self.old first read → OnOk result (KeepsAll self.old first read self.new) }
         ensures nfa { self.new.nfa ≡ self.old.nfa }
         ensures kind { self.new.kind ≡ self.old.kind }
         ensures limit { self.new.limit ≡ self.old.limit }
         ensures computed { self.old.computed ≤ self.new.computed }
     {
-        // Called for the proof alone: it tells that the NFA has passed every check.
-        let _ = self.nfa();
         let first = self.start_state(start, look_behind)?;
         self.walk_from(first, text, look_ahead)
-    }
-
-    /// One step from a state that is at hand: the state that follows is at hand then, and its place
-    /// is answered where it is held. The only error is want of memory.
-    fn turn_at_hand(
-        &mut self,
-        hand: &mut State<A>,
-        place: Option<u32>,
-        unit: Option<u8>,
-    ) -> Result<Option<u32>, AllocError>
-        requires resolve { AllResolve self.old.nfa hand.old.states }
-        requires place { IsPlace (held_values self.old) hand.old place }
-        ensures value { IfOk result
-            (λ place. value_at self.new hand.new place ≡ step_of self.old hand.old unit) }
-        ensures standing { IfOk result (λ place. IsStanding self.new hand.new place) }
-        ensures after { OnOk result (self.new ≡ after_turn self.old hand.old unit) }
-        ensures nfa { self.new.nfa ≡ self.old.nfa }
-        ensures kind { self.new.kind ≡ self.old.kind }
-        ensures limit { self.new.limit ≡ self.old.limit }
-        ensures computed { self.old.computed ≤ self.new.computed }
-    {
-        let Reached { state, place } = self.turn(hand, place, unit)?;
-        *hand = state;
-        Ok(place)
-    }
-
-    /// One step from a place. Over a kept transition it reads one entry, and nothing is at hand
-    /// then; else the state of the place is copied and the step computed.
-    ///
-    /// The only error is want of memory.
-    fn advance_held(
-        &mut self,
-        hand: &mut State<A>,
-        source: u32,
-        unit: Option<u8>,
-    ) -> Result<Option<u32>, AllocError>
-        requires resolve { AllResolve self.old.nfa
-            (value_at self.old hand.old (Some source)).states }
-        requires standing { IsStanding self.old hand.old (Some source) }
-        ensures value { IfOk result (λ next. value_at self.new hand.new next
-            ≡ step_of self.old (value_at self.old hand.old (Some source)) unit) }
-        ensures standing { IfOk result (λ next. IsStanding self.new hand.new next) }
-        ensures after { OnOk result
-            (self.new ≡ after_turn self.old (value_at self.old hand.old (Some source)) unit) }
-        ensures nfa { self.new.nfa ≡ self.old.nfa }
-        ensures kind { self.new.kind ≡ self.old.kind }
-        ensures limit { self.new.limit ≡ self.old.limit }
-        ensures computed { self.old.computed ≤ self.new.computed }
-    {
-        if let Some(entry) = self.entry(source, unit) {
-            return Ok(Some(entry));
-        }
-        *hand = self.table.places.at(source).clone()?;
-        self.turn_at_hand(hand, Some(source), unit)
-    }
-
-    /// One step of a search: from a place, or without one from the state at hand.
-    ///
-    /// The only error is want of memory.
-    fn advance(
-        &mut self,
-        hand: &mut State<A>,
-        place: Option<u32>,
-        unit: Option<u8>,
-    ) -> Result<Option<u32>, AllocError>
-        requires resolve { AllResolve self.old.nfa (value_at self.old hand.old place).states }
-        requires standing { IsStanding self.old hand.old place }
-        ensures value { IfOk result (λ next. value_at self.new hand.new next
-            ≡ step_of self.old (value_at self.old hand.old place) unit) }
-        ensures standing { IfOk result (λ next. IsStanding self.new hand.new next) }
-        ensures after { OnOk result
-            (self.new ≡ after_turn self.old (value_at self.old hand.old place) unit) }
-        ensures nfa { self.new.nfa ≡ self.old.nfa }
-        ensures kind { self.new.kind ≡ self.old.kind }
-        ensures limit { self.new.limit ≡ self.old.limit }
-        ensures computed { self.old.computed ≤ self.new.computed }
-    {
-        match place {
-            Some(source) => self.advance_held(hand, source, unit),
-            None => self.turn_at_hand(hand, None, unit),
-        }
-    }
-
-    /// The state where a search stands.
-    fn current<'s>(&'s self, hand: &'s State<A>, place: Option<u32>) -> &'s State<A>
-        requires { IsStanding self.now hand.now place }
-        ensures { result.now ≡ value_at self.now hand.now place }
-    {
-        match place {
-            Some(place) => self.table.places.at(place),
-            None => hand,
-        }
-    }
-
-    /// The last match by now: the first pattern of the state where a search stands, or the one
-    /// that was last before.
-    fn told(
-        &self,
-        hand: &State<A>,
-        place: Option<u32>,
-        offset: usize,
-        last: Option<HalfMatch>,
-    ) -> Option<HalfMatch>
-        requires { IsStanding self.now hand.now place }
-        ensures { result
-            ≡ option_or (ended_at offset (value_at self.now hand.now place).patterns) last }
-    {
-        let state = self.current(hand, place);
-        if state.is_match() {
-            let pattern = state.match_pattern(0);
-            Some(HalfMatch { pattern, offset })
-        } else {
-            last
-        }
-    }
-
-    /// Whether the state where a search stands records no NFA states, so that nothing follows.
-    fn is_over(&self, hand: &State<A>, place: Option<u32>) -> bool
-        requires { IsStanding self.now hand.now place }
-        ensures { IsTrue result ↔ ((value_at self.now hand.now place).states ≡ []) }
-    {
-        self.current(hand, place)
-            .iter_nfa_state_ids()
-            .next()
-            .is_none()
-    }
-
-    /// Searches from a state: the last match of the walk from it. The only error is want of memory.
-    fn search_from(
-        &mut self,
-        first: State<A>,
-        text: &[u8],
-        look_ahead: Option<u8>,
-    ) -> Result<Option<HalfMatch>, AllocError>
-        requires { AllResolve self.old.nfa first.states }
-        ensures last { IfOk result (λ found. found ≡ last_match
-            (future self.old.nfa self.old.kind first (units (between None text.now look_ahead)))) }
-        ensures after { OnOk result ((n : ℕ) × (self.new
-            ≡ after_walk self.old first (take n (units (between None text.now look_ahead))))) }
-        ensures nfa { self.new.nfa ≡ self.old.nfa }
-        ensures kind { self.new.kind ≡ self.old.kind }
-        ensures limit { self.new.limit ≡ self.old.limit }
-        ensures computed { self.old.computed ≤ self.new.computed }
-    {
-        // For the proof alone: a field tells what is true of every cache.
-        let _ = &self.limit;
-        let mut place = self.place_of(&first);
-        let mut hand = first;
-        let mut last = None;
-        for (offset, byte) in text.iter().enumerate() {
-            place = self.advance(&mut hand, place, Some(*byte))?;
-            last = self.told(&hand, place, offset, last);
-            if self.is_over(&hand, place) {
-                return Ok(last);
-            }
-        }
-        place = self.advance(&mut hand, place, look_ahead)?;
-        Ok(self.told(&hand, place, text.len(), last))
-    }
-
-    /// Searches a text: the last match that `walk_between` over the same tells, without a list of
-    /// its states, or none. It may stop before the end of the text, where nothing can follow.
-    ///
-    /// Where the leftmost match is wanted, this is the pattern and the end of the most preferred
-    /// match. The only error is want of memory. The cache holds right transitions then, and is as
-    /// good for later walks.
-    pub fn search(
-        &mut self,
-        start: StateID,
-        look_behind: Option<u8>,
-        text: &[u8],
-        look_ahead: Option<u8>,
-    ) -> Result<Option<HalfMatch>, AllocError>
-        requires { start < length self.old.nfa.states }
-        ensures last { IfOk result (λ found. found ≡ last_match
-            (chain self.old.nfa self.old.kind start (between look_behind text.now look_ahead))) }
-        ensures after { OnOk result
-            (IsAfterPart self.old start (between look_behind text.now look_ahead) self.new) }
-        ensures nfa { self.new.nfa ≡ self.old.nfa }
-        ensures kind { self.new.kind ≡ self.old.kind }
-        ensures limit { self.new.limit ≡ self.old.limit }
-        ensures computed { self.old.computed ≤ self.new.computed }
-    {
-        let first = self.start_state(start, look_behind)?;
-        self.search_from(first, text, look_ahead)
     }
 }

@@ -7,6 +7,7 @@ pub mod laws;
 pub mod lazy;
 mod places;
 mod scratch;
+mod searches;
 mod table;
 
 pub use crate::lazy::Lazy;

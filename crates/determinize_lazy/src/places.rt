@@ -2,9 +2,11 @@
 
 ghost use Rattle.std.specs.Prelude.{◌≡◌, ◌++◌, ◌∷◌, ◌<◌, ◌≤◌, [], Some, ◌||◌, not, false, length, slice_get, IfOk, OnErr, OnOk};
 ghost use Rattle.std.specs.List.{list_any};
-ghost use Rattle.determinize_core.specs.Value.{IsValue};
+ghost use Rattle.determinize_core.specs.Value.{IsValue, Value as StateValue};
 ghost use Rattle.determinize_lazy.specs.Pairs.{same};
-ghost use Rattle.determinize_lazy.specs.Places.{AreValid, EachApart, IsPlace};
+ghost use Rattle.determinize_lazy.specs.Places.{EachApart};
+ghost use Rattle.determinize_lazy.specs.Private.Places.{AreValid, IsPlace};
+ghost use Rattle.determinize_lazy.specs.Private.Signs.{signs_of};
 
 use determinize_core::state::State;
 use std::alloc::{AllocError, Allocator, Global};
@@ -15,25 +17,58 @@ use std::marker::Model;
 /// The number that is no place: fewer states than this are held.
 pub(crate) const NO_PLACE: u32 = u32::MAX;
 
+/// What a search asks of a state.
+#[derive(Clone, Copy)]
+pub(crate) struct Signs {
+    /// Whether some pattern matches.
+    pub(crate) is_match: bool,
+    /// Whether no NFA state is recorded, so that nothing follows.
+    pub(crate) is_last: bool,
+}
+
+impl Signs {
+    /// The signs of a state.
+    pub(crate) fn of<A: Allocator>(state: &State<A>) -> Signs
+        ensures signs { result ≡ signs_of state.now }
+        ensures valid { IsValue state.now }
+    {
+        // The bytes are taken for the proof alone: they tell that the value is well formed.
+        let _ = state.as_bytes();
+        Signs {
+            is_match: state.is_match(),
+            is_last: state.iter_nfa_state_ids().next().is_none(),
+        }
+    }
+}
+
+/// A held state, with its signs at hand.
+#[derive(Drop)]
+struct Held<A: Allocator> {
+    state: State<A>,
+    signs: Signs,
+}
+
 /// States in the order in which they came, each once, with a map from a state to its place.
 #[derive(Drop)]
 pub(crate) struct Places<A: Allocator = Global> {
-    states: Vec<State<A>, A>,
+    held: Vec<Held<A>, A>,
     places: HashMap<State<A>, u32, BuildHasherDefault<FoldHasher>, A>,
 }
 
 impl<A: Allocator> Model for Places<A> {
-    ghost use Rattle.std.specs.Prelude.{List};
+    ghost use Rattle.std.specs.Prelude.{◌≡◌, All, List, map};
     ghost use Rattle.std.specs.HashMap.{get};
     ghost use Rattle.determinize_core.specs.Value.{Value as StateValue};
     ghost use Rattle.determinize_lazy.specs.Pairs.{same};
-    ghost use Rattle.determinize_lazy.specs.Places.{IsPlaces};
+    ghost use Rattle.determinize_lazy.specs.Private.Places.{IsPlaces};
+    ghost use Rattle.determinize_lazy.specs.Private.Signs.{signs_of};
 
     ghost Value = { List StateValue };
 
-    ghost view = { λ a. a.states.items };
+    ghost view = { λ a. map (λ h. h.state) a.held.items };
 
-    ghost invariant = { λ a. IsPlaces a.states.items (get same a.places) };
+    ghost invariant = { λ a. IsPlaces (map (λ h. h.state) a.held.items) (get same a.places)
+        × All (λ h. h.signs ≡ signs_of h.state) a.held.items };
 }
 
 impl<A: Allocator + Copy> Places<A> {
@@ -42,7 +77,7 @@ impl<A: Allocator + Copy> Places<A> {
         ensures { result ≡ [] }
     {
         Places {
-            states: Vec::new(alloc),
+            held: Vec::new(alloc),
             places: HashMap::new(alloc),
         }
     }
@@ -54,7 +89,7 @@ impl<A: Allocator + Copy> Places<A> {
         ensures limit { result ≤ 4294967295 }
         ensures apart { EachApart self.now }
     {
-        self.states.len()
+        self.held.len()
     }
 
     /// The place of a state, or none where it isn't held.
@@ -84,14 +119,25 @@ impl<A: Allocator + Copy> Places<A> {
         ensures value { slice_get self.now place ≡ Some result.now }
         ensures valid { IsValue result.now }
     {
-        &self.states[place as usize]
+        &self.held[place as usize].state
+    }
+
+    /// The signs of the state at a place.
+    #[inline(always)]
+    pub(crate) fn signs(&self, place: u32) -> Signs
+        requires { place < length self.now }
+        ensures signs { (v : StateValue) → slice_get self.now place ≡ Some v
+            → result ≡ signs_of v }
+        ensures valid { AreValid self.now }
+    {
+        self.held[place as usize].signs
     }
 
     /// Lets go of all states.
     pub(crate) fn clear(&mut self)
         ensures { self.new ≡ [] }
     {
-        self.states.clear();
+        self.held.clear();
         self.places.clear();
     }
 
@@ -105,19 +151,19 @@ impl<A: Allocator + Copy> Places<A> {
         ensures held { OnOk result (self.new ≡ self.old ++ state.now ∷ []) }
         ensures err { OnErr result (self.new ≡ self.old) }
     {
-        // As in `place_of`, for the proof alone.
-        let _ = state.as_bytes();
-        let len = self.states.len();
+        let len = self.held.len();
         if len >= NO_PLACE as usize {
             return Err(AllocError);
         }
         let place = len as u32;
+        let signs = Signs::of(state);
         let key = state.clone()?;
-        self.states.push(state.clone()?)?;
+        let state = state.clone()?;
+        self.held.push(Held { state, signs })?;
         match self.places.insert(key, place) {
             Ok(_) => Ok(place),
             Err(refused) => {
-                self.states.pop();
+                self.held.pop();
                 Err(AllocError::from(refused))
             }
         }

@@ -4,8 +4,8 @@ ghost use Rattle.std.specs.Prelude.{◌≡◌, ◌+◌, ◌*◌, ◌<◌, ◌≤
 ghost use Rattle.std.specs.List.{list_any};
 ghost use Rattle.determinize_core.specs.Value.{Value as StateValue};
 ghost use Rattle.determinize_lazy.specs.Pairs.{Pair, same, with_value};
-ghost use Rattle.determinize_lazy.specs.Places.{IsPlace};
-ghost use Rattle.determinize_lazy.specs.Rows.{IsRows, IsUnit, column};
+ghost use Rattle.determinize_lazy.specs.Private.Places.{IsPlace};
+ghost use Rattle.determinize_lazy.specs.Private.Rows.{IsRows, IsUnit, column};
 
 use crate::places::{NO_PLACE, Places};
 use determinize_core::state::State;
@@ -50,7 +50,7 @@ fn push_row<A: Allocator>(rows: &mut Vec<u32, A>) -> Result<(), AllocError>
 }
 
 impl<A: Allocator + Copy> Table<A> {
-    ghost use Rattle.determinize_lazy.specs.Order.{IsOrder, pairs_of};
+    ghost use Rattle.determinize_lazy.specs.Private.Order.{IsOrder, pairs_of};
 
     /// No transitions. No memory is taken.
     pub(crate) fn new(alloc: A) -> Table<A>

@@ -5,7 +5,9 @@ ghost use Rattle.std.specs.Prelude.{◌≡◌, ◌≤◌, ◌↔◌, IsTrue};
 use crate::caches::Caches;
 use crate::error::{JobError, LineError, ReplayError};
 use crate::job::Job;
+use crate::mode::Way;
 use crate::verbs;
+use determinize_lazy::Lazy;
 use std::alloc::{AllocError, Global};
 use std::io::Write;
 use std::{fmt, io};
@@ -51,11 +53,49 @@ struct Pending {
     text: String,
 }
 
+/// The lines of an answer, or its last line alone.
+#[derive(Drop)]
+struct Answer {
+    text: String,
+    is_whole: bool,
+}
+
+impl Answer {
+    /// The answer of a walk through a cache, or that of a search: the last line alone.
+    fn through(
+        alloc: Global,
+        job: &Job<'_>,
+        way: Way,
+        cache: &mut Lazy<'_>,
+    ) -> Result<Answer, JobError> {
+        match way {
+            Way::Walk => Ok(Answer {
+                text: verbs::cached_answer(alloc, job, cache)?,
+                is_whole: true,
+            }),
+            Way::Search => Ok(Answer {
+                text: verbs::found_answer(alloc, job, cache)?,
+                is_whole: false,
+            }),
+        }
+    }
+
+    /// Whether it is the answer that is wanted, or its last line.
+    fn agrees(&self, wanted: &str) -> bool {
+        let answer = self.text.as_str();
+        if self.is_whole {
+            answer == wanted
+        } else {
+            answer.lines().last() == wanted.lines().last()
+        }
+    }
+}
+
 /// A replay in its course: the job at hand and the lines of its answer so far.
 #[derive(Drop)]
 pub struct Replay<'n> {
     alloc: Global,
-    caches: Option<Caches<'n>>,
+    caches: Option<(Way, Caches<'n>)>,
     line: u64,
     job: Option<Pending>,
     wanted: String,
@@ -63,8 +103,9 @@ pub struct Replay<'n> {
 }
 
 impl<'n> Replay<'n> {
-    /// A replay of no lines so far. Walks are made through the caches, where there are some.
-    pub fn new(alloc: Global, caches: Option<Caches<'n>>) -> Replay<'n> {
+    /// A replay of no lines so far. Walks or searches are made through the caches, where there are
+    /// some.
+    pub fn new(alloc: Global, caches: Option<(Way, Caches<'n>)>) -> Replay<'n> {
         Replay {
             alloc,
             caches,
@@ -131,8 +172,8 @@ impl<'n> Replay<'n> {
     fn judge_job<W: Write>(&mut self, job: &Pending, out: &mut W) -> Result<(), ReplayError> {
         match self.answer(job.text.as_str()) {
             Ok(answer) => {
-                if answer.as_str() != self.wanted.as_str() {
-                    self.tell(job.text.as_str(), answer.as_str(), out)?;
+                if !answer.agrees(self.wanted.as_str()) {
+                    self.tell(job.text.as_str(), answer.text.as_str(), out)?;
                 }
                 Ok(())
             }
@@ -141,14 +182,17 @@ impl<'n> Replay<'n> {
     }
 
     /// The answer of the job of this text.
-    fn answer(&mut self, text: &str) -> Result<String, JobError> {
+    fn answer(&mut self, text: &str) -> Result<Answer, JobError> {
         let job = Job::read(self.alloc, text)?;
-        if let Some(caches) = self.caches.as_mut() {
+        if let Some((way, caches)) = self.caches.as_mut() {
             if let Some(cache) = caches.of(&job)? {
-                return verbs::cached_answer(self.alloc, &job, cache);
+                return Answer::through(self.alloc, &job, *way, cache);
             }
         }
-        verbs::answer(self.alloc, &job)
+        Ok(Answer {
+            text: verbs::answer(self.alloc, &job)?,
+            is_whole: true,
+        })
     }
 
     /// Counts and prints a job that differs.

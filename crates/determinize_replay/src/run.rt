@@ -5,7 +5,7 @@ ghost use Rattle.std.specs.Prelude.{◌≡◌, ◌≤◌, ◌↔◌, IfOk, OnErr
 use crate::caches::Automata;
 use crate::error::{JobError, ReplayError};
 use crate::job::Job;
-use crate::mode::Mode;
+use crate::mode::{Mode, Way};
 use crate::replay::{Replay, Tally};
 use std::alloc::Global;
 use std::io::{BufRead, BufReader, Read, Write};
@@ -14,7 +14,9 @@ use std::io::{BufRead, BufReader, Read, Write};
 ///
 /// Without `words`, the arguments, each walk is a call of its own. The two words `cache` and a limit
 /// ask for walks through caches of at most that many states, one for each NFA and match kind, which
-/// their walks share in the order of the input; the whole input is read first then.
+/// their walks share in the order of the input; the whole input is read first then. The two words
+/// `search` and a limit ask for searches in place of these walks, of which the last line of the
+/// answer alone is compared: that of the last match.
 ///
 /// Each job whose answer differs is written to `out`, with both answers, and then the counts in a
 /// line. The status is 0 where every job that was replayed agrees, and 1 where some differ. Where
@@ -62,7 +64,7 @@ fn replay<R: Read + Drop, W: Write>(
     };
     match mode {
         Mode::Single => replay_single(alloc, input, out),
-        Mode::Cached(limit) => replay_cached(alloc, limit, input, out),
+        Mode::Cached(way, limit) => replay_cached(alloc, way, limit, input, out),
     }
 }
 
@@ -85,6 +87,7 @@ fn replay_single<I: BufRead + Drop, W: Write>(
 /// Reads all lines, and then replays them through caches of this limit.
 fn replay_cached<I: BufRead + Drop, W: Write>(
     alloc: Global,
+    way: Way,
     limit: usize,
     input: I,
     out: &mut W,
@@ -99,7 +102,7 @@ fn replay_cached<I: BufRead + Drop, W: Write>(
         number = number.saturating_add(1);
     }
     let automata = automata(alloc, lines.as_slice())?;
-    let mut replay = Replay::new(alloc, Some(automata.caches(limit)?));
+    let mut replay = Replay::new(alloc, Some((way, automata.caches(limit)?)));
     for line in lines.iter() {
         replay.take_line(line.as_str(), out)?;
     }

@@ -27,6 +27,17 @@ pub fn cached_answer(
     Ok(text)
 }
 
+/// The last line of the answer of a walk, found by a search through a cache.
+pub fn found_answer(
+    alloc: Global,
+    job: &Job<'_>,
+    cache: &mut Lazy<'_>,
+) -> Result<String, JobError> {
+    let mut text = String::new(alloc);
+    automata::search(alloc, job, cache, &mut text)?;
+    Ok(text)
+}
+
 /// Writes the lines of the answer of a job.
 fn write_answer(alloc: Global, job: &Job<'_>, text: &mut String) -> Result<(), JobError> {
     match job.verb() {

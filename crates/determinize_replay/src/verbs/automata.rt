@@ -84,18 +84,37 @@ pub fn cached_walk(
     write_states(text, states.as_slice())
 }
 
+/// Answers `walk` by a search through a cache: the last match alone.
+pub fn search(
+    alloc: Global,
+    job: &Job<'_>,
+    cache: &mut Lazy<'_>,
+    text: &mut String,
+) -> Result<(), JobError> {
+    let start = resolved(cache.nfa(), job.value(Key::Start).unwrap_or("0"))?;
+    let read = Text::read(alloc, job)?;
+    let found = cache.search(
+        start,
+        read.look_behind,
+        read.bytes.as_slice(),
+        read.look_ahead,
+    )?;
+    write_match(text, found)?;
+    Ok(())
+}
+
 /// Writes the bytes of each state, and the last match.
 fn write_states(text: &mut String, states: &[State]) -> Result<(), JobError> {
     for state in states {
         values::write_bytes(text, state.as_bytes())?;
     }
-    write_last_match(text, states)?;
+    write_match(text, determinize::last_match(states))?;
     Ok(())
 }
 
-/// Writes the last match that the states of a walk tell.
-fn write_last_match(text: &mut String, states: &[State]) -> Result<(), AllocError> {
-    match determinize::last_match(states) {
+/// Writes a match, or that there is none.
+fn write_match(text: &mut String, found: Option<HalfMatch>) -> Result<(), AllocError> {
+    match found {
         Some(HalfMatch { pattern, offset }) => {
             let pattern = pattern.as_u32();
             writeln!(text, "match {pattern} {offset}")

@@ -1,7 +1,7 @@
 use Rattle.std.proofs.Common.{◌≡◌, ◌≤◌, true, ap, sym, ◌∙◌, length}
 use Rattle.std.specs.Prelude.{nat_le, slice_get}
 use Rattle.determinize_lazy.specs.Pairs.{values_of, with_value}
-use Rattle.determinize_lazy.specs.Order.{IsLazy, pairs_of}
+use Rattle.determinize_lazy.specs.Private.Order.{IsLazy, pairs_of}
 use Rattle.determinize_lazy.specs.Kept.{Cache, held_values, step_of}
 use Rattle.determinize_core.specs.Step.{step}
 use Rattle.determinize_lazy.proofs.Caching.{cache_record, le_of}

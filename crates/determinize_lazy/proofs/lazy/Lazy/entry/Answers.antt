@@ -3,8 +3,8 @@ use Rattle.std.specs.Prelude.{slice_get, slice_index}
 use Rattle.std.proofs.lemmas.List.{get_or_read}
 use Rattle.std.proofs.lemmas.Option.{slice_get_within}
 use Rattle.determinize_lazy.specs.Pairs.{is_kept}
-use Rattle.determinize_lazy.specs.Rows.{column, IsEntry}
-use Rattle.determinize_lazy.specs.Order.{pairs_of}
+use Rattle.determinize_lazy.specs.Private.Rows.{column, IsEntry}
+use Rattle.determinize_lazy.specs.Private.Order.{pairs_of}
 use Rattle.determinize_lazy.specs.Kept.{Cache, held_values, step_of}
 use Rattle.determinize_core.specs.Step.{step}
 use Rattle.determinize_lazy.proofs.Caching.{entry_known, entry_none}

@@ -1,7 +1,7 @@
 use Rattle.std.proofs.Common.{ap, sym, subst, ◌∙◌, length}
 use Rattle.std.specs.Prelude.{nat_le}
 use Rattle.determinize_lazy.specs.Pairs.{with_value}
-use Rattle.determinize_lazy.specs.Places.{IsPlace}
+use Rattle.determinize_lazy.specs.Private.Places.{IsPlace}
 use Rattle.determinize_lazy.specs.Kept.{Cache, held_values}
 use Rattle.determinize_lazy.proofs.Caching.{counted}
 use Rattle.determinize_lazy.proofs.lazy.Lazy.fits.Goals as goal

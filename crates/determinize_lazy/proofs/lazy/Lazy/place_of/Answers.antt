@@ -1,5 +1,5 @@
 use Rattle.std.proofs.Common.{subst}
-use Rattle.determinize_lazy.specs.Pairs.{HaveValidValues}
+use Rattle.determinize_lazy.specs.Private.Places.{HaveValidValues}
 use Rattle.determinize_lazy.specs.Kept.{Cache}
 use Rattle.determinize_lazy.proofs.Ordering.{pairs_valid}
 use Rattle.determinize_lazy.proofs.lazy.Lazy.place_of.Goals as goal

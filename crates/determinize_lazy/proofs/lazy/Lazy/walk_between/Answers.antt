@@ -1,9 +1,10 @@
 use Rattle.std.proofs.Common.{◌≡◌, All, List, None, subst, sym}
 use Rattle.std.specs.Prelude.{IfOk, OnOk}
-use Rattle.determinize_lazy.specs.Pairs.{HaveValidValues}
+use Rattle.determinize_lazy.specs.Private.Places.{HaveValidValues}
 use Rattle.determinize_lazy.specs.Kept.{after_text, after_walk, Cache}
 use Rattle.determinize_core.specs.Value.{Value}
 use Rattle.determinize_core.specs.Chain.{FollowsItself, chain, future, units}
+use Rattle.determinize_core.specs.Step.{start_value}
 use Rattle.determinize_core.specs.Walk.{IsLeftmostWalk, IsWalkOfAll}
 use Rattle.determinize_core.specs.WalkStates.{RecordsReached}
 use Rattle.determinize_core.proofs.StepLaws.{each_future_follows}
@@ -29,7 +30,9 @@ returns-clause-after g c =
     (subst (λ (x : Cache). OnOk c.walk_from.result (c.walk_from.new.self ≡ after_walk x c.in_ok-first.first (units (between None c.args.text.now c.args.look_ahead)))) c.in_ok-first.ensures.unchanged c.walk_from.ensures.after)
 
 pub returns-clause-plenty : goal.returns-clause-plenty
-returns-clause-plenty g c = keeps_all_where_ok c.walk_from.result (λ states. states.items) c.args.self.now c.walk_from.new.self c.args.start (between c.args.look_behind c.args.text.now c.args.look_ahead)
+unfolding chain after_text
+returns-clause-plenty g c =
+    keeps_all_where_ok c.walk_from.result (λ states. states.items) c.args.self.now c.walk_from.new.self (start_value c.args.self.now.nfa c.args.start c.args.look_behind) (units (between c.args.look_behind c.args.text.now c.args.look_ahead)) c.in_ok-first.ensures.small
     (subst (λ (x : Cache). HaveValidValues x.pairs) c.in_ok-first.ensures.unchanged c.walk_from.ensures.pairs)
     (returns-clause-values g c) c.walk_from.ensures.valid (returns-clause-after g c)
 
@@ -38,20 +41,20 @@ returns-clause-all g c = λ kind. of_answer c.walk_from.result (λ states. state
     (λ (vs : List Value). IsWalkOfAll c.args.self.now.nfa c.args.start (between c.args.look_behind c.args.text.now c.args.look_ahead) vs)
     (returns-clause-values g c)
     (subst (λ (k : MatchKind). IsWalkOfAll c.args.self.now.nfa c.args.start (between c.args.look_behind c.args.text.now c.args.look_ahead) (chain c.args.self.now.nfa k c.args.start (between c.args.look_behind c.args.text.now c.args.look_ahead))) (sym kind)
-    (walk_of_all c.args.self.now.nfa c.nfa.ensures.accepted c.args.start (between c.args.look_behind c.args.text.now c.args.look_ahead)))
+    (walk_of_all c.args.self.now.nfa c.in_ok-first.ensures.accepted c.args.start (between c.args.look_behind c.args.text.now c.args.look_ahead)))
 
 pub returns-clause-leftmost_first : goal.returns-clause-leftmost_first
 returns-clause-leftmost_first g c = λ kind. of_answer c.walk_from.result (λ states. states.items) (chain c.args.self.now.nfa c.args.self.now.kind c.args.start (between c.args.look_behind c.args.text.now c.args.look_ahead))
     (λ (vs : List Value). IsLeftmostWalk c.args.self.now.nfa c.args.start (between c.args.look_behind c.args.text.now c.args.look_ahead) vs)
     (returns-clause-values g c)
     (subst (λ (k : MatchKind). IsLeftmostWalk c.args.self.now.nfa c.args.start (between c.args.look_behind c.args.text.now c.args.look_ahead) (chain c.args.self.now.nfa k c.args.start (between c.args.look_behind c.args.text.now c.args.look_ahead))) (sym kind)
-    (leftmost_walk c.args.self.now.nfa c.nfa.ensures.accepted c.args.start (between c.args.look_behind c.args.text.now c.args.look_ahead)))
+    (leftmost_walk c.args.self.now.nfa c.in_ok-first.ensures.accepted c.args.start (between c.args.look_behind c.args.text.now c.args.look_ahead)))
 
 pub returns-clause-records : goal.returns-clause-records
 returns-clause-records g c = of_answer c.walk_from.result (λ states. states.items) (chain c.args.self.now.nfa c.args.self.now.kind c.args.start (between c.args.look_behind c.args.text.now c.args.look_ahead))
     (λ (vs : List Value). RecordsReached c.args.self.now.nfa c.args.self.now.kind c.args.start (between c.args.look_behind c.args.text.now c.args.look_ahead) vs)
     (returns-clause-values g c)
-    (records_reached c.args.self.now.nfa c.nfa.ensures.accepted c.args.start (between c.args.look_behind c.args.text.now c.args.look_ahead) c.args.self.now.kind)
+    (records_reached c.args.self.now.nfa c.in_ok-first.ensures.accepted c.args.start (between c.args.look_behind c.args.text.now c.args.look_ahead) c.args.self.now.kind)
 
 pub returns-clause-follows : goal.returns-clause-follows
 returns-clause-follows g c = of_answer c.walk_from.result (λ states. states.items) (chain c.args.self.now.nfa c.args.self.now.kind c.args.start (between c.args.look_behind c.args.text.now c.args.look_ahead))
@@ -63,4 +66,4 @@ pub returns-clause-resolve : goal.returns-clause-resolve
 returns-clause-resolve g c = of_answer c.walk_from.result (λ states. states.items) (chain c.args.self.now.nfa c.args.self.now.kind c.args.start (between c.args.look_behind c.args.text.now c.args.look_ahead))
     (λ (vs : List Value). All (λ (v : Value). AllResolve c.args.self.now.nfa v.states) vs)
     (returns-clause-values g c)
-    (chain_resolves c.args.self.now.nfa c.nfa.ensures.accepted c.args.self.now.kind c.args.start (between c.args.look_behind c.args.text.now c.args.look_ahead) c.requires)
+    (chain_resolves c.args.self.now.nfa c.in_ok-first.ensures.accepted c.args.self.now.kind c.args.start (between c.args.look_behind c.args.text.now c.args.look_ahead) c.requires)

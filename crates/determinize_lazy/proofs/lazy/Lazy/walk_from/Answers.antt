@@ -1,5 +1,5 @@
 use Rattle.std.proofs.Common.{rules, ◌≤◌, ◌∙◌, None, subst, sym}
-use Rattle.determinize_lazy.specs.Places.{AreValid}
+use Rattle.determinize_lazy.specs.Private.Places.{AreValid}
 use Rattle.determinize_core.specs.Chain.{units}
 use Rattle.determinize_below.specs.Positions.{between}
 use Rattle.determinize_lazy.proofs.Walking.{IsWalked, walked_byte, walked_end, walked_resolves}

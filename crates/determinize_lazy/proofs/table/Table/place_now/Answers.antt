@@ -2,7 +2,7 @@ use Rattle.std.proofs.Common.{rules, ◌≡◌, ◌∙◌, ap, false, true, subs
 use Rattle.std.specs.Prelude.{slice_get}
 use Rattle.std.specs.List.{list_any}
 use Rattle.determinize_lazy.specs.Pairs.{same}
-use Rattle.determinize_lazy.specs.Places.{IsPlace}
+use Rattle.determinize_lazy.specs.Private.Places.{IsPlace}
 use Rattle.determinize_lazy.proofs.Caching.{none_with}
 use Rattle.determinize_lazy.proofs.Holding.{same_is}
 use Rattle.determinize_lazy.proofs.Ordering.{get_with}

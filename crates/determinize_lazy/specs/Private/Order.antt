@@ -6,7 +6,7 @@ use Rattle.determinize_core.specs.Step.{step}
 use Rattle.determinize_core.specs.Value.{Value, dead}
 use Rattle.determinize_lazy.specs.declared.table.Kept.{Kept}
 use Rattle.determinize_lazy.specs.Pairs.{Pair, values_of}
-use Rattle.determinize_lazy.specs.Rows.{IsRows}
+use Rattle.determinize_lazy.specs.Private.Rows.{IsRows}
 
 -- the pair of a transition that is told by the place of its source
 abbrev pub pair_at : List Value → Kept → Pair

@@ -1,0 +1,50 @@
+use Rattle.std.proofs.Common.{rules, ◌≡◌, ◌<◌, ◌≤◌, arith, sym}
+use Rattle.std.specs.List.{slice_range}
+use Rattle.determinize_lazy.specs.Searches.{start_for}
+use Rattle.determinize_lazy.proofs.Ranges.{after-done, after-found, last-done, last-found, preferred-done, preferred-found, read}
+use Rattle.determinize_lazy.proofs.lazy.Lazy.search_input.Goals as goal
+
+pub returns-then-start-end-clause-last : goal.returns-then-start-end-clause-last
+returns-then-start-end-clause-last g c =
+    let past : c.args.input.now.end < c.args.input.now.start = omega (arith, c.if-start-end.true, c.start-start.ensures.value, c.end-end.ensures.value) in
+    last-done c.args.self.now.nfa c.args.self.now.kind c.args.input.now past
+
+pub returns-then-start-end-clause-preferred : goal.returns-then-start-end-clause-preferred
+returns-then-start-end-clause-preferred g c = λ kind.
+    let past : c.args.input.now.end < c.args.input.now.start = omega (arith, c.if-start-end.true, c.start-start.ensures.value, c.end-end.ensures.value) in
+    preferred-done c.args.self.now.nfa c.args.self.now.kind c.args.input.now past (search rules) kind
+
+pub returns-then-start-end-clause-after : goal.returns-then-start-end-clause-after
+returns-then-start-end-clause-after g c =
+    let past : c.args.input.now.end < c.args.input.now.start = omega (arith, c.if-start-end.true, c.start-start.ensures.value, c.end-end.ensures.value) in
+    sym (after-done c.args.self.now c.args.input.now past)
+
+pub returns-clause-last : goal.returns-clause-last
+returns-clause-last g c =
+    let order : c.args.input.now.start ≤ c.args.input.now.end = omega (arith, c.if-start-end.false, c.start-start.ensures.value, c.end-end.ensures.value) in
+    let direction : c.is_reverse-is_backward.result ≡ c.args.self.now.nfa.reverse = search rules in
+    let start : c.start_for-id.result ≡ start_for c.args.self.now.nfa c.args.input.now.anchored = search rules in
+    let range : slice_range c.haystack.result.now c.start-start.result c.end-end.result ≡ slice_range c.args.input.now.haystack c.args.input.now.start c.args.input.now.end = search rules in
+    last-found c.args.self.now.nfa c.args.self.now.kind c.args.input.now _ _ _
+    (read c.args.self.now.nfa c.args.input.now c.is_reverse-is_backward.result c.start_for-id.result _ _ _ order direction start c.byte_behind-behind.ensures range c.byte_ahead-ahead.ensures)
+    c.in_ok-found.found c.in_haystack.result c.in_haystack.ensures.value c.in_ok-found.ensures.last
+
+pub returns-clause-preferred : goal.returns-clause-preferred
+returns-clause-preferred g c = λ kind.
+    let order : c.args.input.now.start ≤ c.args.input.now.end = omega (arith, c.if-start-end.false, c.start-start.ensures.value, c.end-end.ensures.value) in
+    let direction : c.is_reverse-is_backward.result ≡ c.args.self.now.nfa.reverse = search rules in
+    let start : c.start_for-id.result ≡ start_for c.args.self.now.nfa c.args.input.now.anchored = search rules in
+    let range : slice_range c.haystack.result.now c.start-start.result c.end-end.result ≡ slice_range c.args.input.now.haystack c.args.input.now.start c.args.input.now.end = search rules in
+    preferred-found c.args.self.now.nfa c.args.self.now.kind c.args.input.now _ _ _
+    (read c.args.self.now.nfa c.args.input.now c.is_reverse-is_backward.result c.start_for-id.result _ _ _ order direction start c.byte_behind-behind.ensures range c.byte_ahead-ahead.ensures)
+    c.in_ok-found.found c.in_haystack.result c.in_haystack.ensures.value (c.in_ok-found.ensures.preferred kind)
+
+pub returns-clause-after : goal.returns-clause-after
+returns-clause-after g c =
+    let order : c.args.input.now.start ≤ c.args.input.now.end = omega (arith, c.if-start-end.false, c.start-start.ensures.value, c.end-end.ensures.value) in
+    let direction : c.is_reverse-is_backward.result ≡ c.args.self.now.nfa.reverse = search rules in
+    let start : c.start_for-id.result ≡ start_for c.args.self.now.nfa c.args.input.now.anchored = search rules in
+    let range : slice_range c.haystack.result.now c.start-start.result c.end-end.result ≡ slice_range c.args.input.now.haystack c.args.input.now.start c.args.input.now.end = search rules in
+    after-found c.args.self.now c.search_text.new.self c.args.input.now _ _ _
+    (read c.args.self.now.nfa c.args.input.now c.is_reverse-is_backward.result c.start_for-id.result _ _ _ order direction start c.byte_behind-behind.ensures range c.byte_ahead-ahead.ensures)
+    c.in_ok-found.ensures.after

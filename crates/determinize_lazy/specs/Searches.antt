@@ -1,0 +1,93 @@
+-- Searches over a cache: what they read, what they answer and what they leave.
+use Rattle.std.specs.Prelude.{◌≡◌, ℕ, ◌+◌, ◌-◌, Bool, true, false, cond, Option, Some, None, List, [], ◌∷◌, nat_lt, option_map, reverse, slice_get}
+use Rattle.std.specs.List.{slice_range}
+use Rattle.determinize_below.specs.Nfa.{Nfa}
+use Rattle.determinize_below.specs.Positions.{Accepts, IsPreferredRun, Text, between}
+use Rattle.determinize_below.specs.Search.{Asked}
+use Rattle.determinize_below.specs.declared.search.Anchored.{Anchored}
+use Rattle.determinize_below.specs.declared.search.Anchored.TheVariants.{No, Pattern, Yes}
+use Rattle.determinize_below.specs.declared.search.HalfMatch.{HalfMatch}
+use Rattle.determinize_below.specs.declared.search.MatchKind.{MatchKind}
+use Rattle.determinize_core.specs.Chain.{chain, units}
+use Rattle.determinize_core.specs.StartKinds.{byte_before}
+use Rattle.determinize_core.specs.Step.{start_value}
+use Rattle.determinize_core.specs.Value.{Value, is_nonempty}
+use Rattle.determinize_core.specs.Walk.{last_match}
+use Rattle.determinize_lazy.specs.Kept.{Cache, after_walk, step_of}
+use Rattle.determinize_lazy.specs.Plenty.{HasRoom, KeepsAll}
+
+module _ (f : Value → Option ℕ → Value) where
+  -- the units that a search from a value reads: none more from a value on that records no NFA states
+  abbrev pub units_read : Value → List (Option ℕ) → List (Option ℕ)
+  units_read v [] = []
+  units_read v (u ∷ us) = cond (is_nonempty v.states) (u ∷ units_read (f v u) us) []
+
+-- the units that a search from an NFA state over a text reads
+abbrev pub units_searched : Cache → ℕ → Text → List (Option ℕ)
+units_searched c start text = units_read (step_of c) (start_value c.nfa start text.behind) (units text)
+
+-- the cache after a search from an NFA state over a text
+unfoldable pub after_search : Cache → ℕ → Text → Cache
+after_search c start text = after_walk c (start_value c.nfa start text.behind) (units_searched c start text)
+
+-- with room for all that a search reads, each pair of it is kept, and computed once
+abbrev pub IsPlenty : Cache → ℕ → Text → Cache → Type 0
+IsPlenty old start text new =
+    let first : Value = start_value old.nfa start text.behind in
+    HasRoom old first (units_searched old start text) → KeepsAll old first (units_searched old start text) new
+
+-- the pattern and the end of the most preferred of all accepting runs, or none where no run accepts
+abbrev pub IsPreferredMatch : Nfa → ℕ → Text → Option HalfMatch → Type 0
+IsPreferredMatch nfa start text None = (cs : List ℕ) (i pattern : ℕ) → Accepts nfa text start cs i pattern → ⊥
+IsPreferredMatch nfa start text (Some m) = (cs : List ℕ) × IsPreferredRun nfa text start cs m.offset m.pattern
+
+-- whether there is a start for a search that is so anchored: for one pattern alone there is none
+abbrev pub has_start : Anchored → Bool
+has_start No = true
+has_start Yes = true
+has_start (Pattern pattern) = false
+
+-- the state that a search starts from
+abbrev pub start_for : Nfa → Anchored → ℕ
+start_for nfa No = nfa.start_unanchored
+start_for nfa Yes = nfa.start_anchored
+start_for nfa (Pattern pattern) = nfa.start_anchored
+
+-- bytes in the order of reading: from the last to the first where they are read backward
+abbrev pub in_order : Bool → List ℕ → List ℕ
+in_order false bytes = bytes
+in_order true bytes = reverse bytes
+
+-- whether nothing is left to search: the range starts past its end
+abbrev pub is_done : Asked → Bool
+is_done asked = nat_lt asked.end asked.start
+
+-- what a search of a range reads: its bytes, with what stands beside it in the haystack
+abbrev pub text_of : Bool → Asked → Text
+text_of false asked = between (byte_before asked.haystack asked.start) (slice_range asked.haystack asked.start asked.end) (slice_get asked.haystack asked.end)
+text_of true asked = between (slice_get asked.haystack asked.end) (reverse (slice_range asked.haystack asked.start asked.end)) (byte_before asked.haystack asked.start)
+
+-- the index in the haystack after so many bytes
+abbrev pub index_after : Bool → Asked → ℕ → ℕ
+index_after false asked read = asked.start + read
+index_after true asked read = asked.end - read
+
+-- a match of that text, in the haystack
+abbrev pub in_haystack : Bool → Asked → HalfMatch → HalfMatch
+in_haystack backward asked m = record m { offset = index_after backward asked m.offset }
+
+-- the answer to an input: that of a search of its text, in the haystack
+abbrev pub found_in : Nfa → Asked → Option HalfMatch → Option HalfMatch
+found_in nfa asked found = cond (is_done asked) None (option_map (in_haystack nfa.reverse asked) found)
+
+-- the last match of the walk over what an input asks for
+unfoldable pub last_in : Nfa → MatchKind → Asked → Option HalfMatch
+last_in nfa kind asked = found_in nfa asked (last_match (chain nfa kind (start_for nfa asked.anchored) (text_of nfa.reverse asked)))
+
+-- the preferred match of what an input asks for
+abbrev pub IsPreferredIn : Nfa → Asked → Option HalfMatch → Type 0
+IsPreferredIn nfa asked answer = (found : Option HalfMatch) × IsPreferredMatch nfa (start_for nfa asked.anchored) (text_of nfa.reverse asked) found × (answer ≡ found_in nfa asked found)
+
+-- the cache after a search of an input
+unfoldable pub after_input : Cache → Asked → Cache
+after_input c asked = cond (is_done asked) c (after_search c (start_for c.nfa asked.anchored) (text_of c.nfa.reverse asked))

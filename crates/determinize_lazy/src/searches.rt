@@ -1,0 +1,372 @@
+//! Searches over the cache: the last match of a walk, without a list of its states.
+
+ghost use Rattle.std.specs.Prelude.{◌≡◌, ◌<◌, ◌≤◌, ◌-◌, true, false, length, option_map, slice_index, IfOk, OnOk, None, Some};
+ghost use Rattle.std.specs.Option.{IfSome, option_or};
+ghost use Rattle.determinize_below.specs.Nfa.{AllResolve};
+ghost use Rattle.determinize_below.specs.Positions.{between};
+ghost use Rattle.determinize_below.specs.declared.search.MatchKind.TheVariants as kinds;
+ghost use Rattle.determinize_core.specs.Chain.{chain, units};
+ghost use Rattle.determinize_core.specs.Value.{IsValue};
+ghost use Rattle.determinize_core.specs.Walk.{ended_at, last_match};
+ghost use Rattle.determinize_lazy.specs.Kept.{held_values, step_of};
+ghost use Rattle.determinize_lazy.specs.Private.Over.{IsOver};
+ghost use Rattle.determinize_lazy.specs.Private.Places.{HaveValidValues, IsPlace};
+ghost use Rattle.determinize_lazy.specs.Private.Signs.{signs_of};
+ghost use Rattle.determinize_lazy.specs.Private.Standing.{IsStanding, current};
+ghost use Rattle.determinize_lazy.specs.Private.Turns.{after_turn};
+ghost use Rattle.determinize_lazy.specs.Searches.{IsPlenty, IsPreferredIn, IsPreferredMatch, after_input, after_search, has_start, in_haystack, in_order, last_in, start_for, text_of};
+
+use crate::lazy::{Lazy, Reached};
+use crate::places::Signs;
+use determinize_below::{Anchored, HalfMatch, Input, NFA, StateID};
+use determinize_core::start::{look_ahead_forward, look_ahead_reverse};
+use determinize_core::state::State;
+use std::alloc::{AllocError, Allocator};
+
+/// The byte that is read after so many others, from the last one backward or from the first one.
+#[inline(always)]
+fn byte_after(text: &[u8], is_backward: bool, read: usize) -> u8
+    requires { read < length text.now }
+    ensures { result ≡ slice_index (in_order is_backward text.now) read }
+{
+    if is_backward {
+        text[text.len() - 1 - read]
+    } else {
+        text[read]
+    }
+}
+
+/// The byte that is read just before the range, in the direction of reading.
+fn byte_behind(input: &Input<'_>, is_backward: bool) -> Option<u8>
+    ensures { result ≡ (text_of is_backward input.now).behind }
+{
+    if is_backward {
+        look_ahead_forward(input)
+    } else {
+        look_ahead_reverse(input)
+    }
+}
+
+/// The byte just ahead of the range, in the direction of reading.
+fn byte_ahead(input: &Input<'_>, is_backward: bool) -> Option<u8>
+    ensures { result ≡ (text_of is_backward input.now).ahead }
+{
+    if is_backward {
+        look_ahead_reverse(input)
+    } else {
+        look_ahead_forward(input)
+    }
+}
+
+/// A match that was found in the range, in the haystack.
+fn in_haystack(input: &Input<'_>, is_backward: bool, found: Option<HalfMatch>) -> Option<HalfMatch>
+    requires order { input.now.start ≤ input.now.end }
+    requires within { IfSome found (λ m. m.offset ≤ input.now.end - input.now.start) }
+    ensures value { result ≡ option_map (in_haystack is_backward input.now) found }
+    ensures within { IfSome result
+        (λ m. (input.now.start ≤ m.offset) × (m.offset ≤ input.now.end)) }
+{
+    let HalfMatch { pattern, offset } = found?;
+    let (start, end) = (input.start(), input.end());
+    let offset = if is_backward {
+        end - offset
+    } else {
+        start + offset
+    };
+    Some(HalfMatch { pattern, offset })
+}
+
+impl<'n, N: Allocator, A: Allocator + Copy> Lazy<'n, N, A> {
+    /// One step from a state of the search's own, which may have a place by now: the state that
+    /// follows is its own then, and its place is answered where it is held.
+    ///
+    /// The only error is want of memory.
+    fn step_from_own(
+        &mut self,
+        own: &mut State<A>,
+        place: Option<u32>,
+        unit: Option<u8>,
+    ) -> Result<Option<u32>, AllocError>
+        requires resolve { AllResolve self.old.nfa own.old.states }
+        requires place { IsPlace (held_values self.old) own.old place }
+        ensures value { IfOk result
+            (λ place. current self.new own.new place ≡ step_of self.old own.old unit) }
+        ensures standing { IfOk result (λ place. IsStanding self.new own.new place) }
+        ensures after { OnOk result (self.new ≡ after_turn self.old own.old unit) }
+        ensures nfa { self.new.nfa ≡ self.old.nfa }
+        ensures kind { self.new.kind ≡ self.old.kind }
+        ensures limit { self.new.limit ≡ self.old.limit }
+        ensures computed { self.old.computed ≤ self.new.computed }
+    {
+        let Reached { state, place } = self.turn(own, place, unit)?;
+        *own = state;
+        Ok(place)
+    }
+
+    /// One step from a place. Over a kept transition it reads one entry; else the state of the
+    /// place is copied and the step computed.
+    ///
+    /// The only error is want of memory.
+    #[inline(always)]
+    fn step_from_place(
+        &mut self,
+        own: &mut State<A>,
+        source: u32,
+        unit: Option<u8>,
+    ) -> Result<Option<u32>, AllocError>
+        requires resolve { AllResolve self.old.nfa
+            (current self.old own.old (Some source)).states }
+        requires standing { IsStanding self.old own.old (Some source) }
+        ensures value { IfOk result (λ next. current self.new own.new next
+            ≡ step_of self.old (current self.old own.old (Some source)) unit) }
+        ensures standing { IfOk result (λ next. IsStanding self.new own.new next) }
+        ensures after { OnOk result
+            (self.new ≡ after_turn self.old (current self.old own.old (Some source)) unit) }
+        ensures nfa { self.new.nfa ≡ self.old.nfa }
+        ensures kind { self.new.kind ≡ self.old.kind }
+        ensures limit { self.new.limit ≡ self.old.limit }
+        ensures computed { self.old.computed ≤ self.new.computed }
+    {
+        if let Some(entry) = self.entry(source, unit) {
+            return Ok(Some(entry));
+        }
+        *own = self.table.places.at(source).clone()?;
+        self.step_from_own(own, Some(source), unit)
+    }
+
+    /// One step of a search: from a place, or without one from its own state.
+    ///
+    /// The only error is want of memory.
+    #[inline(always)]
+    fn step(
+        &mut self,
+        own: &mut State<A>,
+        place: Option<u32>,
+        unit: Option<u8>,
+    ) -> Result<Option<u32>, AllocError>
+        requires resolve { AllResolve self.old.nfa (current self.old own.old place).states }
+        requires standing { IsStanding self.old own.old place }
+        ensures value { IfOk result (λ next. current self.new own.new next
+            ≡ step_of self.old (current self.old own.old place) unit) }
+        ensures standing { IfOk result (λ next. IsStanding self.new own.new next) }
+        ensures after { OnOk result
+            (self.new ≡ after_turn self.old (current self.old own.old place) unit) }
+        ensures nfa { self.new.nfa ≡ self.old.nfa }
+        ensures kind { self.new.kind ≡ self.old.kind }
+        ensures limit { self.new.limit ≡ self.old.limit }
+        ensures computed { self.old.computed ≤ self.new.computed }
+    {
+        match place {
+            Some(source) => self.step_from_place(own, source, unit),
+            None => self.step_from_own(own, None, unit),
+        }
+    }
+
+    /// The state where a search stands.
+    fn current<'s>(&'s self, own: &'s State<A>, place: Option<u32>) -> &'s State<A>
+        requires { IsStanding self.now own.now place }
+        ensures { result.now ≡ current self.now own.now place }
+    {
+        match place {
+            Some(place) => self.table.places.at(place),
+            None => own,
+        }
+    }
+
+    /// The signs of the state where a search stands.
+    #[inline(always)]
+    fn signs(&self, own: &State<A>, place: Option<u32>) -> Signs
+        requires { IsStanding self.now own.now place }
+        ensures signs { result ≡ signs_of (current self.now own.now place) }
+        ensures valid { IsValue (current self.now own.now place) }
+    {
+        match place {
+            Some(place) => self.table.places.signs(place),
+            None => Signs::of(own),
+        }
+    }
+
+    /// The last match by now: the first pattern of the state where a search stands, or the one
+    /// that was last before.
+    #[inline(always)]
+    fn last_by(
+        &self,
+        own: &State<A>,
+        place: Option<u32>,
+        offset: usize,
+        last: Option<HalfMatch>,
+    ) -> Option<HalfMatch>
+        requires { IsStanding self.now own.now place }
+        ensures { result
+            ≡ option_or (ended_at offset (current self.now own.now place).patterns) last }
+    {
+        if self.signs(own, place).is_match {
+            let pattern = self.current(own, place).match_pattern(0);
+            Some(HalfMatch { pattern, offset })
+        } else {
+            last
+        }
+    }
+
+    /// Searches from a state, forward or backward: the last match of the walk from it, by the
+    /// number of bytes that are read before its end. The only error is want of memory.
+    #[inline(always)]
+    fn search_from(
+        &mut self,
+        first: State<A>,
+        text: &[u8],
+        is_backward: bool,
+        look_ahead: Option<u8>,
+    ) -> Result<Option<HalfMatch>, AllocError>
+        requires { AllResolve self.old.nfa first.states }
+        ensures over { let us = units (between None (in_order is_backward text.now) look_ahead)
+            in IfOk result (λ found. IsOver self.old first us found self.new) }
+        ensures pairs { HaveValidValues self.old.pairs }
+        ensures nfa { self.new.nfa ≡ self.old.nfa }
+        ensures kind { self.new.kind ≡ self.old.kind }
+        ensures limit { self.new.limit ≡ self.old.limit }
+        ensures computed { self.old.computed ≤ self.new.computed }
+    {
+        // For the proof alone: a field tells what is true of every cache.
+        let _ = &self.limit;
+        let mut place = self.place_of(&first);
+        let mut own = first;
+        let mut last = None;
+        for read in 0..text.len() {
+            if self.signs(&own, place).is_last {
+                return Ok(last);
+            }
+            let byte = byte_after(text, is_backward, read);
+            place = self.step(&mut own, place, Some(byte))?;
+            last = self.last_by(&own, place, read, last);
+        }
+        if self.signs(&own, place).is_last {
+            return Ok(last);
+        }
+        place = self.step(&mut own, place, look_ahead)?;
+        Ok(self.last_by(&own, place, text.len(), last))
+    }
+
+    /// Searches a text, forward or backward, as `search` does.
+    ///
+    /// The only error is want of memory.
+    #[inline(always)]
+    fn search_text(
+        &mut self,
+        start: StateID,
+        look_behind: Option<u8>,
+        text: &[u8],
+        is_backward: bool,
+        look_ahead: Option<u8>,
+    ) -> Result<Option<HalfMatch>, AllocError>
+        requires { start < length self.old.nfa.states }
+        ensures last { let read = between look_behind (in_order is_backward text.now) look_ahead
+            in IfOk result
+            (λ found. found ≡ last_match (chain self.old.nfa self.old.kind start read)) }
+        ensures preferred { let read = between look_behind (in_order is_backward text.now) look_ahead
+            in self.old.kind ≡ kinds.LeftmostFirst → IfOk result
+            (λ found. IsPreferredMatch self.old.nfa start read found) }
+        ensures within { IfOk result
+            (λ found. IfSome found (λ m. m.offset ≤ length text.now)) }
+        ensures after { let read = between look_behind (in_order is_backward text.now) look_ahead
+            in OnOk result (self.new ≡ after_search self.old start read) }
+        ensures plenty { let read = between look_behind (in_order is_backward text.now) look_ahead
+            in OnOk result (IsPlenty self.old start read self.new) }
+        ensures nfa { self.new.nfa ≡ self.old.nfa }
+        ensures kind { self.new.kind ≡ self.old.kind }
+        ensures limit { self.new.limit ≡ self.old.limit }
+        ensures computed { self.old.computed ≤ self.new.computed }
+    {
+        let first = self.start_state(start, look_behind)?;
+        let found = self.search_from(first, text, is_backward, look_ahead)?;
+        Ok(found)
+    }
+
+    /// Searches a text: the last match that `walk_between` over the same tells, without a list of
+    /// its states, or none. The offset of a match is the number of bytes before its end.
+    ///
+    /// - `start` is the id of the NFA state to start from, below the number of states.
+    /// - `look_behind` is the byte that is read just before the text, or none.
+    /// - `look_ahead` is the byte just ahead of the text, or none where the input ends there.
+    ///
+    /// Nothing is read after a state that records no NFA states, since nothing can follow it.
+    /// Where the leftmost match is wanted, the answer is the pattern and the end of the most
+    /// preferred match. The only error is want of memory. The cache holds right transitions then,
+    /// and is as good for later calls.
+    pub fn search(
+        &mut self,
+        start: StateID,
+        look_behind: Option<u8>,
+        text: &[u8],
+        look_ahead: Option<u8>,
+    ) -> Result<Option<HalfMatch>, AllocError>
+        requires { start < length self.old.nfa.states }
+        ensures last { IfOk result (λ found. found ≡ last_match
+            (chain self.old.nfa self.old.kind start (between look_behind text.now look_ahead))) }
+        ensures preferred { self.old.kind ≡ kinds.LeftmostFirst → IfOk result (λ found.
+            IsPreferredMatch self.old.nfa start (between look_behind text.now look_ahead) found) }
+        ensures within { IfOk result
+            (λ found. IfSome found (λ m. m.offset ≤ length text.now)) }
+        ensures after { OnOk result
+            (self.new ≡ after_search self.old start (between look_behind text.now look_ahead)) }
+        ensures plenty { OnOk result
+            (IsPlenty self.old start (between look_behind text.now look_ahead) self.new) }
+        ensures nfa { self.new.nfa ≡ self.old.nfa }
+        ensures kind { self.new.kind ≡ self.old.kind }
+        ensures limit { self.new.limit ≡ self.old.limit }
+        ensures computed { self.old.computed ≤ self.new.computed }
+    {
+        let found = self.search_text(start, look_behind, text, false, look_ahead)?;
+        Ok(found)
+    }
+
+    /// Searches what an input asks for, in the direction in which the NFA reads: an NFA that reads
+    /// backward reads the range from its end to its start. The answer is the last match of that
+    /// walk, or none, and its offset is an index into the haystack: where a match that was read
+    /// forward ends, or where one that was read backward begins. It lies in the range or at its end.
+    ///
+    /// The search starts from the NFA's anchored or unanchored start state, as the input asks. A
+    /// search that is anchored to one pattern has no start here: the caller must not ask for it.
+    /// What stands beside the range in the haystack is read by assertions alone. A range that
+    /// starts past its end has no match, and nothing is read.
+    ///
+    /// The only error is want of memory. The cache holds right transitions then, and is as good for
+    /// later calls.
+    pub fn search_input(&mut self, input: &Input<'_>) -> Result<Option<HalfMatch>, AllocError>
+        requires { has_start input.now.anchored ≡ true }
+        ensures last { IfOk result
+            (λ found. found ≡ last_in self.old.nfa self.old.kind input.now) }
+        ensures preferred { self.old.kind ≡ kinds.LeftmostFirst → IfOk result
+            (λ found. IsPreferredIn self.old.nfa input.now found) }
+        ensures within { IfOk result (λ found. IfSome found
+            (λ m. (input.now.start ≤ m.offset) × (m.offset ≤ input.now.end))) }
+        ensures after { OnOk result (self.new ≡ after_input self.old input.now) }
+        ensures nfa { self.new.nfa ≡ self.old.nfa }
+        ensures kind { self.new.kind ≡ self.old.kind }
+        ensures limit { self.new.limit ≡ self.old.limit }
+        ensures computed { self.old.computed ≤ self.new.computed }
+    {
+        let is_backward = self.nfa.is_reverse();
+        let id = self.start_for(input.get_anchored());
+        let (start, end) = (input.start(), input.end());
+        if start > end {
+            return Ok(None);
+        }
+        let behind = byte_behind(input, is_backward);
+        let range = &input.haystack()[start..end];
+        let ahead = byte_ahead(input, is_backward);
+        let found = self.search_text(id, behind, range, is_backward, ahead)?;
+        Ok(in_haystack(input, is_backward, found))
+    }
+
+    /// The start state of a search that is so anchored.
+    fn start_for(&self, anchored: Anchored) -> StateID
+        ensures value { result ≡ start_for self.now.nfa anchored }
+        ensures resolve { result < length self.now.nfa.states }
+    {
+        match anchored {
+            Anchored::No => self.nfa.start_unanchored(),
+            Anchored::Yes | Anchored::Pattern(_) => self.nfa.start_anchored(),
+        }
+    }
+}
