@@ -71,7 +71,7 @@ fn make_nfa<R: Abort + AllocGlobal>(
 
 #[test]
 fn nfa(rt: HostRuntime) -> Result<(), Fail> {
-    for (line, answer) in worked::WALKS {
+    for (_, line, answer) in worked::WALKS {
         refuse_in_turn(&rt, |heap| make_nfa(&rt, heap, line, answer))?;
     }
     Ok(())
