@@ -3,7 +3,6 @@
 
 mod automata;
 mod below;
-mod clones;
 mod dfa;
 mod large;
 mod laws;
@@ -16,7 +15,6 @@ mod refusals;
 mod replays;
 mod rows;
 mod runs;
-mod sparse;
 mod starts;
 mod states;
 mod texts;

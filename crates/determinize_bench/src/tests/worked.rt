@@ -445,7 +445,7 @@ none\n",
 ];
 
 /// Single calls, and what they answer.
-pub const CALLS: [(&str, &str); 57] = [
+pub const CALLS: [(&str, &str); 65] = [
     ("dead", "000000000000000000\n"),
     ("start dir=fwd hay=- range=1..0", "kind Text -\n"),
     ("start dir=rev hay=- range=1..0", "kind Text -\n"),
@@ -598,5 +598,69 @@ ids=-\n",
     (
         "addstates fw=0 half=0 pids=- ids=- set=0,1,5 | C:1 U:2,3,4 F S:61-63>5,78-78>5 D:62-62>5 M:0",
         "0000000000000000000208\n",
+    ),
+    (
+        "build fw=0 half=0",
+        "\
+000000000000000000\n\
+match=0 len=0 pids=none usage=9\n\
+fw=0 half=0 have=- need=-\n\
+ids=-\n",
+    ),
+    (
+        "build fw=1 half=1 have=WordStartHalfAscii need=WordAscii",
+        "\
+0c0040000040000000\n\
+match=0 len=0 pids=none usage=9\n\
+fw=1 half=1 have=WordStartHalfAscii need=WordAscii\n\
+ids=-\n",
+    ),
+    (
+        "build fw=0 half=0 ids=2147483646,0",
+        "\
+000000000000000000fcffffff0ffbffffff0f\n\
+match=0 len=0 pids=none usage=19\n\
+fw=0 half=0 have=- need=-\n\
+ids=2147483646,0\n",
+    ),
+    (
+        "build fw=0 half=0 ids=300",
+        "\
+000000000000000000d804\n\
+match=0 len=0 pids=none usage=11\n\
+fw=0 half=0 have=- need=-\n\
+ids=300\n",
+    ),
+    (
+        "build fw=0 half=0 ids=8,0",
+        "\
+000000000000000000100f\n\
+match=0 len=0 pids=none usage=11\n\
+fw=0 half=0 have=- need=-\n\
+ids=8,0\n",
+    ),
+    (
+        "build fw=0 half=0 pids=0,2",
+        "\
+030000000000000000020000000000000002000000\n\
+match=1 len=2 pids=0,2 usage=21\n\
+fw=0 half=0 have=- need=-\n\
+ids=-\n",
+    ),
+    (
+        "build fw=0 half=0 pids=1,0",
+        "\
+030000000000000000020000000100000000000000\n\
+match=1 len=2 pids=1,0 usage=21\n\
+fw=0 half=0 have=- need=-\n\
+ids=-\n",
+    ),
+    (
+        "build fw=0 half=0 pids=0",
+        "\
+010000000000000000\n\
+match=1 len=1 pids=0 usage=9\n\
+fw=0 half=0 have=- need=-\n\
+ids=-\n",
     ),
 ];
