@@ -3,7 +3,6 @@
 
 mod automata;
 mod below;
-mod clones;
 mod dfa;
 mod large;
 mod laws;
@@ -14,8 +13,8 @@ mod parts;
 mod readme;
 mod refusals;
 mod replays;
+mod rows;
 mod runs;
-mod sparse;
 mod starts;
 mod states;
 mod texts;
@@ -26,21 +25,25 @@ use determinize_replay::verbs;
 use std::process::Abort;
 use std::test::Fail;
 
-/// Replays jobs, and compares each answer.
-fn replay<R: Abort + AllocGlobal>(rt: &R, jobs: &[(&str, &str)]) -> Result<(), Fail> {
-    for (line, wanted) in jobs {
-        let answer = verbs::answer(rt.alloc(), &Job::read(rt.alloc(), line)?)?;
-        assert_eq!(rt; answer.as_str(), *wanted, "{line}");
-    }
+/// Replays a job, and compares its answer.
+fn replay<R: Abort + AllocGlobal>(rt: &R, line: &str, wanted: &str) -> Result<(), Fail> {
+    let answer = verbs::answer(rt.alloc(), &Job::read(rt.alloc(), line)?)?;
+    assert_eq!(rt; answer.as_str(), wanted, "{line}");
     Ok(())
 }
 
 #[test]
 fn walks(rt: HostRuntime) -> Result<(), Fail> {
-    replay(&rt, &worked::WALKS)
+    for (_, line, wanted) in worked::WALKS {
+        replay(&rt, line, wanted)?;
+    }
+    Ok(())
 }
 
 #[test]
 fn single_calls(rt: HostRuntime) -> Result<(), Fail> {
-    replay(&rt, &worked::CALLS)
+    for (line, wanted) in worked::CALLS {
+        replay(&rt, line, wanted)?;
+    }
+    Ok(())
 }

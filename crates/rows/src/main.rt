@@ -1,16 +1,11 @@
 //! `rows N` prints the states of a worked walk, and its last match.
 #![tactic(auto)]
 
-mod nfas;
-mod run;
-#[cfg(test)]
-mod tests;
-mod walks;
-
 use std::alloc::Global;
 use std::process::ExitCode;
 use std::rt::Env;
 use std::{env, io};
+use worked_rows::run;
 
 fn main(rt: HostRuntime) -> ExitCode {
     let mut out = io::writer(&rt);

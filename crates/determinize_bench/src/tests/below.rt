@@ -5,35 +5,27 @@ use determinize_below::{
     Anchored, DenseTransitions, Input, Look, LookMatcher, LookSet, MatchKind, PatternID, SparseSet,
     SparseSets, SparseTransitions, StateID, Transition, Unit,
 };
-use std::process::Abort;
+use determinize_replay::values;
 use std::test::Fail;
 
 #[test]
-fn limits_of_ids(rt: HostRuntime) -> Result<(), Fail> {
-    for (number, wanted) in [
-        (0usize, None),
-        (2147483646, None),
-        (2147483647, Some(2147483647u64)),
-        (9000000000, Some(9000000000)),
-    ] {
-        let state = StateID::new(number).err().map(|error| error.attempted());
-        assert_eq!(rt; state, wanted, "{number}");
-        let pattern = PatternID::new(number).err().map(|error| error.attempted());
-        assert_eq!(rt; pattern, wanted, "{number}");
+fn ids(rt: HostRuntime) -> Result<(), Fail> {
+    for number in [0usize, 7, 2147483646] {
+        let (state, pattern) = (StateID::new(number)?, PatternID::new(number)?);
+        assert_eq!(rt; (state.as_usize(), pattern.as_usize()), (number, number));
+        assert_eq!(rt; state.as_u32(), pattern.as_u32());
     }
-    assert_eq!(rt; StateID::new(2147483646)?, StateID::MAX);
-    assert_eq!(rt; PatternID::new(2147483646)?, PatternID::MAX);
-    Ok(())
-}
-
-#[test]
-fn numbers_of_ids(rt: HostRuntime) -> Result<(), Fail> {
-    assert_eq!(rt; StateID::new(7)?.as_u32(), 7);
-    assert_eq!(rt; StateID::new(7)?.as_usize(), 7);
-    assert_eq!(rt; PatternID::new(7)?.as_u32(), 7);
-    assert_eq!(rt; PatternID::new(7)?.as_usize(), 7);
-    assert_eq!(rt; StateID::ZERO.as_u32(), 0);
-    assert_eq!(rt; PatternID::ZERO.as_u32(), 0);
+    let (Err(state), Err(pattern)) = (StateID::new(2147483647), PatternID::new(9000000000)) else {
+        panic!(rt; "an id is too great");
+    };
+    assert_eq!(rt;
+        (state.attempted(), pattern.attempted()),
+        (2147483647, 9000000000)
+    );
+    assert_eq!(rt;
+        (StateID::ZERO.as_u32(), StateID::MAX.as_u32()),
+        (0, 2147483646)
+    );
     assert_eq!(rt; (StateID::SIZE, PatternID::SIZE), (4, 4));
     assert!(rt; StateID::ZERO < StateID::MAX);
     let text = format!(in rt.alloc(); "{:?} {:?}", StateID::MAX, PatternID::ZERO)?;
@@ -68,19 +60,12 @@ fn sets_of_assertions(rt: HostRuntime) {
 
 #[test]
 fn classes_of_assertions(rt: HostRuntime) {
-    for (look, haystack, line, crlf, word) in [
-        (Look::End, true, false, false, false),
-        (Look::EndLF, false, true, false, false),
-        (Look::EndCRLF, false, true, true, false),
-        (Look::WordAscii, false, false, false, true),
-        (Look::WordEndHalfUnicode, false, false, false, true),
-    ] {
-        let set = LookSet::empty().insert(look);
-        assert_eq!(rt; set.contains_anchor_haystack(), haystack, "{look:?}");
-        assert_eq!(rt; set.contains_anchor_line(), line, "{look:?}");
-        assert_eq!(rt; set.contains_anchor_crlf(), crlf, "{look:?}");
-        assert_eq!(rt; set.contains_word(), word, "{look:?}");
-    }
+    let set = LookSet::empty().insert(Look::EndCRLF);
+    assert!(rt; set.contains_anchor_line() && set.contains_anchor_crlf());
+    assert!(rt; !set.contains_anchor_haystack() && !set.contains_word());
+    let set = LookSet::empty().insert(Look::End).insert(Look::WordAscii);
+    assert!(rt; !set.contains_anchor_line() && !set.contains_anchor_crlf());
+    assert!(rt; set.contains_anchor_haystack() && set.contains_word());
 }
 
 #[test]
@@ -125,38 +110,28 @@ fn inputs(rt: HostRuntime) {
     assert_eq!(rt; input.get_anchored(), Anchored::Pattern(PatternID::ZERO));
 }
 
-/// Inserts the ids of small numbers, and compares what each call answers.
-fn insert_all(rt: &impl Abort, set: &mut SparseSet, numbers: &[(usize, bool)]) -> Result<(), Fail> {
-    for (number, is_new) in numbers {
-        let id = StateID::new(*number)?;
-        assert!(rt; id.as_usize() < set.capacity());
-        assert_eq!(rt; set.insert(id), *is_new, "{number}");
-        assert!(rt; id.as_usize() < set.capacity());
-        assert!(rt; set.contains(id), "{number}");
-    }
-    Ok(())
-}
-
 #[test]
 fn sparse_sets(rt: HostRuntime) -> Result<(), Fail> {
-    let mut sets = SparseSets::new(rt.alloc(), 5)?;
-    assert_eq!(rt; sets.set1.capacity(), 5);
-    assert!(rt; sets.set1.is_empty());
-    insert_all(
-        &rt,
-        &mut sets.set1,
-        &[(4, true), (0, true), (4, false), (2, true), (0, false)],
-    )?;
+    let mut sets = SparseSets::new(rt.alloc(), 65)?;
+    assert_eq!(rt; sets.set1.capacity(), 65);
+    let set = &mut sets.set1;
+    for (number, is_new) in [(64usize, true), (0, true), (64, false), (63, true)] {
+        let id = StateID::new(number)?;
+        assert!(rt; id.as_usize() < set.capacity());
+        assert_eq!(rt; set.insert(id), is_new, "{number}");
+    }
     assert_eq!(rt; sets.set1.len(), 3);
     sets.swap();
     assert!(rt; sets.set1.is_empty());
-    let ids: Vec<u32> = sets.set2.iter().map(|id| id.as_u32()).collect(rt.alloc())?;
-    assert_eq!(rt; ids.as_slice(), [4, 0, 2].as_slice());
-    sets.clear();
-    assert!(rt; sets.set2.is_empty());
-    insert_all(&rt, &mut sets.set2, &[(4, true)])?;
+    let ids: Vec<StateID> = sets.set2.iter().collect(rt.alloc())?;
+    assert!(rt; ids == values::state_ids(rt.alloc(), "64,0,63")?);
     sets.set2.clear();
-    assert_eq!(rt; sets.set2.len(), 0);
+    assert!(rt; sets.set2.is_empty());
+    sets.clear();
+    let mut single = SparseSet::new(rt.alloc(), 1)?;
+    assert!(rt; !single.contains(StateID::ZERO));
+    assert!(rt; single.insert(StateID::ZERO));
+    assert!(rt; single.contains(StateID::ZERO));
     Ok(())
 }
 
@@ -175,17 +150,21 @@ fn transitions(rt: HostRuntime) -> Result<(), Fail> {
     let dense = DenseTransitions {
         transitions: Vec::from_slice(rt.alloc(), &table)?,
     };
-    for (byte, is_in, target) in [
-        (b'a', false, None),
-        (b'b', true, Some(next)),
-        (b'e', false, None),
-    ] {
-        assert_eq!(rt; trans.matches_byte(byte), is_in, "{byte}");
-        assert_eq!(rt; trans.matches_unit(Unit::u8(byte)), is_in, "{byte}");
-        assert_eq!(rt; sparse.matches_byte(byte), target, "{byte}");
-        assert_eq!(rt; sparse.matches_unit(Unit::u8(byte)), target, "{byte}");
-        assert_eq!(rt; dense.matches_byte(byte), target, "{byte}");
-        assert_eq!(rt; dense.matches_unit(Unit::u8(byte)), target, "{byte}");
+    for (byte, target) in [(b'a', None), (b'b', Some(next)), (b'e', None)] {
+        let unit = Unit::u8(byte);
+        let is_in = target.is_some();
+        assert_eq!(rt;
+            (trans.matches_byte(byte), trans.matches_unit(unit)),
+            (is_in, is_in)
+        );
+        assert_eq!(rt;
+            (sparse.matches_byte(byte), sparse.matches_unit(unit)),
+            (target, target)
+        );
+        assert_eq!(rt;
+            (dense.matches_byte(byte), dense.matches_unit(unit)),
+            (target, target)
+        );
     }
     assert!(rt; !trans.matches_unit(Unit::eoi(256)));
     Ok(())

@@ -18,7 +18,7 @@ const LINKS: usize = 100000;
 const PATTERNS: usize = 50000;
 
 /// What the states of a chain are.
-#[derive(Clone, Copy, Debug)]
+#[derive(Clone, Copy)]
 enum Link {
     /// A union of the next state and the first.
     BinaryUnion,

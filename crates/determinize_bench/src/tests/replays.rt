@@ -1,37 +1,15 @@
 //! A replay line by line: its counts, and what it prints.
 
 use determinize_replay::replay::{Replay, Tally};
-use std::process::Abort;
 use std::test::Fail;
 
-/// Replays lines, and compares the counts and all that is printed.
-fn expect<R: Abort + AllocGlobal>(
-    rt: &R,
-    lines: &[&str],
-    wanted: Tally,
-    text: &str,
-) -> Result<(), Fail> {
-    let mut out = Vec::new(rt.alloc());
-    let mut replay = Replay::new(rt.alloc(), None);
-    for line in lines {
-        replay.take_line(line, &mut out)?;
-    }
-    let tally = replay.finish(&mut out)?;
-    assert_eq!(rt; tally, wanted, "{lines:?}");
-    assert_eq!(rt; out.as_slice(), text.as_bytes(), "{lines:?}");
-    Ok(())
-}
+/// Lines, how many jobs they have and how many of these differ, and what is printed.
+type Replayed = (&'static [&'static str], u64, u64, &'static str);
 
-/// What is told of one job.
-fn one(differ: u64) -> Tally {
-    Tally { jobs: 1, differ }
-}
-
-#[test]
-fn right_answers(rt: HostRuntime) -> Result<(), Fail> {
-    expect(&rt, &["> dead", "000000000000000000"], one(0), "")?;
-    expect(
-        &rt,
+/// Right answers, wrong answers, several jobs, and no line.
+const REPLAYS: [Replayed; 9] = [
+    (&["> dead", "000000000000000000"], 1, 0, ""),
+    (
         &[
             "> walk text=61 | B:61>1 M:0",
             "00000000000000000000",
@@ -40,43 +18,35 @@ fn right_answers(rt: HostRuntime) -> Result<(), Fail> {
             "010000000000000000",
             "match 0 1",
         ],
-        one(0),
+        1,
+        0,
         "",
-    )
-}
-
-#[test]
-fn wrong_answers(rt: HostRuntime) -> Result<(), Fail> {
-    expect(
-        &rt,
+    ),
+    (
         &["> dead", "000000000000000001"],
-        one(1),
+        1,
+        1,
         "> dead\nexpected:\n000000000000000001\ngot:\n000000000000000000\n",
-    )?;
-    expect(
-        &rt,
+    ),
+    (
         &["> dead"],
-        one(1),
+        1,
+        1,
         "> dead\nexpected:\ngot:\n000000000000000000\n",
-    )?;
-    expect(
-        &rt,
+    ),
+    (
         &["> fromusize n=6", "none", "none"],
-        one(1),
+        1,
+        1,
         "> fromusize n=6\nexpected:\nnone\nnone\ngot:\nnone\n",
-    )?;
-    expect(
-        &rt,
+    ),
+    (
         &["> fromusize n=6", ""],
-        one(1),
+        1,
+        1,
         "> fromusize n=6\nexpected:\n\ngot:\nnone\n",
-    )
-}
-
-#[test]
-fn counts_of_several_jobs(rt: HostRuntime) -> Result<(), Fail> {
-    expect(
-        &rt,
+    ),
+    (
         &[
             "# each of the three",
             "> fromusize n=5",
@@ -92,27 +62,27 @@ fn counts_of_several_jobs(rt: HostRuntime) -> Result<(), Fail> {
             "> fromusize n=0",
             "none",
         ],
-        Tally { jobs: 5, differ: 2 },
-        "\
-> fromusize n=6
-expected:
-some LineLF
-got:
-none
-> fromusize n=0
-expected:
-none
-got:
-some NonWordByte
-",
-    )
-}
+        5,
+        2,
+        "> fromusize n=6\nexpected:\nsome LineLF\ngot:\nnone\n> fromusize n=0\nexpected:\nnone\ngot:\nsome NonWordByte\n",
+    ),
+    (&[], 0, 0, ""),
+    (&["# nothing"], 0, 0, ""),
+];
 
 #[test]
-fn no_lines(rt: HostRuntime) -> Result<(), Fail> {
-    let none = Tally { jobs: 0, differ: 0 };
-    expect(&rt, &[], none, "")?;
-    expect(&rt, &["# nothing"], none, "")
+fn counts(rt: HostRuntime) -> Result<(), Fail> {
+    for (lines, jobs, differ, text) in REPLAYS {
+        let mut out = Vec::new(rt.alloc());
+        let mut replay = Replay::new(rt.alloc(), None);
+        for line in lines {
+            replay.take_line(line, &mut out)?;
+        }
+        let tally = replay.finish(&mut out)?;
+        assert_eq!(rt; tally, Tally { jobs, differ }, "{lines:?}");
+        assert_eq!(rt; out.as_slice(), text.as_bytes(), "{lines:?}");
+    }
+    Ok(())
 }
 
 #[test]

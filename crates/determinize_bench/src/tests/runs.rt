@@ -1,6 +1,6 @@
 //! The program's work: its statuses, and readers and writers that fail.
 
-use determinize_replay::error::ReplayError;
+use determinize_replay::error::{JobError, ReplayError};
 use determinize_replay::run::{report, run};
 use std::alloc::AllocError;
 use std::io;
@@ -20,8 +20,9 @@ impl Read for Unreadable {
 
 /// A writer that takes so many writes and fails at the next.
 #[derive(Drop)]
-struct Failing {
-    left: u32,
+pub struct Failing {
+    /// How many writes are left.
+    pub left: u32,
 }
 
 impl Write for Failing {
@@ -38,71 +39,39 @@ impl Write for Failing {
     }
 }
 
-/// Runs the program over an input, and compares all that it gives.
-pub fn expect<R: Abort + AllocGlobal, I: Read + Drop>(
-    rt: &R,
-    input: I,
-    status: u8,
-    out_text: &str,
-    err_text: &str,
-) {
-    let mut out = Vec::new(rt.alloc());
-    let mut err = Vec::new(rt.alloc());
-    let found = run(rt.alloc(), &[], input, &mut out, &mut err);
-    assert_eq!(rt; err.as_slice(), err_text.as_bytes(), "{out_text}");
-    assert_eq!(rt; out.as_slice(), out_text.as_bytes(), "{err_text}");
-    assert_eq!(rt; found, status, "{out_text} {err_text}");
-}
-
-#[test]
-fn agreement(rt: HostRuntime) {
-    for (text, counts) in [
-        (
-            "> dead\n000000000000000000\n",
-            "1 jobs, 0 differ, 0 skipped\n",
-        ),
-        (
-            "# without an end of its line\n> fromusize n=6\nnone",
-            "1 jobs, 0 differ, 0 skipped\n",
-        ),
-        (
-            "> walk after=62 | M:0\n00000000000000000000\n010000000000000000\nmatch 0 0\n> size states=3 matches=2\nstates 3\n",
-            "2 jobs, 0 differ, 0 skipped\n",
-        ),
-    ] {
-        expect(&rt, text.as_bytes(), 0, counts, "");
-    }
-}
-
-#[test]
-fn differences(rt: HostRuntime) {
-    expect(
-        &rt,
-        b"> dead\n000000000000000000\n> fromusize n=6\nsome LineLF\n".as_slice(),
-        1,
-        "> fromusize n=6\nexpected:\nsome LineLF\ngot:\nnone\n2 jobs, 1 differ, 0 skipped\n",
-        "",
-    );
-}
-
-#[test]
-fn nothing_replayed(rt: HostRuntime) {
-    for (text, counts) in [
-        ("", "0 jobs, 0 differ, 0 skipped\n"),
-        ("# none\n", "0 jobs, 0 differ, 0 skipped\n"),
-    ] {
-        expect(&rt, text.as_bytes(), 2, counts, "no job was replayed\n");
-    }
-}
-
-/// The words of a line.
-fn words<R: Abort + AllocGlobal>(rt: &R, line: &str) -> Result<Vec<String>, Fail> {
+/// The arguments of a program.
+pub fn words<R: AllocGlobal>(rt: &R, line: &[&str]) -> Result<Vec<String>, Fail> {
     let mut words = Vec::new(rt.alloc());
-    for word in line.split(' ') {
+    for word in line {
         words.push(String::from_str(rt.alloc(), word)?)?;
     }
     Ok(words)
 }
+
+/// Runs the program over an input, and compares all that it gives.
+pub fn expect<R: Abort + AllocGlobal, I: Read + Drop>(
+    rt: &R,
+    line: &[&str],
+    input: I,
+    status: u8,
+    out_text: &str,
+    err_text: &str,
+) -> Result<(), Fail> {
+    let words = words(rt, line)?;
+    let mut out = Vec::new(rt.alloc());
+    let mut err = Vec::new(rt.alloc());
+    let found = run(rt.alloc(), words.as_slice(), input, &mut out, &mut err);
+    assert_eq!(rt; err.as_slice(), err_text.as_bytes(), "{line:?} {out_text}");
+    assert_eq!(rt; out.as_slice(), out_text.as_bytes(), "{line:?} {err_text}");
+    assert_eq!(rt; found, status, "{line:?} {out_text} {err_text}");
+    Ok(())
+}
+
+/// A job with its right answer.
+const DEAD: &str = "> dead\n000000000000000000\n";
+
+/// A job with a wrong answer, and one with its right answer.
+const WRONG_FIRST: &str = "> fromusize n=6\nsome LineLF\n> dead\n000000000000000000\n";
 
 /// A walk, one with a wrong answer, the first again, one of another match kind with a byte ahead,
 /// and a job that is no walk.
@@ -140,96 +109,112 @@ match 0 0
 5 jobs, 1 differ, 0 skipped
 ";
 
-#[test]
-fn walks_through_caches(rt: HostRuntime) -> Result<(), Fail> {
-    expect(&rt, JOBS.as_bytes(), 1, VERDICT, "");
-    for line in ["cache 0", "cache 1", "cache 2", "cache 64"] {
-        let words = words(&rt, line)?;
-        let mut out = Vec::new(rt.alloc());
-        let mut err = Vec::new(rt.alloc());
-        let status = run(
-            rt.alloc(),
-            words.as_slice(),
-            JOBS.as_bytes(),
-            &mut out,
-            &mut err,
-        );
-        assert_eq!(rt; out.as_slice(), VERDICT.as_bytes(), "{line}");
-        assert_eq!(rt; err.as_slice(), [].as_slice(), "{line}");
-        assert_eq!(rt; status, 1, "{line}");
-    }
-    Ok(())
-}
+/// What is said of other arguments.
+const NOT_TAKEN: &str = "arguments are not taken\n";
 
-#[test]
-fn refusals_before_caches(rt: HostRuntime) -> Result<(), Fail> {
-    for (text, said) in [
-        (
-            "> walk start=2 | M:0\nnone\n",
-            "line 1: not the id of a state of the NFA\n",
-        ),
-        ("# \n> walk | X:0\nnone\n", "line 2: not an NFA state\n"),
-    ] {
-        let words = words(&rt, "cache 3")?;
-        let mut out = Vec::new(rt.alloc());
-        let mut err = Vec::new(rt.alloc());
-        let status = run(
-            rt.alloc(),
-            words.as_slice(),
-            text.as_bytes(),
-            &mut out,
-            &mut err,
-        );
-        assert_eq!(rt; err.as_slice(), said.as_bytes(), "{text}");
-        assert_eq!(rt; status, 2, "{text}");
-    }
-    Ok(())
-}
+/// Arguments, an input, and the status, the output and the errors.
+type Run = (
+    &'static [&'static str],
+    &'static str,
+    u8,
+    &'static str,
+    &'static str,
+);
 
-#[test]
-fn arguments(rt: HostRuntime) -> Result<(), Fail> {
-    for line in [
-        "stdin",
-        "--help",
+/// Jobs that agree, one that differs, nothing to replay; walks through caches; jobs that are
+/// refused before walks through caches; other arguments.
+const RUNS: [Run; 20] = [
+    (&[], DEAD, 0, "1 jobs, 0 differ, 0 skipped\n", ""),
+    (
+        &[],
+        "# without an end of its line\n> fromusize n=6\nnone",
+        0,
+        "1 jobs, 0 differ, 0 skipped\n",
         "",
-        "cache",
-        "cache x",
-        "cache 1 2",
-        "search 1",
-    ] {
-        let words = words(&rt, line)?;
-        let input = b"> dead\n000000000000000000\n".as_slice();
-        let mut out = Vec::new(rt.alloc());
-        let mut err = Vec::new(rt.alloc());
-        let status = run(rt.alloc(), words.as_slice(), input, &mut out, &mut err);
-        assert_eq!(rt; status, 2, "{line}");
-        assert_eq!(rt; out.as_slice(), [].as_slice(), "{line}");
-        assert_eq!(rt; err.as_slice(), b"arguments are not taken\n".as_slice());
+    ),
+    (
+        &[],
+        "> walk after=62 | M:0\n00000000000000000000\n010000000000000000\nmatch 0 0\n> size states=3 matches=2\nstates 3\n",
+        0,
+        "2 jobs, 0 differ, 0 skipped\n",
+        "",
+    ),
+    (
+        &[],
+        "> dead\n000000000000000000\n> fromusize n=6\nsome LineLF\n",
+        1,
+        "> fromusize n=6\nexpected:\nsome LineLF\ngot:\nnone\n2 jobs, 1 differ, 0 skipped\n",
+        "",
+    ),
+    (
+        &[],
+        "",
+        2,
+        "0 jobs, 0 differ, 0 skipped\n",
+        "no job was replayed\n",
+    ),
+    (
+        &[],
+        "# none\n",
+        2,
+        "0 jobs, 0 differ, 0 skipped\n",
+        "no job was replayed\n",
+    ),
+    (&[], JOBS, 1, VERDICT, ""),
+    (&["cache", "0"], JOBS, 1, VERDICT, ""),
+    (&["cache", "1"], JOBS, 1, VERDICT, ""),
+    (&["cache", "2"], JOBS, 1, VERDICT, ""),
+    (&["cache", "64"], JOBS, 1, VERDICT, ""),
+    (
+        &["cache", "3"],
+        "> walk start=2 | M:0\nnone\n",
+        2,
+        "",
+        "line 1: not the id of a state of the NFA\n",
+    ),
+    (
+        &["cache", "3"],
+        "# \n> walk | X:0\nnone\n",
+        2,
+        "",
+        "line 2: not an NFA state\n",
+    ),
+    (&["stdin"], DEAD, 2, "", NOT_TAKEN),
+    (&["--help"], DEAD, 2, "", NOT_TAKEN),
+    (&[""], DEAD, 2, "", NOT_TAKEN),
+    (&["cache"], DEAD, 2, "", NOT_TAKEN),
+    (&["cache", "x"], DEAD, 2, "", NOT_TAKEN),
+    (&["cache", "1", "2"], DEAD, 2, "", NOT_TAKEN),
+    (&["search", "1"], DEAD, 2, "", NOT_TAKEN),
+];
+
+#[test]
+fn inputs(rt: HostRuntime) -> Result<(), Fail> {
+    for (line, input, status, out_text, err_text) in RUNS {
+        expect(&rt, line, input.as_bytes(), status, out_text, err_text)?;
     }
-    let error = io::Error::from(io::ErrorKind::InvalidData);
-    let text = format!(in rt.alloc(); "{}", ReplayError::of_arguments(&error))?;
-    assert_eq!(rt; text.as_str(), "arguments are not taken");
     Ok(())
 }
 
 #[test]
-fn lines_that_cannot_be_read(rt: HostRuntime) {
+fn lines_that_cannot_be_read(rt: HostRuntime) -> Result<(), Fail> {
     let text = b"> dead\n\xff\n".as_slice();
-    expect(&rt, text, 2, "", "line 2: can't be read\n");
-    expect(&rt, Unreadable, 2, "", "line 1: can't be read\n");
+    expect(&rt, &[], text, 2, "", "line 2: can't be read\n")?;
+    expect(&rt, &[], Unreadable, 2, "", "line 1: can't be read\n")?;
     let text = b"> fromusize n=6\nsome LineLF\n> dead\n00".as_slice();
     expect(
         &rt,
+        &[],
         text.chain(Unreadable),
         2,
         "> fromusize n=6\nexpected:\nsome LineLF\ngot:\nnone\n",
         "line 4: can't be read\n",
-    );
+    )
 }
 
 #[test]
 fn output_that_fails(rt: HostRuntime) {
-    let text = b"> fromusize n=6\nsome LineLF\n> dead\n000000000000000000\n".as_slice();
+    let text = WRONG_FIRST.as_bytes();
     for left in 0u32..8 {
         let mut out = Failing { left };
         let mut err = Vec::new(rt.alloc());
@@ -254,16 +239,21 @@ fn keeps_its_status_where_errors_fail(rt: HostRuntime) {
 }
 
 #[test]
-fn tells_of_want_of_memory(rt: HostRuntime) {
+fn tells_of_each_error(rt: HostRuntime) {
     let memory = io::Error::from(io::ErrorKind::OutOfMemory);
-    for error in [
-        ReplayError::from(AllocError),
-        ReplayError::of_reading(3, &memory),
-        ReplayError::of_arguments(&memory),
-        ReplayError::of_job(3, determinize_replay::error::JobError::from(AllocError)),
+    let other = io::Error::from(io::ErrorKind::InvalidData);
+    for (error, told) in [
+        (ReplayError::from(AllocError), "out of memory\n"),
+        (ReplayError::of_reading(3, &memory), "out of memory\n"),
+        (ReplayError::of_arguments(&memory), "out of memory\n"),
+        (
+            ReplayError::of_job(3, JobError::from(AllocError)),
+            "out of memory\n",
+        ),
+        (ReplayError::of_arguments(&other), NOT_TAKEN),
     ] {
         let mut err = Vec::new(rt.alloc());
         assert_eq!(rt; report(Err(error), &mut err), 2);
-        assert_eq!(rt; err.as_slice(), b"out of memory\n".as_slice());
+        assert_eq!(rt; err.as_slice(), told.as_bytes());
     }
 }

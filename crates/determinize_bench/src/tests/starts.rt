@@ -38,8 +38,10 @@ fn bytes_ahead(rt: HostRuntime) {
 #[test]
 fn numbers_of_kinds(rt: HostRuntime) {
     for number in 0..Start::len() {
-        let kind = Start::from_usize(number);
-        assert_eq!(rt; kind.map(|kind| kind.as_usize()), Some(number));
+        let Some(kind) = Start::from_usize(number) else {
+            panic!(rt; "no kind has the number {number}");
+        };
+        assert_eq!(rt; kind.as_usize(), number);
     }
     assert_eq!(rt; Start::len(), 6);
     assert_eq!(rt; Start::from_usize(6), None);
@@ -54,14 +56,4 @@ fn text_of_a_map(rt: HostRuntime) -> Result<(), Fail> {
     let text = format!(in rt.alloc(); "{map:?}")?;
     assert_eq!(rt; text.as_str(), MAP_OF_B);
     Ok(())
-}
-
-#[test]
-fn no_byte_is_custom_under_carriage_return(rt: HostRuntime) {
-    let mut matcher = LookMatcher::new();
-    matcher.set_line_terminator(b'\r');
-    let map = StartByteMap::new(&matcher);
-    for byte in 0..=255 {
-        assert_ne!(rt; map.get(byte), Start::CustomLineTerminator, "{byte}");
-    }
 }

@@ -1,8 +1,9 @@
 //! Jobs whose answers were worked by hand.
 
-/// Walks, and the bytes of their states.
-pub const WALKS: [(&str, &str); 45] = [
+/// The names of walks, their jobs, and the lines of their answers.
+pub const WALKS: [(&str, &str, &str); 45] = [
     (
+        "2",
         "walk text=- | B:61>1 M:0",
         "\
 00000000000000000000\n\
@@ -10,6 +11,7 @@ pub const WALKS: [(&str, &str); 45] = [
 none\n",
     ),
     (
+        "3",
         "walk text=61 | B:61>1 M:0",
         "\
 00000000000000000000\n\
@@ -18,6 +20,7 @@ none\n",
 match 0 1\n",
     ),
     (
+        "4a",
         "walk text=- | U:1,2,3 M:2 M:0 M:1",
         "\
 00000000000000000000020202\n\
@@ -25,6 +28,7 @@ match 0 1\n",
 match 2 0\n",
     ),
     (
+        "4b",
         "walk kind=leftmost-first text=- | U:1,2,3 M:2 M:0 M:1",
         "\
 00000000000000000000020202\n\
@@ -32,6 +36,7 @@ match 2 0\n",
 match 2 0\n",
     ),
     (
+        "5",
         "walk kind=leftmost-first text=7a25 | BU:4,1 B:00-ff>0 L:WordAscii>5 B:25>5 BU:2,3 BU:4,6 M:0",
         "\
 0000400100400000000008030203\n\
@@ -41,6 +46,7 @@ match 2 0\n",
 match 0 0\n",
     ),
     (
+        "6",
         "walk kind=leftmost-first start=4 lb=7a text=25 | BU:4,1 B:00-ff>0 L:WordAscii>5 B:25>5 BU:2,3 BU:4,6 M:0",
         "\
 040000000040000000080302\n\
@@ -49,6 +55,7 @@ match 0 0\n",
 match 0 0\n",
     ),
     (
+        "7",
         "walk start=4 lb=7a text=25 | BU:4,1 B:00-ff>0 L:WordAscii>5 B:25>5 BU:2,3 BU:4,6 M:0",
         "\
 040000000040000000080302\n\
@@ -57,6 +64,7 @@ match 0 0\n",
 match 0 1\n",
     ),
     (
+        "8a",
         "walk kind=leftmost-first text=71756172747a | L:WordAscii>1 S:30-39>2,41-5a>2,5f-5f>2,61-7a>2 BU:1,3 L:WordAscii>4 M:0",
         "\
 00004001004000000000\n\
@@ -70,6 +78,7 @@ match 0 1\n",
 match 0 6\n",
     ),
     (
+        "8b",
         "walk kind=leftmost-first lb=71 text=756172747a | L:WordAscii>1 S:30-39>2,41-5a>2,5f-5f>2,61-7a>2 BU:1,3 L:WordAscii>4 M:0",
         "\
 04000000004000000000\n\
@@ -82,6 +91,7 @@ match 0 6\n",
 none\n",
     ),
     (
+        "8c",
         "walk kind=leftmost-first text=756172747a | L:WordAscii>1 S:30-39>2,41-5a>2,5f-5f>2,61-7a>2 BU:1,3 L:WordAscii>4 M:0",
         "\
 00004001004000000000\n\
@@ -94,6 +104,7 @@ none\n",
 match 0 5\n",
     ),
     (
+        "9a",
         "walk text=0d0a | B:0d>1 L:StartCRLF>2 M:0",
         "\
 00000000000000000000\n\
@@ -103,6 +114,7 @@ match 0 5\n",
 none\n",
     ),
     (
+        "9b",
         "walk text=0d | B:0d>1 L:StartCRLF>2 M:0",
         "\
 00000000000000000000\n\
@@ -111,6 +123,7 @@ none\n",
 match 0 1\n",
     ),
     (
+        "9c",
         "walk text=0d78 | B:0d>1 L:StartCRLF>2 M:0",
         "\
 00000000000000000000\n\
@@ -120,6 +133,7 @@ match 0 1\n",
 match 0 1\n",
     ),
     (
+        "10a",
         "walk dir=rev text=0a0d | B:0a>1 L:StartCRLF>2 M:0",
         "\
 00000000000000000000\n\
@@ -129,6 +143,7 @@ match 0 1\n",
 none\n",
     ),
     (
+        "10b",
         "walk dir=rev text=0a | B:0a>1 L:StartCRLF>2 M:0",
         "\
 00000000000000000000\n\
@@ -137,6 +152,7 @@ none\n",
 match 0 1\n",
     ),
     (
+        "11a",
         "walk dir=rev term=78 lb=0a text=- | L:StartLF>1 M:0",
         "\
 00000000000400000000\n\
@@ -144,6 +160,7 @@ match 0 1\n",
 none\n",
     ),
     (
+        "11b",
         "walk dir=rev term=78 lb=78 text=- | L:StartLF>1 M:0",
         "\
 0004000000040000000002\n\
@@ -151,6 +168,7 @@ none\n",
 match 0 0\n",
     ),
     (
+        "12",
         "walk text=61 | B:61>1 C:1 L:WordAscii>3 M:0",
         "\
 00000000000000000000\n\
@@ -159,6 +177,7 @@ match 0 0\n",
 none\n",
     ),
     (
+        "13",
         "walk text=- | BU:0,1 M:0",
         "\
 0000000000000000000002\n\
@@ -166,6 +185,7 @@ none\n",
 match 0 0\n",
     ),
     (
+        "14",
         "walk term=61 lb=61 text=- | U:1,2 L:StartLF>3 L:WordStartHalfAscii>4 M:0 M:1",
         "\
 04040000000440000000020401\n\
@@ -173,6 +193,7 @@ match 0 0\n",
 match 0 0\n",
     ),
     (
+        "18",
         "walk kind=leftmost-first start=7 text=6361626163 | BU:1,5 BU:2,4 B:61>3 B:62>0 B:63>0 B:63>6 M:0 BU:0,8 B:00-ff>7",
         "\
 0000000000000000000e0d0202040206\n\
@@ -185,6 +206,7 @@ match 0 0\n",
 match 0 1\n",
     ),
     (
+        "19",
         "walk kind=leftmost-first text=2061 | BU:2,1 B:00-ff>0 L:WordUnicode>3 M:0",
         "\
 000040010000010000000401\n\
@@ -194,6 +216,7 @@ match 0 1\n",
 match 0 1\n",
     ),
     (
+        "20",
         "walk kind=leftmost-first text=31323320666f6f6261722034353637 | BU:2,1 B:00-ff>0 U:3,6 B:61-7a>4 BU:3,5 M:0 B:30-39>7 BU:6,8 M:1",
         "\
 0000000000000000000004020609\n\
@@ -216,6 +239,7 @@ match 0 1\n",
 match 1 3\n",
     ),
     (
+        "25a",
         "walk text=62 | C:1 U:2,3,4 F S:61-63>5,78-78>5 D:62-62>5 M:0",
         "\
 00000000000000000002020202\n\
@@ -224,6 +248,7 @@ match 1 3\n",
 match 0 1\n",
     ),
     (
+        "25b",
         "walk text=64 | C:1 U:2,3,4 F S:61-63>5,78-78>5 D:62-62>5 M:0",
         "\
 00000000000000000002020202\n\
@@ -232,6 +257,7 @@ match 0 1\n",
 none\n",
     ),
     (
+        "27a",
         "walk text=0d0a | BU:2,1 B:00-ff>0 L:EndCRLF>3 M:0",
         "\
 001400000020000000000401\n\
@@ -241,6 +267,7 @@ none\n",
 match 0 2\n",
     ),
     (
+        "27b",
         "walk dir=rev text=0a0d | BU:2,1 B:00-ff>0 L:EndCRLF>3 M:0",
         "\
 001400000020000000000401\n\
@@ -250,6 +277,7 @@ match 0 2\n",
 match 0 2\n",
     ),
     (
+        "28a",
         "walk text=61 | B:61>1 C:1",
         "\
 00000000000000000000\n\
@@ -258,6 +286,7 @@ match 0 2\n",
 none\n",
     ),
     (
+        "28b",
         "walk text=- | U:0,0,1,1,0 M:0",
         "\
 0000000000000000000002\n\
@@ -265,6 +294,7 @@ none\n",
 match 0 0\n",
     ),
     (
+        "28c",
         "walk text=- | BU:1,2 BU:0,3 M:0 M:1",
         "\
 00000000000000000000020401\n\
@@ -272,6 +302,7 @@ match 0 0\n",
 match 1 0\n",
     ),
     (
+        "28d",
         "walk kind=leftmost-first text=- | BU:1,2 BU:0,3 M:0 M:1",
         "\
 00000000000000000000020401\n\
@@ -279,6 +310,7 @@ match 1 0\n",
 match 1 0\n",
     ),
     (
+        "28e",
         "walk text=- | U:1,2 U: M:0",
         "\
 000000000000000000000202\n\
@@ -286,6 +318,7 @@ match 1 0\n",
 match 0 0\n",
     ),
     (
+        "28f",
         "walk text=6161 | BU:1,2 B:61>0 M:0",
         "\
 000000000000000000000202\n\
@@ -295,6 +328,7 @@ match 0 0\n",
 match 0 2\n",
     ),
     (
+        "28g",
         "walk kind=leftmost-first text=6161 | BU:2,1 B:61>0 M:0",
         "\
 000000000000000000000401\n\
@@ -304,6 +338,7 @@ match 0 2\n",
 match 0 0\n",
     ),
     (
+        "29a",
         "walk term=0d lb=0d text=- | L:StartLF>1 M:0",
         "\
 0004000000040000000002\n\
@@ -311,6 +346,7 @@ match 0 0\n",
 match 0 0\n",
     ),
     (
+        "29b",
         "walk term=0d lb=0a text=- | L:StartLF>1 M:0",
         "\
 00100000000400000000\n\
@@ -318,6 +354,7 @@ match 0 0\n",
 none\n",
     ),
     (
+        "29c",
         "walk term=ff text=ff | B:ff>1 L:StartLF>2 M:0",
         "\
 00000000000000000000\n\
@@ -326,6 +363,7 @@ none\n",
 match 0 1\n",
     ),
     (
+        "29d",
         "walk term=ff text=ff | L:EndLF>1 M:0",
         "\
 00140000000800000000\n\
@@ -334,6 +372,7 @@ match 0 1\n",
 match 0 0\n",
     ),
     (
+        "29e",
         "walk term=61 text=61 | B:61>1 U:2,3 L:StartLF>4 L:WordEndAscii>5 M:0 M:1",
         "\
 00000000000000000000\n\
@@ -342,6 +381,7 @@ match 0 0\n",
 match 0 1\n",
     ),
     (
+        "30a",
         "walk text=61 | B:61>1 M:0 L:WordAscii>1",
         "\
 00000000000000000000\n\
@@ -350,6 +390,7 @@ match 0 1\n",
 match 0 1\n",
     ),
     (
+        "30b",
         "walk text=- | M:2147483646",
         "\
 00000000000000000000\n\
@@ -357,6 +398,7 @@ match 0 1\n",
 match 2147483646 0\n",
     ),
     (
+        "31a",
         "walk kind=leftmost-first text=71756172 after=74 | L:WordAscii>1 S:30-39>2,41-5a>2,5f-5f>2,61-7a>2 BU:1,3 L:WordAscii>4 M:0",
         "\
 00004001004000000000\n\
@@ -368,6 +410,7 @@ match 2147483646 0\n",
 none\n",
     ),
     (
+        "31b",
         "walk kind=leftmost-first text=71756172 after=20 | L:WordAscii>1 S:30-39>2,41-5a>2,5f-5f>2,61-7a>2 BU:1,3 L:WordAscii>4 M:0",
         "\
 00004001004000000000\n\
@@ -379,6 +422,7 @@ none\n",
 match 0 4\n",
     ),
     (
+        "31c",
         "walk kind=leftmost-first text=71756172 | L:WordAscii>1 S:30-39>2,41-5a>2,5f-5f>2,61-7a>2 BU:1,3 L:WordAscii>4 M:0",
         "\
 00004001004000000000\n\
@@ -390,6 +434,7 @@ match 0 4\n",
 match 0 4\n",
     ),
     (
+        "32",
         "walk text=0d after=0a | B:0d>1 L:StartCRLF>2 M:0",
         "\
 00000000000000000000\n\
@@ -400,7 +445,7 @@ none\n",
 ];
 
 /// Single calls, and what they answer.
-pub const CALLS: [(&str, &str); 57] = [
+pub const CALLS: [(&str, &str); 65] = [
     ("dead", "000000000000000000\n"),
     ("start dir=fwd hay=- range=1..0", "kind Text -\n"),
     ("start dir=rev hay=- range=1..0", "kind Text -\n"),
@@ -553,5 +598,69 @@ ids=-\n",
     (
         "addstates fw=0 half=0 pids=- ids=- set=0,1,5 | C:1 U:2,3,4 F S:61-63>5,78-78>5 D:62-62>5 M:0",
         "0000000000000000000208\n",
+    ),
+    (
+        "build fw=0 half=0",
+        "\
+000000000000000000\n\
+match=0 len=0 pids=none usage=9\n\
+fw=0 half=0 have=- need=-\n\
+ids=-\n",
+    ),
+    (
+        "build fw=1 half=1 have=WordStartHalfAscii need=WordAscii",
+        "\
+0c0040000040000000\n\
+match=0 len=0 pids=none usage=9\n\
+fw=1 half=1 have=WordStartHalfAscii need=WordAscii\n\
+ids=-\n",
+    ),
+    (
+        "build fw=0 half=0 ids=2147483646,0",
+        "\
+000000000000000000fcffffff0ffbffffff0f\n\
+match=0 len=0 pids=none usage=19\n\
+fw=0 half=0 have=- need=-\n\
+ids=2147483646,0\n",
+    ),
+    (
+        "build fw=0 half=0 ids=300",
+        "\
+000000000000000000d804\n\
+match=0 len=0 pids=none usage=11\n\
+fw=0 half=0 have=- need=-\n\
+ids=300\n",
+    ),
+    (
+        "build fw=0 half=0 ids=8,0",
+        "\
+000000000000000000100f\n\
+match=0 len=0 pids=none usage=11\n\
+fw=0 half=0 have=- need=-\n\
+ids=8,0\n",
+    ),
+    (
+        "build fw=0 half=0 pids=0,2",
+        "\
+030000000000000000020000000000000002000000\n\
+match=1 len=2 pids=0,2 usage=21\n\
+fw=0 half=0 have=- need=-\n\
+ids=-\n",
+    ),
+    (
+        "build fw=0 half=0 pids=1,0",
+        "\
+030000000000000000020000000100000000000000\n\
+match=1 len=2 pids=1,0 usage=21\n\
+fw=0 half=0 have=- need=-\n\
+ids=-\n",
+    ),
+    (
+        "build fw=0 half=0 pids=0",
+        "\
+010000000000000000\n\
+match=1 len=1 pids=0 usage=9\n\
+fw=0 half=0 have=- need=-\n\
+ids=-\n",
     ),
 ];

@@ -10,35 +10,27 @@ use determinize_replay::nfas;
 use std::process::Abort;
 use std::test::Fail;
 
-/// Makes a set.
-fn make_set(rt: &impl Abort, heap: &Heap, capacity: usize) -> Result<bool, Fail>
-    requires { capacity ≤ 2147483647 }
-{
-    let (first, second) = call_twice(heap, || SparseSet::new(heap, capacity))?;
-    for set in first.iter().chain(Some(&second)) {
-        assert!(rt; set.is_empty());
-        assert_eq!(rt; set.capacity(), capacity);
-    }
-    Ok(first.is_some())
-}
-
-/// Makes two sets.
+/// Makes a set, and then two at once.
 fn make_sets(rt: &impl Abort, heap: &Heap, capacity: usize) -> Result<bool, Fail>
     requires { capacity ≤ 2147483647 }
 {
+    let (single, second) = call_twice(heap, || SparseSet::new(heap, capacity))?;
+    for set in single.iter().chain(Some(&second)) {
+        assert!(rt; set.is_empty());
+        assert_eq!(rt; set.capacity(), capacity);
+    }
     let (first, second) = call_twice(heap, || SparseSets::new(heap, capacity))?;
     for sets in first.iter().chain(Some(&second)) {
         assert!(rt; sets.set1.is_empty() && sets.set2.is_empty());
         assert_eq!(rt; sets.set1.capacity(), capacity);
         assert_eq!(rt; sets.set2.capacity(), capacity);
     }
-    Ok(first.is_some())
+    Ok(single.is_some() && first.is_some())
 }
 
 /// The sets have room for the states of the NFAs of walks.
 #[test]
 fn sets(rt: HostRuntime) -> Result<(), Fail> {
-    refuse_over_walks(&rt, |heap, row| make_set(&rt, heap, row.nfa.len()))?;
     refuse_over_walks(&rt, |heap, row| make_sets(&rt, heap, row.nfa.len()))
 }
 
@@ -71,7 +63,7 @@ fn make_nfa<R: Abort + AllocGlobal>(
 
 #[test]
 fn nfa(rt: HostRuntime) -> Result<(), Fail> {
-    for (line, answer) in worked::WALKS {
+    for (_, line, answer) in worked::WALKS {
         refuse_in_turn(&rt, |heap| make_nfa(&rt, heap, line, answer))?;
     }
     Ok(())

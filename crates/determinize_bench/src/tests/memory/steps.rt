@@ -115,11 +115,6 @@ fn record(rt: &impl Abort, heap: &Heap, row: &Row) -> Result<bool, Fail> {
     Ok(added.is_ok())
 }
 
-#[test]
-fn recordings(rt: HostRuntime) -> Result<(), Fail> {
-    refuse_over_walks(&rt, |heap, row| record(&rt, heap, row))
-}
-
 /// Starts a walk.
 fn start(rt: &impl Abort, heap: &Heap, row: &Row) -> Result<bool, Fail> {
     let nfa = &row.nfa;
@@ -140,7 +135,9 @@ fn start(rt: &impl Abort, heap: &Heap, row: &Row) -> Result<bool, Fail> {
 
 #[test]
 fn starts(rt: HostRuntime) -> Result<(), Fail> {
-    refuse_over_walks(&rt, |heap, row| start(&rt, heap, row))
+    refuse_over_walks(&rt, |heap, row| {
+        Ok(record(&rt, heap, row)? && start(&rt, heap, row)?)
+    })
 }
 
 /// The transition from a state, with a count that is let go.
@@ -247,12 +244,9 @@ fn leave_states(rt: &impl Abort, heap: &Heap, row: &Row, is_counted: bool) -> Re
 
 #[test]
 fn transitions(rt: HostRuntime) -> Result<(), Fail> {
-    refuse_over_walks(&rt, |heap, row| leave_states(&rt, heap, row, false))
-}
-
-#[test]
-fn counted_transitions(rt: HostRuntime) -> Result<(), Fail> {
-    refuse_over_walks(&rt, |heap, row| leave_states(&rt, heap, row, true))
+    refuse_over_walks(&rt, |heap, row| {
+        Ok(leave_states(&rt, heap, row, false)? && leave_states(&rt, heap, row, true)?)
+    })
 }
 
 /// Walks.

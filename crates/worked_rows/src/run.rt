@@ -1,6 +1,6 @@
 //! The work of the program, over any two writers.
 
-ghost use Rattle.std.specs.Prelude.{◌≡◌, ◌≤◌};
+ghost use Rattle.std.specs.Prelude.{◌≡◌, ◌<◌, ◌≤◌, OnErr, OnOk};
 
 use crate::walks::Walk;
 use determinize_below::{BuildError, HalfMatch};
@@ -67,8 +67,10 @@ pub fn run_rows<A: Allocator + Copy, W: Write, E: Write>(
 }
 
 /// The status of what became of a walk. What kept it from being printed is said on `err`.
-pub(crate) fn report<E: Write>(outcome: Result<(), RowError>, err: &mut E) -> u8
-    ensures { result ≤ 2 }
+pub fn report<E: Write>(outcome: Result<(), RowError>, err: &mut E) -> u8
+    ensures printed { OnOk outcome (result ≡ 0) }
+    ensures failed { OnErr outcome (0 < result) }
+    ensures most { result ≤ 2 }
 {
     match outcome {
         Ok(()) => 0,

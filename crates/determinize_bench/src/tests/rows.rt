@@ -1,0 +1,117 @@
+//! The work of the program `rows`: each name, each status, writers that fail, and memory that is
+//! refused.
+
+use crate::tests::memory::{Heap, refuse_in_turn};
+use crate::tests::runs::{Failing, words};
+use crate::tests::worked;
+use determinize_below::BuildError;
+use std::alloc::AllocError;
+use std::process::Abort;
+use std::test::Fail;
+use worked_rows::run::{RowError, report, run_rows};
+
+/// Words that name no walk.
+const OTHER_WORDS: [&[&str]; 15] = [
+    &[],
+    &["3", "3"],
+    &["3", "4a"],
+    &["1"],
+    &["4"],
+    &["03"],
+    &["4A"],
+    &["15"],
+    &["21"],
+    &["28"],
+    &["-3"],
+    &[""],
+    &[" 3"],
+    &["3 "],
+    &["3\n"],
+];
+
+#[test]
+fn refuses_other_words(rt: HostRuntime) -> Result<(), Fail> {
+    for line in OTHER_WORDS {
+        let words = words(&rt, line)?;
+        let mut out = Vec::new(rt.alloc());
+        let mut err = Vec::new(rt.alloc());
+        let status = run_rows(rt.alloc(), words.as_slice(), &mut out, &mut err);
+        assert_eq!(rt; status, 2, "{line:?}");
+        assert_eq!(rt; out.as_slice(), [].as_slice(), "{line:?}");
+        assert_eq!(rt; err.as_slice(), b"no such row\n".as_slice(), "{line:?}");
+    }
+    Ok(())
+}
+
+/// Prints a walk, or says that memory was refused and prints a beginning of it.
+fn print<R: Abort + AllocGlobal>(
+    rt: &R,
+    heap: &Heap,
+    words: &[String],
+    lines: &str,
+) -> Result<bool, Fail> {
+    let mut out = Vec::new(rt.alloc());
+    let mut err = Vec::new(rt.alloc());
+    heap.begin();
+    let status = run_rows(heap, words, &mut out, &mut err);
+    heap.end();
+    if status == 0 {
+        assert_eq!(rt; out.as_slice(), lines.as_bytes());
+        assert_eq!(rt; err.as_slice(), [].as_slice());
+        return Ok(true);
+    }
+    assert_eq!(rt; status, 1, "{words:?}");
+    assert_eq!(rt; err.as_slice(), b"out of memory\n".as_slice());
+    assert!(rt; lines.as_bytes().starts_with(out.as_slice()));
+    Ok(false)
+}
+
+/// The last of the runs in turn meets no refusal, and prints the walk.
+#[test]
+fn prints_each_walk_or_tells_of_want_of_memory(rt: HostRuntime) -> Result<(), Fail> {
+    for (name, _, lines) in worked::WALKS {
+        let words = words(&rt, &[name])?;
+        refuse_in_turn(&rt, |heap| print(&rt, heap, words.as_slice(), lines))?;
+    }
+    Ok(())
+}
+
+#[test]
+fn tells_of_output_that_fails(rt: HostRuntime) -> Result<(), Fail> {
+    let words = words(&rt, &["3"])?;
+    for left in 0u32..30 {
+        let mut out = Failing { left };
+        let mut err = Vec::new(rt.alloc());
+        let status = run_rows(rt.alloc(), words.as_slice(), &mut out, &mut err);
+        assert_eq!(rt; status, 1, "after {left} writes");
+    }
+    let mut out = Failing { left: 1000 };
+    let mut err = Vec::new(rt.alloc());
+    let status = run_rows(rt.alloc(), words.as_slice(), &mut out, &mut err);
+    assert_eq!(rt; status, 0);
+    Ok(())
+}
+
+#[test]
+fn keeps_its_status_where_errors_fail(rt: HostRuntime) -> Result<(), Fail> {
+    let words = words(&rt, &["none"])?;
+    let mut out = Vec::new(rt.alloc());
+    let mut err = Failing { left: 0 };
+    let status = run_rows(rt.alloc(), words.as_slice(), &mut out, &mut err);
+    assert_eq!(rt; status, 2);
+    assert_eq!(rt; out.as_slice(), [].as_slice());
+    Ok(())
+}
+
+#[test]
+fn tells_of_want_of_memory(rt: HostRuntime) -> Result<(), Fail> {
+    for error in [
+        RowError::from(AllocError),
+        RowError::from(BuildError::OutOfMemory),
+    ] {
+        let mut err = Vec::new(rt.alloc());
+        assert_eq!(rt; report(Err(error), &mut err), 1);
+        assert_eq!(rt; err.as_slice(), b"out of memory\n".as_slice());
+    }
+    Ok(())
+}
