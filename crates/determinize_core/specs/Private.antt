@@ -7,3 +7,4 @@ pub mod PatternBytes
 pub mod Reading
 pub mod Recording
 pub mod Search
+pub mod SmallBytes

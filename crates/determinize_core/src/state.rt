@@ -23,6 +23,7 @@ mod debug;
 mod mark;
 mod nfa_state_ids;
 mod pattern_ids;
+mod small_bytes;
 mod varint;
 
 ghost use Rattle.std.specs.Prelude.{◌≡◌, ◌+◌, ◌*◌, ◌<◌, ◌≤◌, [], length, slice_index, option_map, IfOk, Ok, None};
@@ -34,13 +35,14 @@ use determinize_below::{LookSet, PatternID};
 pub(crate) use mark::Mark;
 pub use nfa_state_ids::NfaStateIds;
 use pattern_ids::PatternIds;
+use small_bytes::SmallBytes;
 use std::alloc::{AllocError, Allocator, Global};
 use std::marker::Model;
 
 /// A finished state of a DFA. It can't be changed; a clone copies its bytes.
 #[derive(Drop)]
 pub struct State<A: Allocator = Global> {
-    bytes: Vec<u8, A>,
+    bytes: SmallBytes<A>,
 }
 
 impl<A: Allocator> Model for State<A> {
@@ -49,9 +51,9 @@ impl<A: Allocator> Model for State<A> {
 
     ghost Value = { StateValue };
 
-    ghost view = { λ s. value_of s.bytes.items };
+    ghost view = { λ s. value_of s.bytes };
 
-    ghost invariant = { λ s. IsSpelled s.bytes.items };
+    ghost invariant = { λ s. IsSpelled s.bytes };
 }
 
 impl<A: Allocator> State<A> {
@@ -62,7 +64,7 @@ impl<A: Allocator> State<A> {
         ensures { IfOk result (λ s. s ≡ dead) }
     {
         Ok(State {
-            bytes: Vec::from_slice(alloc, &[0; bytes::COUNT])?,
+            bytes: SmallBytes::from_slice(alloc, &[0; bytes::COUNT])?,
         })
     }
 
@@ -147,7 +149,7 @@ impl<A: Allocator> State<A> {
         ensures bytes { result ≡ length (spell self.now) }
         ensures bound { result ≤ 13 + 4 * length self.now.patterns + 5 * length self.now.states }
     {
-        self.bytes.len()
+        self.bytes.as_slice().len()
     }
 
     /// The bytes of the state, the one spelling of its value.
@@ -171,9 +173,8 @@ impl<A: Allocator + Clone> Clone for State<A> {
     ghost is_clone = { λ a b. a ≡ b };
 
     fn clone(&self) -> Result<State<A>, AllocError> {
-        let alloc = self.bytes.allocator().clone()?;
         Ok(State {
-            bytes: Vec::from_slice(alloc, self.bytes.as_slice())?,
+            bytes: self.bytes.clone()?,
         })
     }
 }

@@ -1,7 +1,8 @@
 -- Walks, one step more at a time.
-use Rattle.std.proofs.Common.{◌≡◌, ℕ, ◌+◌, ◌<◌, ◌≤◌, Bool, true, false, cond, inl, inr, Option, Some, None, List, [], ◌∷◌, ◌++◌, length, map, take, refl, sym, ap, ◌∙◌, subst, arith, add_assoc}
+use Rattle.std.proofs.Common.{◌≡◌, ℕ, ◌+◌, ◌-◌, ◌<◌, ◌≤◌, Bool, true, false, cond, inl, inr, Option, Some, None, List, [], ◌∷◌, ◌++◌, length, map, take, refl, sym, ap, ◌∙◌, subst, arith, add_assoc}
 use Rattle.std.specs.Prelude.{get_or, min, slice_get}
-use Rattle.std.proofs.lemmas.List.{map-append, take_all, take_more}
+use Rattle.std.proofs.lemmas.List.{length-append, map-append, take_all, take_more}
+use Rattle.std.proofs.Math.Seq.{get_or-append_seam}
 use Rattle.determinize_lazy.specs.Pairs.{is_kept, Pair}
 use Rattle.determinize_lazy.specs.Private.Places.{AreValid, IsPlace}
 use Rattle.determinize_lazy.specs.Kept.{after_pair, after_walk, Cache, held_values, kept, missed, step_of}
@@ -127,3 +128,32 @@ pub walked_resolves : (old : Cache) (first : Value) (us : List (Option ℕ)) (va
     → IsWalked old first us values last place new → AllResolve new.nfa last.states
 walked_resolves old first us values last place new accepted h w =
     subst (λ (n : Nfa). AllResolve n last.states) (sym (ap (λ (c : Cache). c.nfa) w.after)) (subst (λ (v : Value). AllResolve old.nfa v.states) (sym w.end) (after_resolves old.nfa old.kind accepted first us h))
+
+-- a walk over some units, whose values stand in one list
+abbrev pub IsListed : Cache → Value → List (Option ℕ) → List Value → Option ℕ → Cache → Type 0
+IsListed old first us states place new =
+    (values : List Value) × (last : Value) × (states ≡ values ++ last ∷ []) × IsWalked old first us values last place new
+
+-- the last of the list is the last of the walk
+pub listed_last : (old new : Cache) (first : Value) (us : List (Option ℕ)) (states : List Value) (place : Option ℕ) (len : ℕ) (last : Value) → IsListed old first us states place new → len ≡ length states → last ≡ get_or states (len - 1) last
+    → (values : List Value) × (states ≡ values ++ last ∷ []) × IsWalked old first us values last place new
+listed_last old new first us states place len last w len_is here =
+    let size : length states ≡ length w.0 + 1 = ap length w.2 ∙ length-append w.0 (w.1 ∷ []) in
+    let at : len - 1 ≡ length w.0 = omega (arith, size, len_is) in
+    let same : w.1 ≡ last = sym (here ∙ ap (λ n. get_or states n last) at ∙ ap (λ vs. get_or vs (length w.0) last) w.2 ∙ get_or-append_seam w.0 w.1 [] last) in
+    (w.0, w.2 ∙ ap (λ (v : Value). w.0 ++ v ∷ []) same, subst (λ (v : Value). IsWalked old first us w.0 v place new) same w.3)
+
+-- the unit behind the last byte
+pub listed_end : (old new newer : Cache) (first : Value) (text : List ℕ) (ahead : Option ℕ) (i len : ℕ) (states : List Value) (last next : Value) (place place' : Option ℕ) → old.computed ≤ 18446744073709551615
+    → length text ≤ i
+    → IsListed old first (map Some (take i text)) states place new
+    → len ≡ length states
+    → last ≡ get_or states (len - 1) last
+    → next ≡ step_of new last ahead
+    → newer ≡ after_turn new last ahead
+    → IsPlace (held_values newer) next place'
+    → IsValue next
+    → IsWalked old first (units (between None text ahead)) states next place' newer
+listed_end old new newer first text ahead i len states last next place place' few past listed size here a b at valid =
+    let w = listed_last old new first _ states place len last listed size here in
+    walked_end old first text ahead i w.0 states last next place place' new newer few past w.2 a b at valid w.1

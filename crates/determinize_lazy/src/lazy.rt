@@ -424,18 +424,13 @@ impl<'n, N: Allocator, A: Allocator + Copy> Lazy<'n, N, A> {
     {
         let mut place = self.place_of(&first);
         let mut states = Vec::with_capacity(self.alloc, text.len() + 2)?;
-        let mut state = first;
+        states.push(first)?;
         for byte in text {
-            let Reached {
-                state: following,
-                place: next,
-            } = self.turn(&state, place, Some(*byte))?;
-            states.push(state)?;
-            state = following;
-            place = next;
+            let reached = self.turn(&states[states.len() - 1], place, Some(*byte))?;
+            states.push(reached.state)?;
+            place = reached.place;
         }
-        let reached = self.turn(&state, place, look_ahead)?;
-        states.push(state)?;
+        let reached = self.turn(&states[states.len() - 1], place, look_ahead)?;
         states.push(reached.state)?;
         Ok(states)
     }

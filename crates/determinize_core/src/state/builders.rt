@@ -11,6 +11,7 @@ ghost use Rattle.determinize_core.specs.Private.Marking.{IsMarkOf, IsGrown};
 
 use crate::state::nfa_state_ids::NfaStateIds;
 use crate::state::pattern_ids::PatternIds;
+use crate::state::small_bytes::SmallBytes;
 use crate::state::{Mark, State, bytes, varint};
 use determinize_below::{Look, LookSet, PatternID, StateID};
 use std::alloc::{AllocError, Allocator, Global};
@@ -333,7 +334,7 @@ impl<A: Allocator> StateBuilderNFA<A> {
     {
         let alloc = self.bytes.allocator().clone()?;
         Ok(State {
-            bytes: Vec::from_slice(alloc, self.bytes.as_slice())?,
+            bytes: SmallBytes::from_slice(alloc, self.bytes.as_slice())?,
         })
     }
 

@@ -2,7 +2,7 @@ use Rattle.determinize_core.proofs.BuildingLaws.{spelled_zeros}
 use Rattle.determinize_core.proofs.state.State.dead.Goals as goal
 
 pub invariant_of-result : goal.invariant_of-result
-invariant_of-result g c = rw c.in_ok-from_slice.ensures.items spelled_zeros.0
+invariant_of-result g c = rw c.in_ok-from_slice.ensures.value spelled_zeros.0
 
 pub returns : goal.returns
-returns g c = rw c.in_ok-from_slice.ensures.items spelled_zeros.1
+returns g c = rw c.in_ok-from_slice.ensures.value spelled_zeros.1
