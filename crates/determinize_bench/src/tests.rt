@@ -15,6 +15,7 @@ mod refusals;
 mod replays;
 mod rows;
 mod runs;
+mod searches;
 mod starts;
 mod states;
 mod texts;

@@ -1,4 +1,4 @@
--- The worked walks over one cache, computed.
+-- The worked walks and searches over one cache, computed.
 use Rattle.std.proofs.Common.{refl}
 use Rattle.determinize_below.specs.Edges.{reach}
 use Rattle.determinize_below.specs.Look.{has, insert, meets}
@@ -7,11 +7,13 @@ use Rattle.determinize_core.specs.LookTables.{insert_where, known_set, word_open
 use Rattle.determinize_core.specs.Spelling.{spell}
 use Rattle.determinize_core.specs.Step.{step}
 use Rattle.determinize_core.specs.Varint.{varint}
+use Rattle.determinize_core.specs.Chain.{chain}
 use Rattle.determinize_lazy.specs.Kept.{after_text}
+use Rattle.determinize_lazy.specs.Searches.{after_search, last_in}
 use Rattle.determinize_lazy.specs.WorkedRows.{AreWorkedRows}
 
 pub are_worked_rows : AreWorkedRows
-unfolding has insert is_word_byte meets insert_where known_set word_opened line_opened opened have_after from_word_after half_crlf_after start_have start_from_word start_half_crlf have_at_start from_word_at_start half_crlf_at_start reach step spell varint after_text
+unfolding has insert is_word_byte meets insert_where known_set word_opened line_opened opened have_after from_word_after half_crlf_after start_have start_from_word start_half_crlf have_at_start from_word_at_start half_crlf_at_start reach step spell varint chain after_text after_search last_in
 are_worked_rows = record {
   room_for_all = (refl, refl);
   room_again = (refl, refl);
@@ -20,4 +22,11 @@ are_worked_rows = record {
   room_for_two_again = (refl, refl);
   room_for_none = (refl, refl);
   other_states = (refl, refl);
+  room_for_one = (refl, refl);
+  searched = (refl, refl);
+  stopped = (refl, refl);
+  forward = refl;
+  backward = refl;
+  inside = refl;
+  past_its_end = refl;
 }

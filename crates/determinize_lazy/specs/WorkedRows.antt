@@ -1,9 +1,12 @@
--- Worked walks over one cache of the NFA `\b\w+\b`, the preferred match wanted: how many steps are computed, and how many states are held then.
-use Rattle.std.specs.Prelude.{◌≡◌, ℕ, Option, Some, None, List, [], ◌∷◌, length}
+-- Worked walks and searches over one cache of the NFA `\b\w+\b`, the preferred match wanted: how many steps are computed, and how many states are held then.
+use Rattle.std.specs.Prelude.{◌≡◌, ℕ, true, Option, Some, None, List, [], ◌∷◌, length}
 use Rattle.determinize_below.specs.declared.search.MatchKind.TheVariants.{LeftmostFirst}
 use Rattle.determinize_below.specs.Positions.{Text, between}
+use Rattle.determinize_below.specs.Search.{Asked}
+use Rattle.determinize_below.specs.declared.search.Anchored.TheVariants.{Yes}
 use Rattle.determinize_core.specs.WorkedRows.{n4}
 use Rattle.determinize_lazy.specs.Kept.{Cache, after_text, held_values}
+use Rattle.determinize_lazy.specs.Searches.{after_search, last_in}
 
 -- an empty cache of at most so many states
 abbrev pub empty : ℕ → Cache
@@ -30,6 +33,14 @@ after_texts c (Some text ∷ texts) = after_texts (after_text c 0 text) texts
 abbrev pub Leaves : ℕ → List (Option Text) → ℕ → ℕ → Type 0
 Leaves limit texts computed held = ((after_texts (empty limit) texts).computed ≡ computed) × (length (held_values (after_texts (empty limit) texts)) ≡ held)
 
+-- after a search of the text so many steps are computed and so many states held
+abbrev pub LeavesAfterSearch : Text → ℕ → ℕ → Type 0
+LeavesAfterSearch text computed held = ((after_search (empty 16) 0 text).computed ≡ computed) × (length (held_values (after_search (empty 16) 0 text)) ≡ held)
+
+-- a range of `= ok =`, in which a word stands from 2 to 4
+abbrev pub between_signs : ℕ → ℕ → Asked
+between_signs start end = record { haystack = 0x3D ∷ 0x20 ∷ 0x6F ∷ 0x6B ∷ 0x20 ∷ 0x3D ∷ []; start = start; end = end; anchored = Yes }
+
 pub record AreWorkedRows : Type 0 where
   pub room_for_all : Leaves 16 (Some whole_word ∷ []) 7 3
   pub room_again : Leaves 16 (Some whole_word ∷ Some whole_word ∷ []) 7 3
@@ -38,3 +49,10 @@ pub record AreWorkedRows : Type 0 where
   pub room_for_two_again : Leaves 2 (Some whole_word ∷ Some whole_word ∷ []) 14 2
   pub room_for_none : Leaves 0 (Some whole_word ∷ Some whole_word ∷ []) 14 0
   pub other_states : Leaves 16 (Some rest_of_a_word ∷ Some inside_a_word ∷ []) 12 5
+  pub room_for_one : Leaves 1 (Some inside_a_word ∷ Some inside_a_word ∷ []) 12 1
+  pub searched : LeavesAfterSearch whole_word 7 3
+  pub stopped : LeavesAfterSearch inside_a_word 1 2
+  pub forward : last_in n4 LeftmostFirst (between_signs 2 6) ≡ Some record { pattern = 0; offset = 4 }
+  pub backward : last_in (record n4 { reverse = true }) LeftmostFirst (between_signs 0 4) ≡ Some record { pattern = 0; offset = 2 }
+  pub inside : last_in n4 LeftmostFirst (between_signs 3 6) ≡ None
+  pub past_its_end : last_in n4 LeftmostFirst (between_signs 3 2) ≡ None

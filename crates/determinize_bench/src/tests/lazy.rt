@@ -1,4 +1,4 @@
-//! Worked walks and searches over one cache: what they answer, keep and count.
+//! Worked walks over one cache: what they answer, keep and count.
 
 use determinize_below::{LookMatcher, MatchKind, NFA, StateID};
 use determinize_core::determinize::{last_match, walk_between};
@@ -9,30 +9,30 @@ use std::process::Abort;
 use std::test::Fail;
 
 /// A text, after a byte or none, and before a byte or none.
-type Text = (Option<u8>, &'static [u8], Option<u8>);
+pub type Text = (Option<u8>, &'static [u8], Option<u8>);
 
-const WHOLE_WORD: Text = (None, b"quartz", None);
+pub const WHOLE_WORD: Text = (None, b"quartz", None);
 
-const INSIDE_A_WORD: Text = (Some(b'q'), b"uartz", None);
+pub const INSIDE_A_WORD: Text = (Some(b'q'), b"uartz", None);
 
-const REST_OF_A_WORD: Text = (None, b"uartz", None);
+pub const REST_OF_A_WORD: Text = (None, b"uartz", None);
 
 /// `\b\w+\b` of ASCII words.
-const WORDS: &str = "L:WordAscii>1 S:30-39>2,41-5a>2,5f-5f>2,61-7a>2 BU:1,3 L:WordAscii>4 M:0";
+pub const WORDS: &str = "L:WordAscii>1 S:30-39>2,41-5a>2,5f-5f>2,61-7a>2 BU:1,3 L:WordAscii>4 M:0";
 
 /// `\b` of Unicode words, from anywhere.
 const BOUNDARY: &str = "BU:2,1 B:00-ff>0 L:WordUnicode>3 M:0";
 
-/// The NFA of these states.
-fn nfa<R: Abort + AllocGlobal>(rt: &R, states: &str) -> Result<NFA, Fail> {
+/// The NFA of these states, which starts from the first, and reads backward or forward.
+pub fn nfa<R: Abort + AllocGlobal>(rt: &R, states: &str, is_backward: bool) -> Result<NFA, Fail> {
     let states = nfas::states(rt.alloc(), states)?;
     let zero = StateID::ZERO;
     let matcher = LookMatcher::new();
-    Ok(NFA::from_parts(rt.alloc(), states, zero, zero, false, matcher)?)
+    Ok(NFA::from_parts(rt.alloc(), states, zero, zero, is_backward, matcher)?)
 }
 
 /// Asks that a walk through the cache answers what a walk without it does.
-fn walk_through<R: Abort + AllocGlobal>(
+pub fn walk_through<R: Abort + AllocGlobal>(
     rt: &R,
     lazy: &mut Lazy<'_>,
     text: Text,
@@ -63,7 +63,7 @@ fn expect<R: Abort + AllocGlobal>(
     computed: u64,
     kept: usize,
 ) -> Result<(), Fail> {
-    let nfa = nfa(rt, WORDS)?;
+    let nfa = nfa(rt, WORDS, false)?;
     let mut lazy = Lazy::new(rt.alloc(), &nfa, MatchKind::LeftmostFirst, limit);
     for text in texts {
         match text {
@@ -95,7 +95,7 @@ fn what_is_kept(rt: HostRuntime) -> Result<(), Fail> {
 
 #[test]
 fn bytes_ahead(rt: HostRuntime) -> Result<(), Fail> {
-    let nfa = nfa(&rt, WORDS)?;
+    let nfa = nfa(&rt, WORDS, false)?;
     let mut lazy = Lazy::new(rt.alloc(), &nfa, MatchKind::LeftmostFirst, 16);
     for (ahead, end) in [(Some(b't'), None), (Some(b' '), Some(4)), (None, Some(4))] {
         let states = walk_through(&rt, &mut lazy, (None, b"quar", ahead))?;
@@ -115,7 +115,7 @@ fn second(states: &[State]) -> &[u8] {
 
 #[test]
 fn the_end_is_no_byte(rt: HostRuntime) -> Result<(), Fail> {
-    let nfa = nfa(&rt, BOUNDARY)?;
+    let nfa = nfa(&rt, BOUNDARY, false)?;
     let mut lazy = Lazy::new(rt.alloc(), &nfa, MatchKind::All, 16);
     let ended = walk_through(&rt, &mut lazy, (None, b"", None))?;
     assert_eq!(rt; second(ended.as_slice()), [0; 9].as_slice());
@@ -124,37 +124,5 @@ fn the_end_is_no_byte(rt: HostRuntime) -> Result<(), Fail> {
         0x00, 0x00, 0x40, 0x01, 0x00, 0x00, 0x01, 0x00, 0x00, 0x00, 0x04, 0x01,
     ];
     assert_eq!(rt; second(zero.as_slice()), entered.as_slice());
-    Ok(())
-}
-
-/// Searches a text twice over one cache, and compares with the last match of its walk.
-fn expect_match<R: Abort + AllocGlobal>(
-    rt: &R,
-    kind: MatchKind,
-    text: Text,
-    wanted: Option<usize>,
-) -> Result<(), Fail> {
-    let (behind, bytes, ahead) = text;
-    let nfa = nfa(rt, WORDS)?;
-    let start = nfa.start_anchored();
-    let mut lazy = Lazy::new(rt.alloc(), &nfa, kind, 16);
-    let first = lazy.search(start, behind, bytes, ahead)?;
-    let again = lazy.search(start, behind, bytes, ahead)?;
-    assert_eq!(rt; first.map(|found| found.offset), wanted);
-    assert_eq!(rt; again, first);
-    let states = walk_through(rt, &mut lazy, text)?;
-    assert_eq!(rt; last_match(states.as_slice()), first);
-    Ok(())
-}
-
-#[test]
-fn searches(rt: HostRuntime) -> Result<(), Fail> {
-    for kind in [MatchKind::All, MatchKind::LeftmostFirst] {
-        expect_match(&rt, kind, WHOLE_WORD, Some(6))?;
-        expect_match(&rt, kind, REST_OF_A_WORD, Some(5))?;
-        expect_match(&rt, kind, INSIDE_A_WORD, None)?;
-        expect_match(&rt, kind, (None, b"quartz", Some(b'-')), Some(6))?;
-        expect_match(&rt, kind, (None, b"quartz", Some(b'a')), None)?;
-    }
     Ok(())
 }

@@ -109,6 +109,16 @@ match 0 0
 5 jobs, 1 differ, 0 skipped
 ";
 
+/// What it prints of them where the walks are searches.
+const SEARCHED: &str = "\
+> walk text=- | M:0
+expected:
+none
+got:
+match 0 0
+5 jobs, 1 differ, 0 skipped
+";
+
 /// What is said of other arguments.
 const NOT_TAKEN: &str = "arguments are not taken\n";
 
@@ -121,9 +131,9 @@ type Run = (
     &'static str,
 );
 
-/// Jobs that agree, one that differs, nothing to replay; walks through caches; jobs that are
-/// refused before walks through caches; other arguments.
-const RUNS: [Run; 20] = [
+/// Jobs that agree, one that differs, nothing to replay; walks through caches, and searches; jobs
+/// that are refused before walks through caches; other arguments.
+const RUNS: [Run; 24] = [
     (&[], DEAD, 0, "1 jobs, 0 differ, 0 skipped\n", ""),
     (
         &[],
@@ -165,6 +175,15 @@ const RUNS: [Run; 20] = [
     (&["cache", "1"], JOBS, 1, VERDICT, ""),
     (&["cache", "2"], JOBS, 1, VERDICT, ""),
     (&["cache", "64"], JOBS, 1, VERDICT, ""),
+    (&["search", "0"], JOBS, 1, SEARCHED, ""),
+    (&["search", "64"], JOBS, 1, SEARCHED, ""),
+    (
+        &["search", "3"],
+        "> walk text=- | M:0\nanything\nmatch 0 0\n",
+        0,
+        "1 jobs, 0 differ, 0 skipped\n",
+        "",
+    ),
     (
         &["cache", "3"],
         "> walk start=2 | M:0\nnone\n",
@@ -185,7 +204,8 @@ const RUNS: [Run; 20] = [
     (&["cache"], DEAD, 2, "", NOT_TAKEN),
     (&["cache", "x"], DEAD, 2, "", NOT_TAKEN),
     (&["cache", "1", "2"], DEAD, 2, "", NOT_TAKEN),
-    (&["search", "1"], DEAD, 2, "", NOT_TAKEN),
+    (&["search"], DEAD, 2, "", NOT_TAKEN),
+    (&["find", "1"], DEAD, 2, "", NOT_TAKEN),
 ];
 
 #[test]
