@@ -16,7 +16,7 @@ fn ids(rt: HostRuntime) -> Result<(), Fail> {
         assert_eq!(rt; state.as_u32(), pattern.as_u32());
     }
     let (Err(state), Err(pattern)) = (StateID::new(2147483647), PatternID::new(9000000000)) else {
-        panic!(rt; "an id is too great");
+        panic!(rt; "too great an id is taken");
     };
     assert_eq!(rt;
         (state.attempted(), pattern.attempted()),

@@ -3,63 +3,7 @@
 use determinize_below::nfa::State;
 use determinize_below::{BuildError, DenseTransitions, Look, LookMatcher, LookSet, NFA, StateID};
 use determinize_replay::nfas;
-use std::alloc::Global;
 use std::test::Fail;
-
-/// An NFA of these states, which reads forward, with the default matcher.
-fn made(
-    alloc: Global,
-    states: Vec<State>,
-    start_anchored: usize,
-    start_unanchored: usize,
-) -> Result<Result<NFA, BuildError>, Fail> {
-    let start_anchored = StateID::new(start_anchored)?;
-    let start_unanchored = StateID::new(start_unanchored)?;
-    let matcher = LookMatcher::new();
-    Ok(NFA::from_parts(
-        alloc,
-        states,
-        start_anchored,
-        start_unanchored,
-        false,
-        matcher,
-    ))
-}
-
-/// The error of these states, or none where they make an NFA.
-fn error_of(
-    alloc: Global,
-    text: &str,
-    start_anchored: usize,
-    start_unanchored: usize,
-) -> Result<Option<BuildError>, Fail> {
-    let states = nfas::states(alloc, text)?;
-    match made(alloc, states, start_anchored, start_unanchored)? {
-        Ok(_) => Ok(None),
-        Err(error) => Ok(Some(error)),
-    }
-}
-
-#[test]
-fn refuses_parts(rt: HostRuntime) -> Result<(), Fail> {
-    for (text, start_anchored, start_unanchored, wanted) in [
-        ("", 0, 0, Some(BuildError::UnresolvedStart)),
-        ("B:61>1 M:0", 2, 0, Some(BuildError::UnresolvedStart)),
-        ("B:61>1 M:0", 0, 2, Some(BuildError::UnresolvedStart)),
-        ("B:61>1 M:0", 1, 1, None),
-        ("B:61>5 M:0", 0, 0, Some(BuildError::UnresolvedId(0))),
-        ("M:0 F M:0", 0, 0, Some(BuildError::RepeatedPattern(2))),
-        ("M:0 F M:1", 0, 0, None),
-        ("S:61-66>0,66-6b>0", 0, 0, Some(BuildError::BadSparse(0))),
-        ("S:61-66>0,66-6b>9", 0, 0, Some(BuildError::UnresolvedId(0))),
-        ("S:61-66>0,67-6b>0", 0, 0, None),
-        ("S: U:", 0, 0, None),
-    ] {
-        let error = error_of(rt.alloc(), text, start_anchored, start_unanchored)?;
-        assert_eq!(rt; error, wanted, "{text}");
-    }
-    Ok(())
-}
 
 #[test]
 fn refuses_a_short_table(rt: HostRuntime) -> Result<(), Fail> {
@@ -70,11 +14,10 @@ fn refuses_a_short_table(rt: HostRuntime) -> Result<(), Fail> {
     ] {
         let transitions = vec![in rt.alloc(); StateID::ZERO; count]?;
         let states = vec![in rt.alloc(); State::Dense(DenseTransitions { transitions })]?;
-        let error = match made(rt.alloc(), states, 0, 0)? {
-            Ok(_) => None,
-            Err(error) => Some(error),
-        };
-        assert_eq!(rt; error, wanted, "{count}");
+        let start = StateID::ZERO;
+        let matcher = LookMatcher::new();
+        let made = NFA::from_parts(rt.alloc(), states, start, start, false, matcher);
+        assert_eq!(rt; made.err(), wanted, "{count}");
     }
     Ok(())
 }

@@ -81,6 +81,22 @@ const STATES: &[Refused] = &[
     ("build fw=0 half=0 | M:0", "the verb takes no states"),
     ("walk text=61 | ", "the states make no NFA: UnresolvedStart"),
     (
+        "walk text=61 | B:61>5 M:0",
+        "the states make no NFA: UnresolvedId(0)",
+    ),
+    (
+        "walk text=61 | M:0 F M:0",
+        "the states make no NFA: RepeatedPattern(2)",
+    ),
+    (
+        "walk text=61 | S:61-66>0,66-6b>0",
+        "the states make no NFA: BadSparse(0)",
+    ),
+    (
+        "walk text=61 | S:61-66>0,66-6b>9",
+        "the states make no NFA: UnresolvedId(0)",
+    ),
+    (
         "walk text=61 | C:1",
         "the states make no NFA: UnresolvedId(0)",
     ),

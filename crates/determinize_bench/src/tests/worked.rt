@@ -445,7 +445,7 @@ none\n",
 ];
 
 /// Single calls, and what they answer.
-pub const CALLS: [(&str, &str); 65] = [
+pub const CALLS: [(&str, &str); 68] = [
     ("dead", "000000000000000000\n"),
     ("start dir=fwd hay=- range=1..0", "kind Text -\n"),
     ("start dir=rev hay=- range=1..0", "kind Text -\n"),
@@ -663,4 +663,7 @@ match=1 len=1 pids=0 usage=9\n\
 fw=0 half=0 have=- need=-\n\
 ids=-\n",
     ),
+    ("closure from=0 | S:61-66>0,67-6b>0", "set 0\n"),
+    ("closure from=1 | S: U:", "set 1\n"),
+    ("closure from=2 | M:0 F M:1", "set 2\n"),
 ];
