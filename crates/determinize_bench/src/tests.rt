@@ -3,6 +3,7 @@
 
 mod automata;
 mod below;
+mod calling;
 mod clones;
 mod dfa;
 mod large;
