@@ -1,6 +1,6 @@
 //! The code of a walk in the page `CALLING.md` of `determinize_lazy`, word for word.
 
-ghost use Rattle.std.specs.Prelude.{◌≡◌, length, IfOk, IfSome, None};
+ghost use Rattle.std.specs.Prelude.{◌≡◌, length, IfOk, IfSome, IsSome, None};
 ghost use Rattle.determinize_below.specs.Positions.{between};
 ghost use Rattle.determinize_below.specs.declared.search.MatchKind.TheVariants as kinds;
 ghost use Rattle.determinize_core.specs.Walk.{ListsAccepted};
@@ -18,6 +18,7 @@ pub fn at_the_end<N: Allocator, A: Allocator + Copy>(
     ensures listed { IfOk result (λ last. IfSome last (λ state. ListsAccepted lazy.old.nfa
         (between None text.now None) lazy.old.nfa.start_anchored (length text.now)
         state.patterns)) }
+    ensures some { IfOk result (λ last. IsSome last) }
     ensures nfa { lazy.new.nfa ≡ lazy.old.nfa }
     ensures kind { lazy.new.kind ≡ lazy.old.kind }
 {
