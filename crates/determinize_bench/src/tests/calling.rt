@@ -3,6 +3,7 @@
 
 mod cache;
 pub mod dfa;
+mod input;
 mod nfa;
 mod search;
 mod walk;
@@ -69,5 +70,18 @@ fn walks_through_a_cache(rt: HostRuntime) -> Result<(), Fail> {
     let mut lazy = Lazy::new(rt.alloc(), &nfa, MatchKind::All, 100);
     assert!(rt; is_match_at_the_end(&rt, &mut lazy, b"42")?);
     assert!(rt; !is_match_at_the_end(&rt, &mut lazy, b"4x")?);
+    Ok(())
+}
+
+#[test]
+fn searches_of_inputs(rt: HostRuntime) -> Result<(), Fail> {
+    let forward = nfa::digits(rt.alloc(), false)?;
+    let backward = nfa::digits(rt.alloc(), true)?;
+    let mut forward = Lazy::new(rt.alloc(), &forward, MatchKind::LeftmostFirst, 100);
+    let mut backward = Lazy::new(rt.alloc(), &backward, MatchKind::All, 100);
+    let found = input::span(&mut forward, &mut backward, b"ab 42 c")?;
+    assert_eq!(rt; found, Some(3..5));
+    let found = input::span(&mut forward, &mut backward, b"ab")?;
+    assert_eq!(rt; found, None);
     Ok(())
 }
