@@ -3,6 +3,7 @@
 
 mod automata;
 mod below;
+mod calling;
 mod dfa;
 mod large;
 mod laws;

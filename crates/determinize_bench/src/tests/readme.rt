@@ -1,50 +1,30 @@
-//! The code of the README's section "First use", word for word, and its answers.
+//! The code of the README, word for word.
 
 use determinize_below::nfa::State;
 use determinize_below::{
     BuildError, HalfMatch, LookMatcher, MatchKind, NFA, PatternID, StateID, Transition,
 };
-use determinize_core::determinize::{last_match, walk};
+use determinize_lazy::Lazy;
 use std::alloc::{AllocError, Allocator};
-use std::test::Fail;
 
-/// The states of the pattern `a`.
-fn letter_states<A: Allocator>(alloc: A) -> Result<Vec<State<A>, A>, AllocError> {
-    let trans = Transition {
-        start: b'a',
-        end: b'a',
-        next: StateID::must(1),
-    };
+/// The NFA of the pattern `a`: state 0 goes on over this byte to state 1, which matches.
+pub fn letter<A: Allocator + Copy>(alloc: A) -> Result<NFA<A>, BuildError> {
+    let (start, end, next) = (b'a', b'a', StateID::must(1));
+    let trans = Transition { start, end, next };
     let pattern_id = PatternID::ZERO;
     let mut states = Vec::new(alloc);
     states.push(State::ByteRange { trans })?;
     states.push(State::Match { pattern_id })?;
-    Ok(states)
-}
-
-/// The NFA of these states, which reads forward.
-fn letter<A: Allocator + Copy>(alloc: A) -> Result<NFA<A>, BuildError> {
-    let states = letter_states(alloc)?;
     let matcher = LookMatcher::new();
     NFA::from_parts(alloc, states, StateID::ZERO, StateID::ZERO, false, matcher)
 }
 
 /// The preferred match from the beginning of the text, or none.
-fn preferred<A: Allocator + Copy>(
+pub fn preferred<A: Allocator + Copy>(
     alloc: A,
     nfa: &NFA<A>,
     text: &[u8],
 ) -> Result<Option<HalfMatch>, AllocError> {
-    let start = nfa.start_anchored();
-    let states = walk(alloc, nfa, MatchKind::LeftmostFirst, start, None, text)?;
-    Ok(last_match(states.as_slice()))
-}
-
-#[test]
-fn first_use(rt: HostRuntime) -> Result<(), Fail> {
-    let nfa = letter(rt.alloc())?;
-    let ended = HalfMatch::new(PatternID::ZERO, 1);
-    assert_eq!(rt; preferred(rt.alloc(), &nfa, b"ab")?, Some(ended));
-    assert_eq!(rt; preferred(rt.alloc(), &nfa, b"ba")?, None);
-    Ok(())
+    let mut lazy = Lazy::new(alloc, nfa, MatchKind::LeftmostFirst, 100);
+    lazy.search(nfa.start_anchored(), None, text, None)
 }

@@ -3,7 +3,7 @@ use Rattle.std.proofs.Common.{◌≡◌, ◌<◌, ◌++◌, ◌∷◌, ◌∙◌
 use Rattle.std.proofs.lemmas.List.Elements.{All-nil, All-push}
 use Rattle.determinize_below.specs.Nfa.{AllResolve, Nfa}
 use Rattle.determinize_core.specs.Value.{Value}
-use Rattle.determinize_bench.proofs.tests.dfa.build.Goals as goal
+use Rattle.determinize_bench.proofs.tests.calling.dfa.build.Goals as goal
 
 -- the ids of the state are states of the NFA
 abbrev Resolves : Nfa → Value → Type 0

@@ -2,7 +2,7 @@ use Rattle.std.proofs.Common.{All}
 use Rattle.determinize_below.specs.Nfa.{AllResolve}
 use Rattle.determinize_core.specs.Scratch.{IsScratch}
 use Rattle.determinize_core.specs.Value.{Value}
-use Rattle.determinize_bench.proofs.tests.dfa.build.Given as goal
+use Rattle.determinize_bench.proofs.tests.calling.dfa.build.Given as goal
 
 abbrev pub invariant-loop-index : goal.invariant-loop-index
 invariant-loop-index g l = record {

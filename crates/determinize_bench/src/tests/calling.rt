@@ -1,0 +1,87 @@
+//! The code of the README and of the pages `CALLING.md`, and its answers: each file below this one,
+//! and `readme`, is a block of code of a page, word for word.
+
+mod cache;
+pub mod dfa;
+mod input;
+mod nfa;
+mod search;
+mod walk;
+
+ghost use Rattle.std.specs.Prelude.{◌≡◌};
+ghost use Rattle.determinize_below.specs.declared.search.MatchKind.TheVariants as kinds;
+
+use crate::tests::readme;
+use determinize_below::{HalfMatch, MatchKind, PatternID};
+use determinize_lazy::Lazy;
+use std::process::Abort;
+use std::test::Fail;
+
+/// The match of pattern 0 that ends here.
+fn ended(offset: usize) -> Option<HalfMatch> {
+    Some(HalfMatch::new(PatternID::ZERO, offset))
+}
+
+#[test]
+fn first_search(rt: HostRuntime) -> Result<(), Fail> {
+    let nfa = readme::letter(rt.alloc())?;
+    assert_eq!(rt; readme::preferred(rt.alloc(), &nfa, b"ab")?, ended(1));
+    assert_eq!(rt; readme::preferred(rt.alloc(), &nfa, b"ba")?, None);
+    Ok(())
+}
+
+#[test]
+fn walks(rt: HostRuntime) -> Result<(), Fail> {
+    let nfa = nfa::digits(rt.alloc(), false)?;
+    let text = b"ab 42 c";
+    let found = walk::preferred(rt.alloc(), &nfa, nfa.start_unanchored(), text)?;
+    assert_eq!(rt; found, ended(5));
+    let found = walk::preferred(rt.alloc(), &nfa, nfa.start_anchored(), text)?;
+    assert_eq!(rt; found, None);
+    Ok(())
+}
+
+#[test]
+fn searches(rt: HostRuntime) -> Result<(), Fail> {
+    let nfa = nfa::digits(rt.alloc(), false)?;
+    let texts: [&[u8]; 4] = [b"42 c", b"ab", b"7", b""];
+    for limit in [0, 2, 100] {
+        let found = search::matches(rt.alloc(), &nfa, &texts, limit)?;
+        let wanted = [ended(2), None, ended(1), None];
+        assert_eq!(rt; found.as_slice(), wanted.as_slice());
+    }
+    Ok(())
+}
+
+/// Whether a match ends at the end of the text, by a walk through the cache.
+fn is_match_at_the_end(rt: &impl Abort, lazy: &mut Lazy<'_>, text: &[u8]) -> Result<bool, Fail>
+    requires { lazy.old.kind ≡ kinds.All }
+    ensures { lazy.new.kind ≡ lazy.old.kind }
+{
+    match cache::at_the_end(lazy, text)? {
+        Some(state) => Ok(state.is_match()),
+        None => panic!(rt; "a walk has states"),
+    }
+}
+
+#[test]
+fn walks_through_a_cache(rt: HostRuntime) -> Result<(), Fail> {
+    let nfa = nfa::digits(rt.alloc(), false)?;
+    let mut lazy = Lazy::new(rt.alloc(), &nfa, MatchKind::All, 100);
+    assert!(rt; is_match_at_the_end(&rt, &mut lazy, b"42")?);
+    assert!(rt; !is_match_at_the_end(&rt, &mut lazy, b"4x")?);
+    Ok(())
+}
+
+#[test]
+fn searches_of_inputs(rt: HostRuntime) -> Result<(), Fail> {
+    let forward = nfa::digits(rt.alloc(), false)?;
+    let backward = nfa::digits(rt.alloc(), true)?;
+    let mut forward = Lazy::new(rt.alloc(), &forward, MatchKind::LeftmostFirst, 100);
+    let mut backward = Lazy::new(rt.alloc(), &backward, MatchKind::All, 100);
+    let found = input::span(&mut forward, &mut backward, b"ab 42 c")?;
+    assert_eq!(rt; found, Some(3..5));
+    let found = input::span(&mut forward, &mut backward, b"ab")?;
+    assert_eq!(rt; found, None);
+    Ok(())
+}
