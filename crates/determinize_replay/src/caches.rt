@@ -3,6 +3,7 @@
 use crate::error::JobError;
 use crate::job::Job;
 use crate::key::Key;
+use crate::mode::Way;
 use crate::nfas;
 use crate::verb::Verb;
 use determinize_below::{MatchKind, NFA};
@@ -45,14 +46,16 @@ impl Automata {
         Ok(())
     }
 
-    /// An empty cache of at most `limit` states for each NFA and match kind.
-    pub fn caches(&self, limit: usize) -> Result<Caches<'_>, AllocError> {
+    /// An empty cache of at most `limit` states for each NFA and match kind, for walks or for
+    /// searches.
+    pub fn caches(&self, way: Way, limit: usize) -> Result<Caches<'_>, AllocError> {
         let mut caches = Vec::new(self.alloc);
         for (nfa, kind) in self.automata.iter() {
             caches.push(Lazy::new(self.alloc, nfa, *kind, limit))?;
         }
         Ok(Caches {
             alloc: self.alloc,
+            way,
             places: &self.places,
             caches,
         })
@@ -63,11 +66,17 @@ impl Automata {
 #[derive(Drop)]
 pub struct Caches<'n> {
     alloc: Global,
+    way: Way,
     places: &'n HashMap<String, usize>,
     caches: Vec<Lazy<'n>>,
 }
 
 impl<'n> Caches<'n> {
+    /// What is made of a walk.
+    pub fn way(&self) -> Way {
+        self.way
+    }
+
     /// The cache for a job, or none where the job is no walk or its NFA isn't there.
     pub fn of(&mut self, job: &Job<'_>) -> Result<Option<&mut Lazy<'n>>, AllocError> {
         if job.verb() != Verb::Walk {

@@ -95,7 +95,7 @@ impl Answer {
 #[derive(Drop)]
 pub struct Replay<'n> {
     alloc: Global,
-    caches: Option<(Way, Caches<'n>)>,
+    caches: Option<Caches<'n>>,
     line: u64,
     job: Option<Pending>,
     wanted: String,
@@ -105,7 +105,7 @@ pub struct Replay<'n> {
 impl<'n> Replay<'n> {
     /// A replay of no lines so far. Walks or searches are made through the caches, where there are
     /// some.
-    pub fn new(alloc: Global, caches: Option<(Way, Caches<'n>)>) -> Replay<'n> {
+    pub fn new(alloc: Global, caches: Option<Caches<'n>>) -> Replay<'n> {
         Replay {
             alloc,
             caches,
@@ -184,9 +184,10 @@ impl<'n> Replay<'n> {
     /// The answer of the job of this text.
     fn answer(&mut self, text: &str) -> Result<Answer, JobError> {
         let job = Job::read(self.alloc, text)?;
-        if let Some((way, caches)) = self.caches.as_mut() {
+        if let Some(caches) = self.caches.as_mut() {
+            let way = caches.way();
             if let Some(cache) = caches.of(&job)? {
-                return Answer::through(self.alloc, &job, *way, cache);
+                return Answer::through(self.alloc, &job, way, cache);
             }
         }
         Ok(Answer {

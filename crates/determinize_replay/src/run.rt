@@ -102,7 +102,7 @@ fn replay_cached<I: BufRead + Drop, W: Write>(
         number = number.saturating_add(1);
     }
     let automata = automata(alloc, lines.as_slice())?;
-    let mut replay = Replay::new(alloc, Some((way, automata.caches(limit)?)));
+    let mut replay = Replay::new(alloc, Some(automata.caches(way, limit)?));
     for line in lines.iter() {
         replay.take_line(line.as_str(), out)?;
     }
