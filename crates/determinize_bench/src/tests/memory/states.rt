@@ -1,7 +1,8 @@
 //! States, and what is read of them.
 
 use crate::tests::memory::{Heap, Row, call_twice, refuse_in_turn, refuse_over_walks};
-use determinize_core::state::State;
+use determinize_below::StateID;
+use determinize_core::state::{State, StateBuilderEmpty, StateBuilderNFA};
 use std::process::Abort;
 use std::test::Fail;
 
@@ -18,15 +19,35 @@ fn are_spelled<'a>(
     first.is_some()
 }
 
-/// Makes the dead state.
-fn make_dead(rt: &impl Abort, heap: &Heap) -> Result<bool, Fail> {
-    let states = call_twice(heap, || State::dead(heap))?;
-    Ok(are_spelled(rt, &states, [0; 9].as_slice()))
+/// A builder of a state of so many bytes: nine, and one for each NFA state.
+pub fn builder_of<'a>(heap: &'a Heap, len: usize) -> Result<StateBuilderNFA<&'a Heap>, Fail> {
+    let mut builder = StateBuilderEmpty::new(heap).into_matches()?.into_nfa();
+    for number in 0..len.saturating_sub(9) {
+        builder.add_nfa_state_id(StateID::new(number)?)?;
+    }
+    Ok(builder)
+}
+
+/// Makes a state of so many bytes and clones it. Up to 30 bytes no growth is asked for, and from 31
+/// on some is.
+fn make_and_clone(rt: &impl Abort, heap: &Heap, len: usize) -> Result<bool, Fail> {
+    let builder = builder_of(heap, len)?;
+    assert_eq!(rt; builder.as_bytes().len(), len);
+    let made = call_twice(heap, || builder.to_state())?;
+    let is_made = are_spelled(rt, &made, builder.as_bytes());
+    let (_, state) = &made;
+    let clones = call_twice(heap, || state.clone())?;
+    let is_cloned = are_spelled(rt, &clones, builder.as_bytes());
+    assert_eq!(rt; heap.asked() == 0, len <= 30);
+    Ok(is_made && is_cloned)
 }
 
 #[test]
-fn dead(rt: HostRuntime) -> Result<(), Fail> {
-    refuse_in_turn(&rt, |heap| make_dead(&rt, heap))
+fn short_and_long(rt: HostRuntime) -> Result<(), Fail> {
+    for len in [9, 10, 16, 29, 30, 31, 32, 63, 64, 200] {
+        refuse_in_turn(&rt, |heap| make_and_clone(&rt, heap, len))?;
+    }
+    Ok(())
 }
 
 /// Clones each state of a walk.

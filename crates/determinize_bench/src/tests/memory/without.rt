@@ -1,5 +1,6 @@
 //! The calls that take no memory: they are answered while every growth is refused, and ask for none.
 
+use crate::tests::memory::states::builder_of;
 use crate::tests::memory::steps::start_kind;
 use crate::tests::memory::{Heap, Row, refuse_in_turn, refuse_over_walks};
 use determinize_below::{Input, Look, LookSet, PatternID, SparseSet, SparseSets, StateID};
@@ -129,6 +130,37 @@ fn read_states(rt: &impl Abort, heap: &Heap, row: &Row) -> Result<bool, Fail> {
         read_state(rt, state, bytes.as_slice());
     }
     Ok(has_asked_none(rt, heap))
+}
+
+/// The dead state and one of so many bytes are made, and cloned.
+fn make_short(rt: &impl Abort, heap: &Heap, len: usize) -> Result<bool, Fail> {
+    let builder = builder_of(heap, len)?;
+    heap.begin();
+    let dead = State::dead(heap)?;
+    assert_eq!(rt; dead.clone()?.as_bytes(), [0; 9].as_slice());
+    let state = builder.to_state()?;
+    assert_eq!(rt; state.clone()?.as_bytes(), builder.as_bytes());
+    assert!(rt; state.clone()? == state);
+    Ok(has_asked_none(rt, heap))
+}
+
+/// The states of a walk that have at most 30 bytes are cloned.
+fn clone_short_states(rt: &impl Abort, heap: &Heap, row: &Row) -> Result<bool, Fail> {
+    let start = row.start()?;
+    let states = row.walk(heap, start)?;
+    heap.begin();
+    for state in states.iter().filter(|state| state.memory_usage() <= 30) {
+        assert_eq!(rt; state.clone()?.as_bytes(), state.as_bytes());
+    }
+    Ok(has_asked_none(rt, heap))
+}
+
+#[test]
+fn short_states(rt: HostRuntime) -> Result<(), Fail> {
+    for len in 9..=30 {
+        refuse_in_turn(&rt, |heap| make_short(&rt, heap, len))?;
+    }
+    refuse_over_walks(&rt, |heap, row| clone_short_states(&rt, heap, row))
 }
 
 #[test]
