@@ -26,7 +26,7 @@ mod pattern_ids;
 mod small_bytes;
 mod varint;
 
-ghost use Rattle.std.specs.Prelude.{◌≡◌, ◌+◌, ◌*◌, ◌<◌, ◌≤◌, [], length, slice_index, option_map, IfOk, Ok, None};
+ghost use Rattle.std.specs.Prelude.{◌≡◌, ◌+◌, ◌*◌, ◌<◌, ◌≤◌, [], length, slice_index, option_map, IfOk, IsOk, Ok, None};
 ghost use Rattle.determinize_core.specs.Value.{IsValue, dead, is_nonempty, listed};
 ghost use Rattle.determinize_core.specs.Spelling.{spell};
 
@@ -40,6 +40,8 @@ use std::alloc::{AllocError, Allocator, Global};
 use std::marker::Model;
 
 /// A finished state of a DFA. It can't be changed; a clone copies its bytes.
+///
+/// At most 30 bytes stand in the state itself, and more in memory of its allocator.
 #[derive(Drop)]
 pub struct State<A: Allocator = Global> {
     bytes: SmallBytes<A>,
@@ -59,9 +61,10 @@ impl<A: Allocator> Model for State<A> {
 impl<A: Allocator> State<A> {
     /// The state in which nothing is set and nothing is listed: nine zero bytes.
     ///
-    /// The only error is want of memory.
+    /// It takes no memory, and so it is never refused.
     pub fn dead(alloc: A) -> Result<State<A>, AllocError>
-        ensures { IfOk result (λ s. s ≡ dead) }
+        ensures value { IfOk result (λ s. s ≡ dead) }
+        ensures succeeds { IsOk result }
     {
         Ok(State {
             bytes: SmallBytes::from_slice(alloc, &[0; bytes::COUNT])?,

@@ -1,17 +1,33 @@
 //! States, and what is read of them.
 
-use crate::tests::memory::{Heap, Row, call_twice, refuse_over_walks};
-use determinize_core::state::State;
+use crate::tests::memory::{Heap, Row, call_twice, refuse_in_turn, refuse_over_walks};
+use determinize_below::StateID;
+use determinize_core::state::{State, StateBuilderEmpty, StateBuilderNFA};
 use std::process::Abort;
 use std::test::Fail;
 
-/// Makes the dead state.
-fn make_dead(rt: &impl Abort, heap: &Heap) -> Result<bool, Fail> {
-    let (first, second) = call_twice(heap, || State::dead(heap))?;
-    for dead in first.iter().chain(Some(&second)) {
-        assert_eq!(rt; dead.as_bytes(), [0; 9].as_slice());
+/// A builder of a state of so many bytes: nine, and one for each NFA state.
+pub fn builder_of<'a>(heap: &'a Heap, len: usize) -> Result<StateBuilderNFA<&'a Heap>, Fail> {
+    let mut builder = StateBuilderEmpty::new(heap).into_matches()?.into_nfa();
+    for number in 0..len.saturating_sub(9) {
+        builder.add_nfa_state_id(StateID::new(number)?)?;
     }
-    Ok(first.is_some())
+    Ok(builder)
+}
+
+/// Makes a state of so many bytes and clones it. Up to 30 bytes no growth is asked for, and from 31
+/// on some is.
+fn make_and_clone(rt: &impl Abort, heap: &Heap, len: usize) -> Result<bool, Fail> {
+    let builder = builder_of(heap, len)?;
+    let bytes = builder.as_bytes();
+    assert_eq!(rt; bytes.len(), len);
+    let (first, second) = call_twice(heap, || builder.to_state())?;
+    for state in first.iter().chain(Some(&second)) {
+        assert_eq!(rt; state.as_bytes(), bytes);
+    }
+    let is_cloned = clone_state(rt, heap, &second, bytes)?;
+    assert_eq!(rt; heap.asked() == 0, len <= 30);
+    Ok(first.is_some() && is_cloned)
 }
 
 /// Clones a state.
@@ -46,16 +62,24 @@ fn read_patterns(rt: &impl Abort, heap: &Heap, state: &State<&Heap>) -> Result<b
     Ok(first.is_some())
 }
 
-/// Makes the dead state, and clones and reads each state of a walk.
+/// Clones and reads each state of a walk.
 fn read_states(rt: &impl Abort, heap: &Heap, row: &Row) -> Result<bool, Fail> {
     let start = row.start()?;
     let states = row.walk(heap, start)?;
-    let mut is_answered = make_dead(rt, heap)?;
+    let mut is_answered = true;
     for (state, bytes) in states.iter().zip(row.states.iter()) {
         is_answered &= clone_state(rt, heap, state, bytes.as_slice())?;
         is_answered &= read_patterns(rt, heap, state)?;
     }
     Ok(is_answered)
+}
+
+#[test]
+fn short_and_long(rt: HostRuntime) -> Result<(), Fail> {
+    for len in [9, 10, 16, 29, 30, 31, 32, 63, 64, 200] {
+        refuse_in_turn(&rt, |heap| make_and_clone(&rt, heap, len))?;
+    }
+    Ok(())
 }
 
 #[test]

@@ -1,5 +1,6 @@
 //! The calls that take no memory: they are answered while every growth is refused, and ask for none.
 
+use crate::tests::memory::states::builder_of;
 use crate::tests::memory::steps::start_kind;
 use crate::tests::memory::{Heap, Row, refuse_in_turn, refuse_over_walks};
 use determinize_below::{Input, Look, LookSet, PatternID, SparseSet, SparseSets, StateID};
@@ -128,6 +129,26 @@ fn read_states(rt: &impl Abort, heap: &Heap, row: &Row) -> Result<bool, Fail> {
         read_state(rt, state, bytes.as_slice());
     }
     Ok(has_asked_none(rt, heap))
+}
+
+/// The dead state and one of so many bytes are made, and cloned.
+fn make_short(rt: &impl Abort, heap: &Heap, len: usize) -> Result<bool, Fail> {
+    let builder = builder_of(heap, len)?;
+    heap.begin();
+    let dead = State::dead(heap)?;
+    assert_eq!(rt; dead.clone()?.as_bytes(), [0; 9].as_slice());
+    let state = builder.to_state()?;
+    assert_eq!(rt; state.clone()?.as_bytes(), builder.as_bytes());
+    assert!(rt; state.clone()? == state);
+    Ok(has_asked_none(rt, heap))
+}
+
+#[test]
+fn short_states(rt: HostRuntime) -> Result<(), Fail> {
+    for len in 9..=30 {
+        refuse_in_turn(&rt, |heap| make_short(&rt, heap, len))?;
+    }
+    Ok(())
 }
 
 #[test]
