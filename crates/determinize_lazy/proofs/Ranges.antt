@@ -1,5 +1,6 @@
 -- What an input asks for, and the answer in its haystack.
 use Rattle.std.proofs.Common.{◌≡◌, ℕ, ◌<◌, ◌≤◌, Bool, true, false, cond, Option, None, List, refl, sym, ap, ◌∙◌, subst, arith}
+use mathlib.Core.Bool.{true≢false}
 use Rattle.std.specs.Prelude.{nat_lt, option_map}
 use Rattle.std.specs.List.{slice_range}
 use Rattle.determinize_below.specs.Nfa.{IsAccepted, Nfa}
@@ -12,7 +13,7 @@ use Rattle.determinize_lazy.proofs.Headline.{preferred}
 use Rattle.determinize_below.specs.Search.{Asked}
 use Rattle.determinize_below.specs.declared.search.HalfMatch.{HalfMatch}
 use Rattle.determinize_lazy.specs.Kept.{Cache}
-use Rattle.determinize_lazy.specs.Searches.{after_input, after_search, found_in, in_haystack, in_order, IsPreferredIn, IsPreferredMatch, last_in, start_for, text_of}
+use Rattle.determinize_lazy.specs.Searches.{after_input, after_search, found_in, in_haystack, in_order, IsPlenty, IsPlentyIn, IsPreferredIn, IsPreferredMatch, last_in, start_for, text_of}
 
 past : (a b : ℕ) → b < a → nat_lt b a ≡ true
 past a b h = grind arith
@@ -73,6 +74,12 @@ module _ (nfa : Nfa) (kind : MatchKind) (asked : Asked) (backward : Bool) (start
 
 pub after-found : (c new : Cache) (asked : Asked) (backward : Bool) (start : ℕ) (text : Text) → IsRead c.nfa asked backward start text → new ≡ after_search c start text → new ≡ after_input c asked
 after-found c new asked backward start text r new_is = new_is ∙ ap (λ s. after_search c s text) r.start_is ∙ ap (λ t. after_search c (start_for c.nfa asked.anchored) t) r.text_is ∙ sym (after-else c asked r.order)
+
+pub plenty-found : (c new : Cache) (asked : Asked) (backward : Bool) (start : ℕ) (text : Text) → IsRead c.nfa asked backward start text → IsPlenty c start text new → IsPlentyIn c asked new
+plenty-found c new asked backward start text r plenty = λ _. subst (λ t. IsPlenty c (start_for c.nfa asked.anchored) t new) r.text_is (subst (λ s. IsPlenty c s text new) r.start_is plenty)
+
+pub plenty-done : (c new : Cache) (asked : Asked) → asked.end < asked.start → IsPlentyIn c asked new
+plenty-done c new asked h = λ more. absurd (true≢false (sym (past asked.start asked.end h) ∙ more))
 
 -- and where it does
 module _ (nfa : Nfa) (kind : MatchKind) (asked : Asked) (past_end : asked.end < asked.start) where

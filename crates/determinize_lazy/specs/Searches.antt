@@ -91,3 +91,7 @@ IsPreferredIn nfa asked answer = (found : Option HalfMatch) × IsPreferredMatch 
 -- the cache after a search of an input
 unfoldable pub after_input : Cache → Asked → Cache
 after_input c asked = cond (is_done asked) c (after_search c (start_for c.nfa asked.anchored) (text_of c.nfa.reverse asked))
+
+-- with room for all that it reads, each pair of it is kept, and computed once
+abbrev pub IsPlentyIn : Cache → Asked → Cache → Type 0
+IsPlentyIn old asked new = is_done asked ≡ false → IsPlenty old (start_for old.nfa asked.anchored) (text_of old.nfa.reverse asked) new

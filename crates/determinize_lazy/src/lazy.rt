@@ -253,16 +253,14 @@ impl<'n, N: Allocator, A: Allocator + Copy> Lazy<'n, N, A> {
         }
     }
 
-    /// The scratch, which is made where there is none. The cache is without it until it is put
-    /// back. The only error is want of memory.
-    fn take_scratch(&mut self) -> Result<Scratch<A>, AllocError>
-        ensures room { IfOk result (λ scratch. scratch ≡ length self.old.nfa.states) }
-        ensures unchanged { self.new ≡ self.old }
+    /// Makes the scratch where there is none. The only error is want of memory.
+    fn make_scratch(&mut self) -> Result<(), AllocError>
+        ensures { self.new ≡ self.old }
     {
-        match self.scratch.take() {
-            Some(scratch) => Ok(scratch),
-            None => Scratch::new(self.alloc, self.nfa),
+        if self.scratch.is_none() {
+            self.scratch = Some(Scratch::new(self.alloc, self.nfa)?);
         }
+        Ok(())
     }
 
     /// The state before the first unit. The only error is want of memory.
@@ -279,35 +277,16 @@ impl<'n, N: Allocator, A: Allocator + Copy> Lazy<'n, N, A> {
         ensures small { OnOk result (self.old.computed ≤ 18446744073709551615) }
         ensures unchanged { self.new ≡ self.old }
     {
-        let mut scratch = self.take_scratch()?;
-        let state = scratch.start(self.alloc, self.nfa, start, look_behind);
-        self.scratch = Some(scratch);
-        state
+        self.make_scratch()?;
+        let Some(scratch) = &mut self.scratch else {
+            return Err(AllocError);
+        };
+        let state = scratch.start(self.alloc, self.nfa, start, look_behind)?;
+        Ok(state)
     }
 
-    /// The answer of `next` for a state and a unit, which is counted. This is the one call through
-    /// which the cache computes. The only error is want of memory, and nothing is counted then.
-    fn compute(
-        &mut self,
-        scratch: &mut Scratch<A>,
-        state: &State<A>,
-        unit: Option<u8>,
-    ) -> Result<StateBuilderNFA<A>, AllocError>
-        requires room { scratch.old ≡ length self.old.nfa.states }
-        requires resolve { AllResolve self.old.nfa state.now.states }
-        ensures ok { IfOk result (λ builder. builder ≡ step_of self.old state.now unit) }
-        ensures counted { OnOk result
-            (self.new ≡ record self.old { computed = count_after self.old.computed 1 }) }
-        ensures err { OnErr result (self.new ≡ self.old) }
-        ensures computed { self.old.computed ≤ self.new.computed }
-        ensures room { scratch.new ≡ scratch.old }
-    {
-        let builder = scratch.next(self.alloc, self.nfa, self.match_kind, state, unit)?;
-        self.computed = self.computed.saturating_add(1);
-        Ok(builder)
-    }
-
-    /// The state that follows, computed. The only error is want of memory.
+    /// The state that follows, computed and counted. This is the one call through which the cache
+    /// computes. The only error is want of memory.
     fn next_state(&mut self, state: &State<A>, unit: Option<u8>) -> Result<State<A>, AllocError>
         requires { AllResolve self.old.nfa state.now.states }
         ensures value { IfOk result (λ following. following ≡ step_of self.old state.now unit) }
@@ -316,13 +295,14 @@ impl<'n, N: Allocator, A: Allocator + Copy> Lazy<'n, N, A> {
         ensures changed { self.new ≡ record self.old { computed = self.new.computed } }
         ensures computed { self.old.computed ≤ self.new.computed }
     {
-        let mut scratch = self.take_scratch()?;
-        let following = match self.compute(&mut scratch, state, unit) {
-            Ok(builder) => scratch.finish(builder),
-            Err(refused) => Err(refused),
+        self.make_scratch()?;
+        let Some(scratch) = &mut self.scratch else {
+            return Err(AllocError);
         };
-        self.scratch = Some(scratch);
-        following
+        let builder = scratch.next(self.alloc, self.nfa, self.match_kind, state, unit)?;
+        self.computed = self.computed.saturating_add(1);
+        let following = scratch.finish(builder)?;
+        Ok(following)
     }
 
     /// A step that isn't kept: it is computed, counted and kept by the rule.

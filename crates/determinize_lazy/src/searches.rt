@@ -14,7 +14,7 @@ ghost use Rattle.determinize_lazy.specs.Private.Places.{HaveValidValues, IsPlace
 ghost use Rattle.determinize_lazy.specs.Private.Signs.{signs_of};
 ghost use Rattle.determinize_lazy.specs.Private.Standing.{IsStanding, current};
 ghost use Rattle.determinize_lazy.specs.Private.Turns.{after_turn};
-ghost use Rattle.determinize_lazy.specs.Searches.{IsPlenty, IsPreferredIn, IsPreferredMatch, after_input, after_search, has_start, in_haystack, in_order, last_in, start_for, text_of};
+ghost use Rattle.determinize_lazy.specs.Searches.{IsPlenty, IsPlentyIn, IsPreferredIn, IsPreferredMatch, after_input, after_search, has_start, in_haystack, in_order, last_in, start_for, text_of};
 
 use crate::lazy::{Lazy, Reached};
 use crate::places::Signs;
@@ -341,6 +341,7 @@ impl<'n, N: Allocator, A: Allocator + Copy> Lazy<'n, N, A> {
         ensures within { IfOk result (λ found. IfSome found
             (λ m. (input.now.start ≤ m.offset) × (m.offset ≤ input.now.end))) }
         ensures after { OnOk result (self.new ≡ after_input self.old input.now) }
+        ensures plenty { OnOk result (IsPlentyIn self.old input.now self.new) }
         ensures nfa { self.new.nfa ≡ self.old.nfa }
         ensures kind { self.new.kind ≡ self.old.kind }
         ensures limit { self.new.limit ≡ self.old.limit }

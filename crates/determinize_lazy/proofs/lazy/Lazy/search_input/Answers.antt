@@ -1,7 +1,7 @@
 use Rattle.std.proofs.Common.{rules, ◌≡◌, ◌<◌, ◌≤◌, arith, sym}
 use Rattle.std.specs.List.{slice_range}
 use Rattle.determinize_lazy.specs.Searches.{start_for}
-use Rattle.determinize_lazy.proofs.Ranges.{after-done, after-found, last-done, last-found, preferred-done, preferred-found, read}
+use Rattle.determinize_lazy.proofs.Ranges.{after-done, after-found, last-done, last-found, plenty-done, plenty-found, preferred-done, preferred-found, read}
 use Rattle.determinize_lazy.proofs.lazy.Lazy.search_input.Goals as goal
 
 pub returns-then-start-end-clause-last : goal.returns-then-start-end-clause-last
@@ -48,3 +48,18 @@ returns-clause-after g c =
     after-found c.args.self.now c.search_text.new.self c.args.input.now _ _ _
     (read c.args.self.now.nfa c.args.input.now c.is_reverse-is_backward.result c.start_for-id.result _ _ _ order direction start c.byte_behind-behind.ensures range c.byte_ahead-ahead.ensures)
     c.in_ok-found.ensures.after
+
+pub returns-then-start-end-clause-plenty : goal.returns-then-start-end-clause-plenty
+returns-then-start-end-clause-plenty g c =
+    let past : c.args.input.now.end < c.args.input.now.start = omega (arith, c.if-start-end.true, c.start-start.ensures.value, c.end-end.ensures.value) in
+    plenty-done c.args.self.now c.args.self.now c.args.input.now past
+
+pub returns-clause-plenty : goal.returns-clause-plenty
+returns-clause-plenty g c =
+    let order : c.args.input.now.start ≤ c.args.input.now.end = omega (arith, c.if-start-end.false, c.start-start.ensures.value, c.end-end.ensures.value) in
+    let direction : c.is_reverse-is_backward.result ≡ c.args.self.now.nfa.reverse = search rules in
+    let start : c.start_for-id.result ≡ start_for c.args.self.now.nfa c.args.input.now.anchored = search rules in
+    let range : slice_range c.haystack.result.now c.start-start.result c.end-end.result ≡ slice_range c.args.input.now.haystack c.args.input.now.start c.args.input.now.end = search rules in
+    plenty-found c.args.self.now c.search_text.new.self c.args.input.now _ _ _
+    (read c.args.self.now.nfa c.args.input.now c.is_reverse-is_backward.result c.start_for-id.result _ _ _ order direction start c.byte_behind-behind.ensures range c.byte_ahead-ahead.ensures)
+    c.in_ok-found.ensures.plenty
