@@ -9,7 +9,6 @@ mod large;
 mod laws;
 mod lazy;
 mod map_text;
-mod memory;
 mod parts;
 mod readme;
 mod refusals;
@@ -26,6 +25,7 @@ use determinize_replay::job::Job;
 use determinize_replay::verbs;
 use std::process::Abort;
 use std::test::Fail;
+use worked_rows::answers;
 
 /// Replays a job, and compares its answer.
 fn replay<R: Abort + AllocGlobal>(rt: &R, line: &str, wanted: &str) -> Result<(), Fail> {
@@ -36,7 +36,7 @@ fn replay<R: Abort + AllocGlobal>(rt: &R, line: &str, wanted: &str) -> Result<()
 
 #[test]
 fn walks(rt: HostRuntime) -> Result<(), Fail> {
-    for (_, line, wanted) in worked::WALKS {
+    for (_, line, wanted) in answers::WALKS {
         replay(&rt, line, wanted)?;
     }
     Ok(())

@@ -1,6 +1,8 @@
-//! Worked walks by their names, and how they are printed: what the program `rows` does.
+//! Worked walks by their names, and how they are printed: what the program `rows` does. Beside
+//! them their answers, worked by hand, for tests.
 #![tactic(auto)]
 
+pub mod answers;
 mod nfas;
 pub mod run;
 mod walks;

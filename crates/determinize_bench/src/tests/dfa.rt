@@ -3,11 +3,11 @@
 ghost use Rattle.std.specs.Prelude.{◌<◌, length};
 
 use crate::tests::calling::dfa::{Dfa, build};
-use crate::tests::memory::{Heap, refuse_in_turn};
 use determinize_below::{HalfMatch, LookMatcher, MatchKind, NFA, PatternID, StateID};
 use determinize_core::determinize::{last_match, walk};
 use determinize_replay::error::JobError;
 use determinize_replay::nfas;
+use refusing::{Finding, Refusing, in_turn};
 use std::alloc::{Allocator, Global};
 use std::process::Abort;
 use std::test::Fail;
@@ -140,7 +140,7 @@ fn expect_loop<A: Allocator>(rt: &impl Abort, dfa: &Dfa<A>) {
 }
 
 /// Builds the DFA of that loop.
-fn build_loop<R: Abort + AllocGlobal>(rt: &R, heap: &Heap) -> Result<bool, Fail> {
+fn build_loop<R: Abort + AllocGlobal>(rt: &R, heap: &Refusing<Global>) -> Result<bool, Fail> {
     let nfa = nfa(rt.alloc(), "B:61>0", StateID::ZERO)?;
     heap.begin();
     let built = build(heap, &nfa, MatchKind::All, nfa.start_anchored(), 2);
@@ -157,5 +157,7 @@ fn build_loop<R: Abort + AllocGlobal>(rt: &R, heap: &Heap) -> Result<bool, Fail>
 
 #[test]
 fn under_refusals(rt: HostRuntime) -> Result<(), Fail> {
-    refuse_in_turn(&rt, |heap| build_loop(&rt, heap))
+    let finding = in_turn(rt.alloc(), |heap| build_loop(&rt, heap))?;
+    assert_eq!(rt; finding, Finding::Sound);
+    Ok(())
 }

@@ -1,13 +1,13 @@
 //! The work of the program `rows`: each name, each status, writers that fail, and memory that is
 //! refused.
 
-use crate::tests::memory::{Heap, refuse_in_turn};
 use crate::tests::runs::{Failing, words};
-use crate::tests::worked;
 use determinize_below::BuildError;
-use std::alloc::AllocError;
+use refusing::{Finding, Refusing, in_turn};
+use std::alloc::{AllocError, Global};
 use std::process::Abort;
 use std::test::Fail;
+use worked_rows::answers;
 use worked_rows::run::{RowError, report, run_rows};
 
 /// Words that name no walk.
@@ -46,7 +46,7 @@ fn refuses_other_words(rt: HostRuntime) -> Result<(), Fail> {
 /// Prints a walk, or says that memory was refused and prints a beginning of it.
 fn print<R: Abort + AllocGlobal>(
     rt: &R,
-    heap: &Heap,
+    heap: &Refusing<Global>,
     words: &[String],
     lines: &str,
 ) -> Result<bool, Fail> {
@@ -69,9 +69,10 @@ fn print<R: Abort + AllocGlobal>(
 /// The last of the runs in turn meets no refusal, and prints the walk.
 #[test]
 fn prints_each_walk_or_tells_of_want_of_memory(rt: HostRuntime) -> Result<(), Fail> {
-    for (name, _, lines) in worked::WALKS {
+    for (name, _, lines) in answers::WALKS {
         let words = words(&rt, &[name])?;
-        refuse_in_turn(&rt, |heap| print(&rt, heap, words.as_slice(), lines))?;
+        let finding = in_turn(rt.alloc(), |heap| print(&rt, heap, words.as_slice(), lines))?;
+        assert_eq!(rt; finding, Finding::Sound, "{name}");
     }
     Ok(())
 }

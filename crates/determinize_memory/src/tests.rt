@@ -10,7 +10,6 @@ mod states;
 mod steps;
 mod without;
 
-use crate::tests::worked;
 use determinize_below::{MatchKind, NFA, StateID, Unit};
 use determinize_core::determinize;
 use determinize_core::state::State;
@@ -22,6 +21,7 @@ use refusing::{Finding, Refusing, in_turn};
 use std::alloc::{AllocError, Global};
 use std::process::Abort;
 use std::test::Fail;
+use worked_rows::answers;
 
 /// The memory of a run.
 pub type Heap = Refusing<Global>;
@@ -143,7 +143,7 @@ impl Row {
 /// All worked walks.
 fn rows(alloc: Global) -> Result<Vec<Row>, JobError> {
     let mut rows = Vec::new(alloc);
-    for (_, line, answer) in worked::WALKS {
+    for (_, line, answer) in answers::WALKS {
         let row = Row::read(alloc, line, answer)?;
         rows.push(row)?;
     }

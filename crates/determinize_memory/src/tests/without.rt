@@ -1,8 +1,8 @@
 //! The calls that take no memory: they are answered while every growth is refused, and ask for none.
 
-use crate::tests::memory::states::builder_of;
-use crate::tests::memory::steps::start_kind;
-use crate::tests::memory::{Heap, Row, refuse_in_turn, refuse_over_walks};
+use crate::tests::states::builder_of;
+use crate::tests::steps::start_kind;
+use crate::tests::{Heap, Row, refuse_in_turn, refuse_over_walks};
 use determinize_below::{Input, Look, LookSet, PatternID, SparseSet, SparseSets, StateID};
 use determinize_core::determinize::{epsilon_closure, set_lookbehind_from_start};
 use determinize_core::start::Config;

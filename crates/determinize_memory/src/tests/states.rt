@@ -1,6 +1,6 @@
 //! States, and what is read of them.
 
-use crate::tests::memory::{Heap, Row, call_twice, refuse_in_turn, refuse_over_walks};
+use crate::tests::{Heap, Row, call_twice, refuse_in_turn, refuse_over_walks};
 use determinize_below::StateID;
 use determinize_core::state::{State, StateBuilderEmpty, StateBuilderNFA};
 use std::process::Abort;

@@ -1,6 +1,6 @@
 //! Walks and searches over a cache, each growth of memory refused in turn.
 
-use crate::tests::memory::{Heap, Row, refuse_over_walks};
+use crate::tests::{Heap, Row, refuse_over_walks};
 use determinize_below::{Anchored, HalfMatch, Input};
 use determinize_core::determinize::last_match;
 use determinize_lazy::Lazy;

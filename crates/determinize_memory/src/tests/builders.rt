@@ -2,7 +2,7 @@
 
 ghost use Rattle.std.specs.Prelude.{◌≡◌, [], OnOk};
 
-use crate::tests::memory::{Heap, Row, call_twice, refuse_over_walks};
+use crate::tests::{Heap, Row, call_twice, refuse_over_walks};
 use determinize_below::{PatternID, StateID};
 use determinize_core::state::{State, StateBuilderEmpty, StateBuilderMatches, StateBuilderNFA};
 use std::process::Abort;

@@ -2,13 +2,13 @@
 
 ghost use Rattle.std.specs.Prelude.{◌≤◌};
 
-use crate::tests::memory::{Heap, Row, call_twice, refuse_in_turn, refuse_over_walks};
-use crate::tests::worked;
+use crate::tests::{Heap, Row, call_twice, refuse_in_turn, refuse_over_walks};
 use determinize_below::{BuildError, NFA, SparseSet, SparseSets, StateID};
 use determinize_replay::job::Job;
 use determinize_replay::nfas;
 use std::process::Abort;
 use std::test::Fail;
+use worked_rows::answers;
 
 /// Makes a set, and then two at once.
 fn make_sets(rt: &impl Abort, heap: &Heap, capacity: usize) -> Result<bool, Fail>
@@ -63,7 +63,7 @@ fn make_nfa<R: Abort + AllocGlobal>(
 
 #[test]
 fn nfa(rt: HostRuntime) -> Result<(), Fail> {
-    for (_, line, answer) in worked::WALKS {
+    for (_, line, answer) in answers::WALKS {
         refuse_in_turn(&rt, |heap| make_nfa(&rt, heap, line, answer))?;
     }
     Ok(())

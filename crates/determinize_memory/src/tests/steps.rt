@@ -4,8 +4,8 @@ ghost use Rattle.std.specs.Prelude.{◌≡◌, ◌<◌, length};
 ghost use Rattle.determinize_below.specs.Nfa.{AllResolve};
 ghost use Rattle.determinize_core.specs.Scratch.{IsScratch};
 
-use crate::tests::memory::builders::are_spelled;
-use crate::tests::memory::{Heap, Row, call_twice, refuse_in_turn, refuse_over_walks};
+use crate::tests::builders::are_spelled;
+use crate::tests::{Heap, Row, call_twice, refuse_in_turn, refuse_over_walks};
 use determinize_below::{SparseSet, SparseSets, StateID, Unit};
 use determinize_core::determinize::{
     Steps, add_nfa_states, epsilon_closure, next, next_counted, set_lookbehind_from_start,
