@@ -139,12 +139,14 @@ impl<'h> Input<'h> {
     }
 }
 
-/// The end of a match, with the pattern that matched. Where the match begins is not known.
+/// One end of a match, with the pattern that matched. Where its other end lies is not known.
 #[derive(Clone, Copy, Debug, PartialEq, Eq, Hash)]
 pub struct HalfMatch {
     /// The pattern that matched.
     pub pattern: PatternID,
-    /// Where the match ends: the number of bytes that were read before its end.
+    /// Of a walk, or of a search of a text: the number of bytes that are read before the match ends.
+    /// Of a search of an input: the index in the haystack where the match ends, or where it begins
+    /// if it was read backward.
     pub offset: usize,
 }
 

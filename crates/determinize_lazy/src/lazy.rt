@@ -127,6 +127,7 @@ impl<'n, N: Allocator, A: Allocator + Copy> Lazy<'n, N, A> {
     }
 
     /// How many transitions were computed since `new`. It stays at the greatest number once there.
+    /// After a refused call it is not smaller, and no more is told.
     pub fn computed(&self) -> u64
         ensures { result ≡ self.now.computed }
     {
@@ -421,8 +422,9 @@ impl<'n, N: Allocator, A: Allocator + Copy> Lazy<'n, N, A> {
     /// - `start` is the id of the NFA state to start from, below the number of states.
     /// - `look_behind` is the byte that is read just before the text, or none.
     ///
-    /// The only error is want of memory. The cache holds right transitions then, and is as good for
-    /// later walks.
+    /// The text is in the order of reading: for an NFA that reads backward, from the last byte on.
+    /// The only error is want of memory. The cache may hold less then, or nothing; later answers are
+    /// the same.
     pub fn walk(
         &mut self,
         start: StateID,
@@ -459,8 +461,9 @@ impl<'n, N: Allocator, A: Allocator + Copy> Lazy<'n, N, A> {
     /// Walks a text that has a byte ahead of its end: the same as `walk`, and the last state is the
     /// one that follows over this byte. Where none is given, it follows over the end of the input.
     ///
-    /// The only error is want of memory. The cache holds right transitions then, and is as good for
-    /// later walks.
+    /// The text is in the order of reading: for an NFA that reads backward, from the last byte on.
+    /// The only error is want of memory. The cache may hold less then, or nothing; later answers are
+    /// the same.
     pub fn walk_between(
         &mut self,
         start: StateID,

@@ -1,6 +1,7 @@
 //! A lazy DFA: walks and searches through a bounded cache of transitions.
 //!
-//! [`Lazy`] borrows an NFA and answers what `determinize_core::determinize::walk` answers.
+//! [`Lazy`] borrows an NFA. It answers what `determinize_core::determinize::walk` answers, and tells
+//! the last match of such a walk, also of a range of a haystack in either direction.
 #![tactic(auto)]
 
 pub mod laws;

@@ -289,10 +289,13 @@ impl<'n, N: Allocator, A: Allocator + Copy> Lazy<'n, N, A> {
     /// - `look_behind` is the byte that is read just before the text, or none.
     /// - `look_ahead` is the byte just ahead of the text, or none where the input ends there.
     ///
-    /// Nothing is read after a state that records no NFA states, since nothing can follow it.
-    /// Where the leftmost match is wanted, the answer is the pattern and the end of the most
-    /// preferred match. The only error is want of memory. The cache holds right transitions then,
-    /// and is as good for later calls.
+    /// The text is in the order of reading: for an NFA that reads backward, from the last byte on.
+    /// Nothing is read after a state that records no NFA states, since nothing can follow it. Where
+    /// the leftmost match is wanted, the answer is the pattern and the end of the most preferred
+    /// match.
+    ///
+    /// The only error is want of memory. The cache may hold less then, or nothing; later answers are
+    /// the same.
     pub fn search(
         &mut self,
         start: StateID,
@@ -327,11 +330,12 @@ impl<'n, N: Allocator, A: Allocator + Copy> Lazy<'n, N, A> {
     ///
     /// The search starts from the NFA's anchored or unanchored start state, as the input asks. A
     /// search that is anchored to one pattern has no start here: the caller must not ask for it.
-    /// What stands beside the range in the haystack is read by assertions alone. A range that
+    /// No match goes over what stands beside the range in the haystack: assertions alone ask for it.
+    /// The byte ahead of the range is still one more unit, which is counted and kept. A range that
     /// starts past its end has no match, and nothing is read.
     ///
-    /// The only error is want of memory. The cache holds right transitions then, and is as good for
-    /// later calls.
+    /// The only error is want of memory. The cache may hold less then, or nothing; later answers are
+    /// the same.
     pub fn search_input(&mut self, input: &Input<'_>) -> Result<Option<HalfMatch>, AllocError>
         requires { has_start input.now.anchored ≡ true }
         ensures last { IfOk result

@@ -61,3 +61,8 @@ fn counted_transition(rt: HostRuntime) -> Result<(), Fail> {
 fn count_takes_no_bytes(rt: HostRuntime) {
     assert_eq!(rt; size_of::<Steps<Brand>>(), 0);
 }
+
+#[test]
+fn short_states_take_32_bytes(rt: HostRuntime) {
+    assert_eq!(rt; size_of::<State>(), 32);
+}

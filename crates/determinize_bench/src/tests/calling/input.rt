@@ -9,8 +9,9 @@ use std::ops::Range;
 
 /// Where the preferred match of the haystack begins and ends, or none.
 ///
-/// `forward` finds its end. `backward` is of an NFA that reads the reversed pattern backward, under
-/// `MatchKind::All`: it finds the first beginning of a match that ends there.
+/// `forward` finds its end, under `MatchKind::LeftmostFirst`. `backward` is of an NFA that reads the
+/// reversed pattern backward, under `MatchKind::All`: it finds the first beginning of a match that
+/// ends there. The contract says only that the range lies in the haystack.
 pub fn span<N: Allocator, A: Allocator + Copy>(
     forward: &mut Lazy<'_, N, A>,
     backward: &mut Lazy<'_, N, A>,
