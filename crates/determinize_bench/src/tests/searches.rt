@@ -67,6 +67,7 @@ fn ranges(rt: HostRuntime) -> Result<(), Fail> {
             (12, 12, None, None),
             (4, 3, None, None),
         ] {
+            assert!(rt; end <= HAYSTACK.len() && start <= end + 1);
             let wanted = if is_backward { backward } else { forward };
             for anchored in [Anchored::No, Anchored::Yes] {
                 let input = Input::new(HAYSTACK).range(start..end).anchored(anchored);
