@@ -119,12 +119,12 @@ module _ (f : Value → Option ℕ → Value) where
         ∙ ap (λ x. cond x (record { value = v; unit = u } ∷ []) []) (fits_is [] ∙ sym e' ∙ n')
 
 -- what an entry of the table tells
-pub entry_known : (f : Value → Option ℕ → Value) (values : List Value) (pairs : List Pair) (v : Value) (u : Option ℕ) (e : ℕ) → IsEntry f values pairs v u e → length values ≤ 4294967295 → e < length values
+pub entry_known : (f : Value → Option ℕ → Value) (values : List Value) (pairs : List Pair) (v : Value) (u : Option ℕ) (e : ℕ) → IsEntry f values pairs v u e → length values ≤ 16711935 → e < length values
     → (is_kept pairs v u ≡ true) × (slice_get values e ≡ Some (f v u))
 entry_known f values pairs v u e entry few within =
     elim (is_kept pairs v u) as (λ b. is_kept pairs v u ≡ b → (b ≡ true) × (slice_get values e ≡ Some (f v u))) [
       | true ↦ λ k. (refl, entry.kept k)
-      | false ↦ λ k. let e_is : e ≡ 4294967295 = entry.other k in absurd (omega (arith, e_is, few, within))
+      | false ↦ λ k. let e_is : e ≡ 16711935 = entry.other k in absurd (omega (arith, e_is, few, within))
     ] refl
 
 pub entry_none : (f : Value → Option ℕ → Value) (values : List Value) (pairs : List Pair) (v : Value) (u : Option ℕ) (e : ℕ) → IsEntry f values pairs v u e → length values ≤ e → is_kept pairs v u ≡ false

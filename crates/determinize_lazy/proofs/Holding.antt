@@ -11,7 +11,7 @@ use Rattle.determinize_lazy.specs.Private.Places.{IsPlace, IsPlaces}
 use Rattle.determinize_core.specs.Spelling.{spell}
 use Rattle.determinize_core.specs.Value.{IsValue, Value}
 use Rattle.determinize_core.proofs.SpellingLaws.{spell_tells}
-use Rattle.determinize_lazy.proofs.Placing.{apart-push, found, get_push, none_passes, position_from-push}
+use Rattle.determinize_lazy.proofs.Placing.{apart-push, found, get_push, none_passes, not_none, position_from-push}
 
 pub same_laws : IsEquivalence same
 same_laws = on_equiv spell nat_list_eq_equiv
@@ -30,7 +30,16 @@ is_place values v at r placed valid e =
           ap (λ k. slice_get values k) p_is ∙ f.3 ∙ ap Some (sym (same_is v (f.1) valid (placed.valid f.0 (f.1) f.3) f.4))
     ] (e ∙ placed.mapped v)
 
-pub places-push : (values more : List Value) (v : Value) (at at' : Value → Option ℕ) (n : ℕ) → IsPlaces values at → IsValue v → list_any (same v) values ≡ false → n ≡ length values → n < 4294967295
+-- no values
+pub places-none : (at : Value → Option ℕ) → ((q : Value) → at q ≡ None) → IsPlaces [] at
+places-none at none = record {
+  mapped = none;
+  apart = λ p v here. not_none (sym here);
+  valid = λ p v here. not_none (sym here);
+  few = let e : 0 ≤ 16711935 = omega arith in e;
+}
+
+pub places-push : (values more : List Value) (v : Value) (at at' : Value → Option ℕ) (n : ℕ) → IsPlaces values at → IsValue v → list_any (same v) values ≡ false → n ≡ length values → n < 16711935
     → more ≡ values ++ v ∷ []
     → ((q : Value) → at' q ≡ cond (same v q) (Some n) (at q))
     → IsPlaces more at'
@@ -42,7 +51,7 @@ places-push values more v at at' n placed valid none len few more_is new =
           ∙ sym (position_from-push same_laws values v q 0 none);
       apart = apart-push same_laws values v placed.apart none;
       valid = λ p q here. elim (get_push values v p q here) [ inl h ↦ placed.valid p q h | inr h ↦ subst IsValue (sym h.1) valid ];
-      few = rw length-append (let e : length values + 1 ≤ 4294967295 = omega (arith, len, few) in e);
+      few = rw length-append (let e : length values + 1 ≤ 16711935 = omega (arith, len, few) in e);
     }
 
 -- the last state taken back

@@ -28,7 +28,7 @@ pub place_last : (values more : List Value) (v : Value) (p : ℕ) → p ≡ leng
 place_last values more v p p_is more_is = ap (λ k. slice_get more k) p_is ∙ ap (λ xs. slice_get xs (length values)) more_is ∙ get_last values v
 
 pub rows_held : (f : Value → Option ℕ → Value) (values more : List Value) (rows rows' : List ℕ) (pairs : List Pair) (w : Value) → IsRows f values rows pairs → list_any (same w) values ≡ false
-    → more ≡ values ++ w ∷ [] → rows' ≡ rows ++ replicate 257 4294967295 → IsRows f more rows' pairs
+    → more ≡ values ++ w ∷ [] → rows' ≡ rows ++ replicate 257 16711935 → IsRows f more rows' pairs
 rows_held f values more rows rows' pairs w r none a b =
     subst (λ xs. IsRows f xs rows' pairs) (sym a) (subst (λ xs. IsRows f (values ++ w ∷ []) xs pairs) (sym b) (rows-hold f values rows pairs w r none))
 

@@ -35,22 +35,22 @@ same_unit_itself None = refl
 module _ (f : Value → Option ℕ → Value) where
   -- one more row, for a state that isn't held
   pub rows-hold : (values : List Value) (rows : List ℕ) (pairs : List Pair) (w : Value) → IsRows f values rows pairs → list_any (same w) values ≡ false
-      → IsRows f (values ++ w ∷ []) (rows ++ replicate 257 4294967295) pairs
+      → IsRows f (values ++ w ∷ []) (rows ++ replicate 257 16711935) pairs
   rows-hold values rows pairs w r none = record {
     size = rw (length-append, length-append, length-replicate, r.size) (let e : length values * 257 + 257 ≡ (length values + 1) * 257 = omega arith in e);
     apart = apart-push same_laws values w r.apart none;
     sources = λ v u k. rw list_any-append (ap (λ b. b || list_any (same v) (w ∷ [])) (r.sources v u k));
     entries = λ p v u at unit. elim (get_push values w p v at) [
       | inl h ↦ let inside : p * 257 + column u < length rows = let a : p < length values = slice_get_within values p v h in let b : column u < 257 = column-lt u unit in omega (arith, a, b, r.size) in
-          subst (λ e. IsEntry f (values ++ w ∷ []) pairs v u e) (sym (get_or_append_left rows (replicate 257 4294967295) 0 (p * 257 + column u) inside))
+          subst (λ e. IsEntry f (values ++ w ∷ []) pairs v u e) (sym (get_or_append_left rows (replicate 257 16711935) 0 (p * 257 + column u) inside))
           record {
             kept = λ k. get_more values (w ∷ []) _ _ ((r.entries p v u h unit).kept k);
             other = λ k. (r.entries p v u h unit).other k;
           }
       | inr h ↦ let place : p * 257 + column u ≡ length rows + column u = let a : p ≡ length values = h.0 in omega (arith, a, r.size) in
-          let fresh : slice_index (rows ++ replicate 257 4294967295) (p * 257 + column u) ≡ 4294967295 =
-          ap (λ k. slice_index (rows ++ replicate 257 4294967295) k) place ∙ get_or-append_right rows (replicate 257 4294967295) (length rows) (length rows + column u) 0 refl (let e : length rows ≤ length rows + column u = omega arith in e)
-          ∙ get_or-replicate 257 (length rows + column u - length rows) 4294967295 0 (let b : column u < 257 = column-lt u unit in omega (arith, b)) in
+          let fresh : slice_index (rows ++ replicate 257 16711935) (p * 257 + column u) ≡ 16711935 =
+          ap (λ k. slice_index (rows ++ replicate 257 16711935) k) place ∙ get_or-append_right rows (replicate 257 16711935) (length rows) (length rows + column u) 0 refl (let e : length rows ≤ length rows + column u = omega arith in e)
+          ∙ get_or-replicate 257 (length rows + column u - length rows) 16711935 0 (let b : column u < 257 = column-lt u unit in omega (arith, b)) in
           record {
             kept = λ k. not_both (ap (λ x. list_any (same x) values) (sym h.1) ∙ r.sources v u k) none;
             other = λ _. fresh;

@@ -1,7 +1,7 @@
 -- A search, one step more at a time.
 use Rattle.std.proofs.Common.{◌≡◌, ℕ, Bool, ◌+◌, ◌<◌, ◌≤◌, cond, Option, Some, None, true, false, List, [], ◌∷◌, ◌++◌, length, map, not, suc, take, drop, refl, sym, ap, ◌∙◌, subst, arith, get_or}
 use Rattle.std.specs.Option.{IfSome, option_or}
-use Rattle.std.specs.Prelude.{min}
+use Rattle.std.specs.Prelude.{min, slice_get}
 use Rattle.std.proofs.lemmas.List.{append-nil, append_assoc, length-map, length-reverse, length-take-le, map-append, take_all, take_more, take-append-drop}
 use Rattle.std.proofs.lemmas.Option.{get_or_from_slice_get, slice_get-get_or, slice_get_within}
 use Rattle.std.proofs.lemmas.List.FromFn.{length-map-range_with_len}
@@ -15,7 +15,7 @@ use Rattle.determinize_lazy.specs.Plenty.{HasRoom, KeepsAll}
 use Rattle.determinize_lazy.specs.Private.Over.{IsOver}
 use Rattle.determinize_lazy.specs.Private.Standing.{current, IsStanding}
 use Rattle.determinize_lazy.specs.Kept.{after_walk, Cache, count_after, held_values, keep, missed, step_of}
-use Rattle.determinize_lazy.specs.Private.Turns.{after_turn}
+use Rattle.determinize_lazy.specs.Private.Turns.{after_turn, IsKnown}
 use Rattle.determinize_lazy.specs.Searches.{in_order, units_read}
 use Rattle.determinize_core.specs.Value.{dead, is_nonempty, IsValue, Value}
 use Rattle.determinize_core.specs.Chain.{future, units}
@@ -31,7 +31,7 @@ empty_is : (xs : List ℕ) → is_nonempty xs ≡ false → xs ≡ []
 empty_is [] h = refl
 empty_is (x ∷ xs) h = absurd (true≢false h)
 
-not_true : (b : Bool) → not b ≡ true → b ≡ false
+pub not_true : (b : Bool) → not b ≡ true → b ≡ false
 not_true true h = absurd (true≢false (sym h))
 not_true false h = refl
 
@@ -78,6 +78,14 @@ searched_none old new first own place last few own_is new_is at none = record {
     standing_at : (o : Option ℕ) → IsPlace (held_values new) first o → IsStanding new own o
     standing_at None h = ap (λ v. list_any (same v) (held_values new)) own_is ∙ h
     standing_at (Some p) h = slice_get_within (held_values new) p first h
+
+-- at a place the search's own value doesn't matter
+pub searched_at : (old : Cache) (first : Value) (us : List (Option ℕ)) (own own' : Value) (place : Option ℕ) (p : ℕ) (last : Option HalfMatch) (new : Cache) → IsSearched old first us own place last new → place ≡ Some p
+    → IsSearched old first us own' (Some p) last new
+searched_at old first us own own' place p last new s at = there (subst (λ o. IsSearched old first us own o last new) at s)
+  where
+    there : IsSearched old first us own (Some p) last new → IsSearched old first us own' (Some p) last new
+    there t = record { end = t.end; standing = t.standing; after = t.after; told = t.told; valid = t.valid; read = t.read }
 
 -- the value at a place is one that a state can have
 pub current-valid : (c : Cache) (own : Value) (place : Option ℕ) (p : ℕ) → place ≡ Some p → AreValid (held_values c) → IsStanding c own place → IsValue (current c own place)
@@ -213,8 +221,22 @@ searched_later old first us own place last new newer few s later =
     omega (arith, so_far, later)
 
 -- what a step from a place finds where the transition is kept
-pub turn_known : (c : Cache) (v : Value) (u : Option ℕ) → is_kept c.pairs v u ≡ true → c ≡ after_turn c v u
+turn_known : (c : Cache) (v : Value) (u : Option ℕ) → is_kept c.pairs v u ≡ true → c ≡ after_turn c v u
 turn_known c v u k = ap (λ b. record c { pairs = cond b c.pairs (keep (step_of c) c.limit c.pairs record { value = v; unit = u }); computed = cond b c.computed (count_after c.computed 1) }) (sym k)
+
+-- a step from a place over a kept transition
+module _ (c : Cache) (own : Value) (source entry : ℕ) (u : Option ℕ) (standing : source < length (held_values c)) (known : (v : Value) → slice_get (held_values c) source ≡ Some v → IsKnown c v u (Some entry)) where
+  at_source : slice_get (held_values c) source ≡ Some (current c own (Some source))
+  at_source = slice_get-get_or (held_values c) source dead standing
+
+  pub hit_value : current c own (Some entry) ≡ step_of c (current c own (Some source)) u
+  hit_value = get_or_from_slice_get (held_values c) entry _ dead (known _ at_source).1
+
+  pub hit_standing : entry < length (held_values c)
+  hit_standing = slice_get_within (held_values c) entry _ (known _ at_source).1
+
+  pub hit_after : c ≡ after_turn c (current c own (Some source)) u
+  hit_after = turn_known c _ u (known _ at_source).0
 
 -- the bytes in either order are as many
 pub length-in_order : (backward : Bool) (bytes : List ℕ) → length (in_order backward bytes) ≡ length bytes

@@ -12,13 +12,13 @@ ghost use Rattle.determinize_core.specs.WalkStates.{RecordsReached};
 ghost use Rattle.determinize_lazy.specs.Kept.{Cache, after_text, after_walk, count_after, held_values, keep, step_of};
 ghost use Rattle.determinize_lazy.specs.Private.Turns.{IsKnown, after_turn};
 ghost use Rattle.determinize_lazy.specs.Pairs.{is_kept, with_value};
-ghost use Rattle.determinize_lazy.specs.Private.Places.{HaveValidValues};
 ghost use Rattle.determinize_lazy.specs.Places.{EachApart};
-ghost use Rattle.determinize_lazy.specs.Private.Places.{AreValid, IsPlace};
+ghost use Rattle.determinize_lazy.specs.Private.Places.{AreValid, HaveValidValues, IsPlace};
 ghost use Rattle.determinize_lazy.specs.Plenty.{HasRoom, KeepsAll};
 
+use crate::place::Place;
 use crate::scratch::Scratch;
-use crate::table::{Table, UNITS, column};
+use crate::table::{Table, column};
 use determinize_below::{MatchKind, NFA, StateID};
 use determinize_core::state::{State, StateBuilderNFA};
 use std::alloc::{AllocError, Allocator, Global};
@@ -31,8 +31,8 @@ use std::marker::Model;
 /// with its source and its target, are at most as many as the limit. Else the cache is emptied, and
 /// the transition is kept where its two states alone are at most as many; else nothing is.
 ///
-/// Places of states are numbers of 32 bits. Where more than 4294967295 states would be held, a call
-/// answers `AllocError`, as it does for want of memory.
+/// Where more than 16711935 states would be held, a call answers `AllocError`, as it does for want
+/// of memory.
 #[derive(Drop)]
 pub struct Lazy<'n, N: Allocator = Global, A: Allocator = Global> {
     alloc: A,
@@ -65,7 +65,7 @@ impl<'n, N: Allocator, A: Allocator> Model for Lazy<'n, N, A> {
 #[derive(Drop)]
 pub(crate) struct Reached<A: Allocator> {
     pub(crate) state: State<A>,
-    pub(crate) place: Option<u32>,
+    pub(crate) place: Option<Place>,
 }
 
 /// One where the test holds, else none.
@@ -117,6 +117,13 @@ impl<'n, N: Allocator, A: Allocator + Copy> Lazy<'n, N, A> {
         self.match_kind
     }
 
+    /// The greatest number of states that are held at a time.
+    pub fn limit(&self) -> usize
+        ensures { result ≡ self.now.limit }
+    {
+        self.limit
+    }
+
     /// The number of states held, no two of them the same.
     pub fn states_kept(&self) -> usize
         ensures value { result ≡ length (held_values self.now) }
@@ -146,9 +153,9 @@ impl<'n, N: Allocator, A: Allocator + Copy> Lazy<'n, N, A> {
     fn fits(
         &self,
         state: &State<A>,
-        place: Option<u32>,
+        place: Option<Place>,
         following: &State<A>,
-        target: Option<u32>,
+        target: Option<Place>,
     ) -> bool
         requires place { IsPlace (held_values self.now) state.now place }
         requires target { IsPlace (held_values self.now) following.now target }
@@ -166,11 +173,11 @@ impl<'n, N: Allocator, A: Allocator + Copy> Lazy<'n, N, A> {
     fn add(
         &mut self,
         state: &State<A>,
-        place: Option<u32>,
+        place: Option<Place>,
         unit: Option<u8>,
         following: &State<A>,
-        target: Option<u32>,
-    ) -> Result<u32, AllocError>
+        target: Option<Place>,
+    ) -> Result<Place, AllocError>
         requires follows { following.now ≡ step_of self.old state.now unit }
         requires place { IsPlace (held_values self.old) state.now place }
         requires target { IsPlace (held_values self.old) following.now target }
@@ -198,10 +205,10 @@ impl<'n, N: Allocator, A: Allocator + Copy> Lazy<'n, N, A> {
     fn keep(
         &mut self,
         state: &State<A>,
-        place: Option<u32>,
+        place: Option<Place>,
         unit: Option<u8>,
         following: &State<A>,
-    ) -> Result<Option<u32>, AllocError>
+    ) -> Result<Option<Place>, AllocError>
         requires follows { following.now ≡ step_of self.old state.now unit }
         requires place { IsPlace (held_values self.old) state.now place }
         ensures after { OnOk result (self.new ≡ record self.old {
@@ -213,7 +220,9 @@ impl<'n, N: Allocator, A: Allocator + Copy> Lazy<'n, N, A> {
         ensures err { OnErr result (self.new ≡ record self.old { pairs = [] }) }
     {
         let target = self.place_of(following);
-        if self.fits(state, place, following, target) {
+        // Copies, since a call borrows what it is given by value.
+        let (source, known) = (place, target);
+        if self.fits(state, source, following, known) {
             let place = self.add(state, place, unit, following, target)?;
             return Ok(Some(place));
         }
@@ -227,14 +236,14 @@ impl<'n, N: Allocator, A: Allocator + Copy> Lazy<'n, N, A> {
 
     /// The place of the state that follows the one at a place, where that transition is kept.
     #[inline(always)]
-    pub(crate) fn entry(&self, place: u32, unit: Option<u8>) -> Option<u32>
+    pub(crate) fn entry(&self, place: Place, unit: Option<u8>) -> Option<Place>
         requires { place < length (held_values self.now) }
         ensures { (v : StateValue) → slice_get (held_values self.now) place ≡ Some v
             → IsKnown self.now v unit result }
     {
         let column = column(unit);
-        let entry = self.table.rows[place as usize * UNITS + column];
-        if (entry as usize) < self.table.places.len() {
+        let entry = self.table.rows[place.row() + column];
+        if entry.number() < self.table.places.len() {
             Some(entry)
         } else {
             None
@@ -243,7 +252,7 @@ impl<'n, N: Allocator, A: Allocator + Copy> Lazy<'n, N, A> {
 
     /// The place of the state that follows, where that transition is kept.
     #[inline(always)]
-    fn known(&self, state: &State<A>, place: Option<u32>, unit: Option<u8>) -> Option<u32>
+    fn known(&self, state: &State<A>, place: Option<Place>, unit: Option<u8>) -> Option<Place>
         requires { IsPlace (held_values self.now) state.now place }
         ensures { IsKnown self.now state.now unit result }
     {
@@ -314,7 +323,7 @@ impl<'n, N: Allocator, A: Allocator + Copy> Lazy<'n, N, A> {
     fn miss(
         &mut self,
         state: &State<A>,
-        place: Option<u32>,
+        place: Option<Place>,
         unit: Option<u8>,
     ) -> Result<Reached<A>, AllocError>
         requires resolve { AllResolve self.old.nfa state.now.states }
@@ -346,7 +355,7 @@ impl<'n, N: Allocator, A: Allocator + Copy> Lazy<'n, N, A> {
     pub(crate) fn turn(
         &mut self,
         state: &State<A>,
-        place: Option<u32>,
+        place: Option<Place>,
         unit: Option<u8>,
     ) -> Result<Reached<A>, AllocError>
         requires resolve { AllResolve self.old.nfa state.now.states }
@@ -362,7 +371,8 @@ impl<'n, N: Allocator, A: Allocator + Copy> Lazy<'n, N, A> {
         ensures limit { self.new.limit ≡ self.old.limit }
         ensures computed { self.old.computed ≤ self.new.computed }
     {
-        match self.known(state, place, unit) {
+        let source = place;
+        match self.known(state, source, unit) {
             Some(entry) => {
                 let following = self.table.places.at(entry).clone()?;
                 Ok(Reached {
@@ -375,7 +385,7 @@ impl<'n, N: Allocator, A: Allocator + Copy> Lazy<'n, N, A> {
     }
 
     /// The place of a state, or none where it isn't held.
-    pub(crate) fn place_of(&self, state: &State<A>) -> Option<u32>
+    pub(crate) fn place_of(&self, state: &State<A>) -> Option<Place>
         ensures place { IsPlace (held_values self.now) state.now result }
         ensures valid { IsValue state.now }
         ensures pairs { HaveValidValues self.now.pairs }

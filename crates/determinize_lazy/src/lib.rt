@@ -6,6 +6,7 @@
 
 pub mod laws;
 pub mod lazy;
+mod place;
 mod places;
 mod scratch;
 mod searches;

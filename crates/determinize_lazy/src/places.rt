@@ -8,20 +8,19 @@ ghost use Rattle.determinize_lazy.specs.Places.{EachApart};
 ghost use Rattle.determinize_lazy.specs.Private.Places.{AreValid, IsPlace};
 ghost use Rattle.determinize_lazy.specs.Private.Signs.{signs_of};
 
+use crate::place::Place;
+use determinize_below::PatternID;
 use determinize_core::state::State;
 use std::alloc::{AllocError, Allocator, Global};
 use std::collections::HashMap;
 use std::hash::{BuildHasherDefault, FoldHasher};
 use std::marker::Model;
 
-/// The number that is no place: fewer states than this are held.
-pub(crate) const NO_PLACE: u32 = u32::MAX;
-
 /// What a search asks of a state.
 #[derive(Clone, Copy)]
 pub(crate) struct Signs {
-    /// Whether some pattern matches.
-    pub(crate) is_match: bool,
+    /// The first of the patterns that match.
+    pub(crate) first: Option<PatternID>,
     /// Whether no NFA state is recorded, so that nothing follows.
     pub(crate) is_last: bool,
 }
@@ -34,8 +33,13 @@ impl Signs {
     {
         // The bytes are taken for the proof alone: they tell that the value is well formed.
         let _ = state.as_bytes();
+        let first = if state.is_match() {
+            Some(state.match_pattern(0))
+        } else {
+            None
+        };
         Signs {
-            is_match: state.is_match(),
+            first,
             is_last: state.iter_nfa_state_ids().next().is_none(),
         }
     }
@@ -52,7 +56,7 @@ struct Held<A: Allocator> {
 #[derive(Drop)]
 pub(crate) struct Places<A: Allocator = Global> {
     held: Vec<Held<A>, A>,
-    places: HashMap<State<A>, u32, BuildHasherDefault<FoldHasher>, A>,
+    places: HashMap<State<A>, Place, BuildHasherDefault<FoldHasher>, A>,
 }
 
 impl<A: Allocator> Model for Places<A> {
@@ -82,18 +86,18 @@ impl<A: Allocator + Copy> Places<A> {
         }
     }
 
-    /// The number of states, at most 4294967295.
+    /// The number of states, at most 16711935.
     #[inline(always)]
     pub(crate) fn len(&self) -> usize
         ensures value { result ≡ length self.now }
-        ensures limit { result ≤ 4294967295 }
+        ensures limit { result ≤ 16711935 }
         ensures apart { EachApart self.now }
     {
         self.held.len()
     }
 
     /// The place of a state, or none where it isn't held.
-    pub(crate) fn place_of(&self, state: &State<A>) -> Option<u32>
+    pub(crate) fn place_of(&self, state: &State<A>) -> Option<Place>
         ensures place { IsPlace self.now state.now result }
         ensures valid { IsValue state.now }
         ensures held { AreValid self.now }
@@ -104,7 +108,7 @@ impl<A: Allocator + Copy> Places<A> {
     }
 
     /// Whether a state of this place isn't held, nor the same as another one.
-    pub(crate) fn is_new(&self, state: &State<A>, place: Option<u32>, other: &State<A>) -> bool
+    pub(crate) fn is_new(&self, state: &State<A>, place: Option<Place>, other: &State<A>) -> bool
         requires { IsPlace self.now state.now place }
         ensures { result
             ≡ not (list_any (same state.now) self.now || same other.now state.now) }
@@ -114,23 +118,23 @@ impl<A: Allocator + Copy> Places<A> {
 
     /// The state at a place.
     #[inline(always)]
-    pub(crate) fn at(&self, place: u32) -> &State<A>
+    pub(crate) fn at(&self, place: Place) -> &State<A>
         requires { place < length self.now }
         ensures value { slice_get self.now place ≡ Some result.now }
         ensures valid { IsValue result.now }
     {
-        &self.held[place as usize].state
+        &self.held[place.number()].state
     }
 
     /// The signs of the state at a place.
     #[inline(always)]
-    pub(crate) fn signs(&self, place: u32) -> Signs
+    pub(crate) fn signs(&self, place: Place) -> Signs
         requires { place < length self.now }
         ensures signs { (v : StateValue) → slice_get self.now place ≡ Some v
             → result ≡ signs_of v }
         ensures valid { AreValid self.now }
     {
-        self.held[place as usize].signs
+        self.held[place.number()].signs
     }
 
     /// Lets go of all states.
@@ -143,19 +147,17 @@ impl<A: Allocator + Copy> Places<A> {
 
     /// Holds one more state, and answers its place.
     ///
-    /// The only error is want of memory, which comes also where 4294967295 states are held; nothing
+    /// The only error is want of memory, which comes also where 16711935 states are held; nothing
     /// changes then.
-    pub(crate) fn hold(&mut self, state: &State<A>) -> Result<u32, AllocError>
+    pub(crate) fn hold(&mut self, state: &State<A>) -> Result<Place, AllocError>
         requires { list_any (same state.now) self.old ≡ false }
         ensures place { IfOk result (λ place. place ≡ length self.old) }
         ensures held { OnOk result (self.new ≡ self.old ++ state.now ∷ []) }
         ensures err { OnErr result (self.new ≡ self.old) }
     {
-        let len = self.held.len();
-        if len >= NO_PLACE as usize {
+        let Some(place) = Place::new(self.held.len()) else {
             return Err(AllocError);
-        }
-        let place = len as u32;
+        };
         let signs = Signs::of(state);
         let key = state.clone()?;
         let state = state.clone()?;

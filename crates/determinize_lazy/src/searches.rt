@@ -17,6 +17,7 @@ ghost use Rattle.determinize_lazy.specs.Private.Turns.{after_turn};
 ghost use Rattle.determinize_lazy.specs.Searches.{IsPlenty, IsPlentyIn, IsPreferredIn, IsPreferredMatch, after_input, after_search, has_start, in_haystack, in_order, last_in, start_for, text_of};
 
 use crate::lazy::{Lazy, Reached};
+use crate::place::Place;
 use crate::places::Signs;
 use determinize_below::{Anchored, HalfMatch, Input, NFA, StateID};
 use determinize_core::start::{look_ahead_forward, look_ahead_reverse};
@@ -84,9 +85,9 @@ impl<'n, N: Allocator, A: Allocator + Copy> Lazy<'n, N, A> {
     fn step_from_own(
         &mut self,
         own: &mut State<A>,
-        place: Option<u32>,
+        place: Option<Place>,
         unit: Option<u8>,
-    ) -> Result<Option<u32>, AllocError>
+    ) -> Result<Option<Place>, AllocError>
         requires resolve { AllResolve self.old.nfa own.old.states }
         requires place { IsPlace (held_values self.old) own.old place }
         ensures value { IfOk result
@@ -111,9 +112,9 @@ impl<'n, N: Allocator, A: Allocator + Copy> Lazy<'n, N, A> {
     fn step_from_place(
         &mut self,
         own: &mut State<A>,
-        source: u32,
+        source: Place,
         unit: Option<u8>,
-    ) -> Result<Option<u32>, AllocError>
+    ) -> Result<Option<Place>, AllocError>
         requires resolve { AllResolve self.old.nfa
             (current self.old own.old (Some source)).states }
         requires standing { IsStanding self.old own.old (Some source) }
@@ -141,9 +142,9 @@ impl<'n, N: Allocator, A: Allocator + Copy> Lazy<'n, N, A> {
     fn step(
         &mut self,
         own: &mut State<A>,
-        place: Option<u32>,
+        place: Option<Place>,
         unit: Option<u8>,
-    ) -> Result<Option<u32>, AllocError>
+    ) -> Result<Option<Place>, AllocError>
         requires resolve { AllResolve self.old.nfa (current self.old own.old place).states }
         requires standing { IsStanding self.old own.old place }
         ensures value { IfOk result (λ next. current self.new own.new next
@@ -162,20 +163,9 @@ impl<'n, N: Allocator, A: Allocator + Copy> Lazy<'n, N, A> {
         }
     }
 
-    /// The state where a search stands.
-    fn current<'s>(&'s self, own: &'s State<A>, place: Option<u32>) -> &'s State<A>
-        requires { IsStanding self.now own.now place }
-        ensures { result.now ≡ current self.now own.now place }
-    {
-        match place {
-            Some(place) => self.table.places.at(place),
-            None => own,
-        }
-    }
-
     /// The signs of the state where a search stands.
     #[inline(always)]
-    fn signs(&self, own: &State<A>, place: Option<u32>) -> Signs
+    fn signs(&self, own: &State<A>, place: Option<Place>) -> Signs
         requires { IsStanding self.now own.now place }
         ensures signs { result ≡ signs_of (current self.now own.now place) }
         ensures valid { IsValue (current self.now own.now place) }
@@ -192,7 +182,7 @@ impl<'n, N: Allocator, A: Allocator + Copy> Lazy<'n, N, A> {
     fn last_by(
         &self,
         own: &State<A>,
-        place: Option<u32>,
+        place: Option<Place>,
         offset: usize,
         last: Option<HalfMatch>,
     ) -> Option<HalfMatch>
@@ -200,11 +190,9 @@ impl<'n, N: Allocator, A: Allocator + Copy> Lazy<'n, N, A> {
         ensures { result
             ≡ option_or (ended_at offset (current self.now own.now place).patterns) last }
     {
-        if self.signs(own, place).is_match {
-            let pattern = self.current(own, place).match_pattern(0);
-            Some(HalfMatch { pattern, offset })
-        } else {
-            last
+        match self.signs(own, place).first {
+            Some(pattern) => Some(HalfMatch { pattern, offset }),
+            None => last,
         }
     }
 
@@ -232,15 +220,37 @@ impl<'n, N: Allocator, A: Allocator + Copy> Lazy<'n, N, A> {
         let mut place = self.place_of(&first);
         let mut own = first;
         let mut last = None;
-        for read in 0..text.len() {
-            if self.signs(&own, place).is_last {
+        let mut read = 0;
+        while read < text.len() {
+            let standing = place;
+            if self.signs(&own, standing).is_last {
                 return Ok(last);
             }
             let byte = byte_after(text, is_backward, read);
             place = self.step(&mut own, place, Some(byte))?;
-            last = self.last_by(&own, place, read, last);
+            let standing = place;
+            last = self.last_by(&own, standing, read, last);
+            read += 1;
+            // Over kept transitions nothing changes but where the search stands.
+            if let Some(from) = place {
+                let mut at = from;
+                let mut signs = self.signs(&own, Some(at));
+                while read < text.len() && !signs.is_last {
+                    let byte = byte_after(text, is_backward, read);
+                    let Some(next) = self.entry(at, Some(byte)) else {
+                        break;
+                    };
+                    at = next;
+                    signs = self.signs(&own, Some(at));
+                    last = self.last_by(&own, Some(at), read, last);
+                    read += 1;
+                }
+                place = Some(at);
+                continue;
+            }
         }
-        if self.signs(&own, place).is_last {
+        let standing = place;
+        if self.signs(&own, standing).is_last {
             return Ok(last);
         }
         place = self.step(&mut own, place, look_ahead)?;

@@ -7,17 +7,15 @@ ghost use Rattle.determinize_lazy.specs.Pairs.{Pair, same, with_value};
 ghost use Rattle.determinize_lazy.specs.Private.Places.{IsPlace};
 ghost use Rattle.determinize_lazy.specs.Private.Rows.{IsRows, IsUnit, column};
 
-use crate::places::{NO_PLACE, Places};
+use crate::place::{Place, UNITS};
+use crate::places::Places;
 use determinize_core::state::State;
 use std::alloc::{AllocError, Allocator, Global};
-
-/// The number of units: the bytes, and the end of the input.
-pub(crate) const UNITS: usize = 257;
 
 /// A kept transition: the place of its source, and its unit.
 #[derive(Clone, Copy)]
 pub(crate) struct Kept {
-    pub(crate) source: u32,
+    pub(crate) source: Place,
     pub(crate) unit: Option<u8>,
 }
 
@@ -25,7 +23,7 @@ pub(crate) struct Kept {
 #[derive(Drop)]
 pub(crate) struct Table<A: Allocator = Global> {
     pub(crate) places: Places<A>,
-    pub(crate) rows: Vec<u32, A>,
+    pub(crate) rows: Vec<Place, A>,
     pub(crate) order: Vec<Kept, A>,
 }
 
@@ -43,10 +41,10 @@ pub(crate) fn column(unit: Option<u8>) -> usize
 }
 
 /// One more row, in which nothing is kept. The only error is want of memory.
-fn push_row<A: Allocator>(rows: &mut Vec<u32, A>) -> Result<(), AllocError>
-    ensures { OnOk result (rows.new.items ≡ rows.old.items ++ replicate 257 4294967295) }
+fn push_row<A: Allocator>(rows: &mut Vec<Place, A>) -> Result<(), AllocError>
+    ensures { OnOk result (rows.new.items ≡ rows.old.items ++ replicate 257 16711935) }
 {
-    rows.resize(rows.len() + UNITS, NO_PLACE)
+    rows.resize(rows.len() + UNITS, Place::NONE)
 }
 
 impl<A: Allocator + Copy> Table<A> {
@@ -77,12 +75,12 @@ impl<A: Allocator + Copy> Table<A> {
     }
 
     /// Holds one more state, and answers its place. The only error is want of memory.
-    fn hold(&mut self, state: &State<A>) -> Result<u32, AllocError>
+    fn hold(&mut self, state: &State<A>) -> Result<Place, AllocError>
         requires { list_any (same state.now) self.old.places ≡ false }
         ensures place { IfOk result (λ place. place ≡ length self.old.places) }
         ensures places { OnOk result (self.new.places ≡ self.old.places ++ state.now ∷ []) }
         ensures rows { OnOk result
-            (self.new.rows.items ≡ self.old.rows.items ++ replicate 257 4294967295) }
+            (self.new.rows.items ≡ self.old.rows.items ++ replicate 257 16711935) }
         ensures order { OnOk result (self.new.order.items ≡ self.old.order.items) }
     {
         let place = self.places.hold(state)?;
@@ -91,7 +89,7 @@ impl<A: Allocator + Copy> Table<A> {
     }
 
     /// The place of a state, which is held from then on. The only error is want of memory.
-    fn place_for(&mut self, state: &State<A>, place: Option<u32>) -> Result<u32, AllocError>
+    fn place_for(&mut self, state: &State<A>, place: Option<Place>) -> Result<Place, AllocError>
         requires { IsPlace self.old.places state.now place }
         ensures place { IfOk result
             (λ place. slice_get self.new.places place ≡ Some state.now) }
@@ -118,10 +116,10 @@ impl<A: Allocator + Copy> Table<A> {
     fn place_now(
         &self,
         state: &State<A>,
-        source: u32,
+        source: Place,
         following: &State<A>,
-        target: Option<u32>,
-    ) -> Option<u32>
+        target: Option<Place>,
+    ) -> Option<Place>
         requires { slice_get self.now.places source ≡ Some state.now }
         ensures { (before : List StateValue) → self.now.places ≡ with_value before state.now
             → IsPlace before following.now target → IsPlace self.now.places following.now result }
@@ -147,11 +145,11 @@ impl<A: Allocator + Copy> Table<A> {
     pub(crate) fn record(
         &mut self,
         state: &State<A>,
-        place: Option<u32>,
+        place: Option<Place>,
         unit: Option<u8>,
         following: &State<A>,
-        target: Option<u32>,
-    ) -> Result<u32, AllocError>
+        target: Option<Place>,
+    ) -> Result<Place, AllocError>
         requires place { IsPlace self.old.places state.now place }
         requires target { IsPlace self.old.places following.now target }
         requires size { length self.old.rows.items ≡ length self.old.places * 257 }
@@ -175,7 +173,7 @@ impl<A: Allocator + Copy> Table<A> {
         let known = self.place_now(state, source, following, target);
         let target = self.place_for(following, known)?;
         let column = column(unit);
-        self.rows[source as usize * UNITS + column] = target;
+        self.rows[source.row() + column] = target;
         self.order.push(Kept { source, unit })?;
         Ok(target)
     }

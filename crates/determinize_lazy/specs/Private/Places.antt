@@ -18,9 +18,9 @@ abbrev pub HaveValidValues : List Pair → Type 0
 HaveValidValues [] = ⊤
 HaveValidValues (pair ∷ pairs) = IsValue pair.value × HaveValidValues pairs
 
--- values apart, each one that a state can have, and a map to their places, which are numbers of 32 bits
+-- values apart, each one that a state can have, and a map to their places, which are at most 16711935
 pub record IsPlaces (values : List Value) (at : Value → Option ℕ) : Type 0 where
   pub mapped : (q : Value) → at q ≡ place_in values q
   pub apart : EachApart values
   pub valid : AreValid values
-  pub few : length values ≤ 4294967295
+  pub few : length values ≤ 16711935

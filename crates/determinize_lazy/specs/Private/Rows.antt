@@ -15,10 +15,10 @@ abbrev pub column : Option ℕ → ℕ
 column (Some byte) = byte
 column None = 256
 
--- a number in the table: the place of the value that follows where the transition is kept, else no place
+-- an entry of the table: the place of the value that follows where the transition is kept, else no place
 pub record IsEntry (f : Value → Option ℕ → Value) (values : List Value) (pairs : List Pair) (v : Value) (u : Option ℕ) (entry : ℕ) : Type 0 where
   pub kept : is_kept pairs v u ≡ true → slice_get values entry ≡ Some (f v u)
-  pub other : is_kept pairs v u ≡ false → entry ≡ 4294967295
+  pub other : is_kept pairs v u ≡ false → entry ≡ 16711935
 
 -- the rows of the values, which tell the pairs
 pub record IsRows (f : Value → Option ℕ → Value) (values : List Value) (rows : List ℕ) (pairs : List Pair) : Type 0 where

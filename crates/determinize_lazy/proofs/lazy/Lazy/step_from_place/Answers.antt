@@ -1,25 +1,22 @@
 use Rattle.std.proofs.Common.{rules, ◌≡◌, Some, subst, sym}
 use Rattle.std.specs.Prelude.{IfOk, OnOk, slice_get}
-use Rattle.std.proofs.lemmas.Option.{get_or_from_slice_get, slice_get-get_or, slice_get_within}
+use Rattle.std.proofs.lemmas.Option.{get_or_from_slice_get}
 use Rattle.determinize_lazy.specs.Private.Standing.{current}
 use Rattle.determinize_lazy.specs.Kept.{held_values, step_of}
 use Rattle.determinize_lazy.specs.Private.Turns.{after_turn}
 use Rattle.determinize_core.specs.Value.{dead, Value}
 use Rattle.determinize_below.specs.Nfa.{AllResolve}
-use Rattle.determinize_lazy.proofs.Searching.{turn_known}
+use Rattle.determinize_lazy.proofs.Searching.{hit_after, hit_standing, hit_value}
 use Rattle.determinize_lazy.proofs.lazy.Lazy.step_from_place.Goals as goal
 
 pub returns-in-Some-clause-value : goal.returns-in-Some-clause-value
-returns-in-Some-clause-value g c =
-    get_or_from_slice_get (held_values c.args.self.now) c.in-Some.entry _ dead (c.in-Some.ensures _ (slice_get-get_or (held_values c.args.self.now) c.args.source dead c.requires.standing)).1
+returns-in-Some-clause-value g c = hit_value c.args.self.now c.args.own.now c.args.source c.in-Some.entry c.args.unit c.requires.standing c.in-Some.ensures
 
 pub returns-in-Some-clause-standing : goal.returns-in-Some-clause-standing
-returns-in-Some-clause-standing g c =
-    slice_get_within (held_values c.args.self.now) c.in-Some.entry _ (c.in-Some.ensures _ (slice_get-get_or (held_values c.args.self.now) c.args.source dead c.requires.standing)).1
+returns-in-Some-clause-standing g c = hit_standing c.args.self.now c.args.own.now c.args.source c.in-Some.entry c.args.unit c.requires.standing c.in-Some.ensures
 
 pub returns-in-Some-clause-after : goal.returns-in-Some-clause-after
-returns-in-Some-clause-after g c =
-    turn_known c.args.self.now _ c.args.unit (c.in-Some.ensures _ (slice_get-get_or (held_values c.args.self.now) c.args.source dead c.requires.standing)).0
+returns-in-Some-clause-after g c = hit_after c.args.self.now c.args.own.now c.args.source c.in-Some.entry c.args.unit c.requires.standing c.in-Some.ensures
 
 pub step_from_own-requires-clause-resolve : goal.step_from_own-requires-clause-resolve
 step_from_own-requires-clause-resolve g c =
