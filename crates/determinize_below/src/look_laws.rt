@@ -51,7 +51,8 @@ pub fn look_class_law(set: LookSet)
     ensures word { looks.has_word set ≡ list_any (has set) classes.word_looks }
 {}
 
-/// What is known behind a byte, or behind nothing, is what holds there whatever unit follows; a short table says what that is.
+/// What is known behind a byte, or behind nothing, is what holds there whatever unit follows; a
+/// short table says what that is.
 pub fn known_law(reverse: bool, terminator: u8, before: Option<u8>, look: Look)
     ensures every { Decides (truth.is_known reverse terminator before look)
         ((q : Option ℕ) → truth.IsUnit q → truth.holds reverse terminator before q look ≡ true) }

@@ -82,7 +82,8 @@ impl<'h> Input<'h> {
         }
     }
 
-    /// The same search of this range. The range ends in the haystack or at its end, and starts at most one past its own end.
+    /// The same search of this range. The range ends in the haystack or at its end, and starts at
+    /// most one past its own end.
     pub fn range(self, range: Range<usize>) -> Input<'h>
         requires in_haystack { range.end ≤ length self.haystack }
         requires near { range.start ≤ range.end + 1 }

@@ -47,12 +47,14 @@ pub fn step_law()
     ensures leftmost { LeftmostGivesOne }
 {}
 
-/// A step tries to add a state to a set at most twice for each state of the NFA and for each of its edges that want no input.
+/// A step tries to add a state to a set at most twice for each state of the NFA and for each of its
+/// edges that want no input.
 pub fn tries_law()
     ensures { TriesAreFew }
 {}
 
-/// The walks of the program `rows` by the definitions: the bytes of their states, and pattern and end of their last match. Their NFAs pass every check.
+/// The walks of the program `rows` by the definitions: the bytes of their states, and pattern and
+/// end of their last match. Their NFAs pass every check.
 pub fn walk_rows_law()
     ensures accepted { rows.AreAccepted }
     ensures row_2 { rows.Row2 }

@@ -1,4 +1,5 @@
-//! Where a search starts: what stands behind its first position, and the kinds of start that this makes.
+//! Where a search starts: what stands behind its first position, and the kinds of start that this
+//! makes.
 
 ghost use Rattle.std.specs.Prelude.{◌≡◌, ℕ, ◌<◌, get_or, length, slice_get};
 ghost use Rattle.determinize_core.specs.StartKinds as kinds;
@@ -8,7 +9,8 @@ use determinize_below::{Anchored, Input, LookMatcher};
 use std::fmt;
 use std::marker::Model;
 
-/// What the start of a search depends on: the byte behind it, where there is one, and whether the search is anchored.
+/// What the start of a search depends on: the byte behind it, where there is one, and whether the
+/// search is anchored.
 #[derive(Clone, Debug, Drop)]
 pub struct Config {
     look_behind: Option<u8>,
@@ -34,7 +36,8 @@ impl Config {
         }
     }
 
-    /// The start of a forward search: behind it is the byte before the input's start, where the haystack has it.
+    /// The start of a forward search: behind it is the byte before the input's start, where the
+    /// haystack has it.
     pub fn from_input_forward(input: &Input<'_>) -> Config
         ensures { result ≡ record {
           look_behind = kinds.byte_before input.now.haystack input.now.start;
@@ -47,7 +50,8 @@ impl Config {
         }
     }
 
-    /// The start of a reverse search: behind it is the byte at the input's end, where the haystack has it.
+    /// The start of a reverse search: behind it is the byte at the input's end, where the haystack
+    /// has it.
     pub fn from_input_reverse(input: &Input<'_>) -> Config
         ensures { result ≡ record {
           look_behind = slice_get input.now.haystack input.now.end;

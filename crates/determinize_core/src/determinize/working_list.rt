@@ -2,7 +2,8 @@
 //!
 //! The working list is what a transition reads: the NFA states that a state records, each once, or
 //! what they lead to where the unit makes an assertion true that they need. The first reading finds
-//! the patterns, and the states that matter: those that match, and those that the unit leads on from.
+//! the patterns, and the states that matter: those that match, and those that the unit leads on
+//! from.
 
 ghost use Rattle.std.specs.Prelude.{◌≡◌, ℕ, ◌+◌, ◌<◌, ◌≤◌, ◌++◌, [], All, Some, false, length, nat_eq, is_some, not, IfOk, IfSome, OnOk, ◌&&◌, ◌||◌};
 ghost use Rattle.determinize_below.specs.Members.{has_id};
