@@ -28,5 +28,7 @@ are_worked_rows = record {
   forward = refl;
   backward = refl;
   inside = refl;
+  cut_ahead = refl;
+  cut_behind = refl;
   past_its_end = refl;
 }

@@ -55,4 +55,6 @@ pub record AreWorkedRows : Type 0 where
   pub forward : last_in n4 LeftmostFirst (between_signs 2 6) ≡ Some record { pattern = 0; offset = 4 }
   pub backward : last_in (record n4 { reverse = true }) LeftmostFirst (between_signs 0 4) ≡ Some record { pattern = 0; offset = 2 }
   pub inside : last_in n4 LeftmostFirst (between_signs 3 6) ≡ None
+  pub cut_ahead : last_in n4 LeftmostFirst (between_signs 2 3) ≡ None
+  pub cut_behind : last_in (record n4 { reverse = true }) LeftmostFirst (between_signs 3 4) ≡ None
   pub past_its_end : last_in n4 LeftmostFirst (between_signs 3 2) ≡ None

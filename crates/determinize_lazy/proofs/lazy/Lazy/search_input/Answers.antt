@@ -1,65 +1,51 @@
 use Rattle.std.proofs.Common.{rules, ◌≡◌, ◌<◌, ◌≤◌, arith, sym}
 use Rattle.std.specs.List.{slice_range}
-use Rattle.determinize_lazy.specs.Searches.{start_for}
-use Rattle.determinize_lazy.proofs.Ranges.{after-done, after-found, last-done, last-found, plenty-done, plenty-found, preferred-done, preferred-found, read}
+use Rattle.determinize_below.specs.Positions.{between}
+use Rattle.determinize_lazy.specs.Searches.{in_order, start_for}
+use Rattle.determinize_lazy.proofs.Ranges.{after-done, after-found, IsRead, last-done, last-found, plenty-done, plenty-found, preferred-done, preferred-found, read}
+use Rattle.determinize_lazy.proofs.lazy.Lazy.search_input.Given.{Over}
+use Rattle.determinize_lazy.proofs.lazy.Lazy.search_input.Goals.{After-byte_ahead-ahead, Then-start-end}
 use Rattle.determinize_lazy.proofs.lazy.Lazy.search_input.Goals as goal
 
-pub returns-then-start-end-clause-last : goal.returns-then-start-end-clause-last
-returns-then-start-end-clause-last g c =
-    let past : c.args.input.now.end < c.args.input.now.start = omega (arith, c.if-start-end.true, c.start-start.ensures.value, c.end-end.ensures.value) in
-    last-done c.args.self.now.nfa c.args.self.now.kind c.args.input.now past
+-- nothing is left to search
+is_past : (g : Over) (c : Then-start-end g) → c.args.input.now.end < c.args.input.now.start
+is_past g c = omega (arith, c.if-start-end.true, c.start-start.ensures.value, c.end-end.ensures.value)
 
-pub returns-then-start-end-clause-preferred : goal.returns-then-start-end-clause-preferred
-returns-then-start-end-clause-preferred g c = λ kind.
-    let past : c.args.input.now.end < c.args.input.now.start = omega (arith, c.if-start-end.true, c.start-start.ensures.value, c.end-end.ensures.value) in
-    preferred-done c.args.self.now.nfa c.args.self.now.kind c.args.input.now past (search rules) kind
-
-pub returns-then-start-end-clause-after : goal.returns-then-start-end-clause-after
-returns-then-start-end-clause-after g c =
-    let past : c.args.input.now.end < c.args.input.now.start = omega (arith, c.if-start-end.true, c.start-start.ensures.value, c.end-end.ensures.value) in
-    sym (after-done c.args.self.now c.args.input.now past)
-
-pub returns-clause-last : goal.returns-clause-last
-returns-clause-last g c =
+-- what is searched is what the input asks for
+is_read : (g : Over) (c : After-byte_ahead-ahead g)
+    → IsRead c.args.self.now.nfa c.args.input.now c.is_reverse-is_backward.result c.start_for-id.result (between c.byte_behind-behind.result (in_order c.is_reverse-is_backward.result (slice_range c.haystack.result.now c.start-start.result c.end-end.result)) c.byte_ahead-ahead.result)
+is_read g c =
     let order : c.args.input.now.start ≤ c.args.input.now.end = omega (arith, c.if-start-end.false, c.start-start.ensures.value, c.end-end.ensures.value) in
     let direction : c.is_reverse-is_backward.result ≡ c.args.self.now.nfa.reverse = search rules in
     let start : c.start_for-id.result ≡ start_for c.args.self.now.nfa c.args.input.now.anchored = search rules in
     let range : slice_range c.haystack.result.now c.start-start.result c.end-end.result ≡ slice_range c.args.input.now.haystack c.args.input.now.start c.args.input.now.end = search rules in
-    last-found c.args.self.now.nfa c.args.self.now.kind c.args.input.now _ _ _
-    (read c.args.self.now.nfa c.args.input.now c.is_reverse-is_backward.result c.start_for-id.result _ _ _ order direction start c.byte_behind-behind.ensures range c.byte_ahead-ahead.ensures)
+    read c.args.self.now.nfa c.args.input.now c.is_reverse-is_backward.result c.start_for-id.result _ _ _ order direction start c.byte_behind-behind.ensures range c.byte_ahead-ahead.ensures
+
+pub returns-then-start-end-clause-last : goal.returns-then-start-end-clause-last
+returns-then-start-end-clause-last g c = last-done c.args.self.now.nfa c.args.self.now.kind c.args.input.now (is_past g (goal.at.returns-then-start-end-clause-last g c).Then-start-end)
+
+pub returns-then-start-end-clause-preferred : goal.returns-then-start-end-clause-preferred
+returns-then-start-end-clause-preferred g c = λ kind.
+    preferred-done c.args.self.now.nfa c.args.self.now.kind c.args.input.now (is_past g (goal.at.returns-then-start-end-clause-preferred g c).Then-start-end) (search rules) kind
+
+pub returns-then-start-end-clause-after : goal.returns-then-start-end-clause-after
+returns-then-start-end-clause-after g c = sym (after-done c.args.self.now c.args.input.now (is_past g (goal.at.returns-then-start-end-clause-after g c).Then-start-end))
+
+pub returns-then-start-end-clause-plenty : goal.returns-then-start-end-clause-plenty
+returns-then-start-end-clause-plenty g c = plenty-done c.args.self.now c.args.self.now c.args.input.now (is_past g (goal.at.returns-then-start-end-clause-plenty g c).Then-start-end)
+
+pub returns-clause-last : goal.returns-clause-last
+returns-clause-last g c =
+    last-found c.args.self.now.nfa c.args.self.now.kind c.args.input.now _ _ _ (is_read g (goal.at.returns-clause-last g c).After-byte_ahead-ahead)
     c.in_ok-found.found c.in_haystack.result c.in_haystack.ensures.value c.in_ok-found.ensures.last
 
 pub returns-clause-preferred : goal.returns-clause-preferred
 returns-clause-preferred g c = λ kind.
-    let order : c.args.input.now.start ≤ c.args.input.now.end = omega (arith, c.if-start-end.false, c.start-start.ensures.value, c.end-end.ensures.value) in
-    let direction : c.is_reverse-is_backward.result ≡ c.args.self.now.nfa.reverse = search rules in
-    let start : c.start_for-id.result ≡ start_for c.args.self.now.nfa c.args.input.now.anchored = search rules in
-    let range : slice_range c.haystack.result.now c.start-start.result c.end-end.result ≡ slice_range c.args.input.now.haystack c.args.input.now.start c.args.input.now.end = search rules in
-    preferred-found c.args.self.now.nfa c.args.self.now.kind c.args.input.now _ _ _
-    (read c.args.self.now.nfa c.args.input.now c.is_reverse-is_backward.result c.start_for-id.result _ _ _ order direction start c.byte_behind-behind.ensures range c.byte_ahead-ahead.ensures)
+    preferred-found c.args.self.now.nfa c.args.self.now.kind c.args.input.now _ _ _ (is_read g (goal.at.returns-clause-preferred g c).After-byte_ahead-ahead)
     c.in_ok-found.found c.in_haystack.result c.in_haystack.ensures.value (c.in_ok-found.ensures.preferred kind)
 
 pub returns-clause-after : goal.returns-clause-after
-returns-clause-after g c =
-    let order : c.args.input.now.start ≤ c.args.input.now.end = omega (arith, c.if-start-end.false, c.start-start.ensures.value, c.end-end.ensures.value) in
-    let direction : c.is_reverse-is_backward.result ≡ c.args.self.now.nfa.reverse = search rules in
-    let start : c.start_for-id.result ≡ start_for c.args.self.now.nfa c.args.input.now.anchored = search rules in
-    let range : slice_range c.haystack.result.now c.start-start.result c.end-end.result ≡ slice_range c.args.input.now.haystack c.args.input.now.start c.args.input.now.end = search rules in
-    after-found c.args.self.now c.search_text.new.self c.args.input.now _ _ _
-    (read c.args.self.now.nfa c.args.input.now c.is_reverse-is_backward.result c.start_for-id.result _ _ _ order direction start c.byte_behind-behind.ensures range c.byte_ahead-ahead.ensures)
-    c.in_ok-found.ensures.after
-
-pub returns-then-start-end-clause-plenty : goal.returns-then-start-end-clause-plenty
-returns-then-start-end-clause-plenty g c =
-    let past : c.args.input.now.end < c.args.input.now.start = omega (arith, c.if-start-end.true, c.start-start.ensures.value, c.end-end.ensures.value) in
-    plenty-done c.args.self.now c.args.self.now c.args.input.now past
+returns-clause-after g c = after-found c.args.self.now c.search_text.new.self c.args.input.now _ _ _ (is_read g (goal.at.returns-clause-after g c).After-byte_ahead-ahead) c.in_ok-found.ensures.after
 
 pub returns-clause-plenty : goal.returns-clause-plenty
-returns-clause-plenty g c =
-    let order : c.args.input.now.start ≤ c.args.input.now.end = omega (arith, c.if-start-end.false, c.start-start.ensures.value, c.end-end.ensures.value) in
-    let direction : c.is_reverse-is_backward.result ≡ c.args.self.now.nfa.reverse = search rules in
-    let start : c.start_for-id.result ≡ start_for c.args.self.now.nfa c.args.input.now.anchored = search rules in
-    let range : slice_range c.haystack.result.now c.start-start.result c.end-end.result ≡ slice_range c.args.input.now.haystack c.args.input.now.start c.args.input.now.end = search rules in
-    plenty-found c.args.self.now c.search_text.new.self c.args.input.now _ _ _
-    (read c.args.self.now.nfa c.args.input.now c.is_reverse-is_backward.result c.start_for-id.result _ _ _ order direction start c.byte_behind-behind.ensures range c.byte_ahead-ahead.ensures)
-    c.in_ok-found.ensures.plenty
+returns-clause-plenty g c = plenty-found c.args.self.now c.search_text.new.self c.args.input.now _ _ _ (is_read g (goal.at.returns-clause-plenty g c).After-byte_ahead-ahead) c.in_ok-found.ensures.plenty
