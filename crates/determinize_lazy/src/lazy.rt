@@ -371,6 +371,7 @@ impl<'n, N: Allocator, A: Allocator + Copy> Lazy<'n, N, A> {
         ensures limit { self.new.limit ≡ self.old.limit }
         ensures computed { self.old.computed ≤ self.new.computed }
     {
+        // A copy, since a call borrows what it is given by value.
         let source = place;
         match self.known(state, source, unit) {
             Some(entry) => {

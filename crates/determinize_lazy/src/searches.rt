@@ -222,6 +222,7 @@ impl<'n, N: Allocator, A: Allocator + Copy> Lazy<'n, N, A> {
         let mut last = None;
         let mut read = 0;
         while read < text.len() {
+            // A copy, since a call borrows what it is given by value.
             let standing = place;
             if self.signs(&own, standing).is_last {
                 return Ok(last);
