@@ -31,8 +31,8 @@ use std::marker::Model;
 /// with its source and its target, are at most as many as the limit. Else the cache is emptied, and
 /// the transition is kept where its two states alone are at most as many; else nothing is.
 ///
-/// Where more than 16711935 states would be held, a call answers `AllocError`, as it does for want
-/// of memory.
+/// Offsets of rows are numbers of 32 bits. Where more than 16711935 states would be held, a call
+/// answers `AllocError`, as it does for want of memory.
 #[derive(Drop)]
 pub struct Lazy<'n, N: Allocator = Global, A: Allocator = Global> {
     alloc: A,

@@ -1,6 +1,6 @@
 //! Where a held state stands.
 
-ghost use Rattle.std.specs.Prelude.{◌≡◌, ◌*◌, ◌<◌, ◌≤◌};
+ghost use Rattle.std.specs.Prelude.{◌≡◌, ◌*◌, ◌≤◌, is_some, nat_lt};
 ghost use Rattle.std.specs.Option.{IfSome};
 
 use std::marker::Model;
@@ -8,11 +8,13 @@ use std::marker::Model;
 /// The number of units: the bytes, and the end of the input. A row has so many columns.
 pub(crate) const UNITS: usize = 257;
 
-/// The number of states that can be held, 16711935: each has a place below it.
-const COUNT: usize = 16711935;
+/// The number of states that can be held, 16711935. So many rows end at the greatest number of 32
+/// bits, which is left to stand for no place.
+const COUNT: usize = u32::MAX as usize / UNITS;
 
-/// The place of a held state, or no place. It is seen as a number that counts held states, and it
-/// is kept as the offset of the state's row, so that a step multiplies nothing.
+/// The place of a held state, or no place, as the table of kept transitions holds it. It is seen as
+/// the number of states that were held before, and it is kept as the offset of the state's row, so
+/// that nothing is multiplied before the next entry is read.
 #[derive(Clone, Copy)]
 pub(crate) struct Place {
     row: u32,
@@ -31,13 +33,13 @@ impl Model for Place {
 }
 
 impl Place {
-    /// No place: it is seen as 16711935, and all places are below it.
+    /// No place: it is seen as 16711935, and the places of all held states are below it.
     pub(crate) const NONE: Place = Place { row: u32::MAX };
 
     /// The place of this number, or none where so many states can't be held.
     pub(crate) fn new(number: usize) -> Option<Place>
         ensures value { IfSome result (λ place. place ≡ number) }
-        ensures small { IfSome result (λ place. place < 16711935) }
+        ensures some { is_some result ≡ nat_lt number 16711935 }
     {
         if number < COUNT {
             Some(Place {

@@ -219,8 +219,7 @@ impl<'n, N: Allocator, A: Allocator + Copy> Lazy<'n, N, A> {
         let _ = &self.limit;
         let mut place = self.place_of(&first);
         let mut own = first;
-        let mut last = None;
-        let mut read = 0;
+        let (mut last, mut read) = (None, 0);
         while read < text.len() {
             // A copy, since a call borrows what it is given by value.
             let standing = place;
@@ -232,7 +231,7 @@ impl<'n, N: Allocator, A: Allocator + Copy> Lazy<'n, N, A> {
             let standing = place;
             last = self.last_by(&own, standing, read, last);
             read += 1;
-            // Over kept transitions nothing changes but where the search stands.
+            // Over kept transitions the cache is only read.
             if let Some(from) = place {
                 let mut at = from;
                 let mut signs = self.signs(&own, Some(at));
@@ -247,7 +246,6 @@ impl<'n, N: Allocator, A: Allocator + Copy> Lazy<'n, N, A> {
                     read += 1;
                 }
                 place = Some(at);
-                continue;
             }
         }
         let standing = place;

@@ -18,7 +18,7 @@ abbrev pub HaveValidValues : List Pair → Type 0
 HaveValidValues [] = ⊤
 HaveValidValues (pair ∷ pairs) = IsValue pair.value × HaveValidValues pairs
 
--- values apart, each one that a state can have, so many that their rows have offsets of 32 bits, and a map to their places
+-- values apart, each one that a state can have, at most so many that their rows have offsets of 32 bits, and a map to their places
 pub record IsPlaces (values : List Value) (at : Value → Option ℕ) : Type 0 where
   pub mapped : (q : Value) → at q ≡ place_in values q
   pub apart : EachApart values
