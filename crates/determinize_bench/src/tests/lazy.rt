@@ -73,7 +73,6 @@ fn expect<R: Abort + AllocGlobal>(
             None => lazy.clear(),
         }
     }
-    assert_eq!(rt; lazy.limit(), limit);
     assert_eq!(rt; lazy.computed(), computed, "limit {limit}");
     assert_eq!(rt; lazy.states_kept(), kept, "limit {limit}");
     Ok(())
