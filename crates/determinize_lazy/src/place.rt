@@ -12,9 +12,10 @@ pub(crate) const UNITS: usize = 257;
 /// bits, which is left to stand for no place.
 const COUNT: usize = u32::MAX as usize / UNITS;
 
-/// The place of a held state, or no place, as the table of kept transitions holds it. It is seen as
-/// the number of states that were held before, and it is kept as the offset of the state's row, so
-/// that nothing is multiplied before the next entry is read.
+/// The place of a held state, or no place, as the table of kept transitions holds it. Elsewhere an
+/// option tells that there is none. It is seen as the number of states that were held before, and it
+/// is kept as the offset of the state's row, so that nothing is multiplied before the next entry is
+/// read.
 #[derive(Clone, Copy)]
 pub(crate) struct Place {
     row: u32,
