@@ -1,10 +1,9 @@
 -- What a cache holds after one more transition.
-use Rattle.std.proofs.Common.{◌≡◌, ℕ, ◌+◌, ◌<◌, ◌≤◌, Bool, true, false, not, cond, ◌||◌, Option, Some, None, List, [], ◌∷◌, ◌++◌, length, refl, sym, ap, ◌∙◌, subst, arith}
+use Rattle.std.proofs.Common.{◌≡◌, ◌≢◌, ℕ, ◌+◌, ◌*◌, ◌/◌, ◌≤◌, Bool, true, false, not, cond, ◌||◌, Option, Some, None, List, [], ◌∷◌, ◌++◌, length, refl, sym, ap, ◌∙◌, subst, arith}
 use Rattle.std.specs.Prelude.{slice_get, nat_le, is_some}
 use Rattle.std.specs.List.{list_any}
 use Rattle.std.proofs.lemmas.List.{length_push}
 use Rattle.std.proofs.lemmas.List.Folds.{list_any-append}
-use Rattle.std.proofs.lemmas.Option.{slice_get_within}
 use Rattle.std.proofs.lemmas.Map.Steps.{list_any_congr}
 use Rattle.determinize_lazy.specs.Pairs.{is_kept, Pair, same, values_after, values_of, with_value}
 use Rattle.determinize_lazy.specs.Private.Places.{IsPlace}
@@ -119,17 +118,17 @@ module _ (f : Value → Option ℕ → Value) where
         ∙ ap (λ x. cond x (record { value = v; unit = u } ∷ []) []) (fits_is [] ∙ sym e' ∙ n')
 
 -- what an entry of the table tells
-pub entry_known : (f : Value → Option ℕ → Value) (values : List Value) (pairs : List Pair) (v : Value) (u : Option ℕ) (e : ℕ) → IsEntry f values pairs v u e → length values ≤ 16711935 → e < length values
-    → (is_kept pairs v u ≡ true) × (slice_get values e ≡ Some (f v u))
-entry_known f values pairs v u e entry few within =
-    elim (is_kept pairs v u) as (λ b. is_kept pairs v u ≡ b → (b ≡ true) × (slice_get values e ≡ Some (f v u))) [
-      | true ↦ λ k. (refl, entry.kept k)
-      | false ↦ λ k. let e_is : e ≡ 16711935 = entry.other k in absurd (omega (arith, e_is, few, within))
+pub entry_known : (f : Value → Option ℕ → Value) (values : List Value) (pairs : List Pair) (v : Value) (u : Option ℕ) (e : ℕ) → IsEntry f values pairs v u e → e ≢ 1
+    → (is_kept pairs v u ≡ true) × (e ≡ e / 258 * 258) × (slice_get values (e / 258) ≡ Some (f v u))
+entry_known f values pairs v u e entry some =
+    elim (is_kept pairs v u) as (λ b. is_kept pairs v u ≡ b → (b ≡ true) × (e ≡ e / 258 * 258) × (slice_get values (e / 258) ≡ Some (f v u))) [
+      | true ↦ λ k. (refl, (entry.kept k).0, (entry.kept k).1)
+      | false ↦ λ k. absurd (some (entry.other k))
     ] refl
 
-pub entry_none : (f : Value → Option ℕ → Value) (values : List Value) (pairs : List Pair) (v : Value) (u : Option ℕ) (e : ℕ) → IsEntry f values pairs v u e → length values ≤ e → is_kept pairs v u ≡ false
-entry_none f values pairs v u e entry past =
+pub entry_none : (f : Value → Option ℕ → Value) (values : List Value) (pairs : List Pair) (v : Value) (u : Option ℕ) (e : ℕ) → IsEntry f values pairs v u e → e ≡ 1 → is_kept pairs v u ≡ false
+entry_none f values pairs v u e entry none =
     elim (is_kept pairs v u) as (λ b. is_kept pairs v u ≡ b → b ≡ false) [
-      | true ↦ λ k. let within : e < length values = slice_get_within values e (f v u) (entry.kept k) in absurd (omega (arith, past, within))
+      | true ↦ λ k. let row : e ≡ e / 258 * 258 = (entry.kept k).0 in absurd (omega (arith, none, row))
       | false ↦ λ _. refl
     ] refl

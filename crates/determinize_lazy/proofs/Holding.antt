@@ -1,10 +1,10 @@
 -- States held, and the map to their places.
-use Rattle.std.proofs.Common.{◌≡◌, ℕ, ◌+◌, ◌-◌, ◌<◌, ◌≤◌, true, false, cond, inl, inr, Option, Some, None, List, [], ◌∷◌, ◌++◌, length, map, take, sym, ap, ◌∙◌, subst, arith, length-append}
+use Rattle.std.proofs.Common.{◌≡◌, ℕ, ◌+◌, ◌-◌, ◌<◌, ◌≤◌, true, false, cond, inl, inr, Option, Some, None, List, [], ◌∷◌, ◌++◌, length, take, sym, ap, ◌∙◌, subst, arith, length-append}
 use Rattle.std.specs.Prelude.{slice_get}
 use Rattle.std.specs.Cmp.{IsEquivalence, on_equiv}
 use Rattle.std.specs.Cmp.Lexicographic.{bytes_decides, nat_list_eq_equiv}
 use Rattle.std.specs.List.{list_any}
-use Rattle.std.proofs.lemmas.List.{length_push, map-append, take_at, take-map}
+use Rattle.std.proofs.lemmas.List.{length_push, take_at}
 use Rattle.determinize_lazy.specs.Pairs.{same}
 use Rattle.determinize_lazy.specs.Places.{place_in}
 use Rattle.determinize_lazy.specs.Private.Places.{IsPlace, IsPlaces}
@@ -36,10 +36,10 @@ places-none at none = record {
   mapped = none;
   apart = λ p v here. not_none (sym here);
   valid = λ p v here. not_none (sym here);
-  few = let e : 0 ≤ 16711935 = omega arith in e;
+  few = let e : 0 ≤ 16647160 = omega arith in e;
 }
 
-pub places-push : (values more : List Value) (v : Value) (at at' : Value → Option ℕ) (n : ℕ) → IsPlaces values at → IsValue v → list_any (same v) values ≡ false → n ≡ length values → n < 16711935
+pub places-push : (values more : List Value) (v : Value) (at at' : Value → Option ℕ) (n : ℕ) → IsPlaces values at → IsValue v → list_any (same v) values ≡ false → n ≡ length values → n < 16647160
     → more ≡ values ++ v ∷ []
     → ((q : Value) → at' q ≡ cond (same v q) (Some n) (at q))
     → IsPlaces more at'
@@ -51,7 +51,7 @@ places-push values more v at at' n placed valid none len few more_is new =
           ∙ sym (position_from-push same_laws values v q 0 none);
       apart = apart-push same_laws values v placed.apart none;
       valid = λ p q here. elim (get_push values v p q here) [ inl h ↦ placed.valid p q h | inr h ↦ subst IsValue (sym h.1) valid ];
-      few = rw length-append (let e : length values + 1 ≤ 16711935 = omega (arith, len, few) in e);
+      few = rw length-append (let e : length values + 1 ≤ 16647160 = omega (arith, len, few) in e);
     }
 
 -- the last state taken back
@@ -61,12 +61,3 @@ places-pop values more back v at at' n placed more_is len back_is same_map =
     let n_is : length values ≡ n - 1 = let k : n ≡ length values + 1 = len ∙ ap length more_is ∙ length_push values v in omega (arith, k) in
     subst (λ xs. IsPlaces xs at') (sym (back_is ∙ ap (λ xs. take (n - 1) xs) more_is ∙ take_at values (v ∷ []) (n - 1) n_is))
     record { mapped = λ q. same_map q ∙ placed.mapped q; apart = placed.apart; valid = placed.valid; few = placed.few }
-
-module _ {H : Type 0} (f : H → Value) where
-  -- one more held state, told by its value
-  pub held-push : (held more : List H) (h : H) (v : Value) → more ≡ held ++ h ∷ [] → f h ≡ v → map f more ≡ map f held ++ v ∷ []
-  held-push held more h v more_is v_is = ap (λ hs. map f hs) more_is ∙ map-append f held (h ∷ []) ∙ ap (λ w. map f held ++ w ∷ []) v_is
-
-  -- and the last one taken back
-  pub held-pop : (more back : List H) (n : ℕ) → back ≡ take n more → map f back ≡ take n (map f more)
-  held-pop more back n back_is = ap (λ hs. map f hs) back_is ∙ sym (take-map f n more)

@@ -1,5 +1,5 @@
 -- One more transition in a table.
-use Rattle.std.proofs.Common.{◌≡◌, ℕ, ◌+◌, ◌*◌, ◌<◌, true, false, cond, Option, Some, List, [], ◌∷◌, ◌++◌, length, replicate, refl, sym, ap, ◌∙◌, subst, arith}
+use Rattle.std.proofs.Common.{◌≡◌, ℕ, ◌+◌, ◌*◌, ◌<◌, true, false, cond, Option, Some, List, [], ◌∷◌, ◌++◌, length, refl, sym, ap, ◌∙◌, subst, arith}
 use Rattle.std.specs.Prelude.{slice_get, slice_index_or, slice_set}
 use Rattle.std.specs.List.{list_any}
 use Rattle.std.proofs.lemmas.List.{get_or_append_left, length_push, map-append}
@@ -7,7 +7,8 @@ use Rattle.std.proofs.lemmas.Option.{get_or_from_slice_get, slice_get-get_or, sl
 use Rattle.determinize_lazy.specs.Pairs.{Pair, same, with_value}
 use Rattle.determinize_lazy.specs.Private.Places.{HaveValidValues}
 use Rattle.determinize_lazy.specs.Private.Places.{AreValid}
-use Rattle.determinize_lazy.specs.Private.Rows.{column, IsRows, IsUnit}
+use Rattle.determinize_lazy.specs.Private.Rows.{column, IsRows, IsUnit, IsWithRow}
+use Rattle.determinize_lazy.specs.Private.Signs.{signs_of}
 use Rattle.determinize_lazy.specs.Private.Order.{IsOrder, pair_at, pairs_of}
 use Rattle.determinize_lazy.specs.declared.table.Kept.{Kept}
 use Rattle.determinize_core.specs.Value.{dead, Value}
@@ -28,16 +29,17 @@ pub place_last : (values more : List Value) (v : Value) (p : ℕ) → p ≡ leng
 place_last values more v p p_is more_is = ap (λ k. slice_get more k) p_is ∙ ap (λ xs. slice_get xs (length values)) more_is ∙ get_last values v
 
 pub rows_held : (f : Value → Option ℕ → Value) (values more : List Value) (rows rows' : List ℕ) (pairs : List Pair) (w : Value) → IsRows f values rows pairs → list_any (same w) values ≡ false
-    → more ≡ values ++ w ∷ [] → rows' ≡ rows ++ replicate 257 16711935 → IsRows f more rows' pairs
+    → more ≡ values ++ w ∷ [] → IsWithRow rows rows' (signs_of w) → IsRows f more rows' pairs
 rows_held f values more rows rows' pairs w r none a b =
-    subst (λ xs. IsRows f xs rows' pairs) (sym a) (subst (λ xs. IsRows f (values ++ w ∷ []) xs pairs) (sym b) (rows-hold f values rows pairs w r none))
+    subst (λ xs. IsRows f xs rows' pairs) (sym a) (subst (λ xs. IsRows f (values ++ w ∷ []) xs pairs) (sym b.appended) (rows-hold f values rows pairs w b.number r none b.told))
 
-pub rows_record : (f : Value → Option ℕ → Value) (values more : List Value) (rows : List ℕ) (pairs : List Pair) (s t c : ℕ) (v w : Value) (u : Option ℕ) → IsRows f more rows pairs
-    → slice_get values s ≡ Some v → more ≡ with_value values w → slice_get more t ≡ Some w → w ≡ f v u → IsUnit u → c ≡ column u
-    → IsRows f more (slice_set rows (s * 257 + c) t) (pairs ++ record { value = v; unit = u } ∷ [])
-rows_record f values more rows pairs s t c v w u r at_s more_is at_t w_is unit c_is =
-    subst (λ k. IsRows f more (slice_set rows (s * 257 + k) t) (pairs ++ record { value = v; unit = u } ∷ [])) (sym c_is)
-    (rows-keep f more rows pairs s t v u r (ap (λ xs. slice_get xs s) more_is ∙ get_with values w v s at_s) (at_t ∙ ap Some w_is) unit)
+pub rows_record : (f : Value → Option ℕ → Value) (values more : List Value) (rows : List ℕ) (pairs : List Pair) (s t c row entry : ℕ) (v w : Value) (u : Option ℕ) → IsRows f more rows pairs
+    → slice_get values s ≡ Some v → more ≡ with_value values w → slice_get more t ≡ Some w → w ≡ f v u → IsUnit u → c ≡ column u → row ≡ s * 258 → entry ≡ t * 258
+    → IsRows f more (slice_set rows (row + c) entry) (pairs ++ record { value = v; unit = u } ∷ [])
+rows_record f values more rows pairs s t c row entry v w u r at_s more_is at_t w_is unit c_is row_is entry_is =
+    subst (λ e. IsRows f more (slice_set rows (row + c) e) (pairs ++ record { value = v; unit = u } ∷ [])) (sym entry_is)
+    (subst (λ k. IsRows f more (slice_set rows k (t * 258)) (pairs ++ record { value = v; unit = u } ∷ [])) (sym (ap (λ k. k + c) row_is ∙ ap (λ k. s * 258 + k) c_is))
+    (rows-keep f more rows pairs s t v u r (ap (λ xs. slice_get xs s) more_is ∙ get_with values w v s at_s) (at_t ∙ ap Some w_is) unit))
 
 order-with : (values : List Value) (w : Value) (order : List Kept) → IsOrder values order → IsOrder (with_value values w) order
 order-with values w [] h = tt

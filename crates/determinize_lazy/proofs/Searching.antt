@@ -13,6 +13,7 @@ use Rattle.determinize_lazy.specs.Pairs.{chain_pairs, is_kept, Pair, same}
 use Rattle.determinize_lazy.specs.Private.Places.{AreValid, HaveValidValues, IsPlace}
 use Rattle.determinize_lazy.specs.Plenty.{HasRoom, KeepsAll}
 use Rattle.determinize_lazy.specs.Private.Over.{IsOver}
+use Rattle.determinize_lazy.specs.Private.Signs.{ended_by}
 use Rattle.determinize_lazy.specs.Private.Standing.{current, IsStanding}
 use Rattle.determinize_lazy.specs.Kept.{after_walk, Cache, count_after, held_values, keep, missed, step_of}
 use Rattle.determinize_lazy.specs.Private.Turns.{after_turn, IsKnown}
@@ -59,6 +60,11 @@ pub record IsSearched (old : Cache) (first : Value) (us : List (Option ℕ)) (ow
   pub valid : HaveValidValues (chain_pairs (step_of old) first us)
   pub read : (rest : List (Option ℕ)) → units_read (step_of old) first (us ++ rest) ≡ us ++ units_read (step_of old) (value_after old.nfa old.kind first us) rest
 
+-- the end of the first of some patterns, told by it alone
+pub ended-first : (offset : ℕ) (patterns : List ℕ) → ended_by offset (slice_get patterns 0) ≡ ended_at offset patterns
+ended-first offset [] = refl
+ended-first offset (p ∷ ps) = refl
+
 -- no unit yet
 pub searched_none : (old new : Cache) (first own : Value) (place : Option ℕ) (last : Option HalfMatch) → old.computed ≤ 18446744073709551615 → own ≡ first → new ≡ old → IsPlace (held_values new) first place → last ≡ None
     → IsSearched old first [] own place last new
@@ -78,6 +84,11 @@ searched_none old new first own place last few own_is new_is at none = record {
     standing_at : (o : Option ℕ) → IsPlace (held_values new) first o → IsStanding new own o
     standing_at None h = ap (λ v. list_any (same v) (held_values new)) own_is ∙ h
     standing_at (Some p) h = slice_get_within (held_values new) p first h
+
+-- the same told otherwise
+pub searched-told : (old : Cache) (first : Value) (us : List (Option ℕ)) (own : Value) (place : Option ℕ) (last told : Option HalfMatch) (new : Cache) → told ≡ last → IsSearched old first us own place last new
+    → IsSearched old first us own place told new
+searched-told old first us own place last told new same s = record { end = s.end; standing = s.standing; after = s.after; told = same ∙ s.told; valid = s.valid; read = s.read }
 
 -- at a place the search's own value doesn't matter
 pub searched_at : (old : Cache) (first : Value) (us : List (Option ℕ)) (own own' : Value) (place : Option ℕ) (p : ℕ) (last : Option HalfMatch) (new : Cache) → IsSearched old first us own place last new → place ≡ Some p
@@ -246,6 +257,10 @@ length-in_order true bytes = length-reverse bytes
 -- a search from a start that was made
 pub over-from : (old now : Cache) (first v : Value) (us : List (Option ℕ)) (last : Option HalfMatch) (new : Cache) → first ≡ v → now ≡ old → IsOver now first us last new → IsOver old v us last new
 over-from old now first v us last new first_is now_is o = subst (λ x. IsOver old x us last new) first_is (subst (λ x. IsOver x first us last new) now_is o)
+
+-- the same told otherwise
+pub over-told : (old : Cache) (first : Value) (us : List (Option ℕ)) (last told : Option HalfMatch) (new : Cache) → told ≡ last → IsOver old first us last new → IsOver old first us told new
+over-told old first us last told new same o = record { found = same ∙ o.found; after = o.after; valid = o.valid }
 
 -- with room for all that was read, a search keeps all its pairs
 pub over-keeps : (old : Cache) (v : Value) (us : List (Option ℕ)) (last : Option HalfMatch) (new : Cache) → old.computed ≤ 18446744073709551615 → HaveValidValues old.pairs → IsOver old v us last new

@@ -14,11 +14,13 @@ ghost use Rattle.determinize_lazy.specs.Private.Turns.{IsKnown, after_turn};
 ghost use Rattle.determinize_lazy.specs.Pairs.{is_kept, with_value};
 ghost use Rattle.determinize_lazy.specs.Places.{EachApart};
 ghost use Rattle.determinize_lazy.specs.Private.Places.{AreValid, HaveValidValues, IsPlace};
+ghost use Rattle.determinize_lazy.specs.Private.Signs.{signs_in, signs_of};
 ghost use Rattle.determinize_lazy.specs.Plenty.{HasRoom, KeepsAll};
 
-use crate::place::Place;
+use crate::place::{Place, UNITS};
 use crate::scratch::Scratch;
-use crate::table::{Table, column};
+use crate::signs::Signs;
+use crate::table::{NOT_KEPT, Table, column};
 use determinize_below::{MatchKind, NFA, StateID};
 use determinize_core::state::{State, StateBuilderNFA};
 use std::alloc::{AllocError, Allocator, Global};
@@ -241,13 +243,28 @@ impl<'n, N: Allocator, A: Allocator + Copy> Lazy<'n, N, A> {
         ensures { (v : StateValue) → slice_get (held_values self.now) place ≡ Some v
             → IsKnown self.now v unit result }
     {
-        let column = column(unit);
-        let entry = self.table.rows[place.row() + column];
-        if entry.number() < self.table.places.len() {
-            Some(entry)
-        } else {
+        // From the column on, so that its address is there before the place is known.
+        let rows = &self.table.rows[column(unit)..];
+        let entry = rows[place.row()];
+        if entry == NOT_KEPT {
             None
+        } else {
+            Some(Place::of_row(entry))
         }
+    }
+
+    /// The signs of the state at a place.
+    #[inline(always)]
+    pub(crate) fn signs_at(&self, place: Place) -> Signs
+        requires { place < length (held_values self.now) }
+        ensures signs { (v : StateValue) → slice_get (held_values self.now) place ≡ Some v
+            → signs_in result.number ≡ signs_of v }
+        ensures valid { AreValid (held_values self.now) }
+    {
+        // For the proof alone: the values are well formed.
+        let _ = self.table.places.len();
+        let number = self.table.rows[place.row() + UNITS];
+        Signs { number }
     }
 
     /// The place of the state that follows, where that transition is kept.

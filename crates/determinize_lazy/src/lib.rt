@@ -10,6 +10,7 @@ mod place;
 mod places;
 mod scratch;
 mod searches;
+mod signs;
 mod table;
 
 pub use crate::lazy::Lazy;

@@ -6,73 +6,33 @@ ghost use Rattle.determinize_core.specs.Value.{IsValue, Value as StateValue};
 ghost use Rattle.determinize_lazy.specs.Pairs.{same};
 ghost use Rattle.determinize_lazy.specs.Places.{EachApart};
 ghost use Rattle.determinize_lazy.specs.Private.Places.{AreValid, IsPlace};
-ghost use Rattle.determinize_lazy.specs.Private.Signs.{signs_of};
 
 use crate::place::Place;
-use determinize_below::PatternID;
 use determinize_core::state::State;
 use std::alloc::{AllocError, Allocator, Global};
 use std::collections::HashMap;
 use std::hash::{BuildHasherDefault, FoldHasher};
 use std::marker::Model;
 
-/// What a search asks of a state.
-#[derive(Clone, Copy)]
-pub(crate) struct Signs {
-    /// The first of the patterns that match.
-    pub(crate) first: Option<PatternID>,
-    /// Whether no NFA state is recorded, so that nothing follows.
-    pub(crate) is_last: bool,
-}
-
-impl Signs {
-    /// The signs of a state.
-    pub(crate) fn of<A: Allocator>(state: &State<A>) -> Signs
-        ensures signs { result ≡ signs_of state.now }
-        ensures valid { IsValue state.now }
-    {
-        // The bytes are taken for the proof alone: they tell that the value is well formed.
-        let _ = state.as_bytes();
-        let first = if state.is_match() {
-            Some(state.match_pattern(0))
-        } else {
-            None
-        };
-        Signs {
-            first,
-            is_last: state.iter_nfa_state_ids().next().is_none(),
-        }
-    }
-}
-
-/// A held state, with its signs at hand.
-#[derive(Drop)]
-struct Held<A: Allocator> {
-    state: State<A>,
-    signs: Signs,
-}
-
 /// States in the order in which they came, each once, with a map from a state to its place.
 #[derive(Drop)]
 pub(crate) struct Places<A: Allocator = Global> {
-    held: Vec<Held<A>, A>,
+    held: Vec<State<A>, A>,
     places: HashMap<State<A>, Place, BuildHasherDefault<FoldHasher>, A>,
 }
 
 impl<A: Allocator> Model for Places<A> {
-    ghost use Rattle.std.specs.Prelude.{◌≡◌, All, List, map};
+    ghost use Rattle.std.specs.Prelude.{List};
     ghost use Rattle.std.specs.HashMap.{get};
     ghost use Rattle.determinize_core.specs.Value.{Value as StateValue};
     ghost use Rattle.determinize_lazy.specs.Pairs.{same};
     ghost use Rattle.determinize_lazy.specs.Private.Places.{IsPlaces};
-    ghost use Rattle.determinize_lazy.specs.Private.Signs.{signs_of};
 
     ghost Value = { List StateValue };
 
-    ghost view = { λ a. map (λ h. h.state) a.held.items };
+    ghost view = { λ a. a.held.items };
 
-    ghost invariant = { λ a. IsPlaces (map (λ h. h.state) a.held.items) (get same a.places)
-        × All (λ h. h.signs ≡ signs_of h.state) a.held.items };
+    ghost invariant = { λ a. IsPlaces a.held.items (get same a.places) };
 }
 
 impl<A: Allocator + Copy> Places<A> {
@@ -86,12 +46,13 @@ impl<A: Allocator + Copy> Places<A> {
         }
     }
 
-    /// The number of states, at most 16711935.
+    /// The number of states, at most 16647160.
     #[inline(always)]
     pub(crate) fn len(&self) -> usize
         ensures value { result ≡ length self.now }
-        ensures limit { result ≤ 16711935 }
+        ensures limit { result ≤ 16647160 }
         ensures apart { EachApart self.now }
+        ensures valid { AreValid self.now }
     {
         self.held.len()
     }
@@ -123,18 +84,7 @@ impl<A: Allocator + Copy> Places<A> {
         ensures value { slice_get self.now place ≡ Some result.now }
         ensures valid { IsValue result.now }
     {
-        &self.held[place.number()].state
-    }
-
-    /// The signs of the state at a place.
-    #[inline(always)]
-    pub(crate) fn signs(&self, place: Place) -> Signs
-        requires { place < length self.now }
-        ensures signs { (v : StateValue) → slice_get self.now place ≡ Some v
-            → result ≡ signs_of v }
-        ensures valid { AreValid self.now }
-    {
-        self.held[place.number()].signs
+        &self.held[place.number()]
     }
 
     /// Lets go of all states.
@@ -147,7 +97,7 @@ impl<A: Allocator + Copy> Places<A> {
 
     /// Holds one more state, and answers its place.
     ///
-    /// The only error is want of memory, which comes also where 16711935 states are held; nothing
+    /// The only error is want of memory, which comes also where 16647160 states are held; nothing
     /// changes then.
     pub(crate) fn hold(&mut self, state: &State<A>) -> Result<Place, AllocError>
         requires { list_any (same state.now) self.old ≡ false }
@@ -158,10 +108,10 @@ impl<A: Allocator + Copy> Places<A> {
         let Some(place) = Place::new(self.held.len()) else {
             return Err(AllocError);
         };
-        let signs = Signs::of(state);
+        // As in `place_of`, for the proof alone.
+        let _ = state.as_bytes();
         let key = state.clone()?;
-        let state = state.clone()?;
-        self.held.push(Held { state, signs })?;
+        self.held.push(state.clone()?)?;
         match self.places.insert(key, place) {
             Ok(_) => Ok(place),
             Err(refused) => {

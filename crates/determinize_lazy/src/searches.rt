@@ -1,28 +1,35 @@
 //! Searches over the cache: the last match of a walk, without a list of its states.
 
-ghost use Rattle.std.specs.Prelude.{◌≡◌, ◌<◌, ◌≤◌, ◌-◌, true, false, length, option_map, slice_index, IfOk, OnOk, None, Some};
+ghost use Rattle.std.specs.Prelude.{◌≡◌, ◌<◌, ◌≤◌, ◌-◌, true, false, length, option_map, slice_get, slice_index, IfOk, OnOk, None, Some};
 ghost use Rattle.std.specs.Option.{IfSome, option_or};
 ghost use Rattle.determinize_below.specs.Nfa.{AllResolve};
 ghost use Rattle.determinize_below.specs.Positions.{between};
 ghost use Rattle.determinize_below.specs.declared.search.MatchKind.TheVariants as kinds;
 ghost use Rattle.determinize_core.specs.Chain.{chain, units};
-ghost use Rattle.determinize_core.specs.Value.{IsValue};
+ghost use Rattle.determinize_core.specs.Value.{IsValue, Value as StateValue};
 ghost use Rattle.determinize_core.specs.Walk.{ended_at, last_match};
 ghost use Rattle.determinize_lazy.specs.Kept.{held_values, step_of};
 ghost use Rattle.determinize_lazy.specs.Private.Over.{IsOver};
-ghost use Rattle.determinize_lazy.specs.Private.Places.{HaveValidValues, IsPlace};
-ghost use Rattle.determinize_lazy.specs.Private.Signs.{signs_of};
+ghost use Rattle.determinize_lazy.specs.Private.Places.{AreValid, HaveValidValues, IsPlace};
+ghost use Rattle.determinize_lazy.specs.Private.Signs.{match_of, signs_in, signs_of};
 ghost use Rattle.determinize_lazy.specs.Private.Standing.{IsStanding, current};
-ghost use Rattle.determinize_lazy.specs.Private.Turns.{after_turn};
+ghost use Rattle.determinize_lazy.specs.Private.Turns.{IsKnown, after_turn};
 ghost use Rattle.determinize_lazy.specs.Searches.{IsPlenty, IsPlentyIn, IsPreferredIn, IsPreferredMatch, after_input, after_search, has_start, in_haystack, in_order, last_in, start_for, text_of};
 
 use crate::lazy::{Lazy, Reached};
 use crate::place::Place;
-use crate::places::Signs;
+use crate::signs::{Last, Signs};
 use determinize_below::{Anchored, HalfMatch, Input, NFA, StateID};
 use determinize_core::start::{look_ahead_forward, look_ahead_reverse};
 use determinize_core::state::State;
 use std::alloc::{AllocError, Allocator};
+
+/// A kept transition that is followed: where it leads, and the signs of its source.
+#[derive(Clone, Copy)]
+struct Hit {
+    place: Place,
+    signs: Signs,
+}
 
 /// The byte that is read after so many others, from the last one backward or from the first one.
 #[inline(always)]
@@ -167,11 +174,11 @@ impl<'n, N: Allocator, A: Allocator + Copy> Lazy<'n, N, A> {
     #[inline(always)]
     fn signs(&self, own: &State<A>, place: Option<Place>) -> Signs
         requires { IsStanding self.now own.now place }
-        ensures signs { result ≡ signs_of (current self.now own.now place) }
+        ensures signs { signs_in result.number ≡ signs_of (current self.now own.now place) }
         ensures valid { IsValue (current self.now own.now place) }
     {
         match place {
-            Some(place) => self.table.places.signs(place),
+            Some(place) => self.signs_at(place),
             None => Signs::of(own),
         }
     }
@@ -179,25 +186,44 @@ impl<'n, N: Allocator, A: Allocator + Copy> Lazy<'n, N, A> {
     /// The last match by now: the first pattern of the state where a search stands, or the one
     /// that was last before.
     #[inline(always)]
-    fn last_by(
-        &self,
-        own: &State<A>,
-        place: Option<Place>,
-        offset: usize,
-        last: Option<HalfMatch>,
-    ) -> Option<HalfMatch>
+    fn last_by(&self, own: &State<A>, place: Option<Place>, offset: usize, last: Last) -> Last
         requires { IsStanding self.now own.now place }
-        ensures { result
-            ≡ option_or (ended_at offset (current self.now own.now place).patterns) last }
+        ensures { match_of result ≡ option_or
+            (ended_at offset (current self.now own.now place).patterns) (match_of last) }
     {
-        match self.signs(own, place).first {
-            Some(pattern) => Some(HalfMatch { pattern, offset }),
-            None => last,
+        let signs = self.signs(own, place);
+        last.by(signs, offset)
+    }
+
+    /// The place to which a kept transition leads, with the signs of its source, or none where it
+    /// isn't kept or nothing follows its source.
+    #[inline(always)]
+    fn hit(&self, source: Place, unit: Option<u8>) -> Option<Hit>
+        requires { source < length (held_values self.now) }
+        ensures known { IfSome result (λ hit. (v : StateValue)
+            → slice_get (held_values self.now) source ≡ Some v
+            → IsKnown self.now v unit (Some hit.place)) }
+        ensures signs { IfSome result (λ hit. (v : StateValue)
+            → slice_get (held_values self.now) source ≡ Some v
+            → signs_in hit.signs.number ≡ signs_of v) }
+        ensures more { IfSome result (λ hit. (signs_in hit.signs.number).is_last ≡ false) }
+        ensures valid { AreValid (held_values self.now) }
+    {
+        // The entry comes first, since the next one waits for it.
+        let entry = self.entry(source, unit);
+        let signs = self.signs_at(source);
+        let place = entry?;
+        if signs.is_last() {
+            None
+        } else {
+            Some(Hit { place, signs })
         }
     }
 
     /// Searches from a state, forward or backward: the last match of the walk from it, by the
     /// number of bytes that are read before its end. The only error is want of memory.
+    ///
+    /// Over kept transitions the cache is only read, in a loop of its own.
     #[inline(always)]
     fn search_from(
         &mut self,
@@ -219,41 +245,39 @@ impl<'n, N: Allocator, A: Allocator + Copy> Lazy<'n, N, A> {
         let _ = &self.limit;
         let mut place = self.place_of(&first);
         let mut own = first;
-        let (mut last, mut read) = (None, 0);
+        let (mut last, mut read) = (Last::NONE, 0);
         while read < text.len() {
             // A copy, since a call borrows what it is given by value.
             let standing = place;
-            if self.signs(&own, standing).is_last {
-                return Ok(last);
+            if self.signs(&own, standing).is_last() {
+                return Ok(last.found());
             }
             let byte = byte_after(text, is_backward, read);
             place = self.step(&mut own, place, Some(byte))?;
-            let standing = place;
-            last = self.last_by(&own, standing, read, last);
             read += 1;
-            // Over kept transitions the cache is only read.
-            if let Some(from) = place {
-                let mut at = from;
-                let mut signs = self.signs(&own, Some(at));
-                while read < text.len() && !signs.is_last {
-                    let byte = byte_after(text, is_backward, read);
-                    let Some(next) = self.entry(at, Some(byte)) else {
-                        break;
-                    };
-                    at = next;
-                    signs = self.signs(&own, Some(at));
-                    last = self.last_by(&own, Some(at), read, last);
-                    read += 1;
+            match place {
+                Some(mut at) => {
+                    while read < text.len() {
+                        let byte = byte_after(text, is_backward, read);
+                        let Some(hit) = self.hit(at, Some(byte)) else {
+                            break;
+                        };
+                        last = last.by(hit.signs, read - 1);
+                        at = hit.place;
+                        read += 1;
+                    }
+                    place = Some(at);
+                    last = self.last_by(&own, Some(at), read - 1, last);
                 }
-                place = Some(at);
+                None => last = self.last_by(&own, None, read - 1, last),
             }
         }
         let standing = place;
-        if self.signs(&own, standing).is_last {
-            return Ok(last);
+        if self.signs(&own, standing).is_last() {
+            return Ok(last.found());
         }
         place = self.step(&mut own, place, look_ahead)?;
-        Ok(self.last_by(&own, place, text.len(), last))
+        Ok(self.last_by(&own, place, text.len(), last).found())
     }
 
     /// Searches a text, forward or backward, as `search` does.

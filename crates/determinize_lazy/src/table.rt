@@ -1,29 +1,35 @@
 //! Kept transitions: the states that they join, and a row of places for each.
 
-ghost use Rattle.std.specs.Prelude.{◌≡◌, ◌+◌, ◌*◌, ◌<◌, ◌≤◌, ◌++◌, ◌∷◌, [], ℕ, false, true, List, Option, length, replicate, slice_get, slice_index, IfOk, OnOk, MatchOption, Some};
+ghost use Rattle.std.specs.Prelude.{◌≡◌, ◌+◌, ◌*◌, ◌<◌, ◌≤◌, ◌++◌, ◌∷◌, [], ℕ, false, true, List, Option, length, slice_get, slice_index, IfOk, OnOk, MatchOption, Some};
 ghost use Rattle.std.specs.List.{list_any};
 ghost use Rattle.determinize_core.specs.Value.{Value as StateValue};
 ghost use Rattle.determinize_lazy.specs.Pairs.{Pair, same, with_value};
 ghost use Rattle.determinize_lazy.specs.Private.Places.{IsPlace};
-ghost use Rattle.determinize_lazy.specs.Private.Rows.{IsRows, IsUnit, column};
+ghost use Rattle.determinize_lazy.specs.Private.Rows.{IsRows, IsUnit, IsWithRow, column};
+ghost use Rattle.determinize_lazy.specs.Private.Signs.{signs_in, signs_of};
 
-use crate::place::{Place, UNITS};
+use crate::place::{PackedPlace, Place, UNITS};
 use crate::places::Places;
+use crate::signs::Signs;
 use determinize_core::state::State;
 use std::alloc::{AllocError, Allocator, Global};
 
 /// A kept transition: the place of its source, and its unit.
 #[derive(Clone, Copy)]
 pub(crate) struct Kept {
-    pub(crate) source: Place,
+    pub(crate) source: PackedPlace,
     pub(crate) unit: Option<u8>,
 }
 
-/// Kept transitions, as a table of places and in the order in which they came.
+/// What stands in a row where no transition is kept: a number that is the offset of no row.
+pub(crate) const NOT_KEPT: u32 = 1;
+
+/// Kept transitions, in the order in which they came and in a row for each state: in the column of a
+/// unit the offset of the row of the state that follows, and in the last one the signs of the state.
 #[derive(Drop)]
 pub(crate) struct Table<A: Allocator = Global> {
     pub(crate) places: Places<A>,
-    pub(crate) rows: Vec<Place, A>,
+    pub(crate) rows: Vec<u32, A>,
     pub(crate) order: Vec<Kept, A>,
 }
 
@@ -40,11 +46,13 @@ pub(crate) fn column(unit: Option<u8>) -> usize
     }
 }
 
-/// One more row, in which nothing is kept. The only error is want of memory.
-fn push_row<A: Allocator>(rows: &mut Vec<Place, A>) -> Result<(), AllocError>
-    ensures { OnOk result (rows.new.items ≡ rows.old.items ++ replicate 257 16711935) }
+/// One more row, in which nothing is kept, with these signs. The only error is want of memory.
+fn push_row<A: Allocator>(rows: &mut Vec<u32, A>, signs: Signs) -> Result<(), AllocError>
+    ensures { OnOk result (IsWithRow rows.old.items rows.new.items (signs_in signs.number)) }
 {
-    rows.resize(rows.len() + UNITS, Place::NONE)
+    rows.resize(rows.len() + UNITS, NOT_KEPT)?;
+    rows.push(signs.number)?;
+    Ok(())
 }
 
 impl<A: Allocator + Copy> Table<A> {
@@ -80,11 +88,11 @@ impl<A: Allocator + Copy> Table<A> {
         ensures place { IfOk result (λ place. place ≡ length self.old.places) }
         ensures places { OnOk result (self.new.places ≡ self.old.places ++ state.now ∷ []) }
         ensures rows { OnOk result
-            (self.new.rows.items ≡ self.old.rows.items ++ replicate 257 16711935) }
+            (IsWithRow self.old.rows.items self.new.rows.items (signs_of state.now)) }
         ensures order { OnOk result (self.new.order.items ≡ self.old.order.items) }
     {
         let place = self.places.hold(state)?;
-        push_row(&mut self.rows)?;
+        push_row(&mut self.rows, Signs::of(state))?;
         Ok(place)
     }
 
@@ -99,8 +107,8 @@ impl<A: Allocator + Copy> Table<A> {
             → IsRows f self.old.places self.old.rows.items pairs
             → IsRows f self.new.places self.new.rows.items pairs) }
         ensures size { OnOk result
-            (length self.old.rows.items ≡ length self.old.places * 257
-            → length self.new.rows.items ≡ length self.new.places * 257) }
+            (length self.old.rows.items ≡ length self.old.places * 258
+            → length self.new.rows.items ≡ length self.new.places * 258) }
         ensures order { OnOk result (self.new.order.items ≡ self.old.order.items) }
     {
         match place {
@@ -152,7 +160,7 @@ impl<A: Allocator + Copy> Table<A> {
     ) -> Result<Place, AllocError>
         requires place { IsPlace self.old.places state.now place }
         requires target { IsPlace self.old.places following.now target }
-        requires size { length self.old.rows.items ≡ length self.old.places * 257 }
+        requires size { length self.old.rows.items ≡ length self.old.places * 258 }
         requires ordered { IsOrder self.old.places self.old.order.items }
         ensures place { IfOk result
             (λ place. slice_get self.new.places place ≡ Some following.now) }
@@ -173,7 +181,8 @@ impl<A: Allocator + Copy> Table<A> {
         let known = self.place_now(state, source, following, target);
         let target = self.place_for(following, known)?;
         let column = column(unit);
-        self.rows[source.row() + column] = target;
+        self.rows[source.row() + column] = target.entry();
+        let source = PackedPlace::of(source);
         self.order.push(Kept { source, unit })?;
         Ok(target)
     }

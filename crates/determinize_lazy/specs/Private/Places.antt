@@ -23,4 +23,4 @@ pub record IsPlaces (values : List Value) (at : Value → Option ℕ) : Type 0 w
   pub mapped : (q : Value) → at q ≡ place_in values q
   pub apart : EachApart values
   pub valid : AreValid values
-  pub few : length values ≤ 16711935
+  pub few : length values ≤ 16647160

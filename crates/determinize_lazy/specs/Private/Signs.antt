@@ -1,8 +1,30 @@
--- What a search asks of a state.
-use Rattle.std.specs.Prelude.{not, slice_get}
+-- What a search asks of a state, and how it is kept.
+use Rattle.std.specs.Prelude.{ℕ, Bool, ◌-◌, ◌%◌, None, Some, Option, cond, nat_eq, nat_le, not, option_map, slice_get}
+use Rattle.determinize_below.specs.declared.search.HalfMatch.{HalfMatch}
 use Rattle.determinize_core.specs.Value.{Value, is_nonempty}
-use Rattle.determinize_lazy.specs.declared.places.Signs.{Signs}
+use Rattle.determinize_lazy.specs.declared.signs.Last.{Last}
+
+-- a first pattern, and whether nothing follows
+pub record Told : Type 0 where
+  pub first : Option ℕ
+  pub is_last : Bool
 
 -- the first pattern that a value lists, and whether it records no NFA states, so that nothing follows
-abbrev pub signs_of : Value → Signs
+abbrev pub signs_of : Value → Told
 signs_of v = record { first = slice_get v.patterns 0; is_last = not (is_nonempty v.states) }
+
+-- a pattern in a number: one more than it, or zero where there is none
+abbrev pub pattern_in : ℕ → Option ℕ
+pattern_in n = cond (nat_eq n 0) None (Some (n - 1))
+
+-- signs in a number: the highest of 32 bits, and the pattern in the others
+abbrev pub signs_in : ℕ → Told
+signs_in n = record { first = pattern_in (n % 2147483648); is_last = nat_le 2147483648 n }
+
+-- the match of a pattern that ends at an offset
+abbrev pub ended_by : ℕ → Option ℕ → Option HalfMatch
+ended_by offset pattern = option_map (λ p. record { pattern = p; offset = offset }) pattern
+
+-- the match that a search keeps
+abbrev pub match_of : Last → Option HalfMatch
+match_of l = ended_by l.offset (signs_in l.signs.number).first

@@ -1,12 +1,16 @@
-use Rattle.std.proofs.Common.{rules, ◌≡◌, ◌+◌, ◌<◌, ◌≤◌, arith, not, false, length, map, take, ap, sym, ◌∙◌, Some}
+use Rattle.std.proofs.Common.{rules, ◌≡◌, ◌+◌, ◌-◌, ◌≤◌, arith, not, false, length, map, take, ap, sym, ◌∙◌, Some}
+use Rattle.std.specs.Prelude.{slice_get}
+use Rattle.std.specs.Option.{option_or}
+use Rattle.std.proofs.lemmas.Option.{slice_get-get_or}
 use Rattle.determinize_core.specs.Value.{dead, is_nonempty}
-use Rattle.determinize_lazy.specs.declared.places.Signs.{Signs}
+use Rattle.determinize_core.specs.Walk.{ended_at}
+use Rattle.determinize_lazy.specs.Private.Signs.{ended_by, match_of, signs_in, signs_of, Told}
 use Rattle.determinize_lazy.specs.Kept.{held_values}
 use Rattle.determinize_lazy.specs.Private.Standing.{current}
 use Rattle.determinize_lazy.specs.Searches.{in_order}
-use Rattle.determinize_lazy.proofs.Searching.{IsSearched, hit_after, hit_standing, hit_value, length-in_order, not_true, searched_at, searched_byte, searched_end, searched_resolves, stopped}
+use Rattle.determinize_lazy.proofs.Searching.{ended-first, hit_after, hit_standing, hit_value, IsSearched, length-in_order, over-told, searched-told, searched_at, searched_byte, searched_end, searched_resolves, stopped}
 use Rattle.determinize_lazy.proofs.lazy.Lazy.search_from.Given.{Over}
-use Rattle.determinize_lazy.proofs.lazy.Lazy.search_from.Goals.{After-last_by-last, In-Some-entry}
+use Rattle.determinize_lazy.proofs.lazy.Lazy.search_from.Goals.{In_ok-place}
 use Rattle.determinize_lazy.proofs.lazy.Lazy.search_from.Goals as goal
 
 pub step-requires-clause-resolve : goal.step-requires-clause-resolve
@@ -15,63 +19,67 @@ step-requires-clause-resolve g c = searched_resolves c.args.self.now c.args.firs
 pub step-requires-2-clause-resolve : goal.step-requires-2-clause-resolve
 step-requires-2-clause-resolve g c = searched_resolves c.args.self.now c.args.first _ _ _ _ _ (search rules) c.requires c.loop-read.invariant
 
--- one byte more, kept or not
-one_byte : (g : Over) (c : After-last_by-last g)
-    → IsSearched c.args.self.now c.args.first (map Some (take (c.loop-read.read + 1) (in_order c.args.is_backward c.args.text.now))) c.step.new.own c.in_ok-place.place c.last_by-last.result c.step.new.self
+-- one byte more, kept or not, before it is asked what its state tells
+one_byte : (g : Over) (c : In_ok-place g)
+    → IsSearched c.args.self.now c.args.first (map Some (take (c.loop-read.read + 1) (in_order c.args.is_backward c.args.text.now))) c.step.new.own c.in_ok-place.place
+    (option_or (ended_at (c.loop-read.read + 1 - 1) (current c.step.new.self c.step.new.own c.in_ok-place.place).patterns) (match_of c.loop-read.last)) c.step.new.self
 one_byte g c =
     let few : c.args.self.now.computed ≤ 18446744073709551615 = search rules in
-    let more : not (is_nonempty (current c.loop-read.self c.loop-read.own c.loop-read.place).states) ≡ false = ap (λ (s : Signs). s.is_last) (sym c.signs.ensures.signs) ∙ c.if-signs.false in
+    let more : not (is_nonempty (current c.loop-read.self c.loop-read.own c.loop-read.place).states) ≡ false = ap (λ (s : Told). s.is_last) (sym c.signs.ensures.signs) ∙ sym c.is_last.ensures ∙ c.if-is_last.false in
+    let back : c.loop-read.read + 1 - 1 ≡ c.loop-read.read = omega arith in
     searched_byte c.args.self.now c.args.first (in_order c.args.is_backward c.args.text.now) (length c.args.text.now) c.loop-read.read (length-in_order c.args.is_backward c.args.text.now) _ _ _ _ _ _ _ _ few c.loop-read.invariant c.signs.ensures.valid more
-    c.byte_after-byte.result 0 c.byte_after-byte.ensures c.loop-read-test.true c.in_ok-place.ensures.value c.in_ok-place.ensures.standing c.in_ok-place.ensures.after c.last_by-last.ensures
+    c.byte_after-byte.result 0 c.byte_after-byte.ensures c.loop-read-test.true c.in_ok-place.ensures.value c.in_ok-place.ensures.standing c.in_ok-place.ensures.after
+    (ap (λ i. option_or (ended_at i (current c.step.new.self c.step.new.own c.in_ok-place.place).patterns) (match_of c.loop-read.last)) back)
 
 pub loop-read-preserved : goal.loop-read-preserved
-loop-read-preserved g c = one_byte g (goal.at.loop-read-preserved g c).After-last_by-last
+loop-read-preserved g c =
+    searched-told c.args.self.now c.args.first _ _ _ _ _ _
+    (c.last_by-last-in-None.ensures ∙ ap (λ o. option_or (ended_at (c.loop-read.read + 1 - 1) (current c.step.new.self c.step.new.own o).patterns) (match_of c.loop-read.last)) (sym c.in-None.is))
+    (one_byte g (goal.at.loop-read-preserved g c).In_ok-place)
 
 pub loop-read-2-init : goal.loop-read-2-init
 loop-read-2-init g c = (
-  searched_at c.args.self.now c.args.first _ _ dead _ c.in-Some.from _ _ (one_byte g (goal.at.loop-read-2-init g c).After-last_by-last) c.in-Some.is,
+  searched-told c.args.self.now c.args.first _ _ _ _ _ _
+      (ap (λ o. option_or (ended_at (c.loop-read.read + 1 - 1) (current c.step.new.self c.step.new.own o).patterns) (match_of c.loop-read.last)) (sym c.in-Some.is))
+      (searched_at c.args.self.now c.args.first _ _ dead _ c.in-Some.at _ _ (one_byte g (goal.at.loop-read-2-init g c).In_ok-place) c.in-Some.is),
   omega arith,
-  c.signs-signs.ensures.signs,
-  c.signs-signs.ensures.valid,
 )
-
--- the place of the next state over a kept transition
-stands : (g : Over) (c : In-Some-entry g) → c.in-Some-entry.next < length (held_values c.step.new.self)
-stands g c = hit_standing c.step.new.self dead c.loop-read-2.at c.in-Some-entry.next _ c.loop-read-2.invariant.0.standing c.in-Some-entry.ensures
-
-pub signs-signs-requires-in-loop-read-2 : goal.signs-signs-requires-in-loop-read-2
-signs-signs-requires-in-loop-read-2 g c = stands g (goal.at.signs-signs-requires-in-loop-read-2 g c).In-Some-entry
-
-pub last_by-last-requires-in-loop-read-2 : goal.last_by-last-requires-in-loop-read-2
-last_by-last-requires-in-loop-read-2 g c = stands g (goal.at.last_by-last-requires-in-loop-read-2 g c).In-Some-entry
 
 pub loop-read-2-preserved : goal.loop-read-2-preserved
 loop-read-2-preserved g c =
     let few : c.args.self.now.computed ≤ 18446744073709551615 = search rules in
-    let more : not (is_nonempty (current c.step.new.self dead (Some c.loop-read-2.at)).states) ≡ false = ap (λ (s : Signs). s.is_last) (sym c.loop-read-2.invariant.2) ∙ not_true _ c.if-not-signs.true in
-    let so_far : c.loop-read.read + 1 ≤ c.loop-read-2.read = c.loop-read-2.invariant.1 in (
-      searched_byte c.args.self.now c.args.first (in_order c.args.is_backward c.args.text.now) (length c.args.text.now) c.loop-read-2.read (length-in_order c.args.is_backward c.args.text.now) dead dead (Some c.loop-read-2.at) (Some c.in-Some-entry.next) _ _ _ _ few c.loop-read-2.invariant.0 c.loop-read-2.invariant.3 more
+    let so_far : c.loop-read.read + 1 ≤ c.loop-read-2.read = c.loop-read-2.invariant.1 in
+    let back : c.loop-read-2.read + 1 - 1 ≡ c.loop-read-2.read = omega arith in
+    let here : slice_get (held_values c.step.new.self) c.loop-read-2.at ≡ Some (current c.step.new.self dead (Some c.loop-read-2.at)) = slice_get-get_or (held_values c.step.new.self) c.loop-read-2.at dead c.loop-read-2.invariant.0.standing in
+    let signs : signs_in c.in-Some-hit.hit.signs.number ≡ signs_of (current c.step.new.self dead (Some c.loop-read-2.at)) = c.in-Some-hit.ensures.signs _ here in
+    let more : not (is_nonempty (current c.step.new.self dead (Some c.loop-read-2.at)).states) ≡ false = ap (λ (s : Told). s.is_last) (sym signs) ∙ c.in-Some-hit.ensures.more in
+    let told : match_of c.by-last.result ≡ option_or (ended_at (c.loop-read-2.read - 1) (current c.step.new.self dead (Some c.loop-read-2.at)).patterns) (match_of c.loop-read-2.last) =
+    c.by-last.ensures ∙ ap (λ (s : Told). option_or (ended_by (c.loop-read-2.read - 1) s.first) (match_of c.loop-read-2.last)) signs
+    ∙ ap (λ o. option_or o (match_of c.loop-read-2.last)) (ended-first (c.loop-read-2.read - 1) (current c.step.new.self dead (Some c.loop-read-2.at)).patterns) in (
+      searched_byte c.args.self.now c.args.first (in_order c.args.is_backward c.args.text.now) (length c.args.text.now) c.loop-read-2.read (length-in_order c.args.is_backward c.args.text.now) dead dead (Some c.loop-read-2.at) (Some c.in-Some-hit.hit.place) _ _ _ _ few
+          (searched-told c.args.self.now c.args.first _ _ _ _ _ _ told c.loop-read-2.invariant.0) (c.hit.ensures.valid _ _ here) more
           c.byte_after-byte-in-loop-read-2.result 0 c.byte_after-byte-in-loop-read-2.ensures c.loop-read-2-test.true
-          (hit_value c.step.new.self dead c.loop-read-2.at c.in-Some-entry.next _ c.loop-read-2.invariant.0.standing c.in-Some-entry.ensures)
-          (stands g (goal.at.loop-read-2-preserved g c).In-Some-entry)
-          (hit_after c.step.new.self dead c.loop-read-2.at c.in-Some-entry.next _ c.loop-read-2.invariant.0.standing c.in-Some-entry.ensures)
-          c.last_by-last-in-loop-read-2.ensures,
+          (hit_value c.step.new.self dead c.loop-read-2.at c.in-Some-hit.hit.place _ c.loop-read-2.invariant.0.standing c.in-Some-hit.ensures.known)
+          (hit_standing c.step.new.self dead c.loop-read-2.at c.in-Some-hit.hit.place _ c.loop-read-2.invariant.0.standing c.in-Some-hit.ensures.known)
+          (hit_after c.step.new.self dead c.loop-read-2.at c.in-Some-hit.hit.place _ c.loop-read-2.invariant.0.standing c.in-Some-hit.ensures.known)
+          (ap (λ i. option_or (ended_at i (current c.step.new.self dead (Some c.in-Some-hit.hit.place)).patterns) (match_of c.by-last.result)) back),
       omega (arith, so_far),
-      c.signs-signs-in-loop-read-2.ensures.signs,
-      c.signs-signs-in-loop-read-2.ensures.valid,
     )
 
-pub returns-then-signs-clause-over : goal.returns-then-signs-clause-over
-returns-then-signs-clause-over g c =
-    stopped c.args.self.now c.args.first (in_order c.args.is_backward c.args.text.now) c.args.look_ahead _ _ _ _ c.loop-read.read c.loop-read.invariant (ap (λ (s : Signs). s.is_last) (sym c.signs.ensures.signs) ∙ c.if-signs.true)
+pub returns-then-is_last-clause-over : goal.returns-then-is_last-clause-over
+returns-then-is_last-clause-over g c =
+    over-told c.args.self.now c.args.first _ _ _ _ c.found.ensures
+    (stopped c.args.self.now c.args.first (in_order c.args.is_backward c.args.text.now) c.args.look_ahead _ _ _ _ c.loop-read.read c.loop-read.invariant (ap (λ (s : Told). s.is_last) (sym c.signs.ensures.signs) ∙ sym c.is_last.ensures ∙ c.if-is_last.true))
 
-pub returns-then-signs-2-clause-over : goal.returns-then-signs-2-clause-over
-returns-then-signs-2-clause-over g c =
-    stopped c.args.self.now c.args.first (in_order c.args.is_backward c.args.text.now) c.args.look_ahead _ _ _ _ c.loop-read.read c.loop-read.invariant (ap (λ (s : Signs). s.is_last) (sym c.signs-2.ensures.signs) ∙ c.if-signs-2.true)
+pub returns-then-is_last-2-clause-over : goal.returns-then-is_last-2-clause-over
+returns-then-is_last-2-clause-over g c =
+    over-told c.args.self.now c.args.first _ _ _ _ c.found-then-is_last-2.ensures
+    (stopped c.args.self.now c.args.first (in_order c.args.is_backward c.args.text.now) c.args.look_ahead _ _ _ _ c.loop-read.read c.loop-read.invariant (ap (λ (s : Told). s.is_last) (sym c.signs-2.ensures.signs) ∙ sym c.is_last-2.ensures ∙ c.if-is_last-2.true))
 
 pub returns-clause-over : goal.returns-clause-over
 returns-clause-over g c =
     let few : c.args.self.now.computed ≤ 18446744073709551615 = search rules in
-    let more : not (is_nonempty (current c.loop-read.self c.loop-read.own c.loop-read.place).states) ≡ false = ap (λ (s : Signs). s.is_last) (sym c.signs-2.ensures.signs) ∙ c.if-signs-2.false in
-    searched_end c.args.self.now c.args.first (in_order c.args.is_backward c.args.text.now) (length c.args.text.now) c.loop-read.read (length-in_order c.args.is_backward c.args.text.now) _ _ _ _ _ _ _ _ few c.loop-read.invariant c.signs-2.ensures.valid more
-    c.args.look_ahead c.loop-read-test.false c.in_ok-place-2.ensures.value c.in_ok-place-2.ensures.standing c.in_ok-place-2.ensures.after c.last_by.ensures
+    let more : not (is_nonempty (current c.loop-read.self c.loop-read.own c.loop-read.place).states) ≡ false = ap (λ (s : Told). s.is_last) (sym c.signs-2.ensures.signs) ∙ sym c.is_last-2.ensures ∙ c.if-is_last-2.false in
+    over-told c.args.self.now c.args.first _ _ _ _ c.found-2.ensures
+    (searched_end c.args.self.now c.args.first (in_order c.args.is_backward c.args.text.now) (length c.args.text.now) c.loop-read.read (length-in_order c.args.is_backward c.args.text.now) _ _ _ _ _ _ _ _ few c.loop-read.invariant c.signs-2.ensures.valid more
+    c.args.look_ahead c.loop-read-test.false c.in_ok-place-2.ensures.value c.in_ok-place-2.ensures.standing c.in_ok-place-2.ensures.after c.last_by.ensures)

@@ -1,7 +1,7 @@
 use Rattle.std.proofs.Common.{List, subst}
 use Rattle.determinize_lazy.specs.Private.Places.{AreValid}
 use Rattle.determinize_core.specs.Value.{Value}
-use Rattle.determinize_lazy.proofs.places.Places.signs.Goals as goal
+use Rattle.determinize_lazy.proofs.places.Places.len.Goals as goal
 
 pub returns-clause-valid : goal.returns-clause-valid
-returns-clause-valid g c = subst (λ (vs : List Value). AreValid vs) c.self.view_is c.self.invariant.0.valid
+returns-clause-valid g c = subst (λ (vs : List Value). AreValid vs) c.self.view_is c.self.invariant.valid
