@@ -36,7 +36,7 @@ fn replay<R: Abort + AllocGlobal>(rt: &R, line: &str, wanted: &str) -> Result<()
 
 #[test]
 fn walks(rt: HostRuntime) -> Result<(), Fail> {
-    for (_, line, wanted) in answers::WALKS {
+    for (_, line, wanted) in answers::walks() {
         replay(&rt, line, wanted)?;
     }
     Ok(())

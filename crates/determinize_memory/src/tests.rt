@@ -143,7 +143,7 @@ impl Row {
 /// All worked walks.
 fn rows(alloc: Global) -> Result<Vec<Row>, JobError> {
     let mut rows = Vec::new(alloc);
-    for (_, line, answer) in answers::WALKS {
+    for (_, line, answer) in answers::walks() {
         let row = Row::read(alloc, line, answer)?;
         rows.push(row)?;
     }

@@ -97,6 +97,7 @@ fn what_is_kept(rt: HostRuntime) -> Result<(), Fail> {
 fn bytes_ahead(rt: HostRuntime) -> Result<(), Fail> {
     let nfa = nfa(&rt, WORDS, false)?;
     let mut lazy = Lazy::new(rt.alloc(), &nfa, MatchKind::LeftmostFirst, 16);
+    assert_eq!(rt; lazy.limit(), 16);
     for (ahead, end) in [(Some(b't'), None), (Some(b' '), Some(4)), (None, Some(4))] {
         let states = walk_through(&rt, &mut lazy, (None, b"quar", ahead))?;
         let found = last_match(states.as_slice());

@@ -69,7 +69,7 @@ fn print<R: Abort + AllocGlobal>(
 /// The last of the runs in turn meets no refusal, and prints the walk.
 #[test]
 fn prints_each_walk_or_tells_of_want_of_memory(rt: HostRuntime) -> Result<(), Fail> {
-    for (name, _, lines) in answers::WALKS {
+    for (name, _, lines) in answers::walks() {
         let words = words(&rt, &[name])?;
         let finding = in_turn(rt.alloc(), |heap| print(&rt, heap, words.as_slice(), lines))?;
         assert_eq!(rt; finding, Finding::Sound, "{name}");

@@ -63,7 +63,7 @@ fn make_nfa<R: Abort + AllocGlobal>(
 
 #[test]
 fn nfa(rt: HostRuntime) -> Result<(), Fail> {
-    for (_, line, answer) in answers::WALKS {
+    for (_, line, answer) in answers::walks() {
         refuse_in_turn(&rt, |heap| make_nfa(&rt, heap, line, answer))?;
     }
     Ok(())
