@@ -7,7 +7,7 @@ use Rattle.std.proofs.lemmas.List.Folds.{list_any-append}
 use Rattle.std.proofs.lemmas.Option.{slice_get_within}
 use mathlib.Core.Bool.{true≢false}
 use Rattle.determinize_lazy.specs.Pairs.{is_kept, Pair, same, same_unit}
-use Rattle.determinize_lazy.specs.Private.Rows.{column, IsEntry, IsRows, IsUnit}
+use Rattle.determinize_lazy.specs.Private.Rows.{column, IsEntry, IsRows, IsUnit, with_row}
 use Rattle.determinize_lazy.specs.Private.Signs.{signs_in, signs_of}
 use Rattle.determinize_core.specs.Value.{Value}
 use Rattle.determinize_lazy.proofs.Holding.{same_laws}
@@ -43,27 +43,24 @@ entry_from rows count p row k size inside row_is bound =
 
 -- the numbers of a list with 257 and one more at its end
 module _ (rows : List ℕ) (n : ℕ) where
-  abbrev pub with_row : List ℕ
-  with_row = (rows ++ replicate 257 1) ++ n ∷ []
-
   length_units : length (rows ++ replicate 257 1) ≡ length rows + 257
   length_units = rw (length-append, length-replicate) (let e : length rows + 257 ≡ length rows + 257 = refl in e)
 
-  length-with_row : length with_row ≡ length rows + 258
-  length-with_row = let more : length with_row ≡ length (rows ++ replicate 257 1) + 1 = length_push (rows ++ replicate 257 1) n in let len : length (rows ++ replicate 257 1) ≡ length rows + 257 = length_units in omega (arith, more, len)
+  length-with_row : length (with_row rows n) ≡ length rows + 258
+  length-with_row = let more : length (with_row rows n) ≡ length (rows ++ replicate 257 1) + 1 = length_push (rows ++ replicate 257 1) n in let len : length (rows ++ replicate 257 1) ≡ length rows + 257 = length_units in omega (arith, more, len)
 
-  before_row : (k : ℕ) → k < length rows → slice_index with_row k ≡ slice_index rows k
+  before_row : (k : ℕ) → k < length rows → slice_index (with_row rows n) k ≡ slice_index rows k
   before_row k inside =
       get_or_append_left (rows ++ replicate 257 1) (n ∷ []) 0 k (let len : length (rows ++ replicate 257 1) ≡ length rows + 257 = length_units in omega (arith, inside, len))
       ∙ get_or_append_left rows (replicate 257 1) 0 k inside
 
-  in_row : (k : ℕ) → k < 257 → slice_index with_row (length rows + k) ≡ 1
+  in_row : (k : ℕ) → k < 257 → slice_index (with_row rows n) (length rows + k) ≡ 1
   in_row k bound =
       get_or_append_left (rows ++ replicate 257 1) (n ∷ []) 0 (length rows + k) (let len : length (rows ++ replicate 257 1) ≡ length rows + 257 = length_units in omega (arith, bound, len))
       ∙ get_or-append_right rows (replicate 257 1) (length rows) (length rows + k) 0 refl (let e : length rows ≤ length rows + k = omega arith in e)
       ∙ get_or-replicate 257 (length rows + k - length rows) 1 0 (omega (arith, bound))
 
-  behind_row : slice_index with_row (length rows + 257) ≡ n
+  behind_row : slice_index (with_row rows n) (length rows + 257) ≡ n
   behind_row =
       let len : length (rows ++ replicate 257 1) ≡ length rows + 257 = length_units in
       get_or-append_right (rows ++ replicate 257 1) (n ∷ []) (length rows + 257) (length rows + 257) 0 len (let e : length rows + 257 ≤ length rows + 257 = omega arith in e)

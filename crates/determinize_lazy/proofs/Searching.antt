@@ -13,7 +13,7 @@ use Rattle.determinize_lazy.specs.Pairs.{chain_pairs, is_kept, Pair, same}
 use Rattle.determinize_lazy.specs.Private.Places.{AreValid, HaveValidValues, IsPlace}
 use Rattle.determinize_lazy.specs.Plenty.{HasRoom, KeepsAll}
 use Rattle.determinize_lazy.specs.Private.Over.{IsOver}
-use Rattle.determinize_lazy.specs.Private.Signs.{ended_by}
+use Rattle.determinize_lazy.specs.Private.Signs.{match_at}
 use Rattle.determinize_lazy.specs.Private.Standing.{current, IsStanding}
 use Rattle.determinize_lazy.specs.Kept.{after_walk, Cache, count_after, held_values, keep, missed, step_of}
 use Rattle.determinize_lazy.specs.Private.Turns.{after_turn, IsKnown}
@@ -61,9 +61,9 @@ pub record IsSearched (old : Cache) (first : Value) (us : List (Option ℕ)) (ow
   pub read : (rest : List (Option ℕ)) → units_read (step_of old) first (us ++ rest) ≡ us ++ units_read (step_of old) (value_after old.nfa old.kind first us) rest
 
 -- the end of the first of some patterns, told by it alone
-pub ended-first : (offset : ℕ) (patterns : List ℕ) → ended_by offset (slice_get patterns 0) ≡ ended_at offset patterns
-ended-first offset [] = refl
-ended-first offset (p ∷ ps) = refl
+pub match_at-first : (offset : ℕ) (patterns : List ℕ) → match_at offset (slice_get patterns 0) ≡ ended_at offset patterns
+match_at-first offset [] = refl
+match_at-first offset (p ∷ ps) = refl
 
 -- no unit yet
 pub searched_none : (old new : Cache) (first own : Value) (place : Option ℕ) (last : Option HalfMatch) → old.computed ≤ 18446744073709551615 → own ≡ first → new ≡ old → IsPlace (held_values new) first place → last ≡ None

@@ -22,7 +22,7 @@ use crate::scratch::Scratch;
 use crate::signs::Signs;
 use crate::table::{NOT_KEPT, Table, column};
 use determinize_below::{MatchKind, NFA, StateID};
-use determinize_core::state::{State, StateBuilderNFA};
+use determinize_core::state::State;
 use std::alloc::{AllocError, Allocator, Global};
 use std::marker::Model;
 
@@ -33,7 +33,7 @@ use std::marker::Model;
 /// with its source and its target, are at most as many as the limit. Else the cache is emptied, and
 /// the transition is kept where its two states alone are at most as many; else nothing is.
 ///
-/// Offsets of rows are numbers of 32 bits. Where more than 16711935 states would be held, a call
+/// Offsets of rows are numbers of 32 bits. Where more than 16647160 states would be held, a call
 /// answers `AllocError`, as it does for want of memory.
 #[derive(Drop)]
 pub struct Lazy<'n, N: Allocator = Global, A: Allocator = Global> {
@@ -243,13 +243,13 @@ impl<'n, N: Allocator, A: Allocator + Copy> Lazy<'n, N, A> {
         ensures { (v : StateValue) → slice_get (held_values self.now) place ≡ Some v
             → IsKnown self.now v unit result }
     {
-        // From the column on, so that its address is there before the place is known.
+        // From the column on: where that begins is known before the place is.
         let rows = &self.table.rows[column(unit)..];
-        let entry = rows[place.row()];
+        let entry = rows[place.offset()];
         if entry == NOT_KEPT {
             None
         } else {
-            Some(Place::of_row(entry))
+            Some(Place::at_offset(entry))
         }
     }
 
@@ -263,7 +263,7 @@ impl<'n, N: Allocator, A: Allocator + Copy> Lazy<'n, N, A> {
     {
         // For the proof alone: the values are well formed.
         let _ = self.table.places.len();
-        let number = self.table.rows[place.row() + UNITS];
+        let number = self.table.rows[place.offset() + UNITS];
         Signs { number }
     }
 
@@ -451,8 +451,8 @@ impl<'n, N: Allocator, A: Allocator + Copy> Lazy<'n, N, A> {
     /// - `look_behind` is the byte that is read just before the text, or none.
     ///
     /// The text is in the order of reading: for an NFA that reads backward, from the last byte on.
-    /// The only error is want of memory. The cache may hold less then, or nothing; later answers are
-    /// the same.
+    /// The only error is want of memory. The cache may hold less then, or nothing; later answers
+    /// are the same.
     pub fn walk(
         &mut self,
         start: StateID,
@@ -490,8 +490,8 @@ impl<'n, N: Allocator, A: Allocator + Copy> Lazy<'n, N, A> {
     /// one that follows over this byte. Where none is given, it follows over the end of the input.
     ///
     /// The text is in the order of reading: for an NFA that reads backward, from the last byte on.
-    /// The only error is want of memory. The cache may hold less then, or nothing; later answers are
-    /// the same.
+    /// The only error is want of memory. The cache may hold less then, or nothing; later answers
+    /// are the same.
     pub fn walk_between(
         &mut self,
         start: StateID,

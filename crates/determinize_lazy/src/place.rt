@@ -11,7 +11,8 @@ pub(crate) const UNITS: usize = 257;
 /// The number of columns of a row: one for each unit, and the last one for the signs of the state.
 pub(crate) const COLUMNS: usize = UNITS + 1;
 
-/// The number of states that can be held, 16647160: the rows of so many have offsets of 32 bits.
+/// The number of states that can be held, 16647160: each offset in the rows of so many has 32 bits,
+/// and in one row more not each.
 const COUNT: usize = u32::MAX as usize / COLUMNS;
 
 /// The place of a held state. It is seen as the number of states that were held before, and it is
@@ -19,7 +20,7 @@ const COUNT: usize = u32::MAX as usize / COLUMNS;
 /// the next one.
 #[derive(Clone, Copy)]
 pub(crate) struct Place {
-    row: usize,
+    offset: usize,
 }
 
 impl Model for Place {
@@ -27,11 +28,11 @@ impl Model for Place {
 
     ghost Value = { ℕ };
 
-    ghost view = { λ p. p.row / 258 };
+    ghost view = { λ p. p.offset / 258 };
 
-    ghost invariant = { λ p. (p.row ≡ p.row / 258 * 258) × (p.row ≤ 4294967295) };
+    ghost invariant = { λ p. (p.offset ≡ p.offset / 258 * 258) × (p.offset ≤ 4294967295) };
 
-    ghost inverse = { λ n. record { row = n * 258 } };
+    ghost inverse = { λ n. record { offset = n * 258 } };
 }
 
 impl Place {
@@ -42,7 +43,7 @@ impl Place {
     {
         if number < COUNT {
             Some(Place {
-                row: number * COLUMNS,
+                offset: number * COLUMNS,
             })
         } else {
             None
@@ -51,11 +52,12 @@ impl Place {
 
     /// The place whose row has this offset.
     #[inline(always)]
-    pub(crate) fn of_row(row: u32) -> Place
-        requires { row ≡ row / 258 * 258 }
-        ensures { result ≡ row / 258 }
+    pub(crate) fn at_offset(offset: u32) -> Place
+        requires { offset ≡ offset / 258 * 258 }
+        ensures { result ≡ offset / 258 }
     {
-        Place { row: row as usize }
+        let offset = offset as usize;
+        Place { offset }
     }
 
     /// The number of the place.
@@ -63,29 +65,29 @@ impl Place {
     pub(crate) fn number(self) -> usize
         ensures { result ≡ self }
     {
-        self.row / COLUMNS
+        self.offset / COLUMNS
     }
 
     /// The offset of the state's row.
     #[inline(always)]
-    pub(crate) fn row(self) -> usize
+    pub(crate) fn offset(self) -> usize
         ensures { result ≡ self * 258 }
     {
-        self.row
+        self.offset
     }
 
-    /// The offset of the state's row, as a row keeps it.
-    pub(crate) fn entry(self) -> u32
+    /// The offset of the state's row, in 32 bits, as a row keeps it.
+    pub(crate) fn packed_offset(self) -> u32
         ensures { result ≡ self * 258 }
     {
-        self.row as u32
+        self.offset as u32
     }
 }
 
 /// A place in 32 bits, as it is kept of each transition.
 #[derive(Clone, Copy)]
 pub(crate) struct PackedPlace {
-    row: u32,
+    offset: u32,
 }
 
 impl Model for PackedPlace {
@@ -93,18 +95,19 @@ impl Model for PackedPlace {
 
     ghost Value = { ℕ };
 
-    ghost view = { λ p. p.row / 258 };
+    ghost view = { λ p. p.offset / 258 };
 
-    ghost invariant = { λ p. p.row ≡ p.row / 258 * 258 };
+    ghost invariant = { λ p. p.offset ≡ p.offset / 258 * 258 };
 
-    ghost inverse = { λ n. record { row = n * 258 } };
+    ghost inverse = { λ n. record { offset = n * 258 } };
 }
 
 impl PackedPlace {
-    /// The same place.
+    /// The same place, in 32 bits.
     pub(crate) fn of(place: Place) -> PackedPlace
         ensures { result ≡ place }
     {
-        PackedPlace { row: place.entry() }
+        let offset = place.packed_offset();
+        PackedPlace { offset }
     }
 }

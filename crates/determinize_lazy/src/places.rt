@@ -52,7 +52,7 @@ impl<A: Allocator + Copy> Places<A> {
         ensures value { result ≡ length self.now }
         ensures limit { result ≤ 16647160 }
         ensures apart { EachApart self.now }
-        ensures valid { AreValid self.now }
+        ensures held { AreValid self.now }
     {
         self.held.len()
     }

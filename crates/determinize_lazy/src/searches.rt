@@ -1,14 +1,15 @@
 //! Searches over the cache: the last match of a walk, without a list of its states.
 
-ghost use Rattle.std.specs.Prelude.{◌≡◌, ◌<◌, ◌≤◌, ◌-◌, true, false, length, option_map, slice_get, slice_index, IfOk, OnOk, None, Some};
+ghost use Rattle.std.specs.Prelude.{◌≡◌, ◌<◌, ◌≤◌, ◌-◌, true, false, ◌&&◌, is_some, length, option_map, slice_get, slice_index, IfOk, OnOk, None, Some};
 ghost use Rattle.std.specs.Option.{IfSome, option_or};
 ghost use Rattle.determinize_below.specs.Nfa.{AllResolve};
 ghost use Rattle.determinize_below.specs.Positions.{between};
 ghost use Rattle.determinize_below.specs.declared.search.MatchKind.TheVariants as kinds;
 ghost use Rattle.determinize_core.specs.Chain.{chain, units};
-ghost use Rattle.determinize_core.specs.Value.{IsValue, Value as StateValue};
+ghost use Rattle.determinize_core.specs.Value.{IsValue, Value as StateValue, is_nonempty};
 ghost use Rattle.determinize_core.specs.Walk.{ended_at, last_match};
 ghost use Rattle.determinize_lazy.specs.Kept.{held_values, step_of};
+ghost use Rattle.determinize_lazy.specs.Pairs.{is_kept};
 ghost use Rattle.determinize_lazy.specs.Private.Over.{IsOver};
 ghost use Rattle.determinize_lazy.specs.Private.Places.{AreValid, HaveValidValues, IsPlace};
 ghost use Rattle.determinize_lazy.specs.Private.Signs.{match_of, signs_in, signs_of};
@@ -18,8 +19,8 @@ ghost use Rattle.determinize_lazy.specs.Searches.{IsPlenty, IsPlentyIn, IsPrefer
 
 use crate::lazy::{Lazy, Reached};
 use crate::place::Place;
-use crate::signs::{Last, Signs};
-use determinize_below::{Anchored, HalfMatch, Input, NFA, StateID};
+use crate::signs::{LastMatch, Signs};
+use determinize_below::{Anchored, HalfMatch, Input, StateID};
 use determinize_core::start::{look_ahead_forward, look_ahead_reverse};
 use determinize_core::state::State;
 use std::alloc::{AllocError, Allocator};
@@ -186,7 +187,13 @@ impl<'n, N: Allocator, A: Allocator + Copy> Lazy<'n, N, A> {
     /// The last match by now: the first pattern of the state where a search stands, or the one
     /// that was last before.
     #[inline(always)]
-    fn last_by(&self, own: &State<A>, place: Option<Place>, offset: usize, last: Last) -> Last
+    fn last_by(
+        &self,
+        own: &State<A>,
+        place: Option<Place>,
+        offset: usize,
+        last: LastMatch,
+    ) -> LastMatch
         requires { IsStanding self.now own.now place }
         ensures { match_of result ≡ option_or
             (ended_at offset (current self.now own.now place).patterns) (match_of last) }
@@ -207,6 +214,8 @@ impl<'n, N: Allocator, A: Allocator + Copy> Lazy<'n, N, A> {
             → slice_get (held_values self.now) source ≡ Some v
             → signs_in hit.signs.number ≡ signs_of v) }
         ensures more { IfSome result (λ hit. (signs_in hit.signs.number).is_last ≡ false) }
+        ensures some { (v : StateValue) → slice_get (held_values self.now) source ≡ Some v
+            → is_some result ≡ (is_kept self.now.pairs v unit && is_nonempty v.states) }
         ensures valid { AreValid (held_values self.now) }
     {
         // The entry comes first, since the next one waits for it.
@@ -245,7 +254,7 @@ impl<'n, N: Allocator, A: Allocator + Copy> Lazy<'n, N, A> {
         let _ = &self.limit;
         let mut place = self.place_of(&first);
         let mut own = first;
-        let (mut last, mut read) = (Last::NONE, 0);
+        let (mut last, mut read) = (LastMatch::NONE, 0);
         while read < text.len() {
             // A copy, since a call borrows what it is given by value.
             let standing = place;
@@ -327,8 +336,8 @@ impl<'n, N: Allocator, A: Allocator + Copy> Lazy<'n, N, A> {
     /// the leftmost match is wanted, the answer is the pattern and the end of the most preferred
     /// match.
     ///
-    /// The only error is want of memory. The cache may hold less then, or nothing; later answers are
-    /// the same.
+    /// The only error is want of memory. The cache may hold less then, or nothing; later answers
+    /// are the same.
     pub fn search(
         &mut self,
         start: StateID,
@@ -367,8 +376,8 @@ impl<'n, N: Allocator, A: Allocator + Copy> Lazy<'n, N, A> {
     /// The byte ahead of the range is still one more unit, which is counted and kept. A range that
     /// starts past its end has no match, and nothing is read.
     ///
-    /// The only error is want of memory. The cache may hold less then, or nothing; later answers are
-    /// the same.
+    /// The only error is want of memory. The cache may hold less then, or nothing; later answers
+    /// are the same.
     pub fn search_input(&mut self, input: &Input<'_>) -> Result<Option<HalfMatch>, AllocError>
         requires { has_start input.now.anchored ≡ true }
         ensures last { IfOk result

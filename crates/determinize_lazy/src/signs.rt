@@ -3,14 +3,14 @@
 ghost use Rattle.std.specs.Prelude.{◌≡◌, is_some};
 ghost use Rattle.std.specs.Option.{option_or};
 ghost use Rattle.determinize_core.specs.Value.{IsValue};
-ghost use Rattle.determinize_lazy.specs.Private.Signs.{ended_by, match_of, signs_in, signs_of};
+ghost use Rattle.determinize_lazy.specs.Private.Signs.{match_at, match_of, signs_in, signs_of};
 
 use determinize_below::{HalfMatch, PatternID};
 use determinize_core::state::State;
 use std::alloc::Allocator;
 
 /// The bit of signs that tells that nothing follows.
-const LAST: u32 = 1 << 31;
+const NOTHING_FOLLOWS: u32 = 1 << 31;
 
 /// What a search asks of a state: the first of the patterns that match, and whether no NFA state is
 /// recorded, so that nothing follows.
@@ -34,13 +34,13 @@ impl Signs {
         } else {
             0
         };
-        let last = if state.iter_nfa_state_ids().next().is_none() {
-            LAST
+        let end = if state.iter_nfa_state_ids().next().is_none() {
+            NOTHING_FOLLOWS
         } else {
             0
         };
         Signs {
-            number: first + last,
+            number: first + end,
         }
     }
 
@@ -49,7 +49,7 @@ impl Signs {
     fn is_match(self) -> bool
         ensures { result ≡ is_some (signs_in self.number).first }
     {
-        self.number % LAST > 0
+        self.number % NOTHING_FOLLOWS > 0
     }
 
     /// Whether nothing follows.
@@ -57,45 +57,46 @@ impl Signs {
     pub(crate) fn is_last(self) -> bool
         ensures { result ≡ (signs_in self.number).is_last }
     {
-        self.number >= LAST
+        self.number >= NOTHING_FOLLOWS
     }
 }
 
 /// The last match so far, or none.
 #[derive(Clone, Copy)]
-pub(crate) struct Last {
-    /// The signs of the state that told it.
+pub(crate) struct LastMatch {
+    /// The signs of the state that told it, zero where there is none.
     pub(crate) signs: Signs,
     /// Where it ends.
     pub(crate) offset: usize,
 }
 
-impl Last {
+impl LastMatch {
     /// No match.
-    pub(crate) const NONE: Last = Last {
+    pub(crate) const NONE: LastMatch = LastMatch {
         signs: Signs { number: 0 },
         offset: 0,
     };
 
-    /// The match that a state tells, which ends at this offset, or the last one before.
+    /// The match that a state of these signs tells, which ends at this offset, or the last one
+    /// before.
     #[inline(always)]
-    pub(crate) fn by(self, signs: Signs, offset: usize) -> Last
+    pub(crate) fn by(self, signs: Signs, offset: usize) -> LastMatch
         ensures { match_of result
-            ≡ option_or (ended_by offset (signs_in signs.number).first) (match_of self) }
+            ≡ option_or (match_at offset (signs_in signs.number).first) (match_of self) }
     {
         if signs.is_match() {
-            Last { signs, offset }
+            LastMatch { signs, offset }
         } else {
             self
         }
     }
 
-    /// The match itself.
+    /// The match itself, or none.
     pub(crate) fn found(self) -> Option<HalfMatch>
         ensures { result ≡ match_of self }
     {
-        let Last { signs, offset } = self;
-        let more = (signs.number % LAST) as usize;
+        let LastMatch { signs, offset } = self;
+        let more = (signs.number % NOTHING_FOLLOWS) as usize;
         if more == 0 {
             return None;
         }

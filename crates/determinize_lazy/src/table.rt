@@ -1,6 +1,6 @@
-//! Kept transitions: the states that they join, and a row of places for each.
+//! Kept transitions: the states that they join, and a row of numbers for each.
 
-ghost use Rattle.std.specs.Prelude.{◌≡◌, ◌+◌, ◌*◌, ◌<◌, ◌≤◌, ◌++◌, ◌∷◌, [], ℕ, false, true, List, Option, length, slice_get, slice_index, IfOk, OnOk, MatchOption, Some};
+ghost use Rattle.std.specs.Prelude.{◌≡◌, ◌+◌, ◌*◌, ◌<◌, ◌++◌, ◌∷◌, [], ℕ, false, List, Option, length, slice_get, IfOk, OnOk, Some};
 ghost use Rattle.std.specs.List.{list_any};
 ghost use Rattle.determinize_core.specs.Value.{Value as StateValue};
 ghost use Rattle.determinize_lazy.specs.Pairs.{Pair, same, with_value};
@@ -24,8 +24,9 @@ pub(crate) struct Kept {
 /// What stands in a row where no transition is kept: a number that is the offset of no row.
 pub(crate) const NOT_KEPT: u32 = 1;
 
-/// Kept transitions, in the order in which they came and in a row for each state: in the column of a
-/// unit the offset of the row of the state that follows, and in the last one the signs of the state.
+/// Kept transitions, in the order in which they came and in a row for each state: in the column of
+/// a unit the offset of the row of the state that follows, and in the last one the signs of the
+/// state.
 #[derive(Drop)]
 pub(crate) struct Table<A: Allocator = Global> {
     pub(crate) places: Places<A>,
@@ -33,7 +34,7 @@ pub(crate) struct Table<A: Allocator = Global> {
     pub(crate) order: Vec<Kept, A>,
 }
 
-/// The column of a unit: that of a byte, or the last one at the end of the input.
+/// The column of a unit: that of a byte, or the one behind those of the bytes at the end of input.
 #[inline(always)]
 pub(crate) fn column(unit: Option<u8>) -> usize
     ensures value { result ≡ column unit }
@@ -181,7 +182,7 @@ impl<A: Allocator + Copy> Table<A> {
         let known = self.place_now(state, source, following, target);
         let target = self.place_for(following, known)?;
         let column = column(unit);
-        self.rows[source.row() + column] = target.entry();
+        self.rows[source.offset() + column] = target.packed_offset();
         let source = PackedPlace::of(source);
         self.order.push(Kept { source, unit })?;
         Ok(target)

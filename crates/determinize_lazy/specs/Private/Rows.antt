@@ -29,8 +29,12 @@ pub record IsRows (f : Value → Option ℕ → Value) (values : List Value) (ro
   pub entries : (p : ℕ) (v : Value) (u : Option ℕ) → slice_get values p ≡ Some v → IsUnit u → IsEntry f values pairs v u (slice_index rows (p * 258 + column u))
   pub signs : (p : ℕ) (v : Value) → slice_get values p ≡ Some v → signs_in (slice_index rows (p * 258 + 257)) ≡ signs_of v
 
+-- the rows with one more, in which nothing is kept, and a number at its end
+abbrev pub with_row : List ℕ → ℕ → List ℕ
+with_row rows number = (rows ++ replicate 257 1) ++ number ∷ []
+
 -- the rows with one more, in which nothing is kept, for a value of these signs
 pub record IsWithRow (rows : List ℕ) (more : List ℕ) (signs : Told) : Type 0 where
   pub number : ℕ
   pub told : signs_in number ≡ signs
-  pub appended : more ≡ (rows ++ replicate 257 1) ++ number ∷ []
+  pub appended : more ≡ with_row rows number

@@ -2,7 +2,7 @@
 use Rattle.std.specs.Prelude.{ℕ, Bool, ◌-◌, ◌%◌, None, Some, Option, cond, nat_eq, nat_le, not, option_map, slice_get}
 use Rattle.determinize_below.specs.declared.search.HalfMatch.{HalfMatch}
 use Rattle.determinize_core.specs.Value.{Value, is_nonempty}
-use Rattle.determinize_lazy.specs.declared.signs.Last.{Last}
+use Rattle.determinize_lazy.specs.declared.signs.LastMatch.{LastMatch}
 
 -- a first pattern, and whether nothing follows
 pub record Told : Type 0 where
@@ -22,9 +22,9 @@ abbrev pub signs_in : ℕ → Told
 signs_in n = record { first = pattern_in (n % 2147483648); is_last = nat_le 2147483648 n }
 
 -- the match of a pattern that ends at an offset
-abbrev pub ended_by : ℕ → Option ℕ → Option HalfMatch
-ended_by offset pattern = option_map (λ p. record { pattern = p; offset = offset }) pattern
+abbrev pub match_at : ℕ → Option ℕ → Option HalfMatch
+match_at offset pattern = option_map (λ p. record { pattern = p; offset = offset }) pattern
 
 -- the match that a search keeps
-abbrev pub match_of : Last → Option HalfMatch
-match_of l = ended_by l.offset (signs_in l.signs.number).first
+abbrev pub match_of : LastMatch → Option HalfMatch
+match_of l = match_at l.offset (signs_in l.signs.number).first

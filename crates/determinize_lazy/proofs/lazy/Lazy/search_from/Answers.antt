@@ -4,11 +4,11 @@ use Rattle.std.specs.Option.{option_or}
 use Rattle.std.proofs.lemmas.Option.{slice_get-get_or}
 use Rattle.determinize_core.specs.Value.{dead, is_nonempty}
 use Rattle.determinize_core.specs.Walk.{ended_at}
-use Rattle.determinize_lazy.specs.Private.Signs.{ended_by, match_of, signs_in, signs_of, Told}
+use Rattle.determinize_lazy.specs.Private.Signs.{match_at, match_of, signs_in, signs_of, Told}
 use Rattle.determinize_lazy.specs.Kept.{held_values}
 use Rattle.determinize_lazy.specs.Private.Standing.{current}
 use Rattle.determinize_lazy.specs.Searches.{in_order}
-use Rattle.determinize_lazy.proofs.Searching.{ended-first, hit_after, hit_standing, hit_value, IsSearched, length-in_order, over-told, searched-told, searched_at, searched_byte, searched_end, searched_resolves, stopped}
+use Rattle.determinize_lazy.proofs.Searching.{match_at-first, hit_after, hit_standing, hit_value, IsSearched, length-in_order, over-told, searched-told, searched_at, searched_byte, searched_end, searched_resolves, stopped}
 use Rattle.determinize_lazy.proofs.lazy.Lazy.search_from.Given.{Over}
 use Rattle.determinize_lazy.proofs.lazy.Lazy.search_from.Goals.{In_ok-place}
 use Rattle.determinize_lazy.proofs.lazy.Lazy.search_from.Goals as goal
@@ -54,8 +54,8 @@ loop-read-2-preserved g c =
     let signs : signs_in c.in-Some-hit.hit.signs.number ≡ signs_of (current c.step.new.self dead (Some c.loop-read-2.at)) = c.in-Some-hit.ensures.signs _ here in
     let more : not (is_nonempty (current c.step.new.self dead (Some c.loop-read-2.at)).states) ≡ false = ap (λ (s : Told). s.is_last) (sym signs) ∙ c.in-Some-hit.ensures.more in
     let told : match_of c.by-last.result ≡ option_or (ended_at (c.loop-read-2.read - 1) (current c.step.new.self dead (Some c.loop-read-2.at)).patterns) (match_of c.loop-read-2.last) =
-    c.by-last.ensures ∙ ap (λ (s : Told). option_or (ended_by (c.loop-read-2.read - 1) s.first) (match_of c.loop-read-2.last)) signs
-    ∙ ap (λ o. option_or o (match_of c.loop-read-2.last)) (ended-first (c.loop-read-2.read - 1) (current c.step.new.self dead (Some c.loop-read-2.at)).patterns) in (
+    c.by-last.ensures ∙ ap (λ (s : Told). option_or (match_at (c.loop-read-2.read - 1) s.first) (match_of c.loop-read-2.last)) signs
+    ∙ ap (λ o. option_or o (match_of c.loop-read-2.last)) (match_at-first (c.loop-read-2.read - 1) (current c.step.new.self dead (Some c.loop-read-2.at)).patterns) in (
       searched_byte c.args.self.now c.args.first (in_order c.args.is_backward c.args.text.now) (length c.args.text.now) c.loop-read-2.read (length-in_order c.args.is_backward c.args.text.now) dead dead (Some c.loop-read-2.at) (Some c.in-Some-hit.hit.place) _ _ _ _ few
           (searched-told c.args.self.now c.args.first _ _ _ _ _ _ told c.loop-read-2.invariant.0) (c.hit.ensures.valid _ _ here) more
           c.byte_after-byte-in-loop-read-2.result 0 c.byte_after-byte-in-loop-read-2.ensures c.loop-read-2-test.true

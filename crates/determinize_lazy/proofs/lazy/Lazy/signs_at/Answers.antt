@@ -5,4 +5,4 @@ use Rattle.determinize_core.specs.Value.{Value}
 use Rattle.determinize_lazy.proofs.lazy.Lazy.signs_at.Goals as goal
 
 pub returns-clause-valid : goal.returns-clause-valid
-returns-clause-valid g c = subst (λ (vs : List Value). AreValid vs) (c.self.invariant.cache.holds ∙ ap (λ (x : Cache). held_values x) c.self.view_is) c.len.ensures.valid
+returns-clause-valid g c = subst (λ (vs : List Value). AreValid vs) (c.self.invariant.cache.holds ∙ ap (λ (x : Cache). held_values x) c.self.view_is) c.len.ensures.held

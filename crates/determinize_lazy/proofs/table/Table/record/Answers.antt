@@ -10,7 +10,7 @@ place_for-requires-2 g c = c.place_now-known.ensures c.args.self.now.places c.in
 pub returns-clause-rows : goal.returns-clause-rows
 returns-clause-rows g c = λ f pairs follows r.
     rows_record f _ _ _ pairs _ _ _ _ _ c.args.state.now c.args.following.now c.args.unit (c.in_ok-target.ensures.rows f pairs (c.in_ok-source.ensures.rows f pairs r)) c.in_ok-source.ensures.place
-    c.in_ok-target.ensures.places c.in_ok-target.ensures.place follows c.column-column.ensures.unit c.column-column.ensures.value c.row.ensures c.entry.ensures
+    c.in_ok-target.ensures.places c.in_ok-target.ensures.place follows c.column-column.ensures.unit c.column-column.ensures.value c.offset.ensures c.packed_offset.ensures
 
 -- the order with the transition at its end
 pushed : (g : Over) (c : In_ok-push g) → c.push.new.self.items ≡ c.args.self.now.order.items ++ record { source = c.in_ok-source.source; unit = c.args.unit } ∷ []
