@@ -1,4 +1,4 @@
-//! States held in a row, each once and known by its place.
+//! States held in the order in which they came, each once and known by its place.
 
 ghost use Rattle.std.specs.Prelude.{◌≡◌, ◌++◌, ◌∷◌, ◌<◌, ◌≤◌, [], Some, ◌||◌, not, false, length, slice_get, IfOk, OnErr, OnOk};
 ghost use Rattle.std.specs.List.{list_any};

@@ -199,7 +199,7 @@ impl<'n, N: Allocator, A: Allocator + Copy> Lazy<'n, N, A> {
             (ended_at offset (current self.now own.now place).patterns) (match_of last) }
     {
         let signs = self.signs(own, place);
-        last.by(signs, offset)
+        last.updated(signs, offset)
     }
 
     /// The place to which a kept transition leads, with the signs of its source, or none where it
@@ -271,7 +271,7 @@ impl<'n, N: Allocator, A: Allocator + Copy> Lazy<'n, N, A> {
                         let Some(hit) = self.hit(at, Some(byte)) else {
                             break;
                         };
-                        last = last.by(hit.signs, read - 1);
+                        last = last.updated(hit.signs, read - 1);
                         at = hit.place;
                         read += 1;
                     }

@@ -80,7 +80,7 @@ impl LastMatch {
     /// The match that a state of these signs tells, which ends at this offset, or the last one
     /// before.
     #[inline(always)]
-    pub(crate) fn by(self, signs: Signs, offset: usize) -> LastMatch
+    pub(crate) fn updated(self, signs: Signs, offset: usize) -> LastMatch
         ensures { match_of result
             ≡ option_or (match_at offset (signs_in signs.number).first) (match_of self) }
     {

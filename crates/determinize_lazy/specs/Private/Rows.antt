@@ -4,7 +4,7 @@ use Rattle.std.specs.List.{list_any}
 use Rattle.determinize_core.specs.Value.{Value}
 use Rattle.determinize_lazy.specs.Pairs.{Pair, is_kept, same}
 use Rattle.determinize_lazy.specs.Places.{EachApart}
-use Rattle.determinize_lazy.specs.Private.Signs.{signs_in, signs_of, Told}
+use Rattle.determinize_lazy.specs.Private.Signs.{signs_in, signs_of, StateSigns}
 
 -- a byte, or none at the end of the input
 abbrev pub IsUnit : Option ℕ → Type 0
@@ -34,7 +34,7 @@ abbrev pub with_row : List ℕ → ℕ → List ℕ
 with_row rows number = (rows ++ replicate 257 1) ++ number ∷ []
 
 -- the rows with one more, in which nothing is kept, for a value of these signs
-pub record IsWithRow (rows : List ℕ) (more : List ℕ) (signs : Told) : Type 0 where
+pub record IsWithRow (rows : List ℕ) (more : List ℕ) (signs : StateSigns) : Type 0 where
   pub number : ℕ
   pub told : signs_in number ≡ signs
   pub appended : more ≡ with_row rows number

@@ -5,12 +5,12 @@ use Rattle.determinize_core.specs.Value.{Value, is_nonempty}
 use Rattle.determinize_lazy.specs.declared.signs.LastMatch.{LastMatch}
 
 -- a first pattern, and whether nothing follows
-pub record Told : Type 0 where
+pub record StateSigns : Type 0 where
   pub first : Option ℕ
   pub is_last : Bool
 
 -- the first pattern that a value lists, and whether it records no NFA states, so that nothing follows
-abbrev pub signs_of : Value → Told
+abbrev pub signs_of : Value → StateSigns
 signs_of v = record { first = slice_get v.patterns 0; is_last = not (is_nonempty v.states) }
 
 -- a pattern in a number: one more than it, or zero where there is none
@@ -18,7 +18,7 @@ abbrev pub pattern_in : ℕ → Option ℕ
 pattern_in n = cond (nat_eq n 0) None (Some (n - 1))
 
 -- signs in a number: the highest of 32 bits, and the pattern in the others
-abbrev pub signs_in : ℕ → Told
+abbrev pub signs_in : ℕ → StateSigns
 signs_in n = record { first = pattern_in (n % 2147483648); is_last = nat_le 2147483648 n }
 
 -- the match of a pattern that ends at an offset

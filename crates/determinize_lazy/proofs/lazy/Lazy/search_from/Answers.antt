@@ -4,7 +4,7 @@ use Rattle.std.specs.Option.{option_or}
 use Rattle.std.proofs.lemmas.Option.{slice_get-get_or}
 use Rattle.determinize_core.specs.Value.{dead, is_nonempty}
 use Rattle.determinize_core.specs.Walk.{ended_at}
-use Rattle.determinize_lazy.specs.Private.Signs.{match_at, match_of, signs_in, signs_of, Told}
+use Rattle.determinize_lazy.specs.Private.Signs.{match_at, match_of, signs_in, signs_of, StateSigns}
 use Rattle.determinize_lazy.specs.Kept.{held_values}
 use Rattle.determinize_lazy.specs.Private.Standing.{current}
 use Rattle.determinize_lazy.specs.Searches.{in_order}
@@ -25,7 +25,7 @@ one_byte : (g : Over) (c : In_ok-place g)
     (option_or (ended_at (c.loop-read.read + 1 - 1) (current c.step.new.self c.step.new.own c.in_ok-place.place).patterns) (match_of c.loop-read.last)) c.step.new.self
 one_byte g c =
     let few : c.args.self.now.computed ≤ 18446744073709551615 = search rules in
-    let more : not (is_nonempty (current c.loop-read.self c.loop-read.own c.loop-read.place).states) ≡ false = ap (λ (s : Told). s.is_last) (sym c.signs.ensures.signs) ∙ sym c.is_last.ensures ∙ c.if-is_last.false in
+    let more : not (is_nonempty (current c.loop-read.self c.loop-read.own c.loop-read.place).states) ≡ false = ap (λ (s : StateSigns). s.is_last) (sym c.signs.ensures.signs) ∙ sym c.is_last.ensures ∙ c.if-is_last.false in
     let back : c.loop-read.read + 1 - 1 ≡ c.loop-read.read = omega arith in
     searched_byte c.args.self.now c.args.first (in_order c.args.is_backward c.args.text.now) (length c.args.text.now) c.loop-read.read (length-in_order c.args.is_backward c.args.text.now) _ _ _ _ _ _ _ _ few c.loop-read.invariant c.signs.ensures.valid more
     c.byte_after-byte.result 0 c.byte_after-byte.ensures c.loop-read-test.true c.in_ok-place.ensures.value c.in_ok-place.ensures.standing c.in_ok-place.ensures.after
@@ -52,9 +52,9 @@ loop-read-2-preserved g c =
     let back : c.loop-read-2.read + 1 - 1 ≡ c.loop-read-2.read = omega arith in
     let here : slice_get (held_values c.step.new.self) c.loop-read-2.at ≡ Some (current c.step.new.self dead (Some c.loop-read-2.at)) = slice_get-get_or (held_values c.step.new.self) c.loop-read-2.at dead c.loop-read-2.invariant.0.standing in
     let signs : signs_in c.in-Some-hit.hit.signs.number ≡ signs_of (current c.step.new.self dead (Some c.loop-read-2.at)) = c.in-Some-hit.ensures.signs _ here in
-    let more : not (is_nonempty (current c.step.new.self dead (Some c.loop-read-2.at)).states) ≡ false = ap (λ (s : Told). s.is_last) (sym signs) ∙ c.in-Some-hit.ensures.more in
-    let told : match_of c.by-last.result ≡ option_or (ended_at (c.loop-read-2.read - 1) (current c.step.new.self dead (Some c.loop-read-2.at)).patterns) (match_of c.loop-read-2.last) =
-    c.by-last.ensures ∙ ap (λ (s : Told). option_or (match_at (c.loop-read-2.read - 1) s.first) (match_of c.loop-read-2.last)) signs
+    let more : not (is_nonempty (current c.step.new.self dead (Some c.loop-read-2.at)).states) ≡ false = ap (λ (s : StateSigns). s.is_last) (sym signs) ∙ c.in-Some-hit.ensures.more in
+    let told : match_of c.updated-last.result ≡ option_or (ended_at (c.loop-read-2.read - 1) (current c.step.new.self dead (Some c.loop-read-2.at)).patterns) (match_of c.loop-read-2.last) =
+    c.updated-last.ensures ∙ ap (λ (s : StateSigns). option_or (match_at (c.loop-read-2.read - 1) s.first) (match_of c.loop-read-2.last)) signs
     ∙ ap (λ o. option_or o (match_of c.loop-read-2.last)) (match_at-first (c.loop-read-2.read - 1) (current c.step.new.self dead (Some c.loop-read-2.at)).patterns) in (
       searched_byte c.args.self.now c.args.first (in_order c.args.is_backward c.args.text.now) (length c.args.text.now) c.loop-read-2.read (length-in_order c.args.is_backward c.args.text.now) dead dead (Some c.loop-read-2.at) (Some c.in-Some-hit.hit.place) _ _ _ _ few
           (searched-told c.args.self.now c.args.first _ _ _ _ _ _ told c.loop-read-2.invariant.0) (c.hit.ensures.valid _ _ here) more
@@ -62,24 +62,24 @@ loop-read-2-preserved g c =
           (hit_value c.step.new.self dead c.loop-read-2.at c.in-Some-hit.hit.place _ c.loop-read-2.invariant.0.standing c.in-Some-hit.ensures.known)
           (hit_standing c.step.new.self dead c.loop-read-2.at c.in-Some-hit.hit.place _ c.loop-read-2.invariant.0.standing c.in-Some-hit.ensures.known)
           (hit_after c.step.new.self dead c.loop-read-2.at c.in-Some-hit.hit.place _ c.loop-read-2.invariant.0.standing c.in-Some-hit.ensures.known)
-          (ap (λ i. option_or (ended_at i (current c.step.new.self dead (Some c.in-Some-hit.hit.place)).patterns) (match_of c.by-last.result)) back),
+          (ap (λ i. option_or (ended_at i (current c.step.new.self dead (Some c.in-Some-hit.hit.place)).patterns) (match_of c.updated-last.result)) back),
       omega (arith, so_far),
     )
 
 pub returns-then-is_last-clause-over : goal.returns-then-is_last-clause-over
 returns-then-is_last-clause-over g c =
     over-told c.args.self.now c.args.first _ _ _ _ c.found.ensures
-    (stopped c.args.self.now c.args.first (in_order c.args.is_backward c.args.text.now) c.args.look_ahead _ _ _ _ c.loop-read.read c.loop-read.invariant (ap (λ (s : Told). s.is_last) (sym c.signs.ensures.signs) ∙ sym c.is_last.ensures ∙ c.if-is_last.true))
+    (stopped c.args.self.now c.args.first (in_order c.args.is_backward c.args.text.now) c.args.look_ahead _ _ _ _ c.loop-read.read c.loop-read.invariant (ap (λ (s : StateSigns). s.is_last) (sym c.signs.ensures.signs) ∙ sym c.is_last.ensures ∙ c.if-is_last.true))
 
 pub returns-then-is_last-2-clause-over : goal.returns-then-is_last-2-clause-over
 returns-then-is_last-2-clause-over g c =
     over-told c.args.self.now c.args.first _ _ _ _ c.found-then-is_last-2.ensures
-    (stopped c.args.self.now c.args.first (in_order c.args.is_backward c.args.text.now) c.args.look_ahead _ _ _ _ c.loop-read.read c.loop-read.invariant (ap (λ (s : Told). s.is_last) (sym c.signs-2.ensures.signs) ∙ sym c.is_last-2.ensures ∙ c.if-is_last-2.true))
+    (stopped c.args.self.now c.args.first (in_order c.args.is_backward c.args.text.now) c.args.look_ahead _ _ _ _ c.loop-read.read c.loop-read.invariant (ap (λ (s : StateSigns). s.is_last) (sym c.signs-2.ensures.signs) ∙ sym c.is_last-2.ensures ∙ c.if-is_last-2.true))
 
 pub returns-clause-over : goal.returns-clause-over
 returns-clause-over g c =
     let few : c.args.self.now.computed ≤ 18446744073709551615 = search rules in
-    let more : not (is_nonempty (current c.loop-read.self c.loop-read.own c.loop-read.place).states) ≡ false = ap (λ (s : Told). s.is_last) (sym c.signs-2.ensures.signs) ∙ sym c.is_last-2.ensures ∙ c.if-is_last-2.false in
+    let more : not (is_nonempty (current c.loop-read.self c.loop-read.own c.loop-read.place).states) ≡ false = ap (λ (s : StateSigns). s.is_last) (sym c.signs-2.ensures.signs) ∙ sym c.is_last-2.ensures ∙ c.if-is_last-2.false in
     over-told c.args.self.now c.args.first _ _ _ _ c.found-2.ensures
     (searched_end c.args.self.now c.args.first (in_order c.args.is_backward c.args.text.now) (length c.args.text.now) c.loop-read.read (length-in_order c.args.is_backward c.args.text.now) _ _ _ _ _ _ _ _ few c.loop-read.invariant c.signs-2.ensures.valid more
     c.args.look_ahead c.loop-read-test.false c.in_ok-place-2.ensures.value c.in_ok-place-2.ensures.standing c.in_ok-place-2.ensures.after c.last_by.ensures)
