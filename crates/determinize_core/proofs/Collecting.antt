@@ -1,5 +1,5 @@
 -- Collecting the distinct ids of a list in a set.
-use Rattle.std.proofs.Common.{◌≡◌, ◌<◌, ℕ, All, Bool, true, false, not, List, [], ◌∷◌, ◌++◌, nat_eq, refl, sym, ap, ◌∙◌, arith, append_assoc, subst, ◌||◌, ◌&&◌, if◌then◌else◌}
+use Rattle.std.proofs.Common.{◌≡◌, ℕ, All, Bool, true, false, not, List, [], ◌∷◌, ◌++◌, nat_eq, refl, sym, ap, ◌∙◌, arith, append_assoc, ◌||◌, ◌&&◌, if◌then◌else◌}
 use Rattle.determinize_below.specs.Members.{has_id}
 use Rattle.std.specs.List.{list_any, IsDistinct, AllByRecursion}
 use Rattle.std.proofs.lemmas.Bool.Decides.{nat_tests}
@@ -40,9 +40,6 @@ fresh-push xs x new h =
 pub pushed : (ids xs : List ℕ) (x : ℕ) (new : Bool) → ids ≡ fresh nat_eq none_held xs → new ≡ not (has_id ids x) → (if new then ids ++ x ∷ [] else ids) ≡ fresh nat_eq none_held (xs ++ x ∷ [])
 pushed ids xs x new e h =
     ap (λ l. if new then l ++ x ∷ [] else l) e ∙ fresh-push xs x new (h ∙ ap (λ l. not (has_id l x)) e)
-
-pub rest_below : (bound : ℕ) (xs ys : List ℕ) (x : ℕ) → xs ≡ x ∷ ys → All (λ id. id < bound) xs → All (λ id. id < bound) ys
-rest_below bound xs ys x e h = All-tail (λ id. id < bound) x ys (subst (λ l. All (λ id. id < bound) l) e h)
 
 pub rest_behind : (working done xs ys : List ℕ) (x : ℕ) → xs ≡ x ∷ ys → done ++ xs ≡ working → (done ++ x ∷ []) ++ ys ≡ working
 rest_behind working done xs ys x e h = append_assoc done (x ∷ []) ys ∙ ap (λ l. done ++ l) (sym e) ∙ h

@@ -20,7 +20,7 @@ use Rattle.determinize_below.proofs.SoundNfa.{IsSound}
 use Rattle.determinize_below.proofs.Tests.{by_option, by_test, or_false_left, or_false_right}
 use Rattle.determinize_core.specs.Private.Reading.{matters, gained, roots_of}
 use Rattle.determinize_core.specs.Step.{part_read, patterns_read}
-use Rattle.determinize_core.specs.Value.{Value, is_nonempty}
+use Rattle.determinize_states.specs.Value.{Value, is_nonempty}
 use Rattle.determinize_core.specs.Private.Changes.{with_patterns}
 use Rattle.determinize_core.proofs.Collecting.{fresh-push}
 use Rattle.determinize_core.proofs.Loops.{goes_on, pattern_new, patterns-push, stops_at, targets-push}

@@ -7,7 +7,7 @@ use Rattle.std.proofs.lemmas.Bool.{false≢true, true≢false}
 use Rattle.std.proofs.lemmas.List.{length-take-le, take_all}
 use Rattle.determinize_below.specs.declared.search.HalfMatch.{HalfMatch}
 use Rattle.determinize_below.proofs.Lists.{option_or-assoc, option_or-None}
-use Rattle.determinize_core.specs.Value.{Value, is_nonempty}
+use Rattle.determinize_states.specs.Value.{Value, is_nonempty}
 use Rattle.determinize_core.specs.Walk.{ended_at, last_ended, last_match}
 
 -- one more value

@@ -14,7 +14,7 @@ use Rattle.determinize_below.proofs.SoundNfa.{IsSound}
 use Rattle.determinize_below.proofs.Tests.{by_option, by_test, or_false_left, or_false_right}
 use Rattle.determinize_core.specs.Chain.{future}
 use Rattle.determinize_core.specs.Step.{step, part_read, patterns_read}
-use Rattle.determinize_core.specs.Value.{Value}
+use Rattle.determinize_states.specs.Value.{Value}
 
 -- the last of the values that follow a value over units
 abbrev pub value_after : Nfa → MatchKind → Value → List (Option ℕ) → Value

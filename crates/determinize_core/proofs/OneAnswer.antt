@@ -1,5 +1,5 @@
 -- The answers that the walk gives are determined.
-use Rattle.std.proofs.Common.{◌≡◌, ℕ, Bool, List, [], sym, ap, ◌∙◌, Option, subst}
+use Rattle.std.proofs.Common.{◌≡◌, ℕ, Bool, List, [], sym, ap, ◌∙◌, subst}
 use Rattle.determinize_below.specs.Edges.{is_capture, pattern_of}
 use Rattle.determinize_below.specs.Nfa.{Nfa}
 use Rattle.determinize_below.specs.Paths.{Before, IsPath}

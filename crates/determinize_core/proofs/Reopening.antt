@@ -10,7 +10,7 @@ use Rattle.determinize_below.specs.Reach.{joined}
 use Rattle.determinize_below.proofs.LookLaws.{has-union}
 use Rattle.determinize_core.specs.Step.{distinct_states, is_reopened, opened_by, working_list}
 use Rattle.determinize_core.specs.Tries.{tries_again, tries_of}
-use Rattle.determinize_core.specs.Value.{Value}
+use Rattle.determinize_states.specs.Value.{Value}
 
 -- the set under which the list is closed again, where it is
 pub IfSome-again : (nfa : Nfa) (v : Value) (u : Option ℕ) (found : ℕ) (redone : Bool) → ((look : Assertion) → has found look ≡ opened_by nfa v u look)

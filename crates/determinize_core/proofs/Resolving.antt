@@ -13,7 +13,7 @@ use Rattle.determinize_below.proofs.SoundNfa.{accepted_sound, reach_within, targ
 use Rattle.determinize_below.proofs.Tests.{or_false}
 use Rattle.determinize_core.specs.Step.{part_read, start_value, step, targets, working_list}
 use Rattle.determinize_core.specs.LookTables.{tables_of, have_after, have_at_start}
-use Rattle.determinize_core.specs.Value.{Value}
+use Rattle.determinize_states.specs.Value.{Value}
 
 module _ (nfa : Nfa) (accepted : IsAccepted nfa) where
   -- the value before the first unit, of a search that starts in a state of the NFA

@@ -1,8 +1,8 @@
 -- The units of a text as a list, and one byte more.
-use Rattle.std.proofs.Common.{◌≡◌, ℕ, zero, suc, ◌+◌, List, [], ◌∷◌, ◌++◌, length, map, refl, sym, ap, ◌∙◌, arith, Option, Some, None}
+use Rattle.std.proofs.Common.{◌≡◌, ℕ, zero, suc, ◌+◌, List, [], ◌∷◌, ◌++◌, length, map, refl, sym, ap, ◌∙◌, arith, Option, Some}
 use Rattle.std.specs.List.{range_with_len}
 use Rattle.std.proofs.lemmas.List.{map-append}
-use Rattle.determinize_below.specs.Positions.{Text, after_at, between}
+use Rattle.determinize_below.specs.Positions.{after_at, between}
 use Rattle.determinize_core.specs.Chain.{chain, future, units}
 use Rattle.determinize_core.specs.Laws.{EachByteAheadIsNext}
 use Rattle.determinize_core.specs.Step.{start_value, step}

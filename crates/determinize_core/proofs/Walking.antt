@@ -1,5 +1,5 @@
 -- What the start and the loop of a walk keep.
-use Rattle.std.proofs.Common.{◌≡◌, ℕ, suc, ◌+◌, ◌<◌, ◌≤◌, Bool, List, [], ◌∷◌, ◌++◌, All as Each, Option, Some, None, get_or, length, map, take, arith, refl, sym, ap, ◌∙◌, subst}
+use Rattle.std.proofs.Common.{◌≡◌, ℕ, suc, ◌+◌, ◌<◌, ◌≤◌, Bool, List, [], ◌∷◌, ◌++◌, All as Each, Option, Some, get_or, length, map, take, arith, refl, sym, ap, ◌∙◌, subst}
 use Rattle.std.proofs.Math.Seq.{take-suc}
 use Rattle.std.specs.Int.Bits.{or_zero_l}
 use Rattle.std.proofs.lemmas.List.{map-append, take_all}
@@ -12,9 +12,10 @@ use Rattle.determinize_below.specs.declared.look.Look.{Look as Assertion}
 use Rattle.determinize_below.specs.declared.search.MatchKind.{MatchKind}
 use Rattle.determinize_core.specs.Chain.{chain, future, units}
 use Rattle.determinize_core.specs.StartKinds as kinds
-use Rattle.determinize_core.specs.Step.{begun, recorded, start_value, step}
+use Rattle.determinize_core.specs.Step.{begun, start_value, step}
+use Rattle.determinize_states.specs.Recording.{recorded}
 use Rattle.determinize_core.specs.LookTables.{tables_of, start_have, with_start, from_word_at_start, half_crlf_at_start, have_at_start}
-use Rattle.determinize_core.specs.Value.{Value, dead}
+use Rattle.determinize_states.specs.Value.{Value, dead}
 use Rattle.determinize_core.specs.declared.start.Start.{Start as Kind}
 use Rattle.determinize_core.proofs.Loops.{future-push, value_after, value_after-push}
 use Rattle.determinize_core.proofs.Resolving.{start_resolves, step_resolves}

@@ -8,7 +8,7 @@ use Rattle.std.proofs.lemmas.Option.{slice_get_within, slice_get_past}
 use Rattle.determinize_below.specs.Edges.{is_capture, is_match, pattern_of, patterns_of, target}
 use Rattle.determinize_below.specs.Nfa.{Nfa, IsAccepted}
 use Rattle.determinize_below.specs.Positions.{Text, before_at, after_at, truth, true_edges, byte_edges, choices, IsRun, Accepts, IsPreferredRun}
-use Rattle.determinize_below.specs.Reached.{known, known_edges, IsReached, IsKnownReached, IsBeginning}
+use Rattle.determinize_below.specs.Reached.{known, known_edges, IsReached, IsBeginning}
 use Rattle.determinize_below.specs.Reach.{none_held}
 use Rattle.determinize_below.specs.Runs.{placed, without}
 use Rattle.determinize_below.specs.declared.search.HalfMatch.{HalfMatch}
@@ -26,7 +26,7 @@ use Rattle.determinize_below.proofs.Tests.{by_option, some_injective}
 use Rattle.determinize_below.proofs.Walks.{IsAutomaton, IsTrueWalk, true_walk}
 use Rattle.determinize_core.specs.Chain.{chain}
 use Rattle.determinize_core.specs.Laws.{EachChainIsTrue, EachChainReaches}
-use Rattle.determinize_core.specs.Value.{Value}
+use Rattle.determinize_states.specs.Value.{Value}
 use Rattle.determinize_core.specs.Walk.{ListsAccepted, ended_at, last_ended, last_match, IsWalkOfAll, IsLeftmostWalk}
 use Rattle.determinize_core.specs.WalkStates.{IsPartKept, RecordsReached}
 use Rattle.determinize_core.proofs.AcceptedPatterns.{patterns_In, match_of, lists_accepted}

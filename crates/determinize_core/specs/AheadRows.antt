@@ -1,5 +1,5 @@
 -- The walks of the program `rows` that show what a byte ahead of the text changes.
-use Rattle.std.specs.Prelude.{Option, Some, None, [], ◌∷◌, ◌++◌}
+use Rattle.std.specs.Prelude.{Some, None, [], ◌∷◌, ◌++◌}
 use Rattle.determinize_below.specs.Positions.{between}
 use Rattle.determinize_below.specs.declared.search.MatchKind.TheVariants.{All, LeftmostFirst}
 use Rattle.determinize_core.specs.WorkedRows.{IsRowOf, eight_zeros, n4, n5, nine_zeros}

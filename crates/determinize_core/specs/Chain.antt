@@ -5,7 +5,7 @@ use Rattle.determinize_below.specs.declared.search.MatchKind.{MatchKind}
 use Rattle.determinize_below.specs.Nfa.{Nfa}
 use Rattle.determinize_below.specs.Positions.{Text, after_at}
 use Rattle.determinize_core.specs.Step.{start_value, step}
-use Rattle.determinize_core.specs.Value.{Value}
+use Rattle.determinize_states.specs.Value.{Value}
 
 -- the value and those that follow it over the units
 abbrev pub future : Nfa → MatchKind → Value → List (Option ℕ) → List Value

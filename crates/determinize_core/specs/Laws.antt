@@ -10,9 +10,10 @@ use Rattle.determinize_below.specs.declared.look.Look.{Look as Assertion}
 use Rattle.determinize_below.specs.declared.search.MatchKind.{MatchKind}
 use Rattle.determinize_below.specs.declared.search.MatchKind.TheVariants.{All, LeftmostFirst}
 use Rattle.determinize_core.specs.Chain.{FollowsItself, chain}
-use Rattle.determinize_core.specs.Step.{step, with_states}
+use Rattle.determinize_core.specs.Step.{step}
+use Rattle.determinize_states.specs.Recording.{with_states}
 use Rattle.determinize_core.specs.Tries.{tries, edges_in_all}
-use Rattle.determinize_core.specs.Value.{Value, dead}
+use Rattle.determinize_states.specs.Value.{Value, dead}
 use Rattle.determinize_core.specs.Walk.{ListsAccepted, IsWalkOfAll, IsLeftmostWalk}
 use Rattle.determinize_core.specs.WalkStates.{RecordsReached}
 

@@ -1,5 +1,9 @@
+pub use Rattle.determinize_states.specs.Building
+pub use Rattle.determinize_states.specs.Recording
+pub use Rattle.determinize_states.specs.Spelling
+pub use Rattle.determinize_states.specs.Value
+pub use Rattle.determinize_states.specs.Varint
 pub mod AheadRows
-pub mod Building
 pub mod Chain
 pub mod Closure
 pub mod HostileRows
@@ -7,13 +11,10 @@ pub mod Laws
 pub mod LookTables
 pub mod Private
 pub mod Scratch
-pub mod Spelling
 pub mod StartKinds
 pub mod StartRows
 pub mod Step
 pub mod Tries
-pub mod Value
-pub mod Varint
 pub mod Walk
 pub mod WalkStates
 pub mod WorkedRows

@@ -8,7 +8,7 @@ use Rattle.determinize_below.specs.Unit.{is_nothing, is_byte, is_word, is_word_b
 use Rattle.determinize_below.specs.declared.look.Look.{Look}
 use Rattle.determinize_below.specs.declared.look.Look.TheVariants.{Start, End, StartLF, EndLF, StartCRLF, EndCRLF, WordAscii, WordAsciiNegate, WordUnicode, WordUnicodeNegate, WordStartAscii, WordEndAscii, WordStartUnicode, WordEndUnicode, WordStartHalfAscii, WordEndHalfAscii, WordStartHalfUnicode, WordEndHalfUnicode}
 use Rattle.determinize_core.specs.StartKinds.{start_kind_of}
-use Rattle.determinize_core.specs.Value.{Value, with_flags, with_looks}
+use Rattle.determinize_states.specs.Value.{Value, with_flags, with_looks}
 use Rattle.determinize_core.specs.declared.start.Start.{Start as Kind}
 use Rattle.determinize_core.specs.declared.start.Start.TheVariants.{NonWordByte, WordByte, Text, LineLF, LineCR, CustomLineTerminator}
 

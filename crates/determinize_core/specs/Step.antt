@@ -1,42 +1,18 @@
 -- One step from a value to the next, over a unit.
-use Rattle.std.specs.Prelude.{ℕ, Bool, not, cond, ◌==◌, Option, Some, None, List, [], ◌∷◌, ◌++◌, nat_eq, take}
+use Rattle.std.specs.Prelude.{ℕ, Bool, not, cond, Option, List, [], ◌∷◌, nat_eq, take}
 use mathlib.Core.Bool.{◌&&◌}
 use Rattle.std.specs.List.{flat_map, list_any}
 use Rattle.determinize_below.specs.declared.look.Look.{Look as Assertion}
 use Rattle.determinize_below.specs.declared.search.MatchKind.{MatchKind}
 use Rattle.determinize_below.specs.declared.search.MatchKind.TheVariants.{All, LeftmostFirst}
-use Rattle.determinize_below.specs.Look.{has, insert, each_look}
+use Rattle.determinize_below.specs.Look.{has, each_look}
 use Rattle.determinize_below.specs.Nfa.{Nfa}
-use Rattle.determinize_below.specs.Edges.{target, is_capture, is_match, assertion_of, patterns_of, reach}
+use Rattle.determinize_below.specs.Edges.{target, is_match, patterns_of, reach}
 use Rattle.determinize_below.specs.Reach.{fresh, joined, none_held}
-use Rattle.determinize_below.specs.Runs.{before, without}
+use Rattle.determinize_below.specs.Runs.{before}
 use Rattle.determinize_core.specs.LookTables.{tables_of, opened, have_after, from_word_after, half_crlf_after, have_at_start, from_word_at_start, half_crlf_at_start}
-use Rattle.determinize_core.specs.Value.{Value, is_nonempty}
-
--- the set with an assertion, where there is one
-abbrev pub with_assertion : ℕ → Option Assertion → ℕ
-with_assertion set None = set
-with_assertion set (Some look) = insert set look
-
--- the set with the assertions of the `Look` states of a list
-abbrev pub needs : Nfa → ℕ → List ℕ → ℕ
-needs nfa set [] = set
-needs nfa set (s ∷ xs) = needs nfa (with_assertion set (assertion_of nfa s)) xs
-
--- the value with these states after its own, and the assertions that they need; where nothing is needed, nothing is had
-abbrev pub with_states : Nfa → Value → List ℕ → Value
-with_states nfa v xs = record {
-  from_word = v.from_word;
-  half_crlf = v.half_crlf;
-  look_have = cond (needs nfa v.look_need xs == 0) 0 v.look_have;
-  look_need = needs nfa v.look_need xs;
-  patterns = v.patterns;
-  states = v.states ++ xs;
-}
-
--- the value that records the states of a list, captures left out
-abbrev pub recorded : Nfa → Value → List ℕ → Value
-recorded nfa v entered = with_states nfa v (without (is_capture nfa) entered)
+use Rattle.determinize_states.specs.Recording.{recorded}
+use Rattle.determinize_states.specs.Value.{Value, is_nonempty}
 
 -- a value that records no state yet
 abbrev pub begun : Bool → Bool → ℕ → List ℕ → Value

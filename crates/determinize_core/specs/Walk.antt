@@ -5,7 +5,7 @@ use Rattle.determinize_below.specs.Nfa.{Nfa}
 use Rattle.determinize_below.specs.Paths.{Before}
 use Rattle.determinize_below.specs.Positions.{Text, Accepts, IsBestRun, IsPreferredRun}
 use Rattle.determinize_below.specs.declared.search.HalfMatch.{HalfMatch}
-use Rattle.determinize_core.specs.Value.{Value}
+use Rattle.determinize_states.specs.Value.{Value}
 
 -- the list has each pattern that some run accepts at the position, once, and no other, best run first
 pub record ListsAccepted (nfa : Nfa) (text : Text) (start i : ℕ) (patterns : List ℕ) : Type 0 where

@@ -5,7 +5,7 @@ use Rattle.determinize_below.specs.Positions.{Text}
 use Rattle.determinize_below.specs.Reached.{IsBeginning, IsKnownReached}
 use Rattle.determinize_below.specs.declared.search.MatchKind.{MatchKind}
 use Rattle.determinize_below.specs.declared.search.MatchKind.TheVariants.{All, LeftmostFirst}
-use Rattle.determinize_core.specs.Value.{Value}
+use Rattle.determinize_states.specs.Value.{Value}
 
 -- the part of a list that is recorded: all of it, or, where the most preferred match is wanted, a beginning
 abbrev pub IsPartKept : MatchKind → List ℕ → List ℕ → Type 0

@@ -10,8 +10,8 @@ use Rattle.determinize_below.specs.declared.nfa.transitions.Transition.{Transiti
 use Rattle.determinize_below.specs.declared.search.MatchKind.{MatchKind}
 use Rattle.determinize_below.specs.declared.search.MatchKind.TheVariants.{All, LeftmostFirst}
 use Rattle.determinize_core.specs.Chain.{chain}
-use Rattle.determinize_core.specs.Spelling.{spell}
-use Rattle.determinize_core.specs.Value.{Value}
+use Rattle.determinize_states.specs.Spelling.{spell}
+use Rattle.determinize_states.specs.Value.{Value}
 use Rattle.determinize_core.specs.Walk.{last_match}
 
 -- the transition over the bytes from the first to the second

@@ -2,7 +2,6 @@
 
 pub mod closure;
 pub mod look_tables;
-pub mod recording;
 pub mod steps;
 pub mod transition;
 pub mod walks;
@@ -10,7 +9,7 @@ mod working_list;
 
 pub use crate::determinize::closure::epsilon_closure;
 pub use crate::determinize::look_tables::set_lookbehind_from_start;
-pub use crate::determinize::recording::add_nfa_states;
 pub use crate::determinize::steps::Steps;
 pub use crate::determinize::transition::{next, next_counted};
 pub use crate::determinize::walks::{last_match, start_state, walk, walk_between};
+pub use determinize_states::recording::add_nfa_states;

@@ -8,5 +8,5 @@ pub mod determinize;
 pub mod laws;
 pub mod look_laws;
 pub mod start;
-pub mod state;
-pub mod state_laws;
+
+pub use determinize_states::{state, state_laws};

@@ -11,7 +11,8 @@ ghost use Rattle.determinize_below.specs.Truth as truth;
 ghost use Rattle.determinize_core.specs.LookTables.{IsFlagged, from_word_after, from_word_at_start, half_crlf_after, half_crlf_at_start, have_after, have_at_start, opened, tables};
 ghost use Rattle.determinize_core.specs.StartKinds as kinds;
 ghost use Rattle.determinize_core.specs.StartRows as rows;
-ghost use Rattle.determinize_core.specs.Step.{is_redone, needs};
+ghost use Rattle.determinize_core.specs.Step.{is_redone};
+ghost use Rattle.determinize_states.specs.Recording.{needs};
 
 use crate::start::{Config, Start, StartByteMap};
 use determinize_below::{Look, LookSet};

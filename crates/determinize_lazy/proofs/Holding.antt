@@ -10,7 +10,7 @@ use Rattle.determinize_lazy.specs.Places.{place_in}
 use Rattle.determinize_lazy.specs.Private.Places.{IsPlace, IsPlaces}
 use Rattle.determinize_core.specs.Spelling.{spell}
 use Rattle.determinize_core.specs.Value.{IsValue, Value}
-use Rattle.determinize_core.proofs.SpellingLaws.{spell_tells}
+use Rattle.determinize_states.proofs.SpellingLaws.{spell_tells}
 use Rattle.determinize_lazy.proofs.Placing.{apart-push, found, get_push, none_passes, not_none, position_from-push}
 
 pub same_laws : IsEquivalence same

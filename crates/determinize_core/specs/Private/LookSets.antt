@@ -1,5 +1,5 @@
 -- The sets of assertions that a unit makes true, built up one by one.
-use Rattle.std.specs.Prelude.{ℕ, Bool, true, not, Option}
+use Rattle.std.specs.Prelude.{ℕ, Bool, not, Option}
 use mathlib.Core.Bool.{◌&&◌, ◌||◌}
 use Rattle.determinize_below.specs.Truth.{crlf_first, crlf_second, exactly_one}
 use Rattle.determinize_below.specs.Unit.{is_nothing, is_byte}

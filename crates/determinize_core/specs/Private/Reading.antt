@@ -1,6 +1,6 @@
 -- The first reading of a working list: which of its states matter, and for what.
 use Rattle.std.specs.Prelude.{ℕ, Bool, true, false, not, Option, List, [], ◌∷◌, if◌then◌else◌}
-use Rattle.determinize_core.specs.Value.{is_nonempty}
+use Rattle.determinize_states.specs.Value.{is_nonempty}
 use Rattle.determinize_below.specs.Members.{has_id}
 use mathlib.Core.Bool.{◌&&◌, ◌||◌}
 use Rattle.std.specs.List.{flat_map}

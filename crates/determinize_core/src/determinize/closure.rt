@@ -10,13 +10,13 @@ ghost use Rattle.determinize_below.specs.Node.{is_epsilon};
 ghost use Rattle.determinize_below.specs.Runs.{without};
 ghost use Rattle.determinize_core.specs.Closure.{closure_of, AddsBeginning};
 ghost use Rattle.determinize_core.specs.Private.Search.{closure_tries, IsTurn};
-ghost use Rattle.determinize_core.specs.Private.Recording.{added, added_one};
+ghost use Rattle.determinize_states.specs.Recording.{added, added_one};
 
-use crate::determinize::recording::add_state;
 use crate::determinize::steps::Steps;
-use crate::state::StateBuilderNFA;
 use determinize_below::nfa::State;
 use determinize_below::{LookSet, NFA, SparseSet, StateID};
+use determinize_states::recording::add_state;
+use determinize_states::state::StateBuilderNFA;
 use std::alloc::{AllocError, Allocator};
 use std::marker::Brand;
 use std::sync::ledger::{Blank, Ledger};

@@ -12,12 +12,12 @@ ghost use Rattle.determinize_core.specs.LookTables as tables;
 ghost use Rattle.determinize_core.specs.Private.LookSets as sets;
 ghost use Rattle.determinize_core.specs.LookTables.{known_set, tables_of, with_start};
 ghost use Rattle.determinize_core.specs.StartKinds.{start_kind_of};
-ghost use Rattle.determinize_core.specs.Value.{with_flags};
+ghost use Rattle.determinize_states.specs.Value.{with_flags};
 
 use crate::start::Start;
-use crate::state::StateBuilderMatches;
 use determinize_below::alphabet::is_word_byte;
 use determinize_below::{Look, LookSet, NFA, Unit};
+use determinize_states::state::StateBuilderMatches;
 use std::alloc::Allocator;
 use std::marker::Model;
 

@@ -14,11 +14,11 @@ ghost use Rattle.determinize_core.specs.WalkStates.{RecordsReached};
 
 use crate::determinize::closure::epsilon_closure;
 use crate::determinize::look_tables::set_lookbehind_from_start;
-use crate::determinize::recording::add_nfa_states;
 use crate::determinize::transition::next;
 use crate::start::start_kind_of;
-use crate::state::{State, StateBuilderEmpty, StateBuilderNFA};
 use determinize_below::{HalfMatch, MatchKind, NFA, SparseSets, StateID, Unit};
+use determinize_states::recording::add_nfa_states;
+use determinize_states::state::{State, StateBuilderEmpty, StateBuilderNFA};
 use std::alloc::{AllocError, Allocator};
 
 /// The state before the first unit, in a builder: where a search stands that starts in an NFA state

@@ -19,16 +19,16 @@ ghost use Rattle.determinize_core.specs.Scratch.{IsScratch};
 ghost use Rattle.determinize_core.specs.Step as specs_of_steps;
 ghost use Rattle.determinize_core.specs.Step.{distinct_states, is_reopened, opened_by, patterns_read, working_list};
 ghost use Rattle.determinize_core.specs.Tries.{tries_again, tries_of};
-ghost use Rattle.determinize_core.specs.Value.{is_nonempty};
+ghost use Rattle.determinize_states.specs.Value.{is_nonempty};
 ghost use Rattle.determinize_core.specs.Private.Changes.{with_patterns};
 
 use crate::determinize::closure::counted_closure;
 use crate::determinize::look_tables::LookTables;
 use crate::determinize::steps::Steps;
-use crate::state::{State, StateBuilderMatches};
 use determinize_below::{
     LookSet, MatchKind, NFA, PatternID, SparseSet, SparseSets, StateID, Unit, nfa,
 };
+use determinize_states::state::{State, StateBuilderMatches};
 use std::alloc::{AllocError, Allocator};
 use std::sync::ledger::Ledger;
 

@@ -1,4 +1,4 @@
-use Rattle.determinize_core.proofs.NeedLemmas.{Decides-needs}
+use Rattle.determinize_states.proofs.NeedLemmas.{Decides-needs}
 use Rattle.determinize_core.proofs.look_laws.need_law.Goals as goal
 
 pub returns : goal.returns

@@ -7,10 +7,10 @@ use Rattle.determinize_below.specs.Runs.{without}
 use Rattle.determinize_below.proofs.SoundNfa.{accepted_sound}
 use Rattle.determinize_core.specs.Closure.{closure_of}
 use Rattle.determinize_core.specs.Private.Search.{IsTurn}
-use Rattle.determinize_core.specs.Private.Recording.{added}
-use Rattle.determinize_core.specs.Value.{Value}
+use Rattle.determinize_states.specs.Recording.{added}
+use Rattle.determinize_states.specs.Value.{Value}
 use Rattle.determinize_core.proofs.ClosureSteps.{IsSoFar, so_far-start, so_far-turn, so_far-end, so_far-counted, members_same}
-use Rattle.determinize_core.proofs.RecordingSteps.{added-none, added-after}
+use Rattle.determinize_states.proofs.RecordingSteps.{added-none, added-after}
 use Rattle.determinize_core.proofs.determinize.closure.search_recording.Goals as goal
 
 pub loop-id-init : goal.loop-id-init

@@ -4,7 +4,7 @@ use Rattle.determinize_below.specs.Edges.{is_capture}
 use Rattle.determinize_below.specs.Look.{has}
 use Rattle.determinize_below.specs.Runs.{without}
 use Rattle.determinize_core.specs.Private.Search.{tries_left}
-use Rattle.determinize_core.specs.Private.Recording.{added}
+use Rattle.determinize_states.specs.Recording.{added}
 use Rattle.determinize_core.proofs.ClosureSteps.{IsSoFar}
 use Rattle.determinize_core.proofs.determinize.closure.search_recording.Given as goal
 

@@ -8,9 +8,9 @@ use Rattle.determinize_below.specs.Members.{Members}
 use Rattle.determinize_below.specs.Runs.{without}
 use Rattle.determinize_below.proofs.SoundNfa.{accepted_sound}
 use Rattle.determinize_core.specs.Private.Search.{IsTurn}
-use Rattle.determinize_core.specs.Private.Recording.{added, added_one}
+use Rattle.determinize_states.specs.Recording.{added, added_one}
 use Rattle.determinize_core.proofs.ClosureSteps.{turn_held, turn_new, inserted, not_inserted}
-use Rattle.determinize_core.proofs.RecordingSteps.{added-none, added_one-alone, with_fact}
+use Rattle.determinize_states.proofs.RecordingSteps.{added-none, added_one-alone, with_fact}
 use Rattle.determinize_core.proofs.determinize.closure.take_recording_turn.Goals as goal
 
 pub returns-then-visit-clause-turn : goal.returns-then-visit-clause-turn

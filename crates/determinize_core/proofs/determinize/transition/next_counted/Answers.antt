@@ -1,8 +1,8 @@
 use Rattle.std.proofs.Common.{◌∙◌, ap, subst, sym}
 use Rattle.determinize_below.specs.Nfa.{AllResolve}
 use Rattle.determinize_below.specs.Unit.{byte_of}
-use Rattle.determinize_core.specs.Value.{Value}
-use Rattle.determinize_core.specs.Private.Changes.{settled}
+use Rattle.determinize_states.specs.Value.{Value}
+use Rattle.determinize_states.specs.Recording.{settled}
 use Rattle.determinize_core.proofs.Resolving.{step_resolves}
 use Rattle.determinize_core.proofs.StepLaws.{one_pattern}
 use Rattle.determinize_core.proofs.Stepping.{IsRead, first_tries, all_tries, tries_within, stepped}

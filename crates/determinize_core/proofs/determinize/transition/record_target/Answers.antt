@@ -5,8 +5,8 @@ use Rattle.determinize_below.specs.Look.{has}
 use Rattle.determinize_below.specs.Runs.{without}
 use Rattle.determinize_below.specs.Unit.{byte_of}
 use Rattle.determinize_core.specs.Private.Search.{tries_left}
-use Rattle.determinize_core.specs.Private.Recording.{added}
-use Rattle.determinize_core.proofs.RecordingSteps.{added-none}
+use Rattle.determinize_states.specs.Recording.{added}
+use Rattle.determinize_states.proofs.RecordingSteps.{added-none}
 use Rattle.determinize_core.proofs.Targets.{reach_past-none, reach_past-nothing, target_below, tries_left-none}
 use Rattle.determinize_core.proofs.determinize.transition.record_target.Goals as goal
 

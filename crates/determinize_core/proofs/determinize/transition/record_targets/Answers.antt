@@ -6,13 +6,13 @@ use Rattle.determinize_below.specs.Look.{has}
 use Rattle.determinize_below.specs.Runs.{without}
 use Rattle.determinize_below.specs.Unit.{byte_of}
 use Rattle.determinize_below.proofs.SoundNfa.{accepted_sound}
-use Rattle.determinize_core.specs.Private.Recording.{added}
+use Rattle.determinize_states.specs.Recording.{added}
 use Rattle.determinize_core.specs.Tries.{tries_of}
-use Rattle.determinize_core.specs.Value.{Value}
+use Rattle.determinize_states.specs.Value.{Value}
 use Rattle.determinize_core.proofs.ClosingAll.{reach-none, tries_of-none, reach_next, tries_next, tries_within}
-use Rattle.determinize_core.proofs.Collecting.{rest_below, rest_behind}
+use Rattle.determinize_core.proofs.Collecting.{rest_behind}
 use Rattle.determinize_core.proofs.Loops.{targets-push}
-use Rattle.determinize_core.proofs.RecordingSteps.{added-none, added-after}
+use Rattle.determinize_states.proofs.RecordingSteps.{added-none, added-after, rest_below}
 use Rattle.determinize_core.proofs.determinize.transition.record_targets.Goals as goal
 
 pub loop-id-init : goal.loop-id-init

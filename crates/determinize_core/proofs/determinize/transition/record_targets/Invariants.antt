@@ -4,7 +4,7 @@ use Rattle.determinize_below.specs.Edges.{is_capture, reach, target}
 use Rattle.determinize_below.specs.Look.{has}
 use Rattle.determinize_below.specs.Runs.{without}
 use Rattle.determinize_below.specs.Unit.{byte_of}
-use Rattle.determinize_core.specs.Private.Recording.{added}
+use Rattle.determinize_states.specs.Recording.{added}
 use Rattle.determinize_core.specs.Tries.{tries_of}
 use Rattle.determinize_core.proofs.determinize.transition.record_targets.Given as goal
 

@@ -1,12 +1,12 @@
-use Rattle.std.proofs.Common.{◌∙◌, ◌∷◌, ◌++◌, [], All, ap, refl, subst, sym, List}
+use Rattle.std.proofs.Common.{All, ap, refl, subst, sym, List}
 use Rattle.determinize_below.specs.Nfa.{AllResolve}
 use Rattle.determinize_below.specs.Positions.{between}
 use Rattle.determinize_below.specs.Unit.{byte_of}
 use Rattle.determinize_below.specs.declared.search.MatchKind.{MatchKind}
 use Rattle.determinize_below.specs.declared.search.MatchKind.TheVariants as kinds
 use Rattle.determinize_core.specs.Chain.{FollowsItself}
-use Rattle.determinize_core.specs.Step.{start_value, step}
-use Rattle.determinize_core.specs.Value.{Value}
+use Rattle.determinize_core.specs.Step.{start_value}
+use Rattle.determinize_states.specs.Value.{Value}
 use Rattle.determinize_core.specs.Walk.{IsLeftmostWalk, IsWalkOfAll}
 use Rattle.determinize_core.specs.WalkStates.{RecordsReached}
 use Rattle.determinize_core.proofs.StepLaws.{each_future_follows}

@@ -2,8 +2,9 @@ use Rattle.std.proofs.Common.{◌≡◌, ◌∙◌, ◌<◌, ◌++◌, ◌∷◌
 use Rattle.determinize_below.specs.Look.{has}
 use Rattle.determinize_below.specs.Members.{Members}
 use Rattle.determinize_below.proofs.SoundNfa.{accepted_sound}
+use Rattle.determinize_states.proofs.RecordingSteps.{rest_below}
 use Rattle.determinize_core.proofs.ClosingAll.{reach-none, tries_of-none, reach_next, tries_next, tries_within}
-use Rattle.determinize_core.proofs.Collecting.{rest_below, rest_behind}
+use Rattle.determinize_core.proofs.Collecting.{rest_behind}
 use Rattle.determinize_core.specs.Tries.{tries_of}
 use Rattle.determinize_core.proofs.determinize.working_list.close_all.Goals as goal
 

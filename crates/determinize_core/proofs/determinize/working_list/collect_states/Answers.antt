@@ -1,6 +1,7 @@
 use Rattle.std.proofs.Common.{◌∙◌, ap}
 use Rattle.determinize_below.specs.Members.{Members}
-use Rattle.determinize_core.proofs.Collecting.{pushed, rest_below}
+use Rattle.determinize_states.proofs.RecordingSteps.{rest_below}
+use Rattle.determinize_core.proofs.Collecting.{pushed}
 use Rattle.determinize_core.proofs.determinize.working_list.collect_states.Goals as goal
 
 pub loop-id-preserved : goal.loop-id-preserved

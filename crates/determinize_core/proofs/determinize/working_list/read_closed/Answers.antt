@@ -3,7 +3,8 @@ use Rattle.std.proofs.lemmas.List.{append-nil}
 use Rattle.determinize_below.specs.Unit.{byte_of}
 use Rattle.determinize_below.proofs.SoundNfa.{accepted_sound}
 use Rattle.determinize_core.specs.Private.Reading.{stops, leads_on}
-use Rattle.determinize_core.proofs.Collecting.{rest_below, rest_behind}
+use Rattle.determinize_states.proofs.RecordingSteps.{rest_below}
+use Rattle.determinize_core.proofs.Collecting.{rest_behind}
 use Rattle.determinize_core.proofs.FirstReading.{IsFirstReadOut, distinct, distinct_same, first_read-start, first_read-new, first_read-next, first_read-stop, first_read-end, or_with_true, or_with_false}
 use Rattle.determinize_core.proofs.determinize.working_list.read_closed.Goals as goal
 

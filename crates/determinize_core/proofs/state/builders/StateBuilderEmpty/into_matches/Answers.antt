@@ -1,8 +1,0 @@
-use Rattle.determinize_core.proofs.OpenLaws.{opened_zeros}
-use Rattle.determinize_core.proofs.state.builders.StateBuilderEmpty.into_matches.Goals as goal
-
-pub invariant_of-result : goal.invariant_of-result
-invariant_of-result g c = rw (c.in_ok-extend_from_slice.ensures.items, c.self.invariant) opened_zeros.0
-
-pub returns : goal.returns
-returns g c = rw (c.in_ok-extend_from_slice.ensures.items, c.self.invariant) opened_zeros.1

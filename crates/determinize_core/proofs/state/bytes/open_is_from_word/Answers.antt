@@ -1,9 +1,0 @@
-use Rattle.std.proofs.Common.{arith, ◌∙◌}
-use Rattle.determinize_core.proofs.OpenLaws.{open_long, open_from_word_of}
-use Rattle.determinize_core.proofs.state.bytes.open_is_from_word.Goals as goal
-
-pub has_bit-requires : goal.has_bit-requires
-has_bit-requires c = omega (arith, open_long _ c.requires)
-
-pub returns : goal.returns
-returns c = c.has_bit.ensures ∙ open_from_word_of _ c.requires

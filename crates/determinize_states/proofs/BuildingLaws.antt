@@ -1,0 +1,63 @@
+-- The bytes of a state to which NFA states are added.
+use Rattle.std.proofs.Common.{◌≡◌, ℕ, ◌<◌, ◌≤◌, List, [], ◌∷◌, ◌++◌, refl, sym, ap, ◌∙◌, append_assoc, subst}
+use Rattle.std.proofs.lemmas.List.Elements.{All-push}
+use Rattle.determinize_states.specs.Value.{Value, IsValue, dead, with_state}
+use Rattle.determinize_states.specs.Varint.{varint, zigzag, last_id}
+use Rattle.determinize_states.specs.Spelling.{spell, with_word, value_of, IsSpelled}
+use Rattle.determinize_states.specs.Building.{closed, value_of_open, IsOpen, IsBuilding}
+use Rattle.determinize_states.proofs.VarintLaws.{deltas-push}
+use Rattle.determinize_states.proofs.SpellingLaws.{dead_valid, value_of-spell, spelled}
+use Rattle.determinize_states.proofs.ValueLaws.{with_have, with_need, with_have_valid, with_need_valid}
+use Rattle.determinize_states.proofs.OpenLaws.{closed-spell_open}
+
+-- bytes that are the spelling of a value have this value
+pub built : (bytes : List ℕ) (last : ℕ) (v : Value) → IsValue v → last ≡ last_id 0 v.states → spell v ≡ bytes →
+    IsBuilding bytes last × (value_of bytes ≡ v)
+built bytes last v h ends e =
+    let back : value_of bytes ≡ v = ap value_of (sym e) ∙ value_of-spell v h in
+    (record { is = subst IsSpelled e (spelled v h); last = rw back ends }, back)
+
+pub built_closed : (bytes : List ℕ) → IsOpen bytes → IsBuilding (closed bytes) 0 × (value_of (closed bytes) ≡ value_of_open bytes)
+built_closed bytes h =
+    let v : Value = value_of_open bytes in
+    built _ 0 v h.valid (rw h.stateless) (sym (closed-spell_open v h.stateless) ∙ ap closed h.spelled)
+
+pub building_with_have : (bytes : List ℕ) (last set : ℕ) → IsBuilding bytes last → set < 262144 →
+    IsBuilding (with_word bytes 1 set) last × (value_of (with_word bytes 1 set) ≡ with_have (value_of bytes) set)
+unfolding spell
+building_with_have bytes last set h small =
+    let v : Value = value_of bytes in
+    built _ last (with_have v set) (with_have_valid v set h.is.valid small) h.last (ap (λ (b : List ℕ). with_word b 1 set) h.is.spelled)
+
+pub building_with_need : (bytes : List ℕ) (last set : ℕ) → IsBuilding bytes last → set < 262144 →
+    IsBuilding (with_word bytes 5 set) last × (value_of (with_word bytes 5 set) ≡ with_need (value_of bytes) set)
+unfolding spell
+building_with_need bytes last set h small =
+    let v : Value = value_of bytes in
+    built _ last (with_need v set) (with_need_valid v set h.is.valid small) h.last (ap (λ (b : List ℕ). with_word b 5 set) h.is.spelled)
+
+spell-pushed : (v : Value) (id : ℕ) → spell (with_state v id) ≡ spell v ++ varint (zigzag (last_id 0 v.states) id)
+unfolding spell
+spell-pushed v id = rw (deltas-push 0 v.states id) (simp append_assoc)
+
+last-push : (from : ℕ) (ids : List ℕ) (id : ℕ) → last_id from (ids ++ id ∷ []) ≡ id
+last-push from [] id = refl
+last-push from (i ∷ ids) id = last-push i ids id
+
+pub building_with_state : (bytes : List ℕ) (from id : ℕ) → IsBuilding bytes from → id ≤ 2147483646 →
+    IsBuilding (bytes ++ varint (zigzag from id)) id × (value_of (bytes ++ varint (zigzag from id)) ≡ with_state (value_of bytes) id)
+building_with_state bytes from id h small =
+    let v : Value = value_of bytes in
+    let valid : IsValue (with_state v id) = record {
+      have = h.is.valid.have;
+      need = h.is.valid.need;
+      distinct = h.is.valid.distinct;
+      pattern_ids = h.is.valid.pattern_ids;
+      state_ids = All-push (λ k. k ≤ 2147483646) v.states id h.is.valid.state_ids small;
+    } in
+    built _ id (with_state v id) valid (sym (last-push 0 v.states id)) (spell-pushed v id ∙ rw (h.is.spelled, h.last))
+
+-- nine zero bytes are the spelling of the dead value
+pub spelled_zeros : IsSpelled (0 ∷ 0 ∷ 0 ∷ 0 ∷ 0 ∷ 0 ∷ 0 ∷ 0 ∷ 0 ∷ []) × (value_of (0 ∷ 0 ∷ 0 ∷ 0 ∷ 0 ∷ 0 ∷ 0 ∷ 0 ∷ 0 ∷ []) ≡ dead)
+unfolding spell
+spelled_zeros = let h = built _ 0 dead dead_valid refl refl in (h.0.is, h.1)

@@ -1,0 +1,11 @@
+pub mod BuildingLaws
+pub mod FlagLaws
+pub mod LengthLaws
+pub mod MarkLaws
+pub mod NeedLemmas
+pub mod OpenLaws
+pub mod ReadingLaws
+pub mod RecordingSteps
+pub mod SpellingLaws
+pub mod ValueLaws
+pub mod VarintLaws

@@ -1,0 +1,6 @@
+pub mod Building
+pub mod Private
+pub mod Recording
+pub mod Spelling
+pub mod Value
+pub mod Varint

@@ -1,0 +1,76 @@
+//! Recording a set of NFA states in the builder of a DFA state.
+
+ghost use Rattle.std.specs.Prelude.{◌≡◌, ◌<◌, [], ◌∷◌, length, OnOk, OnErr};
+ghost use Rattle.determinize_below.specs.Edges.{is_capture};
+ghost use Rattle.determinize_below.specs.Nfa.{AllResolve};
+ghost use Rattle.determinize_below.specs.Runs.{without};
+ghost use Rattle.determinize_states.specs.Recording.{added, added_one, needs, recorded, IsGrown};
+
+use crate::state::StateBuilderNFA;
+use determinize_below::nfa::State;
+use determinize_below::{NFA, SparseSet, StateID};
+use std::alloc::{AllocError, Allocator};
+
+/// Records one NFA state after the others and, for a `Look`, its assertion in look-need. A capture
+/// is left out.
+///
+/// The only error is want of memory. The builder has the assertion then, and no more states.
+#[inline(always)]
+pub fn add_state<N: Allocator, A: Allocator>(
+    nfa: &NFA<N>,
+    id: StateID,
+    builder: &mut StateBuilderNFA<A>,
+) -> Result<(), AllocError>
+    requires { id < length nfa.now.states }
+    ensures ok { OnOk result (builder.new ≡ added_one nfa.now builder.old id) }
+    ensures err { OnErr result (builder.new
+        ≡ record builder.old { look_need = needs nfa.now builder.old.look_need (id ∷ []) }) }
+    ensures grown { OnErr result (IsGrown builder.old builder.new) }
+{
+    match nfa.state(id) {
+        State::Capture { .. } => return Ok(()),
+        State::Look { look, .. } => builder.add_look_need(*look),
+        _ => {}
+    }
+    builder.add_nfa_state_id(id)
+}
+
+/// Adds the states of a set. After a refusal the builder has some of them.
+fn add_states<N: Allocator, A: Allocator>(
+    nfa: &NFA<N>,
+    set: &SparseSet<A>,
+    builder: &mut StateBuilderNFA<A>,
+) -> Result<(), AllocError>
+    requires { AllResolve nfa.now set.now.ids }
+    ensures ok { OnOk result (builder.new
+        ≡ added nfa.now builder.old (without (is_capture nfa.now) set.now.ids)) }
+    ensures err { OnErr result (IsGrown builder.old builder.new) }
+{
+    for id in set.iter() {
+        add_state(nfa, id, builder)?;
+    }
+    Ok(())
+}
+
+/// Records the states of a set in a builder.
+///
+/// The set's ids go after the builder's own, in the set's order, captures left out. The builder's
+/// look-need gains the assertions of the `Look` states among them. Where look-need is then empty,
+/// look-have is emptied, since nothing will ask for it. After a refusal the builder is unchanged.
+pub fn add_nfa_states<N: Allocator, A: Allocator>(
+    nfa: &NFA<N>,
+    set: &SparseSet<A>,
+    builder: &mut StateBuilderNFA<A>,
+) -> Result<(), AllocError>
+    requires { AllResolve nfa.now set.now.ids }
+    ensures ok { OnOk result (builder.new ≡ recorded nfa.now builder.old set.now.ids) }
+    ensures err { OnErr result (builder.new ≡ builder.old) }
+{
+    let mark = builder.mark();
+    if let Err(refused) = add_states(nfa, set, builder) {
+        builder.restore(mark);
+        return Err(refused);
+    }
+    builder.settle();
+    Ok(())
+}
