@@ -23,14 +23,36 @@ mod worked;
 
 use determinize_replay::job::Job;
 use determinize_replay::verbs;
+use std::fmt::Debug;
 use std::process::Abort;
 use std::test::Fail;
 use worked_rows::answers;
 
+/// Asks that two values are equal. (A function, since what `assert_eq!` writes for its message would
+/// be proved at each place again.)
+pub fn same<R: Abort, T: PartialEq + Debug + Copy>(rt: &R, found: T, wanted: T) {
+    assert_eq!(rt; found, wanted);
+}
+
+/// Asks that two values are equal, and tells where they are not.
+pub fn same_at<R: Abort, L: Debug + Copy, T: PartialEq + Debug + Copy>(
+    rt: &R,
+    place: L,
+    found: T,
+    wanted: T,
+) {
+    assert_eq!(rt; found, wanted, "{place:?}");
+}
+
+/// Asks that something holds.
+pub fn holds<R: Abort>(rt: &R, is_so: bool) {
+    assert!(rt; is_so);
+}
+
 /// Replays a job, and compares its answer.
 fn replay<R: Abort + AllocGlobal>(rt: &R, line: &str, wanted: &str) -> Result<(), Fail> {
     let answer = verbs::answer(rt.alloc(), &Job::read(rt.alloc(), line)?)?;
-    assert_eq!(rt; answer.as_str(), wanted, "{line}");
+    same_at(rt, line, answer.as_str(), wanted);
     Ok(())
 }
 
@@ -44,7 +66,7 @@ fn walks(rt: HostRuntime) -> Result<(), Fail> {
 
 #[test]
 fn single_calls(rt: HostRuntime) -> Result<(), Fail> {
-    for (line, wanted) in worked::CALLS {
+    for (line, wanted) in &worked::CALLS {
         replay(&rt, line, wanted)?;
     }
     Ok(())

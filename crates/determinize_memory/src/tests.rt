@@ -19,9 +19,21 @@ use determinize_replay::key::Key;
 use determinize_replay::{nfas, values};
 use refusing::{Finding, Refusing, in_turn};
 use std::alloc::{AllocError, Global};
+use std::fmt::Debug;
 use std::process::Abort;
 use std::test::Fail;
 use worked_rows::answers;
+
+/// Asks that two values are equal. (A function, since what `assert_eq!` writes for its message would
+/// be proved at each place again.)
+pub fn same<R: Abort, T: PartialEq + Debug + Copy>(rt: &R, found: T, wanted: T) {
+    assert_eq!(rt; found, wanted);
+}
+
+/// Asks that something holds.
+pub fn holds<R: Abort>(rt: &R, is_so: bool) {
+    assert!(rt; is_so);
+}
 
 /// The memory of a run.
 pub type Heap = Refusing<Global>;
@@ -35,7 +47,7 @@ pub fn refuse_in_turn<R: Abort + AllocGlobal, F: FnMut(&Heap) -> Result<bool, Fa
 ) -> Result<(), Fail>
     requires { F.IsAlwaysCallable run }
 {
-    assert_eq!(rt; in_turn(rt.alloc(), run)?, Finding::Sound);
+    same(rt, in_turn(rt.alloc(), run)?, Finding::Sound);
     Ok(())
 }
 
@@ -125,9 +137,9 @@ impl Row {
 
     /// Asks that these are the states of the walk.
     fn expect(&self, rt: &impl Abort, states: &[State<&Heap>]) {
-        assert_eq!(rt; states.len(), self.states.len());
+        same(rt, states.len(), self.states.len());
         for (index, state) in states.iter().enumerate() {
-            assert_eq!(rt; state.as_bytes(), self.bytes(index));
+            same(rt, state.as_bytes(), self.bytes(index));
         }
     }
 

@@ -2,6 +2,7 @@
 
 ghost use Rattle.std.specs.Prelude.{◌≡◌, ℕ, ◌<◌, All, length};
 
+use crate::tests::same;
 use determinize_below::{MatchKind, NFA, SparseSets, Unit};
 use determinize_core::determinize::{Steps, next_counted};
 use determinize_core::state::{State, StateBuilderEmpty, StateBuilderNFA};
@@ -53,16 +54,16 @@ fn counted_transition(rt: HostRuntime) -> Result<(), Fail> {
     let wanted = [
         3, 0, 0, 0, 0, 0, 0, 0, 0, 3, 0, 0, 0, 2, 0, 0, 0, 0, 0, 0, 0, 1, 0, 0, 0,
     ];
-    assert_eq!(rt; builder.as_bytes(), wanted.as_slice());
+    same(&rt, builder.as_bytes(), wanted.as_slice());
     Ok(())
 }
 
 #[test]
 fn count_takes_no_bytes(rt: HostRuntime) {
-    assert_eq!(rt; size_of::<Steps<Brand>>(), 0);
+    same(&rt, size_of::<Steps<Brand>>(), 0);
 }
 
 #[test]
 fn short_states_take_32_bytes(rt: HostRuntime) {
-    assert_eq!(rt; size_of::<State>(), 32);
+    same(&rt, size_of::<State>(), 32);
 }

@@ -1,5 +1,6 @@
 //! Ids, assertions, units, inputs, sets and transitions.
 
+use crate::tests::{holds, same, same_at};
 use determinize_below::alphabet::is_word_byte;
 use determinize_below::{
     Anchored, DenseTransitions, Input, Look, LookMatcher, LookSet, MatchKind, PatternID, SparseSet,
@@ -12,24 +13,30 @@ use std::test::Fail;
 fn ids(rt: HostRuntime) -> Result<(), Fail> {
     for number in [0usize, 7, 2147483646] {
         let (state, pattern) = (StateID::new(number)?, PatternID::new(number)?);
-        assert_eq!(rt; (state.as_usize(), pattern.as_usize()), (number, number));
-        assert_eq!(rt; state.as_u32(), pattern.as_u32());
+        same(
+            &rt,
+            (state.as_usize(), pattern.as_usize()),
+            (number, number),
+        );
+        same(&rt, state.as_u32(), pattern.as_u32());
     }
     let (Err(state), Err(pattern)) = (StateID::new(2147483647), PatternID::new(9000000000)) else {
         panic!(rt; "too great an id is taken");
     };
-    assert_eq!(rt;
+    same(
+        &rt,
         (state.attempted(), pattern.attempted()),
-        (2147483647, 9000000000)
+        (2147483647, 9000000000),
     );
-    assert_eq!(rt;
+    same(
+        &rt,
         (StateID::ZERO.as_u32(), StateID::MAX.as_u32()),
-        (0, 2147483646)
+        (0, 2147483646),
     );
-    assert_eq!(rt; (StateID::SIZE, PatternID::SIZE), (4, 4));
-    assert!(rt; StateID::ZERO < StateID::MAX);
+    same(&rt, (StateID::SIZE, PatternID::SIZE), (4, 4));
+    holds(&rt, StateID::ZERO < StateID::MAX);
     let text = format!(in rt.alloc(); "{:?} {:?}", StateID::MAX, PatternID::ZERO)?;
-    assert_eq!(rt; text.as_str(), "StateID(2147483646) PatternID(0)");
+    same(&rt, text.as_str(), "StateID(2147483646) PatternID(0)");
     Ok(())
 }
 
@@ -39,43 +46,55 @@ fn sets_of_assertions(rt: HostRuntime) {
     let word = LookSet::empty()
         .insert(Look::WordEndHalfUnicode)
         .insert(Look::EndCRLF);
-    assert!(rt; LookSet::empty().is_empty());
-    assert!(rt; !line.is_empty());
-    assert!(rt; line.contains(Look::StartLF));
-    assert!(rt; !line.contains(Look::WordEndHalfUnicode));
-    assert_eq!(rt; line.union(word), word.insert(Look::StartLF));
-    assert_eq!(rt;
+    holds(&rt, LookSet::empty().is_empty());
+    holds(&rt, !line.is_empty());
+    holds(&rt, line.contains(Look::StartLF));
+    holds(&rt, !line.contains(Look::WordEndHalfUnicode));
+    same(&rt, line.union(word), word.insert(Look::StartLF));
+    same(
+        &rt,
         line.intersect(word),
-        LookSet::empty().insert(Look::EndCRLF)
+        LookSet::empty().insert(Look::EndCRLF),
     );
-    assert_eq!(rt; line.subtract(word), LookSet::empty().insert(Look::StartLF));
-    assert_eq!(rt;
+    same(
+        &rt,
+        line.subtract(word),
+        LookSet::empty().insert(Look::StartLF),
+    );
+    same(
+        &rt,
         line.remove(Look::EndCRLF),
-        LookSet::empty().insert(Look::StartLF)
+        LookSet::empty().insert(Look::StartLF),
     );
-    assert_eq!(rt; line.as_repr(), 0x24);
-    assert_eq!(rt; LookSet::from_repr(0x24), line);
-    assert_eq!(rt; Look::WordEndHalfUnicode.as_repr(), 0x20000);
+    same(&rt, line.as_repr(), 0x24);
+    same(&rt, LookSet::from_repr(0x24), line);
+    same(&rt, Look::WordEndHalfUnicode.as_repr(), 0x20000);
 }
 
 #[test]
 fn classes_of_assertions(rt: HostRuntime) {
     let set = LookSet::empty().insert(Look::EndCRLF);
-    assert!(rt; set.contains_anchor_line() && set.contains_anchor_crlf());
-    assert!(rt; !set.contains_anchor_haystack() && !set.contains_word());
+    holds(
+        &rt,
+        set.contains_anchor_line() && set.contains_anchor_crlf(),
+    );
+    holds(&rt, !set.contains_anchor_haystack() && !set.contains_word());
     let set = LookSet::empty().insert(Look::End).insert(Look::WordAscii);
-    assert!(rt; !set.contains_anchor_line() && !set.contains_anchor_crlf());
-    assert!(rt; set.contains_anchor_haystack() && set.contains_word());
+    holds(
+        &rt,
+        !set.contains_anchor_line() && !set.contains_anchor_crlf(),
+    );
+    holds(&rt, set.contains_anchor_haystack() && set.contains_word());
 }
 
 #[test]
 fn line_terminators(rt: HostRuntime) -> Result<(), Fail> {
-    assert_eq!(rt; LookMatcher::new().get_line_terminator(), b'\n');
-    assert_eq!(rt; LookMatcher::default().get_line_terminator(), b'\n');
+    same(&rt, LookMatcher::new().get_line_terminator(), b'\n');
+    same(&rt, LookMatcher::default().get_line_terminator(), b'\n');
     let mut matcher = LookMatcher::new();
     let set = matcher.set_line_terminator(0).get_line_terminator();
-    assert_eq!(rt; set, 0);
-    assert_eq!(rt; matcher.clone()?.get_line_terminator(), 0);
+    same(&rt, set, 0);
+    same(&rt, matcher.clone()?.get_line_terminator(), 0);
     Ok(())
 }
 
@@ -86,28 +105,32 @@ fn units(rt: HostRuntime) {
         (Unit::u8(b' '), Some(b' '), false, false),
         (Unit::eoi(256), None, true, false),
     ] {
-        assert_eq!(rt; unit.as_u8(), byte, "{unit:?}");
-        assert_eq!(rt; unit.is_eoi(), is_end, "{unit:?}");
-        assert_eq!(rt; unit.is_word_byte(), is_word, "{unit:?}");
-        assert_eq!(rt; unit.is_byte(b'a'), byte == Some(b'a'), "{unit:?}");
+        same_at(&rt, unit, unit.as_u8(), byte);
+        same_at(&rt, unit, unit.is_eoi(), is_end);
+        same_at(&rt, unit, unit.is_word_byte(), is_word);
+        same_at(&rt, unit, unit.is_byte(b'a'), byte == Some(b'a'));
     }
-    assert_ne!(rt; Unit::eoi(0), Unit::eoi(1));
-    assert!(rt; is_word_byte(b'_'));
-    assert!(rt; MatchKind::All.continue_past_first_match());
-    assert!(rt; !MatchKind::LeftmostFirst.continue_past_first_match());
+    holds(&rt, Unit::eoi(0) != Unit::eoi(1));
+    holds(&rt, is_word_byte(b'_'));
+    holds(&rt, MatchKind::All.continue_past_first_match());
+    holds(&rt, !MatchKind::LeftmostFirst.continue_past_first_match());
 }
 
 #[test]
 fn inputs(rt: HostRuntime) {
     let whole = Input::new(b"abc");
-    assert_eq!(rt; (whole.start(), whole.end()), (0, 3));
-    assert_eq!(rt; whole.get_anchored(), Anchored::No);
+    same(&rt, (whole.start(), whole.end()), (0, 3));
+    same(&rt, whole.get_anchored(), Anchored::No);
     let input = whole
         .range(3..2)
         .anchored(Anchored::Pattern(PatternID::ZERO));
-    assert_eq!(rt; (input.start(), input.end()), (3, 2));
-    assert_eq!(rt; input.haystack(), b"abc".as_slice());
-    assert_eq!(rt; input.get_anchored(), Anchored::Pattern(PatternID::ZERO));
+    same(&rt, (input.start(), input.end()), (3, 2));
+    same(&rt, input.haystack(), b"abc".as_slice());
+    same(
+        &rt,
+        input.get_anchored(),
+        Anchored::Pattern(PatternID::ZERO),
+    );
 }
 
 #[test]
@@ -118,20 +141,20 @@ fn sparse_sets(rt: HostRuntime) -> Result<(), Fail> {
     for (number, is_new) in [(64usize, true), (0, true), (64, false), (63, true)] {
         let id = StateID::new(number)?;
         assert!(rt; id.as_usize() < set.capacity());
-        assert_eq!(rt; set.insert(id), is_new, "{number}");
+        same_at(&rt, number, set.insert(id), is_new);
     }
-    assert_eq!(rt; sets.set1.len(), 3);
+    same(&rt, sets.set1.len(), 3);
     sets.swap();
-    assert!(rt; sets.set1.is_empty());
+    holds(&rt, sets.set1.is_empty());
     let ids: Vec<StateID> = sets.set2.iter().collect(rt.alloc())?;
-    assert!(rt; ids == values::state_ids(rt.alloc(), "64,0,63")?);
+    holds(&rt, ids == values::state_ids(rt.alloc(), "64,0,63")?);
     sets.set2.clear();
-    assert!(rt; sets.set2.is_empty());
+    holds(&rt, sets.set2.is_empty());
     sets.clear();
     let mut single = SparseSet::new(rt.alloc(), 1)?;
-    assert!(rt; !single.contains(StateID::ZERO));
-    assert!(rt; single.insert(StateID::ZERO));
-    assert!(rt; single.contains(StateID::ZERO));
+    holds(&rt, !single.contains(StateID::ZERO));
+    holds(&rt, single.insert(StateID::ZERO));
+    holds(&rt, single.contains(StateID::ZERO));
     Ok(())
 }
 
@@ -153,19 +176,22 @@ fn transitions(rt: HostRuntime) -> Result<(), Fail> {
     for (byte, target) in [(b'a', None), (b'b', Some(next)), (b'e', None)] {
         let unit = Unit::u8(byte);
         let is_in = target.is_some();
-        assert_eq!(rt;
+        same(
+            &rt,
             (trans.matches_byte(byte), trans.matches_unit(unit)),
-            (is_in, is_in)
+            (is_in, is_in),
         );
-        assert_eq!(rt;
+        same(
+            &rt,
             (sparse.matches_byte(byte), sparse.matches_unit(unit)),
-            (target, target)
+            (target, target),
         );
-        assert_eq!(rt;
+        same(
+            &rt,
             (dense.matches_byte(byte), dense.matches_unit(unit)),
-            (target, target)
+            (target, target),
         );
     }
-    assert!(rt; !trans.matches_unit(Unit::eoi(256)));
+    holds(&rt, !trans.matches_unit(Unit::eoi(256)));
     Ok(())
 }

@@ -11,7 +11,7 @@ mod walk;
 ghost use Rattle.std.specs.Prelude.{◌≡◌};
 ghost use Rattle.determinize_below.specs.declared.search.MatchKind.TheVariants as kinds;
 
-use crate::tests::readme;
+use crate::tests::{holds, readme, same};
 use determinize_below::{HalfMatch, MatchKind, PatternID};
 use determinize_lazy::Lazy;
 use std::process::Abort;
@@ -25,8 +25,8 @@ fn ended(offset: usize) -> Option<HalfMatch> {
 #[test]
 fn first_search(rt: HostRuntime) -> Result<(), Fail> {
     let nfa = readme::letter(rt.alloc())?;
-    assert_eq!(rt; readme::preferred(rt.alloc(), &nfa, b"ab")?, ended(1));
-    assert_eq!(rt; readme::preferred(rt.alloc(), &nfa, b"ba")?, None);
+    same(&rt, readme::preferred(rt.alloc(), &nfa, b"ab")?, ended(1));
+    same(&rt, readme::preferred(rt.alloc(), &nfa, b"ba")?, None);
     Ok(())
 }
 
@@ -35,9 +35,9 @@ fn walks(rt: HostRuntime) -> Result<(), Fail> {
     let nfa = nfa::digits(rt.alloc(), false)?;
     let text = b"ab 42 c";
     let found = walk::preferred(rt.alloc(), &nfa, nfa.start_unanchored(), text)?;
-    assert_eq!(rt; found, ended(5));
+    same(&rt, found, ended(5));
     let found = walk::preferred(rt.alloc(), &nfa, nfa.start_anchored(), text)?;
-    assert_eq!(rt; found, None);
+    same(&rt, found, None);
     Ok(())
 }
 
@@ -48,7 +48,7 @@ fn searches(rt: HostRuntime) -> Result<(), Fail> {
     for limit in [0, 2, 100] {
         let found = search::matches(rt.alloc(), &nfa, &texts, limit)?;
         let wanted = [ended(2), None, ended(1), None];
-        assert_eq!(rt; found.as_slice(), wanted.as_slice());
+        same(&rt, found.as_slice(), wanted.as_slice());
     }
     Ok(())
 }
@@ -68,8 +68,8 @@ fn is_match_at_the_end(rt: &impl Abort, lazy: &mut Lazy<'_>, text: &[u8]) -> Res
 fn walks_through_a_cache(rt: HostRuntime) -> Result<(), Fail> {
     let nfa = nfa::digits(rt.alloc(), false)?;
     let mut lazy = Lazy::new(rt.alloc(), &nfa, MatchKind::All, 100);
-    assert!(rt; is_match_at_the_end(&rt, &mut lazy, b"42")?);
-    assert!(rt; !is_match_at_the_end(&rt, &mut lazy, b"4x")?);
+    holds(&rt, is_match_at_the_end(&rt, &mut lazy, b"42")?);
+    holds(&rt, !is_match_at_the_end(&rt, &mut lazy, b"4x")?);
     Ok(())
 }
 
@@ -80,8 +80,8 @@ fn searches_of_inputs(rt: HostRuntime) -> Result<(), Fail> {
     let mut forward = Lazy::new(rt.alloc(), &forward, MatchKind::LeftmostFirst, 100);
     let mut backward = Lazy::new(rt.alloc(), &backward, MatchKind::All, 100);
     let found = input::span(&mut forward, &mut backward, b"ab 42 c")?;
-    assert_eq!(rt; found, Some(3..5));
+    holds(&rt, found == Some(3..5));
     let found = input::span(&mut forward, &mut backward, b"ab")?;
-    assert_eq!(rt; found, None);
+    holds(&rt, found.is_none());
     Ok(())
 }

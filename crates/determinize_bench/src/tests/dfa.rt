@@ -3,6 +3,7 @@
 ghost use Rattle.std.specs.Prelude.{◌<◌, length};
 
 use crate::tests::calling::dfa::{Dfa, build};
+use crate::tests::{holds, same, same_at};
 use determinize_below::{HalfMatch, LookMatcher, MatchKind, NFA, PatternID, StateID};
 use determinize_core::determinize::{last_match, walk};
 use determinize_replay::error::JobError;
@@ -49,7 +50,7 @@ fn foo_or_bar(alloc: Global) -> Result<NFA, JobError> {
 }
 
 /// The texts that each DFA is run over.
-const TEXTS: [&str; 6] = ["foo12", "xfoo9y", "bar", "ba", "", "barfoo1"];
+static TEXTS: [&str; 6] = ["foo12", "xfoo9y", "bar", "ba", "", "barfoo1"];
 
 /// Builds a DFA from this start and runs it. It has so many states, and tells the ends that are
 /// expected, as a walk does.
@@ -66,12 +67,13 @@ fn run<R: Abort + AllocGlobal>(
     let Some(dfa) = build(rt.alloc(), nfa, kind, start, count)? else {
         panic!(rt; "more than {count} states");
     };
-    assert_eq!(rt; dfa.states.len(), count);
+    same(rt, dfa.states.len(), count);
     for (text, end) in TEXTS.iter().zip(ends) {
         let wanted = end.map(|end| HalfMatch::new(PatternID::ZERO, end));
-        assert_eq!(rt; dfa.last_match(text.as_bytes()), wanted, "{text}");
         let states = walk(rt.alloc(), nfa, kind, start, None, text.as_bytes())?;
-        assert_eq!(rt; last_match(states.as_slice()), wanted, "{text}");
+        let walked = last_match(states.as_slice());
+        holds(rt, walked == wanted);
+        same_at(rt, text, dfa.last_match(text.as_bytes()), walked);
     }
     Ok(())
 }
@@ -117,7 +119,7 @@ fn unanchored_all(rt: HostRuntime) -> Result<(), Fail> {
 fn keeps_its_limit(rt: HostRuntime) -> Result<(), Fail> {
     let nfa = foo_or_bar(rt.alloc())?;
     let dfa = build(rt.alloc(), &nfa, MatchKind::All, nfa.start_anchored(), 10)?;
-    assert!(rt; dfa.is_none());
+    holds(&rt, dfa.is_none());
     Ok(())
 }
 
@@ -125,17 +127,17 @@ fn keeps_its_limit(rt: HostRuntime) -> Result<(), Fail> {
 /// else to the dead one.
 fn expect_loop<A: Allocator>(rt: &impl Abort, dfa: &Dfa<A>) {
     let states: [&[u8]; 2] = [&[0; 10], &[0; 9]];
-    assert_eq!(rt; dfa.states.len(), states.len());
+    same(rt, dfa.states.len(), states.len());
     for (state, bytes) in dfa.states.iter().zip(states) {
-        assert_eq!(rt; state.as_bytes(), bytes);
+        same(rt, state.as_bytes(), bytes);
     }
     let dead = [1; 257];
     let mut start = dead;
     start[usize::from(b'a')] = 0;
     let rows = [start, dead];
-    assert_eq!(rt; dfa.rows.len(), rows.len());
+    same(rt, dfa.rows.len(), rows.len());
     for (row, indices) in dfa.rows.iter().zip(rows.iter()) {
-        assert_eq!(rt; row.as_slice(), indices.as_slice());
+        same(rt, row.as_slice(), indices.as_slice());
     }
 }
 
@@ -158,6 +160,6 @@ fn build_loop<R: Abort + AllocGlobal>(rt: &R, heap: &Refusing<Global>) -> Result
 #[test]
 fn under_refusals(rt: HostRuntime) -> Result<(), Fail> {
     let finding = in_turn(rt.alloc(), |heap| build_loop(&rt, heap))?;
-    assert_eq!(rt; finding, Finding::Sound);
+    same(&rt, finding, Finding::Sound);
     Ok(())
 }

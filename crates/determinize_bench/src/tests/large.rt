@@ -1,6 +1,7 @@
 //! Large NFAs: long chains, wide unions and many matches. Each is walked over `ab`, and what each
 //! state of the walk lists is told from the shape of the NFA.
 
+use crate::tests::{same, same_at};
 use determinize_below::{
     HalfMatch, Look, LookMatcher, MatchKind, NFA, PatternID, StateID, Transition, nfa,
 };
@@ -140,11 +141,11 @@ fn expect<R: Abort + AllocGlobal>(
         matcher,
     )?;
     let states = walk(rt.alloc(), &nfa, kind, nfa.start_anchored(), None, b"ab")?;
-    assert_eq!(rt; states.len(), 4);
+    same(rt, states.len(), 4);
     for (index, (state, wanted)) in states.iter().zip(wanted).enumerate() {
-        assert!(rt; lists(rt.alloc(), state, wanted)?, "state {index}");
+        same_at(rt, index, lists(rt.alloc(), state, wanted)?, true);
     }
-    assert_eq!(rt; last_match(states.as_slice()), last);
+    same(rt, last_match(states.as_slice()), last);
     Ok(())
 }
 

@@ -1,6 +1,7 @@
 //! Laws: what their calls answer.
 
 use crate::tests::states::built;
+use crate::tests::{holds, same, same_at};
 use determinize_below::laws::{clone_law, pattern_id_law, state_id_law};
 use determinize_below::look_laws::{look_member_law, look_set_law};
 use determinize_below::{Anchored, Input, Look, LookMatcher, LookSet, PatternID, StateID};
@@ -22,14 +23,14 @@ const REORDERED: &str = "build fw=0 half=0 pids=2,0,1 ids=1,2,3";
 fn states_that_are_read(rt: HostRuntime) -> Result<(), Fail> {
     let state = built(rt.alloc(), LISTED)?.to_state()?;
     let (is_match, count, ids, one) = patterns_read(&state, 1)?;
-    assert!(rt; is_match);
-    assert_eq!(rt; count, 3);
-    assert_eq!(rt; one, Some(PatternID::ZERO));
-    assert!(rt; ids == Some(values::pattern_ids(rt.alloc(), "2,0,1")?));
+    holds(&rt, is_match);
+    same(&rt, count, 3);
+    same(&rt, one, Some(PatternID::ZERO));
+    holds(&rt, ids == Some(values::pattern_ids(rt.alloc(), "2,0,1")?));
     let (_, _, _, none) = patterns_read(&state, 3)?;
-    assert_eq!(rt; none, None);
+    same(&rt, none, None);
     let ids = nfa_states_read(&state, rt.alloc())?;
-    assert!(rt; ids == values::state_ids(rt.alloc(), "1,3,2")?);
+    holds(&rt, ids == values::state_ids(rt.alloc(), "1,3,2")?);
     Ok(())
 }
 
@@ -40,10 +41,10 @@ fn states_of_the_same_bytes(rt: HostRuntime) -> Result<(), Fail> {
     for (line, wanted) in [(LISTED, true), (REORDERED, false)] {
         let other = built(rt.alloc(), line)?;
         let other_state = other.to_state()?;
-        assert_eq!(rt; same_bytes(&state, &other_state), wanted, "{line}");
-        assert_eq!(rt; same_built_bytes(&builder, &other), wanted, "{line}");
-        assert_eq!(rt; is_built(&state, &other), wanted, "{line}");
-        assert_eq!(rt; are_equal(&state, &other_state), wanted, "{line}");
+        same_at(&rt, line, same_bytes(&state, &other_state), wanted);
+        same_at(&rt, line, same_built_bytes(&builder, &other), wanted);
+        same_at(&rt, line, is_built(&state, &other), wanted);
+        same_at(&rt, line, are_equal(&state, &other_state), wanted);
     }
     Ok(())
 }
@@ -55,25 +56,30 @@ fn clones(rt: HostRuntime) -> Result<(), Fail> {
     matcher.set_line_terminator(b'x');
     let map = StartByteMap::new(&matcher);
     let (config, map) = start_clone_law(&config, &map)?;
-    assert_eq!(rt; config.get_look_behind(), Some(b'a'));
-    assert_eq!(rt; map.get(b'x'), Start::CustomLineTerminator);
+    same(&rt, config.get_look_behind(), Some(b'a'));
+    same(&rt, map.get(b'x'), Start::CustomLineTerminator);
     let input = Input::new(b"abc").range(1..2).anchored(Anchored::Yes);
     let (matcher, input) = clone_law(&matcher, &input)?;
-    assert_eq!(rt; matcher.get_line_terminator(), b'x');
-    assert_eq!(rt; input.haystack(), b"abc".as_slice());
-    assert_eq!(rt; (input.start(), input.end()), (1usize, 2usize));
-    assert_eq!(rt; input.get_anchored(), Anchored::Yes);
+    same(&rt, matcher.get_line_terminator(), b'x');
+    same(&rt, input.haystack(), b"abc".as_slice());
+    same(&rt, (input.start(), input.end()), (1usize, 2usize));
+    same(&rt, input.get_anchored(), Anchored::Yes);
     Ok(())
 }
 
 #[test]
 fn ids_by_their_laws(rt: HostRuntime) -> Result<(), Fail> {
     let (least, greatest, size) = state_id_law();
-    assert_eq!(rt; (least, greatest, size), (StateID::ZERO, StateID::MAX, 4));
-    let (least, greatest, size) = pattern_id_law();
-    assert_eq!(rt;
+    same(
+        &rt,
         (least, greatest, size),
-        (PatternID::ZERO, PatternID::MAX, 4)
+        (StateID::ZERO, StateID::MAX, 4),
+    );
+    let (least, greatest, size) = pattern_id_law();
+    same(
+        &rt,
+        (least, greatest, size),
+        (PatternID::ZERO, PatternID::MAX, 4),
     );
     Ok(())
 }
@@ -84,5 +90,5 @@ fn sets_by_their_laws(rt: HostRuntime) {
     let other = LookSet::empty().insert(Look::EndCRLF).insert(Look::StartLF);
     look_set_law(one, other);
     look_member_law(one, other, Look::End, Look::StartLF);
-    assert_eq!(rt; one, other);
+    same(&rt, one, other);
 }

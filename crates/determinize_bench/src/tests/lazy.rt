@@ -1,5 +1,6 @@
 //! Worked walks over one cache: what they answer, keep and count.
 
+use crate::tests::{holds, same, same_at};
 use determinize_below::{LookMatcher, MatchKind, NFA, StateID};
 use determinize_core::determinize::{last_match, walk_between};
 use determinize_core::state::State;
@@ -50,7 +51,7 @@ pub fn walk_through<R: Abort + AllocGlobal>(
         ahead,
     )?;
     let states = lazy.walk_between(start, behind, bytes, ahead)?;
-    assert!(rt; states == wanted);
+    holds(rt, states == wanted);
     Ok(states)
 }
 
@@ -73,8 +74,8 @@ fn expect<R: Abort + AllocGlobal>(
             None => lazy.clear(),
         }
     }
-    assert_eq!(rt; lazy.computed(), computed, "limit {limit}");
-    assert_eq!(rt; lazy.states_kept(), kept, "limit {limit}");
+    same_at(rt, limit, lazy.computed(), computed);
+    same_at(rt, limit, lazy.states_kept(), kept);
     Ok(())
 }
 
@@ -97,11 +98,11 @@ fn what_is_kept(rt: HostRuntime) -> Result<(), Fail> {
 fn bytes_ahead(rt: HostRuntime) -> Result<(), Fail> {
     let nfa = nfa(&rt, WORDS, false)?;
     let mut lazy = Lazy::new(rt.alloc(), &nfa, MatchKind::LeftmostFirst, 16);
-    assert_eq!(rt; lazy.limit(), 16);
+    same(&rt, lazy.limit(), 16);
     for (ahead, end) in [(Some(b't'), None), (Some(b' '), Some(4)), (None, Some(4))] {
         let states = walk_through(&rt, &mut lazy, (None, b"quar", ahead))?;
         let found = last_match(states.as_slice());
-        assert_eq!(rt; found.map(|found| found.offset), end);
+        same(&rt, found.map(|found| found.offset), end);
     }
     Ok(())
 }
@@ -119,11 +120,11 @@ fn the_end_is_no_byte(rt: HostRuntime) -> Result<(), Fail> {
     let nfa = nfa(&rt, BOUNDARY, false)?;
     let mut lazy = Lazy::new(rt.alloc(), &nfa, MatchKind::All, 16);
     let ended = walk_through(&rt, &mut lazy, (None, b"", None))?;
-    assert_eq!(rt; second(ended.as_slice()), [0; 9].as_slice());
+    same(&rt, second(ended.as_slice()), [0; 9].as_slice());
     let zero = walk_through(&rt, &mut lazy, (None, b"\0", None))?;
     let entered = [
         0x00, 0x00, 0x40, 0x01, 0x00, 0x00, 0x01, 0x00, 0x00, 0x00, 0x04, 0x01,
     ];
-    assert_eq!(rt; second(zero.as_slice()), entered.as_slice());
+    same(&rt, second(zero.as_slice()), entered.as_slice());
     Ok(())
 }

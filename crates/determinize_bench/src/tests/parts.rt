@@ -1,5 +1,6 @@
 //! Making an NFA of parts.
 
+use crate::tests::{holds, same, same_at};
 use determinize_below::nfa::State;
 use determinize_below::{BuildError, DenseTransitions, Look, LookMatcher, LookSet, NFA, StateID};
 use determinize_replay::nfas;
@@ -17,7 +18,7 @@ fn refuses_a_short_table(rt: HostRuntime) -> Result<(), Fail> {
         let start = StateID::ZERO;
         let matcher = LookMatcher::new();
         let made = NFA::from_parts(rt.alloc(), states, start, start, false, matcher);
-        assert_eq!(rt; made.err(), wanted, "{count}");
+        same_at(&rt, count, made.err(), wanted);
     }
     Ok(())
 }
@@ -29,16 +30,16 @@ fn readers_of_an_nfa(rt: HostRuntime) -> Result<(), Fail> {
     matcher.set_line_terminator(b';');
     let first = StateID::new(1)?;
     let nfa = NFA::from_parts(rt.alloc(), states, first, StateID::ZERO, true, matcher)?;
-    assert_eq!(rt; nfa.len(), 3);
-    assert!(rt; nfa.is_reverse());
-    assert_eq!(rt; nfa.start_anchored(), first);
-    assert_eq!(rt; nfa.start_unanchored(), StateID::ZERO);
-    assert_eq!(rt; nfa.look_matcher().get_line_terminator(), b';');
+    same(&rt, nfa.len(), 3);
+    holds(&rt, nfa.is_reverse());
+    same(&rt, nfa.start_anchored(), first);
+    same(&rt, nfa.start_unanchored(), StateID::ZERO);
+    same(&rt, nfa.look_matcher().get_line_terminator(), b';');
     let any = LookSet::empty().insert(Look::End).insert(Look::WordAscii);
-    assert_eq!(rt; nfa.look_set_any(), any);
+    same(&rt, nfa.look_set_any(), any);
     let state = nfa.state(StateID::ZERO);
-    assert!(rt; state.is_epsilon());
+    holds(&rt, state.is_epsilon());
     let text = format!(in rt.alloc(); "{state:?}")?;
-    assert!(rt; text.contains("WordAscii"), "{text}");
+    holds(&rt, text.contains("WordAscii"));
     Ok(())
 }

@@ -7,7 +7,7 @@ use std::test::Fail;
 type Refused = (&'static str, &'static str);
 
 /// Verbs, and words that are no key and value.
-const VERBS: &[Refused] = &[
+static VERBS: &[Refused] = &[
     ("", "unknown verb \"\""),
     ("Dead", "unknown verb \"Dead\""),
     (" dead", "unknown verb \"\""),
@@ -19,7 +19,7 @@ const VERBS: &[Refused] = &[
 ];
 
 /// Keys that are unknown.
-const UNKNOWN_KEYS: &[Refused] = &[
+static UNKNOWN_KEYS: &[Refused] = &[
     ("walk texts=61 | M:0", "unknown key \"texts\""),
     ("walk Text=61 | M:0", "unknown key \"Text\""),
     ("walk =61 | M:0", "unknown key \"\""),
@@ -44,7 +44,7 @@ const UNKNOWN_KEYS: &[Refused] = &[
 ];
 
 /// Keys that stand twice.
-const REPEATED_KEYS: &[Refused] = &[
+static REPEATED_KEYS: &[Refused] = &[
     ("walk text=61 text=61 | M:0", "key text stands twice"),
     (
         "walk kind=all lb=61 kind=all | M:0",
@@ -57,7 +57,7 @@ const REPEATED_KEYS: &[Refused] = &[
 ];
 
 /// Keys that are missing.
-const MISSING_KEYS: &[Refused] = &[
+static MISSING_KEYS: &[Refused] = &[
     ("readers text=61 | M:0", "key at is missing"),
     ("readers after=62 | M:0", "key at is missing"),
     ("closure look=- | M:0", "key from is missing"),
@@ -74,7 +74,7 @@ const MISSING_KEYS: &[Refused] = &[
 ];
 
 /// States that make no NFA.
-const STATES: &[Refused] = &[
+static STATES: &[Refused] = &[
     ("walk text=61", "the states of the NFA are missing"),
     ("closure from=0", "the states of the NFA are missing"),
     ("dead | M:0", "the verb takes no states"),
@@ -126,7 +126,7 @@ const STATES: &[Refused] = &[
 ];
 
 /// Values that can't be read.
-const VALUES: &[Refused] = &[
+static VALUES: &[Refused] = &[
     ("fromusize n=+1", "not a decimal number"),
     ("fromusize n=-1", "not a decimal number"),
     ("fromusize n=", "not a decimal number"),
@@ -162,7 +162,7 @@ const VALUES: &[Refused] = &[
 ];
 
 /// Ranges of a haystack.
-const RANGES: &[Refused] = &[
+static RANGES: &[Refused] = &[
     ("start hay=616263 range=2..0", "not a range of the haystack"),
     ("start hay=616263 range=0..4", "not a range of the haystack"),
     ("start hay=616263 range=5..3", "not a range of the haystack"),
@@ -171,7 +171,7 @@ const RANGES: &[Refused] = &[
 ];
 
 /// Lines before the first job, and what is said of them.
-const NO_JOB: &[Refused] = &[
+static NO_JOB: &[Refused] = &[
     ("none\n> dead\n", "line 1: an answer without a job\n"),
     ("\n> dead\n", "line 1: an answer without a job\n"),
     ("# first\nnone\n", "line 2: an answer without a job\n"),

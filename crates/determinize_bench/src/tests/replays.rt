@@ -1,5 +1,6 @@
 //! A replay line by line: its counts, and what it prints.
 
+use crate::tests::{same, same_at};
 use determinize_replay::replay::{Replay, Tally};
 use std::test::Fail;
 
@@ -7,7 +8,7 @@ use std::test::Fail;
 type Replayed = (&'static [&'static str], u64, u64, &'static str);
 
 /// Right answers, wrong answers, several jobs, and no line.
-const REPLAYS: [Replayed; 9] = [
+static REPLAYS: [Replayed; 9] = [
     (&["> dead", "000000000000000000"], 1, 0, ""),
     (
         &[
@@ -72,15 +73,15 @@ const REPLAYS: [Replayed; 9] = [
 
 #[test]
 fn counts(rt: HostRuntime) -> Result<(), Fail> {
-    for (lines, jobs, differ, text) in REPLAYS {
+    for &(lines, jobs, differ, text) in &REPLAYS {
         let mut out = Vec::new(rt.alloc());
         let mut replay = Replay::new(rt.alloc(), None);
         for line in lines {
             replay.take_line(line, &mut out)?;
         }
         let tally = replay.finish(&mut out)?;
-        assert_eq!(rt; tally, Tally { jobs, differ }, "{lines:?}");
-        assert_eq!(rt; out.as_slice(), text.as_bytes(), "{lines:?}");
+        same_at(&rt, lines, tally, Tally { jobs, differ });
+        same_at(&rt, lines, out.as_slice(), text.as_bytes());
     }
     Ok(())
 }
@@ -102,14 +103,14 @@ fn unreadable_jobs(rt: HostRuntime) -> Result<(), Fail> {
         panic!(rt; "a job without a verb is taken");
     };
     let text = format!(in rt.alloc(); "{error}")?;
-    assert_eq!(rt; text.as_str(), "line 4: unknown verb \"sleep\"");
+    same(&rt, text.as_str(), "line 4: unknown verb \"sleep\"");
     let mut last = Replay::new(rt.alloc(), None);
     last.take_line("> fromusize n=-1", &mut out)?;
     let Err(error) = last.finish(&mut out) else {
         panic!(rt; "a negative number is taken");
     };
     let text = format!(in rt.alloc(); "{error}")?;
-    assert_eq!(rt; text.as_str(), "line 1: not a decimal number");
-    assert_eq!(rt; out.as_slice(), [].as_slice());
+    same(&rt, text.as_str(), "line 1: not a decimal number");
+    same(&rt, out.as_slice(), [].as_slice());
     Ok(())
 }

@@ -2,6 +2,7 @@
 //! refused.
 
 use crate::tests::runs::{Failing, words};
+use crate::tests::{holds, same, same_at};
 use determinize_below::BuildError;
 use refusing::{Finding, Refusing, in_turn};
 use std::alloc::{AllocError, Global};
@@ -11,7 +12,7 @@ use worked_rows::answers;
 use worked_rows::run::{RowError, report, run_rows};
 
 /// Words that name no walk.
-const OTHER_WORDS: [&[&str]; 15] = [
+static OTHER_WORDS: [&[&str]; 15] = [
     &[],
     &["3", "3"],
     &["3", "4a"],
@@ -31,14 +32,14 @@ const OTHER_WORDS: [&[&str]; 15] = [
 
 #[test]
 fn refuses_other_words(rt: HostRuntime) -> Result<(), Fail> {
-    for line in OTHER_WORDS {
+    for line in &OTHER_WORDS {
         let words = words(&rt, line)?;
         let mut out = Vec::new(rt.alloc());
         let mut err = Vec::new(rt.alloc());
         let status = run_rows(rt.alloc(), words.as_slice(), &mut out, &mut err);
-        assert_eq!(rt; status, 2, "{line:?}");
-        assert_eq!(rt; out.as_slice(), [].as_slice(), "{line:?}");
-        assert_eq!(rt; err.as_slice(), b"no such row\n".as_slice(), "{line:?}");
+        same_at(&rt, line, status, 2);
+        same_at(&rt, line, out.as_slice(), [].as_slice());
+        same_at(&rt, line, err.as_slice(), b"no such row\n".as_slice());
     }
     Ok(())
 }
@@ -56,13 +57,13 @@ fn print<R: Abort + AllocGlobal>(
     let status = run_rows(heap, words, &mut out, &mut err);
     heap.end();
     if status == 0 {
-        assert_eq!(rt; out.as_slice(), lines.as_bytes());
-        assert_eq!(rt; err.as_slice(), [].as_slice());
+        same(rt, out.as_slice(), lines.as_bytes());
+        same(rt, err.as_slice(), [].as_slice());
         return Ok(true);
     }
-    assert_eq!(rt; status, 1, "{words:?}");
-    assert_eq!(rt; err.as_slice(), b"out of memory\n".as_slice());
-    assert!(rt; lines.as_bytes().starts_with(out.as_slice()));
+    same_at(rt, words, status, 1);
+    same(rt, err.as_slice(), b"out of memory\n".as_slice());
+    holds(rt, lines.as_bytes().starts_with(out.as_slice()));
     Ok(false)
 }
 
@@ -72,7 +73,7 @@ fn prints_each_walk_or_tells_of_want_of_memory(rt: HostRuntime) -> Result<(), Fa
     for (name, _, lines) in answers::walks() {
         let words = words(&rt, &[name])?;
         let finding = in_turn(rt.alloc(), |heap| print(&rt, heap, words.as_slice(), lines))?;
-        assert_eq!(rt; finding, Finding::Sound, "{name}");
+        same_at(&rt, name, finding, Finding::Sound);
     }
     Ok(())
 }
@@ -84,12 +85,12 @@ fn tells_of_output_that_fails(rt: HostRuntime) -> Result<(), Fail> {
         let mut out = Failing { left };
         let mut err = Vec::new(rt.alloc());
         let status = run_rows(rt.alloc(), words.as_slice(), &mut out, &mut err);
-        assert_eq!(rt; status, 1, "after {left} writes");
+        same_at(&rt, left, status, 1);
     }
     let mut out = Failing { left: 1000 };
     let mut err = Vec::new(rt.alloc());
     let status = run_rows(rt.alloc(), words.as_slice(), &mut out, &mut err);
-    assert_eq!(rt; status, 0);
+    same(&rt, status, 0);
     Ok(())
 }
 
@@ -99,8 +100,8 @@ fn keeps_its_status_where_errors_fail(rt: HostRuntime) -> Result<(), Fail> {
     let mut out = Vec::new(rt.alloc());
     let mut err = Failing { left: 0 };
     let status = run_rows(rt.alloc(), words.as_slice(), &mut out, &mut err);
-    assert_eq!(rt; status, 2);
-    assert_eq!(rt; out.as_slice(), [].as_slice());
+    same(&rt, status, 2);
+    same(&rt, out.as_slice(), [].as_slice());
     Ok(())
 }
 
@@ -111,8 +112,8 @@ fn tells_of_want_of_memory(rt: HostRuntime) -> Result<(), Fail> {
         RowError::from(BuildError::OutOfMemory),
     ] {
         let mut err = Vec::new(rt.alloc());
-        assert_eq!(rt; report(Err(error), &mut err), 1);
-        assert_eq!(rt; err.as_slice(), b"out of memory\n".as_slice());
+        same(&rt, report(Err(error), &mut err), 1);
+        same(&rt, err.as_slice(), b"out of memory\n".as_slice());
     }
     Ok(())
 }

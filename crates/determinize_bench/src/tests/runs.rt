@@ -1,5 +1,6 @@
 //! The program's work: its statuses, and readers and writers that fail.
 
+use crate::tests::{same, same_at};
 use determinize_replay::error::{JobError, ReplayError};
 use determinize_replay::run::{report, run};
 use std::alloc::AllocError;
@@ -61,9 +62,9 @@ pub fn expect<R: Abort + AllocGlobal, I: Read + Drop>(
     let mut out = Vec::new(rt.alloc());
     let mut err = Vec::new(rt.alloc());
     let found = run(rt.alloc(), words.as_slice(), input, &mut out, &mut err);
-    assert_eq!(rt; err.as_slice(), err_text.as_bytes(), "{line:?} {out_text}");
-    assert_eq!(rt; out.as_slice(), out_text.as_bytes(), "{line:?} {err_text}");
-    assert_eq!(rt; found, status, "{line:?} {out_text} {err_text}");
+    same_at(rt, line, err.as_slice(), err_text.as_bytes());
+    same_at(rt, line, out.as_slice(), out_text.as_bytes());
+    same_at(rt, line, found, status);
     Ok(())
 }
 
@@ -133,7 +134,7 @@ type Run = (
 
 /// Jobs that agree, one that differs, nothing to replay; walks through caches, and searches; jobs
 /// that are refused before walks through caches; other arguments.
-const RUNS: [Run; 24] = [
+static RUNS: [Run; 24] = [
     (&[], DEAD, 0, "1 jobs, 0 differ, 0 skipped\n", ""),
     (
         &[],
@@ -210,7 +211,7 @@ const RUNS: [Run; 24] = [
 
 #[test]
 fn inputs(rt: HostRuntime) -> Result<(), Fail> {
-    for (line, input, status, out_text, err_text) in RUNS {
+    for &(line, input, status, out_text, err_text) in &RUNS {
         expect(&rt, line, input.as_bytes(), status, out_text, err_text)?;
     }
     Ok(())
@@ -239,14 +240,14 @@ fn output_that_fails(rt: HostRuntime) {
         let mut out = Failing { left };
         let mut err = Vec::new(rt.alloc());
         let status = run(rt.alloc(), &[], text, &mut out, &mut err);
-        assert_eq!(rt; status, 2, "after {left} writes");
+        same_at(&rt, left, status, 2);
         let told = b"the output can't be written\n".as_slice();
-        assert_eq!(rt; err.as_slice(), told, "after {left} writes");
+        same_at(&rt, left, err.as_slice(), told);
     }
     let mut out = Failing { left: 1000 };
     let mut err = Vec::new(rt.alloc());
-    assert_eq!(rt; run(rt.alloc(), &[], text, &mut out, &mut err), 1);
-    assert_eq!(rt; err.as_slice(), [].as_slice());
+    same(&rt, run(rt.alloc(), &[], text, &mut out, &mut err), 1);
+    same(&rt, err.as_slice(), [].as_slice());
 }
 
 #[test]
@@ -254,8 +255,8 @@ fn keeps_its_status_where_errors_fail(rt: HostRuntime) {
     let mut out = Vec::new(rt.alloc());
     let mut err = Failing { left: 0 };
     let status = run(rt.alloc(), &[], b"none\n".as_slice(), &mut out, &mut err);
-    assert_eq!(rt; status, 2);
-    assert_eq!(rt; out.as_slice(), [].as_slice());
+    same(&rt, status, 2);
+    same(&rt, out.as_slice(), [].as_slice());
 }
 
 #[test]
@@ -273,7 +274,7 @@ fn tells_of_each_error(rt: HostRuntime) {
         (ReplayError::of_arguments(&other), NOT_TAKEN),
     ] {
         let mut err = Vec::new(rt.alloc());
-        assert_eq!(rt; report(Err(error), &mut err), 2);
-        assert_eq!(rt; err.as_slice(), told.as_bytes());
+        same(&rt, report(Err(error), &mut err), 2);
+        same(&rt, err.as_slice(), told.as_bytes());
     }
 }

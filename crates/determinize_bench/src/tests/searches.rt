@@ -3,6 +3,7 @@
 use crate::tests::lazy::{
     INSIDE_A_WORD, REST_OF_A_WORD, Text, WHOLE_WORD, WORDS, nfa, walk_through,
 };
+use crate::tests::{same, same_at};
 use determinize_below::{Anchored, HalfMatch, Input, MatchKind, PatternID};
 use determinize_core::determinize::last_match;
 use determinize_lazy::Lazy;
@@ -28,12 +29,12 @@ fn expect<R: Abort + AllocGlobal>(
     let nfa = nfa(rt, WORDS, false)?;
     let start = nfa.start_anchored();
     let mut lazy = Lazy::new(rt.alloc(), &nfa, kind, 16);
-    assert_eq!(rt; lazy.search(start, behind, bytes, ahead)?, wanted);
-    assert_eq!(rt; lazy.computed(), computed);
-    assert_eq!(rt; lazy.search(start, behind, bytes, ahead)?, wanted);
-    assert_eq!(rt; lazy.computed(), computed);
+    same(rt, lazy.search(start, behind, bytes, ahead)?, wanted);
+    same(rt, lazy.computed(), computed);
+    same(rt, lazy.search(start, behind, bytes, ahead)?, wanted);
+    same(rt, lazy.computed(), computed);
     let states = walk_through(rt, &mut lazy, text)?;
-    assert_eq!(rt; last_match(states.as_slice()), wanted);
+    same(rt, last_match(states.as_slice()), wanted);
     Ok(())
 }
 
@@ -71,7 +72,7 @@ fn ranges(rt: HostRuntime) -> Result<(), Fail> {
             let wanted = if is_backward { backward } else { forward };
             for anchored in [Anchored::No, Anchored::Yes] {
                 let input = Input::new(HAYSTACK).range(start..end).anchored(anchored);
-                assert_eq!(rt; lazy.search_input(&input)?, wanted, "{start}..{end}");
+                same_at(&rt, start, lazy.search_input(&input)?, wanted);
             }
         }
     }
@@ -83,11 +84,11 @@ fn nothing_to_search(rt: HostRuntime) -> Result<(), Fail> {
     let nfa = nfa(&rt, "M:0", false)?;
     let mut lazy = Lazy::new(rt.alloc(), &nfa, MatchKind::All, 16);
     let done = Input::new(HAYSTACK).range(4..3);
-    assert_eq!(rt; lazy.search_input(&done)?, None);
-    assert_eq!(rt; lazy.computed(), 0);
+    same(&rt, lazy.search_input(&done)?, None);
+    same(&rt, lazy.computed(), 0);
     let empty = Input::new(HAYSTACK).range(4..4);
-    assert_eq!(rt; lazy.search_input(&empty)?, ended(4));
-    assert_eq!(rt; lazy.computed(), 1);
+    same(&rt, lazy.search_input(&empty)?, ended(4));
+    same(&rt, lazy.computed(), 1);
     Ok(())
 }
 
@@ -100,9 +101,9 @@ fn expect_long<R: Abort + AllocGlobal>(rt: &R, is_backward: bool, end: usize) ->
     let input = Input::new(haystack.as_slice());
     let nfa = nfa(rt, WORDS, is_backward)?;
     let mut lazy = Lazy::new(rt.alloc(), &nfa, MatchKind::LeftmostFirst, 16);
-    assert_eq!(rt; lazy.search_input(&input)?, ended(end));
-    assert_eq!(rt; lazy.computed(), 3);
-    assert_eq!(rt; lazy.states_kept(), 3);
+    same(rt, lazy.search_input(&input)?, ended(end));
+    same(rt, lazy.computed(), 3);
+    same(rt, lazy.states_kept(), 3);
     Ok(())
 }
 

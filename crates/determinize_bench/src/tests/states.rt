@@ -1,5 +1,6 @@
 //! States and their builders, as values of other tests, and how states compare.
 
+use crate::tests::holds;
 use determinize_core::state::{State, StateBuilderMatches, StateBuilderNFA};
 use determinize_replay::job::Job;
 use determinize_replay::{records, values};
@@ -22,12 +23,12 @@ pub fn with_patterns(alloc: Global, numbers: &str) -> Result<StateBuilderMatches
 fn comparison_of_states(rt: HostRuntime) -> Result<(), Fail> {
     let dead = State::dead(rt.alloc())?;
     let one = built(rt.alloc(), "build fw=0 half=0 ids=1")?.to_state()?;
-    assert!(rt; dead.clone()? == dead);
-    assert!(rt; dead != one);
-    assert!(rt; dead < one);
+    holds(&rt, dead.clone()? == dead);
+    holds(&rt, dead != one);
+    holds(&rt, dead < one);
     let mut set = HashSet::new(rt.alloc());
-    assert!(rt; set.insert(dead.clone()?)?);
-    assert!(rt; set.insert(one)?);
-    assert!(rt; !set.insert(dead)?);
+    holds(&rt, set.insert(dead.clone()?)?);
+    holds(&rt, set.insert(one)?);
+    holds(&rt, !set.insert(dead)?);
     Ok(())
 }

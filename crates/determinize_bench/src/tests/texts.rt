@@ -1,5 +1,6 @@
 //! Texts of states and of their builders.
 
+use crate::tests::same;
 use crate::tests::states::{built, with_patterns};
 use determinize_below::{Look, StateID};
 use std::process::Abort;
@@ -17,7 +18,7 @@ fn expect_in_order<R: Abort>(rt: &R, text: &str, parts: &[&str]) {
 }
 
 /// What the text of a builder has that was entered by a word byte, with patterns and a set.
-const ENTERED: [&str; 7] = [
+static ENTERED: [&str; 7] = [
     "is_match: true",
     "is_from_word: true",
     "is_half_crlf: false",
@@ -28,7 +29,7 @@ const ENTERED: [&str; 7] = [
 ];
 
 /// What the text of a builder has that stands behind half of a CRLF.
-const HALF: [&str; 4] = [
+static HALF: [&str; 4] = [
     "is_match: false",
     "is_from_word: false",
     "is_half_crlf: true",
@@ -50,7 +51,7 @@ fn texts_of_builders_of_matches(rt: HostRuntime) -> Result<(), Fail> {
 }
 
 /// Jobs of the verb `build`, and what the texts of their builders and states have.
-const TEXTS: [(&str, [&str; 7]); 2] = [
+static TEXTS: [(&str, [&str; 7]); 2] = [
     (
         "build fw=1 half=0 have=Start need=End pids=0 ids=1,3",
         [
@@ -79,13 +80,13 @@ const TEXTS: [(&str, [&str; 7]); 2] = [
 
 #[test]
 fn texts_of_values(rt: HostRuntime) -> Result<(), Fail> {
-    for (line, parts) in TEXTS {
+    for (line, parts) in &TEXTS {
         let builder = built(rt.alloc(), line)?;
         let text = format!(in rt.alloc(); "{builder:?}")?;
-        expect_in_order(&rt, text.as_str(), &parts);
+        expect_in_order(&rt, text.as_str(), parts.as_slice());
         let state = builder.to_state()?;
         let text = format!(in rt.alloc(); "{state:?}")?;
-        expect_in_order(&rt, text.as_str(), &parts);
+        expect_in_order(&rt, text.as_str(), parts.as_slice());
     }
     Ok(())
 }
@@ -95,9 +96,13 @@ fn text_of_ids_that_are_left(rt: HostRuntime) -> Result<(), Fail> {
     let state = built(rt.alloc(), "build fw=0 half=0 ids=8,0,300")?.to_state()?;
     let mut ids = state.iter_nfa_state_ids();
     let whole = format!(in rt.alloc(); "{ids:?}")?;
-    assert_eq!(rt; whole.as_str(), "[StateID(8), StateID(0), StateID(300)]");
-    assert_eq!(rt; ids.next(), Some(StateID::new(8)?));
+    same(
+        &rt,
+        whole.as_str(),
+        "[StateID(8), StateID(0), StateID(300)]",
+    );
+    same(&rt, ids.next(), Some(StateID::new(8)?));
     let rest = format!(in rt.alloc(); "{ids:?}")?;
-    assert_eq!(rt; rest.as_str(), "[StateID(0), StateID(300)]");
+    same(&rt, rest.as_str(), "[StateID(0), StateID(300)]");
     Ok(())
 }

@@ -1,7 +1,7 @@
 //! Single calls whose answers were worked by hand.
 
 /// Single calls, and what they answer.
-pub const CALLS: [(&str, &str); 68] = [
+pub static CALLS: [(&str, &str); 68] = [
     ("dead", "000000000000000000\n"),
     ("start dir=fwd hay=- range=1..0", "kind Text -\n"),
     ("start dir=rev hay=- range=1..0", "kind Text -\n"),

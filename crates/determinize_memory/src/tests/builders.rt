@@ -2,7 +2,7 @@
 
 ghost use Rattle.std.specs.Prelude.{◌≡◌, [], OnOk};
 
-use crate::tests::{Heap, Row, call_twice, refuse_over_walks};
+use crate::tests::{Heap, Row, call_twice, refuse_over_walks, same};
 use determinize_below::{PatternID, StateID};
 use determinize_core::state::{State, StateBuilderEmpty, StateBuilderMatches, StateBuilderNFA};
 use std::process::Abort;
@@ -32,7 +32,7 @@ fn add_pattern(
         return Ok(true);
     }
     let after = builder.clone()?.into_nfa();
-    assert_eq!(rt; after.as_bytes(), before.as_bytes());
+    same(rt, after.as_bytes(), before.as_bytes());
     builder.add_match_pattern_id(id)?;
     Ok(false)
 }
@@ -52,7 +52,7 @@ fn add_state(
     if added.is_ok() {
         return Ok(true);
     }
-    assert_eq!(rt; builder.as_bytes(), before.as_bytes());
+    same(rt, builder.as_bytes(), before.as_bytes());
     builder.add_nfa_state_id(id)?;
     Ok(false)
 }
@@ -84,7 +84,7 @@ pub fn are_spelled<'a>(
 ) -> bool {
     let (first, second) = builders;
     for builder in first.iter().chain(Some(second)) {
-        assert_eq!(rt; builder.as_bytes(), bytes);
+        same(rt, builder.as_bytes(), bytes);
     }
     first.is_some()
 }
@@ -97,10 +97,10 @@ fn build_matches<'a, R: Abort + AllocGlobal>(
 ) -> Result<(bool, StateBuilderMatches<&'a Heap>), Fail> {
     let (first, empty) = call_twice(heap, || StateBuilderEmpty::new(heap).clone())?;
     let mut is_answered = first.is_some();
-    assert_eq!(rt; empty.capacity(), 0);
+    same(rt, empty.capacity(), 0);
     let (first, second) = call_twice(heap, || StateBuilderEmpty::new(heap).into_matches())?;
     is_answered &= first.is_some();
-    assert_eq!(rt; second.into_nfa().as_bytes(), [0; 9].as_slice());
+    same(rt, second.into_nfa().as_bytes(), [0; 9].as_slice());
     let matches = StateBuilderEmpty::new(heap).into_matches()?;
     let (are_added, mut matches) = add_patterns(rt, heap, matches, state)?;
     is_answered &= are_added;
@@ -113,6 +113,23 @@ fn build_matches<'a, R: Abort + AllocGlobal>(
     let have = state.look_have();
     matches.set_look_have(|_| have);
     Ok((is_answered, matches))
+}
+
+/// Asks that a builder with all of its parts has these bytes, and so have its clone and its state.
+fn finish(
+    rt: &impl Abort,
+    heap: &Heap,
+    builder: &StateBuilderNFA<&Heap>,
+    bytes: &[u8],
+) -> Result<bool, Fail> {
+    let clones = call_twice(heap, || builder.clone())?;
+    let is_cloned = are_spelled(rt, &clones, bytes);
+    let (first, second) = call_twice(heap, || builder.to_state())?;
+    for made in first.iter().chain(Some(&second)) {
+        same(rt, made.as_bytes(), bytes);
+    }
+    same(rt, builder.as_bytes(), bytes);
+    Ok(is_cloned && first.is_some())
 }
 
 /// Builds a state anew. Each builder on the way is cloned.
@@ -132,14 +149,7 @@ fn build<'a, R: Abort + AllocGlobal>(
     for id in state.iter_nfa_state_ids() {
         is_answered &= add_state(rt, heap, &mut builder, id)?;
     }
-    let clones = call_twice(heap, || builder.clone())?;
-    is_answered &= are_spelled(rt, &clones, bytes);
-    let (first, second) = call_twice(heap, || builder.to_state())?;
-    for made in first.iter().chain(Some(&second)) {
-        assert_eq!(rt; made.as_bytes(), bytes);
-    }
-    assert_eq!(rt; builder.as_bytes(), bytes);
-    Ok(is_answered && first.is_some())
+    Ok(is_answered & finish(rt, heap, &builder, bytes)?)
 }
 
 /// Builds each state of a walk anew.

@@ -2,7 +2,7 @@
 
 ghost use Rattle.std.specs.Prelude.{◌≤◌};
 
-use crate::tests::{Heap, Row, call_twice, refuse_in_turn, refuse_over_walks};
+use crate::tests::{Heap, Row, call_twice, holds, refuse_in_turn, refuse_over_walks, same};
 use determinize_below::{BuildError, NFA, SparseSet, SparseSets, StateID};
 use determinize_replay::job::Job;
 use determinize_replay::nfas;
@@ -16,14 +16,14 @@ fn make_sets(rt: &impl Abort, heap: &Heap, capacity: usize) -> Result<bool, Fail
 {
     let (single, second) = call_twice(heap, || SparseSet::new(heap, capacity))?;
     for set in single.iter().chain(Some(&second)) {
-        assert!(rt; set.is_empty());
-        assert_eq!(rt; set.capacity(), capacity);
+        holds(rt, set.is_empty());
+        same(rt, set.capacity(), capacity);
     }
     let (first, second) = call_twice(heap, || SparseSets::new(heap, capacity))?;
     for sets in first.iter().chain(Some(&second)) {
-        assert!(rt; sets.set1.is_empty() && sets.set2.is_empty());
-        assert_eq!(rt; sets.set1.capacity(), capacity);
-        assert_eq!(rt; sets.set2.capacity(), capacity);
+        holds(rt, sets.set1.is_empty() && sets.set2.is_empty());
+        same(rt, sets.set1.capacity(), capacity);
+        same(rt, sets.set2.capacity(), capacity);
     }
     Ok(single.is_some() && first.is_some())
 }
@@ -52,7 +52,7 @@ fn make_nfa<R: Abort + AllocGlobal>(
     match made {
         Ok(nfa) => row.nfa = nfa,
         Err(error) => {
-            assert_eq!(rt; error, BuildError::OutOfMemory);
+            same(rt, error, BuildError::OutOfMemory);
             return Ok(false);
         }
     }

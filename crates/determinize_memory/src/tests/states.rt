@@ -1,6 +1,6 @@
 //! States, and what is read of them.
 
-use crate::tests::{Heap, Row, call_twice, refuse_in_turn, refuse_over_walks};
+use crate::tests::{Heap, Row, call_twice, holds, refuse_in_turn, refuse_over_walks, same};
 use determinize_below::StateID;
 use determinize_core::state::{State, StateBuilderEmpty, StateBuilderNFA};
 use std::process::Abort;
@@ -20,13 +20,13 @@ pub fn builder_of<'a>(heap: &'a Heap, len: usize) -> Result<StateBuilderNFA<&'a 
 fn make_and_clone(rt: &impl Abort, heap: &Heap, len: usize) -> Result<bool, Fail> {
     let builder = builder_of(heap, len)?;
     let bytes = builder.as_bytes();
-    assert_eq!(rt; bytes.len(), len);
+    same(rt, bytes.len(), len);
     let (first, second) = call_twice(heap, || builder.to_state())?;
     for state in first.iter().chain(Some(&second)) {
-        assert_eq!(rt; state.as_bytes(), bytes);
+        same(rt, state.as_bytes(), bytes);
     }
     let is_cloned = clone_state(rt, heap, &second, bytes)?;
-    assert_eq!(rt; heap.asked() == 0, len <= 30);
+    same(rt, heap.asked() == 0, len <= 30);
     Ok(first.is_some() && is_cloned)
 }
 
@@ -39,9 +39,9 @@ fn clone_state(
 ) -> Result<bool, Fail> {
     let (first, second) = call_twice(heap, || state.clone())?;
     for clone in first.iter().chain(Some(&second)) {
-        assert_eq!(rt; clone.as_bytes(), bytes);
+        same(rt, clone.as_bytes(), bytes);
     }
-    assert_eq!(rt; state.as_bytes(), bytes);
+    same(rt, state.as_bytes(), bytes);
     Ok(first.is_some())
 }
 
@@ -50,13 +50,13 @@ fn read_patterns(rt: &impl Abort, heap: &Heap, state: &State<&Heap>) -> Result<b
     let (first, second) = call_twice(heap, || state.match_pattern_ids())?;
     for ids in first.iter().chain(Some(&second)) {
         let Some(ids) = ids else {
-            assert!(rt; !state.is_match());
+            holds(rt, !state.is_match());
             continue;
         };
-        assert_eq!(rt; ids.len(), state.match_len());
+        same(rt, ids.len(), state.match_len());
         for (index, id) in ids.iter().enumerate() {
             assert!(rt; index < state.match_len());
-            assert_eq!(rt; *id, state.match_pattern(index));
+            same(rt, *id, state.match_pattern(index));
         }
     }
     Ok(first.is_some())

@@ -1,22 +1,23 @@
 //! Closures, recordings, transitions and whole walks.
 
-ghost use Rattle.std.specs.Prelude.{◌≡◌, ◌<◌, length};
+ghost use Rattle.std.specs.Prelude.{◌≡◌, ◌<◌, length, IfOk};
 ghost use Rattle.determinize_below.specs.Nfa.{AllResolve};
 ghost use Rattle.determinize_core.specs.Scratch.{IsScratch};
 
 use crate::tests::builders::are_spelled;
-use crate::tests::{Heap, Row, call_twice, refuse_in_turn, refuse_over_walks};
-use determinize_below::{SparseSet, SparseSets, StateID, Unit};
+use crate::tests::{Heap, Row, call_twice, holds, refuse_in_turn, refuse_over_walks, same};
+use determinize_below::{LookSet, NFA, SparseSet, SparseSets, StateID, Unit};
 use determinize_core::determinize::{
     Steps, add_nfa_states, epsilon_closure, next, next_counted, set_lookbehind_from_start,
     start_state,
 };
 use determinize_core::start::{Start, StartByteMap};
 use determinize_core::state::{State, StateBuilderEmpty, StateBuilderNFA};
+use determinize_replay::error::JobError;
 use determinize_replay::job::Job;
 use determinize_replay::key::Key;
 use determinize_replay::{nfas, records, values};
-use std::alloc::AllocError;
+use std::alloc::{AllocError, Global};
 use std::marker::Brand;
 use std::process::Abort;
 use std::sync::ledger::{Blank, Ledger};
@@ -24,7 +25,7 @@ use std::test::Fail;
 
 /// Closures of the start states of walks, and one past a state that is held: the states that the
 /// set holds in the end.
-const CLOSURES: [(&str, &str); 5] = [
+static CLOSURES: [(&str, &str); 5] = [
     ("closure from=0 | U:1,2,3 M:2 M:0 M:1", "0,1,2,3"),
     (
         "closure from=0 | BU:4,1 B:00-ff>0 L:WordAscii>5 B:25>5 BU:2,3 BU:4,6 M:0",
@@ -44,43 +45,74 @@ const CLOSURES: [(&str, &str); 5] = [
     ),
 ];
 
+/// A closure to be made: from which state, by which assertions, past which states.
+#[derive(Drop)]
+struct Closing {
+    nfa: NFA,
+    start: StateID,
+    have: LookSet,
+    held: Vec<StateID>,
+}
+
+impl Closing {
+    /// Reads a closure.
+    fn read(alloc: Global, line: &str) -> Result<Closing, JobError> {
+        let job = Job::read(alloc, line)?;
+        Ok(Closing {
+            nfa: nfas::nfa(alloc, &job)?,
+            start: values::state_id(job.needed(Key::From)?)?,
+            have: values::look_set(job.value_or_none(Key::Look))?,
+            held: values::state_ids(alloc, job.value_or_none(Key::Held))?,
+        })
+    }
+
+    /// A set with the states that are held.
+    fn set<'a>(&self, heap: &'a Heap) -> Result<SparseSet<&'a Heap>, JobError>
+        ensures { IfOk result (λ set. set.capacity ≡ length self.now.nfa.states) }
+    {
+        records::set(heap, self.nfa.len(), self.held.as_slice())
+    }
+}
+
 /// Adds a closure to a set. A set that was refused has what it had and a beginning of the rest.
 fn close<R: Abort + AllocGlobal>(
     rt: &R,
     heap: &Heap,
-    line: &str,
+    closing: &Closing,
     wanted: &[StateID],
 ) -> Result<bool, Fail> {
-    let job = Job::read(rt.alloc(), line)?;
-    let nfa = nfas::nfa(rt.alloc(), &job)?;
-    let start = values::state_id(job.needed(Key::From)?)?;
-    let have = values::look_set(job.value_or_none(Key::Look))?;
-    let held = values::state_ids(rt.alloc(), job.value_or_none(Key::Held))?;
+    let Closing {
+        nfa,
+        start,
+        have,
+        held,
+    } = closing;
     assert!(rt; start.as_usize() < nfa.len());
     let mut stack = Vec::new(heap);
-    let mut set = records::set(heap, nfa.len(), held.as_slice())?;
+    let mut set = closing.set(heap)?;
     heap.begin();
-    let added = epsilon_closure(&nfa, start, have, &mut stack, &mut set);
+    let added = epsilon_closure(nfa, *start, *have, &mut stack, &mut set);
     heap.end();
     assert!(rt; stack.is_empty());
     let found: Vec<StateID> = set.iter().collect(rt.alloc())?;
-    assert!(rt; found.starts_with(held.as_slice()));
-    assert!(rt; wanted.starts_with(found.as_slice()));
-    let mut set = records::set(heap, nfa.len(), held.as_slice())?;
-    epsilon_closure(&nfa, start, have, &mut stack, &mut set)?;
+    holds(rt, found.starts_with(held.as_slice()));
+    holds(rt, wanted.starts_with(found.as_slice()));
+    let mut set = closing.set(heap)?;
+    epsilon_closure(nfa, *start, *have, &mut stack, &mut set)?;
     let again: Vec<StateID> = set.iter().collect(rt.alloc())?;
-    assert_eq!(rt; again.as_slice(), wanted);
+    same(rt, again.as_slice(), wanted);
     if added.is_ok() {
-        assert_eq!(rt; found.as_slice(), wanted);
+        same(rt, found.as_slice(), wanted);
     }
     Ok(added.is_ok())
 }
 
 #[test]
 fn closures(rt: HostRuntime) -> Result<(), Fail> {
-    for (line, wanted) in CLOSURES {
+    for (line, wanted) in &CLOSURES {
+        let closing = Closing::read(rt.alloc(), line)?;
         let wanted = values::state_ids(rt.alloc(), wanted)?;
-        refuse_in_turn(&rt, |heap| close(&rt, heap, line, wanted.as_slice()))?;
+        refuse_in_turn(&rt, |heap| close(&rt, heap, &closing, wanted.as_slice()))?;
     }
     Ok(())
 }
@@ -108,10 +140,10 @@ fn record(rt: &impl Abort, heap: &Heap, row: &Row) -> Result<bool, Fail> {
     let added = add_nfa_states(&row.nfa, &set, &mut builder);
     heap.end();
     if added.is_err() {
-        assert_eq!(rt; builder.as_bytes(), before.as_bytes());
+        same(rt, builder.as_bytes(), before.as_bytes());
         add_nfa_states(&row.nfa, &set, &mut builder)?;
     }
-    assert_eq!(rt; builder.as_bytes(), row.bytes(0));
+    same(rt, builder.as_bytes(), row.bytes(0));
     Ok(added.is_ok())
 }
 

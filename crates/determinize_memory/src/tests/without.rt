@@ -2,7 +2,7 @@
 
 use crate::tests::states::builder_of;
 use crate::tests::steps::start_kind;
-use crate::tests::{Heap, Row, refuse_in_turn, refuse_over_walks};
+use crate::tests::{Heap, Row, holds, refuse_in_turn, refuse_over_walks, same};
 use determinize_below::{Input, Look, LookSet, PatternID, SparseSet, SparseSets, StateID};
 use determinize_core::determinize::{epsilon_closure, set_lookbehind_from_start};
 use determinize_core::start::Config;
@@ -13,7 +13,7 @@ use std::test::Fail;
 /// Asks that no growth was asked for.
 fn has_asked_none(rt: &impl Abort, heap: &Heap) -> bool {
     heap.end();
-    assert_eq!(rt; heap.asked(), 0);
+    same(rt, heap.asked(), 0);
     true
 }
 
@@ -24,16 +24,16 @@ fn fill_sets(rt: &impl Abort, heap: &Heap) -> Result<bool, Fail> {
     for number in [5usize, 69, 0] {
         let id = StateID::new(number)?;
         assert!(rt; id.as_usize() < sparses.set1.capacity());
-        assert!(rt; sparses.set1.insert(id));
+        holds(rt, sparses.set1.insert(id));
         assert!(rt; id.as_usize() < sparses.set1.capacity());
-        assert!(rt; sparses.set1.contains(id));
+        holds(rt, sparses.set1.contains(id));
     }
-    assert_eq!(rt; sparses.set1.iter().count(), 3);
+    same(rt, sparses.set1.iter().count(), 3);
     sparses.swap();
-    assert_eq!(rt; (sparses.set1.len(), sparses.set2.len()), (0, 3));
+    same(rt, (sparses.set1.len(), sparses.set2.len()), (0, 3));
     sparses.clear();
     sparses.set1.clear();
-    assert!(rt; sparses.set1.is_empty() && sparses.set2.is_empty());
+    holds(rt, sparses.set1.is_empty() && sparses.set2.is_empty());
     Ok(has_asked_none(rt, heap))
 }
 
@@ -42,23 +42,27 @@ fn fill_sets(rt: &impl Abort, heap: &Heap) -> Result<bool, Fail> {
 fn build(rt: &impl Abort, heap: &Heap) -> Result<bool, Fail> {
     heap.begin();
     let empty = StateBuilderEmpty::new(heap);
-    assert_eq!(rt; empty.capacity(), 0);
+    same(rt, empty.capacity(), 0);
     heap.end();
     let mut matches = empty.into_matches()?;
     heap.begin();
     matches.set_is_from_word();
     matches.set_is_half_crlf();
     matches.set_look_have(|have| have.insert(Look::Start));
-    assert!(rt; matches.look_have().contains(Look::Start));
-    assert!(rt; matches.add_match_pattern_id(PatternID::ZERO).is_ok());
+    holds(rt, matches.look_have().contains(Look::Start));
+    holds(rt, matches.add_match_pattern_id(PatternID::ZERO).is_ok());
     let mut builder = matches.into_nfa();
     builder.set_look_have(|have| have.remove(Look::Start));
     builder.set_look_need(|need| need.insert(Look::End));
-    assert!(rt; builder.look_have().is_empty());
-    assert!(rt; builder.look_need().contains(Look::End));
-    assert_eq!(rt; builder.as_bytes(), [13, 0, 0, 0, 0, 2, 0, 0, 0].as_slice());
+    holds(rt, builder.look_have().is_empty());
+    holds(rt, builder.look_need().contains(Look::End));
+    same(
+        rt,
+        builder.as_bytes(),
+        [13, 0, 0, 0, 0, 2, 0, 0, 0].as_slice(),
+    );
     let empty = builder.clear();
-    assert!(rt; empty.capacity() > 0);
+    holds(rt, empty.capacity() > 0);
     Ok(has_asked_none(rt, heap))
 }
 
@@ -69,7 +73,7 @@ fn close_patterns(rt: &impl Abort, heap: &Heap) -> Result<bool, Fail> {
     heap.begin();
     let builder = matches.into_nfa();
     let bytes = [3, 0, 0, 0, 0, 0, 0, 0, 0, 1, 0, 0, 0, 1, 0, 0, 0];
-    assert_eq!(rt; builder.as_bytes(), bytes.as_slice());
+    same(rt, builder.as_bytes(), bytes.as_slice());
     Ok(has_asked_none(rt, heap))
 }
 
@@ -78,8 +82,16 @@ fn begin_walk(rt: &impl Abort, heap: &Heap, row: &Row) -> Result<bool, Fail> {
     let mut matches = StateBuilderEmpty::new(heap).into_matches()?;
     heap.begin();
     let input = Input::new(row.text.as_slice());
-    assert_eq!(rt; Config::from_input_forward(&input).get_look_behind(), None);
-    assert_eq!(rt; Config::from_input_reverse(&input).get_look_behind(), None);
+    same(
+        rt,
+        Config::from_input_forward(&input).get_look_behind(),
+        None,
+    );
+    same(
+        rt,
+        Config::from_input_reverse(&input).get_look_behind(),
+        None,
+    );
     set_lookbehind_from_start(&row.nfa, &start_kind(row), &mut matches);
     Ok(has_asked_none(rt, heap))
 }
@@ -94,7 +106,7 @@ fn close_states(rt: &impl Abort, heap: &Heap, row: &Row) -> Result<bool, Fail> {
         assert_eq!(rt; set.capacity(), row.nfa.len());
         if !row.nfa.state(id).is_epsilon() {
             let added = epsilon_closure(&row.nfa, id, LookSet::empty(), &mut stack, &mut set);
-            assert!(rt; added.is_ok());
+            holds(rt, added.is_ok());
         }
     }
     Ok(has_asked_none(rt, heap))
@@ -102,21 +114,24 @@ fn close_states(rt: &impl Abort, heap: &Heap, row: &Row) -> Result<bool, Fail> {
 
 /// Asks all readers of a state.
 fn read_state(rt: &impl Abort, state: &State<&Heap>, bytes: &[u8]) {
-    assert_eq!(rt; state.as_bytes(), bytes);
-    assert_eq!(rt; state.memory_usage(), bytes.len());
-    assert!(rt; state == state && state <= state);
-    assert_eq!(rt; state.is_match(), state.match_len() > 0);
+    same(rt, state.as_bytes(), bytes);
+    same(rt, state.memory_usage(), bytes.len());
+    holds(rt, state == state && state <= state);
+    same(rt, state.is_match(), state.match_len() > 0);
     if state.match_len() > 0 {
-        assert!(rt; state.match_pattern(0) <= PatternID::MAX);
+        holds(rt, state.match_pattern(0) <= PatternID::MAX);
     } else {
-        assert!(rt; matches!(state.match_pattern_ids(), Ok(None)));
+        holds(rt, matches!(state.match_pattern_ids(), Ok(None)));
     }
     let flags = bytes.first().copied().unwrap_or_default();
     let told = (state.is_from_word(), state.is_half_crlf());
-    assert_eq!(rt; (flags & 4 != 0, flags & 8 != 0), told);
-    assert!(rt; state.look_have().is_empty() || !state.look_need().is_empty());
+    same(rt, (flags & 4 != 0, flags & 8 != 0), told);
+    holds(
+        rt,
+        state.look_have().is_empty() || !state.look_need().is_empty(),
+    );
     for id in state.iter_nfa_state_ids() {
-        assert!(rt; id <= StateID::MAX);
+        holds(rt, id <= StateID::MAX);
     }
 }
 
@@ -136,10 +151,10 @@ fn make_short(rt: &impl Abort, heap: &Heap, len: usize) -> Result<bool, Fail> {
     let builder = builder_of(heap, len)?;
     heap.begin();
     let dead = State::dead(heap)?;
-    assert_eq!(rt; dead.clone()?.as_bytes(), [0; 9].as_slice());
+    same(rt, dead.clone()?.as_bytes(), [0; 9].as_slice());
     let state = builder.to_state()?;
-    assert_eq!(rt; state.clone()?.as_bytes(), builder.as_bytes());
-    assert!(rt; state.clone()? == state);
+    same(rt, state.clone()?.as_bytes(), builder.as_bytes());
+    holds(rt, state.clone()? == state);
     Ok(has_asked_none(rt, heap))
 }
 

@@ -1,12 +1,13 @@
 //! The second code of the page `CALLING.md` of `determinize_core`, word for word.
 
-ghost use Rattle.std.specs.Prelude.{◌<◌, length};
+ghost use Rattle.std.specs.Prelude.{◌≡◌, ◌<◌, ◌⊎◌, ◌++◌, ◌∷◌, [], length, OnOk};
 
 use determinize_below::{MatchKind, NFA, SparseSets, StateID, Unit};
 use determinize_core::determinize::{next, start_state};
 use determinize_core::state::{State, StateBuilderEmpty};
 use std::alloc::{AllocError, Allocator, Global};
 use std::collections::HashMap;
+use std::hash::{BuildHasherDefault, FoldHasher};
 
 /// The states of a DFA in the order in which they are found, the start state first, and for each
 /// state the indices of those that follow over each byte and, last, over the end of the input.
@@ -18,12 +19,33 @@ pub struct Dfa<A: Allocator = Global> {
     pub rows: Vec<Vec<usize, A>, A>,
 }
 
+/// Where each state that was found stands.
+type Indices<A> = HashMap<State<A>, usize, BuildHasherDefault<FoldHasher>, A>;
+
 /// The unit of a column: a byte, or the end of the input after the bytes.
 fn unit(column: usize) -> Unit {
     match u8::try_from(column) {
         Ok(byte) => Unit::u8(byte),
         Err(_) => Unit::eoi(256),
     }
+}
+
+/// The index of a state among those found, which gain it where it is new.
+fn index_of<A: Allocator + Copy>(
+    states: &mut Vec<State<A>, A>,
+    indices: &mut Indices<A>,
+    state: State<A>,
+) -> Result<usize, AllocError>
+    ensures { OnOk result ((states.new.items ≡ states.old.items)
+        ⊎ (states.new.items ≡ states.old.items ++ state ∷ [])) }
+{
+    if let Some(known) = indices.get(&state) {
+        return Ok(*known);
+    }
+    let index = states.len();
+    indices.insert(state.clone()?, index)?;
+    states.push(state)?;
+    Ok(index)
 }
 
 /// The DFA of searches from this NFA state with nothing behind, or none where it has more states
@@ -42,9 +64,8 @@ pub fn build<N: Allocator, A: Allocator + Copy>(
     let empty = StateBuilderEmpty::new(alloc);
     let mut builder = start_state(nfa, start, None, &mut sparses, &mut stack, empty)?;
     let mut states = Vec::new(alloc);
-    states.push(builder.to_state()?)?;
     let mut indices = HashMap::new(alloc);
-    indices.insert(builder.to_state()?, 0)?;
+    index_of(&mut states, &mut indices, builder.to_state()?)?;
     let mut rows = Vec::new(alloc);
     for index in 0..=limit {
         if index >= states.len() {
@@ -56,14 +77,7 @@ pub fn build<N: Allocator, A: Allocator + Copy>(
             let unit = unit(column);
             let empty = builder.clear();
             builder = next(nfa, kind, &mut sparses, &mut stack, &state, unit, empty)?;
-            let target = builder.to_state()?;
-            if let Some(known) = indices.get(&target) {
-                row.push(*known)?;
-                continue;
-            }
-            row.push(states.len())?;
-            indices.insert(target.clone()?, states.len())?;
-            states.push(target)?;
+            row.push(index_of(&mut states, &mut indices, builder.to_state()?)?)?;
         }
         rows.push(row)?;
     }
