@@ -28,8 +28,7 @@ use std::process::Abort;
 use std::test::Fail;
 use worked_rows::answers;
 
-/// Asks that two values are equal. (A function, since what `assert_eq!` writes for its message would
-/// be proved at each place again.)
+/// Asks that two values are equal.
 pub fn same<R: Abort, T: PartialEq + Debug + Copy>(rt: &R, found: T, wanted: T) {
     assert_eq!(rt; found, wanted);
 }

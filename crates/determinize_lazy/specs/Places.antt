@@ -1,4 +1,4 @@
--- Values in a row, each known by its place.
+-- Values in order, each known by its place.
 use Rattle.std.specs.Prelude.{◌≡◌, ℕ, Option, Some, List, slice_get}
 use Rattle.std.specs.List.{position_from}
 use Rattle.determinize_core.specs.Value.{Value}

@@ -1,4 +1,4 @@
-//! Recording a set of NFA states in the builder of a DFA state.
+//! Recording NFA states, one or a set, in the builder of a DFA state.
 
 ghost use Rattle.std.specs.Prelude.{◌≡◌, ◌<◌, [], ◌∷◌, length, OnOk, OnErr};
 ghost use Rattle.determinize_below.specs.Edges.{is_capture};
@@ -12,7 +12,8 @@ use determinize_below::{NFA, SparseSet, StateID};
 use std::alloc::{AllocError, Allocator};
 
 /// Records one NFA state after the others and, for a `Look`, its assertion in look-need. A capture
-/// is left out.
+/// is left out. Look-have stays as it is, so that [`StateBuilderNFA::settle`] is due after the last
+/// state.
 ///
 /// The only error is want of memory. The builder has the assertion then, and no more states.
 #[inline(always)]

@@ -72,7 +72,7 @@ fn run<R: Abort + AllocGlobal>(
         let wanted = end.map(|end| HalfMatch::new(PatternID::ZERO, end));
         let states = walk(rt.alloc(), nfa, kind, start, None, text.as_bytes())?;
         let walked = last_match(states.as_slice());
-        holds(rt, walked == wanted);
+        same_at(rt, text, walked == wanted, true);
         same_at(rt, text, dfa.last_match(text.as_bytes()), walked);
     }
     Ok(())

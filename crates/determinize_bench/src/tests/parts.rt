@@ -40,6 +40,6 @@ fn readers_of_an_nfa(rt: HostRuntime) -> Result<(), Fail> {
     let state = nfa.state(StateID::ZERO);
     holds(&rt, state.is_epsilon());
     let text = format!(in rt.alloc(); "{state:?}")?;
-    holds(&rt, text.contains("WordAscii"));
+    same_at(&rt, text.as_str(), text.contains("WordAscii"), true);
     Ok(())
 }

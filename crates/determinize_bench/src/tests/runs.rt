@@ -62,9 +62,10 @@ pub fn expect<R: Abort + AllocGlobal, I: Read + Drop>(
     let mut out = Vec::new(rt.alloc());
     let mut err = Vec::new(rt.alloc());
     let found = run(rt.alloc(), words.as_slice(), input, &mut out, &mut err);
-    same_at(rt, line, err.as_slice(), err_text.as_bytes());
-    same_at(rt, line, out.as_slice(), out_text.as_bytes());
-    same_at(rt, line, found, status);
+    let place = (line, out_text, err_text);
+    same_at(rt, place, err.as_slice(), err_text.as_bytes());
+    same_at(rt, place, out.as_slice(), out_text.as_bytes());
+    same_at(rt, place, found, status);
     Ok(())
 }
 

@@ -72,7 +72,8 @@ fn ranges(rt: HostRuntime) -> Result<(), Fail> {
             let wanted = if is_backward { backward } else { forward };
             for anchored in [Anchored::No, Anchored::Yes] {
                 let input = Input::new(HAYSTACK).range(start..end).anchored(anchored);
-                same_at(&rt, start, lazy.search_input(&input)?, wanted);
+                let place = (start, end, is_backward);
+                same_at(&rt, place, lazy.search_input(&input)?, wanted);
             }
         }
     }

@@ -1,4 +1,4 @@
--- Values held in a row with a map to their places.
+-- Values held in order, with a map to their places.
 use Rattle.std.specs.Prelude.{◌≡◌, ℕ, ◌≤◌, false, Option, Some, List, [], ◌∷◌, ⊤, length, slice_get, MatchOption}
 use Rattle.std.specs.List.{list_any}
 use Rattle.determinize_core.specs.Value.{IsValue, Value}

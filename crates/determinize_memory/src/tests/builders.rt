@@ -115,7 +115,8 @@ fn build_matches<'a, R: Abort + AllocGlobal>(
     Ok((is_answered, matches))
 }
 
-/// Asks that a builder with all of its parts has these bytes, and so have its clone and its state.
+/// Asks that a builder with all of its parts has these bytes, and so have its clone and its state,
+/// and tells whether the first call of each was answered.
 fn finish(
     rt: &impl Abort,
     heap: &Heap,
@@ -149,7 +150,8 @@ fn build<'a, R: Abort + AllocGlobal>(
     for id in state.iter_nfa_state_ids() {
         is_answered &= add_state(rt, heap, &mut builder, id)?;
     }
-    Ok(is_answered & finish(rt, heap, &builder, bytes)?)
+    is_answered &= finish(rt, heap, &builder, bytes)?;
+    Ok(is_answered)
 }
 
 /// Builds each state of a walk anew.

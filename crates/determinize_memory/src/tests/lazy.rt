@@ -27,7 +27,7 @@ fn walk(rt: &impl Abort, heap: &Heap, row: &Row, limit: usize) -> Result<bool, F
 }
 
 /// Searches over a new cache, in the same way.
-fn find(rt: &impl Abort, heap: &Heap, row: &Row, limit: usize) -> Result<bool, Fail> {
+fn search_text(rt: &impl Abort, heap: &Heap, row: &Row, limit: usize) -> Result<bool, Fail> {
     let start = row.start()?;
     let (behind, text, ahead) = (row.look_behind, row.text.as_slice(), row.look_ahead);
     let wanted = last_match(row.walk(heap, start)?.as_slice());
@@ -43,22 +43,23 @@ fn find(rt: &impl Abort, heap: &Heap, row: &Row, limit: usize) -> Result<bool, F
     Ok(first.is_ok())
 }
 
-/// Walks and searches with so much room.
-fn walk_and_find(rt: &impl Abort, heap: &Heap, row: &Row, limit: usize) -> Result<bool, Fail> {
-    Ok(walk(rt, heap, row, limit)? && find(rt, heap, row, limit)?)
+/// Walks and searches with room for so many states.
+fn walk_and_search(rt: &impl Abort, heap: &Heap, row: &Row, limit: usize) -> Result<bool, Fail> {
+    Ok(walk(rt, heap, row, limit)? && search_text(rt, heap, row, limit)?)
 }
 
 #[test]
 fn lazy_walks(rt: HostRuntime) -> Result<(), Fail> {
-    refuse_over_walks(&rt, |heap, row| walk_and_find(&rt, heap, row, 64))
+    refuse_over_walks(&rt, |heap, row| walk_and_search(&rt, heap, row, 64))
 }
 
 #[test]
 fn lazy_walks_with_little_room(rt: HostRuntime) -> Result<(), Fail> {
-    refuse_over_walks(&rt, |heap, row| walk_and_find(&rt, heap, row, 2))
+    refuse_over_walks(&rt, |heap, row| walk_and_search(&rt, heap, row, 2))
 }
 
-/// The text of a walk and what stands beside it, as a haystack, and where the text begins in it.
+/// The text of a walk and what stands beside it as a haystack, reversed where the NFA reads in
+/// reverse, and where the text begins in it.
 fn haystack(alloc: Global, row: &Row) -> Result<(Vec<u8>, usize), Fail> {
     let mut haystack = Vec::new(alloc);
     for byte in row.look_behind.iter().chain(row.text.iter()) {
@@ -76,7 +77,7 @@ fn haystack(alloc: Global, row: &Row) -> Result<(Vec<u8>, usize), Fail> {
     Ok((haystack, usize::from(before.is_some())))
 }
 
-/// A match in the text of a walk, whose offset is told in the haystack that has it in this range.
+/// The same match, with its offset counted in the haystack, of which the text is this range.
 fn in_haystack(row: &Row, start: usize, end: usize, found: HalfMatch) -> HalfMatch {
     let HalfMatch { pattern, offset } = found;
     let offset = if row.nfa.is_reverse() {
@@ -90,7 +91,7 @@ fn in_haystack(row: &Row, start: usize, end: usize, found: HalfMatch) -> HalfMat
 /// Searches the text of a walk as the range of a haystack, in the direction in which the NFA reads,
 /// and compares with a search of the text alone. After a refusal the same cache, with ample memory,
 /// answers what that search does.
-fn search<R: Abort + AllocGlobal>(rt: &R, heap: &Heap, row: &Row) -> Result<bool, Fail> {
+fn search_range<R: Abort + AllocGlobal>(rt: &R, heap: &Heap, row: &Row) -> Result<bool, Fail> {
     let (haystack, start) = haystack(rt.alloc(), row)?;
     let end = start.saturating_add(row.text.len());
     assert!(rt; start <= end && end <= haystack.len());
@@ -115,5 +116,5 @@ fn search<R: Abort + AllocGlobal>(rt: &R, heap: &Heap, row: &Row) -> Result<bool
 
 #[test]
 fn lazy_searches_of_inputs(rt: HostRuntime) -> Result<(), Fail> {
-    refuse_over_walks(&rt, |heap, row| search(&rt, heap, row))
+    refuse_over_walks(&rt, |heap, row| search_range(&rt, heap, row))
 }

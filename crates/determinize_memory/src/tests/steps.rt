@@ -6,7 +6,7 @@ ghost use Rattle.determinize_core.specs.Scratch.{IsScratch};
 
 use crate::tests::builders::are_spelled;
 use crate::tests::{Heap, Row, call_twice, holds, refuse_in_turn, refuse_over_walks, same};
-use determinize_below::{LookSet, NFA, SparseSet, SparseSets, StateID, Unit};
+use determinize_below::{Look, LookSet, NFA, SparseSet, SparseSets, StateID, Unit};
 use determinize_core::determinize::{
     Steps, add_nfa_states, epsilon_closure, next, next_counted, set_lookbehind_from_start,
     start_state,
@@ -17,6 +17,7 @@ use determinize_replay::error::JobError;
 use determinize_replay::job::Job;
 use determinize_replay::key::Key;
 use determinize_replay::{nfas, records, values};
+use determinize_states::recording::add_state;
 use std::alloc::{AllocError, Global};
 use std::marker::Brand;
 use std::process::Abort;
@@ -147,6 +148,27 @@ fn record(rt: &impl Abort, heap: &Heap, row: &Row) -> Result<bool, Fail> {
     Ok(added.is_ok())
 }
 
+/// Records the start of a walk alone. A builder that was refused takes the state with ample memory,
+/// and is then as if a set of this one state had been recorded.
+fn record_one(rt: &impl Abort, heap: &Heap, row: &Row) -> Result<bool, Fail> {
+    let id = row.start()?;
+    let mut set = SparseSet::new(heap, row.nfa.len())?;
+    set.insert(id);
+    let mut wanted = StateBuilderEmpty::new(heap).into_matches()?.into_nfa();
+    wanted.set_look_have(|have| have.insert(Look::Start));
+    let mut builder = wanted.clone()?;
+    add_nfa_states(&row.nfa, &set, &mut wanted)?;
+    heap.begin();
+    let added = add_state(&row.nfa, id, &mut builder);
+    heap.end();
+    if added.is_err() {
+        add_state(&row.nfa, id, &mut builder)?;
+    }
+    builder.settle();
+    same(rt, builder.as_bytes(), wanted.as_bytes());
+    Ok(added.is_ok())
+}
+
 /// Starts a walk.
 fn start(rt: &impl Abort, heap: &Heap, row: &Row) -> Result<bool, Fail> {
     let nfa = &row.nfa;
@@ -168,7 +190,8 @@ fn start(rt: &impl Abort, heap: &Heap, row: &Row) -> Result<bool, Fail> {
 #[test]
 fn starts(rt: HostRuntime) -> Result<(), Fail> {
     refuse_over_walks(&rt, |heap, row| {
-        Ok(record(&rt, heap, row)? && start(&rt, heap, row)?)
+        let is_recorded = record(&rt, heap, row)? && record_one(&rt, heap, row)?;
+        Ok(is_recorded && start(&rt, heap, row)?)
     })
 }
 

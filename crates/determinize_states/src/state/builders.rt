@@ -279,8 +279,8 @@ impl<A: Allocator> StateBuilderNFA<A> {
         }
     }
 
-    /// Empties look-have where look-need is empty, since nothing will ask for it then. It cannot
-    /// fail.
+    /// Empties look-have where look-need is empty, since nothing will ask for it then. It cannot be
+    /// refused.
     pub fn settle(&mut self)
         ensures { self.new ≡ settled self.old }
     {

@@ -1,8 +1,7 @@
 use Rattle.std.proofs.Common.{◌∙◌, ap, length}
 use Rattle.determinize_states.specs.Recording.{added_one}
 use Rattle.determinize_states.specs.Value.{Value}
-use Rattle.determinize_states.proofs.RecordingSteps.{rest_below}
-use Rattle.determinize_states.proofs.RecordingSteps.{added_one-after}
+use Rattle.determinize_states.proofs.RecordingSteps.{added_one-after, rest_below}
 use Rattle.determinize_states.proofs.recording.add_states.Goals as goal
 
 pub loop-id-preserved : goal.loop-id-preserved
