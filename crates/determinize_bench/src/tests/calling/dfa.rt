@@ -19,7 +19,7 @@ pub struct Dfa<A: Allocator = Global> {
     pub rows: Vec<Vec<usize, A>, A>,
 }
 
-/// Where each state that was found stands.
+/// The index of each state that was found.
 type Indices<A> = HashMap<State<A>, usize, BuildHasherDefault<FoldHasher>, A>;
 
 /// The unit of a column: a byte, or the end of the input after the bytes.
@@ -30,7 +30,10 @@ fn unit(column: usize) -> Unit {
     }
 }
 
-/// The index of a state among those found, which gain it where it is new.
+/// The index of a state among those found, which gain it as the last where it is new. Proved of it
+/// is that nothing else comes to the states, which the proof of [`build`] needs.
+///
+/// The only error is want of memory. The map may name a state then that the list lacks.
 fn index_of<A: Allocator + Copy>(
     states: &mut Vec<State<A>, A>,
     indices: &mut Indices<A>,
