@@ -38,6 +38,11 @@ ended_at-none : (i : ℕ) (ps : List ℕ) (o : Option HalfMatch) → is_nonempty
 ended_at-none i [] o e = refl
 ended_at-none i (p ∷ ps) o e = absurd (true≢false e)
 
+-- a list that is not empty has a first item
+pub first_listed : (xs : List ℕ) → is_nonempty xs ≡ true → 0 < length xs
+first_listed [] e = absurd (false≢true e)
+first_listed (x ∷ xs) e = omega arith
+
 module _ (vs : List Value) (i : ℕ) (v : Value) (within : i < length vs) (here : v ≡ get_or vs i v) where
   -- a value that lists a pattern is the last that does, so far
   pub last_ended-match : (before now : Option HalfMatch) (pattern : ℕ) → is_nonempty v.patterns ≡ true → pattern ≡ slice_index v.patterns 0 → now ≡ Some record { pattern = pattern; offset = i }

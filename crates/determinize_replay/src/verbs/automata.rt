@@ -1,12 +1,13 @@
 //! Verbs over an NFA.
 
-ghost use Rattle.std.specs.Prelude.{◌<◌, length, IfOk};
+ghost use Rattle.std.specs.Prelude.{◌≡◌, ◌<◌, length, IfOk};
+ghost use Rattle.determinize_below.specs.Nfa.{AllResolve};
 
 use crate::error::{JobError, Part};
 use crate::job::Job;
 use crate::key::Key;
 use crate::{nfas, records, values};
-use determinize_below::{HalfMatch, NFA, SparseSets, StateID, Unit};
+use determinize_below::{HalfMatch, MatchKind, NFA, SparseSets, StateID, Unit};
 use determinize_core::determinize;
 use determinize_core::start::Start;
 use determinize_core::state::{State, StateBuilderEmpty};
@@ -180,26 +181,60 @@ fn unit(text: &str) -> Result<Unit, JobError> {
     }
 }
 
-/// Answers `next`: the bytes of the state that follows the job's record.
-pub fn next_state(alloc: Global, job: &Job<'_>, text: &mut String) -> Result<(), JobError> {
-    let nfa = nfas::nfa(alloc, job)?;
+/// The state of the job's record, whose ids are states of the NFA.
+fn resolved_state(alloc: Global, job: &Job<'_>, nfa: &NFA) -> Result<State, JobError>
+    ensures { IfOk result (λ state. AllResolve nfa.now state.states) }
+{
     let state = records::builder(alloc, job)?.to_state()?;
-    if !records::resolves(&state, nfa.len()) {
-        return Err(JobError::Malformed(Part::Unresolved));
+    if records::resolves(&state, nfa.len()) {
+        Ok(state)
+    } else {
+        Err(JobError::Malformed(Part::Unresolved))
     }
+}
+
+/// The two sets of the job, each for the states of the NFA.
+fn sparse_sets(alloc: Global, job: &Job<'_>, nfa: &NFA) -> Result<SparseSets, JobError>
+    ensures set1 { IfOk result (λ sparses. sparses.set1.capacity ≡ length nfa.now.states) }
+    ensures set2 { IfOk result (λ sparses. sparses.set2.capacity ≡ length nfa.now.states) }
+{
     let held1 = values::state_ids(alloc, job.value_or_none(Key::Set1))?;
     let held2 = values::state_ids(alloc, job.value_or_none(Key::Set2))?;
-    let mut sparses = SparseSets {
+    Ok(SparseSets {
         set1: records::set(alloc, nfa.len(), held1.as_slice())?,
         set2: records::set(alloc, nfa.len(), held2.as_slice())?,
-    };
-    let kind = job.match_kind()?;
-    let unit = unit(job.needed(Key::Unit)?)?;
+    })
+}
+
+/// Writes the bytes of the state that follows a state over a unit.
+fn write_next(
+    alloc: Global,
+    text: &mut String,
+    nfa: &NFA,
+    kind: MatchKind,
+    sparses: &mut SparseSets,
+    state: &State,
+    unit: Unit,
+) -> Result<(), JobError>
+    requires set1 { sparses.old.set1.capacity ≡ length nfa.now.states }
+    requires set2 { sparses.old.set2.capacity ≡ length nfa.now.states }
+    requires resolve { AllResolve nfa.now state.now.states }
+{
     let mut stack = Vec::new(alloc);
     let builder = StateBuilderEmpty::new(alloc);
-    let next = determinize::next(&nfa, kind, &mut sparses, &mut stack, &state, unit, builder)?;
+    let next = determinize::next(nfa, kind, sparses, &mut stack, state, unit, builder)?;
     values::write_bytes(text, next.as_bytes())?;
     Ok(())
+}
+
+/// Answers `next`: the bytes of the state that follows the job's record.
+pub fn next_state(alloc: Global, job: &Job<'_>, text: &mut String) -> Result<(), JobError> {
+    let kind = job.match_kind()?;
+    let unit = unit(job.needed(Key::Unit)?)?;
+    let nfa = nfas::nfa(alloc, job)?;
+    let state = resolved_state(alloc, job, &nfa)?;
+    let mut sparses = sparse_sets(alloc, job, &nfa)?;
+    write_next(alloc, text, &nfa, kind, &mut sparses, &state, unit)
 }
 
 /// Answers `addstates`: the bytes of the job's record with the states of a set.

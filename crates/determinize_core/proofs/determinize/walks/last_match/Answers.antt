@@ -1,5 +1,5 @@
 use Rattle.std.proofs.Common.{◌∙◌, sym}
-use Rattle.determinize_core.proofs.LastMatches.{last_ended-match, last_ended-none, last_match-read}
+use Rattle.determinize_core.proofs.LastMatches.{first_listed, last_ended-match, last_ended-none, last_match-read}
 use Rattle.determinize_core.proofs.determinize.walks.last_match.Goals as goal
 use Rattle.determinize_core.proofs.determinize.walks.last_match.Goals.{then-is_match, else-is_match}
 
@@ -19,3 +19,6 @@ loop-offset-preserved g c =
 pub returns : goal.returns
 returns g c =
     last_match-read c.args.states.now c.in-Some.others.now c.in-Some.field-0-0.now c.loop-offset.offset c.loop-offset.last c.in-Some.ensures.cases.0 c.loop-offset-test.false c.loop-offset.invariant
+
+pub match_pattern-pattern-requires : goal.match_pattern-pattern-requires
+match_pattern-pattern-requires g c = first_listed c.index-others-offset.result.patterns (sym c.is_match.ensures ∙ c.if-is_match.true)
