@@ -1,6 +1,9 @@
 //! The second code of the page `CALLING.md` of `determinize_core`, word for word.
 
-ghost use Rattle.std.specs.Prelude.{◌≡◌, ◌<◌, ◌⊎◌, ◌++◌, ◌∷◌, [], length, OnOk};
+ghost use Rattle.std.specs.Prelude.{◌≡◌, ◌<◌, ◌⊎◌, ◌++◌, ◌∷◌, [], length, All, OnOk};
+ghost use Rattle.determinize_below.specs.Nfa.{AllResolve};
+ghost use Rattle.determinize_core.specs.Scratch.{IsScratch};
+ghost use Rattle.determinize_core.specs.Value.{Value};
 
 use determinize_below::{MatchKind, NFA, SparseSets, StateID, Unit};
 use determinize_core::determinize::{next, start_state};
@@ -51,6 +54,36 @@ fn index_of<A: Allocator + Copy>(
     Ok(index)
 }
 
+/// The indices of the states that follow the state of an index over each byte and, last, over the
+/// end of the input. The only error is want of memory.
+fn row<N: Allocator, A: Allocator + Copy>(
+    alloc: A,
+    nfa: &NFA<N>,
+    kind: MatchKind,
+    sparses: &mut SparseSets<A>,
+    stack: &mut Vec<StateID, A>,
+    states: &mut Vec<State<A>, A>,
+    indices: &mut Indices<A>,
+    index: usize,
+) -> Result<Vec<usize, A>, AllocError>
+    requires scratch { IsScratch nfa.now sparses.old.set1 sparses.old.set2 stack.old.items }
+    requires resolve { All (λ (state : Value). AllResolve nfa.now state.states) states.old.items }
+    requires below { index < length states.old.items }
+    ensures scratch { IsScratch nfa.now sparses.new.set1 sparses.new.set2 stack.new.items }
+    ensures resolve { OnOk result
+        (All (λ (state : Value). AllResolve nfa.now state.states) states.new.items) }
+{
+    let state = states[index].clone()?;
+    let mut row = Vec::new(alloc);
+    let mut empty = StateBuilderEmpty::new(alloc);
+    for column in 0..=256 {
+        let builder = next(nfa, kind, sparses, stack, &state, unit(column), empty)?;
+        row.push(index_of(states, indices, builder.to_state()?)?)?;
+        empty = builder.clear();
+    }
+    Ok(row)
+}
+
 /// The DFA of searches from this NFA state with nothing behind, or none where it has more states
 /// than the limit.
 pub fn build<N: Allocator, A: Allocator + Copy>(
@@ -65,24 +98,26 @@ pub fn build<N: Allocator, A: Allocator + Copy>(
     let mut sparses = SparseSets::new(alloc, nfa.len())?;
     let mut stack = Vec::new(alloc);
     let empty = StateBuilderEmpty::new(alloc);
-    let mut builder = start_state(nfa, start, None, &mut sparses, &mut stack, empty)?;
+    let first = start_state(nfa, start, None, &mut sparses, &mut stack, empty)?;
     let mut states = Vec::new(alloc);
     let mut indices = HashMap::new(alloc);
-    index_of(&mut states, &mut indices, builder.to_state()?)?;
+    index_of(&mut states, &mut indices, first.to_state()?)?;
     let mut rows = Vec::new(alloc);
     for index in 0..=limit {
         if index >= states.len() {
             return Ok(Some(Dfa { states, rows }));
         }
-        let state = states[index].clone()?;
-        let mut row = Vec::new(alloc);
-        for column in 0..=256 {
-            let unit = unit(column);
-            let empty = builder.clear();
-            builder = next(nfa, kind, &mut sparses, &mut stack, &state, unit, empty)?;
-            row.push(index_of(&mut states, &mut indices, builder.to_state()?)?)?;
-        }
-        rows.push(row)?;
+        let sets = &mut sparses;
+        rows.push(row(
+            alloc,
+            nfa,
+            kind,
+            sets,
+            &mut stack,
+            &mut states,
+            &mut indices,
+            index,
+        )?)?;
     }
     Ok(None)
 }

@@ -9,9 +9,3 @@ invariant-loop-index g l = record {
   scratch : IsScratch l.nfa l.sparses.set1 l.sparses.set2 l.stack.items;
   resolve : All (λ (state : Value). AllResolve l.nfa state.states) l.states.items;
 }
-
-abbrev pub invariant-loop-column : goal.invariant-loop-column
-invariant-loop-column g l = record {
-  scratch : IsScratch l.nfa l.sparses.set1 l.sparses.set2 l.stack.items;
-  resolve : All (λ (state : Value). AllResolve l.nfa state.states) l.states.items;
-}
