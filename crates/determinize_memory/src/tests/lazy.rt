@@ -1,10 +1,13 @@
 //! Walks and searches over a cache, each growth of memory refused in turn.
 
+ghost use Rattle.std.specs.Prelude.{◌≡◌, ◌<◌, length, true};
+ghost use Rattle.determinize_lazy.specs.Searches.{has_start};
+
 use crate::tests::{Heap, Row, holds, refuse_over_walks, same};
-use determinize_below::{Anchored, HalfMatch, Input};
+use determinize_below::{Anchored, HalfMatch, Input, StateID};
 use determinize_core::determinize::last_match;
 use determinize_lazy::Lazy;
-use std::alloc::Global;
+use std::alloc::{AllocError, Global};
 use std::process::Abort;
 use std::test::Fail;
 
@@ -26,21 +29,62 @@ fn walk(rt: &impl Abort, heap: &Heap, row: &Row, limit: usize) -> Result<bool, F
     Ok(first.is_ok())
 }
 
+/// Searches the text of a walk from this state.
+fn search_from(
+    lazy: &mut Lazy<'_, Global, &Heap>,
+    row: &Row,
+    start: StateID,
+) -> Result<Option<HalfMatch>, AllocError>
+    requires { start < length lazy.old.nfa.states }
+    ensures { lazy.new.nfa ≡ lazy.old.nfa }
+{
+    lazy.search(start, row.look_behind, row.text.as_slice(), row.look_ahead)
+}
+
+/// Searches the text of a walk from this state under the refusals of the memory, and then again
+/// with ample memory.
+fn search_twice(
+    heap: &Heap,
+    lazy: &mut Lazy<'_, Global, &Heap>,
+    row: &Row,
+    start: StateID,
+) -> Result<(Option<Option<HalfMatch>>, Option<HalfMatch>), AllocError>
+    requires { start < length lazy.old.nfa.states }
+{
+    heap.begin();
+    let first = search_from(lazy, row, start);
+    heap.end();
+    Ok((first.ok(), search_from(lazy, row, start)?))
+}
+
+/// The last match of a walk from this state.
+fn match_of(heap: &Heap, row: &Row, start: StateID) -> Result<Option<HalfMatch>, AllocError>
+    requires { start < length row.now.nfa.states }
+{
+    Ok(last_match(row.walk(heap, start)?.as_slice()))
+}
+
+/// Asks that both answers are as wanted, and tells whether the first is there.
+fn are_same(
+    rt: &impl Abort,
+    answers: &(Option<Option<HalfMatch>>, Option<HalfMatch>),
+    wanted: &Option<HalfMatch>,
+) -> bool {
+    let (first, second) = answers;
+    for found in first.iter().chain(Some(second)) {
+        same(rt, found, wanted);
+    }
+    first.is_some()
+}
+
 /// Searches over a new cache, in the same way.
 fn search_text(rt: &impl Abort, heap: &Heap, row: &Row, limit: usize) -> Result<bool, Fail> {
     let start = row.start()?;
-    let (behind, text, ahead) = (row.look_behind, row.text.as_slice(), row.look_ahead);
-    let wanted = last_match(row.walk(heap, start)?.as_slice());
+    let wanted = match_of(heap, row, start)?;
     let mut lazy = Lazy::new(heap, &row.nfa, row.kind, limit);
-    heap.begin();
-    let first = lazy.search(start, behind, text, ahead);
-    heap.end();
-    same(rt, lazy.search(start, behind, text, ahead)?, wanted);
-    if let Ok(first) = &first {
-        same(rt, *first, wanted);
-    }
+    let answers = search_twice(heap, &mut lazy, row, start)?;
     holds(rt, lazy.states_kept() <= limit);
-    Ok(first.is_ok())
+    Ok(are_same(rt, &answers, &wanted))
 }
 
 /// Walks and searches with room for so many states.
@@ -88,30 +132,51 @@ fn in_haystack(row: &Row, start: usize, end: usize, found: HalfMatch) -> HalfMat
     HalfMatch { pattern, offset }
 }
 
+/// An anchored search of this range of a haystack.
+fn anchored_input<'h>(rt: &impl Abort, haystack: &'h [u8], start: usize, end: usize) -> Input<'h>
+    ensures { has_start result.anchored ≡ true }
+{
+    assert!(rt; start <= end && end <= haystack.len());
+    Input::new(haystack)
+        .range(start..end)
+        .anchored(Anchored::Yes)
+}
+
+/// Searches a range under the refusals of the memory, and then again with ample memory.
+fn search_input_twice(
+    heap: &Heap,
+    lazy: &mut Lazy<'_, Global, &Heap>,
+    input: &Input<'_>,
+) -> Result<(Option<Option<HalfMatch>>, Option<HalfMatch>), AllocError>
+    requires { has_start input.now.anchored ≡ true }
+{
+    heap.begin();
+    let first = lazy.search_input(input);
+    heap.end();
+    Ok((first.ok(), lazy.search_input(input)?))
+}
+
+/// Searches the text of a walk alone, from the anchored start.
+fn search_anchored(
+    lazy: &mut Lazy<'_, Global, &Heap>,
+    row: &Row,
+) -> Result<Option<HalfMatch>, AllocError> {
+    let start = lazy.nfa().start_anchored();
+    search_from(lazy, row, start)
+}
+
 /// Searches the text of a walk as the range of a haystack, in the direction in which the NFA reads,
 /// and compares with a search of the text alone. After a refusal the same cache, with ample memory,
 /// answers what that search does.
 fn search_range<R: Abort + AllocGlobal>(rt: &R, heap: &Heap, row: &Row) -> Result<bool, Fail> {
     let (haystack, start) = haystack(rt.alloc(), row)?;
     let end = start.saturating_add(row.text.len());
-    assert!(rt; start <= end && end <= haystack.len());
-    let input = Input::new(haystack.as_slice())
-        .range(start..end)
-        .anchored(Anchored::Yes);
+    let input = anchored_input(rt, haystack.as_slice(), start, end);
     let mut lazy = Lazy::new(heap, &row.nfa, row.kind, 64);
-    heap.begin();
-    let first = lazy.search_input(&input);
-    heap.end();
-    let again = lazy.search_input(&input)?;
-    let id = row.nfa.start_anchored();
-    let text = row.text.as_slice();
-    let found = lazy.search(id, row.look_behind, text, row.look_ahead)?;
+    let answers = search_input_twice(heap, &mut lazy, &input)?;
+    let found = search_anchored(&mut lazy, row)?;
     let wanted = found.map(|found| in_haystack(row, start, end, found));
-    same(rt, again, wanted);
-    if let Ok(first) = &first {
-        same(rt, *first, wanted);
-    }
-    Ok(first.is_ok())
+    Ok(are_same(rt, &answers, &wanted))
 }
 
 #[test]
