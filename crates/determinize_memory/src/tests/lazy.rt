@@ -156,13 +156,32 @@ fn search_input_twice(
     Ok((first.ok(), lazy.search_input(input)?))
 }
 
-/// Searches the text of a walk alone, from the anchored start.
-fn search_anchored(
+/// Searches the text of a walk alone, from the anchored start, and tells the match in the haystack,
+/// of which the text is this range.
+fn search_alone(
     lazy: &mut Lazy<'_, Global, &Heap>,
     row: &Row,
+    start: usize,
+    end: usize,
 ) -> Result<Option<HalfMatch>, AllocError> {
-    let start = lazy.nfa().start_anchored();
-    search_from(lazy, row, start)
+    let id = lazy.nfa().start_anchored();
+    let found = search_from(lazy, row, id)?;
+    Ok(found.map(|found| in_haystack(row, start, end, found)))
+}
+
+/// Searches a range of a haystack over a new cache, and the text of a walk alone.
+fn search_input(
+    rt: &impl Abort,
+    heap: &Heap,
+    row: &Row,
+    input: &Input<'_>,
+) -> Result<bool, AllocError>
+    requires { has_start input.now.anchored ≡ true }
+{
+    let mut lazy = Lazy::new(heap, &row.nfa, row.kind, 64);
+    let answers = search_input_twice(heap, &mut lazy, input)?;
+    let wanted = search_alone(&mut lazy, row, input.start(), input.end())?;
+    Ok(are_same(rt, &answers, &wanted))
 }
 
 /// Searches the text of a walk as the range of a haystack, in the direction in which the NFA reads,
@@ -172,11 +191,7 @@ fn search_range<R: Abort + AllocGlobal>(rt: &R, heap: &Heap, row: &Row) -> Resul
     let (haystack, start) = haystack(rt.alloc(), row)?;
     let end = start.saturating_add(row.text.len());
     let input = anchored_input(rt, haystack.as_slice(), start, end);
-    let mut lazy = Lazy::new(heap, &row.nfa, row.kind, 64);
-    let answers = search_input_twice(heap, &mut lazy, &input)?;
-    let found = search_anchored(&mut lazy, row)?;
-    let wanted = found.map(|found| in_haystack(row, start, end, found));
-    Ok(are_same(rt, &answers, &wanted))
+    Ok(search_input(rt, heap, row, &input)?)
 }
 
 #[test]
