@@ -89,30 +89,44 @@ pub fn are_spelled<'a>(
     first.is_some()
 }
 
+/// Clones a builder of nothing.
+fn clone_empty(rt: &impl Abort, heap: &Heap) -> Result<bool, Fail> {
+    let (first, second) = call_twice(heap, || StateBuilderEmpty::new(heap).clone())?;
+    same(rt, second.capacity(), 0);
+    Ok(first.is_some())
+}
+
+/// Begins a builder.
+fn begin(rt: &impl Abort, heap: &Heap) -> Result<bool, Fail> {
+    let (first, second) = call_twice(heap, || StateBuilderEmpty::new(heap).into_matches())?;
+    same(rt, second.into_nfa().as_bytes(), [0; 9].as_slice());
+    Ok(first.is_some())
+}
+
+/// Tells a builder of the flags and look-have of a state.
+fn set_flags(builder: &mut StateBuilderMatches<&Heap>, state: &State<&Heap>) {
+    if state.is_from_word() {
+        builder.set_is_from_word();
+    }
+    if state.is_half_crlf() {
+        builder.set_is_half_crlf();
+    }
+    let have = state.look_have();
+    builder.set_look_have(|_| have);
+}
+
 /// A builder with the flags, look-have and patterns of a state.
 fn build_matches<'a, R: Abort + AllocGlobal>(
     rt: &R,
     heap: &'a Heap,
     state: &State<&'a Heap>,
 ) -> Result<(bool, StateBuilderMatches<&'a Heap>), Fail> {
-    let (first, empty) = call_twice(heap, || StateBuilderEmpty::new(heap).clone())?;
-    let mut is_answered = first.is_some();
-    same(rt, empty.capacity(), 0);
-    let (first, second) = call_twice(heap, || StateBuilderEmpty::new(heap).into_matches())?;
-    is_answered &= first.is_some();
-    same(rt, second.into_nfa().as_bytes(), [0; 9].as_slice());
+    let is_cloned = clone_empty(rt, heap)?;
+    let is_begun = begin(rt, heap)?;
     let matches = StateBuilderEmpty::new(heap).into_matches()?;
     let (are_added, mut matches) = add_patterns(rt, heap, matches, state)?;
-    is_answered &= are_added;
-    if state.is_from_word() {
-        matches.set_is_from_word();
-    }
-    if state.is_half_crlf() {
-        matches.set_is_half_crlf();
-    }
-    let have = state.look_have();
-    matches.set_look_have(|_| have);
-    Ok((is_answered, matches))
+    set_flags(&mut matches, state);
+    Ok((is_cloned && is_begun && are_added, matches))
 }
 
 /// Asks that a builder with all of its parts has these bytes, and so have its clone and its state,
@@ -133,6 +147,34 @@ fn finish(
     Ok(is_cloned && first.is_some())
 }
 
+/// Clones a builder of patterns, and goes on to the NFA states with both.
+fn close_patterns<'a>(
+    rt: &impl Abort,
+    heap: &'a Heap,
+    matches: StateBuilderMatches<&'a Heap>,
+) -> Result<(bool, StateBuilderNFA<&'a Heap>), Fail> {
+    let (first, second) = call_twice(heap, || matches.clone())?;
+    let clones = (first.map(|builder| builder.into_nfa()), second.into_nfa());
+    let builder = matches.into_nfa();
+    Ok((are_spelled(rt, &clones, builder.as_bytes()), builder))
+}
+
+/// Tells a builder of the look-need and the NFA states of a state.
+fn add_states(
+    rt: &impl Abort,
+    heap: &Heap,
+    builder: &mut StateBuilderNFA<&Heap>,
+    state: &State<&Heap>,
+) -> Result<bool, Fail> {
+    let need = state.look_need();
+    builder.set_look_need(|_| need);
+    let mut is_answered = true;
+    for id in state.iter_nfa_state_ids() {
+        is_answered &= add_state(rt, heap, builder, id)?;
+    }
+    Ok(is_answered)
+}
+
 /// Builds a state anew. Each builder on the way is cloned.
 fn build<'a, R: Abort + AllocGlobal>(
     rt: &R,
@@ -140,18 +182,11 @@ fn build<'a, R: Abort + AllocGlobal>(
     state: &State<&'a Heap>,
     bytes: &[u8],
 ) -> Result<bool, Fail> {
-    let (mut is_answered, matches) = build_matches(rt, heap, state)?;
-    let (first, second) = call_twice(heap, || matches.clone())?;
-    let clones = (first.map(|builder| builder.into_nfa()), second.into_nfa());
-    let mut builder = matches.into_nfa();
-    is_answered &= are_spelled(rt, &clones, builder.as_bytes());
-    let need = state.look_need();
-    builder.set_look_need(|_| need);
-    for id in state.iter_nfa_state_ids() {
-        is_answered &= add_state(rt, heap, &mut builder, id)?;
-    }
-    is_answered &= finish(rt, heap, &builder, bytes)?;
-    Ok(is_answered)
+    let (are_told, matches) = build_matches(rt, heap, state)?;
+    let (is_cloned, mut builder) = close_patterns(rt, heap, matches)?;
+    let are_added = add_states(rt, heap, &mut builder, state)?;
+    let is_made = finish(rt, heap, &builder, bytes)?;
+    Ok(are_told && is_cloned && are_added && is_made)
 }
 
 /// Builds each state of a walk anew.

@@ -169,18 +169,18 @@ fn search_alone(
     Ok(found.map(|found| in_haystack(row, start, end, found)))
 }
 
-/// Searches a range of a haystack over a new cache, and the text of a walk alone.
+/// Searches a range of a haystack, and the text of a walk alone, over the same cache.
 fn search_input(
     rt: &impl Abort,
     heap: &Heap,
+    lazy: &mut Lazy<'_, Global, &Heap>,
     row: &Row,
     input: &Input<'_>,
 ) -> Result<bool, AllocError>
     requires { has_start input.now.anchored ≡ true }
 {
-    let mut lazy = Lazy::new(heap, &row.nfa, row.kind, 64);
-    let answers = search_input_twice(heap, &mut lazy, input)?;
-    let wanted = search_alone(&mut lazy, row, input.start(), input.end())?;
+    let answers = search_input_twice(heap, lazy, input)?;
+    let wanted = search_alone(lazy, row, input.start(), input.end())?;
     Ok(are_same(rt, &answers, &wanted))
 }
 
@@ -191,7 +191,8 @@ fn search_range<R: Abort + AllocGlobal>(rt: &R, heap: &Heap, row: &Row) -> Resul
     let (haystack, start) = haystack(rt.alloc(), row)?;
     let end = start.saturating_add(row.text.len());
     let input = anchored_input(rt, haystack.as_slice(), start, end);
-    Ok(search_input(rt, heap, row, &input)?)
+    let mut lazy = Lazy::new(heap, &row.nfa, row.kind, 64);
+    Ok(search_input(rt, heap, &mut lazy, row, &input)?)
 }
 
 #[test]

@@ -10,22 +10,42 @@ use std::process::Abort;
 use std::test::Fail;
 use worked_rows::answers;
 
+/// Asks that a set has no ids, and room for so many.
+fn expect_empty(rt: &impl Abort, set: &SparseSet<&Heap>, capacity: usize) {
+    holds(rt, set.is_empty());
+    same(rt, set.capacity(), capacity);
+}
+
+/// Makes a set.
+fn make_one(rt: &impl Abort, heap: &Heap, capacity: usize) -> Result<bool, Fail>
+    requires { capacity ≤ 2147483647 }
+{
+    let (first, second) = call_twice(heap, || SparseSet::new(heap, capacity))?;
+    for set in first.iter().chain(Some(&second)) {
+        expect_empty(rt, set, capacity);
+    }
+    Ok(first.is_some())
+}
+
+/// Makes two sets at once.
+fn make_two(rt: &impl Abort, heap: &Heap, capacity: usize) -> Result<bool, Fail>
+    requires { capacity ≤ 2147483647 }
+{
+    let (first, second) = call_twice(heap, || SparseSets::new(heap, capacity))?;
+    for sets in first.iter().chain(Some(&second)) {
+        expect_empty(rt, &sets.set1, capacity);
+        expect_empty(rt, &sets.set2, capacity);
+    }
+    Ok(first.is_some())
+}
+
 /// Makes a set, and then two at once.
 fn make_sets(rt: &impl Abort, heap: &Heap, capacity: usize) -> Result<bool, Fail>
     requires { capacity ≤ 2147483647 }
 {
-    let (single, second) = call_twice(heap, || SparseSet::new(heap, capacity))?;
-    for set in single.iter().chain(Some(&second)) {
-        holds(rt, set.is_empty());
-        same(rt, set.capacity(), capacity);
-    }
-    let (first, second) = call_twice(heap, || SparseSets::new(heap, capacity))?;
-    for sets in first.iter().chain(Some(&second)) {
-        holds(rt, sets.set1.is_empty() && sets.set2.is_empty());
-        same(rt, sets.set1.capacity(), capacity);
-        same(rt, sets.set2.capacity(), capacity);
-    }
-    Ok(single.is_some() && first.is_some())
+    let is_made = make_one(rt, heap, capacity)?;
+    let are_made = make_two(rt, heap, capacity)?;
+    Ok(is_made && are_made)
 }
 
 /// The sets have room for the states of the NFAs of walks.

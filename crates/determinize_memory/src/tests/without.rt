@@ -6,7 +6,8 @@ use crate::tests::{Heap, Row, holds, refuse_in_turn, refuse_over_walks, same};
 use determinize_below::{Input, Look, LookSet, PatternID, SparseSet, SparseSets, StateID};
 use determinize_core::determinize::{epsilon_closure, set_lookbehind_from_start};
 use determinize_core::start::Config;
-use determinize_core::state::{State, StateBuilderEmpty};
+use determinize_core::state::{State, StateBuilderEmpty, StateBuilderNFA};
+use std::alloc::AllocError;
 use std::process::Abort;
 use std::test::Fail;
 
@@ -146,15 +147,31 @@ fn read_states(rt: &impl Abort, heap: &Heap, row: &Row) -> Result<bool, Fail> {
     Ok(has_asked_none(rt, heap))
 }
 
+/// Clones a state of these bytes.
+fn clone_state(rt: &impl Abort, state: &State<&Heap>, bytes: &[u8]) -> Result<(), AllocError> {
+    same(rt, state.clone()?.as_bytes(), bytes);
+    holds(rt, state.clone()? == *state);
+    Ok(())
+}
+
+/// The dead state is made and cloned.
+fn make_dead(rt: &impl Abort, heap: &Heap) -> Result<(), AllocError> {
+    let dead = State::dead(heap)?;
+    clone_state(rt, &dead, [0; 9].as_slice())
+}
+
+/// The state of a builder is made and cloned.
+fn make_state(rt: &impl Abort, builder: &StateBuilderNFA<&Heap>) -> Result<(), AllocError> {
+    let state = builder.to_state()?;
+    clone_state(rt, &state, builder.as_bytes())
+}
+
 /// The dead state and one of so many bytes are made, and cloned.
 fn make_short(rt: &impl Abort, heap: &Heap, len: usize) -> Result<bool, Fail> {
     let builder = builder_of(heap, len)?;
     heap.begin();
-    let dead = State::dead(heap)?;
-    same(rt, dead.clone()?.as_bytes(), [0; 9].as_slice());
-    let state = builder.to_state()?;
-    same(rt, state.clone()?.as_bytes(), builder.as_bytes());
-    holds(rt, state.clone()? == state);
+    make_dead(rt, heap)?;
+    make_state(rt, &builder)?;
     Ok(has_asked_none(rt, heap))
 }
 
