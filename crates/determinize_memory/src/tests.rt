@@ -63,6 +63,18 @@ pub fn call_twice<T: Drop, F: FnMut() -> Result<T, AllocError>>(
     Ok((first.ok(), call()?))
 }
 
+/// Reads the states of the lines of an answer, of which the last tells the match.
+fn read_states(alloc: Global, answer: &str) -> Result<Vec<Vec<u8>>, JobError> {
+    let mut states = Vec::new(alloc);
+    if let Some((lines, _)) = answer.trim_end().rsplit_once('\n') {
+        for line in lines.lines() {
+            let bytes = values::bytes(alloc, line)?;
+            states.push(bytes)?;
+        }
+    }
+    Ok(states)
+}
+
 /// A worked walk, and the bytes of its states.
 #[derive(Drop)]
 pub struct Row {
@@ -79,13 +91,6 @@ impl Row {
     /// Reads a walk and the lines of its answer, of which the last tells the match.
     fn read(alloc: Global, line: &str, answer: &str) -> Result<Row, JobError> {
         let job = Job::read(alloc, line)?;
-        let mut states = Vec::new(alloc);
-        if let Some((lines, _)) = answer.trim_end().rsplit_once('\n') {
-            for line in lines.lines() {
-                let bytes = values::bytes(alloc, line)?;
-                states.push(bytes)?;
-            }
-        }
         Ok(Row {
             nfa: nfas::nfa(alloc, &job)?,
             kind: job.match_kind()?,
@@ -93,7 +98,7 @@ impl Row {
             look_behind: values::optional_byte(job.value_or_none(Key::LookBehind))?,
             text: values::bytes(alloc, job.value_or_none(Key::Text))?,
             look_ahead: values::optional_byte(job.value_or_none(Key::After))?,
-            states,
+            states: read_states(alloc, answer)?,
         })
     }
 

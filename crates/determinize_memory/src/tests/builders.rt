@@ -129,6 +129,20 @@ fn build_matches<'a, R: Abort + AllocGlobal>(
     Ok((is_cloned && is_begun && are_added, matches))
 }
 
+/// Makes a state of these bytes, and tells whether the first call was answered.
+pub fn make_state(
+    rt: &impl Abort,
+    heap: &Heap,
+    builder: &StateBuilderNFA<&Heap>,
+    bytes: &[u8],
+) -> Result<bool, Fail> {
+    let (first, second) = call_twice(heap, || builder.to_state())?;
+    for made in first.iter().chain(Some(&second)) {
+        same(rt, made.as_bytes(), bytes);
+    }
+    Ok(first.is_some())
+}
+
 /// Asks that a builder with all of its parts has these bytes, and so have its clone and its state,
 /// and tells whether the first call of each was answered.
 fn finish(
@@ -139,12 +153,9 @@ fn finish(
 ) -> Result<bool, Fail> {
     let clones = call_twice(heap, || builder.clone())?;
     let is_cloned = are_spelled(rt, &clones, bytes);
-    let (first, second) = call_twice(heap, || builder.to_state())?;
-    for made in first.iter().chain(Some(&second)) {
-        same(rt, made.as_bytes(), bytes);
-    }
+    let is_made = make_state(rt, heap, builder, bytes)?;
     same(rt, builder.as_bytes(), bytes);
-    Ok(is_cloned && first.is_some())
+    Ok(is_cloned && is_made)
 }
 
 /// Clones a builder of patterns, and goes on to the NFA states with both.

@@ -170,7 +170,7 @@ fn search_alone(
 }
 
 /// Searches a range of a haystack, and the text of a walk alone, over the same cache.
-fn search_input(
+fn search_both(
     rt: &impl Abort,
     heap: &Heap,
     lazy: &mut Lazy<'_, Global, &Heap>,
@@ -184,6 +184,19 @@ fn search_input(
     Ok(are_same(rt, &answers, &wanted))
 }
 
+/// Searches a range of a haystack over a new cache.
+fn search_input(
+    rt: &impl Abort,
+    heap: &Heap,
+    row: &Row,
+    input: &Input<'_>,
+) -> Result<bool, AllocError>
+    requires { has_start input.now.anchored ≡ true }
+{
+    let mut lazy = Lazy::new(heap, &row.nfa, row.kind, 64);
+    search_both(rt, heap, &mut lazy, row, input)
+}
+
 /// Searches the text of a walk as the range of a haystack, in the direction in which the NFA reads,
 /// and compares with a search of the text alone. After a refusal the same cache, with ample memory,
 /// answers what that search does.
@@ -191,8 +204,7 @@ fn search_range<R: Abort + AllocGlobal>(rt: &R, heap: &Heap, row: &Row) -> Resul
     let (haystack, start) = haystack(rt.alloc(), row)?;
     let end = start.saturating_add(row.text.len());
     let input = anchored_input(rt, haystack.as_slice(), start, end);
-    let mut lazy = Lazy::new(heap, &row.nfa, row.kind, 64);
-    Ok(search_input(rt, heap, &mut lazy, row, &input)?)
+    Ok(search_input(rt, heap, row, &input)?)
 }
 
 #[test]

@@ -1,5 +1,6 @@
 //! States, and what is read of them.
 
+use crate::tests::builders::make_state;
 use crate::tests::{Heap, Row, call_twice, holds, refuse_in_turn, refuse_over_walks, same};
 use determinize_below::StateID;
 use determinize_core::state::{State, StateBuilderEmpty, StateBuilderNFA};
@@ -21,13 +22,21 @@ fn make_and_clone(rt: &impl Abort, heap: &Heap, len: usize) -> Result<bool, Fail
     let builder = builder_of(heap, len)?;
     let bytes = builder.as_bytes();
     same(rt, bytes.len(), len);
-    let (first, second) = call_twice(heap, || builder.to_state())?;
-    for state in first.iter().chain(Some(&second)) {
-        same(rt, state.as_bytes(), bytes);
-    }
-    let is_cloned = clone_state(rt, heap, &second, bytes)?;
+    let is_made = make_state(rt, heap, &builder, bytes)?;
+    let is_cloned = clone_made(rt, heap, &builder, bytes)?;
     same(rt, heap.asked() == 0, len <= 30);
-    Ok(first.is_some() && is_cloned)
+    Ok(is_made && is_cloned)
+}
+
+/// Clones the state of a builder.
+fn clone_made(
+    rt: &impl Abort,
+    heap: &Heap,
+    builder: &StateBuilderNFA<&Heap>,
+    bytes: &[u8],
+) -> Result<bool, Fail> {
+    let state = builder.to_state()?;
+    clone_state(rt, heap, &state, bytes)
 }
 
 /// Clones a state.
