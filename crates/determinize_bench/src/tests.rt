@@ -65,8 +65,6 @@ fn walks(rt: HostRuntime) -> Result<(), Fail> {
 
 #[test]
 fn single_calls(rt: HostRuntime) -> Result<(), Fail> {
-    for (line, wanted) in &worked::CALLS {
-        replay(&rt, line, wanted)?;
-    }
-    Ok(())
+    let counts = "68 jobs, 0 differ, 0 skipped\n";
+    runs::expect(&rt, &[], worked::CALLS.as_bytes(), 0, counts, "")
 }
