@@ -1,16 +1,18 @@
 //! Laws: what their calls answer.
 
-use crate::tests::states::built;
+use crate::tests::states::{built, state};
 use crate::tests::{holds, same, same_at};
 use determinize_below::laws::{clone_law, pattern_id_law, state_id_law};
 use determinize_below::look_laws::{look_member_law, look_set_law};
 use determinize_below::{Anchored, Input, Look, LookMatcher, LookSet, PatternID, StateID};
 use determinize_core::look_laws::start_clone_law;
 use determinize_core::start::{Config, Start, StartByteMap};
+use determinize_core::state::State;
 use determinize_core::state_laws::{
     are_equal, is_built, nfa_states_read, patterns_read, same_built_bytes, same_bytes,
 };
 use determinize_replay::values;
+use std::alloc::AllocError;
 use std::test::Fail;
 
 /// A state with three patterns and three NFA states.
@@ -19,16 +21,32 @@ const LISTED: &str = "build fw=0 half=0 pids=2,0,1 ids=1,3,2";
 /// The same with the NFA states in another order.
 const REORDERED: &str = "build fw=0 half=0 pids=2,0,1 ids=1,2,3";
 
+/// Whether a state is said to have a match, how many patterns, and which one at an index.
+fn read(state: &State, index: usize) -> Result<(bool, usize, Option<PatternID>), AllocError> {
+    let (is_match, count, _, one) = patterns_read(state, index)?;
+    Ok((is_match, count, one))
+}
+
+/// All patterns of a state, in their order.
+fn patterns(state: &State) -> Result<Option<Vec<PatternID>>, AllocError> {
+    let (_, _, ids, _) = patterns_read(state, 1)?;
+    Ok(ids)
+}
+
 #[test]
-fn states_that_are_read(rt: HostRuntime) -> Result<(), Fail> {
-    let state = built(rt.alloc(), LISTED)?.to_state()?;
-    let (is_match, count, ids, one) = patterns_read(&state, 1)?;
-    holds(&rt, is_match);
-    same(&rt, count, 3);
-    same(&rt, one, Some(PatternID::ZERO));
-    holds(&rt, ids == Some(values::pattern_ids(rt.alloc(), "2,0,1")?));
-    let (_, _, _, none) = patterns_read(&state, 3)?;
-    same(&rt, none, None);
+fn patterns_that_are_read(rt: HostRuntime) -> Result<(), Fail> {
+    let state = state(rt.alloc(), LISTED)?;
+    let first = Some(PatternID::ZERO);
+    same(&rt, read(&state, 1)?, (true, 3, first));
+    same(&rt, read(&state, 3)?, (true, 3, None));
+    let wanted = values::pattern_ids(rt.alloc(), "2,0,1")?;
+    holds(&rt, patterns(&state)? == Some(wanted));
+    Ok(())
+}
+
+#[test]
+fn nfa_states_that_are_read(rt: HostRuntime) -> Result<(), Fail> {
+    let state = state(rt.alloc(), LISTED)?;
     let ids = nfa_states_read(&state, rt.alloc())?;
     holds(&rt, ids == values::state_ids(rt.alloc(), "1,3,2")?);
     Ok(())

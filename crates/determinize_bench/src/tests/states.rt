@@ -13,22 +13,42 @@ pub fn built(alloc: Global, line: &str) -> Result<StateBuilderNFA, Fail> {
     Ok(records::builder(alloc, &Job::read(alloc, line)?)?)
 }
 
+/// The state of a job of the verb `build`.
+pub fn state(alloc: Global, line: &str) -> Result<State, Fail> {
+    Ok(built(alloc, line)?.to_state()?)
+}
+
 /// A builder with these patterns.
 pub fn with_patterns(alloc: Global, numbers: &str) -> Result<StateBuilderMatches, Fail> {
     let ids = values::pattern_ids(alloc, numbers)?;
     Ok(records::with_patterns(alloc, ids.as_slice())?)
 }
 
+/// A state with one NFA state.
+const ONE: &str = "build fw=0 half=0 ids=1";
+
 #[test]
 fn comparison_of_states(rt: HostRuntime) -> Result<(), Fail> {
     let dead = State::dead(rt.alloc())?;
-    let one = built(rt.alloc(), "build fw=0 half=0 ids=1")?.to_state()?;
-    holds(&rt, dead.clone()? == dead);
+    let copy = dead.clone()?;
+    holds(&rt, copy == dead);
+    let one = state(rt.alloc(), ONE)?;
     holds(&rt, dead != one);
     holds(&rt, dead < one);
+    Ok(())
+}
+
+/// Adds a state to a set, and answers whether it was new.
+fn add(set: &mut HashSet<State>, state: State) -> Result<bool, Fail> {
+    Ok(set.insert(state)?)
+}
+
+#[test]
+fn set_of_states(rt: HostRuntime) -> Result<(), Fail> {
+    let dead = State::dead(rt.alloc())?;
     let mut set = HashSet::new(rt.alloc());
-    holds(&rt, set.insert(dead.clone()?)?);
-    holds(&rt, set.insert(one)?);
-    holds(&rt, !set.insert(dead)?);
+    holds(&rt, add(&mut set, dead.clone()?)?);
+    holds(&rt, add(&mut set, state(rt.alloc(), ONE)?)?);
+    holds(&rt, !add(&mut set, dead)?);
     Ok(())
 }
