@@ -4,9 +4,11 @@ use crate::tests::{holds, same, same_at};
 use determinize_below::alphabet::is_word_byte;
 use determinize_below::{
     Anchored, DenseTransitions, Input, Look, LookMatcher, LookSet, MatchKind, PatternID, SparseSet,
-    SparseSets, SparseTransitions, StateID, Transition, Unit,
+    SparseSets, SparseTransitions, StateID, StateIDError, Transition, Unit,
 };
 use determinize_replay::values;
+use std::alloc::Global;
+use std::process::Abort;
 use std::test::Fail;
 
 #[test]
@@ -133,24 +135,45 @@ fn inputs(rt: HostRuntime) {
     );
 }
 
+/// Adds the id of a number to a set whose capacity is greater, and answers whether it was new.
+fn insert<R: Abort>(rt: &R, set: &mut SparseSet, number: usize) -> Result<bool, StateIDError> {
+    let id = StateID::new(number)?;
+    assert!(rt; id.as_usize() < set.capacity());
+    Ok(set.insert(id))
+}
+
+/// Adds three ids to a set of ids below 65, one of them twice.
+fn insert_three<R: Abort>(rt: &R, set: &mut SparseSet) -> Result<(), StateIDError> {
+    same(rt, set.capacity(), 65);
+    same(rt, insert(rt, set, 64)?, true);
+    same(rt, insert(rt, set, 0)?, true);
+    same(rt, insert(rt, set, 64)?, false);
+    same(rt, insert(rt, set, 63)?, true);
+    same(rt, set.len(), 3);
+    Ok(())
+}
+
+/// Whether a set has these ids in this order.
+fn has_ids(alloc: Global, set: &SparseSet, numbers: &str) -> Result<bool, Fail> {
+    let ids: Vec<StateID> = set.iter().collect(alloc)?;
+    Ok(ids == values::state_ids(alloc, numbers)?)
+}
+
 #[test]
 fn sparse_sets(rt: HostRuntime) -> Result<(), Fail> {
     let mut sets = SparseSets::new(rt.alloc(), 65)?;
-    assert_eq!(rt; sets.set1.capacity(), 65);
-    let set = &mut sets.set1;
-    for (number, is_new) in [(64usize, true), (0, true), (64, false), (63, true)] {
-        let id = StateID::new(number)?;
-        assert!(rt; id.as_usize() < set.capacity());
-        same_at(&rt, number, set.insert(id), is_new);
-    }
-    same(&rt, sets.set1.len(), 3);
+    insert_three(&rt, &mut sets.set1)?;
     sets.swap();
     holds(&rt, sets.set1.is_empty());
-    let ids: Vec<StateID> = sets.set2.iter().collect(rt.alloc())?;
-    holds(&rt, ids == values::state_ids(rt.alloc(), "64,0,63")?);
+    holds(&rt, has_ids(rt.alloc(), &sets.set2, "64,0,63")?);
     sets.set2.clear();
     holds(&rt, sets.set2.is_empty());
     sets.clear();
+    Ok(())
+}
+
+#[test]
+fn sparse_set_of_one(rt: HostRuntime) -> Result<(), Fail> {
     let mut single = SparseSet::new(rt.alloc(), 1)?;
     holds(&rt, !single.contains(StateID::ZERO));
     holds(&rt, single.insert(StateID::ZERO));
