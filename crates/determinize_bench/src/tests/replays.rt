@@ -1,7 +1,9 @@
 //! A replay line by line: its counts, and what it prints.
 
 use crate::tests::{same, same_at};
+use determinize_replay::error::ReplayError;
 use determinize_replay::replay::{Replay, Tally};
+use std::process::Abort;
 use std::test::Fail;
 
 /// Lines, how many jobs they have and how many of these differ, and what is printed.
@@ -71,14 +73,24 @@ static REPLAYS: [Replayed; 9] = [
     (&["# nothing"], 0, 0, ""),
 ];
 
+/// Takes lines in order.
+fn take_lines(
+    replay: &mut Replay<'_>,
+    lines: &[&str],
+    out: &mut Vec<u8>,
+) -> Result<(), ReplayError> {
+    for line in lines {
+        replay.take_line(line, out)?;
+    }
+    Ok(())
+}
+
 #[test]
 fn counts(rt: HostRuntime) -> Result<(), Fail> {
     for &(lines, jobs, differ, text) in &REPLAYS {
         let mut out = Vec::new(rt.alloc());
         let mut replay = Replay::new(rt.alloc(), None);
-        for line in lines {
-            replay.take_line(line, &mut out)?;
-        }
+        take_lines(&mut replay, lines, &mut out)?;
         let tally = replay.finish(&mut out)?;
         same_at(&rt, lines, tally, Tally { jobs, differ });
         same_at(&rt, lines, out.as_slice(), text.as_bytes());
@@ -86,31 +98,47 @@ fn counts(rt: HostRuntime) -> Result<(), Fail> {
     Ok(())
 }
 
+/// Asks that there is an error, and what it says.
+fn expect_error<R: Abort + AllocGlobal>(
+    rt: &R,
+    error: Option<ReplayError>,
+    wanted: &str,
+) -> Result<(), Fail> {
+    let Some(error) = error else {
+        panic!(rt; "an unreadable job is taken");
+    };
+    let text = format!(in rt.alloc(); "{error}")?;
+    same(rt, text.as_str(), wanted);
+    Ok(())
+}
+
+/// A job with its right answer, and a job without a verb.
+const SLEEP: &[&str] = &[
+    "# line 1",
+    "> dead",
+    "000000000000000000",
+    "> sleep",
+    "none",
+];
+
 #[test]
 fn unreadable_jobs(rt: HostRuntime) -> Result<(), Fail> {
     let mut out = Vec::new(rt.alloc());
     let mut replay = Replay::new(rt.alloc(), None);
-    for line in [
-        "# line 1",
-        "> dead",
-        "000000000000000000",
-        "> sleep",
-        "none",
-    ] {
-        replay.take_line(line, &mut out)?;
-    }
-    let Err(error) = replay.take_line("> dead", &mut out) else {
-        panic!(rt; "a job without a verb is taken");
-    };
-    let text = format!(in rt.alloc(); "{error}")?;
-    same(&rt, text.as_str(), "line 4: unknown verb \"sleep\"");
-    let mut last = Replay::new(rt.alloc(), None);
-    last.take_line("> fromusize n=-1", &mut out)?;
-    let Err(error) = last.finish(&mut out) else {
-        panic!(rt; "a negative number is taken");
-    };
-    let text = format!(in rt.alloc(); "{error}")?;
-    same(&rt, text.as_str(), "line 1: not a decimal number");
+    take_lines(&mut replay, SLEEP, &mut out)?;
+    let error = replay.take_line("> dead", &mut out).err();
+    expect_error(&rt, error, "line 4: unknown verb \"sleep\"")?;
+    same(&rt, out.as_slice(), [].as_slice());
+    Ok(())
+}
+
+#[test]
+fn unreadable_last_job(rt: HostRuntime) -> Result<(), Fail> {
+    let mut out = Vec::new(rt.alloc());
+    let mut replay = Replay::new(rt.alloc(), None);
+    take_lines(&mut replay, &["> fromusize n=-1"], &mut out)?;
+    let error = replay.finish(&mut out).err();
+    expect_error(&rt, error, "line 1: not a decimal number")?;
     same(&rt, out.as_slice(), [].as_slice());
     Ok(())
 }
