@@ -1,7 +1,7 @@
 //! Worked walks over one cache: what they answer, keep and count.
 
 use crate::tests::{holds, same, same_at};
-use determinize_below::{LookMatcher, MatchKind, NFA, StateID};
+use determinize_below::{HalfMatch, LookMatcher, MatchKind, NFA, StateID};
 use determinize_core::determinize::{last_match, walk_between};
 use determinize_core::state::State;
 use determinize_lazy::Lazy;
@@ -55,8 +55,48 @@ pub fn walk_through<R: Abort + AllocGlobal>(
     Ok(states)
 }
 
-/// Walks texts in order over one cache, where none clears it, and compares how many transitions
-/// were computed and how many states are held then.
+/// The last match of such a walk through the cache.
+pub fn last_walked<R: Abort + AllocGlobal>(
+    rt: &R,
+    lazy: &mut Lazy<'_>,
+    text: Text,
+) -> Result<Option<HalfMatch>, Fail> {
+    let states = walk_through(rt, lazy, text)?;
+    Ok(last_match(states.as_slice()))
+}
+
+/// Walks a text over a cache, where none clears it.
+fn walk_or_clear<R: Abort + AllocGlobal>(
+    rt: &R,
+    lazy: &mut Lazy<'_>,
+    text: Option<Text>,
+) -> Result<(), Fail> {
+    let Some(text) = text else {
+        lazy.clear();
+        return Ok(());
+    };
+    walk_through(rt, lazy, text)?;
+    Ok(())
+}
+
+/// Walks texts in order over a cache, where none clears it, and compares how many transitions were
+/// computed and how many states are held then.
+fn expect_kept<R: Abort + AllocGlobal>(
+    rt: &R,
+    lazy: &mut Lazy<'_>,
+    texts: &[Option<Text>],
+    computed: u64,
+    kept: usize,
+) -> Result<(), Fail> {
+    for text in texts {
+        walk_or_clear(rt, lazy, *text)?;
+    }
+    same_at(rt, lazy.limit(), lazy.computed(), computed);
+    same_at(rt, lazy.limit(), lazy.states_kept(), kept);
+    Ok(())
+}
+
+/// Walks texts in order over a new cache of a limit.
 fn expect<R: Abort + AllocGlobal>(
     rt: &R,
     limit: usize,
@@ -66,17 +106,7 @@ fn expect<R: Abort + AllocGlobal>(
 ) -> Result<(), Fail> {
     let nfa = nfa(rt, WORDS, false)?;
     let mut lazy = Lazy::new(rt.alloc(), &nfa, MatchKind::LeftmostFirst, limit);
-    for text in texts {
-        match text {
-            Some(text) => {
-                walk_through(rt, &mut lazy, *text)?;
-            }
-            None => lazy.clear(),
-        }
-    }
-    same_at(rt, limit, lazy.computed(), computed);
-    same_at(rt, limit, lazy.states_kept(), kept);
-    Ok(())
+    expect_kept(rt, &mut lazy, texts, computed, kept)
 }
 
 #[test]
@@ -94,17 +124,30 @@ fn what_is_kept(rt: HostRuntime) -> Result<(), Fail> {
     expect(&rt, 1, &[inside, inside], 12, 1)
 }
 
+/// Where the last match ends of a word before a byte or none.
+fn last_offset<R: Abort + AllocGlobal>(
+    rt: &R,
+    lazy: &mut Lazy<'_>,
+    ahead: Option<u8>,
+) -> Result<Option<usize>, Fail> {
+    let found = last_walked(rt, lazy, (None, b"quar", ahead))?;
+    Ok(found.map(|found| found.offset))
+}
+
+/// Compares where the last matches end of a word before a byte of a word, another byte, and none.
+fn expect_ahead<R: Abort + AllocGlobal>(rt: &R, lazy: &mut Lazy<'_>) -> Result<(), Fail> {
+    same(rt, last_offset(rt, lazy, Some(b't'))?, None);
+    same(rt, last_offset(rt, lazy, Some(b' '))?, Some(4));
+    same(rt, last_offset(rt, lazy, None)?, Some(4));
+    Ok(())
+}
+
 #[test]
 fn bytes_ahead(rt: HostRuntime) -> Result<(), Fail> {
     let nfa = nfa(&rt, WORDS, false)?;
     let mut lazy = Lazy::new(rt.alloc(), &nfa, MatchKind::LeftmostFirst, 16);
     same(&rt, lazy.limit(), 16);
-    for (ahead, end) in [(Some(b't'), None), (Some(b' '), Some(4)), (None, Some(4))] {
-        let states = walk_through(&rt, &mut lazy, (None, b"quar", ahead))?;
-        let found = last_match(states.as_slice());
-        same(&rt, found.map(|found| found.offset), end);
-    }
-    Ok(())
+    expect_ahead(&rt, &mut lazy)
 }
 
 /// The bytes of the second state, or none where there is no second one.
@@ -115,16 +158,30 @@ fn second(states: &[State]) -> &[u8] {
     }
 }
 
+/// Compares the bytes of the second state of a walk over a whole text.
+fn expect_second<R: Abort + AllocGlobal>(
+    rt: &R,
+    lazy: &mut Lazy<'_>,
+    text: &'static [u8],
+    wanted: &[u8],
+) -> Result<(), Fail> {
+    let states = walk_through(rt, lazy, (None, text, None))?;
+    same(rt, second(states.as_slice()), wanted);
+    Ok(())
+}
+
+/// The state behind a byte that is no word byte.
+const ENTERED: &[u8] = b"\0\0\x40\x01\0\0\x01\0\0\0\x04\x01";
+
+/// Compares the second states behind the end of an empty text, and behind a byte of no word.
+fn expect_entered<R: Abort + AllocGlobal>(rt: &R, lazy: &mut Lazy<'_>) -> Result<(), Fail> {
+    expect_second(rt, lazy, b"", &[0; 9])?;
+    expect_second(rt, lazy, b"\0", ENTERED)
+}
+
 #[test]
 fn the_end_is_no_byte(rt: HostRuntime) -> Result<(), Fail> {
     let nfa = nfa(&rt, BOUNDARY, false)?;
     let mut lazy = Lazy::new(rt.alloc(), &nfa, MatchKind::All, 16);
-    let ended = walk_through(&rt, &mut lazy, (None, b"", None))?;
-    same(&rt, second(ended.as_slice()), [0; 9].as_slice());
-    let zero = walk_through(&rt, &mut lazy, (None, b"\0", None))?;
-    let entered = [
-        0x00, 0x00, 0x40, 0x01, 0x00, 0x00, 0x01, 0x00, 0x00, 0x00, 0x04, 0x01,
-    ];
-    same(&rt, second(zero.as_slice()), entered.as_slice());
-    Ok(())
+    expect_entered(&rt, &mut lazy)
 }
