@@ -1,8 +1,9 @@
 //! Texts of states and of their builders.
 
 use crate::tests::same;
-use crate::tests::states::{built, with_patterns};
-use determinize_below::{Look, StateID};
+use crate::tests::states::{built, state, with_patterns};
+use determinize_below::Look;
+use std::fmt::Debug;
 use std::process::Abort;
 use std::test::Fail;
 
@@ -91,18 +92,23 @@ fn texts_of_values(rt: HostRuntime) -> Result<(), Fail> {
     Ok(())
 }
 
+/// Compares the text of a value.
+fn expect_text<R: Abort + AllocGlobal, T: Debug>(
+    rt: &R,
+    value: &T,
+    wanted: &str,
+) -> Result<(), Fail> {
+    let text = format!(in rt.alloc(); "{value:?}")?;
+    same(rt, text.as_str(), wanted);
+    Ok(())
+}
+
 #[test]
 fn text_of_ids_that_are_left(rt: HostRuntime) -> Result<(), Fail> {
-    let state = built(rt.alloc(), "build fw=0 half=0 ids=8,0,300")?.to_state()?;
+    let state = state(rt.alloc(), "build fw=0 half=0 ids=8,0,300")?;
     let mut ids = state.iter_nfa_state_ids();
-    let whole = format!(in rt.alloc(); "{ids:?}")?;
-    same(
-        &rt,
-        whole.as_str(),
-        "[StateID(8), StateID(0), StateID(300)]",
-    );
-    same(&rt, ids.next(), Some(StateID::new(8)?));
-    let rest = format!(in rt.alloc(); "{ids:?}")?;
-    same(&rt, rest.as_str(), "[StateID(0), StateID(300)]");
-    Ok(())
+    expect_text(&rt, &ids, "[StateID(8), StateID(0), StateID(300)]")?;
+    let first = ids.next().map(|id| id.as_usize());
+    same(&rt, first, Some(8));
+    expect_text(&rt, &ids, "[StateID(0), StateID(300)]")
 }
