@@ -39,6 +39,12 @@ fn patterns_that_are_read(rt: HostRuntime) -> Result<(), Fail> {
     let first = Some(PatternID::ZERO);
     same(&rt, read(&state, 1)?, (true, 3, first));
     same(&rt, read(&state, 3)?, (true, 3, None));
+    Ok(())
+}
+
+#[test]
+fn list_of_patterns_that_is_read(rt: HostRuntime) -> Result<(), Fail> {
+    let state = state(rt.alloc(), LISTED)?;
     let wanted = values::pattern_ids(rt.alloc(), "2,0,1")?;
     holds(&rt, patterns(&state)? == Some(wanted));
     Ok(())

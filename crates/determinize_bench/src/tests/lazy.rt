@@ -134,8 +134,9 @@ fn last_offset<R: Abort + AllocGlobal>(
     Ok(found.map(|found| found.offset))
 }
 
-/// Compares where the last matches end of a word before a byte of a word, another byte, and none.
+/// Compares the limit, and where the last matches end of a word before a byte of a word, another byte, and none.
 fn expect_ahead<R: Abort + AllocGlobal>(rt: &R, lazy: &mut Lazy<'_>) -> Result<(), Fail> {
+    same(rt, lazy.limit(), 16);
     same(rt, last_offset(rt, lazy, Some(b't'))?, None);
     same(rt, last_offset(rt, lazy, Some(b' '))?, Some(4));
     same(rt, last_offset(rt, lazy, None)?, Some(4));
@@ -146,7 +147,6 @@ fn expect_ahead<R: Abort + AllocGlobal>(rt: &R, lazy: &mut Lazy<'_>) -> Result<(
 fn bytes_ahead(rt: HostRuntime) -> Result<(), Fail> {
     let nfa = nfa(&rt, WORDS, false)?;
     let mut lazy = Lazy::new(rt.alloc(), &nfa, MatchKind::LeftmostFirst, 16);
-    same(&rt, lazy.limit(), 16);
     expect_ahead(&rt, &mut lazy)
 }
 

@@ -51,6 +51,17 @@ fn texts_of_builders_of_matches(rt: HostRuntime) -> Result<(), Fail> {
     Ok(())
 }
 
+/// Asks for these parts in the text of a value.
+fn expect_in_text<R: Abort + AllocGlobal, T: Debug>(
+    rt: &R,
+    value: &T,
+    parts: &[&str],
+) -> Result<(), Fail> {
+    let text = format!(in rt.alloc(); "{value:?}")?;
+    expect_in_order(rt, text.as_str(), parts);
+    Ok(())
+}
+
 /// Jobs of the verb `build`, and what the texts of their builders and states have.
 static TEXTS: [(&str, [&str; 7]); 2] = [
     (
@@ -83,11 +94,9 @@ static TEXTS: [(&str, [&str; 7]); 2] = [
 fn texts_of_values(rt: HostRuntime) -> Result<(), Fail> {
     for (line, parts) in &TEXTS {
         let builder = built(rt.alloc(), line)?;
-        let text = format!(in rt.alloc(); "{builder:?}")?;
-        expect_in_order(&rt, text.as_str(), parts.as_slice());
+        expect_in_text(&rt, &builder, parts.as_slice())?;
         let state = builder.to_state()?;
-        let text = format!(in rt.alloc(); "{state:?}")?;
-        expect_in_order(&rt, text.as_str(), parts.as_slice());
+        expect_in_text(&rt, &state, parts.as_slice())?;
     }
     Ok(())
 }
