@@ -43,18 +43,23 @@ fn counted<L: Ledger>(
     )
 }
 
+/// The state of the job's record.
+fn state_of(alloc: Global, job: &Job<'_>) -> Result<State, Fail> {
+    Ok(records::builder(alloc, job)?.to_state()?)
+}
+
+/// A state with the patterns 2, 0 and 1.
+const THREE_PATTERNS: &[u8] = b"\x03\0\0\0\0\0\0\0\0\x03\0\0\0\x02\0\0\0\0\0\0\0\x01\0\0\0";
+
 #[test]
 fn counted_transition(rt: HostRuntime) -> Result<(), Fail> {
     let line = "next fw=0 half=0 ids=0,1,2,3 unit=eoi | U:1,2,3 M:2 M:0 M:1";
     let job = Job::read(rt.alloc(), line)?;
     let nfa = nfas::nfa(rt.alloc(), &job)?;
-    let state = records::builder(rt.alloc(), &job)?.to_state()?;
+    let state = state_of(rt.alloc(), &job)?;
     assert!(rt; records::resolves(&state, nfa.len()));
     let builder = counted::<Brand>(rt.alloc(), &nfa, &state, Blank::new(1))?;
-    let wanted = [
-        3, 0, 0, 0, 0, 0, 0, 0, 0, 3, 0, 0, 0, 2, 0, 0, 0, 0, 0, 0, 0, 1, 0, 0, 0,
-    ];
-    same(&rt, builder.as_bytes(), wanted.as_slice());
+    same(&rt, builder.as_bytes(), THREE_PATTERNS);
     Ok(())
 }
 
