@@ -7,7 +7,7 @@ use Rattle.determinize_core.specs.Chain.{chain}
 use Rattle.determinize_core.specs.HostileRows.{AreHostileAccepted, AreHostileRows}
 use Rattle.determinize_states.specs.Spelling.{spell}
 use Rattle.determinize_core.specs.Step.{step}
-use Rattle.determinize_core.specs.LookTables.{insert_where, known_set, word_opened, line_opened, opened, have_after, from_word_after, half_crlf_after, start_have, start_from_word, start_half_crlf, have_at_start, from_word_at_start, half_crlf_at_start}
+use Rattle.determinize_looks.specs.LookTables.{insert_where, known_set, word_opened, line_opened, opened, have_after, from_word_after, half_crlf_after, start_have, start_from_word, start_half_crlf, have_at_start, from_word_at_start, half_crlf_at_start}
 use Rattle.determinize_states.specs.Varint.{varint}
 
 pub are_hostile_rows : AreHostileRows

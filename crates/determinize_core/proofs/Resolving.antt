@@ -12,7 +12,7 @@ use Rattle.determinize_below.proofs.Sets.{flat_map-member, member-filter}
 use Rattle.determinize_below.proofs.SoundNfa.{accepted_sound, reach_within, target_within}
 use Rattle.determinize_below.proofs.Tests.{or_false}
 use Rattle.determinize_core.specs.Step.{part_read, start_value, step, targets, working_list}
-use Rattle.determinize_core.specs.LookTables.{tables_of, have_after, have_at_start}
+use Rattle.determinize_looks.specs.LookTables.{tables_of, have_after, have_at_start}
 use Rattle.determinize_states.specs.Value.{Value}
 
 module _ (nfa : Nfa) (accepted : IsAccepted nfa) where

@@ -24,7 +24,7 @@ use Rattle.determinize_below.proofs.Tests.{by_test, some_injective}
 use Rattle.determinize_core.specs.Chain.{future, units, chain}
 use Rattle.determinize_core.specs.Laws.{EachFutureFollows, EachReachGoesOn, EachStateHasOneKind, DeadStays, LeftmostGivesOne, NoNeedNoHave}
 use Rattle.determinize_core.specs.Step.{start_value, step, left_by, working_list, is_reopened, opened_by, part_read, patterns_read}
-use Rattle.determinize_core.specs.LookTables.{tables_of, have_after}
+use Rattle.determinize_looks.specs.LookTables.{tables_of, have_after}
 use Rattle.determinize_states.specs.Value.{Value, dead}
 
 pub each_reach_goes_on : EachReachGoesOn

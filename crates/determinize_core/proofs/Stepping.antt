@@ -17,7 +17,7 @@ use Rattle.determinize_below.proofs.SoundNfa.{accepted_sound, reach_within}
 use Rattle.determinize_below.proofs.Tests.{by_test}
 use Rattle.determinize_states.specs.Recording.{added}
 use Rattle.determinize_core.specs.Step.{distinct_states, is_reopened, opened_by, patterns_read, step, targets, working_list}
-use Rattle.determinize_core.specs.LookTables.{tables_of, from_word_after, half_crlf_after, have_after}
+use Rattle.determinize_looks.specs.LookTables.{tables_of, from_word_after, half_crlf_after, have_after}
 use Rattle.determinize_core.specs.Tries.{edges_in_all, tries, tries_again, tries_of}
 use Rattle.determinize_states.specs.Value.{Value, dead, is_nonempty, with_flags}
 use Rattle.determinize_core.specs.Private.Changes.{with_patterns}

@@ -17,7 +17,7 @@ use Rattle.determinize_below.proofs.SoundNfa.{accepted_sound, ends_within_states
 use Rattle.determinize_below.proofs.Tests.{by_test}
 use Rattle.determinize_core.specs.Laws.{TriesAreFew}
 use Rattle.determinize_core.specs.Step.{opened_by, is_reopened, distinct_states, working_list, part_read}
-use Rattle.determinize_core.specs.LookTables.{tables_of, have_after}
+use Rattle.determinize_looks.specs.LookTables.{tables_of, have_after}
 use Rattle.determinize_core.specs.Tries.{tries, tries_of, edges_in_all}
 
 length-read : (kind : MatchKind) (p : ℕ → Bool) (xs : List ℕ) → length (part_read kind p xs) ≤ length xs

@@ -6,7 +6,7 @@ use Rattle.determinize_below.specs.Unit.{is_word_byte}
 use Rattle.determinize_core.specs.Chain.{chain}
 use Rattle.determinize_states.specs.Spelling.{spell}
 use Rattle.determinize_core.specs.Step.{step}
-use Rattle.determinize_core.specs.LookTables.{insert_where, known_set, word_opened, line_opened, opened, have_after, from_word_after, half_crlf_after, start_have, start_from_word, start_half_crlf, have_at_start, from_word_at_start, half_crlf_at_start}
+use Rattle.determinize_looks.specs.LookTables.{insert_where, known_set, word_opened, line_opened, opened, have_after, from_word_after, half_crlf_after, start_have, start_from_word, start_half_crlf, have_at_start, from_word_at_start, half_crlf_at_start}
 use Rattle.determinize_states.specs.Varint.{varint}
 use Rattle.determinize_core.specs.WorkedRows.{AreAccepted, Row2, Row3, Row4a, Row4b, Row5, Row6, Row7, Row8a, Row8b, Row8c, Row9a, Row9b, Row9c, Row10a, Row10b, Row11a, Row11b, Row12, Row13, Row14, Row18, Row19, Row20, Row25a, Row25b, Row27a, Row27b, Row22}
 

@@ -26,10 +26,10 @@ use Rattle.determinize_below.proofs.Tests.{by_test}
 use Rattle.determinize_core.specs.Chain.{future, units, chain}
 use Rattle.determinize_core.specs.Step.{begun, left_by, start_value, working_list, part_read, patterns_read, step, targets}
 use Rattle.determinize_states.specs.Recording.{needs, recorded}
-use Rattle.determinize_core.specs.LookTables.{tables_of, have_after, from_word_after, half_crlf_after, have_at_start, from_word_at_start, half_crlf_at_start}
+use Rattle.determinize_looks.specs.LookTables.{tables_of, have_after, from_word_after, half_crlf_after, have_at_start, from_word_at_start, half_crlf_at_start}
 use Rattle.determinize_states.specs.Value.{Value, is_nonempty}
-use Rattle.determinize_core.proofs.StartKinds.{from_word-same, half_crlf-same}
-use Rattle.determinize_core.proofs.TableLaws.{have_after_known, start_known}
+use Rattle.determinize_looks.proofs.StartKinds.{from_word-same, half_crlf-same}
+use Rattle.determinize_looks.proofs.TableLaws.{have_after_known, start_known}
 use Rattle.determinize_core.proofs.WorkingLists.{fuel, listing, IsEntered, reach_is, working_is}
 
 nonempty_member : (xs : List ℕ) (s : ℕ) → member nat_eq xs s ≡ true → is_nonempty xs ≡ true

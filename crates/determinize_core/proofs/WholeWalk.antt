@@ -30,7 +30,7 @@ use Rattle.determinize_states.specs.Value.{Value}
 use Rattle.determinize_core.specs.Walk.{ListsAccepted, ended_at, last_ended, last_match, IsWalkOfAll, IsLeftmostWalk}
 use Rattle.determinize_core.specs.WalkStates.{IsPartKept, RecordsReached}
 use Rattle.determinize_core.proofs.AcceptedPatterns.{patterns_In, match_of, lists_accepted}
-use Rattle.determinize_core.proofs.TableLaws.{known_truth}
+use Rattle.determinize_looks.proofs.TableLaws.{known_truth}
 use Rattle.determinize_core.proofs.WalkValues.{value_at, recorded_by, redone_by, states_at_is, patterns_at_is, states_last, chain_item, length-chain}
 use Rattle.determinize_core.proofs.WorkingLists.{fuel}
 

@@ -21,10 +21,10 @@ use Rattle.determinize_below.proofs.SoundNfa.{accepted_sound, edges_enough, IsSo
 use Rattle.determinize_below.proofs.Tests.{by_test}
 use Rattle.determinize_core.specs.Step.{opened_by, is_reopened, distinct_states, working_list}
 use Rattle.determinize_states.specs.Recording.{needs}
-use Rattle.determinize_core.specs.LookTables.{tables_of, opened, from_word_after, half_crlf_after}
+use Rattle.determinize_looks.specs.LookTables.{tables_of, opened, from_word_after, half_crlf_after}
 use Rattle.determinize_states.specs.Value.{Value}
 use Rattle.determinize_states.proofs.NeedLemmas.{needs_member, needs_some}
-use Rattle.determinize_core.proofs.TableLaws.{known_truth, opened_truth}
+use Rattle.determinize_looks.proofs.TableLaws.{known_truth, opened_truth}
 
 -- the fuel of all runs over m bytes
 abbrev pub fuel : Nfa → ℕ → ℕ

@@ -1,3 +1,6 @@
+pub use Rattle.determinize_looks.specs.LookTables
+pub use Rattle.determinize_looks.specs.StartKinds
+pub use Rattle.determinize_looks.specs.StartRows
 pub use Rattle.determinize_states.specs.Building
 pub use Rattle.determinize_states.specs.Recording
 pub use Rattle.determinize_states.specs.Spelling
@@ -8,11 +11,8 @@ pub mod Chain
 pub mod Closure
 pub mod HostileRows
 pub mod Laws
-pub mod LookTables
 pub mod Private
 pub mod Scratch
-pub mod StartKinds
-pub mod StartRows
 pub mod Step
 pub mod Tries
 pub mod Walk

@@ -10,9 +10,10 @@ use Rattle.determinize_below.specs.Nfa.{Nfa}
 use Rattle.determinize_below.specs.Edges.{target, is_match, patterns_of, reach}
 use Rattle.determinize_below.specs.Reach.{fresh, joined, none_held}
 use Rattle.determinize_below.specs.Runs.{before}
-use Rattle.determinize_core.specs.LookTables.{tables_of, opened, have_after, from_word_after, half_crlf_after, have_at_start, from_word_at_start, half_crlf_at_start}
+use Rattle.determinize_looks.specs.LookTables.{tables_of, start_have, start_from_word, start_half_crlf, opened, have_after, from_word_after, half_crlf_after, have_at_start, from_word_at_start, half_crlf_at_start}
+use Rattle.determinize_looks.specs.declared.start.Start.{Start as Kind}
 use Rattle.determinize_states.specs.Recording.{recorded}
-use Rattle.determinize_states.specs.Value.{Value, is_nonempty}
+use Rattle.determinize_states.specs.Value.{Value, is_nonempty, with_flags, with_looks}
 
 -- a value that records no state yet
 abbrev pub begun : Bool → Bool → ℕ → List ℕ → Value
@@ -24,6 +25,14 @@ begun from_word half_crlf have patterns = record {
   patterns = patterns;
   states = [];
 }
+
+-- the value with what a start kind tells
+abbrev pub with_start : Nfa → Kind → Value → Value
+with_start nfa kind v =
+    with_flags
+    (with_looks v (start_have (tables_of nfa) kind))
+    (start_from_word (tables_of nfa) kind)
+    (start_half_crlf (tables_of nfa) kind)
 
 -- the value before the first unit, of a search that starts in a state and after a byte or none
 abbrev pub start_value : Nfa → ℕ → Option ℕ → Value

@@ -7,7 +7,7 @@ use Rattle.determinize_below.specs.Look.{has}
 use Rattle.determinize_below.specs.Nfa.{Nfa}
 use Rattle.determinize_below.specs.Reach.{edge_count, joined, nodes_below}
 use Rattle.determinize_core.specs.Step.{opened_by, is_reopened, distinct_states, targets}
-use Rattle.determinize_core.specs.LookTables.{tables_of, have_after}
+use Rattle.determinize_looks.specs.LookTables.{tables_of, have_after}
 use Rattle.determinize_states.specs.Value.{Value}
 
 -- the tries of a search into the empty set: its roots, and the edges of all states that it lists

@@ -1,8 +1,20 @@
 //! Laws of walks, steps and searches over the definitions, as public functions with empty bodies.
+
+ghost use Rattle.std.specs.Prelude.{◌≡◌, ℕ, Bool, true, false, ◌||◌, ◌⊎◌, List, Some};
+ghost use Rattle.std.specs.Bool.{Decides};
+ghost use Rattle.std.specs.List.{Any};
+ghost use Rattle.determinize_below.specs.Edges.{assertion_of};
+ghost use Rattle.determinize_below.specs.Look.{has};
+ghost use Rattle.determinize_below.specs.Nfa.{Nfa};
 ghost use Rattle.determinize_core.specs.WorkedRows as rows;
 ghost use Rattle.determinize_core.specs.HostileRows as hostile;
 ghost use Rattle.determinize_core.specs.AheadRows as ahead;
 ghost use Rattle.determinize_core.specs.Laws.{EachChainIsTrue, EachChainReaches, EachByteAheadIsNext, EachAnswerIsOne, EachReachGoesOn, EachStateHasOneKind, NothingLeadsOverTheEnd, EachFutureFollows, DeadStays, LeftmostGivesOne, NoNeedNoHave, TriesAreFew};
+ghost use Rattle.determinize_core.specs.Step.{is_redone};
+ghost use Rattle.determinize_looks.specs.LookTables.{opened, tables};
+ghost use Rattle.determinize_states.specs.Recording.{needs};
+
+use determinize_below::{Look, LookSet};
 
 /// The walk of an accepted NFA over a text, against whole runs. Where all matches are wanted, each
 /// value lists the patterns that runs accept before its unit, best run first. Where the most
@@ -92,4 +104,31 @@ pub fn walk_rows_law()
 /// A search from one state into a set that holds another meets no path through the held one.
 pub fn search_row_law()
     ensures { rows.Row22 }
+{}
+
+/// Where no closure is redone, what is found true adds nothing that is needed.
+pub fn redo_law(
+    reverse: bool,
+    terminator: u8,
+    any: LookSet,
+    from_word: bool,
+    half: bool,
+    have: LookSet,
+    need: LookSet,
+    unit: Option<u8>,
+    look: Look,
+)
+    requires kept { is_redone (opened (tables reverse terminator any) from_word half unit) have need
+        ≡ false }
+    requires needed { has need look ≡ true }
+    ensures { (has have look || opened (tables reverse terminator any) from_word half unit look)
+        ≡ has have look }
+{}
+
+/// The assertions that a list of states needs beside a set: an assertion is needed exactly where it
+/// is in the set or some state of the list tests it.
+pub fn need_law(set: LookSet, look: Look)
+    ensures { (nfa : Nfa) (xs : List ℕ)
+        → Decides (has (needs nfa set xs) look)
+        ((has set look ≡ true) ⊎ Any (λ s. assertion_of nfa s ≡ Some look) xs) }
 {}

@@ -6,7 +6,6 @@
 
 pub mod determinize;
 pub mod laws;
-pub mod look_laws;
-pub mod start;
 
+pub use determinize_looks::{look_laws, start};
 pub use determinize_states::{state, state_laws};

@@ -10,7 +10,7 @@ use Rattle.determinize_core.specs.Value.{dead, Value}
 use Rattle.determinize_core.specs.Chain.{future}
 use Rattle.determinize_core.specs.Step.{distinct_states, is_reopened, left_by, opened_by, part_read, patterns_read, step, working_list}
 use Rattle.determinize_core.specs.Walk.{ended_at, last_ended, last_match}
-use Rattle.determinize_core.specs.LookTables.{have_after, tables_of}
+use Rattle.determinize_looks.specs.LookTables.{have_after, tables_of}
 use Rattle.determinize_below.specs.Edges.{is_match, patterns_of, reach, target}
 use Rattle.determinize_below.specs.Look.{has}
 use Rattle.determinize_below.specs.Reach.{joined}

@@ -9,7 +9,7 @@ use Rattle.determinize_below.specs.declared.search.Anchored.TheVariants.{No, Pat
 use Rattle.determinize_below.specs.declared.search.HalfMatch.{HalfMatch}
 use Rattle.determinize_below.specs.declared.search.MatchKind.{MatchKind}
 use Rattle.determinize_core.specs.Chain.{chain, units}
-use Rattle.determinize_core.specs.StartKinds.{byte_before}
+use Rattle.determinize_looks.specs.StartKinds.{byte_before}
 use Rattle.determinize_core.specs.Step.{start_value}
 use Rattle.determinize_core.specs.Value.{Value, is_nonempty}
 use Rattle.determinize_core.specs.Walk.{last_match}

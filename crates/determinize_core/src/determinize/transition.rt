@@ -9,7 +9,7 @@ ghost use Rattle.determinize_below.specs.Runs.{without};
 ghost use Rattle.determinize_below.specs.Unit.{byte_of};
 ghost use Rattle.determinize_below.specs.declared.search.MatchKind.TheVariants as kinds;
 ghost use Rattle.determinize_core.specs.Private.Search.{tries_left};
-ghost use Rattle.determinize_core.specs.LookTables.{from_word_after, half_crlf_after, have_after, tables_of};
+ghost use Rattle.determinize_looks.specs.LookTables.{from_word_after, half_crlf_after, have_after, tables_of};
 ghost use Rattle.determinize_states.specs.Recording.{added};
 ghost use Rattle.determinize_core.specs.Scratch.{IsScratch};
 ghost use Rattle.determinize_core.specs.Step.{step};
@@ -17,10 +17,11 @@ ghost use Rattle.determinize_core.specs.Tries.{edges_in_all, tries, tries_of};
 ghost use Rattle.determinize_states.specs.Value.{dead, with_flags};
 
 use crate::determinize::closure::recording_closure;
-use crate::determinize::look_tables::{LookTables, Told};
+use crate::determinize::lookbehind;
 use crate::determinize::steps::Steps;
 use crate::determinize::working_list::{read_working_list, target};
 use determinize_below::{LookSet, MatchKind, NFA, SparseSet, SparseSets, StateID, Unit};
+use determinize_looks::look_tables::{LookTables, Told};
 use determinize_states::state::{State, StateBuilderEmpty, StateBuilderMatches, StateBuilderNFA};
 use std::alloc::{AllocError, Allocator};
 use std::marker::Brand;
@@ -54,7 +55,7 @@ fn set_flags<A: Allocator>(told: Told, leads_on: bool, builder: &mut StateBuilde
         ≡ with_flags builder.old (leads_on && told.from_word) (leads_on && told.half_crlf) }
 {
     if leads_on {
-        told.set_flags(builder);
+        lookbehind::set_flags(told, builder);
     }
 }
 

@@ -13,10 +13,10 @@ ghost use Rattle.determinize_core.specs.Walk.{IsLeftmostWalk, IsWalkOfAll};
 ghost use Rattle.determinize_core.specs.WalkStates.{RecordsReached};
 
 use crate::determinize::closure::epsilon_closure;
-use crate::determinize::look_tables::set_lookbehind_from_start;
+use crate::determinize::lookbehind::set_lookbehind_from_start;
 use crate::determinize::transition::next;
-use crate::start::start_kind_of;
 use determinize_below::{HalfMatch, MatchKind, NFA, SparseSets, StateID, Unit};
+use determinize_looks::start::start_kind_of;
 use determinize_states::recording::add_nfa_states;
 use determinize_states::state::{State, StateBuilderEmpty, StateBuilderNFA};
 use std::alloc::{AllocError, Allocator};

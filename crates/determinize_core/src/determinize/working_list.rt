@@ -23,11 +23,11 @@ ghost use Rattle.determinize_states.specs.Value.{is_nonempty};
 ghost use Rattle.determinize_core.specs.Private.Changes.{with_patterns};
 
 use crate::determinize::closure::counted_closure;
-use crate::determinize::look_tables::LookTables;
 use crate::determinize::steps::Steps;
 use determinize_below::{
     LookSet, MatchKind, NFA, PatternID, SparseSet, SparseSets, StateID, Unit, nfa,
 };
+use determinize_looks::look_tables::LookTables;
 use determinize_states::state::{State, StateBuilderMatches};
 use std::alloc::{AllocError, Allocator};
 use std::sync::ledger::Ledger;

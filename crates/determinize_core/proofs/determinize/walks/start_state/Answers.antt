@@ -1,7 +1,7 @@
 use Rattle.std.proofs.Common.{◌≡◌, ◌∙◌, [], ap, refl, subst, sym}
 use Rattle.determinize_below.specs.Members.{Members}
 use Rattle.determinize_below.specs.Nfa.{AllResolve}
-use Rattle.determinize_core.specs.StartKinds.{start_kind_of}
+use Rattle.determinize_looks.specs.StartKinds.{start_kind_of}
 use Rattle.determinize_states.specs.Value.{Value}
 use Rattle.determinize_core.proofs.Resolving.{start_resolves}
 use Rattle.determinize_core.proofs.Walking.{start_value-made}

@@ -1,7 +1,7 @@
 use Rattle.std.proofs.Common.{◌≡◌, ◌∙◌, ap, sym, Bool, ℕ}
 use Rattle.std.proofs.lemmas.Bool.{eqb-true}
 use Rattle.determinize_below.specs.Unit.{byte_of}
-use Rattle.determinize_core.specs.LookTables.{Tables, opened, tables_of}
+use Rattle.determinize_looks.specs.LookTables.{Tables, opened, tables_of}
 use Rattle.determinize_core.specs.Step.{is_redone, opened_by}
 use Rattle.determinize_core.proofs.Redo.{unneeded}
 use Rattle.determinize_core.proofs.Reopening.{IfSome-again}

@@ -1,8 +1,0 @@
-use Rattle.determinize_below.specs.Reached.{known}
-use Rattle.determinize_core.specs.LookTables.{tables_of}
-use Rattle.determinize_core.proofs.StartKinds.{start_have-known}
-use Rattle.determinize_core.proofs.determinize.look_tables.set_lookbehind_from_start.Goals as goal
-
-pub returns-clause-known : goal.returns-clause-known
-unfolding known
-returns-clause-known g c = start_have-known (tables_of c.args.nfa.now) c.args.start.now

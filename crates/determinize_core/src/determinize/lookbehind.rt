@@ -1,0 +1,46 @@
+//! What a new state is told of the byte behind it, in its builder.
+
+ghost use Rattle.std.specs.Prelude.{◌≡◌, ℕ, true, Option};
+ghost use Rattle.determinize_below.specs.Look.{has};
+ghost use Rattle.determinize_below.specs.Reached as reached;
+ghost use Rattle.determinize_below.specs.declared.look.Look.{Look as Assertion};
+ghost use Rattle.determinize_core.specs.Step.{with_start};
+ghost use Rattle.determinize_looks.specs.LookTables.{start_have, tables_of};
+ghost use Rattle.determinize_looks.specs.StartKinds.{start_kind_of};
+ghost use Rattle.determinize_states.specs.Value.{with_flags};
+
+use determinize_below::NFA;
+use determinize_looks::look_tables::{LookTables, Told};
+use determinize_looks::start::Start;
+use determinize_states::state::StateBuilderMatches;
+use std::alloc::Allocator;
+
+/// Sets the flags that a new state is told.
+pub(crate) fn set_flags<A: Allocator>(told: Told, builder: &mut StateBuilderMatches<A>)
+    ensures { builder.new ≡ with_flags builder.old told.from_word told.half_crlf }
+{
+    if told.from_word {
+        builder.set_is_from_word();
+    }
+    if told.half_crlf {
+        builder.set_is_half_crlf();
+    }
+}
+
+/// Tells the builder of a start state what its start kind tells of the byte behind it: it adds to
+/// look-have and sets flags, and leaves the rest of the builder. It cannot fail.
+pub fn set_lookbehind_from_start<N: Allocator, A: Allocator>(
+    nfa: &NFA<N>,
+    start: &Start,
+    builder: &mut StateBuilderMatches<A>,
+)
+    ensures told { builder.new ≡ with_start nfa.now start.now builder.old }
+    ensures known { (p : Option ℕ) (look : Assertion)
+        → start_kind_of nfa.now.terminator p ≡ start.now
+        → has (start_have (tables_of nfa.now) start.now) look ≡ true
+        → reached.known nfa.now p look ≡ true }
+{
+    let told = LookTables::of(nfa).at_start(*start);
+    builder.set_look_have(|have| have.union(told.looks));
+    set_flags(told, builder);
+}

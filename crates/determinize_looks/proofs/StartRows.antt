@@ -1,0 +1,49 @@
+-- Small searches, computed.
+use Rattle.std.proofs.Common.{◌≡◌, ℕ, refl, arith}
+use Rattle.determinize_below.specs.Look.{meets, insert}
+use Rattle.determinize_below.specs.Unit.{is_word_byte}
+use Rattle.determinize_looks.specs.LookTables.{known_set, insert_where, start_have, start_from_word, start_half_crlf}
+use Rattle.determinize_looks.specs.StartKinds.{start_kind}
+use Rattle.determinize_looks.specs.StartRows.{ForwardRows, ReverseRows, ByteRows, ToldRows, NothingTold}
+use Rattle.determinize_looks.specs.declared.start.Start.TheVariants.{NonWordByte, WordByte, Text, LineLF, LineCR, CustomLineTerminator}
+
+pub forward_rows : ForwardRows
+unfolding is_word_byte
+forward_rows = (refl, refl, refl, refl, refl, refl, refl, refl)
+
+pub reverse_rows : ReverseRows
+unfolding is_word_byte
+reverse_rows = (refl, refl, refl, refl, refl, refl, refl)
+
+pub byte_rows : ByteRows
+unfolding is_word_byte
+byte_rows = (refl, refl, refl, refl, refl)
+
+pub told_rows : ToldRows
+unfolding is_word_byte meets known_set insert_where insert start_have start_from_word start_half_crlf
+told_rows = (
+  (refl, refl, refl),
+  (refl, refl, refl),
+  (refl, refl, refl),
+  (refl, refl, refl),
+  (refl, refl, refl),
+  (refl, refl, refl),
+  (refl, refl, refl),
+  (refl, refl, refl),
+  (refl, refl, refl),
+  (refl, refl, refl),
+  (refl, refl, refl),
+)
+
+pub nothing_told : NothingTold
+unfolding meets known_set insert_where insert start_have start_from_word start_half_crlf
+nothing_told reverse t NonWordByte = (refl, refl, refl)
+nothing_told reverse t WordByte = (refl, refl, refl)
+nothing_told reverse t Text = (refl, refl, refl)
+nothing_told reverse t LineLF = (refl, refl, refl)
+nothing_told reverse t LineCR = (refl, refl, refl)
+nothing_told reverse t CustomLineTerminator = (refl, refl, refl)
+
+-- under a carriage return no byte is a terminator of its own
+pub no_custom : (b : ℕ) → ¬ (start_kind 13 b ≡ CustomLineTerminator)
+no_custom b h = grind (arith, h)

@@ -1,0 +1,79 @@
+-- What a step tells is what is known at the next position, and what is known or found true over a unit is the truth.
+use Rattle.std.proofs.Common.{◌≡◌, ℕ, Bool, true, false, not, Option, Some, refl, sym, ap, ◌∙◌}
+use mathlib.Core.Bool.{◌||◌}
+use Rattle.std.proofs.lemmas.Bool.{and_parts}
+use Rattle.determinize_below.specs.Look.{has}
+use Rattle.determinize_below.specs.Truth.{crlf_first, holds, behind_test, crlf_second, is_known}
+use Rattle.determinize_below.specs.Unit.{is_word, is_byte, is_nothing}
+use Rattle.determinize_below.proofs.Known.{known_is}
+use Rattle.determinize_below.specs.declared.look.Look.{Look}
+use Rattle.determinize_below.specs.declared.look.Look.TheVariants.{Start, End, StartLF, EndLF, StartCRLF, EndCRLF, WordAscii, WordAsciiNegate, WordUnicode, WordUnicodeNegate, WordStartAscii, WordEndAscii, WordStartUnicode, WordEndUnicode, WordStartHalfAscii, WordEndHalfAscii, WordStartHalfUnicode, WordEndHalfUnicode}
+use Rattle.determinize_looks.specs.LookTables.{Tables, IsFlagged, opened, word_opened, line_opened, have_after, from_word_after, half_crlf_after}
+use Rattle.determinize_looks.proofs.KnownSet.{or_none, under, has-known_set, known-agree, known-within, word_class, crlf_class}
+
+module _ (t : Tables) where
+  -- what a step tells over a byte is what is known after it, among the assertions of the NFA
+  pub has-have_after : (b : ℕ) (l : Look) → has t.any l ≡ true → has (have_after t (Some b)) l ≡ is_known t.reverse t.terminator (Some b) l
+  unfolding have_after
+  has-have_after b l h =
+      has-known_set _ _ _ _ l
+      ∙ known-agree t.any _ _ _ _ _ _ _ _ l h (λ _. refl) (λ e. under _ _ e) (λ _ e. under _ _ e) (λ e. under _ _ e)
+      ∙ sym (known_is t.reverse t.terminator (Some b) l)
+
+  -- and it is known in any case
+  pub have_after-known : (b : ℕ) (l : Look) → has (have_after t (Some b)) l ≡ true → is_known t.reverse t.terminator (Some b) l ≡ true
+  unfolding have_after
+  have_after-known b l h =
+      known_is t.reverse t.terminator (Some b) l
+      ∙ known-within _ _ _ _ _ _ _ _ l (λ e. e) (λ e. (and_parts _ _ e).1) (λ e. (and_parts _ _ e).1) (λ e. (and_parts _ _ e).1) (sym (has-known_set _ _ _ _ l) ∙ h)
+
+  -- the flags that a step sets tell rightly of what it read
+  pub IsFlagged-after : (p : Option ℕ) → IsFlagged t p (from_word_after t p) (half_crlf_after t p)
+  unfolding from_word_after half_crlf_after
+  IsFlagged-after p = record { word = (λ h. under _ _ h); crlf = (λ h. under _ _ h) }
+
+  -- with right flags, what is known and what the unit opens are the truth: as tables, and so
+  known_or_opened_each : (p u : Option ℕ) (l : Look) → (behind_test (is_nothing p) (is_nothing p || is_byte p t.terminator) (is_nothing p || is_byte p (crlf_second t.reverse)) (not (is_word p)) l || opened t (is_word p) (is_byte p (crlf_first t.reverse)) u l) ≡ holds t.reverse t.terminator p u l
+  unfolding opened word_opened line_opened
+  known_or_opened_each p u Start = or_none _
+  known_or_opened_each p u End = refl
+  known_or_opened_each p u StartLF = or_none _
+  known_or_opened_each p u EndLF = refl
+  known_or_opened_each p u StartCRLF = refl
+  known_or_opened_each p u EndCRLF = refl
+  known_or_opened_each p u WordStartHalfAscii = or_none _
+  known_or_opened_each p u WordStartHalfUnicode = or_none _
+  known_or_opened_each p u WordAscii = or_none _
+  known_or_opened_each p u WordAsciiNegate = or_none _
+  known_or_opened_each p u WordUnicode = or_none _
+  known_or_opened_each p u WordUnicodeNegate = or_none _
+  known_or_opened_each p u WordStartAscii = or_none _
+  known_or_opened_each p u WordEndAscii = or_none _
+  known_or_opened_each p u WordStartUnicode = or_none _
+  known_or_opened_each p u WordEndUnicode = or_none _
+  known_or_opened_each p u WordEndHalfAscii = or_none _
+  known_or_opened_each p u WordEndHalfUnicode = or_none _
+
+  known_or_opened : (p u : Option ℕ) (l : Look) → (is_known t.reverse t.terminator p l || opened t (is_word p) (is_byte p (crlf_first t.reverse)) u l) ≡ holds t.reverse t.terminator p u l
+  known_or_opened p u l = rw (known_is t.reverse t.terminator p l) (known_or_opened_each p u l)
+
+  -- wrong flags change nothing among the assertions of the NFA
+  opened-flags : (p : Option ℕ) (from_word half : Bool) (u : Option ℕ) (l : Look) → IsFlagged t p from_word half → has t.any l ≡ true
+      → opened t from_word half u l ≡ opened t (is_word p) (is_byte p (crlf_first t.reverse)) u l
+  unfolding has opened word_opened line_opened
+  opened-flags p from_word half u StartCRLF f h = ap (λ x. line_opened t x u StartCRLF) (f.crlf (crlf_class t.any StartCRLF refl h))
+  opened-flags p from_word half u EndCRLF f h = ap (λ x. line_opened t x u EndCRLF) (f.crlf (crlf_class t.any EndCRLF refl h))
+  opened-flags p from_word half u WordAscii f h = ap (λ x. word_opened x (is_word u) WordAscii || false) (f.word (word_class t.any WordAscii refl h))
+  opened-flags p from_word half u WordAsciiNegate f h = ap (λ x. word_opened x (is_word u) WordAsciiNegate || false) (f.word (word_class t.any WordAsciiNegate refl h))
+  opened-flags p from_word half u WordUnicode f h = ap (λ x. word_opened x (is_word u) WordUnicode || false) (f.word (word_class t.any WordUnicode refl h))
+  opened-flags p from_word half u WordUnicodeNegate f h = ap (λ x. word_opened x (is_word u) WordUnicodeNegate || false) (f.word (word_class t.any WordUnicodeNegate refl h))
+  opened-flags p from_word half u WordStartAscii f h = ap (λ x. word_opened x (is_word u) WordStartAscii || false) (f.word (word_class t.any WordStartAscii refl h))
+  opened-flags p from_word half u WordEndAscii f h = ap (λ x. word_opened x (is_word u) WordEndAscii || false) (f.word (word_class t.any WordEndAscii refl h))
+  opened-flags p from_word half u WordStartUnicode f h = ap (λ x. word_opened x (is_word u) WordStartUnicode || false) (f.word (word_class t.any WordStartUnicode refl h))
+  opened-flags p from_word half u WordEndUnicode f h = ap (λ x. word_opened x (is_word u) WordEndUnicode || false) (f.word (word_class t.any WordEndUnicode refl h))
+  opened-flags p from_word half u l f h = refl
+
+  -- with flags that are right where they are asked, what is known and what the unit opens are the truth, among the assertions of the NFA
+  pub known_or_opened_any : (p : Option ℕ) (from_word half : Bool) (u : Option ℕ) (l : Look) → IsFlagged t p from_word half
+      → has t.any l ≡ true → (is_known t.reverse t.terminator p l || opened t from_word half u l) ≡ holds t.reverse t.terminator p u l
+  known_or_opened_any p from_word half u l f h = rw (opened-flags p from_word half u l f h) (known_or_opened p u l)

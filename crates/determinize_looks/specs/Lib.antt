@@ -1,0 +1,4 @@
+pub mod LookTables
+pub mod Private
+pub mod StartKinds
+pub mod StartRows

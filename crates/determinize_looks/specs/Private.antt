@@ -1,0 +1,2 @@
+-- What private functions promise each other: no public contract cites these definitions.
+pub mod LookSets

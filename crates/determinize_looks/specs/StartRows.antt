@@ -1,0 +1,76 @@
+-- Starts as they come out for small searches.
+use Rattle.std.specs.Prelude.{◌≡◌, ℕ, Bool, true, false, List, [], ◌∷◌, codes, slice_get}
+use Rattle.determinize_looks.specs.LookTables.{tables, start_have, start_from_word, start_half_crlf}
+use Rattle.determinize_looks.specs.StartKinds.{byte_before, start_kind, start_kind_of}
+use Rattle.determinize_looks.specs.declared.start.Start.{Start as Kind}
+use Rattle.determinize_looks.specs.declared.start.Start.TheVariants.{NonWordByte, WordByte, Text, LineLF, LineCR, CustomLineTerminator}
+
+-- the start kind of a forward search from this index, where lines end in a line feed
+abbrev pub forward : List ℕ → ℕ → Kind
+forward haystack start = start_kind_of 10 (byte_before haystack start)
+
+-- the start kind of a reverse search up to this index, where lines end in a line feed
+abbrev pub reversed : List ℕ → ℕ → Kind
+reversed haystack end = start_kind_of 10 (slice_get haystack end)
+
+-- forward: the empty haystack from 1 and from 0; abc, and abc behind a line feed, from 0; from 1, behind a line feed, a carriage return, a letter and a space
+abbrev pub ForwardRows : Type 0
+ForwardRows =
+    (forward [] 1 ≡ Text)
+    × (forward [] 0 ≡ Text)
+    × (forward (codes "abc") 0 ≡ Text)
+    × (forward (10 ∷ codes "abc") 0 ≡ Text)
+    × (forward (10 ∷ codes "abc") 1 ≡ LineLF)
+    × (forward (13 ∷ codes "abc") 1 ≡ LineCR)
+    × (forward (codes "abc") 1 ≡ WordByte)
+    × (forward (codes " abc") 1 ≡ NonWordByte)
+
+-- reverse: the empty haystack to 0; abc to its end, and with a line feed to its end; then up to a line feed, a carriage return, a letter and a space
+abbrev pub ReverseRows : Type 0
+ReverseRows =
+    (reversed [] 0 ≡ Text)
+    × (reversed (codes "abc") 3 ≡ Text)
+    × (reversed (97 ∷ 98 ∷ 99 ∷ 10 ∷ []) 4 ≡ Text)
+    × (reversed (97 ∷ 98 ∷ 99 ∷ 10 ∷ 122 ∷ []) 3 ≡ LineLF)
+    × (reversed (97 ∷ 98 ∷ 99 ∷ 13 ∷ 122 ∷ []) 3 ≡ LineCR)
+    × (reversed (codes "abc") 2 ≡ WordByte)
+    × (reversed (codes "abc ") 3 ≡ NonWordByte)
+
+-- bytes under the terminator a, and under a carriage return
+abbrev pub ByteRows : Type 0
+ByteRows =
+    (start_kind 97 97 ≡ CustomLineTerminator)
+    × (start_kind 97 98 ≡ WordByte)
+    × (start_kind 97 10 ≡ LineLF)
+    × (start_kind 13 13 ≡ LineCR)
+    × (start_kind 13 10 ≡ LineLF)
+
+-- what a start kind tells, for an NFA with Start, StartLF, StartCRLF and WordAscii: look-have, from-word and half-CRLF
+abbrev IsTold : Bool → ℕ → Kind → ℕ → Bool → Bool → Type 0
+IsTold reverse terminator kind have from_word half =
+    (start_have (tables reverse terminator 0x55) kind ≡ have)
+    × (start_from_word (tables reverse terminator 0x55) kind ≡ from_word)
+    × (start_half_crlf (tables reverse terminator 0x55) kind ≡ half)
+
+-- the terminators are a line feed, a carriage return, x, a and a semicolon
+abbrev pub ToldRows : Type 0
+ToldRows =
+    IsTold false 10 NonWordByte 0x14000 false false
+    × IsTold false 10 WordByte 0 true false
+    × IsTold false 10 Text 0x14015 false false
+    × IsTold false 10 LineLF 0x14014 false false
+    × IsTold true 10 LineLF 0x14004 false true
+    × IsTold true 120 LineLF 0x14000 false true
+    × IsTold false 10 LineCR 0x14000 false true
+    × IsTold true 10 LineCR 0x14010 false false
+    × IsTold false 13 LineCR 0x14004 false true
+    × IsTold false 97 CustomLineTerminator 0x4 true false
+    × IsTold false 59 CustomLineTerminator 0x14004 false false
+
+-- an NFA without assertions has nothing to tell
+abbrev pub NothingTold : Type 0
+NothingTold =
+    (reverse : Bool) (t : ℕ) (kind : Kind)
+    → (start_have (tables reverse t 0) kind ≡ 0)
+    × (start_from_word (tables reverse t 0) kind ≡ false)
+    × (start_half_crlf (tables reverse t 0) kind ≡ false)
