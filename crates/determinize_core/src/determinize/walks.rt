@@ -205,6 +205,16 @@ fn finish<N: Allocator, A: Allocator + Clone>(
         ≡ (states.items ++ builder ∷ []) ++ step nfa.now match_kind builder (byte_of unit) ∷ []) }
 {
     let last = advance(nfa, match_kind, sparses, stack, builder, unit, &mut states)?;
+    with_last(states, last)
+}
+
+/// The states of a walk, with the one in the builder after them.
+fn with_last<A: Allocator + Clone>(
+    mut states: Vec<State<A>, A>,
+    last: StateBuilderNFA<A>,
+) -> Result<Vec<State<A>, A>, AllocError>
+    ensures { IfOk result (λ all. all.items ≡ states.items ++ last ∷ []) }
+{
     states.push(last.to_state()?)?;
     Ok(states)
 }
