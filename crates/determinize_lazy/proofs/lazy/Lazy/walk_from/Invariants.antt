@@ -1,4 +1,5 @@
 use Rattle.std.proofs.Common.{◌≡◌, ◌≤◌, map, take, Some}
+use Rattle.determinize_below.specs.Nfa.{IsAccepted}
 use Rattle.determinize_lazy.proofs.Walking.{IsListed}
 use Rattle.determinize_lazy.proofs.lazy.Lazy.walk_from.Given as goal
 
@@ -9,4 +10,6 @@ invariant-loop-byte g l = record {
   kind : l.self.kind ≡ l.initial.self.kind;
   limit : l.self.limit ≡ l.initial.self.limit;
   computed : l.initial.self.computed ≤ l.self.computed;
+  small : l.initial.self.computed ≤ 18446744073709551615;
+  accepted : IsAccepted l.initial.self.nfa;
 }
