@@ -91,14 +91,25 @@ impl Row {
     /// Reads a walk and the lines of its answer, of which the last tells the match.
     fn read(alloc: Global, line: &str, answer: &str) -> Result<Row, JobError> {
         let job = Job::read(alloc, line)?;
+        Row::of(alloc, &job, answer)
+    }
+
+    /// The walk of a job, with the lines of its answer.
+    fn of(alloc: Global, job: &Job<'_>, answer: &str) -> Result<Row, JobError> {
+        let kind = job.match_kind()?;
+        let start = values::state_id(job.value(Key::Start).unwrap_or("0"))?;
+        let look_behind = values::optional_byte(job.value_or_none(Key::LookBehind))?;
+        let look_ahead = values::optional_byte(job.value_or_none(Key::After))?;
+        let text = values::bytes(alloc, job.value_or_none(Key::Text))?;
+        let states = read_states(alloc, answer)?;
         Ok(Row {
-            nfa: nfas::nfa(alloc, &job)?,
-            kind: job.match_kind()?,
-            start: values::state_id(job.value(Key::Start).unwrap_or("0"))?,
-            look_behind: values::optional_byte(job.value_or_none(Key::LookBehind))?,
-            text: values::bytes(alloc, job.value_or_none(Key::Text))?,
-            look_ahead: values::optional_byte(job.value_or_none(Key::After))?,
-            states: read_states(alloc, answer)?,
+            nfa: nfas::nfa(alloc, job)?,
+            kind,
+            start,
+            look_behind,
+            text,
+            look_ahead,
+            states,
         })
     }
 

@@ -59,11 +59,19 @@ impl Closing {
     /// Reads a closure.
     fn read(alloc: Global, line: &str) -> Result<Closing, JobError> {
         let job = Job::read(alloc, line)?;
+        Closing::of(alloc, &job)
+    }
+
+    /// The closure of a job.
+    fn of(alloc: Global, job: &Job<'_>) -> Result<Closing, JobError> {
+        let start = values::state_id(job.needed(Key::From)?)?;
+        let have = values::look_set(job.value_or_none(Key::Look))?;
+        let held = values::state_ids(alloc, job.value_or_none(Key::Held))?;
         Ok(Closing {
-            nfa: nfas::nfa(alloc, &job)?,
-            start: values::state_id(job.needed(Key::From)?)?,
-            have: values::look_set(job.value_or_none(Key::Look))?,
-            held: values::state_ids(alloc, job.value_or_none(Key::Held))?,
+            nfa: nfas::nfa(alloc, job)?,
+            start,
+            have,
+            held,
         })
     }
 
