@@ -4,8 +4,10 @@ ghost use Rattle.std.specs.Prelude.{◌≤◌};
 
 use crate::tests::{Heap, Row, call_twice, holds, refuse_in_turn, refuse_over_walks, same};
 use determinize_below::{BuildError, NFA, SparseSet, SparseSets, StateID};
+use determinize_replay::error::JobError;
 use determinize_replay::job::Job;
 use determinize_replay::nfas;
+use std::alloc::Global;
 use std::process::Abort;
 use std::test::Fail;
 use worked_rows::answers;
@@ -27,16 +29,27 @@ fn make_one(rt: &impl Abort, heap: &Heap, capacity: usize) -> Result<bool, Fail>
     Ok(first.is_some())
 }
 
+/// Asks that both answers are two sets that have no ids, and room for so many, and tells whether
+/// the first is there.
+fn are_empty<'a>(
+    rt: &impl Abort,
+    answers: &(Option<SparseSets<&'a Heap>>, SparseSets<&'a Heap>),
+    capacity: usize,
+) -> bool {
+    let (first, second) = answers;
+    for sets in first.iter().chain(Some(second)) {
+        expect_empty(rt, &sets.set1, capacity);
+        expect_empty(rt, &sets.set2, capacity);
+    }
+    first.is_some()
+}
+
 /// Makes two sets at once.
 fn make_two(rt: &impl Abort, heap: &Heap, capacity: usize) -> Result<bool, Fail>
     requires { capacity ≤ 2147483647 }
 {
-    let (first, second) = call_twice(heap, || SparseSets::new(heap, capacity))?;
-    for sets in first.iter().chain(Some(&second)) {
-        expect_empty(rt, &sets.set1, capacity);
-        expect_empty(rt, &sets.set2, capacity);
-    }
-    Ok(first.is_some())
+    let answers = call_twice(heap, || SparseSets::new(heap, capacity))?;
+    Ok(are_empty(rt, &answers, capacity))
 }
 
 /// Makes a set, and then two at once.
@@ -54,6 +67,34 @@ fn sets(rt: HostRuntime) -> Result<(), Fail> {
     refuse_over_walks(&rt, |heap, row| make_sets(&rt, heap, row.nfa.len()))
 }
 
+/// The NFA of a job, made under the refusals of the memory.
+fn from_job(
+    alloc: Global,
+    heap: &Heap,
+    job: &Job<'_>,
+) -> Result<Result<NFA, BuildError>, JobError> {
+    let (is_reverse, matcher) = (job.is_reverse()?, nfas::matcher(job)?);
+    let states = nfas::states(alloc, job.states())?;
+    let start = StateID::ZERO;
+    heap.begin();
+    let made = NFA::from_parts(heap, states, start, start, is_reverse, matcher);
+    heap.end();
+    Ok(made)
+}
+
+/// The NFA of a line, made in the same way.
+fn from_line(alloc: Global, heap: &Heap, line: &str) -> Result<Result<NFA, BuildError>, JobError> {
+    let job = Job::read(alloc, line)?;
+    from_job(alloc, heap, &job)
+}
+
+/// Walks from the start of a worked walk.
+fn walk(rt: &impl Abort, heap: &Heap, row: &Row) -> Result<(), Fail> {
+    let start = row.start()?;
+    row.expect(rt, row.walk(heap, start)?.as_slice());
+    Ok(())
+}
+
 /// Makes an NFA, and walks through it with ample memory.
 fn make_nfa<R: Abort + AllocGlobal>(
     rt: &R,
@@ -62,22 +103,14 @@ fn make_nfa<R: Abort + AllocGlobal>(
     answer: &str,
 ) -> Result<bool, Fail> {
     let mut row = Row::read(rt.alloc(), line, answer)?;
-    let job = Job::read(rt.alloc(), line)?;
-    let states = nfas::states(rt.alloc(), job.states())?;
-    let start = StateID::ZERO;
-    let (is_reverse, matcher) = (job.is_reverse()?, nfas::matcher(&job)?);
-    heap.begin();
-    let made = NFA::from_parts(heap, states, start, start, is_reverse, matcher);
-    heap.end();
-    match made {
+    match from_line(rt.alloc(), heap, line)? {
         Ok(nfa) => row.nfa = nfa,
         Err(error) => {
             same(rt, error, BuildError::OutOfMemory);
             return Ok(false);
         }
     }
-    let start = row.start()?;
-    row.expect(rt, row.walk(heap, start)?.as_slice());
+    walk(rt, heap, &row)?;
     Ok(true)
 }
 

@@ -18,16 +18,18 @@ fn has_asked_none(rt: &impl Abort, heap: &Heap) -> bool {
     true
 }
 
+/// Inserts an id, and finds it.
+fn insert(rt: &impl Abort, set: &mut SparseSet<&Heap>, id: StateID) {
+    assert!(rt; id.as_usize() < set.capacity());
+    holds(rt, set.insert(id));
+    assert!(rt; id.as_usize() < set.capacity());
+    holds(rt, set.contains(id));
+}
+
 /// Ids are inserted, found and removed.
-fn fill_sets(rt: &impl Abort, heap: &Heap) -> Result<bool, Fail> {
-    let mut sparses = SparseSets::new(heap, 70)?;
-    heap.begin();
+fn fill(rt: &impl Abort, sparses: &mut SparseSets<&Heap>) -> Result<(), Fail> {
     for number in [5usize, 69, 0] {
-        let id = StateID::new(number)?;
-        assert!(rt; id.as_usize() < sparses.set1.capacity());
-        holds(rt, sparses.set1.insert(id));
-        assert!(rt; id.as_usize() < sparses.set1.capacity());
-        holds(rt, sparses.set1.contains(id));
+        insert(rt, &mut sparses.set1, StateID::new(number)?);
     }
     same(rt, sparses.set1.iter().count(), 3);
     sparses.swap();
@@ -35,6 +37,14 @@ fn fill_sets(rt: &impl Abort, heap: &Heap) -> Result<bool, Fail> {
     sparses.clear();
     sparses.set1.clear();
     holds(rt, sparses.set1.is_empty() && sparses.set2.is_empty());
+    Ok(())
+}
+
+/// Two sets are filled.
+fn fill_sets(rt: &impl Abort, heap: &Heap) -> Result<bool, Fail> {
+    let mut sparses = SparseSets::new(heap, 70)?;
+    heap.begin();
+    fill(rt, &mut sparses)?;
     Ok(has_asked_none(rt, heap))
 }
 
