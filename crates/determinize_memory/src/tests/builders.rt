@@ -5,8 +5,19 @@ ghost use Rattle.std.specs.Prelude.{◌≡◌, [], OnOk};
 use crate::tests::{Heap, Row, call_twice, refuse_over_walks, same};
 use determinize_below::{PatternID, StateID};
 use determinize_core::state::{State, StateBuilderEmpty, StateBuilderMatches, StateBuilderNFA};
+use std::alloc::AllocError;
 use std::process::Abort;
 use std::test::Fail;
+
+/// Asks that a builder has these bytes.
+fn expect_bytes(
+    rt: &impl Abort,
+    builder: &StateBuilderMatches<&Heap>,
+    bytes: &[u8],
+) -> Result<(), AllocError> {
+    same(rt, builder.clone()?.into_nfa().as_bytes(), bytes);
+    Ok(())
+}
 
 /// Adds a pattern and puts it behind those that the builder has. A builder that was refused is as
 /// it was, and takes the pattern with ample memory.
@@ -31,8 +42,7 @@ fn add_pattern(
     if added.is_ok() {
         return Ok(true);
     }
-    let after = builder.clone()?.into_nfa();
-    same(rt, after.as_bytes(), before.as_bytes());
+    expect_bytes(rt, builder, before.as_bytes())?;
     builder.add_match_pattern_id(id)?;
     Ok(false)
 }
@@ -57,23 +67,36 @@ fn add_state(
     Ok(false)
 }
 
-/// Lists the patterns of a state in a builder that has none.
-fn add_patterns<'a, R: Abort + AllocGlobal>(
+/// Lists these patterns in a builder that has none.
+fn add_patterns<R: Abort + AllocGlobal>(
     rt: &R,
-    heap: &'a Heap,
-    mut builder: StateBuilderMatches<&'a Heap>,
-    state: &State<&'a Heap>,
-) -> Result<(bool, StateBuilderMatches<&'a Heap>), Fail>
-    requires { builder.patterns ≡ [] }
+    heap: &Heap,
+    builder: &mut StateBuilderMatches<&Heap>,
+    ids: &[PatternID],
+) -> Result<bool, Fail>
+    requires { builder.old.patterns ≡ [] }
 {
     let mut is_answered = true;
     let mut patterns = Vec::new(rt.alloc());
-    if let Some(ids) = state.match_pattern_ids()? {
-        for id in ids.iter() {
-            is_answered &= add_pattern(rt, heap, &mut builder, &mut patterns, *id)?;
-        }
+    for id in ids.iter() {
+        is_answered &= add_pattern(rt, heap, builder, &mut patterns, *id)?;
     }
-    Ok((is_answered, builder))
+    Ok(is_answered)
+}
+
+/// Lists the patterns of a state in a builder that has none.
+fn copy_patterns<R: Abort + AllocGlobal>(
+    rt: &R,
+    heap: &Heap,
+    builder: &mut StateBuilderMatches<&Heap>,
+    state: &State<&Heap>,
+) -> Result<bool, Fail>
+    requires { builder.old.patterns ≡ [] }
+{
+    match state.match_pattern_ids()? {
+        Some(ids) => add_patterns(rt, heap, builder, ids.as_slice()),
+        None => Ok(true),
+    }
 }
 
 /// Asks that both builders have these bytes, and tells whether the first is there.
@@ -123,10 +146,23 @@ fn build_matches<'a, R: Abort + AllocGlobal>(
 ) -> Result<(bool, StateBuilderMatches<&'a Heap>), Fail> {
     let is_cloned = clone_empty(rt, heap)?;
     let is_begun = begin(rt, heap)?;
-    let matches = StateBuilderEmpty::new(heap).into_matches()?;
-    let (are_added, mut matches) = add_patterns(rt, heap, matches, state)?;
+    let mut matches = StateBuilderEmpty::new(heap).into_matches()?;
+    let are_added = copy_patterns(rt, heap, &mut matches, state)?;
     set_flags(&mut matches, state);
     Ok((is_cloned && is_begun && are_added, matches))
+}
+
+/// Asks that both states have these bytes, and tells whether the first is there.
+pub fn are_states<'a>(
+    rt: &impl Abort,
+    states: &(Option<State<&'a Heap>>, State<&'a Heap>),
+    bytes: &[u8],
+) -> bool {
+    let (first, second) = states;
+    for state in first.iter().chain(Some(second)) {
+        same(rt, state.as_bytes(), bytes);
+    }
+    first.is_some()
 }
 
 /// Makes a state of these bytes, and tells whether the first call was answered.
@@ -136,11 +172,8 @@ pub fn make_state(
     builder: &StateBuilderNFA<&Heap>,
     bytes: &[u8],
 ) -> Result<bool, Fail> {
-    let (first, second) = call_twice(heap, || builder.to_state())?;
-    for made in first.iter().chain(Some(&second)) {
-        same(rt, made.as_bytes(), bytes);
-    }
-    Ok(first.is_some())
+    let states = call_twice(heap, || builder.to_state())?;
+    Ok(are_states(rt, &states, bytes))
 }
 
 /// Asks that a builder with all of its parts has these bytes, and so have its clone and its state,

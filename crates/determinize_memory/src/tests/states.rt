@@ -1,8 +1,8 @@
 //! States, and what is read of them.
 
-use crate::tests::builders::make_state;
+use crate::tests::builders::{are_states, make_state};
 use crate::tests::{Heap, Row, call_twice, holds, refuse_in_turn, refuse_over_walks, same};
-use determinize_below::StateID;
+use determinize_below::{PatternID, StateID};
 use determinize_core::state::{State, StateBuilderEmpty, StateBuilderNFA};
 use std::process::Abort;
 use std::test::Fail;
@@ -46,29 +46,44 @@ fn clone_state(
     state: &State<&Heap>,
     bytes: &[u8],
 ) -> Result<bool, Fail> {
-    let (first, second) = call_twice(heap, || state.clone())?;
-    for clone in first.iter().chain(Some(&second)) {
-        same(rt, clone.as_bytes(), bytes);
-    }
+    let clones = call_twice(heap, || state.clone())?;
     same(rt, state.as_bytes(), bytes);
-    Ok(first.is_some())
+    Ok(are_states(rt, &clones, bytes))
+}
+
+/// The patterns of a state, where it has some.
+type Patterns<'a> = Option<Vec<PatternID, &'a Heap>>;
+
+/// Asks that these are the patterns of a state.
+fn expect_patterns(rt: &impl Abort, state: &State<&Heap>, ids: &Patterns<'_>) {
+    let Some(ids) = ids else {
+        holds(rt, !state.is_match());
+        return;
+    };
+    same(rt, ids.len(), state.match_len());
+    for (index, id) in ids.iter().enumerate() {
+        assert!(rt; index < state.match_len());
+        same(rt, *id, state.match_pattern(index));
+    }
+}
+
+/// Asks that both answers are the patterns of a state, and tells whether the first is there.
+fn are_patterns<'a>(
+    rt: &impl Abort,
+    state: &State<&'a Heap>,
+    answers: &(Option<Patterns<'a>>, Patterns<'a>),
+) -> bool {
+    let (first, second) = answers;
+    for ids in first.iter().chain(Some(second)) {
+        expect_patterns(rt, state, ids);
+    }
+    first.is_some()
 }
 
 /// Reads the patterns of a state.
 fn read_patterns(rt: &impl Abort, heap: &Heap, state: &State<&Heap>) -> Result<bool, Fail> {
-    let (first, second) = call_twice(heap, || state.match_pattern_ids())?;
-    for ids in first.iter().chain(Some(&second)) {
-        let Some(ids) = ids else {
-            holds(rt, !state.is_match());
-            continue;
-        };
-        same(rt, ids.len(), state.match_len());
-        for (index, id) in ids.iter().enumerate() {
-            assert!(rt; index < state.match_len());
-            same(rt, *id, state.match_pattern(index));
-        }
-    }
-    Ok(first.is_some())
+    let answers = call_twice(heap, || state.match_pattern_ids())?;
+    Ok(are_patterns(rt, state, &answers))
 }
 
 /// Clones and reads each state of a walk.
