@@ -177,22 +177,60 @@ fn record_one(rt: &impl Abort, heap: &Heap, row: &Row) -> Result<bool, Fail> {
     Ok(added.is_ok())
 }
 
+/// Asks that the sets and the stack can be used again.
+fn expect_scratch(
+    rt: &impl Abort,
+    nfa: &NFA,
+    sparses: &SparseSets<&Heap>,
+    stack: &Vec<StateID, &Heap>,
+) {
+    holds(rt, stack.is_empty());
+    same(rt, sparses.set1.capacity(), nfa.len());
+    same(rt, sparses.set2.capacity(), nfa.len());
+}
+
+/// The first state of a walk.
+fn first_state<'a>(
+    heap: &'a Heap,
+    row: &Row,
+    id: StateID,
+    sparses: &mut SparseSets<&'a Heap>,
+    stack: &mut Vec<StateID, &'a Heap>,
+) -> Result<StateBuilderNFA<&'a Heap>, AllocError>
+    requires id { id < length row.now.nfa.states }
+    requires scratch { IsScratch row.now.nfa sparses.old.set1 sparses.old.set2 stack.old.items }
+    ensures { IsScratch row.now.nfa sparses.new.set1 sparses.new.set2 stack.new.items }
+{
+    let empty = StateBuilderEmpty::new(heap);
+    start_state(&row.nfa, id, row.look_behind, sparses, stack, empty)
+}
+
+/// Starts a walk twice. The sets and the stack can be used again.
+fn start_twice<'a>(
+    rt: &impl Abort,
+    heap: &'a Heap,
+    row: &Row,
+    id: StateID,
+    sparses: &mut SparseSets<&'a Heap>,
+    stack: &mut Vec<StateID, &'a Heap>,
+) -> Result<bool, Fail>
+    requires id { id < length row.now.nfa.states }
+    requires scratch { IsScratch row.now.nfa sparses.old.set1 sparses.old.set2 stack.old.items }
+{
+    heap.begin();
+    let first = first_state(heap, row, id, sparses, stack);
+    heap.end();
+    expect_scratch(rt, &row.nfa, sparses, stack);
+    let second = first_state(heap, row, id, sparses, stack)?;
+    Ok(are_spelled(rt, &(first.ok(), second), row.bytes(0)))
+}
+
 /// Starts a walk.
 fn start(rt: &impl Abort, heap: &Heap, row: &Row) -> Result<bool, Fail> {
-    let nfa = &row.nfa;
     let id = row.start()?;
-    let mut sparses = SparseSets::new(heap, nfa.len())?;
+    let mut sparses = SparseSets::new(heap, row.nfa.len())?;
     let mut stack = Vec::new(heap);
-    let empty = StateBuilderEmpty::new(heap);
-    heap.begin();
-    let first = start_state(nfa, id, row.look_behind, &mut sparses, &mut stack, empty);
-    heap.end();
-    assert!(rt; stack.is_empty());
-    assert_eq!(rt; sparses.set1.capacity(), nfa.len());
-    assert_eq!(rt; sparses.set2.capacity(), nfa.len());
-    let empty = StateBuilderEmpty::new(heap);
-    let second = start_state(nfa, id, row.look_behind, &mut sparses, &mut stack, empty)?;
-    Ok(are_spelled(rt, &(first.ok(), second), row.bytes(0)))
+    start_twice(rt, heap, row, id, &mut sparses, &mut stack)
 }
 
 #[test]
@@ -259,8 +297,7 @@ fn leave<'a>(
     requires { AllResolve row.now.nfa state.now.states }
 {
     let unit = row.unit(index);
-    let count = row.nfa.len();
-    let mut sparses = SparseSets::new(heap, count)?;
+    let mut sparses = SparseSets::new(heap, row.nfa.len())?;
     let mut stack = Vec::new(heap);
     let empty = StateBuilderEmpty::new(heap);
     heap.begin();
@@ -274,9 +311,7 @@ fn leave<'a>(
         empty,
     );
     heap.end();
-    assert!(rt; stack.is_empty());
-    assert_eq!(rt; sparses.set1.capacity(), count);
-    assert_eq!(rt; sparses.set2.capacity(), count);
+    expect_scratch(rt, &row.nfa, &sparses, &stack);
     let empty = StateBuilderEmpty::new(heap);
     let second = step(
         row,
