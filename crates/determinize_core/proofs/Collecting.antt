@@ -1,8 +1,6 @@
 -- Collecting the distinct ids of a list in a set.
-use Rattle.std.proofs.Common.{◌≡◌, ℕ, All, Bool, true, false, not, List, [], ◌∷◌, ◌++◌, nat_eq, refl, sym, ap, ◌∙◌, arith, append_assoc, ◌||◌, ◌&&◌, if◌then◌else◌}
+use Rattle.std.proofs.Common.{◌≡◌, ℕ, All, Bool, true, false, not, List, [], ◌∷◌, ◌++◌, nat_eq, refl, sym, ap, ◌∙◌, arith, append_assoc, ◌&&◌, if◌then◌else◌}
 use Rattle.determinize_below.specs.Members.{has_id}
-use Rattle.std.specs.List.{list_any, IsDistinct, AllByRecursion}
-use Rattle.std.proofs.lemmas.Bool.Decides.{nat_tests}
 use Rattle.std.proofs.lemmas.List.Elements.{All-head, All-tail, All-cons}
 use Rattle.std.proofs.lemmas.List.{append-nil}
 use Rattle.determinize_below.specs.Reach.{member, fresh, joined, none_held, with_node}
@@ -51,16 +49,3 @@ All-fresh P seen (x ∷ xs) h =
     by_test (seen x)
     (λ e. rw e (All-fresh P seen xs (All-tail P x xs h)))
     (λ e. rw e (All-cons P x (fresh nat_eq (with_node nat_eq seen x) xs) (All-head P x xs h) (All-fresh P (with_node nat_eq seen x) xs (All-tail P x xs h))))
-
--- an id stands once among distinct ids
-pub distinct_before : (xs ys : List ℕ) (x : ℕ) → IsDistinct nat_eq (xs ++ x ∷ ys) → list_any (nat_eq x) xs ≡ false
-unfolding IsDistinct
-distinct_before [] ys x d = refl
-distinct_before (z ∷ xs) ys x d = neither z x (list_any (nat_eq x) xs) (in_the_middle (λ w. nat_eq z w ≡ false) xs ys x d.0) (distinct_before xs ys x d.1)
-  where
-    in_the_middle : (P : ℕ → Type 0) (xs ys : List ℕ) (x : ℕ) → AllByRecursion P (xs ++ x ∷ ys) → P x
-    in_the_middle P [] ys x a = a.0
-    in_the_middle P (w ∷ xs) ys x a = in_the_middle P xs ys x a.1
-
-    neither : (z x : ℕ) (b : Bool) → nat_eq z x ≡ false → b ≡ false → (nat_eq x z || b) ≡ false
-    neither z x b h k = grind (arith, nat_tests)

@@ -59,7 +59,3 @@ module _ (vs : List Value) (i : ℕ) (v : Value) (within : i < length vs) (here 
 -- all values but the first were read
 pub last_match-read : (values vs : List Value) (first : Value) (i : ℕ) (last : Option HalfMatch) → values ≡ first ∷ vs → length vs ≤ i → last ≡ last_ended 0 (take i vs) → last ≡ last_match values
 last_match-read values vs first i last whole l e = e ∙ ap (λ ws. last_ended 0 ws) (take_all i vs l) ∙ sym (ap last_match whole)
-
-pub last_match-empty : (values : List Value) → length values ≡ 0 → None ≡ last_match values
-last_match-empty [] l = refl
-last_match-empty (v ∷ vs) l = absurd (omega arith)

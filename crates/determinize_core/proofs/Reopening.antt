@@ -1,5 +1,5 @@
 -- Where the working list is closed again.
-use Rattle.std.proofs.Common.{◌≡◌, ℕ, Bool, true, false, Option, ◌||◌, refl, sym, ap, ◌∙◌, IfSome}
+use Rattle.std.proofs.Common.{◌≡◌, ℕ, Bool, true, false, Option, ◌||◌, sym, ap, ◌∙◌, IfSome}
 use mathlib.Core.Path.{fun_ext}
 use Rattle.std.specs.Bool.{then_some}
 use Rattle.determinize_below.specs.declared.look.Look.{Look as Assertion}
@@ -9,7 +9,6 @@ use Rattle.determinize_below.specs.Nfa.{Nfa}
 use Rattle.determinize_below.specs.Reach.{joined}
 use Rattle.determinize_below.proofs.LookLaws.{has-union}
 use Rattle.determinize_core.specs.Step.{distinct_states, is_reopened, opened_by, working_list}
-use Rattle.determinize_core.specs.Tries.{tries_again, tries_of}
 use Rattle.determinize_states.specs.Value.{Value}
 
 -- the set under which the list is closed again, where it is
@@ -19,15 +18,6 @@ IfSome-again nfa v u found true h = fun_ext (λ look. has-union v.look_have foun
 IfSome-again nfa v u found false h = tt
 
 module _ (nfa : Nfa) (v : Value) (u : Option ℕ) where
-  -- the working list, closed again or kept, and the tries for it
+  -- the working list, closed again
   pub working_again : (set : ℕ) → is_reopened nfa v u ≡ true → has set ≡ joined (has v.look_have) (opened_by nfa v u) → working_list nfa v u ≡ reach nfa (has set) (distinct_states v)
   working_again set e h = rw e (ap (λ f. reach nfa f (distinct_states v)) (sym h))
-
-  pub tries_once_more : (set : ℕ) → is_reopened nfa v u ≡ true → has set ≡ joined (has v.look_have) (opened_by nfa v u) → tries_again nfa v u ≡ tries_of nfa (has set) (distinct_states v)
-  tries_once_more set e h = rw e (ap (λ f. tries_of nfa f (distinct_states v)) (sym h))
-
-  pub working_kept : is_reopened nfa v u ≡ false → working_list nfa v u ≡ distinct_states v
-  working_kept e = rw e refl
-
-  pub tries_kept : is_reopened nfa v u ≡ false → tries_again nfa v u ≡ 0
-  tries_kept e = rw e refl

@@ -1,7 +1,6 @@
 -- The parts of a step make the step.
-use Rattle.std.proofs.Common.{◌≡◌, ℕ, suc, ◌+◌, ◌*◌, ◌<◌, ◌≤◌, Bool, true, false, ◌&&◌, List, [], ◌∷◌, All as Each, Option, Result, Ok, Err, length, nat_eq, refl, sym, ap, ◌∙◌, arith, subst}
+use Rattle.std.proofs.Common.{◌≡◌, ℕ, suc, ◌+◌, ◌*◌, ◌<◌, ◌≤◌, Bool, true, false, ◌&&◌, List, [], ◌∷◌, All as Each, Option, length, nat_eq, refl, sym, ap, ◌∙◌, arith, subst}
 use Rattle.std.specs.List.{flat_map}
-use Rattle.std.specs.Result.{OnOk}
 use Rattle.std.proofs.lemmas.Bool.{eqb-true}
 use Rattle.std.proofs.lemmas.List.Elements.{All-head, All-tail}
 use Rattle.determinize_below.specs.Edges.{edges, is_capture, patterns_of, reach, target}
@@ -38,11 +37,6 @@ is_nonempty-reach nfa holds [] = refl
 is_nonempty-reach nfa holds (r ∷ roots) =
     let more : length nfa.states + 1 ≡ suc (length nfa.states) = omega arith in
     ap (λ n. is_nonempty (ordered nat_eq (edges nfa holds) n none_held (r ∷ roots))) more
-
--- a fact beside a value
-pub on_ok : {T E : Type 0} (r : Result T E) (P : Type 0) → P → OnOk r P
-on_ok (Ok t) P h = h
-on_ok (Err e) P h = tt
 
 module _ (nfa : Nfa) (accepted : IsAccepted nfa) (kind : MatchKind) (v : Value) (u : Option ℕ) (inside : Each (λ id. id < length nfa.states) v.states) where
   -- the working list has states of the NFA alone

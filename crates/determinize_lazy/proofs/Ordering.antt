@@ -13,20 +13,14 @@ use Rattle.determinize_lazy.specs.Private.Order.{IsOrder, pair_at, pairs_of}
 use Rattle.determinize_lazy.specs.declared.table.Kept.{Kept}
 use Rattle.determinize_core.specs.Value.{dead, Value}
 use Rattle.determinize_lazy.proofs.Holding.{same_laws}
-use Rattle.determinize_lazy.proofs.Placing.{get_last, get_more, one_passes}
+use Rattle.determinize_lazy.proofs.Placing.{get_more, one_passes}
 use Rattle.determinize_lazy.proofs.Rows.{rows-hold, rows-keep}
 
 pub with_value-in : (values : List Value) (v : Value) (p : ℕ) → slice_get values p ≡ Some v → with_value values v ≡ values
 with_value-in values v p at = ap (λ b. cond b values (values ++ v ∷ [])) (one_passes (same v) values p v at (same_laws.refl v))
 
-pub with_value-out : (values : List Value) (v : Value) → list_any (same v) values ≡ false → with_value values v ≡ values ++ v ∷ []
-with_value-out values v none = ap (λ b. cond b values (values ++ v ∷ [])) none
-
 pub get_with : (values : List Value) (w v : Value) (p : ℕ) → slice_get values p ≡ Some v → slice_get (with_value values w) p ≡ Some v
 get_with values w v p at = elim (list_any (same w) values) as (λ b. slice_get (cond b values (values ++ w ∷ [])) p ≡ Some v) [ true ↦ at | false ↦ get_more values (w ∷ []) p v at ]
-
-pub place_last : (values more : List Value) (v : Value) (p : ℕ) → p ≡ length values → more ≡ values ++ v ∷ [] → slice_get more p ≡ Some v
-place_last values more v p p_is more_is = ap (λ k. slice_get more k) p_is ∙ ap (λ xs. slice_get xs (length values)) more_is ∙ get_last values v
 
 pub rows_held : (f : Value → Option ℕ → Value) (values more : List Value) (rows rows' : List ℕ) (pairs : List Pair) (w : Value) → IsRows f values rows pairs → list_any (same w) values ≡ false
     → more ≡ values ++ w ∷ [] → IsWithRow rows rows' (signs_of w) → IsRows f more rows' pairs

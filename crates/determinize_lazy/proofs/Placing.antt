@@ -54,10 +54,6 @@ module _ {K : Type 0} where
   get_more (x ∷ xs) ys zero q e = e
   get_more (x ∷ xs) ys (suc p) q e = get_more xs ys p q e
 
-  pub get_last : (xs : List K) (x : K) → slice_get (xs ++ x ∷ []) (length xs) ≡ Some x
-  get_last [] x = refl
-  get_last (y ∷ ys) x = get_last ys x
-
 module _ {K : Type 0} {E : K → K → Bool} (laws : IsEquivalence E) where
   push_step : (x : K) (xs : List K) (v q : K) (i : ℕ) → E v x ≡ false
       → position_from (E q) (i + 1) (xs ++ v ∷ []) ≡ cond (E v q) (Some (i + 1 + length xs)) (position_from (E q) (i + 1) xs)

@@ -175,10 +175,6 @@ module _ (nfa : Nfa) (kind : MatchKind) where
 count_none : (a m : ℕ) → min (min a m + 0) m ≡ min a m
 count_none a m = grind arith
 
--- the count after no more steps
-count_stays : (a m : ℕ) → a ≤ m → min (a + 0) m ≡ a
-count_stays a m h = grind arith
-
 count_same : (a n m : ℕ) → min (a + 0) m ≡ min (a + (n - n)) m
 count_same a n m = grind arith
 

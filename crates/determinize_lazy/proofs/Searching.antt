@@ -15,7 +15,7 @@ use Rattle.determinize_lazy.specs.Plenty.{HasRoom, KeepsAll}
 use Rattle.determinize_lazy.specs.Private.Over.{IsOver}
 use Rattle.determinize_lazy.specs.Private.Signs.{match_at}
 use Rattle.determinize_lazy.specs.Private.Standing.{current, IsStanding}
-use Rattle.determinize_lazy.specs.Kept.{after_walk, Cache, count_after, held_values, keep, missed, step_of}
+use Rattle.determinize_lazy.specs.Kept.{after_walk, Cache, count_after, held_values, keep, step_of}
 use Rattle.determinize_lazy.specs.Private.Turns.{after_turn, IsKnown}
 use Rattle.determinize_lazy.specs.Searches.{in_order, units_read}
 use Rattle.determinize_core.specs.Value.{dead, is_nonempty, IsValue, Value}
@@ -214,22 +214,6 @@ over-within old first behind ahead text last new o =
     below : (m : Option HalfMatch) → IfSome m (λ m. m.offset < length (units (between behind text ahead))) → length (units (between behind text ahead)) ≡ length text + 1 → IfSome m (λ m. m.offset ≤ length text)
     below None h count = tt
     below (Some m) h count = omega (arith, h, count)
-
--- no step is uncounted
-pub searched_computed : (old : Cache) (first : Value) (us : List (Option ℕ)) (own : Value) (place : Option ℕ) (last : Option HalfMatch) (new : Cache) → old.computed ≤ 18446744073709551615
-    → IsSearched old first us own place last new → old.computed ≤ new.computed
-searched_computed old first us own place last new few s =
-    subst (λ n. old.computed ≤ n) (sym (ap (λ (c : Cache). c.computed) s.after)) (at_most old.computed (missed (step_of old) old.limit old.pairs first us) 18446744073709551615 few)
-  where
-    at_most : (a b m : ℕ) → a ≤ m → a ≤ min (a + b) m
-    at_most a b m h = grind arith
-
--- nor by a later step
-pub searched_later : (old : Cache) (first : Value) (us : List (Option ℕ)) (own : Value) (place : Option ℕ) (last : Option HalfMatch) (new newer : Cache) → old.computed ≤ 18446744073709551615
-    → IsSearched old first us own place last new → new.computed ≤ newer.computed → old.computed ≤ newer.computed
-searched_later old first us own place last new newer few s later =
-    let so_far : old.computed ≤ new.computed = searched_computed old first us own place last new few s in
-    omega (arith, so_far, later)
 
 -- what a step from a place finds where the transition is kept
 turn_known : (c : Cache) (v : Value) (u : Option ℕ) → is_kept c.pairs v u ≡ true → c ≡ after_turn c v u

@@ -16,10 +16,11 @@ empty limit = record { nfa = n4; kind = LeftmostFirst; limit = limit; pairs = []
 abbrev pub whole_word : Text
 whole_word = between None (0x71 ∷ 0x75 ∷ 0x61 ∷ 0x72 ∷ 0x74 ∷ 0x7A ∷ []) None
 
--- `uartz` with nothing behind it, and with `q` behind it
+-- `uartz` with nothing behind it
 abbrev pub rest_of_a_word : Text
 rest_of_a_word = between None (0x75 ∷ 0x61 ∷ 0x72 ∷ 0x74 ∷ 0x7A ∷ []) None
 
+-- `uartz` with `q` behind it
 abbrev pub inside_a_word : Text
 inside_a_word = between (Some 0x71) (0x75 ∷ 0x61 ∷ 0x72 ∷ 0x74 ∷ 0x7A ∷ []) None
 
@@ -41,6 +42,7 @@ LeavesAfterSearch text computed held = ((after_search (empty 16) 0 text).compute
 abbrev pub between_signs : ℕ → ℕ → Asked
 between_signs start end = record { haystack = 0x3D ∷ 0x20 ∷ 0x6F ∷ 0x6B ∷ 0x20 ∷ 0x3D ∷ []; start = start; end = end; anchored = Yes }
 
+-- what is computed and held after walks and searches, and what searches of ranges find
 pub record AreWorkedRows : Type 0 where
   pub room_for_all : Leaves 16 (Some whole_word ∷ []) 7 3
   pub room_again : Leaves 16 (Some whole_word ∷ Some whole_word ∷ []) 7 3

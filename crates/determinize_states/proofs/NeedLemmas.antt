@@ -1,5 +1,5 @@
 -- The assertions that the states of a list need.
-use Rattle.std.proofs.Common.{◌≡◌, ℕ, ◌<◌, ◌^◌, Bool, true, false, ◌||◌, ◌⊎◌, inr, arith, List, [], ◌∷◌, ◌++◌, refl, sym, ap, ◌∙◌, Option, Some, None, nat_eq}
+use Rattle.std.proofs.Common.{◌≡◌, ℕ, ◌<◌, ◌^◌, Bool, true, false, ◌||◌, ◌⊎◌, inr, arith, List, [], ◌∷◌, refl, sym, ap, ◌∙◌, Option, Some, None, nat_eq}
 use Rattle.std.specs.Bool.{Decides}
 use Rattle.std.specs.List.{Any, Contains, list_any}
 use Rattle.std.proofs.lemmas.Bool.{true≢false, or_left, eq-eqb}
@@ -50,11 +50,6 @@ needs_member nfa set xs s look m a =
 pub needs_some : {P : Type 0} (nfa : Nfa) (xs : List ℕ) (look : Assertion) → has (needs nfa 0 xs) look ≡ true → ((s : ℕ) → member nat_eq xs s ≡ true → P) → P
 needs_some nfa [] look h f = absurd (true≢false (sym h ∙ has-empty look))
 needs_some nfa (s ∷ xs) look h f = f s (or_left (nat_eq s s) (member nat_eq xs s) (eq-eqb s s refl))
-
--- the needs of a list and one more state
-pub needs-push : (nfa : Nfa) (set : ℕ) (xs : List ℕ) (s : ℕ) → needs nfa set (xs ++ s ∷ []) ≡ with_assertion (needs nfa set xs) (assertion_of nfa s)
-needs-push nfa set [] s = refl
-needs-push nfa set (x ∷ xs) s = needs-push nfa (with_assertion set (assertion_of nfa x)) xs s
 
 insert_small : (set : ℕ) (look : Assertion) → set < 2 ^ 18 → insert set look < 2 ^ 18
 unfolding insert
