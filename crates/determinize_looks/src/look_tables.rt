@@ -18,7 +18,7 @@ use std::alloc::Allocator;
 use std::marker::Model;
 
 /// What a new state is told.
-#[derive(Clone, Copy)]
+#[derive(Clone, Copy, Debug)]
 pub struct Told {
     /// Assertions that are true whatever follows.
     pub looks: LookSet,
@@ -89,7 +89,7 @@ fn word_set(from_word: bool, word: bool) -> LookSet
 }
 
 /// What the tables of assertions ask of an NFA.
-#[derive(Clone, Copy)]
+#[derive(Clone, Copy, Debug)]
 pub struct LookTables {
     /// Whether the NFA reads backwards.
     reverse: bool,

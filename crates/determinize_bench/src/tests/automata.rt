@@ -10,6 +10,7 @@ use determinize_replay::job::Job;
 use determinize_replay::{nfas, records};
 use std::alloc::{AllocError, Global};
 use std::marker::Brand;
+use std::process::Abort;
 use std::sync::ledger::{Blank, Ledger};
 use std::test::Fail;
 
@@ -51,16 +52,21 @@ fn state_of(alloc: Global, job: &Job<'_>) -> Result<State, Fail> {
 /// A state with the patterns 2, 0 and 1.
 const THREE_PATTERNS: &[u8] = b"\x03\0\0\0\0\0\0\0\0\x03\0\0\0\x02\0\0\0\0\0\0\0\x01\0\0\0";
 
+/// Counts the transition from this state, which is to give the three patterns.
+fn expect_counted<R: Abort + AllocGlobal>(rt: &R, nfa: &NFA, state: &State) -> Result<(), Fail> {
+    assert!(rt; records::resolves(state, nfa.len()));
+    let builder = counted::<Brand>(rt.alloc(), nfa, state, Blank::new(1))?;
+    same(rt, builder.as_bytes(), THREE_PATTERNS);
+    Ok(())
+}
+
 #[test]
 fn counted_transition(rt: HostRuntime) -> Result<(), Fail> {
     let line = "next fw=0 half=0 ids=0,1,2,3 unit=eoi | U:1,2,3 M:2 M:0 M:1";
     let job = Job::read(rt.alloc(), line)?;
     let nfa = nfas::nfa(rt.alloc(), &job)?;
     let state = state_of(rt.alloc(), &job)?;
-    assert!(rt; records::resolves(&state, nfa.len()));
-    let builder = counted::<Brand>(rt.alloc(), &nfa, &state, Blank::new(1))?;
-    same(&rt, builder.as_bytes(), THREE_PATTERNS);
-    Ok(())
+    expect_counted(&rt, &nfa, &state)
 }
 
 #[test]

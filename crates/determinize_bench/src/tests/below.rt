@@ -1,5 +1,7 @@
 //! Ids, assertions, units, inputs, sets and transitions.
 
+ghost use Rattle.std.specs.Prelude.{◌≡◌, length, IfOk};
+
 use crate::tests::{holds, same, same_at};
 use determinize_below::alphabet::is_word_byte;
 use determinize_below::{
@@ -7,7 +9,7 @@ use determinize_below::{
     SparseSets, SparseTransitions, StateID, StateIDError, Transition, Unit,
 };
 use determinize_replay::values;
-use std::alloc::Global;
+use std::alloc::{AllocError, Global};
 use std::process::Abort;
 use std::test::Fail;
 
@@ -38,7 +40,7 @@ fn ids_that_are_too_great(rt: HostRuntime) {
 }
 
 #[test]
-fn constants_of_ids(rt: HostRuntime) -> Result<(), Fail> {
+fn constants_of_ids(rt: HostRuntime) {
     same(
         &rt,
         (StateID::ZERO.as_u32(), StateID::MAX.as_u32()),
@@ -46,6 +48,10 @@ fn constants_of_ids(rt: HostRuntime) -> Result<(), Fail> {
     );
     same(&rt, (StateID::SIZE, PatternID::SIZE), (4, 4));
     holds(&rt, StateID::ZERO < StateID::MAX);
+}
+
+#[test]
+fn texts_of_ids(rt: HostRuntime) -> Result<(), Fail> {
     let text = format!(in rt.alloc(); "{:?} {:?}", StateID::MAX, PatternID::ZERO)?;
     same(&rt, text.as_str(), "StateID(2147483646) PatternID(0)");
     Ok(())
@@ -190,6 +196,17 @@ fn sparse_set_of_one(rt: HostRuntime) -> Result<(), Fail> {
     Ok(())
 }
 
+/// A table in which this byte alone leads to a state.
+fn table_of(alloc: Global, byte: u8, next: StateID) -> Result<DenseTransitions, AllocError>
+    ensures { IfOk result (λ dense. length dense ≡ 256) }
+{
+    let mut table = [StateID::ZERO; 256];
+    table[usize::from(byte)] = next;
+    Ok(DenseTransitions {
+        transitions: Vec::from_slice(alloc, &table)?,
+    })
+}
+
 #[test]
 fn transitions(rt: HostRuntime) -> Result<(), Fail> {
     let next = StateID::new(3)?;
@@ -198,13 +215,10 @@ fn transitions(rt: HostRuntime) -> Result<(), Fail> {
         end: b'd',
         next,
     };
-    let transitions = vec![in rt.alloc(); trans]?;
-    let sparse = SparseTransitions { transitions };
-    let mut table = [StateID::ZERO; 256];
-    table[usize::from(b'b')] = next;
-    let dense = DenseTransitions {
-        transitions: Vec::from_slice(rt.alloc(), &table)?,
+    let sparse = SparseTransitions {
+        transitions: vec![in rt.alloc(); trans]?,
     };
+    let dense = table_of(rt.alloc(), b'b', next)?;
     for (byte, target) in [(b'a', None), (b'b', Some(next)), (b'e', None)] {
         let unit = Unit::u8(byte);
         let is_in = target.is_some();

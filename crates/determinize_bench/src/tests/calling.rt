@@ -12,7 +12,7 @@ ghost use Rattle.std.specs.Prelude.{◌≡◌};
 ghost use Rattle.determinize_below.specs.declared.search.MatchKind.TheVariants as kinds;
 
 use crate::tests::{holds, readme, same};
-use determinize_below::{HalfMatch, MatchKind, PatternID};
+use determinize_below::{HalfMatch, MatchKind, NFA, PatternID};
 use determinize_lazy::Lazy;
 use std::process::Abort;
 use std::test::Fail;
@@ -64,24 +64,50 @@ fn is_match_at_the_end(rt: &impl Abort, lazy: &mut Lazy<'_>, text: &[u8]) -> Res
     }
 }
 
+/// Walks twice through one cache: to a match at the end of a text, and to none.
+fn expect_walks(rt: &impl Abort, lazy: &mut Lazy<'_>) -> Result<(), Fail>
+    requires { lazy.old.kind ≡ kinds.All }
+{
+    holds(rt, is_match_at_the_end(rt, lazy, b"42")?);
+    holds(rt, !is_match_at_the_end(rt, lazy, b"4x")?);
+    Ok(())
+}
+
 #[test]
 fn walks_through_a_cache(rt: HostRuntime) -> Result<(), Fail> {
     let nfa = nfa::digits(rt.alloc(), false)?;
     let mut lazy = Lazy::new(rt.alloc(), &nfa, MatchKind::All, 100);
-    holds(&rt, is_match_at_the_end(&rt, &mut lazy, b"42")?);
-    holds(&rt, !is_match_at_the_end(&rt, &mut lazy, b"4x")?);
+    expect_walks(&rt, &mut lazy)
+}
+
+/// Searches both ways, for a number in the middle of a text and where there is none.
+fn expect_spans(
+    rt: &impl Abort,
+    forward: &mut Lazy<'_>,
+    backward: &mut Lazy<'_>,
+) -> Result<(), Fail> {
+    holds(
+        rt,
+        input::span(forward, backward, b"ab 42 c")? == Some(3..5),
+    );
+    holds(rt, input::span(forward, backward, b"ab")?.is_none());
     Ok(())
+}
+
+/// Searches through a cache for each of the two NFAs.
+fn search_inputs<R: Abort + AllocGlobal>(
+    rt: &R,
+    forward: &NFA,
+    backward: &NFA,
+) -> Result<(), Fail> {
+    let mut forward = Lazy::new(rt.alloc(), forward, MatchKind::LeftmostFirst, 100);
+    let mut backward = Lazy::new(rt.alloc(), backward, MatchKind::All, 100);
+    expect_spans(rt, &mut forward, &mut backward)
 }
 
 #[test]
 fn searches_of_inputs(rt: HostRuntime) -> Result<(), Fail> {
     let forward = nfa::digits(rt.alloc(), false)?;
     let backward = nfa::digits(rt.alloc(), true)?;
-    let mut forward = Lazy::new(rt.alloc(), &forward, MatchKind::LeftmostFirst, 100);
-    let mut backward = Lazy::new(rt.alloc(), &backward, MatchKind::All, 100);
-    let found = input::span(&mut forward, &mut backward, b"ab 42 c")?;
-    holds(&rt, found == Some(3..5));
-    let found = input::span(&mut forward, &mut backward, b"ab")?;
-    holds(&rt, found.is_none());
-    Ok(())
+    search_inputs(&rt, &forward, &backward)
 }

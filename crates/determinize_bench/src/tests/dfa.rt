@@ -9,7 +9,7 @@ use determinize_core::determinize::{last_match, walk};
 use determinize_replay::error::JobError;
 use determinize_replay::nfas;
 use refusing::{Finding, Refusing, in_turn};
-use std::alloc::{Allocator, Global};
+use std::alloc::{AllocError, Allocator, Global};
 use std::process::Abort;
 use std::test::Fail;
 
@@ -52,6 +52,20 @@ fn foo_or_bar(alloc: Global) -> Result<NFA, JobError> {
 /// The texts that each DFA is run over.
 static TEXTS: [&str; 6] = ["foo12", "xfoo9y", "bar", "ba", "", "barfoo1"];
 
+/// The last match of a walk over the text.
+fn walked(
+    alloc: Global,
+    nfa: &NFA,
+    kind: MatchKind,
+    start: StateID,
+    text: &str,
+) -> Result<Option<HalfMatch>, AllocError>
+    requires { start < length nfa.now.states }
+{
+    let states = walk(alloc, nfa, kind, start, None, text.as_bytes())?;
+    Ok(last_match(states.as_slice()))
+}
+
 /// Builds a DFA from this start and runs it. It has so many states, and tells the ends that are
 /// expected, as a walk does.
 fn run<R: Abort + AllocGlobal>(
@@ -70,10 +84,13 @@ fn run<R: Abort + AllocGlobal>(
     same(rt, dfa.states.len(), count);
     for (text, end) in TEXTS.iter().zip(ends) {
         let wanted = end.map(|end| HalfMatch::new(PatternID::ZERO, end));
-        let states = walk(rt.alloc(), nfa, kind, start, None, text.as_bytes())?;
-        let walked = last_match(states.as_slice());
-        same_at(rt, text, walked == wanted, true);
-        same_at(rt, text, dfa.last_match(text.as_bytes()), walked);
+        same_at(
+            rt,
+            text,
+            walked(rt.alloc(), nfa, kind, start, text)?,
+            wanted,
+        );
+        same_at(rt, text, dfa.last_match(text.as_bytes()), wanted);
     }
     Ok(())
 }

@@ -122,6 +122,13 @@ fn lists(alloc: Global, state: &State, wanted: Listed) -> Result<bool, AllocErro
     Ok(ids == wanted_ids && patterns == wanted_patterns)
 }
 
+/// The states of a walk over `ab` from the first of these NFA states.
+fn walked(alloc: Global, kind: MatchKind, states: Vec<nfa::State>) -> Result<Vec<State>, Fail> {
+    let first = StateID::ZERO;
+    let nfa = NFA::from_parts(alloc, states, first, first, false, LookMatcher::new())?;
+    Ok(walk(alloc, &nfa, kind, nfa.start_anchored(), None, b"ab")?)
+}
+
 /// Walks over `ab` from the first of these states, and compares what each state of the walk lists,
 /// and the last match.
 fn expect<R: Abort + AllocGlobal>(
@@ -131,16 +138,7 @@ fn expect<R: Abort + AllocGlobal>(
     wanted: [Listed; 4],
     last: Option<HalfMatch>,
 ) -> Result<(), Fail> {
-    let matcher = LookMatcher::new();
-    let nfa = NFA::from_parts(
-        rt.alloc(),
-        states,
-        StateID::ZERO,
-        StateID::ZERO,
-        false,
-        matcher,
-    )?;
-    let states = walk(rt.alloc(), &nfa, kind, nfa.start_anchored(), None, b"ab")?;
+    let states = walked(rt.alloc(), kind, states)?;
     same(rt, states.len(), 4);
     for (index, (state, wanted)) in states.iter().zip(wanted).enumerate() {
         same_at(rt, index, lists(rt.alloc(), state, wanted)?, true);

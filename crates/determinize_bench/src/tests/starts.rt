@@ -1,11 +1,13 @@
 //! Where a search starts.
 
 use crate::tests::map_text::MAP_OF_B;
-use crate::tests::same;
-use determinize_below::{Anchored, Input, LookMatcher};
+use crate::tests::{holds, lazy, same};
+use determinize_below::{Anchored, Input, Look, LookMatcher, Unit};
 use determinize_core::start::{
-    Config, Start, StartByteMap, look_ahead_forward, look_ahead_reverse,
+    Config, Start, StartByteMap, look_ahead_forward, look_ahead_reverse, start_kind_of,
 };
+use determinize_looks::look_tables::LookTables;
+use std::process::Abort;
 use std::test::Fail;
 
 #[test]
@@ -56,5 +58,36 @@ fn text_of_a_map(rt: HostRuntime) -> Result<(), Fail> {
     let map = StartByteMap::new(&matcher).clone()?;
     let text = format!(in rt.alloc(); "{map:?}")?;
     same(&rt, text.as_str(), MAP_OF_B);
+    Ok(())
+}
+
+/// The start of a line, and after it the start or the end of a word.
+const ASSERTIONS: &str = "L:StartLF>1 L:WordAscii>2 M:0";
+
+/// The end of a line stands behind, then a word byte, and then the input ends.
+fn expect_tables<R: Abort + AllocGlobal>(rt: &R, tables: LookTables) -> Result<(), Fail> {
+    let at_start = tables.at_start(start_kind_of(b'\n', Some(b'\n')));
+    holds(rt, at_start.looks.contains(Look::StartLF));
+    let after = tables.after(Unit::u8(b'a'));
+    let opened = tables.opened(after.from_word, after.half_crlf, Unit::eoi(256));
+    holds(rt, opened.contains(Look::WordAscii));
+    let text = format!(in rt.alloc(); "{after:?}")?;
+    let wanted = "Told { looks: LookSet { bits: 0 }, from_word: true, half_crlf: false }";
+    same(rt, text.as_str(), wanted);
+    Ok(())
+}
+
+#[test]
+fn tables_of_assertions(rt: HostRuntime) -> Result<(), Fail> {
+    let nfa = lazy::nfa(&rt, ASSERTIONS, false)?;
+    expect_tables(&rt, LookTables::of(&nfa))
+}
+
+#[test]
+fn text_of_tables(rt: HostRuntime) -> Result<(), Fail> {
+    let nfa = lazy::nfa(&rt, ASSERTIONS, false)?;
+    let text = format!(in rt.alloc(); "{:?}", LookTables::of(&nfa))?;
+    let wanted = "LookTables { reverse: false, terminator: 10, any: LookSet { bits: 68 } }";
+    same(&rt, text.as_str(), wanted);
     Ok(())
 }
