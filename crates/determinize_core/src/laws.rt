@@ -1,4 +1,4 @@
-//! Laws of walks, steps and searches over the definitions, as public functions with empty bodies.
+//! Laws of walks, steps, searches and recording over the definitions, as public functions with empty bodies.
 
 ghost use Rattle.std.specs.Prelude.{◌≡◌, ℕ, Bool, true, false, ◌||◌, ◌⊎◌, List, Some};
 ghost use Rattle.std.specs.Bool.{Decides};
