@@ -13,16 +13,17 @@ use std::alloc::{AllocError, Global};
 use std::process::Abort;
 use std::test::Fail;
 
+/// Compares the ids of a number with it.
+fn expect_ids<R: Abort>(rt: &R, state: StateID, pattern: PatternID, number: usize) {
+    same(rt, state.as_usize(), number);
+    same(rt, pattern.as_usize(), number);
+    same(rt, state.as_u32(), pattern.as_u32());
+}
+
 #[test]
 fn ids(rt: HostRuntime) -> Result<(), Fail> {
-    for number in [0usize, 7, 2147483646] {
-        let (state, pattern) = (StateID::new(number)?, PatternID::new(number)?);
-        same(
-            &rt,
-            (state.as_usize(), pattern.as_usize()),
-            (number, number),
-        );
-        same(&rt, state.as_u32(), pattern.as_u32());
+    for number in [0, 7, 2147483646] {
+        expect_ids(&rt, StateID::new(number)?, PatternID::new(number)?, number);
     }
     Ok(())
 }
@@ -160,10 +161,9 @@ fn insert<R: Abort>(rt: &R, set: &mut SparseSet, number: usize) -> Result<bool, 
 /// Adds three ids to a set of ids below 65, one of them twice.
 fn insert_three<R: Abort>(rt: &R, set: &mut SparseSet) -> Result<(), StateIDError> {
     same(rt, set.capacity(), 65);
-    same(rt, insert(rt, set, 64)?, true);
-    same(rt, insert(rt, set, 0)?, true);
-    same(rt, insert(rt, set, 64)?, false);
-    same(rt, insert(rt, set, 63)?, true);
+    for (number, is_new) in [(64, true), (0, true), (64, false), (63, true)] {
+        same(rt, insert(rt, set, number)?, is_new);
+    }
     same(rt, set.len(), 3);
     Ok(())
 }

@@ -73,17 +73,27 @@ fn states_of_the_same_bytes(rt: HostRuntime) -> Result<(), Fail> {
     Ok(())
 }
 
-#[test]
-fn clones(rt: HostRuntime) -> Result<(), Fail> {
-    let config = Config::new().look_behind(Some(b'a'));
+/// A matcher whose lines end with `x`.
+fn ends_with_x() -> LookMatcher {
     let mut matcher = LookMatcher::new();
     matcher.set_line_terminator(b'x');
-    let map = StartByteMap::new(&matcher);
+    matcher
+}
+
+#[test]
+fn clones_of_starts(rt: HostRuntime) -> Result<(), Fail> {
+    let config = Config::new().look_behind(Some(b'a'));
+    let map = StartByteMap::new(&ends_with_x());
     let (config, map) = start_clone_law(&config, &map)?;
     same(&rt, config.get_look_behind(), Some(b'a'));
     same(&rt, map.get(b'x'), Start::CustomLineTerminator);
+    Ok(())
+}
+
+#[test]
+fn clones_of_inputs(rt: HostRuntime) -> Result<(), Fail> {
     let input = Input::new(b"abc").range(1..2).anchored(Anchored::Yes);
-    let (matcher, input) = clone_law(&matcher, &input)?;
+    let (matcher, input) = clone_law(&ends_with_x(), &input)?;
     same(&rt, matcher.get_line_terminator(), b'x');
     same(&rt, input.haystack(), b"abc".as_slice());
     same(&rt, (input.start(), input.end()), (1usize, 2usize));

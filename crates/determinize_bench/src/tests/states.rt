@@ -1,6 +1,6 @@
 //! States and their builders, as values of other tests, and how states compare.
 
-use crate::tests::holds;
+use crate::tests::{holds, same_at};
 use determinize_core::state::{State, StateBuilderMatches, StateBuilderNFA};
 use determinize_replay::job::Job;
 use determinize_replay::{records, values};
@@ -23,6 +23,9 @@ pub fn with_patterns(alloc: Global, numbers: &str) -> Result<StateBuilderMatches
     let ids = values::pattern_ids(alloc, numbers)?;
     Ok(records::with_patterns(alloc, ids.as_slice())?)
 }
+
+/// The dead state.
+const DEAD: &str = "build fw=0 half=0";
 
 /// A state with one NFA state.
 const ONE: &str = "build fw=0 half=0 ids=1";
@@ -50,10 +53,9 @@ fn add(set: &mut HashSet<State>, state: State) -> Result<bool, Fail> {
 
 #[test]
 fn set_of_states(rt: HostRuntime) -> Result<(), Fail> {
-    let dead = State::dead(rt.alloc())?;
     let mut set = HashSet::new(rt.alloc());
-    holds(&rt, add(&mut set, dead.clone()?)?);
-    holds(&rt, add(&mut set, state(rt.alloc(), ONE)?)?);
-    holds(&rt, !add(&mut set, dead)?);
+    for (line, is_new) in [(DEAD, true), (ONE, true), (DEAD, false)] {
+        same_at(&rt, line, add(&mut set, state(rt.alloc(), line)?)?, is_new);
+    }
     Ok(())
 }
