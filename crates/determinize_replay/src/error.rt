@@ -120,18 +120,32 @@ impl From<ParseIntError> for JobError {
     }
 }
 
+/// Writes a text in quotes, after words that say what it is.
+fn write_quoted<W: fmt::Write>(
+    f: &mut fmt::Formatter<W>,
+    words: &str,
+    text: &str,
+) -> fmt::Result {
+    write!(f, "{words} {text:?}")
+}
+
+/// Writes a key, before words that say what is wrong with it.
+fn write_key<W: fmt::Write>(f: &mut fmt::Formatter<W>, key: Key, words: &str) -> fmt::Result {
+    write!(f, "key {key} {words}")
+}
+
 impl fmt::Display for JobError {
     fn fmt<W: fmt::Write>(&self, f: &mut fmt::Formatter<W>) -> fmt::Result {
         match self {
-            JobError::OutOfMemory => write!(f, "out of memory"),
-            JobError::UnknownVerb(name) => write!(f, "unknown verb {name:?}"),
-            JobError::NoValue(word) => write!(f, "no key and value: {word:?}"),
-            JobError::UnknownKey(name) => write!(f, "unknown key {name:?}"),
-            JobError::RepeatedKey(key) => write!(f, "key {key} stands twice"),
-            JobError::MissingKey(key) => write!(f, "key {key} is missing"),
-            JobError::NoStates => write!(f, "the states of the NFA are missing"),
-            JobError::UnwantedStates => write!(f, "the verb takes no states"),
-            JobError::RepeatedPattern => write!(f, "a pattern stands twice"),
+            JobError::OutOfMemory => f.write_str("out of memory"),
+            JobError::UnknownVerb(name) => write_quoted(f, "unknown verb", name.as_str()),
+            JobError::NoValue(word) => write_quoted(f, "no key and value:", word.as_str()),
+            JobError::UnknownKey(name) => write_quoted(f, "unknown key", name.as_str()),
+            JobError::RepeatedKey(key) => write_key(f, *key, "stands twice"),
+            JobError::MissingKey(key) => write_key(f, *key, "is missing"),
+            JobError::NoStates => f.write_str("the states of the NFA are missing"),
+            JobError::UnwantedStates => f.write_str("the verb takes no states"),
+            JobError::RepeatedPattern => f.write_str("a pattern stands twice"),
             JobError::Malformed(part) => write!(f, "not {part}"),
             JobError::Refused(error) => write!(f, "the states make no NFA: {error:?}"),
         }

@@ -66,7 +66,7 @@ pub enum Key {
 }
 
 /// Every key.
-const KEYS: [Key; 29] = [
+static KEYS: [Key; 29] = [
     Key::Id,
     Key::Fix,
     Key::Direction,
@@ -101,9 +101,9 @@ const KEYS: [Key; 29] = [
 impl Key {
     /// The key of this name, or none.
     pub fn named(text: &str) -> Option<Key> {
-        for key in KEYS {
+        for key in KEYS.iter() {
             if key.name() == text {
-                return Some(key);
+                return Some(*key);
             }
         }
         None

@@ -8,7 +8,7 @@ use determinize_below::{Look, LookSet, PatternID, StateID};
 use std::alloc::{AllocError, Global};
 
 /// The assertions by their names, in the order of their bits.
-const LOOKS: [(&str, Look); 18] = [
+static LOOKS: [(&str, Look); 18] = [
     ("Start", Look::Start),
     ("End", Look::End),
     ("StartLF", Look::StartLF),
@@ -143,9 +143,9 @@ pub fn pattern_ids(alloc: Global, text: &str) -> Result<Vec<PatternID>, JobError
 
 /// The assertion of this name.
 pub fn look(text: &str) -> Result<Look, JobError> {
-    for (name, look) in LOOKS {
-        if name == text {
-            return Ok(look);
+    for (name, look) in LOOKS.iter() {
+        if *name == text {
+            return Ok(*look);
         }
     }
     Err(JobError::Malformed(Part::Look))
@@ -196,8 +196,8 @@ pub fn write_numbers<I: Iterator<Item = u32>>(
 /// Writes the names of a set of assertions joined by commas, `-` where it is empty.
 pub fn write_looks(text: &mut String, set: LookSet) -> Result<(), AllocError> {
     let mut is_first = true;
-    for (name, look) in LOOKS {
-        if set.contains(look) {
+    for (name, look) in LOOKS.iter() {
+        if set.contains(*look) {
             if !is_first {
                 text.push(',')?;
             }
