@@ -7,10 +7,10 @@ use crate::error::{JobError, Part};
 use crate::job::Job;
 use crate::key::Key;
 use crate::{nfas, records, values};
-use determinize_below::{HalfMatch, MatchKind, NFA, SparseSets, StateID, Unit};
+use determinize_below::{HalfMatch, MatchKind, NFA, SparseSet, SparseSets, StateID, Unit};
 use determinize_core::determinize;
 use determinize_core::start::Start;
-use determinize_core::state::{State, StateBuilderEmpty};
+use determinize_core::state::{State, StateBuilderEmpty, StateBuilderNFA};
 use determinize_lazy::Lazy;
 use std::alloc::{AllocError, Global};
 
@@ -47,12 +47,16 @@ impl Text {
 
 /// The states of a walk.
 fn states(alloc: Global, job: &Job<'_>) -> Result<Vec<State>, JobError> {
-    let nfa = nfas::nfa(alloc, job)?;
-    let start = resolved(&nfa, job.value(Key::Start).unwrap_or("0"))?;
+    states_over(alloc, job, &nfas::nfa(alloc, job)?)
+}
+
+/// The states of a walk over an NFA.
+fn states_over(alloc: Global, job: &Job<'_>, nfa: &NFA) -> Result<Vec<State>, JobError> {
+    let start = resolved(nfa, job.value(Key::Start).unwrap_or("0"))?;
     let text = Text::read(alloc, job)?;
     let states = determinize::walk_between(
         alloc,
-        &nfa,
+        nfa,
         job.match_kind()?,
         start,
         text.look_behind,
@@ -67,6 +71,23 @@ pub fn walk(alloc: Global, job: &Job<'_>, text: &mut String) -> Result<(), JobEr
     write_states(text, states(alloc, job)?.as_slice())
 }
 
+/// The states of a walk through a cache.
+fn cached_states(
+    alloc: Global,
+    job: &Job<'_>,
+    cache: &mut Lazy<'_>,
+) -> Result<Vec<State>, JobError> {
+    let start = resolved(cache.nfa(), job.value(Key::Start).unwrap_or("0"))?;
+    let text = Text::read(alloc, job)?;
+    let states = cache.walk_between(
+        start,
+        text.look_behind,
+        text.bytes.as_slice(),
+        text.look_ahead,
+    )?;
+    Ok(states)
+}
+
 /// Answers `walk` through a cache.
 pub fn cached_walk(
     alloc: Global,
@@ -74,15 +95,7 @@ pub fn cached_walk(
     cache: &mut Lazy<'_>,
     text: &mut String,
 ) -> Result<(), JobError> {
-    let start = resolved(cache.nfa(), job.value(Key::Start).unwrap_or("0"))?;
-    let read = Text::read(alloc, job)?;
-    let states = cache.walk_between(
-        start,
-        read.look_behind,
-        read.bytes.as_slice(),
-        read.look_ahead,
-    )?;
-    write_states(text, states.as_slice())
+    write_states(text, cached_states(alloc, job, cache)?.as_slice())
 }
 
 /// Answers `walk` by a search through a cache: the last match alone.
@@ -126,7 +139,11 @@ fn write_match(text: &mut String, found: Option<HalfMatch>) -> Result<(), AllocE
 
 /// Answers `readers`: what the readers of one state of a walk answer.
 pub fn readers(alloc: Global, job: &Job<'_>, text: &mut String) -> Result<(), JobError> {
-    let states = states(alloc, job)?;
+    write_readers(text, job, states(alloc, job)?.as_slice())
+}
+
+/// Writes what the readers of the state that the job asks for answer.
+fn write_readers(text: &mut String, job: &Job<'_>, states: &[State]) -> Result<(), JobError> {
     let Some(state) = states.get(values::number(job.needed(Key::At)?)?) else {
         return Err(JobError::Malformed(Part::Position));
     };
@@ -134,19 +151,36 @@ pub fn readers(alloc: Global, job: &Job<'_>, text: &mut String) -> Result<(), Jo
     Ok(())
 }
 
+/// The set of a key of the job, for the states of the NFA.
+fn set(alloc: Global, job: &Job<'_>, key: Key, nfa: &NFA) -> Result<SparseSet, JobError>
+    ensures { IfOk result (λ set. set.capacity ≡ length nfa.now.states) }
+{
+    let ids = values::state_ids(alloc, job.value_or_none(key))?;
+    records::set(alloc, nfa.len(), ids.as_slice())
+}
+
 /// Answers `closure`: the set after the call.
 pub fn closure(alloc: Global, job: &Job<'_>, text: &mut String) -> Result<(), JobError> {
-    let nfa = nfas::nfa(alloc, job)?;
-    let start = resolved(&nfa, job.needed(Key::From)?)?;
+    let set = closed_set(alloc, job, &nfas::nfa(alloc, job)?)?;
+    write_set(text, &set)?;
+    Ok(())
+}
+
+/// The set of the job after the call of a closure.
+fn closed_set(alloc: Global, job: &Job<'_>, nfa: &NFA) -> Result<SparseSet, JobError> {
+    let start = resolved(nfa, job.needed(Key::From)?)?;
     let look_have = values::look_set(job.value_or_none(Key::Look))?;
-    let held = values::state_ids(alloc, job.value_or_none(Key::Held))?;
-    let mut set = records::set(alloc, nfa.len(), held.as_slice())?;
+    let mut set = set(alloc, job, Key::Held, nfa)?;
     let mut stack = Vec::new(alloc);
-    determinize::epsilon_closure(&nfa, start, look_have, &mut stack, &mut set)?;
+    determinize::epsilon_closure(nfa, start, look_have, &mut stack, &mut set)?;
+    Ok(set)
+}
+
+/// Writes the ids of a set in a line.
+fn write_set(text: &mut String, set: &SparseSet) -> Result<(), AllocError> {
     text.push_str("set ")?;
     values::write_numbers(text, set.iter().map(|id| id.as_u32()))?;
-    text.push('\n')?;
-    Ok(())
+    text.push('\n')
 }
 
 /// The start kind of this name.
@@ -206,44 +240,58 @@ fn sparse_sets(alloc: Global, job: &Job<'_>, nfa: &NFA) -> Result<SparseSets, Jo
     })
 }
 
-/// Writes the bytes of the state that follows a state over a unit.
-fn write_next(
+/// The record of the state of an NFA that follows the job's record over a unit.
+fn next_over(
     alloc: Global,
-    text: &mut String,
+    job: &Job<'_>,
+    nfa: &NFA,
+    kind: MatchKind,
+    unit: Unit,
+) -> Result<StateBuilderNFA, JobError> {
+    let state = resolved_state(alloc, job, nfa)?;
+    let mut sparses = sparse_sets(alloc, job, nfa)?;
+    let next = next_after(alloc, nfa, kind, &mut sparses, &state, unit)?;
+    Ok(next)
+}
+
+/// The record of the state that follows a state over a unit.
+fn next_after(
+    alloc: Global,
     nfa: &NFA,
     kind: MatchKind,
     sparses: &mut SparseSets,
     state: &State,
     unit: Unit,
-) -> Result<(), JobError>
+) -> Result<StateBuilderNFA, AllocError>
     requires set1 { sparses.old.set1.capacity ≡ length nfa.now.states }
     requires set2 { sparses.old.set2.capacity ≡ length nfa.now.states }
     requires resolve { AllResolve nfa.now state.now.states }
 {
     let mut stack = Vec::new(alloc);
     let builder = StateBuilderEmpty::new(alloc);
-    let next = determinize::next(nfa, kind, sparses, &mut stack, state, unit, builder)?;
-    values::write_bytes(text, next.as_bytes())?;
-    Ok(())
+    determinize::next(nfa, kind, sparses, &mut stack, state, unit, builder)
 }
 
 /// Answers `next`: the bytes of the state that follows the job's record.
 pub fn next_state(alloc: Global, job: &Job<'_>, text: &mut String) -> Result<(), JobError> {
     let kind = job.match_kind()?;
     let unit = unit(job.needed(Key::Unit)?)?;
-    let nfa = nfas::nfa(alloc, job)?;
-    let state = resolved_state(alloc, job, &nfa)?;
-    let mut sparses = sparse_sets(alloc, job, &nfa)?;
-    write_next(alloc, text, &nfa, kind, &mut sparses, &state, unit)
+    let next = next_over(alloc, job, &nfas::nfa(alloc, job)?, kind, unit)?;
+    values::write_bytes(text, next.as_bytes())?;
+    Ok(())
 }
 
 /// Answers `addstates`: the bytes of the job's record with the states of a set.
 pub fn addstates(alloc: Global, job: &Job<'_>, text: &mut String) -> Result<(), JobError> {
-    let nfa = nfas::nfa(alloc, job)?;
-    let mut builder = records::builder(alloc, job)?;
-    let ids = values::state_ids(alloc, job.value_or_none(Key::Set))?;
-    let set = records::set(alloc, nfa.len(), ids.as_slice())?;
-    determinize::add_nfa_states(&nfa, &set, &mut builder)?;
+    let builder = added_states(alloc, job, &nfas::nfa(alloc, job)?)?;
     values::write_bytes(text, builder.as_bytes())?;
     Ok(())
+}
+
+/// The job's record with the states of a set for an NFA.
+fn added_states(alloc: Global, job: &Job<'_>, nfa: &NFA) -> Result<StateBuilderNFA, JobError> {
+    let mut builder = records::builder(alloc, job)?;
+    let set = set(alloc, job, Key::Set, nfa)?;
+    determinize::add_nfa_states(nfa, &set, &mut builder)?;
+    Ok(builder)
 }
