@@ -48,23 +48,15 @@ pub fn states(alloc: Global, text: &str) -> Result<Vec<State>, JobError> {
 fn state(alloc: Global, word: &str) -> Result<State, JobError> {
     let (kind, parts) = word.split_once(':').unwrap_or((word, ""));
     match kind {
-        "B" => Ok(State::ByteRange {
-            trans: transition(parts)?,
-        }),
+        "B" => byte_range(parts),
         "S" => sparse(alloc, parts),
         "D" => dense(alloc, parts),
         "L" => look(parts),
-        "U" => Ok(State::Union {
-            alternates: values::state_ids(alloc, parts)?,
-        }),
+        "U" => union(alloc, parts),
         "BU" => binary_union(parts),
-        "C" => Ok(State::Capture {
-            next: values::state_id(parts)?,
-        }),
+        "C" => capture(parts),
         "F" => Ok(State::Fail),
-        "M" => Ok(State::Match {
-            pattern_id: values::pattern_id(parts)?,
-        }),
+        "M" => matching(parts),
         _ => Err(JobError::Malformed(Part::State)),
     }
 }
@@ -79,6 +71,13 @@ fn transition(text: &str) -> Result<Transition, JobError> {
         start: values::byte(start)?,
         end: values::byte(end)?,
         next: values::state_id(next)?,
+    })
+}
+
+/// A state with one transition.
+fn byte_range(parts: &str) -> Result<State, JobError> {
+    Ok(State::ByteRange {
+        trans: transition(parts)?,
     })
 }
 
@@ -128,6 +127,13 @@ fn look(parts: &str) -> Result<State, JobError> {
     })
 }
 
+/// A union of states.
+fn union(alloc: Global, parts: &str) -> Result<State, JobError> {
+    Ok(State::Union {
+        alternates: values::state_ids(alloc, parts)?,
+    })
+}
+
 /// A union of two states.
 fn binary_union(parts: &str) -> Result<State, JobError> {
     let Some((first, second)) = parts.split_once(',') else {
@@ -136,5 +142,19 @@ fn binary_union(parts: &str) -> Result<State, JobError> {
     Ok(State::BinaryUnion {
         alt1: values::state_id(first)?,
         alt2: values::state_id(second)?,
+    })
+}
+
+/// A state that ends a capture, or starts one.
+fn capture(parts: &str) -> Result<State, JobError> {
+    Ok(State::Capture {
+        next: values::state_id(parts)?,
+    })
+}
+
+/// A state where a pattern matches.
+fn matching(parts: &str) -> Result<State, JobError> {
+    Ok(State::Match {
+        pattern_id: values::pattern_id(parts)?,
     })
 }

@@ -15,6 +15,12 @@ use std::alloc::{AllocError, Allocator, Global};
 fn matches_builder(alloc: Global, job: &Job<'_>) -> Result<StateBuilderMatches, JobError> {
     let ids = values::pattern_ids(alloc, job.value_or_none(Key::Patterns))?;
     let mut builder = with_patterns(alloc, ids.as_slice())?;
+    set_flags(&mut builder, job)?;
+    Ok(builder)
+}
+
+/// Sets the flags and look-have of the job's record.
+fn set_flags(builder: &mut StateBuilderMatches, job: &Job<'_>) -> Result<(), JobError> {
     if values::flag(job.needed(Key::FromWord)?)? {
         builder.set_is_from_word();
     }
@@ -23,7 +29,7 @@ fn matches_builder(alloc: Global, job: &Job<'_>) -> Result<StateBuilderMatches, 
     }
     let have = values::look_set(job.value_or_none(Key::LookHave))?;
     builder.set_look_have(|_| have);
-    Ok(builder)
+    Ok(())
 }
 
 /// The whole record of the job.
@@ -92,22 +98,38 @@ pub fn resolves<A: Allocator>(state: &State<A>, count: usize) -> bool
 
 /// Writes what the readers of a state answer, in three lines.
 pub fn write_readers(text: &mut String, state: &State) -> Result<(), AllocError> {
+    write_match_readers(text, state)?;
+    write_flag_readers(text, state)?;
+    text.push_str("ids=")?;
+    values::write_numbers(text, state.iter_nfa_state_ids().map(|id| id.as_u32()))?;
+    text.push('\n')
+}
+
+/// Writes what a state says of its matches and its size, in a line.
+fn write_match_readers(text: &mut String, state: &State) -> Result<(), AllocError> {
     let is_match = u8::from(state.is_match());
     let count = state.match_len();
     write!(text, "match={is_match} len={count} pids=")?;
-    match state.match_pattern_ids()? {
-        None => text.push_str("none")?,
-        Some(ids) => values::write_numbers(text, ids.iter().map(|id| id.as_u32()))?,
-    }
+    write_patterns(text, state)?;
     let usage = state.memory_usage();
-    writeln!(text, " usage={usage}")?;
+    writeln!(text, " usage={usage}")
+}
+
+/// Writes the patterns of a state, `none` where it is no match.
+fn write_patterns(text: &mut String, state: &State) -> Result<(), AllocError> {
+    match state.match_pattern_ids()? {
+        None => text.push_str("none"),
+        Some(ids) => values::write_numbers(text, ids.iter().map(|id| id.as_u32())),
+    }
+}
+
+/// Writes the flags and the assertions of a state, in a line.
+fn write_flag_readers(text: &mut String, state: &State) -> Result<(), AllocError> {
     let from_word = u8::from(state.is_from_word());
     let half_crlf = u8::from(state.is_half_crlf());
     write!(text, "fw={from_word} half={half_crlf} have=")?;
     values::write_looks(text, state.look_have())?;
     text.push_str(" need=")?;
     values::write_looks(text, state.look_need())?;
-    text.push_str("\nids=")?;
-    values::write_numbers(text, state.iter_nfa_state_ids().map(|id| id.as_u32()))?;
     text.push('\n')
 }

@@ -92,6 +92,14 @@ fn replay_cached<I: BufRead + Drop, W: Write>(
     input: I,
     out: &mut W,
 ) -> Result<Tally, ReplayError> {
+    let lines = lines(alloc, input)?;
+    let automata = automata(alloc, lines.as_slice())?;
+    let replay = Replay::new(alloc, Some(automata.caches(way, limit)?));
+    replay_lines(replay, lines.as_slice(), out)
+}
+
+/// All lines of the input.
+fn lines<I: BufRead + Drop>(alloc: Global, input: I) -> Result<Vec<String>, ReplayError> {
     let mut lines = Vec::new(alloc);
     let mut number = 1u64;
     for line in input.lines(alloc) {
@@ -101,9 +109,16 @@ fn replay_cached<I: BufRead + Drop, W: Write>(
         }
         number = number.saturating_add(1);
     }
-    let automata = automata(alloc, lines.as_slice())?;
-    let mut replay = Replay::new(alloc, Some(automata.caches(way, limit)?));
-    for line in lines.iter() {
+    Ok(lines)
+}
+
+/// Replays lines to their end.
+fn replay_lines<W: Write>(
+    mut replay: Replay<'_>,
+    lines: &[String],
+    out: &mut W,
+) -> Result<Tally, ReplayError> {
+    for line in lines {
         replay.take_line(line.as_str(), out)?;
     }
     finish(replay, out)

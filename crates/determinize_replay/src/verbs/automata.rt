@@ -240,18 +240,20 @@ fn sparse_sets(alloc: Global, job: &Job<'_>, nfa: &NFA) -> Result<SparseSets, Jo
     })
 }
 
-/// The record of the state of an NFA that follows the job's record over a unit.
-fn next_over(
+/// Writes the bytes of the state of an NFA that follows the job's record over a unit.
+fn write_next(
     alloc: Global,
+    text: &mut String,
     job: &Job<'_>,
     nfa: &NFA,
     kind: MatchKind,
     unit: Unit,
-) -> Result<StateBuilderNFA, JobError> {
+) -> Result<(), JobError> {
     let state = resolved_state(alloc, job, nfa)?;
     let mut sparses = sparse_sets(alloc, job, nfa)?;
     let next = next_after(alloc, nfa, kind, &mut sparses, &state, unit)?;
-    Ok(next)
+    values::write_bytes(text, next.as_bytes())?;
+    Ok(())
 }
 
 /// The record of the state that follows a state over a unit.
@@ -276,9 +278,7 @@ fn next_after(
 pub fn next_state(alloc: Global, job: &Job<'_>, text: &mut String) -> Result<(), JobError> {
     let kind = job.match_kind()?;
     let unit = unit(job.needed(Key::Unit)?)?;
-    let next = next_over(alloc, job, &nfas::nfa(alloc, job)?, kind, unit)?;
-    values::write_bytes(text, next.as_bytes())?;
-    Ok(())
+    write_next(alloc, text, job, &nfas::nfa(alloc, job)?, kind, unit)
 }
 
 /// Answers `addstates`: the bytes of the job's record with the states of a set.

@@ -12,22 +12,32 @@ use std::alloc::{AllocError, Global};
 /// Answers `start`: the start kind and the look-behind byte of a range of a haystack.
 pub fn start(alloc: Global, job: &Job<'_>, text: &mut String) -> Result<(), JobError> {
     let haystack = values::bytes(alloc, job.value_or_none(Key::Haystack))?;
-    let Some((start, end)) = job.needed(Key::Range)?.split_once("..") else {
-        return Err(JobError::Malformed(Part::Range));
-    };
-    let start = values::number(start)?;
-    let end = values::number(end)?;
+    let look_behind = look_behind(job, haystack.as_slice())?;
+    write_start(text, &nfas::matcher(job)?, look_behind)?;
+    Ok(())
+}
+
+/// The look-behind byte of the job's range of a haystack, in the job's direction.
+fn look_behind(job: &Job<'_>, haystack: &[u8]) -> Result<Option<u8>, JobError> {
+    let (start, end) = range(job.needed(Key::Range)?)?;
     if end > haystack.len() || start > end + 1 {
         return Err(JobError::Malformed(Part::Range));
     }
-    let input = Input::new(haystack.as_slice()).range(start..end);
+    let input = Input::new(haystack).range(start..end);
     let config = if job.is_reverse()? {
         Config::from_input_reverse(&input)
     } else {
         Config::from_input_forward(&input)
     };
-    write_start(text, &nfas::matcher(job)?, config.get_look_behind())?;
-    Ok(())
+    Ok(config.get_look_behind())
+}
+
+/// The start and the end of a range such as `0..3`.
+fn range(text: &str) -> Result<(usize, usize), JobError> {
+    let Some((start, end)) = text.split_once("..") else {
+        return Err(JobError::Malformed(Part::Range));
+    };
+    Ok((values::number(start)?, values::number(end)?))
 }
 
 /// Writes a start kind and the look-behind byte that makes it.
@@ -90,6 +100,16 @@ pub fn build(alloc: Global, job: &Job<'_>, text: &mut String) -> Result<(), JobE
 pub fn size(alloc: Global, job: &Job<'_>, text: &mut String) -> Result<(), JobError> {
     let count = values::number(job.needed(Key::States)?)?;
     let matches = values::number(job.needed(Key::Matches)?)?;
+    let states = states(alloc, count, matches)?;
+    let matcher = LookMatcher::new();
+    let nfa = NFA::from_parts(alloc, states, StateID::ZERO, StateID::ZERO, false, matcher)?;
+    let count = nfa.len();
+    writeln!(text, "states {count}")?;
+    Ok(())
+}
+
+/// So many states, of which the first match.
+fn states(alloc: Global, count: usize, matches: usize) -> Result<Vec<nfa::State>, AllocError> {
     let mut states = Vec::new(alloc);
     for index in 0..count {
         let state = match PatternID::new(index) {
@@ -98,9 +118,5 @@ pub fn size(alloc: Global, job: &Job<'_>, text: &mut String) -> Result<(), JobEr
         };
         states.push(state)?;
     }
-    let matcher = LookMatcher::new();
-    let nfa = NFA::from_parts(alloc, states, StateID::ZERO, StateID::ZERO, false, matcher)?;
-    let count = nfa.len();
-    writeln!(text, "states {count}")?;
-    Ok(())
+    Ok(states)
 }
