@@ -66,12 +66,18 @@ fn transition(text: &str) -> Result<Transition, JobError> {
     let Some((range, next)) = text.split_once('>') else {
         return Err(JobError::Malformed(Part::Transition));
     };
-    let (start, end) = range.split_once('-').unwrap_or((range, range));
+    let (start, end) = ends(range)?;
     Ok(Transition {
-        start: values::byte(start)?,
-        end: values::byte(end)?,
+        start,
+        end,
         next: values::state_id(next)?,
     })
+}
+
+/// The first and the last byte of a range such as `61-7a` or `61`.
+fn ends(range: &str) -> Result<(u8, u8), JobError> {
+    let (start, end) = range.split_once('-').unwrap_or((range, range));
+    Ok((values::byte(start)?, values::byte(end)?))
 }
 
 /// A state with one transition.

@@ -171,14 +171,22 @@ impl<'n> Replay<'n> {
     /// Compares the answer of a job with the one that is wanted.
     fn judge_job<W: Write>(&mut self, job: &Pending, out: &mut W) -> Result<(), ReplayError> {
         match self.answer(job.text.as_str()) {
-            Ok(answer) => {
-                if !answer.agrees(self.wanted.as_str()) {
-                    self.tell(job.text.as_str(), answer.text.as_str(), out)?;
-                }
-                Ok(())
-            }
+            Ok(answer) => self.judge_answer(job.text.as_str(), &answer, out),
             Err(error) => Err(ReplayError::of_job(job.line, error)),
         }
+    }
+
+    /// Compares an answer of the job of this text with the one that is wanted.
+    fn judge_answer<W: Write>(
+        &mut self,
+        job: &str,
+        answer: &Answer,
+        out: &mut W,
+    ) -> Result<(), ReplayError> {
+        if !answer.agrees(self.wanted.as_str()) {
+            self.tell(job, answer.text.as_str(), out)?;
+        }
+        Ok(())
     }
 
     /// The answer of the job of this text.

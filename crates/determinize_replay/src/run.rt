@@ -8,7 +8,7 @@ use crate::job::Job;
 use crate::mode::{Mode, Way};
 use crate::replay::{Replay, Tally};
 use std::alloc::Global;
-use std::io::{BufRead, BufReader, Read, Write};
+use std::io::{self, BufRead, BufReader, Read, Write};
 
 /// Replays the jobs of `input`, and answers the status.
 ///
@@ -76,12 +76,21 @@ fn replay_single<I: BufRead + Drop, W: Write>(
 ) -> Result<Tally, ReplayError> {
     let mut replay = Replay::new(alloc, None);
     for line in input.lines(alloc) {
-        match line {
-            Ok(line) => replay.take_line(line.as_str(), out)?,
-            Err(error) => return Err(ReplayError::of_reading(replay.line(), &error)),
-        }
+        take_read_line(&mut replay, line, out)?;
     }
     finish(replay, out)
+}
+
+/// Takes one more line, where it could be read.
+fn take_read_line<W: Write>(
+    replay: &mut Replay<'_>,
+    line: io::Result<String>,
+    out: &mut W,
+) -> Result<(), ReplayError> {
+    match line {
+        Ok(line) => replay.take_line(line.as_str(), out),
+        Err(error) => Err(ReplayError::of_reading(replay.line(), &error)),
+    }
 }
 
 /// Reads all lines, and then replays them through caches of this limit.

@@ -105,16 +105,25 @@ pub fn search(
     cache: &mut Lazy<'_>,
     text: &mut String,
 ) -> Result<(), JobError> {
+    write_match(text, found(alloc, job, cache)?)?;
+    Ok(())
+}
+
+/// The last match of a walk, by a search through a cache.
+fn found(
+    alloc: Global,
+    job: &Job<'_>,
+    cache: &mut Lazy<'_>,
+) -> Result<Option<HalfMatch>, JobError> {
     let start = resolved(cache.nfa(), job.value(Key::Start).unwrap_or("0"))?;
-    let read = Text::read(alloc, job)?;
+    let text = Text::read(alloc, job)?;
     let found = cache.search(
         start,
-        read.look_behind,
-        read.bytes.as_slice(),
-        read.look_ahead,
+        text.look_behind,
+        text.bytes.as_slice(),
+        text.look_ahead,
     )?;
-    write_match(text, found)?;
-    Ok(())
+    Ok(found)
 }
 
 /// Writes the bytes of each state, and the last match.
@@ -198,10 +207,19 @@ fn start_kind(text: &str) -> Result<Start, JobError> {
 
 /// Answers `lookbehind`: the bytes of an empty record that is told of its start.
 pub fn lookbehind(alloc: Global, job: &Job<'_>, text: &mut String) -> Result<(), JobError> {
-    let nfa = nfas::nfa(alloc, job)?;
+    write_lookbehind(alloc, text, job, &nfas::nfa(alloc, job)?)
+}
+
+/// Writes the bytes of an empty record that is told of its start under an NFA.
+fn write_lookbehind(
+    alloc: Global,
+    text: &mut String,
+    job: &Job<'_>,
+    nfa: &NFA,
+) -> Result<(), JobError> {
     let kind = start_kind(job.needed(Key::Kind)?)?;
     let mut builder = StateBuilderEmpty::new(alloc).into_matches()?;
-    determinize::set_lookbehind_from_start(&nfa, &kind, &mut builder);
+    determinize::set_lookbehind_from_start(nfa, &kind, &mut builder);
     values::write_bytes(text, builder.into_nfa().as_bytes())?;
     Ok(())
 }
