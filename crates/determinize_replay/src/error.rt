@@ -121,11 +121,7 @@ impl From<ParseIntError> for JobError {
 }
 
 /// Writes a text in quotes, after words that say what it is.
-fn write_quoted<W: fmt::Write>(
-    f: &mut fmt::Formatter<W>,
-    words: &str,
-    text: &str,
-) -> fmt::Result {
+fn write_quoted<W: fmt::Write>(f: &mut fmt::Formatter<W>, words: &str, text: &str) -> fmt::Result {
     write!(f, "{words} {text:?}")
 }
 

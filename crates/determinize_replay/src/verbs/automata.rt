@@ -252,9 +252,22 @@ fn sparse_sets(alloc: Global, job: &Job<'_>, nfa: &NFA) -> Result<SparseSets, Jo
 {
     let held1 = values::state_ids(alloc, job.value_or_none(Key::Set1))?;
     let held2 = values::state_ids(alloc, job.value_or_none(Key::Set2))?;
+    filled_sets(alloc, nfa, held1.as_slice(), held2.as_slice())
+}
+
+/// Two sets that hold these ids, each for the states of the NFA.
+fn filled_sets(
+    alloc: Global,
+    nfa: &NFA,
+    held1: &[StateID],
+    held2: &[StateID],
+) -> Result<SparseSets, JobError>
+    ensures set1 { IfOk result (λ sparses. sparses.set1.capacity ≡ length nfa.now.states) }
+    ensures set2 { IfOk result (λ sparses. sparses.set2.capacity ≡ length nfa.now.states) }
+{
     Ok(SparseSets {
-        set1: records::set(alloc, nfa.len(), held1.as_slice())?,
-        set2: records::set(alloc, nfa.len(), held2.as_slice())?,
+        set1: records::set(alloc, nfa.len(), held1)?,
+        set2: records::set(alloc, nfa.len(), held2)?,
     })
 }
 
