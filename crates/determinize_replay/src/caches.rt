@@ -49,21 +49,16 @@ impl Automata {
     /// An empty cache of at most `limit` states for each NFA and match kind, for walks or for
     /// searches.
     pub fn caches(&self, way: Way, limit: usize) -> Result<Caches<'_>, AllocError> {
-        Ok(Caches {
-            alloc: self.alloc,
-            way,
-            places: &self.places,
-            caches: self.empty_caches(limit)?,
-        })
-    }
-
-    /// The empty caches alone, in the order of the NFAs.
-    fn empty_caches(&self, limit: usize) -> Result<Vec<Lazy<'_>>, AllocError> {
         let mut caches = Vec::new(self.alloc);
         for (nfa, kind) in self.automata.iter() {
             caches.push(Lazy::new(self.alloc, nfa, *kind, limit))?;
         }
-        Ok(caches)
+        Ok(Caches {
+            alloc: self.alloc,
+            way,
+            places: &self.places,
+            caches,
+        })
     }
 }
 
