@@ -2,9 +2,9 @@
 use Rattle.std.proofs.Common.{◌≡◌, ℕ, refl, arith}
 use Rattle.determinize_below.specs.Look.{meets, insert}
 use Rattle.determinize_below.specs.Unit.{is_word_byte}
-use Rattle.determinize_looks.specs.LookTables.{known_set, insert_where, start_have, start_from_word, start_half_crlf}
+use Rattle.determinize_looks.specs.LookTables.{known_set, insert_where, start_have, start_from_word, start_half_crlf, have_after, from_word_after, half_crlf_after}
 use Rattle.determinize_looks.specs.StartKinds.{start_kind}
-use Rattle.determinize_looks.specs.StartRows.{ForwardRows, ReverseRows, ByteRows, ToldRows, NothingTold}
+use Rattle.determinize_looks.specs.StartRows.{ForwardRows, ReverseRows, ByteRows, ToldRows, ClassRows, StepRows, NothingTold}
 use Rattle.determinize_looks.specs.declared.start.Start.TheVariants.{NonWordByte, WordByte, Text, LineLF, LineCR, CustomLineTerminator}
 
 pub forward_rows : ForwardRows
@@ -35,6 +35,14 @@ told_rows = (
   (refl, refl, refl),
 )
 
+pub class_rows : ClassRows
+unfolding is_word_byte meets known_set insert_where insert start_have start_from_word start_half_crlf
+class_rows = ((refl, refl, refl), (refl, refl, refl), (refl, refl, refl), (refl, refl, refl), (refl, refl, refl), (refl, refl, refl), (refl, refl, refl), (refl, refl, refl))
+
+pub step_rows : StepRows
+unfolding is_word_byte meets known_set insert_where insert have_after from_word_after half_crlf_after
+step_rows = ((refl, refl, refl), (refl, refl, refl), (refl, refl, refl), (refl, refl, refl), (refl, refl, refl), (refl, refl, refl), (refl, refl, refl), (refl, refl, refl))
+
 pub nothing_told : NothingTold
 unfolding meets known_set insert_where insert start_have start_from_word start_half_crlf
 nothing_told reverse t NonWordByte = (refl, refl, refl)
@@ -44,6 +52,9 @@ nothing_told reverse t LineLF = (refl, refl, refl)
 nothing_told reverse t LineCR = (refl, refl, refl)
 nothing_told reverse t CustomLineTerminator = (refl, refl, refl)
 
--- under a carriage return no byte is a terminator of its own
-pub no_custom : (b : ℕ) → ¬ (start_kind 13 b ≡ CustomLineTerminator)
-no_custom b h = grind (arith, h)
+-- under a line feed or a carriage return no byte is a terminator of its own
+pub no_custom_lf : (b : ℕ) → ¬ (start_kind 10 b ≡ CustomLineTerminator)
+no_custom_lf b h = grind (arith, h)
+
+pub no_custom_cr : (b : ℕ) → ¬ (start_kind 13 b ≡ CustomLineTerminator)
+no_custom_cr b h = grind (arith, h)

@@ -123,3 +123,11 @@ line_opened t half_crlf u _ = false
 -- the assertions that a state with these flags finds true over u, beside those in its look-have
 unfoldable pub opened : Tables → Bool → Bool → Option ℕ → Look → Bool
 opened t from_word half_crlf u look = word_opened from_word (is_word u) look || line_opened t half_crlf u look
+
+-- the assertions that no unit makes true: they are told by look-have alone
+abbrev pub AreKnownAlone : Tables → Bool → Bool → Option ℕ → Type 0
+AreKnownAlone t from_word half_crlf u =
+    (opened t from_word half_crlf u Start ≡ false)
+    × (opened t from_word half_crlf u StartLF ≡ false)
+    × (opened t from_word half_crlf u WordStartHalfAscii ≡ false)
+    × (opened t from_word half_crlf u WordStartHalfUnicode ≡ false)

@@ -1,6 +1,6 @@
 -- Starts as they come out for small searches.
-use Rattle.std.specs.Prelude.{◌≡◌, ℕ, Bool, true, false, List, [], ◌∷◌, codes, slice_get}
-use Rattle.determinize_looks.specs.LookTables.{tables, start_have, start_from_word, start_half_crlf}
+use Rattle.std.specs.Prelude.{◌≡◌, ℕ, Bool, true, false, List, [], ◌∷◌, Option, Some, None, codes, slice_get}
+use Rattle.determinize_looks.specs.LookTables.{tables, start_have, start_from_word, start_half_crlf, have_after, from_word_after, half_crlf_after}
 use Rattle.determinize_looks.specs.StartKinds.{byte_before, start_kind, start_kind_of}
 use Rattle.determinize_looks.specs.declared.start.Start.{Start as Kind}
 use Rattle.determinize_looks.specs.declared.start.Start.TheVariants.{NonWordByte, WordByte, Text, LineLF, LineCR, CustomLineTerminator}
@@ -45,27 +45,58 @@ ByteRows =
     × (start_kind 13 13 ≡ LineCR)
     × (start_kind 13 10 ≡ LineLF)
 
--- what a start kind tells, for an NFA with Start, StartLF, StartCRLF and WordAscii: look-have, from-word and half-CRLF
-abbrev IsTold : Bool → ℕ → Kind → ℕ → Bool → Bool → Type 0
-IsTold reverse terminator kind have from_word half =
-    (start_have (tables reverse terminator 0x55) kind ≡ have)
-    × (start_from_word (tables reverse terminator 0x55) kind ≡ from_word)
-    × (start_half_crlf (tables reverse terminator 0x55) kind ≡ half)
+-- what a start kind tells, for an NFA with these assertions: look-have, from-word and half-CRLF
+abbrev IsTold : ℕ → Bool → ℕ → Kind → ℕ → Bool → Bool → Type 0
+IsTold any reverse terminator kind have from_word half =
+    (start_have (tables reverse terminator any) kind ≡ have)
+    × (start_from_word (tables reverse terminator any) kind ≡ from_word)
+    × (start_half_crlf (tables reverse terminator any) kind ≡ half)
 
--- the terminators are a line feed, a carriage return, x, a and a semicolon
+-- for an NFA with Start, StartLF, StartCRLF and WordAscii; the terminators are a line feed, a carriage return, x, a and a semicolon
 abbrev pub ToldRows : Type 0
 ToldRows =
-    IsTold false 10 NonWordByte 0x14000 false false
-    × IsTold false 10 WordByte 0 true false
-    × IsTold false 10 Text 0x14015 false false
-    × IsTold false 10 LineLF 0x14014 false false
-    × IsTold true 10 LineLF 0x14004 false true
-    × IsTold true 120 LineLF 0x14000 false true
-    × IsTold false 10 LineCR 0x14000 false true
-    × IsTold true 10 LineCR 0x14010 false false
-    × IsTold false 13 LineCR 0x14004 false true
-    × IsTold false 97 CustomLineTerminator 0x4 true false
-    × IsTold false 59 CustomLineTerminator 0x14004 false false
+    IsTold 0x55 false 10 NonWordByte 0x14000 false false
+    × IsTold 0x55 false 10 WordByte 0 true false
+    × IsTold 0x55 false 10 Text 0x14015 false false
+    × IsTold 0x55 false 10 LineLF 0x14014 false false
+    × IsTold 0x55 true 10 LineLF 0x14004 false true
+    × IsTold 0x55 true 120 LineLF 0x14000 false true
+    × IsTold 0x55 false 10 LineCR 0x14000 false true
+    × IsTold 0x55 true 10 LineCR 0x14010 false false
+    × IsTold 0x55 false 13 LineCR 0x14004 false true
+    × IsTold 0x55 false 97 CustomLineTerminator 0x4 true false
+    × IsTold 0x55 false 59 CustomLineTerminator 0x14004 false false
+
+-- for NFAs with StartLF alone, with Start alone and with WordAscii alone
+abbrev pub ClassRows : Type 0
+ClassRows =
+    IsTold 0x4 false 10 Text 0x14 false false
+    × IsTold 0x4 false 10 LineLF 0x14 false false
+    × IsTold 0x4 false 10 LineCR 0 false false
+    × IsTold 0x4 true 10 LineLF 0x4 false false
+    × IsTold 0x4 true 10 LineCR 0 false false
+    × IsTold 0x1 false 10 Text 0x1 false false
+    × IsTold 0x1 false 10 WordByte 0 false false
+    × IsTold 0x40 false 10 LineLF 0x14000 false false
+
+-- what a forward step over a unit tells, for an NFA with these assertions whose lines end in a line feed: look-have, from-word and half-CRLF
+abbrev IsToldAfter : ℕ → Option ℕ → ℕ → Bool → Bool → Type 0
+IsToldAfter any unit have from_word half =
+    (have_after (tables false 10 any) unit ≡ have)
+    × (from_word_after (tables false 10 any) unit ≡ from_word)
+    × (half_crlf_after (tables false 10 any) unit ≡ half)
+
+-- for NFAs with StartLF alone, with StartCRLF alone and with WordAscii alone, over a line feed, a carriage return, a and the end of the input
+abbrev pub StepRows : Type 0
+StepRows =
+    IsToldAfter 0x4 (Some 10) 0x4 false false
+    × IsToldAfter 0x4 (Some 13) 0 false false
+    × IsToldAfter 0x4 (Some 97) 0 false false
+    × IsToldAfter 0x4 None 0 false false
+    × IsToldAfter 0x10 (Some 10) 0x14 false false
+    × IsToldAfter 0x10 (Some 13) 0 false true
+    × IsToldAfter 0x40 (Some 97) 0 true false
+    × IsToldAfter 0x40 None 0x14000 false false
 
 -- an NFA without assertions has nothing to tell
 abbrev pub NothingTold : Type 0

@@ -110,7 +110,7 @@ impl Model for LookTables {
 }
 
 impl LookTables {
-    /// The tables of an NFA.
+    /// The tables of an NFA, which has passed every check.
     pub fn of<N: Allocator>(nfa: &NFA<N>) -> LookTables
         ensures tables { result ≡ tables_of nfa.now }
         ensures accepted { IsAccepted nfa.now }
@@ -191,7 +191,8 @@ impl LookTables {
         }
     }
 
-    /// What a step over a unit tells the next state: nothing, where the NFA has no assertion.
+    /// What a step over a unit tells the next state: nothing, where the NFA has no assertion. The flags
+    /// count only where the step leads on.
     #[tactic(auto, unfolding(crate::specs::LookTables::known_set, crate::specs::LookTables::insert_where, crate::specs::LookTables::have_after, crate::specs::LookTables::from_word_after, crate::specs::LookTables::half_crlf_after))]
     pub fn after(self, unit: Unit) -> Told
         ensures looks { result.looks ≡ tables.have_after self (byte_of unit) }
