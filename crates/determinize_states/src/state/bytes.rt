@@ -1,8 +1,8 @@
 //! Reading the bytes of a state, and writing some of them.
 
-ghost use Rattle.std.specs.Prelude.{◌≡◌, ◌+◌, ◌*◌, ◌<◌, ◌≤◌, ◌^◌, [], ◌∷◌, if◌then◌else◌, length, slice_index, vec_len, true, false, All, OnOk, OnErr, IsOk};
+ghost use Rattle.std.specs.Prelude.{◌≡◌, ◌+◌, ◌*◌, ◌<◌, ◌≤◌, ◌^◌, [], ◌∷◌, ◌++◌, if◌then◌else◌, length, slice_index, vec_len, true, false, All, OnOk, OnErr, IsOk};
 ghost use Rattle.determinize_states.specs.Value.{is_nonempty};
-ghost use Rattle.determinize_states.specs.Spelling.{IsSpelled, value_of, number_at, numbers_in, words, with_word, has_bit, start_in};
+ghost use Rattle.determinize_states.specs.Spelling.{IsSpelled, value_of, number_at, numbers_in, word, words, with_word, has_bit, start_in};
 ghost use Rattle.determinize_states.specs.Building.{IsOpen, value_of_open, closed};
 ghost use Rattle.determinize_states.specs.Private.PatternBytes.{with_bit, with_pattern_bytes};
 
@@ -163,14 +163,26 @@ pub(crate) fn add_pattern<A: Allocator>(bytes: &mut Vec<u8, A>, id: u32) -> Resu
     if has_bit(bytes, EXPLICIT) {
         bytes.extend_from_slice(&[a, b, c, d])?;
     } else if has_bit(bytes, MATCH) {
-        bytes.extend_from_slice(&[0, 0, 0, 0, 0, 0, 0, 0, a, b, c, d])?;
-        set_flag(bytes, EXPLICIT);
+        add_after_zero(bytes, id)?;
     } else if id != 0 {
         bytes.extend_from_slice(&[0, 0, 0, 0, a, b, c, d])?;
         set_flag(bytes, MATCH | EXPLICIT);
     } else {
         set_flag(bytes, MATCH);
     }
+    Ok(())
+}
+
+/// Adds a pattern where the only one is a `ZERO` that isn't written out: now both are.
+fn add_after_zero<A: Allocator>(bytes: &mut Vec<u8, A>, id: u32) -> Result<(), AllocError>
+    requires { 0 < vec_len bytes.old }
+    ensures ok { OnOk result
+        (bytes.new.items ≡ with_bit (bytes.old.items ++ (word 0 ++ word 0 ++ word id)) 2) }
+    ensures err { OnErr result (bytes.new.items ≡ bytes.old.items) }
+{
+    let [a, b, c, d] = id.to_le_bytes();
+    bytes.extend_from_slice(&[0, 0, 0, 0, 0, 0, 0, 0, a, b, c, d])?;
+    set_flag(bytes, EXPLICIT);
     Ok(())
 }
 
