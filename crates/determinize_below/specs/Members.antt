@@ -21,8 +21,7 @@ pub record AreMembers (set : Members) : Type 0 where
 unfoldable pub has_bit : List ℕ → ℕ → Bool
 has_bit words id = nat_eq (bit_at (slice_index words (id / 64)) (id % 64)) 1
 
--- distinct ids below the capacity, for all of which there is room, and of the bits below the
--- capacity those of just these ids, in as many words as the capacity wants
+-- distinct ids below a capacity that has room, and of the bits below it just theirs set, in the words that it wants
 pub record IsSparse (ids words : List ℕ) (capacity room : ℕ) : Type 0 where
   pub distinct : IsDistinct nat_eq ids
   pub below : All (λ id. id < capacity) ids

@@ -109,7 +109,7 @@ impl<'h> Input<'h> {
         }
     }
 
-    /// Where the range starts: an index into the haystack, at most one past `end`.
+    /// Where the range starts in the haystack: at most one past `end`, which may be one past its length.
     pub fn start(&self) -> usize
         ensures value { result ≡ self.now.start }
         ensures near { result ≤ self.now.end + 1 }

@@ -71,8 +71,8 @@ pub fn told_law(reverse: bool, terminator: u8, any: LookSet, byte: u8, look: Loo
         ≡ truth.is_known reverse terminator (Some byte) look }
 {}
 
-/// The flags that a step sets tell rightly of the byte that it read, or tell of nothing, where nothing
-/// was read.
+/// The flags that a step sets tell rightly of the byte that it read, each where the NFA has assertions
+/// that ask for it, or tell of nothing, where nothing was read.
 pub fn flags_law(reverse: bool, terminator: u8, any: LookSet, before: Option<u8>)
     ensures { IsFlagged (tables reverse terminator any) before
         (from_word_after (tables reverse terminator any) before)

@@ -147,7 +147,7 @@ impl<A: Allocator> State<A> {
         bytes::nfa_state_ids(self.bytes.as_slice())
     }
 
-    /// The number of bytes of the state: at most 13, 4 for each pattern and 5 for each NFA state.
+    /// The number of bytes of the state: at most 13, plus 4 for each pattern, plus 5 for each NFA state.
     pub fn memory_usage(&self) -> usize
         ensures bytes { result ≡ length (spell self.now) }
         ensures bound { result ≤ 13 + 4 * length self.now.patterns + 5 * length self.now.states }
