@@ -70,7 +70,7 @@ assertion_of nfa s = assertion_in (state_at nfa s)
 abbrev pub patterns_of : Nfa → List ℕ → List ℕ
 patterns_of nfa xs = flat_map (λ s. option_to_list (pattern_of nfa s)) xs
 
--- the states that paths from the roots meet last, each once, by the first such root and then by the least path
+-- the states that loop-free paths from the roots meet last, each once, by the first such root and then by the least path
 unfoldable pub reach : Nfa → (Assertion → Bool) → List ℕ → List ℕ
 reach nfa holds roots = ordered nat_eq (edges nfa holds) (length nfa.states + 1) none_held roots
 

@@ -5,7 +5,7 @@ use Rattle.determinize_below.specs.declared.nfa.state.State.{State}
 use Rattle.determinize_below.specs.declared.nfa.state.State.TheVariants as states
 use Rattle.determinize_below.specs.declared.nfa.transitions.Transition.{Transition}
 
--- a state: the bytes, the assertion or the pattern that it tests, and the ids that it leads to
+-- a state: the bytes or the assertion that it tests, the pattern that it accepts, and the ids that it leads to
 pub data Node : Type 0 where
   ByteRange : Transition → Node
   Sparse : List Transition → Node

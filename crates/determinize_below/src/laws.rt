@@ -9,8 +9,8 @@ use crate::primitives::{PatternID, StateID};
 use crate::search::Input;
 use std::alloc::AllocError;
 
-/// The computed list of a search is the one list in the order of reach, and can be found root by
-/// root; with worked rows.
+/// The computed list of a search of a graph on numbers, whose edges lead below some bound, is the one
+/// list in the order of reach, and can be found root by root; with worked rows.
 pub fn reach_law()
     ensures in_order { EachReachIsInOrder }
     ensures only { EachReachIsOne }

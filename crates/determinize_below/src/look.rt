@@ -13,9 +13,9 @@ pub enum Look {
     Start = 0x1,
     /// The end of the haystack.
     End = 0x2,
-    /// The beginning of a line, after the line terminator.
+    /// The beginning of a line: of the haystack, or after the line terminator.
     StartLF = 0x4,
-    /// The end of a line, before the line terminator.
+    /// The end of a line: of the haystack, or before the line terminator.
     EndLF = 0x8,
     /// The beginning of a line that ends in `\r`, `\n` or `\r\n`.
     StartCRLF = 0x10,

@@ -152,7 +152,7 @@ pub struct HalfMatch {
 }
 
 impl HalfMatch {
-    /// The match of this pattern that ends after so many bytes.
+    /// The match of this pattern that ends, or begins, at this offset.
     pub fn new(pattern: PatternID, offset: usize) -> HalfMatch
         ensures { result ≡ record { pattern = pattern; offset = offset } }
     {

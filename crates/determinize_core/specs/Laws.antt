@@ -73,7 +73,7 @@ NoNeedNoHave = (nfa : Nfa) (v : Value) (xs : List ℕ) → (with_states nfa v xs
 abbrev pub LeftmostGivesOne : Type 0
 LeftmostGivesOne = (nfa : Nfa) (v : Value) (u : Option ℕ) → length (step nfa LeftmostFirst v u).patterns ≤ 1
 
--- a step makes at most two tries for each state and for each edge that wants no input
+-- a step from a value of resolved ids makes at most two tries for each state and for each edge that wants no input
 abbrev pub TriesAreFew : Type 0
 TriesAreFew = (nfa : Nfa) → IsAccepted nfa → (kind : MatchKind) (v : Value) (u : Option ℕ)
     → ((s : ℕ) → member nat_eq v.states s ≡ true → s < length nfa.states)

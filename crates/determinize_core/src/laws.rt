@@ -59,8 +59,8 @@ pub fn step_law()
     ensures leftmost { LeftmostGivesOne }
 {}
 
-/// A step tries to add a state to a set at most twice for each state of the NFA and for each of its
-/// edges that want no input.
+/// A step from a value whose ids are states of the NFA tries to add a state to a set at most twice for
+/// each state of the NFA and for each of its edges that want no input.
 pub fn tries_law()
     ensures { TriesAreFew }
 {}
@@ -101,7 +101,7 @@ pub fn walk_rows_law()
     ensures ahead { ahead.AreAheadRows }
 {}
 
-/// A search from one state into a set that holds another meets no path through the held one.
+/// A worked search: from one state into a set that holds another, it takes no path through that one.
 pub fn search_row_law()
     ensures { rows.Row22 }
 {}

@@ -30,7 +30,7 @@ units_searched c start text = units_read (step_of c) (start_value c.nfa start te
 unfoldable pub after_search : Cache → ℕ → Text → Cache
 after_search c start text = after_walk c (start_value c.nfa start text.behind) (units_searched c start text)
 
--- with room for all that a search reads, each pair of it is kept, and computed once
+-- with room for all that a search reads, each pair of it is kept, and each that was missing was computed once
 abbrev pub IsPlenty : Cache → ℕ → Text → Cache → Type 0
 IsPlenty old start text new =
     let first : Value = start_value old.nfa start text.behind in
@@ -92,6 +92,6 @@ IsPreferredIn nfa asked answer = (found : Option HalfMatch) × IsPreferredMatch 
 unfoldable pub after_input : Cache → Asked → Cache
 after_input c asked = cond (is_done asked) c (after_search c (start_for c.nfa asked.anchored) (text_of c.nfa.reverse asked))
 
--- with room for all that it reads, each pair of it is kept, and computed once
+-- with room for all that it reads, each pair of it is kept, and each that was missing was computed once
 abbrev pub IsPlentyIn : Cache → Asked → Cache → Type 0
 IsPlentyIn old asked new = is_done asked ≡ false → IsPlenty old (start_for old.nfa asked.anchored) (text_of old.nfa.reverse asked) new

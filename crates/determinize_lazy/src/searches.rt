@@ -336,8 +336,8 @@ impl<'n, N: Allocator, A: Allocator + Copy> Lazy<'n, N, A> {
     /// the leftmost match is wanted, the answer is the pattern and the end of the most preferred
     /// match.
     ///
-    /// The only error is want of memory. The cache may hold less then, or nothing; later answers
-    /// are the same.
+    /// The only error is want of memory, or of a number for one more state. The cache holds then some
+    /// of what it held and of what this call kept, or nothing; later answers are the same.
     pub fn search(
         &mut self,
         start: StateID,
@@ -373,11 +373,11 @@ impl<'n, N: Allocator, A: Allocator + Copy> Lazy<'n, N, A> {
     /// The search starts from the NFA's anchored or unanchored start state, as the input asks. A
     /// search that is anchored to one pattern has no start here: the caller must not ask for it.
     /// No match goes over what stands beside the range in the haystack: assertions alone ask for it.
-    /// The byte ahead of the range is still one more unit, which is counted and kept. A range that
-    /// starts past its end has no match, and nothing is read.
+    /// Where the search comes to the byte ahead of the range it is one more unit, computed and kept as
+    /// any other. A range that starts past its end has no match, and nothing is read.
     ///
-    /// The only error is want of memory. The cache may hold less then, or nothing; later answers
-    /// are the same.
+    /// The only error is want of memory, or of a number for one more state. The cache holds then some
+    /// of what it held and of what this call kept, or nothing; later answers are the same.
     pub fn search_input(&mut self, input: &Input<'_>) -> Result<Option<HalfMatch>, AllocError>
         requires { has_start input.now.anchored ≡ true }
         ensures last { IfOk result

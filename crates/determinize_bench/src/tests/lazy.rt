@@ -50,7 +50,10 @@ pub fn walk_through<R: Abort + AllocGlobal>(
         bytes,
         ahead,
     )?;
-    let states = lazy.walk_between(start, behind, bytes, ahead)?;
+    let states = match ahead {
+        None => lazy.walk(start, behind, bytes)?,
+        ahead => lazy.walk_between(start, behind, bytes, ahead)?,
+    };
     holds(rt, states == wanted);
     Ok(states)
 }
@@ -65,7 +68,7 @@ pub fn last_walked<R: Abort + AllocGlobal>(
     Ok(last_match(states.as_slice()))
 }
 
-/// Walks a text over a cache, where none clears it.
+/// Walks a text over a cache, or clears it where there is no text.
 fn walk_or_clear<R: Abort + AllocGlobal>(
     rt: &R,
     lazy: &mut Lazy<'_>,
@@ -79,7 +82,7 @@ fn walk_or_clear<R: Abort + AllocGlobal>(
     Ok(())
 }
 
-/// Walks texts in order over a cache, where none clears it, and compares how many transitions were
+/// Walks texts in order over a cache, or clears it between, and compares how many transitions were
 /// computed and how many states are held then.
 fn expect_kept<R: Abort + AllocGlobal>(
     rt: &R,

@@ -6,21 +6,37 @@ ghost use Rattle.determinize_lazy.specs.Searches.{has_start};
 use crate::tests::{Heap, Row, holds, refuse_over_walks, same};
 use determinize_below::{Anchored, HalfMatch, Input, StateID};
 use determinize_core::determinize::last_match;
+use determinize_core::state::State;
 use determinize_lazy::Lazy;
 use std::alloc::{AllocError, Global};
 use std::process::Abort;
 use std::test::Fail;
 
+/// Walks the text of a walk from this state over a cache.
+fn walk_from<'a>(
+    lazy: &mut Lazy<'_, Global, &'a Heap>,
+    row: &Row,
+    start: StateID,
+) -> Result<Vec<State<&'a Heap>, &'a Heap>, AllocError>
+    requires { start < length lazy.old.nfa.states }
+    ensures { lazy.new.nfa ≡ lazy.old.nfa }
+{
+    let (behind, text) = (row.look_behind, row.text.as_slice());
+    match row.look_ahead {
+        None => lazy.walk(start, behind, text),
+        ahead => lazy.walk_between(start, behind, text, ahead),
+    }
+}
+
 /// Walks over a new cache. After a refusal the same over the same cache, with ample memory, answers
 /// what the walk alone does.
 fn walk(rt: &impl Abort, heap: &Heap, row: &Row, limit: usize) -> Result<bool, Fail> {
     let start = row.start()?;
-    let (behind, text, ahead) = (row.look_behind, row.text.as_slice(), row.look_ahead);
     let mut lazy = Lazy::new(heap, &row.nfa, row.kind, limit);
     heap.begin();
-    let first = lazy.walk_between(start, behind, text, ahead);
+    let first = walk_from(&mut lazy, row, start);
     heap.end();
-    let second = lazy.walk_between(start, behind, text, ahead)?;
+    let second = walk_from(&mut lazy, row, start)?;
     row.expect(rt, second.as_slice());
     if let Ok(first) = &first {
         row.expect(rt, first.as_slice());

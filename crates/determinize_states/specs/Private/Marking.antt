@@ -1,4 +1,4 @@
--- How a builder that only gained NFA states comes back to an earlier value.
+-- How a builder that gained only NFA states and assertions comes back to an earlier value.
 use Rattle.std.specs.Prelude.{◌≡◌, length}
 use Rattle.determinize_states.specs.Value.{Value}
 use Rattle.determinize_states.specs.Spelling.{spell}
