@@ -35,7 +35,6 @@ use std::marker::Model;
 ///
 /// Offsets of rows are numbers of 32 bits. Where more than 16647160 states would be held, a call
 /// answers `AllocError`, as it does for want of memory.
-#[derive(Drop)]
 pub struct Lazy<'n, N: Allocator = Global, A: Allocator = Global> {
     alloc: A,
     pub(crate) nfa: &'n NFA<N>,
@@ -44,6 +43,21 @@ pub struct Lazy<'n, N: Allocator = Global, A: Allocator = Global> {
     computed: u64,
     scratch: Option<Scratch<A>>,
     pub(crate) table: Table<A>,
+}
+
+// A call of its own, so that what owns a cache is proved without a look at its fields.
+impl<'n, N: Allocator, A: Allocator> Drop for Lazy<'n, N, A> {
+    fn drop(self) {
+        let Lazy {
+            alloc: _,
+            nfa: _,
+            match_kind: _,
+            limit: _,
+            computed: _,
+            scratch: _,
+            table: _,
+        } = self;
+    }
 }
 
 impl<'n, N: Allocator, A: Allocator> Model for Lazy<'n, N, A> {
