@@ -21,7 +21,7 @@ pub record AreMembers (set : Members) : Type 0 where
 unfoldable pub has_bit : List ℕ → ℕ → Bool
 has_bit words id = nat_eq (bit_at (slice_index words (id / 64)) (id % 64)) 1
 
--- distinct ids below a capacity that has room, and of the bits below it just theirs set, in the words that it wants
+-- distinct ids below a capacity for which there is room, and words with a bit for each number below it, set for just these ids
 pub record IsSparse (ids words : List ℕ) (capacity room : ℕ) : Type 0 where
   pub distinct : IsDistinct nat_eq ids
   pub below : All (λ id. id < capacity) ids

@@ -30,7 +30,7 @@ abbrev pub fresh : {N : Type 0} → (N → N → Bool) → (N → Bool) → List
 fresh eq seen [] = []
 fresh eq seen (x ∷ xs) = cond (seen x) (fresh eq seen xs) (x ∷ fresh eq (with_node eq seen x) xs)
 
--- the nodes that loop-free paths past none held from the roots end in, each once: by the first such root, then by the least path
+-- the nodes that loop-free paths from the roots around the held ones end in, each once: by the first such root, then by the least path
 abbrev pub ordered : {N : Type 0} → (N → N → Bool) → (N → List N) → ℕ → (N → Bool) → List N → List N
 ordered eq edges n held roots = fresh eq held (flat_map (ends eq edges n held) roots)
 

@@ -31,7 +31,7 @@ pub fn nfa_reach_law()
     ensures nothing_held { EachReachIsPastNothing }
 {}
 
-/// The least id of a state, the greatest one, and the bytes of one that is written out.
+/// The least id of a state, the greatest one, and the number of bytes of one in memory.
 pub fn state_id_law() -> (StateID, StateID, usize)
     ensures zero { result.0 ≡ 0 }
     ensures max { result.1 ≡ 2147483646 }

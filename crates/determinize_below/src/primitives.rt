@@ -68,7 +68,7 @@ impl StateID {
     /// The greatest id, 2147483646.
     pub const MAX: StateID = StateID(2147483646);
 
-    /// The number of bytes of an id that is written out, 4.
+    /// The number of bytes of an id in memory, 4.
     pub const SIZE: usize = 4;
 
     /// The id of this number. A number above 2147483646 is refused, and the error gives it back.

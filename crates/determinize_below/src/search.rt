@@ -109,7 +109,8 @@ impl<'h> Input<'h> {
         }
     }
 
-    /// Where the range starts in the haystack: at most one past `end`, which may be one past its length.
+    /// Where the range starts, counted in the haystack: at most one past `end`, and so at most one past
+    /// the length of the haystack.
     pub fn start(&self) -> usize
         ensures value { result ≡ self.now.start }
         ensures near { result ≤ self.now.end + 1 }

@@ -101,7 +101,7 @@ pub fn walk_rows_law()
     ensures ahead { ahead.AreAheadRows }
 {}
 
-/// A worked search: from one state into a set that holds another, it takes no path through that one.
+/// A worked search into a set that holds a state: it takes no path through that state.
 pub fn search_row_law()
     ensures { rows.Row22 }
 {}

@@ -24,7 +24,7 @@ rest_of_a_word = between None (0x75 ∷ 0x61 ∷ 0x72 ∷ 0x74 ∷ 0x7A ∷ []) 
 abbrev pub inside_a_word : Text
 inside_a_word = between (Some 0x71) (0x75 ∷ 0x61 ∷ 0x72 ∷ 0x74 ∷ 0x7A ∷ []) None
 
--- the cache after walks over texts in order, cleared where there is none in place of a text
+-- the cache after walks over texts in order, emptied at each `None`
 abbrev pub after_texts : Cache → List (Option Text) → Cache
 after_texts c [] = c
 after_texts c (None ∷ texts) = after_texts (record c { pairs = [] }) texts

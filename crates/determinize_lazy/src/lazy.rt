@@ -465,8 +465,8 @@ impl<'n, N: Allocator, A: Allocator + Copy> Lazy<'n, N, A> {
     /// - `look_behind` is the byte that is read just before the text, or none.
     ///
     /// The text is in the order of reading: for an NFA that reads backward, from the last byte on.
-    /// The only error is want of memory, or of a number for one more state. The cache holds then some
-    /// of what it held and of what this call kept, or nothing; later answers are the same.
+    /// The only error is want of memory, or of room for more than 16647160 states. The cache holds then
+    /// some of what it held and of what this call kept, or nothing; later answers are the same.
     pub fn walk(
         &mut self,
         start: StateID,
@@ -504,8 +504,8 @@ impl<'n, N: Allocator, A: Allocator + Copy> Lazy<'n, N, A> {
     /// one that follows over this byte. Where none is given, it follows over the end of the input.
     ///
     /// The text is in the order of reading: for an NFA that reads backward, from the last byte on.
-    /// The only error is want of memory, or of a number for one more state. The cache holds then some
-    /// of what it held and of what this call kept, or nothing; later answers are the same.
+    /// The only error is want of memory, or of room for more than 16647160 states. The cache holds then
+    /// some of what it held and of what this call kept, or nothing; later answers are the same.
     pub fn walk_between(
         &mut self,
         start: StateID,

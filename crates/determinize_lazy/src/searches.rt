@@ -336,8 +336,8 @@ impl<'n, N: Allocator, A: Allocator + Copy> Lazy<'n, N, A> {
     /// the leftmost match is wanted, the answer is the pattern and the end of the most preferred
     /// match.
     ///
-    /// The only error is want of memory, or of a number for one more state. The cache holds then some
-    /// of what it held and of what this call kept, or nothing; later answers are the same.
+    /// The only error is want of memory, or of room for more than 16647160 states. The cache holds then
+    /// some of what it held and of what this call kept, or nothing; later answers are the same.
     pub fn search(
         &mut self,
         start: StateID,
@@ -376,8 +376,8 @@ impl<'n, N: Allocator, A: Allocator + Copy> Lazy<'n, N, A> {
     /// Where the search comes to the byte ahead of the range it is one more unit, computed and kept as
     /// any other. A range that starts past its end has no match, and nothing is read.
     ///
-    /// The only error is want of memory, or of a number for one more state. The cache holds then some
-    /// of what it held and of what this call kept, or nothing; later answers are the same.
+    /// The only error is want of memory, or of room for more than 16647160 states. The cache holds then
+    /// some of what it held and of what this call kept, or nothing; later answers are the same.
     pub fn search_input(&mut self, input: &Input<'_>) -> Result<Option<HalfMatch>, AllocError>
         requires { has_start input.now.anchored ≡ true }
         ensures last { IfOk result

@@ -41,7 +41,7 @@ use std::marker::Model;
 
 /// A finished state of a DFA. It can't be changed; a clone copies its bytes.
 ///
-/// At most 30 bytes stand in the state itself, and more in memory of its allocator; no clause says so.
+/// At most 30 bytes stand in the state itself, and more in memory of its allocator. No clause says so.
 #[derive(Drop)]
 pub struct State<A: Allocator = Global> {
     bytes: SmallBytes<A>,

@@ -82,7 +82,7 @@ fn walk_or_clear<R: Abort + AllocGlobal>(
     Ok(())
 }
 
-/// Walks texts in order over a cache, or clears it between, and compares how many transitions were
+/// Walks texts in order over a cache, clears it at each `None`, and compares how many transitions were
 /// computed and how many states are held then.
 fn expect_kept<R: Abort + AllocGlobal>(
     rt: &R,
