@@ -27,5 +27,9 @@ fn main(rt: HostRuntime) -> ExitCode {
 
 /// The arguments without the program's own name.
 fn arguments(rt: &(impl Env + Alloc<A = Global>)) -> io::Result<Vec<String>> {
-    Ok(env::args(rt)?.skip(1).collect(rt.alloc())?)
+    let mut words = Vec::new(rt.alloc());
+    for word in env::args(rt)?.skip(1) {
+        words.push(word)?;
+    }
+    Ok(words)
 }

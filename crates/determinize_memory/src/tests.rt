@@ -170,7 +170,8 @@ impl Row {
 /// All worked walks.
 fn rows(alloc: Global) -> Result<Vec<Row>, JobError> {
     let mut rows = Vec::new(alloc);
-    for (_, line, answer) in answers::walks() {
+    for walk in answers::walks() {
+        let (_, line, answer) = answers::parts(walk);
         let row = Row::read(alloc, line, answer)?;
         rows.push(row)?;
     }

@@ -1,80 +1,71 @@
 //! The answers of the worked walks, worked by hand.
 
-/// The name of a walk, its job, and the lines of its answer.
-pub type Answered = (&'static str, &'static str, &'static str);
-
-/// The worked walks.
-pub fn walks() -> &'static [Answered] {
+/// The worked walks, each in a text: a line with its name, a line with its job, and the lines of its
+/// answer. [`parts`] takes it apart.
+pub fn walks() -> &'static [&'static str] {
     WALKS.as_slice()
 }
 
-/// The worked walks, which [`walks`] alone names: a proof reads the whole table at each mention.
-static WALKS: [Answered; 45] = [
-    (
-        "2",
-        "walk text=- | B:61>1 M:0",
-        "\
+/// The name of a worked walk, its job, and the lines of its answer.
+pub fn parts(walk: &'static str) -> (&'static str, &'static str, &'static str) {
+    let (name, rest) = walk.split_once('\n').unwrap_or((walk, ""));
+    let (job, answer) = rest.split_once('\n').unwrap_or((rest, ""));
+    (name, job, answer)
+}
+
+/// The worked walks, which [`walks`] alone names: a proof reads the whole table at each mention. So
+/// a walk is one text, too: three times as many would take it four times as long.
+static WALKS: [&str; 45] = [
+    "\
+2\n\
+walk text=- | B:61>1 M:0\n\
 00000000000000000000\n\
 000000000000000000\n\
 none\n",
-    ),
-    (
-        "3",
-        "walk text=61 | B:61>1 M:0",
-        "\
+    "\
+3\n\
+walk text=61 | B:61>1 M:0\n\
 00000000000000000000\n\
 00000000000000000002\n\
 010000000000000000\n\
 match 0 1\n",
-    ),
-    (
-        "4a",
-        "walk text=- | U:1,2,3 M:2 M:0 M:1",
-        "\
+    "\
+4a\n\
+walk text=- | U:1,2,3 M:2 M:0 M:1\n\
 00000000000000000000020202\n\
 03000000000000000003000000020000000000000001000000\n\
 match 2 0\n",
-    ),
-    (
-        "4b",
-        "walk kind=leftmost-first text=- | U:1,2,3 M:2 M:0 M:1",
-        "\
+    "\
+4b\n\
+walk kind=leftmost-first text=- | U:1,2,3 M:2 M:0 M:1\n\
 00000000000000000000020202\n\
 0300000000000000000100000002000000\n\
 match 2 0\n",
-    ),
-    (
-        "5",
-        "walk kind=leftmost-first text=7a25 | BU:4,1 B:00-ff>0 L:WordAscii>5 B:25>5 BU:2,3 BU:4,6 M:0",
-        "\
+    "\
+5\n\
+walk kind=leftmost-first text=7a25 | BU:4,1 B:00-ff>0 L:WordAscii>5 B:25>5 BU:2,3 BU:4,6 M:0\n\
 0000400100400000000008030203\n\
 010000000000000000\n\
 000000000000000000\n\
 000000000000000000\n\
 match 0 0\n",
-    ),
-    (
-        "6",
-        "walk kind=leftmost-first start=4 lb=7a text=25 | BU:4,1 B:00-ff>0 L:WordAscii>5 B:25>5 BU:2,3 BU:4,6 M:0",
-        "\
+    "\
+6\n\
+walk kind=leftmost-first start=4 lb=7a text=25 | BU:4,1 B:00-ff>0 L:WordAscii>5 B:25>5 BU:2,3 BU:4,6 M:0\n\
 040000000040000000080302\n\
 010000000000000000\n\
 000000000000000000\n\
 match 0 0\n",
-    ),
-    (
-        "7",
-        "walk start=4 lb=7a text=25 | BU:4,1 B:00-ff>0 L:WordAscii>5 B:25>5 BU:2,3 BU:4,6 M:0",
-        "\
+    "\
+7\n\
+walk start=4 lb=7a text=25 | BU:4,1 B:00-ff>0 L:WordAscii>5 B:25>5 BU:2,3 BU:4,6 M:0\n\
 040000000040000000080302\n\
 0100400100400000000a01030206\n\
 010000000000000000\n\
 match 0 1\n",
-    ),
-    (
-        "8a",
-        "walk kind=leftmost-first text=71756172747a | L:WordAscii>1 S:30-39>2,41-5a>2,5f-5f>2,61-7a>2 BU:1,3 L:WordAscii>4 M:0",
-        "\
+    "\
+8a\n\
+walk kind=leftmost-first text=71756172747a | L:WordAscii>1 S:30-39>2,41-5a>2,5f-5f>2,61-7a>2 BU:1,3 L:WordAscii>4 M:0\n\
 00004001004000000000\n\
 040000000040000000040104\n\
 040000000040000000040104\n\
@@ -84,11 +75,9 @@ match 0 1\n",
 040000000040000000040104\n\
 010000000000000000\n\
 match 0 6\n",
-    ),
-    (
-        "8b",
-        "walk kind=leftmost-first lb=71 text=756172747a | L:WordAscii>1 S:30-39>2,41-5a>2,5f-5f>2,61-7a>2 BU:1,3 L:WordAscii>4 M:0",
-        "\
+    "\
+8b\n\
+walk kind=leftmost-first lb=71 text=756172747a | L:WordAscii>1 S:30-39>2,41-5a>2,5f-5f>2,61-7a>2 BU:1,3 L:WordAscii>4 M:0\n\
 04000000004000000000\n\
 000000000000000000\n\
 000000000000000000\n\
@@ -97,11 +86,9 @@ match 0 6\n",
 000000000000000000\n\
 000000000000000000\n\
 none\n",
-    ),
-    (
-        "8c",
-        "walk kind=leftmost-first text=756172747a | L:WordAscii>1 S:30-39>2,41-5a>2,5f-5f>2,61-7a>2 BU:1,3 L:WordAscii>4 M:0",
-        "\
+    "\
+8c\n\
+walk kind=leftmost-first text=756172747a | L:WordAscii>1 S:30-39>2,41-5a>2,5f-5f>2,61-7a>2 BU:1,3 L:WordAscii>4 M:0\n\
 00004001004000000000\n\
 040000000040000000040104\n\
 040000000040000000040104\n\
@@ -110,100 +97,78 @@ none\n",
 040000000040000000040104\n\
 010000000000000000\n\
 match 0 5\n",
-    ),
-    (
-        "9a",
-        "walk text=0d0a | B:0d>1 L:StartCRLF>2 M:0",
-        "\
+    "\
+9a\n\
+walk text=0d0a | B:0d>1 L:StartCRLF>2 M:0\n\
 00000000000000000000\n\
 08000000001000000002\n\
 000000000000000000\n\
 000000000000000000\n\
 none\n",
-    ),
-    (
-        "9b",
-        "walk text=0d | B:0d>1 L:StartCRLF>2 M:0",
-        "\
+    "\
+9b\n\
+walk text=0d | B:0d>1 L:StartCRLF>2 M:0\n\
 00000000000000000000\n\
 08000000001000000002\n\
 010000000000000000\n\
 match 0 1\n",
-    ),
-    (
-        "9c",
-        "walk text=0d78 | B:0d>1 L:StartCRLF>2 M:0",
-        "\
+    "\
+9c\n\
+walk text=0d78 | B:0d>1 L:StartCRLF>2 M:0\n\
 00000000000000000000\n\
 08000000001000000002\n\
 010000000000000000\n\
 000000000000000000\n\
 match 0 1\n",
-    ),
-    (
-        "10a",
-        "walk dir=rev text=0a0d | B:0a>1 L:StartCRLF>2 M:0",
-        "\
+    "\
+10a\n\
+walk dir=rev text=0a0d | B:0a>1 L:StartCRLF>2 M:0\n\
 00000000000000000000\n\
 08040000001000000002\n\
 000000000000000000\n\
 000000000000000000\n\
 none\n",
-    ),
-    (
-        "10b",
-        "walk dir=rev text=0a | B:0a>1 L:StartCRLF>2 M:0",
-        "\
+    "\
+10b\n\
+walk dir=rev text=0a | B:0a>1 L:StartCRLF>2 M:0\n\
 00000000000000000000\n\
 08040000001000000002\n\
 010000000000000000\n\
 match 0 1\n",
-    ),
-    (
-        "11a",
-        "walk dir=rev term=78 lb=0a text=- | L:StartLF>1 M:0",
-        "\
+    "\
+11a\n\
+walk dir=rev term=78 lb=0a text=- | L:StartLF>1 M:0\n\
 00000000000400000000\n\
 000000000000000000\n\
 none\n",
-    ),
-    (
-        "11b",
-        "walk dir=rev term=78 lb=78 text=- | L:StartLF>1 M:0",
-        "\
+    "\
+11b\n\
+walk dir=rev term=78 lb=78 text=- | L:StartLF>1 M:0\n\
 0004000000040000000002\n\
 010000000000000000\n\
 match 0 0\n",
-    ),
-    (
-        "12",
-        "walk text=61 | B:61>1 C:1 L:WordAscii>3 M:0",
-        "\
+    "\
+12\n\
+walk text=61 | B:61>1 C:1 L:WordAscii>3 M:0\n\
 00000000000000000000\n\
 040000000000000000\n\
 000000000000000000\n\
 none\n",
-    ),
-    (
-        "13",
-        "walk text=- | BU:0,1 M:0",
-        "\
+    "\
+13\n\
+walk text=- | BU:0,1 M:0\n\
 0000000000000000000002\n\
 010000000000000000\n\
 match 0 0\n",
-    ),
-    (
-        "14",
-        "walk term=61 lb=61 text=- | U:1,2 L:StartLF>3 L:WordStartHalfAscii>4 M:0 M:1",
-        "\
+    "\
+14\n\
+walk term=61 lb=61 text=- | U:1,2 L:StartLF>3 L:WordStartHalfAscii>4 M:0 M:1\n\
 04040000000440000000020401\n\
 010000000000000000\n\
 match 0 0\n",
-    ),
-    (
-        "18",
-        "walk kind=leftmost-first start=7 text=6361626163 | BU:1,5 BU:2,4 B:61>3 B:62>0 B:63>0 B:63>6 M:0 BU:0,8 B:00-ff>7",
-        "\
+    "\
+18\n\
+walk kind=leftmost-first start=7 text=6361626163 | BU:1,5 BU:2,4 B:61>3 B:62>0 B:63>0 B:63>6 M:0 BU:0,8 B:00-ff>7\n\
 0000000000000000000e0d0202040206\n\
 0000000000000000000002020402020202\n\
 01000000000000000006\n\
@@ -212,21 +177,17 @@ match 0 0\n",
 000000000000000000\n\
 000000000000000000\n\
 match 0 1\n",
-    ),
-    (
-        "19",
-        "walk kind=leftmost-first text=2061 | BU:2,1 B:00-ff>0 L:WordUnicode>3 M:0",
-        "\
+    "\
+19\n\
+walk kind=leftmost-first text=2061 | BU:2,1 B:00-ff>0 L:WordUnicode>3 M:0\n\
 000040010000010000000401\n\
 000040010000010000000401\n\
 010000000000000000\n\
 000000000000000000\n\
 match 0 1\n",
-    ),
-    (
-        "20",
-        "walk kind=leftmost-first text=31323320666f6f6261722034353637 | BU:2,1 B:00-ff>0 U:3,6 B:61-7a>4 BU:3,5 M:0 B:30-39>7 BU:6,8 M:1",
-        "\
+    "\
+20\n\
+walk kind=leftmost-first text=31323320666f6f6261722034353637 | BU:2,1 B:00-ff>0 U:3,6 B:61-7a>4 BU:3,5 M:0 B:30-39>7 BU:6,8 M:1\n\
 0000000000000000000004020609\n\
 0000000000000000000e01040f040203\n\
 03000000000000000001000000010000000e0104\n\
@@ -245,170 +206,132 @@ match 0 1\n",
 000000000000000000\n\
 000000000000000000\n\
 match 1 3\n",
-    ),
-    (
-        "25a",
-        "walk text=62 | C:1 U:2,3,4 F S:61-63>5,78-78>5 D:62-62>5 M:0",
-        "\
+    "\
+25a\n\
+walk text=62 | C:1 U:2,3,4 F S:61-63>5,78-78>5 D:62-62>5 M:0\n\
 00000000000000000002020202\n\
 0000000000000000000a\n\
 010000000000000000\n\
 match 0 1\n",
-    ),
-    (
-        "25b",
-        "walk text=64 | C:1 U:2,3,4 F S:61-63>5,78-78>5 D:62-62>5 M:0",
-        "\
+    "\
+25b\n\
+walk text=64 | C:1 U:2,3,4 F S:61-63>5,78-78>5 D:62-62>5 M:0\n\
 00000000000000000002020202\n\
 000000000000000000\n\
 000000000000000000\n\
 none\n",
-    ),
-    (
-        "27a",
-        "walk text=0d0a | BU:2,1 B:00-ff>0 L:EndCRLF>3 M:0",
-        "\
+    "\
+27a\n\
+walk text=0d0a | BU:2,1 B:00-ff>0 L:EndCRLF>3 M:0\n\
 001400000020000000000401\n\
 090000000020000000000401\n\
 001400000020000000000401\n\
 010000000000000000\n\
 match 0 2\n",
-    ),
-    (
-        "27b",
-        "walk dir=rev text=0a0d | BU:2,1 B:00-ff>0 L:EndCRLF>3 M:0",
-        "\
+    "\
+27b\n\
+walk dir=rev text=0a0d | BU:2,1 B:00-ff>0 L:EndCRLF>3 M:0\n\
 001400000020000000000401\n\
 090400000020000000000401\n\
 001000000020000000000401\n\
 010000000000000000\n\
 match 0 2\n",
-    ),
-    (
-        "28a",
-        "walk text=61 | B:61>1 C:1",
-        "\
+    "\
+28a\n\
+walk text=61 | B:61>1 C:1\n\
 00000000000000000000\n\
 000000000000000000\n\
 000000000000000000\n\
 none\n",
-    ),
-    (
-        "28b",
-        "walk text=- | U:0,0,1,1,0 M:0",
-        "\
+    "\
+28b\n\
+walk text=- | U:0,0,1,1,0 M:0\n\
 0000000000000000000002\n\
 010000000000000000\n\
 match 0 0\n",
-    ),
-    (
-        "28c",
-        "walk text=- | BU:1,2 BU:0,3 M:0 M:1",
-        "\
+    "\
+28c\n\
+walk text=- | BU:1,2 BU:0,3 M:0 M:1\n\
 00000000000000000000020401\n\
 030000000000000000020000000100000000000000\n\
 match 1 0\n",
-    ),
-    (
-        "28d",
-        "walk kind=leftmost-first text=- | BU:1,2 BU:0,3 M:0 M:1",
-        "\
+    "\
+28d\n\
+walk kind=leftmost-first text=- | BU:1,2 BU:0,3 M:0 M:1\n\
 00000000000000000000020401\n\
 0300000000000000000100000001000000\n\
 match 1 0\n",
-    ),
-    (
-        "28e",
-        "walk text=- | U:1,2 U: M:0",
-        "\
+    "\
+28e\n\
+walk text=- | U:1,2 U: M:0\n\
 000000000000000000000202\n\
 010000000000000000\n\
 match 0 0\n",
-    ),
-    (
-        "28f",
-        "walk text=6161 | BU:1,2 B:61>0 M:0",
-        "\
+    "\
+28f\n\
+walk text=6161 | BU:1,2 B:61>0 M:0\n\
 000000000000000000000202\n\
 010000000000000000000202\n\
 010000000000000000000202\n\
 010000000000000000\n\
 match 0 2\n",
-    ),
-    (
-        "28g",
-        "walk kind=leftmost-first text=6161 | BU:2,1 B:61>0 M:0",
-        "\
+    "\
+28g\n\
+walk kind=leftmost-first text=6161 | BU:2,1 B:61>0 M:0\n\
 000000000000000000000401\n\
 010000000000000000\n\
 000000000000000000\n\
 000000000000000000\n\
 match 0 0\n",
-    ),
-    (
-        "29a",
-        "walk term=0d lb=0d text=- | L:StartLF>1 M:0",
-        "\
+    "\
+29a\n\
+walk term=0d lb=0d text=- | L:StartLF>1 M:0\n\
 0004000000040000000002\n\
 010000000000000000\n\
 match 0 0\n",
-    ),
-    (
-        "29b",
-        "walk term=0d lb=0a text=- | L:StartLF>1 M:0",
-        "\
+    "\
+29b\n\
+walk term=0d lb=0a text=- | L:StartLF>1 M:0\n\
 00100000000400000000\n\
 000000000000000000\n\
 none\n",
-    ),
-    (
-        "29c",
-        "walk term=ff text=ff | B:ff>1 L:StartLF>2 M:0",
-        "\
+    "\
+29c\n\
+walk term=ff text=ff | B:ff>1 L:StartLF>2 M:0\n\
 00000000000000000000\n\
 0004000000040000000202\n\
 010000000000000000\n\
 match 0 1\n",
-    ),
-    (
-        "29d",
-        "walk term=ff text=ff | L:EndLF>1 M:0",
-        "\
+    "\
+29d\n\
+walk term=ff text=ff | L:EndLF>1 M:0\n\
 00140000000800000000\n\
 010000000000000000\n\
 000000000000000000\n\
 match 0 0\n",
-    ),
-    (
-        "29e",
-        "walk term=61 text=61 | B:61>1 U:2,3 L:StartLF>4 L:WordEndAscii>5 M:0 M:1",
-        "\
+    "\
+29e\n\
+walk term=61 text=61 | B:61>1 U:2,3 L:StartLF>4 L:WordEndAscii>5 M:0 M:1\n\
 00000000000000000000\n\
 04040000000408000002020401\n\
 030000000000000000020000000000000001000000\n\
 match 0 1\n",
-    ),
-    (
-        "30a",
-        "walk text=61 | B:61>1 M:0 L:WordAscii>1",
-        "\
+    "\
+30a\n\
+walk text=61 | B:61>1 M:0 L:WordAscii>1\n\
 00000000000000000000\n\
 04000000000000000002\n\
 010000000000000000\n\
 match 0 1\n",
-    ),
-    (
-        "30b",
-        "walk text=- | M:2147483646",
-        "\
+    "\
+30b\n\
+walk text=- | M:2147483646\n\
 00000000000000000000\n\
 03000000000000000001000000feffff7f\n\
 match 2147483646 0\n",
-    ),
-    (
-        "31a",
-        "walk kind=leftmost-first text=71756172 after=74 | L:WordAscii>1 S:30-39>2,41-5a>2,5f-5f>2,61-7a>2 BU:1,3 L:WordAscii>4 M:0",
-        "\
+    "\
+31a\n\
+walk kind=leftmost-first text=71756172 after=74 | L:WordAscii>1 S:30-39>2,41-5a>2,5f-5f>2,61-7a>2 BU:1,3 L:WordAscii>4 M:0\n\
 00004001004000000000\n\
 040000000040000000040104\n\
 040000000040000000040104\n\
@@ -416,11 +339,9 @@ match 2147483646 0\n",
 040000000040000000040104\n\
 040000000040000000040104\n\
 none\n",
-    ),
-    (
-        "31b",
-        "walk kind=leftmost-first text=71756172 after=20 | L:WordAscii>1 S:30-39>2,41-5a>2,5f-5f>2,61-7a>2 BU:1,3 L:WordAscii>4 M:0",
-        "\
+    "\
+31b\n\
+walk kind=leftmost-first text=71756172 after=20 | L:WordAscii>1 S:30-39>2,41-5a>2,5f-5f>2,61-7a>2 BU:1,3 L:WordAscii>4 M:0\n\
 00004001004000000000\n\
 040000000040000000040104\n\
 040000000040000000040104\n\
@@ -428,11 +349,9 @@ none\n",
 040000000040000000040104\n\
 010000000000000000\n\
 match 0 4\n",
-    ),
-    (
-        "31c",
-        "walk kind=leftmost-first text=71756172 | L:WordAscii>1 S:30-39>2,41-5a>2,5f-5f>2,61-7a>2 BU:1,3 L:WordAscii>4 M:0",
-        "\
+    "\
+31c\n\
+walk kind=leftmost-first text=71756172 | L:WordAscii>1 S:30-39>2,41-5a>2,5f-5f>2,61-7a>2 BU:1,3 L:WordAscii>4 M:0\n\
 00004001004000000000\n\
 040000000040000000040104\n\
 040000000040000000040104\n\
@@ -440,14 +359,11 @@ match 0 4\n",
 040000000040000000040104\n\
 010000000000000000\n\
 match 0 4\n",
-    ),
-    (
-        "32",
-        "walk text=0d after=0a | B:0d>1 L:StartCRLF>2 M:0",
-        "\
+    "\
+32\n\
+walk text=0d after=0a | B:0d>1 L:StartCRLF>2 M:0\n\
 00000000000000000000\n\
 08000000001000000002\n\
 000000000000000000\n\
 none\n",
-    ),
 ];

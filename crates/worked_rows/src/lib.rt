@@ -3,6 +3,7 @@
 #![tactic(auto)]
 
 pub mod answers;
-mod nfas;
+mod automata;
+mod pieces;
 pub mod run;
 mod walks;

@@ -2,7 +2,7 @@
 
 ghost use Rattle.std.specs.Prelude.{◌≡◌, ◌<◌, ◌≤◌, OnErr, OnOk};
 
-use crate::walks::Walk;
+use crate::walks::states_of;
 use determinize_below::{BuildError, HalfMatch};
 use determinize_core::determinize;
 use determinize_core::state::State;
@@ -97,10 +97,7 @@ fn print_row<A: Allocator + Copy, W: Write>(
     let [word] = words else {
         return Err(RowError::NoSuchRow);
     };
-    let Some(walk) = Walk::named(word.as_str()) else {
-        return Err(RowError::NoSuchRow);
-    };
-    let states = walk.states(alloc)?;
+    let states = states_of(alloc, word.as_str())?;
     for state in states.iter() {
         print_state(state, out)?;
     }

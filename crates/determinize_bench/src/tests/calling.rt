@@ -18,7 +18,7 @@ use std::process::Abort;
 use std::test::Fail;
 
 /// The match of pattern 0 that ends here.
-fn ended(offset: usize) -> Option<HalfMatch> {
+pub fn ended(offset: usize) -> Option<HalfMatch> {
     Some(HalfMatch::new(PatternID::ZERO, offset))
 }
 

@@ -1,6 +1,7 @@
-//! Large NFAs: long chains, wide unions and many matches. Each is walked over `ab`, and what each
+//! Large NFAs: long chains, wide unions and many matches. Each is walked over `ab`, and how much each
 //! state of the walk lists is told from the shape of the NFA.
 
+use crate::tests::calling::ended;
 use crate::tests::{same, same_at};
 use determinize_below::{
     HalfMatch, Look, LookMatcher, MatchKind, NFA, PatternID, StateID, Transition, nfa,
@@ -8,7 +9,6 @@ use determinize_below::{
 use determinize_core::determinize::{last_match, walk};
 use determinize_core::state::State;
 use std::alloc::{AllocError, Global};
-use std::ops::Range;
 use std::process::Abort;
 use std::test::Fail;
 
@@ -86,42 +86,6 @@ fn many_patterns(alloc: Global) -> Result<Vec<nfa::State>, Fail> {
     Ok(states)
 }
 
-/// What a state lists, in order: the patterns of a range, and the NFA states of a range.
-#[derive(Drop)]
-struct Listed {
-    patterns: Range<usize>,
-    ids: Range<usize>,
-}
-
-impl Listed {
-    /// These patterns and these NFA states.
-    fn of(patterns: Range<usize>, ids: Range<usize>) -> Listed {
-        Listed { patterns, ids }
-    }
-
-    /// No pattern and no NFA state.
-    fn nothing() -> Listed {
-        Listed::of(0..0, 0..0)
-    }
-}
-
-/// Whether the state lists exactly this.
-fn lists(alloc: Global, state: &State, wanted: Listed) -> Result<bool, AllocError> {
-    let ids: Vec<usize> = state
-        .iter_nfa_state_ids()
-        .map(|id| id.as_usize())
-        .collect(alloc)?;
-    let mut patterns = Vec::new(alloc);
-    if let Some(listed) = state.match_pattern_ids()? {
-        for id in listed {
-            patterns.push(id.as_usize())?;
-        }
-    }
-    let wanted_ids: Vec<usize> = wanted.ids.collect(alloc)?;
-    let wanted_patterns: Vec<usize> = wanted.patterns.collect(alloc)?;
-    Ok(ids == wanted_ids && patterns == wanted_patterns)
-}
-
 /// The states of a walk over `ab` from the first of these NFA states.
 fn walked(alloc: Global, kind: MatchKind, states: Vec<nfa::State>) -> Result<Vec<State>, Fail> {
     let first = StateID::ZERO;
@@ -129,58 +93,50 @@ fn walked(alloc: Global, kind: MatchKind, states: Vec<nfa::State>) -> Result<Vec
     Ok(walk(alloc, &nfa, kind, nfa.start_anchored(), None, b"ab")?)
 }
 
-/// Walks over `ab` from the first of these states, and compares what each state of the walk lists,
-/// and the last match.
+/// How many patterns and how many NFA states a state lists.
+type Sizes = (usize, usize);
+
+/// Walks over `ab` from the first of these states, and compares how much each state of the walk
+/// lists, and the last match.
 fn expect<R: Abort + AllocGlobal>(
     rt: &R,
     kind: MatchKind,
     states: Vec<nfa::State>,
-    wanted: [Listed; 4],
+    wanted: [Sizes; 4],
     last: Option<HalfMatch>,
 ) -> Result<(), Fail> {
     let states = walked(rt.alloc(), kind, states)?;
     same(rt, states.len(), 4);
-    for (index, (state, wanted)) in states.iter().zip(wanted).enumerate() {
-        same_at(rt, index, lists(rt.alloc(), state, wanted)?, true);
+    for (index, (state, sizes)) in states.iter().zip(wanted).enumerate() {
+        let ids: Vec<StateID> = state.iter_nfa_state_ids().collect(rt.alloc())?;
+        same_at(rt, index, (state.match_len(), ids.len()), sizes);
     }
     same(rt, last_match(states.as_slice()), last);
     Ok(())
 }
 
-/// Pattern 0, which ends here.
-fn first_pattern(end: usize) -> Option<HalfMatch> {
-    Some(HalfMatch::new(PatternID::ZERO, end))
-}
-
-/// The text goes through the whole chain before `a` and after it. Captures are not listed.
+/// The text goes through the whole chain of unions or captures before `a` and after it. Captures
+/// are not listed. A line and a word start before `a`, and after it neither does, nor does a word
+/// end. Before `a` is read the line is known and the word is not.
 #[test]
-fn chains_of_unions_and_captures(rt: HostRuntime) -> Result<(), Fail> {
-    for (link, first) in [(Link::BinaryUnion, 0), (Link::Capture, LINKS)] {
+fn chains(rt: HostRuntime) -> Result<(), Fail> {
+    let all = LINKS + 3;
+    for (link, wanted, end) in [
+        (Link::BinaryUnion, [(0, all), (1, all), (1, 0), (0, 0)], 1),
+        (Link::Capture, [(0, 3), (1, 3), (1, 0), (0, 0)], 1),
+        (
+            Link::Look(Look::StartLF),
+            [(0, all), (1, 1), (0, 0), (0, 0)],
+            0,
+        ),
+        (
+            Link::Look(Look::WordAscii),
+            [(0, 1), (1, 1), (0, 0), (0, 0)],
+            0,
+        ),
+    ] {
         let states = chain(rt.alloc(), link)?;
-        let wanted = [
-            Listed::of(0..0, first..LINKS + 3),
-            Listed::of(0..1, first..LINKS + 3),
-            Listed::of(0..1, 0..0),
-            Listed::nothing(),
-        ];
-        expect(&rt, MatchKind::All, states, wanted, first_pattern(1))?;
-    }
-    Ok(())
-}
-
-/// A line and a word start before `a`, and after it neither does, nor does a word end. Before `a`
-/// is read the line is known and the word is not.
-#[test]
-fn chains_of_assertions(rt: HostRuntime) -> Result<(), Fail> {
-    for (look, count) in [(Look::StartLF, LINKS + 3), (Look::WordAscii, 1)] {
-        let states = chain(rt.alloc(), Link::Look(look))?;
-        let wanted = [
-            Listed::of(0..0, 0..count),
-            Listed::of(0..1, 0..1),
-            Listed::nothing(),
-            Listed::nothing(),
-        ];
-        expect(&rt, MatchKind::All, states, wanted, first_pattern(0))?;
+        expect(&rt, MatchKind::All, states, wanted, ended(end))?;
     }
     Ok(())
 }
@@ -188,12 +144,7 @@ fn chains_of_assertions(rt: HostRuntime) -> Result<(), Fail> {
 #[test]
 fn wide_union_of_itself(rt: HostRuntime) -> Result<(), Fail> {
     let states = union_of_itself(rt.alloc())?;
-    let wanted = [
-        Listed::of(0..0, 0..1),
-        Listed::nothing(),
-        Listed::nothing(),
-        Listed::nothing(),
-    ];
+    let wanted = [(0, 1), (0, 0), (0, 0), (0, 0)];
     expect(&rt, MatchKind::All, states, wanted, None)
 }
 
@@ -201,13 +152,8 @@ fn wide_union_of_itself(rt: HostRuntime) -> Result<(), Fail> {
 fn many_patterns_at_once(rt: HostRuntime) -> Result<(), Fail> {
     for (kind, count) in [(MatchKind::All, PATTERNS), (MatchKind::LeftmostFirst, 1)] {
         let states = many_patterns(rt.alloc())?;
-        let wanted = [
-            Listed::of(0..0, 0..PATTERNS + 1),
-            Listed::of(0..count, 0..0),
-            Listed::nothing(),
-            Listed::nothing(),
-        ];
-        expect(&rt, kind, states, wanted, first_pattern(0))?;
+        let wanted = [(0, PATTERNS + 1), (count, 0), (0, 0), (0, 0)];
+        expect(&rt, kind, states, wanted, ended(0))?;
     }
     Ok(())
 }

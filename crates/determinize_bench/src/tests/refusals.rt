@@ -3,189 +3,127 @@
 use crate::tests::runs::expect;
 use std::test::Fail;
 
-/// A job, and what is said of it.
-type Refused = (&'static str, &'static str);
+// Jobs that are refused, each in a line with what is said of it, after an arrow. A table of texts
+// would be read text by text wherever it is named.
 
 /// Verbs, and words that are no key and value.
-static VERBS: &[Refused] = &[
-    ("", "unknown verb \"\""),
-    ("Dead", "unknown verb \"Dead\""),
-    (" dead", "unknown verb \"\""),
-    ("n=5 fromusize", "unknown verb \"n=5\""),
-    ("dead ", "no key and value: \"\""),
-    ("fromusize 5", "no key and value: \"5\""),
-    ("walk text=61  start=0 | M:0", "no key and value: \"\""),
-    ("walk text=61 |", "no key and value: \"|\""),
-];
+const VERBS: &str = "\
+Dead => unknown verb \"Dead\"
+ => unknown verb \"\"
+ dead => unknown verb \"\"
+n=5 fromusize => unknown verb \"n=5\"
+dead  => no key and value: \"\"
+fromusize 5 => no key and value: \"5\"
+walk text=61  start=0 | M:0 => no key and value: \"\"
+walk text=61 | => no key and value: \"|\"
+";
 
 /// Keys that are unknown.
-static UNKNOWN_KEYS: &[Refused] = &[
-    ("walk texts=61 | M:0", "unknown key \"texts\""),
-    ("walk Text=61 | M:0", "unknown key \"Text\""),
-    ("walk =61 | M:0", "unknown key \"\""),
-    ("walk at=0 | M:0", "unknown key \"at\""),
-    ("readers at=0 from=0 | M:0", "unknown key \"from\""),
-    ("closure from=0 kind=all | M:0", "unknown key \"kind\""),
-    ("lookbehind kind=Text lb=61 | M:0", "unknown key \"lb\""),
-    (
-        "next fw=0 half=0 unit=61 set=0 | M:0",
-        "unknown key \"set\"",
-    ),
-    (
-        "addstates fw=0 half=0 kind=all | M:0",
-        "unknown key \"kind\"",
-    ),
-    ("start range=0..0 kind=Text", "unknown key \"kind\""),
-    ("bytemap dir=rev", "unknown key \"dir\""),
-    ("fromusize n=5 term=0a", "unknown key \"term\""),
-    ("dead n=5", "unknown key \"n\""),
-    ("build fw=0 half=0 unit=eoi", "unknown key \"unit\""),
-    ("size states=1 matches=1 n=1", "unknown key \"n\""),
-];
+const UNKNOWN_KEYS: &str = "\
+walk texts=61 | M:0 => unknown key \"texts\"
+walk Text=61 | M:0 => unknown key \"Text\"
+walk =61 | M:0 => unknown key \"\"
+walk at=0 | M:0 => unknown key \"at\"
+readers at=0 from=0 | M:0 => unknown key \"from\"
+closure from=0 kind=all | M:0 => unknown key \"kind\"
+lookbehind kind=Text lb=61 | M:0 => unknown key \"lb\"
+next fw=0 half=0 unit=61 set=0 | M:0 => unknown key \"set\"
+addstates fw=0 half=0 kind=all | M:0 => unknown key \"kind\"
+start range=0..0 kind=Text => unknown key \"kind\"
+bytemap dir=rev => unknown key \"dir\"
+fromusize n=5 term=0a => unknown key \"term\"
+dead n=5 => unknown key \"n\"
+build fw=0 half=0 unit=eoi => unknown key \"unit\"
+size states=1 matches=1 n=1 => unknown key \"n\"
+";
 
 /// Keys that stand twice.
-static REPEATED_KEYS: &[Refused] = &[
-    ("walk text=61 text=61 | M:0", "key text stands twice"),
-    (
-        "walk kind=all lb=61 kind=all | M:0",
-        "key kind stands twice",
-    ),
-    ("fromusize n=5 n=5", "key n stands twice"),
-    ("dead id=1 id=2", "key id stands twice"),
-    ("dead fix=1 fix=1", "key fix stands twice"),
-    ("build fw=0 half=0 have=- have=-", "key have stands twice"),
-];
+const REPEATED_KEYS: &str = "\
+walk text=61 text=61 | M:0 => key text stands twice
+walk kind=all lb=61 kind=all | M:0 => key kind stands twice
+fromusize n=5 n=5 => key n stands twice
+dead id=1 id=2 => key id stands twice
+dead fix=1 fix=1 => key fix stands twice
+build fw=0 half=0 have=- have=- => key have stands twice
+";
 
 /// Keys that are missing.
-static MISSING_KEYS: &[Refused] = &[
-    ("readers text=61 | M:0", "key at is missing"),
-    ("readers after=62 | M:0", "key at is missing"),
-    ("closure look=- | M:0", "key from is missing"),
-    ("lookbehind dir=fwd | M:0", "key kind is missing"),
-    ("next fw=0 half=0 | M:0", "key unit is missing"),
-    ("next half=0 unit=eoi | M:0", "key fw is missing"),
-    ("addstates fw=0 set=0 | M:0", "key half is missing"),
-    ("build half=0", "key fw is missing"),
-    ("build fw=0", "key half is missing"),
-    ("start hay=61", "key range is missing"),
-    ("fromusize", "key n is missing"),
-    ("size states=1", "key matches is missing"),
-    ("size matches=1", "key states is missing"),
-];
+const MISSING_KEYS: &str = "\
+readers text=61 | M:0 => key at is missing
+readers after=62 | M:0 => key at is missing
+closure look=- | M:0 => key from is missing
+lookbehind dir=fwd | M:0 => key kind is missing
+next fw=0 half=0 | M:0 => key unit is missing
+next half=0 unit=eoi | M:0 => key fw is missing
+addstates fw=0 set=0 | M:0 => key half is missing
+build half=0 => key fw is missing
+build fw=0 => key half is missing
+start hay=61 => key range is missing
+fromusize => key n is missing
+size states=1 => key matches is missing
+size matches=1 => key states is missing
+";
 
 /// States that make no NFA.
-static STATES: &[Refused] = &[
-    ("walk text=61", "the states of the NFA are missing"),
-    ("closure from=0", "the states of the NFA are missing"),
-    ("dead | M:0", "the verb takes no states"),
-    ("build fw=0 half=0 | M:0", "the verb takes no states"),
-    ("walk text=61 | ", "the states make no NFA: UnresolvedStart"),
-    (
-        "walk text=61 | B:61>5 M:0",
-        "the states make no NFA: UnresolvedId(0)",
-    ),
-    (
-        "walk text=61 | M:0 F M:0",
-        "the states make no NFA: RepeatedPattern(2)",
-    ),
-    (
-        "walk text=61 | S:61-66>0,66-6b>0",
-        "the states make no NFA: BadSparse(0)",
-    ),
-    (
-        "walk text=61 | S:61-66>0,66-6b>9",
-        "the states make no NFA: UnresolvedId(0)",
-    ),
-    (
-        "walk text=61 | C:1",
-        "the states make no NFA: UnresolvedId(0)",
-    ),
-    (
-        "walk text=61 | M:0 M:0",
-        "the states make no NFA: RepeatedPattern(1)",
-    ),
-    (
-        "walk text=61 | S:7a-61>0",
-        "the states make no NFA: BadSparse(0)",
-    ),
-    (
-        "size states=0 matches=0",
-        "the states make no NFA: UnresolvedStart",
-    ),
-    (
-        "walk text=61 | D:7a-61>0",
-        "not a range of bytes, the least first",
-    ),
-    ("walk text=61 | X:0", "not an NFA state"),
-    ("walk text=61 | B:61", "not a transition"),
-    ("walk text=61 | L:Middle>0", "not an assertion"),
-    ("walk text=61 | L:Start", "not an assertion"),
-    ("walk text=61 | BU:0", "not a union of two states"),
-    ("walk text=61 | C:2147483647", "not the id of a state"),
-    ("walk text=61 | M:2147483647", "not the id of a pattern"),
-];
+const STATES: &str = "\
+walk text=61 => the states of the NFA are missing
+closure from=0 => the states of the NFA are missing
+dead | M:0 => the verb takes no states
+build fw=0 half=0 | M:0 => the verb takes no states
+walk text=61 |  => the states make no NFA: UnresolvedStart
+walk text=61 | B:61>5 M:0 => the states make no NFA: UnresolvedId(0)
+walk text=61 | M:0 F M:0 => the states make no NFA: RepeatedPattern(2)
+walk text=61 | S:61-66>0,66-6b>0 => the states make no NFA: BadSparse(0)
+walk text=61 | S:61-66>0,66-6b>9 => the states make no NFA: UnresolvedId(0)
+walk text=61 | C:1 => the states make no NFA: UnresolvedId(0)
+walk text=61 | M:0 M:0 => the states make no NFA: RepeatedPattern(1)
+walk text=61 | S:7a-61>0 => the states make no NFA: BadSparse(0)
+size states=0 matches=0 => the states make no NFA: UnresolvedStart
+walk text=61 | D:7a-61>0 => not a range of bytes, the least first
+walk text=61 | X:0 => not an NFA state
+walk text=61 | B:61 => not a transition
+walk text=61 | L:Middle>0 => not an assertion
+walk text=61 | L:Start => not an assertion
+walk text=61 | BU:0 => not a union of two states
+walk text=61 | C:2147483647 => not the id of a state
+walk text=61 | M:2147483647 => not the id of a pattern
+";
 
 /// Values that can't be read.
-static VALUES: &[Refused] = &[
-    ("fromusize n=+1", "not a decimal number"),
-    ("fromusize n=-1", "not a decimal number"),
-    ("fromusize n=", "not a decimal number"),
-    ("fromusize n=1a", "not a decimal number"),
-    ("fromusize n=18446744073709551616", "not a decimal number"),
-    ("dead id=+1", "not a decimal number"),
-    ("dead fix=yes", "not a flag"),
-    ("build fw=2 half=0", "not a flag"),
-    ("build fw=0 half=0 ids=1,,2", "not a decimal number"),
-    ("build fw=0 half=0 ids=+1", "not a decimal number"),
-    ("build fw=0 half=0 pids=1,1", "a pattern stands twice"),
-    ("build fw=0 half=0 have=Middle", "not an assertion"),
-    ("bytemap byte=6", "not two hexadecimal digits"),
-    ("bytemap byte=0A", "not two hexadecimal digits"),
-    ("walk text=616 | M:0", "not two hexadecimal digits"),
-    ("walk after=6 | M:0", "not two hexadecimal digits"),
-    ("walk kind=first | M:0", "not a match kind"),
-    ("walk dir=back | M:0", "not a direction"),
-    ("walk start=1 | M:0", "not the id of a state of the NFA"),
-    ("lookbehind kind=text | M:0", "not a start kind"),
-    (
-        "closure from=0 held=1 | M:0",
-        "not the id of a state of the NFA",
-    ),
-    (
-        "next fw=0 half=0 ids=1 unit=eoi | M:0",
-        "not the id of a state of the NFA",
-    ),
-    (
-        "readers at=3 text=61 | M:0",
-        "not the number of a state of the walk",
-    ),
-];
+const VALUES: &str = "\
+fromusize n=+1 => not a decimal number
+fromusize n=-1 => not a decimal number
+fromusize n= => not a decimal number
+fromusize n=1a => not a decimal number
+fromusize n=18446744073709551616 => not a decimal number
+dead id=+1 => not a decimal number
+dead fix=yes => not a flag
+build fw=2 half=0 => not a flag
+build fw=0 half=0 ids=1,,2 => not a decimal number
+build fw=0 half=0 ids=+1 => not a decimal number
+build fw=0 half=0 pids=1,1 => a pattern stands twice
+build fw=0 half=0 have=Middle => not an assertion
+bytemap byte=6 => not two hexadecimal digits
+bytemap byte=0A => not two hexadecimal digits
+walk text=616 | M:0 => not two hexadecimal digits
+walk after=6 | M:0 => not two hexadecimal digits
+walk kind=first | M:0 => not a match kind
+walk dir=back | M:0 => not a direction
+walk start=1 | M:0 => not the id of a state of the NFA
+lookbehind kind=text | M:0 => not a start kind
+closure from=0 held=1 | M:0 => not the id of a state of the NFA
+next fw=0 half=0 ids=1 unit=eoi | M:0 => not the id of a state of the NFA
+readers at=3 text=61 | M:0 => not the number of a state of the walk
+";
 
 /// Ranges of a haystack.
-static RANGES: &[Refused] = &[
-    ("start hay=616263 range=2..0", "not a range of the haystack"),
-    ("start hay=616263 range=0..4", "not a range of the haystack"),
-    ("start hay=616263 range=5..3", "not a range of the haystack"),
-    ("start hay=616263 range=1", "not a range of the haystack"),
-    ("start hay=616263 range=+1..2", "not a decimal number"),
-];
-
-/// Lines before the first job, and what is said of them.
-static NO_JOB: &[Refused] = &[
-    ("none\n> dead\n", "line 1: an answer without a job\n"),
-    ("\n> dead\n", "line 1: an answer without a job\n"),
-    ("# first\nnone\n", "line 2: an answer without a job\n"),
-    ("dead\n", "line 1: an answer without a job\n"),
-    (">dead\n", "line 1: an answer without a job\n"),
-];
-
-#[test]
-fn lines_before_the_first_job(rt: HostRuntime) -> Result<(), Fail> {
-    for (text, said) in NO_JOB {
-        expect(&rt, &[], text.as_bytes(), 2, "", said)?;
-    }
-    Ok(())
-}
+const RANGES: &str = "\
+start hay=616263 range=2..0 => not a range of the haystack
+start hay=616263 range=0..4 => not a range of the haystack
+start hay=616263 range=5..3 => not a range of the haystack
+start hay=616263 range=1 => not a range of the haystack
+start hay=616263 range=+1..2 => not a decimal number
+";
 
 /// Each job is run alone.
 #[test]
@@ -199,45 +137,12 @@ fn jobs(rt: HostRuntime) -> Result<(), Fail> {
         VALUES,
         RANGES,
     ] {
-        for (job, said) in jobs {
+        for line in jobs.lines() {
+            let (job, said) = line.split_once(" => ").unwrap_or((line, ""));
             let text = format!(in rt.alloc(); "# first\n> {job}\nnone\n")?;
             let said = format!(in rt.alloc(); "line 2: {said}\n")?;
-            expect(&rt, &[], text.as_str().as_bytes(), 2, "", said.as_str())?;
+            expect(&rt, "", text.as_str().as_bytes(), 2, "", said.as_str())?;
         }
     }
     Ok(())
-}
-
-/// A job of each verb with all of its keys, and its answer.
-const ALL_KEYS: &str = "\
-> walk id=1 fix=0 kind=all start=0 dir=fwd term=0a lb=- text=61 after=- | B:61>1 M:0
-00000000000000000000
-00000000000000000002
-010000000000000000
-match 0 1
-> readers at=1 id=2 kind=all start=0 dir=fwd term=0a lb=- text=- after=- | U:1,2,3 M:2 M:0 M:1
-match=1 len=3 pids=2,0,1 usage=25
-fw=0 half=0 have=- need=-
-ids=-
-> closure id=3 dir=fwd term=0a from=4 look=WordAscii held=5 | BU:4,1 B:00-ff>0 L:WordAscii>5 B:25>5 BU:2,3 BU:4,6 M:0
-set 5,4,2,3
-> bytemap term=61 byte=61 id=4
-61 CustomLineTerminator
-> fromusize fix=0 n=5
-some CustomLineTerminator
-> dead id=5 fix=0
-000000000000000000
-> build id=6 fw=0 half=0 have=- need=- pids=- ids=1,3,2
-000000000000000000020401
-match=0 len=0 pids=none usage=12
-fw=0 half=0 have=- need=-
-ids=1,3,2
-> size id=7 states=3 matches=2
-states 3
-";
-
-#[test]
-fn all_keys_of_each_verb(rt: HostRuntime) -> Result<(), Fail> {
-    let counts = "8 jobs, 0 differ, 0 skipped\n";
-    expect(&rt, &[], ALL_KEYS.as_bytes(), 0, counts, "")
 }

@@ -3,31 +3,16 @@
 
 use crate::tests::runs::{Failing, words};
 use crate::tests::{holds, same, same_at};
-use determinize_below::BuildError;
 use refusing::{Finding, Refusing, in_turn};
-use std::alloc::{AllocError, Global};
+use std::alloc::Global;
 use std::process::Abort;
 use std::test::Fail;
 use worked_rows::answers;
-use worked_rows::run::{RowError, report, run_rows};
+use worked_rows::run::run_rows;
 
-/// Words that name no walk.
-static OTHER_WORDS: [&[&str]; 15] = [
-    &[],
-    &["3", "3"],
-    &["3", "4a"],
-    &["1"],
-    &["4"],
-    &["03"],
-    &["4A"],
-    &["15"],
-    &["21"],
-    &["28"],
-    &["-3"],
-    &[""],
-    &[" 3"],
-    &["3 "],
-    &["3\n"],
+/// Words that name no walk, each in a line.
+static OTHER_WORDS: [&str; 15] = [
+    "", "3\n3", "3\n4a", "1", "4", "03", "4A", "15", "21", "28", "-3", "\n", " 3", "3 ", "3\t",
 ];
 
 #[test]
@@ -70,8 +55,9 @@ fn print<R: Abort + AllocGlobal>(
 /// The last of the runs in turn meets no refusal, and prints the walk.
 #[test]
 fn prints_each_walk_or_tells_of_want_of_memory(rt: HostRuntime) -> Result<(), Fail> {
-    for (name, _, lines) in answers::walks() {
-        let words = words(&rt, &[name])?;
+    for walk in answers::walks() {
+        let (name, _, lines) = answers::parts(walk);
+        let words = words(&rt, name)?;
         let finding = in_turn(rt.alloc(), |heap| print(&rt, heap, words.as_slice(), lines))?;
         same_at(&rt, name, finding, Finding::Sound);
     }
@@ -80,7 +66,7 @@ fn prints_each_walk_or_tells_of_want_of_memory(rt: HostRuntime) -> Result<(), Fa
 
 #[test]
 fn tells_of_output_that_fails(rt: HostRuntime) -> Result<(), Fail> {
-    let words = words(&rt, &["3"])?;
+    let words = words(&rt, "3")?;
     for left in 0u32..30 {
         let mut out = Failing { left };
         let mut err = Vec::new(rt.alloc());
@@ -96,24 +82,11 @@ fn tells_of_output_that_fails(rt: HostRuntime) -> Result<(), Fail> {
 
 #[test]
 fn keeps_its_status_where_errors_fail(rt: HostRuntime) -> Result<(), Fail> {
-    let words = words(&rt, &["none"])?;
+    let words = words(&rt, "none")?;
     let mut out = Vec::new(rt.alloc());
     let mut err = Failing { left: 0 };
     let status = run_rows(rt.alloc(), words.as_slice(), &mut out, &mut err);
     same(&rt, status, 2);
     same(&rt, out.as_slice(), [].as_slice());
-    Ok(())
-}
-
-#[test]
-fn tells_of_want_of_memory(rt: HostRuntime) -> Result<(), Fail> {
-    for error in [
-        RowError::from(AllocError),
-        RowError::from(BuildError::OutOfMemory),
-    ] {
-        let mut err = Vec::new(rt.alloc());
-        same(&rt, report(Err(error), &mut err), 1);
-        same(&rt, err.as_slice(), b"out of memory\n".as_slice());
-    }
     Ok(())
 }

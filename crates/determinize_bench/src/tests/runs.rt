@@ -40,29 +40,29 @@ impl Write for Failing {
     }
 }
 
-/// The arguments of a program.
-pub fn words<R: AllocGlobal>(rt: &R, line: &[&str]) -> Result<Vec<String>, Fail> {
+/// The arguments of a program, each of which stands in a line.
+pub fn words<R: AllocGlobal>(rt: &R, lines: &str) -> Result<Vec<String>, Fail> {
     let mut words = Vec::new(rt.alloc());
-    for word in line {
+    for word in lines.lines() {
         words.push(String::from_str(rt.alloc(), word)?)?;
     }
     Ok(words)
 }
 
-/// Runs the program over an input, and compares all that it gives.
+/// Runs the program with arguments, each in a line, over an input, and compares all that it gives.
 pub fn expect<R: Abort + AllocGlobal, I: Read + Drop>(
     rt: &R,
-    line: &[&str],
+    arguments: &str,
     input: I,
     status: u8,
     out_text: &str,
     err_text: &str,
 ) -> Result<(), Fail> {
-    let words = words(rt, line)?;
+    let words = words(rt, arguments)?;
     let mut out = Vec::new(rt.alloc());
     let mut err = Vec::new(rt.alloc());
     let found = run(rt.alloc(), words.as_slice(), input, &mut out, &mut err);
-    let place = (line, out_text, err_text);
+    let place = (arguments, out_text, err_text);
     same_at(rt, place, err.as_slice(), err_text.as_bytes());
     same_at(rt, place, out.as_slice(), out_text.as_bytes());
     same_at(rt, place, found, status);
@@ -121,99 +121,171 @@ match 0 0
 5 jobs, 1 differ, 0 skipped
 ";
 
+/// Wrong answers: another line, no line, a line too many, an empty line, and one after a right
+/// answer.
+const WRONG: &str = "\
+> dead
+000000000000000001
+> dead
+> fromusize n=6
+none
+none
+> fromusize n=6
+
+> readers after=62 at=1 | M:0
+match=1 len=1 pids=0 usage=9
+fw=0 half=0 have=- need=-
+ids=-
+> fromusize n=0
+none
+";
+
+/// What the program prints of these.
+const DIFFERENCES: &str = "\
+> dead
+expected:
+000000000000000001
+got:
+000000000000000000
+> dead
+expected:
+got:
+000000000000000000
+> fromusize n=6
+expected:
+none
+none
+got:
+none
+> fromusize n=6
+expected:
+
+got:
+none
+> fromusize n=0
+expected:
+none
+got:
+some NonWordByte
+6 jobs, 5 differ, 0 skipped
+";
+
 /// What is said of other arguments.
 const NOT_TAKEN: &str = "arguments are not taken\n";
 
-/// Arguments, an input, and the status, the output and the errors.
-type Run = (
-    &'static [&'static str],
-    &'static str,
-    u8,
-    &'static str,
-    &'static str,
-);
+/// Arguments, each in a line, an input, and the status, the output and the errors.
+type Run = (&'static str, &'static str, u8, &'static str, &'static str);
 
-/// Jobs that agree, one that differs, nothing to replay; walks through caches, and searches; jobs
-/// that are refused before walks through caches; other arguments.
-static RUNS: [Run; 24] = [
-    (&[], DEAD, 0, "1 jobs, 0 differ, 0 skipped\n", ""),
+/// Jobs that agree, some that differ, nothing to replay, a job that is refused; walks through
+/// caches, and searches; jobs that are refused before walks through caches.
+static RUNS: [Run; 19] = [
+    ("", DEAD, 0, "1 jobs, 0 differ, 0 skipped\n", ""),
     (
-        &[],
+        "",
         "# without an end of its line\n> fromusize n=6\nnone",
         0,
         "1 jobs, 0 differ, 0 skipped\n",
         "",
     ),
     (
-        &[],
+        "",
         "> walk after=62 | M:0\n00000000000000000000\n010000000000000000\nmatch 0 0\n> size states=3 matches=2\nstates 3\n",
         0,
         "2 jobs, 0 differ, 0 skipped\n",
         "",
     ),
     (
-        &[],
+        "",
         "> dead\n000000000000000000\n> fromusize n=6\nsome LineLF\n",
         1,
         "> fromusize n=6\nexpected:\nsome LineLF\ngot:\nnone\n2 jobs, 1 differ, 0 skipped\n",
         "",
     ),
     (
-        &[],
+        "",
         "",
         2,
         "0 jobs, 0 differ, 0 skipped\n",
         "no job was replayed\n",
     ),
     (
-        &[],
+        "",
+        "# first\nnone\n",
+        2,
+        "",
+        "line 2: an answer without a job\n",
+    ),
+    (
+        "",
         "# none\n",
         2,
         "0 jobs, 0 differ, 0 skipped\n",
         "no job was replayed\n",
     ),
-    (&[], JOBS, 1, VERDICT, ""),
-    (&["cache", "0"], JOBS, 1, VERDICT, ""),
-    (&["cache", "1"], JOBS, 1, VERDICT, ""),
-    (&["cache", "2"], JOBS, 1, VERDICT, ""),
-    (&["cache", "64"], JOBS, 1, VERDICT, ""),
-    (&["search", "0"], JOBS, 1, SEARCHED, ""),
-    (&["search", "64"], JOBS, 1, SEARCHED, ""),
+    ("", WRONG, 1, DIFFERENCES, ""),
     (
-        &["search", "3"],
+        "",
+        "# line 1\n> dead\n000000000000000000\n> sleep\nnone\n> dead\n",
+        2,
+        "",
+        "line 4: unknown verb \"sleep\"\n",
+    ),
+    ("", JOBS, 1, VERDICT, ""),
+    ("cache\n0", JOBS, 1, VERDICT, ""),
+    ("cache\n1", JOBS, 1, VERDICT, ""),
+    ("cache\n2", JOBS, 1, VERDICT, ""),
+    ("cache\n64", JOBS, 1, VERDICT, ""),
+    ("search\n0", JOBS, 1, SEARCHED, ""),
+    ("search\n64", JOBS, 1, SEARCHED, ""),
+    (
+        "search\n3",
         "> walk text=- | M:0\nanything\nmatch 0 0\n",
         0,
         "1 jobs, 0 differ, 0 skipped\n",
         "",
     ),
     (
-        &["cache", "3"],
+        "cache\n3",
         "> walk start=2 | M:0\nnone\n",
         2,
         "",
         "line 1: not the id of a state of the NFA\n",
     ),
     (
-        &["cache", "3"],
+        "cache\n3",
         "# \n> walk | X:0\nnone\n",
         2,
         "",
         "line 2: not an NFA state\n",
     ),
-    (&["stdin"], DEAD, 2, "", NOT_TAKEN),
-    (&["--help"], DEAD, 2, "", NOT_TAKEN),
-    (&[""], DEAD, 2, "", NOT_TAKEN),
-    (&["cache"], DEAD, 2, "", NOT_TAKEN),
-    (&["cache", "x"], DEAD, 2, "", NOT_TAKEN),
-    (&["cache", "1", "2"], DEAD, 2, "", NOT_TAKEN),
-    (&["search"], DEAD, 2, "", NOT_TAKEN),
-    (&["find", "1"], DEAD, 2, "", NOT_TAKEN),
+];
+
+/// An input whose first line is no comment and no job.
+static NO_JOB: [&str; 4] = ["none\n> dead\n", "\n> dead\n", "dead\n", ">dead\n"];
+
+/// Other arguments, each in a line.
+static OTHER_ARGUMENTS: [&str; 8] = [
+    "stdin",
+    "--help",
+    "\n",
+    "cache",
+    "cache\nx",
+    "cache\n1\n2",
+    "search",
+    "find\n1",
 ];
 
 #[test]
 fn inputs(rt: HostRuntime) -> Result<(), Fail> {
-    for &(line, input, status, out_text, err_text) in &RUNS {
-        expect(&rt, line, input.as_bytes(), status, out_text, err_text)?;
+    for &(arguments, input, status, out_text, err_text) in &RUNS {
+        expect(&rt, arguments, input.as_bytes(), status, out_text, err_text)?;
+    }
+    for input in &NO_JOB {
+        let said = "line 1: an answer without a job\n";
+        expect(&rt, "", input.as_bytes(), 2, "", said)?;
+    }
+    for arguments in &OTHER_ARGUMENTS {
+        expect(&rt, arguments, DEAD.as_bytes(), 2, "", NOT_TAKEN)?;
     }
     Ok(())
 }
@@ -221,12 +293,12 @@ fn inputs(rt: HostRuntime) -> Result<(), Fail> {
 #[test]
 fn lines_that_cannot_be_read(rt: HostRuntime) -> Result<(), Fail> {
     let text = b"> dead\n\xff\n".as_slice();
-    expect(&rt, &[], text, 2, "", "line 2: can't be read\n")?;
-    expect(&rt, &[], Unreadable, 2, "", "line 1: can't be read\n")?;
+    expect(&rt, "", text, 2, "", "line 2: can't be read\n")?;
+    expect(&rt, "", Unreadable, 2, "", "line 1: can't be read\n")?;
     let text = b"> fromusize n=6\nsome LineLF\n> dead\n00".as_slice();
     expect(
         &rt,
-        &[],
+        "",
         text.chain(Unreadable),
         2,
         "> fromusize n=6\nexpected:\nsome LineLF\ngot:\nnone\n",

@@ -2,31 +2,13 @@
 
 use crate::tests::map_text::MAP_OF_B;
 use crate::tests::{holds, lazy, same};
-use determinize_below::{Anchored, Input, Look, LookMatcher, Unit};
+use determinize_below::{Input, Look, LookMatcher, Unit};
 use determinize_core::start::{
-    Config, Start, StartByteMap, look_ahead_forward, look_ahead_reverse, start_kind_of,
+    Start, StartByteMap, look_ahead_forward, look_ahead_reverse, start_kind_of,
 };
 use determinize_looks::look_tables::LookTables;
 use std::process::Abort;
 use std::test::Fail;
-
-#[test]
-fn configurations(rt: HostRuntime) -> Result<(), Fail> {
-    let none = Config::new();
-    same(&rt, none.get_look_behind(), None);
-    same(&rt, none.get_anchored(), Anchored::No);
-    let input = Input::new(b"abc").range(1..2).anchored(Anchored::Yes);
-    let forward = Config::from_input_forward(&input);
-    same(&rt, forward.get_look_behind(), Some(b'a'));
-    same(&rt, forward.get_anchored(), Anchored::Yes);
-    let reverse = Config::from_input_reverse(&input);
-    same(&rt, reverse.get_look_behind(), Some(b'c'));
-    same(&rt, reverse.get_anchored(), Anchored::Yes);
-    let set = none.look_behind(Some(0)).anchored(Anchored::Yes).clone()?;
-    same(&rt, set.get_look_behind(), Some(0));
-    same(&rt, set.get_anchored(), Anchored::Yes);
-    Ok(())
-}
 
 #[test]
 fn bytes_ahead(rt: HostRuntime) {
@@ -64,7 +46,8 @@ fn text_of_a_map(rt: HostRuntime) -> Result<(), Fail> {
 /// The start of a line, and after it the start or the end of a word.
 const ASSERTIONS: &str = "L:StartLF>1 L:WordAscii>2 M:0";
 
-/// The end of a line stands behind, then a word byte, and then the input ends.
+/// The end of a line stands behind, then a word byte, and then the input ends. The texts are those
+/// of what is told and of the tables.
 fn expect_tables<R: Abort + AllocGlobal>(rt: &R, tables: LookTables) -> Result<(), Fail> {
     let at_start = tables.at_start(start_kind_of(b'\n', Some(b'\n')));
     holds(rt, at_start.looks.contains(Look::StartLF));
@@ -74,6 +57,9 @@ fn expect_tables<R: Abort + AllocGlobal>(rt: &R, tables: LookTables) -> Result<(
     let text = format!(in rt.alloc(); "{after:?}")?;
     let wanted = "Told { looks: LookSet { bits: 0 }, from_word: true, half_crlf: false }";
     same(rt, text.as_str(), wanted);
+    let text = format!(in rt.alloc(); "{tables:?}")?;
+    let wanted = "LookTables { reverse: false, terminator: 10, any: LookSet { bits: 68 } }";
+    same(rt, text.as_str(), wanted);
     Ok(())
 }
 
@@ -81,13 +67,4 @@ fn expect_tables<R: Abort + AllocGlobal>(rt: &R, tables: LookTables) -> Result<(
 fn tables_of_assertions(rt: HostRuntime) -> Result<(), Fail> {
     let nfa = lazy::nfa(&rt, ASSERTIONS, false)?;
     expect_tables(&rt, LookTables::of(&nfa))
-}
-
-#[test]
-fn text_of_tables(rt: HostRuntime) -> Result<(), Fail> {
-    let nfa = lazy::nfa(&rt, ASSERTIONS, false)?;
-    let text = format!(in rt.alloc(); "{:?}", LookTables::of(&nfa))?;
-    let wanted = "LookTables { reverse: false, terminator: 10, any: LookSet { bits: 68 } }";
-    same(&rt, text.as_str(), wanted);
-    Ok(())
 }

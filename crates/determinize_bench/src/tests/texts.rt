@@ -7,100 +7,6 @@ use std::fmt::Debug;
 use std::process::Abort;
 use std::test::Fail;
 
-/// Fails where the text lacks one of the parts, or has them in another order.
-fn expect_in_order<R: Abort>(rt: &R, text: &str, parts: &[&str]) {
-    let mut rest = text;
-    for part in parts {
-        let Some((_, after)) = rest.split_once(*part) else {
-            panic!(rt; "{part} in {text}");
-        };
-        rest = after;
-    }
-}
-
-/// What the text of a builder has that was entered by a word byte, with patterns and a set.
-static ENTERED: [&str; 7] = [
-    "is_match: true",
-    "is_from_word: true",
-    "is_half_crlf: false",
-    "look_have: LookSet { bits: 1 }",
-    "look_need: LookSet { bits: 0 }",
-    "match_pattern_ids: [PatternID(1), PatternID(0)]",
-    "nfa_state_ids: []",
-];
-
-/// What the text of a builder has that stands behind half of a CRLF.
-static HALF: [&str; 4] = [
-    "is_match: false",
-    "is_from_word: false",
-    "is_half_crlf: true",
-    "match_pattern_ids: []",
-];
-
-#[test]
-fn texts_of_builders_of_matches(rt: HostRuntime) -> Result<(), Fail> {
-    let mut entered = with_patterns(rt.alloc(), "1,0")?;
-    entered.set_is_from_word();
-    entered.set_look_have(|have| have.insert(Look::Start));
-    let text = format!(in rt.alloc(); "{entered:?}")?;
-    expect_in_order(&rt, text.as_str(), &ENTERED);
-    let mut half = with_patterns(rt.alloc(), "-")?;
-    half.set_is_half_crlf();
-    let text = format!(in rt.alloc(); "{half:?}")?;
-    expect_in_order(&rt, text.as_str(), &HALF);
-    Ok(())
-}
-
-/// Asks for these parts in the text of a value.
-fn expect_in_text<R: Abort + AllocGlobal, T: Debug>(
-    rt: &R,
-    value: &T,
-    parts: &[&str],
-) -> Result<(), Fail> {
-    let text = format!(in rt.alloc(); "{value:?}")?;
-    expect_in_order(rt, text.as_str(), parts);
-    Ok(())
-}
-
-/// Jobs of the verb `build`, and what the texts of their builders and states have.
-static TEXTS: [(&str, [&str; 7]); 2] = [
-    (
-        "build fw=1 half=0 have=Start need=End pids=0 ids=1,3",
-        [
-            "is_match: true",
-            "is_from_word: true",
-            "is_half_crlf: false",
-            "look_have: LookSet { bits: 1 }",
-            "look_need: LookSet { bits: 2 }",
-            "match_pattern_ids: [PatternID(0)]",
-            "nfa_state_ids: [StateID(1), StateID(3)]",
-        ],
-    ),
-    (
-        "build fw=0 half=1 pids=2,0,1 ids=1,3,2",
-        [
-            "is_match: true",
-            "is_from_word: false",
-            "is_half_crlf: true",
-            "look_have: LookSet { bits: 0 }",
-            "look_need: LookSet { bits: 0 }",
-            "match_pattern_ids: [PatternID(2), PatternID(0), PatternID(1)]",
-            "nfa_state_ids: [StateID(1), StateID(3), StateID(2)]",
-        ],
-    ),
-];
-
-#[test]
-fn texts_of_values(rt: HostRuntime) -> Result<(), Fail> {
-    for (line, parts) in &TEXTS {
-        let builder = built(rt.alloc(), line)?;
-        expect_in_text(&rt, &builder, parts.as_slice())?;
-        let state = builder.to_state()?;
-        expect_in_text(&rt, &state, parts.as_slice())?;
-    }
-    Ok(())
-}
-
 /// Compares the text of a value.
 fn expect_text<R: Abort + AllocGlobal, T: Debug>(
     rt: &R,
@@ -109,6 +15,58 @@ fn expect_text<R: Abort + AllocGlobal, T: Debug>(
 ) -> Result<(), Fail> {
     let text = format!(in rt.alloc(); "{value:?}")?;
     same(rt, text.as_str(), wanted);
+    Ok(())
+}
+
+/// The text of a builder that was entered by a word byte, with patterns and a set.
+const ENTERED: &str = "\
+StateBuilderMatches { is_match: true, is_from_word: true, is_half_crlf: false, \
+look_have: LookSet { bits: 1 }, look_need: LookSet { bits: 0 }, \
+match_pattern_ids: [PatternID(1), PatternID(0)], nfa_state_ids: [] }";
+
+/// The text of a builder that stands behind half of a CRLF.
+const HALF: &str = "\
+StateBuilderMatches { is_match: false, is_from_word: false, is_half_crlf: true, \
+look_have: LookSet { bits: 0 }, look_need: LookSet { bits: 0 }, \
+match_pattern_ids: [], nfa_state_ids: [] }";
+
+#[test]
+fn texts_of_builders_of_matches(rt: HostRuntime) -> Result<(), Fail> {
+    let mut entered = with_patterns(rt.alloc(), "1,0")?;
+    entered.set_is_from_word();
+    entered.set_look_have(|have| have.insert(Look::Start));
+    expect_text(&rt, &entered, ENTERED)?;
+    let mut half = with_patterns(rt.alloc(), "-")?;
+    half.set_is_half_crlf();
+    expect_text(&rt, &half, HALF)
+}
+
+/// Jobs of the verb `build`, and what the texts of their builders and states have after their names.
+static TEXTS: [(&str, &str); 2] = [
+    (
+        "build fw=1 half=0 have=Start need=End pids=0 ids=1,3",
+        "is_match: true, is_from_word: true, is_half_crlf: false, \
+look_have: LookSet { bits: 1 }, look_need: LookSet { bits: 2 }, \
+match_pattern_ids: [PatternID(0)], nfa_state_ids: [StateID(1), StateID(3)]",
+    ),
+    (
+        "build fw=0 half=1 pids=2,0,1 ids=1,3,2",
+        "is_match: true, is_from_word: false, is_half_crlf: true, \
+look_have: LookSet { bits: 0 }, look_need: LookSet { bits: 0 }, \
+match_pattern_ids: [PatternID(2), PatternID(0), PatternID(1)], \
+nfa_state_ids: [StateID(1), StateID(3), StateID(2)]",
+    ),
+];
+
+#[test]
+fn texts_of_values(rt: HostRuntime) -> Result<(), Fail> {
+    for (line, fields) in &TEXTS {
+        let builder = built(rt.alloc(), line)?;
+        let state = builder.to_state()?;
+        let text = format!(in rt.alloc(); "{builder:?} {state:?}")?;
+        let wanted = format!(in rt.alloc(); "StateBuilderNFA {{ {fields} }} State {{ {fields} }}")?;
+        same(&rt, text.as_str(), wanted.as_str());
+    }
     Ok(())
 }
 

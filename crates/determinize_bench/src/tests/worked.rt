@@ -164,4 +164,44 @@ set 0
 set 1
 > closure from=2 | M:0 F M:1
 set 2
+> walk id=1 fix=0 kind=all start=0 dir=fwd term=0a lb=- text=61 after=- | B:61>1 M:0
+00000000000000000000
+00000000000000000002
+010000000000000000
+match 0 1
+> readers at=1 id=2 kind=all start=0 dir=fwd term=0a lb=- text=- after=- | U:1,2,3 M:2 M:0 M:1
+match=1 len=3 pids=2,0,1 usage=25
+fw=0 half=0 have=- need=-
+ids=-
+> closure id=3 dir=fwd term=0a from=4 look=WordAscii held=5 | BU:4,1 B:00-ff>0 L:WordAscii>5 B:25>5 BU:2,3 BU:4,6 M:0
+set 5,4,2,3
+> bytemap term=61 byte=61 id=4
+61 CustomLineTerminator
+> fromusize fix=0 n=5
+some CustomLineTerminator
+> dead id=5 fix=0
+000000000000000000
+> build id=6 fw=0 half=0 have=- need=- pids=- ids=1,3,2
+000000000000000000020401
+match=0 len=0 pids=none usage=12
+fw=0 half=0 have=- need=-
+ids=1,3,2
+> size id=7 states=3 matches=2
+states 3
+> walk kind=leftmost-first text=71756172747a | L:WordAscii>1 S:30-39>2,41-5a>2,5f-5f>2,61-7a>2 BU:1,3 L:WordAscii>4 M:0
+00004001004000000000
+040000000040000000040104
+040000000040000000040104
+040000000040000000040104
+040000000040000000040104
+040000000040000000040104
+040000000040000000040104
+010000000000000000
+match 0 6
+> walk text=61 | B:61>1 M:0
+00000000000000000000
+# a comment is no line of an answer
+00000000000000000002
+010000000000000000
+match 0 1
 ";

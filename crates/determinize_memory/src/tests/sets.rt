@@ -116,7 +116,8 @@ fn make_nfa<R: Abort + AllocGlobal>(
 
 #[test]
 fn nfa(rt: HostRuntime) -> Result<(), Fail> {
-    for (_, line, answer) in answers::walks() {
+    for walk in answers::walks() {
+        let (_, line, answer) = answers::parts(walk);
         refuse_in_turn(&rt, |heap| make_nfa(&rt, heap, line, answer))?;
     }
     Ok(())

@@ -8,7 +8,7 @@ use std::process::Abort;
 use std::test::Fail;
 
 /// A builder of a state of so many bytes: nine, and one for each NFA state.
-pub fn builder_of<'a>(heap: &'a Heap, len: usize) -> Result<StateBuilderNFA<&'a Heap>, Fail> {
+fn builder_of<'a>(heap: &'a Heap, len: usize) -> Result<StateBuilderNFA<&'a Heap>, Fail> {
     let mut builder = StateBuilderEmpty::new(heap).into_matches()?.into_nfa();
     for number in 0..len.saturating_sub(9) {
         builder.add_nfa_state_id(StateID::new(number)?)?;
@@ -100,7 +100,7 @@ fn read_states(rt: &impl Abort, heap: &Heap, row: &Row) -> Result<bool, Fail> {
 
 #[test]
 fn short_and_long(rt: HostRuntime) -> Result<(), Fail> {
-    for len in [9, 10, 16, 29, 30, 31, 32, 63, 64, 200] {
+    for len in 9..=70 {
         refuse_in_turn(&rt, |heap| make_and_clone(&rt, heap, len))?;
     }
     Ok(())

@@ -1,13 +1,10 @@
 //! The calls that take no memory: they are answered while every growth is refused, and ask for none.
 
-use crate::tests::states::builder_of;
 use crate::tests::steps::start_kind;
 use crate::tests::{Heap, Row, holds, refuse_in_turn, refuse_over_walks, same};
-use determinize_below::{Input, Look, LookSet, PatternID, SparseSet, SparseSets, StateID};
+use determinize_below::{Look, LookSet, PatternID, SparseSet, SparseSets, StateID};
 use determinize_core::determinize::{epsilon_closure, set_lookbehind_from_start};
-use determinize_core::start::Config;
-use determinize_core::state::{State, StateBuilderEmpty, StateBuilderNFA};
-use std::alloc::AllocError;
+use determinize_core::state::{State, StateBuilderEmpty};
 use std::process::Abort;
 use std::test::Fail;
 
@@ -48,10 +45,11 @@ fn fill_sets(rt: &impl Abort, heap: &Heap) -> Result<bool, Fail> {
     Ok(has_asked_none(rt, heap))
 }
 
-/// A builder is told of flags, sets and the pattern `ZERO`, goes on to the NFA states and is
-/// cleared.
+/// The dead state is made. A builder is told of flags, sets and the pattern `ZERO`, goes on to the
+/// NFA states and is cleared.
 fn build(rt: &impl Abort, heap: &Heap) -> Result<bool, Fail> {
     heap.begin();
+    holds(rt, State::dead(heap).is_ok());
     let empty = StateBuilderEmpty::new(heap);
     same(rt, empty.capacity(), 0);
     heap.end();
@@ -88,21 +86,10 @@ fn close_patterns(rt: &impl Abort, heap: &Heap) -> Result<bool, Fail> {
     Ok(has_asked_none(rt, heap))
 }
 
-/// The text of a walk is looked at, and a builder is told of its start.
+/// A builder is told of the start of a walk.
 fn begin_walk(rt: &impl Abort, heap: &Heap, row: &Row) -> Result<bool, Fail> {
     let mut matches = StateBuilderEmpty::new(heap).into_matches()?;
     heap.begin();
-    let input = Input::new(row.text.as_slice());
-    same(
-        rt,
-        Config::from_input_forward(&input).get_look_behind(),
-        None,
-    );
-    same(
-        rt,
-        Config::from_input_reverse(&input).get_look_behind(),
-        None,
-    );
     set_lookbehind_from_start(&row.nfa, &start_kind(row), &mut matches);
     Ok(has_asked_none(rt, heap))
 }
@@ -155,42 +142,6 @@ fn read_states(rt: &impl Abort, heap: &Heap, row: &Row) -> Result<bool, Fail> {
         read_state(rt, state, bytes.as_slice());
     }
     Ok(has_asked_none(rt, heap))
-}
-
-/// Clones a state of these bytes.
-fn clone_state(rt: &impl Abort, state: &State<&Heap>, bytes: &[u8]) -> Result<(), AllocError> {
-    same(rt, state.clone()?.as_bytes(), bytes);
-    holds(rt, state.clone()? == *state);
-    Ok(())
-}
-
-/// The dead state is made and cloned.
-fn make_dead(rt: &impl Abort, heap: &Heap) -> Result<(), AllocError> {
-    let dead = State::dead(heap)?;
-    clone_state(rt, &dead, [0; 9].as_slice())
-}
-
-/// The state of a builder is made and cloned.
-fn make_state(rt: &impl Abort, builder: &StateBuilderNFA<&Heap>) -> Result<(), AllocError> {
-    let state = builder.to_state()?;
-    clone_state(rt, &state, builder.as_bytes())
-}
-
-/// The dead state and one of so many bytes are made, and cloned.
-fn make_short(rt: &impl Abort, heap: &Heap, len: usize) -> Result<bool, Fail> {
-    let builder = builder_of(heap, len)?;
-    heap.begin();
-    make_dead(rt, heap)?;
-    make_state(rt, &builder)?;
-    Ok(has_asked_none(rt, heap))
-}
-
-#[test]
-fn short_states(rt: HostRuntime) -> Result<(), Fail> {
-    for len in 9..=30 {
-        refuse_in_turn(&rt, |heap| make_short(&rt, heap, len))?;
-    }
-    Ok(())
 }
 
 #[test]
