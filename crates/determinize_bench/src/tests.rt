@@ -4,7 +4,6 @@
 mod below;
 mod calling;
 mod dfa;
-mod large;
 mod laws;
 mod lazy;
 mod map_text;

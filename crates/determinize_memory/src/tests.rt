@@ -1,10 +1,12 @@
-//! Each growth of memory refused in turn, and the calls that take no memory.
+//! Hostile use: each growth of memory refused in turn, the calls that take no memory, large NFAs.
 
 ghost use Rattle.std.specs.Prelude.{◌<◌, All, length, IfOk};
 ghost use Rattle.determinize_below.specs.Nfa.{AllResolve};
 
 mod builders;
+mod large;
 mod lazy;
+mod printing;
 mod sets;
 mod states;
 mod steps;

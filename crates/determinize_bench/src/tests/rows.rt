@@ -1,13 +1,8 @@
-//! The work of the program `rows`: each name, each status, writers that fail, and memory that is
-//! refused.
+//! The work of the program `rows`: other words, and writers that fail.
 
 use crate::tests::runs::{Failing, words};
-use crate::tests::{holds, same, same_at};
-use refusing::{Finding, Refusing, in_turn};
-use std::alloc::Global;
-use std::process::Abort;
+use crate::tests::{same, same_at};
 use std::test::Fail;
-use worked_rows::answers;
 use worked_rows::run::run_rows;
 
 /// Words that name no walk, each in a line.
@@ -25,41 +20,6 @@ fn refuses_other_words(rt: HostRuntime) -> Result<(), Fail> {
         same_at(&rt, line, status, 2);
         same_at(&rt, line, out.as_slice(), [].as_slice());
         same_at(&rt, line, err.as_slice(), b"no such row\n".as_slice());
-    }
-    Ok(())
-}
-
-/// Prints a walk, or says that memory was refused and prints a beginning of it.
-fn print<R: Abort + AllocGlobal>(
-    rt: &R,
-    heap: &Refusing<Global>,
-    words: &[String],
-    lines: &str,
-) -> Result<bool, Fail> {
-    let mut out = Vec::new(rt.alloc());
-    let mut err = Vec::new(rt.alloc());
-    heap.begin();
-    let status = run_rows(heap, words, &mut out, &mut err);
-    heap.end();
-    if status == 0 {
-        same(rt, out.as_slice(), lines.as_bytes());
-        same(rt, err.as_slice(), [].as_slice());
-        return Ok(true);
-    }
-    same_at(rt, words, status, 1);
-    same(rt, err.as_slice(), b"out of memory\n".as_slice());
-    holds(rt, lines.as_bytes().starts_with(out.as_slice()));
-    Ok(false)
-}
-
-/// The last of the runs in turn meets no refusal, and prints the walk.
-#[test]
-fn prints_each_walk_or_tells_of_want_of_memory(rt: HostRuntime) -> Result<(), Fail> {
-    for walk in answers::walks() {
-        let (name, _, lines) = answers::parts(walk);
-        let words = words(&rt, name)?;
-        let finding = in_turn(rt.alloc(), |heap| print(&rt, heap, words.as_slice(), lines))?;
-        same_at(&rt, name, finding, Finding::Sound);
     }
     Ok(())
 }

@@ -1,8 +1,7 @@
 //! Large NFAs: long chains, wide unions and many matches. Each is walked over `ab`, and how much each
 //! state of the walk lists is told from the shape of the NFA.
 
-use crate::tests::calling::ended;
-use crate::tests::{same, same_at};
+use crate::tests::same;
 use determinize_below::{
     HalfMatch, Look, LookMatcher, MatchKind, NFA, PatternID, StateID, Transition, nfa,
 };
@@ -93,6 +92,11 @@ fn walked(alloc: Global, kind: MatchKind, states: Vec<nfa::State>) -> Result<Vec
     Ok(walk(alloc, &nfa, kind, nfa.start_anchored(), None, b"ab")?)
 }
 
+/// The match of pattern 0 that ends here.
+fn ended(offset: usize) -> Option<HalfMatch> {
+    Some(HalfMatch::new(PatternID::ZERO, offset))
+}
+
 /// How many patterns and how many NFA states a state lists.
 type Sizes = (usize, usize);
 
@@ -109,7 +113,11 @@ fn expect<R: Abort + AllocGlobal>(
     same(rt, states.len(), 4);
     for (index, (state, sizes)) in states.iter().zip(wanted).enumerate() {
         let ids: Vec<StateID> = state.iter_nfa_state_ids().collect(rt.alloc())?;
-        same_at(rt, index, (state.match_len(), ids.len()), sizes);
+        same(
+            rt,
+            (index, state.match_len(), ids.len()),
+            (index, sizes.0, sizes.1),
+        );
     }
     same(rt, last_match(states.as_slice()), last);
     Ok(())

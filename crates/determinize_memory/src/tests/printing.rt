@@ -1,0 +1,41 @@
+//! The program `rows` under each name, each growth of memory refused in turn.
+
+use crate::tests::{Heap, holds, refuse_in_turn, same};
+use std::process::Abort;
+use std::test::Fail;
+use worked_rows::answers;
+use worked_rows::run::run_rows;
+
+/// Prints a walk, or says that memory was refused and prints a beginning of it.
+fn print<R: Abort + AllocGlobal>(
+    rt: &R,
+    heap: &Heap,
+    words: &[String],
+    lines: &str,
+) -> Result<bool, Fail> {
+    let mut out = Vec::new(rt.alloc());
+    let mut err = Vec::new(rt.alloc());
+    heap.begin();
+    let status = run_rows(heap, words, &mut out, &mut err);
+    heap.end();
+    if status == 0 {
+        same(rt, out.as_slice(), lines.as_bytes());
+        same(rt, err.as_slice(), [].as_slice());
+        return Ok(true);
+    }
+    same(rt, status, 1);
+    same(rt, err.as_slice(), b"out of memory\n".as_slice());
+    holds(rt, lines.as_bytes().starts_with(out.as_slice()));
+    Ok(false)
+}
+
+/// The last of the runs in turn meets no refusal, and prints the walk.
+#[test]
+fn prints_each_walk_or_tells_of_want_of_memory(rt: HostRuntime) -> Result<(), Fail> {
+    for walk in answers::walks() {
+        let (name, _, lines) = answers::parts(walk);
+        let words = vec![in rt.alloc(); String::from_str(rt.alloc(), name)?]?;
+        refuse_in_turn(&rt, |heap| print(&rt, heap, words.as_slice(), lines))?;
+    }
+    Ok(())
+}
