@@ -19,9 +19,12 @@ mod states;
 mod texts;
 mod worked;
 
+use determinize_replay::job::Job;
+use determinize_replay::verbs;
 use std::fmt::Debug;
 use std::process::Abort;
 use std::test::Fail;
+use worked_rows::answers;
 
 /// Asks that two values are equal.
 pub fn same<R: Abort, T: PartialEq + Debug + Copy>(rt: &R, found: T, wanted: T) {
@@ -43,8 +46,24 @@ pub fn holds<R: Abort>(rt: &R, is_so: bool) {
     assert!(rt; is_so);
 }
 
+/// Replays a job, and compares its answer.
+fn replay<R: Abort + AllocGlobal>(rt: &R, line: &str, wanted: &str) -> Result<(), Fail> {
+    let answer = verbs::answer(rt.alloc(), &Job::read(rt.alloc(), line)?)?;
+    same_at(rt, line, answer.as_str(), wanted);
+    Ok(())
+}
+
+#[test]
+fn walks(rt: HostRuntime) -> Result<(), Fail> {
+    for walk in answers::walks() {
+        let (_, line, wanted) = answers::parts(walk);
+        replay(&rt, line, wanted)?;
+    }
+    Ok(())
+}
+
 #[test]
 fn single_calls(rt: HostRuntime) -> Result<(), Fail> {
-    let counts = "78 jobs, 0 differ, 0 skipped\n";
+    let counts = "77 jobs, 0 differ, 0 skipped\n";
     runs::expect(&rt, "", worked::CALLS.as_bytes(), 0, counts, "")
 }

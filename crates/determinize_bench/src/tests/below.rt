@@ -1,11 +1,12 @@
-//! Ids, assertions, units and transitions.
+//! Ids, assertions, units, transitions and sets.
 
 use crate::tests::{holds, same};
 use determinize_below::alphabet::is_word_byte;
 use determinize_below::{
-    DenseTransitions, Look, LookSet, MatchKind, PatternID, SparseTransitions, StateID, Transition,
-    Unit,
+    DenseTransitions, Look, LookSet, MatchKind, PatternID, SparseSet, SparseTransitions, StateID,
+    StateIDError, Transition, Unit,
 };
+use std::process::Abort;
 use std::test::Fail;
 
 #[test]
@@ -65,5 +66,32 @@ fn transitions(rt: HostRuntime) -> Result<(), Fail> {
     same(&rt, found, (Some(next), Some(next)));
     let found = (dense.matches_byte(b'b'), dense.matches_unit(unit));
     same(&rt, found, (Some(next), Some(next)));
+    Ok(())
+}
+
+/// Inserts every id below the capacity of a set, from the greatest down. Each is new, or none is.
+fn insert_down<R: Abort>(rt: &R, set: &mut SparseSet, is_new: bool) -> Result<(), StateIDError> {
+    for number in (0..set.capacity()).rev() {
+        let id = StateID::new(number)?;
+        assert!(rt; id.as_usize() < set.capacity());
+        same(rt, set.insert(id), is_new);
+    }
+    Ok(())
+}
+
+#[test]
+fn sparse_sets(rt: HostRuntime) -> Result<(), Fail> {
+    for capacity in [0, 1, 63, 64, 65, 128] {
+        assert!(rt; capacity <= 128);
+        let mut set = SparseSet::new(rt.alloc(), capacity)?;
+        insert_down(&rt, &mut set, true)?;
+        insert_down(&rt, &mut set, false)?;
+        for (id, number) in set.iter().zip((0..capacity).rev()) {
+            same(&rt, id.as_usize(), number);
+        }
+        set.clear();
+        insert_down(&rt, &mut set, true)?;
+        same(&rt, set.len(), capacity);
+    }
     Ok(())
 }

@@ -82,10 +82,13 @@ fn expect_word<R: Abort + AllocGlobal>(
 }
 
 #[test]
-fn long_haystack(rt: HostRuntime) -> Result<(), Fail> {
+fn long_haystack_forward(rt: HostRuntime) -> Result<(), Fail> {
     let haystack = vec![in rt.alloc(); b'a'; LONG]?;
-    for (is_backward, end) in [(false, LONG), (true, 0)] {
-        expect_word(&rt, haystack.as_slice(), is_backward, end)?;
-    }
-    Ok(())
+    expect_word(&rt, haystack.as_slice(), false, LONG)
+}
+
+#[test]
+fn long_haystack_backward(rt: HostRuntime) -> Result<(), Fail> {
+    let haystack = vec![in rt.alloc(); b'a'; LONG]?;
+    expect_word(&rt, haystack.as_slice(), true, 0)
 }
