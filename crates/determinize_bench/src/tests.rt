@@ -1,5 +1,4 @@
-//! Tests through public calls alone: worked answers, each public call once, and the program's own
-//! work.
+//! Tests through public calls alone: worked answers, texts of values, and the program's own work.
 
 mod below;
 mod calling;

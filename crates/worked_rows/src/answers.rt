@@ -13,8 +13,8 @@ pub fn parts(walk: &'static str) -> (&'static str, &'static str, &'static str) {
     (name, job, answer)
 }
 
-/// The worked walks, which [`walks`] alone names: a proof reads the whole table at each mention. So
-/// a walk is one text, too: three times as many would take it four times as long.
+/// The worked walks, which [`walks`] alone names: a proof reads the whole table at each mention, and
+/// takes more than twice as long for twice as many texts. So each walk is one text.
 static WALKS: [&str; 45] = [
     "\
 2\n\

@@ -5,7 +5,7 @@ use determinize_below::{Look, MatchKind};
 
 /// An NFA and the walks through it.
 pub struct Automaton {
-    /// The states. The first one starts both kinds of searches.
+    /// The states. The first one is its start state, anchored or not; a walk tells its own.
     pub states: &'static [Piece],
     /// Whether it reads backwards.
     pub is_reverse: bool,
@@ -16,7 +16,7 @@ pub struct Automaton {
 }
 
 /// A walk: its name, what it reports, the state it starts from, the byte behind the text, the text,
-/// and the byte ahead of it.
+/// and the byte ahead of it. (So it is one line of the table.)
 pub type Walk = (
     &'static str,
     MatchKind,

@@ -8,10 +8,10 @@ use determinize_below::{
 };
 use std::alloc::{AllocError, Allocator};
 
-/// A state of an NFA. The last number of each is the state that it leads to.
+/// A state of an NFA. States are told by their numbers, those that it leads to last.
 #[derive(Clone, Copy)]
 pub enum Piece {
-    /// A byte of a range, the least and the greatest.
+    /// A byte of a range, which is told by the least one and the greatest one.
     Range(u8, u8, u16),
     /// A byte of one of several ranges.
     Ranges(&'static [(u8, u8)], u16),

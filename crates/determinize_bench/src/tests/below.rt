@@ -10,7 +10,10 @@ use std::process::Abort;
 use std::test::Fail;
 
 #[test]
-fn ids_that_are_too_great(rt: HostRuntime) {
+fn greatest_ids(rt: HostRuntime) {
+    let greatest = (StateID::new(2147483646), PatternID::new(2147483646));
+    holds(&rt, greatest.0.is_ok() && greatest.1.is_ok());
+    holds(&rt, PatternID::new(2147483647).is_err());
     let (Err(state), Err(pattern)) = (StateID::new(2147483647), PatternID::new(9000000000)) else {
         panic!(rt; "too great an id is taken");
     };
@@ -86,7 +89,9 @@ fn sparse_sets(rt: HostRuntime) -> Result<(), Fail> {
         let mut set = SparseSet::new(rt.alloc(), capacity)?;
         insert_down(&rt, &mut set, true)?;
         insert_down(&rt, &mut set, false)?;
-        for (id, number) in set.iter().zip((0..capacity).rev()) {
+        let ids: Vec<StateID> = set.iter().collect(rt.alloc())?;
+        same(&rt, ids.len(), capacity);
+        for (id, number) in ids.iter().zip((0..capacity).rev()) {
             same(&rt, id.as_usize(), number);
         }
         set.clear();

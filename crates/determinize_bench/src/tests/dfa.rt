@@ -79,9 +79,9 @@ fn build_and_run<R: Abort + AllocGlobal>(
 
 /// Nine states stand before the end of a match: the dead one, and those after nothing, `f`, `fo`,
 /// `foo`, `foo0`, `b`, `ba` and `bar`. Two tell of a match, after a digit that goes on and after
-/// any other unit. It is the same unanchored up to the preferred match, since the prefix is dropped
-/// after a match. Unanchored for all matches five tell of one: after a digit that goes on, `f`, `b`,
-/// any other byte, and the end of the input.
+/// any other unit. Unanchored searches for the preferred match have as many, since the prefix is
+/// dropped after a match. In unanchored searches for all matches five tell of a match: after a digit
+/// that goes on, `f`, `b`, any other byte, and the end of the input.
 #[test]
 fn dfas(rt: HostRuntime) -> Result<(), Fail> {
     let nfa = nfa(rt.alloc(), FOO_OR_BAR, StateID::must(2))?;

@@ -7,7 +7,6 @@ use determinize_below::look_laws::{look_member_law, look_set_law};
 use determinize_below::{Anchored, Input, Look, LookMatcher, LookSet, PatternID, StateID};
 use determinize_core::look_laws::start_clone_law;
 use determinize_core::start::{Config, Start, StartByteMap};
-use determinize_core::state::State;
 use determinize_core::state_laws::{
     are_equal, is_built, nfa_states_read, patterns_read, same_built_bytes, same_bytes,
 };
@@ -20,9 +19,9 @@ const LISTED: &str = "build fw=0 half=0 pids=2,0,1 ids=1,3,2";
 #[test]
 fn patterns_that_are_read(rt: HostRuntime) -> Result<(), Fail> {
     let state = state(rt.alloc(), LISTED)?;
-    for index in [1, 3] {
-        let (is_match, count, _, _) = patterns_read(&state, index)?;
-        same(&rt, (is_match, count), (true, 3));
+    for (index, wanted) in [(1, Some(PatternID::ZERO)), (3, None)] {
+        let (is_match, count, _, one) = patterns_read(&state, index)?;
+        same(&rt, (is_match, count, one), (true, 3, wanted));
     }
     Ok(())
 }

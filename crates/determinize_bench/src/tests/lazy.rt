@@ -10,13 +10,16 @@ use std::process::Abort;
 use std::test::Fail;
 
 /// A text, after a byte or none, and before a byte or none.
-pub type Text = (Option<u8>, &'static [u8], Option<u8>);
+type Text = (Option<u8>, &'static [u8], Option<u8>);
 
-pub const WHOLE_WORD: Text = (None, b"quartz", None);
+/// A word.
+const WHOLE_WORD: Text = (None, b"quartz", None);
 
-pub const INSIDE_A_WORD: Text = (Some(b'q'), b"uartz", None);
+/// The same without its first byte, which stands behind it.
+const INSIDE_A_WORD: Text = (Some(b'q'), b"uartz", None);
 
-pub const REST_OF_A_WORD: Text = (None, b"uartz", None);
+/// The same with nothing behind it.
+const REST_OF_A_WORD: Text = (None, b"uartz", None);
 
 /// `\b\w+\b` of ASCII words.
 pub const WORDS: &str = "L:WordAscii>1 S:30-39>2,41-5a>2,5f-5f>2,61-7a>2 BU:1,3 L:WordAscii>4 M:0";
@@ -33,7 +36,7 @@ pub fn nfa<R: Abort + AllocGlobal>(rt: &R, states: &str, is_backward: bool) -> R
 }
 
 /// Asks that a walk through the cache answers what a walk without it does.
-pub fn walk_through<R: Abort + AllocGlobal>(
+fn walk_through<R: Abort + AllocGlobal>(
     rt: &R,
     lazy: &mut Lazy<'_>,
     text: Text,
@@ -59,7 +62,7 @@ pub fn walk_through<R: Abort + AllocGlobal>(
 }
 
 /// The last match of such a walk through the cache.
-pub fn last_walked<R: Abort + AllocGlobal>(
+fn last_walked<R: Abort + AllocGlobal>(
     rt: &R,
     lazy: &mut Lazy<'_>,
     text: Text,

@@ -1,10 +1,8 @@
-//! Lines and jobs that are refused, and all keys of each verb.
+//! Jobs that are refused, each in a line with what is said of it, after an arrow. (A table of texts
+//! would be read text by text wherever it is named.)
 
 use crate::tests::runs::expect;
 use std::test::Fail;
-
-// Jobs that are refused, each in a line with what is said of it, after an arrow. A table of texts
-// would be read text by text wherever it is named.
 
 /// Verbs, and words that are no key and value.
 const VERBS: &str = "\

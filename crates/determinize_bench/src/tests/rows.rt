@@ -1,4 +1,4 @@
-//! The work of the program `rows`: other words, and writers that fail.
+//! The work of the program `rows`: words that name no walk, and writers that fail.
 
 use crate::tests::runs::{Failing, words};
 use crate::tests::{same, same_at};

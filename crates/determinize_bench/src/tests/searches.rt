@@ -40,8 +40,8 @@ fn expect_at_most_empty<R: Abort>(rt: &R, lazy: &mut Lazy<'_>) -> Result<(), Fai
     Ok(())
 }
 
-/// Searches such ranges forward or backward.
-fn expect_nothing<R: Abort + AllocGlobal>(rt: &R, is_backward: bool) -> Result<(), Fail> {
+/// Searches a range before its own start, and an empty one, forward or backward.
+fn expect_short_ranges<R: Abort + AllocGlobal>(rt: &R, is_backward: bool) -> Result<(), Fail> {
     let nfa = nfa(rt, "M:0", is_backward)?;
     let mut lazy = Lazy::new(rt.alloc(), &nfa, MatchKind::All, 16);
     expect_at_most_empty(rt, &mut lazy)
@@ -49,8 +49,8 @@ fn expect_nothing<R: Abort + AllocGlobal>(rt: &R, is_backward: bool) -> Result<(
 
 #[test]
 fn nothing_to_search(rt: HostRuntime) -> Result<(), Fail> {
-    expect_nothing(&rt, false)?;
-    expect_nothing(&rt, true)
+    expect_short_ranges(&rt, false)?;
+    expect_short_ranges(&rt, true)
 }
 
 /// How many bytes a long haystack has.

@@ -46,8 +46,8 @@ fn text_of_a_map(rt: HostRuntime) -> Result<(), Fail> {
 /// The start of a line, and after it the start or the end of a word.
 const ASSERTIONS: &str = "L:StartLF>1 L:WordAscii>2 M:0";
 
-/// The end of a line stands behind, then a word byte, and then the input ends. The texts are those
-/// of what is told and of the tables.
+/// The end of a line stands behind, then a word byte, and then the input ends. Last, the texts of
+/// what is told after the byte, and of the tables.
 fn expect_tables<R: Abort + AllocGlobal>(rt: &R, tables: LookTables) -> Result<(), Fail> {
     let at_start = tables.at_start(start_kind_of(b'\n', Some(b'\n')));
     holds(rt, at_start.looks.contains(Look::StartLF));

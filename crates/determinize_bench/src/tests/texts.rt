@@ -3,6 +3,7 @@
 use crate::tests::same;
 use crate::tests::states::{built, state, with_patterns};
 use determinize_below::Look;
+use determinize_core::state::StateBuilderEmpty;
 use std::fmt::Debug;
 use std::process::Abort;
 use std::test::Fail;
@@ -31,14 +32,16 @@ look_have: LookSet { bits: 0 }, look_need: LookSet { bits: 0 }, \
 match_pattern_ids: [], nfa_state_ids: [] }";
 
 #[test]
-fn texts_of_builders_of_matches(rt: HostRuntime) -> Result<(), Fail> {
+fn texts_of_builders(rt: HostRuntime) -> Result<(), Fail> {
     let mut entered = with_patterns(rt.alloc(), "1,0")?;
     entered.set_is_from_word();
     entered.set_look_have(|have| have.insert(Look::Start));
     expect_text(&rt, &entered, ENTERED)?;
     let mut half = with_patterns(rt.alloc(), "-")?;
     half.set_is_half_crlf();
-    expect_text(&rt, &half, HALF)
+    expect_text(&rt, &half, HALF)?;
+    let empty = StateBuilderEmpty::new(rt.alloc());
+    expect_text(&rt, &empty, "StateBuilderEmpty { .. }")
 }
 
 /// Jobs of the verb `build`, and what the texts of their builders and states have after their names.

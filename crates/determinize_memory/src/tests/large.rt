@@ -1,5 +1,5 @@
-//! Large NFAs: long chains, wide unions and many matches. Each is walked over `ab`, and how much each
-//! state of the walk lists is told from the shape of the NFA.
+//! Large NFAs: long chains, wide unions and many matches. Each is walked over `ab`. How many
+//! patterns and NFA states each state of the walk lists follows from the shape of the NFA.
 
 use crate::tests::same;
 use determinize_below::{

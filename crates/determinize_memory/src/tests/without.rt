@@ -2,8 +2,9 @@
 
 use crate::tests::steps::start_kind;
 use crate::tests::{Heap, Row, holds, refuse_in_turn, refuse_over_walks, same};
-use determinize_below::{Look, LookSet, PatternID, SparseSet, SparseSets, StateID};
+use determinize_below::{Input, Look, LookSet, PatternID, SparseSet, SparseSets, StateID};
 use determinize_core::determinize::{epsilon_closure, set_lookbehind_from_start};
+use determinize_core::start::Config;
 use determinize_core::state::{State, StateBuilderEmpty};
 use std::process::Abort;
 use std::test::Fail;
@@ -49,7 +50,8 @@ fn fill_sets(rt: &impl Abort, heap: &Heap) -> Result<bool, Fail> {
 /// NFA states and is cleared.
 fn build(rt: &impl Abort, heap: &Heap) -> Result<bool, Fail> {
     heap.begin();
-    holds(rt, State::dead(heap).is_ok());
+    let dead = State::dead(heap)?;
+    same(rt, dead.as_bytes(), [0; 9].as_slice());
     let empty = StateBuilderEmpty::new(heap);
     same(rt, empty.capacity(), 0);
     heap.end();
@@ -86,10 +88,14 @@ fn close_patterns(rt: &impl Abort, heap: &Heap) -> Result<bool, Fail> {
     Ok(has_asked_none(rt, heap))
 }
 
-/// A builder is told of the start of a walk.
+/// The text of a walk is looked at, and a builder is told of its start.
 fn begin_walk(rt: &impl Abort, heap: &Heap, row: &Row) -> Result<bool, Fail> {
     let mut matches = StateBuilderEmpty::new(heap).into_matches()?;
     heap.begin();
+    let input = Input::new(row.text.as_slice());
+    let forward = Config::from_input_forward(&input).get_look_behind();
+    let reverse = Config::from_input_reverse(&input).get_look_behind();
+    same(rt, (forward, reverse), (None, None));
     set_lookbehind_from_start(&row.nfa, &start_kind(row), &mut matches);
     Ok(has_asked_none(rt, heap))
 }
