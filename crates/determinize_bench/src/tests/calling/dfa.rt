@@ -1,6 +1,6 @@
 //! The second code of the page `CALLING.md` of `determinize_core`, word for word.
 
-ghost use Rattle.std.specs.Prelude.{◌≡◌, ◌<◌, ◌⊎◌, ◌++◌, ◌∷◌, [], length, All, OnOk};
+ghost use Rattle.std.specs.Prelude.{◌<◌, length, All, OnOk};
 ghost use Rattle.determinize_below.specs.Nfa.{AllResolve};
 ghost use Rattle.determinize_core.specs.Scratch.{IsScratch};
 ghost use Rattle.determinize_core.specs.Value.{Value};
@@ -33,17 +33,20 @@ fn unit(column: usize) -> Unit {
     }
 }
 
-/// The index of a state among those found, which gain it as the last where it is new. Proved of it
-/// is that nothing else comes to the states, which the proof of [`build`] needs.
+/// The index of a state among those found, which gain it as the last where it is new. The ids of
+/// all of them are states of the NFA, before and after.
 ///
 /// The only error is want of memory. The map may name a state then that the list lacks.
-fn index_of<A: Allocator + Copy>(
+fn index_of<N: Allocator, A: Allocator + Copy>(
+    nfa: &NFA<N>,
     states: &mut Vec<State<A>, A>,
     indices: &mut Indices<A>,
     state: State<A>,
 ) -> Result<usize, AllocError>
-    ensures { OnOk result ((states.new.items ≡ states.old.items)
-        ⊎ (states.new.items ≡ states.old.items ++ state ∷ [])) }
+    requires found { All (λ (state : Value). AllResolve nfa.now state.states) states.old.items }
+    requires resolve { AllResolve nfa.now state.states }
+    ensures { OnOk result
+        (All (λ (state : Value). AllResolve nfa.now state.states) states.new.items) }
 {
     if let Some(known) = indices.get(&state) {
         return Ok(*known);
@@ -78,7 +81,7 @@ fn row<N: Allocator, A: Allocator + Copy>(
     let mut empty = StateBuilderEmpty::new(alloc);
     for column in 0..=256 {
         let builder = next(nfa, kind, sparses, stack, &state, unit(column), empty)?;
-        row.push(index_of(states, indices, builder.to_state()?)?)?;
+        row.push(index_of(nfa, states, indices, builder.to_state()?)?)?;
         empty = builder.clear();
     }
     Ok(row)
@@ -101,7 +104,7 @@ pub fn build<N: Allocator, A: Allocator + Copy>(
     let first = start_state(nfa, start, None, &mut sparses, &mut stack, empty)?;
     let mut states = Vec::new(alloc);
     let mut indices = HashMap::new(alloc);
-    index_of(&mut states, &mut indices, first.to_state()?)?;
+    index_of(nfa, &mut states, &mut indices, first.to_state()?)?;
     let mut rows = Vec::new(alloc);
     for index in 0..=limit {
         if index >= states.len() {
