@@ -1,7 +1,7 @@
 -- What the states of an NFA are, and where they lead.
 use Rattle.std.specs.Prelude.{◌≡◌, ◌+◌, ℕ, Bool, true, false, cond, Option, Some, None, List, [], ◌∷◌, length, nat_eq, slice_index_or}
 use Rattle.std.specs.Option.{is_some, option_to_list}
-use Rattle.std.specs.List.{flat_map}
+use Rattle.std.specs.List.{count_by, flat_map}
 use Rattle.determinize_below.specs.declared.look.Look.{Look as Assertion}
 use Rattle.determinize_below.specs.Node.{Node, ByteRange, Sparse, Dense, Look, Union, BinaryUnion, Capture, Fail, Match}
 use Rattle.determinize_below.specs.Nfa.{Nfa}
@@ -69,6 +69,14 @@ assertion_of nfa s = assertion_in (state_at nfa s)
 -- the patterns of the `Match` states of a list, in order
 abbrev pub patterns_of : Nfa → List ℕ → List ℕ
 patterns_of nfa xs = flat_map (λ s. option_to_list (pattern_of nfa s)) xs
+
+-- whether the state accepts a pattern
+abbrev pub is_match_node : Node → Bool
+is_match_node node = is_some (pattern_in node)
+
+-- the number of the states that accept a pattern
+abbrev pub pattern_count : Nfa → ℕ
+pattern_count nfa = count_by is_match_node nfa.states
 
 -- the states that loop-free paths from the roots meet last, each once, by the first such root and then by the least path
 unfoldable pub reach : Nfa → (Assertion → Bool) → List ℕ → List ℕ

@@ -15,7 +15,7 @@ pub fn is_word_byte(byte: u8) -> bool
 
 /// One byte of input, or the end of the input.
 ///
-/// The end carries a number from 0 to 256, which equality and `Debug` see and nothing else does.
+/// The end has a number from 0 to 256. Only equality and `Debug` depend on it.
 #[derive(Clone, Copy, Debug, PartialEq, Eq)]
 pub struct Unit(UnitKind);
 
@@ -38,6 +38,20 @@ impl Model for Unit {
     ghost inverse = { λ s. record { 0 = kind_of s } };
 }
 
+/// The unit of this byte, or the end of the input, with the number 256, for `None`.
+impl From<Option<u8>> for Unit {
+    ghost use Rattle.std.specs.Prelude.{None};
+
+    ghost from_gives = { λ byte u. (units.byte_of u ≡ byte) × (byte ≡ None → u ≡ units.End 256) };
+
+    fn from(byte: Option<u8>) -> Unit {
+        match byte {
+            Some(value) => Unit::u8(value),
+            None => Unit::eoi(256),
+        }
+    }
+}
+
 impl Unit {
     /// The unit of this byte.
     pub fn u8(byte: u8) -> Unit
@@ -46,7 +60,7 @@ impl Unit {
         Unit(UnitKind::U8(byte))
     }
 
-    /// The end of the input, with a number from 0 to 256 that is kept.
+    /// Returns the end of the input with this number.
     pub fn eoi(number: usize) -> Unit
         requires { number ≤ 256 }
         ensures { result ≡ units.End number }

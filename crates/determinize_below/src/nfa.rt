@@ -1,17 +1,19 @@
 //! Thompson NFAs, made of parts that are checked.
 
 ghost use Rattle.std.specs.Prelude.{◌≡◌, ℕ, ◌<◌, ◌≤◌, Some, None, true, map, length, slice_get, vec_len, IfOk, OnOk, IfErr, IsErrOf, ◌⊎◌};
+ghost use Rattle.determinize_below.specs.Edges.{pattern_count};
 ghost use Rattle.determinize_below.specs.Node.{node_of};
 ghost use Rattle.determinize_below.specs.Nfa.{failure, is_dense_sound, is_sparse_sound, looks_of};
 
 use crate::look::{LookMatcher, LookSet};
-use crate::primitives::StateID;
+use crate::primitives::{StateID, StateIDError};
 use std::alloc::{AllocError, AllocFailed, Allocator, Global};
 use std::error::Error;
 use std::fmt;
 use std::marker::Model;
 
 mod checks;
+mod debug;
 pub mod state;
 pub mod transitions;
 
@@ -54,6 +56,17 @@ impl<T: Drop> From<AllocFailed<T>> for BuildError {
 
     fn from(_refused: AllocFailed<T>) -> BuildError {
         BuildError::OutOfMemory
+    }
+}
+
+/// More states than there are ids give `TooManyStates`.
+impl From<StateIDError> for BuildError {
+    ghost use Rattle.determinize_below.specs.declared.nfa.BuildError.TheVariants.{TooManyStates};
+
+    ghost from_gives = { λ _ e. e ≡ TooManyStates };
+
+    fn from(_refused: StateIDError) -> BuildError {
+        BuildError::TooManyStates
     }
 }
 
@@ -178,6 +191,16 @@ impl<A: Allocator> NFA<A> {
         ensures accepted { IsAccepted self.now }
     {
         self.states.len()
+    }
+
+    /// Returns the number of patterns, which is the number of `Match` states: no two of them match the
+    /// same pattern. The ids of the patterns may be any. Does not allocate.
+    pub fn pattern_len(&self) -> usize
+        ensures count { result ≡ pattern_count self.now }
+        ensures limit { result ≤ length self.now.states }
+        ensures accepted { IsAccepted self.now }
+    {
+        state::match_count(self.states.as_slice())
     }
 
     /// The state of this id, which is below the number of states.

@@ -24,6 +24,18 @@ impl Model for StateID {
     ghost inverse = { λ n. record { 0 = n } };
 }
 
+/// The number of the id, in decimal.
+impl fmt::Display for StateID {
+    ghost use Rattle.std.specs.Prelude.{Some, decimal};
+
+    ghost output = { λ n. Some (decimal n) };
+
+    fn fmt<W: fmt::Write>(&self, f: &mut fmt::Formatter<W>) -> fmt::Result {
+        let number = self.0;
+        write!(f, "{number}")
+    }
+}
+
 /// A number that is too large for a `StateID`.
 #[derive(Clone, Copy, Debug, PartialEq, Eq)]
 pub struct StateIDError {
@@ -124,6 +136,18 @@ impl Model for PatternID {
     ghost invariant = { λ p. p.0 ≤ 2147483646 };
 
     ghost inverse = { λ n. record { 0 = n } };
+}
+
+/// The number of the id, in decimal.
+impl fmt::Display for PatternID {
+    ghost use Rattle.std.specs.Prelude.{Some, decimal};
+
+    ghost output = { λ n. Some (decimal n) };
+
+    fn fmt<W: fmt::Write>(&self, f: &mut fmt::Formatter<W>) -> fmt::Result {
+        let number = self.0;
+        write!(f, "{number}")
+    }
 }
 
 /// A number that is too large for a `PatternID`.

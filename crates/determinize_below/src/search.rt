@@ -1,6 +1,6 @@
 //! What a search is asked for: where, from which start, and which matches.
 
-ghost use Rattle.std.specs.Prelude.{◌≡◌, ℕ, ◌+◌, ◌≤◌, length};
+ghost use Rattle.std.specs.Prelude.{◌≡◌, ℕ, ◌+◌, ◌≤◌, length, nat_lt};
 ghost use Rattle.determinize_below.specs.Search as search_specs;
 
 use crate::primitives::PatternID;
@@ -109,6 +109,33 @@ impl<'h> Input<'h> {
         }
     }
 
+    /// Sets where the range starts: at most one past its end.
+    pub fn set_start(&mut self, start: usize)
+        requires near { start ≤ self.old.end + 1 }
+        ensures { self.new ≡ record self.old { start = start } }
+    {
+        self.start = start;
+    }
+
+    /// Sets where the range ends: at most at the haystack's length, and at most one before its start.
+    pub fn set_end(&mut self, end: usize)
+        requires in_haystack { end ≤ length self.old.haystack }
+        requires near { self.old.start ≤ end + 1 }
+        ensures { self.new ≡ record self.old { end = end } }
+    {
+        self.end = end;
+    }
+
+    /// Sets the range. It ends in the haystack or at its end, and starts at most one past its own end.
+    pub fn set_range(&mut self, range: Range<usize>)
+        requires in_haystack { range.end ≤ length self.old.haystack }
+        requires near { range.start ≤ range.end + 1 }
+        ensures { self.new ≡ record self.old { start = range.start; end = range.end } }
+    {
+        self.start = range.start;
+        self.end = range.end;
+    }
+
     /// Where the range starts, counted in the haystack: at most one past `end`, and so at most one past
     /// the length of the haystack.
     pub fn start(&self) -> usize
@@ -131,6 +158,13 @@ impl<'h> Input<'h> {
         ensures { result.now ≡ self.now.haystack }
     {
         self.haystack
+    }
+
+    /// Returns whether the range starts past its end, so that no position is left to search.
+    pub fn is_done(&self) -> bool
+        ensures { result ≡ nat_lt self.now.end self.now.start }
+    {
+        self.start > self.end
     }
 
     /// Whether the search is anchored.

@@ -1,14 +1,20 @@
--- The last match of the values of a walk, found one by one.
-use Rattle.std.proofs.Common.{◌≡◌, ℕ, suc, ◌+◌, ◌<◌, ◌≤◌, true, false, List, [], ◌∷◌, ◌++◌, Option, Some, None, get_or, length, take, refl, sym, ap, ◌∙◌, arith}
+-- The last match of the values of a walk, found one by one, and over one unit more.
+use Rattle.std.proofs.Common.{◌≡◌, ℕ, suc, ◌+◌, ◌<◌, ◌≤◌, true, false, List, [], ◌∷◌, ◌++◌, Option, Some, get_or, length, take, refl, sym, ap, ◌∙◌, arith}
 use Rattle.std.specs.Option.{option_or}
-use Rattle.std.specs.Prelude.{slice_index}
+use Rattle.std.specs.Prelude.{option_map, slice_index}
 use Rattle.std.proofs.Math.Seq.{take-suc}
 use Rattle.std.proofs.lemmas.Bool.{false≢true, true≢false}
 use Rattle.std.proofs.lemmas.List.{length-take-le, take_all}
 use Rattle.determinize_below.specs.declared.search.HalfMatch.{HalfMatch}
-use Rattle.determinize_below.proofs.Lists.{option_or-assoc, option_or-None}
+use Rattle.determinize_below.proofs.Lists.{map-option_or, option_or-assoc, option_or-None}
+use Rattle.determinize_below.specs.Nfa.{Nfa}
+use Rattle.determinize_below.specs.declared.search.MatchKind.{MatchKind}
 use Rattle.determinize_states.specs.Value.{Value, is_nonempty}
+use Rattle.determinize_core.specs.Chain.{future, value_after}
+use Rattle.determinize_core.specs.Laws.{EachFirstUnitUnrolls, EachLastUnitUnrolls, one_later}
+use Rattle.determinize_core.specs.Step.{step}
 use Rattle.determinize_core.specs.Walk.{ended_at, last_ended, last_match}
+use Rattle.determinize_core.proofs.Loops.{value_after-push}
 
 -- one more value
 last_ended-push : (n : ℕ) (vs : List Value) (v : Value) → last_ended n (vs ++ v ∷ []) ≡ option_or (ended_at (n + length vs) v.patterns) (last_ended n vs)
@@ -59,3 +65,70 @@ module _ (vs : List Value) (i : ℕ) (v : Value) (within : i < length vs) (here 
 -- all values but the first were read
 pub last_match-read : (values vs : List Value) (first : Value) (i : ℕ) (last : Option HalfMatch) → values ≡ first ∷ vs → length vs ≤ i → last ≡ last_ended 0 (take i vs) → last ≡ last_match values
 last_match-read values vs first i last whole l e = e ∙ ap (λ ws. last_ended 0 ws) (take_all i vs l) ∙ sym (ap last_match whole)
+
+-- a match, one position later
+ended_at-later : (n : ℕ) (ps : List ℕ) → ended_at (suc n) ps ≡ option_map one_later (ended_at n ps)
+ended_at-later n [] = refl
+ended_at-later n (p ∷ ps) = refl
+
+last_ended-later : (n : ℕ) (vs : List Value) → last_ended (suc n) vs ≡ option_map one_later (last_ended n vs)
+last_ended-later n [] = refl
+last_ended-later n (v ∷ vs) =
+    ap (λ o. option_or o (ended_at (suc n) v.patterns)) (last_ended-later (suc n) vs)
+    ∙ ap (λ o. option_or (option_map one_later (last_ended (suc n) vs)) o) (ended_at-later n v.patterns)
+    ∙ sym (map-option_or one_later (last_ended (suc n) vs) (ended_at n v.patterns))
+
+module _ (nfa : Nfa) (kind : MatchKind) where
+  -- the values that follow, without the first
+  abbrev pub tail : Value → List (Option ℕ) → List Value
+  tail v [] = []
+  tail v (u ∷ us) = future nfa kind (step nfa kind v u) us
+
+  pub future_is : (v : Value) (us : List (Option ℕ)) → future nfa kind v us ≡ v ∷ tail v us
+  future_is v [] = refl
+  future_is v (u ∷ us) = refl
+
+  -- one more unit
+  tail-push : (n : ℕ) (v : Value) (us : List (Option ℕ)) (u : Option ℕ)
+      → last_ended n (tail v (us ++ u ∷ []))
+      ≡ option_or (ended_at (n + length us) (value_after nfa kind v (us ++ u ∷ [])).patterns) (last_ended n (tail v us))
+  tail-push n v [] u =
+      let z : n ≡ n + 0 = omega arith in
+      ap (λ k. ended_at k (step nfa kind v u).patterns) z
+      ∙ sym (option_or-None (ended_at (n + 0) (step nfa kind v u).patterns))
+  tail-push n v (w ∷ us) u =
+      let next : Value = step nfa kind v w in
+      let last : Value = value_after nfa kind next (us ++ u ∷ []) in
+      let z : suc n + length us ≡ n + suc (length us) = omega arith in
+      ap (λ vs. last_ended n vs) (future_is next (us ++ u ∷ []))
+      ∙ ap (λ o. option_or o (ended_at n next.patterns)) (tail-push (suc n) next us u)
+      ∙ option_or-assoc (ended_at (suc n + length us) last.patterns) (last_ended (suc n) (tail next us))
+      (ended_at n next.patterns)
+      ∙ ap (λ k. option_or (ended_at k last.patterns)
+      (option_or (last_ended (suc n) (tail next us)) (ended_at n next.patterns))) z
+      ∙ ap (λ vs. option_or (ended_at (n + suc (length us)) last.patterns) (last_ended n vs)) (sym (future_is next us))
+
+  pub last_match-tail : (v : Value) (us : List (Option ℕ)) → last_match (future nfa kind v us) ≡ last_ended 0 (tail v us)
+  last_match-tail v us = ap last_match (future_is v us)
+
+  -- the last match over one more unit
+  pub last_match-push : (v : Value) (us : List (Option ℕ)) (u : Option ℕ)
+      → last_match (future nfa kind v (us ++ u ∷ []))
+      ≡ option_or (ended_at (length us) (value_after nfa kind v (us ++ u ∷ [])).patterns)
+      (last_match (future nfa kind v us))
+  last_match-push v us u =
+      let z : 0 + length us ≡ length us = omega arith in
+      let last : Value = value_after nfa kind v (us ++ u ∷ []) in
+      last_match-tail v (us ++ u ∷ []) ∙ tail-push 0 v us u
+      ∙ ap (λ k. option_or (ended_at k last.patterns) (last_ended 0 (tail v us))) z
+      ∙ ap (λ o. option_or (ended_at (length us) last.patterns) o) (sym (last_match-tail v us))
+
+pub each_first_unit_unrolls : EachFirstUnitUnrolls
+each_first_unit_unrolls nfa kind v u us =
+    let next : Value = step nfa kind v u in
+    ap (λ vs. last_ended 0 vs) (future_is nfa kind next us)
+    ∙ ap (λ o. option_or o (ended_at 0 next.patterns)) (last_ended-later 0 (tail nfa kind next us))
+    ∙ ap (λ o. option_or (option_map one_later o) (ended_at 0 next.patterns)) (sym (last_match-tail nfa kind next us))
+
+pub each_last_unit_unrolls : EachLastUnitUnrolls
+each_last_unit_unrolls nfa kind v us u = (value_after-push nfa kind v us u, last_match-push nfa kind v us u)

@@ -1,8 +1,10 @@
 pub mod AcceptedPatterns
 pub mod AheadRows
+pub mod CaptureCycles
 pub mod ClosingAll
 pub mod ClosureSteps
 pub mod Collecting
+pub mod Farthest
 pub mod FirstReading
 pub mod HostileRows
 pub mod LastMatches
@@ -14,6 +16,7 @@ pub mod Resolving
 pub mod StepLaws
 pub mod Stepping
 pub mod Targets
+pub mod TextBounds
 pub mod TriesSums
 pub mod TryBounds
 pub mod UnitLists

@@ -12,14 +12,9 @@ use Rattle.determinize_below.specs.declared.search.MatchKind.{MatchKind}
 use Rattle.determinize_below.specs.declared.search.MatchKind.TheVariants.{LeftmostFirst}
 use Rattle.determinize_below.proofs.SoundNfa.{IsSound}
 use Rattle.determinize_below.proofs.Tests.{by_option, by_test, or_false_left, or_false_right}
-use Rattle.determinize_core.specs.Chain.{future}
+use Rattle.determinize_core.specs.Chain.{future, value_after}
 use Rattle.determinize_core.specs.Step.{step, part_read, patterns_read}
 use Rattle.determinize_states.specs.Value.{Value}
-
--- the last of the values that follow a value over units
-abbrev pub value_after : Nfa → MatchKind → Value → List (Option ℕ) → Value
-value_after nfa kind v [] = v
-value_after nfa kind v (u ∷ us) = value_after nfa kind (step nfa kind v u) us
 
 -- one more unit
 pub future-push : (nfa : Nfa) (kind : MatchKind) (v : Value) (us : List (Option ℕ)) (u : Option ℕ)

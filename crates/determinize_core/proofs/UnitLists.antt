@@ -3,10 +3,10 @@ use Rattle.std.proofs.Common.{◌≡◌, ℕ, zero, suc, ◌+◌, List, [], ◌�
 use Rattle.std.specs.List.{range_with_len}
 use Rattle.std.proofs.lemmas.List.{map-append}
 use Rattle.determinize_below.specs.Positions.{after_at, between}
-use Rattle.determinize_core.specs.Chain.{chain, future, units}
+use Rattle.determinize_core.specs.Chain.{chain, future, units, value_after}
 use Rattle.determinize_core.specs.Laws.{EachByteAheadIsNext}
 use Rattle.determinize_core.specs.Step.{start_value, step}
-use Rattle.determinize_core.proofs.Loops.{future-push, value_after}
+use Rattle.determinize_core.proofs.Loops.{future-push}
 
 -- positions of a text with one more byte before its own
 later_units : (behind ahead : Option ℕ) (b : ℕ) (bytes : List ℕ) (k n : ℕ)

@@ -10,14 +10,14 @@ use Rattle.determinize_below.specs.Nfa.{AllResolve, Nfa, IsAccepted}
 use Rattle.determinize_below.specs.Positions.{Text}
 use Rattle.determinize_below.specs.declared.look.Look.{Look as Assertion}
 use Rattle.determinize_below.specs.declared.search.MatchKind.{MatchKind}
-use Rattle.determinize_core.specs.Chain.{chain, future, units}
+use Rattle.determinize_core.specs.Chain.{chain, future, units, value_after}
 use Rattle.determinize_looks.specs.StartKinds as kinds
 use Rattle.determinize_core.specs.Step.{begun, start_value, step, with_start}
 use Rattle.determinize_states.specs.Recording.{recorded}
 use Rattle.determinize_looks.specs.LookTables.{tables_of, start_have, from_word_at_start, half_crlf_at_start, have_at_start}
 use Rattle.determinize_states.specs.Value.{Value, dead}
 use Rattle.determinize_looks.specs.declared.start.Start.{Start as Kind}
-use Rattle.determinize_core.proofs.Loops.{future-push, value_after, value_after-push}
+use Rattle.determinize_core.proofs.Loops.{future-push, value_after-push}
 use Rattle.determinize_core.proofs.Resolving.{start_resolves, step_resolves}
 use Rattle.determinize_core.proofs.UnitLists.{units_are}
 

@@ -12,6 +12,11 @@ abbrev pub future : Nfa → MatchKind → Value → List (Option ℕ) → List V
 future nfa kind v [] = v ∷ []
 future nfa kind v (u ∷ us) = v ∷ future nfa kind (step nfa kind v u) us
 
+-- the last of these values: the one after all of the units
+abbrev pub value_after : Nfa → MatchKind → Value → List (Option ℕ) → Value
+value_after nfa kind v [] = v
+value_after nfa kind v (u ∷ us) = value_after nfa kind (step nfa kind v u) us
+
 -- the units of a text: what stands after each of its positions
 abbrev pub units : Text → List (Option ℕ)
 units text = map (after_at text) (range_with_len 0 (suc (length text.bytes)))

@@ -1,20 +1,23 @@
 -- Laws of steps and of walks.
-use Rattle.std.specs.Prelude.{◌≡◌, ℕ, ◌+◌, ◌*◌, ◌<◌, ◌≤◌, ◌⊎◌, Bool, true, Option, None, Some, List, [], ◌∷◌, ◌++◌, length, nat_eq}
+use Rattle.std.specs.Prelude.{◌≡◌, ℕ, suc, ◌+◌, ◌*◌, ◌<◌, ◌≤◌, ◌⊎◌, Bool, true, Option, None, Some, List, [], ◌∷◌, ◌++◌, length, map, nat_eq, option_map}
+use Rattle.std.specs.Option.{option_or}
 use Rattle.determinize_below.specs.Captures.{HasNoCaptureCycle}
-use Rattle.determinize_below.specs.Edges.{edges, target, reach, reach_past}
+use Rattle.determinize_below.specs.Edges.{edges, target, reach, reach_past, state_at}
 use Rattle.determinize_below.specs.Nfa.{Nfa, IsAccepted}
-use Rattle.determinize_below.specs.Positions.{Text, between, IsPreferredRun}
+use Rattle.determinize_below.specs.Node.{Capture}
+use Rattle.determinize_below.specs.Positions.{Accepts, IsPreferredRun, IsRun, Text, between}
 use Rattle.determinize_below.specs.Reached.{IsKnownReached, IsReached}
 use Rattle.determinize_below.specs.Reach.{member}
 use Rattle.determinize_below.specs.declared.look.Look.{Look as Assertion}
+use Rattle.determinize_below.specs.declared.search.HalfMatch.{HalfMatch}
 use Rattle.determinize_below.specs.declared.search.MatchKind.{MatchKind}
 use Rattle.determinize_below.specs.declared.search.MatchKind.TheVariants.{All, LeftmostFirst}
-use Rattle.determinize_core.specs.Chain.{FollowsItself, chain}
+use Rattle.determinize_core.specs.Chain.{FollowsItself, chain, future, units, value_after}
 use Rattle.determinize_core.specs.Step.{step}
 use Rattle.determinize_states.specs.Recording.{with_states}
 use Rattle.determinize_core.specs.Tries.{tries, edges_in_all}
 use Rattle.determinize_states.specs.Value.{Value, dead}
-use Rattle.determinize_core.specs.Walk.{ListsAccepted, IsWalkOfAll, IsLeftmostWalk}
+use Rattle.determinize_core.specs.Walk.{ListsAccepted, IsWalkOfAll, IsLeftmostWalk, IsFarthestMatch, ended_at, last_match}
 use Rattle.determinize_core.specs.WalkStates.{RecordsReached}
 
 -- of every accepted NFA, the walk over each text says of whole runs what its kind of match promises
@@ -78,3 +81,49 @@ abbrev pub TriesAreFew : Type 0
 TriesAreFew = (nfa : Nfa) → IsAccepted nfa → (kind : MatchKind) (v : Value) (u : Option ℕ)
     → ((s : ℕ) → member nat_eq v.states s ≡ true → s < length nfa.states)
     → tries nfa kind v u ≤ 2 * (length nfa.states + edges_in_all nfa)
+
+-- of every accepted NFA, the last match of a walk under `MatchKind::All` is the farthest match
+abbrev pub EachLastIsFarthest : Type 0
+EachLastIsFarthest = (nfa : Nfa) → IsAccepted nfa → (start : ℕ) (text : Text)
+    → IsFarthestMatch nfa start text (last_match (chain nfa All start text))
+
+-- each run over a text ends at a position of it, accepting or not
+abbrev pub NoRunLeavesTheText : Type 0
+NoRunLeavesTheText = (nfa : Nfa) (start : ℕ) (text : Text) (cs : List ℕ) (i : ℕ)
+    → ((s : ℕ) → IsRun nfa text start cs (i, s) → i ≤ length text.bytes)
+    × ((pattern : ℕ) → Accepts nfa text start cs i pattern → i ≤ length text.bytes)
+
+-- the units of a text are its bytes in order, and then the byte ahead or the end of input
+abbrev pub EachUnitIsAByte : Type 0
+EachUnitIsAByte = (text : Text) → units text ≡ map Some text.bytes ++ text.ahead ∷ []
+
+-- the match, one position later
+abbrev pub one_later : HalfMatch → HalfMatch
+one_later m = record m { offset = suc m.offset }
+
+-- the last match over a first unit and others: that over the others from the next value, one
+-- position later; or else that of the next value, at position 0
+abbrev pub EachFirstUnitUnrolls : Type 0
+EachFirstUnitUnrolls = (nfa : Nfa) (kind : MatchKind) (v : Value)
+    → (u : Option ℕ) (us : List (Option ℕ))
+    → last_match (future nfa kind v (u ∷ us))
+    ≡ option_or (option_map one_later (last_match (future nfa kind (step nfa kind v u) us)))
+    (ended_at 0 (step nfa kind v u).patterns)
+
+-- the last match over some units and one more: that of the value after all of them, at the position
+-- before the last unit; or else that over the units without it
+abbrev pub EachLastUnitUnrolls : Type 0
+EachLastUnitUnrolls = (nfa : Nfa) (kind : MatchKind) (v : Value)
+    → (us : List (Option ℕ)) (u : Option ℕ)
+    → (value_after nfa kind v (us ++ u ∷ []) ≡ step nfa kind (value_after nfa kind v us) u)
+    × (last_match (future nfa kind v (us ++ u ∷ []))
+    ≡ option_or (ended_at (length us) (value_after nfa kind v (us ++ u ∷ [])).patterns)
+    (last_match (future nfa kind v us)))
+
+-- the next state of each capture has a greater id than the capture
+abbrev pub CapturesAscend : Nfa → Type 0
+CapturesAscend nfa = (s next : ℕ) → state_at nfa s ≡ Capture next → s < next
+
+-- so no cycle consists of captures only
+abbrev pub AscendingCapturesHaveNoCycle : Type 0
+AscendingCapturesHaveNoCycle = (nfa : Nfa) → CapturesAscend nfa → HasNoCaptureCycle nfa

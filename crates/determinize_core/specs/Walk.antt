@@ -1,5 +1,5 @@
 -- What the values of a walk say of whole runs.
-use Rattle.std.specs.Prelude.{◌≡◌, ℕ, suc, ◌+◌, ◌<◌, Option, Some, None, List, [], ◌∷◌, length, slice_get, Contains, ◌↔◌}
+use Rattle.std.specs.Prelude.{◌≡◌, ℕ, suc, ◌+◌, ◌<◌, ◌≤◌, Option, Some, None, List, [], ◌∷◌, length, slice_get, Contains, ◌↔◌}
 use Rattle.std.specs.Option.{option_or}
 use Rattle.determinize_below.specs.Nfa.{Nfa}
 use Rattle.determinize_below.specs.Paths.{Before}
@@ -44,3 +44,19 @@ pub record IsLeftmostWalk (nfa : Nfa) (start : ℕ) (text : Text) (values : List
   pub none : last_match values ≡ None → (cs : List ℕ) (i pattern : ℕ) → Accepts nfa text start cs i pattern → ⊥
   pub matches : (i : ℕ) (v : Value) → slice_get values (suc i) ≡ Some v → (x : ℕ) → Contains v.patterns x
       → (cs : List ℕ) × Accepts nfa text start cs i x
+
+-- the pattern and the end of the most preferred of all accepting runs; `None` if no run accepts
+abbrev pub IsPreferredMatch : Nfa → ℕ → Text → Option HalfMatch → Type 0
+IsPreferredMatch nfa start text None = (cs : List ℕ) (i pattern : ℕ)
+    → Accepts nfa text start cs i pattern → ⊥
+IsPreferredMatch nfa start text (Some m) =
+    (cs : List ℕ) × IsPreferredRun nfa text start cs m.offset m.pattern
+
+-- the last position at which a run accepts, and the pattern of the best run that accepts there;
+-- `None` if no run accepts
+abbrev pub IsFarthestMatch : Nfa → ℕ → Text → Option HalfMatch → Type 0
+IsFarthestMatch nfa start text None = (cs : List ℕ) (i pattern : ℕ)
+    → Accepts nfa text start cs i pattern → ⊥
+IsFarthestMatch nfa start text (Some m) =
+    ((others : List ℕ) × ListsAccepted nfa text start m.offset (m.pattern ∷ others))
+    × ((cs : List ℕ) (i pattern : ℕ) → Accepts nfa text start cs i pattern → i ≤ m.offset)

@@ -1,5 +1,6 @@
 -- The walks of the program `rows`, each under its name there: small NFAs, the bytes of the states, the last match.
 use Rattle.std.specs.Prelude.{◌≡◌, ℕ, zero, suc, Bool, true, false, Option, Some, None, List, [], ◌∷◌, ◌++◌, map, option_map}
+use Rattle.determinize_below.specs.Captures.{HasNoCaptureCycle}
 use Rattle.determinize_below.specs.Edges.{reach_past}
 use Rattle.determinize_below.specs.Look as looks
 use Rattle.determinize_below.specs.Nfa.{Nfa, IsAccepted, looks_of}
@@ -120,6 +121,11 @@ pub record AreAccepted : Type 0 where
   pub n14_accepted : IsAccepted n14
   pub n16_accepted : IsAccepted n16
   pub n17_accepted : IsAccepted n17
+
+-- the capture of n8 is its own next state, the next state of that of n14 has a greater id
+pub record AreCaptureRows : Type 0 where
+  pub n8_cycle : HasNoCaptureCycle n8 → ⊥
+  pub n14_none : HasNoCaptureCycle n14
 
 -- as many zeros
 abbrev pub eight_zeros : List ℕ

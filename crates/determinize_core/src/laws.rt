@@ -9,7 +9,7 @@ ghost use Rattle.determinize_below.specs.Nfa.{Nfa};
 ghost use Rattle.determinize_core.specs.WorkedRows as rows;
 ghost use Rattle.determinize_core.specs.HostileRows as hostile;
 ghost use Rattle.determinize_core.specs.AheadRows as ahead;
-ghost use Rattle.determinize_core.specs.Laws.{EachChainIsTrue, EachChainReaches, EachByteAheadIsNext, EachAnswerIsOne, EachReachGoesOn, EachStateHasOneKind, NothingLeadsOverTheEnd, EachFutureFollows, DeadStays, LeftmostGivesOne, NoNeedNoHave, TriesAreFew};
+ghost use Rattle.determinize_core.specs.Laws.{AscendingCapturesHaveNoCycle, EachChainIsTrue, EachChainReaches, EachByteAheadIsNext, EachAnswerIsOne, EachReachGoesOn, EachStateHasOneKind, NothingLeadsOverTheEnd, EachFutureFollows, EachFirstUnitUnrolls, EachLastIsFarthest, EachLastUnitUnrolls, EachUnitIsAByte, NoRunLeavesTheText, DeadStays, LeftmostGivesOne, NoNeedNoHave, TriesAreFew};
 ghost use Rattle.determinize_core.specs.Step.{is_redone};
 ghost use Rattle.determinize_looks.specs.LookTables.{opened, tables};
 ghost use Rattle.determinize_states.specs.Recording.{needs};
@@ -131,4 +131,32 @@ pub fn need_law(set: LookSet, look: Look)
     ensures { (nfa : Nfa) (xs : List ℕ)
         → Decides (has (needs nfa set xs) look)
         ((has set look ≡ true) ⊎ Any (λ s. assertion_of nfa s ≡ Some look) xs) }
+{}
+
+/// The last match of a walk under `MatchKind::All` ends at the last position at which a run
+/// accepts, and its pattern is that of the best run that accepts there. It is `None` if and only if
+/// no run accepts. No run ends past the end of its text.
+pub fn farthest_law()
+    ensures farthest { EachLastIsFarthest }
+    ensures within { NoRunLeavesTheText }
+{}
+
+/// The units of a text are its bytes in order, and then the byte ahead of it or the end of input.
+pub fn units_law()
+    ensures { EachUnitIsAByte }
+{}
+
+/// The last match of the values that follow a value over units, by one unit: by the first of them
+/// and the last match over the others, or by the last match over all but the last.
+pub fn last_match_law()
+    ensures first { EachFirstUnitUnrolls }
+    ensures last { EachLastUnitUnrolls }
+{}
+
+/// An NFA in which the next state of each capture has a greater id than the capture has no cycle of
+/// captures only. The NFA of the rows `25` is one. That of row `12` has a capture whose next state
+/// is itself.
+pub fn capture_law()
+    ensures ascending { AscendingCapturesHaveNoCycle }
+    ensures rows { rows.AreCaptureRows }
 {}

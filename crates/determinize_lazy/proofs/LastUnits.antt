@@ -1,13 +1,12 @@
--- The last match of a walk: one unit more, and none more where no NFA state is left.
+-- The last match of a walk where no NFA state is left; it ends within what is read.
 use Rattle.std.proofs.Common.{◌≡◌, ℕ, suc, ◌+◌, ◌<◌, cond, Option, Some, None, true, false, List, [], ◌∷◌, ◌++◌, length, refl, sym, ap, ◌∙◌, arith, subst}
 use Rattle.std.specs.Option.{IfSome, option_or}
 use Rattle.std.specs.List.{flat_map}
-use Rattle.determinize_below.proofs.Lists.{option_or-assoc, option_or-None}
 use Rattle.determinize_core.proofs.ClosingAll.{reach-none}
-use Rattle.determinize_core.proofs.Loops.{value_after}
+use Rattle.determinize_core.proofs.LastMatches.{future_is, last_match-tail, tail}
 use Rattle.determinize_core.proofs.StepLaws.{dead_stays}
 use Rattle.determinize_core.specs.Value.{dead, Value}
-use Rattle.determinize_core.specs.Chain.{future}
+use Rattle.determinize_core.specs.Chain.{future, value_after}
 use Rattle.determinize_core.specs.Step.{distinct_states, is_reopened, left_by, opened_by, part_read, patterns_read, step, working_list}
 use Rattle.determinize_core.specs.Walk.{ended_at, last_ended, last_match}
 use Rattle.determinize_looks.specs.LookTables.{have_after, tables_of}
@@ -35,58 +34,23 @@ step_over : (nfa : Nfa) (kind : MatchKind) (v : Value) (u : Option ℕ) → v.st
 step_over nfa kind v u none = step_none nfa kind v u none ∙ (dead_stays nfa kind u).0
 
 module _ (nfa : Nfa) (kind : MatchKind) where
-  -- the values that follow, without the first
-  abbrev tail : Value → List (Option ℕ) → List Value
-  tail v [] = []
-  tail v (u ∷ us) = future nfa kind (step nfa kind v u) us
-
-  future_is : (v : Value) (us : List (Option ℕ)) → future nfa kind v us ≡ v ∷ tail v us
-  future_is v [] = refl
-  future_is v (u ∷ us) = refl
-
   -- no match is told after the dead value
   none_dead : (n : ℕ) (us : List (Option ℕ)) → last_ended n (future nfa kind dead us) ≡ None
   none_dead n [] = refl
   none_dead n (u ∷ us) = ap (λ v. option_or (last_ended (suc n) (future nfa kind v us)) None) (dead_stays nfa kind u).0 ∙ ap (λ o. option_or o None) (none_dead (suc n) us)
 
   -- nor after a value that records no NFA states
-  tail-over : (n : ℕ) (v : Value) (us rest : List (Option ℕ)) → (value_after nfa kind v us).states ≡ [] → last_ended n (tail v (us ++ rest)) ≡ last_ended n (tail v us)
+  tail-over : (n : ℕ) (v : Value) (us rest : List (Option ℕ)) → (value_after nfa kind v us).states ≡ [] → last_ended n (tail nfa kind v (us ++ rest)) ≡ last_ended n (tail nfa kind v us)
   tail-over n v [] [] h = refl
   tail-over n v [] (u ∷ rest) h = ap (λ w. last_ended n (future nfa kind w rest)) (step_over nfa kind v u h) ∙ none_dead n rest
   tail-over n v (u ∷ us) rest h =
-      ap (λ vs. last_ended n vs) (future_is (step nfa kind v u) (us ++ rest))
+      ap (λ vs. last_ended n vs) (future_is nfa kind (step nfa kind v u) (us ++ rest))
       ∙ ap (λ o. option_or o (ended_at n (step nfa kind v u).patterns)) (tail-over (suc n) (step nfa kind v u) us rest h)
-      ∙ sym (ap (λ vs. last_ended n vs) (future_is (step nfa kind v u) us))
-
-  -- one more unit
-  tail-push : (n : ℕ) (v : Value) (us : List (Option ℕ)) (u : Option ℕ)
-      → last_ended n (tail v (us ++ u ∷ [])) ≡ option_or (ended_at (n + length us) (value_after nfa kind v (us ++ u ∷ [])).patterns) (last_ended n (tail v us))
-  tail-push n v [] u =
-      let z : n ≡ n + 0 = omega arith in
-      ap (λ k. ended_at k (step nfa kind v u).patterns) z ∙ sym (option_or-None (ended_at (n + 0) (step nfa kind v u).patterns))
-  tail-push n v (w ∷ us) u =
-      let z : suc n + length us ≡ n + suc (length us) = omega arith in
-      ap (λ vs. last_ended n vs) (future_is (step nfa kind v w) (us ++ u ∷ []))
-      ∙ ap (λ o. option_or o (ended_at n (step nfa kind v w).patterns)) (tail-push (suc n) (step nfa kind v w) us u)
-      ∙ option_or-assoc (ended_at (suc n + length us) (value_after nfa kind (step nfa kind v w) (us ++ u ∷ [])).patterns) (last_ended (suc n) (tail (step nfa kind v w) us)) (ended_at n (step nfa kind v w).patterns)
-      ∙ ap (λ k. option_or (ended_at k (value_after nfa kind (step nfa kind v w) (us ++ u ∷ [])).patterns) (option_or (last_ended (suc n) (tail (step nfa kind v w) us)) (ended_at n (step nfa kind v w).patterns))) z
-      ∙ ap (λ vs. option_or (ended_at (n + suc (length us)) (value_after nfa kind (step nfa kind v w) (us ++ u ∷ [])).patterns) (last_ended n vs)) (sym (future_is (step nfa kind v w) us))
-
-  last_match-tail : (v : Value) (us : List (Option ℕ)) → last_match (future nfa kind v us) ≡ last_ended 0 (tail v us)
-  last_match-tail v us = ap last_match (future_is v us)
-
-  -- the last match over one more unit
-  pub last_match-push : (v : Value) (us : List (Option ℕ)) (u : Option ℕ)
-      → last_match (future nfa kind v (us ++ u ∷ [])) ≡ option_or (ended_at (length us) (value_after nfa kind v (us ++ u ∷ [])).patterns) (last_match (future nfa kind v us))
-  last_match-push v us u =
-      let z : 0 + length us ≡ length us = omega arith in
-      last_match-tail v (us ++ u ∷ []) ∙ tail-push 0 v us u
-      ∙ ap (λ k. option_or (ended_at k (value_after nfa kind v (us ++ u ∷ [])).patterns) (last_ended 0 (tail v us))) z
-      ∙ ap (λ o. option_or (ended_at (length us) (value_after nfa kind v (us ++ u ∷ [])).patterns) o) (sym (last_match-tail v us))
+      ∙ sym (ap (λ vs. last_ended n vs) (future_is nfa kind (step nfa kind v u) us))
 
   -- the last match stays where no NFA state is left
   pub last_match-over : (v : Value) (us rest : List (Option ℕ)) → (value_after nfa kind v us).states ≡ [] → last_match (future nfa kind v us) ≡ last_match (future nfa kind v (us ++ rest))
-  last_match-over v us rest h = last_match-tail v us ∙ sym (tail-over 0 v us rest h) ∙ sym (last_match-tail v (us ++ rest))
+  last_match-over v us rest h = last_match-tail nfa kind v us ∙ sym (tail-over 0 v us rest h) ∙ sym (last_match-tail nfa kind v (us ++ rest))
 
   -- a match ends within what was read
   last_ended-within : (n : ℕ) (vs : List Value) → IfSome (last_ended n vs) (λ m. m.offset < n + length vs)
@@ -101,14 +65,14 @@ module _ (nfa : Nfa) (kind : MatchKind) where
       later None h = here v.patterns
       later (Some m) h = omega (arith, h)
 
-  length-tail : (v : Value) (us : List (Option ℕ)) → length (tail v us) ≡ length us
+  length-tail : (v : Value) (us : List (Option ℕ)) → length (tail nfa kind v us) ≡ length us
   length-tail v [] = refl
-  length-tail v (u ∷ us) = ap length (future_is (step nfa kind v u) us) ∙ ap suc (length-tail (step nfa kind v u) us)
+  length-tail v (u ∷ us) = ap length (future_is nfa kind (step nfa kind v u) us) ∙ ap suc (length-tail (step nfa kind v u) us)
 
   pub last_match-within : (v : Value) (us : List (Option ℕ)) → IfSome (last_match (future nfa kind v us)) (λ m. m.offset < length us)
   last_match-within v us =
-      subst (λ o. IfSome o (λ m. m.offset < length us)) (sym (last_match-tail v us))
-      (subst (λ n. IfSome (last_ended 0 (tail v us)) (λ m. m.offset < n)) (none_added (length (tail v us)) ∙ length-tail v us) (last_ended-within 0 (tail v us)))
+      subst (λ o. IfSome o (λ m. m.offset < length us)) (sym (last_match-tail nfa kind v us))
+      (subst (λ n. IfSome (last_ended 0 (tail nfa kind v us)) (λ m. m.offset < n)) (none_added (length (tail nfa kind v us)) ∙ length-tail v us) (last_ended-within 0 (tail nfa kind v us)))
     where
       none_added : (n : ℕ) → 0 + n ≡ n
       none_added n = omega arith

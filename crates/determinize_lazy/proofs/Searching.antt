@@ -7,7 +7,8 @@ use Rattle.std.proofs.lemmas.Option.{get_or_from_slice_get, slice_get-get_or, sl
 use Rattle.std.proofs.lemmas.List.FromFn.{length-map-range_with_len}
 use Rattle.std.specs.List.{list_any}
 use mathlib.Core.Bool.{true≢false}
-use Rattle.determinize_core.proofs.Loops.{value_after, value_after-push}
+use Rattle.determinize_core.proofs.LastMatches.{last_match-push}
+use Rattle.determinize_core.proofs.Loops.{value_after-push}
 use Rattle.determinize_core.proofs.UnitLists.{units_are}
 use Rattle.determinize_lazy.specs.Pairs.{chain_pairs, is_kept, Pair, same}
 use Rattle.determinize_lazy.specs.Private.Places.{AreValid, HaveValidValues, IsPlace}
@@ -19,16 +20,16 @@ use Rattle.determinize_lazy.specs.Kept.{after_walk, Cache, count_after, held_val
 use Rattle.determinize_lazy.specs.Private.Turns.{after_turn, IsKnown}
 use Rattle.determinize_lazy.specs.Searches.{in_order, units_read}
 use Rattle.determinize_core.specs.Value.{dead, is_nonempty, IsValue, Value}
-use Rattle.determinize_core.specs.Chain.{future, units}
+use Rattle.determinize_core.specs.Chain.{future, units, value_after}
 use Rattle.determinize_core.specs.Walk.{ended_at, last_match}
 use Rattle.determinize_below.specs.declared.search.HalfMatch.{HalfMatch}
 use Rattle.determinize_below.specs.Positions.{after_at, between}
 use Rattle.determinize_below.specs.Nfa.{AllResolve, IsAccepted, Nfa}
-use Rattle.determinize_lazy.proofs.LastUnits.{last_match-over, last_match-push, last_match-within}
+use Rattle.determinize_lazy.proofs.LastUnits.{last_match-over, last_match-within}
 use Rattle.determinize_lazy.proofs.Plenty.{keeps_all, valid-push}
 use Rattle.determinize_lazy.proofs.Walking.{after_resolves, after_walk-push}
 
-empty_is : (xs : List ℕ) → is_nonempty xs ≡ false → xs ≡ []
+pub empty_is : (xs : List ℕ) → is_nonempty xs ≡ false → xs ≡ []
 empty_is [] h = refl
 empty_is (x ∷ xs) h = absurd (true≢false h)
 
@@ -36,7 +37,7 @@ pub not_true : (b : Bool) → not b ≡ true → b ≡ false
 not_true true h = absurd (true≢false (sym h))
 not_true false h = refl
 
-not_false : (b : Bool) → not b ≡ false → b ≡ true
+pub not_false : (b : Bool) → not b ≡ false → b ≡ true
 not_false true h = refl
 not_false false h = absurd (true≢false h)
 
@@ -133,7 +134,8 @@ searched-push old first us u own own' place place' last last' new newer few s va
     }
 
 -- the units of a text, some bytes of it apart
-units_split : (text : List ℕ) (ahead : Option ℕ) (i : ℕ) → units (between None text ahead) ≡ map Some (take i text) ++ (map Some (drop i text) ++ ahead ∷ [])
+pub units_split : (text : List ℕ) (ahead : Option ℕ) (i : ℕ)
+    → units (between None text ahead) ≡ map Some (take i text) ++ (map Some (drop i text) ++ ahead ∷ [])
 units_split text ahead i =
     units_are None ahead text
     ∙ ap (λ bs. map Some bs ++ ahead ∷ []) (sym (take-append-drop i text))

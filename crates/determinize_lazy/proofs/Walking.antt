@@ -8,13 +8,13 @@ use Rattle.determinize_lazy.specs.Private.Places.{AreValid, IsPlace}
 use Rattle.determinize_lazy.specs.Kept.{after_pair, after_walk, Cache, held_values, kept, missed, step_of}
 use Rattle.determinize_lazy.specs.Private.Turns.{after_turn}
 use Rattle.determinize_core.specs.Value.{IsValue, Value}
-use Rattle.determinize_core.specs.Chain.{future, units}
+use Rattle.determinize_core.specs.Chain.{future, units, value_after}
 use Rattle.determinize_core.specs.Step.{step}
 use Rattle.determinize_below.specs.Positions.{between}
 use Rattle.determinize_below.specs.Nfa.{AllResolve, IsAccepted, Nfa}
 use Rattle.determinize_below.specs.declared.search.MatchKind.{MatchKind}
 use Rattle.determinize_lazy.proofs.Placing.{get_push, not_none}
-use Rattle.determinize_core.proofs.Loops.{future-push, value_after, value_after-push}
+use Rattle.determinize_core.proofs.Loops.{future-push, value_after-push}
 use Rattle.determinize_core.proofs.Resolving.{step_resolves}
 use Rattle.determinize_core.proofs.UnitLists.{units_are}
 

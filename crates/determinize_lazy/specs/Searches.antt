@@ -1,5 +1,5 @@
 -- Searches over a cache: what they read, what they answer and what they leave.
-use Rattle.std.specs.Prelude.{◌≡◌, ℕ, ◌+◌, ◌-◌, Bool, true, false, cond, Option, Some, None, List, [], ◌∷◌, nat_lt, option_map, reverse, slice_get}
+use Rattle.std.specs.Prelude.{◌≡◌, ℕ, ◌+◌, ◌-◌, Bool, true, false, cond, not, ◌&&◌, Option, Some, None, List, [], ◌∷◌, nat_lt, option_map, reverse, slice_get}
 use Rattle.std.specs.List.{slice_range}
 use Rattle.determinize_below.specs.Nfa.{Nfa}
 use Rattle.determinize_below.specs.Positions.{Accepts, IsPreferredRun, Text, between}
@@ -12,7 +12,7 @@ use Rattle.determinize_core.specs.Chain.{chain, units}
 use Rattle.determinize_looks.specs.StartKinds.{byte_before}
 use Rattle.determinize_core.specs.Step.{start_value}
 use Rattle.determinize_core.specs.Value.{Value, is_nonempty}
-use Rattle.determinize_core.specs.Walk.{last_match}
+use Rattle.determinize_core.specs.Walk.{IsFarthestMatch, last_match}
 use Rattle.determinize_lazy.specs.Kept.{Cache, after_walk, step_of}
 use Rattle.determinize_lazy.specs.Plenty.{HasRoom, KeepsAll}
 
@@ -22,6 +22,13 @@ module _ (f : Value → Option ℕ → Value) where
   units_read v [] = []
   units_read v (u ∷ us) = cond (is_nonempty v.states) (u ∷ units_read (f v u) us) []
 
+  -- the units that `is_match` from a value reads: none more from a value on that lists a pattern or
+  -- records no NFA states
+  abbrev pub units_to_match : Value → List (Option ℕ) → List (Option ℕ)
+  units_to_match v [] = []
+  units_to_match v (u ∷ us) =
+      cond (is_nonempty v.states && not (is_nonempty v.patterns)) (u ∷ units_to_match (f v u) us) []
+
 -- the units that a search from an NFA state over a text reads
 abbrev pub units_searched : Cache → ℕ → Text → List (Option ℕ)
 units_searched c start text = units_read (step_of c) (start_value c.nfa start text.behind) (units text)
@@ -30,16 +37,17 @@ units_searched c start text = units_read (step_of c) (start_value c.nfa start te
 unfoldable pub after_search : Cache → ℕ → Text → Cache
 after_search c start text = after_walk c (start_value c.nfa start text.behind) (units_searched c start text)
 
+-- the cache after `is_match` from an NFA state over a text
+unfoldable pub after_first_match : Cache → ℕ → Text → Cache
+after_first_match c start text =
+    let first : Value = start_value c.nfa start text.behind in
+    after_walk c first (units_to_match (step_of c) first (units text))
+
 -- with room for all that a search reads, each pair of it is kept, and each that was missing was computed once
 abbrev pub IsPlenty : Cache → ℕ → Text → Cache → Type 0
 IsPlenty old start text new =
     let first : Value = start_value old.nfa start text.behind in
     HasRoom old first (units_searched old start text) → KeepsAll old first (units_searched old start text) new
-
--- the pattern and the end of the most preferred of all accepting runs, or none where no run accepts
-abbrev pub IsPreferredMatch : Nfa → ℕ → Text → Option HalfMatch → Type 0
-IsPreferredMatch nfa start text None = (cs : List ℕ) (i pattern : ℕ) → Accepts nfa text start cs i pattern → ⊥
-IsPreferredMatch nfa start text (Some m) = (cs : List ℕ) × IsPreferredRun nfa text start cs m.offset m.pattern
 
 -- whether there is a start for a search that is so anchored: for one pattern alone there is none
 abbrev pub has_start : Anchored → Bool
@@ -47,11 +55,10 @@ has_start No = true
 has_start Yes = true
 has_start (Pattern pattern) = false
 
--- the state that a search starts from
+-- the state that a search starts from, where it has a start
 abbrev pub start_for : Nfa → Anchored → ℕ
 start_for nfa No = nfa.start_unanchored
-start_for nfa Yes = nfa.start_anchored
-start_for nfa (Pattern pattern) = nfa.start_anchored
+start_for nfa _ = nfa.start_anchored
 
 -- bytes in the order of reading: from the last to the first where they are read backward
 abbrev pub in_order : Bool → List ℕ → List ℕ
@@ -84,13 +91,32 @@ found_in nfa asked found = cond (is_done asked) None (option_map (in_haystack nf
 unfoldable pub last_in : Nfa → MatchKind → Asked → Option HalfMatch
 last_in nfa kind asked = found_in nfa asked (last_match (chain nfa kind (start_for nfa asked.anchored) (text_of nfa.reverse asked)))
 
--- the preferred match of what an input asks for
-abbrev pub IsPreferredIn : Nfa → Asked → Option HalfMatch → Type 0
-IsPreferredIn nfa asked answer = (found : Option HalfMatch) × IsPreferredMatch nfa (start_for nfa asked.anchored) (text_of nfa.reverse asked) found × (answer ≡ found_in nfa asked found)
+-- some run over what an input asks for accepts
+abbrev pub HasMatch : Nfa → Asked → Type 0
+HasMatch nfa asked = (cs : List ℕ) × (i : ℕ) × (pattern : ℕ)
+    × Accepts nfa (text_of nfa.reverse asked) (start_for nfa asked.anchored) cs i pattern
+
+-- the match is that of the most preferred of all accepting runs, its offset counted in the haystack
+abbrev pub IsPreferredIn : Nfa → Asked → HalfMatch → Type 0
+IsPreferredIn nfa asked m = (cs : List ℕ) × (i : ℕ) × (m.offset ≡ index_after nfa.reverse asked i)
+    × IsPreferredRun nfa (text_of nfa.reverse asked) (start_for nfa asked.anchored) cs i m.pattern
+
+-- the match is that of the best run at the last position where any run accepts, its offset counted
+-- in the haystack
+abbrev pub IsFarthestIn : Nfa → Asked → HalfMatch → Type 0
+IsFarthestIn nfa asked m = (i : ℕ) × (m.offset ≡ index_after nfa.reverse asked i)
+    × IsFarthestMatch nfa (start_for nfa asked.anchored) (text_of nfa.reverse asked)
+    (Some record { pattern = m.pattern; offset = i })
 
 -- the cache after a search of an input
 unfoldable pub after_input : Cache → Asked → Cache
 after_input c asked = cond (is_done asked) c (after_search c (start_for c.nfa asked.anchored) (text_of c.nfa.reverse asked))
+
+-- the cache after `is_match` of an input
+unfoldable pub after_is_match : Cache → Asked → Cache
+after_is_match c asked =
+    cond (is_done asked) c
+    (after_first_match c (start_for c.nfa asked.anchored) (text_of c.nfa.reverse asked))
 
 -- with room for all that it reads, each pair of it is kept, and each that was missing was computed once
 abbrev pub IsPlentyIn : Cache → Asked → Cache → Type 0

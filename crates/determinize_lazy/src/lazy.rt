@@ -33,8 +33,10 @@ use std::marker::Model;
 /// with its source and its target, are at most as many as the limit. Else the cache is emptied, and
 /// the transition is kept where its two states alone are at most as many; else nothing is.
 ///
-/// Offsets of rows are numbers of 32 bits. Where more than 16647160 states would be held, a call
-/// answers `AllocError`, as it does for want of memory.
+/// A walk or a search returns `AllocError` if an allocation fails, or if more than 16647160 states
+/// would be cached, since offsets of rows are numbers of 32 bits. After an error the NFA, the match
+/// kind and the limit are unchanged, and `computed` is not smaller. The cache may hold any
+/// transitions of its NFA then, with at most `limit` states.
 pub struct Lazy<'n, N: Allocator = Global, A: Allocator = Global> {
     alloc: A,
     pub(crate) nfa: &'n NFA<N>,
@@ -458,15 +460,16 @@ impl<'n, N: Allocator, A: Allocator + Copy> Lazy<'n, N, A> {
         Ok(states)
     }
 
-    /// Walks a text as `walk` of `determinize_core` does: the state at the start of a search, and
-    /// after it the state that follows over each byte and, last, over the end of the input.
+    /// Returns the states of a walk over a text, as `walk` of `determinize_core` does: the start
+    /// state, the state that follows over each byte and, last, over the end of input (EOI).
     ///
     /// - `start` is the id of the NFA state to start from, below the number of states.
-    /// - `look_behind` is the byte that is read just before the text, or none.
+    /// - `look_behind` is the byte just before the text, if any.
     ///
     /// The text is in the order of reading: for an NFA that reads backward, from the last byte on.
-    /// The only error is want of memory, or of room for more than 16647160 states. The cache holds then
-    /// some of what it held and of what this call kept, or nothing; later answers are the same.
+    ///
+    /// Returns `AllocError` if an allocation fails, or if more than 16647160 states would be
+    /// cached.
     pub fn walk(
         &mut self,
         start: StateID,
@@ -500,12 +503,13 @@ impl<'n, N: Allocator, A: Allocator + Copy> Lazy<'n, N, A> {
         self.walk_between(start, look_behind, text, None)
     }
 
-    /// Walks a text that has a byte ahead of its end: the same as `walk`, and the last state is the
-    /// one that follows over this byte. Where none is given, it follows over the end of the input.
+    /// Returns the states of a walk over a text, as `walk` does, but the last state follows over
+    /// the byte just after the text, or over the end of input (EOI) if `look_ahead` is `None`.
     ///
     /// The text is in the order of reading: for an NFA that reads backward, from the last byte on.
-    /// The only error is want of memory, or of room for more than 16647160 states. The cache holds then
-    /// some of what it held and of what this call kept, or nothing; later answers are the same.
+    ///
+    /// Returns `AllocError` if an allocation fails, or if more than 16647160 states would be
+    /// cached.
     pub fn walk_between(
         &mut self,
         start: StateID,

@@ -2,7 +2,6 @@
 
 ghost use Rattle.std.specs.Prelude.{◌≡◌, ◌<◌, length, IfOk};
 ghost use Rattle.determinize_below.specs.Nfa.{AllResolve};
-ghost use Rattle.determinize_below.specs.Unit.{byte_of};
 ghost use Rattle.determinize_core.specs.Step.{start_value, step};
 
 use determinize_below::{MatchKind, NFA, SparseSets, StateID, Unit};
@@ -30,16 +29,6 @@ impl<A: Allocator> Model for Scratch<A> {
     ghost view = { λ s. s.sparses.set1.capacity };
 
     ghost invariant = { λ s. (s.sparses.set2.capacity ≡ s.sparses.set1.capacity) × (s.stack.items ≡ []) };
-}
-
-/// The unit of a byte, or the end of the input.
-fn unit_of(unit: Option<u8>) -> Unit
-    ensures { byte_of result ≡ unit }
-{
-    match unit {
-        Some(byte) => Unit::u8(byte),
-        None => Unit::eoi(256),
-    }
 }
 
 impl<A: Allocator + Copy> Scratch<A> {
@@ -105,7 +94,7 @@ impl<A: Allocator + Copy> Scratch<A> {
             &mut self.sparses,
             &mut self.stack,
             state,
-            unit_of(unit),
+            Unit::from(unit),
             empty,
         )
     }

@@ -1,21 +1,21 @@
 //! Searches over the cache: the last match of a walk, without a list of its states.
 
-ghost use Rattle.std.specs.Prelude.{◌≡◌, ◌<◌, ◌≤◌, ◌-◌, true, false, ◌&&◌, is_some, length, option_map, slice_get, slice_index, IfOk, OnOk, None, Some};
-ghost use Rattle.std.specs.Option.{IfSome, option_or};
+ghost use Rattle.std.specs.Prelude.{Decides, ◌≡◌, ◌<◌, ◌≤◌, ◌-◌, true, false, ◌&&◌, is_some, length, option_map, [], slice_get, slice_index, IfOk, OnOk, Ok, None, Some};
+ghost use Rattle.std.specs.Option.{IfNone, IfSome, option_or};
 ghost use Rattle.determinize_below.specs.Nfa.{AllResolve};
 ghost use Rattle.determinize_below.specs.Positions.{between};
 ghost use Rattle.determinize_below.specs.declared.search.MatchKind.TheVariants as kinds;
 ghost use Rattle.determinize_core.specs.Chain.{chain, units};
 ghost use Rattle.determinize_core.specs.Value.{IsValue, Value as StateValue, is_nonempty};
-ghost use Rattle.determinize_core.specs.Walk.{ended_at, last_match};
+ghost use Rattle.determinize_core.specs.Walk.{IsFarthestMatch, IsPreferredMatch, ended_at, last_match};
 ghost use Rattle.determinize_lazy.specs.Kept.{held_values, step_of};
 ghost use Rattle.determinize_lazy.specs.Pairs.{is_kept};
-ghost use Rattle.determinize_lazy.specs.Private.Over.{IsOver};
+ghost use Rattle.determinize_lazy.specs.Private.Over.{IsDecided, IsOver};
 ghost use Rattle.determinize_lazy.specs.Private.Places.{AreValid, HaveValidValues, IsPlace};
 ghost use Rattle.determinize_lazy.specs.Private.Signs.{match_of, signs_in, signs_of};
 ghost use Rattle.determinize_lazy.specs.Private.Standing.{IsStanding, current};
 ghost use Rattle.determinize_lazy.specs.Private.Turns.{IsKnown, after_turn};
-ghost use Rattle.determinize_lazy.specs.Searches.{IsPlenty, IsPlentyIn, IsPreferredIn, IsPreferredMatch, after_input, after_search, has_start, in_haystack, in_order, last_in, start_for, text_of};
+ghost use Rattle.determinize_lazy.specs.Searches.{HasMatch, IsFarthestIn, IsPlenty, IsPlentyIn, IsPreferredIn, after_first_match, after_input, after_is_match, after_search, has_start, in_haystack, in_order, is_done, last_in, start_for, text_of};
 
 use crate::lazy::{Lazy, Reached};
 use crate::place::Place;
@@ -308,6 +308,9 @@ impl<'n, N: Allocator, A: Allocator + Copy> Lazy<'n, N, A> {
         ensures preferred { let read = between look_behind (in_order is_backward text.now) look_ahead
             in self.old.kind ≡ kinds.LeftmostFirst → IfOk result
             (λ found. IsPreferredMatch self.old.nfa start read found) }
+        ensures farthest { let read = between look_behind (in_order is_backward text.now) look_ahead
+            in self.old.kind ≡ kinds.All → IfOk result
+            (λ found. IsFarthestMatch self.old.nfa start read found) }
         ensures within { IfOk result
             (λ found. IfSome found (λ m. m.offset ≤ length text.now)) }
         ensures after { let read = between look_behind (in_order is_backward text.now) look_ahead
@@ -324,20 +327,98 @@ impl<'n, N: Allocator, A: Allocator + Copy> Lazy<'n, N, A> {
         Ok(found)
     }
 
-    /// Searches a text: the last match that `walk_between` over the same tells, without a list of
-    /// its states, or none. The offset of a match is the number of bytes before its end.
+    /// Returns whether the walk from a state reaches a match state. Stops at the first one, and at
+    /// a state that records no NFA states.
+    #[inline(always)]
+    fn is_match_from(
+        &mut self,
+        first: State<A>,
+        text: &[u8],
+        is_backward: bool,
+        look_ahead: Option<u8>,
+    ) -> Result<bool, AllocError>
+        requires resolve { AllResolve self.old.nfa first.states }
+        requires unmatched { first.patterns ≡ [] }
+        ensures decided { let us = units (between None (in_order is_backward text.now) look_ahead)
+            in IfOk result (λ found. IsDecided self.old first us found self.new) }
+        ensures nfa { self.new.nfa ≡ self.old.nfa }
+        ensures kind { self.new.kind ≡ self.old.kind }
+        ensures limit { self.new.limit ≡ self.old.limit }
+        ensures computed { self.old.computed ≤ self.new.computed }
+    {
+        // For the proof alone: a field tells what is true of every cache.
+        let _ = &self.limit;
+        let mut place = self.place_of(&first);
+        let mut own = first;
+        let mut read = 0;
+        while read < text.len() {
+            // A copy, since a call borrows what it is given by value.
+            let standing = place;
+            let signs = self.signs(&own, standing);
+            if signs.is_match() {
+                return Ok(true);
+            }
+            if signs.is_last() {
+                return Ok(false);
+            }
+            let byte = byte_after(text, is_backward, read);
+            place = self.step(&mut own, place, Some(byte))?;
+            read += 1;
+        }
+        let standing = place;
+        let signs = self.signs(&own, standing);
+        if signs.is_match() {
+            return Ok(true);
+        }
+        if signs.is_last() {
+            return Ok(false);
+        }
+        place = self.step(&mut own, place, look_ahead)?;
+        Ok(self.signs(&own, place).is_match())
+    }
+
+    /// Returns whether some run over a text accepts.
+    #[inline(always)]
+    fn is_match_in(
+        &mut self,
+        start: StateID,
+        look_behind: Option<u8>,
+        text: &[u8],
+        is_backward: bool,
+        look_ahead: Option<u8>,
+    ) -> Result<bool, AllocError>
+        requires { start < length self.old.nfa.states }
+        ensures found { let read = between look_behind (in_order is_backward text.now) look_ahead
+            in IfOk result
+            (λ found. found ≡ is_some (last_match (chain self.old.nfa self.old.kind start read))) }
+        ensures after { let read = between look_behind (in_order is_backward text.now) look_ahead
+            in OnOk result (self.new ≡ after_first_match self.old start read) }
+        ensures nfa { self.new.nfa ≡ self.old.nfa }
+        ensures kind { self.new.kind ≡ self.old.kind }
+        ensures limit { self.new.limit ≡ self.old.limit }
+        ensures computed { self.old.computed ≤ self.new.computed }
+    {
+        let first = self.start_state(start, look_behind)?;
+        let found = self.is_match_from(first, text, is_backward, look_ahead)?;
+        Ok(found)
+    }
+
+    /// Returns the last match of the walk that `walk_between` makes over the same text, or `None`
+    /// if it has no match. The offset of a match is the number of bytes before its end.
     ///
     /// - `start` is the id of the NFA state to start from, below the number of states.
-    /// - `look_behind` is the byte that is read just before the text, or none.
-    /// - `look_ahead` is the byte just ahead of the text, or none where the input ends there.
+    /// - `look_behind` is the byte just before the text, if any.
+    /// - `look_ahead` is the byte just after the text, or `None` if the input ends there.
+    ///
+    /// Under `MatchKind::LeftmostFirst` the match is that of the most preferred accepting run,
+    /// under `MatchKind::All` that of the best run at the last position where any run accepts.
+    /// `None` means that no run accepts.
     ///
     /// The text is in the order of reading: for an NFA that reads backward, from the last byte on.
-    /// Nothing is read after a state that records no NFA states, since nothing can follow it. Where
-    /// the leftmost match is wanted, the answer is the pattern and the end of the most preferred
-    /// match.
+    /// The search stops at a state that records no NFA states, since no match can follow it.
     ///
-    /// The only error is want of memory, or of room for more than 16647160 states. The cache holds then
-    /// some of what it held and of what this call kept, or nothing; later answers are the same.
+    /// Returns `AllocError` if an allocation fails, or if more than 16647160 states would be
+    /// cached.
     pub fn search(
         &mut self,
         start: StateID,
@@ -350,6 +431,8 @@ impl<'n, N: Allocator, A: Allocator + Copy> Lazy<'n, N, A> {
             (chain self.old.nfa self.old.kind start (between look_behind text.now look_ahead))) }
         ensures preferred { self.old.kind ≡ kinds.LeftmostFirst → IfOk result (λ found.
             IsPreferredMatch self.old.nfa start (between look_behind text.now look_ahead) found) }
+        ensures farthest { self.old.kind ≡ kinds.All → IfOk result (λ found.
+            IsFarthestMatch self.old.nfa start (between look_behind text.now look_ahead) found) }
         ensures within { IfOk result
             (λ found. IfSome found (λ m. m.offset ≤ length text.now)) }
         ensures after { OnOk result
@@ -365,28 +448,39 @@ impl<'n, N: Allocator, A: Allocator + Copy> Lazy<'n, N, A> {
         Ok(found)
     }
 
-    /// Searches what an input asks for, in the direction in which the NFA reads: an NFA that reads
-    /// backward reads the range from its end to its start. The answer is the last match of that
-    /// walk, or none, and its offset is an index into the haystack: where a match that was read
-    /// forward ends, or where one that was read backward begins. It lies in the range or at its end.
+    /// Returns the last match of a search of an input, or `None` if no run accepts.
     ///
-    /// The search starts from the NFA's anchored or unanchored start state, as the input asks. A
-    /// search that is anchored to one pattern has no start here: the caller must not ask for it.
-    /// No match goes over what stands beside the range in the haystack: assertions alone ask for it.
-    /// Where the search comes to the byte ahead of the range it is one more unit, computed and kept as
-    /// any other. A range that starts past its end has no match, and nothing is read.
+    /// The search reads the range in the direction of the NFA: an NFA that reads backward reads it
+    /// from its end to its start. The offset of a match is an index into the haystack: where the
+    /// match ends or, if it was read backward, where it begins. It lies in the range or at its end.
+    /// Which match it is depends on the match kind as for `search`.
     ///
-    /// The only error is want of memory, or of room for more than 16647160 states. The cache holds then
-    /// some of what it held and of what this call kept, or nothing; later answers are the same.
+    /// The search starts from the anchored or the unanchored start state of the NFA, as the input
+    /// asks. `Anchored::Pattern` has no start state here: the caller must not ask for it. To search
+    /// for one pattern only, give the pattern a start state in the NFA, and call `search` with the
+    /// id of that state.
+    ///
+    /// A match lies within the range. The bytes just before and after it are only looked at by
+    /// assertions, but the byte ahead is a unit that may be computed and cached as any other. If
+    /// the range starts past its end, nothing is read and the result is `Ok(None)`.
+    ///
+    /// Returns `AllocError` if an allocation fails, or if more than 16647160 states would be
+    /// cached.
     pub fn search_input(&mut self, input: &Input<'_>) -> Result<Option<HalfMatch>, AllocError>
         requires { has_start input.now.anchored ≡ true }
         ensures last { IfOk result
             (λ found. found ≡ last_in self.old.nfa self.old.kind input.now) }
         ensures preferred { self.old.kind ≡ kinds.LeftmostFirst → IfOk result
-            (λ found. IsPreferredIn self.old.nfa input.now found) }
+            (λ found. IfSome found (λ m. IsPreferredIn self.old.nfa input.now m)) }
+        ensures farthest { self.old.kind ≡ kinds.All → IfOk result
+            (λ found. IfSome found (λ m. IsFarthestIn self.old.nfa input.now m)) }
+        ensures none { is_done input.now ≡ false → IfOk result
+            (λ found. IfNone found (HasMatch self.old.nfa input.now → ⊥)) }
+        ensures done { is_done input.now ≡ true → result ≡ Ok None }
         ensures within { IfOk result (λ found. IfSome found
             (λ m. (input.now.start ≤ m.offset) × (m.offset ≤ input.now.end))) }
         ensures after { OnOk result (self.new ≡ after_input self.old input.now) }
+        ensures unchanged { is_done input.now ≡ true → self.new ≡ self.old }
         ensures plenty { OnOk result (IsPlentyIn self.old input.now self.new) }
         ensures nfa { self.new.nfa ≡ self.old.nfa }
         ensures kind { self.new.kind ≡ self.old.kind }
@@ -406,14 +500,51 @@ impl<'n, N: Allocator, A: Allocator + Copy> Lazy<'n, N, A> {
         Ok(in_haystack(input, is_backward, found))
     }
 
-    /// The start state of a search that is so anchored.
+    /// Returns whether an input has a match, under both match kinds: whether some run over what
+    /// `search_input` reads accepts.
+    ///
+    /// Stops at the first match state, and at a state that records no NFA states. Over cached
+    /// transitions the cache is only read. If the range starts past its end, nothing is read and
+    /// the result is `Ok(false)`. The caller must not ask for `Anchored::Pattern`, as for
+    /// `search_input`.
+    ///
+    /// Returns `AllocError` if an allocation fails, or if more than 16647160 states would be
+    /// cached.
+    pub fn is_match(&mut self, input: &Input<'_>) -> Result<bool, AllocError>
+        requires { has_start input.now.anchored ≡ true }
+        ensures accepts { is_done input.now ≡ false → IfOk result
+            (λ found. Decides found (HasMatch self.old.nfa input.now)) }
+        ensures done { is_done input.now ≡ true → result ≡ Ok false }
+        ensures after { OnOk result (self.new ≡ after_is_match self.old input.now) }
+        ensures unchanged { is_done input.now ≡ true → self.new ≡ self.old }
+        ensures nfa { self.new.nfa ≡ self.old.nfa }
+        ensures kind { self.new.kind ≡ self.old.kind }
+        ensures limit { self.new.limit ≡ self.old.limit }
+        ensures computed { self.old.computed ≤ self.new.computed }
+    {
+        let is_backward = self.nfa.is_reverse();
+        let id = self.start_for(input.get_anchored());
+        let (start, end) = (input.start(), input.end());
+        if start > end {
+            return Ok(false);
+        }
+        let behind = byte_behind(input, is_backward);
+        let range = &input.haystack()[start..end];
+        let ahead = byte_ahead(input, is_backward);
+        let found = self.is_match_in(id, behind, range, is_backward, ahead)?;
+        Ok(found)
+    }
+
+    /// Returns the start state of a search that is so anchored.
     fn start_for(&self, anchored: Anchored) -> StateID
+        requires { has_start anchored ≡ true }
         ensures value { result ≡ start_for self.now.nfa anchored }
         ensures resolve { result < length self.now.nfa.states }
     {
         match anchored {
             Anchored::No => self.nfa.start_unanchored(),
-            Anchored::Yes | Anchored::Pattern(_) => self.nfa.start_anchored(),
+            Anchored::Yes => self.nfa.start_anchored(),
+            Anchored::Pattern(_) => unreachable!(),
         }
     }
 }

@@ -46,7 +46,7 @@ impl Signs {
 
     /// Whether a pattern matches.
     #[inline(always)]
-    fn is_match(self) -> bool
+    pub(crate) fn is_match(self) -> bool
         ensures { result ≡ is_some (signs_in self.number).first }
     {
         self.number % NOTHING_FOLLOWS > 0

@@ -1,6 +1,7 @@
 //! The states of a Thompson NFA.
 
-ghost use Rattle.std.specs.Prelude.{◌≡◌};
+ghost use Rattle.std.specs.Prelude.{◌≡◌, ◌≤◌, count_by, length};
+ghost use Rattle.determinize_below.specs.Edges.{is_match_node};
 ghost use Rattle.determinize_below.specs.Node as nodes;
 
 use crate::look::Look;
@@ -45,4 +46,22 @@ impl<A: Allocator> State<A> {
             _ => false,
         }
     }
+}
+
+/// Returns whether the state is a `Match`.
+fn is_match<A: Allocator>(state: &State<A>) -> bool
+    ensures { result ≡ is_match_node (nodes.node_of state.now) }
+{
+    match state {
+        State::Match { .. } => true,
+        _ => false,
+    }
+}
+
+/// Returns the number of `Match` states.
+pub(crate) fn match_count<A: Allocator>(states: &[State<A>]) -> usize
+    ensures count { result ≡ count_by (λ s. is_match_node (nodes.node_of s)) states.now }
+    ensures limit { result ≤ length states.now }
+{
+    states.iter().filter(|state| is_match(*state)).count()
 }

@@ -152,7 +152,7 @@ pub fn walk_between<N: Allocator, A: Allocator + Copy>(
             &mut states,
         )?;
     }
-    let unit = unit_ahead(look_ahead);
+    let unit = Unit::from(look_ahead);
     let states = finish(
         nfa,
         match_kind,
@@ -217,16 +217,6 @@ fn with_last<A: Allocator + Clone>(
 {
     states.push(last.to_state()?)?;
     Ok(states)
-}
-
-/// The unit after a text: the byte ahead of it, or the end of the input.
-fn unit_ahead(look_ahead: Option<u8>) -> Unit
-    ensures { byte_of result ≡ look_ahead }
-{
-    match look_ahead {
-        Some(byte) => Unit::u8(byte),
-        None => Unit::eoi(256),
-    }
 }
 
 /// The last match that the states of a walk tell: the first pattern of the last state that lists

@@ -34,9 +34,9 @@ loop-byte-preserved g c = record {
 
 pub returns-clause-values : goal.returns-clause-values
 returns-clause-values g c =
-    walked-chain c.args.nfa.now c.args.match_kind c.args.start (between c.args.look_behind c.args.text.now c.args.look_ahead) c.loop-byte.byte-index _ _ _ _ _ (byte_of c.unit_ahead-unit.result) c.loop-byte-test.false
+    walked-chain c.args.nfa.now c.args.match_kind c.args.start (between c.args.look_behind c.args.text.now c.args.look_ahead) c.loop-byte.byte-index _ _ _ _ _ (byte_of c.from-unit.result) c.loop-byte-test.false
     c.loop-byte.invariant.walked
-    c.unit_ahead-unit.ensures
+    c.from-unit.ensures.0
     refl
     refl
     c.in_ok-states.ensures

@@ -7,7 +7,7 @@ use Rattle.determinize_lazy.specs.Private.Places.{HaveValidValues}
 use Rattle.determinize_lazy.specs.Searches.{after_search, in_order}
 use Rattle.determinize_lazy.specs.Kept.{Cache}
 use Rattle.std.proofs.Common.{subst, ◌≤◌}
-use Rattle.determinize_lazy.proofs.Headline.{preferred}
+use Rattle.determinize_lazy.proofs.Headline.{farthest, preferred}
 use Rattle.determinize_lazy.proofs.Searching.{length-in_order, over-from, over-keeps, over-within}
 use Rattle.determinize_lazy.proofs.lazy.Lazy.search_text.Goals as goal
 
@@ -17,6 +17,9 @@ returns-clause-last g c = (over-from c.args.self.now _ _ (start_value c.args.sel
 
 pub returns-clause-preferred : goal.returns-clause-preferred
 returns-clause-preferred g c = λ kind. preferred c.args.self.now.nfa c.args.self.now.kind c.args.start (between c.args.look_behind (in_order c.args.is_backward c.args.text.now) c.args.look_ahead) c.in_ok-found.found c.in_ok-first.ensures.accepted kind (returns-clause-last g c)
+
+pub returns-clause-farthest : goal.returns-clause-farthest
+returns-clause-farthest g c = λ kind. farthest _ _ _ _ _ c.in_ok-first.ensures.accepted kind (returns-clause-last g c)
 
 pub returns-clause-within : goal.returns-clause-within
 returns-clause-within g c =

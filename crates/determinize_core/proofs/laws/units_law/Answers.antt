@@ -1,0 +1,5 @@
+use Rattle.determinize_core.proofs.UnitLists.{units_are}
+use Rattle.determinize_core.proofs.laws.units_law.Goals as goal
+
+pub returns : goal.returns
+returns c = λ text. units_are text.behind text.ahead text.bytes

@@ -1,0 +1,71 @@
+use Rattle.std.proofs.Common.{rules, ◌≡◌, ◌<◌, ◌≤◌, true, false, arith, sym}
+use Rattle.std.specs.List.{slice_range}
+use Rattle.determinize_below.specs.Positions.{between}
+use Rattle.determinize_lazy.specs.Searches.{in_order, is_done, start_for}
+use Rattle.determinize_lazy.proofs.Ranges.{decides, first-done, first-found, is_done-else, is_done-past, IsRead, read}
+use Rattle.determinize_lazy.proofs.lazy.Lazy.is_match.Given.{Over}
+use Rattle.determinize_lazy.proofs.lazy.Lazy.is_match.Goals.{After-byte_ahead-ahead, Then-start-end}
+use Rattle.determinize_lazy.proofs.lazy.Lazy.is_match.Goals as goal
+
+-- nothing is left to search
+is_past : (g : Over) (c : Then-start-end g) → c.args.input.now.end < c.args.input.now.start
+is_past g c = omega (arith, c.if-start-end.true, c.start-start.ensures.value, c.end-end.ensures.value)
+
+none_left : (g : Over) (c : Then-start-end g) → is_done c.args.input.now ≡ false → ⊥
+none_left g c = is_done-past c.args.input.now (is_past g c)
+
+-- what is read is what the input asks for
+is_read : (g : Over) (c : After-byte_ahead-ahead g)
+    → IsRead c.args.self.now.nfa c.args.input.now c.is_reverse-is_backward.result c.start_for-id.result
+    (between c.byte_behind-behind.result
+    (in_order c.is_reverse-is_backward.result
+    (slice_range c.haystack.result.now c.start-start.result c.end-end.result)) c.byte_ahead-ahead.result)
+is_read g c =
+    let order : c.args.input.now.start ≤ c.args.input.now.end =
+    omega (arith, c.if-start-end.false, c.start-start.ensures.value, c.end-end.ensures.value) in
+    let direction : c.is_reverse-is_backward.result ≡ c.args.self.now.nfa.reverse = search rules in
+    let start : c.start_for-id.result ≡ start_for c.args.self.now.nfa c.args.input.now.anchored = search rules in
+    let range : slice_range c.haystack.result.now c.start-start.result c.end-end.result
+    ≡ slice_range c.args.input.now.haystack c.args.input.now.start c.args.input.now.end = search rules in
+    read c.args.self.now.nfa c.args.input.now _ _ _ _ _ order direction start c.byte_behind-behind.ensures range
+    c.byte_ahead-ahead.ensures
+
+-- the range does not start past its end
+in_range : (g : Over) (c : After-byte_ahead-ahead g) → is_done c.args.input.now ≡ true → ⊥
+in_range g c = is_done-else c.args.input.now (is_read g c).order
+
+pub returns-then-start-end-clause-accepts : goal.returns-then-start-end-clause-accepts
+returns-then-start-end-clause-accepts g c = λ more.
+    absurd (none_left g (goal.at.returns-then-start-end-clause-accepts g c).Then-start-end more)
+
+pub returns-then-start-end-clause-after : goal.returns-then-start-end-clause-after
+returns-then-start-end-clause-after g c =
+    sym (first-done c.args.self.now c.args.input.now
+    (is_past g (goal.at.returns-then-start-end-clause-after g c).Then-start-end))
+
+pub returns-clause-accepts : goal.returns-clause-accepts
+returns-clause-accepts g c = λ _.
+    decides c.args.self.now.nfa c.args.self.now.kind c.args.input.now _ _ _
+    (is_read g (goal.at.returns-clause-accepts g c).After-byte_ahead-ahead)
+    (search rules) c.in_ok-found.found c.in_ok-found.ensures.found
+
+pub returns-clause-after : goal.returns-clause-after
+returns-clause-after g c =
+    first-found c.args.self.now c.args.input.now c.is_match_in.new.self _ _ _
+    (is_read g (goal.at.returns-clause-after g c).After-byte_ahead-ahead) c.in_ok-found.ensures.after
+
+pub returns-clause-done : goal.returns-clause-done
+returns-clause-done g c = λ done.
+    absurd (in_range g (goal.at.returns-clause-done g c).After-byte_ahead-ahead done)
+
+pub returns-in_err-found-clause-done : goal.returns-in_err-found-clause-done
+returns-in_err-found-clause-done g c = λ done.
+    absurd (in_range g (goal.at.returns-in_err-found-clause-done g c).After-byte_ahead-ahead done)
+
+pub returns-clause-unchanged : goal.returns-clause-unchanged
+returns-clause-unchanged g c = λ done.
+    absurd (in_range g (goal.at.returns-clause-unchanged g c).After-byte_ahead-ahead done)
+
+pub returns-in_err-found-clause-unchanged : goal.returns-in_err-found-clause-unchanged
+returns-in_err-found-clause-unchanged g c = λ done.
+    absurd (in_range g (goal.at.returns-in_err-found-clause-unchanged g c).After-byte_ahead-ahead done)
