@@ -5,7 +5,7 @@ use Rattle.std.proofs.Math.Seq.{take-append_seam}
 use Rattle.std.proofs.lemmas.Bool.{cases_eq, false≢true}
 use Rattle.std.proofs.lemmas.List.{get_or-set_other, get_or-set_same}
 use Rattle.std.proofs.lemmas.Nat.Bits.{bit_at-zero, bit_at_set_other, bit_at_set_same, shr_and_one}
-use Rattle.determinize_below.specs.Members.{has_bit}
+use Rattle.determinize_below.specs.Private.Sparse.{has_bit}
 use Rattle.determinize_below.proofs.Tests.{by_cases}
 
 -- a bit as it is read

@@ -11,7 +11,8 @@ use Rattle.std.proofs.lemmas.Map.Keys.{IsDistinct-push}
 use Rattle.std.proofs.lemmas.Map.Steps.{length-le_from_distinct_below}
 use Rattle.std.proofs.lemmas.Map.Views.{Contains-from_any}
 use Rattle.determinize_below.specs.Private.Clearing.{IsCleared}
-use Rattle.determinize_below.specs.Members.{IsSparse, has_bit, has_id}
+use Rattle.determinize_below.specs.Members.{has_id}
+use Rattle.determinize_below.specs.Private.Sparse.{IsSparse, has_bit}
 use Rattle.determinize_below.proofs.Bits.{has_bit-empty}
 pub use Rattle.determinize_below.proofs.Bits.{has_bit-zeros, words_back}
 use Rattle.determinize_below.proofs.Tests.{by_cases}

@@ -8,7 +8,7 @@ use Rattle.std.proofs.lemmas.List.{get_or_default}
 use Rattle.std.proofs.lemmas.List.Folds.{Any-from_list_any, list_any-from_Any}
 use Rattle.determinize_below.specs.Edges.{assertion_in, state_at, IsTested}
 use Rattle.determinize_below.specs.Look.{has}
-use Rattle.determinize_below.specs.Nfa.{looks_of, with_look, with_looks, IsAccepted, Nfa}
+use Rattle.determinize_below.specs.Nfa.{looks_of, with_look, with_looks_of, IsAccepted, Nfa}
 use Rattle.determinize_below.specs.Node.{Node, ByteRange, Sparse, Dense, Look, Union, BinaryUnion, Capture, Fail, Match}
 use Rattle.determinize_below.specs.declared.look.Look.{Look as Assertion}
 use Rattle.determinize_below.proofs.EdgeLemmas.{state_past}
@@ -48,10 +48,10 @@ has-with_look set Fail look = kept (has set look)
 has-with_look set (Match pattern) look = kept (has set look)
 
 -- the set with the assertions of more states
-has-with_looks : (set : ℕ) (xs : List Node) (look : Assertion) → has (with_looks set xs) look ≡ (has set look || list_any (λ s. is_look (assertion_in s) look) xs)
-has-with_looks set [] look = kept (has set look)
-has-with_looks set (s ∷ xs) look =
-    has-with_looks (with_look set s) xs look
+has-with_looks_of : (set : ℕ) (xs : List Node) (look : Assertion) → has (with_looks_of set xs) look ≡ (has set look || list_any (λ s. is_look (assertion_in s) look) xs)
+has-with_looks_of set [] look = kept (has set look)
+has-with_looks_of set (s ∷ xs) look =
+    has-with_looks_of (with_look set s) xs look
     ∙ ap (λ b. b || list_any (λ s. is_look (assertion_in s) look) xs) (has-with_look set s look)
     ∙ together (has set look) (is_look (assertion_in s) look) (list_any (λ s. is_look (assertion_in s) look) xs)
   where
@@ -61,7 +61,7 @@ has-with_looks set (s ∷ xs) look =
 -- an assertion is among those of some states exactly where one of them tests it
 pub Decides-looks_of : (xs : List Node) (look : Assertion) → Decides (has (looks_of xs) look) (Any (λ s. assertion_in s ≡ Some look) xs)
 Decides-looks_of xs look = Decides-at _ _
-    (has-with_looks 0 xs look ∙ ap (λ b. b || list_any (λ s. is_look (assertion_in s) look) xs) (has-empty look))
+    (has-with_looks_of 0 xs look ∙ ap (λ b. b || list_any (λ s. is_look (assertion_in s) look) xs) (has-empty look))
     (Decides-list_any_look assertion_in xs look)
 
 -- and it is among those of an accepted NFA exactly where some state of the NFA tests it

@@ -89,13 +89,13 @@ with_look set (Look look next) = looks.insert set look
 with_look set _ = set
 
 -- the set with the assertions of all the states
-abbrev pub with_looks : ℕ → List Node → ℕ
-with_looks set [] = set
-with_looks set (node ∷ rest) = with_looks (with_look set node) rest
+abbrev pub with_looks_of : ℕ → List Node → ℕ
+with_looks_of set [] = set
+with_looks_of set (node ∷ rest) = with_looks_of (with_look set node) rest
 
 -- the assertions of the states
 abbrev pub looks_of : List Node → ℕ
-looks_of states = with_looks 0 states
+looks_of states = with_looks_of 0 states
 
 -- the NFA has passed every check, and knows its assertions
 pub record IsAccepted (nfa : Nfa) : Type 0 where

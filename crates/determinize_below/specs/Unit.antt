@@ -25,9 +25,9 @@ byte_of (Byte b) = Some b
 byte_of (End n) = None
 
 -- the number of an end, 0 for a byte
-abbrev pub number_of : Symbol → ℕ
-number_of (Byte b) = 0
-number_of (End n) = n
+abbrev pub eoi_number : Symbol → ℕ
+eoi_number (Byte b) = 0
+eoi_number (End n) = n
 
 -- whether the byte is a digit, a letter or an underscore
 unfoldable pub is_word_byte : ℕ → Bool

@@ -27,13 +27,13 @@ enum UnitKind {
 
 impl Model for Unit {
     ghost use Rattle.std.specs.Prelude.{◌≤◌};
-    ghost use Rattle.determinize_below.specs.Unit.{Symbol, symbol_of, kind_of, number_of};
+    ghost use Rattle.determinize_below.specs.Unit.{Symbol, symbol_of, kind_of, eoi_number};
 
     ghost Value = { Symbol };
 
     ghost view = { λ u. symbol_of u.0 };
 
-    ghost invariant = { λ u. number_of (symbol_of u.0) ≤ 256 };
+    ghost invariant = { λ u. eoi_number (symbol_of u.0) ≤ 256 };
 
     ghost inverse = { λ s. record { 0 = kind_of s } };
 }
@@ -71,7 +71,7 @@ impl Unit {
     /// The byte, or none at the end of the input, whose number is at most 256.
     pub fn as_u8(self) -> Option<u8>
         ensures byte { result ≡ units.byte_of self }
-        ensures limit { units.number_of self ≤ 256 }
+        ensures limit { units.eoi_number self ≤ 256 }
     {
         match self.0 {
             UnitKind::U8(value) => Some(value),

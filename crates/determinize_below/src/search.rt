@@ -1,6 +1,6 @@
 //! What a search is asked for: where, from which start, and which matches.
 
-ghost use Rattle.std.specs.Prelude.{◌≡◌, ℕ, ◌+◌, ◌≤◌, length, nat_lt};
+ghost use Rattle.std.specs.Prelude.{◌≡◌, ℕ, ◌+◌, ◌≤◌, length};
 ghost use Rattle.determinize_below.specs.Search as search_specs;
 
 use crate::primitives::PatternID;
@@ -162,7 +162,7 @@ impl<'h> Input<'h> {
 
     /// Returns whether the range starts past its end, so that no position is left to search.
     pub fn is_done(&self) -> bool
-        ensures { result ≡ nat_lt self.now.end self.now.start }
+        ensures { result ≡ search_specs.is_done self.now }
     {
         self.start > self.end
     }

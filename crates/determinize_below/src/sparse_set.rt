@@ -3,7 +3,8 @@
 ghost use Rattle.std.specs.Prelude.{◌≡◌, ℕ, ◌*◌, ◌<◌, ◌≤◌, ◌↔◌, [], ◌∷◌, ◌++◌, length, not, All, IsTrue, IfOk, if◌then◌else◌, nat_eq, ◌&&◌, ◌||◌};
 ghost use Rattle.std.specs.Iterator.{YieldsFirst, item_count};
 ghost use Rattle.determinize_below.specs.Private.Clearing.{IsCleared};
-ghost use Rattle.determinize_below.specs.Members.{has_bit, has_id};
+ghost use Rattle.determinize_below.specs.Private.Sparse.{has_bit};
+ghost use Rattle.determinize_below.specs.Members.{has_id};
 
 use crate::primitives::StateID;
 use std::alloc::{AllocError, Allocator, Global};
@@ -20,7 +21,8 @@ pub struct SparseSet<A: Allocator = Global> {
 
 impl<A: Allocator> Model for SparseSet<A> {
     ghost use Rattle.std.specs.Prelude.{vec_capacity};
-    ghost use Rattle.determinize_below.specs.Members.{Members, IsSparse};
+    ghost use Rattle.determinize_below.specs.Members.{Members};
+    ghost use Rattle.determinize_below.specs.Private.Sparse.{IsSparse};
 
     ghost Value = { Members };
 

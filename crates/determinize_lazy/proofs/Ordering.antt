@@ -7,7 +7,8 @@ use Rattle.std.proofs.lemmas.Option.{get_or_from_slice_get, slice_get-get_or, sl
 use Rattle.determinize_lazy.specs.Pairs.{Pair, same, with_value}
 use Rattle.determinize_lazy.specs.Private.Places.{HaveValidValues}
 use Rattle.determinize_lazy.specs.Private.Places.{AreValid}
-use Rattle.determinize_lazy.specs.Private.Rows.{column, IsRows, IsUnit, IsWithRow}
+use Rattle.determinize_below.specs.Truth.{IsUnit}
+use Rattle.determinize_lazy.specs.Private.Rows.{column, IsRows, IsWithRow}
 use Rattle.determinize_lazy.specs.Private.Signs.{signs_of}
 use Rattle.determinize_lazy.specs.Private.Order.{IsOrder, pair_at, pairs_of}
 use Rattle.determinize_lazy.specs.declared.table.Kept.{Kept}

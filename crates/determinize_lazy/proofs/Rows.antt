@@ -7,7 +7,8 @@ use Rattle.std.proofs.lemmas.List.Folds.{list_any-append}
 use Rattle.std.proofs.lemmas.Option.{slice_get_within}
 use mathlib.Core.Bool.{true≢false}
 use Rattle.determinize_lazy.specs.Pairs.{is_kept, Pair, same, same_unit}
-use Rattle.determinize_lazy.specs.Private.Rows.{column, IsEntry, IsRows, IsUnit, with_row}
+use Rattle.determinize_below.specs.Truth.{IsUnit}
+use Rattle.determinize_lazy.specs.Private.Rows.{column, IsEntry, IsRows, with_row}
 use Rattle.determinize_lazy.specs.Private.Signs.{signs_in, signs_of}
 use Rattle.determinize_core.specs.Value.{Value}
 use Rattle.determinize_lazy.proofs.Holding.{same_laws}

@@ -1,9 +1,9 @@
 -- Searches over a cache: what they read, what they answer and what they leave.
-use Rattle.std.specs.Prelude.{◌≡◌, ℕ, ◌+◌, ◌-◌, Bool, true, false, cond, not, ◌&&◌, Option, Some, None, List, [], ◌∷◌, nat_lt, option_map, reverse, slice_get}
+use Rattle.std.specs.Prelude.{◌≡◌, ℕ, ◌+◌, ◌-◌, Bool, true, false, cond, not, ◌&&◌, Option, Some, None, List, [], ◌∷◌, option_map, reverse, slice_get}
 use Rattle.std.specs.List.{slice_range}
 use Rattle.determinize_below.specs.Nfa.{Nfa}
 use Rattle.determinize_below.specs.Positions.{Accepts, IsPreferredRun, Text, between}
-use Rattle.determinize_below.specs.Search.{Asked}
+use Rattle.determinize_below.specs.Search.{Asked, is_done}
 use Rattle.determinize_below.specs.declared.search.Anchored.{Anchored}
 use Rattle.determinize_below.specs.declared.search.Anchored.TheVariants.{No, Pattern, Yes}
 use Rattle.determinize_below.specs.declared.search.HalfMatch.{HalfMatch}
@@ -64,10 +64,6 @@ start_for nfa _ = nfa.start_anchored
 abbrev pub in_order : Bool → List ℕ → List ℕ
 in_order false bytes = bytes
 in_order true bytes = reverse bytes
-
--- whether nothing is left to search: the range starts past its end
-abbrev pub is_done : Asked → Bool
-is_done asked = nat_lt asked.end asked.start
 
 -- what a search of a range reads: its bytes, with what stands beside it in the haystack
 abbrev pub text_of : Bool → Asked → Text

@@ -5,6 +5,7 @@ ghost use Rattle.std.specs.Option.{IfNone, IfSome, option_or};
 ghost use Rattle.determinize_below.specs.Nfa.{AllResolve};
 ghost use Rattle.determinize_below.specs.Positions.{between};
 ghost use Rattle.determinize_below.specs.declared.search.MatchKind.TheVariants as kinds;
+ghost use Rattle.determinize_below.specs.Search.{is_done};
 ghost use Rattle.determinize_core.specs.Chain.{chain, units};
 ghost use Rattle.determinize_core.specs.Value.{IsValue, Value as StateValue, is_nonempty};
 ghost use Rattle.determinize_core.specs.Walk.{IsFarthestMatch, IsPreferredMatch, ended_at, last_match};
@@ -15,7 +16,7 @@ ghost use Rattle.determinize_lazy.specs.Private.Places.{AreValid, HaveValidValue
 ghost use Rattle.determinize_lazy.specs.Private.Signs.{match_of, signs_in, signs_of};
 ghost use Rattle.determinize_lazy.specs.Private.Standing.{IsStanding, current};
 ghost use Rattle.determinize_lazy.specs.Private.Turns.{IsKnown, after_turn};
-ghost use Rattle.determinize_lazy.specs.Searches.{HasMatch, IsFarthestIn, IsPlenty, IsPlentyIn, IsPreferredIn, after_first_match, after_input, after_is_match, after_search, has_start, in_haystack, in_order, is_done, last_in, start_for, text_of};
+ghost use Rattle.determinize_lazy.specs.Searches.{HasMatch, IsFarthestIn, IsPlenty, IsPlentyIn, IsPreferredIn, after_first_match, after_input, after_is_match, after_search, has_start, in_haystack, in_order, last_in, start_for, text_of};
 
 use crate::lazy::{Lazy, Reached};
 use crate::place::Place;

@@ -5,7 +5,8 @@ ghost use Rattle.std.specs.List.{list_any};
 ghost use Rattle.determinize_core.specs.Value.{Value as StateValue};
 ghost use Rattle.determinize_lazy.specs.Pairs.{Pair, same, with_value};
 ghost use Rattle.determinize_lazy.specs.Private.Places.{IsPlace};
-ghost use Rattle.determinize_lazy.specs.Private.Rows.{IsRows, IsUnit, IsWithRow, column};
+ghost use Rattle.determinize_below.specs.Truth.{IsUnit};
+ghost use Rattle.determinize_lazy.specs.Private.Rows.{IsRows, IsWithRow, column};
 ghost use Rattle.determinize_lazy.specs.Private.Signs.{signs_in, signs_of};
 
 use crate::place::{PackedPlace, Place, UNITS};

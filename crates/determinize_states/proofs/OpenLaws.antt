@@ -7,38 +7,38 @@ use Rattle.std.proofs.lemmas.List.Elements.{All-push}
 use Rattle.std.proofs.lemmas.Map.Keys.{IsDistinct-push}
 use Rattle.determinize_states.specs.Value.{Value, IsValue, dead, with_pattern, is_nonempty}
 use Rattle.determinize_states.specs.Varint.{deltas}
-use Rattle.determinize_states.specs.Spelling.{is_explicit, words, word, spell, with_word, has_bit, value_of, number_at, numbers_in, flags, pattern_bytes}
+use Rattle.determinize_states.specs.Spelling.{is_explicit, words, word, spell, with_word, has_flag, value_of, number_at, numbers_in, flags, pattern_bytes}
 use Rattle.determinize_states.specs.Building.{spell_open, closed, value_of_open, IsOpen}
 use Rattle.determinize_states.specs.Private.PatternBytes.{with_bit, with_pattern_bytes}
 use Rattle.determinize_states.proofs.FlagLaws.{has_1, has_2, has_4, has_8, or_1, or_2, or_3, or_4, or_8}
 use Rattle.determinize_states.proofs.SpellingLaws.{dead_valid, value_of-spell, length-words, few, word_back, numbers_in-words}
 use Rattle.determinize_states.proofs.ValueLaws.{with_have, with_have_valid}
 
-open_explicit : (v : Value) → has_bit (spell_open v) 2 ≡ is_explicit v.patterns
+open_explicit : (v : Value) → has_flag (spell_open v) 2 ≡ is_explicit v.patterns
 unfolding spell_open
 open_explicit v = has_2 (is_nonempty v.patterns) (is_explicit v.patterns) v.from_word v.half_crlf
 
-open_match : (v : Value) → has_bit (spell_open v) 1 ≡ is_nonempty v.patterns
+open_match : (v : Value) → has_flag (spell_open v) 1 ≡ is_nonempty v.patterns
 unfolding spell_open
 open_match v = has_1 (is_nonempty v.patterns) (is_explicit v.patterns) v.from_word v.half_crlf
 
-open_from_word_bit : (v : Value) → has_bit (spell_open v) 4 ≡ v.from_word
+open_from_word_bit : (v : Value) → has_flag (spell_open v) 4 ≡ v.from_word
 unfolding spell_open
 open_from_word_bit v = has_4 (is_nonempty v.patterns) (is_explicit v.patterns) v.from_word v.half_crlf
 
-open_half_crlf_bit : (v : Value) → has_bit (spell_open v) 8 ≡ v.half_crlf
+open_half_crlf_bit : (v : Value) → has_flag (spell_open v) 8 ≡ v.half_crlf
 unfolding spell_open
 open_half_crlf_bit v = has_8 (is_nonempty v.patterns) (is_explicit v.patterns) v.from_word v.half_crlf
 
 -- the flags of the bytes are those of the value
-pub open_match_of : (bytes : List ℕ) → IsOpen bytes → has_bit bytes 1 ≡ is_nonempty (value_of_open bytes).patterns
-open_match_of bytes h = ap (λ (b : List ℕ). has_bit b 1) (sym h.spelled) ∙ open_match (value_of_open bytes)
+pub open_match_of : (bytes : List ℕ) → IsOpen bytes → has_flag bytes 1 ≡ is_nonempty (value_of_open bytes).patterns
+open_match_of bytes h = ap (λ (b : List ℕ). has_flag b 1) (sym h.spelled) ∙ open_match (value_of_open bytes)
 
-pub open_from_word_of : (bytes : List ℕ) → IsOpen bytes → has_bit bytes 4 ≡ (value_of_open bytes).from_word
-open_from_word_of bytes h = ap (λ (b : List ℕ). has_bit b 4) (sym h.spelled) ∙ open_from_word_bit (value_of_open bytes)
+pub open_from_word_of : (bytes : List ℕ) → IsOpen bytes → has_flag bytes 4 ≡ (value_of_open bytes).from_word
+open_from_word_of bytes h = ap (λ (b : List ℕ). has_flag b 4) (sym h.spelled) ∙ open_from_word_bit (value_of_open bytes)
 
-pub open_half_crlf_of : (bytes : List ℕ) → IsOpen bytes → has_bit bytes 8 ≡ (value_of_open bytes).half_crlf
-open_half_crlf_of bytes h = ap (λ (b : List ℕ). has_bit b 8) (sym h.spelled) ∙ open_half_crlf_bit (value_of_open bytes)
+pub open_half_crlf_of : (bytes : List ℕ) → IsOpen bytes → has_flag bytes 8 ≡ (value_of_open bytes).half_crlf
+open_half_crlf_of bytes h = ap (λ (b : List ℕ). has_flag b 8) (sym h.spelled) ∙ open_half_crlf_bit (value_of_open bytes)
 
 counted : (v : Value) → is_explicit v.patterns ≡ true → (length (spell_open v) - 13) / 4 ≡ length v.patterns
 unfolding spell_open
@@ -106,25 +106,25 @@ pub record HoldsPatterns (bytes : List ℕ) (ids : List ℕ) : Type 0 where
   pub few : length ids ≤ 2147483647
   pub all : numbers_in (drop 13 bytes) ≡ ids
 
-pub holds_patterns : (bytes : List ℕ) → IsOpen bytes → has_bit bytes 2 ≡ true → HoldsPatterns bytes (value_of_open bytes).patterns
+pub holds_patterns : (bytes : List ℕ) → IsOpen bytes → has_flag bytes 2 ≡ true → HoldsPatterns bytes (value_of_open bytes).patterns
 holds_patterns bytes h e =
     let v : Value = value_of_open bytes in
-    let explicit : is_explicit v.patterns ≡ true = sym (open_explicit v) ∙ ap (λ (b : List ℕ). has_bit b 2) h.spelled ∙ e in
+    let explicit : is_explicit v.patterns ≡ true = sym (open_explicit v) ∙ ap (λ (b : List ℕ). has_flag b 2) h.spelled ∙ e in
     record {
       size = ap length (sym h.spelled) ∙ length-open v explicit;
       few = few v.patterns h.valid.distinct h.valid.pattern_ids;
       all = ap (λ (b : List ℕ). numbers_in (drop 13 b)) (sym h.spelled) ∙ ap numbers_in (open_words v explicit) ∙ numbers_in-words v.patterns h.valid.pattern_ids;
     }
 
-pub open_first : (bytes : List ℕ) → IsOpen bytes → (value_of_open bytes).patterns ≡ [] → (has_bit bytes 1 ≡ false) × (has_bit bytes 2 ≡ false)
+pub open_first : (bytes : List ℕ) → IsOpen bytes → (value_of_open bytes).patterns ≡ [] → (has_flag bytes 1 ≡ false) × (has_flag bytes 2 ≡ false)
 open_first bytes h none =
     let v : Value = value_of_open bytes in (
       open_match_of bytes h ∙ ap is_nonempty none,
-      ap (λ (b : List ℕ). has_bit b 2) (sym h.spelled) ∙ open_explicit v ∙ ap is_explicit none,
+      ap (λ (b : List ℕ). has_flag b 2) (sym h.spelled) ∙ open_explicit v ∙ ap is_explicit none,
     )
 
 -- without them nothing is left to be written
-pub open_unlisted : (bytes : List ℕ) → has_bit bytes 2 ≡ false → (value_of_open bytes).patterns ≡ (value_of bytes).patterns
+pub open_unlisted : (bytes : List ℕ) → has_flag bytes 2 ≡ false → (value_of_open bytes).patterns ≡ (value_of bytes).patterns
 unfolding value_of_open
 open_unlisted bytes e = rw e refl
 

@@ -5,17 +5,17 @@ use Rattle.std.proofs.lemmas.List.Elements.{All-head, All-tail}
 use Rattle.std.specs.Int.{from_le_bytes, w32}
 use Rattle.determinize_states.specs.Value.{Value, is_nonempty}
 use Rattle.determinize_states.specs.Varint.{deltas, ids_from, IsDeltas}
-use Rattle.determinize_states.specs.Spelling.{is_explicit, words, number_at, numbers_in, has_bit, start_in, value_of, IsSpelled}
+use Rattle.determinize_states.specs.Spelling.{is_explicit, words, number_at, numbers_in, has_flag, start_in, value_of, IsSpelled}
 use Rattle.determinize_states.proofs.SpellingLaws.{spell_long, match_bit, explicit_bit, count_at, drop-start, length-explicit, few}
 
 pub long : (bytes : List ℕ) → IsSpelled bytes → 9 ≤ length bytes
 long bytes h = rw (← h.spelled) (spell_long (value_of bytes))
 
-pub match_of : (bytes : List ℕ) → IsSpelled bytes → has_bit bytes 1 ≡ is_nonempty (value_of bytes).patterns
-match_of bytes h = ap (λ (b : List ℕ). has_bit b 1) (sym h.spelled) ∙ match_bit (value_of bytes)
+pub match_of : (bytes : List ℕ) → IsSpelled bytes → has_flag bytes 1 ≡ is_nonempty (value_of bytes).patterns
+match_of bytes h = ap (λ (b : List ℕ). has_flag b 1) (sym h.spelled) ∙ match_bit (value_of bytes)
 
-explicit_of : (bytes : List ℕ) → IsSpelled bytes → has_bit bytes 2 ≡ is_explicit (value_of bytes).patterns
-explicit_of bytes h = ap (λ (b : List ℕ). has_bit b 2) (sym h.spelled) ∙ explicit_bit (value_of bytes)
+explicit_of : (bytes : List ℕ) → IsSpelled bytes → has_flag bytes 2 ≡ is_explicit (value_of bytes).patterns
+explicit_of bytes h = ap (λ (b : List ℕ). has_flag b 2) (sym h.spelled) ∙ explicit_bit (value_of bytes)
 
 -- with explicit patterns their number stands before them, and all of them are there
 pub record HasPatterns (bytes : List ℕ) (ids : List ℕ) : Type 0 where
@@ -23,7 +23,7 @@ pub record HasPatterns (bytes : List ℕ) (ids : List ℕ) : Type 0 where
   pub room : 13 + 4 * length ids ≤ length bytes
   pub small : length ids ≤ 2147483647
 
-pub has_patterns : (bytes : List ℕ) → IsSpelled bytes → has_bit bytes 2 ≡ true → HasPatterns bytes (value_of bytes).patterns
+pub has_patterns : (bytes : List ℕ) → IsSpelled bytes → has_flag bytes 2 ≡ true → HasPatterns bytes (value_of bytes).patterns
 has_patterns bytes h e =
     let v : Value = value_of bytes in
     let explicit : is_explicit v.patterns ≡ true = sym (explicit_of bytes h) ∙ e in
@@ -33,11 +33,11 @@ has_patterns bytes h e =
       small = few v.patterns h.valid.distinct h.valid.pattern_ids;
     }
 
-pub explicit_ids : (bytes : List ℕ) → has_bit bytes 2 ≡ true → numbers_in (take (4 * number_at bytes 9) (drop 13 bytes)) ≡ (value_of bytes).patterns
+pub explicit_ids : (bytes : List ℕ) → has_flag bytes 2 ≡ true → numbers_in (take (4 * number_at bytes 9) (drop 13 bytes)) ≡ (value_of bytes).patterns
 unfolding value_of
 explicit_ids bytes e = rw e
 
-pub implicit_ids : (bytes : List ℕ) → has_bit bytes 2 ≡ false → (if has_bit bytes 1 then 0 ∷ [] else []) ≡ (value_of bytes).patterns
+pub implicit_ids : (bytes : List ℕ) → has_flag bytes 2 ≡ false → (if has_flag bytes 1 then 0 ∷ [] else []) ≡ (value_of bytes).patterns
 unfolding value_of
 implicit_ids bytes e = rw e
 
@@ -69,9 +69,9 @@ pub few_patterns : (bytes : List ℕ) → IsSpelled bytes → length (value_of b
 few_patterns bytes h = few (value_of bytes).patterns h.valid.distinct h.valid.pattern_ids
 
 pub start_of : (bytes : List ℕ) → IsSpelled bytes → start_in bytes ≤ length bytes
-start_of bytes h = at_start (has_bit bytes 2) refl
+start_of bytes h = at_start (has_flag bytes 2) refl
   where
-    at_start : (b : Bool) → has_bit bytes 2 ≡ b → (if b then 13 + 4 * number_at bytes 9 else 9) ≤ length bytes
+    at_start : (b : Bool) → has_flag bytes 2 ≡ b → (if b then 13 + 4 * number_at bytes 9 else 9) ≤ length bytes
     at_start true e = let p = has_patterns bytes h e in rw p.count p.room
     at_start false e = long bytes h
 

@@ -12,7 +12,7 @@ use Rattle.std.proofs.lemmas.Map.Steps.{length-le_from_distinct_below}
 use Rattle.std.proofs.lemmas.Map.Views.{Contains-from_any}
 use Rattle.determinize_states.specs.Value.{Value, IsValue, dead, is_nonempty}
 use Rattle.determinize_states.specs.Varint.{deltas}
-use Rattle.determinize_states.specs.Spelling.{is_explicit, word, words, spell, number_at, numbers_in, has_bit, start_in, patterns_in, value_of, IsSpelled}
+use Rattle.determinize_states.specs.Spelling.{is_explicit, word, words, spell, number_at, numbers_in, has_flag, start_in, patterns_in, value_of, IsSpelled}
 use Rattle.determinize_states.proofs.VarintLaws.{ids_from-deltas}
 use Rattle.determinize_states.proofs.FlagLaws.{has_1, has_2, has_4, has_8}
 
@@ -64,19 +64,19 @@ few ids distinct all = distinct_below ids 2147483647 distinct (λ k id h. omega 
 
 -- what stands at each place of a spelling
 
-pub match_bit : (v : Value) → has_bit (spell v) 1 ≡ is_nonempty v.patterns
+pub match_bit : (v : Value) → has_flag (spell v) 1 ≡ is_nonempty v.patterns
 unfolding spell
 match_bit v = has_1 (is_nonempty v.patterns) (is_explicit v.patterns) v.from_word v.half_crlf
 
-pub explicit_bit : (v : Value) → has_bit (spell v) 2 ≡ is_explicit v.patterns
+pub explicit_bit : (v : Value) → has_flag (spell v) 2 ≡ is_explicit v.patterns
 unfolding spell
 explicit_bit v = has_2 (is_nonempty v.patterns) (is_explicit v.patterns) v.from_word v.half_crlf
 
-from_word_bit : (v : Value) → has_bit (spell v) 4 ≡ v.from_word
+from_word_bit : (v : Value) → has_flag (spell v) 4 ≡ v.from_word
 unfolding spell
 from_word_bit v = has_4 (is_nonempty v.patterns) (is_explicit v.patterns) v.from_word v.half_crlf
 
-half_crlf_bit : (v : Value) → has_bit (spell v) 8 ≡ v.half_crlf
+half_crlf_bit : (v : Value) → has_flag (spell v) 8 ≡ v.half_crlf
 unfolding spell
 half_crlf_bit v = has_8 (is_nonempty v.patterns) (is_explicit v.patterns) v.from_word v.half_crlf
 
@@ -141,7 +141,7 @@ deltas_at v h false e = after_sets v e
 -- the bytes after the patterns are the differences of the NFA ids
 pub drop-start : (v : Value) → IsValue v → drop (start_in (spell v)) (spell v) ≡ deltas 0 v.states
 drop-start v h =
-    drop-if (has_bit (spell v) 2) (13 + 4 * number_at (spell v) 9) 9 (spell v)
+    drop-if (has_flag (spell v) 2) (13 + 4 * number_at (spell v) 9) 9 (spell v)
     ∙ rw (explicit_bit v) (deltas_at v h (is_explicit v.patterns) refl)
 
 patterns_of-spell : (v : Value) → IsValue v → patterns_in (spell v) ≡ v.patterns

@@ -1,7 +1,7 @@
 -- The bytes of a state that is being made.
 use Rattle.std.specs.Prelude.{◌≡◌, ℕ, ◌-◌, ◌/◌, List, [], ◌∷◌, ◌++◌, length, if◌then◌else◌}
 use Rattle.determinize_states.specs.Value.{Value, IsValue}
-use Rattle.determinize_states.specs.Spelling.{flags, word, words, is_explicit, has_bit, with_word, value_of, IsSpelled}
+use Rattle.determinize_states.specs.Spelling.{flags, word, words, is_explicit, has_flag, with_word, value_of, IsSpelled}
 use Rattle.determinize_states.specs.Varint.{last_id}
 
 -- the spelling of a value without NFA states, in which the number of patterns isn't written yet
@@ -12,7 +12,7 @@ spell_open value =
 
 -- the bytes with the number of patterns written
 abbrev pub closed : List ℕ → List ℕ
-closed bytes = if has_bit bytes 2 then with_word bytes 9 ((length bytes - 13) / 4) else bytes
+closed bytes = if has_flag bytes 2 then with_word bytes 9 ((length bytes - 13) / 4) else bytes
 
 -- the value of bytes in which the number of patterns isn't written yet
 unfoldable pub value_of_open : List ℕ → Value

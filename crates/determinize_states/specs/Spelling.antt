@@ -51,23 +51,23 @@ numbers_in (a ∷ b ∷ c ∷ d ∷ bytes) = from_le_bytes w32 (a ∷ b ∷ c �
 numbers_in _ = []
 
 -- whether the first byte has the bit of this weight
-abbrev pub has_bit : List ℕ → ℕ → Bool
-has_bit bytes weight = not (nat_eq (bit_and (slice_index bytes 0) weight) 0)
+abbrev pub has_flag : List ℕ → ℕ → Bool
+has_flag bytes weight = not (nat_eq (bit_and (slice_index bytes 0) weight) 0)
 
 -- the place after the patterns, where the NFA ids begin
 abbrev pub start_in : List ℕ → ℕ
-start_in bytes = if has_bit bytes 2 then 13 + 4 * number_at bytes 9 else 9
+start_in bytes = if has_flag bytes 2 then 13 + 4 * number_at bytes 9 else 9
 
 -- the patterns of the bytes: those that are written out, or 0 alone where none is but some pattern matches
 abbrev pub patterns_in : List ℕ → List ℕ
 patterns_in bytes =
-    if has_bit bytes 2 then numbers_in (take (4 * number_at bytes 9) (drop 13 bytes)) else (if has_bit bytes 1 then 0 ∷ [] else [])
+    if has_flag bytes 2 then numbers_in (take (4 * number_at bytes 9) (drop 13 bytes)) else (if has_flag bytes 1 then 0 ∷ [] else [])
 
 -- the value that the bytes spell
 unfoldable pub value_of : List ℕ → Value
 value_of bytes = record {
-  from_word = has_bit bytes 4;
-  half_crlf = has_bit bytes 8;
+  from_word = has_flag bytes 4;
+  half_crlf = has_flag bytes 8;
   look_have = number_at bytes 1;
   look_need = number_at bytes 5;
   patterns = patterns_in bytes;

@@ -26,7 +26,6 @@ pub fn add_state<N: Allocator, A: Allocator>(
     ensures ok { OnOk result (builder.new ≡ added_one nfa.now builder.old id) }
     ensures err { OnErr result (builder.new
         ≡ record builder.old { look_need = needs nfa.now builder.old.look_need (id ∷ []) }) }
-    ensures grown { OnErr result (IsGrown builder.old builder.new) }
 {
     match nfa.state(id) {
         State::Capture { .. } => return Ok(()),

@@ -1,15 +1,11 @@
 -- The table of kept transitions: for each value held a row of 258 numbers, the last of which tells its signs.
-use Rattle.std.specs.Prelude.{◌≡◌, ℕ, ◌+◌, ◌*◌, ◌/◌, ◌<◌, true, false, Option, Some, None, List, ⊤, length, replicate, slice_get, slice_index, ◌++◌, ◌∷◌, []}
+use Rattle.std.specs.Prelude.{◌≡◌, ℕ, ◌+◌, ◌*◌, ◌/◌, true, false, Option, Some, None, List, length, replicate, slice_get, slice_index, ◌++◌, ◌∷◌, []}
 use Rattle.std.specs.List.{list_any}
+use Rattle.determinize_below.specs.Truth.{IsUnit}
 use Rattle.determinize_core.specs.Value.{Value}
 use Rattle.determinize_lazy.specs.Pairs.{Pair, is_kept, same}
 use Rattle.determinize_lazy.specs.Places.{EachApart}
 use Rattle.determinize_lazy.specs.Private.Signs.{signs_in, signs_of, StateSigns}
-
--- a byte, or none at the end of the input
-abbrev pub IsUnit : Option ℕ → Type 0
-IsUnit (Some byte) = byte < 256
-IsUnit None = ⊤
 
 -- the column of a unit in a row
 abbrev pub column : Option ℕ → ℕ

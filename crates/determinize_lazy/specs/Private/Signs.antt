@@ -14,12 +14,12 @@ abbrev pub signs_of : Value → StateSigns
 signs_of v = record { first = slice_get v.patterns 0; is_last = not (is_nonempty v.states) }
 
 -- a pattern in a number: one more than it, or zero where there is none
-abbrev pub pattern_in : ℕ → Option ℕ
-pattern_in n = cond (nat_eq n 0) None (Some (n - 1))
+abbrev pub packed_pattern : ℕ → Option ℕ
+packed_pattern n = cond (nat_eq n 0) None (Some (n - 1))
 
 -- signs in a number: the highest of 32 bits, and the pattern in the others
 abbrev pub signs_in : ℕ → StateSigns
-signs_in n = record { first = pattern_in (n % 2147483648); is_last = nat_le 2147483648 n }
+signs_in n = record { first = packed_pattern (n % 2147483648); is_last = nat_le 2147483648 n }
 
 -- the match of a pattern that ends at an offset
 abbrev pub match_at : ℕ → Option ℕ → Option HalfMatch

@@ -2,7 +2,7 @@
 
 ghost use Rattle.std.specs.Prelude.{◌≡◌, ◌+◌, ◌*◌, ◌<◌, ◌≤◌, ◌^◌, [], ◌∷◌, ◌++◌, if◌then◌else◌, length, slice_index, vec_len, true, false, All, OnOk, OnErr, IsOk};
 ghost use Rattle.determinize_states.specs.Value.{is_nonempty};
-ghost use Rattle.determinize_states.specs.Spelling.{IsSpelled, value_of, number_at, numbers_in, word, words, with_word, has_bit, start_in};
+ghost use Rattle.determinize_states.specs.Spelling.{IsSpelled, value_of, number_at, numbers_in, word, words, with_word, has_flag, start_in};
 ghost use Rattle.determinize_states.specs.Building.{IsOpen, value_of_open, closed};
 ghost use Rattle.determinize_states.specs.Private.PatternBytes.{with_bit, with_pattern_bytes};
 
@@ -38,9 +38,9 @@ pub(crate) const PATTERNS: usize = 13;
 const ZERO_WORD: [u8; 4] = [0; 4];
 
 /// Whether the first byte has the bit of this weight.
-pub(crate) fn has_bit(bytes: &[u8], weight: u8) -> bool
+pub(crate) fn has_flag(bytes: &[u8], weight: u8) -> bool
     requires { 0 < length bytes.now }
-    ensures { result ≡ has_bit bytes.now weight }
+    ensures { result ≡ has_flag bytes.now weight }
 {
     bytes[0] & weight != 0
 }
@@ -50,7 +50,7 @@ pub(crate) fn is_match(bytes: &[u8]) -> bool
     requires { IsSpelled bytes.now }
     ensures { result ≡ is_nonempty (value_of bytes.now).patterns }
 {
-    has_bit(bytes, MATCH)
+    has_flag(bytes, MATCH)
 }
 
 /// The flag for a word byte.
@@ -58,7 +58,7 @@ pub(crate) fn is_from_word(bytes: &[u8]) -> bool
     requires { IsSpelled bytes.now }
     ensures { result ≡ (value_of bytes.now).from_word }
 {
-    has_bit(bytes, FROM_WORD)
+    has_flag(bytes, FROM_WORD)
 }
 
 /// The flag for half a CRLF.
@@ -66,7 +66,7 @@ pub(crate) fn is_half_crlf(bytes: &[u8]) -> bool
     requires { IsSpelled bytes.now }
     ensures { result ≡ (value_of bytes.now).half_crlf }
 {
-    has_bit(bytes, HALF_CRLF)
+    has_flag(bytes, HALF_CRLF)
 }
 
 /// The set look-have.
@@ -107,7 +107,7 @@ pub(crate) fn open_is_match(bytes: &[u8]) -> bool
     requires { IsOpen bytes.now }
     ensures { result ≡ is_nonempty (value_of_open bytes.now).patterns }
 {
-    has_bit(bytes, MATCH)
+    has_flag(bytes, MATCH)
 }
 
 /// The flag for a word byte, where the number of patterns isn't written yet.
@@ -115,7 +115,7 @@ pub(crate) fn open_is_from_word(bytes: &[u8]) -> bool
     requires { IsOpen bytes.now }
     ensures { result ≡ (value_of_open bytes.now).from_word }
 {
-    has_bit(bytes, FROM_WORD)
+    has_flag(bytes, FROM_WORD)
 }
 
 /// The flag for half a CRLF, where the number of patterns isn't written yet.
@@ -123,7 +123,7 @@ pub(crate) fn open_is_half_crlf(bytes: &[u8]) -> bool
     requires { IsOpen bytes.now }
     ensures { result ≡ (value_of_open bytes.now).half_crlf }
 {
-    has_bit(bytes, HALF_CRLF)
+    has_flag(bytes, HALF_CRLF)
 }
 
 /// The set look-have of a state whose number of patterns isn't written yet.
@@ -156,13 +156,13 @@ pub(crate) fn add_pattern<A: Allocator>(bytes: &mut Vec<u8, A>, id: u32) -> Resu
     requires { 0 < vec_len bytes.old }
     ensures ok { OnOk result (bytes.new.items ≡ with_pattern_bytes bytes.old.items id) }
     ensures err { OnErr result (bytes.new.items ≡ bytes.old.items) }
-    ensures first { has_bit bytes.old.items 1 ≡ false → has_bit bytes.old.items 2 ≡ false
+    ensures first { has_flag bytes.old.items 1 ≡ false → has_flag bytes.old.items 2 ≡ false
         → id ≡ 0 → IsOk result }
 {
     let [a, b, c, d] = id.to_le_bytes();
-    if has_bit(bytes, EXPLICIT) {
+    if has_flag(bytes, EXPLICIT) {
         bytes.extend_from_slice(&[a, b, c, d])?;
-    } else if has_bit(bytes, MATCH) {
+    } else if has_flag(bytes, MATCH) {
         add_after_zero(bytes, id)?;
     } else if id != 0 {
         bytes.extend_from_slice(&[0, 0, 0, 0, a, b, c, d])?;
@@ -191,7 +191,7 @@ pub(crate) fn close<A: Allocator>(bytes: &mut Vec<u8, A>)
     requires { IsOpen bytes.old.items }
     ensures { bytes.new.items ≡ closed bytes.old.items }
 {
-    if has_bit(bytes, EXPLICIT) {
+    if has_flag(bytes, EXPLICIT) {
         let count = (bytes.len() - PATTERNS) / PatternID::SIZE;
         put_number(bytes, COUNT, count as u32);
     }
@@ -219,7 +219,7 @@ pub(crate) fn pattern_words(bytes: &[u8]) -> &[u8]
     ensures small { All (λ id. id ≤ 2147483646) (numbers_in result.now) }
     ensures few { length (numbers_in result.now) ≤ 2147483647 }
 {
-    if !has_bit(bytes, EXPLICIT) {
+    if !has_flag(bytes, EXPLICIT) {
         return implicit_words(bytes);
     }
     let size = PatternID::SIZE * number_at(bytes, COUNT) as usize;
@@ -234,7 +234,7 @@ pub(crate) fn open_pattern_words(bytes: &[u8]) -> &[u8]
     ensures ids { numbers_in result.now ≡ (value_of_open bytes.now).patterns }
     ensures small { All (λ id. id ≤ 2147483646) (numbers_in result.now) }
 {
-    if !has_bit(bytes, EXPLICIT) {
+    if !has_flag(bytes, EXPLICIT) {
         return implicit_words(bytes);
     }
     let (_, ids) = bytes.split_at(PATTERNS);
@@ -244,9 +244,9 @@ pub(crate) fn open_pattern_words(bytes: &[u8]) -> &[u8]
 /// The patterns where none is written out: the word of `ZERO`, or nothing.
 fn implicit_words(bytes: &[u8]) -> &[u8]
     requires { 9 ≤ length bytes.now }
-    ensures { result.now ≡ words (if has_bit bytes.now 1 then 0 ∷ [] else []) }
+    ensures { result.now ≡ words (if has_flag bytes.now 1 then 0 ∷ [] else []) }
 {
-    if has_bit(bytes, MATCH) {
+    if has_flag(bytes, MATCH) {
         &ZERO_WORD
     } else {
         &[]
@@ -279,10 +279,10 @@ pub(crate) fn nfa_state_ids(bytes: &[u8]) -> NfaStateIds<'_>
 /// Where the NFA ids begin.
 fn ids_start(bytes: &[u8]) -> usize
     requires long { 9 ≤ length bytes.now }
-    requires counted { has_bit bytes.now 2 ≡ true → 13 ≤ length bytes.now }
+    requires counted { has_flag bytes.now 2 ≡ true → 13 ≤ length bytes.now }
     ensures { result ≡ start_in bytes.now }
 {
-    if has_bit(bytes, EXPLICIT) {
+    if has_flag(bytes, EXPLICIT) {
         PATTERNS + PatternID::SIZE * number_at(bytes, COUNT) as usize
     } else {
         COUNT

@@ -1,5 +1,6 @@
 use Rattle.std.proofs.Common.{◌≡◌, ◌<◌, false, sym, subst, arith}
-use Rattle.determinize_below.specs.Members.{Members, has_bit}
+use Rattle.determinize_below.specs.Members.{Members}
+use Rattle.determinize_below.specs.Private.Sparse.{has_bit}
 use Rattle.determinize_below.proofs.Sparse.{room_for_one}
 use Rattle.determinize_below.proofs.sparse_set.SparseSet.insert.Goals as goal
 

@@ -1,7 +1,8 @@
 use Rattle.std.proofs.Common.{rules, ◌≡◌, ◌<◌, ◌≤◌, true, false, arith, sym}
 use Rattle.std.specs.List.{slice_range}
 use Rattle.determinize_below.specs.Positions.{between}
-use Rattle.determinize_lazy.specs.Searches.{in_order, is_done, start_for}
+use Rattle.determinize_below.specs.Search.{is_done}
+use Rattle.determinize_lazy.specs.Searches.{in_order, start_for}
 use Rattle.determinize_lazy.proofs.Ranges.{after-done, after-found, farthest-found, is_done-else, is_done-past, IsRead, last-done, last-found, none-found, plenty-done, plenty-found, preferred-found, read}
 use Rattle.determinize_lazy.proofs.lazy.Lazy.search_input.Given.{Over}
 use Rattle.determinize_lazy.proofs.lazy.Lazy.search_input.Goals.{After-byte_ahead-ahead, Then-start-end}

@@ -3,9 +3,9 @@ use Rattle.determinize_states.specs.Spelling.{value_of}
 use Rattle.determinize_states.proofs.ReadingLaws.{long}
 use Rattle.determinize_states.proofs.state.bytes.is_from_word.Goals as goal
 
-pub has_bit-requires : goal.has_bit-requires
-has_bit-requires c = omega (arith, long _ c.requires)
+pub has_flag-requires : goal.has_flag-requires
+has_flag-requires c = omega (arith, long _ c.requires)
 
 pub returns : goal.returns
 unfolding value_of
-returns c = c.has_bit.ensures
+returns c = c.has_flag.ensures
