@@ -1,6 +1,6 @@
 //! A bounded cache of transitions, and walks over it.
 
-ghost use Rattle.std.specs.Prelude.{All, ◌≡◌, ◌<◌, ◌≤◌, ◌++◌, ◌∷◌, [], true, false, cond, length, nat_le, slice_get, IfOk, OnErr, OnOk, Some, None};
+ghost use Rattle.std.specs.Prelude.{All, ◌≡◌, ◌<◌, ◌≤◌, ◌*◌, ◌++◌, ◌∷◌, [], true, false, cond, length, nat_le, slice_get, IfOk, OnErr, OnOk, Some, None};
 ghost use Rattle.determinize_below.specs.Nfa.{AllResolve, IsAccepted};
 ghost use Rattle.determinize_below.specs.Positions.{between};
 ghost use Rattle.determinize_below.specs.declared.search.MatchKind.TheVariants as kinds;
@@ -157,6 +157,21 @@ impl<'n, N: Allocator, A: Allocator + Copy> Lazy<'n, N, A> {
         ensures { result ≡ self.now.computed }
     {
         self.computed
+    }
+
+    /// Returns the heap memory that the cache uses now, in bytes.
+    ///
+    /// This counts the cached states, their rows and transitions, and the working memory of the
+    /// steps. It does not count the size of the `Lazy` itself, the NFA, or what is allocated but
+    /// not in use, such as the memory of states that were cleared.
+    pub fn memory_usage(&self) -> usize
+        ensures rows { length (held_values self.now) * 1032 ≤ result }
+    {
+        let scratch = match &self.scratch {
+            Some(scratch) => scratch.memory_usage(),
+            None => 0,
+        };
+        self.table.memory_usage().saturating_add(scratch)
     }
 
     /// Lets go of all transitions, and so of all states. What was computed stays counted.

@@ -4,6 +4,7 @@
 //! the last match of such a walk, also of a range of a haystack in either direction.
 #![tactic(auto)]
 
+mod debug;
 pub mod laws;
 pub mod lazy;
 mod place;

@@ -13,6 +13,10 @@ use std::alloc::{AllocError, Allocator, Global};
 use std::collections::HashMap;
 use std::hash::{BuildHasherDefault, FoldHasher};
 use std::marker::Model;
+use std::mem::{size_of, size_of_val};
+
+/// The most bytes of a state that lie in the `State` itself and not on the heap.
+const SHORT: usize = 30;
 
 /// States in the order in which they came, each once, with a map from a state to its place.
 #[derive(Drop)]
@@ -85,6 +89,20 @@ impl<A: Allocator + Copy> Places<A> {
         ensures valid { IsValue result.now }
     {
         &self.held[place.number()]
+    }
+
+    /// Returns the heap memory that the states and the keys of the map use, in bytes.
+    pub(crate) fn memory_usage(&self) -> usize {
+        let states = size_of_val(self.held.as_slice());
+        let places = self.held.len().saturating_mul(size_of::<Place>());
+        let mut bytes = states.saturating_mul(2).saturating_add(places);
+        for state in &self.held {
+            let len = state.memory_usage();
+            if len > SHORT {
+                bytes = bytes.saturating_add(len.saturating_mul(2));
+            }
+        }
+        bytes
     }
 
     /// Lets go of all states.

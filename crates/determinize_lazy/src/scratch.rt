@@ -10,6 +10,7 @@ use determinize_core::state::{State, StateBuilderEmpty, StateBuilderNFA};
 use std::alloc::{AllocError, Allocator, Global};
 use std::marker::Model;
 use std::mem;
+use std::mem::size_of;
 
 /// Two sets and a stack for steps over one NFA, and the memory of the state that was built last.
 ///
@@ -41,6 +42,18 @@ impl<A: Allocator + Copy> Scratch<A> {
             stack: Vec::new(alloc),
             empty_builder: StateBuilderEmpty::new(alloc),
         })
+    }
+
+    /// Returns the heap memory of the sets, the stack and the builder, in bytes. A set has an id
+    /// and a bit for each NFA state.
+    pub(crate) fn memory_usage(&self) -> usize {
+        let states = self.sparses.set1.capacity();
+        let ids = states.saturating_mul(size_of::<StateID>());
+        let bits = states.div_ceil(64).saturating_mul(size_of::<u64>());
+        let sets = ids.saturating_add(bits).saturating_mul(2);
+        let stack = self.stack.capacity().saturating_mul(size_of::<StateID>());
+        sets.saturating_add(stack)
+            .saturating_add(self.empty_builder.capacity())
     }
 
     /// The state before the first unit, of a search from an NFA state and after a byte or none.

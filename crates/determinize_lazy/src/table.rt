@@ -1,6 +1,6 @@
 //! Kept transitions: the states that they join, and a row of numbers for each.
 
-ghost use Rattle.std.specs.Prelude.{◌≡◌, ◌+◌, ◌*◌, ◌<◌, ◌++◌, ◌∷◌, [], ℕ, false, List, Option, length, slice_get, IfOk, OnOk, Some};
+ghost use Rattle.std.specs.Prelude.{◌≡◌, ◌+◌, ◌*◌, ◌<◌, ◌≤◌, ◌++◌, ◌∷◌, [], ℕ, false, List, Option, length, slice_get, IfOk, OnOk, Some};
 ghost use Rattle.std.specs.List.{list_any};
 ghost use Rattle.determinize_core.specs.Value.{Value as StateValue};
 ghost use Rattle.determinize_lazy.specs.Pairs.{Pair, same, with_value};
@@ -9,11 +9,12 @@ ghost use Rattle.determinize_below.specs.Truth.{IsUnit};
 ghost use Rattle.determinize_lazy.specs.Private.Rows.{IsRows, IsWithRow, column};
 ghost use Rattle.determinize_lazy.specs.Private.Signs.{signs_in, signs_of};
 
-use crate::place::{PackedPlace, Place, UNITS};
+use crate::place::{COLUMNS, PackedPlace, Place, UNITS};
 use crate::places::Places;
 use crate::signs::Signs;
 use determinize_core::state::State;
 use std::alloc::{AllocError, Allocator, Global};
+use std::mem::size_of;
 
 /// A kept transition: the place of its source, and its unit.
 #[derive(Clone, Copy)]
@@ -82,6 +83,16 @@ impl<A: Allocator + Copy> Table<A> {
         self.places.clear();
         self.rows.clear();
         self.order.clear();
+    }
+
+    /// Returns the heap memory that the transitions and their states use, in bytes.
+    pub(crate) fn memory_usage(&self) -> usize
+        ensures { length self.now.places * 1032 ≤ result }
+    {
+        let rows = self.places.len() * COLUMNS * size_of::<u32>();
+        let order = self.order.len().saturating_mul(size_of::<Kept>());
+        let states = self.places.memory_usage();
+        rows.saturating_add(order).saturating_add(states)
     }
 
     /// Holds one more state, and answers its place. The only error is want of memory.

@@ -143,7 +143,7 @@ impl fmt::Display for JobError {
             JobError::UnwantedStates => f.write_str("the verb takes no states"),
             JobError::RepeatedPattern => f.write_str("a pattern stands twice"),
             JobError::Malformed(part) => write!(f, "not {part}"),
-            JobError::Refused(error) => write!(f, "the states make no NFA: {error:?}"),
+            JobError::Refused(error) => write!(f, "the states make no NFA: {error}"),
         }
     }
 }

@@ -4,13 +4,14 @@
 //! states, in order. Each such value is spelled by exactly one list of bytes, so that states are
 //! equal where their bytes are, and a cache may compare bytes.
 //!
-//! - The first byte holds flags: whether some pattern matches, whether the patterns are written
-//!   out, whether the state was entered by a word byte, whether by a byte that may be the first
-//!   half of a CRLF.
-//! - Four bytes each, the low byte first, hold look-have and look-need.
-//! - The patterns follow where they are written out: their number and then each of them, four
-//!   bytes each. They aren't written out where there is none, or where `ZERO` is the only one.
-//! - The NFA states follow, each as the difference to the one before it, in groups of 7 bits.
+//! - The first byte has the flags: 1 if some pattern matches, 2 if the patterns are written, 4 if
+//!   the state was entered by a word byte, 8 if by a byte that may be the first half of a CRLF.
+//! - Look-have and look-need follow, four bytes each, the low byte first.
+//! - The patterns follow if they are written: their number and then each of them, four bytes each.
+//!   They aren't written if there is none, or if `ZERO` is the only one.
+//! - The NFA states follow, each as the difference `d` to the one before it, the first as that to 0.
+//!   A difference is written as `2 * d`, or `-2 * d - 1` if it is negative, in groups of 7 bits: the
+//!   low group first, with 128 added to each byte but the last.
 //!
 //! A state is made in three steps, each a type: an empty builder, one that takes flags, look-have
 //! and patterns, and one that takes NFA states and the sets. So the parts come in the order of the

@@ -1,7 +1,8 @@
-//! The code of the README and of the pages `CALLING.md`, and its answers: each file below this one,
-//! and `readme`, is a block of code of a page, word for word.
+//! The code of the pages `CALLING.md` and of the README, and its results: each file below this one
+//! is a block of code of a page, word for word, and `readme` is a part of one.
 
 mod cache;
+mod counted;
 pub mod dfa;
 mod input;
 mod nfa;
@@ -12,7 +13,7 @@ ghost use Rattle.std.specs.Prelude.{◌≡◌};
 ghost use Rattle.determinize_below.specs.declared.search.MatchKind.TheVariants as kinds;
 
 use crate::tests::{holds, readme, same};
-use determinize_below::{HalfMatch, MatchKind, NFA, PatternID};
+use determinize_below::{HalfMatch, Input, MatchKind, NFA, PatternID};
 use determinize_lazy::Lazy;
 use std::process::Abort;
 use std::test::Fail;
@@ -24,9 +25,14 @@ pub fn ended(offset: usize) -> Option<HalfMatch> {
 
 #[test]
 fn first_search(rt: HostRuntime) -> Result<(), Fail> {
-    let nfa = readme::letter(rt.alloc())?;
-    same(&rt, readme::preferred(rt.alloc(), &nfa, b"ab")?, ended(1));
-    same(&rt, readme::preferred(rt.alloc(), &nfa, b"ba")?, None);
+    let (nfa, text) = (readme::digits(rt.alloc())?, b"a12");
+    let mut first = Lazy::new(rt.alloc(), &nfa, MatchKind::LeftmostFirst, 100);
+    same(&rt, first.search_input(&Input::new(text))?, ended(3));
+    let mut all = Lazy::new(rt.alloc(), &nfa, MatchKind::All, 100);
+    let states = all.walk(all.nfa().start_unanchored(), None, text)?;
+    for (position, state) in states.iter().skip(1).enumerate() {
+        holds(&rt, state.match_pattern_ids()?.is_some() == (position > 1));
+    }
     Ok(())
 }
 
@@ -91,6 +97,8 @@ fn expect_spans(
         input::span(forward, backward, b"ab 42 c")? == Some(3..5),
     );
     holds(rt, input::span(forward, backward, b"ab")?.is_none());
+    holds(rt, input::contains(forward, b"ab 42 c")?);
+    holds(rt, !input::contains(forward, b"ab")?);
     Ok(())
 }
 

@@ -1,30 +1,28 @@
-//! The code of the README, word for word.
+//! The NFA of the README's program, word for word. The test `first_search` makes the calls of its
+//! `main`.
 
-use determinize_below::nfa::State;
-use determinize_below::{
-    BuildError, HalfMatch, LookMatcher, MatchKind, NFA, PatternID, StateID, Transition,
-};
-use determinize_lazy::Lazy;
-use std::alloc::{AllocError, Allocator};
+use determinize_below::nfa::{BuildError, State};
+use determinize_below::{LookMatcher, NFA, PatternID, StateID, Transition};
+use std::alloc::Allocator;
 
-/// The NFA of the pattern `a`: state 0 goes on over this byte to state 1, which matches.
-pub fn letter<A: Allocator + Copy>(alloc: A) -> Result<NFA<A>, BuildError> {
-    let (start, end, next) = (b'a', b'a', StateID::must(1));
+/// Returns a state with a transition to `next` on each byte from `start` to `end`.
+fn range<A: Allocator>(start: u8, end: u8, next: StateID) -> State<A> {
     let trans = Transition { start, end, next };
-    let pattern_id = PatternID::ZERO;
-    let mut states = Vec::new(alloc);
-    states.push(State::ByteRange { trans })?;
-    states.push(State::Match { pattern_id })?;
-    let matcher = LookMatcher::new();
-    NFA::from_parts(alloc, states, StateID::ZERO, StateID::ZERO, false, matcher)
+    State::ByteRange { trans }
 }
 
-/// The preferred match from the beginning of the text, or none.
-pub fn preferred<A: Allocator + Copy>(
-    alloc: A,
-    nfa: &NFA<A>,
-    text: &[u8],
-) -> Result<Option<HalfMatch>, AllocError> {
-    let mut lazy = Lazy::new(alloc, nfa, MatchKind::LeftmostFirst, 100);
-    lazy.search(nfa.start_anchored(), None, text, None)
+/// Returns the NFA of `[0-9]+`: state 2 is its anchored start, state 0 its unanchored one.
+pub fn digits<A: Allocator + Copy>(alloc: A) -> Result<NFA<A>, BuildError> {
+    let (any, skip, digit) = (StateID::ZERO, StateID::must(1), StateID::must(2));
+    let (more, done) = (StateID::must(3), StateID::must(4));
+    let pattern_id = PatternID::ZERO;
+    let mut states = Vec::new(alloc);
+    let (alt1, alt2) = (digit, skip);
+    states.push(State::BinaryUnion { alt1, alt2 })?;
+    states.push(range(0, 255, any))?;
+    states.push(range(b'0', b'9', more))?;
+    let (alt1, alt2) = (digit, done);
+    states.push(State::BinaryUnion { alt1, alt2 })?;
+    states.push(State::Match { pattern_id })?;
+    NFA::from_parts(alloc, states, digit, any, false, LookMatcher::new())
 }

@@ -68,15 +68,15 @@ walk text=61 => the states of the NFA are missing
 closure from=0 => the states of the NFA are missing
 dead | M:0 => the verb takes no states
 build fw=0 half=0 | M:0 => the verb takes no states
-walk text=61 |  => the states make no NFA: UnresolvedStart
-walk text=61 | B:61>5 M:0 => the states make no NFA: UnresolvedId(0)
-walk text=61 | M:0 F M:0 => the states make no NFA: RepeatedPattern(2)
-walk text=61 | S:61-66>0,66-6b>0 => the states make no NFA: BadSparse(0)
-walk text=61 | S:61-66>0,66-6b>9 => the states make no NFA: UnresolvedId(0)
-walk text=61 | C:1 => the states make no NFA: UnresolvedId(0)
-walk text=61 | M:0 M:0 => the states make no NFA: RepeatedPattern(1)
-walk text=61 | S:7a-61>0 => the states make no NFA: BadSparse(0)
-size states=0 matches=0 => the states make no NFA: UnresolvedStart
+walk text=61 |  => the states make no NFA: no state has the start id
+walk text=61 | B:61>5 M:0 => the states make no NFA: state 0 leads to no state
+walk text=61 | M:0 F M:0 => the states make no NFA: state 2 repeats a pattern
+walk text=61 | S:61-66>0,66-6b>0 => the states make no NFA: state 0 has a range out of order
+walk text=61 | S:61-66>0,66-6b>9 => the states make no NFA: state 0 leads to no state
+walk text=61 | C:1 => the states make no NFA: state 0 leads to no state
+walk text=61 | M:0 M:0 => the states make no NFA: state 1 repeats a pattern
+walk text=61 | S:7a-61>0 => the states make no NFA: state 0 has a range out of order
+size states=0 matches=0 => the states make no NFA: no state has the start id
 walk text=61 | D:7a-61>0 => not a range of bytes, the least first
 walk text=61 | X:0 => not an NFA state
 walk text=61 | B:61 => not a transition

@@ -25,14 +25,6 @@ pub struct Dfa<A: Allocator = Global> {
 /// The index of each state that was found.
 type Indices<A> = HashMap<State<A>, usize, BuildHasherDefault<FoldHasher>, A>;
 
-/// The unit of a column: a byte, or the end of the input after the bytes.
-fn unit(column: usize) -> Unit {
-    match u8::try_from(column) {
-        Ok(byte) => Unit::u8(byte),
-        Err(_) => Unit::eoi(256),
-    }
-}
-
 /// The index of a state among those found, which gain it as the last where it is new. The ids of
 /// all of them are states of the NFA, before and after.
 ///
@@ -80,7 +72,8 @@ fn row<N: Allocator, A: Allocator + Copy>(
     let mut row = Vec::new(alloc);
     let mut empty = StateBuilderEmpty::new(alloc);
     for column in 0..=256 {
-        let builder = next(nfa, kind, sparses, stack, &state, unit(column), empty)?;
+        let unit = Unit::from(u8::try_from(column).ok());
+        let builder = next(nfa, kind, sparses, stack, &state, unit, empty)?;
         row.push(index_of(nfa, states, indices, builder.to_state()?)?)?;
         empty = builder.clear();
     }

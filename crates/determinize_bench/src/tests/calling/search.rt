@@ -10,8 +10,8 @@ use determinize_below::{HalfMatch, MatchKind, NFA};
 use determinize_lazy::Lazy;
 use std::alloc::{AllocError, Allocator};
 
-/// The preferred match of each text from its beginning, or none, through one cache of at most so
-/// many states. They are those of walks without a cache.
+/// Returns the preferred match of each text from its beginning, through one cache of at most `limit`
+/// states: the matches of walks without a cache.
 pub fn matches<N: Allocator, A: Allocator + Copy>(
     alloc: A,
     nfa: &NFA<N>,
@@ -21,8 +21,8 @@ pub fn matches<N: Allocator, A: Allocator + Copy>(
     ensures { IfOk result (λ found. found.items ≡ map (λ text. last_match (chain nfa.now
         kinds.LeftmostFirst nfa.now.start_anchored (between None text.now None))) texts.now) }
 {
-    let start = nfa.start_anchored();
     let mut lazy = Lazy::new(alloc, nfa, MatchKind::LeftmostFirst, limit);
+    let start = lazy.nfa().start_anchored();
     let mut found = Vec::new(alloc);
     for text in texts {
         found.push(lazy.search(start, None, text, None)?)?;

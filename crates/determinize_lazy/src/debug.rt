@@ -1,0 +1,16 @@
+//! The text of a cache: its sizes, and neither its NFA nor its states.
+
+use crate::lazy::Lazy;
+use std::alloc::Allocator;
+use std::fmt;
+
+impl<'n, N: Allocator, A: Allocator + Copy> fmt::Debug for Lazy<'n, N, A> {
+    fn fmt<W: fmt::Write>(&self, f: &mut fmt::Formatter<W>) -> fmt::Result {
+        f.debug_struct("Lazy")
+            .field("match_kind", &self.match_kind())
+            .field("limit", &self.limit())
+            .field("states_kept", &self.states_kept())
+            .field("computed", &self.computed())
+            .finish_non_exhaustive()
+    }
+}
