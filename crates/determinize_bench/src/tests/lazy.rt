@@ -10,16 +10,16 @@ use std::process::Abort;
 use std::test::Fail;
 
 /// A text, after a byte or none, and before a byte or none.
-type Text = (Option<u8>, &'static [u8], Option<u8>);
+type Text<'t> = (Option<u8>, &'t [u8], Option<u8>);
 
 /// A word.
-const WHOLE_WORD: Text = (None, b"quartz", None);
+const WHOLE_WORD: Text<'static> = (None, b"quartz", None);
 
 /// The same without its first byte, which stands behind it.
-const INSIDE_A_WORD: Text = (Some(b'q'), b"uartz", None);
+const INSIDE_A_WORD: Text<'static> = (Some(b'q'), b"uartz", None);
 
 /// The same with nothing behind it.
-const REST_OF_A_WORD: Text = (None, b"uartz", None);
+const REST_OF_A_WORD: Text<'static> = (None, b"uartz", None);
 
 /// `\b\w+\b` of ASCII words.
 pub const WORDS: &str = "L:WordAscii>1 S:30-39>2,41-5a>2,5f-5f>2,61-7a>2 BU:1,3 L:WordAscii>4 M:0";
@@ -39,7 +39,7 @@ pub fn nfa<R: Abort + AllocGlobal>(rt: &R, states: &str, is_backward: bool) -> R
 fn walk_through<R: Abort + AllocGlobal>(
     rt: &R,
     lazy: &mut Lazy<'_>,
-    text: Text,
+    text: Text<'_>,
 ) -> Result<Vec<State>, Fail> {
     let (behind, bytes, ahead) = text;
     let nfa = lazy.nfa();
@@ -65,7 +65,7 @@ fn walk_through<R: Abort + AllocGlobal>(
 fn last_walked<R: Abort + AllocGlobal>(
     rt: &R,
     lazy: &mut Lazy<'_>,
-    text: Text,
+    text: Text<'_>,
 ) -> Result<Option<HalfMatch>, Fail> {
     let states = walk_through(rt, lazy, text)?;
     Ok(last_match(states.as_slice()))
@@ -75,7 +75,7 @@ fn last_walked<R: Abort + AllocGlobal>(
 fn walk_or_clear<R: Abort + AllocGlobal>(
     rt: &R,
     lazy: &mut Lazy<'_>,
-    text: Option<Text>,
+    text: Option<Text<'_>>,
 ) -> Result<(), Fail> {
     let Some(text) = text else {
         lazy.clear();
@@ -90,7 +90,7 @@ fn walk_or_clear<R: Abort + AllocGlobal>(
 fn expect_kept<R: Abort + AllocGlobal>(
     rt: &R,
     lazy: &mut Lazy<'_>,
-    texts: &[Option<Text>],
+    texts: &[Option<Text<'_>>],
     computed: u64,
     kept: usize,
 ) -> Result<(), Fail> {
@@ -106,7 +106,7 @@ fn expect_kept<R: Abort + AllocGlobal>(
 fn expect<R: Abort + AllocGlobal>(
     rt: &R,
     limit: usize,
-    texts: &[Option<Text>],
+    texts: &[Option<Text<'_>>],
     computed: u64,
     kept: usize,
 ) -> Result<(), Fail> {
@@ -190,4 +190,36 @@ fn the_end_is_no_byte(rt: HostRuntime) -> Result<(), Fail> {
     let nfa = nfa(&rt, BOUNDARY, false)?;
     let mut lazy = Lazy::new(rt.alloc(), &nfa, MatchKind::All, 16);
     expect_entered(&rt, &mut lazy)
+}
+
+/// `[01]*1[01]{9}`: a match ends behind each byte that comes nine bytes after a `1`.
+const TENTH_LAST: &str =
+    "BU:1,2 B:30-31>0 B:31>3 B:30-31>4 B:30-31>5 B:30-31>6 B:30-31>7 B:30-31>8 \
+B:30-31>9 B:30-31>10 B:30-31>11 B:30-31>12 M:0";
+
+/// Walks a text over a cache with room for all of its states, of which there are about a thousand.
+fn expect_many<R: Abort + AllocGlobal>(
+    rt: &R,
+    lazy: &mut Lazy<'_>,
+    text: &[u8],
+) -> Result<(), Fail> {
+    walk_through(rt, lazy, (None, text, None))?;
+    holds(
+        rt,
+        text.len() > 4_096 && lazy.states_kept() > 256 && lazy.computed() > 1_000,
+    );
+    Ok(())
+}
+
+/// The text is the numbers below 1024 in ten binary digits each. Which of the last ten bytes are `1`
+/// tells the states of its walk apart, and each number is another ten bytes.
+#[test]
+fn many_states(rt: HostRuntime) -> Result<(), Fail> {
+    let mut text = String::new(rt.alloc());
+    for number in 0..1024u32 {
+        write!(text, "{number:010b}")?;
+    }
+    let nfa = nfa(&rt, TENTH_LAST, false)?;
+    let mut lazy = Lazy::new(rt.alloc(), &nfa, MatchKind::All, 2_000);
+    expect_many(&rt, &mut lazy, text.as_str().as_bytes())
 }

@@ -24,6 +24,18 @@ fn refuses_a_short_table(rt: HostRuntime) -> Result<(), Fail> {
 }
 
 #[test]
+fn start_behind_the_last_state(rt: HostRuntime) -> Result<(), Fail> {
+    let (first, behind) = (StateID::ZERO, StateID::new(2)?);
+    for (anchored, unanchored) in [(behind, first), (first, behind)] {
+        let states = nfas::states(rt.alloc(), "C:1 M:0")?;
+        let matcher = LookMatcher::new();
+        let made = NFA::from_parts(rt.alloc(), states, anchored, unanchored, false, matcher);
+        same(&rt, made.err(), Some(BuildError::UnresolvedStart));
+    }
+    Ok(())
+}
+
+#[test]
 fn readers_of_an_nfa(rt: HostRuntime) -> Result<(), Fail> {
     let states = nfas::states(rt.alloc(), "L:WordAscii>1 M:7 L:End>1")?;
     let mut matcher = LookMatcher::new();

@@ -6,7 +6,7 @@ ghost use Rattle.determinize_lazy.specs.Searches.{has_start};
 use crate::tests::calling::ended;
 use crate::tests::lazy::{WORDS, nfa};
 use crate::tests::same;
-use determinize_below::{HalfMatch, Input, MatchKind};
+use determinize_below::{Anchored, HalfMatch, Input, MatchKind};
 use determinize_lazy::Lazy;
 use std::alloc::AllocError;
 use std::process::Abort;
@@ -91,4 +91,22 @@ fn long_haystack_forward(rt: HostRuntime) -> Result<(), Fail> {
 fn long_haystack_backward(rt: HostRuntime) -> Result<(), Fail> {
     let haystack = vec![in rt.alloc(); b'a'; LONG]?;
     expect_word(&rt, haystack.as_slice(), true, 0)
+}
+
+/// Searches backward from the end of a range for letters behind a byte ff: one that is in the range,
+/// and one that is before it.
+fn expect_inner<R: Abort>(rt: &R, lazy: &mut Lazy<'_>) -> Result<(), Fail> {
+    let haystack = b"\xff\xffaa\xffa";
+    let inner = Input::new(haystack).range(1..4).anchored(Anchored::Yes);
+    same(rt, lazy.search_input(&inner)?, ended(1));
+    let short = Input::new(haystack).range(2..4).anchored(Anchored::Yes);
+    same(rt, lazy.search_input(&short)?, None);
+    Ok(())
+}
+
+#[test]
+fn inner_range_backward(rt: HostRuntime) -> Result<(), Fail> {
+    let nfa = nfa(&rt, "BU:1,2 B:61>0 B:ff>3 M:0", true)?;
+    let mut lazy = Lazy::new(rt.alloc(), &nfa, MatchKind::All, 16);
+    expect_inner(&rt, &mut lazy)
 }

@@ -165,3 +165,63 @@ fn many_patterns_at_once(rt: HostRuntime) -> Result<(), Fail> {
     }
     Ok(())
 }
+
+/// How many dead ends come before the states that match.
+const DEAD_ENDS: usize = 300_000;
+
+/// A pattern that 16 bits do not hold.
+const WIDE: usize = 65_536;
+
+/// Dead ends, then a match of each of these patterns, and last a union of the matches.
+fn behind_dead_ends(alloc: Global, patterns: &[PatternID]) -> Result<Vec<nfa::State>, Fail> {
+    let (mut states, mut alternates) = (Vec::new(alloc), Vec::new(alloc));
+    for _ in 0..DEAD_ENDS {
+        states.push(nfa::State::Fail)?;
+    }
+    for pattern_id in patterns {
+        alternates.push(StateID::new(states.len())?)?;
+        let pattern_id = *pattern_id;
+        states.push(nfa::State::Match { pattern_id })?;
+    }
+    states.push(nfa::State::Union { alternates })?;
+    Ok(states)
+}
+
+/// An NFA that starts in the last of its states.
+fn started_last(alloc: Global, states: Vec<nfa::State>) -> Result<NFA, Fail> {
+    let last = StateID::new(states.len().saturating_sub(1))?;
+    Ok(NFA::from_parts(alloc, states, last, last, false, LookMatcher::new())?)
+}
+
+/// A walk lists great states and then great patterns, in order.
+#[test]
+fn great_ids(rt: HostRuntime) -> Result<(), Fail> {
+    let patterns = [PatternID::ZERO, PatternID::new(WIDE)?, PatternID::MAX];
+    let states = behind_dead_ends(rt.alloc(), patterns.as_slice())?;
+    let nfa = started_last(rt.alloc(), states)?;
+    let states = walk(
+        rt.alloc(),
+        &nfa,
+        MatchKind::All,
+        nfa.start_anchored(),
+        None,
+        b"",
+    )?;
+    let [first, second] = states.as_slice() else {
+        panic!(rt; "a walk over nothing has two states");
+    };
+    let ids: Vec<usize> = first
+        .iter_nfa_state_ids()
+        .map(|id| id.as_usize())
+        .collect(rt.alloc())?;
+    same(
+        &rt,
+        ids.as_slice(),
+        [300_003, 300_000, 300_001, 300_002].as_slice(),
+    );
+    let Some(found) = second.match_pattern_ids()? else {
+        panic!(rt; "the second state matches");
+    };
+    same(&rt, found.as_slice(), patterns.as_slice());
+    Ok(())
+}

@@ -2,10 +2,13 @@
 
 ghost use Rattle.std.specs.Prelude.{◌≡◌, ◌<◌, length};
 
-use crate::tests::{Heap, Row, holds, refuse_over_walks};
-use determinize_below::{Anchored, Input, StateID};
+use crate::tests::{Heap, Row, holds, refuse_over_walks, same};
+use determinize_below::{Anchored, HalfMatch, Input, LookMatcher, MatchKind, NFA, StateID};
+use determinize_core::determinize::last_match;
 use determinize_core::state::State;
 use determinize_lazy::Lazy;
+use determinize_replay::nfas;
+use refusing::Refusing;
 use std::alloc::{AllocError, Global};
 use std::process::Abort;
 use std::test::Fail;
@@ -43,37 +46,93 @@ fn walk(rt: &impl Abort, heap: &Heap, row: &Row, limit: usize) -> Result<bool, F
     Ok(first.is_ok())
 }
 
-/// Searches the text of a walk over a new cache. After a refusal the same cache is searched with
-/// ample memory.
-fn search(heap: &Heap, row: &Row, limit: usize) -> Result<bool, Fail> {
+/// The last match of a walk without a cache.
+fn last_walked(heap: &Heap, row: &Row, start: StateID) -> Result<Option<HalfMatch>, Fail>
+    requires { start < length row.now.nfa.states }
+{
+    Ok(last_match(row.walk(heap, start)?.as_slice()))
+}
+
+/// Searches the text of a walk over a new cache, and then again with enough memory. Each search
+/// that is not out of memory finds the last match of the walk.
+fn search(rt: &impl Abort, heap: &Heap, row: &Row, limit: usize) -> Result<bool, Fail> {
     let start = row.start()?;
     let (behind, text, ahead) = (row.look_behind, row.text.as_slice(), row.look_ahead);
     let mut lazy = Lazy::new(heap, &row.nfa, row.kind, limit);
     heap.begin();
-    let first = lazy.search(start, behind, text, ahead);
+    let first = lazy.search(start, behind, text, ahead).ok();
     heap.end();
-    lazy.search(start, behind, text, ahead)?;
-    Ok(first.is_ok())
+    let second = lazy.search(start, behind, text, ahead)?;
+    same(rt, second, last_walked(heap, row, start)?);
+    same(rt, first.unwrap_or(second), second);
+    Ok(first.is_some())
 }
 
 /// Searches the text of a walk as a haystack, in the same way.
-fn search_input(heap: &Heap, row: &Row, limit: usize) -> Result<bool, Fail> {
+fn search_input(rt: &impl Abort, heap: &Heap, row: &Row, limit: usize) -> Result<bool, Fail> {
     let input = Input::new(row.text.as_slice()).anchored(Anchored::Yes);
     let mut lazy = Lazy::new(heap, &row.nfa, row.kind, limit);
     heap.begin();
-    let first = lazy.search_input(&input);
+    let first = lazy.search_input(&input).ok();
     heap.end();
-    lazy.search_input(&input)?;
-    Ok(first.is_ok())
+    let second = lazy.search_input(&input)?;
+    same(rt, first.unwrap_or(second), second);
+    Ok(first.is_some())
 }
 
 #[test]
 fn walks_and_searches(rt: HostRuntime) -> Result<(), Fail> {
     for limit in [0, 1, 2, 64] {
         refuse_over_walks(&rt, |heap, row| {
-            let is_found = search(heap, row, limit)? && search_input(heap, row, limit)?;
+            let is_found = search(&rt, heap, row, limit)? && search_input(&rt, heap, row, limit)?;
             Ok(is_found && walk(&rt, heap, row, limit)?)
         })?;
     }
+    Ok(())
+}
+
+/// How many times each of two long walks goes round its three states.
+const ROUNDS: usize = 1_000;
+
+/// Walks a long text over a cache.
+fn walk_long(
+    rt: &impl Abort,
+    lazy: &mut Lazy<'_, Global, &Heap>,
+    text: &[u8],
+) -> Result<(), AllocError> {
+    let start = lazy.nfa().start_anchored();
+    let states = lazy.walk(start, None, text)?;
+    same(rt, states.len(), text.len().saturating_add(2));
+    Ok(())
+}
+
+/// Walks a text twice over a cache of two states, and counts the growths asked for.
+fn growths_of_two_walks(rt: &impl Abort, heap: &Heap, nfa: &NFA, text: &[u8]) -> Result<u64, Fail> {
+    let mut lazy = Lazy::new(heap, nfa, MatchKind::All, 2);
+    heap.begin();
+    walk_long(rt, &mut lazy, text)?;
+    walk_long(rt, &mut lazy, text)?;
+    heap.end();
+    holds(rt, lazy.computed() >= 6_000);
+    Ok(heap.asked())
+}
+
+/// The NFA goes round three states, over `a`, `b` and `c`, and a cache of two states keeps none of
+/// the transitions until it is used again. The states of these walks are short. So what grows is the
+/// two lists of states, at most 13 times each if they double, and the sets, the stack, the builder
+/// and the table of the cache, a few times each. A walk that made any of them anew in each step
+/// would ask 3000 times.
+#[test]
+fn growths_of_long_walks(rt: HostRuntime) -> Result<(), Fail> {
+    let states = nfas::states(rt.alloc(), "B:61>1 B:62>2 B:63>0")?;
+    let (first, matcher) = (StateID::ZERO, LookMatcher::new());
+    let nfa = NFA::from_parts(rt.alloc(), states, first, first, false, matcher)?;
+    let mut text = Vec::new(rt.alloc());
+    for _ in 0..ROUNDS {
+        text.extend_from_slice(b"abc")?;
+    }
+    let heap = Refusing::after(rt.alloc(), u64::MAX);
+    let asked = growths_of_two_walks(&rt, &heap, &nfa, text.as_slice())?;
+    holds(&rt, asked <= 100);
     Ok(())
 }

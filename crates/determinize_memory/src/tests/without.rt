@@ -6,6 +6,7 @@ use determinize_below::{Input, Look, LookSet, PatternID, SparseSet, SparseSets, 
 use determinize_core::determinize::{epsilon_closure, set_lookbehind_from_start};
 use determinize_core::start::Config;
 use determinize_core::state::{State, StateBuilderEmpty};
+use determinize_lazy::Lazy;
 use std::process::Abort;
 use std::test::Fail;
 
@@ -100,19 +101,51 @@ fn begin_walk(rt: &impl Abort, heap: &Heap, row: &Row) -> Result<bool, Fail> {
     Ok(has_asked_none(rt, heap))
 }
 
-/// The closures of the states that take input or match.
-fn close_states(rt: &impl Abort, heap: &Heap, row: &Row) -> Result<bool, Fail> {
+/// The closures of the states of one sort, each added to an empty set.
+fn close_each<'a>(
+    rt: &impl Abort,
+    heap: &'a Heap,
+    row: &Row,
+    is_epsilon: bool,
+    mut stack: Vec<StateID, &'a Heap>,
+) -> Result<(), Fail> {
     let mut set = SparseSet::new(heap, row.nfa.len())?;
     heap.begin();
     for number in 0..row.nfa.len() {
         let id = StateID::must(number);
-        let mut stack = Vec::new(heap);
+        assert!(rt; stack.is_empty());
         assert_eq!(rt; set.capacity(), row.nfa.len());
-        if !row.nfa.state(id).is_epsilon() {
+        if row.nfa.state(id).is_epsilon() == is_epsilon {
             let added = epsilon_closure(&row.nfa, id, LookSet::empty(), &mut stack, &mut set);
             holds(rt, added.is_ok());
+            set.clear();
         }
     }
+    heap.end();
+    Ok(())
+}
+
+/// The closures of the states that take input or match, whose stack has no room, and of the other
+/// states, whose stack has room for more than any worked walk pushes.
+fn close_states(rt: &impl Abort, heap: &Heap, row: &Row) -> Result<bool, Fail> {
+    close_each(rt, heap, row, false, Vec::new(heap))?;
+    close_each(rt, heap, row, true, Vec::with_capacity(heap, 100)?)?;
+    Ok(has_asked_none(rt, heap))
+}
+
+/// Makes a cache and clears it.
+fn make_cache(rt: &impl Abort, heap: &Heap, row: &Row) -> Result<bool, Fail> {
+    let start = row.start()?;
+    heap.begin();
+    let mut lazy = Lazy::new(heap, &row.nfa, row.kind, 100);
+    same(rt, (lazy.states_kept(), lazy.computed()), (0, 0));
+    lazy.clear();
+    heap.end();
+    lazy.walk(start, row.look_behind, row.text.as_slice())?;
+    heap.begin();
+    holds(rt, lazy.states_kept() > 0 && lazy.computed() > 0);
+    lazy.clear();
+    same(rt, lazy.states_kept(), 0);
     Ok(has_asked_none(rt, heap))
 }
 
@@ -161,6 +194,7 @@ fn sets_and_builders(rt: HostRuntime) -> Result<(), Fail> {
 fn walks(rt: HostRuntime) -> Result<(), Fail> {
     refuse_over_walks(&rt, |heap, row| {
         begin_walk(&rt, heap, row)?;
+        make_cache(&rt, heap, row)?;
         Ok(close_states(&rt, heap, row)? && read_states(&rt, heap, row)?)
     })
 }
