@@ -223,3 +223,25 @@ fn many_states(rt: HostRuntime) -> Result<(), Fail> {
     let mut lazy = Lazy::new(rt.alloc(), &nfa, MatchKind::All, 2_000);
     expect_many(&rt, &mut lazy, text.as_str().as_bytes())
 }
+
+/// The bytes of three rows of 258 numbers, of three states in the list and as keys with their
+/// places, and of seven transitions. The sets for the five NFA states add less than 600.
+const THREE_STATES: usize = 3 * 258 * 4 + 3 * (32 + 32 + 8) + 7 * 8;
+
+/// Walks a word, and then nothing is cached.
+fn expect_memory<R: Abort>(rt: &R, lazy: &mut Lazy<'_>) -> Result<(), Fail> {
+    same(rt, lazy.memory_usage(), 0);
+    lazy.walk(lazy.nfa().start_anchored(), None, b"quartz")?;
+    let used = lazy.memory_usage();
+    holds(rt, used > THREE_STATES && used < THREE_STATES + 600);
+    lazy.clear();
+    same(rt, lazy.memory_usage(), used.saturating_sub(THREE_STATES));
+    Ok(())
+}
+
+#[test]
+fn memory_of_a_cache(rt: HostRuntime) -> Result<(), Fail> {
+    let nfa = nfa(&rt, WORDS, false)?;
+    let mut lazy = Lazy::new(rt.alloc(), &nfa, MatchKind::LeftmostFirst, 16);
+    expect_memory(&rt, &mut lazy)
+}

@@ -31,6 +31,39 @@ fn expect_in<R: Abort>(
     Ok(())
 }
 
+/// Asks whether an input without a pattern has a match, through a cache.
+fn expect_is_match<R: Abort>(
+    rt: &R,
+    lazy: &mut Lazy<'_>,
+    input: &Input<'_>,
+    wanted: bool,
+) -> Result<(), AllocError>
+    requires { has_start input.now.anchored ≡ true }
+{
+    same(rt, lazy.is_match(input)?, wanted);
+    Ok(())
+}
+
+/// A whole word has a match. Its first half and its second half have none, nor has a range before
+/// its own start.
+fn expect_words<R: Abort>(rt: &R, lazy: &mut Lazy<'_>) -> Result<(), Fail> {
+    expect_is_match(rt, lazy, &Input::new(HAYSTACK).range(3..9), true)?;
+    expect_is_match(rt, lazy, &Input::new(HAYSTACK).range(3..6), false)?;
+    expect_is_match(rt, lazy, &Input::new(HAYSTACK).range(6..9), false)?;
+    expect_is_match(rt, lazy, &Input::new(HAYSTACK).range(4..3), false)?;
+    Ok(())
+}
+
+#[test]
+fn is_match_under_both_kinds(rt: HostRuntime) -> Result<(), Fail> {
+    let nfa = nfa(&rt, WORDS, false)?;
+    for kind in [MatchKind::All, MatchKind::LeftmostFirst] {
+        let mut lazy = Lazy::new(rt.alloc(), &nfa, kind, 16);
+        expect_words(&rt, &mut lazy)?;
+    }
+    Ok(())
+}
+
 /// Searches a range before its own start, and an empty one.
 fn expect_at_most_empty<R: Abort>(rt: &R, lazy: &mut Lazy<'_>) -> Result<(), Fail> {
     let done = Input::new(HAYSTACK).range(4..3);

@@ -1,9 +1,11 @@
 //! Texts of states and of their builders.
 
+use crate::tests::lazy::{WORDS, nfa};
 use crate::tests::same;
 use crate::tests::states::{built, state, with_patterns};
-use determinize_below::Look;
+use determinize_below::{Look, MatchKind};
 use determinize_core::state::StateBuilderEmpty;
+use determinize_lazy::Lazy;
 use std::fmt::Debug;
 use std::process::Abort;
 use std::test::Fail;
@@ -81,4 +83,16 @@ fn text_of_ids_that_are_left(rt: HostRuntime) -> Result<(), Fail> {
     let first = ids.next().map(|id| id.as_usize());
     same(&rt, first, Some(8));
     expect_text(&rt, &ids, "[StateID(0), StateID(300)]")
+}
+
+/// The text of a cache that has walked `quartz`, in which three states join seven transitions.
+const CACHE: &str = "\
+Lazy { match_kind: LeftmostFirst, limit: 16, states_kept: 3, computed: 7, .. }";
+
+#[test]
+fn text_of_a_cache(rt: HostRuntime) -> Result<(), Fail> {
+    let nfa = nfa(&rt, WORDS, false)?;
+    let mut lazy = Lazy::new(rt.alloc(), &nfa, MatchKind::LeftmostFirst, 16);
+    lazy.walk(lazy.nfa().start_anchored(), None, b"quartz")?;
+    expect_text(&rt, &lazy, CACHE)
 }
