@@ -162,10 +162,7 @@ impl Row {
 
     /// The unit over which the state of this index is left.
     fn unit(&self, index: usize) -> Unit {
-        match self.text.get(index).copied().or(self.look_ahead) {
-            Some(byte) => Unit::u8(byte),
-            None => Unit::eoi(256),
-        }
+        Unit::from(self.text.get(index).copied().or(self.look_ahead))
     }
 }
 

@@ -1,4 +1,4 @@
-//! Texts of states and of their builders.
+//! Texts of states, of their builders, of caches and of NFAs.
 
 use crate::tests::lazy::{WORDS, nfa};
 use crate::tests::same;
@@ -95,4 +95,20 @@ fn text_of_a_cache(rt: HostRuntime) -> Result<(), Fail> {
     let mut lazy = Lazy::new(rt.alloc(), &nfa, MatchKind::LeftmostFirst, 16);
     lazy.walk(lazy.nfa().start_anchored(), None, b"quartz")?;
     expect_text(&rt, &lazy, CACHE)
+}
+
+/// The text of an NFA: a line for each state.
+const STATES: &str = "\
+NFA(
+0: sparse(30-39 => 2, 41-5a => 3)
+1: union(0, 2)
+2: capture => 3
+3: match(0)
+start_anchored: 0, start_unanchored: 0, reverse: true, line_terminator: 0a
+)";
+
+#[test]
+fn text_of_an_nfa(rt: HostRuntime) -> Result<(), Fail> {
+    let nfa = nfa(&rt, "S:30-39>2,41-5a>3 BU:0,2 C:3 M:0", true)?;
+    expect_text(&rt, &nfa, STATES)
 }

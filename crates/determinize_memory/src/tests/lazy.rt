@@ -76,8 +76,11 @@ fn search_input(rt: &impl Abort, heap: &Heap, row: &Row, limit: usize) -> Result
     let first = lazy.search_input(&input).ok();
     heap.end();
     let second = lazy.search_input(&input)?;
-    same(rt, first.unwrap_or(second), second);
-    Ok(first.is_some())
+    let Some(found) = first else {
+        return Ok(false);
+    };
+    holds(rt, found == second);
+    Ok(true)
 }
 
 #[test]
