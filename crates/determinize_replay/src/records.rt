@@ -1,6 +1,8 @@
 //! Builds the record of a job, and writes what its readers answer.
 
-ghost use Rattle.std.specs.Prelude.{◌≡◌, ◌<◌, ◌≤◌, [], All, IsTrue, IfOk, OnOk};
+ghost use Rattle.std.specs.Prelude.{◌≡◌, ℕ, ◌<◌, ◌≤◌, [], All, IsTrue, IfOk, OnOk, nat_eq};
+ghost use Rattle.std.specs.HashSet.{contains};
+ghost use Rattle.std.specs.List.{list_any};
 ghost use Rattle.determinize_core.specs.Value.{dead};
 
 use crate::error::{JobError, Part};
@@ -10,6 +12,8 @@ use crate::values;
 use determinize_below::{LookSet, PatternID, SparseSet, StateID};
 use determinize_core::state::{State, StateBuilderEmpty, StateBuilderMatches, StateBuilderNFA};
 use std::alloc::{AllocError, Allocator, Global};
+use std::collections::HashSet;
+use std::hash::{BuildHasherDefault, FoldHasher};
 
 /// The flags, look-have and patterns of the job's record.
 fn matches_builder(alloc: Global, job: &Job<'_>) -> Result<StateBuilderMatches, JobError> {
@@ -46,26 +50,31 @@ pub fn builder(alloc: Global, job: &Job<'_>) -> Result<StateBuilderNFA, JobError
 /// A builder with these patterns. A pattern that stands twice among them is refused.
 pub fn with_patterns(alloc: Global, ids: &[PatternID]) -> Result<StateBuilderMatches, JobError> {
     let mut builder = StateBuilderEmpty::new(alloc).into_matches()?;
-    let mut seen = Vec::new(alloc);
+    let mut seen = HashSet::new(alloc);
     for id in ids {
         add_pattern(&mut builder, &mut seen, *id)?;
     }
     Ok(builder)
 }
 
-/// Adds a pattern to a builder and to the list of those that it has.
+/// The patterns that a builder has.
+type Patterns = HashSet<PatternID, BuildHasherDefault<FoldHasher>>;
+
+/// Adds a pattern to a builder and to the set of those that it has.
+///
+/// Returns `RepeatedPattern` if it is in the set.
 fn add_pattern(
     builder: &mut StateBuilderMatches,
-    seen: &mut Vec<PatternID>,
+    seen: &mut Patterns,
     id: PatternID,
 ) -> Result<(), JobError>
-    requires { builder.old.patterns ≡ seen.old.items }
-    ensures { OnOk result (builder.new.patterns ≡ seen.new.items) }
+    requires { (q : ℕ) → contains nat_eq seen.old q ≡ list_any (nat_eq q) builder.old.patterns }
+    ensures { OnOk result
+        ((q : ℕ) → contains nat_eq seen.new q ≡ list_any (nat_eq q) builder.new.patterns) }
 {
-    if seen.contains(&id) {
+    if !seen.insert(id)? {
         return Err(JobError::RepeatedPattern);
     }
-    seen.push(id)?;
     builder.add_match_pattern_id(id)?;
     Ok(())
 }

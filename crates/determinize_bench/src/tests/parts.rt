@@ -42,7 +42,7 @@ fn readers_of_an_nfa(rt: HostRuntime) -> Result<(), Fail> {
     matcher.set_line_terminator(b';');
     let first = StateID::new(1)?;
     let nfa = NFA::from_parts(rt.alloc(), states, first, StateID::ZERO, true, matcher)?;
-    same(&rt, nfa.len(), 3);
+    same(&rt, (nfa.len(), nfa.pattern_len()), (3, 1));
     holds(&rt, nfa.is_reverse());
     same(&rt, nfa.start_anchored(), first);
     same(&rt, nfa.start_unanchored(), StateID::ZERO);

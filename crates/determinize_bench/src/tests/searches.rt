@@ -67,6 +67,7 @@ fn is_match_under_both_kinds(rt: HostRuntime) -> Result<(), Fail> {
 /// Searches a range before its own start, and an empty one.
 fn expect_at_most_empty<R: Abort>(rt: &R, lazy: &mut Lazy<'_>) -> Result<(), Fail> {
     let done = Input::new(HAYSTACK).range(4..3);
+    same(rt, done.is_done(), true);
     expect_in(rt, lazy, &done, None, 0)?;
     let empty = Input::new(HAYSTACK).range(4..4);
     expect_in(rt, lazy, &empty, ended(4), 1)?;
@@ -98,6 +99,7 @@ fn expect_whole<R: Abort>(
 ) -> Result<(), Fail> {
     let input = Input::new(haystack);
     expect_in(rt, lazy, &input, ended(end), 3)?;
+    same(rt, lazy.is_match(&input)?, true);
     same(rt, lazy.states_kept(), 3);
     Ok(())
 }
@@ -110,7 +112,12 @@ fn expect_word<R: Abort + AllocGlobal>(
     end: usize,
 ) -> Result<(), Fail> {
     let nfa = nfa(rt, WORDS, is_backward)?;
-    let mut lazy = Lazy::new(rt.alloc(), &nfa, MatchKind::LeftmostFirst, 16);
+    let kind = if is_backward {
+        MatchKind::All
+    } else {
+        MatchKind::LeftmostFirst
+    };
+    let mut lazy = Lazy::new(rt.alloc(), &nfa, kind, 16);
     expect_whole(rt, &mut lazy, haystack, end)
 }
 
@@ -132,8 +139,11 @@ fn expect_inner<R: Abort>(rt: &R, lazy: &mut Lazy<'_>) -> Result<(), Fail> {
     let haystack = b"\xff\xffaa\xffa";
     let inner = Input::new(haystack).range(1..4).anchored(Anchored::Yes);
     same(rt, lazy.search_input(&inner)?, ended(1));
-    let short = Input::new(haystack).range(2..4).anchored(Anchored::Yes);
+    same(rt, lazy.is_match(&inner)?, true);
+    let mut short = inner;
+    short.set_start(2);
     same(rt, lazy.search_input(&short)?, None);
+    same(rt, lazy.is_match(&short)?, false);
     Ok(())
 }
 

@@ -83,12 +83,28 @@ fn search_input(rt: &impl Abort, heap: &Heap, row: &Row, limit: usize) -> Result
     Ok(true)
 }
 
+/// Asks whether the text of a walk as a haystack has a match, in the same way.
+fn is_match(rt: &impl Abort, heap: &Heap, row: &Row, limit: usize) -> Result<bool, Fail> {
+    let input = Input::new(row.text.as_slice()).anchored(Anchored::Yes);
+    let mut lazy = Lazy::new(heap, &row.nfa, row.kind, limit);
+    heap.begin();
+    let first = lazy.is_match(&input).ok();
+    heap.end();
+    let second = lazy.search_input(&input)?.is_some();
+    let Some(found) = first else {
+        return Ok(false);
+    };
+    holds(rt, found == second);
+    Ok(true)
+}
+
 #[test]
 fn walks_and_searches(rt: HostRuntime) -> Result<(), Fail> {
     for limit in [0, 1, 2, 64] {
         refuse_over_walks(&rt, |heap, row| {
             let is_found = search(&rt, heap, row, limit)? && search_input(&rt, heap, row, limit)?;
-            Ok(is_found && walk(&rt, heap, row, limit)?)
+            let is_asked = is_found && is_match(&rt, heap, row, limit)?;
+            Ok(is_asked && walk(&rt, heap, row, limit)?)
         })?;
     }
     Ok(())
