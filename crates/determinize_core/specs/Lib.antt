@@ -2,6 +2,7 @@ pub use Rattle.determinize_looks.specs.LookTables
 pub use Rattle.determinize_looks.specs.StartKinds
 pub use Rattle.determinize_looks.specs.StartRows
 pub use Rattle.determinize_states.specs.Building
+pub use Rattle.determinize_states.specs.Equality
 pub use Rattle.determinize_states.specs.Recording
 pub use Rattle.determinize_states.specs.Spelling
 pub use Rattle.determinize_states.specs.Value

@@ -2,32 +2,30 @@
 use Rattle.std.proofs.Common.{◌≡◌, ℕ, ◌+◌, ◌-◌, ◌<◌, ◌≤◌, true, false, cond, inl, inr, Option, Some, None, List, [], ◌∷◌, ◌++◌, length, take, sym, ap, ◌∙◌, subst, arith, length-append}
 use Rattle.std.specs.Prelude.{slice_get}
 use Rattle.std.specs.Cmp.{IsEquivalence, on_equiv}
-use Rattle.std.specs.Cmp.Lexicographic.{bytes_decides, nat_list_eq_equiv}
+use Rattle.std.specs.Cmp.Lexicographic.{nat_list_eq_equiv}
 use Rattle.std.specs.List.{list_any}
 use Rattle.std.proofs.lemmas.List.{length_push, take_at}
 use Rattle.determinize_lazy.specs.Pairs.{same}
 use Rattle.determinize_lazy.specs.Places.{place_in}
 use Rattle.determinize_lazy.specs.Private.Places.{IsPlace, IsPlaces}
-use Rattle.determinize_core.specs.Spelling.{spell}
-use Rattle.determinize_core.specs.Value.{IsValue, Value}
-use Rattle.determinize_states.proofs.SpellingLaws.{spell_tells}
-use Rattle.determinize_lazy.proofs.Placing.{apart-push, found, get_push, none_passes, not_none, position_from-push}
+use Rattle.determinize_core.specs.Equality.{Decides-same, parts}
+use Rattle.determinize_core.specs.Value.{Value}
+use Rattle.determinize_lazy.proofs.Placing.{apart-push, found, none_passes, not_none, position_from-push}
 
 pub same_laws : IsEquivalence same
-same_laws = on_equiv spell nat_list_eq_equiv
+same_laws = on_equiv parts nat_list_eq_equiv
 
--- values that a state can have are equal where their bytes are
-pub same_is : (v w : Value) → IsValue v → IsValue w → same v w ≡ true → v ≡ w
-same_is v w h k e = spell_tells v w h k ((bytes_decides (spell v) (spell w)).0 e)
+pub same_is : (v w : Value) → same v w ≡ true → v ≡ w
+same_is v w = (Decides-same v w).0
 
 -- what the map gives is the state's place
-pub is_place : (values : List Value) (v : Value) (at : Value → Option ℕ) (r : Option ℕ) → IsPlaces values at → IsValue v → r ≡ at v → IsPlace values v r
-is_place values v at r placed valid e =
+pub is_place : (values : List Value) (v : Value) (at : Value → Option ℕ) (r : Option ℕ) → IsPlaces values at → r ≡ at v → IsPlace values v r
+is_place values v at r placed e =
     elim r as (λ o. o ≡ place_in values v → IsPlace values v o) [
       | None ↦ λ none. none_passes (same v) values 0 (sym none)
       | Some p ↦ λ here. let f : (k : ℕ) × (x : Value) × (p ≡ 0 + k) × (slice_get values k ≡ Some x) × (same v x ≡ true) = found (same v) values 0 p (sym here) in
           let p_is : p ≡ f.0 = let known : p ≡ 0 + f.0 = f.2 in omega (arith, known) in
-          ap (λ k. slice_get values k) p_is ∙ f.3 ∙ ap Some (sym (same_is v (f.1) valid (placed.valid f.0 (f.1) f.3) f.4))
+          ap (λ k. slice_get values k) p_is ∙ f.3 ∙ ap Some (sym (same_is v (f.1) f.4))
     ] (e ∙ placed.mapped v)
 
 -- no values
@@ -35,22 +33,20 @@ pub places-none : (at : Value → Option ℕ) → ((q : Value) → at q ≡ None
 places-none at none = record {
   mapped = none;
   apart = λ p v here. not_none (sym here);
-  valid = λ p v here. not_none (sym here);
   few = let e : 0 ≤ 16647160 = omega arith in e;
 }
 
-pub places-push : (values more : List Value) (v : Value) (at at' : Value → Option ℕ) (n : ℕ) → IsPlaces values at → IsValue v → list_any (same v) values ≡ false → n ≡ length values → n < 16647160
+pub places-push : (values more : List Value) (v : Value) (at at' : Value → Option ℕ) (n : ℕ) → IsPlaces values at → list_any (same v) values ≡ false → n ≡ length values → n < 16647160
     → more ≡ values ++ v ∷ []
     → ((q : Value) → at' q ≡ cond (same v q) (Some n) (at q))
     → IsPlaces more at'
-places-push values more v at at' n placed valid none len few more_is new =
+places-push values more v at at' n placed none len few more_is new =
     subst (λ xs. IsPlaces xs at') (sym more_is)
     record {
       mapped = λ q. new q ∙ ap (λ o. cond (same v q) (Some n) o) (placed.mapped q)
           ∙ ap (λ k. cond (same v q) (Some k) (place_in values q)) (let e : n ≡ 0 + length values = omega (arith, len) in e)
           ∙ sym (position_from-push same_laws values v q 0 none);
       apart = apart-push same_laws values v placed.apart none;
-      valid = λ p q here. elim (get_push values v p q here) [ inl h ↦ placed.valid p q h | inr h ↦ subst IsValue (sym h.1) valid ];
       few = rw length-append (let e : length values + 1 ≤ 16647160 = omega (arith, len, few) in e);
     }
 
@@ -60,4 +56,4 @@ pub places-pop : (values more back : List Value) (v : Value) (at at' : Value →
 places-pop values more back v at at' n placed more_is len back_is same_map =
     let n_is : length values ≡ n - 1 = let k : n ≡ length values + 1 = len ∙ ap length more_is ∙ length_push values v in omega (arith, k) in
     subst (λ xs. IsPlaces xs at') (sym (back_is ∙ ap (λ xs. take (n - 1) xs) more_is ∙ take_at values (v ∷ []) (n - 1) n_is))
-    record { mapped = λ q. same_map q ∙ placed.mapped q; apart = placed.apart; valid = placed.valid; few = placed.few }
+    record { mapped = λ q. same_map q ∙ placed.mapped q; apart = placed.apart; few = placed.few }

@@ -9,7 +9,7 @@ use Rattle.determinize_core.proofs.LastMatches.{last_match-push}
 use Rattle.determinize_core.proofs.Loops.{value_after-push}
 use Rattle.determinize_core.proofs.UnitLists.{units_are}
 use Rattle.determinize_core.specs.Chain.{future, units, value_after}
-use Rattle.determinize_core.specs.Value.{is_nonempty, IsValue, Value}
+use Rattle.determinize_core.specs.Value.{is_nonempty, Value}
 use Rattle.determinize_core.specs.Walk.{ended_at, last_match}
 use Rattle.determinize_below.specs.declared.search.HalfMatch.{HalfMatch}
 use Rattle.determinize_below.specs.declared.search.MatchKind.{MatchKind}
@@ -136,12 +136,12 @@ module _ {old : Cache} {first : Value} {us : List (Option ℕ)} {own : Value} {p
 
   -- one more unit
   pub unmatched-push : (u : Option ℕ) (own' : Value) (place' : Option ℕ) (newer : Cache)
-      → old.computed ≤ 18446744073709551615 → IsValue here → is_some (slice_get here.patterns 0) ≡ false
+      → old.computed ≤ 18446744073709551615 → is_some (slice_get here.patterns 0) ≡ false
       → not (is_nonempty here.states) ≡ false → current newer own' place' ≡ step_of new here u
       → IsStanding newer own' place' → newer ≡ after_turn new here u
       → IsUnmatched old first (us ++ u ∷ []) own' place' (length us) newer
-  unmatched-push u own' place' newer few valid none more value standing newer_is = record {
-    searched = searched-push old first us u own own' place place' None _ new newer few before valid more value standing
+  unmatched-push u own' place' newer few none more value standing newer_is = record {
+    searched = searched-push old first us u own own' place place' None _ new newer few before more value standing
         newer_is (sym (option_or-None _));
     read = λ rest.
         ap (λ all. to_match first all) (append_assoc us (u ∷ []) rest)

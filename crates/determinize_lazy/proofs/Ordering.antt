@@ -3,10 +3,8 @@ use Rattle.std.proofs.Common.{◌≡◌, ℕ, ◌+◌, ◌*◌, ◌<◌, true, f
 use Rattle.std.specs.Prelude.{slice_get, slice_index_or, slice_set}
 use Rattle.std.specs.List.{list_any}
 use Rattle.std.proofs.lemmas.List.{get_or_append_left, length_push, map-append}
-use Rattle.std.proofs.lemmas.Option.{get_or_from_slice_get, slice_get-get_or, slice_get_within}
+use Rattle.std.proofs.lemmas.Option.{get_or_from_slice_get, slice_get_within}
 use Rattle.determinize_lazy.specs.Pairs.{Pair, same, with_value}
-use Rattle.determinize_lazy.specs.Private.Places.{HaveValidValues}
-use Rattle.determinize_lazy.specs.Private.Places.{AreValid}
 use Rattle.determinize_below.specs.Truth.{IsUnit}
 use Rattle.determinize_lazy.specs.Private.Rows.{column, IsRows, IsWithRow}
 use Rattle.determinize_lazy.specs.Private.Signs.{signs_of}
@@ -74,8 +72,3 @@ module _ (p0 p1 p2 : List Value) (o0 o1 : List Kept) (v w : Value) (s : ℕ) (u 
       ∙ ap (λ ps. ps ++ pair_at p2 record { source = s; unit = u } ∷ []) (
       ap (λ xs. pairs_of xs o0) p2_is ∙ pairs_of-with p1 w o0 (subst (λ xs. IsOrder xs o0) (sym p1_is) (order-with p0 v o0 ordered)) ∙ ap (λ xs. pairs_of xs o0) p1_is ∙ pairs_of-with p0 v o0 ordered)
       ∙ ap (λ (x : Value). let p : Pair = record { value = x; unit = u } in pairs_of p0 o0 ++ p ∷ []) (get_or_from_slice_get p2 s v dead at_p2)
-
--- the values of pairs that are told by places are those of states
-pub pairs_valid : (values : List Value) (order : List Kept) → IsOrder values order → AreValid values → HaveValidValues (pairs_of values order)
-pairs_valid values [] h valid = tt
-pairs_valid values (k ∷ ks) h valid = (valid k.source (slice_index_or values k.source dead) (slice_get-get_or values k.source dead h.0), pairs_valid values ks h.1 valid)

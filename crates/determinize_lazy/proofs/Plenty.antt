@@ -6,11 +6,9 @@ use Rattle.std.proofs.lemmas.List.{append_assoc, length_push}
 use Rattle.std.proofs.lemmas.List.Folds.{list_any-append}
 use mathlib.Core.Bool.{true≢false}
 use Rattle.determinize_lazy.specs.Pairs.{chain_pairs, is_kept, Pair, same, same_unit, values_after, values_of, with_pair, with_pairs, with_value, with_values}
-use Rattle.determinize_lazy.specs.Private.Places.{HaveValidValues}
-use Rattle.determinize_lazy.specs.Private.Places.{AreValid}
 use Rattle.determinize_lazy.specs.Plenty.{HasRoom, KeepsAll}
 use Rattle.determinize_lazy.specs.Kept.{after_pair, after_walk, Cache, count_after, fits, held_values, keep, kept, missed, step_of}
-use Rattle.determinize_core.specs.Value.{IsValue, Value}
+use Rattle.determinize_core.specs.Value.{Value}
 use Rattle.determinize_core.specs.Chain.{future}
 use Rattle.determinize_core.specs.Step.{step}
 use Rattle.determinize_below.specs.Nfa.{Nfa}
@@ -65,10 +63,6 @@ kept_added pairs (p ∷ more) x w h =
       | false ↦ λ _ rest. kept_added (with_pair pairs p) more x w rest
     ] refl h
 
-pub valid-push : (pairs : List Pair) (p : Pair) → HaveValidValues pairs → IsValue p.value → HaveValidValues (pairs ++ p ∷ [])
-valid-push [] p h v = (v, tt)
-valid-push (q ∷ qs) p h v = (h.0, valid-push qs p h.1 v)
-
 module _ (f : Value → Option ℕ → Value) where
   -- where each pair of a walk is kept, the walk computes nothing and changes nothing
   missed_none : (limit : ℕ) (pairs : List Pair) (v : Value) (us : List (Option ℕ)) → ((x : Value) (w : Option ℕ) → is_kept (chain_pairs f v us) x w ≡ true → is_kept pairs x w ≡ true)
@@ -103,15 +97,15 @@ module _ (f : Value → Option ℕ → Value) where
       omega (arith, a, b, c)
 
   -- both values of a kept pair are held
-  both_held : (pairs : List Pair) (values : List Value) (v : Value) (u : Option ℕ) → HaveValidValues pairs → IsValue v → is_kept pairs v u ≡ true
+  both_held : (pairs : List Pair) (values : List Value) (v : Value) (u : Option ℕ) → is_kept pairs v u ≡ true
       → (list_any (same v) (values_after f values pairs) ≡ true) × (list_any (same (f v u)) (values_after f values pairs) ≡ true)
-  both_held [] values v u valid h k = absurd (true≢false (sym k))
-  both_held (p ∷ ps) values v u valid h k =
+  both_held [] values v u k = absurd (true≢false (sym k))
+  both_held (p ∷ ps) values v u k =
       elim (same v p.value && same_unit u p.unit) as (λ b. (same v p.value && same_unit u p.unit) ≡ b → (b || is_kept ps v u) ≡ true → (list_any (same v) (values_after f values (p ∷ ps)) ≡ true) × (list_any (same (f v u)) (values_after f values (p ∷ ps)) ≡ true)) [
         | true ↦ λ here _. let parts : (same v p.value ≡ true) × (same_unit u p.unit ≡ true) = both (same v p.value) (same_unit u p.unit) here in
-            let image : same (f v u) (f p.value p.unit) ≡ true = ap (λ w. same (f v w) (f p.value p.unit)) (same_unit_is u p.unit parts.1) ∙ ap (λ x. same (f x p.unit) (f p.value p.unit)) (same_is v p.value h valid.0 parts.0) ∙ same_laws.refl (f p.value p.unit) in
+            let image : same (f v u) (f p.value p.unit) ≡ true = ap (λ w. same (f v w) (f p.value p.unit)) (same_unit_is u p.unit parts.1) ∙ ap (λ x. same (f x p.unit) (f p.value p.unit)) (same_is v p.value parts.0) ∙ same_laws.refl (f p.value p.unit) in
             (any_after ps _ v (any_more (with_value values p.value) (f p.value p.unit) v (any_new values p.value v parts.0)), any_after ps _ (f v u) (any_new (with_value values p.value) (f p.value p.unit) (f v u) image))
-        | false ↦ λ _ rest. both_held ps (with_value (with_value values p.value) (f p.value p.unit)) v u valid.1 h rest
+        | false ↦ λ _ rest. both_held ps (with_value (with_value values p.value) (f p.value p.unit)) v u rest
       ] refl k
 
   values_after-append : (pairs more : List Pair) (values : List Value) → values_after f values (pairs ++ more) ≡ values_after f (values_after f values pairs) more
@@ -119,9 +113,9 @@ module _ (f : Value → Option ℕ → Value) where
   values_after-append (p ∷ ps) more values = values_after-append ps more (with_value (with_value values p.value) (f p.value p.unit))
 
   -- a pair that is kept adds no value
-  nothing_new : (pairs more : List Pair) (v : Value) (u : Option ℕ) → HaveValidValues pairs → IsValue v → is_kept pairs v u ≡ true → values_of f (pairs ++ record { value = v; unit = u } ∷ more) ≡ values_of f (pairs ++ more)
-  nothing_new pairs more v u valid h k =
-      let there : (list_any (same v) (values_of f pairs) ≡ true) × (list_any (same (f v u)) (values_of f pairs) ≡ true) = both_held pairs [] v u valid h k in
+  nothing_new : (pairs more : List Pair) (v : Value) (u : Option ℕ) → is_kept pairs v u ≡ true → values_of f (pairs ++ record { value = v; unit = u } ∷ more) ≡ values_of f (pairs ++ more)
+  nothing_new pairs more v u k =
+      let there : (list_any (same v) (values_of f pairs) ≡ true) × (list_any (same (f v u)) (values_of f pairs) ≡ true) = both_held pairs [] v u k in
       values_after-append pairs (record { value = v; unit = u } ∷ more) []
       ∙ ap (λ xs. values_after f xs more) (ap (λ xs. with_value xs (f v u)) (ap (λ b. cond b (values_of f pairs) (values_of f pairs ++ v ∷ [])) there.0) ∙ ap (λ b. cond b (values_of f pairs) (values_of f pairs ++ f v u ∷ [])) there.1)
       ∙ sym (values_after-append pairs more [])
@@ -136,19 +130,19 @@ module _ (f : Value → Option ℕ → Value) where
       ap (λ b. cond b (pairs ++ p ∷ []) (cond (fits f limit (p ∷ [])) (p ∷ []) [])) (le_true _ _ room)
 
   -- all pairs are kept, and each that is missing is computed once
-  pub kept_all : (limit : ℕ) (pairs : List Pair) (v : Value) (us : List (Option ℕ)) → HaveValidValues pairs → HaveValidValues (chain_pairs f v us) → length (values_of f (pairs ++ chain_pairs f v us)) ≤ limit
+  pub kept_all : (limit : ℕ) (pairs : List Pair) (v : Value) (us : List (Option ℕ)) → length (values_of f (pairs ++ chain_pairs f v us)) ≤ limit
       → (kept f limit pairs v us ≡ with_pairs pairs (chain_pairs f v us)) × (missed f limit pairs v us + length pairs ≡ length (with_pairs pairs (chain_pairs f v us)))
-  kept_all limit pairs v [] valid chained few = (refl, (let e : 0 + length pairs ≡ length pairs = omega arith in e))
-  kept_all limit pairs v (u ∷ us) valid chained few =
+  kept_all limit pairs v [] few = (refl, (let e : 0 + length pairs ≡ length pairs = omega arith in e))
+  kept_all limit pairs v (u ∷ us) few =
       elim (is_kept pairs v u) as (λ b. is_kept pairs v u ≡ b
       → (kept f limit (cond b pairs (keep f limit pairs record { value = v; unit = u })) (f v u) us ≡ with_pairs (cond b pairs (pairs ++ record { value = v; unit = u } ∷ [])) (chain_pairs f (f v u) us))
       × (cond b 0 1 + missed f limit (cond b pairs (keep f limit pairs record { value = v; unit = u })) (f v u) us + length pairs ≡ length (with_pairs (cond b pairs (pairs ++ record { value = v; unit = u } ∷ [])) (chain_pairs f (f v u) us)))) [
         | true ↦ λ there. let rest : (kept f limit pairs (f v u) us ≡ with_pairs pairs (chain_pairs f (f v u) us)) × (missed f limit pairs (f v u) us + length pairs ≡ length (with_pairs pairs (chain_pairs f (f v u) us))) =
-            kept_all limit pairs (f v u) us valid chained.1 (subst (λ xs. length xs ≤ limit) (nothing_new pairs (chain_pairs f (f v u) us) v u valid chained.0 there) few) in
+            kept_all limit pairs (f v u) us (subst (λ xs. length xs ≤ limit) (nothing_new pairs (chain_pairs f (f v u) us) v u there) few) in
             (rest.0, (let known : missed f limit pairs (f v u) us + length pairs ≡ length (with_pairs pairs (chain_pairs f (f v u) us)) = rest.1 in omega (arith, known)))
         | false ↦ λ _. let p : Pair = record { value = v; unit = u } in
             let rest : (kept f limit (pairs ++ p ∷ []) (f v u) us ≡ with_pairs (pairs ++ p ∷ []) (chain_pairs f (f v u) us)) × (missed f limit (pairs ++ p ∷ []) (f v u) us + length (pairs ++ p ∷ []) ≡ length (with_pairs (pairs ++ p ∷ []) (chain_pairs f (f v u) us))) =
-            kept_all limit (pairs ++ p ∷ []) (f v u) us (valid-push pairs p valid chained.0) chained.1 (subst (λ ps. length (values_of f ps) ≤ limit) (sym (append_assoc pairs (p ∷ []) (chain_pairs f (f v u) us))) few) in
+            kept_all limit (pairs ++ p ∷ []) (f v u) us (subst (λ ps. length (values_of f ps) ≤ limit) (sym (append_assoc pairs (p ∷ []) (chain_pairs f (f v u) us))) few) in
             let added : keep f limit pairs p ≡ pairs ++ p ∷ [] = room_for_one limit pairs (chain_pairs f (f v u) us) p few in
             let one : missed f limit (keep f limit pairs p) (f v u) us ≡ missed f limit (pairs ++ p ∷ []) (f v u) us = ap (λ ps. missed f limit ps (f v u) us) added in
             let known : missed f limit (pairs ++ p ∷ []) (f v u) us + length (pairs ++ p ∷ []) ≡ length (with_pairs (pairs ++ p ∷ []) (chain_pairs f (f v u) us)) = rest.1 in
@@ -168,10 +162,6 @@ module _ (nfa : Nfa) (kind : MatchKind) where
       values_after-chain (with_value (with_value values v) (step nfa kind v u)) (step nfa kind v u) w us
       ∙ ap (λ vs. with_values vs (future nfa kind (step nfa kind (step nfa kind v u) w) us)) (with_value-again (with_value values v) (step nfa kind v u))
 
-  chain_valid : (v : Value) (us : List (Option ℕ)) → AreValid (future nfa kind v us) → HaveValidValues (chain_pairs (step nfa kind) v us)
-  chain_valid v [] h = tt
-  chain_valid v (u ∷ us) h = (h 0 v refl, chain_valid (step nfa kind v u) us (λ p w at. h (suc p) w at))
-
 count_none : (a m : ℕ) → min (min a m + 0) m ≡ min a m
 count_none a m = grind arith
 
@@ -186,11 +176,10 @@ keeps_none old v few = record {
   again = ap (λ n. record old { computed = n }) (count_none (old.computed + 0) 18446744073709551615);
 }
 
-module _ (old : Cache) (v : Value) (u : Option ℕ) (us : List (Option ℕ)) (valid : HaveValidValues old.pairs) (chained : HaveValidValues (chain_pairs (step_of old) v (u ∷ us)))
-    (few : HasRoom old v (u ∷ us)) where
+module _ (old : Cache) (v : Value) (u : Option ℕ) (us : List (Option ℕ)) (few : HasRoom old v (u ∷ us)) where
   all : (kept (step_of old) old.limit old.pairs v (u ∷ us) ≡ with_pairs old.pairs (chain_pairs (step_of old) v (u ∷ us)))
       × (missed (step_of old) old.limit old.pairs v (u ∷ us) + length old.pairs ≡ length (with_pairs old.pairs (chain_pairs (step_of old) v (u ∷ us))))
-  all = kept_all (step_of old) old.limit old.pairs v (u ∷ us) valid chained
+  all = kept_all (step_of old) old.limit old.pairs v (u ∷ us)
       (subst (λ vs. length vs ≤ old.limit) (sym (values_after-append (step_of old) old.pairs (chain_pairs (step_of old) v (u ∷ us)) [] ∙ values_after-chain old.nfa old.kind (held_values old) v u us)) few)
 
   pub kept_pairs : (after_walk old v (u ∷ us)).pairs ≡ with_pairs old.pairs (chain_pairs (step_of old) v (u ∷ us))
@@ -214,20 +203,17 @@ module _ (old : Cache) (v : Value) (u : Option ℕ) (us : List (Option ℕ)) (va
       (ap (λ n. count_after (count_after old.computed (missed (step_of old) old.limit old.pairs v (u ∷ us))) n) stays.0 ∙ count_none (old.computed + missed (step_of old) old.limit old.pairs v (u ∷ us)) 18446744073709551615)
 
 -- with room for all, a walk keeps all its pairs
-pub keeps_all : (old : Cache) (v : Value) (us : List (Option ℕ)) → old.computed ≤ 18446744073709551615 → HaveValidValues old.pairs → HaveValidValues (chain_pairs (step_of old) v us) → HasRoom old v us → KeepsAll old v us (after_walk old v us)
-keeps_all old v [] small valid chained few = keeps_none old v small
-keeps_all old v (u ∷ us) small valid chained few = record {
-  pairs = kept_pairs old v u us valid chained few;
-  once = counted_once old v u us valid chained few;
-  again = walked_again old v u us valid chained few;
+pub keeps_all : (old : Cache) (v : Value) (us : List (Option ℕ)) → old.computed ≤ 18446744073709551615 → HasRoom old v us → KeepsAll old v us (after_walk old v us)
+keeps_all old v [] small few = keeps_none old v small
+keeps_all old v (u ∷ us) small few = record {
+  pairs = kept_pairs old v u us few;
+  once = counted_once old v u us few;
+  again = walked_again old v u us few;
 }
 
--- the same of a walk that answers its values
-pub keeps_all_where_ok : {T E : Type 0} (r : Result T E) (values_in : T → List Value) (old new : Cache) (v : Value) (us : List (Option ℕ)) → old.computed ≤ 18446744073709551615 → HaveValidValues old.pairs
-    → IfOk r (λ answer. values_in answer ≡ future old.nfa old.kind v us)
-    → IfOk r (λ answer. AreValid (values_in answer))
+-- the same of a walk that may fail
+pub keeps_all_where_ok : {T E : Type 0} (r : Result T E) (old new : Cache) (v : Value) (us : List (Option ℕ)) → old.computed ≤ 18446744073709551615
     → OnOk r (new ≡ after_walk old v us)
     → HasRoom old v us → OnOk r (KeepsAll old v us new)
-keeps_all_where_ok (Ok answer) values_in old new v us small valid chained answered after room =
-    subst (λ (c : Cache). KeepsAll old v us c) (sym after) (keeps_all old v us small valid (chain_valid old.nfa old.kind v us (subst (λ vs. AreValid vs) chained answered)) room)
-keeps_all_where_ok (Err error) values_in old new v us small valid chained answered after room = tt
+keeps_all_where_ok (Ok answer) old new v us small after room = subst (λ (c : Cache). KeepsAll old v us c) (sym after) (keeps_all old v us small room)
+keeps_all_where_ok (Err error) old new v us small after room = tt

@@ -11,7 +11,7 @@ use Rattle.determinize_core.proofs.LastMatches.{last_match-push}
 use Rattle.determinize_core.proofs.Loops.{value_after-push}
 use Rattle.determinize_core.proofs.UnitLists.{units_are}
 use Rattle.determinize_lazy.specs.Pairs.{chain_pairs, is_kept, Pair, same}
-use Rattle.determinize_lazy.specs.Private.Places.{AreValid, HaveValidValues, IsPlace}
+use Rattle.determinize_lazy.specs.Private.Places.{IsPlace}
 use Rattle.determinize_lazy.specs.Plenty.{HasRoom, KeepsAll}
 use Rattle.determinize_lazy.specs.Private.Over.{IsOver}
 use Rattle.determinize_lazy.specs.Private.Signs.{match_at}
@@ -19,14 +19,14 @@ use Rattle.determinize_lazy.specs.Private.Standing.{current, IsStanding}
 use Rattle.determinize_lazy.specs.Kept.{after_walk, Cache, count_after, held_values, keep, step_of}
 use Rattle.determinize_lazy.specs.Private.Turns.{after_turn, IsKnown}
 use Rattle.determinize_lazy.specs.Searches.{in_order, units_read}
-use Rattle.determinize_core.specs.Value.{dead, is_nonempty, IsValue, Value}
+use Rattle.determinize_core.specs.Value.{dead, is_nonempty, Value}
 use Rattle.determinize_core.specs.Chain.{future, units, value_after}
 use Rattle.determinize_core.specs.Walk.{ended_at, last_match}
 use Rattle.determinize_below.specs.declared.search.HalfMatch.{HalfMatch}
 use Rattle.determinize_below.specs.Positions.{after_at, between}
 use Rattle.determinize_below.specs.Nfa.{AllResolve, IsAccepted, Nfa}
 use Rattle.determinize_lazy.proofs.LastUnits.{last_match-over, last_match-within}
-use Rattle.determinize_lazy.proofs.Plenty.{keeps_all, valid-push}
+use Rattle.determinize_lazy.proofs.Plenty.{keeps_all}
 use Rattle.determinize_lazy.proofs.Walking.{after_resolves, after_walk-push}
 
 pub empty_is : (xs : List ℕ) → is_nonempty xs ≡ false → xs ≡ []
@@ -46,19 +46,12 @@ read_none : (f : Value → Option ℕ → Value) (v : Value) (us : List (Option 
 read_none f v [] h = refl
 read_none f v (u ∷ us) h = ap (λ b. cond b (u ∷ units_read f (f v u) us) []) h
 
--- the pairs of one unit more
-pairs-push : (c : Cache) (v : Value) (us : List (Option ℕ)) (u : Option ℕ)
-    → chain_pairs (step_of c) v (us ++ u ∷ []) ≡ chain_pairs (step_of c) v us ++ record { value = value_after c.nfa c.kind v us; unit = u } ∷ []
-pairs-push c v [] u = refl
-pairs-push c v (w ∷ us) u = ap (λ (ps : List Pair). record { value = v; unit = w } ∷ ps) (pairs-push c (step_of c v w) us u)
-
 -- a search over some units: its own value, the place, the last match, the cache before and after
 pub record IsSearched (old : Cache) (first : Value) (us : List (Option ℕ)) (own : Value) (place : Option ℕ) (last : Option HalfMatch) (new : Cache) : Type 0 where
   pub end : current new own place ≡ value_after old.nfa old.kind first us
   pub standing : IsStanding new own place
   pub after : new ≡ after_walk old first us
   pub told : last ≡ last_match (future old.nfa old.kind first us)
-  pub valid : HaveValidValues (chain_pairs (step_of old) first us)
   pub read : (rest : List (Option ℕ)) → units_read (step_of old) first (us ++ rest) ≡ us ++ units_read (step_of old) (value_after old.nfa old.kind first us) rest
 
 -- the end of the first of some patterns, told by it alone
@@ -74,7 +67,6 @@ searched_none old new first own place last few own_is new_is at none = record {
   standing = standing_at place at;
   after = new_is ∙ ap (λ n. record old { computed = n }) (let r : old.computed ≡ min (old.computed + 0) 18446744073709551615 = grind arith in r);
   told = none;
-  valid = tt;
   read = λ rest. refl;
 }
   where
@@ -89,7 +81,7 @@ searched_none old new first own place last few own_is new_is at none = record {
 -- the same told otherwise
 pub searched-told : (old : Cache) (first : Value) (us : List (Option ℕ)) (own : Value) (place : Option ℕ) (last told : Option HalfMatch) (new : Cache) → told ≡ last → IsSearched old first us own place last new
     → IsSearched old first us own place told new
-searched-told old first us own place last told new same s = record { end = s.end; standing = s.standing; after = s.after; told = same ∙ s.told; valid = s.valid; read = s.read }
+searched-told old first us own place last told new same s = record { end = s.end; standing = s.standing; after = s.after; told = same ∙ s.told; read = s.read }
 
 -- at a place the search's own value doesn't matter
 pub searched_at : (old : Cache) (first : Value) (us : List (Option ℕ)) (own own' : Value) (place : Option ℕ) (p : ℕ) (last : Option HalfMatch) (new : Cache) → IsSearched old first us own place last new → place ≡ Some p
@@ -97,24 +89,18 @@ pub searched_at : (old : Cache) (first : Value) (us : List (Option ℕ)) (own ow
 searched_at old first us own own' place p last new s at = there (subst (λ o. IsSearched old first us own o last new) at s)
   where
     there : IsSearched old first us own (Some p) last new → IsSearched old first us own' (Some p) last new
-    there t = record { end = t.end; standing = t.standing; after = t.after; told = t.told; valid = t.valid; read = t.read }
-
--- the value at a place is one that a state can have
-pub current-valid : (c : Cache) (own : Value) (place : Option ℕ) (p : ℕ) → place ≡ Some p → AreValid (held_values c) → IsStanding c own place → IsValue (current c own place)
-current-valid c own place p at valid standing =
-    subst (λ o. IsStanding c own o → IsValue (current c own o)) (sym at) (λ within. valid p _ (slice_get-get_or (held_values c) p dead within)) standing
+    there t = record { end = t.end; standing = t.standing; after = t.after; told = t.told; read = t.read }
 
 -- one more unit
 pub searched-push : (old : Cache) (first : Value) (us : List (Option ℕ)) (u : Option ℕ) (own own' : Value) (place place' : Option ℕ) (last last' : Option HalfMatch) (new newer : Cache) → old.computed ≤ 18446744073709551615
     → IsSearched old first us own place last new
-    → IsValue (current new own place)
     → not (is_nonempty (current new own place).states) ≡ false
     → current newer own' place' ≡ step_of new (current new own place) u
     → IsStanding newer own' place'
     → newer ≡ after_turn new (current new own place) u
     → last' ≡ option_or (ended_at (length us) (current newer own' place').patterns) last
     → IsSearched old first (us ++ u ∷ []) own' place' last' newer
-searched-push old first us u own own' place place' last last' new newer few s valid more value standing newer_is last_is =
+searched-push old first us u own own' place place' last last' new newer few s more value standing newer_is last_is =
     let ends : current newer own' place' ≡ value_after old.nfa old.kind first (us ++ u ∷ []) =
     value ∙ ap (λ (c : Cache). step_of c (current new own place) u) s.after ∙ ap (λ v. step_of old v u) s.end ∙ sym (value_after-push old.nfa old.kind first us u) in
     record {
@@ -124,7 +110,6 @@ searched-push old first us u own own' place place' last last' new newer few s va
       told = last_is ∙ ap (λ (v : Value). option_or (ended_at (length us) v.patterns) last) ends
           ∙ ap (λ o. option_or (ended_at (length us) (value_after old.nfa old.kind first (us ++ u ∷ [])).patterns) o) s.told
           ∙ sym (last_match-push old.nfa old.kind first us u);
-      valid = subst (λ ps. HaveValidValues ps) (sym (pairs-push old first us u)) (valid-push (chain_pairs (step_of old) first us) record { value = value_after old.nfa old.kind first us; unit = u } s.valid (subst IsValue s.end valid));
       read = λ rest.
           ap (λ all. units_read (step_of old) first all) (append_assoc us (u ∷ []) rest)
           ∙ s.read (u ∷ rest)
@@ -155,7 +140,6 @@ module _ (old : Cache) (first : Value) (text : List ℕ) (ahead : Option ℕ) (o
       record {
         found = s.told ∙ last_match-over old.nfa old.kind first (map Some (take i text)) rest (empty_is _ over) ∙ ap (λ us. last_match (future old.nfa old.kind first us)) (sym (units_split text ahead i));
         after = s.after ∙ ap (λ us. after_walk old first us) (sym read);
-        valid = subst (λ us. HaveValidValues (chain_pairs (step_of old) first us)) (sym read) s.valid;
       }
 
   -- at the end of the text too
@@ -166,11 +150,10 @@ module _ (old : Cache) (first : Value) (text : List ℕ) (ahead : Option ℕ) (o
       record {
         found = s.told;
         after = s.after ∙ ap (λ all. after_walk old first all) (sym read);
-        valid = subst (λ all. HaveValidValues (chain_pairs (step_of old) first all)) (sym read) s.valid;
       }
 
 module _ (old : Cache) (first : Value) (text : List ℕ) (count i : ℕ) (whole : length text ≡ count) (own own' : Value) (place place' : Option ℕ) (last last' : Option HalfMatch) (new newer : Cache) (few : old.computed ≤ 18446744073709551615)
-    (s : IsSearched old first (map Some (take i text)) own place last new) (valid : IsValue (current new own place)) (more : not (is_nonempty (current new own place).states) ≡ false) where
+    (s : IsSearched old first (map Some (take i text)) own place last new) (more : not (is_nonempty (current new own place).states) ≡ false) where
   -- one more byte
   pub searched_byte : (byte d : ℕ) → byte ≡ get_or text i d → i < count
       → current newer own' place' ≡ step_of new (current new own place) (Some byte)
@@ -182,7 +165,7 @@ module _ (old : Cache) (first : Value) (text : List ℕ) (count i : ℕ) (whole 
       let inside : i < length text = omega (arith, within, whole) in
       let read : length (map Some (take i text)) ≡ i = length-map (take i text) Some ∙ length-take-le i text (let k : i ≤ length text = omega (arith, inside) in k) in
       subst (λ us. IsSearched old first us own' place' last' newer) (ap (λ b. map Some (take i text) ++ Some b ∷ []) byte_is ∙ sym (ap (λ bs. map Some bs) (take_more text i d inside) ∙ map-append Some (take i text) (get_or text i d ∷ [])))
-      (searched-push old first (map Some (take i text)) (Some byte) own own' place place' last last' new newer few s valid more value standing newer_is
+      (searched-push old first (map Some (take i text)) (Some byte) own own' place place' last last' new newer few s more value standing newer_is
       (last_is ∙ ap (λ k. option_or (ended_at k (current newer own' place').patterns) last) (sym read)))
 
   -- the unit behind the last byte
@@ -197,7 +180,7 @@ module _ (old : Cache) (first : Value) (text : List ℕ) (count i : ℕ) (whole 
       let read : length (map Some (take i text)) ≡ count = length-map (take i text) Some ∙ ap length all ∙ whole in
       finished old first text ahead own' place' last' newer
       (subst (λ us. IsSearched old first us own' place' last' newer) (ap (λ bs. map Some bs ++ ahead ∷ []) all ∙ sym (units_are None ahead text))
-      (searched-push old first (map Some (take i text)) ahead own own' place place' last last' new newer few s valid more value standing newer_is
+      (searched-push old first (map Some (take i text)) ahead own own' place place' last last' new newer few s more value standing newer_is
       (last_is ∙ ap (λ k. option_or (ended_at k (current newer own' place').patterns) last) (sym read))))
 
 -- the value where a search stands has states of the NFA, where the first has
@@ -246,9 +229,9 @@ over-from old now first v us last new first_is now_is o = subst (λ x. IsOver ol
 
 -- the same told otherwise
 pub over-told : (old : Cache) (first : Value) (us : List (Option ℕ)) (last told : Option HalfMatch) (new : Cache) → told ≡ last → IsOver old first us last new → IsOver old first us told new
-over-told old first us last told new same o = record { found = same ∙ o.found; after = o.after; valid = o.valid }
+over-told old first us last told new same o = record { found = same ∙ o.found; after = o.after }
 
 -- with room for all that was read, a search keeps all its pairs
-pub over-keeps : (old : Cache) (v : Value) (us : List (Option ℕ)) (last : Option HalfMatch) (new : Cache) → old.computed ≤ 18446744073709551615 → HaveValidValues old.pairs → IsOver old v us last new
+pub over-keeps : (old : Cache) (v : Value) (us : List (Option ℕ)) (last : Option HalfMatch) (new : Cache) → old.computed ≤ 18446744073709551615 → IsOver old v us last new
     → HasRoom old v (units_read (step_of old) v us) → KeepsAll old v (units_read (step_of old) v us) new
-over-keeps old v us last new few valid o room = subst (λ c. KeepsAll old v (units_read (step_of old) v us) c) (sym o.after) (keeps_all old v (units_read (step_of old) v us) few valid o.valid room)
+over-keeps old v us last new few o room = subst (λ c. KeepsAll old v (units_read (step_of old) v us) c) (sym o.after) (keeps_all old v (units_read (step_of old) v us) few room)

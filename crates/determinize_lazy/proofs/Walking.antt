@@ -4,10 +4,10 @@ use Rattle.std.specs.Prelude.{get_or, min, slice_get}
 use Rattle.std.proofs.lemmas.List.{length-append, map-append, take_all, take_more}
 use Rattle.std.proofs.Math.Seq.{get_or-append_seam}
 use Rattle.determinize_lazy.specs.Pairs.{is_kept, Pair}
-use Rattle.determinize_lazy.specs.Private.Places.{AreValid, IsPlace}
+use Rattle.determinize_lazy.specs.Private.Places.{IsPlace}
 use Rattle.determinize_lazy.specs.Kept.{after_pair, after_walk, Cache, held_values, kept, missed, step_of}
 use Rattle.determinize_lazy.specs.Private.Turns.{after_turn}
-use Rattle.determinize_core.specs.Value.{IsValue, Value}
+use Rattle.determinize_core.specs.Value.{Value}
 use Rattle.determinize_core.specs.Chain.{future, units, value_after}
 use Rattle.determinize_core.specs.Step.{step}
 use Rattle.determinize_below.specs.Positions.{between}
@@ -43,17 +43,12 @@ count_after-more : (a x m : ℕ) (b : Bool) → a ≤ m → cond b (min (a + x) 
 count_after-more a x m true h = ap (λ n. min (a + n) m) (let r : x ≡ x + 0 = omega arith in r)
 count_after-more a x m false h = grind arith
 
--- one more value
-valid-push : (values : List Value) (v : Value) → AreValid values → IsValue v → AreValid (values ++ v ∷ [])
-valid-push values v all one p w at = elim (get_push values v p w at) [ inl h ↦ all p w h | inr h ↦ subst IsValue (sym h.1) one ]
-
 -- a walk over some units: the values but the last, the last, its place, the cache before and after
 pub record IsWalked (old : Cache) (first : Value) (us : List (Option ℕ)) (values : List Value) (last : Value) (place : Option ℕ) (new : Cache) : Type 0 where
   pub all : values ++ last ∷ [] ≡ future old.nfa old.kind first us
   pub end : last ≡ value_after old.nfa old.kind first us
   pub after : new ≡ after_walk old first us
   pub at : IsPlace (held_values new) last place
-  pub valid : AreValid (values ++ last ∷ [])
 
 -- one more unit of a walk
 pub after_walk-push : (old : Cache) (first : Value) (us : List (Option ℕ)) (u : Option ℕ) → old.computed ≤ 18446744073709551615
@@ -66,14 +61,13 @@ after_walk-push old first us u h =
     (sym (kept-push old.nfa old.kind old.limit old.pairs first us u))
 
 -- no unit yet
-pub walked_none : (old new : Cache) (first last : Value) (values : List Value) (place : Option ℕ) → old.computed ≤ 18446744073709551615 → values ≡ [] → last ≡ first → new ≡ old → IsPlace (held_values new) last place → IsValue last
+pub walked_none : (old new : Cache) (first last : Value) (values : List Value) (place : Option ℕ) → old.computed ≤ 18446744073709551615 → values ≡ [] → last ≡ first → new ≡ old → IsPlace (held_values new) last place
     → IsWalked old first [] values last place new
-walked_none old new first last values place few none same_first same_cache at valid = record {
+walked_none old new first last values place few none same_first same_cache at = record {
   all = ap (λ vs. vs ++ last ∷ []) none ∙ ap (λ (v : Value). v ∷ []) same_first;
   end = same_first;
   after = same_cache ∙ ap (λ n. record old { computed = n }) (let r : old.computed ≡ min (old.computed + 0) 18446744073709551615 = grind arith in r);
   at = at;
-  valid = valid-push values last (λ p v here. not_none (sym (ap (λ vs. slice_get vs p) (sym none) ∙ here))) valid;
 }
 
 -- one more unit
@@ -82,17 +76,15 @@ walked-push : (old : Cache) (first : Value) (us : List (Option ℕ)) (u : Option
     → next ≡ step_of new last u
     → newer ≡ after_turn new last u
     → IsPlace (held_values newer) next place'
-    → IsValue next
     → more ≡ values ++ last ∷ []
     → IsWalked old first (us ++ u ∷ []) more next place' newer
-walked-push old first us u values more last next place place' new newer few w next_is newer_is at valid more_is =
+walked-push old first us u values more last next place place' new newer few w next_is newer_is at more_is =
     let n_is : next ≡ step_of old (value_after old.nfa old.kind first us) u = next_is ∙ ap (λ (c : Cache). step_of c last u) w.after ∙ ap (λ v. step_of old v u) w.end in
     record {
       all = ap (λ vs. vs ++ next ∷ []) (more_is ∙ w.all) ∙ ap (λ v. future old.nfa old.kind first us ++ v ∷ []) n_is ∙ sym (future-push old.nfa old.kind first us u);
       end = n_is ∙ sym (value_after-push old.nfa old.kind first us u);
       after = newer_is ∙ ap (λ c. after_turn c last u) w.after ∙ ap (λ v. after_turn (after_walk old first us) v u) w.end ∙ after_walk-push old first us u few;
       at = at;
-      valid = subst (λ vs. AreValid (vs ++ next ∷ [])) (sym more_is) (valid-push (values ++ last ∷ []) next w.valid valid);
     }
 
 -- one more byte of a text
@@ -102,12 +94,11 @@ pub walked_byte : (old : Cache) (first : Value) (text : List ℕ) (i d : ℕ) (v
     → next ≡ step_of new last (Some (get_or text i d))
     → newer ≡ after_turn new last (Some (get_or text i d))
     → IsPlace (held_values newer) next place'
-    → IsValue next
     → more ≡ values ++ last ∷ []
     → IsWalked old first (map Some (take (i + 1) text)) more next place' newer
-walked_byte old first text i d values more last next place place' new newer few within w a b at valid c =
+walked_byte old first text i d values more last next place place' new newer few within w a b at c =
     subst (λ us. IsWalked old first us more next place' newer) (sym (ap (λ bs. map Some bs) (take_more text i d within) ∙ map-append Some (take i text) (get_or text i d ∷ [])))
-    (walked-push old first (map Some (take i text)) (Some (get_or text i d)) values more last next place place' new newer few w a b at valid c)
+    (walked-push old first (map Some (take i text)) (Some (get_or text i d)) values more last next place place' new newer few w a b at c)
 
 -- the unit behind the last byte
 pub walked_end : (old : Cache) (first : Value) (text : List ℕ) (ahead : Option ℕ) (i : ℕ) (values more : List Value) (last next : Value) (place place' : Option ℕ) (new newer : Cache) → old.computed ≤ 18446744073709551615
@@ -116,12 +107,11 @@ pub walked_end : (old : Cache) (first : Value) (text : List ℕ) (ahead : Option
     → next ≡ step_of new last ahead
     → newer ≡ after_turn new last ahead
     → IsPlace (held_values newer) next place'
-    → IsValue next
     → more ≡ values ++ last ∷ []
     → IsWalked old first (units (between None text ahead)) more next place' newer
-walked_end old first text ahead i values more last next place place' new newer few past w a b at valid c =
+walked_end old first text ahead i values more last next place place' new newer few past w a b at c =
     subst (λ us. IsWalked old first us more next place' newer) (ap (λ bs. map Some bs ++ ahead ∷ []) (take_all i text past) ∙ sym (units_are None ahead text))
-    (walked-push old first (map Some (take i text)) ahead values more last next place place' new newer few w a b at valid c)
+    (walked-push old first (map Some (take i text)) ahead values more last next place place' new newer few w a b at c)
 
 -- the last value has states of the NFA, where the first has
 pub walked_resolves : (old : Cache) (first : Value) (us : List (Option ℕ)) (values : List Value) (last : Value) (place : Option ℕ) (new : Cache) → IsAccepted old.nfa → AllResolve old.nfa first.states
@@ -152,8 +142,7 @@ pub listed_end : (old new newer : Cache) (first : Value) (text : List ℕ) (ahea
     → next ≡ step_of new last ahead
     → newer ≡ after_turn new last ahead
     → IsPlace (held_values newer) next place'
-    → IsValue next
     → IsWalked old first (units (between None text ahead)) states next place' newer
-listed_end old new newer first text ahead i len states last next place place' few past listed size here a b at valid =
+listed_end old new newer first text ahead i len states last next place place' few past listed size here a b at =
     let w = listed_last old new first _ states place len last listed size here in
-    walked_end old first text ahead i w.0 states last next place place' new newer few past w.2 a b at valid w.1
+    walked_end old first text ahead i w.0 states last next place place' new newer few past w.2 a b at w.1

@@ -1,20 +1,14 @@
 -- Kept transitions as pairs of a value and a unit, and the values that they hold.
-use Rattle.std.specs.Prelude.{ℕ, Bool, cond, ◌&&◌, ◌==◌, Option, List, [], ◌∷◌, ◌++◌, nat_eq}
-use Rattle.std.specs.Cmp.Lexicographic.{pointwise}
+use Rattle.std.specs.Prelude.{ℕ, Bool, cond, ◌&&◌, Option, List, [], ◌∷◌, ◌++◌, nat_eq}
 use Rattle.std.specs.List.{list_any}
 use Rattle.std.specs.Option.{option_eq}
-use Rattle.std.specs.Ordering.{on}
-use Rattle.determinize_core.specs.Spelling.{spell}
+pub use Rattle.determinize_core.specs.Equality.{same}
 use Rattle.determinize_core.specs.Value.{Value}
 
 -- a value and the unit that is read in it: a byte, or none at the end of the input
 pub record Pair : Type 0 where
   pub value : Value
   pub unit : Option ℕ
-
--- whether two values have the same bytes
-abbrev pub same : Value → Value → Bool
-same = on spell (pointwise ◌==◌)
 
 -- whether two units are the same
 abbrev pub same_unit : Option ℕ → Option ℕ → Bool

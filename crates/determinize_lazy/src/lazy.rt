@@ -6,14 +6,14 @@ ghost use Rattle.determinize_below.specs.Positions.{between};
 ghost use Rattle.determinize_below.specs.declared.search.MatchKind.TheVariants as kinds;
 ghost use Rattle.determinize_core.specs.Chain.{FollowsItself, chain, future, units};
 ghost use Rattle.determinize_core.specs.Step.{start_value};
-ghost use Rattle.determinize_core.specs.Value.{IsValue, Value as StateValue};
+ghost use Rattle.determinize_core.specs.Value.{Value as StateValue};
 ghost use Rattle.determinize_core.specs.Walk.{IsLeftmostWalk, IsWalkOfAll};
 ghost use Rattle.determinize_core.specs.WalkStates.{RecordsReached};
 ghost use Rattle.determinize_lazy.specs.Kept.{Cache, after_text, after_walk, count_after, held_values, keep, step_of};
 ghost use Rattle.determinize_lazy.specs.Private.Turns.{IsKnown, after_turn};
 ghost use Rattle.determinize_lazy.specs.Pairs.{is_kept, with_value};
 ghost use Rattle.determinize_lazy.specs.Places.{EachApart};
-ghost use Rattle.determinize_lazy.specs.Private.Places.{AreValid, HaveValidValues, IsPlace};
+ghost use Rattle.determinize_lazy.specs.Private.Places.{IsPlace};
 ghost use Rattle.determinize_lazy.specs.Private.Signs.{signs_in, signs_of};
 ghost use Rattle.determinize_lazy.specs.Plenty.{HasRoom, KeepsAll};
 
@@ -249,7 +249,6 @@ impl<'n, N: Allocator, A: Allocator + Copy> Lazy<'n, N, A> {
               record { value = state.now; unit = unit };
         }) }
         ensures place { IfOk result (λ place. IsPlace (held_values self.new) following.now place) }
-        ensures valid { IsValue following.now }
         ensures err { OnErr result (self.new ≡ record self.old { pairs = [] }) }
     {
         let target = self.place_of(following);
@@ -290,10 +289,7 @@ impl<'n, N: Allocator, A: Allocator + Copy> Lazy<'n, N, A> {
         requires { place < length (held_values self.now) }
         ensures signs { (v : StateValue) → slice_get (held_values self.now) place ≡ Some v
             → signs_in result.number ≡ signs_of v }
-        ensures valid { AreValid (held_values self.now) }
     {
-        // For the proof alone: the values are well formed.
-        let _ = self.table.places.len();
         let number = self.table.rows[place.offset() + UNITS];
         Signs { number }
     }
@@ -379,7 +375,6 @@ impl<'n, N: Allocator, A: Allocator + Copy> Lazy<'n, N, A> {
         requires place { IsPlace (held_values self.old) state.now place }
         ensures state { IfOk result
             (λ reached. reached.state ≡ step_of self.old state.now unit) }
-        ensures valid { IfOk result (λ reached. IsValue reached.state) }
         ensures place { IfOk result
             (λ reached. IsPlace (held_values self.new) reached.state reached.place) }
         ensures after { OnOk result (self.new ≡ after_turn self.old state.now unit) }
@@ -410,7 +405,6 @@ impl<'n, N: Allocator, A: Allocator + Copy> Lazy<'n, N, A> {
         requires place { IsPlace (held_values self.old) state.now place }
         ensures state { IfOk result
             (λ reached. reached.state ≡ step_of self.old state.now unit) }
-        ensures valid { IfOk result (λ reached. IsValue reached.state) }
         ensures place { IfOk result
             (λ reached. IsPlace (held_values self.new) reached.state reached.place) }
         ensures after { OnOk result (self.new ≡ after_turn self.old state.now unit) }
@@ -435,9 +429,7 @@ impl<'n, N: Allocator, A: Allocator + Copy> Lazy<'n, N, A> {
 
     /// The place of a state, or none where it isn't held.
     pub(crate) fn place_of(&self, state: &State<A>) -> Option<Place>
-        ensures place { IsPlace (held_values self.now) state.now result }
-        ensures valid { IsValue state.now }
-        ensures pairs { HaveValidValues self.now.pairs }
+        ensures { IsPlace (held_values self.now) state.now result }
     {
         self.table.places.place_of(state)
     }
@@ -455,8 +447,6 @@ impl<'n, N: Allocator, A: Allocator + Copy> Lazy<'n, N, A> {
             ≡ future self.old.nfa self.old.kind first (units (between None text.now look_ahead))) }
         ensures after { OnOk result
             (self.new ≡ after_walk self.old first (units (between None text.now look_ahead))) }
-        ensures valid { IfOk result (λ states. AreValid states.items) }
-        ensures pairs { HaveValidValues self.old.pairs }
         ensures nfa { self.new.nfa ≡ self.old.nfa }
         ensures kind { self.new.kind ≡ self.old.kind }
         ensures limit { self.new.limit ≡ self.old.limit }

@@ -2,10 +2,10 @@
 
 ghost use Rattle.std.specs.Prelude.{◌≡◌, ◌++◌, ◌∷◌, ◌<◌, ◌≤◌, [], Some, ◌||◌, not, false, length, slice_get, IfOk, OnErr, OnOk};
 ghost use Rattle.std.specs.List.{list_any};
-ghost use Rattle.determinize_core.specs.Value.{IsValue, Value as StateValue};
+ghost use Rattle.determinize_core.specs.Value.{Value as StateValue};
 ghost use Rattle.determinize_lazy.specs.Pairs.{same};
 ghost use Rattle.determinize_lazy.specs.Places.{EachApart};
-ghost use Rattle.determinize_lazy.specs.Private.Places.{AreValid, IsPlace};
+ghost use Rattle.determinize_lazy.specs.Private.Places.{IsPlace};
 
 use crate::place::Place;
 use determinize_core::state::State;
@@ -56,19 +56,14 @@ impl<A: Allocator + Copy> Places<A> {
         ensures value { result ≡ length self.now }
         ensures limit { result ≤ 16647160 }
         ensures apart { EachApart self.now }
-        ensures held { AreValid self.now }
     {
         self.held.len()
     }
 
     /// The place of a state, or none where it isn't held.
     pub(crate) fn place_of(&self, state: &State<A>) -> Option<Place>
-        ensures place { IsPlace self.now state.now result }
-        ensures valid { IsValue state.now }
-        ensures held { AreValid self.now }
+        ensures { IsPlace self.now state.now result }
     {
-        // The bytes are taken for the proof alone: they tell that the value is well formed.
-        let _ = state.as_bytes();
         self.places.get(state).copied()
     }
 
@@ -85,8 +80,7 @@ impl<A: Allocator + Copy> Places<A> {
     #[inline(always)]
     pub(crate) fn at(&self, place: Place) -> &State<A>
         requires { place < length self.now }
-        ensures value { slice_get self.now place ≡ Some result.now }
-        ensures valid { IsValue result.now }
+        ensures { slice_get self.now place ≡ Some result.now }
     {
         &self.held[place.number()]
     }
@@ -126,8 +120,6 @@ impl<A: Allocator + Copy> Places<A> {
         let Some(place) = Place::new(self.held.len()) else {
             return Err(AllocError);
         };
-        // As in `place_of`, for the proof alone.
-        let _ = state.as_bytes();
         let key = state.clone()?;
         self.held.push(state.clone()?)?;
         match self.places.insert(key, place) {

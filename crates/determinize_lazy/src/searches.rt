@@ -7,12 +7,12 @@ ghost use Rattle.determinize_below.specs.Positions.{between};
 ghost use Rattle.determinize_below.specs.declared.search.MatchKind.TheVariants as kinds;
 ghost use Rattle.determinize_below.specs.Search.{is_done};
 ghost use Rattle.determinize_core.specs.Chain.{chain, units};
-ghost use Rattle.determinize_core.specs.Value.{IsValue, Value as StateValue, is_nonempty};
+ghost use Rattle.determinize_core.specs.Value.{Value as StateValue, is_nonempty};
 ghost use Rattle.determinize_core.specs.Walk.{IsFarthestMatch, IsPreferredMatch, ended_at, last_match};
 ghost use Rattle.determinize_lazy.specs.Kept.{held_values, step_of};
 ghost use Rattle.determinize_lazy.specs.Pairs.{is_kept};
 ghost use Rattle.determinize_lazy.specs.Private.Over.{IsDecided, IsOver};
-ghost use Rattle.determinize_lazy.specs.Private.Places.{AreValid, HaveValidValues, IsPlace};
+ghost use Rattle.determinize_lazy.specs.Private.Places.{IsPlace};
 ghost use Rattle.determinize_lazy.specs.Private.Signs.{match_of, signs_in, signs_of};
 ghost use Rattle.determinize_lazy.specs.Private.Standing.{IsStanding, current};
 ghost use Rattle.determinize_lazy.specs.Private.Turns.{IsKnown, after_turn};
@@ -176,8 +176,7 @@ impl<'n, N: Allocator, A: Allocator + Copy> Lazy<'n, N, A> {
     #[inline(always)]
     fn signs(&self, own: &State<A>, place: Option<Place>) -> Signs
         requires { IsStanding self.now own.now place }
-        ensures signs { signs_in result.number ≡ signs_of (current self.now own.now place) }
-        ensures valid { IsValue (current self.now own.now place) }
+        ensures { signs_in result.number ≡ signs_of (current self.now own.now place) }
     {
         match place {
             Some(place) => self.signs_at(place),
@@ -217,7 +216,6 @@ impl<'n, N: Allocator, A: Allocator + Copy> Lazy<'n, N, A> {
         ensures more { IfSome result (λ hit. (signs_in hit.signs.number).is_last ≡ false) }
         ensures some { (v : StateValue) → slice_get (held_values self.now) source ≡ Some v
             → is_some result ≡ (is_kept self.now.pairs v unit && is_nonempty v.states) }
-        ensures valid { AreValid (held_values self.now) }
     {
         // The entry comes first, since the next one waits for it.
         let entry = self.entry(source, unit);
@@ -245,7 +243,6 @@ impl<'n, N: Allocator, A: Allocator + Copy> Lazy<'n, N, A> {
         requires { AllResolve self.old.nfa first.states }
         ensures over { let us = units (between None (in_order is_backward text.now) look_ahead)
             in IfOk result (λ found. IsOver self.old first us found self.new) }
-        ensures pairs { HaveValidValues self.old.pairs }
         ensures nfa { self.new.nfa ≡ self.old.nfa }
         ensures kind { self.new.kind ≡ self.old.kind }
         ensures limit { self.new.limit ≡ self.old.limit }

@@ -2,7 +2,6 @@
 
 ghost use Rattle.std.specs.Prelude.{◌≡◌, is_some};
 ghost use Rattle.std.specs.Option.{option_or};
-ghost use Rattle.determinize_core.specs.Value.{IsValue};
 ghost use Rattle.determinize_lazy.specs.Private.Signs.{match_at, match_of, signs_in, signs_of};
 
 use determinize_below::{HalfMatch, PatternID};
@@ -24,11 +23,8 @@ pub(crate) struct Signs {
 impl Signs {
     /// The signs of a state.
     pub(crate) fn of<A: Allocator>(state: &State<A>) -> Signs
-        ensures signs { signs_in result.number ≡ signs_of state.now }
-        ensures valid { IsValue state.now }
+        ensures { signs_in result.number ≡ signs_of state.now }
     {
-        // The bytes are taken for the proof alone: they tell that the value is well formed.
-        let _ = state.as_bytes();
         let first = if state.is_match() {
             state.match_pattern(0).as_u32() + 1
         } else {

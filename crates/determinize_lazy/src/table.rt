@@ -145,9 +145,6 @@ impl<A: Allocator + Copy> Table<A> {
         ensures { (before : List StateValue) → self.now.places ≡ with_value before state.now
             → IsPlace before following.now target → IsPlace self.now.places following.now result }
     {
-        // The bytes are taken for the proof alone: they tell that the values are well formed.
-        let _ = state.as_bytes();
-        let _ = following.as_bytes();
         match target {
             Some(place) => Some(place),
             None => {

@@ -1,4 +1,5 @@
 pub mod BuildingLaws
+pub mod Equality
 pub mod FlagLaws
 pub mod LengthLaws
 pub mod MarkLaws

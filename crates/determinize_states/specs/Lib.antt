@@ -1,5 +1,6 @@
 pub mod Building
 pub mod Private
+pub mod Equality
 pub mod Recording
 pub mod Spelling
 pub mod Value

@@ -43,9 +43,6 @@ pub fn is_built<A: Allocator, B: Allocator>(state: &State<A>, builder: &StateBui
 pub fn are_equal<A: Allocator>(a: &State<A>, b: &State<A>) -> bool
     ensures { Decides result (a.now ≡ b.now) }
 {
-    // The bytes are taken for the proof alone: they tell that both values are well formed.
-    let _ = a.as_bytes();
-    let _ = b.as_bytes();
     a == b
 }
 

@@ -1,12 +1,12 @@
 //! Equality, order and hash of states.
 
-ghost use Rattle.std.specs.Prelude.{◌≡◌, ◌==◌, ◌++◌, ◌∷◌, [], length};
-ghost use Rattle.std.specs.Ordering.{nat_cmp, on, as_partial_cmp};
+ghost use Rattle.std.specs.Prelude.{◌≡◌, ◌++◌, ◌∷◌, [], length};
+ghost use Rattle.std.specs.Ordering.{as_partial_cmp};
 ghost use Rattle.std.specs.Cmp.{partial_order_from_own_ties};
-ghost use Rattle.std.specs.Cmp.Lexicographic.{bytes_decides, pointwise, slice_cmp};
 ghost use Rattle.std.specs.Cmp.Rules.{comparing};
 ghost use Rattle.std.specs.Hash as fed;
 ghost use Rattle.std.proofs.Common.{ap, rules};
+ghost use Rattle.determinize_states.specs.Equality.{by_bytes, Decides-same, same, same-ties};
 ghost use Rattle.determinize_states.specs.Spelling.{spell};
 
 use crate::state::State;
@@ -14,9 +14,9 @@ use std::alloc::Allocator;
 use std::cmp::Ordering;
 use std::hash::{Hash, Hasher};
 
-/// States are equal where their bytes are, and so exactly where their values are.
+/// Compares the bytes. States are equal exactly if their values are.
 impl<A: Allocator> PartialEq for State<A> {
-    ghost eq = { on spell (pointwise ◌==◌) };
+    ghost eq = { same };
 
     ghost laws = { Prim.search (comparing, rules) };
 
@@ -31,13 +31,13 @@ impl<A: Allocator> Eq for State<A> {
 
 /// The order of the bytes.
 impl<A: Allocator> Ord for State<A> {
-    ghost cmp = { on spell (slice_cmp nat_cmp) };
+    ghost cmp = { by_bytes };
 
     ghost total = { Prim.search (comparing, rules) };
 
     ghost matches_partial_cmp = { Prim.search (comparing, rules) };
 
-    ghost matches_eq = { Prim.search (comparing, rules) };
+    ghost matches_eq = { same-ties };
 
     fn cmp(&self, other: &State<A>) -> Ordering {
         self.as_bytes().cmp(other.as_bytes())
@@ -45,9 +45,9 @@ impl<A: Allocator> Ord for State<A> {
 }
 
 impl<A: Allocator> PartialOrd for State<A> {
-    ghost partial_cmp = { as_partial_cmp (on spell (slice_cmp nat_cmp)) };
+    ghost partial_cmp = { as_partial_cmp by_bytes };
 
-    ghost laws = { partial_order_from_own_ties (Prim.search (comparing, rules)) (Prim.search (comparing, rules)) };
+    ghost laws = { partial_order_from_own_ties (Prim.search (comparing, rules)) same-ties };
 
     fn partial_cmp(&self, other: &State<A>) -> Option<Ordering> {
         Some(self.cmp(other))
@@ -58,7 +58,7 @@ impl<A: Allocator> PartialOrd for State<A> {
 impl<A: Allocator> Hash for State<A> {
     ghost hash_input = { λ s. fed.usize (length (spell s)) ++ spell s ∷ [] };
 
-    ghost respects_eq = { λ s t same. ap (λ bytes. fed.usize (length bytes) ++ bytes ∷ []) ((bytes_decides (spell s) (spell t)).0 same) };
+    ghost respects_eq = { λ s t e. ap (λ v. fed.usize (length (spell v)) ++ spell v ∷ []) ((Decides-same s t).0 e) };
 
     fn hash<H: Hasher>(&self, state: &mut H) {
         let bytes = self.as_bytes();

@@ -1,6 +1,8 @@
-use Rattle.std.proofs.Common.{refl}
-use Rattle.determinize_states.proofs.SpellingLaws.{decided}
+use Rattle.std.proofs.Common.{◌≡◌, subst, sym}
+use Rattle.std.specs.Bool.{Decides}
+use Rattle.determinize_states.specs.Equality.{Decides-same}
 use Rattle.determinize_states.proofs.state_laws.are_equal.Goals as goal
 
 pub returns : goal.returns
-returns g c = decided _ _ _ _ _ c.as_bytes.ensures.valid c.as_bytes-2.ensures.valid refl refl c.eq.ensures
+returns g c =
+    subst (λ r. Decides r (c.args.a.now ≡ c.args.b.now)) (sym c.eq.ensures) (Decides-same c.args.a.now c.args.b.now)

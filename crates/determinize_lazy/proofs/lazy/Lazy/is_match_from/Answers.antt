@@ -18,7 +18,7 @@ step-requires-2-clause-resolve g c =
 pub loop-read-init : goal.loop-read-init
 loop-read-init g c =
     let few : c.args.self.now.computed ≤ 18446744073709551615 = search rules in record {
-      unmatched = unmatched_none _ c.args.first _ _ few c.place_of-place.ensures.place c.requires.unmatched;
+      unmatched = unmatched_none _ c.args.first _ _ few c.place_of-place.ensures c.requires.unmatched;
       nfa = refl;
       kind = refl;
       limit = refl;
@@ -32,32 +32,32 @@ returns-then-is_match-clause-decided g c =
     decided_text (in_order c.args.is_backward c.args.text.now) c.args.look_ahead c.loop-read.read
     (decided_true c.loop-read.invariant.unmatched _
     (listed_by _ (current c.loop-read.self c.loop-read.own c.loop-read.place)
-    c.signs-signs.ensures.signs c.is_match.ensures c.if-is_match.true))
+    c.signs-signs.ensures c.is_match.ensures c.if-is_match.true))
 
 pub returns-then-is_match-2-clause-decided : goal.returns-then-is_match-2-clause-decided
 returns-then-is_match-2-clause-decided g c =
     decided_text (in_order c.args.is_backward c.args.text.now) c.args.look_ahead c.loop-read.read
     (decided_true c.loop-read.invariant.unmatched _
     (listed_by _ (current c.loop-read.self c.loop-read.own c.loop-read.place)
-    c.signs-signs-2.ensures.signs c.is_match-2.ensures c.if-is_match-2.true))
+    c.signs-signs-2.ensures c.is_match-2.ensures c.if-is_match-2.true))
 
 pub returns-then-is_last-clause-decided : goal.returns-then-is_last-clause-decided
 returns-then-is_last-clause-decided g c =
     decided_text (in_order c.args.is_backward c.args.text.now) c.args.look_ahead c.loop-read.read
     (decided_false c.loop-read.invariant.unmatched _
     (listed_by _ (current c.loop-read.self c.loop-read.own c.loop-read.place)
-    c.signs-signs.ensures.signs c.is_match.ensures c.if-is_match.false)
+    c.signs-signs.ensures c.is_match.ensures c.if-is_match.false)
     (last_by _ (current c.loop-read.self c.loop-read.own c.loop-read.place)
-    c.signs-signs.ensures.signs c.is_last.ensures c.if-is_last.true))
+    c.signs-signs.ensures c.is_last.ensures c.if-is_last.true))
 
 pub returns-then-is_last-2-clause-decided : goal.returns-then-is_last-2-clause-decided
 returns-then-is_last-2-clause-decided g c =
     decided_text (in_order c.args.is_backward c.args.text.now) c.args.look_ahead c.loop-read.read
     (decided_false c.loop-read.invariant.unmatched _
     (listed_by _ (current c.loop-read.self c.loop-read.own c.loop-read.place)
-    c.signs-signs-2.ensures.signs c.is_match-2.ensures c.if-is_match-2.false)
+    c.signs-signs-2.ensures c.is_match-2.ensures c.if-is_match-2.false)
     (last_by _ (current c.loop-read.self c.loop-read.own c.loop-read.place)
-    c.signs-signs-2.ensures.signs c.is_last-2.ensures c.if-is_last-2.true))
+    c.signs-signs-2.ensures c.is_last-2.ensures c.if-is_last-2.true))
 
 pub loop-read-preserved : goal.loop-read-preserved
 loop-read-preserved g c =
@@ -66,11 +66,11 @@ loop-read-preserved g c =
     let inside : c.loop-read.read < length text = omega (arith, c.loop-read-test.true, size) in record {
       unmatched = unmatched_byte text c.args.look_ahead c.loop-read.read 0 inside c.byte_after-byte.ensures
           (unmatched-push c.loop-read.invariant.unmatched (Some c.byte_after-byte.result) _ _ _
-          c.loop-read.invariant.small c.signs-signs.ensures.valid
+          c.loop-read.invariant.small
           (listed_by _ (current c.loop-read.self c.loop-read.own c.loop-read.place)
-          c.signs-signs.ensures.signs c.is_match.ensures c.if-is_match.false)
+          c.signs-signs.ensures c.is_match.ensures c.if-is_match.false)
           (last_by _ (current c.loop-read.self c.loop-read.own c.loop-read.place)
-          c.signs-signs.ensures.signs c.is_last.ensures c.if-is_last.false)
+          c.signs-signs.ensures c.is_last.ensures c.if-is_last.false)
           c.in_ok-place.ensures.value c.in_ok-place.ensures.standing c.in_ok-place.ensures.after);
       nfa = c.step.ensures.nfa ∙ c.loop-read.invariant.nfa;
       kind = c.step.ensures.kind ∙ c.loop-read.invariant.kind;
@@ -87,11 +87,11 @@ returns-clause-decided g c =
     let past : length text ≤ c.loop-read.read = omega (arith, c.loop-read-test.false, size) in
     decided_ahead text c.args.look_ahead c.loop-read.read past
     (decided_end (unmatched-push c.loop-read.invariant.unmatched c.args.look_ahead _ _ _
-    c.loop-read.invariant.small c.signs-signs-2.ensures.valid
+    c.loop-read.invariant.small
     (listed_by _ (current c.loop-read.self c.loop-read.own c.loop-read.place)
-    c.signs-signs-2.ensures.signs c.is_match-2.ensures c.if-is_match-2.false)
+    c.signs-signs-2.ensures c.is_match-2.ensures c.if-is_match-2.false)
     (last_by _ (current c.loop-read.self c.loop-read.own c.loop-read.place)
-    c.signs-signs-2.ensures.signs c.is_last-2.ensures c.if-is_last-2.false)
+    c.signs-signs-2.ensures c.is_last-2.ensures c.if-is_last-2.false)
     c.in_ok-place-2.ensures.value c.in_ok-place-2.ensures.standing c.in_ok-place-2.ensures.after)
-    (sym (listed_by _ (current c.step-2.new.self c.step-2.new.own c.in_ok-place-2.place) c.signs.ensures.signs
+    (sym (listed_by _ (current c.step-2.new.self c.step-2.new.own c.in_ok-place-2.place) c.signs.ensures
     c.is_match-3.ensures refl)))

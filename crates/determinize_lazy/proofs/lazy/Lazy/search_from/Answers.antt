@@ -22,7 +22,7 @@ step-requires-2-clause-resolve g c = searched_resolves c.args.self.now c.args.fi
 pub loop-read-init : goal.loop-read-init
 loop-read-init g c =
     let few : c.args.self.now.computed ≤ 18446744073709551615 = search rules in record {
-      searched = searched_none c.args.self.now c.args.self.now c.args.first c.args.first _ _ few refl refl c.place_of-place.ensures.place (search rules);
+      searched = searched_none c.args.self.now c.args.self.now c.args.first c.args.first _ _ few refl refl c.place_of-place.ensures (search rules);
       nfa = refl;
       kind = refl;
       limit = refl;
@@ -36,9 +36,9 @@ one_byte : (g : Over) (c : In_ok-place g)
     → IsSearched c.args.self.now c.args.first (map Some (take (c.loop-read.read + 1) (in_order c.args.is_backward c.args.text.now))) c.step.new.own c.in_ok-place.place
     (option_or (ended_at (c.loop-read.read + 1 - 1) (current c.step.new.self c.step.new.own c.in_ok-place.place).patterns) (match_of c.loop-read.last)) c.step.new.self
 one_byte g c =
-    let more : not (is_nonempty (current c.loop-read.self c.loop-read.own c.loop-read.place).states) ≡ false = ap (λ (s : StateSigns). s.is_last) (sym c.signs.ensures.signs) ∙ sym c.is_last.ensures ∙ c.if-is_last.false in
+    let more : not (is_nonempty (current c.loop-read.self c.loop-read.own c.loop-read.place).states) ≡ false = ap (λ (s : StateSigns). s.is_last) (sym c.signs.ensures) ∙ sym c.is_last.ensures ∙ c.if-is_last.false in
     let back : c.loop-read.read + 1 - 1 ≡ c.loop-read.read = omega arith in
-    searched_byte c.args.self.now c.args.first (in_order c.args.is_backward c.args.text.now) (length c.args.text.now) c.loop-read.read (length-in_order c.args.is_backward c.args.text.now) _ _ _ _ _ _ _ _ c.loop-read.invariant.small c.loop-read.invariant.searched c.signs.ensures.valid more
+    searched_byte c.args.self.now c.args.first (in_order c.args.is_backward c.args.text.now) (length c.args.text.now) c.loop-read.read (length-in_order c.args.is_backward c.args.text.now) _ _ _ _ _ _ _ _ c.loop-read.invariant.small c.loop-read.invariant.searched more
     c.byte_after-byte.result 0 c.byte_after-byte.ensures c.loop-read-test.true c.in_ok-place.ensures.value c.in_ok-place.ensures.standing c.in_ok-place.ensures.after
     (ap (λ i. option_or (ended_at i (current c.step.new.self c.step.new.own c.in_ok-place.place).patterns) (match_of c.loop-read.last)) back)
 
@@ -74,7 +74,7 @@ loop-read-2-preserved g c =
     c.updated-last.ensures ∙ ap (λ (s : StateSigns). option_or (match_at (c.loop-read-2.read - 1) s.first) (match_of c.loop-read-2.last)) signs
     ∙ ap (λ o. option_or o (match_of c.loop-read-2.last)) (match_at-first (c.loop-read-2.read - 1) (current c.step.new.self dead (Some c.loop-read-2.at)).patterns) in (
       searched_byte c.args.self.now c.args.first (in_order c.args.is_backward c.args.text.now) (length c.args.text.now) c.loop-read-2.read (length-in_order c.args.is_backward c.args.text.now) dead dead (Some c.loop-read-2.at) (Some c.in-Some-hit.hit.place) _ _ _ _ c.loop-read.invariant.small
-          (searched-told c.args.self.now c.args.first _ _ _ _ _ _ told c.loop-read-2.invariant.0) (c.hit.ensures.valid _ _ here) more
+          (searched-told c.args.self.now c.args.first _ _ _ _ _ _ told c.loop-read-2.invariant.0) more
           c.byte_after-byte-in-loop-read-2.result 0 c.byte_after-byte-in-loop-read-2.ensures c.loop-read-2-test.true
           (hit_value c.step.new.self dead c.loop-read-2.at c.in-Some-hit.hit.place _ c.loop-read-2.invariant.0.standing c.in-Some-hit.ensures.known)
           (hit_standing c.step.new.self dead c.loop-read-2.at c.in-Some-hit.hit.place _ c.loop-read-2.invariant.0.standing c.in-Some-hit.ensures.known)
@@ -86,18 +86,18 @@ loop-read-2-preserved g c =
 pub returns-then-is_last-clause-over : goal.returns-then-is_last-clause-over
 returns-then-is_last-clause-over g c =
     over-told c.args.self.now c.args.first _ _ _ _ c.found.ensures
-    (stopped c.args.self.now c.args.first (in_order c.args.is_backward c.args.text.now) c.args.look_ahead _ _ _ _ c.loop-read.read c.loop-read.invariant.searched (ap (λ (s : StateSigns). s.is_last) (sym c.signs.ensures.signs) ∙ sym c.is_last.ensures ∙ c.if-is_last.true))
+    (stopped c.args.self.now c.args.first (in_order c.args.is_backward c.args.text.now) c.args.look_ahead _ _ _ _ c.loop-read.read c.loop-read.invariant.searched (ap (λ (s : StateSigns). s.is_last) (sym c.signs.ensures) ∙ sym c.is_last.ensures ∙ c.if-is_last.true))
 
 pub returns-then-is_last-2-clause-over : goal.returns-then-is_last-2-clause-over
 returns-then-is_last-2-clause-over g c =
     over-told c.args.self.now c.args.first _ _ _ _ c.found-then-is_last-2.ensures
-    (stopped c.args.self.now c.args.first (in_order c.args.is_backward c.args.text.now) c.args.look_ahead _ _ _ _ c.loop-read.read c.loop-read.invariant.searched (ap (λ (s : StateSigns). s.is_last) (sym c.signs-2.ensures.signs) ∙ sym c.is_last-2.ensures ∙ c.if-is_last-2.true))
+    (stopped c.args.self.now c.args.first (in_order c.args.is_backward c.args.text.now) c.args.look_ahead _ _ _ _ c.loop-read.read c.loop-read.invariant.searched (ap (λ (s : StateSigns). s.is_last) (sym c.signs-2.ensures) ∙ sym c.is_last-2.ensures ∙ c.if-is_last-2.true))
 
 pub returns-clause-over : goal.returns-clause-over
 returns-clause-over g c =
-    let more : not (is_nonempty (current c.loop-read.self c.loop-read.own c.loop-read.place).states) ≡ false = ap (λ (s : StateSigns). s.is_last) (sym c.signs-2.ensures.signs) ∙ sym c.is_last-2.ensures ∙ c.if-is_last-2.false in
+    let more : not (is_nonempty (current c.loop-read.self c.loop-read.own c.loop-read.place).states) ≡ false = ap (λ (s : StateSigns). s.is_last) (sym c.signs-2.ensures) ∙ sym c.is_last-2.ensures ∙ c.if-is_last-2.false in
     over-told c.args.self.now c.args.first _ _ _ _ c.found-2.ensures
-    (searched_end c.args.self.now c.args.first (in_order c.args.is_backward c.args.text.now) (length c.args.text.now) c.loop-read.read (length-in_order c.args.is_backward c.args.text.now) _ _ _ _ _ _ _ _ c.loop-read.invariant.small c.loop-read.invariant.searched c.signs-2.ensures.valid more
+    (searched_end c.args.self.now c.args.first (in_order c.args.is_backward c.args.text.now) (length c.args.text.now) c.loop-read.read (length-in_order c.args.is_backward c.args.text.now) _ _ _ _ _ _ _ _ c.loop-read.invariant.small c.loop-read.invariant.searched more
     c.args.look_ahead c.loop-read-test.false c.in_ok-place-2.ensures.value c.in_ok-place-2.ensures.standing c.in_ok-place-2.ensures.after c.last_by.ensures)
 
 pub returns-in_err-place-clause-nfa : goal.returns-in_err-place-clause-nfa

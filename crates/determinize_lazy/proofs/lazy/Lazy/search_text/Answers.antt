@@ -3,7 +3,6 @@ use Rattle.determinize_below.specs.Positions.{between}
 use Rattle.determinize_core.specs.Chain.{chain, units}
 use Rattle.determinize_core.specs.Step.{start_value}
 use Rattle.determinize_lazy.specs.Private.Over.{IsOver}
-use Rattle.determinize_lazy.specs.Private.Places.{HaveValidValues}
 use Rattle.determinize_lazy.specs.Searches.{after_search, in_order}
 use Rattle.determinize_lazy.specs.Kept.{Cache}
 use Rattle.std.proofs.Common.{subst, ◌≤◌}
@@ -34,4 +33,4 @@ returns-clause-plenty g c =
     let over : IsOver c.args.self.now (start_value c.args.self.now.nfa c.args.start c.args.look_behind) (units (between c.args.look_behind (in_order c.args.is_backward c.args.text.now) c.args.look_ahead)) c.in_ok-found.found c.search_from.new.self =
     over-from c.args.self.now _ _ (start_value c.args.self.now.nfa c.args.start c.args.look_behind) (units (between c.args.look_behind (in_order c.args.is_backward c.args.text.now) c.args.look_ahead)) _ _ c.in_ok-first.ensures.value c.in_ok-first.ensures.unchanged c.in_ok-found.ensures.over in
     over-keeps c.args.self.now (start_value c.args.self.now.nfa c.args.start c.args.look_behind) (units (between c.args.look_behind (in_order c.args.is_backward c.args.text.now) c.args.look_ahead)) _ _ c.in_ok-first.ensures.small
-    (subst (λ (x : Cache). HaveValidValues x.pairs) c.in_ok-first.ensures.unchanged c.in_ok-found.ensures.pairs) over
+    over

@@ -1,6 +1,5 @@
 use Rattle.std.proofs.Common.{◌≡◌, All, List, None, subst, sym}
 use Rattle.std.specs.Prelude.{IfOk, OnOk}
-use Rattle.determinize_lazy.specs.Private.Places.{HaveValidValues}
 use Rattle.determinize_lazy.specs.Kept.{after_text, after_walk, Cache}
 use Rattle.determinize_core.specs.Value.{Value}
 use Rattle.determinize_core.specs.Chain.{FollowsItself, chain, future, units}
@@ -32,9 +31,8 @@ returns-clause-after g c =
 pub returns-clause-plenty : goal.returns-clause-plenty
 unfolding chain after_text
 returns-clause-plenty g c =
-    keeps_all_where_ok c.walk_from.result (λ states. states.items) c.args.self.now c.walk_from.new.self (start_value c.args.self.now.nfa c.args.start c.args.look_behind) (units (between c.args.look_behind c.args.text.now c.args.look_ahead)) c.in_ok-first.ensures.small
-    (subst (λ (x : Cache). HaveValidValues x.pairs) c.in_ok-first.ensures.unchanged c.walk_from.ensures.pairs)
-    (returns-clause-values g c) c.walk_from.ensures.valid (returns-clause-after g c)
+    keeps_all_where_ok c.walk_from.result c.args.self.now c.walk_from.new.self (start_value c.args.self.now.nfa c.args.start c.args.look_behind) (units (between c.args.look_behind c.args.text.now c.args.look_ahead)) c.in_ok-first.ensures.small
+    (returns-clause-after g c)
 
 pub returns-clause-all : goal.returns-clause-all
 returns-clause-all g c = λ kind. of_answer c.walk_from.result (λ states. states.items) (chain c.args.self.now.nfa c.args.self.now.kind c.args.start (between c.args.look_behind c.args.text.now c.args.look_ahead))

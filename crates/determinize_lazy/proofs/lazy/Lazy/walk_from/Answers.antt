@@ -1,5 +1,4 @@
 use Rattle.std.proofs.Common.{rules, arith, ◌≤◌, ◌∙◌, [], refl, subst, sym}
-use Rattle.determinize_lazy.specs.Private.Places.{AreValid}
 use Rattle.determinize_lazy.proofs.Walking.{listed_end, listed_last, walked_byte, walked_none, walked_resolves}
 use Rattle.determinize_lazy.proofs.lazy.Lazy.walk_from.Goals as goal
 
@@ -20,7 +19,7 @@ loop-byte-init g c =
         [],
         c.args.first,
         search rules,
-        walked_none c.args.self.now c.args.self.now c.args.first c.args.first [] _ few refl refl refl c.place_of-place.ensures.place c.place_of-place.ensures.valid,
+        walked_none c.args.self.now c.args.self.now c.args.first c.args.first [] _ few refl refl refl c.place_of-place.ensures,
       );
       nfa = refl;
       kind = refl;
@@ -38,7 +37,7 @@ loop-byte-preserved g c =
         c.in_ok-reached.reached.state,
         c.in_ok-push-2.ensures.items,
         walked_byte c.args.self.now c.args.first c.args.text.now c.loop-byte.byte-index 0 _ _ _ _ _ _ _ _ c.loop-byte.invariant.small c.loop-byte-test.true w.2 c.in_ok-reached.ensures.state
-            c.in_ok-reached.ensures.after c.in_ok-reached.ensures.place c.in_ok-reached.ensures.valid w.1,
+            c.in_ok-reached.ensures.after c.in_ok-reached.ensures.place w.1,
       );
       nfa = c.turn.ensures.nfa ∙ c.loop-byte.invariant.nfa;
       kind = c.turn.ensures.kind ∙ c.loop-byte.invariant.kind;
@@ -51,18 +50,12 @@ loop-byte-preserved g c =
 pub returns-clause-values : goal.returns-clause-values
 returns-clause-values g c =
     c.in_ok-push-3.ensures.items ∙ (listed_end c.args.self.now _ _ c.args.first c.args.text.now c.args.look_ahead c.loop-byte.byte-index _ _ _ _ _ _ c.loop-byte.invariant.small c.loop-byte-test.false c.loop-byte.invariant.listed (omega (arith, c.len-2.ensures))
-    c.index-2.ensures c.in_ok-reached-2.ensures.state c.in_ok-reached-2.ensures.after c.in_ok-reached-2.ensures.place c.in_ok-reached-2.ensures.valid).all
+    c.index-2.ensures c.in_ok-reached-2.ensures.state c.in_ok-reached-2.ensures.after c.in_ok-reached-2.ensures.place).all
 
 pub returns-clause-after : goal.returns-clause-after
 returns-clause-after g c =
     (listed_end c.args.self.now _ _ c.args.first c.args.text.now c.args.look_ahead c.loop-byte.byte-index _ _ _ _ _ _ c.loop-byte.invariant.small c.loop-byte-test.false c.loop-byte.invariant.listed (omega (arith, c.len-2.ensures))
-    c.index-2.ensures c.in_ok-reached-2.ensures.state c.in_ok-reached-2.ensures.after c.in_ok-reached-2.ensures.place c.in_ok-reached-2.ensures.valid).after
-
-pub returns-clause-valid : goal.returns-clause-valid
-returns-clause-valid g c =
-    subst (λ vs. AreValid vs) (sym c.in_ok-push-3.ensures.items)
-    (listed_end c.args.self.now _ _ c.args.first c.args.text.now c.args.look_ahead c.loop-byte.byte-index _ _ _ _ _ _ c.loop-byte.invariant.small c.loop-byte-test.false c.loop-byte.invariant.listed (omega (arith, c.len-2.ensures))
-    c.index-2.ensures c.in_ok-reached-2.ensures.state c.in_ok-reached-2.ensures.after c.in_ok-reached-2.ensures.place c.in_ok-reached-2.ensures.valid).valid
+    c.index-2.ensures c.in_ok-reached-2.ensures.state c.in_ok-reached-2.ensures.after c.in_ok-reached-2.ensures.place).after
 
 pub turn-requires-clause-place : goal.turn-requires-clause-place
 turn-requires-clause-place g c =

@@ -13,7 +13,7 @@ invariant_of-self-in-Ok g c =
     let key : c.in_ok-key.key ≡ c.args.state.now = search rules in
     let few : c.in-Some.place < 16647160 = search rules in
     let more : c.push.new.self.items ≡ c.self.inside.held.items ++ c.args.state.now ∷ [] = search rules in
-    places-push c.self.inside.held.items _ c.args.state.now (get same c.self.inside.places) (get same c.insert.new.self) c.in-Some.place c.self.invariant c.as_bytes.ensures.valid none len few more
+    places-push c.self.inside.held.items _ c.args.state.now (get same c.self.inside.places) (get same c.insert.new.self) c.in-Some.place c.self.invariant none len few more
     (λ q. c.in-Ok.ensures.updates.0 q ∙ ap (λ k. cond (same k q) (Some c.in-Some.place) (get same c.self.inside.places q)) key)
 
 pub invariant_of-self-in-Err : goal.invariant_of-self-in-Err

@@ -16,7 +16,7 @@ returns-in-Some g c = λ before more at.
 pub returns-then-eq : goal.returns-then-eq
 returns-then-eq g c = λ before more at.
     let equal : same c.args.state.now c.args.following.now ≡ true = search rules in
-    c.requires ∙ ap Some (same_is c.args.state.now c.args.following.now c.as_bytes.ensures.valid c.as_bytes-2.ensures.valid equal)
+    c.requires ∙ ap Some (same_is c.args.state.now c.args.following.now equal)
 
 pub returns-else-eq : goal.returns-else-eq
 returns-else-eq g c = λ before more at.

@@ -1,0 +1,31 @@
+-- The bytes of states decide whether their values are equal, and their order.
+use Rattle.std.proofs.Common.{◌≡◌, ◌==◌, ℕ, Bool, List, refl, sym, ap, ◌∙◌}
+use Rattle.std.specs.Bool.{one_answer}
+use Rattle.std.specs.Cmp.{unsigned_ties, Equal-is}
+use Rattle.std.specs.Cmp.Lexicographic.{bytes_decides, lists_ties, pointwise, slice_cmp}
+use Rattle.std.specs.Ordering.{is_eq, nat_cmp, ordering_then}
+use Rattle.std.specs.declared.cmp.Ordering.{Ordering}
+use Rattle.std.specs.declared.cmp.Ordering.TheVariants.{Less, Equal, Greater}
+use Rattle.determinize_states.specs.Equality.{by_bytes, Decides-same, parts, same}
+use Rattle.determinize_states.specs.Spelling.{spell}
+use Rattle.determinize_states.specs.Value.{IsValue, Value}
+use Rattle.determinize_states.proofs.SpellingLaws.{decided, spell_tells}
+
+-- a test of the bytes is the test of the values
+pub same-bytes : (v w : Value) (xs ys : List ℕ) (r : Bool) → IsValue v → IsValue w → xs ≡ spell v → ys ≡ spell w
+    → r ≡ pointwise ◌==◌ xs ys → r ≡ same v w
+same-bytes v w xs ys r hv hw ex ey e = one_answer r (same v w) (decided v w xs ys r hv hw ex ey e) (Decides-same v w)
+
+-- where the bytes are those of states, they decide
+pub bytes-decide : (v w : Value) (xs ys : List ℕ) (r : Ordering) → IsValue v → IsValue w → xs ≡ spell v → ys ≡ spell w
+    → r ≡ slice_cmp nat_cmp xs ys → r ≡ by_bytes v w
+bytes-decide v w xs ys r hv hw ex ey e =
+    e ∙ ap (λ l. slice_cmp nat_cmp l ys) ex ∙ ap (λ l. slice_cmp nat_cmp (spell v) l) ey
+    ∙ by (slice_cmp nat_cmp (spell v) (spell w)) refl
+  where
+    by : (o : Ordering) → slice_cmp nat_cmp (spell v) (spell w) ≡ o → o ≡ ordering_then o (slice_cmp nat_cmp (parts v) (parts w))
+    by Less q = refl
+    by Greater q = refl
+    by Equal q =
+        let equal = spell_tells v w hv hw ((bytes_decides (spell v) (spell w)).0 (lists_ties nat_cmp unsigned_ties (spell v) (spell w) ∙ ap is_eq q)) in
+        sym ((Equal-is _).0 (sym (lists_ties nat_cmp unsigned_ties (parts v) (parts w)) ∙ (bytes_decides (parts v) (parts w)).1 (ap parts equal)))
