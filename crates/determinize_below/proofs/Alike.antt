@@ -1,4 +1,4 @@
--- Lists that have the same new nodes in the same order, some nodes aside.
+-- Lists with the same new nodes in the same order, apart from the nodes of a set.
 use Rattle.std.specs.Bool.{Decides}
 use Rattle.std.specs.List.{flat_map}
 use Rattle.std.proofs.Common.{◌&&◌, ◌++◌, Bool, List, [], ap, arith, false, not, refl, sym, true, ◌||◌, ◌∙◌, ◌∷◌, ◌≡◌}
@@ -8,7 +8,7 @@ use Rattle.determinize_below.specs.Reach.{fresh, joined, member}
 use Rattle.determinize_below.proofs.Sets.{eq-self, fresh-append, fresh-same, fresh_none, member-fresh}
 use Rattle.determinize_below.proofs.Tests.{by_test, or_more}
 
--- two lists have the same new nodes, in the same order, wherever those of c were seen
+-- the lists have the same new nodes in the same order, for every seen set that contains c
 abbrev pub Alike : {N : Type 0} → (N → N → Bool) → (N → Bool) → List N → List N → Type 0
 Alike {N} eq c xs ys = (seen : N → Bool) → ((x : N) → c x ≡ true → seen x ≡ true) → fresh eq seen xs ≡ fresh eq seen ys
 
@@ -42,7 +42,7 @@ module _ {N : Type 0} {eq : N → N → Bool} (dec : (a b : N) → Decides (eq a
       (h x (or_left (eq x x) (member eq xs x) (eq-self dec x)))
       (Alike-flat_map c f g xs (λ y m. h y (or_right (eq x y) (member eq xs y) m)))
 
-  -- what is in the first list adds nothing after it
+  -- the elements of the first list add nothing after it
   pub Alike-front : (c : N → Bool) (xs ys : List N) → ((x : N) → member eq ys x ≡ true → (member eq xs x || c x) ≡ true) → Alike eq c (xs ++ ys) xs
   Alike-front c xs ys h seen s =
       fresh-append dec seen xs ys

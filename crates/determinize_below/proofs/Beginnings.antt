@@ -1,4 +1,4 @@
--- Lists that begin others.
+-- Prefixes of lists.
 use Rattle.std.specs.Bool.{Decides}
 use Rattle.std.specs.List.{flat_map}
 use Rattle.std.proofs.Common.{◌++◌, Bool, List, [], ap, append_assoc, not, refl, sym, ℕ, ◌∙◌, ◌∷◌, ◌≡◌}
@@ -11,7 +11,7 @@ use Rattle.determinize_below.specs.Reached.{IsBeginning}
 use Rattle.determinize_below.proofs.Sets.{fresh-append}
 use Rattle.determinize_below.proofs.Tests.{by_test}
 
--- beginnings
+-- prefixes
 pub Beginning-flat_map : {A B : Type 0} (f : A → List B) (xs ys : List A) → IsBeginning xs ys → IsBeginning (flat_map f xs) (flat_map f ys)
 Beginning-flat_map f xs ys h = (flat_map f h.0, ap (λ l. flat_map f l) h.1 ∙ flat_map-append f xs h.0)
 

@@ -1,4 +1,4 @@
--- The bits of ids in words of 64.
+-- The bits of ids in words of 64 bits: reading, setting and clearing one.
 use Rattle.std.specs.Int.{bit_at, w64}
 use Rattle.std.proofs.Common.{List, ap, arith, bit_and, bit_or, eq-eqb, false, get_or, length, nat_eq, ne_eqb, refl, replicate, set, suc, sym, take, true, zero, ℕ, ◌%◌, ◌*◌, ◌++◌, ◌/◌, ◌<◌, ◌^◌, ◌||◌, ◌∙◌, ◌≡◌, ◌≢◌}
 use Rattle.std.proofs.Math.Seq.{take-append_seam}
@@ -8,12 +8,12 @@ use Rattle.std.proofs.lemmas.Nat.Bits.{bit_at-zero, bit_at_set_other, bit_at_set
 use Rattle.determinize_below.specs.Private.Sparse.{has_bit}
 use Rattle.determinize_below.proofs.Tests.{by_cases}
 
--- a bit as it is read
+-- reading a bit
 pub has_bit-read : (words : List ℕ) (id : ℕ) → has_bit words id ≡ nat_eq (bit_and (get_or words (id / 64) 0 / 2 ^ (id % 64)) 1) 1
 unfolding has_bit
 has_bit-read words id = ap (λ n. nat_eq n 1) (sym (shr_and_one (get_or words (id / 64) 0) (id % 64)))
 
--- after a write to the word of an id: the bits of that word, and the others
+-- writing to the word of an id: the bits of that word, and the others
 has_bit-here : (words : List ℕ) (id other n : ℕ) → id < 64 * length words → other / 64 ≡ id / 64 → has_bit (set words (id / 64) n) other ≡ nat_eq (bit_at n (other % 64)) 1
 unfolding has_bit
 has_bit-here words id other n h e = rw (e, get_or-set_same {A = ℕ} words (id / 64) n 0 (omega arith)) refl
@@ -28,14 +28,14 @@ not_same id other ne = ne_eqb other id (λ e. ne (ap (λ n. n / 64) e))
 same_place : (id other : ℕ) → other / 64 ≡ id / 64 → nat_eq (other % 64) (id % 64) ≡ nat_eq other id
 same_place id other e = grind arith
 
--- a word with one more bit
+-- setting a bit of a word
 bit-set : (n k i : ℕ) → k < 64 → nat_eq (bit_at (bit_or n (1 * 2 ^ k % 2 ^ 64)) i) 1 ≡ (nat_eq i k || nat_eq (bit_at n i) 1)
 bit-set n k i h =
     by_cases (cases_eq i k)
     (λ e. rw (e, bit_at_set_same w64 n k h, eq-eqb k k refl) refl)
     (λ ne. rw (bit_at_set_other w64 n k h i ne, ne_eqb i k ne) refl)
 
--- words with one more bit
+-- setting a bit of the words
 pub has_bit-set : (words : List ℕ) (id other : ℕ) → id < 64 * length words → has_bit (set words (id / 64) (bit_or (get_or words (id / 64) 0) (1 * 2 ^ (id % 64) % 2 ^ 64))) other ≡ (nat_eq other id || has_bit words other)
 unfolding has_bit
 has_bit-set words id other h =
@@ -43,7 +43,7 @@ has_bit-set words id other h =
     (λ e. has_bit-here words id other _ h e ∙ bit-set (get_or words (id / 64) 0) (id % 64) (other % 64) (omega arith) ∙ rw (same_place id other e, e) refl)
     (λ ne. has_bit-elsewhere words id other _ ne ∙ rw (not_same id other ne) refl)
 
--- words of which one was emptied
+-- clearing a word
 pub has_bit-empty : (words : List ℕ) (id other : ℕ) → id < 64 * length words → has_bit (set words (id / 64) 0) other ≡ true → (has_bit words other ≡ true) × (nat_eq other id ≡ false)
 has_bit-empty words id other h t =
     by_cases (cases_eq (other / 64) (id / 64))
@@ -63,5 +63,5 @@ has_bit-zeros n id = rw (get_or-zeros n (id / 64), bit_at-zero (id % 64)) refl
 pub words_back : (words rest : List ℕ) (n : ℕ) → n ≡ length words → take n (words ++ rest) ≡ words
 words_back words rest n e = rw e (take-append_seam words rest)
 
--- what a read and a write of one bit want
+-- the rules for a read and a write of one bit
 pub ruleset one_bit = (has_bit-read, has_bit-set)

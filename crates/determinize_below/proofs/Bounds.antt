@@ -1,4 +1,4 @@
--- A bound on the work of a search.
+-- A bound on the work of a depth-first search: it pops each node and each edge at most once.
 use Rattle.std.specs.Bool.{Decides}
 use Rattle.std.specs.List.{flat_map}
 use Rattle.std.proofs.Common.{◌+◌, Bool, List, [], ap, arith, cond, false, length, refl, sym, true, zero, ◌||◌, ℕ, ◌∙◌, ◌∷◌, ◌≡◌, ◌≤◌}
@@ -8,7 +8,7 @@ use Rattle.determinize_below.specs.Private.Searching.{search_tries}
 use Rattle.determinize_below.proofs.Sets.{eq-self}
 use Rattle.determinize_below.proofs.Tests.{by_test, or_false_right}
 
--- the sum of a measure over the nodes of the list that are not held
+-- the sum of a measure over the nodes of the list that are not visited
 abbrev pub weight : {N : Type 0} → (N → ℕ) → (N → Bool) → List N → ℕ
 weight f held [] = zero
 weight f held (x ∷ xs) = cond (held x) (weight f held xs) (f x + weight f held xs)
@@ -39,7 +39,7 @@ module _ {N : Type 0} {eq : N → N → Bool} (dec : (a b : N) → Decides (eq a
       (λ b. absurd (true≢false (sym ((dec x r).1 (sym ((dec r x).0 b))) ∙ q)))
       (λ b. rw (b, a) (omega arith))))
 
-  -- distinct nodes weigh no more than all
+  -- distinct nodes have at most the weight of all
   pub weight-fresh : (nodes : List N) (held : N → Bool) (xs : List N) → ((x : N) → member eq xs x ≡ true → held x ≡ false → member eq nodes x ≡ true)
       → weight f none_held (fresh eq held xs) ≤ weight f held nodes
   weight-fresh nodes held [] h = omega arith
@@ -56,7 +56,7 @@ module _ {N : Type 0} {eq : N → N → Bool} (dec : (a b : N) → Decides (eq a
   edge_count_is [] = refl
   edge_count_is (x ∷ xs) = ap (λ k. length (edges x) + k) (edge_count_is xs)
 
-  -- the tries of a search are at most its pending nodes and all edges
+  -- the tries of a search are at most its pending nodes plus all edges
   pub tries_bound : (n : ℕ) (met pending : List N) → ((x : N) → member eq (flat_map (ends eq edges n (member eq met)) pending) x ≡ true → member eq nodes x ≡ true)
       → search_tries eq edges n met pending ≤ length pending + edge_count edges nodes
   tries_bound n met pending h =

@@ -1,4 +1,4 @@
--- The checks of an NFA's states, one state after another.
+-- The loop of the validation: the states of an NFA one by one, with the set of the patterns seen.
 use Rattle.std.proofs.Common.{◌≡◌, ℕ, suc, ◌+◌, ◌<◌, Bool, false, Some, None, List, [], ◌∷◌, ◌++◌, length, map, take, drop, get_or, refl, sym, ap, ◌∙◌, arith, ◌||◌, ◌⊎◌, inl, inr, zero}
 use Rattle.std.specs.List.{list_any}
 use Rattle.std.specs.Prelude.{slice_get}
@@ -24,26 +24,26 @@ repeats-same f g Fail h = refl
 repeats-same f g (Match pattern) h = h pattern
 
 module _ {S : Type 0} (f : S → Node) (states : List S) (i : ℕ) (x : S) (within : i < length states) (at : x ≡ get_or states i x) where
-  -- the states up to the next one
+  -- the states up to and including the current one
   nodes_more : map f (take (i + 1) states) ≡ map f (take i states) ++ f x ∷ []
   nodes_more = ap (λ l. map f l) (take_more states i x within)
       ∙ map-append f (take i states) (get_or states i x ∷ [])
       ∙ ap (λ y. map f (take i states) ++ f y ∷ []) (sym at)
 
-  -- the states from this one on
+  -- the states from the current one on
   nodes_left : map f (drop i states) ≡ f x ∷ map f (drop (i + 1) states)
   nodes_left = ap (λ l. map f l) (drop-cons states i x within)
       ∙ ap (λ y. f y ∷ map f (drop (suc i) states)) (sym at)
       ∙ (let z : suc i ≡ i + 1 = omega arith in ap (λ j. f x ∷ map f (drop j states)) z)
 
-  -- the checks from this state on
+  -- the first error from the current state on
   pub states_failure-turn : (count : ℕ) → states_failure count (map f (take i states)) i (map f (drop i states))
       ≡ option_or (state_failure count (map f (take i states)) i (f x)) (states_failure count (map f (take (i + 1) states)) (i + 1) (map f (drop (i + 1) states)))
   states_failure-turn count =
       ap (λ l. states_failure count (map f (take i states)) i l) nodes_left
       ∙ ap (λ l. option_or (state_failure count (map f (take i states)) i (f x)) (states_failure count l (i + 1) (map f (drop (i + 1) states)))) (sym nodes_more)
 
-  -- the patterns seen with this state's
+  -- the patterns seen, with that of the current state
   pub seen-turn : (old new : ℕ → Bool) → ((q : ℕ) → old q ≡ list_any (is_match_of q) (map f (take i states))) → ((q : ℕ) → new q ≡ (is_match_of q (f x) || old q))
       → (q : ℕ) → new q ≡ list_any (is_match_of q) (map f (take (i + 1) states))
   seen-turn old new h k q =
@@ -54,12 +54,12 @@ module _ {S : Type 0} (f : S → Node) (states : List S) (i : ℕ) (x : S) (with
       turn : (a b : Bool) → (a || b) ≡ (b || (a || false))
       turn a b = grind arith
 
-  -- the check of this state by the patterns seen
+  -- the error of the current state, by the patterns seen
   pub state_failure-seen : (seen : ℕ → Bool) (count : ℕ) → ((q : ℕ) → seen q ≡ list_any (is_match_of q) (map f (take i states)))
       → failure_of count (repeats seen (f x)) i (f x) ≡ state_failure count (map f (take i states)) i (f x)
   state_failure-seen seen count h = ap (λ b. failure_of count b i (f x)) (repeats-same seen (λ q. list_any (is_match_of q) (map f (take i states))) (f x) h)
 
-  -- all checks so far have passed
+  -- no error so far
   pub goes_on : (seen : ℕ → Bool) (count : ℕ) → ((q : ℕ) → seen q ≡ list_any (is_match_of q) (map f (take i states)))
       → states_failure count [] 0 (map f states) ≡ states_failure count (map f (take i states)) i (map f (drop i states))
       → failure_of count (repeats seen (f x)) i (f x) ≡ None
@@ -68,7 +68,7 @@ module _ {S : Type 0} (f : S → Node) (states : List S) (i : ℕ) (x : S) (with
       same ∙ states_failure-turn count
       ∙ ap (λ o. option_or o (states_failure count (map f (take (i + 1) states)) (i + 1) (map f (drop (i + 1) states)))) (sym (state_failure-seen seen count h) ∙ none)
 
-  -- the check of this state is the first that fails
+  -- the error of the current state is the first
   pub fails_here : (seen : ℕ → Bool) (count : ℕ) → ((q : ℕ) → seen q ≡ list_any (is_match_of q) (map f (take i states)))
       → states_failure count [] 0 (map f states) ≡ states_failure count (map f (take i states)) i (map f (drop i states))
       → (e : BuildError) → (failure_of count (repeats seen (f x)) i (f x) ≡ Some e) ⊎ (e ≡ OutOfMemory)
@@ -78,7 +78,7 @@ module _ {S : Type 0} (f : S → Node) (states : List S) (i : ℕ) (x : S) (with
       ∙ ap (λ o. option_or o (states_failure count (map f (take (i + 1) states)) (i + 1) (map f (drop (i + 1) states)))) (sym (state_failure-seen seen count h) ∙ some))
   fails_here seen count h same e (inr memory) = inr memory
 
--- an element that was read, in a list that is mapped
+-- reading an element of a mapped list
 pub slice_get-map_read : {A B : Type 0} (f : A → B) (xs : List A) (i : ℕ) (x : A) → i < length xs → x ≡ get_or xs i x → slice_get (map f xs) i ≡ Some (f x)
 slice_get-map_read f [] i x h e = absurd (omega arith)
 slice_get-map_read f (y ∷ xs) zero x h e = ap (λ z. Some (f z)) (sym e)

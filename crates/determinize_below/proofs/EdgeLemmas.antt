@@ -1,4 +1,4 @@
--- The edges of an NFA under sets of assertions.
+-- The epsilon transitions and targets of NFA states under sets of assertions.
 use Rattle.std.proofs.Common.{◌≡◌, ℕ, zero, suc, ◌<◌, ◌≤◌, Bool, true, false, List, [], ◌∷◌, length, get_or, refl, ap, arith, Option, Some, None, nat_eq, ◌⊎◌, inl, inr}
 use Rattle.std.specs.Option.{is_some, option_to_list}
 use mathlib.Core.Path.{fun_ext}
@@ -13,7 +13,7 @@ use Rattle.determinize_below.specs.declared.look.Look.{Look as Assertion}
 use Rattle.determinize_below.proofs.Lists.{flat_map-without}
 use Rattle.determinize_below.proofs.Tests.{by_cases, by_test}
 
--- sets that agree at a state's assertion give it the same edges
+-- sets that agree on the assertion of a state give it the same edges
 edges_of-agree : (holds others : Assertion → Bool) (s : Node) → ((look : Assertion) → assertion_in s ≡ Some look → holds look ≡ others look) → edges_of holds s ≡ edges_of others s
 edges_of-agree holds others (ByteRange t) h = refl
 edges_of-agree holds others (Sparse ts) h = refl
@@ -28,7 +28,7 @@ edges_of-agree holds others (Match pattern) h = refl
 pub edges-agree : (nfa : Nfa) (holds others : Assertion → Bool) (s : ℕ) → ((look : Assertion) → assertion_of nfa s ≡ Some look → holds look ≡ others look) → edges nfa holds s ≡ edges nfa others s
 edges-agree nfa holds others s h = edges_of-agree holds others (state_at nfa s) h
 
--- sets that agree at all assertions of an NFA give the same edges
+-- sets that agree on all assertions of an NFA give the same edges
 pub edges-same : (nfa : Nfa) (holds others : Assertion → Bool) → ((look : Assertion) → IsTested nfa look → holds look ≡ others look) → edges nfa holds ≡ edges nfa others
 edges-same nfa holds others h = fun_ext (λ s. edges-agree nfa holds others s (λ look e. h look (s, e)))
 
@@ -49,7 +49,7 @@ edges_of-more holds others (Match pattern) y h m = m
 pub edges-more : (nfa : Nfa) (holds others : Assertion → Bool) (s y : ℕ) → ((look : Assertion) → holds look ≡ true → others look ≡ true) → member nat_eq (edges nfa holds s) y ≡ true → member nat_eq (edges nfa others s) y ≡ true
 edges-more nfa holds others s y h m = edges_of-more holds others (state_at nfa s) y h m
 
--- a set of all assertions gives the most edges
+-- the set of all assertions gives the most edges
 length-edges_of : (holds : Assertion → Bool) (s : Node) → length (edges_of holds s) ≤ length (edges_of (λ look. true) s)
 length-edges_of holds (ByteRange t) = omega arith
 length-edges_of holds (Sparse ts) = omega arith
@@ -112,7 +112,7 @@ module _ (nfa : Nfa) where
   pub pattern-capture : (s : ℕ) → is_capture nfa s ≡ true → pattern_of nfa s ≡ None
   pattern-capture s e = capture_no_pattern (state_at nfa s) e
 
-  -- where the state leads, if it is a capture
+  -- the target of a state, if it is a capture
   abbrev pub next_of : ℕ → ℕ
   next_of s = capture_next (state_at nfa s)
 
@@ -125,7 +125,7 @@ module _ (nfa : Nfa) where
   pub match-capture : (s : ℕ) → is_match nfa s ≡ true → is_capture nfa s ≡ false
   match-capture s e = match_no_capture (state_at nfa s) e
 
-  -- leaving captures out leaves the patterns
+  -- leaving out captures does not change the patterns
   pub patterns-without : (xs : List ℕ) → patterns_of nfa (without (is_capture nfa) xs) ≡ patterns_of nfa xs
   patterns-without xs = flat_map-without (λ x. option_to_list (pattern_of nfa x)) (is_capture nfa) xs (λ x e. ap option_to_list (pattern-capture x e))
 
@@ -140,7 +140,7 @@ target_of-end (Capture next) = refl
 target_of-end Fail = refl
 target_of-end (Match pattern) = refl
 
--- no state leads anywhere over the end of the input
+-- no state has a transition on EOI
 pub target-end : (nfa : Nfa) (s : ℕ) → target nfa None s ≡ []
 target-end nfa s = ap option_to_list (target_of-end (state_at nfa s))
 
@@ -148,7 +148,7 @@ length-option_to_list : {A : Type 0} (o : Option A) → length (option_to_list o
 length-option_to_list None = omega arith
 length-option_to_list (Some x) = omega arith
 
--- a state leads to one state at most over a unit
+-- a state has at most one target on a unit
 pub length-target : (nfa : Nfa) (u : Option ℕ) (s : ℕ) → length (target nfa u s) ≤ 1
 length-target nfa u s = length-option_to_list (target_of u (state_at nfa s))
 
@@ -163,11 +163,11 @@ edges_or_target holds u (Capture next) = inr refl
 edges_or_target holds u Fail = inr refl
 edges_or_target holds u (Match pattern) = inr refl
 
--- a state leads somewhere without input, or over a unit, or nowhere
+-- a state has epsilon transitions, or a target on a unit, but not both
 pub edges-or-target : (nfa : Nfa) (holds : Assertion → Bool) (u : Option ℕ) (s : ℕ) → (edges nfa holds s ≡ []) ⊎ (target nfa u s ≡ [])
 edges-or-target nfa holds u s = by_cases (edges_or_target holds u (state_at nfa s)) (λ e. inl e) (λ e. inr (ap option_to_list e))
 
--- an id that is no state's
+-- an id out of range
 pub state_past : (nfa : Nfa) (s : ℕ) → length nfa.states ≤ s → state_at nfa s ≡ Fail
 state_past nfa s l = past nfa.states s l
   where

@@ -1,4 +1,4 @@
--- Elements of lists, and which stand before which.
+-- Elements of lists, and their order in the list.
 use Rattle.std.specs.Bool.{Decides}
 use Rattle.std.specs.Prelude.{All, Contains, slice_get}
 use Rattle.std.proofs.Common.{◌++◌, ◌<◌, Bool, List, None, Some, [], arith, false, get_or, length, map, refl, suc, sym, take, true, zero, ℕ, ◌∙◌, ◌∷◌, ◌≡◌}
@@ -50,7 +50,7 @@ In_map_from g z (y ∷ xs) h f = In_cases z (g y) (map g xs) h
     (λ e. f y (In_head y xs) e)
     (λ k. In_map_from g z xs k (λ x l e. f x (In_tail x y xs l) e))
 
--- what is left of a list is in it, and not in cap
+-- the elements of `without`
 pub In-without : {A : Type 0} (cap : A → Bool) (xs : List A) (s : A) → In s (without cap xs) → In s xs × (cap s ≡ false)
 In-without cap [] s h = absurd (let e : Some s ≡ None = sym h.1 in cc)
 In-without cap (x ∷ xs) s h = by_test (cap x)
@@ -71,7 +71,7 @@ pub In_take_one : {A : Type 0} (ps : List A) (x : A) → In x (take 1 ps) → In
 In_take_one [] x h = h
 In_take_one (y ∷ ps) x h = In_append_left x (y ∷ []) ps h
 
--- what stands before what, in a list
+-- x precedes y in a list
 abbrev pub Earlier : {A : Type 0} → List A → A → A → Type 0
 Earlier xs x y = (i : ℕ) × (j : ℕ) × (i < j) × (slice_get xs i ≡ Some x) × (slice_get xs j ≡ Some y)
 
@@ -95,7 +95,7 @@ Earlier-without {A} cap (x ∷ xs) i j s t l a b = by_test (cap x)
         rw (← q) (Earlier_head xs x t (In-without cap xs t (j, b)).0)
     go (suc i) (suc j) l a b ih = Earlier_tail xs s t x (ih i j s t (omega arith) a b)
 
--- two lists with the same elements, in the same strict order, are equal
+-- two lists with the same elements in the same strict order are equal
 pub same_by_order : {A : Type 0} (R : A → A → Type 0) → ((x y : A) → R x y → R y x → ⊥) → (xs ys : List A)
     → ((x : A) → In x xs → In x ys) → ((x : A) → In x ys → In x xs)
     → ((i j : ℕ) (x y : A) → i < j → slice_get xs i ≡ Some x → slice_get xs j ≡ Some y → R x y)

@@ -1,4 +1,5 @@
--- Laws of the enumeration of the loop-free paths.
+-- The enumeration `ends` of the loop-free paths of a graph, on closed sets of nodes: the set of
+-- what a search has visited is closed, so nothing in it need be searched again.
 use Rattle.std.specs.Bool.{Decides}
 use Rattle.std.specs.List.{filter, flat_map}
 use mathlib.Core.Path.{fun_ext}
@@ -10,13 +11,13 @@ use Rattle.determinize_below.proofs.Lists.{filter-flat_map, flat_map-same}
 use Rattle.determinize_below.proofs.Sets.{eq-self, filter_none, flat_map-agree, flat_map-member, fresh-append, fresh-filter, member-flat_map}
 use Rattle.determinize_below.proofs.Tests.{by_test, or_false, or_more, or_swap}
 
--- the fuel is more than the length of each loop-free path from r that meets no held node
+-- the fuel is more than the length of each loop-free path from r that avoids the visited nodes
 abbrev pub IsEnough : {N : Type 0} → (N → N → Bool) → (N → List N) → ℕ → (N → Bool) → N → Type 0
 IsEnough eq edges zero held r = held r ≡ true
 IsEnough {N} eq edges (suc n) held r =
     held r ≡ false → (t : N) → member eq (edges r) t ≡ true → IsEnough eq edges n (with_node eq held r) t
 
--- each edge from the set leads into it or to a held node
+-- each edge from the set goes to the set or to a visited node
 abbrev pub IsClosed : {N : Type 0} → (N → N → Bool) → (N → List N) → (N → Bool) → (N → Bool) → Type 0
 IsClosed {N} eq edges v held =
     (x y : N) → v x ≡ true → member eq (edges x) y ≡ true → joined v held y ≡ true
@@ -33,7 +34,7 @@ module _ {N : Type 0} {eq : N → N → Bool} (dec : (a b : N) → Decides (eq a
       (λ e. rw e (ap (λ l. r ∷ l) (flat_map-agree dec (ends eq edges n (with_node eq held r)) (ends eq edges m (with_node eq held r)) (edges r)
       (λ t k. ends-enough edges n m (with_node eq held r) t (a e t k) (b e t k)))))
 
-  -- what is enough stays so when more is held
+  -- enough fuel is enough if more is visited
   pub IsEnough-more_held : (edges : N → List N) (n : ℕ) (held more : N → Bool) (r : N) → ((x : N) → held x ≡ true → more x ≡ true) → IsEnough eq edges n held r → IsEnough eq edges n more r
   IsEnough-more_held edges zero held more r s a = s r a
   IsEnough-more_held edges (suc n) held more r s a = λ e t k.
@@ -59,14 +60,14 @@ module _ {N : Type 0} {eq : N → N → Bool} (dec : (a b : N) → Decides (eq a
   pub ends-free : (edges : N → List N) (n : ℕ) (held : N → Bool) (r : N) → held r ≡ false → ends eq edges (suc n) held r ≡ r ∷ flat_map (ends eq edges n (with_node eq held r)) (edges r)
   ends-free edges n held r e = rw e refl
 
-  -- a node that is not held is found from itself
+  -- a node that is not visited is found from itself
   pub ends_self : (edges : N → List N) (n : ℕ) (held : N → Bool) (r : N) → IsEnough eq edges n held r → (member eq (ends eq edges n held r) r || held r) ≡ true
   ends_self edges zero held r a = a
   ends_self edges (suc n) held r a = by_test (held r)
       (λ e. or_right (member eq (ends eq edges (suc n) held r) r) (held r) e)
       (λ e. or_left (member eq (ends eq edges (suc n) held r) r) (held r) (rw (ends-free edges n held r e) (or_left (eq r r) _ (eq-self dec r))))
 
-  -- with enough fuel the nodes that are found lead to found or held nodes only
+  -- with enough fuel, each edge from a found node goes to a found or visited node
   pub ends_closed : (edges : N → List N) (n : ℕ) (held : N → Bool) (r : N) → IsEnough eq edges n held r → IsClosed eq edges (member eq (ends eq edges n held r)) held
   ends_closed edges zero held r a x y m k = absurd (false≢true m)
   ends_closed edges (suc n) held r a x y m k =
@@ -97,7 +98,7 @@ module _ {N : Type 0} {eq : N → N → Bool} (dec : (a b : N) → Decides (eq a
           (λ q. flat_map-member dec (ends eq edges n (with_node eq held r)) (edges r) x (rw q at h)
           (λ t l z. found t l (ih t l z)))
 
-  -- what is found from a closed set lies in it
+  -- the nodes found from a closed set are in it
   pub ends_within : (edges : N → List N) (n : ℕ) (v held more : N → Bool) (r x : N) → IsClosed eq edges v held → ((y : N) → held y ≡ true → more y ≡ true) → (v r || held r) ≡ true
       → member eq (ends eq edges n more r) x ≡ true → v x ≡ true
   ends_within edges zero v held more r x c s i m = absurd (false≢true m)
@@ -118,7 +119,7 @@ module _ {N : Type 0} {eq : N → N → Bool} (dec : (a b : N) → Decides (eq a
           (λ q. flat_map-member dec (ends eq edges n (with_node eq more r)) (edges r) x (rw q at h)
           (λ t l z. ih t l z (c r t e l)))
 
-  -- the closed set and what is held may be left out at once
+  -- a closed set and the visited nodes may be left out together
   pub ends-closed_set : (edges : N → List N) (n : ℕ) (v held : N → Bool) (r : N) → IsClosed eq edges v held
       → filter (λ x. not (v x)) (ends eq edges n held r) ≡ ends eq edges n (joined v held) r
   ends-closed_set edges zero v held r c = refl
@@ -137,7 +138,7 @@ module _ {N : Type 0} {eq : N → N → Bool} (dec : (a b : N) → Decides (eq a
       widen : (a b c : Bool) → (a || c) ≡ true → (a || (b || c)) ≡ true
       widen a b c h = grind arith
 
-  -- two held sets that agree on a closed set with the start
+  -- two visited sets that agree on a closed set that contains the start
   pub ends_agree : (edges : N → List N) (n : ℕ) (v held more : N → Bool) (r : N) → IsClosed eq edges v (λ x. false) → ((x : N) → v x ≡ true → held x ≡ more x) → v r ≡ true
       → ends eq edges n held r ≡ ends eq edges n more r
   ends_agree edges zero v held more r c s i = refl
@@ -146,7 +147,7 @@ module _ {N : Type 0} {eq : N → N → Bool} (dec : (a b : N) → Decides (eq a
       (flat_map-agree dec (ends eq edges n (with_node eq held r)) (ends eq edges n (with_node eq more r)) (edges r)
       (λ t l. ends_agree edges n v (with_node eq held r) (with_node eq more r) t c (λ x m. ap (λ b. eq r x || b) (s x m)) (or_false (v t) (c r t i l)))))
 
-  -- what a closed set holds may be held from the start, where its nodes count as seen
+  -- the nodes of a closed set may count as visited from the start, where they count as seen
   pub fresh-held : (edges : N → List N) (n : ℕ) (v held seen : N → Bool) (rs : List N) → IsClosed eq edges v held → ((x : N) → v x ≡ true → seen x ≡ true)
       → fresh eq seen (flat_map (ends eq edges n held) rs) ≡ fresh eq seen (flat_map (ends eq edges n (joined v held)) rs)
   fresh-held edges n v held seen rs c s =
@@ -155,12 +156,13 @@ module _ {N : Type 0} {eq : N → N → Bool} (dec : (a b : N) → Decides (eq a
       (filter-flat_map (λ x. not (v x)) (ends eq edges n held) rs
       ∙ flat_map-same (λ t. filter (λ x. not (v x)) (ends eq edges n held t)) (ends eq edges n (joined v held)) rs (λ t. ends-closed_set edges n v held t c))
 
-  -- a node that is held is passed over
+  -- a visited node is skipped
   pub fresh-ends_held : (edges : N → List N) (n : ℕ) (held : N → Bool) (r : N) (rs : List N) → held r ≡ true
       → fresh eq held (flat_map (ends eq edges n held) (r ∷ rs)) ≡ fresh eq held (flat_map (ends eq edges n held) rs)
   fresh-ends_held edges n held r rs e = rw (ends-held edges n held r e) refl
 
-  -- one step of the search with a stack: a new node is listed, and its edges go before the other pending nodes
+  -- one step of the search with a stack: a new node is listed, and its edges go before the other
+  -- pending nodes
   pub fresh-ends_new : (edges : N → List N) (n : ℕ) (held : N → Bool) (r : N) (rs : List N) → held r ≡ false → IsEnough eq edges n held r
       → fresh eq held (flat_map (ends eq edges n held) (r ∷ rs)) ≡ r ∷ fresh eq (with_node eq held r) (flat_map (ends eq edges n (with_node eq held r)) (edges r ++ rs))
   fresh-ends_new edges zero held r rs e a = absurd (false≢true (sym e ∙ a))

@@ -1,4 +1,4 @@
--- Fuel for a search.
+-- Fuel for a search: the number of nodes that are not visited is enough.
 use Rattle.std.specs.Bool.{Decides}
 use Rattle.std.proofs.Common.{◌+◌, ◌<◌, Bool, List, [], ap, arith, cond, false, length, subst, suc, sym, true, zero, ◌||◌, ℕ, ◌∙◌, ◌∷◌, ◌≡◌, ◌≤◌}
 use Rattle.std.proofs.lemmas.Bool.{false≢true, or_right, true≢false}
@@ -7,7 +7,7 @@ use Rattle.determinize_below.proofs.Ends.{IsEnough, IsEnough-more_fuel, ends-eno
 use Rattle.determinize_below.proofs.Sets.{flat_map-agree}
 use Rattle.determinize_below.proofs.Tests.{by_test}
 
--- how many nodes of the list are not held
+-- the number of nodes of the list that are not visited
 abbrev pub free_count : {N : Type 0} → (N → Bool) → List N → ℕ
 free_count held [] = zero
 free_count held (x ∷ xs) = cond (held x) (free_count held xs) (suc (free_count held xs))
@@ -38,7 +38,7 @@ module _ {N : Type 0} {eq : N → N → Bool} (dec : (a b : N) → Decides (eq a
       (λ b. absurd (true≢false (sym ((dec x r).1 (sym ((dec r x).0 b))) ∙ q)))
       (λ b. rw (b, a) (omega arith))))
 
-  -- the number of nodes that are not held is enough fuel
+  -- the number of nodes that are not visited is enough fuel
   pub IsEnough-from_count : (edges : N → List N) (nodes : List N) → ((x y : N) → member eq nodes x ≡ true → member eq (edges x) y ≡ true → member eq nodes y ≡ true)
       → (n : ℕ) (held : N → Bool) (r : N) → free_count held nodes ≤ n → member eq nodes r ≡ true → IsEnough eq edges n held r
   IsEnough-from_count edges nodes c zero held r l m = by_test (held r) (λ e. e)
@@ -52,7 +52,7 @@ module _ {N : Type 0} {eq : N → N → Bool} (dec : (a b : N) → Decides (eq a
   free_count_le held (x ∷ nodes) = let h : free_count held nodes ≤ length nodes = free_count_le held nodes in
       by_test (held x) (λ e. rw e (omega arith)) (λ e. rw e (omega arith))
 
-  -- which fuel is taken changes nothing
+  -- any two amounts of fuel that are enough give the same list
   pub ordered-enough : (edges : N → List N) (n m : ℕ) (held : N → Bool) (roots : List N) → ((x : N) → IsEnough eq edges n held x) → ((x : N) → IsEnough eq edges m held x)
       → ordered eq edges n held roots ≡ ordered eq edges m held roots
   ordered-enough edges n m held roots a b = ap (λ l. fresh eq held l) (flat_map-agree dec (ends eq edges n held) (ends eq edges m held) roots (λ x z. ends-enough dec edges n m held x (a x) (b x)))

@@ -1,4 +1,4 @@
--- What is known after a byte, as a table.
+-- The assertions satisfied by the look-behind, as a table.
 use Rattle.std.proofs.Common.{◌≡◌, ℕ, ◌<◌, Bool, true, false, not, Option, Some, None, nat_eq, refl, sym, ◌∙◌, arith, lit<}
 use mathlib.Core.Bool.{◌&&◌, ◌||◌}
 use Rattle.std.specs.Bool.{Decides}
@@ -58,7 +58,8 @@ word_end a = all_units_fails (λ q. a && not (is_word q)) letter letter_unit (rw
 word_end_half : all_units (λ q. not (is_word q)) ≡ false
 word_end_half = all_units_fails (λ q. not (is_word q)) letter letter_unit (rw letter_word)
 
--- the byte before decides Start, StartLF, StartCRLF and WordStartHalf where it makes them true, and nothing else is known
+-- the look-behind satisfies Start, StartLF, StartCRLF or a half word start if the byte before does,
+-- and no other assertion
 pub known_is : (reverse : Bool) (t : ℕ) (p : Option ℕ) (l : Look) → is_known reverse t p l ≡ behind_test (is_nothing p) (is_nothing p || is_byte p t) (is_nothing p || is_byte p (crlf_second reverse)) (not (is_word p)) l
 known_is reverse t p Start = all_units_constant (is_nothing p)
 known_is reverse t p End = all_units_fails is_nothing (Some 0) (lit< tt) refl
@@ -79,7 +80,7 @@ known_is reverse t p WordEndHalfAscii = word_end_half
 known_is reverse t p WordStartHalfUnicode = all_units_constant (not (is_word p))
 known_is reverse t p WordEndHalfUnicode = word_end_half
 
--- what is known is true whatever unit follows
+-- an assertion satisfied by the look-behind holds for every next unit
 pub known-holds : (reverse : Bool) (t : ℕ) (p q : Option ℕ) (l : Look) → is_known reverse t p l ≡ true → holds reverse t p q l ≡ true
 known-holds reverse t p q l h = from_table reverse t p q l (sym (known_is reverse t p l) ∙ h)
   where
@@ -91,6 +92,6 @@ known-holds reverse t p q l h = from_table reverse t p q l (sym (known_is revers
     from_table reverse t p q WordStartHalfUnicode h = h
     from_table reverse t p q l h = cc
 
--- what is known is what holds for every unit
+-- the assertions satisfied by the look-behind are those that hold for every next unit
 pub known-every : (reverse : Bool) (t : ℕ) (p : Option ℕ) (l : Look) → Decides (is_known reverse t p l) ((q : Option ℕ) → IsUnit q → holds reverse t p q l ≡ true)
 known-every reverse t p l = (all_units_at (λ q. holds reverse t p q l), all_units_from (λ q. holds reverse t p q l))

@@ -1,4 +1,4 @@
--- The first accepting node of a search over positions.
+-- The first accepting node of a search over positions, found by scanning position by position.
 use Rattle.std.specs.Bool.{Decides}
 use Rattle.std.specs.List.{find, flat_map}
 use Rattle.std.specs.Option.{option_map, option_or}
@@ -22,7 +22,8 @@ abbrev pub best : {N : Type 0} → (N → N → Bool) → (ℕ → N → List N)
 best eq eps bytes acc n i rs =
     find (λ p. acc p.1) (flat_map (ends (pair_eq eq) (run_edges eps bytes) n none_held) (map (placed i) rs))
 
--- the first accepting node of a scan of the states at a position, where `go` is what each leads to later
+-- the first accepting node of a scan of the states at a position, where `go` finds one at later
+-- positions
 abbrev pub scan : {N : Type 0} → (N → Bool) → (N → Option (ℕ × N)) → ℕ → List N → Option (ℕ × N)
 scan acc go i [] = None
 scan acc go i (s ∷ l) = cond (acc s) (Some (i, s)) (option_or (go s) (scan acc go i l))
@@ -42,7 +43,7 @@ module _ {N : Type 0} {eq : N → N → Bool} (dec : (a b : N) → Decides (eq a
       ∙ ap (λ o. option_or (scan acc go i (g x)) o) (find-flat_map acc go i p f g xs (λ y m. h y (or_right (eq x y) (member eq xs y) m)))
       ∙ sym (scan-append acc go i (g x) (flat_map g xs))
 
-  -- the first that passes is new
+  -- the first node that passes is new
   find-fresh : (p seen : N → Bool) (xs : List N) → ((x : N) → seen x ≡ true → p x ≡ false) → find p (fresh eq seen xs) ≡ find p xs
   find-fresh p seen [] h = refl
   find-fresh p seen (x ∷ xs) h = by_test (seen x)
@@ -53,7 +54,7 @@ module _ {N : Type 0} {eq : N → N → Bool} (dec : (a b : N) → Decides (eq a
       (λ q. let z : x ≡ y = (dec x y).0 q in rw z at k)
       (λ q. h y (rw q at m)))))))
 
-  -- a node from which none passes may be left out
+  -- a node whose list has no passing element may be left out
   find-flat_map_fresh : {B : Type 0} (p : B → Bool) (f : N → List B) (seen : N → Bool) (xs : List N) → ((x : N) → seen x ≡ true → find p (f x) ≡ None)
       → find p (flat_map f (fresh eq seen xs)) ≡ find p (flat_map f xs)
   find-flat_map_fresh p f seen [] h = refl
@@ -71,7 +72,7 @@ module _ {N : Type 0} {eq : N → N → Bool} (dec : (a b : N) → Decides (eq a
           (λ k. let z : x ≡ y = (dec x y).0 k in rw z at q)
           (λ k. h y (rw k at m)))
 
-  -- to cut at the first that passes, and to leave out repeats, commute
+  -- cutting at the first that passes and leaving out repeats commute
   before-fresh : (p seen : N → Bool) (xs : List N) → ((x : N) → seen x ≡ true → p x ≡ false) → before p (fresh eq seen xs) ≡ fresh eq seen (before p xs)
   before-fresh p seen [] h = refl
   before-fresh p seen (x ∷ xs) h = by_test (seen x)
@@ -136,7 +137,7 @@ module _ {N : Type 0} {eq : N → N → Bool} (dec : (a b : N) → Decides (eq a
         R : ℕ × N → List (ℕ × N)
         R = ends (pair_eq eq) (run_edges eps bytes) m none_held
 
-    -- repeats among the starts change nothing
+    -- repeats among the start states change nothing
     best-fresh : (i : ℕ) (f : N → List N) (xs : List N) → best eq eps bytes acc m i (flat_map f (fresh eq none_held xs)) ≡ best eq eps bytes acc m i (flat_map f xs)
     best-fresh i f xs =
         let R : ℕ × N → List (ℕ × N) = ends (pair_eq eq) (run_edges eps bytes) m none_held in
@@ -148,7 +149,8 @@ module _ {N : Type 0} {eq : N → N → Bool} (dec : (a b : N) → Decides (eq a
         ∙ find-flat_map_fresh p F none_held xs (λ x z. absurd (false≢true z))
         ∙ sym (ap (λ l. find p l) (turn xs))
 
-    -- the first accepting node is the best from the states before the first accepting one, or else that
+    -- the first accepting node is found from the states before the first accepting one, or else is
+    -- that one
     pub best_step : (i : ℕ) (rs : List N)
         → best eq eps bytes acc m i rs ≡ option_or (best eq eps bytes acc m (suc i) (flat_map (bytes i) (before acc (ordered eq (eps i) m none_held rs)))) (option_map (placed i) (find acc (ordered eq (eps i) m none_held rs)))
     best_step i rs =

@@ -1,4 +1,4 @@
--- A search over positions, from its searches at each position.
+-- A depth-first search over positions, split into a search at each position.
 use Rattle.std.specs.Bool.{Decides}
 use Rattle.std.specs.List.{flat_map}
 use Rattle.std.specs.Prelude.{◌==◌, nat_lt}
@@ -18,7 +18,7 @@ use Rattle.determinize_below.proofs.Tests.{by_test}
 abbrev pub pair_eq : {N : Type 0} → (N → N → Bool) → ℕ × N → ℕ × N → Bool
 pair_eq eq p q = (p.0 == q.0) && eq p.1 q.1
 
--- the states of a list that stand at a position
+-- the states of a list that are at a position
 abbrev pub states_at : {N : Type 0} → ℕ → List (ℕ × N) → List N
 states_at k [] = []
 states_at k (p ∷ ps) = cond (p.0 == k) (p.1 ∷ states_at k ps) (states_at k ps)
@@ -68,7 +68,7 @@ module _ {N : Type 0} {eq : N → N → Bool} (dec : (a b : N) → Decides (eq a
       (λ e. or_right (eq x s) (member (pair_eq eq) (map (placed j) xs) (j, s)) (member-map_placed j xs s (rw e at m))))
 
   module _ (eps bytes : ℕ → N → List N) where
-    -- a run does not go back to an earlier position
+    -- a run does not return to an earlier position
     states_at-ends_earlier : (n : ℕ) (held : ℕ × N → Bool) (k : ℕ) (p : ℕ × N) → k < p.0 → states_at k (ends (pair_eq eq) (run_edges eps bytes) n held p) ≡ []
     states_at-ends_earlier zero held k p l = refl
     states_at-ends_earlier (suc n) held k p l = by_test (held p)
@@ -85,7 +85,7 @@ module _ {N : Type 0} {eq : N → N → Bool} (dec : (a b : N) → Decides (eq a
         f : ℕ × N → List (ℕ × N)
         f = ends (pair_eq eq) (run_edges eps bytes) n (with_node (pair_eq eq) held p)
 
-    -- at its own position a run goes as a path of the graph there
+    -- at its first position a run is a path of epsilon transitions
     states_at-ends_own : (n : ℕ) (held : ℕ × N → Bool) (i : ℕ) (s : N)
         → states_at i (ends (pair_eq eq) (run_edges eps bytes) n held (i, s)) ≡ ends eq (eps i) n (λ t. held (i, t)) s
     states_at-ends_own zero held i s = refl
@@ -105,7 +105,7 @@ module _ {N : Type 0} {eq : N → N → Bool} (dec : (a b : N) → Decides (eq a
         f : ℕ × N → List (ℕ × N)
         f = ends (pair_eq eq) (run_edges eps bytes) n (with_node (pair_eq eq) held (i, s))
 
-    -- an edge does not lead to an earlier position
+    -- no edge goes to an earlier position
     pub placed_at : (j : ℕ) (xs : List N) (q : ℕ × N) → member (pair_eq eq) (map (placed j) xs) q ≡ true → j ≡ q.0
     placed_at j [] q m = absurd (false≢true m)
     placed_at j (x ∷ xs) q m = by_test (eqb j q.0)
@@ -121,7 +121,7 @@ module _ {N : Type 0} {eq : N → N → Bool} (dec : (a b : N) → Decides (eq a
         (λ z. let k : suc p.0 ≡ q.0 = placed_at (suc p.0) (bytes p.0 p.1) q z in lt-ltb i q.0 (omega arith))
         (λ z. let k : p.0 ≡ q.0 = placed_at p.0 (eps p.0 p.1) q (rw z at (sym e ∙ m)) in lt-ltb i q.0 (omega arith)))
 
-    -- what starts later may forget what was met
+    -- a run that starts at a later position is independent of the nodes visited before
     pub ends_forget : (n m : ℕ) (held : ℕ × N → Bool) (i : ℕ) (p : ℕ × N) → IsEnough (pair_eq eq) (run_edges eps bytes) n held p → IsEnough (pair_eq eq) (run_edges eps bytes) m none_held p
         → ((j : ℕ) (t : N) → i < j → held (j, t) ≡ false) → i < p.0
         → ends (pair_eq eq) (run_edges eps bytes) n held p ≡ ends (pair_eq eq) (run_edges eps bytes) m none_held p
@@ -139,7 +139,8 @@ module _ {N : Type 0} {eq : N → N → Bool} (dec : (a b : N) → Decides (eq a
     eps_in i s t m = member-append (Decides-pair_eq dec) (map (placed (suc i)) (bytes i s)) (map (placed i) (eps i s)) (i, t)
         ∙ or_right (member (pair_eq eq) (map (placed (suc i)) (bytes i s)) (i, t)) _ (member-map_placed i (eps i s) t m)
 
-    -- at a later position a run goes on from the byte steps of what it reaches at its own
+    -- at a later position a run continues from the byte steps of the states reached at its first
+    -- one
     states_at-ends_next : (n m : ℕ) (held : ℕ × N → Bool) (i k : ℕ) (s : N) → IsEnough (pair_eq eq) (run_edges eps bytes) n held (i, s)
         → ((p : ℕ × N) → IsEnough (pair_eq eq) (run_edges eps bytes) m none_held p) → ((j : ℕ) (t : N) → i < j → held (j, t) ≡ false) → i < k
         → states_at k (ends (pair_eq eq) (run_edges eps bytes) n held (i, s))
@@ -219,7 +220,8 @@ module _ {N : Type 0} {eq : N → N → Bool} (dec : (a b : N) → Decides (eq a
           ∙ runs_step d (suc i) k (flat_map (bytes i) (paths_at i rs)) (omega arith)
           ∙ ap (λ y. paths_at (suc k) (flat_map (bytes k) y)) (sym (runs_next i k rs (omega arith)))
 
-      -- the states of the next position are the search there from the byte steps of the states of this one
+      -- the states of the next position are those of the search from the byte steps of the states
+      -- of this one
       pub states_at-ordered_first : (i : ℕ) (rs : List N)
           → states_at i (ordered (pair_eq eq) (run_edges eps bytes) m none_held (map (placed i) rs)) ≡ ordered eq (eps i) m none_held rs
       unfolding runs paths_at

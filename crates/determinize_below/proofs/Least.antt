@@ -1,4 +1,4 @@
--- What a search lists stands in the order of the least paths.
+-- The nodes that a search lists are in the order of their least paths.
 use Rattle.std.specs.Bool.{Decides}
 use Rattle.std.specs.List.{flat_map}
 use Rattle.std.specs.Prelude.{Contains, slice_get}
@@ -71,7 +71,7 @@ module _ {N : Type 0} {eq : N → N → Bool} (dec : (a b : N) → Decides (eq a
           let r : (k : List ℕ) × LeastIn ps k y = ih j y e in
           (r.0, least_behind p ps r.0 y (λ z. true≢false (sym (or_left (eq p.1 y) (seen y) ((dec p.1 y).1 (sym z))) ∙ new_of (with_node eq seen p.1) (map (λ p. p.1) ps) j y e)) r.1)
 
-  -- the listed nodes stand in the order of their least paths
+  -- the listed nodes are in the order of their least paths
   fresh_by_least : (seen : N → Bool) (ps : List (List ℕ × N)) → Ascending ps → (i j : ℕ) (x y : N) → i < j
       → slice_get (fresh eq seen (map (λ p. p.1) ps)) i ≡ Some x → slice_get (fresh eq seen (map (λ p. p.1) ps)) j ≡ Some y
       → (k : List ℕ) × (l : List ℕ) × LeastIn ps k x × LeastIn ps l y × Before k l
@@ -162,7 +162,8 @@ module _ {N : Type 0} {eq : N → N → Bool} (dec : (a b : N) → Decides (eq a
         let free : member eq held s ≡ false = flat_map-member dec (ends eq edges n (member eq held)) roots s k (λ t l z. ends_not_held edges n (member eq held) t s z) in
         In_Contains dec _ s (member_In dec _ s (member-fresh dec (member eq held) (flat_map (ends eq edges n (member eq held)) roots) s ∙ rw (k, free) refl))
 
-    -- the list of the search is the list of the nodes that paths from the roots end in, in the order of the least paths
+    -- the list of the search has the nodes at the ends of paths from the roots, in the order of
+    -- their least paths
     pub ordered_in_order : IsInOrderOfReach edges held roots (ordered eq edges n (member eq held) roots)
     ordered_in_order = record {
       reached = λ s. ((λ c. reached_from s c), (λ h. reached_to s h.0 h.1));

@@ -1,4 +1,4 @@
--- The lists that a walk over positions records, and the whole search.
+-- The lists that a walk over positions records, compared with the search over whole runs.
 use Rattle.std.specs.Bool.{Decides}
 use Rattle.std.specs.List.{find, flat_map}
 use Rattle.std.specs.Option.{option_map, option_or}
@@ -16,19 +16,20 @@ use Rattle.determinize_below.proofs.Layers.{pair_eq, states_at, states_at-ordere
 use Rattle.determinize_below.proofs.Lists.{before-without, flat_map-without, flat_map_none}
 use Rattle.determinize_below.proofs.Redo.{ordered_redone_without}
 
--- the states at a position: the search there from the byte steps of the states before
+-- the states at a position: the search there from the byte steps of the previous states
 abbrev pub level : {N : Type 0} → (N → N → Bool) → (ℕ → N → List N) → (ℕ → N → List N) → ℕ → N → ℕ → List N
 level eq eps bytes n start zero = ordered eq (eps 0) n none_held (start ∷ [])
 level eq eps bytes n start (suc k) = ordered eq (eps (suc k)) n none_held (flat_map (bytes k) (level eq eps bytes n start k))
 
--- what is recorded: the states entered, under what was known then, without those of cap; the search is redone from them
+-- what is recorded: the states entered under the look-behind, without those of cap; the search is
+-- repeated from them
 abbrev pub recorded : {N : Type 0} → (N → N → Bool) → (ℕ → N → List N) → (ℕ → N → List N) → (ℕ → N → List N) → (N → Bool) → ℕ → N → ℕ → List N
 recorded eq known eps bytes cap n start zero = without cap (ordered eq (known 0) n none_held (start ∷ []))
 recorded eq known eps bytes cap n start (suc k) =
     without cap (ordered eq (known (suc k)) n none_held
     (flat_map (bytes k) (ordered eq (eps k) n none_held (recorded eq known eps bytes cap n start k))))
 
--- the states at a position, where at the last position alone what was known then counts
+-- the states at a position, where the last position has only the look-behind
 abbrev pub known_level : {N : Type 0} → (N → N → Bool) → (ℕ → N → List N) → (ℕ → N → List N) → (ℕ → N → List N) → ℕ → N → ℕ → List N
 known_level eq known eps bytes n start zero = ordered eq (known 0) n none_held (start ∷ [])
 known_level eq known eps bytes n start (suc k) = ordered eq (known (suc k)) n none_held (flat_map (bytes k) (level eq eps bytes n start k))
@@ -45,7 +46,7 @@ recorded_cut eq known eps bytes cap acc n start (suc k) =
     without cap (ordered eq (known (suc k)) n none_held
     (flat_map (bytes k) (before acc (ordered eq (eps k) n none_held (recorded_cut eq known eps bytes cap acc n start k)))))
 
--- the last accepting state among the positions from k on, d of them after it
+-- the last accepting state of the positions k to k + d
 abbrev pub last_accepting : {N : Type 0} → (ℕ → List N) → (N → Bool) → ℕ → ℕ → Option (ℕ × N)
 last_accepting lists acc zero k = option_map (placed k) (find acc (lists k))
 last_accepting lists acc (suc d) k = option_or (last_accepting lists acc d (suc k)) (option_map (placed k) (find acc (lists k)))
@@ -67,7 +68,8 @@ module _ {N : Type 0} {eq : N → N → Bool} (dec : (a b : N) → Decides (eq a
       redone : (i : ℕ) (roots : List N) → without cap (ordered eq (eps i) n none_held (without cap (ordered eq (known i) n none_held roots))) ≡ without cap (ordered eq (eps i) n none_held roots)
       redone i roots = ordered_redone_without dec (known i) (eps i) (sub i) n cap next (one i) (one_more i) n roots (enough_known i) (enough i)
 
-      -- what is recorded is what was reached under what was known, and redone it is what was reached
+      -- the recorded list is the search under the look-behind, and the search repeated from it is
+      -- the search under the true assertions
       pub recorded_is : (k : ℕ) → (recorded eq known eps bytes cap n start k ≡ without cap (known_level eq known eps bytes n start k))
           × (without cap (ordered eq (eps k) n none_held (recorded eq known eps bytes cap n start k)) ≡ without cap (level eq eps bytes n start k))
       recorded_is zero = (refl, redone 0 (start ∷ []))
@@ -95,7 +97,7 @@ module _ {N : Type 0} {eq : N → N → Bool} (dec : (a b : N) → Decides (eq a
             ap (λ l. without cap (ordered eq (eps (suc k)) n none_held (without cap (ordered eq (known (suc k)) n none_held l)))) targets
             ∙ redone (suc k) (flat_map (bytes k) (before acc L))
 
-        -- the cut lists are beginnings of the others
+        -- the cut lists are prefixes of the others
         pub recorded_cut_begins : (k : ℕ) → IsBeginning (recorded_cut eq known eps bytes cap acc n start k) (recorded eq known eps bytes cap n start k)
         recorded_cut_begins zero = Beginning-self _
         recorded_cut_begins (suc k) =
@@ -118,7 +120,7 @@ module _ {N : Type 0} {eq : N → N → Bool} (dec : (a b : N) → Decides (eq a
         ∙ ap (λ o. option_or o (option_map (placed k) (find acc (level_cut eq eps bytes acc n start k))))
         (best_is_last acc enough m stop d (suc k) (omega arith) (flat_map (bytes k) (before acc (level_cut eq eps bytes acc n start k))) refl)
 
--- a level goes by the edges up to its position alone
+-- a level depends only on the edges up to its position
 level-agree : {N : Type 0} (eq : N → N → Bool) (eps more bytes : ℕ → N → List N) (n : ℕ) (start : N) (k : ℕ) → ((j : ℕ) → j ≤ k → eps j ≡ more j) → level eq eps bytes n start k ≡ level eq more bytes n start k
 level-agree eq eps more bytes n start zero h = ap (λ e. ordered eq e n none_held (start ∷ [])) (h 0 (omega arith))
 level-agree eq eps more bytes n start (suc k) h =

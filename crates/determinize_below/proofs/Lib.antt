@@ -23,6 +23,7 @@ pub mod Preferred
 pub mod ReachLemmas
 pub mod Redo
 pub mod Rows
+pub mod ReversedLooks
 pub mod RunFuel
 pub mod RunLists
 pub mod SearchSteps

@@ -1,4 +1,5 @@
--- Laws of lists: pieces, the first that passes, what stands before it, what is left out.
+-- Laws of lists: concatenation, the first element that passes a test, the elements before it, and
+-- filters.
 use Rattle.std.specs.List.{filter, find, flat_map, list_any}
 use Rattle.std.specs.Option.{option_map, option_or}
 use mathlib.Core.Path.{fun_ext}

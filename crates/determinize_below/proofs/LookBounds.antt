@@ -1,3 +1,4 @@
+-- The bits of assertions are below 2^18, and so are unions of sets.
 use Rattle.std.proofs.Common.{ℕ, ◌<◌, ◌^◌, bit_or, lit<}
 use Rattle.std.proofs.lemmas.Nat.{or_lt}
 use Rattle.determinize_below.specs.Look.{bit_of}

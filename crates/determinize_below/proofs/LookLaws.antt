@@ -1,3 +1,4 @@
+-- Assertions and sets of them as numbers: members, equality, emptiness and classes.
 use Rattle.std.proofs.Common.{◌≡◌, ℕ, get_or, ◌<◌, ◌^◌, ◌*◌, ◌-◌, ◌⊎◌, inl, inr, Bool, true, false, not, max, min, nat_eq, bit_and, bit_or, lit<, refl, arith, ◌∙◌, sym, ap, eq-eqb}
 use Rattle.std.specs.Int.{bit_at, bit_not, w32}
 use mathlib.Core.Bool.{◌&&◌, ◌||◌}
@@ -35,7 +36,7 @@ index_of WordEndHalfAscii = 15
 index_of WordStartHalfUnicode = 16
 index_of WordEndHalfUnicode = 17
 
--- its bit is the power of its number
+-- its bit is 2 to the power of its number
 bit_is : (l : Look) → bit_of l ≡ 2 ^ index_of l
 unfolding index_of
 bit_is Start = refl
@@ -100,7 +101,7 @@ each_look-at WordEndHalfAscii = refl
 each_look-at WordStartHalfUnicode = refl
 each_look-at WordEndHalfUnicode = refl
 
--- what holds at the index of each assertion holds at each number below 18
+-- a property of the index of each assertion is one of each number below 18
 at_indices : (P : ℕ → Type 0) → ((l : Look) → P (index_of l)) → (i : ℕ) → i < 18 → P i
 unfolding index_of
 at_indices P h = (below_more P 17 (below_more P 16 (below_more P 15 (below_more P 14 (below_more P 13 (below_more P 12 (below_more P 11 (below_more P 10 (below_more P 9 (below_more P 8 (below_more P 7 (below_more P 6 (below_more P 5 (below_more P 4 (below_more P 3 (below_more P 2 (below_more P 1 (below_more P 0 (below_none P) (h Start)) (h End)) (h StartLF)) (h EndLF)) (h StartCRLF)) (h EndCRLF)) (h WordAscii)) (h WordAsciiNegate)) (h WordUnicode)) (h WordUnicodeNegate)) (h WordStartAscii)) (h WordEndAscii)) (h WordStartUnicode)) (h WordEndUnicode)) (h WordStartHalfAscii)) (h WordEndHalfAscii)) (h WordStartHalfUnicode)) (h WordEndHalfUnicode))
@@ -143,7 +144,7 @@ has-subtract a b l h =
 pub has-empty : (l : Look) → has 0 l ≡ false
 has-empty l = rw (has-bit 0 l, bit_at-zero (index_of l))
 
--- whether two assertions are one
+-- whether two assertions are equal
 unfoldable pub same : Look → Look → Bool
 same l k = nat_eq (index_of l) (index_of k)
 
@@ -204,13 +205,13 @@ each_look-any test l h = list_any_at test each_look (index_of l) Start (index_sm
 test_tells : (x y : ℕ) → x < 2 → y < 2 → nat_eq x 1 ≡ nat_eq y 1 → x ≡ y
 test_tells x y h k e = grind arith
 
--- two sets with the same members are one number
+-- two sets with the same members are the same number
 pub same_sets : (a b : ℕ) → a < 2 ^ 18 → b < 2 ^ 18 → ((l : Look) → has a l ≡ has b l) → a ≡ b
 same_sets a b h k same_members =
     same_from_bits_below 18 a b h k
     (at_indices (λ i. bit_at a i ≡ bit_at b i) (λ l. test_tells _ _ (bit_at-lt a (index_of l)) (bit_at-lt b (index_of l)) (sym (has-bit a l) ∙ same_members l ∙ has-bit b l)))
 
--- a set is empty where it has no member
+-- a set is empty if and only if it has no member
 pub Decides-empty : (s : ℕ) → s < 2 ^ 18 → Decides (nat_eq s 0) ((l : Look) → has s l ≡ false)
 Decides-empty s h = (
   λ e l. ap (λ a. has a l) (eqb-true s 0 e) ∙ has-empty l,

@@ -1,4 +1,4 @@
--- Two sets meet where they have a common member.
+-- Two sets meet if and only if they have a common member.
 use Rattle.std.proofs.Common.{◌≡◌, ℕ, ◌<◌, ◌^◌, Bool, true, false, not, nat_eq, bit_and, sym, ap, ◌∙◌, refl, arith, lit<}
 use mathlib.Core.Bool.{◌&&◌}
 use mathlib.Core.Path.{fun_ext}
@@ -11,7 +11,7 @@ use Rattle.determinize_below.proofs.Tests.{by_test}
 use Rattle.determinize_below.proofs.LookLaws.{has-intersect, has-empty, same_sets, each_look-any}
 use Rattle.determinize_below.specs.declared.look.Look.{Look}
 
--- two sets that don't meet have no common member
+-- two sets that do not meet have no common member
 pub meets-none : (a b : ℕ) (l : Look) → meets a b ≡ false → (has a l && has b l) ≡ false
 unfolding meets
 meets-none a b l h = sym (has-intersect a b l) ∙ ap (λ s. has s l) (empty _ h) ∙ has-empty l
@@ -35,7 +35,7 @@ meets_zero : (a b : ℕ) → bit_and a b ≡ 0 → meets a b ≡ false
 unfolding meets
 meets_zero a b h = rw h
 
--- two sets meet where some assertion is in both
+-- two sets meet if some assertion is in both
 pub meets-some : (a b : ℕ) → bit_and a b < 2 ^ 18 → meets a b ≡ list_any (λ l. has a l && has b l) each_look
 meets-some a b h = by_test (meets a b)
     (λ e. by_test (list_any (λ l. has a l && has b l) each_look) (λ k. e ∙ sym k) (λ k. absurd (both_ways _ (empty (each_look-false _ k)) e)))
@@ -53,7 +53,7 @@ and_true a = grind arith
 and_false : (a : Bool) → (a && false) ≡ false
 and_false a = and_right a false refl
 
--- a class is there where some member of it is
+-- a set meets a class if and only if some member of the class is in the set
 pub has-haystack : (set : ℕ) → has_haystack set ≡ list_any (has set) haystack_looks
 unfolding has
 has-haystack set = class_is set 0x3 (lit< tt) ∙ simp (and_true, and_false)

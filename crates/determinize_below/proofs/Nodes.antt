@@ -1,4 +1,4 @@
--- Graphs on numbers.
+-- Graphs on numbers below a bound.
 use Rattle.std.specs.Bool.{Decides}
 use Rattle.std.specs.Prelude.{nat_eq}
 use Rattle.std.proofs.Common.{◌&&◌, ◌<◌, Bool, List, [], ap, arith, false, length, not, refl, suc, sym, true, zero, ℕ, ◌∙◌, ◌∷◌, ◌≡◌, ◌≤◌}
@@ -26,7 +26,7 @@ pub length_below : (n : ℕ) → length (nodes_below n) ≡ n
 length_below zero = refl
 length_below (suc n) = ap suc (length_below n)
 
--- fuel one above the count of the nodes that edges lead to is enough from any node
+-- fuel one above the bound is enough from any node
 pub IsEnough-below : (edges : ℕ → List ℕ) (count : ℕ) → LeadsBelow edges count → (x : ℕ) → IsEnough nat_eq edges (suc count) none_held x
 IsEnough-below edges count h x = λ e t k.
     let l : length (nodes_below count) ≡ count = length_below count in
@@ -34,7 +34,7 @@ IsEnough-below edges count h x = λ e t k.
     IsEnough-from_count same_decides edges (nodes_below count) (λ a b p q. below_member count b (h a b q)) count (with_node nat_eq none_held x) t (omega arith)
     (below_member count t (h x t k))
 
--- where each node weighs one, all weigh the length
+-- where each node has weight one, the weight is the length
 pub weight_ones : {A : Type 0} (xs : List A) → weight (λ x. 1) none_held xs ≡ length xs
 weight_ones [] = refl
 weight_ones (x ∷ xs) = let h : weight (λ x. 1) none_held xs ≡ length xs = weight_ones xs in omega arith

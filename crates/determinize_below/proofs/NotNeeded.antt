@@ -1,4 +1,4 @@
--- Where more edges add none at what a search listed, the search need not be redone.
+-- A closure need not be computed again if more edges add none at the nodes it listed.
 use Rattle.std.specs.Bool.{Decides}
 use Rattle.std.specs.List.{flat_map}
 use Rattle.std.proofs.Common.{◌&&◌, Bool, List, [], ap, arith, false, sym, true, ◌||◌, ℕ, ◌∙◌, ◌∷◌, ◌≡◌}
@@ -11,14 +11,14 @@ use Rattle.determinize_below.proofs.Sets.{flat_map-agree, flat_map-member, membe
 use Rattle.determinize_below.proofs.Tests.{by_test, or_false}
 
 module _ {N : Type 0} {eq : N → N → Bool} (dec : (a b : N) → Decides (eq a b) (a ≡ b)) where
-  -- what roots reach is closed
+  -- the nodes reached from roots are closed
   pub roots_closed : (edges : N → List N) (n : ℕ) (roots : List N) → ((x : N) → IsEnough eq edges n none_held x) → IsClosed eq edges (member eq (flat_map (ends eq edges n none_held) roots)) none_held
   roots_closed edges n roots a x y m k =
       flat_map-member dec (ends eq edges n none_held) roots x m (λ r l z.
       let w : (member eq (ends eq edges n none_held r) y || false) ≡ true = ends_closed dec edges n none_held r (a r) x y z k in
       or_left _ false (member-flat_map dec (ends eq edges n none_held) roots r y l (or_false (member eq (ends eq edges n none_held r) y) w)))
 
-  -- the same edges at all that is listed: the same list
+  -- the same edges at all listed nodes: the same list
   ordered-same_edges : (edges more : N → List N) (n : ℕ) (roots : List N) → ((x : N) → IsEnough eq edges n none_held x)
       → ((x : N) → member eq (ordered eq edges n none_held roots) x ≡ true → edges x ≡ more x) → ordered eq edges n none_held roots ≡ ordered eq more n none_held roots
   ordered-same_edges edges more n roots a h =
@@ -32,7 +32,8 @@ module _ {N : Type 0} {eq : N → N → Bool} (dec : (a b : N) → Decides (eq a
       both : (b : Bool) → b ≡ true → (b && true) ≡ true
       both b h = grind arith
 
-  -- where each listed node outside cap has the same edges, the recorded list stands for the list redone from it
+  -- where each listed node outside cap has the same edges, the recorded list is the list computed
+  -- again from it
   pub not_redone : (edges more : N → List N) → ((x y : N) → member eq (edges x) y ≡ true → member eq (more x) y ≡ true) → (n : ℕ) (cap : N → Bool) (next : N → N)
       → ((x : N) → cap x ≡ true → edges x ≡ next x ∷ []) → ((x : N) → cap x ≡ true → more x ≡ next x ∷ [])
       → (roots : List N) → ((x : N) → IsEnough eq edges n none_held x) → ((x : N) → IsEnough eq more n none_held x)

@@ -1,4 +1,4 @@
--- The enumerated paths are the paths, in their order.
+-- The enumerated paths are all loop-free paths, in lexicographic order.
 use Rattle.std.specs.Bool.{Decides}
 use Rattle.std.specs.List.{flat_map}
 use Rattle.std.specs.Prelude.{Contains, slice_get}
@@ -12,7 +12,7 @@ use Rattle.determinize_below.proofs.Ends.{IsEnough}
 use Rattle.determinize_below.proofs.Lists.{flat_map-same}
 use Rattle.determinize_below.proofs.Tests.{by_test}
 
--- a path's numbers and its end, after one more number
+-- a path with its end, after one more edge number
 abbrev pub step : {N : Type 0} → ℕ → List ℕ × N → List ℕ × N
 step i p = (i ∷ p.0, p.1)
 
@@ -27,7 +27,7 @@ paths eq edges zero held r = []
 paths eq edges (suc n) held r =
     cond (held r) [] (([], r) ∷ branches (paths eq edges n (with_node eq held r)) 0 (edges r))
 
--- each element is before each later one
+-- each element precedes all later ones
 abbrev pub Ascending : {N : Type 0} → List (List ℕ × N) → Type 0
 Ascending [] = Unit {0}
 Ascending {N} (p ∷ ps) = ((q : List ℕ × N) → In q ps → Before p.0 q.0) × Ascending ps
@@ -106,7 +106,7 @@ module _ {N : Type 0} {eq : N → N → Bool} (dec : (a b : N) → Decides (eq a
         Ascending-branches (paths eq edges n (with_node eq held r)) 0 (edges r) (λ t. Ascending-paths edges n (with_node eq held r) t),
       ))
 
-  -- what is listed is a path
+  -- each listed pair is a path with its end
   pub path_from_listed : (edges : N → List N) (n : ℕ) (held : List N) (r : N) (p : List ℕ × N) → In p (paths eq edges n (member eq held) r) → IsPath edges held r p.0 p.1
   path_from_listed edges zero held r p h = absurd (let k : Some p ≡ None = sym h.1 in cc)
   path_from_listed edges (suc n) held r p h = by_test (member eq held r)

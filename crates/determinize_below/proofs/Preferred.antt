@@ -1,4 +1,4 @@
--- The first accepting node of a search ends the most preferred run.
+-- The first accepting node of a search is the end of the most preferred run.
 use Rattle.std.specs.Bool.{Decides}
 use Rattle.std.specs.List.{find, flat_map}
 use Rattle.std.proofs.Common.{Bool, List, None, Some, [], ap, arith, false, inl, inr, map, refl, subst, suc, sym, true, zero, ℕ, ◌∙◌, ◌∷◌, ◌≡◌, ◌⊎◌}
@@ -12,7 +12,7 @@ use Rattle.determinize_below.proofs.Least.{all_ends, all_in_order, all_paths, li
 use Rattle.determinize_below.proofs.PathLists.{Ascending}
 use Rattle.determinize_below.proofs.Tests.{by_cases, by_test}
 
--- a run to an accepting node, before which no other such run stands
+-- a run to an accepting node that no other such run precedes
 pub record IsMostPreferred {N : Type 0} (edges : N → List N) (start : N) (accepts : N → Bool) (s : N) : Type 0 where
   pub choices : List ℕ
   pub run : IsPath edges [] start choices s
@@ -25,7 +25,7 @@ run_of edges start [] s h k = absurd h
 run_of edges start (zero ∷ ds) s h k = k ds refl (let g : Some start ≡ Some h.0 = h.1 in let e : start ≡ h.0 = cc in rw (← e) at h.2)
 run_of edges start (suc i ∷ ds) s h k = absurd (let g : None ≡ Some h.0 = h.1 in cc)
 
--- after the same first number, the order is that of the others
+-- after the same first number, the order is that of the rest
 pub same_root : (cs ds : List ℕ) → (0 ∷ cs ≡ 0 ∷ ds) ⊎ Before (0 ∷ cs) (0 ∷ ds) → (cs ≡ ds) ⊎ Before cs ds
 same_root cs ds h = by_cases h
     (λ e. inl cc)
@@ -43,7 +43,7 @@ least_run_of {N} edges start cs s h = run_of edges start cs s h.path (λ ds e p.
 ))
 
 module _ {N : Type 0} {eq : N → N → Bool} (dec : (a b : N) → Decides (eq a b) (a ≡ b)) where
-  -- the first accepting end of ascending paths is that of the least of them
+  -- the first accepting end of sorted paths is that of the least of them
   first_least : (acc : N → Bool) (ps : List (List ℕ × N)) → Ascending ps → (s : N) → find acc (map (λ p. p.1) ps) ≡ Some s
       → (k : List ℕ) × In (k, s) ps × (acc s ≡ true) × ((l : List ℕ) (t : N) → In (l, t) ps → acc t ≡ true → (k ≡ l) ⊎ Before k l)
   first_least acc [] a s e = absurd (let k : Some s ≡ None = sym e in cc)
@@ -69,7 +69,7 @@ module _ {N : Type 0} {eq : N → N → Bool} (dec : (a b : N) → Decides (eq a
       (λ m. first_none acc ps (rw q at e) l t m))
 
   module _ (edges : N → List N) (n : ℕ) (start : N) (a : (r : N) → IsEnough eq edges n none_held r) (acc : N → Bool) where
-    -- the first accepting node of the search ends the most preferred run
+    -- the first accepting node of the search is the end of the most preferred run
     pub first_is_preferred : (s : N) → find acc (flat_map (ends eq edges n none_held) (start ∷ [])) ≡ Some s → IsMostPreferred edges start acc s
     first_is_preferred s e =
         let w : find acc (map (λ p. p.1) (all_paths dec edges n [] (start ∷ []) a)) ≡ Some s = ap (λ l. find acc l) (all_ends dec edges n [] (start ∷ []) a) ∙ e in
@@ -83,7 +83,7 @@ module _ {N : Type 0} {eq : N → N → Bool} (dec : (a b : N) → Decides (eq a
               (subst (λ y. (y ≡ 0 ∷ ds) ⊎ Before y (0 ∷ ds)) z (r.3 (0 ∷ ds) t (listed_of dec edges n [] (start ∷ []) a (0 ∷ ds) t (start, refl, q)) k));
         })
 
-    -- where it has no accepting node, no run has
+    -- if the search has no accepting node, no run has
     pub first_none_preferred : find acc (flat_map (ends eq edges n none_held) (start ∷ [])) ≡ None → (ds : List ℕ) (t : N) → IsPath edges [] start ds t → acc t ≡ false
     first_none_preferred e ds t p =
         let w : find acc (map (λ p. p.1) (all_paths dec edges n [] (start ∷ []) a)) ≡ None = ap (λ l. find acc l) (all_ends dec edges n [] (start ∷ []) a) ∙ e in

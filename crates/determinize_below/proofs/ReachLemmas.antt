@@ -1,4 +1,4 @@
--- The law of reach.
+-- The laws of the depth-first search.
 use Rattle.std.specs.Prelude.{nat_eq}
 use Rattle.std.proofs.Common.{◌+◌, List, [], arith, length, refl, subst, suc, ℕ, ◌≡◌}
 use Rattle.std.proofs.lemmas.Bool.{false≢true}
@@ -31,7 +31,7 @@ each_reach_is_one edges count h held roots xs is = one_order same_decides edges 
 pub each_reach_is_in_turn : EachReachIsInTurn
 each_reach_is_in_turn edges count h held roots = ordered_in_turn same_decides edges (count + 1) (enough edges count h []) held roots
 
--- the same of an accepted NFA, whose edges lead to its states
+-- the laws for a valid NFA, whose edges go to its states
 pub each_nfa_reach_is_in_order : EachNfaReachIsInOrder
 unfolding reach_past
 each_nfa_reach_is_in_order nfa accepted holds = each_reach_is_in_order (edges nfa holds) (length nfa.states) ((accepted_sound nfa accepted).resolves holds)

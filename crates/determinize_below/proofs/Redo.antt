@@ -1,4 +1,5 @@
--- A search redone from what an earlier search listed, under more edges.
+-- A closure that is computed again, under more edges, from what an earlier closure listed. It lists
+-- the same nodes, captures aside, in the same order, as the closure of the roots under all edges.
 use Rattle.std.specs.Bool.{Decides}
 use Rattle.std.specs.List.{filter, flat_map}
 use mathlib.Core.Path.{fun_ext}
@@ -24,7 +25,7 @@ module _ {N : Type 0} {eq : N → N → Bool} (dec : (a b : N) → Decides (eq a
       ∙ ap (λ l. flat_map (ends eq more n (with_node eq held r)) l) (s r i))
 
   module _ (edges more : N → List N) (sub : (x y : N) → member eq (edges x) y ≡ true → member eq (more x) y ≡ true) (m : ℕ) where
-    -- what a search under more edges reaches from what r reaches lies in what it reaches from r
+    -- a node reached under more edges from what r reaches is reached under them from r
     ends_redone_within : (n : ℕ) (r x y : N) (held : N → Bool) → IsEnough eq more m none_held r → member eq (ends eq edges n held r) x ≡ true → member eq (ends eq more m none_held x) y ≡ true → member eq (ends eq more m none_held r) y ≡ true
     ends_redone_within n r x y held a k l =
         let v : N → Bool = member eq (ends eq more m none_held r) in
@@ -32,7 +33,7 @@ module _ {N : Type 0} {eq : N → N → Bool} (dec : (a b : N) → Decides (eq a
         let x_in : v x ≡ true = ends_within dec edges n v none_held held r x (λ p q u w. c p q u (sub p q w)) (λ p f. absurd (false≢true f)) (ends_self dec more m none_held r a) k in
         ends_within dec more m v none_held none_held x y c (λ p f. f) (or_left (v x) false x_in) l
 
-    -- the nodes of cap have one edge, the same one, and are left out
+    -- the nodes of cap have one edge, the same one under both, and are left out
     module _ (cap : N → Bool) (next : N → N) (one : (x : N) → cap x ≡ true → edges x ≡ next x ∷ []) (one_more : (x : N) → cap x ≡ true → more x ≡ next x ∷ []) where
       -- a node of cap lists itself and what its one successor lists
       ends_skipped : (r : N) → cap r ≡ true → eq r (next r) ≡ false → IsEnough eq more m none_held r → IsEnough eq more m none_held (next r)
@@ -80,7 +81,8 @@ module _ {N : Type 0} {eq : N → N → Bool} (dec : (a b : N) → Decides (eq a
               turn : (a b : Bool) → (a || (b || false)) ≡ (b || (a || false))
               turn a b = grind arith
 
-      -- what is left of a search without the nodes of cap leads to the same other nodes, in the same order
+      -- what a search lists without the nodes of cap reaches the same other nodes, in the same
+      -- order
       ends_redone_without : (k : ℕ) (held : N → Bool) (r : N) → IsEnough eq edges k held r → held r ≡ false → ((x : N) → IsEnough eq more m none_held x)
           → ((x : N) → held x ≡ true → cap x ≡ true) → ((x : N) → held x ≡ true → (eq r (next x) || held (next x)) ≡ true)
           → Alike eq cap (flat_map (ends eq more m none_held) (filter (λ x. not (cap x)) (ends eq edges k held r))) (ends eq more m none_held r)
@@ -145,7 +147,7 @@ module _ {N : Type 0} {eq : N → N → Bool} (dec : (a b : N) → Decides (eq a
                   let g : next x ≡ y = (dec (next x) y).0 (or_false (eq (next x) y) (rw (one_more x (c x i)) at w)) in
                   rw (← g) (d x i)))
 
-      -- the search redone from what an earlier one listed, both without the nodes of cap
+      -- the search repeated from what an earlier one listed, both without the nodes of cap
       pub ordered_redone_without : (n : ℕ) (roots : List N) → ((x : N) → IsEnough eq edges n none_held x) → ((x : N) → IsEnough eq more m none_held x)
           → filter (λ x. not (cap x)) (ordered eq more m none_held (filter (λ x. not (cap x)) (ordered eq edges n none_held roots))) ≡ filter (λ x. not (cap x)) (ordered eq more m none_held roots)
       ordered_redone_without n roots a b =

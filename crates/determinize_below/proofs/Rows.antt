@@ -1,14 +1,14 @@
--- Worked rows, computed.
+-- Three examples of the depth-first search, computed.
 use Rattle.std.specs.Prelude.{nat_eq}
 use Rattle.std.proofs.Common.{[], refl, ◌∷◌, ◌≡◌}
 use Rattle.determinize_below.specs.Reach.{member, none_held, ordered}
 use Rattle.determinize_below.specs.ReachLaws.{small_graph}
 
--- the edges of a node go before its sisters, and the cycle ends
+-- the edges of a node are searched before its siblings, and the cycle ends
 pub row : ordered nat_eq small_graph 5 none_held (0 ∷ []) ≡ 0 ∷ 1 ∷ 2 ∷ 3 ∷ []
 row = refl
 
--- a held node is not passed
+-- a visited node is not passed
 pub row_held : ordered nat_eq small_graph 5 (member nat_eq (1 ∷ [])) (0 ∷ []) ≡ 0 ∷ 3 ∷ []
 row_held = refl
 

@@ -1,4 +1,4 @@
--- Fuel for runs over positions, from fuel at each position.
+-- Fuel for runs over positions, given fuel at each position.
 use Rattle.std.specs.Bool.{Decides}
 use mathlib.Core.Path.{fun_ext}
 use Rattle.std.proofs.Common.{◌&&◌, ◌+◌, ◌++◌, Bool, List, [], arith, eqb, false, map, refl, subst, suc, sym, true, zero, ◌||◌, ℕ, ◌∙◌, ◌∷◌, ◌≡◌, ◌≤◌}
@@ -11,7 +11,7 @@ use Rattle.determinize_below.proofs.Layers.{Decides-pair_eq, eps_in, pair_eq, pl
 use Rattle.determinize_below.proofs.Sets.{member-append}
 use Rattle.determinize_below.proofs.Tests.{by_test}
 
--- fuel for all runs: so much at each of the positions up to the last
+-- fuel for all runs: the same amount at each position up to the last
 abbrev pub run_fuel : ℕ → ℕ → ℕ
 run_fuel c zero = c
 run_fuel c (suc d) = c + run_fuel c d
@@ -28,7 +28,7 @@ module _ {N : Type 0} {eq : N → N → Bool} (dec : (a b : N) → Decides (eq a
         let r : IsEnough eq (eps i) n (λ u. with_node (pair_eq eq) held (i, s) (i, u)) t = IsEnough-at n (with_node (pair_eq eq) held (i, s)) i t (a e (i, t) (eps_in dec eps bytes i s t k)) in
         rw (with_node-at held i s) at r
 
-    -- an edge of a run is over a byte or stays
+    -- an edge of a run is over a byte or stays at the position
     run_edge_cases : {P : Type 0} (i : ℕ) (s : N) (q : ℕ × N) → member (pair_eq eq) (run_edges eps bytes (i, s)) q ≡ true
         → ((t : N) → member eq (bytes i s) t ≡ true → q ≡ (suc i, t) → P) → ((t : N) → member eq (eps i s) t ≡ true → q ≡ (i, t) → P) → P
     run_edge_cases {P} i s q m f g =
@@ -62,7 +62,7 @@ module _ {N : Type 0} {eq : N → N → Bool} (dec : (a b : N) → Decides (eq a
         (λ t k w. subst (λ p. IsEnough (pair_eq eq) (run_edges eps bytes) (a + b) (with_node (pair_eq eq) held (i, s)) p) (sym w)
         (IsEnough-next a b (with_node (pair_eq eq) held (i, s)) i t (rw (with_node-at held i s) (h e t k)) f)))
 
-    -- where no byte leads on, the fuel at the position is enough
+    -- where there is no step over a byte, the fuel at the position is enough
     IsEnough-stay : (a : ℕ) (held : ℕ × N → Bool) (i : ℕ) (s : N) → ((t : N) → bytes i t ≡ []) → IsEnough eq (eps i) a (λ t. held (i, t)) s
         → IsEnough (pair_eq eq) (run_edges eps bytes) a held (i, s)
     IsEnough-stay zero held i s stop h = h

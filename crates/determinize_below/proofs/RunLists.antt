@@ -50,7 +50,7 @@ Earlier-states_at {N} k (p ∷ ps) i j s t l a b = by_test (p.0 == k)
     go e (suc i) (suc j) l a b ih = Earlier_tail ps (k, s) (k, t) p (ih i j s t (omega arith) a b)
 
 module _ {N : Type 0} {eq : N → N → Bool} (dec : (a b : N) → Decides (eq a b) (a ≡ b)) (eps bytes : ℕ → N → List N) (n : ℕ) (start : N) (enough : (p : ℕ × N) → IsEnough (pair_eq eq) (run_edges eps bytes) n none_held p) where
-  -- the states of a position, without those of cap, of all pairs in the order of reach
+  -- the states of a position, without those of cap, of all pairs in the order of least runs
   lists_reached : (cap : N → Bool) (k : ℕ) (all : List (ℕ × N)) → IsInOrderOfReach (run_edges eps bytes) [] ((0, start) ∷ []) all → ListsReached (run_edges eps bytes) cap start k (without cap (states_at k all))
   lists_reached cap k all is = record {
     reached = λ s. (
@@ -80,14 +80,14 @@ module _ {N : Type 0} {eq : N → N → Bool} (dec : (a b : N) → Decides (eq a
       twice : (s : N) → Earlier all (k, s) (k, s) → ⊥
       twice s r = let e : r.0 ≡ r.1 = is.once r.0 r.1 (k, s) r.3 r.4 in let l : r.0 < r.1 = r.2 in omega arith
 
-  -- the states of a position, without those of cap, stand in the order of the least runs
+  -- the states of a position, without those of cap, are in the order of their least runs
   pub level_lists_reached : (cap : N → Bool) (k : ℕ) → ListsReached (run_edges eps bytes) cap start k (without cap (level eq eps bytes n start k))
   level_lists_reached cap k =
       let all : List (ℕ × N) = ordered (pair_eq eq) (run_edges eps bytes) n none_held ((0, start) ∷ []) in
       let e : states_at k all ≡ level eq eps bytes n start k = level_is dec eps eps bytes n start enough k in
       rw (← e) (lists_reached cap k all (ordered_in_order (Decides-pair_eq dec) (run_edges eps bytes) n [] ((0, start) ∷ []) enough))
 
-  -- the last accepting state of the cut lists ends the most preferred accepting run
+  -- the last accepting state of the cut lists is the end of the most preferred accepting run
   pub last_is_preferred : (acc : N → Bool) (m : ℕ) → ((x : N) → bytes m x ≡ []) → (p : ℕ × N)
       → last_accepting (level_cut eq eps bytes acc n start) acc m 0 ≡ Some p
       → IsMostPreferred (run_edges eps bytes) (0, start) (λ q. acc q.1) p
@@ -95,7 +95,7 @@ module _ {N : Type 0} {eq : N → N → Bool} (dec : (a b : N) → Decides (eq a
       let b : best eq eps bytes acc n 0 (start ∷ []) ≡ Some p = best_is_last dec eps eps bytes n start acc enough m stop m 0 (omega arith) (start ∷ []) refl ∙ e in
       first_is_preferred (Decides-pair_eq dec) (run_edges eps bytes) n (0, start) enough (λ q. acc q.1) p b
 
-  -- where no cut list accepts, no run does
+  -- if no cut list accepts, no run does
   pub last_none : (acc : N → Bool) (m : ℕ) → ((x : N) → bytes m x ≡ []) → last_accepting (level_cut eq eps bytes acc n start) acc m 0 ≡ None
       → (ds : List ℕ) (q : ℕ × N) → IsPath (run_edges eps bytes) [] (0, start) ds q → acc q.1 ≡ false
   last_none acc m stop e ds q h =

@@ -52,7 +52,7 @@ module _ {N : Type 0} {eq : N → N → Bool} (dec : (a b : N) → Decides (eq a
         let j : length (edges r ++ rs) ≡ length (edges r) + length rs = length-append (edges r) rs in
         omega arith
 
-    -- what earlier roots reach counts as held for the later ones
+    -- nodes reached from earlier roots count as visited for the later ones
     pub ordered-append : (held : N → Bool) (rs ss : List N)
         → ordered eq edges n held (rs ++ ss) ≡ ordered eq edges n held rs ++ ordered eq edges n (joined (member eq (ordered eq edges n held rs)) held) ss
     ordered-append held rs ss =

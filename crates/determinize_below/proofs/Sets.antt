@@ -1,4 +1,4 @@
--- Laws of sets as tests, and of the list of the new nodes.
+-- Sets as tests, and the list `fresh` of the new nodes.
 use Rattle.std.specs.Bool.{Decides}
 use Rattle.std.specs.List.{filter, flat_map}
 use mathlib.Core.Path.{fun_ext}
@@ -27,7 +27,7 @@ module _ {N : Type 0} {eq : N → N → Bool} (dec : (a b : N) → Decides (eq a
   seen_alike : (seen : N → Bool) (x y : N) (m : Bool) → seen x ≡ true → (m || seen y) ≡ ((eq x y || m) || seen y)
   seen_alike seen x y m e = grind (arith, dec)
 
-  -- what is new in one list after another
+  -- the new nodes of one list after another
   pub fresh-append : (seen : N → Bool) (xs ys : List N) → fresh eq seen (xs ++ ys) ≡ fresh eq seen xs ++ fresh eq (joined (member eq xs) seen) ys
   fresh-append seen [] ys = refl
   fresh-append seen (x ∷ xs) ys =
@@ -35,7 +35,7 @@ module _ {N : Type 0} {eq : N → N → Bool} (dec : (a b : N) → Decides (eq a
       (λ e. rw e (fresh-append seen xs ys ∙ ap (λ l. fresh eq seen xs ++ l) (fresh-same _ _ ys (λ y. seen_alike seen x y (member eq xs y) e))))
       (λ e. rw e (ap (λ l. x ∷ l) (fresh-append (with_node eq seen x) xs ys ∙ ap (λ l. fresh eq (with_node eq seen x) xs ++ l) (fresh-same _ _ ys (λ y. or_turn (eq x y) (member eq xs y) (seen y))))))
 
-  -- what is new is in the list, and was not seen
+  -- a new node is in the list, and was not seen
   member_if_seen : (seen : N → Bool) (x y : N) (m : Bool) → seen x ≡ true → (m && not (seen y)) ≡ ((eq x y || m) && not (seen y))
   member_if_seen seen x y m e = grind (arith, dec)
 
@@ -69,7 +69,7 @@ module _ {N : Type 0} {eq : N → N → Bool} (dec : (a b : N) → Decides (eq a
       (λ k. rw k (fresh-filter v seen xs h))
       (λ k. rw k (ap (λ l. x ∷ l) (fresh-filter v (with_node eq seen x) xs (λ y m. or_right (eq x y) (seen y) (h y m)))))))
 
-  -- more seen nodes are dropped from what is new
+  -- more seen nodes are dropped from the new ones
   pub fresh-joined : (v seen : N → Bool) (xs : List N) → fresh eq (joined v seen) xs ≡ filter (λ x. not (v x)) (fresh eq seen xs)
   fresh-joined v seen [] = refl
   fresh-joined v seen (x ∷ xs) =
@@ -108,7 +108,7 @@ module _ {N : Type 0} {eq : N → N → Bool} (dec : (a b : N) → Decides (eq a
   pub fresh-flat_map : (f : N → List N) (seen : N → Bool) (xs : List N) → fresh eq seen (flat_map f (fresh eq (λ x. false) xs)) ≡ fresh eq seen (flat_map f xs)
   fresh-flat_map f seen xs = fresh-flat_map_fresh f seen (λ x. false) xs (λ x y m k. absurd (false≢true m))
 
-  -- what is new, with some nodes left out
+  -- the new nodes, with some nodes left out
   fresh-left_out : (v seen : N → Bool) (xs : List N) → fresh eq seen (filter (λ x. not (v x)) xs) ≡ fresh eq (joined v seen) xs
   fresh-left_out v seen [] = refl
   fresh-left_out v seen (x ∷ xs) = by_test (v x)
@@ -144,7 +144,7 @@ module _ {N : Type 0} {eq : N → N → Bool} (dec : (a b : N) → Decides (eq a
       let k : flat_map f xs ≡ flat_map g xs = flat_map-agree f g xs (λ y m. h y (or_right (eq x y) (member eq xs y) m)) in
       cc
 
-  -- an element of a piece
+  -- an element of a `flat_map`
   pub member-flat_map : (f : N → List N) (xs : List N) (x y : N) → member eq xs x ≡ true → member eq (f x) y ≡ true → member eq (flat_map f xs) y ≡ true
   member-flat_map f [] x y m k = absurd (false≢true m)
   member-flat_map f (z ∷ xs) x y m k =
@@ -153,7 +153,7 @@ module _ {N : Type 0} {eq : N → N → Bool} (dec : (a b : N) → Decides (eq a
       (λ q. let p : z ≡ x = (dec z x).0 q in or_left (member eq (f z) y) (member eq (flat_map f xs) y) (rw p k))
       (λ q. or_right (member eq (f z) y) (member eq (flat_map f xs) y) (member-flat_map f xs x y (rw q at m) k)))
 
-  -- the piece of an element
+  -- the part of a `flat_map` that contains an element
   pub flat_map-member : {P : Type 0} (f : N → List N) (xs : List N) (y : N) → member eq (flat_map f xs) y ≡ true → ((x : N) → member eq xs x ≡ true → member eq (f x) y ≡ true → P) → P
   flat_map-member f [] y m k = absurd (false≢true m)
   flat_map-member f (z ∷ xs) y m k =

@@ -1,4 +1,5 @@
--- The checks of an NFA give what the walk needs.
+-- Validation gives what a walk needs: every edge goes to a state, a pattern has one `Match` state,
+-- and fuel one above the number of states is enough.
 use Rattle.std.proofs.Common.{◌≡◌, ℕ, zero, suc, ◌+◌, ◌<◌, ◌≤◌, Bool, true, false, cond, not, ◌&&◌, ◌||◌, List, [], ◌∷◌, ◌++◌, length, take, get_or, refl, sym, ap, ◌∙◌, arith, Option, Some, None, nat_eq, append_assoc, subst}
 use Rattle.std.specs.Option.{option_to_list}
 use Rattle.std.specs.Prelude.{slice_get, slice_index, nat_lt, find, option_map}
@@ -22,7 +23,7 @@ use Rattle.determinize_below.proofs.SearchSteps.{ordered-append}
 use Rattle.determinize_below.proofs.Sets.{flat_map-member}
 use Rattle.determinize_below.proofs.Tests.{by_cases, by_option, by_test}
 
--- what the checks of an NFA give: an edge leads to a state, and a pattern has one `Match`
+-- what validation gives: an edge goes to a state, and a pattern has one `Match`
 pub record IsSound (nfa : Nfa) : Type 0 where
   pub resolves : (holds : Assertion → Bool) (s t : ℕ) → member nat_eq (edges nfa holds s) t ≡ true → t < length nfa.states
   pub one_match : (i j p : ℕ) → pattern_of nfa i ≡ Some p → pattern_of nfa j ≡ Some p → i ≡ j
@@ -30,7 +31,7 @@ pub record IsSound (nfa : Nfa) : Type 0 where
 some_not_none : {A P : Type 0} (a : A) → Some a ≡ None → P
 some_not_none a e = absurd cc
 
--- a test that does not hold leads to the second of two answers
+-- a test that fails gives the second branch
 passed : {A : Type 0} (b : Bool) (a : A) (o : Option A) → cond b (Some a) o ≡ None → (b ≡ false) × (o ≡ None)
 passed true a o e = some_not_none a e
 passed false a o e = (refl, e)
@@ -44,7 +45,7 @@ both_right a b h = grind arith
 below : (a b : ℕ) → nat_lt a b ≡ true → a < b
 below a b e = grind arith
 
--- what a state shows when no check of it fails, after the earlier states
+-- the facts of a state without an error, after the earlier states
 pub record HasPassed (count : ℕ) (earlier : List Node) (s : Node) : Type 0 where
   pub resolves : resolves count s ≡ true
   pub ascends : is_sparse_sound s ≡ true
@@ -87,7 +88,7 @@ list_all_member p (x ∷ xs) t a m = by_test (nat_eq x t)
 one_member : (count x t : ℕ) → nat_lt x count ≡ true → member nat_eq (x ∷ []) t ≡ true → nat_lt t count ≡ true
 one_member count x t r m = list_all_member (λ y. nat_lt y count) (x ∷ []) t (ap (λ b. b && true) r) m
 
--- the edges of a state whose ids resolve
+-- the epsilon transitions of a state whose ids are in range
 edges_resolve : (count : ℕ) (holds : Assertion → Bool) (s : Node) (t : ℕ) → resolves count s ≡ true → member nat_eq (edges_of holds s) t ≡ true → nat_lt t count ≡ true
 edges_resolve count holds (ByteRange x) t r m = absurd (false≢true m)
 edges_resolve count holds (Sparse x) t r m = absurd (false≢true m)
@@ -110,7 +111,7 @@ sparse_resolves count p (t ∷ ts) y a m = by_test (p t)
     (λ e. one_member count t.next y (both_left (nat_lt t.next count) _ a) (rw e at m))
     (λ e. sparse_resolves count p ts y (both_right (nat_lt t.next count) _ a) (rw e at m))
 
--- an entry of a dense state that is not 0 is an item of its list
+-- an entry of a dense state that is not 0 is an element of its list
 dense_resolves : (count : ℕ) (ids : List ℕ) (byte y : ℕ) → list_all (λ id. nat_lt id count) ids ≡ true → member nat_eq (option_to_list (transitions.dense_target ids byte)) y ≡ true → nat_lt y count ≡ true
 dense_resolves count ids byte y a m = by_test (nat_eq (slice_index ids byte) 0)
     (λ e. absurd (false≢true (rw e at m)))
@@ -121,7 +122,7 @@ dense_resolves count ids byte y a m = by_test (nat_eq (slice_index ids byte) 0)
     item (id ∷ ids) zero a e = both_left (nat_lt id count) _ a
     item (id ∷ ids) (suc byte) a e = item ids byte (both_right (nat_lt id count) _ a) e
 
--- the target of a state whose ids resolve
+-- the target of a state whose ids are in range
 targets_resolve : (count : ℕ) (byte : ℕ) (s : Node) (t : ℕ) → resolves count s ≡ true → member nat_eq (option_to_list (target_of (Some byte) s)) t ≡ true → nat_lt t count ≡ true
 targets_resolve count byte (ByteRange x) t r m = by_test (transitions.matches x byte)
     (λ e. one_member count x.next t r (rw e at m))
@@ -147,7 +148,7 @@ match_in Fail p e = some_not_none p (sym e)
 match_in (Match pattern) p e = let k : pattern ≡ p = cc in ap Match k
 
 module _ (nfa : Nfa) (a : IsAccepted nfa) where
-  -- each state has passed its checks after those before it
+  -- each state is valid after those before it
   pub each_passes : (j : ℕ) (s : Node) → slice_get nfa.states j ≡ Some s → HasPassed (length nfa.states) (take j nfa.states) s
   each_passes = let b = passed (nat_lt 2147483647 (length nfa.states)) _ _ a.passes in
       let c = passed (not (nat_lt nfa.start_anchored (length nfa.states) && nat_lt nfa.start_unanchored (length nfa.states))) _ _ b.1 in
@@ -176,7 +177,7 @@ module _ (nfa : Nfa) (a : IsAccepted nfa) where
       short (x ∷ xs) zero (suc j) l k = omega arith
       short (x ∷ xs) (suc i) (suc j) l k = let h : i < length (take j xs) = short xs i j (omega arith) (omega arith) in omega arith
 
-  -- an accepted NFA is sound
+  -- a valid NFA is sound
   pub accepted_sound : IsSound nfa
   accepted_sound = record {
     resolves = λ holds s t m. below t (length nfa.states)
@@ -185,7 +186,7 @@ module _ (nfa : Nfa) (a : IsAccepted nfa) where
         (λ h. by_cases h (λ l. absurd (not_earlier i j p l x y)) (λ l. absurd (not_earlier j i p l y x)));
   }
 
-  -- where a state leads over a unit is a state
+  -- the target of a state on a unit is a state
   pub target_within : (u : Option ℕ) (s t : ℕ) → member nat_eq (target nfa u s) t ≡ true → t < length nfa.states
   target_within None s t m = absurd (false≢true (rw (target-end nfa s) at m))
   target_within (Some byte) s t m = by_cases (cases_lt s (length nfa.states))
@@ -198,7 +199,7 @@ module _ (nfa : Nfa) (sound : IsSound nfa) (holds : Assertion → Bool) where
   edges_enough s = let z : suc (length nfa.states) ≡ length nfa.states + 1 = omega arith in
       subst (λ n. IsEnough nat_eq (edges nfa holds) n none_held s) z (IsEnough-below (edges nfa holds) (length nfa.states) (sound.resolves holds) s)
 
-  -- the search from more roots goes on with what was reached held
+  -- the closure of more roots continues with the states reached so far visited
   pub reach-append : (roots more : List ℕ) → reach nfa holds (roots ++ more) ≡ reach nfa holds roots ++ reach_past nfa holds (reach nfa holds roots) more
   unfolding reach reach_past
   reach-append roots more =
@@ -209,7 +210,7 @@ module _ (nfa : Nfa) (sound : IsSound nfa) (holds : Assertion → Bool) where
       or_none : (a : Bool) → (a || false) ≡ a
       or_none a = grind arith
 
-  -- from states of the NFA a search leads to states of the NFA alone
+  -- a closure of states of the NFA has only states of the NFA
   pub ends_within_states : (count : ℕ) (held : ℕ → Bool) (roots : List ℕ) → ((r : ℕ) → member nat_eq roots r ≡ true → r < length nfa.states)
       → (x : ℕ) → member nat_eq (flat_map (ends nat_eq (edges nfa holds) count held) roots) x ≡ true → x < length nfa.states
   ends_within_states count held roots inside x m = flat_map-member same_decides (ends nat_eq (edges nfa holds) count held) roots x m (λ r l z.
@@ -225,7 +226,7 @@ module _ (nfa : Nfa) (sound : IsSound nfa) (holds : Assertion → Bool) where
   reach_within roots inside = fresh_below (length nfa.states) (flat_map (ends nat_eq (edges nfa holds) (length nfa.states + 1) none_held) roots)
       (ends_within_states (length nfa.states + 1) none_held roots inside)
 
-  -- it lists each state once at most
+  -- a closure lists each state at most once
   pub length-reach : (roots : List ℕ) → ((r : ℕ) → member nat_eq roots r ≡ true → r < length nfa.states) → length (reach nfa holds roots) ≤ length nfa.states
   unfolding reach
   length-reach roots inside = length-fresh_below (length nfa.states) (flat_map (ends nat_eq (edges nfa holds) (length nfa.states + 1) none_held) roots)

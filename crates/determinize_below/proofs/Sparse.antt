@@ -1,4 +1,4 @@
--- Sets that are kept as a list and its bits.
+-- Sparse sets as a list and its bits.
 use Rattle.std.proofs.Common.{All, Bool, List, [], arith, false, get_or, inl, inr, length, length-append, nat_eq, not, replicate, set, subst, sym, take, true, ℕ, ◌*◌, ◌+◌, ◌++◌, ◌/◌, ◌<◌, ◌||◌, ◌∙◌, ◌∷◌, ◌≡◌, ◌≤◌, ◌⊎◌}
 use Rattle.std.specs.Cmp.{nat_eq_equiv}
 use Rattle.std.specs.List.{IsDistinct}
@@ -17,12 +17,12 @@ use Rattle.determinize_below.proofs.Bits.{has_bit-empty}
 pub use Rattle.determinize_below.proofs.Bits.{has_bit-zeros, words_back}
 use Rattle.determinize_below.proofs.Tests.{by_cases}
 
--- a list of no ids
+-- an empty list
 pub distinct_none : (ids : List ℕ) → ids ≡ [] → IsDistinct nat_eq ids
 unfolding IsDistinct
 distinct_none ids e = rw e tt
 
--- one more id that is new
+-- adding a new id
 pub distinct_push : (ids : List ℕ) (id : ℕ) → IsDistinct nat_eq ids → has_id ids id ≡ false → IsDistinct nat_eq (ids ++ id ∷ [])
 distinct_push ids id d none = IsDistinct-push nat_eq_equiv ids id d none
 
@@ -38,7 +38,7 @@ get_or-push ids id k d h =
     (λ l. inr (l, get_or-append ids (id ∷ []) d k l))
     (λ g. let last : k ≡ length ids = omega (arith, length-append ids (id ∷ [])) in inl (rw last (get_or-append_seam ids id [] d)))
 
--- as many distinct ids as there are numbers below the capacity at most
+-- distinct ids below the capacity are at most the capacity
 length_at_most : (ids : List ℕ) (capacity : ℕ) → IsDistinct nat_eq ids → All (λ i. i < capacity) ids → length ids ≤ capacity
 length_at_most ids capacity d below =
     length-le_from_distinct_below ids capacity d (λ q h. let at = Contains-from_any {eq = nat_eq} same q ids h in subst (λ n. n < capacity) at.2 (below at.0 q at.1))
@@ -46,7 +46,7 @@ length_at_most ids capacity d below =
     same : (x y : ℕ) → nat_eq x y ≡ true → x ≡ y
     same x y h = grind (arith, h)
 
--- so there is room for one whose bit is not set
+-- so there is room for an id whose bit is not set
 pub room_for_one : (ids words : List ℕ) (id capacity room : ℕ) → IsSparse ids words capacity room → id < capacity → has_bit words id ≡ false → length ids < room
 room_for_one ids words id capacity room sparse small unset =
     let new : has_id ids id ≡ false = sym (sparse.marked id small) ∙ unset in
@@ -60,7 +60,7 @@ cleared_all words ids n = record {
   none = λ id e. absurd (false≢true (sym (has_bit-zeros n id) ∙ e));
 }
 
--- the word of one more id is emptied
+-- clearing the word of one more id
 pub cleared_more : (words fewer ids : List ℕ) (i : ℕ) → i < length ids → get_or ids i 0 < 64 * length fewer → IsCleared words fewer (take i ids) → IsCleared words (set fewer (get_or ids i 0 / 64) 0) (take (i + 1) ids)
 cleared_more words fewer ids i h within so_far = record {
   was = λ id e. so_far.was id (has_bit-empty fewer (get_or ids i 0) id within e).0;
@@ -71,7 +71,7 @@ cleared_more words fewer ids i h within so_far = record {
     neither : (a b : Bool) → not a ≡ true → b ≡ false → not (a || b) ≡ true
     neither a b p q = grind arith
 
--- what the invariant of an empty set wants, and of one with a new id
+-- the rules for the invariant of an empty set, and of a set with a new id
 pub ruleset emptying = (distinct_none, has_bit-zeros, length-replicate, words_back)
 
 pub ruleset pushing = (distinct_push, get_or-push, holds-push, words_back)

@@ -1,4 +1,4 @@
--- In ranges that ascend, the first that does not end before a byte is the only one that may hold it.
+-- In sorted ranges, the first that does not end before a byte is the only one that may contain it.
 use Rattle.std.proofs.Common.{◌≡◌, ℕ, suc, ◌<◌, ◌≤◌, Bool, true, false, Option, Some, None, List, [], ◌∷◌, nat_le, refl, sym, ap, ◌∙◌, arith}
 use mathlib.Core.Bool.{◌&&◌}
 use Rattle.std.specs.Bool.{then_some}
@@ -9,12 +9,12 @@ use Rattle.determinize_below.specs.declared.nfa.transitions.Transition.{Transiti
 use Rattle.determinize_below.specs.Transition.{matches, sparse_target, ascends_from}
 use Rattle.determinize_below.proofs.Tests.{by_test}
 
--- the target of a range, where it begins early enough
+-- the target of a range, if it does not begin above the byte
 abbrev pub from_first : ℕ → Option Transition → Option ℕ
 from_first byte None = None
 from_first byte (Some t) = then_some (nat_le t.start byte) t.next
 
--- the tests of a range that ascends, taken apart
+-- the tests of a sorted range, taken apart
 begins-test : (a b c : Bool) → (a && b && c) ≡ true → a ≡ true
 begins-test a b c h = grind arith
 
@@ -24,18 +24,18 @@ ordered-test a b c h = grind arith
 rest-test : (a b c : Bool) → (a && b && c) ≡ true → c ≡ true
 rest-test a b c h = grind arith
 
--- a range that begins above the byte does not hold it
+-- a range that begins above the byte does not contain it
 above : (byte low start end : ℕ) → nat_le low start ≡ true → byte < low → nat_le start byte ≡ false
 above byte low start end h k = grind (arith, nat_tests)
 
--- the next begins above it too
+-- the next one begins above it, too
 further : (byte low start end : ℕ) → nat_le low start ≡ true → nat_le start end ≡ true → byte < low → byte < suc end
 further byte low start end h o k = grind (arith, nat_tests)
 
 at_end : (byte end : ℕ) → nat_le byte end ≡ true → byte < suc end
 at_end byte end h = grind (arith, nat_tests)
 
--- no range that ascends from above the byte holds it
+-- no range of a list that is sorted from above the byte on contains it
 none_above : (byte low : ℕ) (ts : List Transition) → ascends_from low ts ≡ true → byte < low → find (λ t. matches t byte) ts ≡ None
 none_above byte low [] h k = refl
 none_above byte low (t ∷ ts) h k =
@@ -58,11 +58,11 @@ stops_early byte low (t ∷ ts) h =
     (λ f. rw (e, f) (stops_early byte (suc t.end) ts rest))
     (λ f. rw (e, f) (stops_early byte (suc t.end) ts rest)))
 
--- where a range begins and leads
+-- the start and the target of a range
 abbrev pub begins_and_leads : Transition → ℕ × ℕ
 begins_and_leads t = (t.start, t.next)
 
--- the target of what the scan found, where it begins early enough
+-- the target of the range that the scan found, if it does not begin above the byte
 abbrev pub from_found : ℕ → Option (ℕ × ℕ) → Option ℕ
 from_found byte None = None
 from_found byte (Some found) = then_some (nat_le found.0 byte) found.1
@@ -71,12 +71,12 @@ found-first : (byte : ℕ) (o : Option Transition) → from_found byte (option_m
 found-first byte None = refl
 found-first byte (Some t) = refl
 
--- what the scan found answers for the whole state
+-- the range that the scan found decides for the whole state
 pub answers_for : (byte : ℕ) (ts : List Transition) (o : Option (ℕ × ℕ)) → ascends_from 0 ts ≡ true → o ≡ option_map begins_and_leads (find (λ t. nat_le byte t.end) ts)
     → from_found byte o ≡ sparse_target ts byte
 answers_for byte ts o h e = ap (from_found byte) e ∙ found-first byte (find (λ t. nat_le byte t.end) ts) ∙ stops_early byte 0 ts h
 
--- by where it begins
+-- the two cases of where it begins
 pub found-begun : (byte start next : ℕ) → start ≤ byte → from_found byte (Some (start, next)) ≡ Some next
 found-begun byte start next h =
     let begun : nat_le start byte ≡ true = grind (arith, nat_tests) in

@@ -1,4 +1,4 @@
--- The assertions that states test, and the sets that they make.
+-- The assertions that states test, and the sets of them.
 use Rattle.std.proofs.Common.{◌≡◌, ℕ, Bool, true, false, ◌||◌, List, [], ◌∷◌, length, sym, ap, ◌∙◌, arith, Option, Some, None}
 use Rattle.std.specs.Bool.{Decides}
 use Rattle.std.specs.List.{Any, list_any}
@@ -24,7 +24,7 @@ Decides-is_look : (o : Option Assertion) (look : Assertion) → Decides (is_look
 Decides-is_look None look = (λ h. absurd (false≢true h), λ e. absurd (let k : Some look ≡ None = sym e in cc))
 Decides-is_look (Some other) look = (λ h. ap Some ((Decides-same other look).0 h), λ e. (Decides-same other look).1 (some_injective other look e))
 
--- whether some item of a list gives the assertion
+-- whether some element of a list has the assertion
 pub Decides-list_any_look : {A : Type 0} (f : A → Option Assertion) (xs : List A) (look : Assertion) → Decides (list_any (λ x. is_look (f x) look) xs) (Any (λ x. f x ≡ Some look) xs)
 Decides-list_any_look f xs look = (
   λ h. let a : Any (λ x. is_look (f x) look ≡ true) xs = Any-from_list_any (λ x. is_look (f x) look) xs h in
@@ -58,13 +58,13 @@ has-with_looks_of set (s ∷ xs) look =
     together : (a b c : Bool) → ((a || b) || c) ≡ (a || (b || c))
     together a b c = grind arith
 
--- an assertion is among those of some states exactly where one of them tests it
+-- the assertion set of some states contains exactly the assertions that one of them tests
 pub Decides-looks_of : (xs : List Node) (look : Assertion) → Decides (has (looks_of xs) look) (Any (λ s. assertion_in s ≡ Some look) xs)
 Decides-looks_of xs look = Decides-at _ _
     (has-with_looks_of 0 xs look ∙ ap (λ b. b || list_any (λ s. is_look (assertion_in s) look) xs) (has-empty look))
     (Decides-list_any_look assertion_in xs look)
 
--- and it is among those of an accepted NFA exactly where some state of the NFA tests it
+-- and that of a valid NFA exactly those that some state of the NFA tests
 pub Decides-look_set_any : (nfa : Nfa) (accepted : IsAccepted nfa) (look : Assertion) → Decides (has nfa.look_set_any look) (IsTested nfa look)
 Decides-look_set_any nfa accepted look =
     Decides-like _ there within (Decides-at _ _ (ap (λ set. has set look) accepted.looks) (Decides-looks_of nfa.states look))

@@ -1,17 +1,17 @@
--- Cases on tests, sums and options.
+-- Case analysis on booleans, sums and options.
 use Rattle.std.proofs.Common.{Bool, None, Option, Some, arith, false, inl, inr, refl, true, ◌||◌, ◌≡◌, ◌⊎◌}
 
--- a goal by the two values of a test
+-- by the two values of a boolean
 pub by_test : {P : Type 0} (b : Bool) → (b ≡ true → P) → (b ≡ false → P) → P
 by_test true f g = f refl
 by_test false f g = g refl
 
--- a goal by the two cases of a sum
+-- by the two cases of a sum
 pub by_cases : {A B P : Type 0} → A ⊎ B → (A → P) → (B → P) → P
 by_cases (inl a) f g = f a
 by_cases (inr b) f g = g b
 
--- a goal by the two cases of an option
+-- by the two cases of an option
 pub by_option : {A P : Type 0} (o : Option A) → (o ≡ None → P) → ((a : A) → o ≡ Some a → P) → P
 by_option None f g = f refl
 by_option (Some a) f g = g a refl

@@ -1,4 +1,4 @@
--- The list root by root.
+-- The list of a search can be computed root by root.
 use Rattle.std.specs.Bool.{Decides}
 use mathlib.Core.Path.{fun_ext}
 use Rattle.std.proofs.Common.{◌++◌, Bool, List, [], ap, arith, refl, sym, ◌||◌, ℕ, ◌∙◌, ◌∷◌, ◌≡◌}

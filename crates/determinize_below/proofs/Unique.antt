@@ -1,4 +1,4 @@
--- The order of reach determines its list.
+-- At most one list is in the order of least paths.
 use Rattle.std.specs.Bool.{Decides}
 use Rattle.std.proofs.Common.{Bool, List, [], arith, subst, sym, ℕ, ◌∙◌, ◌∷◌, ◌≡◌, ◌⊎◌}
 use Rattle.determinize_below.specs.Paths.{Before, IsInOrderOfReach, IsLeastPath, IsPath}
@@ -14,7 +14,7 @@ Before-asym (c ∷ cs) (d ∷ ds) a b =
     (λ l. by_cases b (λ k. omega arith) (λ k. omega arith))
     (λ l. by_cases b (λ k. omega arith) (λ k. Before-asym cs ds l.1 k.1))
 
--- of two choices each of which is no later than the other
+-- two paths, neither of which is after the other, are equal
 pub same_least : (cs ds : List ℕ) → (cs ≡ ds) ⊎ Before cs ds → (ds ≡ cs) ⊎ Before ds cs → cs ≡ ds
 same_least cs ds a b = by_cases a (λ e. e) (λ k. by_cases b (λ e. sym e) (λ l. absurd (Before-asym cs ds k l)))
 
@@ -25,12 +25,12 @@ one_end {N} es held r (c ∷ cs) s u a b =
     let e : a.1.0 ≡ b.1.0 = some_injective a.1.0 b.1.0 (sym a.1.1 ∙ b.1.1) in
     one_end es (r ∷ held) b.1.0 cs s u (subst (λ z. IsPath es (r ∷ held) z cs s) e a.1.2) b.1.2
 
--- the least path to a node is one
+-- the least path to a node is unique
 pub one_least : {N : Type 0} (edges : N → List N) (held roots : List N) (cs ds : List ℕ) (s : N) → IsLeastPath edges held roots cs s → IsLeastPath edges held roots ds s → cs ≡ ds
 one_least edges held roots cs ds s a b = same_least cs ds (a.least ds b.path) (b.least cs a.path)
 
 module _ {N : Type 0} {eq : N → N → Bool} (dec : (a b : N) → Decides (eq a b) (a ≡ b)) where
-  -- at most one list is in the order of reach
+  -- at most one list is in the order of least paths
   pub one_order : (edges : N → List N) (held roots xs ys : List N) → IsInOrderOfReach edges held roots xs → IsInOrderOfReach edges held roots ys → xs ≡ ys
   one_order edges held roots xs ys a b =
       same_by_order R asym xs ys

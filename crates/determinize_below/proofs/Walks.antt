@@ -1,4 +1,4 @@
--- Each automaton's walk is a true one.
+-- The walk of an automaton over a text, compared with its runs.
 use Rattle.std.specs.Prelude.{◌==◌, nat_eq}
 use Rattle.std.specs.List.{find}
 use Rattle.std.proofs.Common.{Bool, List, None, Some, [], ap, arith, false, suc, sym, true, ℕ, ◌∙◌, ◌∷◌, ◌≡◌, ◌≤◌}
@@ -17,7 +17,8 @@ use Rattle.determinize_below.proofs.RunFuel.{IsEnough-at, IsEnough-runs, run_fue
 use Rattle.determinize_below.proofs.RunLists.{last_is_preferred, last_none, level_lists_reached}
 use Rattle.determinize_below.proofs.Tests.{by_test}
 
--- an automaton over m bytes: the edges that stay, fewer of them under what is known early, and the steps over bytes
+-- an automaton over m bytes: its epsilon edges, fewer of them under the look-behind only, and its
+-- steps over bytes
 pub record IsAutomaton (states m : ℕ) (known eps bytes : ℕ → ℕ → List ℕ) (cap acc : ℕ → Bool) (next : ℕ → ℕ) : Type 0 where
   pub within : (i : ℕ) → LeadsBelow (eps i) states
   pub fewer : (i s t : ℕ) → member nat_eq (known i s) t ≡ true → member nat_eq (eps i s) t ≡ true
@@ -27,7 +28,8 @@ pub record IsAutomaton (states m : ℕ) (known eps bytes : ℕ → ℕ → List 
   pub cap_bytes : (i s : ℕ) → cap s ≡ true → bytes i s ≡ []
   pub cap_acc : (s : ℕ) → acc s ≡ true → cap s ≡ false
 
--- what the walk has at each position, the search redone from what was recorded
+-- the states of the walk at each position, where the closure is computed again from what was
+-- recorded
 abbrev pub working : ℕ → ℕ → (ℕ → ℕ → List ℕ) → (ℕ → ℕ → List ℕ) → (ℕ → ℕ → List ℕ) → (ℕ → Bool) → ℕ → ℕ → List ℕ
 working states m known eps bytes cap start k =
     ordered nat_eq (eps k) (run_fuel (suc states) m) none_held (recorded nat_eq known eps bytes cap (run_fuel (suc states) m) start k)
@@ -37,7 +39,8 @@ abbrev pub working_cut : ℕ → ℕ → (ℕ → ℕ → List ℕ) → (ℕ →
 working_cut states m known eps bytes cap acc start k =
     ordered nat_eq (eps k) (run_fuel (suc states) m) none_held (recorded_cut nat_eq known eps bytes cap acc (run_fuel (suc states) m) start k)
 
--- the walk reaches what runs reach, in their order; the last accepting state of the cut walk ends the most preferred run
+-- the walk lists the states that runs reach, in their order; the last accepting state of the cut
+-- walk is the end of the most preferred run
 pub record IsTrueWalk (states m : ℕ) (known eps bytes : ℕ → ℕ → List ℕ) (cap acc : ℕ → Bool) (start : ℕ) : Type 0 where
   pub reached : (k : ℕ) → ListsReached (run_edges eps bytes) cap start k (without cap (working states m known eps bytes cap start k))
   pub recorded_reached : (k : ℕ) → ListsReached (run_edges (known_at k known eps) bytes) cap start k (recorded nat_eq known eps bytes cap (run_fuel (suc states) m) start k)

@@ -1,19 +1,19 @@
--- Cycles of captures.
+-- Cycles of `Capture` states.
 use Rattle.std.specs.Prelude.{◌≡◌, ◌≤◌, ℕ, zero, suc, true}
 use Rattle.determinize_below.specs.Edges.{is_capture, state_at}
 use Rattle.determinize_below.specs.Nfa.{Nfa}
 use Rattle.determinize_below.specs.Node.{Node, Capture}
 
--- where a capture leads, 0 for another state
+-- the target of a capture, 0 for any other state
 abbrev pub capture_next : Node → ℕ
 capture_next (Capture next) = next
 capture_next _ = 0
 
--- where so many captures lead, one after another
+-- the state after following this number of captures from s
 abbrev pub followed : Nfa → ℕ → ℕ → ℕ
 followed nfa zero s = s
 followed nfa (suc count) s = capture_next (state_at nfa (followed nfa count s))
 
--- no cycle has captures alone
+-- no cycle consists of captures only
 abbrev pub HasNoCaptureCycle : Nfa → Type 0
 HasNoCaptureCycle nfa = (s k : ℕ) → ((j : ℕ) → j ≤ k → is_capture nfa (followed nfa j s) ≡ true) → followed nfa (suc k) s ≡ s → ⊥

@@ -1,4 +1,5 @@
--- What the states of an NFA are, and where they lead.
+-- The transitions of NFA states: epsilon transitions under a set of assertions, and transitions on
+-- a unit. A unit is `Some byte`, or `None` for EOI.
 use Rattle.std.specs.Prelude.{◌≡◌, ◌+◌, ℕ, Bool, true, false, cond, Option, Some, None, List, [], ◌∷◌, length, nat_eq, slice_index_or}
 use Rattle.std.specs.Option.{is_some, option_to_list}
 use Rattle.std.specs.List.{count_by, flat_map}
@@ -8,7 +9,8 @@ use Rattle.determinize_below.specs.Nfa.{Nfa}
 use Rattle.determinize_below.specs.Transition.{matches_unit, sparse_target, dense_target, over_unit}
 use Rattle.determinize_below.specs.Reach.{member, none_held, ordered}
 
--- the edges of a state that want no input, under a set of assertions, in the order of preference
+-- the targets of the epsilon transitions of a state, in order of preference, where `holds` says
+-- which assertions hold
 abbrev pub edges_of : (Assertion → Bool) → Node → List ℕ
 edges_of holds (Look look next) = cond (holds look) (next ∷ []) []
 edges_of holds (Union ids) = ids
@@ -16,7 +18,7 @@ edges_of holds (BinaryUnion a b) = a ∷ b ∷ []
 edges_of holds (Capture next) = next ∷ []
 edges_of holds _ = []
 
--- where a state leads over a unit, a byte or the end of the input
+-- the target of a state on a unit
 abbrev pub target_of : Option ℕ → Node → Option ℕ
 target_of u (ByteRange t) = cond (matches_unit t u) (Some t.next) None
 target_of u (Sparse ts) = over_unit (sparse_target ts) u
@@ -28,41 +30,41 @@ abbrev pub tests_capture : Node → Bool
 tests_capture (Capture next) = true
 tests_capture _ = false
 
--- the pattern that the state accepts
+-- the pattern of a `Match` state
 abbrev pub pattern_in : Node → Option ℕ
 pattern_in (Match pattern) = Some pattern
 pattern_in _ = None
 
--- the assertion that the state tests
+-- the assertion of a `Look` state
 abbrev pub assertion_in : Node → Option Assertion
 assertion_in (Look look next) = Some look
 assertion_in _ = None
 
--- the state of an id, `Fail` for an id that is no state's
+-- the state with this id, `Fail` for an id out of range
 abbrev pub state_at : Nfa → ℕ → Node
 state_at nfa s = slice_index_or nfa.states s Fail
 
--- the edges that want no input, of the state of an id, under a set of assertions
+-- the targets of the epsilon transitions of the state with this id
 abbrev pub edges : Nfa → (Assertion → Bool) → ℕ → List ℕ
 edges nfa holds s = edges_of holds (state_at nfa s)
 
--- where the state of an id leads over a unit, as a list of at most one
+-- the target of the state with this id on a unit, as a list of at most one
 abbrev pub target : Nfa → Option ℕ → ℕ → List ℕ
 target nfa u s = option_to_list (target_of u (state_at nfa s))
 
--- whether the state of an id is a capture
+-- whether the state with this id is a capture
 abbrev pub is_capture : Nfa → ℕ → Bool
 is_capture nfa s = tests_capture (state_at nfa s)
 
--- the pattern that the state of an id accepts
+-- the pattern of the state with this id, if it is a `Match`
 abbrev pub pattern_of : Nfa → ℕ → Option ℕ
 pattern_of nfa s = pattern_in (state_at nfa s)
 
--- whether the state of an id accepts a pattern
+-- whether the state with this id is a `Match`
 abbrev pub is_match : Nfa → ℕ → Bool
 is_match nfa s = is_some (pattern_of nfa s)
 
--- the assertion that the state of an id tests
+-- the assertion of the state with this id, if it is a `Look`
 abbrev pub assertion_of : Nfa → ℕ → Option Assertion
 assertion_of nfa s = assertion_in (state_at nfa s)
 
@@ -70,19 +72,20 @@ assertion_of nfa s = assertion_in (state_at nfa s)
 abbrev pub patterns_of : Nfa → List ℕ → List ℕ
 patterns_of nfa xs = flat_map (λ s. option_to_list (pattern_of nfa s)) xs
 
--- whether the state accepts a pattern
+-- whether the state is a `Match`
 abbrev pub is_match_node : Node → Bool
 is_match_node node = is_some (pattern_in node)
 
--- the number of the states that accept a pattern
+-- the number of `Match` states
 abbrev pub pattern_count : Nfa → ℕ
 pattern_count nfa = count_by is_match_node nfa.states
 
--- the states that loop-free paths from the roots meet last, each once, by the first such root and then by the least path
+-- the epsilon closure of the roots: each state that a loop-free path of epsilon transitions ends
+-- in, once, ordered by the first such root and then by the least path
 unfoldable pub reach : Nfa → (Assertion → Bool) → List ℕ → List ℕ
 reach nfa holds roots = ordered nat_eq (edges nfa holds) (length nfa.states + 1) none_held roots
 
--- the same by paths that meet no held state
+-- the epsilon closure along paths that avoid the states visited before, which `held` lists
 unfoldable pub reach_past : Nfa → (Assertion → Bool) → List ℕ → List ℕ → List ℕ
 reach_past nfa holds held roots = ordered nat_eq (edges nfa holds) (length nfa.states + 1) (member nat_eq held) roots
 

@@ -29,43 +29,43 @@ bit_of WordEndHalfUnicode = 0x20000
 unfoldable pub meets : ℕ → ℕ → Bool
 meets a b = not (nat_eq (bit_and a b) 0)
 
--- whether the assertion is in the set
+-- whether the set contains the assertion
 unfoldable pub has : ℕ → Look → Bool
 has set look = not (nat_eq (bit_and set (bit_of look)) 0)
 
--- the set with the assertion
+-- the set with the assertion added
 unfoldable pub insert : ℕ → Look → ℕ
 insert set look = bit_or set (bit_of look)
 
--- the set without the assertion
+-- the set with the assertion removed
 unfoldable pub remove : ℕ → Look → ℕ
 remove set look = bit_and set (bit_not w32 (bit_of look))
 
--- the members of either set
+-- the union of the sets
 abbrev pub union : ℕ → ℕ → ℕ
 union a b = bit_or a b
 
--- the members of both sets
+-- the intersection of the sets
 abbrev pub intersect : ℕ → ℕ → ℕ
 intersect a b = bit_and a b
 
--- the members of the first set that the second lacks
+-- the members of the first set that are not in the second
 unfoldable pub subtract : ℕ → ℕ → ℕ
 subtract a b = bit_and a (bit_not w32 b)
 
--- whether some member is an assertion on the haystack
+-- whether the set contains a haystack assertion
 abbrev pub has_haystack : ℕ → Bool
 has_haystack set = meets set 0x3
 
--- whether some member is an assertion on lines
+-- whether the set contains a line assertion
 abbrev pub has_line : ℕ → Bool
 has_line set = meets set 0x3C
 
--- whether some member is an assertion on lines that end in a carriage return, a line feed or both
+-- whether the set contains a CRLF assertion
 abbrev pub has_crlf : ℕ → Bool
 has_crlf set = meets set 0x30
 
--- whether some member is an assertion on words
+-- whether the set contains a word assertion
 abbrev pub has_word : ℕ → Bool
 has_word set = meets set 0x3FFC0
 
@@ -75,3 +75,24 @@ each_look =
     Start ∷ End ∷ StartLF ∷ EndLF ∷ StartCRLF ∷ EndCRLF ∷ WordAscii ∷ WordAsciiNegate ∷ WordUnicode
     ∷ WordUnicodeNegate ∷ WordStartAscii ∷ WordEndAscii ∷ WordStartUnicode ∷ WordEndUnicode
     ∷ WordStartHalfAscii ∷ WordEndHalfAscii ∷ WordStartHalfUnicode ∷ WordEndHalfUnicode ∷ []
+
+-- the assertion that says the same of a text that is read in the other direction
+abbrev pub reversed : Look → Look
+reversed Start = End
+reversed End = Start
+reversed StartLF = EndLF
+reversed EndLF = StartLF
+reversed StartCRLF = EndCRLF
+reversed EndCRLF = StartCRLF
+reversed WordAscii = WordAscii
+reversed WordAsciiNegate = WordAsciiNegate
+reversed WordUnicode = WordUnicode
+reversed WordUnicodeNegate = WordUnicodeNegate
+reversed WordStartAscii = WordEndAscii
+reversed WordEndAscii = WordStartAscii
+reversed WordStartUnicode = WordEndUnicode
+reversed WordEndUnicode = WordStartUnicode
+reversed WordStartHalfAscii = WordEndHalfAscii
+reversed WordEndHalfAscii = WordStartHalfAscii
+reversed WordStartHalfUnicode = WordEndHalfUnicode
+reversed WordEndHalfUnicode = WordStartHalfUnicode

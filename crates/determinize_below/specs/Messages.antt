@@ -1,17 +1,17 @@
--- What the errors print.
+-- The texts that the errors print.
 use Rattle.std.specs.Prelude.{ℕ, List, ◌++◌, codes, decimal}
 use Rattle.determinize_below.specs.declared.nfa.BuildError.{BuildError}
 use Rattle.determinize_below.specs.declared.nfa.BuildError.TheVariants.{TooManyStates, UnresolvedStart, UnresolvedId, BadSparse, BadDense, RepeatedPattern, OutOfMemory}
 
--- a number that no id of a state has
+-- the text of a `StateIDError`
 abbrev pub state_id_refusal : ℕ → List ℕ
 state_id_refusal n = decimal n ++ codes " is too large for the id of a state"
 
--- a number that no id of a pattern has
+-- the text of a `PatternIDError`
 abbrev pub pattern_id_refusal : ℕ → List ℕ
 pattern_id_refusal n = decimal n ++ codes " is too large for the id of a pattern"
 
--- why parts make no NFA
+-- the text of a `BuildError`
 abbrev pub build_refusal : BuildError → List ℕ
 build_refusal TooManyStates = codes "more than 2147483647 states"
 build_refusal UnresolvedStart = codes "no state has the start id"

@@ -1,4 +1,4 @@
--- Thompson NFAs as data, and the checks that their parts pass.
+-- Thompson NFAs as data, and the validation of their parts.
 use Rattle.std.specs.Prelude.{◌≡◌, ℕ, ◌+◌, ◌<◌, All, Bool, true, false, not, Option, Some, None, List, [], ◌∷◌, ◌++◌, nat_lt, nat_eq, length, if◌then◌else◌}
 use mathlib.Core.Bool.{◌&&◌}
 use Rattle.std.specs.List.{list_all, list_any}
@@ -9,7 +9,8 @@ use Rattle.determinize_below.specs.Look as looks
 use Rattle.determinize_below.specs.declared.nfa.BuildError.{BuildError}
 use Rattle.determinize_below.specs.declared.nfa.BuildError.TheVariants as refusal
 
--- an NFA: its states, two start states, its direction, the byte that ends a line, and the set of its assertions
+-- an NFA: its states, two start states, its direction, its line terminator, and the set of the
+-- assertions of its `Look` states
 pub record Nfa : Type 0 where
   pub states : List Node
   pub start_anchored : ℕ
@@ -30,16 +31,16 @@ resolves count (Capture next) = nat_lt next count
 resolves count Fail = true
 resolves count (Match pattern) = true
 
--- the ids are of states of the NFA
+-- the ids are below the number of states
 abbrev pub AllResolve : Nfa → List ℕ → Type 0
 AllResolve nfa ids = All (λ id. id < length nfa.states) ids
 
--- whether the ranges of a sparse state ascend
+-- whether the ranges of a sparse state are sorted, not empty and do not overlap
 abbrev pub is_sparse_sound : Node → Bool
 is_sparse_sound (Sparse ts) = is_ascending ts
 is_sparse_sound _ = true
 
--- whether a dense state has a target for each byte
+-- whether a dense state has 256 targets
 abbrev pub is_dense_sound : Node → Bool
 is_dense_sound (Dense ids) = nat_eq (length ids) 256
 is_dense_sound _ = true
@@ -49,7 +50,7 @@ abbrev pub is_match_of : ℕ → Node → Bool
 is_match_of pattern (Match other) = nat_eq pattern other
 is_match_of pattern _ = false
 
--- whether the state is a `Match` of a pattern that was seen
+-- whether the state is a `Match` of a pattern that was seen before
 abbrev pub repeats : (ℕ → Bool) → Node → Bool
 repeats seen (Match pattern) = seen pattern
 repeats seen _ = false
@@ -58,7 +59,7 @@ repeats seen _ = false
 abbrev pub is_repeated : List Node → Node → Bool
 is_repeated earlier node = repeats (λ pattern. list_any (is_match_of pattern) earlier) node
 
--- the first check of the state at `index` that fails, where it is known whether it repeats a pattern
+-- the first error of the state at `index`, given whether it repeats a pattern
 abbrev pub failure_of : ℕ → Bool → ℕ → Node → Option BuildError
 failure_of count repeated index node =
     if not (resolves count node) then Some (refusal.UnresolvedId index)
@@ -66,38 +67,38 @@ failure_of count repeated index node =
     else (if not (is_dense_sound node) then Some (refusal.BadDense index)
     else (if repeated then Some (refusal.RepeatedPattern index) else None)))
 
--- the first check of the state at `index` that fails, after the earlier states
+-- the first error of the state at `index`, given the earlier states
 abbrev pub state_failure : ℕ → List Node → ℕ → Node → Option BuildError
 state_failure count earlier index node = failure_of count (is_repeated earlier node) index node
 
--- the first check that fails from the state at `index` on
+-- the first error of the states from `index` on
 abbrev pub states_failure : ℕ → List Node → ℕ → List Node → Option BuildError
 states_failure count earlier index [] = None
 states_failure count earlier index (node ∷ rest) =
     option_or (state_failure count earlier index node) (states_failure count (earlier ++ node ∷ []) (index + 1) rest)
 
--- the first of all checks that fails
+-- the first error of all
 abbrev pub failure : List Node → ℕ → ℕ → Option BuildError
 failure states anchored unanchored =
     if nat_lt 2147483647 (length states) then Some refusal.TooManyStates
     else (if not (nat_lt anchored (length states) && nat_lt unanchored (length states)) then Some refusal.UnresolvedStart
     else states_failure (length states) [] 0 states)
 
--- the set with the assertion that the state tests
+-- the set with the assertion of the state added
 abbrev pub with_look : ℕ → Node → ℕ
 with_look set (Look look next) = looks.insert set look
 with_look set _ = set
 
--- the set with the assertions of all the states
+-- the set with the assertions of all the states added
 abbrev pub with_looks_of : ℕ → List Node → ℕ
 with_looks_of set [] = set
 with_looks_of set (node ∷ rest) = with_looks_of (with_look set node) rest
 
--- the assertions of the states
+-- the set of the assertions of the states
 abbrev pub looks_of : List Node → ℕ
 looks_of states = with_looks_of 0 states
 
--- the NFA has passed every check, and knows its assertions
+-- the NFA passed validation, and its assertion set is that of its states
 pub record IsAccepted (nfa : Nfa) : Type 0 where
   pub passes : failure nfa.states nfa.start_anchored nfa.start_unanchored ≡ None
   pub looks : nfa.look_set_any ≡ looks_of nfa.states

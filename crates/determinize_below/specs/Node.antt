@@ -5,7 +5,7 @@ use Rattle.determinize_below.specs.declared.nfa.state.State.{State}
 use Rattle.determinize_below.specs.declared.nfa.state.State.TheVariants as states
 use Rattle.determinize_below.specs.declared.nfa.transitions.Transition.{Transition}
 
--- a state: the bytes or the assertion that it tests, the pattern that it accepts, and the ids that it leads to
+-- `nfa::State` without its allocator
 pub data Node : Type 0 where
   ByteRange : Transition → Node
   Sparse : List Transition → Node
@@ -29,7 +29,7 @@ node_of (states.Capture next) = Capture next
 node_of states.Fail = Fail
 node_of (states.Match pattern) = Match pattern
 
--- whether the state may go on without input
+-- whether the state has epsilon transitions
 abbrev pub is_epsilon : Node → Bool
 is_epsilon (Look look next) = true
 is_epsilon (Union alternates) = true

@@ -1,4 +1,4 @@
--- What private functions promise each other: no public contract cites these definitions.
+-- Definitions of contracts between private functions. No public contract cites them.
 pub mod Clearing
 pub mod Searching
 pub mod Sparse

@@ -1,21 +1,21 @@
--- What a search is asked for.
+-- The configuration of a search.
 use Rattle.std.specs.Prelude.{ℕ, Bool, true, false, List, nat_lt}
 use Rattle.determinize_below.specs.declared.search.Anchored.{Anchored}
 use Rattle.determinize_below.specs.declared.search.MatchKind.{MatchKind}
 use Rattle.determinize_below.specs.declared.search.MatchKind.TheVariants.{All, LeftmostFirst}
 
--- whether a search goes on after the first match
+-- whether a search continues after the first match
 abbrev pub continues : MatchKind → Bool
 continues All = true
 continues LeftmostFirst = false
 
--- a haystack, the range that is searched, and whether the search is anchored
+-- the value of an `Input`: a haystack, the range to search, and the anchored mode
 pub record Asked : Type 0 where
   pub haystack : List ℕ
   pub start : ℕ
   pub end : ℕ
   pub anchored : Anchored
 
--- whether nothing is left to search: the range starts past its end
+-- whether the range starts past its end, so that nothing is left to search
 abbrev pub is_done : Asked → Bool
 is_done asked = nat_lt asked.end asked.start

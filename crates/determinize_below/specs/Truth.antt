@@ -1,5 +1,5 @@
--- Where an assertion holds. p is the byte before the position, or `None` where nothing is before;
--- q is the unit after it, a byte or `None` for the end of the input. Both are in the order of reading.
+-- The truth of an assertion. p is the byte before the position, or `None` if there is none; q is
+-- the unit after it, a byte or `None` for EOI. Both are in reading order.
 use Rattle.std.specs.Prelude.{ℕ, suc, zero, Bool, true, false, not, cond, Option, Some, None, ◌<◌}
 use mathlib.Core.Bool.{◌&&◌, ◌||◌}
 use Rattle.determinize_below.specs.Unit.{is_word, is_byte, is_nothing}
@@ -14,7 +14,7 @@ crlf_first reverse = cond reverse 10 13
 abbrev pub crlf_second : Bool → ℕ
 crlf_second reverse = cond reverse 13 10
 
--- whether one of the two is true and the other isn't
+-- exclusive or
 abbrev pub exactly_one : Bool → Bool → Bool
 exactly_one a b = (a && not b) || (not a && b)
 
@@ -48,16 +48,17 @@ all_below (suc n) test = test n && all_below n test
 unfoldable pub all_units : (Option ℕ → Bool) → Bool
 all_units test = test None && all_below 256 (λ b. test (Some b))
 
--- the end of the input is a unit, and so is each byte
+-- EOI is a unit, and so is each byte
 abbrev pub IsUnit : Option ℕ → Type 0
 IsUnit None = Unit {0}
 IsUnit (Some b) = b < 256
 
--- whether the assertion holds after p whatever unit follows
+-- whether the assertion holds after p for every next unit
 abbrev pub is_known : Bool → ℕ → Option ℕ → Look → Bool
 is_known reverse t p l = all_units (λ q. holds reverse t p q l)
 
--- whether the assertion is Start, StartLF, StartCRLF or one of the two WordStartHalf, and the test for it says so
+-- the test for a look-behind assertion (Start, StartLF, StartCRLF or a half word start), false for
+-- any other
 abbrev pub behind_test : Bool → Bool → Bool → Bool → Look → Bool
 behind_test start line crlf word Start = start
 behind_test start line crlf word StartLF = line

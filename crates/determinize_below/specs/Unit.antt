@@ -1,10 +1,10 @@
--- Units of input, seen as a byte or nothing: every end of the input is one `None`.
+-- Units of input, seen as an optional byte: each EOI is `None`.
 use Rattle.std.specs.Prelude.{ℕ, Bool, true, false, Option, Some, None, nat_eq, nat_le}
 use mathlib.Core.Bool.{◌&&◌, ◌||◌}
 use Rattle.determinize_below.specs.declared.alphabet.UnitKind.{UnitKind}
 use Rattle.determinize_below.specs.declared.alphabet.UnitKind.TheVariants.{U8, Eoi}
 
--- a unit of input: a byte, or the end with its number
+-- the value of a `Unit`: a byte, or EOI with its number
 pub data Symbol : Type 0 where
   Byte : ℕ → Symbol
   End : ℕ → Symbol
@@ -14,22 +14,22 @@ abbrev pub symbol_of : UnitKind → Symbol
 symbol_of (U8 b) = Byte b
 symbol_of (Eoi n) = End n
 
--- and back
+-- the inverse of `symbol_of`
 abbrev pub kind_of : Symbol → UnitKind
 kind_of (Byte b) = U8 b
 kind_of (End n) = Eoi n
 
--- the byte of the unit, or none at the end of the input
+-- the byte of the unit, `None` for EOI
 abbrev pub byte_of : Symbol → Option ℕ
 byte_of (Byte b) = Some b
 byte_of (End n) = None
 
--- the number of an end, 0 for a byte
+-- the number of an EOI, 0 for a byte
 abbrev pub eoi_number : Symbol → ℕ
 eoi_number (Byte b) = 0
 eoi_number (End n) = n
 
--- whether the byte is a digit, a letter or an underscore
+-- whether the byte is 0 to 9, A to Z, underscore, or a to z
 unfoldable pub is_word_byte : ℕ → Bool
 is_word_byte b = (nat_le 48 b && nat_le b 57) || (nat_le 65 b && nat_le b 90) || nat_eq b 95 || (nat_le 97 b && nat_le b 122)
 

@@ -1,11 +1,15 @@
-//! Units of input: one byte, or the end.
+//! Units of input: the 256 byte values and a sentinel for end of input (EOI).
+//!
+//! Matches are delayed by one unit so that assertions can look ahead, so a walk feeds one unit
+//! after the last byte, usually EOI. EOI is equal to no byte, is no word byte and no NFA state has
+//! a transition on it.
 
 ghost use Rattle.std.specs.Prelude.{◌≡◌, ℕ, ◌≤◌, Option, Bool};
 ghost use Rattle.determinize_below.specs.Unit as units;
 
 use std::marker::Model;
 
-/// Whether the byte is a digit, a letter or an underscore of ASCII.
+/// Returns whether the byte is an ASCII digit, an ASCII letter or an underscore.
 #[tactic(auto, unfolding(crate::specs::Unit::is_word_byte))]
 pub fn is_word_byte(byte: u8) -> bool
     ensures { result ≡ units.is_word_byte byte }
@@ -13,9 +17,10 @@ pub fn is_word_byte(byte: u8) -> bool
     byte.is_ascii_alphanumeric() || byte == b'_'
 }
 
-/// One byte of input, or the end of the input.
+/// A byte or EOI.
 ///
-/// The end has a number from 0 to 256. Only equality and `Debug` depend on it.
+/// EOI carries a number from 0 to 256 that is visible only to `==` and `Debug`: determinization
+/// treats every EOI alike.
 #[derive(Clone, Copy, Debug, PartialEq, Eq)]
 pub struct Unit(UnitKind);
 
@@ -38,7 +43,7 @@ impl Model for Unit {
     ghost inverse = { λ s. record { 0 = kind_of s } };
 }
 
-/// The unit of this byte, or the end of the input, with the number 256, for `None`.
+/// Returns the unit of this byte, or EOI with the number 256 for `None`.
 impl From<Option<u8>> for Unit {
     ghost use Rattle.std.specs.Prelude.{None};
 
@@ -53,14 +58,14 @@ impl From<Option<u8>> for Unit {
 }
 
 impl Unit {
-    /// The unit of this byte.
+    /// Returns the unit of this byte.
     pub fn u8(byte: u8) -> Unit
         ensures { result ≡ units.Byte byte }
     {
         Unit(UnitKind::U8(byte))
     }
 
-    /// Returns the end of the input with this number.
+    /// Returns EOI with this number, which must be at most 256.
     pub fn eoi(number: usize) -> Unit
         requires { number ≤ 256 }
         ensures { result ≡ units.End number }
@@ -68,7 +73,7 @@ impl Unit {
         Unit(UnitKind::Eoi(number as u16))
     }
 
-    /// The byte, or none at the end of the input, whose number is at most 256.
+    /// Returns the byte, or `None` for EOI.
     pub fn as_u8(self) -> Option<u8>
         ensures byte { result ≡ units.byte_of self }
         ensures limit { units.eoi_number self ≤ 256 }
@@ -79,21 +84,21 @@ impl Unit {
         }
     }
 
-    /// Whether the unit is this byte. The end of the input is none.
+    /// Returns whether the unit is this byte, which is false for EOI.
     pub fn is_byte(self, byte: u8) -> bool
         ensures { result ≡ units.is_byte (units.byte_of self) byte }
     {
         self.as_u8() == Some(byte)
     }
 
-    /// Whether the unit is the end of the input.
+    /// Returns whether the unit is EOI.
     pub fn is_eoi(self) -> bool
         ensures { result ≡ units.is_nothing (units.byte_of self) }
     {
         self.as_u8().is_none()
     }
 
-    /// Whether the unit is a word byte. The end of the input is none.
+    /// Returns whether the unit is a word byte, which is false for EOI.
     pub fn is_word_byte(self) -> bool
         ensures { result ≡ units.is_word (units.byte_of self) }
     {

@@ -1,4 +1,5 @@
-//! Laws over the definitions, and of clones, as public functions.
+//! Facts about the definitions of closures and about constants and clones, as contracts of public
+//! functions.
 
 ghost use Rattle.std.specs.Prelude.{◌≡◌, nat_eq, [], ◌∷◌, IfOk, IsOk};
 ghost use Rattle.determinize_below.specs.Reach.{ordered, member, none_held};
@@ -9,8 +10,9 @@ use crate::primitives::{PatternID, StateID};
 use crate::search::Input;
 use std::alloc::AllocError;
 
-/// The computed list of a search of a graph on numbers, whose edges lead below some bound, is the one
-/// list in the order of reach, and can be found root by root; with worked rows.
+/// States that the computed depth-first search of a graph on numbers, whose edges go below some
+/// bound, returns the one list of the reachable nodes in the order of their least paths, and that
+/// it can be computed root by root. Three small examples follow.
 pub fn reach_law()
     ensures in_order { EachReachIsInOrder }
     ensures only { EachReachIsOne }
@@ -21,9 +23,8 @@ pub fn reach_law()
         ≡ 2 ∷ 0 ∷ 1 ∷ 3 ∷ 7 ∷ [] }
 {}
 
-/// What a search of an accepted NFA lists, past any held states and from any roots, is the one list
-/// in the order of reach, and can be found root by root. A search with nothing held is one past the
-/// empty list.
+/// States the same of an NFA that passed validation, for any roots and any set of states visited
+/// before. With nothing visited, `reach` is `reach_past` of the empty list.
 pub fn nfa_reach_law()
     ensures in_order { EachNfaReachIsInOrder }
     ensures only { EachNfaReachIsOne }
@@ -31,7 +32,7 @@ pub fn nfa_reach_law()
     ensures nothing_held { EachReachIsPastNothing }
 {}
 
-/// The least id of a state, the greatest one, and the number of bytes of one in memory.
+/// Returns the smallest id of a state, the greatest id, and the size of an id in bytes.
 pub fn state_id_law() -> (StateID, StateID, usize)
     ensures zero { result.0 ≡ 0 }
     ensures max { result.1 ≡ 2147483646 }
@@ -40,7 +41,7 @@ pub fn state_id_law() -> (StateID, StateID, usize)
     (StateID::ZERO, StateID::MAX, StateID::SIZE)
 }
 
-/// The least id of a pattern, the greatest one, and the bytes of one that is written out.
+/// Returns the smallest id of a pattern, the greatest id, and the size of an encoded id in bytes.
 pub fn pattern_id_law() -> (PatternID, PatternID, usize)
     ensures zero { result.0 ≡ 0 }
     ensures max { result.1 ≡ 2147483646 }
@@ -49,8 +50,8 @@ pub fn pattern_id_law() -> (PatternID, PatternID, usize)
     (PatternID::ZERO, PatternID::MAX, PatternID::SIZE)
 }
 
-/// Clones of what the assertions on lines depend on, and of an input: they have the same value,
-/// and no memory is wanted.
+/// Returns clones of a matcher and of an input. They are equal to the originals, and nothing is
+/// allocated, so it never fails.
 pub fn clone_law<'h>(
     matcher: &LookMatcher,
     input: &Input<'h>,

@@ -1,4 +1,12 @@
-//! What determinization stands on.
+//! The layers below determinization: ids, assertions, input units, searches, sparse sets and
+//! Thompson NFAs.
+//!
+//! These are the parts of the modules `util` and `nfa::thompson` of regex-automata that its
+//! determinizer needs. An `NFA` is built from its parts by `NFA::from_parts`, which validates them,
+//! so every other call may rely on a valid NFA. The modules `laws` and `look_laws` have functions
+//! whose contracts are facts about the definitions in `specs/`.
+//!
+//! A `Result` with `AllocError` is `Err` only if an allocation fails.
 #![tactic(auto)]
 
 pub mod alphabet;
@@ -14,5 +22,5 @@ pub use alphabet::Unit;
 pub use look::{Look, LookMatcher, LookSet};
 pub use nfa::{BuildError, DenseTransitions, NFA, SparseTransitions, Transition};
 pub use primitives::{PatternID, PatternIDError, StateID, StateIDError};
-pub use search::{Anchored, HalfMatch, Input, MatchKind};
+pub use search::{Anchored, HalfMatch, Input, Match, MatchKind};
 pub use sparse_set::{SparseSet, SparseSetIter, SparseSets};

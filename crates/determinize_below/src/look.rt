@@ -1,4 +1,10 @@
-//! Assertions, which look at the two sides of a position, and sets of them.
+//! Look-around assertions and sets of them.
+//!
+//! An assertion is a condition on the bytes before and after a position. A `Look` state of an NFA
+//! has an epsilon transition that may be taken only where its assertion holds. Its two bytes are
+//! those before and after the position in reading order, so in a reverse NFA `Start` holds at the
+//! end of the haystack. `determinize_looks` computes which assertions hold; here are only their
+//! bits.
 
 ghost use Rattle.std.specs.Prelude.{◌≡◌, ℕ, ◌^◌, ◌<◌, ◌==◌, bit_and, bit_or};
 ghost use Rattle.determinize_below.specs.Look.{bit_of, has};
@@ -6,57 +12,85 @@ ghost use Rattle.determinize_below.specs.Look as looks;
 
 use std::marker::Model;
 
-/// A condition on the neighbours of a position. The numbers are the bits of a `LookSet`.
+/// A look-around assertion. The discriminants are the bits of a `LookSet`.
 #[derive(Clone, Copy, Debug, PartialEq, Eq)]
 pub enum Look {
-    /// The beginning of the haystack.
+    /// The start of the haystack.
     Start = 0x1,
     /// The end of the haystack.
     End = 0x2,
-    /// The beginning of a line: of the haystack, or after the line terminator.
+    /// The start of a line: the start of the haystack, or after the line terminator.
     StartLF = 0x4,
-    /// The end of a line: of the haystack, or before the line terminator.
+    /// The end of a line: the end of the haystack, or before the line terminator.
     EndLF = 0x8,
-    /// The beginning of a line that ends in `\r`, `\n` or `\r\n`.
+    /// The start of a line, where `\r`, `\n` and `\r\n` end lines; never between `\r` and `\n`.
     StartCRLF = 0x10,
-    /// The end of a line that ends in `\r`, `\n` or `\r\n`.
+    /// The end of a line, where `\r`, `\n` and `\r\n` end lines; never between `\r` and `\n`.
     EndCRLF = 0x20,
-    /// A word byte on one side alone.
+    /// A word boundary: a word byte on exactly one side.
     WordAscii = 0x40,
-    /// A word byte on both sides or on neither.
+    /// No word boundary: a word byte on both sides or on neither.
     WordAsciiNegate = 0x80,
-    /// Read as `WordAscii`.
+    /// Treated as `WordAscii`.
     WordUnicode = 0x100,
-    /// Read as `WordAsciiNegate`.
+    /// Treated as `WordAsciiNegate`.
     WordUnicodeNegate = 0x200,
-    /// A word byte after the position and none before it.
+    /// The start of a word: a word byte after the position and none before it.
     WordStartAscii = 0x400,
-    /// A word byte before the position and none after it.
+    /// The end of a word: a word byte before the position and none after it.
     WordEndAscii = 0x800,
-    /// Read as `WordStartAscii`.
+    /// Treated as `WordStartAscii`.
     WordStartUnicode = 0x1000,
-    /// Read as `WordEndAscii`.
+    /// Treated as `WordEndAscii`.
     WordEndUnicode = 0x2000,
-    /// No word byte before the position.
+    /// The left half of a word start: no word byte before the position.
     WordStartHalfAscii = 0x4000,
-    /// No word byte after the position.
+    /// The right half of a word end: no word byte after the position.
     WordEndHalfAscii = 0x8000,
-    /// Read as `WordStartHalfAscii`.
+    /// Treated as `WordStartHalfAscii`.
     WordStartHalfUnicode = 0x10000,
-    /// Read as `WordEndHalfAscii`.
+    /// Treated as `WordEndHalfAscii`.
     WordEndHalfUnicode = 0x20000,
 }
 
 impl Look {
-    /// The assertion's bit, one of the lowest 18.
+    /// Returns the bit of the assertion, one of the lowest 18.
     pub fn as_repr(self) -> u32
         ensures { result ≡ bit_of self }
     {
         self as u32
     }
+
+    /// Returns the assertion that holds at the same position when the text is read in the other
+    /// direction. Starts and ends are exchanged, `\b` and its negation stay.
+    pub fn reversed(self) -> Look
+        ensures { result ≡ looks.reversed self }
+    {
+        match self {
+            Look::Start => Look::End,
+            Look::End => Look::Start,
+            Look::StartLF => Look::EndLF,
+            Look::EndLF => Look::StartLF,
+            Look::StartCRLF => Look::EndCRLF,
+            Look::EndCRLF => Look::StartCRLF,
+            Look::WordAscii => Look::WordAscii,
+            Look::WordAsciiNegate => Look::WordAsciiNegate,
+            Look::WordUnicode => Look::WordUnicode,
+            Look::WordUnicodeNegate => Look::WordUnicodeNegate,
+            Look::WordStartAscii => Look::WordEndAscii,
+            Look::WordEndAscii => Look::WordStartAscii,
+            Look::WordStartUnicode => Look::WordEndUnicode,
+            Look::WordEndUnicode => Look::WordStartUnicode,
+            Look::WordStartHalfAscii => Look::WordEndHalfAscii,
+            Look::WordEndHalfAscii => Look::WordStartHalfAscii,
+            Look::WordStartHalfUnicode => Look::WordEndHalfUnicode,
+            Look::WordEndHalfUnicode => Look::WordStartHalfUnicode,
+        }
+    }
 }
 
-/// A set of assertions, kept in 32 bits of which the upper 14 are zero. No call takes memory.
+/// A set of assertions as a bit set: one bit per assertion, the upper 14 bits are zero. No method
+/// allocates.
 #[derive(Clone, Copy, Debug, PartialEq, Eq)]
 pub struct LookSet {
     bits: u32,
@@ -76,14 +110,14 @@ impl Model for LookSet {
 
 #[tactic(auto, using(crate::proofs::LookBounds::bit_small, crate::proofs::LookBounds::or_of_18), unfolding(crate::specs::Look::has, crate::specs::Look::insert, crate::specs::Look::remove, crate::specs::Look::subtract, crate::specs::Look::meets))]
 impl LookSet {
-    /// The empty set.
+    /// Returns the empty set.
     pub fn empty() -> LookSet
         ensures { result ≡ 0 }
     {
         LookSet { bits: 0 }
     }
 
-    /// The set with these bits, of which only the lowest 18 may be set.
+    /// Returns the set with these bits. Only the lowest 18 may be set.
     pub fn from_repr(bits: u32) -> LookSet
         requires { bits < 2 ^ 18 }
         ensures { result ≡ bits }
@@ -91,7 +125,7 @@ impl LookSet {
         LookSet { bits }
     }
 
-    /// The bits of the set, the lowest 18 at most.
+    /// Returns the bits of the set, which are below 2^18.
     pub fn as_repr(self) -> u32
         ensures value { result ≡ self }
         ensures small { self < 2 ^ 18 }
@@ -99,14 +133,14 @@ impl LookSet {
         self.bits
     }
 
-    /// Whether the assertion is a member.
+    /// Returns whether the set contains the assertion.
     pub fn contains(self, look: Look) -> bool
         ensures { result ≡ has self look }
     {
         self.bits & look.as_repr() != 0
     }
 
-    /// The set with the assertion, which may be a member already.
+    /// Returns the set with the assertion added.
     pub fn insert(self, look: Look) -> LookSet
         ensures { result ≡ looks.insert self look }
     {
@@ -115,7 +149,7 @@ impl LookSet {
         }
     }
 
-    /// The set without the assertion, which need not be a member.
+    /// Returns the set with the assertion removed.
     pub fn remove(self, look: Look) -> LookSet
         ensures { result ≡ looks.remove self look }
     {
@@ -124,7 +158,7 @@ impl LookSet {
         }
     }
 
-    /// The members of either set.
+    /// Returns the union of the two sets.
     pub fn union(self, other: LookSet) -> LookSet
         ensures { result ≡ looks.union self other }
     {
@@ -133,7 +167,7 @@ impl LookSet {
         }
     }
 
-    /// The members of both sets.
+    /// Returns the intersection of the two sets.
     pub fn intersect(self, other: LookSet) -> LookSet
         ensures { result ≡ looks.intersect self other }
     {
@@ -142,7 +176,7 @@ impl LookSet {
         }
     }
 
-    /// The members that the other set lacks.
+    /// Returns the assertions in `self` that are not in `other`.
     pub fn subtract(self, other: LookSet) -> LookSet
         ensures { result ≡ looks.subtract self other }
     {
@@ -151,35 +185,35 @@ impl LookSet {
         }
     }
 
-    /// Whether there is no member.
+    /// Returns whether the set is empty.
     pub fn is_empty(self) -> bool
         ensures { result ≡ (self == 0) }
     {
         self.bits == 0
     }
 
-    /// Whether some member is `Start` or `End`.
+    /// Returns whether the set contains `Start` or `End`.
     pub fn contains_anchor_haystack(self) -> bool
         ensures { result ≡ looks.has_haystack self }
     {
         self.bits & 0x3 != 0
     }
 
-    /// Whether some member is one of the four assertions on lines.
+    /// Returns whether the set contains one of the four line assertions.
     pub fn contains_anchor_line(self) -> bool
         ensures { result ≡ looks.has_line self }
     {
         self.bits & 0x3C != 0
     }
 
-    /// Whether some member is `StartCRLF` or `EndCRLF`.
+    /// Returns whether the set contains `StartCRLF` or `EndCRLF`.
     pub fn contains_anchor_crlf(self) -> bool
         ensures { result ≡ looks.has_crlf self }
     {
         self.bits & 0x30 != 0
     }
 
-    /// Whether some member is one of the twelve assertions on words.
+    /// Returns whether the set contains one of the twelve word assertions.
     pub fn contains_word(self) -> bool
         ensures { result ≡ looks.has_word self }
     {
@@ -187,7 +221,7 @@ impl LookSet {
     }
 }
 
-/// What the assertions on lines depend on: the byte that ends a line.
+/// The configuration of line assertions: the line terminator of `StartLF` and `EndLF`.
 #[derive(Clone, Debug, Drop)]
 pub struct LookMatcher {
     line_terminator: u8,
@@ -200,7 +234,7 @@ impl Model for LookMatcher {
 }
 
 impl LookMatcher {
-    /// A matcher whose line terminator is `\n`.
+    /// Returns a matcher with the line terminator `\n`.
     pub fn new() -> LookMatcher
         ensures { result ≡ 10 }
     {
@@ -209,7 +243,7 @@ impl LookMatcher {
         }
     }
 
-    /// Sets the line terminator, which may be any byte, and gives back this same matcher.
+    /// Sets the line terminator, which may be any byte, and returns `self`.
     pub fn set_line_terminator(&mut self, byte: u8) -> &mut LookMatcher
         ensures same { result.ghost_name ≡ self.entry.ghost_name }
         ensures set { result.now ≡ byte }
@@ -218,7 +252,7 @@ impl LookMatcher {
         self
     }
 
-    /// The byte that ends a line.
+    /// Returns the line terminator.
     pub fn get_line_terminator(&self) -> u8
         ensures { result ≡ self.now }
     {

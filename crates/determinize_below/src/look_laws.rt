@@ -1,5 +1,7 @@
-//! Laws of assertions and of sets of them. The clauses of each function are the law; two of them
-//! read bits, for the proof alone.
+//! Facts about assertions and sets of them, as contracts of public functions.
+//!
+//! The functions compute nothing. Two read the bits of their arguments, since the prover knows the
+//! range of a set only where its bits are read.
 
 ghost use Rattle.std.specs.Prelude.{◌≡◌, ℕ, Bool, true, false, not, ◌==◌, ◌&&◌, ◌||◌, Option, Some, List};
 ghost use Rattle.std.specs.Bool.{Decides};
@@ -17,7 +19,7 @@ ghost use Rattle.determinize_below.specs.declared.look.Look.{Look as Assertion};
 
 use crate::look::{Look, LookSet};
 
-/// A set is its members: sets with the same members, or with the same four bytes, are equal.
+/// States that a set is determined by its members, and by its four bytes.
 pub fn look_set_law(set: LookSet, other: LookSet)
     ensures members { ((l : Assertion) → has set l ≡ has other l) → set ≡ other }
     ensures bytes { to_le_bytes w32 set ≡ to_le_bytes w32 other → set ≡ other }
@@ -26,7 +28,7 @@ pub fn look_set_law(set: LookSet, other: LookSet)
     let _bits = (set.as_repr(), other.as_repr());
 }
 
-/// What the calls of a set do to its members.
+/// States what each method of a set does to the members.
 pub fn look_member_law(set: LookSet, other: LookSet, look: Look, member: Look)
     ensures insert { has (looks.insert set look) look ≡ true }
     ensures insert_others { ¬ (member ≡ look)
@@ -43,7 +45,8 @@ pub fn look_member_law(set: LookSet, other: LookSet, look: Look, member: Look)
     let _bits = other.as_repr();
 }
 
-/// A set is of a class exactly where it has a member of the class.
+/// States that each test of a class of assertions is true exactly for the sets with a member of
+/// that class.
 pub fn look_class_law(set: LookSet)
     ensures haystack { looks.has_haystack set ≡ list_any (has set) classes.haystack_looks }
     ensures line { looks.has_line set ≡ list_any (has set) classes.line_looks }
@@ -51,8 +54,8 @@ pub fn look_class_law(set: LookSet)
     ensures word { looks.has_word set ≡ list_any (has set) classes.word_looks }
 {}
 
-/// What is known behind a byte, or behind nothing, is what holds there whatever unit follows; a
-/// short table says what that is.
+/// States that the assertions satisfied by the look-behind are those that hold for every next unit,
+/// and gives a table of them.
 pub fn known_law(reverse: bool, terminator: u8, before: Option<u8>, look: Look)
     ensures every { Decides (truth.is_known reverse terminator before look)
         ((q : Option ℕ) → truth.IsUnit q → truth.holds reverse terminator before q look ≡ true) }
@@ -63,8 +66,16 @@ pub fn known_law(reverse: bool, terminator: u8, before: Option<u8>, look: Look)
         (not (units.is_word before)) look }
 {}
 
-/// An assertion is among those of some states exactly where one of them tests it, and among those
-/// of an accepted NFA exactly where some state of it tests it.
+/// States that an assertion holds between two units if and only if the reversed one holds between
+/// them in the other direction. Reversed twice, it is the assertion itself.
+pub fn reversed_law(look: Look)
+    ensures holds { (reverse : Bool) (t : ℕ) (p q : Option ℕ)
+        → truth.holds (not reverse) t q p (looks.reversed look) ≡ truth.holds reverse t p q look }
+    ensures twice { looks.reversed (looks.reversed look) ≡ look }
+{}
+
+/// States that the assertion set of some states, or of a valid NFA, contains exactly the assertions
+/// that one of the states tests.
 pub fn look_state_law(look: Look)
     ensures states { (states : List Node)
         → Decides (has (looks_of states) look) (Any (λ s. assertion_in s ≡ Some look) states) }

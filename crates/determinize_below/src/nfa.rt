@@ -1,4 +1,14 @@
-//! Thompson NFAs, made of parts that are checked.
+//! Thompson NFAs, built from parts that are validated.
+//!
+//! An NFA here is a vector of states that refer to each other by index (`StateID`), two start
+//! states, a direction and a line terminator. `from_parts` is the only constructor. It rejects
+//! parts with an id out of range, with unsorted or overlapping sparse ranges, with a dense state of
+//! other than 256 targets, or with two `Match` states of one pattern. So every other call indexes
+//! states without a check, and a DFA state lists no pattern twice.
+//!
+//! An NFA for which `is_reverse` returns true is for scanning from the end of the haystack to its
+//! start. Of the assertions, only those on CRLF depend on the direction: in reverse `\n` is read
+//! before `\r`.
 
 ghost use Rattle.std.specs.Prelude.{◌≡◌, ℕ, ◌<◌, ◌≤◌, Some, None, true, map, length, slice_get, vec_len, IfOk, OnOk, IfErr, IsErrOf, ◌⊎◌};
 ghost use Rattle.determinize_below.specs.Edges.{pattern_count};
@@ -20,22 +30,22 @@ pub mod transitions;
 pub use state::State;
 pub use transitions::{DenseTransitions, SparseTransitions, Transition};
 
-/// Why parts make no NFA. The number is the index of the state at fault.
+/// An error from `NFA::from_parts`. The number, if any, is the index of the invalid state.
 #[derive(Clone, Copy, Debug, PartialEq, Eq)]
 pub enum BuildError {
     /// There are more than 2147483647 states.
     TooManyStates,
-    /// A start id is that of no state.
+    /// A start id is not below the number of states.
     UnresolvedStart,
-    /// An id in the state is that of no state.
+    /// An id in the state is not below the number of states.
     UnresolvedId(usize),
-    /// A range of the sparse state is empty, or does not begin above the end of the one before.
+    /// A range of the sparse state is empty, or does not begin above the end of the previous range.
     BadSparse(usize),
-    /// The dense state has not exactly 256 ids.
+    /// The dense state has not exactly 256 targets.
     BadDense(usize),
-    /// The state matches a pattern that an earlier state matches.
+    /// The pattern of this `Match` state is also that of an earlier state.
     RepeatedPattern(usize),
-    /// Memory for the checks was refused.
+    /// An allocation during validation failed.
     OutOfMemory,
 }
 
@@ -59,7 +69,7 @@ impl<T: Drop> From<AllocFailed<T>> for BuildError {
     }
 }
 
-/// More states than there are ids give `TooManyStates`.
+/// Returns `TooManyStates`: more states than ids.
 impl From<StateIDError> for BuildError {
     ghost use Rattle.determinize_below.specs.declared.nfa.BuildError.TheVariants.{TooManyStates};
 
@@ -90,7 +100,7 @@ impl fmt::Display for BuildError {
 
 impl Error for BuildError {}
 
-/// A Thompson NFA that has passed every check.
+/// A Thompson NFA that has passed validation.
 #[derive(Drop)]
 pub struct NFA<A: Allocator = Global> {
     states: Vec<State<A>, A>,
@@ -130,15 +140,16 @@ impl<A: Allocator> Model for NFA<A> {
 impl<A: Allocator> NFA<A> {
     ghost use Rattle.determinize_below.specs.Nfa.{IsAccepted};
 
-    /// An NFA of these parts, which are given up in either case.
+    /// Returns the NFA with these parts, or the first error that validation finds. The parts are
+    /// consumed on success and on error.
     ///
-    /// The checks go in this order, and the first that fails is answered: the number of states,
-    /// the two start ids, and then the states by their index; within a state its ids, a sparse
-    /// state's ranges, a dense state's length, and whether a pattern is matched twice.
-    /// `OutOfMemory` comes only where memory for the set of patterns was refused, whatever later
-    /// checks would have found. The number of states and the start ids are checked before any
-    /// memory is taken, so their errors come for certain. The set, which is dropped at the end,
-    /// takes its memory of `alloc`.
+    /// The checks run in this order: the number of states; the two start ids; then the states by
+    /// index, and within a state its ids, the ranges of a sparse state, the length of a dense
+    /// state, and whether the pattern of a `Match` state repeats. Returns `OutOfMemory` only if an
+    /// allocation for the set of patterns fails, even if a later check would fail, too. The number
+    /// of states and the start ids are checked before anything is allocated, so those errors do not
+    /// depend on memory. The set of patterns is allocated in `alloc` and dropped before the call
+    /// returns.
     pub fn from_parts<B: Allocator + Clone>(
         alloc: B,
         states: Vec<State<A>, A>,
@@ -184,7 +195,7 @@ impl<A: Allocator> NFA<A> {
         })
     }
 
-    /// The number of states, at most 2147483647.
+    /// Returns the number of states, at most 2147483647.
     pub fn len(&self) -> usize
         ensures count { result ≡ length self.now.states }
         ensures limit { result ≤ 2147483647 }
@@ -193,8 +204,8 @@ impl<A: Allocator> NFA<A> {
         self.states.len()
     }
 
-    /// Returns the number of patterns, which is the number of `Match` states: no two of them match the
-    /// same pattern. The ids of the patterns may be any. Does not allocate.
+    /// Returns the number of patterns, which is the number of `Match` states: no two of them match
+    /// the same pattern. The ids of the patterns need not be consecutive. Does not allocate.
     pub fn pattern_len(&self) -> usize
         ensures count { result ≡ pattern_count self.now }
         ensures limit { result ≤ length self.now.states }
@@ -203,7 +214,7 @@ impl<A: Allocator> NFA<A> {
         state::match_count(self.states.as_slice())
     }
 
-    /// The state of this id, which is below the number of states.
+    /// Returns the state with this id, which must be below the number of states.
     pub fn state(&self, id: StateID) -> &State<A>
         requires { id < length self.now.states }
         ensures state { slice_get self.now.states id ≡ Some (node_of result.now) }
@@ -214,14 +225,14 @@ impl<A: Allocator> NFA<A> {
         &self.states[id.as_usize()]
     }
 
-    /// Whether the NFA reads its haystack from the end backwards.
+    /// Returns whether the NFA scans its haystack in reverse, from the end to the start.
     pub fn is_reverse(&self) -> bool
         ensures { result ≡ self.now.reverse }
     {
         self.reverse
     }
 
-    /// What the assertions on lines depend on.
+    /// Returns the configuration of line assertions.
     pub fn look_matcher(&self) -> &LookMatcher
         ensures value { result.now ≡ self.now.terminator }
         ensures accepted { IsAccepted self.now }
@@ -229,7 +240,7 @@ impl<A: Allocator> NFA<A> {
         &self.look_matcher
     }
 
-    /// The assertions of all `Look` states, also of those that nothing leads to.
+    /// Returns the set of the assertions of all `Look` states, reachable or not.
     pub fn look_set_any(&self) -> LookSet
         ensures value { result ≡ self.now.look_set_any }
         ensures accepted { IsAccepted self.now }
@@ -237,7 +248,7 @@ impl<A: Allocator> NFA<A> {
         self.look_set_any
     }
 
-    /// The start state of anchored searches, below the number of states.
+    /// Returns the start state for anchored searches, which is below the number of states.
     pub fn start_anchored(&self) -> StateID
         ensures value { result ≡ self.now.start_anchored }
         ensures resolves { result < length self.now.states }
@@ -245,7 +256,7 @@ impl<A: Allocator> NFA<A> {
         self.start_anchored
     }
 
-    /// The start state of unanchored searches, below the number of states.
+    /// Returns the start state for unanchored searches, which is below the number of states.
     pub fn start_unanchored(&self) -> StateID
         ensures value { result ≡ self.now.start_unanchored }
         ensures resolves { result < length self.now.states }

@@ -1,7 +1,7 @@
-//! Identifiers of NFA states and of patterns: small numbers in 32 bits.
+//! Identifiers of NFA states and of patterns: small integers in 32 bits.
 //!
-//! Both have the same limit, 2147483646. So the number of states of an NFA fits 31 bits, and the
-//! difference of two ids fits a signed number of 32 bits.
+//! Both kinds have the same limit, 2147483646. So the number of states of an NFA fits 31 bits, and
+//! the difference of two ids fits an `i32`.
 
 ghost use Rattle.std.specs.Prelude.{◌≡◌, ℕ, ◌≤◌, IfErr};
 ghost use Rattle.std.specs.Result.{OkIff};
@@ -10,7 +10,7 @@ use std::error::Error;
 use std::fmt;
 use std::marker::Model;
 
-/// The number of a state of an NFA, from 0 to 2147483646.
+/// The id of an NFA state, from 0 to 2147483646.
 #[derive(Clone, Copy, Debug, PartialEq, Eq, PartialOrd, Ord, Hash)]
 pub struct StateID(u32);
 
@@ -24,7 +24,7 @@ impl Model for StateID {
     ghost inverse = { λ n. record { 0 = n } };
 }
 
-/// The number of the id, in decimal.
+/// Writes the id in decimal.
 impl fmt::Display for StateID {
     ghost use Rattle.std.specs.Prelude.{Some, decimal};
 
@@ -36,7 +36,7 @@ impl fmt::Display for StateID {
     }
 }
 
-/// A number that is too large for a `StateID`.
+/// An error from `StateID::new`: the number is above `StateID::MAX`.
 #[derive(Clone, Copy, Debug, PartialEq, Eq)]
 pub struct StateIDError {
     attempted: u64,
@@ -51,7 +51,7 @@ impl Model for StateIDError {
 }
 
 impl StateIDError {
-    /// The number that was refused.
+    /// Returns the number that is out of range.
     pub fn attempted(&self) -> u64
         ensures { result ≡ self.now }
     {
@@ -74,16 +74,17 @@ impl fmt::Display for StateIDError {
 impl Error for StateIDError {}
 
 impl StateID {
-    /// The least id, 0.
+    /// The smallest id, 0.
     pub const ZERO: StateID = StateID(0);
 
     /// The greatest id, 2147483646.
     pub const MAX: StateID = StateID(2147483646);
 
-    /// The number of bytes of an id in memory, 4.
+    /// The size of an id in bytes, 4.
     pub const SIZE: usize = 4;
 
-    /// The id of this number. A number above 2147483646 is refused, and the error gives it back.
+    /// Returns the id with this number, or an error that contains the number if it is above
+    /// 2147483646.
     pub fn new(id: usize) -> Result<StateID, StateIDError>
         ensures ok { OkIff result (id ≤ 2147483646) id }
         ensures err { IfErr result (λ e. e ≡ id) }
@@ -97,7 +98,7 @@ impl StateID {
         }
     }
 
-    /// The id of this number, which is at most 2147483646.
+    /// Returns the id with this number, which must be at most 2147483646.
     pub fn must(id: usize) -> StateID
         requires { id ≤ 2147483646 }
         ensures { result ≡ id }
@@ -105,7 +106,7 @@ impl StateID {
         StateID(id as u32)
     }
 
-    /// The number of the id.
+    /// Returns the id as a `u32`.
     pub fn as_u32(self) -> u32
         ensures value { result ≡ self }
         ensures small { self ≤ 2147483646 }
@@ -114,7 +115,7 @@ impl StateID {
         number
     }
 
-    /// The number of the id, as an index.
+    /// Returns the id as a `usize`, for indexing.
     pub fn as_usize(self) -> usize
         ensures value { result ≡ self }
         ensures small { self ≤ 2147483646 }
@@ -124,7 +125,7 @@ impl StateID {
     }
 }
 
-/// The number of a pattern, from 0 to 2147483646.
+/// The id of a pattern, from 0 to 2147483646.
 #[derive(Clone, Copy, Debug, PartialEq, Eq, PartialOrd, Ord, Hash)]
 pub struct PatternID(u32);
 
@@ -138,7 +139,7 @@ impl Model for PatternID {
     ghost inverse = { λ n. record { 0 = n } };
 }
 
-/// The number of the id, in decimal.
+/// Writes the id in decimal.
 impl fmt::Display for PatternID {
     ghost use Rattle.std.specs.Prelude.{Some, decimal};
 
@@ -150,7 +151,7 @@ impl fmt::Display for PatternID {
     }
 }
 
-/// A number that is too large for a `PatternID`.
+/// An error from `PatternID::new`: the number is above `PatternID::MAX`.
 #[derive(Clone, Copy, Debug, PartialEq, Eq)]
 pub struct PatternIDError {
     attempted: u64,
@@ -165,7 +166,7 @@ impl Model for PatternIDError {
 }
 
 impl PatternIDError {
-    /// The number that was refused.
+    /// Returns the number that is out of range.
     pub fn attempted(&self) -> u64
         ensures { result ≡ self.now }
     {
@@ -188,16 +189,17 @@ impl fmt::Display for PatternIDError {
 impl Error for PatternIDError {}
 
 impl PatternID {
-    /// The least id, 0.
+    /// The smallest id, 0.
     pub const ZERO: PatternID = PatternID(0);
 
     /// The greatest id, 2147483646.
     pub const MAX: PatternID = PatternID(2147483646);
 
-    /// The number of bytes of an id that is written out, 4.
+    /// The size of an encoded id in bytes, 4.
     pub const SIZE: usize = 4;
 
-    /// The id of this number. A number above 2147483646 is refused, and the error gives it back.
+    /// Returns the id with this number, or an error that contains the number if it is above
+    /// 2147483646.
     pub fn new(id: usize) -> Result<PatternID, PatternIDError>
         ensures ok { OkIff result (id ≤ 2147483646) id }
         ensures err { IfErr result (λ e. e ≡ id) }
@@ -211,7 +213,7 @@ impl PatternID {
         }
     }
 
-    /// The id of this number, which is at most 2147483646.
+    /// Returns the id with this number, which must be at most 2147483646.
     pub fn must(id: usize) -> PatternID
         requires { id ≤ 2147483646 }
         ensures { result ≡ id }
@@ -219,7 +221,7 @@ impl PatternID {
         PatternID(id as u32)
     }
 
-    /// The number of the id.
+    /// Returns the id as a `u32`.
     pub fn as_u32(self) -> u32
         ensures value { result ≡ self }
         ensures small { self ≤ 2147483646 }
@@ -228,7 +230,7 @@ impl PatternID {
         number
     }
 
-    /// The number of the id, as an index.
+    /// Returns the id as a `usize`, for indexing.
     pub fn as_usize(self) -> usize
         ensures value { result ≡ self }
         ensures small { self ≤ 2147483646 }

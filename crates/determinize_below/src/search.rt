@@ -1,6 +1,6 @@
-//! What a search is asked for: where, from which start, and which matches.
+//! The configuration of a search: its haystack and range, its anchored mode and its match kind.
 
-ghost use Rattle.std.specs.Prelude.{◌≡◌, ℕ, ◌+◌, ◌≤◌, length};
+ghost use Rattle.std.specs.Prelude.{◌≡◌, ℕ, ◌+◌, ◌≤◌, false, length, nat_le};
 ghost use Rattle.determinize_below.specs.Search as search_specs;
 
 use crate::primitives::PatternID;
@@ -10,14 +10,15 @@ use std::ops::Range;
 /// Which matches a search reports.
 #[derive(Clone, Copy, Debug, PartialEq, Eq)]
 pub enum MatchKind {
-    /// All of them.
+    /// All matches: determinization keeps every NFA state, so a state may list several patterns.
     All,
-    /// The most preferred one alone: a state lists one pattern at most, and reads no further.
+    /// Only the match that is preferred by the order of alternatives, as in Perl. NFA states that
+    /// are less preferred than a match are dropped, so a state lists at most one pattern.
     LeftmostFirst,
 }
 
 impl MatchKind {
-    /// Whether a search goes on after the first match: true for `All` alone.
+    /// Returns whether a search continues after the first match: true only for `All`.
     pub fn continue_past_first_match(&self) -> bool
         ensures { result ≡ search_specs.continues self.now }
     {
@@ -28,18 +29,21 @@ impl MatchKind {
     }
 }
 
-/// Whether a match must begin where the search does.
+/// Whether a match must begin where the search begins.
 #[derive(Clone, Copy, Debug, PartialEq, Eq)]
 pub enum Anchored {
     /// A match may begin anywhere.
     No,
-    /// A match begins where the search does.
+    /// A match must begin where the search begins.
     Yes,
-    /// A match of this pattern begins where the search does.
+    /// A match must begin where the search begins and be of this pattern.
     Pattern(PatternID),
 }
 
-/// A haystack, the range of it that is searched, and whether the search is anchored.
+/// A haystack, the range of it to search, and the anchored mode.
+///
+/// The range is within the haystack. Its start may be one past its end, and then the search is
+/// done.
 #[derive(Clone, Debug, Drop)]
 pub struct Input<'h> {
     haystack: &'h [u8],
@@ -65,14 +69,15 @@ impl<'h> Model for Input<'h> {
 }
 
 impl<'h> Input<'h> {
-    /// A search of the whole haystack that isn't anchored.
+    /// Returns an input for an unanchored search of the whole haystack.
     pub fn new(haystack: &'h [u8]) -> Input<'h>
-        ensures { result ≡ record {
+        ensures value { result ≡ record {
           haystack = haystack.now;
           start = 0;
           end = length haystack.now;
           anchored = Anchored.No;
         } }
+        ensures open { search_specs.is_done result ≡ false }
     {
         Input {
             haystack,
@@ -82,8 +87,8 @@ impl<'h> Input<'h> {
         }
     }
 
-    /// The same search of this range. The range ends in the haystack or at its end, and starts at
-    /// most one past its own end.
+    /// Returns the input with this range, which must end within the haystack and start at most one
+    /// past its end.
     pub fn range(self, range: Range<usize>) -> Input<'h>
         requires in_haystack { range.end ≤ length self.haystack }
         requires near { range.start ≤ range.end + 1 }
@@ -97,7 +102,7 @@ impl<'h> Input<'h> {
         }
     }
 
-    /// The same search, anchored as told.
+    /// Returns the input with this anchored mode.
     pub fn anchored(self, anchored: Anchored) -> Input<'h>
         ensures { result ≡ record self.entry { anchored = anchored } }
     {
@@ -109,7 +114,7 @@ impl<'h> Input<'h> {
         }
     }
 
-    /// Sets where the range starts: at most one past its end.
+    /// Sets the start of the range, which must be at most one past its end.
     pub fn set_start(&mut self, start: usize)
         requires near { start ≤ self.old.end + 1 }
         ensures { self.new ≡ record self.old { start = start } }
@@ -117,7 +122,8 @@ impl<'h> Input<'h> {
         self.start = start;
     }
 
-    /// Sets where the range ends: at most at the haystack's length, and at most one before its start.
+    /// Sets the end of the range, which must be at most the length of the haystack and at least the
+    /// start minus one.
     pub fn set_end(&mut self, end: usize)
         requires in_haystack { end ≤ length self.old.haystack }
         requires near { self.old.start ≤ end + 1 }
@@ -126,7 +132,7 @@ impl<'h> Input<'h> {
         self.end = end;
     }
 
-    /// Sets the range. It ends in the haystack or at its end, and starts at most one past its own end.
+    /// Sets the range, which must end within the haystack and start at most one past its end.
     pub fn set_range(&mut self, range: Range<usize>)
         requires in_haystack { range.end ≤ length self.old.haystack }
         requires near { range.start ≤ range.end + 1 }
@@ -136,8 +142,8 @@ impl<'h> Input<'h> {
         self.end = range.end;
     }
 
-    /// Where the range starts, counted in the haystack: at most one past `end`, and so at most one past
-    /// the length of the haystack.
+    /// Returns the start of the range, an index into the haystack. It may be one past `end`, and so
+    /// one past the length of the haystack.
     pub fn start(&self) -> usize
         ensures value { result ≡ self.now.start }
         ensures near { result ≤ self.now.end + 1 }
@@ -145,7 +151,7 @@ impl<'h> Input<'h> {
         self.start
     }
 
-    /// Where the range ends: an index into the haystack, at most its length.
+    /// Returns the end of the range, an index into the haystack, at most its length.
     pub fn end(&self) -> usize
         ensures value { result ≡ self.now.end }
         ensures in_haystack { result ≤ length self.now.haystack }
@@ -153,7 +159,7 @@ impl<'h> Input<'h> {
         self.end
     }
 
-    /// The whole haystack, with what is outside of the range.
+    /// Returns the whole haystack, not only the range.
     pub fn haystack(&self) -> &'h [u8]
         ensures { result.now ≡ self.now.haystack }
     {
@@ -167,7 +173,7 @@ impl<'h> Input<'h> {
         self.start > self.end
     }
 
-    /// Whether the search is anchored.
+    /// Returns the anchored mode.
     pub fn get_anchored(&self) -> Anchored
         ensures { result ≡ self.now.anchored }
     {
@@ -175,22 +181,50 @@ impl<'h> Input<'h> {
     }
 }
 
-/// One end of a match, with the pattern that matched. Where its other end lies is not known.
+/// One end of a match, with the pattern that matched. A DFA finds only one end in one scan.
 #[derive(Clone, Copy, Debug, PartialEq, Eq, Hash)]
 pub struct HalfMatch {
     /// The pattern that matched.
     pub pattern: PatternID,
-    /// Of a walk, or of a search of a text: the number of bytes that are read before the match ends.
-    /// Of a search of an input: the index in the haystack where the match ends, or where it begins
-    /// if it was read backward.
+    /// The offset of the match. A walk, or a search of a text, reports the number of bytes read
+    /// before the match ends. A search of an input reports an index into the haystack: the end of
+    /// the match, or its start for a reverse search.
     pub offset: usize,
 }
 
 impl HalfMatch {
-    /// The match of this pattern that ends, or begins, at this offset.
+    /// Returns the match of this pattern at this offset.
     pub fn new(pattern: PatternID, offset: usize) -> HalfMatch
         ensures { result ≡ record { pattern = pattern; offset = offset } }
     {
         HalfMatch { pattern, offset }
+    }
+}
+
+/// A match: the pattern that matched, and both ends of the match.
+#[derive(Clone, Copy, Debug, PartialEq, Eq, Hash)]
+pub struct Match {
+    /// The pattern that matched.
+    pub pattern: PatternID,
+    /// The index in the haystack of the start of the match.
+    pub start: usize,
+    /// The index in the haystack of the end of the match.
+    pub end: usize,
+}
+
+impl Match {
+    /// Returns whether the match is empty.
+    pub fn is_empty(&self) -> bool
+        ensures { result ≡ nat_le self.now.end self.now.start }
+    {
+        self.start >= self.end
+    }
+
+    /// Returns the range of the match in the haystack.
+    pub fn range(&self) -> Range<usize>
+        ensures start { result.start ≡ self.now.start }
+        ensures end { result.end ≡ self.now.end }
+    {
+        self.start..self.end
     }
 }

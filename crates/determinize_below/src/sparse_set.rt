@@ -1,4 +1,13 @@
-//! Sets of state ids that keep the order in which their ids came.
+//! Sparse sets: sets of NFA state ids that iterate in insertion order.
+//!
+//! The NFA states of a DFA state are listed in order of preference, so the order is significant. A
+//! set has its ids as a list, and a bit set for the membership test. `new` allocates both for the
+//! whole capacity, so an insertion writes one bit and one id and never allocates. The cost of
+//! `clear` depends on the number of ids in the list and not on the capacity, since the sets are
+//! cleared for each transition.
+//!
+//! The original has two arrays of ids, `dense` and `sparse`, in place of list and bits. The bits
+//! need 1/32 of the memory of the second array.
 
 ghost use Rattle.std.specs.Prelude.{◌≡◌, ℕ, ◌*◌, ◌<◌, ◌≤◌, ◌↔◌, [], ◌∷◌, ◌++◌, length, not, All, IsTrue, IfOk, if◌then◌else◌, nat_eq, ◌&&◌, ◌||◌};
 ghost use Rattle.std.specs.Iterator.{YieldsFirst, item_count};
@@ -10,7 +19,7 @@ use crate::primitives::StateID;
 use std::alloc::{AllocError, Allocator, Global};
 use std::marker::Model;
 
-/// Distinct ids below a capacity, in the order of their insertion.
+/// A set of state ids below a capacity, in insertion order.
 #[derive(Drop)]
 #[derive_where(Debug)]
 pub struct SparseSet<A: Allocator = Global> {
@@ -32,9 +41,8 @@ impl<A: Allocator> Model for SparseSet<A> {
 }
 
 impl<A: Allocator + Clone> SparseSet<A> {
-    /// An empty set for the ids below the capacity, which is at most 2147483647. All memory that
-    /// the set will ever want is taken here; an error says that it was refused, and nothing is
-    /// kept.
+    /// Returns an empty set for ids below the capacity, which must be at most 2147483647. Allocates
+    /// all memory that the set will ever need, and none is kept on error.
     #[tactic(auto, using(crate::proofs::Sparse::emptying))]
     pub fn new(alloc: A, capacity: usize) -> Result<SparseSet<A>, AllocError>
         requires { capacity ≤ 2147483647 }
@@ -53,28 +61,28 @@ impl<A: Allocator + Clone> SparseSet<A> {
 impl<A: Allocator> SparseSet<A> {
     ghost use Rattle.determinize_below.specs.Members.{AreMembers};
 
-    /// The number of ids in the set.
+    /// Returns the number of ids in the set.
     pub fn len(&self) -> usize
         ensures { result ≡ length self.now.ids }
     {
         self.ids.len()
     }
 
-    /// Whether the set has no id.
+    /// Returns whether the set is empty.
     pub fn is_empty(&self) -> bool
         ensures { IsTrue result ↔ (self.now.ids ≡ []) }
     {
         self.ids.is_empty()
     }
 
-    /// The number below which all ids lie.
+    /// Returns the capacity: all ids in the set are below it.
     pub fn capacity(&self) -> usize
         ensures { result ≡ self.now.capacity }
     {
         self.capacity
     }
 
-    /// Whether the id, which is below the capacity, is in the set.
+    /// Returns whether the set contains the id, which must be below the capacity.
     pub fn contains(&self, id: StateID) -> bool
         requires { id < self.now.capacity }
         ensures { result ≡ has_id self.now.ids id }
@@ -82,8 +90,8 @@ impl<A: Allocator> SparseSet<A> {
         is_bit_set(&self.bits, id)
     }
 
-    /// Adds the id, which is below the capacity, after the others, and answers whether it was
-    /// new. A set that has the id already stays as it is. It takes no memory.
+    /// Adds the id, which must be below the capacity, and returns whether it was new. A set that
+    /// contains the id already is unchanged. Does not allocate.
     #[tactic(auto, using(crate::proofs::Sparse::pushing))]
     pub fn insert(&mut self, id: StateID) -> bool
         requires { id < self.old.capacity }
@@ -97,11 +105,12 @@ impl<A: Allocator> SparseSet<A> {
             return false;
         }
         set_bit(&mut self.bits, id);
+        // `new` has reserved room for every id below the capacity.
         self.ids.push_reserved(id);
         true
     }
 
-    /// Removes every id. The capacity stays.
+    /// Removes all ids. The capacity is unchanged.
     #[tactic(auto, using(crate::proofs::Sparse::emptying))]
     pub fn clear(&mut self)
         ensures { self.new ≡ record self.old { ids = [] } }
@@ -110,7 +119,7 @@ impl<A: Allocator> SparseSet<A> {
         self.ids.clear();
     }
 
-    /// The ids, in the order of their insertion.
+    /// Returns an iterator over the ids in insertion order.
     pub fn iter(&self) -> SparseSetIter<'_>
         ensures ids { result ≡ self.now.ids }
         ensures members { AreMembers self.now }
@@ -121,7 +130,7 @@ impl<A: Allocator> SparseSet<A> {
     }
 }
 
-/// Whether the bit of the id is set in these words.
+/// Returns whether the bit of the id is set in these words.
 #[tactic(auto, using(crate::proofs::Bits::one_bit))]
 fn is_bit_set(words: &[u64], id: StateID) -> bool
     requires { id < 64 * length words.now }
@@ -141,8 +150,8 @@ fn set_bit(words: &mut [u64], id: StateID)
     words[index / 64] |= 1 << (index % 64);
 }
 
-/// Clears the bits of these ids and sets none. A short list costs its length, a long one the
-/// number of words.
+/// Clears the bits of these ids, and maybe other bits, and sets none. For a short list it clears
+/// the word of each id, for a long one it is faster to fill all words.
 fn clear_bits(words: &mut [u64], ids: &[StateID])
     requires { All (λ id. id < 64 * length words.old) ids.now }
     ensures { IsCleared words.old words.new ids.now }
@@ -152,11 +161,12 @@ fn clear_bits(words: &mut [u64], ids: &[StateID])
         return;
     }
     for id in ids {
+        // The other bits of the word are those of other ids in the list.
         words[id.as_usize() / 64] = 0;
     }
 }
 
-/// The ids of a set that are left, in the order of their insertion.
+/// An iterator over the ids of a set in insertion order.
 #[derive(Debug, Drop)]
 pub struct SparseSetIter<'a> {
     ids: &'a [StateID],
@@ -186,7 +196,8 @@ impl<'a> Iterator for SparseSetIter<'a> {
     }
 }
 
-/// Two sets, as a transition wants them for its work.
+/// Two sparse sets of the same capacity: a transition reads NFA states from one and adds their
+/// successors to the other.
 #[derive(Drop)]
 #[derive_where(Debug)]
 pub struct SparseSets<A: Allocator = Global> {
@@ -197,8 +208,8 @@ pub struct SparseSets<A: Allocator = Global> {
 }
 
 impl<A: Allocator + Copy> SparseSets<A> {
-    /// Two empty sets for the ids below the capacity, which is at most 2147483647. An error says
-    /// that memory was refused, and neither set is kept.
+    /// Returns two empty sets for ids below the capacity, which must be at most 2147483647. Nothing
+    /// is kept on error.
     pub fn new(alloc: A, capacity: usize) -> Result<SparseSets<A>, AllocError>
         requires { capacity ≤ 2147483647 }
         ensures first { IfOk result (λ s. s.set1 ≡ record { ids = []; capacity = capacity }) }
@@ -212,7 +223,7 @@ impl<A: Allocator + Copy> SparseSets<A> {
 }
 
 impl<A: Allocator> SparseSets<A> {
-    /// Empties both sets. Their capacities stay.
+    /// Removes all ids from both sets. Their capacities are unchanged.
     pub fn clear(&mut self)
         ensures { self.new ≡ record {
           set1 = record self.old.set1 { ids = [] };
@@ -223,7 +234,7 @@ impl<A: Allocator> SparseSets<A> {
         self.set2.clear();
     }
 
-    /// Exchanges the two sets, with their capacities.
+    /// Swaps the two sets, with their capacities.
     pub fn swap(&mut self)
         ensures { self.new ≡ record { set1 = self.old.set2; set2 = self.old.set1 } }
     {

@@ -1,5 +1,5 @@
-//! Replays jobs with answers from standard input through the public calls of the library, and
-//! prints each answer that differs.
+//! Replays the jobs of standard input through the public calls of the library, and prints each job
+//! whose output differs from the expected one.
 #![tactic(auto)]
 
 #[cfg(test)]
@@ -25,7 +25,7 @@ fn main(rt: HostRuntime) -> ExitCode {
     ExitCode::from(status)
 }
 
-/// The arguments without the program's own name.
+/// Returns the arguments without the name of the program.
 fn arguments(rt: &(impl Env + Alloc<A = Global>)) -> io::Result<Vec<String>> {
     let mut words = Vec::new(rt.alloc());
     for word in env::args(rt)?.skip(1) {

@@ -1,8 +1,10 @@
-//! Tests through public calls alone: worked answers, texts of values, and the program's own work.
+//! Tests through public calls only: outputs that were worked out by hand, texts of values, and the
+//! work of the programs.
 
 mod below;
 mod calling;
 mod dfa;
+mod find;
 mod laws;
 mod lazy;
 mod map_text;
@@ -25,12 +27,12 @@ use std::process::Abort;
 use std::test::Fail;
 use worked_rows::answers;
 
-/// Asks that two values are equal.
+/// Asserts that two values are equal.
 pub fn same<R: Abort, T: PartialEq + Debug + Copy>(rt: &R, found: T, wanted: T) {
     assert_eq!(rt; found, wanted);
 }
 
-/// Asks that two values are equal, and tells where they are not.
+/// Asserts that two values are equal, and prints `place` if they are not.
 pub fn same_at<R: Abort, L: Debug + Copy, T: PartialEq + Debug + Copy>(
     rt: &R,
     place: L,
@@ -40,12 +42,12 @@ pub fn same_at<R: Abort, L: Debug + Copy, T: PartialEq + Debug + Copy>(
     assert_eq!(rt; found, wanted, "{place:?}");
 }
 
-/// Asks that something holds.
+/// Asserts a condition.
 pub fn holds<R: Abort>(rt: &R, is_so: bool) {
     assert!(rt; is_so);
 }
 
-/// Replays a job, and compares its answer.
+/// Runs a job and compares its output.
 fn replay<R: Abort + AllocGlobal>(rt: &R, line: &str, wanted: &str) -> Result<(), Fail> {
     let answer = verbs::answer(rt.alloc(), &Job::read(rt.alloc(), line)?)?;
     same_at(rt, line, answer.as_str(), wanted);

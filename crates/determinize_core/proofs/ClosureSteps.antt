@@ -1,12 +1,12 @@
 -- The search of a closure, one turn after another.
-use Rattle.std.proofs.Common.{◌≡◌, ℕ, ◌+◌, ◌<◌, Bool, true, false, not, List, [], ◌∷◌, ◌++◌, length, nat_eq, All, refl, sym, ap, ◌∙◌, arith, subst, append_assoc, ◌||◌, if◌then◌else◌}
+use Rattle.std.proofs.Common.{◌≡◌, ℕ, ◌+◌, ◌<◌, Bool, true, false, not, List, [], ◌∷◌, ◌++◌, length, nat_eq, All, refl, sym, ap, ◌∙◌, arith, subst, append_assoc, ◌≤◌, ◌||◌, ◌⊎◌, inl, inr, if◌then◌else◌}
 use Rattle.std.proofs.lemmas.List.{append-nil, append_cancel_left}
 use Rattle.std.proofs.lemmas.List.Elements.{All-tail, All-append, All-cons, All-nil}
 use Rattle.std.proofs.lemmas.Bool.Decides.{nat_tests}
 use Rattle.determinize_below.specs.declared.look.Look.{Look as Assertion}
 use Rattle.determinize_below.specs.Edges.{edges, edges_of, state_at, reach_past}
 use Rattle.determinize_below.specs.Members.{Members, has_id}
-use Rattle.determinize_below.specs.Nfa.{Nfa}
+use Rattle.determinize_below.specs.Nfa.{AllResolve, Nfa}
 use Rattle.determinize_below.specs.Node.{Node, ByteRange, Sparse, Dense, Look, Union, BinaryUnion, Capture, Fail, Match, is_epsilon}
 use Rattle.determinize_below.proofs.Tests.{by_test}
 use Rattle.std.proofs.lemmas.Bool.{true≢false}
@@ -61,41 +61,41 @@ module _ (nfa : Nfa) (sound : IsSound nfa) (look : Assertion → Bool) where
         below = All-append (λ s. s < length nfa.states) (edges nfa look id) rest (All-from_member same_decides (λ s. s < length nfa.states) (edges nfa look id) (λ t m. sound.resolves look id t m));
       }
 
-  -- the state of a search from a root
-  pub search_end-start : (held : List ℕ) (root : ℕ) → search_end nfa look held (root ∷ []) ≡ held ++ reach_past nfa look held (root ∷ [])
+  -- the states of a search from roots
+  pub search_end-start : (held roots : List ℕ) → search_end nfa look held roots ≡ held ++ reach_past nfa look held roots
   unfolding search_end reach_past
-  search_end-start held root = refl
+  search_end-start held roots = refl
 
   -- what a search has met is a beginning of what it ends with
-  pub met_so_far : (held met pending : List ℕ) (root : ℕ) → search_end nfa look met pending ≡ search_end nfa look held (root ∷ []) → (grown : (more : List ℕ) × (met ≡ held ++ more))
-      → IsBeginning grown.0 (reach_past nfa look held (root ∷ []))
+  pub met_so_far : (held met pending roots : List ℕ) → search_end nfa look met pending ≡ search_end nfa look held roots → (grown : (more : List ℕ) × (met ≡ held ++ more))
+      → IsBeginning grown.0 (reach_past nfa look held roots)
   unfolding search_end
-  met_so_far held met pending root same grown =
+  met_so_far held met pending roots same grown =
       let rest : List ℕ = ordered nat_eq (edges nfa look) (length nfa.states + 1) (member nat_eq met) pending in
-      let whole : (held ++ grown.0) ++ rest ≡ held ++ reach_past nfa look held (root ∷ []) =
-      ap (λ l. l ++ rest) (sym grown.1) ∙ same ∙ search_end-start held root in
-      (rest, sym (append_cancel_left held (grown.0 ++ rest) (reach_past nfa look held (root ∷ [])) (sym (append_assoc held grown.0 rest) ∙ whole)))
+      let whole : (held ++ grown.0) ++ rest ≡ held ++ reach_past nfa look held roots =
+      ap (λ l. l ++ rest) (sym grown.1) ∙ same ∙ search_end-start held roots in
+      (rest, sym (append_cancel_left held (grown.0 ++ rest) (reach_past nfa look held roots) (sym (append_assoc held grown.0 rest) ∙ whole)))
 
--- a search from a root, after some turns: what was met, what is pending, and the tries before and by now
-pub record IsSoFar (nfa : Nfa) (look : Assertion → Bool) (held : List ℕ) (root : ℕ) (met pending : List ℕ) (before now : ℕ) : Type 0 where
-  pub same : search_end nfa look met pending ≡ search_end nfa look held (root ∷ [])
-  pub counted : now + tries_left nfa look met pending ≡ before + tries_left nfa look held (root ∷ [])
+-- a search from roots, after some turns: what was met, what is pending, and the tries before and by now
+pub record IsSoFar (nfa : Nfa) (look : Assertion → Bool) (held roots met pending : List ℕ) (before now : ℕ) : Type 0 where
+  pub same : search_end nfa look met pending ≡ search_end nfa look held roots
+  pub counted : now + tries_left nfa look met pending ≡ before + tries_left nfa look held roots
   pub grown : (more : List ℕ) × (met ≡ held ++ more)
   pub below : All (λ s. s < length nfa.states) pending
 
-module _ (nfa : Nfa) (sound : IsSound nfa) (look : Assertion → Bool) (held : List ℕ) (root : ℕ) where
-  pub so_far-start : (before : ℕ) → root < length nfa.states → IsSoFar nfa look held root held (root ∷ []) before before
+module _ (nfa : Nfa) (sound : IsSound nfa) (look : Assertion → Bool) (held roots : List ℕ) where
+  pub so_far-start : (before : ℕ) → All (λ s. s < length nfa.states) roots → IsSoFar nfa look held roots held roots before before
   so_far-start before h = record {
     same = refl;
     counted = refl;
     grown = ([], sym (append-nil held));
-    below = All-cons (λ s. s < length nfa.states) root [] h (All-nil (λ s. s < length nfa.states));
+    below = h;
   }
 
-  module _ (met pending : List ℕ) (before now : ℕ) (so_far : IsSoFar nfa look held root met pending before now) where
-    pub so_far-turn : (after next rest : List ℕ) (id : ℕ) → pending ≡ id ∷ rest → IsTurn nfa look met after id rest next → IsSoFar nfa look held root after next before (now + 1)
+  module _ (met pending : List ℕ) (before now : ℕ) (so_far : IsSoFar nfa look held roots met pending before now) where
+    pub so_far-turn : (after next rest : List ℕ) (id : ℕ) → pending ≡ id ∷ rest → IsTurn nfa look met after id rest next → IsSoFar nfa look held roots after next before (now + 1)
     so_far-turn after next rest id top turn =
-        let at_top : now + tries_left nfa look met (id ∷ rest) ≡ before + tries_left nfa look held (root ∷ []) = subst (λ l. now + tries_left nfa look met l ≡ before + tries_left nfa look held (root ∷ [])) top so_far.counted in
+        let at_top : now + tries_left nfa look met (id ∷ rest) ≡ before + tries_left nfa look held roots = subst (λ l. now + tries_left nfa look met l ≡ before + tries_left nfa look held roots) top so_far.counted in
         record {
           same = turn.same ∙ ap (λ l. search_end nfa look met l) (sym top) ∙ so_far.same;
           counted = omega (arith, turn.fewer, at_top);
@@ -103,18 +103,27 @@ module _ (nfa : Nfa) (sound : IsSound nfa) (look : Assertion → Bool) (held : L
           below = turn.below (All-tail (λ s. s < length nfa.states) id rest (subst (λ l. All (λ s. s < length nfa.states) l) top so_far.below));
         }
 
-    pub so_far-end : pending ≡ [] → met ≡ held ++ reach_past nfa look held (root ∷ [])
+    pub so_far-end : pending ≡ [] → met ≡ held ++ reach_past nfa look held roots
     so_far-end none =
         sym (search_end-done nfa sound look met) ∙ ap (λ l. search_end nfa look met l) (sym none)
-        ∙ so_far.same ∙ search_end-start nfa sound look held root
+        ∙ so_far.same ∙ search_end-start nfa sound look held roots
 
-    pub so_far-counted : pending ≡ [] → now ≡ before + tries_left nfa look held (root ∷ [])
+    pub so_far-counted : pending ≡ [] → now ≡ before + tries_left nfa look held roots
     so_far-counted none =
         let left : tries_left nfa look met pending ≡ 0 = ap (λ l. tries_left nfa look met l) none ∙ tries_left-done nfa sound look met in
         omega (arith, so_far.counted, left)
 
-    pub so_far-part : (more : List ℕ) × (met ≡ held ++ more) × IsBeginning more (reach_past nfa look held (root ∷ []))
-    so_far-part = (so_far.grown.0, so_far.grown.1, met_so_far nfa sound look held met pending root so_far.same so_far.grown)
+    pub so_far-part : (more : List ℕ) × (met ≡ held ++ more) × IsBeginning more (reach_past nfa look held roots)
+    so_far-part = (so_far.grown.0, so_far.grown.1, met_so_far nfa sound look held met pending roots so_far.same so_far.grown)
+
+    -- the tries are no more than all
+    pub so_far-bounded : (after : ℕ) → after ≡ now → after ≤ before + tries_left nfa look held roots
+    so_far-bounded after e = omega (arith, so_far.counted)
+
+-- where nothing is pending, a search from some root has made a turn
+pub none_left : (nfa : Nfa) (roots met pending : List ℕ) → pending ≡ [] → (pending ≡ roots) ⊎ AllResolve nfa met → (root : ℕ) (others : List ℕ) → roots ≡ root ∷ others → AllResolve nfa met
+none_left nfa roots met pending none (inl same) root others e = absurd (let k : [] ≡ root ∷ others = sym none ∙ same ∙ e in cc)
+none_left nfa roots met pending none (inr all) root others e = all
 
 -- the list that is chosen by what a test answered
 pub inserted : {A : Type 0} (b : Bool) (xs ys : List A) → b ≡ true → (if b then xs else ys) ≡ xs
@@ -144,18 +153,17 @@ edges_of-leaf look (Match pattern) e = refl
 
 module _ (nfa : Nfa) (sound : IsSound nfa) (look : Assertion → Bool) (held : List ℕ) (root : ℕ) (within : root < length nfa.states) (leaf : is_epsilon (state_at nfa root) ≡ false) where
   -- the search from such a state ends after one turn
-  one_turn : (new : Bool) → new ≡ not (has_id held root) → (before : ℕ) → IsSoFar nfa look held root (if new then held ++ root ∷ [] else held) [] before (before + 1)
-  one_turn new h before = by_test (has_id held root)
+  one_turn : (new : Bool) → new ≡ not (has_id held root) → (before : ℕ) → IsSoFar nfa look held (root ∷ []) (if new then held ++ root ∷ [] else held) [] before (before + 1)
+  one_turn new h before =
+      let start : IsSoFar nfa look held (root ∷ []) held (root ∷ []) before before = so_far-start nfa sound look held (root ∷ []) before (All-cons (λ s. s < length nfa.states) root [] within (All-nil (λ s. s < length nfa.states))) in
+      by_test (has_id held root)
       (λ e. let old : new ≡ false = h ∙ ap not e in
-      rw old (so_far-turn nfa sound look held root held (root ∷ []) before before (so_far-start nfa sound look held root before within) held [] [] root refl (turn_held nfa sound look held [] root e)))
+      rw old (so_far-turn nfa sound look held (root ∷ []) held (root ∷ []) before before start held [] [] root refl (turn_held nfa sound look held [] root e)))
       (λ e. let fresh : new ≡ true = h ∙ ap not e in
       let no_edges : edges nfa look root ++ [] ≡ [] = ap (λ l. l ++ []) (edges_of-leaf look (state_at nfa root) leaf) in
-      rw fresh (so_far-turn nfa sound look held root held (root ∷ []) before before (so_far-start nfa sound look held root before within) (held ++ root ∷ []) [] [] root refl
+      rw fresh (so_far-turn nfa sound look held (root ∷ []) held (root ∷ []) before before start (held ++ root ∷ []) [] [] root refl
       (subst (λ l. IsTurn nfa look held (held ++ root ∷ []) root [] l) no_edges (turn_new nfa sound look held [] root e))))
 
-  -- what it adds, and its one try
+  -- what it adds
   pub leaf_set : (new : Bool) → new ≡ not (has_id held root) → (if new then held ++ root ∷ [] else held) ≡ held ++ reach_past nfa look held (root ∷ [])
-  leaf_set new h = so_far-end nfa sound look held root _ [] 0 1 (one_turn new h 0) refl
-
-  pub leaf_tries : tries_left nfa look held (root ∷ []) ≡ 1
-  leaf_tries = let k : 1 ≡ 0 + tries_left nfa look held (root ∷ []) = so_far-counted nfa sound look held root _ [] 0 1 (one_turn (not (has_id held root)) refl 0) refl in omega arith
+  leaf_set new h = so_far-end nfa sound look held (root ∷ []) _ [] 0 1 (one_turn new h 0) refl

@@ -18,7 +18,7 @@ use Rattle.determinize_below.proofs.Nodes.{same_decides}
 use Rattle.determinize_below.proofs.Sets.{fresh-append}
 use Rattle.determinize_below.proofs.SoundNfa.{IsSound}
 use Rattle.determinize_below.proofs.Tests.{by_option, by_test, or_false_left, or_false_right}
-use Rattle.determinize_core.specs.Private.Reading.{matters, gained, roots_of}
+use Rattle.determinize_core.specs.Private.Reading.{distinct, gained, IsListRead, IsStateRead, matters}
 use Rattle.determinize_core.specs.Step.{part_read, patterns_read}
 use Rattle.determinize_states.specs.Value.{Value, is_nonempty}
 use Rattle.determinize_core.specs.Private.Changes.{with_patterns}
@@ -26,18 +26,10 @@ use Rattle.determinize_core.proofs.Collecting.{fresh-push}
 use Rattle.determinize_core.proofs.Loops.{goes_on, pattern_new, patterns-push, stops_at, targets-push}
 use Rattle.determinize_core.proofs.Targets.{target-match}
 
--- the items of a list, each once
-abbrev pub distinct : List ℕ → List ℕ
-distinct xs = fresh nat_eq none_held xs
-
 -- an empty list
 pub empty_of : (xs : List ℕ) → is_nonempty xs ≡ false → xs ≡ []
 empty_of [] e = refl
 empty_of (x ∷ xs) e = absurd (true≢false e)
-
-is_nonempty-append : (xs ys : List ℕ) → is_nonempty (xs ++ ys) ≡ (is_nonempty xs || is_nonempty ys)
-is_nonempty-append [] ys = refl
-is_nonempty-append (x ∷ xs) ys = refl
 
 none_of : (o : Option ℕ) → is_some o ≡ false → option_to_list o ≡ []
 none_of None e = refl
@@ -103,37 +95,30 @@ module _ (nfa : Nfa) (u : Option ℕ) where
       (λ k. rw (k, e) refl)
       (λ k. rw (k, e) refl))
 
--- a list read up to some place: the states that matter, what the builder has, and whether the unit leads on
-pub record IsFirstRead (nfa : Nfa) (kind : MatchKind) (u : Option ℕ) (done : List ℕ) (begun value : Value) (kept : List ℕ) (some : Bool) : Type 0 where
+-- a list read up to some place: the states that matter, what the builder has, and the targets
+pub record IsFirstRead (nfa : Nfa) (kind : MatchKind) (u : Option ℕ) (done : List ℕ) (begun value : Value) (kept targets : List ℕ) : Type 0 where
   pub kept_are : kept ≡ filter (matters nfa u) (distinct done)
   pub value_is : value ≡ with_patterns begun (patterns_of nfa (distinct done))
-  pub some_is : some ≡ is_nonempty (flat_map (target nfa u) (distinct done))
+  pub targets_are : targets ≡ flat_map (target nfa u) (distinct done)
   pub unmatched : continues kind ≡ false → list_any (is_match nfa) (distinct done) ≡ false
 
--- the list was read, or the reading has stopped at its first match
-pub record IsFirstReadOut (nfa : Nfa) (kind : MatchKind) (u : Option ℕ) (working : List ℕ) (begun value : Value) (kept : List ℕ) (some : Bool) : Type 0 where
-  pub value_is : value ≡ with_patterns begun (patterns_read kind (patterns_of nfa working))
-  pub roots : flat_map (target nfa u) kept ≡ roots_of nfa kind u working
-  pub some_is : some ≡ is_nonempty (roots_of nfa kind u working)
-
 module _ (nfa : Nfa) (kind : MatchKind) (u : Option ℕ) (begun : Value) where
-  pub first_read-start : (kept : List ℕ) → kept ≡ [] → begun.patterns ≡ [] → IsFirstRead nfa kind u [] begun begun kept false
-  first_read-start kept none unread = record {
+  pub first_read-start : (kept targets : List ℕ) → kept ≡ [] → targets ≡ [] → begun.patterns ≡ [] → IsFirstRead nfa kind u [] begun begun kept targets
+  first_read-start kept targets none untargeted unread = record {
     kept_are = none;
     value_is = sym (ap (λ ps. with_patterns begun ps) (sym unread));
-    some_is = refl;
+    targets_are = untargeted;
     unmatched = λ h. refl;
   }
 
-  module _ (done : List ℕ) (id : ℕ) (value next : Value) (kept after : List ℕ) (some : Bool)
-      (so_far : IsFirstRead nfa kind u done begun value kept some)
-      (k : after ≡ kept ++ gained nfa u kept id)
-      (v : next ≡ with_patterns value (value.patterns ++ patterns_of nfa (gained nfa u kept id))) where
+  module _ (done : List ℕ) (id : ℕ) (value next : Value) (kept after targets further : List ℕ)
+      (so_far : IsFirstRead nfa kind u done begun value kept targets)
+      (read : IsStateRead nfa u id kept after targets further value next) where
     gained_more : gained nfa u kept id ≡ filter (matters nfa u) (one_more nfa u done id)
     gained_more = ap (λ l. gained nfa u l id) so_far.kept_are ∙ gained_is nfa u done id
 
     kept_more : after ≡ filter (matters nfa u) (distinct (done ++ id ∷ []))
-    kept_more = k ∙ ap (λ l. l ++ gained nfa u kept id) so_far.kept_are ∙ ap (λ l. filter (matters nfa u) (distinct done) ++ l) gained_more
+    kept_more = read.kept_are ∙ ap (λ l. l ++ gained nfa u kept id) so_far.kept_are ∙ ap (λ l. filter (matters nfa u) (distinct done) ++ l) gained_more
         ∙ sym (filter-append (matters nfa u) (distinct done) (one_more nfa u done id)) ∙ ap (λ l. filter (matters nfa u) l) (sym (distinct-push nfa u done id))
 
     patterns_more : (value.patterns ++ patterns_of nfa (gained nfa u kept id)) ≡ patterns_of nfa (distinct (done ++ id ∷ []))
@@ -143,20 +128,22 @@ module _ (nfa : Nfa) (kind : MatchKind) (u : Option ℕ) (begun : Value) where
         ∙ ap (λ l. patterns_of nfa l) (sym (distinct-push nfa u done id))
 
     value_more : next ≡ with_patterns begun (patterns_of nfa (distinct (done ++ id ∷ [])))
-    value_more = v ∙ ap (λ (w : Value). with_patterns w (value.patterns ++ patterns_of nfa (gained nfa u kept id))) so_far.value_is ∙ ap (λ ps. with_patterns begun ps) patterns_more
+    value_more = read.value_is ∙ ap (λ (w : Value). with_patterns w (value.patterns ++ patterns_of nfa (gained nfa u kept id))) so_far.value_is ∙ ap (λ ps. with_patterns begun ps) patterns_more
+
+    targets_more : further ≡ flat_map (target nfa u) (distinct (done ++ id ∷ []))
+    targets_more = read.targets_are
+        ∙ ap (λ l. l ++ flat_map (target nfa u) (gained nfa u kept id)) so_far.targets_are
+        ∙ ap (λ l. flat_map (target nfa u) (distinct done) ++ l) (ap (λ l. flat_map (target nfa u) l) gained_more ∙ targets-that_matter nfa u (one_more nfa u done id))
+        ∙ sym (flat_map-append (target nfa u) (distinct done) (one_more nfa u done id))
+        ∙ ap (λ l. flat_map (target nfa u) l) (sym (distinct-push nfa u done id))
 
     -- one more state
-    pub first_read-next : (later : Bool) → later ≡ (some || is_nonempty (flat_map (target nfa u) (gained nfa u kept id)))
-        → (is_match nfa id && not (continues kind)) ≡ false → IsFirstRead nfa kind u (done ++ id ∷ []) begun next after later
+    pub first_read-next : (is_match nfa id && not (continues kind)) ≡ false → IsFirstRead nfa kind u (done ++ id ∷ []) begun next after further
     unfolding one_more
-    first_read-next later s stop = record {
+    first_read-next stop = record {
       kept_are = kept_more;
       value_is = value_more;
-      some_is = s
-          ∙ ap (λ b. b || is_nonempty (flat_map (target nfa u) (gained nfa u kept id))) so_far.some_is
-          ∙ ap (λ l. is_nonempty (flat_map (target nfa u) (distinct done)) || is_nonempty l) (ap (λ l. flat_map (target nfa u) l) gained_more ∙ targets-that_matter nfa u (one_more nfa u done id))
-          ∙ sym (is_nonempty-append (flat_map (target nfa u) (distinct done)) (flat_map (target nfa u) (one_more nfa u done id)))
-          ∙ ap is_nonempty (sym (flat_map-append (target nfa u) (distinct done) (one_more nfa u done id)) ∙ ap (λ l. flat_map (target nfa u) l) (sym (distinct-push nfa u done id)));
+      targets_are = targets_more;
       unmatched = λ h. ap (λ l. list_any (is_match nfa) l) (distinct-push nfa u done id) ∙ list_any-append (is_match nfa) (distinct done) (one_more nfa u done id)
           ∙ none_more (list_any (is_match nfa) (distinct done)) (list_any (is_match nfa) (one_more nfa u done id)) (so_far.unmatched h) (no_match h stop);
     }
@@ -181,33 +168,30 @@ unmatched_new nfa (y ∷ xs) x h m = by_test (nat_eq x y)
 
 module _ (nfa : Nfa) (u : Option ℕ) (begun : Value) where
   -- the end of the list
-  pub first_read-end : (kind : MatchKind) (done : List ℕ) (value : Value) (kept : List ℕ) (some : Bool) → IsFirstRead nfa kind u done begun value kept some
-      → IsFirstReadOut nfa kind u (distinct done) begun value kept some
-  first_read-end kinds.All done value kept some so_far = record {
+  pub first_read-end : (kind : MatchKind) (done : List ℕ) (value : Value) (kept targets : List ℕ) → IsFirstRead nfa kind u done begun value kept targets
+      → IsListRead nfa kind u (distinct done) begun value targets
+  first_read-end kinds.All done value kept targets so_far = record {
     value_is = so_far.value_is;
-    roots = ap (λ l. flat_map (target nfa u) l) so_far.kept_are ∙ targets-that_matter nfa u (distinct done);
-    some_is = so_far.some_is;
+    targets_are = so_far.targets_are;
   }
-  first_read-end kinds.LeftmostFirst done value kept some so_far =
+  first_read-end kinds.LeftmostFirst done value kept targets so_far =
       let on : (part_read kinds.LeftmostFirst (is_match nfa) (distinct done) ≡ distinct done) × (patterns_of nfa (distinct done) ≡ []) = goes_on nfa (distinct done) (so_far.unmatched refl) in
       record {
         value_is = so_far.value_is ∙ ap (λ ps. with_patterns begun ps) (on.1 ∙ ap (λ ps. take 1 ps) (sym on.1));
-        roots = ap (λ l. flat_map (target nfa u) l) so_far.kept_are ∙ targets-that_matter nfa u (distinct done) ∙ ap (λ l. flat_map (target nfa u) l) (sym on.0);
-        some_is = so_far.some_is ∙ ap (λ l. is_nonempty (flat_map (target nfa u) l)) (sym on.0);
+        targets_are = so_far.targets_are ∙ ap (λ l. flat_map (target nfa u) l) (sym on.0);
       }
 
   -- the first match, after which nothing matters
-  pub first_read-stop : (kind : MatchKind) (done left : List ℕ) (id : ℕ) (value next : Value) (kept after : List ℕ) (some : Bool)
-      → IsFirstRead nfa kind u done begun value kept some
-      → after ≡ kept ++ gained nfa u kept id
-      → next ≡ with_patterns value (value.patterns ++ patterns_of nfa (gained nfa u kept id))
+  pub first_read-stop : (kind : MatchKind) (done left : List ℕ) (id : ℕ) (value next : Value) (kept after targets further : List ℕ)
+      → IsFirstRead nfa kind u done begun value kept targets
+      → IsStateRead nfa u id kept after targets further value next
       → (is_match nfa id && not (continues kind)) ≡ true
-      → IsFirstReadOut nfa kind u (distinct (done ++ (id ∷ left))) begun next after some
-  first_read-stop kinds.All done left id value next kept after some so_far k v stop = absurd (never (is_match nfa id) stop)
+      → IsListRead nfa kind u (distinct (done ++ (id ∷ left))) begun next further
+  first_read-stop kinds.All done left id value next kept after targets further so_far read stop = absurd (never (is_match nfa id) stop)
     where
       never : (a : Bool) → (a && not true) ≡ true → ⊥
       never a h = grind arith
-  first_read-stop kinds.LeftmostFirst done left id value next kept after some so_far k v stop = by_option (pattern_of nfa id)
+  first_read-stop kinds.LeftmostFirst done left id value next kept after targets further so_far read stop = by_option (pattern_of nfa id)
       (λ e. absurd (true≢false (sym (matched (is_match nfa id) stop) ∙ ap is_some e)))
       (λ p e.
       let new : has_id (distinct done) id ≡ false = unmatched_new nfa (distinct done) id (so_far.unmatched refl) (matched (is_match nfa id) stop) in
@@ -224,22 +208,14 @@ module _ (nfa : Nfa) (u : Option ℕ) (begun : Value) where
       let roots_are : flat_map (target nfa u) (distinct (done ++ id ∷ [])) ≡ flat_map (target nfa u) (distinct done) =
       ap (λ l. flat_map (target nfa u) l) one ∙ targets-push nfa u (distinct done) id ∙ ap (λ l. flat_map (target nfa u) (distinct done) ++ l) (target-match nfa u id p e) ∙ append-nil (flat_map (target nfa u) (distinct done)) in
       record {
-        value_is = value_more nfa kinds.LeftmostFirst u begun done id value next kept after some so_far k v
+        value_is = value_more nfa kinds.LeftmostFirst u begun done id value next kept after targets further so_far read
             ∙ ap (λ ps. with_patterns begun ps) (first ∙ sym (ap (λ l. take 1 (patterns_of nfa l)) whole ∙ at.1));
-        roots = ap (λ l. flat_map (target nfa u) l) (kept_more nfa kinds.LeftmostFirst u begun done id value next kept after some so_far k v)
-            ∙ targets-that_matter nfa u (distinct (done ++ id ∷ [])) ∙ roots_are ∙ ap (λ l. flat_map (target nfa u) l) (sym part);
-        some_is = so_far.some_is ∙ ap (λ l. is_nonempty (flat_map (target nfa u) l)) (sym part);
+        targets_are = targets_more nfa kinds.LeftmostFirst u begun done id value next kept after targets further so_far read
+            ∙ roots_are ∙ ap (λ l. flat_map (target nfa u) l) (sym part);
       })
     where
       matched : (a : Bool) → (a && not false) ≡ true → a ≡ true
       matched a h = grind arith
-
--- a test beside one that is known
-pub or_with_true : (a b : Bool) → b ≡ true → true ≡ (a || b)
-or_with_true a b h = grind arith
-
-pub or_with_false : (a b : Bool) → b ≡ false → a ≡ (a || b)
-or_with_false a b h = grind arith
 
 -- the items of a list without repeats
 all_at : (P : ℕ → Type 0) (xs : List ℕ) (y : ℕ) → AllByRecursion P xs → member nat_eq xs y ≡ true → P y
@@ -262,9 +238,9 @@ pub distinct_same : (xs : List ℕ) → IsDistinct nat_eq xs → distinct xs ≡
 distinct_same xs d = fresh_distinct none_held xs (λ x m. refl) d
 
 -- the pattern of a state that was not kept is new
-pub first_read-new : (nfa : Nfa) → IsSound nfa → (kind : MatchKind) (u : Option ℕ) (done : List ℕ) (begun value : Value) (kept : List ℕ) (some : Bool) (id p : ℕ)
-    → IsFirstRead nfa kind u done begun value kept some → pattern_of nfa id ≡ Some p → has_id kept id ≡ false → list_any (nat_eq p) value.patterns ≡ false
-first_read-new nfa sound kind u done begun value kept some id p so_far e h =
+pub first_read-new : (nfa : Nfa) → IsSound nfa → (kind : MatchKind) (u : Option ℕ) (done : List ℕ) (begun value : Value) (kept targets : List ℕ) (id p : ℕ)
+    → IsFirstRead nfa kind u done begun value kept targets → pattern_of nfa id ≡ Some p → has_id kept id ≡ false → list_any (nat_eq p) value.patterns ≡ false
+first_read-new nfa sound kind u done begun value kept targets id p so_far e h =
     let counted : matters nfa u id ≡ true = or_left (is_match nfa id) (is_nonempty (target nfa u id)) (ap is_some e) in
     let new : has_id (distinct done) id ≡ false = and_false (has_id (distinct done) id) (matters nfa u id) counted (sym (holds-filter (matters nfa u) (distinct done) id) ∙ ap (λ l. has_id l id) (sym so_far.kept_are) ∙ h) in
     ap (λ (v : Value). list_any (nat_eq p) v.patterns) so_far.value_is ∙ pattern_new nfa sound (distinct done) id p new e

@@ -10,6 +10,7 @@ pub mod HostileRows
 pub mod LastMatches
 pub mod Loops
 pub mod OneAnswer
+pub mod Recorders
 pub mod Redo
 pub mod Reopening
 pub mod Resolving
@@ -17,11 +18,11 @@ pub mod StepLaws
 pub mod Stepping
 pub mod Targets
 pub mod TextBounds
-pub mod TriesSums
 pub mod TryBounds
 pub mod UnitLists
 pub mod WalkRows
 pub mod WalkValues
 pub mod Walking
 pub mod WholeWalk
+pub mod WholeWalks
 pub mod WorkingLists

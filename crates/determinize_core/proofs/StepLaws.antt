@@ -1,5 +1,6 @@
 -- Laws of steps and of walks.
-use Rattle.std.proofs.Common.{◌≡◌, ℕ, zero, suc, ◌+◌, ◌≤◌, Bool, true, false, not, ◌||◌, ◌&&◌, List, [], ◌∷◌, length, take, drop, refl, sym, ap, ◌∙◌, arith, Option, Some, None, nat_eq}
+use Rattle.std.proofs.Common.{◌≡◌, ℕ, zero, suc, ◌+◌, ◌≤◌, Bool, true, false, not, ◌||◌, ◌&&◌, List, [], ◌∷◌, length, take, drop, refl, sym, ap, ◌∙◌, arith, Option, Some, None, nat_eq, Result, Ok, Err}
+use Rattle.std.specs.Result.{IfOk}
 use Rattle.std.specs.Prelude.{◌==◌, cond, slice_get}
 use Rattle.std.specs.List.{flat_map}
 use Rattle.std.proofs.lemmas.Bool.{false≢true, or_left, eqb-true, eq-eqb}
@@ -154,6 +155,11 @@ one_pattern nfa kind v u k next e =
     let few : length (step nfa LeftmostFirst v u).patterns ≤ 1 = leftmost_gives_one nfa v u in
     let same : length next.patterns ≡ length (step nfa LeftmostFirst v u).patterns = ap (λ (w : Value). length w.patterns) (e ∙ ap (λ m. step nfa m v u) k) in
     omega arith
+
+-- of one answer
+pub few_in : {E : Type 0} (nfa : Nfa) (kind : MatchKind) (v : Value) (u : Option ℕ) → kind ≡ LeftmostFirst → (r : Result Value E) → IfOk r (λ next. next ≡ step nfa kind v u) → IfOk r (λ next. length next.patterns ≤ 1)
+few_in nfa kind v u k (Ok next) e = one_pattern nfa kind v u k next e
+few_in nfa kind v u k (Err error) e = tt
 
 pub no_need_no_have : NoNeedNoHave
 no_need_no_have nfa v xs h = ap (λ n. cond (n == 0) 0 v.look_have) h

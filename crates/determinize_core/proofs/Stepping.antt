@@ -1,9 +1,9 @@
 -- The parts of a step make the step.
-use Rattle.std.proofs.Common.{◌≡◌, ℕ, suc, ◌+◌, ◌*◌, ◌<◌, ◌≤◌, Bool, true, false, ◌&&◌, List, [], ◌∷◌, All as Each, Option, length, nat_eq, refl, sym, ap, ◌∙◌, arith, subst}
-use Rattle.std.specs.List.{flat_map}
+use Rattle.std.proofs.Common.{◌≡◌, ◌==◌, ℕ, fold, not, suc, ◌+◌, ◌*◌, ◌<◌, ◌≤◌, Bool, true, false, ◌&&◌, List, [], ◌∷◌, All as Each, Option, length, nat_eq, refl, sym, ap, ◌∙◌, arith, subst}
 use Rattle.std.proofs.lemmas.Bool.{eqb-true}
+use Rattle.std.proofs.lemmas.Bool.Decides.{nat_tests}
 use Rattle.std.proofs.lemmas.List.Elements.{All-head, All-tail}
-use Rattle.determinize_below.specs.Edges.{edges, is_capture, patterns_of, reach, target}
+use Rattle.determinize_below.specs.Edges.{edges, is_capture, patterns_of, reach, reach_past}
 use Rattle.determinize_below.specs.Look.{has}
 use Rattle.determinize_below.specs.Nfa.{Nfa, IsAccepted}
 use Rattle.determinize_below.specs.Runs.{without}
@@ -14,7 +14,12 @@ use Rattle.determinize_below.proofs.Elements.{All-from_member}
 use Rattle.determinize_below.proofs.Nodes.{fresh_below, same_decides}
 use Rattle.determinize_below.proofs.SoundNfa.{accepted_sound, reach_within}
 use Rattle.determinize_below.proofs.Tests.{by_test}
-use Rattle.determinize_states.specs.Recording.{added}
+use Rattle.determinize_states.specs.Recording.{added, added_one}
+use Rattle.determinize_core.specs.Private.Reading.{IsListRead}
+use Rattle.determinize_core.specs.Private.Search.{tries_left}
+use Rattle.determinize_core.proofs.Recorders.{fold-added}
+use Rattle.determinize_core.proofs.Resolving.{targets_resolve}
+use Rattle.determinize_core.proofs.ClosingAll.{reach_past-empty, tries_left-empty}
 use Rattle.determinize_core.specs.Step.{distinct_states, is_reopened, opened_by, patterns_read, step, targets, working_list}
 use Rattle.determinize_looks.specs.LookTables.{tables_of, from_word_after, half_crlf_after, have_after}
 use Rattle.determinize_core.specs.Tries.{edges_in_all, tries, tries_again, tries_of}
@@ -60,18 +65,17 @@ module _ (nfa : Nfa) (accepted : IsAccepted nfa) (kind : MatchKind) (v : Value) 
   unfolding tries
   first_tries before now h = omega (arith, step_tries)
 
-  -- a builder that was told of the unit and has read the working list, and the states that it kept
-  pub record IsRead (have : ℕ) (from_word half_crlf some : Bool) (told read flagged : Value) (kept : List ℕ) : Type 0 where
+  -- a builder that was told of the unit and has read the working list, and the targets on the stack
+  pub record IsRead (have : ℕ) (from_word half_crlf some : Bool) (told read flagged : Value) (row : List ℕ) : Type 0 where
     pub have_is : have ≡ have_after (tables_of nfa) u
     pub word_is : from_word ≡ from_word_after (tables_of nfa) u
     pub half_is : half_crlf ≡ half_crlf_after (tables_of nfa) u
     pub told_is : told ≡ record dead { look_have = have }
-    pub read_is : read ≡ with_patterns told (patterns_read kind (patterns_of nfa (working_list nfa v u)))
-    pub some_is : some ≡ is_nonempty (targets nfa kind v u)
+    pub list_is : IsListRead nfa kind u (working_list nfa v u) told read row
+    pub some_is : some ≡ is_nonempty row
     pub flagged_is : flagged ≡ with_flags read (some && from_word) (some && half_crlf)
-    pub roots_are : flat_map (target nfa u) kept ≡ targets nfa kind v u
 
-  module _ (have : ℕ) (from_word half_crlf some : Bool) (told read flagged : Value) (kept : List ℕ) (is : IsRead have from_word half_crlf some told read flagged kept) where
+  module _ (have : ℕ) (from_word half_crlf some : Bool) (told read flagged : Value) (row : List ℕ) (is : IsRead have from_word half_crlf some told read flagged row) where
     entered : List ℕ
     entered = reach nfa (has (have_after (tables_of nfa) u)) (targets nfa kind v u)
 
@@ -82,30 +86,42 @@ module _ (nfa : Nfa) (accepted : IsAccepted nfa) (kind : MatchKind) (v : Value) 
     unfolding entered shape
     shape_is =
         is.flagged_is
-        ∙ ap (λ r. with_flags r (some && from_word) (some && half_crlf)) (is.read_is ∙ ap (λ t. with_patterns t (patterns_read kind (patterns_of nfa (working_list nfa v u)))) (is.told_is ∙ ap (λ n. record dead { look_have = n }) is.have_is))
-        ∙ ap (λ b. shape b from_word half_crlf) (is.some_is ∙ sym (is_nonempty-reach nfa (has (have_after (tables_of nfa) u)) (targets nfa kind v u)))
+        ∙ ap (λ r. with_flags r (some && from_word) (some && half_crlf)) (is.list_is.value_is ∙ ap (λ t. with_patterns t (patterns_read kind (patterns_of nfa (working_list nfa v u)))) (is.told_is ∙ ap (λ n. record dead { look_have = n }) is.have_is))
+        ∙ ap (λ b. shape b from_word half_crlf) (is.some_is ∙ ap is_nonempty is.list_is.targets_are ∙ sym (is_nonempty-reach nfa (has (have_after (tables_of nfa) u)) (targets nfa kind v u)))
         ∙ ap (λ w. shape (is_nonempty entered) w half_crlf) is.word_is
         ∙ ap (λ h. shape (is_nonempty entered) (from_word_after (tables_of nfa) u) h) is.half_is
 
+    reached : reach_past nfa (has have) [] row ≡ entered
+    unfolding entered
+    reached = reach_past-empty nfa (has have) row ∙ ap (λ n. reach nfa (has n) row) is.have_is ∙ ap (λ l. reach nfa (has (have_after (tables_of nfa) u)) l) is.list_is.targets_are
+
+    -- the targets are states of the NFA
+    pub row_resolves : Each (λ id. id < length nfa.states) row
+    row_resolves = subst (λ l. Each (λ id. id < length nfa.states) l) (sym is.list_is.targets_are)
+        (All-from_member same_decides (λ id. id < length nfa.states) (targets nfa kind v u) (λ x m. targets_resolve nfa accepted kind v u x m))
+
     -- what is recorded is the next value
-    pub stepped : settled (added nfa flagged (without (is_capture nfa) (reach nfa (has flagged.look_have) (flat_map (target nfa u) kept)))) ≡ step nfa kind v u
+    pub stepped : settled (fold (added_one nfa) flagged (reach_past nfa (has have) [] row)) ≡ step nfa kind v u
     unfolding entered shape step
     stepped =
-        ap (λ l. settled (added nfa flagged (without (is_capture nfa) (reach nfa (has flagged.look_have) l)))) is.roots_are
-        ∙ ap (λ (w : Value). settled (added nfa w (without (is_capture nfa) (reach nfa (has w.look_have) (targets nfa kind v u))))) shape_is
+        ap settled (fold-added nfa flagged (reach_past nfa (has have) [] row))
+        ∙ ap (λ l. settled (added nfa flagged (without (is_capture nfa) l))) reached
+        ∙ ap (λ (w : Value). settled (added nfa w (without (is_capture nfa) entered))) shape_is
 
-    tries_are : tries_of nfa (has flagged.look_have) (flat_map (target nfa u) kept) ≡ tries_of nfa (has (have_after (tables_of nfa) u)) (targets nfa kind v u)
-    unfolding entered shape
-    tries_are =
-        ap (λ l. tries_of nfa (has flagged.look_have) l) is.roots_are
-        ∙ ap (λ (w : Value). tries_of nfa (has w.look_have) (targets nfa kind v u)) shape_is
+    tries_are : tries_left nfa (has have) [] row ≡ tries_of nfa (has (have_after (tables_of nfa) u)) (targets nfa kind v u)
+    tries_are = tries_left-empty nfa (has have) row ∙ ap (λ n. tries_of nfa (has n) row) is.have_is ∙ ap (λ l. tries_of nfa (has (have_after (tables_of nfa) u)) l) is.list_is.targets_are
 
     pub all_tries : (before filled now : ℕ) → filled ≡ before + tries_again nfa v u
-        → now ≡ filled + tries_of nfa (has flagged.look_have) (flat_map (target nfa u) kept) → now ≡ before + tries nfa kind v u
+        → now ≡ filled + tries_left nfa (has have) [] row → now ≡ before + tries nfa kind v u
     unfolding tries
     all_tries before filled now e h = omega (arith, tries_are)
 
     pub tries_within : (before filled now : ℕ) → filled ≡ before + tries_again nfa v u
-        → now ≤ filled + tries_of nfa (has flagged.look_have) (flat_map (target nfa u) kept) → now ≤ before + 2 * (length nfa.states + edges_in_all nfa)
+        → now ≤ filled + tries_left nfa (has have) [] row → now ≤ before + 2 * (length nfa.states + edges_in_all nfa)
     unfolding tries
     tries_within before filled now e h = omega (arith, tries_are, step_tries)
+
+-- a list that is not empty
+pub is_nonempty-length : (n : ℕ) (xs : List ℕ) → n ≡ length xs → not (n == 0) ≡ is_nonempty xs
+is_nonempty-length n [] e = rw e refl
+is_nonempty-length n (x ∷ xs) e = let k : (n == 0) ≡ false = grind (arith, nat_tests) in ap not k

@@ -105,11 +105,6 @@ module _ (nfa : Nfa) (kind : MatchKind) where
       ∙ ap (λ o. future nfa kind (start_value nfa s text.behind) (map Some text.bytes ++ o ∷ [])) a
       ∙ ap (λ us. future nfa kind (start_value nfa s text.behind) us) (sym (units_are text.behind text.ahead text.bytes))
 
-  -- what a chain promises, its values promise
-  pub promised : (P : MatchKind → List Value → Type 0) (s : ℕ) (text : Text) (values : List Value) (other : MatchKind) → values ≡ chain nfa kind s text
-      → kind ≡ other → P other (chain nfa other s text) → P kind values
-  promised P s text values other e k h = subst (λ vs. P kind vs) (sym e) (subst (λ x. P x (chain nfa x s text)) (sym k) h)
-
 module _ (nfa : Nfa) (accepted : IsAccepted nfa) (kind : MatchKind) where
   -- values that follow one whose states are states of the NFA
   future_resolves : (v : Value) (us : List (Option ℕ)) → AllResolve nfa v.states → Each (λ (w : Value). AllResolve nfa w.states) (future nfa kind v us)

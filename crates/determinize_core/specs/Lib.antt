@@ -18,4 +18,5 @@ pub mod Step
 pub mod Tries
 pub mod Walk
 pub mod WalkStates
+pub mod WholeWalk
 pub mod WorkedRows

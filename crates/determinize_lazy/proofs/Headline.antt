@@ -1,27 +1,28 @@
--- What holds of the values of a chain holds of an answer that has them.
-use Rattle.std.proofs.Common.{arith, ◌≡◌, ℕ, List, Ok, Err, None, Option, Result, Some, refl, subst, sym}
-use Rattle.std.specs.Prelude.{IfOk}
-use Rattle.determinize_core.specs.Chain.{chain}
-use Rattle.determinize_core.specs.Value.{Value}
+-- The last match of a walk, in words of runs.
+use Rattle.std.proofs.Common.{arith, ◌≡◌, ℕ, suc, ◌<◌, ◌≤◌, List, None, Option, Some, length, refl, subst, sym}
+use Rattle.std.specs.Option.{IfSome}
+use Rattle.std.proofs.lemmas.List.FromFn.{length-map-range_with_len}
+use Rattle.determinize_core.specs.Chain.{chain, future, units}
+use Rattle.determinize_core.specs.Step.{start_value}
 use Rattle.determinize_core.specs.Walk.{IsFarthestMatch, IsPreferredMatch, last_match}
 use Rattle.determinize_core.proofs.Farthest.{each_last_is_farthest}
 use Rattle.determinize_core.proofs.WholeWalk.{leftmost_walk}
 use Rattle.determinize_below.specs.Nfa.{IsAccepted, Nfa}
-use Rattle.determinize_below.specs.Positions.{Accepts, Text}
+use Rattle.determinize_below.specs.Positions.{Accepts, Text, after_at}
 use Rattle.determinize_below.specs.declared.search.HalfMatch.{HalfMatch}
 use Rattle.determinize_below.specs.declared.search.MatchKind.{MatchKind}
 use Rattle.determinize_below.specs.declared.search.MatchKind.TheVariants.{All, LeftmostFirst}
-
-pub of_answer : {T E : Type 0} (r : Result T E) (values_in : T → List Value) (values : List Value) (P : List Value → Type 0)
-    → IfOk r (λ answer. values_in answer ≡ values) → P values → IfOk r (λ answer. P (values_in answer))
-of_answer (Ok answer) values_in values P e p = subst P (sym e) p
-of_answer (Err error) values_in values P e p = tt
+use Rattle.determinize_lazy.specs.Searches.{IsSearch}
+use Rattle.determinize_lazy.proofs.LastUnits.{last_match-within}
 
 -- the last match of a chain for the preferred match is that match
-pub preferred : (nfa : Nfa) (kind : MatchKind) (start : ℕ) (text : Text) (found : Option HalfMatch) → IsAccepted nfa → kind ≡ LeftmostFirst → found ≡ last_match (chain nfa kind start text) → IsPreferredMatch nfa start text found
-preferred nfa kind start text found accepted kind_is found_is = answer found (sym (subst (λ k. found ≡ last_match (chain nfa k start text)) kind_is found_is))
+pub preferred : (nfa : Nfa) (kind : MatchKind) (start : ℕ) (text : Text) (found : Option HalfMatch) → IsAccepted nfa
+    → kind ≡ LeftmostFirst → found ≡ last_match (chain nfa kind start text) → IsPreferredMatch nfa start text found
+preferred nfa kind start text found accepted kind_is found_is =
+    answer found (sym (subst (λ k. found ≡ last_match (chain nfa k start text)) kind_is found_is))
   where
-    answer : (o : Option HalfMatch) → last_match (chain nfa LeftmostFirst start text) ≡ o → IsPreferredMatch nfa start text o
+    answer : (o : Option HalfMatch) → last_match (chain nfa LeftmostFirst start text) ≡ o
+        → IsPreferredMatch nfa start text o
     answer None e = (leftmost_walk nfa accepted start text).none e
     answer (Some m) e = (leftmost_walk nfa accepted start text).preferred m e
 
@@ -47,3 +48,27 @@ some_accepts nfa All start text m accepted some =
     ((farthest nfa All start text (Some m) accepted refl some).0.1.accepted m.pattern).0 (0, omega arith, refl)
 some_accepts nfa LeftmostFirst start text m accepted some =
     let h = preferred nfa LeftmostFirst start text (Some m) accepted refl some in (h.0, h.1.accepts)
+
+-- the match ends within the text
+ends_within : (nfa : Nfa) (kind : MatchKind) (start : ℕ) (text : Text)
+    → IfSome (last_match (chain nfa kind start text)) (λ m. m.offset ≤ length text.bytes)
+unfolding chain
+ends_within nfa kind start text =
+    each (last_match (future nfa kind (start_value nfa start text.behind) (units text)))
+    (last_match-within nfa kind (start_value nfa start text.behind) (units text))
+    (length-map-range_with_len (after_at text) 0 (suc (length text.bytes)))
+  where
+    each : (o : Option HalfMatch) → IfSome o (λ m. m.offset < length (units text))
+        → length (units text) ≡ suc (length text.bytes) → IfSome o (λ m. m.offset ≤ length text.bytes)
+    each None h count = tt
+    each (Some m) h count = omega (arith, h, count)
+
+-- what a search promises of the last match
+pub is-search : (nfa : Nfa) (kind : MatchKind) (start : ℕ) (text : Text) (found : Option HalfMatch) → IsAccepted nfa
+    → found ≡ last_match (chain nfa kind start text) → IsSearch nfa kind start text found
+is-search nfa kind start text found accepted found_is = record {
+  last = found_is;
+  preferred = λ kind_is. preferred nfa kind start text found accepted kind_is found_is;
+  farthest = λ kind_is. farthest nfa kind start text found accepted kind_is found_is;
+  within = subst (λ o. IfSome o (λ m. m.offset ≤ length text.bytes)) (sym found_is) (ends_within nfa kind start text);
+}

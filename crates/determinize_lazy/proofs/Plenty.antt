@@ -1,219 +1,200 @@
--- With room for all, each pair of a walk is kept and computed once.
-use Rattle.std.proofs.Common.{◌≡◌, ℕ, ◌+◌, ◌-◌, ◌≤◌, Bool, true, false, cond, ◌&&◌, ◌||◌, Option, List, [], ◌∷◌, ◌++◌, length, suc, refl, sym, ap, ◌∙◌, subst, arith}
-use Rattle.std.specs.Prelude.{min, nat_le, Result, Ok, Err, IfOk, OnOk}
+-- If there is room for all states of a walk, each of its transitions is cached and computed once.
+use Rattle.std.proofs.Common.{◌≡◌, ℕ, ◌+◌, ◌≤◌, Bool, true, false, cond, ◌&&◌, ◌||◌, Option, Some, List, [], ◌∷◌, ◌++◌, length, refl, sym, ap, ◌∙◌, subst, arith}
+use Rattle.std.specs.Prelude.{⊤, min, nat_le, is_some, Result, Ok, Err, OnOk}
 use Rattle.std.specs.List.{list_any}
-use Rattle.std.proofs.lemmas.List.{append_assoc, length_push}
-use Rattle.std.proofs.lemmas.List.Folds.{list_any-append}
-use mathlib.Core.Bool.{true≢false}
-use Rattle.determinize_lazy.specs.Pairs.{chain_pairs, is_kept, Pair, same, same_unit, values_after, values_of, with_pair, with_pairs, with_value, with_values}
-use Rattle.determinize_lazy.specs.Plenty.{HasRoom, KeepsAll}
-use Rattle.determinize_lazy.specs.Kept.{after_pair, after_walk, Cache, count_after, fits, held_values, keep, kept, missed, step_of}
-use Rattle.determinize_core.specs.Value.{Value}
-use Rattle.determinize_core.specs.Chain.{future}
-use Rattle.determinize_core.specs.Step.{step}
+use Rattle.std.proofs.lemmas.Map.Steps.{list_any_congr}
 use Rattle.determinize_below.specs.Nfa.{Nfa}
 use Rattle.determinize_below.specs.declared.search.MatchKind.{MatchKind}
-use Rattle.determinize_lazy.proofs.Caching.{any_with, length_with}
-use Rattle.determinize_lazy.proofs.Holding.{same_is, same_laws}
-use Rattle.determinize_lazy.proofs.Rows.{same_unit_is, same_unit_itself}
-
-or_right : (a b : Bool) → b ≡ true → (a || b) ≡ true
-or_right true b e = refl
-or_right false b e = e
-
-both : (a b : Bool) → (a && b) ≡ true → (a ≡ true) × (b ≡ true)
-both true b e = (refl, e)
-both false b e = absurd (true≢false (sym e))
+use Rattle.determinize_core.specs.Chain.{future}
+use Rattle.determinize_core.specs.Step.{step}
+use Rattle.determinize_core.specs.Value.{Value}
+use Rattle.determinize_core.proofs.LastMatches.{future_is, tail}
+use Rattle.determinize_lazy.specs.Cache.{Cache, after_step, after_walk, count_after, fits, keep, kept, missed}
+use Rattle.determinize_lazy.specs.Plenty.{HasRoom, KeepsAll, missing, with_step, with_walk}
+use Rattle.determinize_lazy.specs.Table.{Table, empty, is_cached, same, same_unit, with_transition, with_value, with_values}
+use Rattle.determinize_lazy.proofs.Interning.{same_laws}
+use Rattle.determinize_lazy.proofs.Rows.{same_unit_itself}
+use Rattle.determinize_lazy.proofs.Tables.{any_with, length_with}
 
 le_true : (m n : ℕ) → m ≤ n → nat_le m n ≡ true
 le_true m n h = grind arith
 
--- values of the same bytes are kept over the same units
-kept_same : (pairs : List Pair) (x v : Value) (w u : Option ℕ) → same x v ≡ true → w ≡ u → is_kept pairs x w ≡ is_kept pairs v u
-kept_same [] x v w u e k = refl
-kept_same (p ∷ ps) x v w u e k =
-    ap (λ b. (b && same_unit w p.unit) || is_kept ps x w) (same_laws.congr x v p.value e) ∙ ap (λ o. (same v p.value && same_unit o p.unit) || is_kept ps x w) k ∙ ap (λ b. (same v p.value && same_unit u p.unit) || b) (kept_same ps x v w u e k)
+or_middle : (a b c : Bool) → (a || b || c) ≡ (a || c || b)
+or_middle true b c = refl
+or_middle false true true = refl
+or_middle false true false = refl
+or_middle false false true = refl
+or_middle false false false = refl
 
--- what is kept stays with more pairs
-kept_more : (pairs more : List Pair) (x : Value) (w : Option ℕ) → is_kept pairs x w ≡ true → is_kept (with_pairs pairs more) x w ≡ true
-kept_more pairs [] x w h = h
-kept_more pairs (p ∷ more) x w h =
-    kept_more (with_pair pairs p) more x w
-    (elim (is_kept pairs p.value p.unit) as (λ b. is_kept (cond b pairs (pairs ++ p ∷ [])) x w ≡ true) [
-      | true ↦ h
-      | false ↦ list_any-append (λ (q : Pair). same x q.value && same_unit w q.unit) pairs (p ∷ []) ∙ ap (λ b. b || is_kept (p ∷ []) x w) h
-    ])
+-- how many values there are does not depend on which of two came first
+swapped : (a b s : Bool) → (s ≡ true → a ≡ b)
+    → ◌≡◌ {A = ℕ} (cond a 0 1 + cond (b || s) 0 1) (cond b 0 1 + cond (a || s) 0 1)
+swapped true true s h = refl
+swapped false false s h = refl
+swapped true false true h = ap (λ b. let n : ℕ = cond b 0 1 + cond true 0 1 in n) (h refl)
+swapped true false false h = refl
+swapped false true true h = ap (λ b. let n : ℕ = cond b 0 1 + cond true 0 1 in n) (h refl)
+swapped false true false h = refl
 
--- a pair is kept once it is among them
-kept_new : (pairs : List Pair) (p : Pair) (x : Value) (w : Option ℕ) → same x p.value ≡ true → same_unit w p.unit ≡ true → is_kept (with_pair pairs p) x w ≡ true
-kept_new pairs p x w e k =
-    elim (is_kept pairs p.value p.unit) as (λ b. is_kept pairs p.value p.unit ≡ b → is_kept (cond b pairs (pairs ++ p ∷ [])) x w ≡ true) [
-      | true ↦ λ there. kept_same pairs x p.value w p.unit e (same_unit_is w p.unit k) ∙ there
-      | false ↦ λ _. list_any-append (λ (q : Pair). same x q.value && same_unit w q.unit) pairs (p ∷ [])
-          ∙ or_right (is_kept pairs x w) (is_kept (p ∷ []) x w) (ap (λ b. (b && same_unit w p.unit) || false) e ∙ ap (λ b. b || false) k)
-    ] refl
+-- values, and the same with one more, in any order
+record HasOneMore (values : List Value) (v : Value) (more : List Value) : Type 0 where
+  members : (x : Value) → list_any (same x) more ≡ (list_any (same x) values || same v x)
+  size : length more ≡ length values + cond (list_any (same v) values) 0 1
 
--- each of more pairs is kept with them
-kept_added : (pairs more : List Pair) (x : Value) (w : Option ℕ) → is_kept more x w ≡ true → is_kept (with_pairs pairs more) x w ≡ true
-kept_added pairs [] x w h = absurd (true≢false (sym h))
-kept_added pairs (p ∷ more) x w h =
-    elim (same x p.value && same_unit w p.unit) as (λ b. (same x p.value && same_unit w p.unit) ≡ b → (b || is_kept more x w) ≡ true → is_kept (with_pairs (with_pair pairs p) more) x w ≡ true) [
-      | true ↦ λ here _. let parts : (same x p.value ≡ true) × (same_unit w p.unit ≡ true) = both (same x p.value) (same_unit w p.unit) here in
-          kept_more (with_pair pairs p) more x w (kept_new pairs p x w parts.0 parts.1)
-      | false ↦ λ _ rest. kept_added (with_pair pairs p) more x w rest
-    ] refl h
+one_more : (values : List Value) (v : Value) → HasOneMore values v (with_value values v)
+one_more values v = record { members = any_with values v; size = length_with values v }
+
+-- both with one value more
+one_more-with : (values more : List Value) (v w : Value) → HasOneMore values v more → HasOneMore (with_value values w) v (with_value more w)
+one_more-with values more v w h = record {
+  members = λ x. any_with more w x ∙ ap (λ b. b || same w x) (h.members x) ∙ or_middle (list_any (same x) values) (same v x) (same w x)
+      ∙ sym (ap (λ b. b || same v x) (any_with values w x));
+  size =
+      let a : length (with_value more w) ≡ length more + cond (list_any (same w) values || same v w) 0 1 =
+      length_with more w ∙ ap (λ b. length more + cond b 0 1) (h.members w) in
+      let b : length (with_value values w) ≡ length values + cond (list_any (same w) values) 0 1 = length_with values w in
+      let c : ◌≡◌ {A = ℕ} (cond (list_any (same v) (with_value values w)) 0 1) (cond (list_any (same v) values || same v w) 0 1) =
+      ap (λ t. let n : ℕ = cond t 0 1 in n) (any_with values w v ∙ ap (λ t. list_any (same v) values || t) (same_laws.symm w v)) in
+      let d : ◌≡◌ {A = ℕ} (cond (list_any (same v) values) 0 1 + cond (list_any (same w) values || same v w) 0 1)
+      (cond (list_any (same w) values) 0 1 + cond (list_any (same v) values || same v w) 0 1) =
+      swapped (list_any (same v) values) (list_any (same w) values) (same v w) (λ e. list_any_congr same_laws v w values e) in
+      let e : length more ≡ length values + cond (list_any (same v) values) 0 1 = h.size in
+      omega (arith, a, b, c, d, e);
+}
+
+one_more_not_shorter : (vs values more : List Value) (v : Value) → HasOneMore values v more → length (with_values values vs) ≤ length (with_values more vs)
+one_more_not_shorter [] values more v h = let e : length more ≡ length values + cond (list_any (same v) values) 0 1 = h.size in omega (arith, e)
+one_more_not_shorter (w ∷ vs) values more v h = one_more_not_shorter vs (with_value values w) (with_value more w) v (one_more-with values more v w h)
+
+-- with one value less there are no more
+not_shorter : (values vs : List Value) (v : Value) → length (with_values values vs) ≤ length (with_values (with_value values v) vs)
+not_shorter values vs v = one_more_not_shorter vs values (with_value values v) v (one_more values v)
+
+longer_after : (vs values : List Value) → length values ≤ length (with_values values vs)
+longer_after [] values = omega arith
+longer_after (v ∷ vs) values =
+    let a : length (with_value values v) ≡ length values + cond (list_any (same v) values) 0 1 = length_with values v in
+    let b : length (with_value values v) ≤ length (with_values (with_value values v) vs) = longer_after vs (with_value values v) in
+    omega (arith, a, b)
+
+with_value-again : (values : List Value) (v : Value) → with_value (with_value values v) v ≡ with_value values v
+with_value-again values v = ap (λ b. cond b (with_value values v) (with_value values v ++ v ∷ []))
+    (any_with values v v ∙ ap (λ b. list_any (same v) values || b) (same_laws.refl v) ∙ or_true (list_any (same v) values))
+  where
+    or_true : (b : Bool) → (b || true) ≡ true
+    or_true true = refl
+    or_true false = refl
 
 module _ (f : Value → Option ℕ → Value) where
-  -- where each pair of a walk is kept, the walk computes nothing and changes nothing
-  missed_none : (limit : ℕ) (pairs : List Pair) (v : Value) (us : List (Option ℕ)) → ((x : Value) (w : Option ℕ) → is_kept (chain_pairs f v us) x w ≡ true → is_kept pairs x w ≡ true)
-      → (missed f limit pairs v us ≡ 0) × (kept f limit pairs v us ≡ pairs)
-  missed_none limit pairs v [] all = (refl, refl)
-  missed_none limit pairs v (u ∷ us) all =
-      let head : (same v v && same_unit u u) ≡ true = ap (λ b. b && same_unit u u) (same_laws.refl v) ∙ same_unit_itself u in
-      let here : is_kept pairs v u ≡ true = all v u (ap (λ b. b || is_kept (chain_pairs f (f v u) us) v u) head) in
-      let stays : after_pair f limit pairs record { value = v; unit = u } ≡ pairs = ap (λ b. cond b pairs (keep f limit pairs record { value = v; unit = u })) here in
-      let rest : (missed f limit pairs (f v u) us ≡ 0) × (kept f limit pairs (f v u) us ≡ pairs) =
-      missed_none limit pairs (f v u) us (λ x w k. all x w (or_right (same x v && same_unit w u) (is_kept (chain_pairs f (f v u) us) x w) k)) in
-      let none : ◌≡◌ {A = ℕ} (cond (is_kept pairs v u) 0 1) 0 = ap (λ b. let n : ℕ = cond b 0 1 in n) here in
-      let later : missed f limit (after_pair f limit pairs record { value = v; unit = u }) (f v u) us ≡ 0 = ap (λ ps. missed f limit ps (f v u) us) stays ∙ rest.0 in
-      (omega (arith, none, later), ap (λ ps. kept f limit ps (f v u) us) stays ∙ rest.1)
+  -- a cached transition stays cached with one more
+  stays_cached : (t : Table) (v x : Value) (u y : Option ℕ) → is_cached t x y ≡ true → is_cached (with_step f t v u) x y ≡ true
+  stays_cached t v x u y h = elim (is_cached t v u) as (λ b. is_cached (cond b t (with_transition t v u (f v u))) x y ≡ true) [
+    | true ↦ h
+    | false ↦ elim (same x v && same_unit y u) as (λ b. is_some (cond b (Some (f v u)) (t.target x y)) ≡ true) [ true ↦ refl | false ↦ h ]
+  ]
 
-  any_more : (values : List Value) (v x : Value) → list_any (same x) values ≡ true → list_any (same x) (with_value values v) ≡ true
-  any_more values v x h = any_with values v x ∙ ap (λ b. b || same v x) h
+  stays_cached_after : (us : List (Option ℕ)) (t : Table) (v x : Value) (y : Option ℕ) → is_cached t x y ≡ true → is_cached (with_walk f t v us) x y ≡ true
+  stays_cached_after [] t v x y h = h
+  stays_cached_after (u ∷ us) t v x y h = stays_cached_after us (with_step f t v u) (f v u) x y (stays_cached t v x u y h)
 
-  any_new : (values : List Value) (v x : Value) → same x v ≡ true → list_any (same x) (with_value values v) ≡ true
-  any_new values v x h = any_with values v x ∙ or_right (list_any (same x) values) (same v x) (same_laws.symm v x ∙ h)
+  -- a step's transition is cached after it
+  is_cached-new : (t : Table) (v : Value) (u : Option ℕ) → is_cached (with_step f t v u) v u ≡ true
+  is_cached-new t v u = elim (is_cached t v u) as (λ b. is_cached t v u ≡ b → is_cached (cond b t (with_transition t v u (f v u))) v u ≡ true) [
+    | true ↦ λ there. there
+    | false ↦ λ _. ap (λ b. is_some (cond (b && same_unit u u) (Some (f v u)) (t.target v u))) (same_laws.refl v)
+        ∙ ap (λ b. is_some (cond b (Some (f v u)) (t.target v u))) (same_unit_itself u)
+  ] refl
 
-  any_after : (pairs : List Pair) (values : List Value) (x : Value) → list_any (same x) values ≡ true → list_any (same x) (values_after f values pairs) ≡ true
-  any_after [] values x h = h
-  any_after (p ∷ ps) values x h = any_after ps (with_value (with_value values p.value) (f p.value p.unit)) x (any_more (with_value values p.value) (f p.value p.unit) x (any_more values p.value x h))
+  -- each transition of a walk is cached
+  abbrev IsCachedWalk : Table → Value → List (Option ℕ) → Type 0
+  IsCachedWalk t v [] = ⊤
+  IsCachedWalk t v (u ∷ us) = (is_cached t v u ≡ true) × IsCachedWalk t (f v u) us
 
-  longer_after : (pairs : List Pair) (values : List Value) → length values ≤ length (values_after f values pairs)
-  longer_after [] values = omega arith
-  longer_after (p ∷ ps) values =
-      let a : length (with_value values p.value) ≡ length values + cond (list_any (same p.value) values) 0 1 = length_with values p.value in
-      let b : length (with_value (with_value values p.value) (f p.value p.unit)) ≡ length (with_value values p.value) + cond (list_any (same (f p.value p.unit)) (with_value values p.value)) 0 1 = length_with (with_value values p.value) (f p.value p.unit) in
-      let c : length (with_value (with_value values p.value) (f p.value p.unit)) ≤ length (values_after f (with_value (with_value values p.value) (f p.value p.unit)) ps) = longer_after ps (with_value (with_value values p.value) (f p.value p.unit)) in
-      omega (arith, a, b, c)
+  with_walk-cached : (t : Table) (v : Value) (us : List (Option ℕ)) → IsCachedWalk (with_walk f t v us) v us
+  with_walk-cached t v [] = tt
+  with_walk-cached t v (u ∷ us) =
+      (stays_cached_after us (with_step f t v u) (f v u) v u (is_cached-new t v u), with_walk-cached (with_step f t v u) (f v u) us)
 
-  -- both values of a kept pair are held
-  both_held : (pairs : List Pair) (values : List Value) (v : Value) (u : Option ℕ) → is_kept pairs v u ≡ true
-      → (list_any (same v) (values_after f values pairs) ≡ true) × (list_any (same (f v u)) (values_after f values pairs) ≡ true)
-  both_held [] values v u k = absurd (true≢false (sym k))
-  both_held (p ∷ ps) values v u k =
-      elim (same v p.value && same_unit u p.unit) as (λ b. (same v p.value && same_unit u p.unit) ≡ b → (b || is_kept ps v u) ≡ true → (list_any (same v) (values_after f values (p ∷ ps)) ≡ true) × (list_any (same (f v u)) (values_after f values (p ∷ ps)) ≡ true)) [
-        | true ↦ λ here _. let parts : (same v p.value ≡ true) × (same_unit u p.unit ≡ true) = both (same v p.value) (same_unit u p.unit) here in
-            let image : same (f v u) (f p.value p.unit) ≡ true = ap (λ w. same (f v w) (f p.value p.unit)) (same_unit_is u p.unit parts.1) ∙ ap (λ x. same (f x p.unit) (f p.value p.unit)) (same_is v p.value parts.0) ∙ same_laws.refl (f p.value p.unit) in
-            (any_after ps _ v (any_more (with_value values p.value) (f p.value p.unit) v (any_new values p.value v parts.0)), any_after ps _ (f v u) (any_new (with_value values p.value) (f p.value p.unit) (f v u) image))
-        | false ↦ λ _ rest. both_held ps (with_value (with_value values p.value) (f p.value p.unit)) v u rest
-      ] refl k
+  -- then the walk computes nothing, and changes nothing
+  missed_none : (limit : ℕ) (t : Table) (v : Value) (us : List (Option ℕ)) → IsCachedWalk t v us → (missed f limit t v us ≡ 0) × (kept f limit t v us ≡ t)
+  missed_none limit t v [] all = (refl, refl)
+  missed_none limit t v (u ∷ us) all =
+      let stays : after_step f limit t v u ≡ t = ap (λ b. cond b t (keep f limit t v u)) all.0 in
+      let rest : (missed f limit t (f v u) us ≡ 0) × (kept f limit t (f v u) us ≡ t) = missed_none limit t (f v u) us all.1 in
+      let none : ◌≡◌ {A = ℕ} (cond (is_cached t v u) 0 1) 0 = ap (λ b. let n : ℕ = cond b 0 1 in n) all.0 in
+      let later : missed f limit (after_step f limit t v u) (f v u) us ≡ 0 = ap (λ x. missed f limit x (f v u) us) stays ∙ rest.0 in
+      (omega (arith, none, later), ap (λ x. kept f limit x (f v u) us) stays ∙ rest.1)
 
-  values_after-append : (pairs more : List Pair) (values : List Value) → values_after f values (pairs ++ more) ≡ values_after f (values_after f values pairs) more
-  values_after-append [] more values = refl
-  values_after-append (p ∷ ps) more values = values_after-append ps more (with_value (with_value values p.value) (f p.value p.unit))
-
-  -- a pair that is kept adds no value
-  nothing_new : (pairs more : List Pair) (v : Value) (u : Option ℕ) → is_kept pairs v u ≡ true → values_of f (pairs ++ record { value = v; unit = u } ∷ more) ≡ values_of f (pairs ++ more)
-  nothing_new pairs more v u k =
-      let there : (list_any (same v) (values_of f pairs) ≡ true) × (list_any (same (f v u)) (values_of f pairs) ≡ true) = both_held pairs [] v u k in
-      values_after-append pairs (record { value = v; unit = u } ∷ more) []
-      ∙ ap (λ xs. values_after f xs more) (ap (λ xs. with_value xs (f v u)) (ap (λ b. cond b (values_of f pairs) (values_of f pairs ++ v ∷ [])) there.0) ∙ ap (λ b. cond b (values_of f pairs) (values_of f pairs ++ f v u ∷ [])) there.1)
-      ∙ sym (values_after-append pairs more [])
-
-  -- a pair of a walk for which there is room is kept
-  room_for_one : (limit : ℕ) (pairs more : List Pair) (p : Pair) → length (values_of f (pairs ++ p ∷ more)) ≤ limit → keep f limit pairs p ≡ pairs ++ p ∷ []
-  room_for_one limit pairs more p few =
-      let longer : length (values_of f (pairs ++ p ∷ [])) ≤ length (values_of f (pairs ++ p ∷ more)) =
-      subst (λ xs. length (values_of f (pairs ++ p ∷ [])) ≤ length xs) (sym (values_after-append (pairs ++ p ∷ []) more []) ∙ ap (λ ps. values_of f ps) (append_assoc pairs (p ∷ []) more))
-      (longer_after more (values_of f (pairs ++ p ∷ []))) in
-      let room : length (values_of f (pairs ++ p ∷ [])) ≤ limit = omega (arith, longer, few) in
-      ap (λ b. cond b (pairs ++ p ∷ []) (cond (fits f limit (p ∷ [])) (p ∷ []) [])) (le_true _ _ room)
-
-  -- all pairs are kept, and each that is missing is computed once
-  pub kept_all : (limit : ℕ) (pairs : List Pair) (v : Value) (us : List (Option ℕ)) → length (values_of f (pairs ++ chain_pairs f v us)) ≤ limit
-      → (kept f limit pairs v us ≡ with_pairs pairs (chain_pairs f v us)) × (missed f limit pairs v us + length pairs ≡ length (with_pairs pairs (chain_pairs f v us)))
-  kept_all limit pairs v [] few = (refl, (let e : 0 + length pairs ≡ length pairs = omega arith in e))
-  kept_all limit pairs v (u ∷ us) few =
-      elim (is_kept pairs v u) as (λ b. is_kept pairs v u ≡ b
-      → (kept f limit (cond b pairs (keep f limit pairs record { value = v; unit = u })) (f v u) us ≡ with_pairs (cond b pairs (pairs ++ record { value = v; unit = u } ∷ [])) (chain_pairs f (f v u) us))
-      × (cond b 0 1 + missed f limit (cond b pairs (keep f limit pairs record { value = v; unit = u })) (f v u) us + length pairs ≡ length (with_pairs (cond b pairs (pairs ++ record { value = v; unit = u } ∷ [])) (chain_pairs f (f v u) us)))) [
-        | true ↦ λ there. let rest : (kept f limit pairs (f v u) us ≡ with_pairs pairs (chain_pairs f (f v u) us)) × (missed f limit pairs (f v u) us + length pairs ≡ length (with_pairs pairs (chain_pairs f (f v u) us))) =
-            kept_all limit pairs (f v u) us (subst (λ xs. length xs ≤ limit) (nothing_new pairs (chain_pairs f (f v u) us) v u there) few) in
-            (rest.0, (let known : missed f limit pairs (f v u) us + length pairs ≡ length (with_pairs pairs (chain_pairs f (f v u) us)) = rest.1 in omega (arith, known)))
-        | false ↦ λ _. let p : Pair = record { value = v; unit = u } in
-            let rest : (kept f limit (pairs ++ p ∷ []) (f v u) us ≡ with_pairs (pairs ++ p ∷ []) (chain_pairs f (f v u) us)) × (missed f limit (pairs ++ p ∷ []) (f v u) us + length (pairs ++ p ∷ []) ≡ length (with_pairs (pairs ++ p ∷ []) (chain_pairs f (f v u) us))) =
-            kept_all limit (pairs ++ p ∷ []) (f v u) us (subst (λ ps. length (values_of f ps) ≤ limit) (sym (append_assoc pairs (p ∷ []) (chain_pairs f (f v u) us))) few) in
-            let added : keep f limit pairs p ≡ pairs ++ p ∷ [] = room_for_one limit pairs (chain_pairs f (f v u) us) p few in
-            let one : missed f limit (keep f limit pairs p) (f v u) us ≡ missed f limit (pairs ++ p ∷ []) (f v u) us = ap (λ ps. missed f limit ps (f v u) us) added in
-            let known : missed f limit (pairs ++ p ∷ []) (f v u) us + length (pairs ++ p ∷ []) ≡ length (with_pairs (pairs ++ p ∷ []) (chain_pairs f (f v u) us)) = rest.1 in
-            let longer : length (pairs ++ p ∷ []) ≡ length pairs + 1 = length_push pairs p in
-            (ap (λ ps. kept f limit ps (f v u) us) added ∙ rest.0, omega (arith, one, known, longer))
-      ] refl
+  -- a transition that fits is cached with the others
+  keep-fits : (limit : ℕ) (t : Table) (v : Value) (u : Option ℕ) → length (with_transition t v u (f v u)).states ≤ limit → keep f limit t v u ≡ with_transition t v u (f v u)
+  keep-fits limit t v u h = ap (λ b. cond b (with_transition t v u (f v u)) (cond (fits f limit empty v u) (with_transition empty v u (f v u)) empty)) (le_true _ _ h)
 
 module _ (nfa : Nfa) (kind : MatchKind) where
-  with_value-again : (values : List Value) (v : Value) → with_value (with_value values v) v ≡ with_value values v
-  with_value-again values v = ap (λ b. cond b (with_value values v) (with_value values v ++ v ∷ [])) (any_new (step nfa kind) values v v (same_laws.refl v))
+  -- the second value of a walk may be there by then
+  future_again : (values : List Value) (v : Value) (us : List (Option ℕ)) → with_values (with_value values v) (future nfa kind v us) ≡ with_values values (future nfa kind v us)
+  future_again values v us = ap (λ vs. with_values (with_value values v) vs) (future_is nfa kind v us)
+      ∙ ap (λ xs. with_values xs (tail nfa kind v us)) (with_value-again values v)
+      ∙ sym (ap (λ vs. with_values values vs) (future_is nfa kind v us))
 
-  -- the pairs of a walk add the values of its chain
-  values_after-chain : (values : List Value) (v : Value) (u : Option ℕ) (us : List (Option ℕ))
-      → values_after (step nfa kind) values (chain_pairs (step nfa kind) v (u ∷ us)) ≡ with_values values (future nfa kind v (u ∷ us))
-  values_after-chain values v u [] = refl
-  values_after-chain values v u (w ∷ us) =
-      values_after-chain (with_value (with_value values v) (step nfa kind v u)) (step nfa kind v u) w us
-      ∙ ap (λ vs. with_values vs (future nfa kind (step nfa kind (step nfa kind v u) w) us)) (with_value-again (with_value values v) (step nfa kind v u))
+  -- all transitions are cached, and each that is missing is computed once
+  kept_all : (limit : ℕ) (t : Table) (v : Value) (us : List (Option ℕ)) → length (with_values t.states (future nfa kind v us)) ≤ limit
+      → (kept (step nfa kind) limit t v us ≡ with_walk (step nfa kind) t v us) × (missed (step nfa kind) limit t v us ≡ missing (step nfa kind) t v us)
+  kept_all limit t v [] few = (refl, refl)
+  kept_all limit t v (u ∷ us) few = elim (is_cached t v u) as (λ b.
+      (kept f limit (cond b t (keep f limit t v u)) next us ≡ with_walk f (cond b t (with_transition t v u next)) next us)
+      × (cond b 0 1 + missed f limit (cond b t (keep f limit t v u)) next us ≡ cond b 0 1 + missing f (cond b t (with_transition t v u next)) next us)) [
+        | true ↦ let rest = kept_all limit t next us room in (rest.0, ap (λ n. 0 + n) rest.1)
+        | false ↦ let rest = kept_all limit (with_transition t v u next) next us room_more in
+            (ap (λ x. kept f limit x next us) added ∙ rest.0, ap (λ n. 1 + n) (ap (λ x. missed f limit x next us) added ∙ rest.1))
+      ]
+    where
+      f : Value → Option ℕ → Value
+      f = step nfa kind
 
-count_none : (a m : ℕ) → min (min a m + 0) m ≡ min a m
-count_none a m = grind arith
+      next : Value
+      next = step nfa kind v u
 
-count_same : (a n m : ℕ) → min (a + 0) m ≡ min (a + (n - n)) m
-count_same a n m = grind arith
+      room : length (with_values t.states (future nfa kind next us)) ≤ limit
+      room = let a : length (with_values t.states (future nfa kind next us)) ≤ length (with_values (with_value t.states v) (future nfa kind next us)) =
+          not_shorter t.states (future nfa kind next us) v in omega (arith, a, few)
 
--- over no units nothing changes
-keeps_none : (old : Cache) (v : Value) → old.computed ≤ 18446744073709551615 → KeepsAll old v [] (after_walk old v [])
-keeps_none old v few = record {
-  pairs = refl;
-  once = count_same old.computed (length old.pairs) 18446744073709551615;
-  again = ap (λ n. record old { computed = n }) (count_none (old.computed + 0) 18446744073709551615);
+      room_more : length (with_values (with_value (with_value t.states v) next) (future nfa kind next us)) ≤ limit
+      room_more = subst (λ xs. length xs ≤ limit) (sym (future_again (with_value t.states v) next us)) few
+
+      added : keep (step nfa kind) limit t v u ≡ with_transition t v u next
+      added = keep-fits (step nfa kind) limit t v u
+          (let a : length (with_value (with_value t.states v) next) ≤ length (with_values (with_value (with_value t.states v) next) (future nfa kind next us)) =
+          longer_after (future nfa kind next us) (with_value (with_value t.states v) next) in omega (arith, a, room_more))
+
+-- with room for all of its states, a walk caches all its transitions
+pub keeps_all : (old : Cache) (v : Value) (us : List (Option ℕ)) → HasRoom old v us → KeepsAll old v us (after_walk old v us)
+keeps_all old v us few = record {
+  table = all.0;
+  once = ap (λ n. count_after old.computed n) all.1;
+  again = ap (λ (t : Table). record old { table = t; computed = count_after (count_after old.computed m) (missed f old.limit now v us) }) stays.1
+      ∙ ap (λ (n : ℕ). record old { table = now; computed = n }) (ap (λ n. count_after (count_after old.computed m) n) stays.0 ∙ count_none (old.computed + m) 18446744073709551615);
 }
+  where
+    f : Value → Option ℕ → Value
+    f = step old.nfa old.kind
 
-module _ (old : Cache) (v : Value) (u : Option ℕ) (us : List (Option ℕ)) (few : HasRoom old v (u ∷ us)) where
-  all : (kept (step_of old) old.limit old.pairs v (u ∷ us) ≡ with_pairs old.pairs (chain_pairs (step_of old) v (u ∷ us)))
-      × (missed (step_of old) old.limit old.pairs v (u ∷ us) + length old.pairs ≡ length (with_pairs old.pairs (chain_pairs (step_of old) v (u ∷ us))))
-  all = kept_all (step_of old) old.limit old.pairs v (u ∷ us)
-      (subst (λ vs. length vs ≤ old.limit) (sym (values_after-append (step_of old) old.pairs (chain_pairs (step_of old) v (u ∷ us)) [] ∙ values_after-chain old.nfa old.kind (held_values old) v u us)) few)
+    now : Table
+    now = kept f old.limit old.table v us
 
-  pub kept_pairs : (after_walk old v (u ∷ us)).pairs ≡ with_pairs old.pairs (chain_pairs (step_of old) v (u ∷ us))
-  kept_pairs = all.0
+    m : ℕ
+    m = missed f old.limit old.table v us
 
-  pub counted_once : (after_walk old v (u ∷ us)).computed ≡ count_after old.computed (length (after_walk old v (u ∷ us)).pairs - length old.pairs)
-  counted_once =
-      let sum : missed (step_of old) old.limit old.pairs v (u ∷ us) + length old.pairs ≡ length (with_pairs old.pairs (chain_pairs (step_of old) v (u ∷ us))) = all.1 in
-      let same_length : length (kept (step_of old) old.limit old.pairs v (u ∷ us)) ≡ length (with_pairs old.pairs (chain_pairs (step_of old) v (u ∷ us))) = ap length all.0 in
-      let difference : missed (step_of old) old.limit old.pairs v (u ∷ us) ≡ length (kept (step_of old) old.limit old.pairs v (u ∷ us)) - length old.pairs = omega (arith, sum, same_length) in
-      ap (λ n. count_after old.computed n) difference
+    all : (kept f old.limit old.table v us ≡ with_walk f old.table v us) × (missed f old.limit old.table v us ≡ missing f old.table v us)
+    all = kept_all old.nfa old.kind old.limit old.table v us few
 
-  pub walked_again : after_walk (after_walk old v (u ∷ us)) v (u ∷ us) ≡ after_walk old v (u ∷ us)
-  walked_again =
-      let stays : (missed (step_of old) old.limit (kept (step_of old) old.limit old.pairs v (u ∷ us)) v (u ∷ us) ≡ 0)
-      × (kept (step_of old) old.limit (kept (step_of old) old.limit old.pairs v (u ∷ us)) v (u ∷ us) ≡ kept (step_of old) old.limit old.pairs v (u ∷ us)) =
-      missed_none (step_of old) old.limit (kept (step_of old) old.limit old.pairs v (u ∷ us)) v (u ∷ us)
-      (λ x w h. ap (λ ps. is_kept ps x w) all.0 ∙ kept_added old.pairs (chain_pairs (step_of old) v (u ∷ us)) x w h) in
-      ap (λ (ps : List Pair). record old { pairs = ps; computed = count_after (count_after old.computed (missed (step_of old) old.limit old.pairs v (u ∷ us))) (missed (step_of old) old.limit (kept (step_of old) old.limit old.pairs v (u ∷ us)) v (u ∷ us)) }) stays.1
-      ∙ ap (λ (n : ℕ). record old { pairs = kept (step_of old) old.limit old.pairs v (u ∷ us); computed = n })
-      (ap (λ n. count_after (count_after old.computed (missed (step_of old) old.limit old.pairs v (u ∷ us))) n) stays.0 ∙ count_none (old.computed + missed (step_of old) old.limit old.pairs v (u ∷ us)) 18446744073709551615)
+    stays : (missed f old.limit now v us ≡ 0) × (kept f old.limit now v us ≡ now)
+    stays = missed_none f old.limit now v us (subst (λ t. IsCachedWalk f t v us) (sym all.0) (with_walk-cached f old.table v us))
 
--- with room for all, a walk keeps all its pairs
-pub keeps_all : (old : Cache) (v : Value) (us : List (Option ℕ)) → old.computed ≤ 18446744073709551615 → HasRoom old v us → KeepsAll old v us (after_walk old v us)
-keeps_all old v [] small few = keeps_none old v small
-keeps_all old v (u ∷ us) small few = record {
-  pairs = kept_pairs old v u us few;
-  once = counted_once old v u us few;
-  again = walked_again old v u us few;
-}
+    count_none : (a n : ℕ) → min (min a n + 0) n ≡ min a n
+    count_none a n = grind arith
 
 -- the same of a walk that may fail
-pub keeps_all_where_ok : {T E : Type 0} (r : Result T E) (old new : Cache) (v : Value) (us : List (Option ℕ)) → old.computed ≤ 18446744073709551615
-    → OnOk r (new ≡ after_walk old v us)
+pub keeps_all_where_ok : {T E : Type 0} (r : Result T E) (old new : Cache) (v : Value) (us : List (Option ℕ)) → OnOk r (new ≡ after_walk old v us)
     → HasRoom old v us → OnOk r (KeepsAll old v us new)
-keeps_all_where_ok (Ok answer) old new v us small after room = subst (λ (c : Cache). KeepsAll old v us c) (sym after) (keeps_all old v us small room)
-keeps_all_where_ok (Err error) old new v us small after room = tt
+keeps_all_where_ok (Ok answer) old new v us after room = subst (λ c. KeepsAll old v us c) (sym after) (keeps_all old v us room)
+keeps_all_where_ok (Err error) old new v us after room = tt

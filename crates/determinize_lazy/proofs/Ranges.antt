@@ -11,7 +11,7 @@ use Rattle.determinize_core.specs.Walk.{IsFarthestMatch, IsPreferredMatch, last_
 use Rattle.determinize_lazy.proofs.Headline.{none_accepts, some_accepts}
 use Rattle.determinize_below.specs.Search.{Asked, is_done}
 use Rattle.determinize_below.specs.declared.search.HalfMatch.{HalfMatch}
-use Rattle.determinize_lazy.specs.Kept.{Cache}
+use Rattle.determinize_lazy.specs.Cache.{Cache}
 use Rattle.determinize_lazy.specs.Searches.{after_first_match, after_input, after_is_match, after_search, found_in, HasMatch, in_haystack, in_order, index_after, IsFarthestIn, IsPlenty, IsPlentyIn, IsPreferredIn, last_in, start_for, text_of}
 
 past : (a b : ℕ) → b < a → nat_lt b a ≡ true

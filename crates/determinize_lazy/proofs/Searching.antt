@@ -1,33 +1,29 @@
--- A search, one step more at a time.
-use Rattle.std.proofs.Common.{◌≡◌, ℕ, Bool, ◌+◌, ◌<◌, ◌≤◌, cond, Option, Some, None, true, false, List, [], ◌∷◌, ◌++◌, length, map, not, suc, take, drop, refl, sym, ap, ◌∙◌, subst, arith, get_or}
-use Rattle.std.specs.Option.{IfSome, option_or}
-use Rattle.std.specs.Prelude.{min, slice_get}
-use Rattle.std.proofs.lemmas.List.{append-nil, append_assoc, length-map, length-reverse, length-take-le, map-append, take_all, take_more, take-append-drop}
-use Rattle.std.proofs.lemmas.Option.{get_or_from_slice_get, slice_get-get_or, slice_get_within}
-use Rattle.std.proofs.lemmas.List.FromFn.{length-map-range_with_len}
-use Rattle.std.specs.List.{list_any}
+-- A search, one unit more at a time.
+use Rattle.std.proofs.Common.{◌≡◌, ℕ, Bool, zero, suc, ◌+◌, ◌-◌, ◌<◌, ◌≤◌, cond, Option, Some, None, true, false, List, [], ◌∷◌, ◌++◌, length, map, not, take, drop, refl, sym, ap, ◌∙◌, subst, arith}
+use Rattle.std.specs.Option.{option_or}
+use Rattle.std.specs.Prelude.{slice_get}
+use Rattle.std.proofs.lemmas.List.{append-nil, append_assoc, drop_all, length-append, length-map, length-reverse, length-take-le, take_all, take-append-drop}
 use mathlib.Core.Bool.{true≢false}
 use Rattle.determinize_core.proofs.LastMatches.{last_match-push}
 use Rattle.determinize_core.proofs.Loops.{value_after-push}
 use Rattle.determinize_core.proofs.UnitLists.{units_are}
-use Rattle.determinize_lazy.specs.Pairs.{chain_pairs, is_kept, Pair, same}
-use Rattle.determinize_lazy.specs.Private.Places.{IsPlace}
-use Rattle.determinize_lazy.specs.Plenty.{HasRoom, KeepsAll}
-use Rattle.determinize_lazy.specs.Private.Over.{IsOver}
-use Rattle.determinize_lazy.specs.Private.Signs.{match_at}
-use Rattle.determinize_lazy.specs.Private.Standing.{current, IsStanding}
-use Rattle.determinize_lazy.specs.Kept.{after_walk, Cache, count_after, held_values, keep, step_of}
-use Rattle.determinize_lazy.specs.Private.Turns.{after_turn, IsKnown}
-use Rattle.determinize_lazy.specs.Searches.{in_order, units_read}
-use Rattle.determinize_core.specs.Value.{dead, is_nonempty, Value}
 use Rattle.determinize_core.specs.Chain.{future, units, value_after}
+use Rattle.determinize_core.specs.Value.{Value, is_nonempty}
 use Rattle.determinize_core.specs.Walk.{ended_at, last_match}
-use Rattle.determinize_below.specs.declared.search.HalfMatch.{HalfMatch}
-use Rattle.determinize_below.specs.Positions.{after_at, between}
 use Rattle.determinize_below.specs.Nfa.{AllResolve, IsAccepted, Nfa}
-use Rattle.determinize_lazy.proofs.LastUnits.{last_match-over, last_match-within}
+use Rattle.determinize_below.specs.Positions.{between}
+use Rattle.determinize_below.specs.declared.search.HalfMatch.{HalfMatch}
+use Rattle.determinize_lazy.specs.Cache.{Cache, after_walk, count_after, keep, step_of}
+use Rattle.determinize_lazy.specs.Plenty.{HasRoom, KeepsAll}
+use Rattle.determinize_lazy.specs.Private.Searched.{IsOver, IsSearched}
+use Rattle.determinize_lazy.specs.Private.Steps.{after_unit}
+use Rattle.determinize_lazy.specs.Private.Tags.{Tag, match_at, tag_in, tag_of}
+use Rattle.determinize_lazy.specs.Searches.{in_order, units_read}
+use Rattle.determinize_lazy.specs.Table.{is_cached}
+use Rattle.determinize_lazy.proofs.Indices.{get_more, not_none, of_some}
+use Rattle.determinize_lazy.proofs.LastUnits.{last_match-over}
 use Rattle.determinize_lazy.proofs.Plenty.{keeps_all}
-use Rattle.determinize_lazy.proofs.Walking.{after_resolves, after_walk-push}
+use Rattle.determinize_lazy.proofs.Walks.{after_resolves, after_walk-none, after_walk-push}
 
 pub empty_is : (xs : List ℕ) → is_nonempty xs ≡ false → xs ≡ []
 empty_is [] h = refl
@@ -41,197 +37,194 @@ pub not_false : (b : Bool) → not b ≡ false → b ≡ true
 not_false true h = refl
 not_false false h = absurd (true≢false h)
 
--- nothing is read after a value that records no NFA states
-read_none : (f : Value → Option ℕ → Value) (v : Value) (us : List (Option ℕ)) → is_nonempty v.states ≡ false → units_read f v us ≡ []
-read_none f v [] h = refl
-read_none f v (u ∷ us) h = ap (λ b. cond b (u ∷ units_read f (f v u) us) []) h
+-- the units before and after the one at an index
 
--- a search over some units: its own value, the place, the last match, the cache before and after
-pub record IsSearched (old : Cache) (first : Value) (us : List (Option ℕ)) (own : Value) (place : Option ℕ) (last : Option HalfMatch) (new : Cache) : Type 0 where
-  pub end : current new own place ≡ value_after old.nfa old.kind first us
-  pub standing : IsStanding new own place
-  pub after : new ≡ after_walk old first us
-  pub told : last ≡ last_match (future old.nfa old.kind first us)
-  pub read : (rest : List (Option ℕ)) → units_read (step_of old) first (us ++ rest) ≡ us ++ units_read (step_of old) (value_after old.nfa old.kind first us) rest
+module _ {K : Type 0} where
+  take-next : (xs : List K) (i : ℕ) (x : K) → slice_get xs i ≡ Some x → take (suc i) xs ≡ take i xs ++ x ∷ []
+  take-next [] i x at = not_none (sym at)
+  take-next (y ∷ ys) zero x at = ap (λ z. z ∷ []) (of_some at)
+  take-next (y ∷ ys) (suc i) x at = ap (λ zs. y ∷ zs) (take-next ys i x at)
 
--- the end of the first of some patterns, told by it alone
-pub match_at-first : (offset : ℕ) (patterns : List ℕ) → match_at offset (slice_get patterns 0) ≡ ended_at offset patterns
-match_at-first offset [] = refl
-match_at-first offset (p ∷ ps) = refl
+  drop-next : (xs : List K) (i : ℕ) (x : K) → slice_get xs i ≡ Some x → drop i xs ≡ x ∷ drop (suc i) xs
+  drop-next [] i x at = not_none (sym at)
+  drop-next (y ∷ ys) zero x at = ap (λ z. z ∷ ys) (of_some at)
+  drop-next (y ∷ ys) (suc i) x at = drop-next ys i x at
 
--- no unit yet
-pub searched_none : (old new : Cache) (first own : Value) (place : Option ℕ) (last : Option HalfMatch) → old.computed ≤ 18446744073709551615 → own ≡ first → new ≡ old → IsPlace (held_values new) first place → last ≡ None
-    → IsSearched old first [] own place last new
-searched_none old new first own place last few own_is new_is at none = record {
-  end = at_place place at ∙ own_is;
-  standing = standing_at place at;
-  after = new_is ∙ ap (λ n. record old { computed = n }) (let r : old.computed ≡ min (old.computed + 0) 18446744073709551615 = grind arith in r);
-  told = none;
-  read = λ rest. refl;
-}
-  where
-    at_place : (o : Option ℕ) → IsPlace (held_values new) first o → current new own o ≡ own
-    at_place None h = refl
-    at_place (Some p) h = get_or_from_slice_get (held_values new) p first dead h ∙ sym own_is
+  pub take-one : (xs : List K) (i : ℕ) (x : K) → slice_get xs i ≡ Some x → take (i + 1) xs ≡ take i xs ++ x ∷ []
+  take-one xs i x at = ap (λ n. take n xs) (let e : i + 1 ≡ suc i = omega arith in e) ∙ take-next xs i x at
 
-    standing_at : (o : Option ℕ) → IsPlace (held_values new) first o → IsStanding new own o
-    standing_at None h = ap (λ v. list_any (same v) (held_values new)) own_is ∙ h
-    standing_at (Some p) h = slice_get_within (held_values new) p first h
+  pub drop-one : (xs : List K) (i : ℕ) (x : K) → slice_get xs i ≡ Some x → drop i xs ≡ x ∷ drop (i + 1) xs
+  drop-one xs i x at = drop-next xs i x at ∙ ap (λ n. x ∷ drop n xs) (let e : suc i ≡ i + 1 = omega arith in e)
 
--- the same told otherwise
-pub searched-told : (old : Cache) (first : Value) (us : List (Option ℕ)) (own : Value) (place : Option ℕ) (last told : Option HalfMatch) (new : Cache) → told ≡ last → IsSearched old first us own place last new
-    → IsSearched old first us own place told new
-searched-told old first us own place last told new same s = record { end = s.end; standing = s.standing; after = s.after; told = same ∙ s.told; read = s.read }
+  pub index-within : (xs : List K) (i : ℕ) (x : K) → slice_get xs i ≡ Some x → i < length xs
+  index-within [] i x at = not_none (sym at)
+  index-within (y ∷ ys) zero x at = omega arith
+  index-within (y ∷ ys) (suc i) x at = let h : i < length ys = index-within ys i x at in omega (arith, h)
 
--- at a place the search's own value doesn't matter
-pub searched_at : (old : Cache) (first : Value) (us : List (Option ℕ)) (own own' : Value) (place : Option ℕ) (p : ℕ) (last : Option HalfMatch) (new : Cache) → IsSearched old first us own place last new → place ≡ Some p
-    → IsSearched old first us own' (Some p) last new
-searched_at old first us own own' place p last new s at = there (subst (λ o. IsSearched old first us own o last new) at s)
-  where
-    there : IsSearched old first us own (Some p) last new → IsSearched old first us own' (Some p) last new
-    there t = record { end = t.end; standing = t.standing; after = t.after; told = t.told; read = t.read }
+-- the units of a text, by their indices
 
--- one more unit
-pub searched-push : (old : Cache) (first : Value) (us : List (Option ℕ)) (u : Option ℕ) (own own' : Value) (place place' : Option ℕ) (last last' : Option HalfMatch) (new newer : Cache) → old.computed ≤ 18446744073709551615
-    → IsSearched old first us own place last new
-    → not (is_nonempty (current new own place).states) ≡ false
-    → current newer own' place' ≡ step_of new (current new own place) u
-    → IsStanding newer own' place'
-    → newer ≡ after_turn new (current new own place) u
-    → last' ≡ option_or (ended_at (length us) (current newer own' place').patterns) last
-    → IsSearched old first (us ++ u ∷ []) own' place' last' newer
-searched-push old first us u own own' place place' last last' new newer few s more value standing newer_is last_is =
-    let ends : current newer own' place' ≡ value_after old.nfa old.kind first (us ++ u ∷ []) =
-    value ∙ ap (λ (c : Cache). step_of c (current new own place) u) s.after ∙ ap (λ v. step_of old v u) s.end ∙ sym (value_after-push old.nfa old.kind first us u) in
-    record {
-      end = ends;
-      standing = standing;
-      after = newer_is ∙ ap (λ c. after_turn c (current new own place) u) s.after ∙ ap (λ v. after_turn (after_walk old first us) v u) s.end ∙ after_walk-push old first us u few;
-      told = last_is ∙ ap (λ (v : Value). option_or (ended_at (length us) v.patterns) last) ends
-          ∙ ap (λ o. option_or (ended_at (length us) (value_after old.nfa old.kind first (us ++ u ∷ [])).patterns) o) s.told
-          ∙ sym (last_match-push old.nfa old.kind first us u);
-      read = λ rest.
-          ap (λ all. units_read (step_of old) first all) (append_assoc us (u ∷ []) rest)
-          ∙ s.read (u ∷ rest)
-          ∙ ap (λ b. us ++ cond b (u ∷ units_read (step_of old) (step_of old (value_after old.nfa old.kind first us) u) rest) []) (sym (ap (λ (v : Value). is_nonempty v.states) s.end) ∙ not_false (is_nonempty (current new own place).states) more)
-          ∙ ap (λ v. us ++ u ∷ units_read (step_of old) v rest) (sym (value_after-push old.nfa old.kind first us u))
-          ∙ sym (append_assoc us (u ∷ []) (units_read (step_of old) (value_after old.nfa old.kind first (us ++ u ∷ [])) rest));
-    }
+some_at : (bytes : List ℕ) (i b : ℕ) → slice_get bytes i ≡ Some b → slice_get (map Some bytes) i ≡ Some (Some b)
+some_at [] i b at = not_none (sym at)
+some_at (x ∷ xs) zero b at = ap Some at
+some_at (x ∷ xs) (suc i) b at = some_at xs i b at
 
--- the units of a text, some bytes of it apart
-pub units_split : (text : List ℕ) (ahead : Option ℕ) (i : ℕ)
-    → units (between None text ahead) ≡ map Some (take i text) ++ (map Some (drop i text) ++ ahead ∷ [])
-units_split text ahead i =
-    units_are None ahead text
-    ∙ ap (λ bs. map Some bs ++ ahead ∷ []) (sym (take-append-drop i text))
-    ∙ ap (λ us. us ++ ahead ∷ []) (map-append Some (take i text) (drop i text))
-    ∙ append_assoc (map Some (take i text)) (map Some (drop i text)) (ahead ∷ [])
+last_at : (bytes : List ℕ) (u : Option ℕ) → slice_get (map Some bytes ++ u ∷ []) (length bytes) ≡ Some u
+last_at [] u = refl
+last_at (x ∷ xs) u = last_at xs u
 
-module _ (old : Cache) (first : Value) (text : List ℕ) (ahead : Option ℕ) (own : Value) (place : Option ℕ) (last : Option HalfMatch) (new : Cache) where
-  -- where no NFA state is left, what was told so far is the answer
-  pub stopped : (i : ℕ) → IsSearched old first (map Some (take i text)) own place last new → not (is_nonempty (current new own place).states) ≡ true
-      → IsOver old first (units (between None text ahead)) last new
-  stopped i s none =
-      let rest : List (Option ℕ) = map Some (drop i text) ++ ahead ∷ [] in
-      let over : is_nonempty (value_after old.nfa old.kind first (map Some (take i text))).states ≡ false = sym (ap (λ (v : Value). is_nonempty v.states) s.end) ∙ not_true (is_nonempty (current new own place).states) none in
-      let read : units_read (step_of old) first (units (between None text ahead)) ≡ map Some (take i text) =
-      ap (λ us. units_read (step_of old) first us) (units_split text ahead i) ∙ s.read rest
-      ∙ ap (λ us. map Some (take i text) ++ us) (read_none (step_of old) (value_after old.nfa old.kind first (map Some (take i text))) rest over) ∙ append-nil (map Some (take i text)) in
-      record {
-        found = s.told ∙ last_match-over old.nfa old.kind first (map Some (take i text)) rest (empty_is _ over) ∙ ap (λ us. last_match (future old.nfa old.kind first us)) (sym (units_split text ahead i));
-        after = s.after ∙ ap (λ us. after_walk old first us) (sym read);
-      }
+module _ (bytes : List ℕ) (ahead : Option ℕ) where
+  pub unit-byte : (i b : ℕ) → slice_get bytes i ≡ Some b → slice_get (units (between None bytes ahead)) i ≡ Some (Some b)
+  unit-byte i b at = ap (λ us. slice_get us i) (units_are None ahead bytes)
+      ∙ get_more (map Some bytes) (ahead ∷ []) i (Some b) (some_at bytes i b at)
 
-  -- at the end of the text too
-  pub finished : IsSearched old first (units (between None text ahead)) own place last new → IsOver old first (units (between None text ahead)) last new
-  finished s =
-      let us : List (Option ℕ) = units (between None text ahead) in
-      let read : units_read (step_of old) first us ≡ us = ap (λ all. units_read (step_of old) first all) (sym (append-nil us)) ∙ s.read [] ∙ append-nil us in
-      record {
-        found = s.told;
-        after = s.after ∙ ap (λ all. after_walk old first all) (sym read);
-      }
+  pub unit-last : (i : ℕ) → i ≡ length bytes → slice_get (units (between None bytes ahead)) i ≡ Some ahead
+  unit-last i at = ap (λ us. slice_get us i) (units_are None ahead bytes)
+      ∙ ap (λ k. slice_get (map Some bytes ++ ahead ∷ []) k) at ∙ last_at bytes ahead
 
-module _ (old : Cache) (first : Value) (text : List ℕ) (count i : ℕ) (whole : length text ≡ count) (own own' : Value) (place place' : Option ℕ) (last last' : Option HalfMatch) (new newer : Cache) (few : old.computed ≤ 18446744073709551615)
-    (s : IsSearched old first (map Some (take i text)) own place last new) (more : not (is_nonempty (current new own place).states) ≡ false) where
-  -- one more byte
-  pub searched_byte : (byte d : ℕ) → byte ≡ get_or text i d → i < count
-      → current newer own' place' ≡ step_of new (current new own place) (Some byte)
-      → IsStanding newer own' place'
-      → newer ≡ after_turn new (current new own place) (Some byte)
-      → last' ≡ option_or (ended_at i (current newer own' place').patterns) last
-      → IsSearched old first (map Some (take (i + 1) text)) own' place' last' newer
-  searched_byte byte d byte_is within value standing newer_is last_is =
-      let inside : i < length text = omega (arith, within, whole) in
-      let read : length (map Some (take i text)) ≡ i = length-map (take i text) Some ∙ length-take-le i text (let k : i ≤ length text = omega (arith, inside) in k) in
-      subst (λ us. IsSearched old first us own' place' last' newer) (ap (λ b. map Some (take i text) ++ Some b ∷ []) byte_is ∙ sym (ap (λ bs. map Some bs) (take_more text i d inside) ∙ map-append Some (take i text) (get_or text i d ∷ [])))
-      (searched-push old first (map Some (take i text)) (Some byte) own own' place place' last last' new newer few s more value standing newer_is
-      (last_is ∙ ap (λ k. option_or (ended_at k (current newer own' place').patterns) last) (sym read)))
-
-  -- the unit behind the last byte
-  pub searched_end : (ahead : Option ℕ) → count ≤ i
-      → current newer own' place' ≡ step_of new (current new own place) ahead
-      → IsStanding newer own' place'
-      → newer ≡ after_turn new (current new own place) ahead
-      → last' ≡ option_or (ended_at count (current newer own' place').patterns) last
-      → IsOver old first (units (between None text ahead)) last' newer
-  searched_end ahead past value standing newer_is last_is =
-      let all : take i text ≡ text = take_all i text (let k : length text ≤ i = omega (arith, past, whole) in k) in
-      let read : length (map Some (take i text)) ≡ count = length-map (take i text) Some ∙ ap length all ∙ whole in
-      finished old first text ahead own' place' last' newer
-      (subst (λ us. IsSearched old first us own' place' last' newer) (ap (λ bs. map Some bs ++ ahead ∷ []) all ∙ sym (units_are None ahead text))
-      (searched-push old first (map Some (take i text)) ahead own own' place place' last last' new newer few s more value standing newer_is
-      (last_is ∙ ap (λ k. option_or (ended_at k (current newer own' place').patterns) last) (sym read))))
-
--- the value where a search stands has states of the NFA, where the first has
-pub searched_resolves : (old : Cache) (first : Value) (us : List (Option ℕ)) (own : Value) (place : Option ℕ) (last : Option HalfMatch) (new : Cache) → IsAccepted old.nfa → AllResolve old.nfa first.states
-    → IsSearched old first us own place last new → AllResolve new.nfa (current new own place).states
-searched_resolves old first us own place last new accepted h s =
-    subst (λ (n : Nfa). AllResolve n (current new own place).states) (sym (ap (λ (c : Cache). c.nfa) s.after))
-    (subst (λ (v : Value). AllResolve old.nfa v.states) (sym s.end) (after_resolves old.nfa old.kind accepted first us h))
-
--- the answer lies within what was read
-pub over-within : (old : Cache) (first : Value) (behind ahead : Option ℕ) (text : List ℕ) (last : Option HalfMatch) (new : Cache) → IsOver old first (units (between behind text ahead)) last new → IfSome last (λ m. m.offset ≤ length text)
-over-within old first behind ahead text last new o =
-    let count : length (units (between behind text ahead)) ≡ length text + 1 = length-map-range_with_len (after_at (between behind text ahead)) 0 (suc (length text)) ∙ (let e : suc (length text) ≡ length text + 1 = omega arith in e) in
-    subst (λ m. IfSome m (λ m. m.offset ≤ length text)) (sym o.found) (below (last_match (future old.nfa old.kind first (units (between behind text ahead)))) (last_match-within old.nfa old.kind first (units (between behind text ahead))) count)
-  where
-    below : (m : Option HalfMatch) → IfSome m (λ m. m.offset < length (units (between behind text ahead))) → length (units (between behind text ahead)) ≡ length text + 1 → IfSome m (λ m. m.offset ≤ length text)
-    below None h count = tt
-    below (Some m) h count = omega (arith, h, count)
-
--- what a step from a place finds where the transition is kept
-turn_known : (c : Cache) (v : Value) (u : Option ℕ) → is_kept c.pairs v u ≡ true → c ≡ after_turn c v u
-turn_known c v u k = ap (λ b. record c { pairs = cond b c.pairs (keep (step_of c) c.limit c.pairs record { value = v; unit = u }); computed = cond b c.computed (count_after c.computed 1) }) (sym k)
-
--- a step from a place over a kept transition
-module _ (c : Cache) (own : Value) (source entry : ℕ) (u : Option ℕ) (standing : source < length (held_values c)) (known : (v : Value) → slice_get (held_values c) source ≡ Some v → IsKnown c v u (Some entry)) where
-  at_source : slice_get (held_values c) source ≡ Some (current c own (Some source))
-  at_source = slice_get-get_or (held_values c) source dead standing
-
-  pub hit_value : current c own (Some entry) ≡ step_of c (current c own (Some source)) u
-  hit_value = get_or_from_slice_get (held_values c) entry _ dead (known _ at_source).1
-
-  pub hit_standing : entry < length (held_values c)
-  hit_standing = slice_get_within (held_values c) entry _ (known _ at_source).1
-
-  pub hit_after : c ≡ after_turn c (current c own (Some source)) u
-  hit_after = turn_known c _ u (known _ at_source).0
+  pub units-count : length (units (between None bytes ahead)) ≡ length bytes + 1
+  units-count = ap length (units_are None ahead bytes) ∙ length-append (map Some bytes) (ahead ∷ [])
+      ∙ ap (λ n. n + 1) (length-map bytes Some)
 
 -- the bytes in either order are as many
 pub length-in_order : (backward : Bool) (bytes : List ℕ) → length (in_order backward bytes) ≡ length bytes
 length-in_order false bytes = refl
 length-in_order true bytes = length-reverse bytes
 
+-- what the tag of a value says
+
+first_at : (offset : ℕ) (patterns : List ℕ) → match_at offset (slice_get patterns 0) ≡ ended_at offset patterns
+first_at offset [] = refl
+first_at offset (p ∷ ps) = refl
+
+module _ (bits : ℕ) (v : Value) (tag : tag_in bits ≡ tag_of v) where
+  -- the match that it tells
+  pub tag-match : (offset : ℕ) → match_at offset (tag_in bits).pattern ≡ ended_at offset v.patterns
+  tag-match offset = ap (λ (t : Tag). match_at offset t.pattern) tag ∙ first_at offset v.patterns
+
+  -- whether it is dead
+  pub tag-dead : {test : Bool} → test ≡ (tag_in bits).is_dead → test ≡ true → is_nonempty v.states ≡ false
+  tag-dead told is = not_true _ (sym (ap (λ (t : Tag). t.is_dead) tag) ∙ sym told ∙ is)
+
+  pub tag-alive : {test : Bool} → test ≡ (tag_in bits).is_dead → test ≡ false → is_nonempty v.states ≡ true
+  tag-alive told is = not_false _ (sym (ap (λ (t : Tag). t.is_dead) tag) ∙ sym told ∙ is)
+
+-- nothing is read after a value that records no NFA states
+read_none : (f : Value → Option ℕ → Value) (v : Value) (us : List (Option ℕ)) → is_nonempty v.states ≡ false
+    → units_read f v us ≡ []
+read_none f v [] h = refl
+read_none f v (u ∷ us) h = ap (λ b. cond b (u ∷ units_read f (f v u) us) []) h
+
+-- a step over a cached transition leaves the cache as it is
+pub cached-unit : (c : Cache) (v : Value) (u : Option ℕ) → is_cached c.table v u ≡ true → c ≡ after_unit c v u
+cached-unit c v u h =
+    ap (λ b. record c {
+      table = cond b c.table (keep (step_of c) c.limit c.table v u);
+      computed = cond b c.computed (count_after c.computed 1);
+    }) (sym h)
+
+-- no unit yet
+pub searched-none : (old : Cache) (first : Value) (us : List (Option ℕ)) → old.computed ≤ 18446744073709551615
+    → first.patterns ≡ [] → IsSearched old first us 0 first None old
+searched-none old first us small none = record {
+  end = refl;
+  after = sym (after_walk-none old first small);
+  found = ap (λ ps. option_or (ended_at 0 ps) None) none;
+  rest = refl;
+}
+
+module _ {old : Cache} {first : Value} {us : List (Option ℕ)} {read : ℕ} {v : Value} {last : Option HalfMatch} {now : Cache}
+    (s : IsSearched old first us read v last now) where
+  abbrev before : Option HalfMatch
+  before = last_match (future old.nfa old.kind first (take read us))
+
+  -- one more unit
+  pub searched-step : (u : Option ℕ) (w : Value) (next : Option HalfMatch) (new : Cache) → slice_get us read ≡ Some u
+      → is_nonempty v.states ≡ true → next ≡ option_or (ended_at (read - 1) v.patterns) last
+      → w ≡ step_of now v u → new ≡ after_unit now v u → IsSearched old first us (read + 1) w next new
+  searched-step u w next new at more next_is w_is new_is = record {
+    end = end;
+    after = new_is ∙ ap (λ c. after_unit c v u) s.after ∙ ap (λ x. after_unit (after_walk old first (take read us)) x u) s.end
+        ∙ after_walk-push old first (take read us) u ∙ ap (λ all. after_walk old first all) (sym taken);
+    found = ap (λ o. option_or (ended_at (read + 1 - 1) w.patterns) o) (next_is ∙ s.found)
+        ∙ ap (λ n. option_or (ended_at n w.patterns) before) count
+        ∙ ap (λ (x : Value). option_or (ended_at (length (take read us)) x.patterns) before)
+        (end ∙ ap (λ all. value_after old.nfa old.kind first all) taken)
+        ∙ sym (last_match-push old.nfa old.kind first (take read us) u)
+        ∙ ap (λ all. last_match (future old.nfa old.kind first all)) (sym taken);
+    rest = s.rest
+        ∙ ap (λ all. take read us ++ units_read (step_of old) v all) (drop-one us read u at)
+        ∙ ap (λ b. take read us ++ cond b (u ∷ units_read (step_of old) (step_of old v u) (drop (read + 1) us)) []) more
+        ∙ ap (λ x. take read us ++ u ∷ units_read (step_of old) x (drop (read + 1) us)) (sym w_follows)
+        ∙ sym (append_assoc (take read us) (u ∷ []) (units_read (step_of old) w (drop (read + 1) us)))
+        ∙ ap (λ all. all ++ units_read (step_of old) w (drop (read + 1) us)) (sym taken);
+  }
+    where
+      taken : take (read + 1) us ≡ take read us ++ u ∷ []
+      taken = take-one us read u at
+
+      w_follows : w ≡ step_of old v u
+      w_follows = w_is ∙ ap (λ (c : Cache). step_of c v u) s.after
+
+      end : w ≡ value_after old.nfa old.kind first (take (read + 1) us)
+      end = w_follows ∙ ap (λ x. step_of old x u) s.end ∙ sym (value_after-push old.nfa old.kind first (take read us) u)
+          ∙ ap (λ all. value_after old.nfa old.kind first all) (sym taken)
+
+      count : read + 1 - 1 ≡ length (take read us)
+      count = let within : read < length us = index-within us read u at in
+          (let e : read + 1 - 1 ≡ read = omega arith in e)
+          ∙ sym (length-take-le read us (let k : read ≤ length us = omega (arith, within) in k))
+
+  -- one more unit over a cached transition
+  pub searched-cached : (u : Option ℕ) (w : Value) (next : Option HalfMatch) → slice_get us read ≡ Some u
+      → is_nonempty v.states ≡ true → next ≡ option_or (ended_at (read - 1) v.patterns) last
+      → w ≡ step_of now v u → is_cached now.table v u ≡ true → IsSearched old first us (read + 1) w next now
+  searched-cached u w next at more next_is w_is cached =
+      searched-step u w next now at more next_is w_is (cached-unit now v u cached)
+
+  -- the value where it is has states of the NFA, where the first has
+  pub searched_resolves : IsAccepted old.nfa → AllResolve old.nfa first.states → AllResolve now.nfa v.states
+  searched_resolves accepted h =
+      subst (λ (n : Nfa). AllResolve n v.states) (sym (ap (λ (c : Cache). c.nfa) s.after))
+      (subst (λ (x : Value). AllResolve old.nfa x.states) (sym s.end)
+      (after_resolves old.nfa old.kind accepted first (take read us) h))
+
+  -- what is found once no more units are read
+  over : {found : Option HalfMatch} → found ≡ option_or (ended_at (read - 1) v.patterns) last
+      → last_match (future old.nfa old.kind first (take read us)) ≡ last_match (future old.nfa old.kind first us)
+      → units_read (step_of old) v (drop read us) ≡ [] → IsOver old first us found now
+  over found_is same none = record {
+    found = found_is ∙ s.found ∙ same;
+    after = s.after
+        ∙ ap (λ all. after_walk old first all) (sym (s.rest ∙ ap (λ all. take read us ++ all) none ∙ append-nil (take read us)));
+  }
+
+  -- at a dead state
+  pub stopped : {found : Option HalfMatch} → found ≡ option_or (ended_at (read - 1) v.patterns) last
+      → is_nonempty v.states ≡ false → IsOver old first us found now
+  stopped found_is dead =
+      over found_is
+      (last_match-over old.nfa old.kind first (take read us) (drop read us)
+      (ap (λ (x : Value). x.states) (sym s.end) ∙ empty_is v.states dead)
+      ∙ ap (λ all. last_match (future old.nfa old.kind first all)) (take-append-drop read us))
+      (read_none (step_of old) v (drop read us) dead)
+
+  -- once all units are read
+  pub finished : {found : Option HalfMatch} → found ≡ option_or (ended_at (read - 1) v.patterns) last
+      → length us ≤ read → IsOver old first us found now
+  finished found_is all_read =
+      over found_is (ap (λ all. last_match (future old.nfa old.kind first all)) (take_all read us all_read))
+      (ap (λ all. units_read (step_of old) v all) (drop_all read us all_read))
+
 -- a search from a start that was made
-pub over-from : (old now : Cache) (first v : Value) (us : List (Option ℕ)) (last : Option HalfMatch) (new : Cache) → first ≡ v → now ≡ old → IsOver now first us last new → IsOver old v us last new
-over-from old now first v us last new first_is now_is o = subst (λ x. IsOver old x us last new) first_is (subst (λ x. IsOver x first us last new) now_is o)
+pub over-from : {old now : Cache} {first v : Value} {us : List (Option ℕ)} {found : Option HalfMatch} {new : Cache}
+    → first ≡ v → now ≡ old → IsOver now first us found new → IsOver old v us found new
+over-from {old} {now} {first} {v} {us} {found} {new} first_is now_is o =
+    subst (λ x. IsOver old x us found new) first_is (subst (λ c. IsOver c first us found new) now_is o)
 
--- the same told otherwise
-pub over-told : (old : Cache) (first : Value) (us : List (Option ℕ)) (last told : Option HalfMatch) (new : Cache) → told ≡ last → IsOver old first us last new → IsOver old first us told new
-over-told old first us last told new same o = record { found = same ∙ o.found; after = o.after }
-
--- with room for all that was read, a search keeps all its pairs
-pub over-keeps : (old : Cache) (v : Value) (us : List (Option ℕ)) (last : Option HalfMatch) (new : Cache) → old.computed ≤ 18446744073709551615 → IsOver old v us last new
+-- with room for all that was read, a search keeps all of its transitions
+pub over-keeps : {old : Cache} {v : Value} {us : List (Option ℕ)} {found : Option HalfMatch} {new : Cache}
+    → IsOver old v us found new
     → HasRoom old v (units_read (step_of old) v us) → KeepsAll old v (units_read (step_of old) v us) new
-over-keeps old v us last new few o room = subst (λ c. KeepsAll old v (units_read (step_of old) v us) c) (sym o.after) (keeps_all old v (units_read (step_of old) v us) few room)
+over-keeps {old} {v} {us} {found} {new} o room =
+    subst (λ c. KeepsAll old v (units_read (step_of old) v us) c) (sym o.after)
+    (keeps_all old v (units_read (step_of old) v us) room)

@@ -8,7 +8,7 @@ use Rattle.determinize_core.specs.Spelling.{spell}
 use Rattle.determinize_core.specs.Step.{step}
 use Rattle.determinize_core.specs.Varint.{varint}
 use Rattle.determinize_core.specs.Chain.{chain}
-use Rattle.determinize_lazy.specs.Kept.{after_text}
+use Rattle.determinize_lazy.specs.Cache.{after_text}
 use Rattle.determinize_lazy.specs.Searches.{after_search, last_in}
 use Rattle.determinize_lazy.specs.WorkedRows.{AreWorkedRows}
 

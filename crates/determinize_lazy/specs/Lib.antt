@@ -1,7 +1,7 @@
-pub mod Kept
-pub mod Pairs
-pub mod Places
+pub mod Cache
 pub mod Plenty
 pub mod Private
 pub mod Searches
+pub mod Stored
+pub mod Table
 pub mod WorkedRows

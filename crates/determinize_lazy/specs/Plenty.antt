@@ -1,16 +1,32 @@
--- What a walk leaves where there is room for all.
-use Rattle.std.specs.Prelude.{◌≡◌, ℕ, ◌-◌, ◌≤◌, Option, List, length}
+-- What a walk leaves if the limit has room for all of its states.
+use Rattle.std.specs.Prelude.{◌≡◌, ℕ, ◌+◌, ◌≤◌, cond, Option, List, [], ◌∷◌, length}
 use Rattle.determinize_core.specs.Chain.{future}
 use Rattle.determinize_core.specs.Value.{Value}
-use Rattle.determinize_lazy.specs.Kept.{Cache, after_walk, count_after, held_values, step_of}
-use Rattle.determinize_lazy.specs.Pairs.{chain_pairs, with_pairs, with_values}
+use Rattle.determinize_lazy.specs.Cache.{Cache, after_walk, count_after, step_of}
+use Rattle.determinize_lazy.specs.Table.{Table, is_cached, with_transition, with_values}
 
--- the values held, together with those of a walk from a value over units, are at most as many as the limit
+-- the cached states and those of a walk from a value over units are together at most `limit`
 abbrev pub HasRoom : Cache → Value → List (Option ℕ) → Type 0
-HasRoom c v us = length (with_values (held_values c) (future c.nfa c.kind v us)) ≤ c.limit
+HasRoom c v us = length (with_values c.table.states (future c.nfa c.kind v us)) ≤ c.limit
 
--- nothing was let go, each pair of the walk is kept, each that was missing was computed once, and the same walk again changes nothing
+module _ (f : Value → Option ℕ → Value) where
+  -- the table with a transition, unless it is cached
+  abbrev pub with_step : Table → Value → Option ℕ → Table
+  with_step t v u = cond (is_cached t v u) t (with_transition t v u (f v u))
+
+  -- the table with all transitions of a walk from a value over units
+  abbrev pub with_walk : Table → Value → List (Option ℕ) → Table
+  with_walk t v [] = t
+  with_walk t v (u ∷ us) = with_walk (with_step t v u) (f v u) us
+
+  -- how many of them the table does not have, each counted once
+  abbrev pub missing : Table → Value → List (Option ℕ) → ℕ
+  missing t v [] = 0
+  missing t v (u ∷ us) = cond (is_cached t v u) 0 1 + missing (with_step t v u) (f v u) us
+
+-- the cache was not emptied, each transition of the walk is cached, each that was missing was
+-- computed once, and the same walk again changes nothing
 pub record KeepsAll (old : Cache) (v : Value) (us : List (Option ℕ)) (new : Cache) : Type 0 where
-  pub pairs : new.pairs ≡ with_pairs old.pairs (chain_pairs (step_of old) v us)
-  pub once : new.computed ≡ count_after old.computed (length new.pairs - length old.pairs)
+  pub table : new.table ≡ with_walk (step_of old) old.table v us
+  pub once : new.computed ≡ count_after old.computed (missing (step_of old) old.table v us)
   pub again : after_walk new v us ≡ new

@@ -1,8 +1,8 @@
 -- What private functions promise each other, and what is true of every cache: no public contract cites these definitions.
-pub mod Order
-pub mod Over
-pub mod Places
+pub mod Cursors
+pub mod Invariant
 pub mod Rows
-pub mod Signs
-pub mod Standing
-pub mod Turns
+pub mod Searched
+pub mod Starts
+pub mod Steps
+pub mod Tags

@@ -1,6 +1,7 @@
 -- Searches over a cache: what they read, what they answer and what they leave.
-use Rattle.std.specs.Prelude.{◌≡◌, ℕ, ◌+◌, ◌-◌, Bool, true, false, cond, not, ◌&&◌, Option, Some, None, List, [], ◌∷◌, option_map, reverse, slice_get}
+use Rattle.std.specs.Prelude.{◌≡◌, ◌≤◌, ℕ, ◌+◌, ◌-◌, Bool, true, false, cond, not, ◌&&◌, Option, Some, None, List, [], ◌∷◌, length, option_map, reverse, slice_get}
 use Rattle.std.specs.List.{slice_range}
+use Rattle.std.specs.Option.{IfSome}
 use Rattle.determinize_below.specs.Nfa.{Nfa}
 use Rattle.determinize_below.specs.Positions.{Accepts, IsPreferredRun, Text, between}
 use Rattle.determinize_below.specs.Search.{Asked, is_done}
@@ -8,12 +9,13 @@ use Rattle.determinize_below.specs.declared.search.Anchored.{Anchored}
 use Rattle.determinize_below.specs.declared.search.Anchored.TheVariants.{No, Pattern, Yes}
 use Rattle.determinize_below.specs.declared.search.HalfMatch.{HalfMatch}
 use Rattle.determinize_below.specs.declared.search.MatchKind.{MatchKind}
+use Rattle.determinize_below.specs.declared.search.MatchKind.TheVariants.{All, LeftmostFirst}
 use Rattle.determinize_core.specs.Chain.{chain, units}
 use Rattle.determinize_looks.specs.StartKinds.{byte_before}
 use Rattle.determinize_core.specs.Step.{start_value}
 use Rattle.determinize_core.specs.Value.{Value, is_nonempty}
-use Rattle.determinize_core.specs.Walk.{IsFarthestMatch, last_match}
-use Rattle.determinize_lazy.specs.Kept.{Cache, after_walk, step_of}
+use Rattle.determinize_core.specs.Walk.{IsFarthestMatch, IsPreferredMatch, last_match}
+use Rattle.determinize_lazy.specs.Cache.{Cache, IsCutOff, after_walk, step_of}
 use Rattle.determinize_lazy.specs.Plenty.{HasRoom, KeepsAll}
 
 module _ (f : Value → Option ℕ → Value) where
@@ -43,11 +45,19 @@ after_first_match c start text =
     let first : Value = start_value c.nfa start text.behind in
     after_walk c first (units_to_match (step_of c) first (units text))
 
--- with room for all that a search reads, each pair of it is kept, and each that was missing was computed once
+-- with room for all that a search reads, each of its transitions is cached, and each that was missing was
+-- computed once
 abbrev pub IsPlenty : Cache → ℕ → Text → Cache → Type 0
 IsPlenty old start text new =
     let first : Value = start_value old.nfa start text.behind in
     HasRoom old first (units_searched old start text) → KeepsAll old first (units_searched old start text) new
+
+-- the last match of the walk from an NFA state over a text, in words of runs too; it ends within the text
+pub record IsSearch (nfa : Nfa) (kind : MatchKind) (start : ℕ) (text : Text) (found : Option HalfMatch) : Type 0 where
+  pub last : found ≡ last_match (chain nfa kind start text)
+  pub preferred : kind ≡ LeftmostFirst → IsPreferredMatch nfa start text found
+  pub farthest : kind ≡ All → IsFarthestMatch nfa start text found
+  pub within : IfSome found (λ m. m.offset ≤ length text.bytes)
 
 -- whether there is a start for a search that is so anchored: for one pattern alone there is none
 abbrev pub has_start : Anchored → Bool
@@ -114,6 +124,12 @@ after_is_match c asked =
     cond (is_done asked) c
     (after_first_match c (start_for c.nfa asked.anchored) (text_of c.nfa.reverse asked))
 
--- with room for all that it reads, each pair of it is kept, and each that was missing was computed once
+-- with room for all that it reads, each of its transitions is cached, and each that was missing was computed once
 abbrev pub IsPlentyIn : Cache → Asked → Cache → Type 0
 IsPlentyIn old asked new = is_done asked ≡ false → IsPlenty old (start_for old.nfa asked.anchored) (text_of old.nfa.reverse asked) new
+
+-- what a search of an input leaves if it fails
+abbrev pub IsCutOffIn : Cache → Asked → Cache → Type 0
+IsCutOffIn old asked new =
+    let text : Text = text_of old.nfa.reverse asked in
+    IsCutOff old (start_value old.nfa (start_for old.nfa asked.anchored) text.behind) (units text) new

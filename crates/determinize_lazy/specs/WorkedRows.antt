@@ -1,16 +1,18 @@
--- Worked walks and searches over one cache of the NFA `\b\w+\b`, the preferred match wanted: how many steps are computed, and how many states are held then.
+-- Worked walks and searches over one cache of the NFA `\b\w+\b`, the preferred match wanted: how many transitions are computed, and how many states
+-- are cached then.
 use Rattle.std.specs.Prelude.{◌≡◌, ℕ, true, Option, Some, None, List, [], ◌∷◌, length}
 use Rattle.determinize_below.specs.declared.search.MatchKind.TheVariants.{LeftmostFirst}
 use Rattle.determinize_below.specs.Positions.{Text, between}
 use Rattle.determinize_below.specs.Search.{Asked}
 use Rattle.determinize_below.specs.declared.search.Anchored.TheVariants.{Yes}
 use Rattle.determinize_core.specs.WorkedRows.{n4}
-use Rattle.determinize_lazy.specs.Kept.{Cache, after_text, held_values}
+use Rattle.determinize_lazy.specs.Cache.{Cache, after_text}
+use Rattle.determinize_lazy.specs.Table.{empty as nothing}
 use Rattle.determinize_lazy.specs.Searches.{after_search, last_in}
 
 -- an empty cache of at most so many states
 abbrev pub empty : ℕ → Cache
-empty limit = record { nfa = n4; kind = LeftmostFirst; limit = limit; pairs = []; computed = 0 }
+empty limit = record { nfa = n4; kind = LeftmostFirst; limit = limit; table = nothing; computed = 0 }
 
 -- `quartz`, a whole word
 abbrev pub whole_word : Text
@@ -27,22 +29,22 @@ inside_a_word = between (Some 0x71) (0x75 ∷ 0x61 ∷ 0x72 ∷ 0x74 ∷ 0x7A �
 -- the cache after walks over texts in order, emptied at each `None`
 abbrev pub after_texts : Cache → List (Option Text) → Cache
 after_texts c [] = c
-after_texts c (None ∷ texts) = after_texts (record c { pairs = [] }) texts
+after_texts c (None ∷ texts) = after_texts (record c { table = nothing }) texts
 after_texts c (Some text ∷ texts) = after_texts (after_text c 0 text) texts
 
--- after the texts so many steps are computed and so many states held
+-- after the texts n transitions are computed and m states cached
 abbrev pub Leaves : ℕ → List (Option Text) → ℕ → ℕ → Type 0
-Leaves limit texts computed held = ((after_texts (empty limit) texts).computed ≡ computed) × (length (held_values (after_texts (empty limit) texts)) ≡ held)
+Leaves limit texts computed cached = ((after_texts (empty limit) texts).computed ≡ computed) × (length (after_texts (empty limit) texts).table.states ≡ cached)
 
--- after a search of the text so many steps are computed and so many states held
+-- after a search of the text n transitions are computed and m states cached
 abbrev pub LeavesAfterSearch : Text → ℕ → ℕ → Type 0
-LeavesAfterSearch text computed held = ((after_search (empty 16) 0 text).computed ≡ computed) × (length (held_values (after_search (empty 16) 0 text)) ≡ held)
+LeavesAfterSearch text computed cached = ((after_search (empty 16) 0 text).computed ≡ computed) × (length (after_search (empty 16) 0 text).table.states ≡ cached)
 
 -- a range of `= ok =`, in which a word stands from 2 to 4
 abbrev pub between_signs : ℕ → ℕ → Asked
 between_signs start end = record { haystack = 0x3D ∷ 0x20 ∷ 0x6F ∷ 0x6B ∷ 0x20 ∷ 0x3D ∷ []; start = start; end = end; anchored = Yes }
 
--- what is computed and held after walks and searches, and what searches of ranges find
+-- what is computed and cached after walks and searches, and what searches of ranges find
 pub record AreWorkedRows : Type 0 where
   pub room_for_all : Leaves 16 (Some whole_word ∷ []) 7 3
   pub room_again : Leaves 16 (Some whole_word ∷ Some whole_word ∷ []) 7 3

@@ -1,4 +1,4 @@
-//! The text of a cache: its sizes, and neither its NFA nor its states.
+//! `Debug` of a cache: its sizes, without its NFA and its states.
 
 use crate::lazy::Lazy;
 use std::alloc::Allocator;

@@ -1,17 +1,26 @@
 //! A lazy DFA: walks and searches through a bounded cache of transitions.
 //!
-//! [`Lazy`] borrows an NFA. It answers what `determinize_core::determinize::walk` answers, and tells
-//! the last match of such a walk, also of a range of a haystack in either direction.
+//! [`Lazy`] borrows an NFA and computes the states of its DFA as a text needs them. A walk returns
+//! the states that `determinize_core::determinize::walk` returns. A search returns the last match
+//! of such a walk, also in a range of a haystack and in either direction.
+//!
+//! - `lazy`: the type, and walks. `search`: searches. `step`: one step of either, and the rule of
+//!   what is cached.
+//! - `table`: the transition table, with `state_table` (the cached states), `state_id` and `tag`.
+//! - `scratch`: what the steps of `determinize_core` work with.
+//!
+//! A `Result` is `Err` only if an allocation fails or the ids of states run out.
 #![tactic(auto)]
 
 mod debug;
 pub mod laws;
 pub mod lazy;
-mod place;
-mod places;
 mod scratch;
-mod searches;
-mod signs;
+mod search;
+mod state_id;
+mod state_table;
+mod step;
 mod table;
+mod tag;
 
 pub use crate::lazy::Lazy;

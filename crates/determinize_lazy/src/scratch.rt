@@ -1,4 +1,4 @@
-//! What a cache borrows to its steps: memory that holds nothing between them.
+//! Scratch space that is reused across steps. It holds nothing between them.
 
 ghost use Rattle.std.specs.Prelude.{◌≡◌, ◌<◌, length, IfOk};
 ghost use Rattle.determinize_below.specs.Nfa.{AllResolve};
@@ -29,11 +29,12 @@ impl<A: Allocator> Model for Scratch<A> {
 
     ghost view = { λ s. s.sparses.set1.capacity };
 
-    ghost invariant = { λ s. (s.sparses.set2.capacity ≡ s.sparses.set1.capacity) × (s.stack.items ≡ []) };
+    ghost invariant = { λ s.
+        (s.sparses.set2.capacity ≡ s.sparses.set1.capacity) × (s.stack.items ≡ []) };
 }
 
 impl<A: Allocator + Copy> Scratch<A> {
-    /// Scratch for this NFA. The only error is want of memory.
+    /// Returns scratch space for an NFA.
     pub(crate) fn new<N: Allocator>(alloc: A, nfa: &NFA<N>) -> Result<Scratch<A>, AllocError>
         ensures { IfOk result (λ scratch. scratch ≡ length nfa.now.states) }
     {
@@ -56,9 +57,7 @@ impl<A: Allocator + Copy> Scratch<A> {
             .saturating_add(self.empty_builder.capacity())
     }
 
-    /// The state before the first unit, of a search from an NFA state and after a byte or none.
-    ///
-    /// The only error is want of memory.
+    /// Computes the state before the first unit.
     pub(crate) fn start<N: Allocator>(
         &mut self,
         alloc: A,
@@ -84,9 +83,7 @@ impl<A: Allocator + Copy> Scratch<A> {
         self.finish(builder)
     }
 
-    /// The state that follows a state over a unit, in a builder, as `next` of the steps answers it.
-    ///
-    /// The only error is want of memory.
+    /// Computes the state that follows over a unit, in a builder.
     pub(crate) fn next<N: Allocator>(
         &mut self,
         alloc: A,
@@ -112,9 +109,7 @@ impl<A: Allocator + Copy> Scratch<A> {
         )
     }
 
-    /// The state that was built. The builder's memory serves the next one.
-    ///
-    /// The only error is want of memory.
+    /// Returns the state that was built. Keeps the builder's memory for the next one.
     pub(crate) fn finish(&mut self, builder: StateBuilderNFA<A>) -> Result<State<A>, AllocError>
         ensures state { IfOk result (λ state. state ≡ builder) }
         ensures room { self.new ≡ self.old }

@@ -1,47 +1,73 @@
-//! Kept transitions: the states that they join, and a row of numbers for each.
+//! The transition table: the cached states, and a row of targets for each.
+//!
+//! A row has 258 numbers. In the column of a unit (a byte, or 256 for EOI) is the offset of the
+//! row of the next state, or `UNKNOWN` if the transition is not cached. In the last column is the
+//! tag of the state. So a search over cached transitions reads two numbers a byte, and no state.
 
-ghost use Rattle.std.specs.Prelude.{◌≡◌, ◌+◌, ◌*◌, ◌<◌, ◌≤◌, ◌++◌, ◌∷◌, [], ℕ, false, List, Option, length, slice_get, IfOk, OnOk, Some};
+ghost use Rattle.std.specs.Prelude.{ℕ, ◌≡◌, ◌*◌, ◌<◌, ◌≤◌, ◌∷◌, [], Bool, List, true, false, None, Option, Some, cond, length, nat_le, slice_get, slice_set, slice_index, IfOk, OnErr, OnOk};
 ghost use Rattle.std.specs.List.{list_any};
-ghost use Rattle.determinize_core.specs.Value.{Value as StateValue};
-ghost use Rattle.determinize_lazy.specs.Pairs.{Pair, same, with_value};
-ghost use Rattle.determinize_lazy.specs.Private.Places.{IsPlace};
+ghost use Rattle.std.specs.Option.{IfSome};
 ghost use Rattle.determinize_below.specs.Truth.{IsUnit};
-ghost use Rattle.determinize_lazy.specs.Private.Rows.{IsRows, IsWithRow, column};
-ghost use Rattle.determinize_lazy.specs.Private.Signs.{signs_in, signs_of};
+ghost use Rattle.determinize_core.specs.Value.{Value as StateValue};
+ghost use Rattle.determinize_lazy.specs.Table.{EachApart, Table, empty, same, with_transition, with_value};
+ghost use Rattle.determinize_lazy.specs.Private.Cursors.{IsCursor, cursor_value};
+ghost use Rattle.determinize_lazy.specs.Private.Rows.{IsIndex, IsTarget, IsTargetIndex, table_of, with_state};
+ghost use Rattle.determinize_lazy.specs.Stored.{column, is_unit};
+ghost use Rattle.determinize_lazy.specs.Private.Tags.{tag_in, tag_of};
 
-use crate::place::{COLUMNS, PackedPlace, Place, UNITS};
-use crate::places::Places;
-use crate::signs::Signs;
+use crate::state_id::{COLUMNS, LazyStateId, UNITS};
+use crate::state_table::StateTable;
+use crate::tag::StateTag;
 use determinize_core::state::State;
 use std::alloc::{AllocError, Allocator, Global};
+use std::marker::Model;
 use std::mem::size_of;
 
-/// A kept transition: the place of its source, and its unit.
-#[derive(Clone, Copy)]
-pub(crate) struct Kept {
-    pub(crate) source: PackedPlace,
-    pub(crate) unit: Option<u8>,
-}
+/// The entry of a transition that is not cached. It is the offset of no row.
+const UNKNOWN: u32 = 1;
 
-/// What stands in a row where no transition is kept: a number that is the offset of no row.
-pub(crate) const NOT_KEPT: u32 = 1;
+/// The number of kept starts: two start states of the NFA, each with six kinds of start.
+pub(crate) const STARTS: usize = 12;
 
-/// Kept transitions, in the order in which they came and in a row for each state: in the column of
-/// a unit the offset of the row of the state that follows, and in the last one the signs of the
-/// state.
+/// Where a walk or a search is.
 #[derive(Drop)]
-pub(crate) struct Table<A: Allocator = Global> {
-    pub(crate) places: Places<A>,
-    pub(crate) rows: Vec<u32, A>,
-    pub(crate) order: Vec<Kept, A>,
+pub(crate) enum Cursor<A: Allocator = Global> {
+    /// At a cached state.
+    Cached(LazyStateId),
+    /// At a state that is not cached.
+    Uncached(State<A>),
 }
 
-/// The column of a unit: that of a byte, or the one behind those of the bytes at the end of input.
+/// The cached states, the cached transitions between them, and the ids of cached start states.
+#[derive(Drop)]
+pub(crate) struct TransitionTable<A: Allocator = Global> {
+    states: StateTable<A>,
+    rows: Vec<u32, A>,
+    // They point into the table, so they go when it is cleared.
+    starts: [Option<LazyStateId>; STARTS],
+}
+
+impl<A: Allocator> Model for TransitionTable<A> {
+    ghost use Rattle.determinize_lazy.specs.Private.Rows.{AreRows, StoredTable};
+
+    ghost Value = { StoredTable };
+
+    ghost view = { λ t. record {
+      states = t.states;
+      rows = t.rows.items;
+      starts = t.starts;
+    } };
+
+    ghost invariant = { λ t. AreRows t.states t.rows.items };
+}
+
+/// Returns the column of a unit in a row.
 #[inline(always)]
-pub(crate) fn column(unit: Option<u8>) -> usize
+fn column(unit: Option<u8>) -> usize
     ensures value { result ≡ column unit }
     ensures limit { result < 257 }
     ensures unit { IsUnit unit }
+    ensures is_unit { is_unit unit ≡ true }
 {
     match unit {
         Some(byte) => byte as usize,
@@ -49,151 +75,224 @@ pub(crate) fn column(unit: Option<u8>) -> usize
     }
 }
 
-/// One more row, in which nothing is kept, with these signs. The only error is want of memory.
-fn push_row<A: Allocator>(rows: &mut Vec<u32, A>, signs: Signs) -> Result<(), AllocError>
-    ensures { OnOk result (IsWithRow rows.old.items rows.new.items (signs_in signs.number)) }
-{
-    rows.resize(rows.len() + UNITS, NOT_KEPT)?;
-    rows.push(signs.number)?;
-    Ok(())
-}
-
-impl<A: Allocator + Copy> Table<A> {
-    ghost use Rattle.determinize_lazy.specs.Private.Order.{IsOrder, pairs_of};
-
-    /// No transitions. No memory is taken.
-    pub(crate) fn new(alloc: A) -> Table<A>
-        ensures places { result.places ≡ [] }
-        ensures rows { result.rows.items ≡ [] }
-        ensures order { result.order.items ≡ [] }
+impl<A: Allocator + Copy> TransitionTable<A> {
+    /// Returns a table in which nothing is cached. Does not allocate.
+    pub(crate) fn new(alloc: A) -> TransitionTable<A>
+        ensures table { table_of result ≡ empty }
+        ensures starts { (i index : ℕ) → slice_get result.starts i ≡ Some (Some index) → ⊥ }
     {
-        Table {
-            places: Places::new(alloc),
+        TransitionTable {
+            states: StateTable::new(alloc),
             rows: Vec::new(alloc),
-            order: Vec::new(alloc),
+            starts: [None; STARTS],
         }
     }
 
-    /// Lets go of all transitions.
+    /// Removes all transitions, states and start states.
     pub(crate) fn clear(&mut self)
-        ensures places { self.new.places ≡ [] }
-        ensures rows { self.new.rows.items ≡ [] }
-        ensures order { self.new.order.items ≡ [] }
+        ensures table { table_of self.new ≡ empty }
+        ensures starts { (i index : ℕ) → slice_get self.new.starts i ≡ Some (Some index) → ⊥ }
     {
-        self.places.clear();
+        self.states.clear();
         self.rows.clear();
-        self.order.clear();
+        let starts = [None; STARTS];
+        self.starts = starts;
     }
 
-    /// Returns the heap memory that the transitions and their states use, in bytes.
+    /// Returns the number of cached states, at most 16647160.
+    #[inline(always)]
+    pub(crate) fn len(&self) -> usize
+        ensures value { result ≡ length self.now.states }
+        ensures limit { result ≤ 16647160 }
+    {
+        self.states.len()
+    }
+
+    /// Returns the number of cached states with the source and the target of one more transition.
+    ///
+    /// - `target` is the id of `following` if it is cached.
+    pub(crate) fn len_with(
+        &self,
+        source: &Cursor<A>,
+        following: &State<A>,
+        target: &Option<LazyStateId>,
+    ) -> usize
+        requires source { IsCursor (table_of self.now) source.now }
+        requires target { IsIndex self.now.states following.now target.now }
+        ensures { result ≡ length (with_value (with_value self.now.states
+            (cursor_value self.now.states source.now)) following.now) }
+    {
+        let len = self.states.len();
+        match source {
+            Cursor::Cached(_) => { if target.is_some() { len } else { len + 1 } }
+            Cursor::Uncached(_) if target.is_some() => len + 1,
+            Cursor::Uncached(state) if state == following => len + 1,
+            Cursor::Uncached(_) => len + 2,
+        }
+    }
+
+    /// Returns the heap memory that the table uses, in bytes.
     pub(crate) fn memory_usage(&self) -> usize
-        ensures { length self.now.places * 1032 ≤ result }
+        ensures { length self.now.states * 1032 ≤ result }
     {
-        let rows = self.places.len() * COLUMNS * size_of::<u32>();
-        let order = self.order.len().saturating_mul(size_of::<Kept>());
-        let states = self.places.memory_usage();
-        rows.saturating_add(order).saturating_add(states)
+        let rows = self.states.len() * COLUMNS * size_of::<u32>();
+        rows.saturating_add(self.states.memory_usage())
     }
 
-    /// Holds one more state, and answers its place. The only error is want of memory.
-    fn hold(&mut self, state: &State<A>) -> Result<Place, AllocError>
-        requires { list_any (same state.now) self.old.places ≡ false }
-        ensures place { IfOk result (λ place. place ≡ length self.old.places) }
-        ensures places { OnOk result (self.new.places ≡ self.old.places ++ state.now ∷ []) }
-        ensures rows { OnOk result
-            (IsWithRow self.old.rows.items self.new.rows.items (signs_of state.now)) }
-        ensures order { OnOk result (self.new.order.items ≡ self.old.order.items) }
+    /// Returns the id of a state, or `None` if it is not cached.
+    pub(crate) fn find(&self, state: &State<A>) -> Option<LazyStateId>
+        ensures { IsIndex self.now.states state.now result }
     {
-        let place = self.places.hold(state)?;
-        push_row(&mut self.rows, Signs::of(state))?;
-        Ok(place)
+        self.states.find(state)
     }
 
-    /// The place of a state, which is held from then on. The only error is want of memory.
-    fn place_for(&mut self, state: &State<A>, place: Option<Place>) -> Result<Place, AllocError>
-        requires { IsPlace self.old.places state.now place }
-        ensures place { IfOk result
-            (λ place. slice_get self.new.places place ≡ Some state.now) }
-        ensures places { OnOk result (self.new.places ≡ with_value self.old.places state.now) }
-        ensures rows { OnOk result
-            ((f : StateValue → Option ℕ → StateValue) (pairs : List Pair)
-            → IsRows f self.old.places self.old.rows.items pairs
-            → IsRows f self.new.places self.new.rows.items pairs) }
-        ensures size { OnOk result
-            (length self.old.rows.items ≡ length self.old.places * 258
-            → length self.new.rows.items ≡ length self.new.places * 258) }
-        ensures order { OnOk result (self.new.order.items ≡ self.old.order.items) }
+    /// Returns the cached state with this id.
+    #[inline(always)]
+    pub(crate) fn get(&self, id: LazyStateId) -> &State<A>
+        requires { id < length self.now.states }
+        ensures { slice_get self.now.states id ≡ Some result.now }
     {
-        match place {
-            Some(place) => Ok(place),
-            None => {
-                let place = self.hold(state)?;
-                Ok(place)
+        self.states.get(id)
+    }
+
+    /// Returns the id of the state that follows a cached state over a unit, or `None` if that
+    /// transition is not cached.
+    #[inline(always)]
+    pub(crate) fn lookup(&self, id: LazyStateId, unit: Option<u8>) -> Option<LazyStateId>
+        requires { id < length self.now.states }
+        ensures { (v : StateValue) → slice_get self.now.states id ≡ Some v
+            → IsTarget (table_of self.now) v unit result }
+    {
+        // The rows from the column on: where that begins is known before the id is.
+        let rows = &self.rows[column(unit)..];
+        let entry = rows[id.row()];
+        if entry == UNKNOWN {
+            None
+        } else {
+            Some(LazyStateId::from_row(entry))
+        }
+    }
+
+    /// Returns the tag of a cached state.
+    #[inline(always)]
+    pub(crate) fn tag(&self, id: LazyStateId) -> StateTag
+        requires { id < length self.now.states }
+        ensures { (v : StateValue) → slice_get self.now.states id ≡ Some v
+            → tag_in result.bits ≡ tag_of v }
+    {
+        StateTag {
+            bits: self.rows[id.row() + UNITS],
+        }
+    }
+
+    /// Returns the kept start at an index.
+    pub(crate) fn start(&self, index: usize) -> Option<LazyStateId>
+        requires { index < 12 }
+        ensures { slice_get self.now.starts index ≡ Some result }
+    {
+        self.starts[index]
+    }
+
+    /// Keeps the id of a start state at an index.
+    pub(crate) fn set_start(&mut self, index: usize, id: LazyStateId)
+        requires { index < 12 }
+        ensures { self.new
+            ≡ record self.old { starts = slice_set self.old.starts index (Some id) } }
+    {
+        self.starts[index] = Some(id);
+    }
+
+    /// Caches a state that is not cached, and returns its id.
+    ///
+    /// If an allocation fails, the table is unchanged.
+    fn intern(&mut self, state: State<A>) -> Result<LazyStateId, AllocError>
+        requires { list_any (same state) self.old.states ≡ false }
+        ensures id { IfOk result (λ id. slice_get self.new.states id ≡ Some state) }
+        ensures table { OnOk result ((table_of self.new) ≡ with_state (table_of self.old) state) }
+        ensures starts { self.new.starts ≡ self.old.starts }
+        ensures err { OnErr result ((table_of self.new) ≡ (table_of self.old)) }
+    {
+        let tag = StateTag::of(&state);
+        let len = self.rows.len();
+        self.rows.resize(len + COLUMNS, UNKNOWN)?;
+        self.rows[len + UNITS] = tag.bits;
+        match self.states.intern(state) {
+            Ok(id) => Ok(id),
+            Err(failed) => {
+                self.rows.truncate(len);
+                Err(failed)
             }
         }
     }
 
-    /// The place of a target of which a place is told that it had before its source was held.
-    fn place_now(
-        &self,
-        state: &State<A>,
-        source: Place,
-        following: &State<A>,
-        target: Option<Place>,
-    ) -> Option<Place>
-        requires { slice_get self.now.places source ≡ Some state.now }
-        ensures { (before : List StateValue) → self.now.places ≡ with_value before state.now
-            → IsPlace before following.now target → IsPlace self.now.places following.now result }
+    /// Caches the source of a transition, and returns its id.
+    fn intern_source(&mut self, source: Cursor<A>) -> Result<LazyStateId, AllocError>
+        requires { IsCursor (table_of self.old) source }
+        ensures id { IfOk result
+            (λ id. slice_get self.new.states id ≡ Some (cursor_value self.old.states source)) }
+        ensures table { OnOk result (table_of self.new
+            ≡ with_state (table_of self.old) (cursor_value self.old.states source)) }
+        ensures starts { self.new.starts ≡ self.old.starts }
+    {
+        match source {
+            Cursor::Cached(id) => Ok(id),
+            Cursor::Uncached(state) => self.intern(state),
+        }
+    }
+
+    /// Caches the target of a transition, and returns its id.
+    ///
+    /// - `target` is the id of the target if it was cached before its source.
+    fn intern_target(
+        &mut self,
+        source: LazyStateId,
+        following: State<A>,
+        target: Option<LazyStateId>,
+    ) -> Result<LazyStateId, AllocError>
+        requires source { source < length self.old.states }
+        requires target { IsTargetIndex self.old.states source following target }
+        ensures id { IfOk result
+            (λ id. slice_get self.new.states id ≡ Some following) }
+        ensures table { OnOk result
+            (table_of self.new ≡ with_state (table_of self.old) following) }
+        ensures starts { self.new.starts ≡ self.old.starts }
     {
         match target {
-            Some(place) => Some(place),
+            Some(id) => Ok(id),
             None => {
-                if state == following {
-                    Some(source)
+                if *self.get(source) == following {
+                    Ok(source)
                 } else {
-                    None
+                    self.intern(following)
                 }
             }
         }
     }
 
-    /// Keeps one more transition, and answers the place of its target.
+    /// Caches the transition from `source` over `unit` to `following`, and both states. Returns the
+    /// id of `following`.
     ///
-    /// The only error is want of memory, and what the table holds then is not told.
-    pub(crate) fn record(
+    /// - `target` is the id of `following` if it is cached.
+    ///
+    /// If an allocation fails, no transition is added, but the source may be cached.
+    pub(crate) fn insert(
         &mut self,
-        state: &State<A>,
-        place: Option<Place>,
+        source: Cursor<A>,
         unit: Option<u8>,
-        following: &State<A>,
-        target: Option<Place>,
-    ) -> Result<Place, AllocError>
-        requires place { IsPlace self.old.places state.now place }
-        requires target { IsPlace self.old.places following.now target }
-        requires size { length self.old.rows.items ≡ length self.old.places * 258 }
-        requires ordered { IsOrder self.old.places self.old.order.items }
-        ensures place { IfOk result
-            (λ place. slice_get self.new.places place ≡ Some following.now) }
-        ensures places { OnOk result (self.new.places
-            ≡ with_value (with_value self.old.places state.now) following.now) }
-        ensures rows { OnOk result
-            ((f : StateValue → Option ℕ → StateValue) (pairs : List Pair)
-            → following.now ≡ f state.now unit
-            → IsRows f self.old.places self.old.rows.items pairs
-            → IsRows f self.new.places self.new.rows.items
-            (pairs ++ record { value = state.now; unit = unit } ∷ [])) }
-        ensures ordered { OnOk result (IsOrder self.new.places self.new.order.items) }
-        ensures pairs { OnOk result (pairs_of self.new.places self.new.order.items
-            ≡ pairs_of self.old.places self.old.order.items
-            ++ record { value = state.now; unit = unit } ∷ []) }
+        following: State<A>,
+        target: Option<LazyStateId>,
+    ) -> Result<LazyStateId, AllocError>
+        requires source { IsCursor (table_of self.old) source }
+        requires target { IsIndex self.old.states following target }
+        ensures id { IfOk result
+            (λ id. slice_get self.new.states id ≡ Some following) }
+        ensures table { OnOk result (table_of self.new ≡ with_transition (table_of self.old)
+            (cursor_value self.old.states source) unit following) }
+        ensures starts { self.new.starts ≡ self.old.starts }
     {
-        let source = self.place_for(state, place)?;
-        let known = self.place_now(state, source, following, target);
-        let target = self.place_for(following, known)?;
-        let column = column(unit);
-        self.rows[source.offset() + column] = target.packed_offset();
-        let source = PackedPlace::of(source);
-        self.order.push(Kept { source, unit })?;
+        let source = self.intern_source(source)?;
+        let target = self.intern_target(source, following, target)?;
+        self.rows[source.row() + column(unit)] = target.entry();
         Ok(target)
     }
 }

@@ -1,4 +1,4 @@
--- The set of the assertions that are known whatever follows, member by member.
+-- The members of the set of the assertions that the look-behind satisfies.
 use Rattle.std.proofs.Common.{◌≡◌, ℕ, Bool, true, false, refl, ◌∙◌, arith}
 use mathlib.Core.Bool.{◌&&◌, ◌||◌}
 use Rattle.determinize_below.specs.Look.{has, has_haystack, has_line, has_crlf, has_word}
@@ -9,7 +9,7 @@ use Rattle.determinize_below.specs.declared.look.Look.{Look}
 use Rattle.determinize_below.specs.declared.look.Look.TheVariants.{Start, StartLF, StartCRLF, WordStartHalfAscii, WordStartHalfUnicode}
 use Rattle.determinize_looks.specs.LookTables.{insert_where, known_set}
 
--- a test under a class that is there
+-- a test under a class that is present
 pub under : (c a : Bool) → c ≡ true → (c && a) ≡ a
 under c a h = grind arith
 
@@ -41,7 +41,7 @@ haystack_class any l k h = meets-from any 0x3 l h k
 pub or_none : (a : Bool) → (a || false) ≡ a
 or_none a = grind arith
 
--- the members, the last one that was inserted first
+-- the members, the last inserted first
 known_each : (start line crlf word : Bool) (l : Look) → ((same Start l && start) || ((same StartCRLF l && crlf) || ((same StartLF l && line) || ((same WordStartHalfUnicode l && word) || ((same WordStartHalfAscii l && word) || false))))) ≡ behind_test start line crlf word l
 unfolding same index_of
 known_each a b c d Start = or_none a
@@ -51,12 +51,12 @@ known_each a b c d WordStartHalfAscii = or_none d
 known_each a b c d WordStartHalfUnicode = or_none d
 known_each a b c d l = refl
 
--- such a set, member by member
+-- the members of such a set
 pub has-known_set : (start line crlf word : Bool) (l : Look) → has (known_set start line crlf word) l ≡ behind_test start line crlf word l
 unfolding known_set
 has-known_set start line crlf word l = simp (has-insert_where, has-empty) (known_each start line crlf word l)
 
--- two such sets agree on the assertions of an NFA, where their tests agree under its classes
+-- two such sets agree on the assertions of an NFA if their tests agree under its classes
 pub known-agree : (any : ℕ) (start line crlf word start' line' crlf' word' : Bool) (l : Look) → has any l ≡ true
     → (has_haystack any ≡ true → start ≡ start')
     → (has_line any ≡ true → line ≡ line')
@@ -71,7 +71,7 @@ known-agree any a b c d a' b' c' d' WordStartHalfAscii h i j k m = m (word_class
 known-agree any a b c d a' b' c' d' WordStartHalfUnicode h i j k m = m (word_class any WordStartHalfUnicode refl h)
 known-agree any a b c d a' b' c' d' l h i j k m = refl
 
--- such a set lies in another where its tests imply the other's
+-- such a set is a subset of another if its tests imply the other's
 pub known-within : (start line crlf word start' line' crlf' word' : Bool) (l : Look)
     → (start ≡ true → start' ≡ true)
     → (line ≡ true → line' ≡ true)

@@ -1,4 +1,4 @@
--- The sets that are built for a unit, member by member.
+-- The members of the sets that a unit satisfies.
 use Rattle.std.proofs.Common.{◌≡◌, ℕ, Bool, false, not, bit_or, Option, refl}
 use mathlib.Core.Bool.{◌&&◌, ◌||◌}
 use Rattle.determinize_below.specs.Look.{has}
@@ -11,7 +11,7 @@ use Rattle.determinize_looks.specs.LookTables.{Tables, word_opened, line_opened,
 use Rattle.determinize_looks.specs.Private.LookSets.{word_set, line_set}
 use Rattle.determinize_looks.proofs.KnownSet.{has-insert_where, or_none}
 
--- the members of the set for words, the last one that was inserted first
+-- the members of the word set, the last inserted first
 word_each : (f w : Bool) (k : Look)
     → ((same WordEndHalfUnicode k && not w)
     || ((same WordEndHalfAscii k && not w)
@@ -39,7 +39,7 @@ word_each f w k = refl
 pub has-word_set : (f w : Bool) (k : Look) → has (word_set f w) k ≡ word_opened f w k
 has-word_set f w k = simp (has-insert_where, has-empty) (word_each f w k)
 
--- the members of the set for the haystack and lines
+-- the members of the haystack and line set
 line_each : (t : Tables) (half : Bool) (u : Option ℕ) (k : Look)
     → ((same StartCRLF k && (half && not (is_byte u (crlf_second t.reverse))))
     || ((same EndCRLF k && (is_nothing u || is_byte u (crlf_first t.reverse) || (is_byte u (crlf_second t.reverse) && not half)))

@@ -1,4 +1,4 @@
--- What a start kind tells is what is known at the start.
+-- The look-behind of a start kind is sound and complete for the assertions of the NFA.
 use Rattle.std.proofs.Common.{◌≡◌, ℕ, Bool, true, false, not, Option, Some, None, nat_eq, refl, sym, subst, ◌∙◌, arith}
 use mathlib.Core.Bool.{◌&&◌}
 use Rattle.std.proofs.lemmas.Bool.{eqb-true, eq-eqb, and_parts, and_right}
@@ -31,7 +31,7 @@ not_first : (reverse : Bool) (b : ℕ) → nat_eq b 10 ≡ false → nat_eq b 13
 not_first true b e k = e
 not_first false b e k = k
 
--- what holds of each byte by its start kind
+-- a property of each byte by its start kind
 pub by_kind : (t : ℕ) (P : ℕ → Kind → Type 0)
     → P 10 LineLF
     → P 13 LineCR
@@ -70,11 +70,11 @@ absent : {P : Type 0} → false ≡ true → P
 absent h = absurd (cc)
 
 module _ (t : Tables) where
-  -- what is known after a byte, as a table
+  -- the assertions satisfied after a byte, as a table
   abbrev after : ℕ → Look → Bool
   after b = behind_test false (nat_eq b t.terminator) (nat_eq b (crlf_second t.reverse)) (not (is_word_byte b))
 
-  -- what the start kind tells is what is known, among the assertions of the NFA
+  -- the look-have of the kind is complete, for the assertions of the NFA
   abbrev IsRight : Look → ℕ → Kind → Type 0
   IsRight l b kind = has (start_have t kind) l ≡ after b l
 
@@ -95,7 +95,7 @@ module _ (t : Tables) where
       ∙ sym (known_is t.reverse t.terminator None l)
   has-have_at_start (Some b) l h = right l h b ∙ sym (known_is t.reverse t.terminator (Some b) l)
 
-  -- and each of them is known in any case
+  -- the look-have of the kind is sound
   abbrev IsKnown : Look → ℕ → Kind → Type 0
   IsKnown l b kind = has (start_have t kind) l ≡ true → after b l ≡ true
 
@@ -115,7 +115,7 @@ module _ (t : Tables) where
       ∙ known-within _ _ _ _ _ _ _ _ l (λ _. refl) (λ _. refl) (λ _. refl) (λ _. refl) (sym (has-known_set _ _ _ _ l) ∙ h)
   have_at_start-known (Some b) l h = known_is t.reverse t.terminator (Some b) l ∙ start_within l b h
 
-  -- the same of a start kind that what stands behind the start has
+  -- the same for the start kind of an optional byte
   pub start_have-known : (kind : Kind) (p : Option ℕ) (l : Look) → start_kind_of t.terminator p ≡ kind → has (start_have t kind) l ≡ true → is_known t.reverse t.terminator p l ≡ true
   unfolding have_at_start
   start_have-known kind p l e h = have_at_start-known p l (subst (λ k. has (start_have t k) l ≡ true) (sym e) h)

@@ -1,4 +1,4 @@
--- Small searches, computed.
+-- The examples, computed.
 use Rattle.std.proofs.Common.{◌≡◌, ℕ, refl, arith}
 use Rattle.determinize_below.specs.Look.{meets, insert}
 use Rattle.determinize_below.specs.Unit.{is_word_byte}
@@ -52,7 +52,7 @@ nothing_told reverse t LineLF = (refl, refl, refl)
 nothing_told reverse t LineCR = (refl, refl, refl)
 nothing_told reverse t CustomLineTerminator = (refl, refl, refl)
 
--- under a line feed or a carriage return no byte is a terminator of its own
+-- with the line terminator `\n` or `\r` no byte is a custom line terminator
 pub no_custom_lf : (b : ℕ) → ¬ (start_kind 10 b ≡ CustomLineTerminator)
 no_custom_lf b h = grind (arith, h)
 

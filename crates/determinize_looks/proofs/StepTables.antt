@@ -1,4 +1,5 @@
--- What a step tells is what is known at the next position, and what is known or found true over a unit is the truth.
+-- The look-behind after a step is sound and complete, and with the assertions that the next unit
+-- satisfies it is the truth.
 use Rattle.std.proofs.Common.{◌≡◌, ℕ, Bool, true, false, not, Option, Some, refl, sym, ap, ◌∙◌}
 use mathlib.Core.Bool.{◌||◌}
 use Rattle.std.proofs.lemmas.Bool.{and_parts}
@@ -12,7 +13,7 @@ use Rattle.determinize_looks.specs.LookTables.{Tables, IsFlagged, opened, word_o
 use Rattle.determinize_looks.proofs.KnownSet.{or_none, under, has-known_set, known-agree, known-within, word_class, crlf_class}
 
 module _ (t : Tables) where
-  -- what a step tells over a byte is what is known after it, among the assertions of the NFA
+  -- look-have after a byte is complete, for the assertions of the NFA
   pub has-have_after : (b : ℕ) (l : Look) → has t.any l ≡ true → has (have_after t (Some b)) l ≡ is_known t.reverse t.terminator (Some b) l
   unfolding have_after
   has-have_after b l h =
@@ -20,19 +21,20 @@ module _ (t : Tables) where
       ∙ known-agree t.any _ _ _ _ _ _ _ _ l h (λ _. refl) (λ e. under _ _ e) (λ _ e. under _ _ e) (λ e. under _ _ e)
       ∙ sym (known_is t.reverse t.terminator (Some b) l)
 
-  -- and it is known in any case
+  -- look-have after a byte is sound
   pub have_after-known : (b : ℕ) (l : Look) → has (have_after t (Some b)) l ≡ true → is_known t.reverse t.terminator (Some b) l ≡ true
   unfolding have_after
   have_after-known b l h =
       known_is t.reverse t.terminator (Some b) l
       ∙ known-within _ _ _ _ _ _ _ _ l (λ e. e) (λ e. (and_parts _ _ e).1) (λ e. (and_parts _ _ e).1) (λ e. (and_parts _ _ e).1) (sym (has-known_set _ _ _ _ l) ∙ h)
 
-  -- the flags that a step sets tell rightly of what it read
+  -- the flags after a step describe the byte that was read
   pub IsFlagged-after : (p : Option ℕ) → IsFlagged t p (from_word_after t p) (half_crlf_after t p)
   unfolding from_word_after half_crlf_after
   IsFlagged-after p = record { word = (λ h. under _ _ h); crlf = (λ h. under _ _ h) }
 
-  -- with right flags, what is known and what the unit opens are the truth: as tables, and so
+  -- with right flags, an assertion holds if and only if the look-behind or the unit satisfies it:
+  -- as tables, and as sets
   known_or_opened_each : (p u : Option ℕ) (l : Look) → (behind_test (is_nothing p) (is_nothing p || is_byte p t.terminator) (is_nothing p || is_byte p (crlf_second t.reverse)) (not (is_word p)) l || opened t (is_word p) (is_byte p (crlf_first t.reverse)) u l) ≡ holds t.reverse t.terminator p u l
   unfolding opened word_opened line_opened
   known_or_opened_each p u Start = or_none _
@@ -57,7 +59,7 @@ module _ (t : Tables) where
   known_or_opened : (p u : Option ℕ) (l : Look) → (is_known t.reverse t.terminator p l || opened t (is_word p) (is_byte p (crlf_first t.reverse)) u l) ≡ holds t.reverse t.terminator p u l
   known_or_opened p u l = rw (known_is t.reverse t.terminator p l) (known_or_opened_each p u l)
 
-  -- wrong flags change nothing among the assertions of the NFA
+  -- wrong flags of a class that the NFA lacks change nothing for the assertions of the NFA
   opened-flags : (p : Option ℕ) (from_word half : Bool) (u : Option ℕ) (l : Look) → IsFlagged t p from_word half → has t.any l ≡ true
       → opened t from_word half u l ≡ opened t (is_word p) (is_byte p (crlf_first t.reverse)) u l
   unfolding has opened word_opened line_opened
@@ -73,7 +75,8 @@ module _ (t : Tables) where
   opened-flags p from_word half u WordEndUnicode f h = ap (λ x. word_opened x (is_word u) WordEndUnicode || false) (f.word (word_class t.any WordEndUnicode refl h))
   opened-flags p from_word half u l f h = refl
 
-  -- with flags that are right where they are asked, what is known and what the unit opens are the truth, among the assertions of the NFA
+  -- with flags that are right if they are needed, an assertion of the NFA holds if and only if the
+  -- look-behind or the unit satisfies it
   pub known_or_opened_any : (p : Option ℕ) (from_word half : Bool) (u : Option ℕ) (l : Look) → IsFlagged t p from_word half
       → has t.any l ≡ true → (is_known t.reverse t.terminator p l || opened t from_word half u l) ≡ holds t.reverse t.terminator p u l
   known_or_opened_any p from_word half u l f h = rw (opened-flags p from_word half u l f h) (known_or_opened p u l)

@@ -1,4 +1,4 @@
--- The tables of assertions of an accepted NFA: at its assertions, they fit the truth.
+-- The look-behind of a valid NFA, for the assertions that its states test.
 use Rattle.std.proofs.Common.{◌≡◌, ℕ, true, ◌||◌, Option, Some}
 use Rattle.determinize_below.specs.Edges.{IsTested}
 use Rattle.determinize_below.specs.Look.{has}
@@ -12,7 +12,7 @@ use Rattle.determinize_looks.specs.LookTables.{tables_of, opened, have_after, fr
 use Rattle.determinize_looks.proofs.StartKinds.{has-have_at_start}
 use Rattle.determinize_looks.proofs.StepTables.{has-have_after, IsFlagged-after, known_or_opened_any}
 
--- what is known holds before any unit
+-- an assertion satisfied by the look-behind holds before any unit
 pub known_truth : (nfa : Nfa) (p q : Option ℕ) (look : Assertion) → known nfa p look ≡ true → truth nfa p q look ≡ true
 unfolding known truth
 known_truth nfa p q look h = known-holds nfa.reverse nfa.terminator p q look h
@@ -22,18 +22,18 @@ module _ (nfa : Nfa) (accepted : IsAccepted nfa) where
   tested_in : (look : Assertion) → IsTested nfa look → has nfa.look_set_any look ≡ true
   tested_in look h = (Decides-look_set_any nfa accepted look).1 h
 
-  -- what is known and what a unit opens make the truth
+  -- an assertion holds if and only if the look-behind or the unit satisfies it
   pub opened_truth : (p q : Option ℕ) (look : Assertion) → IsTested nfa look
       → (known nfa p look || opened (tables_of nfa) (from_word_after (tables_of nfa) p) (half_crlf_after (tables_of nfa) p) q look) ≡ truth nfa p q look
   unfolding known truth
   opened_truth p q look tested = known_or_opened_any (tables_of nfa) p _ _ q look (IsFlagged-after (tables_of nfa) p) (tested_in look tested)
 
-  -- what a step over a byte tells is what is known after it
+  -- look-have after a byte
   pub have_after_known : (b : ℕ) (look : Assertion) → IsTested nfa look → has (have_after (tables_of nfa) (Some b)) look ≡ known nfa (Some b) look
   unfolding known
   have_after_known b look tested = has-have_after (tables_of nfa) b look (tested_in look tested)
 
-  -- what the start tells is what is known there
+  -- look-have at a start
   pub start_known : (p : Option ℕ) (look : Assertion) → IsTested nfa look → has (have_at_start (tables_of nfa) p) look ≡ known nfa p look
   unfolding known
   start_known p look tested = has-have_at_start (tables_of nfa) p look (tested_in look tested)

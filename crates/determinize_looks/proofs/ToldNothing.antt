@@ -1,4 +1,4 @@
--- An NFA without assertions tells the next state nothing.
+-- The look-behind of an NFA without assertions is empty.
 use Rattle.std.proofs.Common.{◌≡◌, ℕ, false, Option, refl}
 use Rattle.determinize_below.specs.Look.{meets}
 use Rattle.determinize_looks.specs.LookTables.{Tables, insert_where, known_set, have_after, from_word_after, half_crlf_after}

@@ -1,4 +1,5 @@
--- The tables of assertions: what a start kind tells the first state, what a unit makes true, and what it tells the next state.
+-- Look-behind: the assertions satisfied at a start and after a unit, and those that the next unit
+-- satisfies.
 use Rattle.std.specs.Prelude.{◌≡◌, ℕ, Bool, true, false, not, cond, Option, nat_eq}
 use mathlib.Core.Bool.{◌&&◌, ◌||◌}
 use Rattle.determinize_below.specs.Look.{insert, has_haystack, has_line, has_crlf, has_word}
@@ -11,31 +12,33 @@ use Rattle.determinize_looks.specs.StartKinds.{start_kind_of}
 use Rattle.determinize_looks.specs.declared.start.Start.{Start as Kind}
 use Rattle.determinize_looks.specs.declared.start.Start.TheVariants.{NonWordByte, WordByte, Text, LineLF, LineCR, CustomLineTerminator}
 
--- what the tables ask of an NFA: whether it reads backwards, the byte that ends a line, all its assertions
+-- the configuration that look-behind depends on: direction, line terminator and assertions of the
+-- NFA
 pub record Tables : Type 0 where
   pub reverse : Bool
   pub terminator : ℕ
   pub any : ℕ
 
--- the tables of these three
+-- the configuration with these fields
 abbrev pub tables : Bool → ℕ → ℕ → Tables
 tables reverse terminator any = record { reverse = reverse; terminator = terminator; any = any }
 
--- the tables of an NFA
+-- the configuration of an NFA
 abbrev pub tables_of : Nfa → Tables
 tables_of nfa = tables nfa.reverse nfa.terminator nfa.look_set_any
 
--- what a new state is told: assertions that are true whatever follows, and the two flags
+-- the look-behind of a new state: assertions that hold for every next unit, and the two flags
 pub record Telling : Type 0 where
   pub looks : ℕ
   pub from_word : Bool
   pub half_crlf : Bool
 
--- the set, with the assertion where the test says so
+-- the set with the assertion added if the test is true
 unfoldable pub insert_where : ℕ → Bool → Look → ℕ
 insert_where set test look = cond test (insert set look) set
 
--- the set of the two WordStartHalf assertions, StartLF, StartCRLF and Start, each where its test says so
+-- the set of the two WordStartHalf assertions, StartLF, StartCRLF and Start, each if its test is
+-- true
 unfoldable pub known_set : Bool → Bool → Bool → Bool → ℕ
 known_set start line crlf word =
     insert_where
@@ -48,7 +51,7 @@ known_set start line crlf word =
     crlf StartCRLF)
     start Start
 
--- the assertions that a start kind tells
+-- the look-have of a start kind
 unfoldable pub start_have : Tables → Kind → ℕ
 start_have t NonWordByte = known_set false false false (has_word t.any)
 start_have t WordByte = known_set false false false false
@@ -57,48 +60,49 @@ start_have t LineLF = known_set false (has_line t.any && nat_eq t.terminator 10)
 start_have t LineCR = known_set false (has_line t.any && nat_eq t.terminator 13) (has_crlf t.any && t.reverse) (has_word t.any)
 start_have t CustomLineTerminator = known_set false (has_line t.any) false (has_word t.any && not (is_word_byte t.terminator))
 
--- whether a start kind sets the flag from-word
+-- the flag from-word of a start kind
 unfoldable pub start_from_word : Tables → Kind → Bool
 start_from_word t WordByte = has_word t.any
 start_from_word t CustomLineTerminator = has_word t.any && is_word_byte t.terminator
 start_from_word t _ = false
 
--- whether a start kind sets the flag half-CRLF
+-- the flag half-CRLF of a start kind
 unfoldable pub start_half_crlf : Tables → Kind → Bool
 start_half_crlf t LineLF = has_crlf t.any && t.reverse
 start_half_crlf t LineCR = has_crlf t.any && not t.reverse
 start_half_crlf t _ = false
 
--- the assertions that the start kind of a byte or none tells
+-- the look-have at a start, given the byte behind it
 unfoldable pub have_at_start : Tables → Option ℕ → ℕ
 have_at_start t p = start_have t (start_kind_of t.terminator p)
 
--- whether it sets the flag from-word
+-- the flag from-word at a start
 unfoldable pub from_word_at_start : Tables → Option ℕ → Bool
 from_word_at_start t p = start_from_word t (start_kind_of t.terminator p)
 
--- whether it sets the flag half-CRLF
+-- the flag half-CRLF at a start
 unfoldable pub half_crlf_at_start : Tables → Option ℕ → Bool
 half_crlf_at_start t p = start_half_crlf t (start_kind_of t.terminator p)
 
--- the assertions that a step over u tells the next state
+-- the look-have after a step over u
 unfoldable pub have_after : Tables → Option ℕ → ℕ
 have_after t u = known_set false (has_line t.any && is_byte u t.terminator) (has_crlf t.any && is_byte u (crlf_second t.reverse)) (has_word t.any && not (is_word u))
 
--- whether a step over u sets the flag from-word, where it leads on
+-- the flag from-word after a step over u, set if some state has a transition on u
 unfoldable pub from_word_after : Tables → Option ℕ → Bool
 from_word_after t u = has_word t.any && is_word u
 
--- whether a step over u sets the flag half-CRLF, where it leads on
+-- the flag half-CRLF after a step over u, set if some state has a transition on u
 unfoldable pub half_crlf_after : Tables → Option ℕ → Bool
 half_crlf_after t u = has_crlf t.any && is_byte u (crlf_first t.reverse)
 
--- the flags of a state tell rightly of p, the byte behind it, where the NFA has the class that asks for them
+-- the flags of a state describe p, the byte behind it, if the NFA has the class that needs them
 pub record IsFlagged (t : Tables) (p : Option ℕ) (from_word half_crlf : Bool) : Type 0 where
   pub word : has_word t.any ≡ true → from_word ≡ is_word p
   pub crlf : has_crlf t.any ≡ true → half_crlf ≡ is_byte p (crlf_first t.reverse)
 
--- the assertions on words that are found true, by whether word bytes stand behind and ahead
+-- the word assertions that the next unit satisfies, given whether the byte behind and the next one
+-- are word bytes
 unfoldable pub word_opened : Bool → Bool → Look → Bool
 word_opened from_word word WordAscii = exactly_one from_word word
 word_opened from_word word WordAsciiNegate = not (exactly_one from_word word)
@@ -112,7 +116,8 @@ word_opened from_word word WordEndHalfAscii = not word
 word_opened from_word word WordEndHalfUnicode = not word
 word_opened from_word word _ = false
 
--- the assertions on the haystack and on lines that are found true over u, by whether half a CRLF stands behind
+-- the haystack and line assertions that the next unit u satisfies, given whether the byte behind is
+-- the first half of a CRLF
 unfoldable pub line_opened : Tables → Bool → Option ℕ → Look → Bool
 line_opened t half_crlf u End = is_nothing u
 line_opened t half_crlf u EndLF = is_nothing u || is_byte u t.terminator
@@ -120,11 +125,12 @@ line_opened t half_crlf u StartCRLF = half_crlf && not (is_byte u (crlf_second t
 line_opened t half_crlf u EndCRLF = is_nothing u || is_byte u (crlf_first t.reverse) || (is_byte u (crlf_second t.reverse) && not half_crlf)
 line_opened t half_crlf u _ = false
 
--- the assertions that a state with these flags finds true over u, beside those in its look-have
+-- the assertions that the next unit u satisfies for a state with these flags, in addition to those
+-- in its look-have
 unfoldable pub opened : Tables → Bool → Bool → Option ℕ → Look → Bool
 opened t from_word half_crlf u look = word_opened from_word (is_word u) look || line_opened t half_crlf u look
 
--- the assertions that no unit makes true: they are told by look-have alone
+-- the assertions that no unit satisfies: they are in look-have or do not hold
 abbrev pub AreKnownAlone : Tables → Bool → Bool → Option ℕ → Type 0
 AreKnownAlone t from_word half_crlf u =
     (opened t from_word half_crlf u Start ≡ false)

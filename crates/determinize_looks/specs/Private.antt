@@ -1,2 +1,2 @@
--- What private functions promise each other: no public contract cites these definitions.
+-- Definitions of contracts between private functions. No public contract cites them.
 pub mod LookSets

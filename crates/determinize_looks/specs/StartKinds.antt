@@ -1,25 +1,25 @@
--- Where a search starts: what stands behind it, and the kind of start that this makes.
+-- Start configurations and start kinds.
 use Rattle.std.specs.Prelude.{ℕ, suc, zero, cond, Option, Some, None, nat_eq, List, [], ◌∷◌, slice_get}
 use Rattle.determinize_below.specs.Unit.{is_word_byte}
 use Rattle.determinize_below.specs.declared.search.Anchored.{Anchored}
 use Rattle.determinize_looks.specs.declared.start.Start.{Start as Kind}
 use Rattle.determinize_looks.specs.declared.start.Start.TheVariants.{NonWordByte, WordByte, Text, LineLF, LineCR, CustomLineTerminator}
 
--- the byte behind a start, and whether the search is anchored
+-- the value of a `Config`: the byte behind a start, and the anchored mode
 pub record Setup : Type 0 where
   pub look_behind : Option ℕ
   pub anchored : Anchored
 
--- the byte before this index, where there is one
+-- the byte before this index, if there is one
 abbrev pub byte_before : List ℕ → ℕ → Option ℕ
 byte_before haystack zero = None
 byte_before haystack (suc i) = slice_get haystack i
 
--- all start kinds, each at the index that is its number
+-- all start kinds, in the order of their numbers
 abbrev pub each_start : List Kind
 each_start = NonWordByte ∷ WordByte ∷ Text ∷ LineLF ∷ LineCR ∷ CustomLineTerminator ∷ []
 
--- the start kind of this number, or none
+-- the start kind with this number, if there is one
 abbrev pub start_of_number : ℕ → Option Kind
 start_of_number n = slice_get each_start n
 
@@ -32,7 +32,7 @@ number_of LineLF = 3
 number_of LineCR = 4
 number_of CustomLineTerminator = 5
 
--- the start kind of a byte under the line terminator t: the first that fits
+-- the start kind of a byte, given the line terminator t: the first that fits
 abbrev pub start_kind : ℕ → ℕ → Kind
 start_kind t b =
     cond (nat_eq b 10) LineLF
@@ -40,7 +40,7 @@ start_kind t b =
     (cond (nat_eq b t) CustomLineTerminator
     (cond (is_word_byte b) WordByte NonWordByte)))
 
--- the start kind of what stands behind the start
+-- the start kind of an optional look-behind byte
 abbrev pub start_kind_of : ℕ → Option ℕ → Kind
 start_kind_of t None = Text
 start_kind_of t (Some b) = start_kind t b

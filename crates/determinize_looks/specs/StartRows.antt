@@ -1,19 +1,21 @@
--- Starts as they come out for small searches.
+-- Examples: the start kinds of small searches, and the look-behind of start kinds and of single
+-- units.
 use Rattle.std.specs.Prelude.{◌≡◌, ℕ, Bool, true, false, List, [], ◌∷◌, Option, Some, None, codes, slice_get}
 use Rattle.determinize_looks.specs.LookTables.{tables, start_have, start_from_word, start_half_crlf, have_after, from_word_after, half_crlf_after}
 use Rattle.determinize_looks.specs.StartKinds.{byte_before, start_kind, start_kind_of}
 use Rattle.determinize_looks.specs.declared.start.Start.{Start as Kind}
 use Rattle.determinize_looks.specs.declared.start.Start.TheVariants.{NonWordByte, WordByte, Text, LineLF, LineCR, CustomLineTerminator}
 
--- the start kind of a forward search from this index, where lines end in a line feed
+-- the start kind of a forward search from this index, with the line terminator `\n`
 abbrev pub forward : List ℕ → ℕ → Kind
 forward haystack start = start_kind_of 10 (byte_before haystack start)
 
--- the start kind of a reverse search up to this index, where lines end in a line feed
+-- the start kind of a reverse search up to this index, with the line terminator `\n`
 abbrev pub reversed : List ℕ → ℕ → Kind
 reversed haystack end = start_kind_of 10 (slice_get haystack end)
 
--- forward: the empty haystack from 1 and from 0; abc, and abc behind a line feed, from 0; from 1, behind a line feed, a carriage return, a letter and a space
+-- forward: the empty haystack from 1 and from 0; abc, and abc behind a line feed, from 0; from 1,
+-- behind a line feed, a carriage return, a letter and a space
 abbrev pub ForwardRows : Type 0
 ForwardRows =
     (forward [] 1 ≡ Text)
@@ -25,7 +27,8 @@ ForwardRows =
     × (forward (codes "abc") 1 ≡ WordByte)
     × (forward (codes " abc") 1 ≡ NonWordByte)
 
--- reverse: the empty haystack to 0; abc to its end, and with a line feed to its end; then up to a line feed, a carriage return, a letter and a space
+-- reverse: the empty haystack to 0; abc to its end, and with a line feed to its end; then up to a
+-- line feed, a carriage return, a letter and a space
 abbrev pub ReverseRows : Type 0
 ReverseRows =
     (reversed [] 0 ≡ Text)
@@ -36,7 +39,7 @@ ReverseRows =
     × (reversed (codes "abc") 2 ≡ WordByte)
     × (reversed (codes "abc ") 3 ≡ NonWordByte)
 
--- bytes under the terminator a, and under a carriage return
+-- bytes, with the line terminators a and carriage return
 abbrev pub ByteRows : Type 0
 ByteRows =
     (start_kind 97 97 ≡ CustomLineTerminator)
@@ -45,14 +48,16 @@ ByteRows =
     × (start_kind 13 13 ≡ LineCR)
     × (start_kind 13 10 ≡ LineLF)
 
--- what a start kind tells, for an NFA with these assertions: look-have, from-word and half-CRLF
+-- the look-behind of a start kind for an NFA with these assertions: look-have, from-word and
+-- half-CRLF
 abbrev IsTold : ℕ → Bool → ℕ → Kind → ℕ → Bool → Bool → Type 0
 IsTold any reverse terminator kind have from_word half =
     (start_have (tables reverse terminator any) kind ≡ have)
     × (start_from_word (tables reverse terminator any) kind ≡ from_word)
     × (start_half_crlf (tables reverse terminator any) kind ≡ half)
 
--- for an NFA with Start, StartLF, StartCRLF and WordAscii; the terminators are a line feed, a carriage return, x, a and a semicolon
+-- for an NFA with Start, StartLF, StartCRLF and WordAscii; the line terminators are a line feed, a
+-- carriage return, x, a and a semicolon
 abbrev pub ToldRows : Type 0
 ToldRows =
     IsTold 0x55 false 10 NonWordByte 0x14000 false false
@@ -67,7 +72,7 @@ ToldRows =
     × IsTold 0x55 false 97 CustomLineTerminator 0x4 true false
     × IsTold 0x55 false 59 CustomLineTerminator 0x14004 false false
 
--- for NFAs with StartLF alone, with Start alone and with WordAscii alone
+-- for NFAs with only StartLF, only Start and only WordAscii
 abbrev pub ClassRows : Type 0
 ClassRows =
     IsTold 0x4 false 10 Text 0x14 false false
@@ -79,14 +84,16 @@ ClassRows =
     × IsTold 0x1 false 10 WordByte 0 false false
     × IsTold 0x40 false 10 LineLF 0x14000 false false
 
--- what a forward step over a unit tells, for an NFA with these assertions whose lines end in a line feed: look-have, from-word and half-CRLF
+-- the look-behind after a forward step over a unit, for an NFA with these assertions and the line
+-- terminator `\n`: look-have, from-word and half-CRLF
 abbrev IsToldAfter : ℕ → Option ℕ → ℕ → Bool → Bool → Type 0
 IsToldAfter any unit have from_word half =
     (have_after (tables false 10 any) unit ≡ have)
     × (from_word_after (tables false 10 any) unit ≡ from_word)
     × (half_crlf_after (tables false 10 any) unit ≡ half)
 
--- for NFAs with StartLF alone, with StartCRLF alone and with WordAscii alone, over a line feed, a carriage return, a and the end of the input
+-- for NFAs with only StartLF, only StartCRLF and only WordAscii, over a line feed, a carriage
+-- return, a and EOI
 abbrev pub StepRows : Type 0
 StepRows =
     IsToldAfter 0x4 (Some 10) 0x4 false false
@@ -98,7 +105,7 @@ StepRows =
     × IsToldAfter 0x40 (Some 97) 0 true false
     × IsToldAfter 0x40 None 0x14000 false false
 
--- an NFA without assertions has nothing to tell
+-- an NFA without assertions has an empty look-behind at the start
 abbrev pub NothingTold : Type 0
 NothingTold =
     (reverse : Bool) (t : ℕ) (kind : Kind)

@@ -1,5 +1,5 @@
-//! Laws of starts, and of the tables of assertions. Each function but the first does nothing: its
-//! clauses are the law.
+//! Facts about start configurations and look-behind, as contracts of public functions. Except the
+//! first, the functions compute nothing.
 
 ghost use Rattle.std.specs.Prelude.{◌≡◌, ◌≤◌, Bool, true, false, ◌||◌, IfOk, IsOk, Option, Some};
 ghost use Rattle.determinize_below.specs.Look.{has};
@@ -12,8 +12,8 @@ use crate::start::{Config, Start, StartByteMap};
 use determinize_below::{Look, LookSet};
 use std::alloc::AllocError;
 
-/// Clones of a configuration and of a map of start kinds: they have the same value, and no memory is
-/// wanted.
+/// Returns clones of a configuration and of a start byte map. They are equal to the originals, and
+/// nothing is allocated, so it never fails.
 pub fn start_clone_law(
     config: &Config,
     map: &StartByteMap,
@@ -25,15 +25,15 @@ pub fn start_clone_law(
     Ok((config.clone()?, map.clone()?))
 }
 
-/// A start kind comes back from its number, and from 6 on there is none.
+/// States that a start kind is determined by its number, and that the numbers are below 6.
 pub fn start_number_law(start: Start, number: usize)
     ensures back { kinds.start_of_number (kinds.number_of start) ≡ Some start }
     ensures past { 6 ≤ number → kinds.start_of_number number ≡ None }
 {}
 
-/// Small searches and the kinds of their starts; what the kinds tell a state, and what a step tells.
-/// Where lines end in a line feed or a carriage return, no byte is a terminator of its own. An NFA
-/// without assertions is told nothing at its start.
+/// Gives examples: the start kinds of small searches, and the look-behind of start kinds and of
+/// single units. States that no byte has the kind `CustomLineTerminator` if the line terminator is
+/// `\n` or `\r`, and that an NFA without assertions has an empty look-behind at the start.
 pub fn start_rows_law(byte: u8)
     ensures forward { rows.ForwardRows }
     ensures reverse { rows.ReverseRows }
@@ -46,9 +46,9 @@ pub fn start_rows_law(byte: u8)
     ensures nothing { rows.NothingTold }
 {}
 
-/// What a start kind tells is known at the start, and of the assertions of the NFA it is all that
-/// is known there. The flags are those that a step over the byte behind would set, or over the end of
-/// the input where there is none.
+/// States that the look-have of a start kind is sound, since each of its assertions holds for every
+/// next unit, and complete for the assertions of the NFA; and that the flags of a start are those
+/// after a step over the byte behind it, or over EOI if there is none.
 pub fn start_law(reverse: bool, terminator: u8, any: LookSet, before: Option<u8>, look: Look)
     ensures known { has (have_at_start (tables reverse terminator any) before) look ≡ true
         → truth.is_known reverse terminator before look ≡ true }
@@ -61,8 +61,8 @@ pub fn start_law(reverse: bool, terminator: u8, any: LookSet, before: Option<u8>
         ≡ half_crlf_after (tables reverse terminator any) before }
 {}
 
-/// What a step tells over a byte is known at the next position, and of the assertions of the NFA it
-/// is all that is known there.
+/// States that the look-have after a step over a byte is sound, since each of its assertions holds
+/// for every next unit, and complete for the assertions of the NFA.
 pub fn told_law(reverse: bool, terminator: u8, any: LookSet, byte: u8, look: Look)
     ensures known { has (have_after (tables reverse terminator any) (Some byte)) look ≡ true
         → truth.is_known reverse terminator (Some byte) look ≡ true }
@@ -71,17 +71,18 @@ pub fn told_law(reverse: bool, terminator: u8, any: LookSet, byte: u8, look: Loo
         ≡ truth.is_known reverse terminator (Some byte) look }
 {}
 
-/// The flags that a step sets tell rightly of the byte that it read, each where the NFA has assertions
-/// that ask for it, or tell of nothing, where nothing was read.
+/// States that the flags after a step describe the byte that was read, or that there is none, if
+/// the NFA has assertions that need them.
 pub fn flags_law(reverse: bool, terminator: u8, any: LookSet, before: Option<u8>)
     ensures { IsFlagged (tables reverse terminator any) before
         (from_word_after (tables reverse terminator any) before)
         (half_crlf_after (tables reverse terminator any) before) }
 {}
 
-/// Under flags that tell rightly of the byte behind, what is known there and what a unit makes true
-/// are the truth, for each assertion of the NFA. No unit makes `Start`, `StartLF` or a `WordStartHalf`
-/// assertion true: they are known behind it or don't hold.
+/// States that, for flags that describe the byte behind a position, an assertion of the NFA holds
+/// there if and only if the look-behind or the next unit satisfies it; and that the next unit never
+/// satisfies `Start`, `StartLF` or a `WordStartHalf` assertion, which depend on the look-behind
+/// only.
 pub fn opened_law(
     reverse: bool,
     terminator: u8,

@@ -1,5 +1,15 @@
-//! The tables of assertions: what a start kind tells the first state, what a unit makes true, and
-//! what it tells the next state.
+//! Look-behind: the assertions satisfied behind a position, and those that the next unit satisfies.
+//!
+//! An assertion depends on the byte before a position and on the unit after it. When a step enters
+//! a state, only the byte before is known. So `after` (or `at_start`) returns the assertions that
+//! hold for every next unit, and two flags that keep what else the next step needs of the byte:
+//! whether it is a word byte, and whether it may be the first half of a CRLF. The next step then
+//! passes the flags and its unit to `opened`, which returns the assertions that hold in addition.
+//!
+//! The look-behind has assertions and flags of a class only if the NFA has an assertion of that
+//! class, so an NFA without word assertions has no state with from-word set. Within a class it may
+//! have assertions that the NFA does not test. They have no effect on matches, but they are part of
+//! the bytes of a state.
 
 ghost use Rattle.std.specs.Prelude.{◌≡◌, true, false, not, ◌&&◌};
 ghost use Rattle.determinize_below.specs.Look.{has, has_word};
@@ -17,14 +27,14 @@ use determinize_below::{Look, LookSet, NFA, Unit};
 use std::alloc::Allocator;
 use std::marker::Model;
 
-/// What a new state is told.
+/// The look-behind of a new state: look-have and flags.
 #[derive(Clone, Copy, Debug)]
 pub struct Told {
-    /// Assertions that are true whatever follows.
+    /// The assertions that hold for every next unit.
     pub looks: LookSet,
-    /// Whether the byte behind is a word byte, and some assertion is on words.
+    /// Whether the byte behind is a word byte and the NFA has word assertions.
     pub from_word: bool,
-    /// Whether the byte behind may be the first half of a CRLF, and some assertion is on CRLF.
+    /// Whether the byte behind may be the first half of a CRLF and the NFA has CRLF assertions.
     pub half_crlf: bool,
 }
 
@@ -39,7 +49,7 @@ impl Model for Told {
 }
 
 impl Told {
-    /// Nothing.
+    /// Returns the empty look-behind.
     fn nothing() -> Told
         ensures looks { result.looks ≡ 0 }
         ensures from_word { result.from_word ≡ false }
@@ -52,7 +62,7 @@ impl Told {
         }
     }
 
-    /// The same, with the assertion where the test says so.
+    /// Returns the look-behind with the assertion added if `test` is true.
     fn with(self, test: bool, look: Look) -> Told
         ensures { result ≡ record self { looks = tables.insert_where self.looks test look } }
     {
@@ -63,7 +73,7 @@ impl Told {
     }
 }
 
-/// The set, with the assertion where the test says so.
+/// Returns the set with the assertion added if `test` is true.
 #[tactic(auto, unfolding(crate::specs::LookTables::insert_where))]
 fn insert_where(set: LookSet, test: bool, look: Look) -> LookSet
     ensures { result ≡ tables.insert_where set test look }
@@ -71,7 +81,8 @@ fn insert_where(set: LookSet, test: bool, look: Look) -> LookSet
     if test { set.insert(look) } else { set }
 }
 
-/// The assertions on words that are true, by whether word bytes stand behind and ahead.
+/// Returns the word assertions that hold between two bytes, given whether each is a word byte,
+/// except `WordStartHalfAscii` and `WordStartHalfUnicode`, which the look-behind satisfies.
 fn word_set(from_word: bool, word: bool) -> LookSet
     ensures { result ≡ sets.word_set from_word word }
 {
@@ -88,14 +99,14 @@ fn word_set(from_word: bool, word: bool) -> LookSet
     insert_where(set, !word, Look::WordEndHalfUnicode)
 }
 
-/// What the tables of assertions ask of an NFA.
+/// The configuration of an NFA that look-behind depends on.
 #[derive(Clone, Copy, Debug)]
 pub struct LookTables {
-    /// Whether the NFA reads backwards.
+    /// Whether the NFA scans in reverse.
     reverse: bool,
-    /// The byte that ends a line.
+    /// The line terminator.
     terminator: u8,
-    /// All assertions of the NFA.
+    /// The assertions of the NFA.
     any: LookSet,
 }
 
@@ -110,7 +121,7 @@ impl Model for LookTables {
 }
 
 impl LookTables {
-    /// The tables of an NFA, which has passed every check.
+    /// Returns the configuration of an NFA.
     pub fn of<N: Allocator>(nfa: &NFA<N>) -> LookTables
         ensures tables { result ≡ tables_of nfa.now }
         ensures accepted { IsAccepted nfa.now }
@@ -122,21 +133,21 @@ impl LookTables {
         }
     }
 
-    /// The byte of a CRLF that is read first.
+    /// Returns the byte of a CRLF that is read first.
     fn crlf_first(self) -> u8
         ensures { result ≡ truth.crlf_first self.reverse }
     {
         if self.reverse { b'\n' } else { b'\r' }
     }
 
-    /// The byte of a CRLF that is read second.
+    /// Returns the byte of a CRLF that is read second.
     fn crlf_second(self) -> u8
         ensures { result ≡ truth.crlf_second self.reverse }
     {
         if self.reverse { b'\r' } else { b'\n' }
     }
 
-    /// What a state is told of words, by whether the byte behind it is a word byte.
+    /// Returns the look-behind of word assertions, given whether the byte behind is a word byte.
     #[tactic(auto, unfolding(crate::specs::LookTables::known_set, crate::specs::LookTables::insert_where))]
     fn words(self, word_byte: bool) -> Told
         ensures looks { result.looks
@@ -154,7 +165,7 @@ impl LookTables {
         }
     }
 
-    /// What a start kind tells the first state.
+    /// Returns the look-behind of the first state for a start kind.
     #[tactic(auto, unfolding(crate::specs::LookTables::known_set, crate::specs::LookTables::insert_where, crate::specs::LookTables::start_have, crate::specs::LookTables::start_from_word, crate::specs::LookTables::start_half_crlf))]
     pub fn at_start(self, kind: Start) -> Told
         ensures looks { result.looks ≡ tables.start_have self kind }
@@ -163,6 +174,8 @@ impl LookTables {
     {
         let line = self.any.contains_anchor_line();
         let crlf = self.any.contains_anchor_crlf();
+        // In reverse a CRLF is read from `\n` to `\r`, so the two kinds swap their roles. The
+        // classes are those that the original tests: they decide the bytes of the first state.
         match kind {
             Start::NonWordByte => self.words(false),
             Start::WordByte => self.words(true),
@@ -191,14 +204,15 @@ impl LookTables {
         }
     }
 
-    /// What a step over a unit tells the next state: nothing, where the NFA has no assertion. The flags
-    /// count only where the step leads on.
+    /// Returns the look-behind after a step over the unit, which is empty if the NFA has no
+    /// assertions. The flags are to be set only if some state has a transition on the unit.
     #[tactic(auto, unfolding(crate::specs::LookTables::known_set, crate::specs::LookTables::insert_where, crate::specs::LookTables::have_after, crate::specs::LookTables::from_word_after, crate::specs::LookTables::half_crlf_after))]
     pub fn after(self, unit: Unit) -> Told
         ensures looks { result.looks ≡ tables.have_after self (byte_of unit) }
         ensures from_word { result.from_word ≡ tables.from_word_after self (byte_of unit) }
         ensures half_crlf { result.half_crlf ≡ tables.half_crlf_after self (byte_of unit) }
     {
+        // Only for speed: without assertions the code below returns the same.
         if self.any.is_empty() {
             return Told::nothing();
         }
@@ -213,8 +227,8 @@ impl LookTables {
         }
     }
 
-    /// The assertions on the haystack and on lines that the unit makes true, by whether the first
-    /// half of a CRLF stands behind.
+    /// Returns the haystack and line assertions that the unit satisfies, given whether the byte
+    /// behind is the first half of a CRLF.
     fn line_set(self, half_crlf: bool, unit: Unit) -> LookSet
         ensures { result ≡ sets.line_set self half_crlf (byte_of unit) }
     {
@@ -224,11 +238,12 @@ impl LookTables {
         let set = insert_where(LookSet::empty(), end, Look::End);
         let set = insert_where(set, end || unit.is_byte(self.terminator), Look::EndLF);
         let set = insert_where(set, end || first || (second && !half_crlf), Look::EndCRLF);
+        // After the first byte of a CRLF a line starts unless the second follows: known only now.
         insert_where(set, half_crlf && !second, Look::StartCRLF)
     }
 
-    /// The assertions that the unit makes true for a state with these flags, beside those in its
-    /// look-have.
+    /// Returns the assertions that the unit satisfies for a state with these flags, in addition to
+    /// those in its look-have.
     pub fn opened(self, from_word: bool, half_crlf: bool, unit: Unit) -> LookSet
         ensures { (look : Assertion)
             → has result look ≡ tables.opened self from_word half_crlf (byte_of unit) look }

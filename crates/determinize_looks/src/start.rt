@@ -1,5 +1,9 @@
-//! Where a search starts: what stands behind its first position, and the kinds of start that this
-//! makes.
+//! The start configuration of a search, and start kinds.
+//!
+//! The first state of a search depends on the NFA and on the byte before the search in reading
+//! order. Bytes that satisfy the same assertions have the same first state, so there are only six
+//! kinds of start, numbered from 0: a table of first states needs six entries instead of 257.
+//! `StartByteMap` maps a byte to its kind, and no byte is `Start::Text`.
 
 ghost use Rattle.std.specs.Prelude.{◌≡◌, ℕ, ◌<◌, get_or, length, slice_get};
 ghost use Rattle.determinize_looks.specs.StartKinds as kinds;
@@ -9,8 +13,7 @@ use determinize_below::{Anchored, Input, LookMatcher};
 use std::fmt;
 use std::marker::Model;
 
-/// What the start of a search depends on: the byte behind it, where there is one, and whether the
-/// search is anchored.
+/// The start configuration of a search: the byte behind its start, if any, and the anchored mode.
 #[derive(Clone, Debug, Drop)]
 pub struct Config {
     look_behind: Option<u8>,
@@ -26,7 +29,7 @@ impl Model for Config {
 }
 
 impl Config {
-    /// No byte behind the start, and not anchored.
+    /// Returns the configuration of an unanchored search with no byte behind its start.
     pub fn new() -> Config
         ensures { result ≡ record { look_behind = None; anchored = Anchored.No } }
     {
@@ -36,35 +39,37 @@ impl Config {
         }
     }
 
-    /// The start of a forward search: behind it is the byte before the input's start, where the
-    /// haystack has it.
+    /// Returns the configuration of a forward search. The look-behind is the byte before the start
+    /// of the input, or `None` at the start of the haystack.
     pub fn from_input_forward(input: &Input<'_>) -> Config
         ensures { result ≡ record {
           look_behind = kinds.byte_before input.now.haystack input.now.start;
           anchored = input.now.anchored;
         } }
     {
+        // The byte behind a forward search is the one ahead of a reverse search.
         Config {
             look_behind: look_ahead_reverse(input),
             anchored: input.get_anchored(),
         }
     }
 
-    /// The start of a reverse search: behind it is the byte at the input's end, where the haystack
-    /// has it.
+    /// Returns the configuration of a reverse search. The look-behind is the byte at the end of the
+    /// input, or `None` at the end of the haystack.
     pub fn from_input_reverse(input: &Input<'_>) -> Config
         ensures { result ≡ record {
           look_behind = slice_get input.now.haystack input.now.end;
           anchored = input.now.anchored;
         } }
     {
+        // The byte behind a reverse search is the one ahead of a forward search.
         Config {
             look_behind: look_ahead_forward(input),
             anchored: input.get_anchored(),
         }
     }
 
-    /// The same with this byte behind the start, or with none.
+    /// Returns the configuration with this look-behind byte, or with `None`.
     pub fn look_behind(self, byte: Option<u8>) -> Config
         ensures { result ≡ record self { look_behind = byte } }
     {
@@ -74,7 +79,7 @@ impl Config {
         }
     }
 
-    /// The same, anchored as told.
+    /// Returns the configuration with this anchored mode.
     pub fn anchored(self, anchored: Anchored) -> Config
         ensures { result ≡ record self { anchored = anchored } }
     {
@@ -84,14 +89,14 @@ impl Config {
         }
     }
 
-    /// The byte behind the start, or none where nothing is said to stand there.
+    /// Returns the byte behind the start, or `None` if there is none.
     pub fn get_look_behind(&self) -> Option<u8>
         ensures { result ≡ self.now.look_behind }
     {
         self.look_behind
     }
 
-    /// Whether the search is anchored.
+    /// Returns the anchored mode.
     pub fn get_anchored(&self) -> Anchored
         ensures { result ≡ self.now.anchored }
     {
@@ -99,16 +104,16 @@ impl Config {
     }
 }
 
-/// The byte ahead of a forward search, which is the one behind a reverse search: the one at the
-/// input's end, or none where the haystack ends there.
+/// Returns the byte ahead of a forward search, which is the byte behind a reverse search: the byte
+/// at index `end` of the haystack, or `None` at the end of the haystack.
 pub fn look_ahead_forward(input: &Input<'_>) -> Option<u8>
     ensures { result ≡ slice_get input.now.haystack input.now.end }
 {
     input.haystack().get(input.end()).copied()
 }
 
-/// The byte ahead of a reverse search, which is the one behind a forward search: the one before the
-/// input's start, or none where the haystack has none there.
+/// Returns the byte ahead of a reverse search, which is the byte behind a forward search: the byte
+/// before index `start` of the haystack, or `None` at the start of the haystack.
 pub fn look_ahead_reverse(input: &Input<'_>) -> Option<u8>
     ensures { result ≡ kinds.byte_before input.now.haystack input.now.start }
 {
@@ -118,25 +123,25 @@ pub fn look_ahead_reverse(input: &Input<'_>) -> Option<u8>
     }
 }
 
-/// The kind of a start, by what stands behind it.
+/// The kind of a start, by the byte behind it.
 #[derive(Clone, Copy, Debug, PartialEq, Eq)]
 pub enum Start {
-    /// A byte that no other kind names.
+    /// Any byte of no other kind.
     NonWordByte = 0,
-    /// A word byte that isn't the line terminator.
+    /// A word byte that is not the line terminator.
     WordByte = 1,
-    /// Nothing: an end of the haystack.
+    /// No byte: the search starts at an end of the haystack.
     Text = 2,
-    /// The byte `\n`, be it the line terminator or not.
+    /// `\n`, whether or not it is the line terminator.
     LineLF = 3,
-    /// The byte `\r`, be it the line terminator or not.
+    /// `\r`, whether or not it is the line terminator.
     LineCR = 4,
-    /// The line terminator, where it is neither `\n` nor `\r`.
+    /// The line terminator, if it is neither `\n` nor `\r`.
     CustomLineTerminator = 5,
 }
 
 impl Start {
-    /// The kind of this number, or none from 6 on.
+    /// Returns the kind with this number, or `None` if the number is above 5.
     pub fn from_usize(number: usize) -> Option<Start>
         ensures { result ≡ kinds.start_of_number number }
     {
@@ -151,21 +156,21 @@ impl Start {
         }
     }
 
-    /// How many kinds there are, 6.
+    /// Returns the number of kinds, 6.
     pub fn len() -> usize
         ensures { result ≡ length kinds.each_start }
     {
         6
     }
 
-    /// The number of the kind, from 0 to 5.
+    /// Returns the number of the kind, from 0 to 5.
     pub fn as_u8(self) -> u8
         ensures { result ≡ kinds.number_of self }
     {
         self as u8
     }
 
-    /// The number of the kind, from 0 to 5.
+    /// Returns the number of the kind, from 0 to 5.
     pub fn as_usize(self) -> usize
         ensures { result ≡ kinds.number_of self }
     {
@@ -173,7 +178,8 @@ impl Start {
     }
 }
 
-/// The start kind of a byte under a line terminator.
+/// Returns the start kind of a byte, given the line terminator. The order of the tests is
+/// significant: `\n` and `\r` keep their kinds if they are the line terminator.
 fn start_kind(terminator: u8, byte: u8) -> Start
     ensures { result ≡ kinds.start_kind terminator byte }
 {
@@ -190,7 +196,7 @@ fn start_kind(terminator: u8, byte: u8) -> Start
     }
 }
 
-/// The start kind of the byte behind a search, or of none.
+/// Returns the start kind of an optional look-behind byte, given the line terminator.
 pub fn start_kind_of(terminator: u8, look_behind: Option<u8>) -> Start
     ensures { result ≡ kinds.start_kind_of terminator look_behind }
 {
@@ -216,7 +222,7 @@ impl Model for StartByteMap {
 }
 
 impl StartByteMap {
-    /// The start kinds under the matcher's line terminator.
+    /// Returns the start kinds of all bytes for the matcher's line terminator.
     pub fn new(matcher: &LookMatcher) -> StartByteMap
         ensures bytes { length result ≡ 256 }
         ensures kinds { (b : ℕ) → b < 256
@@ -230,7 +236,7 @@ impl StartByteMap {
         StartByteMap { kinds }
     }
 
-    /// The start kind of the byte.
+    /// Returns the start kind of the byte.
     pub fn get(&self, byte: u8) -> Start
         ensures { result ≡ get_or self.now byte Start.Text }
     {

@@ -1,5 +1,6 @@
-//! Tests of hostile use: the public calls, and the program `rows`, while each growth of memory is
-//! refused in turn, and large NFAs. There is nothing else in this library.
+//! Tests of failing allocations and of large NFAs. Every public call that allocates, and the
+//! program `rows`, runs with each of its allocations failing in turn. This library has nothing
+//! else.
 #![tactic(auto)]
 
 #[cfg(test)]

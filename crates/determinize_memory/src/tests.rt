@@ -1,4 +1,4 @@
-//! Hostile use: each growth of memory refused in turn, the calls that take no memory, large NFAs.
+//! Tests of failing allocations, of calls that do not allocate, and of large NFAs.
 
 ghost use Rattle.std.specs.Prelude.{◌<◌, All, length, IfOk};
 ghost use Rattle.determinize_below.specs.Nfa.{AllResolve};
@@ -26,22 +26,22 @@ use std::process::Abort;
 use std::test::Fail;
 use worked_rows::answers;
 
-/// Asks that two values are equal.
+/// Asserts that two values are equal.
 pub fn same<R: Abort, T: PartialEq + Debug + Copy>(rt: &R, found: T, wanted: T) {
     assert_eq!(rt; found, wanted);
 }
 
-/// Asks that something holds.
+/// Asserts a condition.
 pub fn holds<R: Abort>(rt: &R, is_so: bool) {
     assert!(rt; is_so);
 }
 
-/// The memory of a run.
+/// The allocator of a run.
 pub type Heap = Refusing<Global>;
 
-/// Makes a run with the first growth of its calls refused, then with the second, and so on, until a
-/// run meets no refusal. The run tells whether all of its calls were answered. Some may not be only
-/// where a growth was refused. After each run all memory has been given back.
+/// Repeats a run with its first allocation failing, then its second, and so on, until a run has no
+/// failure. The run returns whether all of its calls succeeded, which must be so unless an
+/// allocation failed. After each run all memory must have been freed.
 pub fn refuse_in_turn<R: Abort + AllocGlobal, F: FnMut(&Heap) -> Result<bool, Fail>>(
     rt: &R,
     run: F,
@@ -52,7 +52,7 @@ pub fn refuse_in_turn<R: Abort + AllocGlobal, F: FnMut(&Heap) -> Result<bool, Fa
     Ok(())
 }
 
-/// Makes a call under the refusals of the memory, and then again with ample memory.
+/// Makes a call while the allocator may fail, and then again with enough memory.
 pub fn call_twice<T: Drop, F: FnMut() -> Result<T, AllocError>>(
     heap: &Heap,
     mut call: F,
@@ -65,7 +65,7 @@ pub fn call_twice<T: Drop, F: FnMut() -> Result<T, AllocError>>(
     Ok((first.ok(), call()?))
 }
 
-/// Reads the states of the lines of an answer, of which the last tells the match.
+/// Parses the states of the lines of an output, whose last line is the match.
 fn read_states(alloc: Global, answer: &str) -> Result<Vec<Vec<u8>>, JobError> {
     let mut states = Vec::new(alloc);
     if let Some((lines, _)) = answer.trim_end().rsplit_once('\n') {
@@ -77,7 +77,7 @@ fn read_states(alloc: Global, answer: &str) -> Result<Vec<Vec<u8>>, JobError> {
     Ok(states)
 }
 
-/// A worked walk, and the bytes of its states.
+/// An example walk, and the bytes of its states.
 #[derive(Drop)]
 pub struct Row {
     nfa: NFA,
@@ -90,13 +90,13 @@ pub struct Row {
 }
 
 impl Row {
-    /// Reads a walk and the lines of its answer, of which the last tells the match.
+    /// Parses a walk and the lines of its output, whose last line is the match.
     fn read(alloc: Global, line: &str, answer: &str) -> Result<Row, JobError> {
         let job = Job::read(alloc, line)?;
         Row::of(alloc, &job, answer)
     }
 
-    /// The walk of a job, with the lines of its answer.
+    /// Returns the walk of a job, given the lines of its output.
     fn of(alloc: Global, job: &Job<'_>, answer: &str) -> Result<Row, JobError> {
         let kind = job.match_kind()?;
         let start = values::state_id(job.value(Key::Start).unwrap_or("0"))?;
@@ -115,7 +115,7 @@ impl Row {
         })
     }
 
-    /// The state that the walk starts from.
+    /// Returns the NFA state that the walk starts from.
     fn start(&self) -> Result<StateID, Fail>
         ensures { IfOk result (λ id. id < length self.now.nfa.states) }
     {
@@ -126,7 +126,7 @@ impl Row {
         }
     }
 
-    /// The states of the walk from this state.
+    /// Returns the states of the walk from this NFA state.
     fn walk<'a>(
         &self,
         heap: &'a Heap,
@@ -144,7 +144,7 @@ impl Row {
         }
     }
 
-    /// The bytes of the state of this index, and none where the walk has no such state.
+    /// Returns the bytes of the state at this index, or no bytes if the index is out of range.
     fn bytes(&self, index: usize) -> &[u8] {
         match self.states.get(index) {
             Some(bytes) => bytes.as_slice(),
@@ -152,7 +152,7 @@ impl Row {
         }
     }
 
-    /// Asks that these are the states of the walk.
+    /// Asserts that these are the states of the walk.
     fn expect(&self, rt: &impl Abort, states: &[State<&Heap>]) {
         same(rt, states.len(), self.states.len());
         for (index, state) in states.iter().enumerate() {
@@ -160,13 +160,13 @@ impl Row {
         }
     }
 
-    /// The unit over which the state of this index is left.
+    /// Returns the unit after the state at this index.
     fn unit(&self, index: usize) -> Unit {
         Unit::from(self.text.get(index).copied().or(self.look_ahead))
     }
 }
 
-/// All worked walks.
+/// Returns all example walks.
 fn rows(alloc: Global) -> Result<Vec<Row>, JobError> {
     let mut rows = Vec::new(alloc);
     for walk in answers::walks() {
@@ -177,7 +177,7 @@ fn rows(alloc: Global) -> Result<Vec<Row>, JobError> {
     Ok(rows)
 }
 
-/// Makes the runs of [`refuse_in_turn`] with each worked walk.
+/// Makes the runs of [`refuse_in_turn`] with each example walk.
 pub fn refuse_over_walks<R: Abort + AllocGlobal, F: Fn(&Heap, &Row) -> Result<bool, Fail>>(
     rt: &R,
     run: F,

@@ -1,4 +1,4 @@
-//! Caches of transitions, which the walks of one NFA under one match kind share.
+//! Caches that the walks of one NFA and match kind share.
 
 use crate::error::JobError;
 use crate::job::Job;
@@ -11,7 +11,7 @@ use determinize_lazy::Lazy;
 use std::alloc::{AllocError, Global};
 use std::collections::HashMap;
 
-/// The NFAs of walks, each once for a match kind, by their text.
+/// The NFAs of walks, once per match kind, by their text.
 #[derive(Drop)]
 pub struct Automata {
     alloc: Global,
@@ -20,7 +20,7 @@ pub struct Automata {
 }
 
 impl Automata {
-    /// No NFAs.
+    /// Returns an empty list of NFAs.
     pub fn new(alloc: Global) -> Automata {
         Automata {
             alloc,
@@ -29,8 +29,8 @@ impl Automata {
         }
     }
 
-    /// Takes the NFA of a job, unless the job is no walk or its NFA is there. Refused is a walk
-    /// whose NFA or match kind can't be read.
+    /// Adds the NFA of a job, unless the job is no walk or the NFA is present. Returns an error for
+    /// a walk whose NFA or match kind is malformed.
     pub fn take(&mut self, job: &Job<'_>) -> Result<(), JobError> {
         if job.verb() != Verb::Walk {
             return Ok(());
@@ -46,8 +46,8 @@ impl Automata {
         Ok(())
     }
 
-    /// An empty cache of at most `limit` states for each NFA and match kind, for walks or for
-    /// searches.
+    /// Returns an empty cache of at most `limit` states for each NFA and match kind, for walks or
+    /// for searches.
     pub fn caches(&self, way: Way, limit: usize) -> Result<Caches<'_>, AllocError> {
         let mut caches = Vec::new(self.alloc);
         for (nfa, kind) in self.automata.iter() {
@@ -62,7 +62,7 @@ impl Automata {
     }
 }
 
-/// The caches of NFAs, by the text of the NFA and its match kind.
+/// The caches, by the text of the NFA and its match kind.
 #[derive(Drop)]
 pub struct Caches<'n> {
     alloc: Global,
@@ -72,12 +72,12 @@ pub struct Caches<'n> {
 }
 
 impl<'n> Caches<'n> {
-    /// What is made of a walk.
+    /// Returns what is done with a walk.
     pub fn way(&self) -> Way {
         self.way
     }
 
-    /// The cache for a job, or none where the job is no walk or its NFA isn't there.
+    /// Returns the cache for a job, or `None` if the job is no walk or its NFA is not present.
     pub fn of(&mut self, job: &Job<'_>) -> Result<Option<&mut Lazy<'n>>, AllocError> {
         if job.verb() != Verb::Walk {
             return Ok(None);
@@ -90,7 +90,7 @@ impl<'n> Caches<'n> {
     }
 }
 
-/// What tells the NFA and the match kind of a job from those of others: their text.
+/// Returns the text that identifies the NFA and the match kind of a job.
 fn name(alloc: Global, job: &Job<'_>) -> Result<String, AllocError> {
     let kind = job.value_or_none(Key::Kind);
     let direction = job.value_or_none(Key::Direction);

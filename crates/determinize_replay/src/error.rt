@@ -1,4 +1,4 @@
-//! Why a job, a line of the input or the input as a whole can't be taken.
+//! The errors of a job, of a line of input and of a replay.
 
 use crate::key::Key;
 use determinize_below::BuildError;
@@ -6,7 +6,7 @@ use std::alloc::{AllocError, AllocFailed};
 use std::num::ParseIntError;
 use std::{fmt, io};
 
-/// A value of a job that can't be read, or that no call allows.
+/// The part of a job that is malformed or that the preconditions of its call exclude.
 #[derive(Clone, Copy, Debug, PartialEq, Eq)]
 pub enum Part {
     /// The match kind.
@@ -27,7 +27,7 @@ pub enum Part {
     Digit,
     /// An id of an NFA state.
     StateId,
-    /// An id of no state of the NFA.
+    /// An id that is not below the number of states.
     Unresolved,
     /// An id of a pattern.
     PatternId,
@@ -66,30 +66,30 @@ impl fmt::Display for Part {
     }
 }
 
-/// Why a job has no answer.
+/// An error from a job.
 #[derive(Debug, Drop)]
 pub enum JobError {
-    /// Memory was refused.
+    /// An allocation failed.
     OutOfMemory,
     /// There is no verb of this name.
     UnknownVerb(String),
-    /// This word isn't a key and its value.
+    /// This word is not `key=value`.
     NoValue(String),
-    /// The verb doesn't take a key of this name.
+    /// The verb does not take a key of this name.
     UnknownKey(String),
-    /// The key stands twice.
+    /// The key is repeated.
     RepeatedKey(Key),
-    /// The key isn't there, and the verb needs it.
+    /// The verb needs the key, and it is missing.
     MissingKey(Key),
-    /// The states of the NFA aren't there.
+    /// The states of the NFA are missing.
     NoStates,
     /// There are states, and the verb takes none.
     UnwantedStates,
-    /// A pattern stands twice in a list.
+    /// A pattern is repeated in a list.
     RepeatedPattern,
-    /// A value can't be read, or asks for what no call allows.
+    /// A value is malformed, or the preconditions of the call exclude it.
     Malformed(Part),
-    /// The job's states make no NFA.
+    /// `NFA::from_parts` returns this error for the states.
     Refused(BuildError),
 }
 
@@ -120,12 +120,12 @@ impl From<ParseIntError> for JobError {
     }
 }
 
-/// Writes a text in quotes, after words that say what it is.
+/// Writes a quoted text after a message.
 fn write_quoted<W: fmt::Write>(f: &mut fmt::Formatter<W>, words: &str, text: &str) -> fmt::Result {
     write!(f, "{words} {text:?}")
 }
 
-/// Writes a key, before words that say what is wrong with it.
+/// Writes a key before a message about it.
 fn write_key<W: fmt::Write>(f: &mut fmt::Formatter<W>, key: Key, words: &str) -> fmt::Result {
     write!(f, "key {key} {words}")
 }
@@ -148,14 +148,14 @@ impl fmt::Display for JobError {
     }
 }
 
-/// Why a line can't be taken.
+/// An error from a line of input.
 #[derive(Debug, Drop)]
 pub enum LineError {
-    /// The line can't be read, or isn't UTF-8.
+    /// The line cannot be read, or is not UTF-8.
     Unreadable,
-    /// The line is neither a job nor a comment, and no job stands before it.
+    /// The line is neither a job nor a comment, and there is no job before it.
     NoJob,
-    /// The line is a job that has no answer.
+    /// The job of the line cannot be run.
     Job(JobError),
 }
 
@@ -169,23 +169,23 @@ impl fmt::Display for LineError {
     }
 }
 
-/// Why a replay came to no verdict.
+/// A reason why a replay has no verdict.
 #[derive(Debug, Drop)]
 pub enum ReplayError {
-    /// The arguments are none that the program takes.
+    /// The arguments are invalid.
     Arguments,
-    /// The line of this number, from 1 on, can't be taken.
+    /// The line with this number, starting from 1, is invalid.
     Line(u64, LineError),
-    /// No job was replayed.
+    /// There was no job.
     Nothing,
-    /// Memory was refused.
+    /// An allocation failed.
     OutOfMemory,
-    /// The output can't be written.
+    /// The output cannot be written.
     Output,
 }
 
 impl ReplayError {
-    /// Why the job of this line has no answer.
+    /// Returns the error for the job of this line.
     pub fn of_job(number: u64, error: JobError) -> ReplayError {
         match error {
             JobError::OutOfMemory => ReplayError::OutOfMemory,
@@ -193,7 +193,7 @@ impl ReplayError {
         }
     }
 
-    /// Why the arguments can't be taken.
+    /// Returns the error for arguments that cannot be read.
     pub fn of_arguments(error: &io::Error) -> ReplayError {
         match error.kind() {
             io::ErrorKind::OutOfMemory => ReplayError::OutOfMemory,
@@ -201,7 +201,7 @@ impl ReplayError {
         }
     }
 
-    /// Why the line of this number can't be read.
+    /// Returns the error for a line that cannot be read.
     pub fn of_reading(number: u64, error: &io::Error) -> ReplayError {
         match error.kind() {
             io::ErrorKind::OutOfMemory => ReplayError::OutOfMemory,

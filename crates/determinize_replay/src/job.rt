@@ -7,7 +7,7 @@ use crate::verb::Verb;
 use determinize_below::MatchKind;
 use std::alloc::Global;
 
-/// The text of a job, taken apart.
+/// A parsed job.
 #[derive(Debug, Drop)]
 pub struct Job<'a> {
     verb: Verb,
@@ -16,12 +16,12 @@ pub struct Job<'a> {
 }
 
 impl<'a> Job<'a> {
-    /// The job of a line without its mark.
+    /// Parses a job from a line without its mark `> `.
     ///
-    /// Refused are a verb that there isn't, a word that isn't a key and its value, a key that the
-    /// verb doesn't take or that stands twice, the want of a key that the verb needs, an `id` that
-    /// is no number, a `fix` that is no flag, and states where the verb takes none, or none where
-    /// it takes some.
+    /// Returns an error for an unknown verb, a word that is not `key=value`, a key that the verb
+    /// does not take or that is repeated, a missing key that the verb needs, an `id` that is not a
+    /// number, a `fix` that is not a flag, states if the verb takes none, or no states if it takes
+    /// some.
     pub fn read(alloc: Global, line: &'a str) -> Result<Job<'a>, JobError> {
         let (words, states) = match line.split_once(" | ") {
             Some((words, states)) => (words, Some(states)),
@@ -48,7 +48,7 @@ impl<'a> Job<'a> {
         }
     }
 
-    /// Takes one more key and its value.
+    /// Adds a key and its value.
     fn take_word(&mut self, alloc: Global, word: &'a str) -> Result<(), JobError> {
         let Some((name, value)) = word.split_once('=') else {
             return Err(JobError::NoValue(String::from_str(alloc, word)?));
@@ -64,7 +64,7 @@ impl<'a> Job<'a> {
         Ok(())
     }
 
-    /// Judges the values that say where the job comes from. No answer depends on them.
+    /// Checks the values that say where the job comes from. They have no effect on its output.
     fn check_marks(&self) -> Result<(), JobError> {
         if let Some(text) = self.value(Key::Id) {
             values::number(text)?;
@@ -75,17 +75,17 @@ impl<'a> Job<'a> {
         Ok(())
     }
 
-    /// What is asked for.
+    /// Returns the verb.
     pub fn verb(&self) -> Verb {
         self.verb
     }
 
-    /// The states of the NFA, one word each.
+    /// Returns the states of the NFA, one word each.
     pub fn states(&self) -> &'a str {
         self.states
     }
 
-    /// The value of a key, or none where the job hasn't the key.
+    /// Returns the value of a key, or `None` if the job does not have it.
     pub fn value(&self, key: Key) -> Option<&'a str> {
         for (found, value) in self.values.iter() {
             if *found == key {
@@ -95,17 +95,17 @@ impl<'a> Job<'a> {
         None
     }
 
-    /// The value of a key, `-` where the job hasn't the key.
+    /// Returns the value of a key, or `-` if the job does not have it.
     pub fn value_or_none(&self, key: Key) -> &'a str {
         self.value(key).unwrap_or("-")
     }
 
-    /// The value of a key that the job must have.
+    /// Returns the value of a key, or an error if the job does not have it.
     pub fn needed(&self, key: Key) -> Result<&'a str, JobError> {
         self.value(key).ok_or(JobError::MissingKey(key))
     }
 
-    /// The match kind, `All` where none is said.
+    /// Returns the match kind, by default `All`.
     pub fn match_kind(&self) -> Result<MatchKind, JobError> {
         match self.value(Key::Kind) {
             None => Ok(MatchKind::All),
@@ -115,7 +115,7 @@ impl<'a> Job<'a> {
         }
     }
 
-    /// Whether the direction is reverse, forward where none is said.
+    /// Returns whether the direction is reverse; by default it is forward.
     pub fn is_reverse(&self) -> Result<bool, JobError> {
         match self.value(Key::Direction) {
             None => Ok(false),
@@ -126,7 +126,7 @@ impl<'a> Job<'a> {
     }
 }
 
-/// The verb of this name.
+/// Returns the verb of this name.
 fn verb(alloc: Global, name: &str) -> Result<Verb, JobError> {
     match Verb::named(name) {
         Some(verb) => Ok(verb),

@@ -2,12 +2,12 @@
 
 use std::fmt;
 
-/// What a value of a job is for.
+/// The meaning of a value of a job.
 #[derive(Clone, Copy, Debug, PartialEq, Eq)]
 pub enum Key {
-    /// The number of the job where it was made.
+    /// The number that the job had when it was generated.
     Id,
-    /// That the answer is the intended difference from the original.
+    /// Whether the expected output is an intended difference from the original.
     Fix,
     /// The direction of the NFA or of the search.
     Direction,
@@ -15,7 +15,7 @@ pub enum Key {
     Terminator,
     /// The match kind, or the start kind.
     Kind,
-    /// The id of the NFA state where a walk starts.
+    /// The id of the NFA state that a walk starts from.
     Start,
     /// The byte behind the text.
     LookBehind,
@@ -23,19 +23,19 @@ pub enum Key {
     Text,
     /// The byte after the end of the text.
     After,
-    /// The number of a state of a walk.
+    /// The index of a state of a walk.
     At,
-    /// The id of the NFA state where a closure starts.
+    /// The id of the NFA state that a closure starts from.
     From,
-    /// The assertions that are known.
+    /// The assertions that are known to hold.
     Look,
-    /// What a set holds before a closure.
+    /// The ids in the set before a closure.
     Held,
     /// The haystack of a search.
     Haystack,
     /// The range of a search.
     Range,
-    /// A byte whose start kind is asked for.
+    /// A byte whose start kind is to be written.
     Byte,
     /// The number of a start kind.
     Number,
@@ -53,15 +53,15 @@ pub enum Key {
     Ids,
     /// The unit of a transition.
     Unit,
-    /// What the first lent set holds.
+    /// The ids in the first set before the call.
     Set1,
-    /// What the second lent set holds.
+    /// The ids in the second set before the call.
     Set2,
     /// The NFA states that are added.
     Set,
-    /// How many states an NFA has.
+    /// The number of states of an NFA.
     States,
-    /// How many of them match.
+    /// The number of `Match` states among them.
     Matches,
 }
 
@@ -99,7 +99,7 @@ static KEYS: [Key; 29] = [
 ];
 
 impl Key {
-    /// The key of this name, or none.
+    /// Returns the key of this name, if there is one.
     pub fn named(text: &str) -> Option<Key> {
         for key in KEYS.iter() {
             if key.name() == text {
@@ -109,7 +109,7 @@ impl Key {
         None
     }
 
-    /// The name of the key in a job.
+    /// Returns the name of the key in a job.
     fn name(self) -> &'static str {
         match self {
             Key::Id => "id",

@@ -1,5 +1,9 @@
-//! Jobs as text, their answers through the public calls of the library, and their replay: what the
-//! program `determinize_bench` does.
+//! Replays jobs: lines of text that describe a call of the library, with the output that is
+//! expected of it. The program `determinize_bench` does this work.
+//!
+//! [`job`] parses a job, [`verbs`] runs it through public calls and writes its output, and
+//! [`replay`] compares that with the expected lines. [`run`] is the whole program over any reader
+//! and writers.
 #![tactic(auto)]
 
 pub mod caches;

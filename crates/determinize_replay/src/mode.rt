@@ -1,30 +1,30 @@
-//! What the arguments ask for.
+//! The arguments of the program.
 
 use crate::error::ReplayError;
 use crate::values;
 
-/// What is made of a walk through a cache.
+/// What is done with a walk through a cache.
 #[derive(Clone, Copy, Debug, PartialEq, Eq)]
 pub enum Way {
-    /// The walk: its states and its last match.
+    /// A walk: its states and its last match.
     Walk,
-    /// A search: the last match alone.
+    /// A search: only the last match.
     Search,
 }
 
 /// How the walks of jobs are made.
 #[derive(Clone, Copy, Debug, PartialEq, Eq)]
 pub enum Mode {
-    /// Each by a call of its own.
+    /// Each by a separate call.
     Single,
-    /// Through caches of at most so many states, of which the walks of one NFA under one match kind
-    /// share one.
+    /// Through caches of at most this number of states. The walks of one NFA and match kind share a
+    /// cache.
     Cached(Way, usize),
 }
 
 impl Mode {
-    /// The mode that the arguments name: none, or `cache` or `search` and a limit. Any others are
-    /// refused.
+    /// Returns the mode of the arguments: none, or `cache` or `search` and a limit. Returns an
+    /// error for any others.
     pub fn read(words: &[String]) -> Result<Mode, ReplayError> {
         let [word, limit] = words else {
             return if words.is_empty() {

@@ -1,4 +1,4 @@
-//! Reads the NFA of a job.
+//! Parses the NFA of a job.
 
 use crate::error::{JobError, Part};
 use crate::job::Job;
@@ -10,7 +10,7 @@ use determinize_below::{
 };
 use std::alloc::Global;
 
-/// The matcher with the job's line terminator.
+/// Returns the matcher with the job's line terminator.
 pub fn matcher(job: &Job<'_>) -> Result<LookMatcher, JobError> {
     let mut matcher = LookMatcher::new();
     if let Some(text) = job.value(Key::Terminator) {
@@ -19,7 +19,7 @@ pub fn matcher(job: &Job<'_>) -> Result<LookMatcher, JobError> {
     Ok(matcher)
 }
 
-/// The NFA of the job. Both of its start ids are 0.
+/// Returns the NFA of the job. Both start states are state 0.
 pub fn nfa(alloc: Global, job: &Job<'_>) -> Result<NFA, JobError> {
     let nfa = NFA::from_parts(
         alloc,
@@ -32,7 +32,7 @@ pub fn nfa(alloc: Global, job: &Job<'_>) -> Result<NFA, JobError> {
     Ok(nfa)
 }
 
-/// The states of a text, one word each.
+/// Returns the states of a text, one word each.
 pub fn states(alloc: Global, text: &str) -> Result<Vec<State>, JobError> {
     let mut states = Vec::new(alloc);
     for word in text.split(' ') {
@@ -44,7 +44,7 @@ pub fn states(alloc: Global, text: &str) -> Result<Vec<State>, JobError> {
     Ok(states)
 }
 
-/// A state of a word such as `BU:4,1`.
+/// Returns the state of a word such as `BU:4,1`.
 fn state(alloc: Global, word: &str) -> Result<State, JobError> {
     let (kind, parts) = word.split_once(':').unwrap_or((word, ""));
     match kind {
@@ -61,7 +61,7 @@ fn state(alloc: Global, word: &str) -> Result<State, JobError> {
     }
 }
 
-/// A transition of a text such as `61-7a>1` or `61>1`.
+/// Returns the transition of a text such as `61-7a>1` or `61>1`.
 fn transition(text: &str) -> Result<Transition, JobError> {
     let Some((range, next)) = text.split_once('>') else {
         return Err(JobError::Malformed(Part::Transition));
@@ -74,20 +74,20 @@ fn transition(text: &str) -> Result<Transition, JobError> {
     })
 }
 
-/// The first and the last byte of a range such as `61-7a` or `61`.
+/// Returns the first and the last byte of a range such as `61-7a` or `61`.
 fn ends(range: &str) -> Result<(u8, u8), JobError> {
     let (start, end) = range.split_once('-').unwrap_or((range, range));
     Ok((values::byte(start)?, values::byte(end)?))
 }
 
-/// A state with one transition.
+/// Returns a state with one transition.
 fn byte_range(parts: &str) -> Result<State, JobError> {
     Ok(State::ByteRange {
         trans: transition(parts)?,
     })
 }
 
-/// A sparse state.
+/// Returns a sparse state.
 fn sparse(alloc: Global, parts: &str) -> Result<State, JobError> {
     let mut transitions = Vec::new(alloc);
     if !parts.is_empty() {
@@ -99,7 +99,8 @@ fn sparse(alloc: Global, parts: &str) -> Result<State, JobError> {
     Ok(State::Sparse(SparseTransitions { transitions }))
 }
 
-/// A dense state. A range whose first byte is above its last would write nothing, and is refused.
+/// Returns a dense state. Returns an error for a range whose first byte is above its last, since it
+/// would write nothing.
 fn dense(alloc: Global, parts: &str) -> Result<State, JobError> {
     let mut table = [StateID::ZERO; 256];
     if !parts.is_empty() {
@@ -122,7 +123,7 @@ fn write_range(table: &mut [StateID; 256], transition: Transition) {
     }
 }
 
-/// A state with an assertion.
+/// Returns a `Look` state.
 fn look(parts: &str) -> Result<State, JobError> {
     let Some((name, next)) = parts.split_once('>') else {
         return Err(JobError::Malformed(Part::Look));
@@ -133,14 +134,14 @@ fn look(parts: &str) -> Result<State, JobError> {
     })
 }
 
-/// A union of states.
+/// Returns a union.
 fn union(alloc: Global, parts: &str) -> Result<State, JobError> {
     Ok(State::Union {
         alternates: values::state_ids(alloc, parts)?,
     })
 }
 
-/// A union of two states.
+/// Returns a union of two states.
 fn binary_union(parts: &str) -> Result<State, JobError> {
     let Some((first, second)) = parts.split_once(',') else {
         return Err(JobError::Malformed(Part::Union));
@@ -151,14 +152,14 @@ fn binary_union(parts: &str) -> Result<State, JobError> {
     })
 }
 
-/// A state that ends a capture, or starts one.
+/// Returns a capture.
 fn capture(parts: &str) -> Result<State, JobError> {
     Ok(State::Capture {
         next: values::state_id(parts)?,
     })
 }
 
-/// A state where a pattern matches.
+/// Returns a `Match` state.
 fn matching(parts: &str) -> Result<State, JobError> {
     Ok(State::Match {
         pattern_id: values::pattern_id(parts)?,

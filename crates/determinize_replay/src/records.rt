@@ -1,4 +1,4 @@
-//! Builds the record of a job, and writes what its readers answer.
+//! Builds the record of a job, the value of a state, and writes the results of its readers.
 
 ghost use Rattle.std.specs.Prelude.{◌≡◌, ℕ, ◌<◌, ◌≤◌, [], All, IsTrue, IfOk, OnOk, nat_eq};
 ghost use Rattle.std.specs.HashSet.{contains};
@@ -15,7 +15,7 @@ use std::alloc::{AllocError, Allocator, Global};
 use std::collections::HashSet;
 use std::hash::{BuildHasherDefault, FoldHasher};
 
-/// The flags, look-have and patterns of the job's record.
+/// Returns a builder with the flags, look-have and patterns of the job's record.
 fn matches_builder(alloc: Global, job: &Job<'_>) -> Result<StateBuilderMatches, JobError> {
     let ids = values::pattern_ids(alloc, job.value_or_none(Key::Patterns))?;
     let mut builder = with_patterns(alloc, ids.as_slice())?;
@@ -36,7 +36,7 @@ fn set_flags(builder: &mut StateBuilderMatches, job: &Job<'_>) -> Result<(), Job
     Ok(())
 }
 
-/// The whole record of the job.
+/// Returns a builder with the whole record of the job.
 pub fn builder(alloc: Global, job: &Job<'_>) -> Result<StateBuilderNFA, JobError> {
     let mut builder = matches_builder(alloc, job)?.into_nfa();
     let need = values::look_set(job.value_or_none(Key::LookNeed))?;
@@ -47,7 +47,7 @@ pub fn builder(alloc: Global, job: &Job<'_>) -> Result<StateBuilderNFA, JobError
     Ok(builder)
 }
 
-/// A builder with these patterns. A pattern that stands twice among them is refused.
+/// Returns a builder with these patterns, or an error if one of them is repeated.
 pub fn with_patterns(alloc: Global, ids: &[PatternID]) -> Result<StateBuilderMatches, JobError> {
     let mut builder = StateBuilderEmpty::new(alloc).into_matches()?;
     let mut seen = HashSet::new(alloc);
@@ -57,12 +57,11 @@ pub fn with_patterns(alloc: Global, ids: &[PatternID]) -> Result<StateBuilderMat
     Ok(builder)
 }
 
-/// The patterns that a builder has.
+/// The patterns of a builder.
 type Patterns = HashSet<PatternID, BuildHasherDefault<FoldHasher>>;
 
-/// Adds a pattern to a builder and to the set of those that it has.
-///
-/// Returns `RepeatedPattern` if it is in the set.
+/// Adds a pattern to a builder and to the set of its patterns. Returns `RepeatedPattern` if the set
+/// contains it.
 fn add_pattern(
     builder: &mut StateBuilderMatches,
     seen: &mut Patterns,
@@ -79,7 +78,7 @@ fn add_pattern(
     Ok(())
 }
 
-/// A set of these ids, each below the capacity.
+/// Returns a set of these ids, or an error if one is not below the capacity.
 pub fn set<A: Allocator + Clone>(
     alloc: A,
     capacity: usize,
@@ -98,14 +97,14 @@ pub fn set<A: Allocator + Clone>(
     Ok(set)
 }
 
-/// Whether all NFA states of a state are below a number.
+/// Returns whether all NFA states of a state are below a number.
 pub fn resolves<A: Allocator>(state: &State<A>, count: usize) -> bool
     ensures { IsTrue result → All (λ id. id < count) state.now.states }
 {
     state.iter_nfa_state_ids().all(|id| id.as_usize() < count)
 }
 
-/// Writes what the readers of a state answer, in three lines.
+/// Writes the results of the readers of a state, in three lines.
 pub fn write_readers(text: &mut String, state: &State) -> Result<(), AllocError> {
     write_match_readers(text, state)?;
     write_flag_readers(text, state)?;
@@ -114,7 +113,7 @@ pub fn write_readers(text: &mut String, state: &State) -> Result<(), AllocError>
     text.push('\n')
 }
 
-/// Writes what a state says of its matches and its size, in a line.
+/// Writes the matches and the size of a state, in a line.
 fn write_match_readers(text: &mut String, state: &State) -> Result<(), AllocError> {
     let is_match = u8::from(state.is_match());
     let count = state.match_len();
@@ -124,7 +123,7 @@ fn write_match_readers(text: &mut String, state: &State) -> Result<(), AllocErro
     writeln!(text, " usage={usage}")
 }
 
-/// Writes the patterns of a state, `none` where it is no match.
+/// Writes the patterns of a state, or `none` if it is no match state.
 fn write_patterns(text: &mut String, state: &State) -> Result<(), AllocError> {
     match state.match_pattern_ids()? {
         None => text.push_str("none"),

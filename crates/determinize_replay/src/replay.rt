@@ -1,4 +1,8 @@
-//! Replays jobs line by line, and counts what differs.
+//! Replays jobs line by line, and counts those that differ.
+//!
+//! A job begins with a line `> JOB`, and the lines after it are its expected output. The end of
+//! that output is known only at the next job or after the last line; the job is run and judged
+//! then.
 
 ghost use Rattle.std.specs.Prelude.{◌≡◌, ◌≤◌, ◌↔◌, IsTrue};
 
@@ -12,24 +16,24 @@ use std::alloc::{AllocError, Global};
 use std::io::Write;
 use std::{fmt, io};
 
-/// What became of the jobs.
+/// The counts of a replay.
 #[derive(Clone, Copy, Debug, PartialEq, Eq)]
 pub struct Tally {
-    /// How many jobs there were.
+    /// The number of jobs.
     pub jobs: u64,
-    /// How many answers differ.
+    /// The number of jobs whose output differs.
     pub differ: u64,
 }
 
 impl Tally {
-    /// Whether there was no job.
+    /// Returns whether there was no job.
     pub fn is_empty(self) -> bool
         ensures { IsTrue result ↔ (self.jobs ≡ 0) }
     {
         self.jobs == 0
     }
 
-    /// The status that tells of the jobs: 0 where no answer differs, else 1.
+    /// Returns the exit status of the counts: 0 if no job differs, otherwise 1.
     pub fn status(self) -> u8
         ensures agree { (result ≡ 0) ↔ (self.differ ≡ 0) }
         ensures most { result ≤ 1 }
@@ -38,7 +42,7 @@ impl Tally {
     }
 }
 
-/// The counts in a line. No job is skipped, and the line says so.
+/// Writes the counts in a line. No job is ever skipped, and the line says so.
 impl fmt::Display for Tally {
     fn fmt<W: fmt::Write>(&self, f: &mut fmt::Formatter<W>) -> fmt::Result {
         let Tally { jobs, differ } = *self;
@@ -46,14 +50,14 @@ impl fmt::Display for Tally {
     }
 }
 
-/// A job that waits for the end of its answer.
+/// A job whose expected output is still being read.
 #[derive(Drop)]
 struct Pending {
     line: u64,
     text: String,
 }
 
-/// The lines of an answer, or its last line alone.
+/// The output of a job: all lines, or only the last one.
 #[derive(Drop)]
 struct Answer {
     text: String,
@@ -61,7 +65,7 @@ struct Answer {
 }
 
 impl Answer {
-    /// The answer of a walk through a cache, or that of a search: the last line alone.
+    /// Returns the output of a walk through a cache, or the last line of it from a search.
     fn through(
         alloc: Global,
         job: &Job<'_>,
@@ -80,7 +84,7 @@ impl Answer {
         }
     }
 
-    /// Whether it is the answer that is wanted, or its last line.
+    /// Returns whether the output is the expected one, or its last line.
     fn agrees(&self, wanted: &str) -> bool {
         let answer = self.text.as_str();
         if self.is_whole {
@@ -91,7 +95,7 @@ impl Answer {
     }
 }
 
-/// A replay in its course: the job at hand and the lines of its answer so far.
+/// A replay in progress: the current job and the lines of its expected output so far.
 #[derive(Drop)]
 pub struct Replay<'n> {
     alloc: Global,
@@ -103,8 +107,8 @@ pub struct Replay<'n> {
 }
 
 impl<'n> Replay<'n> {
-    /// A replay of no lines so far. Walks or searches are made through the caches, where there are
-    /// some.
+    /// Returns a replay that has read no line. If caches are given, walks or searches go through
+    /// them.
     pub fn new(alloc: Global, caches: Option<Caches<'n>>) -> Replay<'n> {
         Replay {
             alloc,
@@ -116,17 +120,17 @@ impl<'n> Replay<'n> {
         }
     }
 
-    /// The number of the line that comes next, from 1 on.
+    /// Returns the number of the next line, starting from 1.
     pub fn line(&self) -> u64 {
         self.line
     }
 
-    /// Takes one more line: a job, a line of its answer, or a comment.
+    /// Takes one more line: a job, a line of expected output, or a comment.
     ///
-    /// A job ends the answer of the job before it, which is judged then: where the answer differs,
-    /// the job and both answers are written to `out`. Refused are a line of an answer before the
-    /// first job, and a job before this line that has no answer. After an error nothing is
-    /// promised of further lines.
+    /// A job ends the expected output of the previous job, which is run and judged then: if its
+    /// output differs, the job and both outputs are written to `out`. Returns an error for a line
+    /// of output before the first job, or if the previous job cannot be run. After an error the
+    /// results of further calls are unspecified.
     pub fn take_line<W: Write>(&mut self, text: &str, out: &mut W) -> Result<(), ReplayError> {
         let line = self.line;
         self.line = line.saturating_add(1);
@@ -146,19 +150,19 @@ impl<'n> Replay<'n> {
         Ok(())
     }
 
-    /// Takes one more line of the answer of the job at hand.
+    /// Adds a line to the expected output of the current job.
     fn take_answer(&mut self, text: &str) -> Result<(), AllocError> {
         self.wanted.push_str(text)?;
         self.wanted.push('\n')
     }
 
-    /// Judges the last job, and tells the counts.
+    /// Judges the last job and returns the counts.
     pub fn finish<W: Write>(mut self, out: &mut W) -> Result<Tally, ReplayError> {
         self.judge(out)?;
         Ok(self.tally)
     }
 
-    /// Judges the job at hand, if there is one, and forgets it.
+    /// Judges the current job, if there is one, and clears it.
     fn judge<W: Write>(&mut self, out: &mut W) -> Result<(), ReplayError> {
         if let Some(job) = self.job.take() {
             self.tally.jobs = self.tally.jobs.saturating_add(1);
@@ -168,7 +172,7 @@ impl<'n> Replay<'n> {
         Ok(())
     }
 
-    /// Compares the answer of a job with the one that is wanted.
+    /// Runs a job and compares its output with the expected one.
     fn judge_job<W: Write>(&mut self, job: &Pending, out: &mut W) -> Result<(), ReplayError> {
         match self.answer(job.text.as_str()) {
             Ok(answer) => self.judge_answer(job.text.as_str(), &answer, out),
@@ -176,7 +180,7 @@ impl<'n> Replay<'n> {
         }
     }
 
-    /// Compares an answer of the job of this text with the one that is wanted.
+    /// Compares the output of a job with the expected one.
     fn judge_answer<W: Write>(
         &mut self,
         job: &str,
@@ -189,7 +193,7 @@ impl<'n> Replay<'n> {
         Ok(())
     }
 
-    /// The answer of the job of this text.
+    /// Returns the output of the job of this text.
     fn answer(&mut self, text: &str) -> Result<Answer, JobError> {
         let job = Job::read(self.alloc, text)?;
         if let Some(caches) = self.caches.as_mut() {

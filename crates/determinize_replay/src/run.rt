@@ -10,20 +10,19 @@ use crate::replay::{Replay, Tally};
 use std::alloc::Global;
 use std::io::{self, BufRead, BufReader, Read, Write};
 
-/// Replays the jobs of `input`, and answers the status.
+/// Replays the jobs of `input` and returns the exit status.
 ///
-/// Without `words`, the arguments, each walk is a call of its own. The two words `cache` and a limit
-/// ask for walks through caches of at most that many states, one for each NFA and match kind, which
-/// their walks share in the order of the input; the whole input is read first then. The two words
-/// `search` and a limit ask for searches in place of these walks, of which the last line of the
-/// answer alone is compared: that of the last match.
+/// Without arguments in `words`, each walk is a separate call. With `cache` and a limit, walks go
+/// through caches of at most that many states. There is one cache per NFA and match kind, which its
+/// walks share in the order of the input; so the whole input is read first. With `search` and a
+/// limit, each walk is replaced by a search through such a cache, and only the last line of the
+/// expected output is compared: the last match.
 ///
-/// Each job whose answer differs is written to `out`, with both answers, and then the counts in a
-/// line. The status is 0 where every job that was replayed agrees, and 1 where some differ. Where
-/// there is no verdict the status is 2, and a line on `err` says why: `words` are none of these, a
-/// line of the input can't be taken, no job was replayed, memory was refused, or `out`
-/// failed. The counts aren't written then, except where no job was replayed. A write to `err` that
-/// fails changes no status.
+/// Writes each job whose output differs to `out`, with both outputs, and then the counts in a line.
+/// Returns 0 if every job agrees and 1 if some differ. If there is no verdict, returns 2 and writes
+/// the reason in a line to `err`: invalid arguments, an invalid line of input, no job, a failed
+/// allocation, or a failed write to `out`. The counts are not written then, except if there was no
+/// job. A failed write to `err` does not change the status.
 pub fn run<R: Read + Drop, W: Write, E: Write>(
     alloc: Global,
     words: &[String],
@@ -36,7 +35,7 @@ pub fn run<R: Read + Drop, W: Write, E: Write>(
     report(replay(alloc, words, input, out), err)
 }
 
-/// The status of what became of a replay. Why there is no verdict is said on `err`.
+/// Returns the exit status of a replay. If there is no verdict, writes the reason to `err`.
 pub fn report<E: Write>(outcome: Result<Tally, ReplayError>, err: &mut E) -> u8
     ensures agree { IfOk outcome (λ tally. (result ≡ 0) ↔ (tally.differ ≡ 0)) }
     ensures none { OnErr outcome (result ≡ 2) }
@@ -51,7 +50,7 @@ pub fn report<E: Write>(outcome: Result<Tally, ReplayError>, err: &mut E) -> u8
     }
 }
 
-/// Replays each line of the input, and writes the counts.
+/// Replays each line of the input and writes the counts.
 fn replay<R: Read + Drop, W: Write>(
     alloc: Global,
     words: &[String],
@@ -81,7 +80,7 @@ fn replay_single<I: BufRead + Drop, W: Write>(
     finish(replay, out)
 }
 
-/// Takes one more line, where it could be read.
+/// Takes one more line, or returns the error if it could not be read.
 fn take_read_line<W: Write>(
     replay: &mut Replay<'_>,
     line: io::Result<String>,
@@ -107,7 +106,7 @@ fn replay_cached<I: BufRead + Drop, W: Write>(
     replay_lines(replay, lines.as_slice(), out)
 }
 
-/// All lines of the input.
+/// Returns all lines of the input.
 fn lines<I: BufRead + Drop>(alloc: Global, input: I) -> Result<Vec<String>, ReplayError> {
     let mut lines = Vec::new(alloc);
     let mut number = 1u64;
@@ -121,7 +120,7 @@ fn lines<I: BufRead + Drop>(alloc: Global, input: I) -> Result<Vec<String>, Repl
     Ok(lines)
 }
 
-/// Replays lines to their end.
+/// Replays all lines.
 fn replay_lines<W: Write>(
     mut replay: Replay<'_>,
     lines: &[String],
@@ -133,7 +132,8 @@ fn replay_lines<W: Write>(
     finish(replay, out)
 }
 
-/// The NFAs of all walks. A job that can't be read has none here: the replay refuses it later.
+/// Returns the NFAs of all walks. A job that cannot be parsed is skipped here: the replay reports
+/// it later.
 fn automata(alloc: Global, lines: &[String]) -> Result<Automata, ReplayError> {
     let mut automata = Automata::new(alloc);
     for line in lines {
@@ -147,12 +147,12 @@ fn automata(alloc: Global, lines: &[String]) -> Result<Automata, ReplayError> {
     Ok(automata)
 }
 
-/// Takes the NFA of the job of this text.
+/// Adds the NFA of the job of this text.
 fn take_job(automata: &mut Automata, alloc: Global, text: &str) -> Result<(), JobError> {
     automata.take(&Job::read(alloc, text)?)
 }
 
-/// Judges the last job, and writes the counts.
+/// Judges the last job and writes the counts.
 fn finish<W: Write>(replay: Replay<'_>, out: &mut W) -> Result<Tally, ReplayError> {
     let tally = replay.finish(out)?;
     writeln!(out, "{tally}")?;

@@ -1,4 +1,4 @@
-//! Reads and writes the values of jobs: bytes, ids and sets of assertions.
+//! Parses and writes the values of jobs: bytes, ids and sets of assertions.
 
 ghost use Rattle.std.specs.Prelude.{◌<◌, IfSome};
 ghost use Rattle.std.specs.Iterator.{IsFinite};
@@ -7,7 +7,7 @@ use crate::error::{JobError, Part};
 use determinize_below::{Look, LookSet, PatternID, StateID};
 use std::alloc::{AllocError, Global};
 
-/// The assertions by their names, in the order of their bits.
+/// The names of the assertions, in the order of their bits.
 static LOOKS: [(&str, Look); 18] = [
     ("Start", Look::Start),
     ("End", Look::End),
@@ -29,12 +29,12 @@ static LOOKS: [(&str, Look); 18] = [
     ("WordEndHalfUnicode", Look::WordEndHalfUnicode),
 ];
 
-/// Whether the text stands for nothing or for an empty list.
+/// Returns whether the text is that of no value or of an empty list.
 pub fn is_none(text: &str) -> bool {
     text.is_empty() || text == "-"
 }
 
-/// The value of a hexadecimal digit in lower case.
+/// Returns the value of a lower-case hexadecimal digit.
 fn digit(byte: u8) -> Option<u8>
     ensures { IfSome result (λ value. value < 16) }
 {
@@ -45,7 +45,7 @@ fn digit(byte: u8) -> Option<u8>
     }
 }
 
-/// The byte of two hexadecimal digits.
+/// Returns the byte of two hexadecimal digits.
 fn pair(digits: &[u8]) -> Result<u8, JobError> {
     let [high, low] = digits else {
         return Err(JobError::Malformed(Part::Digit));
@@ -56,12 +56,12 @@ fn pair(digits: &[u8]) -> Result<u8, JobError> {
     }
 }
 
-/// The byte of a text of two hexadecimal digits.
+/// Returns the byte of a text of two hexadecimal digits.
 pub fn byte(text: &str) -> Result<u8, JobError> {
     pair(text.as_bytes())
 }
 
-/// A byte, or none.
+/// Returns an optional byte.
 pub fn optional_byte(text: &str) -> Result<Option<u8>, JobError> {
     if is_none(text) {
         return Ok(None);
@@ -69,7 +69,7 @@ pub fn optional_byte(text: &str) -> Result<Option<u8>, JobError> {
     Ok(Some(byte(text)?))
 }
 
-/// The bytes of a text of hexadecimal digits.
+/// Returns the bytes of a text of hexadecimal digits.
 pub fn bytes(alloc: Global, text: &str) -> Result<Vec<u8>, JobError> {
     let mut found = Vec::new(alloc);
     if is_none(text) {
@@ -82,7 +82,7 @@ pub fn bytes(alloc: Global, text: &str) -> Result<Vec<u8>, JobError> {
     Ok(found)
 }
 
-/// A decimal number. It is made of digits alone.
+/// Returns a decimal number, which has digits only.
 pub fn number(text: &str) -> Result<usize, JobError> {
     if text.starts_with('+') {
         return Err(JobError::Malformed(Part::Number));
@@ -90,7 +90,7 @@ pub fn number(text: &str) -> Result<usize, JobError> {
     Ok(text.parse::<usize>()?)
 }
 
-/// A flag, `0` or `1`.
+/// Returns a flag, `0` or `1`.
 pub fn flag(text: &str) -> Result<bool, JobError> {
     match text {
         "0" => Ok(false),
@@ -99,7 +99,7 @@ pub fn flag(text: &str) -> Result<bool, JobError> {
     }
 }
 
-/// The id of an NFA state.
+/// Returns the id of an NFA state.
 pub fn state_id(text: &str) -> Result<StateID, JobError> {
     match StateID::new(number(text)?) {
         Ok(id) => Ok(id),
@@ -107,7 +107,7 @@ pub fn state_id(text: &str) -> Result<StateID, JobError> {
     }
 }
 
-/// The id of a pattern.
+/// Returns the id of a pattern.
 pub fn pattern_id(text: &str) -> Result<PatternID, JobError> {
     match PatternID::new(number(text)?) {
         Ok(id) => Ok(id),
@@ -115,7 +115,7 @@ pub fn pattern_id(text: &str) -> Result<PatternID, JobError> {
     }
 }
 
-/// A list of ids of NFA states.
+/// Returns a list of ids of NFA states.
 pub fn state_ids(alloc: Global, text: &str) -> Result<Vec<StateID>, JobError> {
     let mut ids = Vec::new(alloc);
     if is_none(text) {
@@ -128,7 +128,7 @@ pub fn state_ids(alloc: Global, text: &str) -> Result<Vec<StateID>, JobError> {
     Ok(ids)
 }
 
-/// A list of ids of patterns.
+/// Returns a list of ids of patterns.
 pub fn pattern_ids(alloc: Global, text: &str) -> Result<Vec<PatternID>, JobError> {
     let mut ids = Vec::new(alloc);
     if is_none(text) {
@@ -141,7 +141,7 @@ pub fn pattern_ids(alloc: Global, text: &str) -> Result<Vec<PatternID>, JobError
     Ok(ids)
 }
 
-/// The assertion of this name.
+/// Returns the assertion of this name.
 pub fn look(text: &str) -> Result<Look, JobError> {
     for (name, look) in LOOKS.iter() {
         if *name == text {
@@ -151,7 +151,7 @@ pub fn look(text: &str) -> Result<Look, JobError> {
     Err(JobError::Malformed(Part::Look))
 }
 
-/// A set of assertions.
+/// Returns a set of assertions.
 pub fn look_set(text: &str) -> Result<LookSet, JobError> {
     let mut set = LookSet::empty();
     if is_none(text) {
@@ -163,7 +163,7 @@ pub fn look_set(text: &str) -> Result<LookSet, JobError> {
     Ok(set)
 }
 
-/// Writes bytes as hexadecimal digits, and ends the line.
+/// Writes bytes as hexadecimal digits, and a line break.
 pub fn write_bytes(text: &mut String, bytes: &[u8]) -> Result<(), AllocError> {
     for byte in bytes {
         write!(text, "{byte:02x}")?;
@@ -171,7 +171,7 @@ pub fn write_bytes(text: &mut String, bytes: &[u8]) -> Result<(), AllocError> {
     text.push('\n')
 }
 
-/// Writes a list of numbers joined by commas, `-` where it is empty.
+/// Writes a list of numbers joined by commas, or `-` if it is empty.
 pub fn write_numbers<I: Iterator<Item = u32>>(
     text: &mut String,
     numbers: I,
@@ -193,7 +193,7 @@ pub fn write_numbers<I: Iterator<Item = u32>>(
     Ok(())
 }
 
-/// Writes the names of a set of assertions joined by commas, `-` where it is empty.
+/// Writes the names of a set of assertions joined by commas, or `-` if it is empty.
 pub fn write_looks(text: &mut String, set: LookSet) -> Result<(), AllocError> {
     let mut is_first = true;
     for (name, look) in LOOKS.iter() {

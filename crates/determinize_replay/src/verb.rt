@@ -2,37 +2,37 @@
 
 use crate::key::Key;
 
-/// What a job asks for.
+/// What a job computes.
 #[derive(Clone, Copy, Debug, PartialEq, Eq)]
 pub enum Verb {
     /// The states of a walk, and its last match.
     Walk,
-    /// What the readers of one state of a walk answer.
+    /// The results of the readers of one state of a walk.
     Readers,
     /// A set after `epsilon_closure`.
     Closure,
     /// An empty record after `set_lookbehind_from_start`.
     LookBehind,
-    /// The state that follows a record.
+    /// The next state after a record.
     Next,
     /// A record after `add_nfa_states`.
     AddStates,
-    /// Where a search starts.
+    /// The start kind of a search.
     Start,
     /// The start kinds of bytes.
     ByteMap,
-    /// The start kind of a number.
+    /// The start kind with a number.
     FromUsize,
     /// The dead state.
     Dead,
-    /// A record, and what its readers answer.
+    /// A record, and the results of its readers.
     Build,
     /// The number of states of an NFA.
     Size,
 }
 
 impl Verb {
-    /// The verb of this name, or none.
+    /// Returns the verb of this name, if there is one.
     pub fn named(text: &str) -> Option<Verb> {
         match text {
             "walk" => Some(Verb::Walk),
@@ -51,7 +51,7 @@ impl Verb {
         }
     }
 
-    /// Whether a job with this verb tells the states of an NFA.
+    /// Returns whether a job with this verb has the states of an NFA.
     pub fn has_nfa(self) -> bool {
         match self {
             Verb::Walk | Verb::Readers | Verb::Closure => true,
@@ -60,17 +60,17 @@ impl Verb {
         }
     }
 
-    /// Whether a job with this verb makes a walk.
+    /// Returns whether a job with this verb makes a walk.
     fn has_walk(self) -> bool {
         self == Verb::Walk || self == Verb::Readers
     }
 
-    /// Whether a job with this verb tells a record.
+    /// Returns whether a job with this verb has a record.
     fn has_record(self) -> bool {
         self == Verb::Build || self == Verb::Next || self == Verb::AddStates
     }
 
-    /// Whether a job with this verb may have the key.
+    /// Returns whether a job with this verb may have the key.
     pub fn takes(self, key: Key) -> bool {
         match key {
             Key::Id | Key::Fix => true,
@@ -91,7 +91,7 @@ impl Verb {
         }
     }
 
-    /// The keys that a job with this verb must have.
+    /// Returns the keys that a job with this verb must have.
     pub fn needed(self) -> &'static [Key] {
         match self {
             Verb::Walk | Verb::ByteMap | Verb::Dead => &[],

@@ -1,4 +1,4 @@
-//! The verbs of jobs, each answered through public calls.
+//! The verbs of jobs, run through public calls.
 
 mod automata;
 mod small;
@@ -9,14 +9,14 @@ use crate::verb::Verb;
 use determinize_lazy::Lazy;
 use std::alloc::Global;
 
-/// The lines of the answer of a job.
+/// Returns the output of a job.
 pub fn answer(alloc: Global, job: &Job<'_>) -> Result<String, JobError> {
     let mut text = String::new(alloc);
     write_answer(alloc, job, &mut text)?;
     Ok(text)
 }
 
-/// The lines of the answer of a walk, made through a cache.
+/// Returns the output of a walk through a cache.
 pub fn cached_answer(
     alloc: Global,
     job: &Job<'_>,
@@ -27,7 +27,7 @@ pub fn cached_answer(
     Ok(text)
 }
 
-/// The last line of the answer of a walk, found by a search through a cache.
+/// Returns the last line of the output of a walk, from a search through a cache.
 pub fn found_answer(
     alloc: Global,
     job: &Job<'_>,
@@ -38,7 +38,7 @@ pub fn found_answer(
     Ok(text)
 }
 
-/// Writes the lines of the answer of a job.
+/// Writes the output of a job.
 fn write_answer(alloc: Global, job: &Job<'_>, text: &mut String) -> Result<(), JobError> {
     match job.verb() {
         Verb::Walk => automata::walk(alloc, job, text),

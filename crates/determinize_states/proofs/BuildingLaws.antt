@@ -1,26 +1,22 @@
--- The bytes of a state to which NFA states are added.
-use Rattle.std.proofs.Common.{◌≡◌, ℕ, ◌<◌, ◌≤◌, List, [], ◌∷◌, ◌++◌, refl, sym, ap, ◌∙◌, append_assoc, subst}
+-- The bytes of a state that is being built.
+use Rattle.std.proofs.Common.{◌≡◌, ℕ, true, ◌<◌, ◌≤◌, List, [], ◌∷◌, ◌++◌, refl, sym, ap, ◌∙◌, append_assoc, subst}
 use Rattle.std.proofs.lemmas.List.Elements.{All-push}
-use Rattle.determinize_states.specs.Value.{Value, IsValue, dead, with_state}
+use Rattle.determinize_states.specs.Value.{Value, IsValue, dead, is_nonempty, with_state}
 use Rattle.determinize_states.specs.Varint.{varint, zigzag, last_id}
-use Rattle.determinize_states.specs.Spelling.{spell, with_word, value_of, IsSpelled}
-use Rattle.determinize_states.specs.Building.{closed, value_of_open, IsOpen, IsBuilding}
+use Rattle.determinize_states.specs.Spelling.{is_explicit, spell, with_word, value_of, IsSpelled}
+use Rattle.determinize_states.specs.Private.PatternBytes.{with_bit}
+use Rattle.determinize_states.specs.Building.{IsBuilding}
 use Rattle.determinize_states.proofs.VarintLaws.{deltas-push}
 use Rattle.determinize_states.proofs.SpellingLaws.{dead_valid, value_of-spell, spelled}
 use Rattle.determinize_states.proofs.ValueLaws.{with_have, with_need, with_have_valid, with_need_valid}
-use Rattle.determinize_states.proofs.OpenLaws.{closed-spell_open}
+use Rattle.determinize_states.proofs.FlagLaws.{or_4, or_8}
 
--- bytes that are the spelling of a value have this value
+-- the encoding of a value has this value
 pub built : (bytes : List ℕ) (last : ℕ) (v : Value) → IsValue v → last ≡ last_id 0 v.states → spell v ≡ bytes →
     IsBuilding bytes last × (value_of bytes ≡ v)
 built bytes last v h ends e =
     let back : value_of bytes ≡ v = ap value_of (sym e) ∙ value_of-spell v h in
     (record { is = subst IsSpelled e (spelled v h); last = rw back ends }, back)
-
-pub built_closed : (bytes : List ℕ) → IsOpen bytes → IsBuilding (closed bytes) 0 × (value_of (closed bytes) ≡ value_of_open bytes)
-built_closed bytes h =
-    let v : Value = value_of_open bytes in
-    built _ 0 v h.valid (rw h.stateless) (sym (closed-spell_open v h.stateless) ∙ ap closed h.spelled)
 
 pub building_with_have : (bytes : List ℕ) (last set : ℕ) → IsBuilding bytes last → set < 262144 →
     IsBuilding (with_word bytes 1 set) last × (value_of (with_word bytes 1 set) ≡ with_have (value_of bytes) set)
@@ -57,7 +53,30 @@ building_with_state bytes from id h small =
     } in
     built _ id (with_state v id) valid (sym (last-push 0 v.states id)) (spell-pushed v id ∙ rw (h.is.spelled, h.last))
 
--- nine zero bytes are the spelling of the dead value
-pub spelled_zeros : IsSpelled (0 ∷ 0 ∷ 0 ∷ 0 ∷ 0 ∷ 0 ∷ 0 ∷ 0 ∷ 0 ∷ []) × (value_of (0 ∷ 0 ∷ 0 ∷ 0 ∷ 0 ∷ 0 ∷ 0 ∷ 0 ∷ 0 ∷ []) ≡ dead)
+pub building_from_word : (bytes : List ℕ) (last : ℕ) → IsBuilding bytes last →
+    IsBuilding (with_bit bytes 4) last × (value_of (with_bit bytes 4) ≡ record (value_of bytes) { from_word = true })
 unfolding spell
-spelled_zeros = let h = built _ 0 dead dead_valid refl refl in (h.0.is, h.1)
+building_from_word bytes last h =
+    let v : Value = value_of bytes in
+    let w : Value = record v { from_word = true } in
+    let valid : IsValue w = record { have = h.is.valid.have; need = h.is.valid.need; distinct = h.is.valid.distinct; pattern_ids = h.is.valid.pattern_ids; state_ids = h.is.valid.state_ids } in
+    let same : spell w ≡ with_bit (spell v) 4 = rw (or_4 (is_nonempty v.patterns) (is_explicit v.patterns) v.from_word v.half_crlf) in
+    built _ last w valid h.last (same ∙ ap (λ (b : List ℕ). with_bit b 4) h.is.spelled)
+
+pub building_half_crlf : (bytes : List ℕ) (last : ℕ) → IsBuilding bytes last →
+    IsBuilding (with_bit bytes 8) last × (value_of (with_bit bytes 8) ≡ record (value_of bytes) { half_crlf = true })
+unfolding spell
+building_half_crlf bytes last h =
+    let v : Value = value_of bytes in
+    let w : Value = record v { half_crlf = true } in
+    let valid : IsValue w = record { have = h.is.valid.have; need = h.is.valid.need; distinct = h.is.valid.distinct; pattern_ids = h.is.valid.pattern_ids; state_ids = h.is.valid.state_ids } in
+    let same : spell w ≡ with_bit (spell v) 8 = rw (or_8 (is_nonempty v.patterns) (is_explicit v.patterns) v.from_word v.half_crlf) in
+    built _ last w valid h.last (same ∙ ap (λ (b : List ℕ). with_bit b 8) h.is.spelled)
+
+-- nine zero bytes are the encoding of the dead value
+pub built_zeros : IsBuilding (0 ∷ 0 ∷ 0 ∷ 0 ∷ 0 ∷ 0 ∷ 0 ∷ 0 ∷ 0 ∷ []) 0 × (value_of (0 ∷ 0 ∷ 0 ∷ 0 ∷ 0 ∷ 0 ∷ 0 ∷ 0 ∷ 0 ∷ []) ≡ dead)
+unfolding spell
+built_zeros = built _ 0 dead dead_valid refl refl
+
+pub spelled_zeros : IsSpelled (0 ∷ 0 ∷ 0 ∷ 0 ∷ 0 ∷ 0 ∷ 0 ∷ 0 ∷ 0 ∷ []) × (value_of (0 ∷ 0 ∷ 0 ∷ 0 ∷ 0 ∷ 0 ∷ 0 ∷ 0 ∷ 0 ∷ []) ≡ dead)
+spelled_zeros = (built_zeros.0.is, built_zeros.1)

@@ -1,4 +1,4 @@
--- The bytes of states decide whether their values are equal, and their order.
+-- The bytes of states decide equality of their values, and their order.
 use Rattle.std.proofs.Common.{◌≡◌, ◌==◌, ℕ, Bool, List, refl, sym, ap, ◌∙◌}
 use Rattle.std.specs.Bool.{one_answer}
 use Rattle.std.specs.Cmp.{unsigned_ties, Equal-is}
@@ -11,12 +11,12 @@ use Rattle.determinize_states.specs.Spelling.{spell}
 use Rattle.determinize_states.specs.Value.{IsValue, Value}
 use Rattle.determinize_states.proofs.SpellingLaws.{decided, spell_tells}
 
--- a test of the bytes is the test of the values
+-- comparing the bytes is comparing the values
 pub same-bytes : (v w : Value) (xs ys : List ℕ) (r : Bool) → IsValue v → IsValue w → xs ≡ spell v → ys ≡ spell w
     → r ≡ pointwise ◌==◌ xs ys → r ≡ same v w
 same-bytes v w xs ys r hv hw ex ey e = one_answer r (same v w) (decided v w xs ys r hv hw ex ey e) (Decides-same v w)
 
--- where the bytes are those of states, they decide
+-- the order of the bytes is the order of the values
 pub bytes-decide : (v w : Value) (xs ys : List ℕ) (r : Ordering) → IsValue v → IsValue w → xs ≡ spell v → ys ≡ spell w
     → r ≡ slice_cmp nat_cmp xs ys → r ≡ by_bytes v w
 bytes-decide v w xs ys r hv hw ex ey e =

@@ -1,4 +1,4 @@
--- The bits of the first byte of a state.
+-- The flags of the first byte of a state.
 use Rattle.std.proofs.Common.{◌≡◌, ℕ, ◌+◌, Bool, true, false, not, nat_eq, bit_and, bit_or, refl}
 use Rattle.determinize_states.specs.Spelling.{bit}
 
@@ -6,7 +6,7 @@ use Rattle.determinize_states.specs.Spelling.{bit}
 abbrev pub packed : Bool → Bool → Bool → Bool → ℕ
 packed a b c d = bit a 1 + bit b 2 + bit c 4 + bit d 8
 
--- what holds in each of the sixteen cases holds of any four flags
+-- a property of each of the sixteen cases is one of any four flags
 in_each_case : (P : Bool → Bool → Bool → Bool → Type 0) →
     P true true true true → P true true true false → P true true false true → P true true false false →
     P true false true true → P true false true false → P true false false true → P true false false false →

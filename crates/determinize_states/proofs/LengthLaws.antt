@@ -1,4 +1,4 @@
--- How many bytes a spelling has.
+-- The length of an encoding.
 use Rattle.std.proofs.Common.{◌≡◌, ℕ, ◌+◌, ◌*◌, ◌/◌, ◌≤◌, Bool, true, false, List, [], ◌∷◌, length, suc, zero, inl, inr, refl, arith, lit≤, length-append}
 use Rattle.std.proofs.lemmas.Bool.Decides.{leb_tells}
 use Rattle.determinize_states.specs.Value.{Value}
@@ -22,7 +22,7 @@ deltas_short : (from : ℕ) (ids : List ℕ) → length (deltas from ids) ≤ 5 
 deltas_short from [] = lit≤ tt
 deltas_short from (id ∷ ids) = omega (arith, length-append (varint (zigzag from id)) (deltas id ids), varint_short (zigzag from id), deltas_short id ids)
 
--- nine bytes, at most four and four for each pattern, at most five for each NFA state
+-- nine bytes, at most four plus four per pattern, and at most five per NFA state
 pub spell_short : (v : Value) → length (spell v) ≤ 13 + 4 * length v.patterns + 5 * length v.states
 unfolding spell
 spell_short v = in_each_case (is_explicit v.patterns) refl

@@ -4,7 +4,7 @@ pub mod FlagLaws
 pub mod LengthLaws
 pub mod MarkLaws
 pub mod NeedLemmas
-pub mod OpenLaws
+pub mod PatternLaws
 pub mod ReadingLaws
 pub mod RecordingSteps
 pub mod SpellingLaws

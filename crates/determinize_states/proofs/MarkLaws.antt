@@ -1,4 +1,4 @@
--- How a builder comes back to an earlier value.
+-- Restoring a builder from a mark.
 use Rattle.std.proofs.Common.{◌≡◌, ℕ, ◌<◌, ◌≤◌, List, [], ◌∷◌, ◌++◌, length, All, nat_eq, refl, arith, sym, ap, ◌∙◌, take, append_assoc, subst, length-append}
 use Rattle.std.specs.List.{IsDistinct}
 use Rattle.std.proofs.Math.Seq.{take-append_seam}
@@ -17,7 +17,7 @@ deltas-append : (from : ℕ) (ids more : List ℕ) → deltas from (ids ++ more)
 deltas-append from [] more = refl
 deltas-append from (id ∷ ids) more = rw (deltas-append id ids more) (sym (append_assoc (varint (zigzag from id)) (deltas id ids) (deltas (last_id id ids) more)))
 
--- the bytes cut to a size, with other sets
+-- the bytes cut to a length, with other sets
 abbrev pub cut_back : List ℕ → ℕ → ℕ → ℕ → List ℕ
 cut_back bytes size have need = with_word (with_word (take size bytes) 1 have) 5 need
 
@@ -53,7 +53,7 @@ grown_valid v w g h have need = record {
   state_ids = all_front (λ id. id ≤ 2147483646) v.states g.states.0 (subst (All (λ id. id ≤ 2147483646)) g.states.1 h.state_ids);
 }
 
--- what the bytes are before the cut
+-- the value before the cut
 abbrev kept : Value → Value → Value
 kept v w = record w { states = v.states }
 
@@ -64,7 +64,7 @@ split_grown v bytes h g = sym h.spelled ∙ spell-grown (value_of bytes) v.state
 mark_size : (v : Value) (bytes : List ℕ) (mark : Mark) → IsMarkOf mark v → IsGrown v (value_of bytes) → mark.bytes ≡ length (spell (kept v (value_of bytes)))
 mark_size v bytes mark m g = m.bytes ∙ sym (size_same (kept v (value_of bytes)) v g.patterns refl)
 
--- a mark lies between the first nine bytes and the end
+-- a mark is between the header and the end
 pub mark_within : (v : Value) (bytes : List ℕ) (mark : Mark) → IsSpelled bytes → IsMarkOf mark v → IsGrown v (value_of bytes) → (9 ≤ mark.bytes) × (mark.bytes ≤ length bytes)
 mark_within v bytes mark h m g =
     let u : Value = kept v (value_of bytes) in

@@ -1,4 +1,4 @@
--- The assertions that the states of a list need.
+-- The assertions that the states of a list test.
 use Rattle.std.proofs.Common.{◌≡◌, ℕ, ◌<◌, ◌^◌, Bool, true, false, ◌||◌, ◌⊎◌, inr, arith, List, [], ◌∷◌, refl, sym, ap, ◌∙◌, Option, Some, None, nat_eq}
 use Rattle.std.specs.Bool.{Decides}
 use Rattle.std.specs.List.{Any, Contains, list_any}
@@ -17,7 +17,7 @@ use Rattle.determinize_below.proofs.TestedLooks.{is_look, Decides-list_any_look}
 use Rattle.determinize_below.proofs.Tests.{by_test}
 use Rattle.determinize_states.specs.Recording.{with_assertion, needs}
 
--- the set with an assertion, where there is one
+-- the set with an optional assertion
 has-with_assertion : (set : ℕ) (o : Option Assertion) (look : Assertion) → has (with_assertion set o) look ≡ (has set look || is_look o look)
 has-with_assertion set None look = kept (has set look)
   where
@@ -35,18 +35,18 @@ has-needs nfa set (s ∷ xs) look =
     together : (a b c : Bool) → ((a || b) || c) ≡ (a || (b || c))
     together a b c = grind arith
 
--- an assertion is needed exactly where it was in the set or some listed state tests it
+-- look-need contains an assertion if and only if it did before or some listed state tests it
 pub Decides-needs : (nfa : Nfa) (set : ℕ) (xs : List ℕ) (look : Assertion) → Decides (has (needs nfa set xs) look) ((has set look ≡ true) ⊎ Any (λ s. assertion_of nfa s ≡ Some look) xs)
 Decides-needs nfa set xs look = Decides-at _ _ (has-needs nfa set xs look)
     (Decides-or (has set look) (list_any (λ s. is_look (assertion_of nfa s) look) xs) (λ h. h, λ h. h) (Decides-list_any_look (assertion_of nfa) xs look))
 
--- the assertion of a listed state is needed
+-- the assertion of a listed state is in look-need
 pub needs_member : (nfa : Nfa) (set : ℕ) (xs : List ℕ) (s : ℕ) (look : Assertion) → member nat_eq xs s ≡ true → assertion_of nfa s ≡ Some look → has (needs nfa set xs) look ≡ true
 needs_member nfa set xs s look m a =
     let c : Contains xs s = In_Contains same_decides xs s (member_In same_decides xs s m) in
     (Decides-needs nfa set xs look).1 (inr (c.0, s, c.1, c.2, a))
 
--- a list that needs something has a state
+-- a list with a non-empty look-need has a state
 pub needs_some : {P : Type 0} (nfa : Nfa) (xs : List ℕ) (look : Assertion) → has (needs nfa 0 xs) look ≡ true → ((s : ℕ) → member nat_eq xs s ≡ true → P) → P
 needs_some nfa [] look h f = absurd (true≢false (sym h ∙ has-empty look))
 needs_some nfa (s ∷ xs) look h f = f s (or_left (nat_eq s s) (member nat_eq xs s) (eq-eqb s s refl))
@@ -55,7 +55,7 @@ insert_small : (set : ℕ) (look : Assertion) → set < 2 ^ 18 → insert set lo
 unfolding insert
 insert_small set look small = or_of_18 set (bit_of look) small (bit_small look)
 
--- an assertion that the set has already
+-- inserting an assertion that the set contains
 pub insert-had : (set : ℕ) (look : Assertion) → set < 2 ^ 18 → has set look ≡ true → insert set look ≡ set
 insert-had set look small had = same_sets (insert set look) set (insert_small set look small) small (λ l. by_test (same look l)
     (λ e. has-insert set look l ∙ ap (λ b. has set l || b) e ∙ or_true (has set l) ∙ sym (ap (λ k. has set k) (sym ((Decides-same look l).0 e)) ∙ had))

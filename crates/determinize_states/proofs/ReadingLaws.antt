@@ -1,4 +1,4 @@
--- What the bytes of a finished state hold.
+-- Reading the bytes of a finished state.
 use Rattle.std.proofs.Common.{◌≡◌, ℕ, ◌+◌, ◌-◌, ◌*◌, ◌<◌, ◌≤◌, Bool, true, false, List, [], ◌∷◌, length, All, suc, zero, refl, arith, sym, ap, ◌∙◌, if◌then◌else◌, take, drop, lit≤, subst, slice_index, get_or}
 use Rattle.std.proofs.Math.Seq.{take-length}
 use Rattle.std.proofs.lemmas.List.Elements.{All-head, All-tail}
@@ -14,10 +14,10 @@ long bytes h = rw (← h.spelled) (spell_long (value_of bytes))
 pub match_of : (bytes : List ℕ) → IsSpelled bytes → has_flag bytes 1 ≡ is_nonempty (value_of bytes).patterns
 match_of bytes h = ap (λ (b : List ℕ). has_flag b 1) (sym h.spelled) ∙ match_bit (value_of bytes)
 
-explicit_of : (bytes : List ℕ) → IsSpelled bytes → has_flag bytes 2 ≡ is_explicit (value_of bytes).patterns
+pub explicit_of : (bytes : List ℕ) → IsSpelled bytes → has_flag bytes 2 ≡ is_explicit (value_of bytes).patterns
 explicit_of bytes h = ap (λ (b : List ℕ). has_flag b 2) (sym h.spelled) ∙ explicit_bit (value_of bytes)
 
--- with explicit patterns their number stands before them, and all of them are there
+-- explicit patterns follow their number, and all of them are there
 pub record HasPatterns (bytes : List ℕ) (ids : List ℕ) : Type 0 where
   pub count : number_at bytes 9 ≡ length ids
   pub room : 13 + 4 * length ids ≤ length bytes
@@ -41,7 +41,7 @@ pub implicit_ids : (bytes : List ℕ) → has_flag bytes 2 ≡ false → (if has
 unfolding value_of
 implicit_ids bytes e = rw e
 
--- the words of the pattern 0, or of none
+-- the bytes of the implicit pattern 0, if it is present
 pub implicit_numbers : (b : Bool) → numbers_in (words (if b then 0 ∷ [] else [])) ≡ (if b then 0 ∷ [] else [])
 implicit_numbers true = refl
 implicit_numbers false = refl
@@ -50,7 +50,7 @@ pub implicit_length : (b : Bool) → length (words (if b then 0 ∷ [] else []))
 implicit_length true = refl
 implicit_length false = refl
 
--- what follows the patterns are the differences of the NFA ids
+-- the bytes after the patterns are the differences of the NFA states
 pub rest_deltas : (bytes : List ℕ) → IsSpelled bytes → drop (start_in bytes) bytes ≡ deltas 0 (value_of bytes).states
 rest_deltas bytes h = subst (λ (b : List ℕ). drop (start_in b) b ≡ deltas 0 (value_of bytes).states) h.spelled (drop-start (value_of bytes) h.valid)
 
@@ -75,7 +75,7 @@ start_of bytes h = at_start (has_flag bytes 2) refl
     at_start true e = let p = has_patterns bytes h e in rw p.count p.room
     at_start false e = long bytes h
 
--- the number at a place among words of four bytes
+-- the number at an index of four bytes each
 
 pub place_of : (bytes : List ℕ) (index : ℕ) → index < length (numbers_in bytes) → 4 * index + 4 ≤ length bytes
 place_of [] index h = absurd (omega (arith, h))
@@ -95,7 +95,7 @@ number_of (a ∷ b ∷ c ∷ d ∷ bytes) (suc index) h =
     let e : 4 * suc index ≡ suc (suc (suc (suc (4 * index)))) = omega arith in
     rw e (number_of bytes index (omega (arith, h)))
 
--- the first of the numbers and those after it
+-- the first of the numbers, and the rest
 
 pub first_small : (bytes : List ℕ) → 4 ≤ length bytes → All (λ id. id ≤ 2147483646) (numbers_in bytes) →
     from_le_bytes w32 (get_or bytes 0 0 ∷ get_or bytes 1 0 ∷ get_or bytes 2 0 ∷ get_or bytes 3 0 ∷ []) ≤ 2147483646

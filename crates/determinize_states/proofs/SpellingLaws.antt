@@ -1,4 +1,4 @@
--- The spelling of a value and the value of a spelling.
+-- Encoding and decoding are inverse.
 use Rattle.std.proofs.Common.{◌≡◌, ◌==◌, ℕ, ◌+◌, ◌*◌, ◌<◌, ◌≤◌, ◌^◌, Bool, true, false, List, [], ◌∷◌, ◌++◌, length, All, nat_eq, suc, zero, refl, arith, sym, ap, ◌∙◌, if◌then◌else◌, take, drop, lit<, subst, zero-add, suc-add, length-append}
 use Rattle.std.specs.Int.{from_le_bytes, w32}
 use Rattle.std.specs.Bool.{Decides}
@@ -24,7 +24,7 @@ pub spell_long : (v : Value) → 9 ≤ length (spell v)
 unfolding spell
 spell_long v = grind arith
 
--- numbers in four bytes each
+-- numbers of four bytes each
 
 pub word_back : (n : ℕ) → n < 2 ^ 32 → from_le_bytes w32 (word n) ≡ n
 word_back n small = from_le_bytes-to_le_bytes_4 n small
@@ -50,7 +50,7 @@ drop-words (n ∷ ns) rest =
     let e : 4 * suc (length ns) ≡ suc (suc (suc (suc (4 * length ns)))) = omega arith in
     rw e (drop-words ns rest)
 
--- distinct ids are at most as many as there are ids
+-- distinct ids are at most as numerous as all ids
 
 same_from_test : (x y : ℕ) → nat_eq x y ≡ true → x ≡ y
 same_from_test x y h = grind (arith, h)
@@ -62,7 +62,7 @@ distinct_below ids n distinct below =
 pub few : (ids : List ℕ) → IsDistinct nat_eq ids → All (λ id. id ≤ 2147483646) ids → length ids ≤ 2147483647
 few ids distinct all = distinct_below ids 2147483647 distinct (λ k id h. omega (arith, all k id h))
 
--- what stands at each place of a spelling
+-- the byte at each offset of an encoding
 
 pub match_bit : (v : Value) → has_flag (spell v) 1 ≡ is_nonempty v.patterns
 unfolding spell
@@ -117,7 +117,7 @@ drop-if : (b : Bool) (m n : ℕ) (xs : List ℕ) → drop (if b then m else n) x
 drop-if true m n xs = refl
 drop-if false m n xs = refl
 
--- the patterns that aren't written out
+-- implicit patterns
 pub implicit : (ids : List ℕ) → is_explicit ids ≡ false → (if is_nonempty ids then 0 ∷ [] else []) ≡ ids
 implicit [] e = refl
 implicit (zero ∷ []) e = refl
@@ -138,7 +138,7 @@ deltas_at : (v : Value) → IsValue v → (b : Bool) → is_explicit v.patterns 
 deltas_at v h true e = rw (count_at v h e, drop-drop 13 (4 * length v.patterns) (spell v), after_count v e) (drop-words v.patterns (deltas 0 v.states))
 deltas_at v h false e = after_sets v e
 
--- the bytes after the patterns are the differences of the NFA ids
+-- the bytes after the patterns are the differences of the NFA states
 pub drop-start : (v : Value) → IsValue v → drop (start_in (spell v)) (spell v) ≡ deltas 0 v.states
 drop-start v h =
     drop-if (has_flag (spell v) 2) (13 + 4 * number_at (spell v) 9) 9 (spell v)
@@ -147,7 +147,7 @@ drop-start v h =
 patterns_of-spell : (v : Value) → IsValue v → patterns_in (spell v) ≡ v.patterns
 patterns_of-spell v h = rw (explicit_bit v, match_bit v) (patterns_at v h (is_explicit v.patterns) refl)
 
--- the value of a spelling is the value that was spelled
+-- decoding the encoding of a value gives the value
 pub value_of-spell : (v : Value) → IsValue v → value_of (spell v) ≡ v
 unfolding value_of
 value_of-spell v h =
@@ -161,14 +161,14 @@ value_of-spell v h =
       ids_from-deltas 0 v.states (omega arith) h.state_ids,
     )
 
--- values whose spellings are equal are equal
+-- values with equal encodings are equal
 pub spell_tells : (v w : Value) → IsValue v → IsValue w → spell v ≡ spell w → v ≡ w
 spell_tells v w hv hw e = sym (value_of-spell v hv) ∙ ap value_of e ∙ value_of-spell w hw
 
 pub spelled : (v : Value) → IsValue v → IsSpelled (spell v)
 spelled v h = record { valid = rw (value_of-spell v h) h; spelled = rw (value_of-spell v h) }
 
--- a test of the bytes tells whether the values are equal
+-- comparing the bytes decides equality of the values
 pub decided : (v w : Value) (xs ys : List ℕ) (r : Bool) → IsValue v → IsValue w → xs ≡ spell v → ys ≡ spell w → r ≡ pointwise ◌==◌ xs ys → Decides r (v ≡ w)
 decided v w xs ys r hv hw ex ey e =
     let same : Decides r (xs ≡ ys) = slice_eq-Decides Decides-eqb xs ys r e in

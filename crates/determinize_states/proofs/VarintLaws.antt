@@ -1,3 +1,4 @@
+-- Varints and the differences of ids: decoding inverts encoding.
 use Rattle.std.proofs.Common.{◌≡◌, inl, inr, ℕ, ◌+◌, ◌-◌, ◌*◌, ◌/◌, ◌%◌, ◌^◌, ◌<◌, ◌≤◌, true, false, Option, Some, None, List, [], ◌∷◌, ◌++◌, All, nat_lt, suc, zero, refl, arith, sym, ap, ◌∙◌, append_assoc, zero-add, lit≤, subst, append-nil, length, take}
 use Rattle.determinize_states.specs.Varint.{IsDeltas, zigzag, unzigzag, groups, varint, deltas, ids_from, last_id}
 use Rattle.std.proofs.lemmas.List.{length-take, take-append-le}
@@ -37,7 +38,7 @@ ids_from-groups (suc more) n from low weight rest small =
           ∙ ap (λ m. unzigzag from m ∷ ids_from (unzigzag from m) 0 1 rest) (group low weight n)))
     ]
 
--- reading the deltas of ids gives the ids
+-- decoding the encoding of ids gives the ids
 pub ids_from-deltas : (from : ℕ) (ids : List ℕ) → from ≤ 2147483646 → All (λ i. i ≤ 2147483646) ids → ids_from from 0 1 (deltas from ids) ≡ ids
 unfolding varint
 ids_from-deltas from [] small all = refl
@@ -60,7 +61,7 @@ weight_in_time weight more h =
 weight_after : (weight more : ℕ) → weight * 128 ^ suc more ≤ 268435456 → weight * 128 * 128 ^ more ≤ 268435456
 weight_after weight more h = let big : weight * (128 ^ more * 128) ≤ 268435456 = rw (pow-suc 128 more) at h in let e : weight * 128 * 128 ^ more ≡ weight * (128 ^ more * 128) = grind arith in rw e big
 
--- what `read` reads of the groups of a number
+-- the result of `read` on the groups of a number
 pub read-groups : (more n low weight : ℕ) (rest : List ℕ) → n < 128 * 128 ^ more → weight * 128 ^ more ≤ 268435456 →
     read low weight (groups more n ++ rest) ≡ Some (low + weight * n, rest)
 read-groups zero n low weight rest small fits =
@@ -78,7 +79,7 @@ read-groups (suc more) n low weight rest small fits =
           ∙ ap (λ m. Some (m, rest)) (group low weight n)))
     ]
 
--- the first id of differences, as `read` finds it
+-- the first id that `read` finds
 pub read-deltas : (from id : ℕ) (ids : List ℕ) → from ≤ 2147483646 → id ≤ 2147483646 → read 0 1 (deltas from (id ∷ ids)) ≡ Some (zigzag from id, deltas id ids)
 unfolding varint
 read-deltas from id ids small here =
@@ -92,7 +93,7 @@ some_parts a c b d e = let pair : ◌≡◌ {A = ℕ × List ℕ} (a, b) (c, d) 
 none_differs : (p : ℕ × List ℕ) → ◌≡◌ {A = Option (ℕ × List ℕ)} (Some p) None → ⊥
 none_differs p e = (cc)
 
--- the bytes begin with an id, of which this number is the difference
+-- the bytes begin with an id whose difference is this number
 pub record IsFirst (from : ℕ) (bytes : List ℕ) (number : ℕ) (after : List ℕ) : Type 0 where
   pub small : unzigzag from number ≤ 2147483646
   pub back : number ≡ zigzag from (unzigzag from number)
@@ -140,7 +141,7 @@ pub deltas-push : (from : ℕ) (ids : List ℕ) (id : ℕ) → deltas from (ids 
 deltas-push from [] id = append-nil (varint (zigzag from id))
 deltas-push from (i ∷ ids) id = rw (deltas-push i ids id) (sym (append_assoc (varint (zigzag from i)) (deltas i ids) (varint (zigzag (last_id i ids) id))))
 
--- a number that so many groups hold has no more groups where one more is granted
+-- a number that fits in n groups needs no more if one more is allowed
 groups-one_more : (more n : ℕ) → n < 128 * 128 ^ more → groups (suc more) n ≡ groups more n
 groups-one_more zero n small = let one : nat_lt n 128 ≡ true = grind (arith, nat_tests) in rw one
 groups-one_more (suc more) n small =
@@ -167,7 +168,7 @@ pub append-varint : (bytes : List ℕ) (n : ℕ) → 128 ≤ n → n < 429496729
     (bytes ++ (128 + n % 128) ∷ []) ++ varint (n / 128) ≡ bytes ++ varint n
 append-varint bytes n big small = rw (varint-more n big small) (append_assoc bytes ((128 + n % 128) ∷ []) (varint (n / 128)))
 
--- what bytes begin with, they still begin with when more are added
+-- a prefix of the bytes is one of the bytes with more added
 pub begins_still : (beginning bytes added : List ℕ) → take (length beginning) bytes ≡ beginning →
     take (length beginning) (bytes ++ added) ≡ beginning
 begins_still beginning bytes added begins =

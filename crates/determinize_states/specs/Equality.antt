@@ -1,4 +1,4 @@
--- Equality and order of states: equal states have equal values.
+-- Equality and order of states: states are equal if and only if their values are.
 use Rattle.std.specs.Prelude.{◌≡◌, ◌==◌, ◌&&◌, ℕ, Bool, true, false, List, ◌∷◌, ◌++◌, cond, drop, length, nat_eq, slice_index, take}
 use Rattle.std.proofs.Common.{refl, sym, ap, ◌∙◌}
 use Rattle.std.proofs.Math.Seq.{drop-append_seam, take-append_seam}
@@ -10,7 +10,8 @@ use Rattle.std.specs.declared.cmp.Ordering.{Ordering}
 use Rattle.determinize_states.specs.Spelling.{spell}
 use Rattle.determinize_states.specs.Value.{Value}
 
--- the parts of a value in one list: the flags, the two sets, the number of patterns, the patterns, the NFA states
+-- the parts of a value in one list: the flags, the two sets, the number of patterns, the patterns,
+-- the NFA states
 abbrev pub parts : Value → List ℕ
 parts v =
     cond v.from_word 1 0 ∷ cond v.half_crlf 1 0 ∷ v.look_have ∷ v.look_need ∷ length v.patterns ∷ v.patterns ++ v.states
@@ -19,11 +20,11 @@ parts v =
 abbrev pub same : Value → Value → Bool
 same = on parts (pointwise ◌==◌)
 
--- the order of the bytes; of values with the same bytes, as no two states have, that of their parts
+-- the order of the bytes, and then that of the parts; no two states need the latter
 abbrev pub by_bytes : Value → Value → Ordering
 by_bytes = then_cmp (on spell (slice_cmp nat_cmp)) (on parts (slice_cmp nat_cmp))
 
--- the value of the parts
+-- the inverse of `parts`
 abbrev from_parts : List ℕ → Value
 from_parts list = record {
   from_word = nat_eq (slice_index list 0) 1;
@@ -48,13 +49,13 @@ from_parts-parts v = λ i. record {
   states = drop-append_seam v.patterns v.states i;
 }
 
--- values are the same exactly where they are equal
+-- `same` decides equality
 pub Decides-same : (v w : Value) → Decides (same v w) (v ≡ w)
 Decides-same v w =
     let lists : Decides (same v w) (parts v ≡ parts w) = bytes_decides (parts v) (parts w) in
     (λ e. sym (from_parts-parts v) ∙ ap from_parts (lists.0 e) ∙ from_parts-parts w, λ e. lists.1 (ap parts e))
 
--- an order of the bytes that tells values apart by them, and of values without bytes of their own by the parts
+-- two values are the same if and only if their order is a tie
 pub same-ties : (v w : Value) → same v w ≡ eq_by_cmp by_bytes v w
 same-ties v w =
     first (same v w) (pointwise ◌==◌ (spell v) (spell w)) (λ e. (bytes_decides (spell v) (spell w)).1 (ap spell ((Decides-same v w).0 e)))

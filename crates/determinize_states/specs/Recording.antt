@@ -1,4 +1,4 @@
--- Values that gain NFA states.
+-- Adding NFA states to a value.
 use Rattle.std.specs.Prelude.{◌≡◌, ℕ, ◌==◌, cond, Option, Some, None, List, [], ◌∷◌, ◌++◌}
 use Rattle.determinize_below.specs.declared.look.Look.{Look as Assertion}
 use Rattle.determinize_below.specs.Edges.{assertion_of, is_capture}
@@ -7,17 +7,17 @@ use Rattle.determinize_below.specs.Nfa.{Nfa}
 use Rattle.determinize_below.specs.Runs.{without}
 use Rattle.determinize_states.specs.Value.{Value}
 
--- the set with an assertion, where there is one
+-- the set with an optional assertion added
 abbrev pub with_assertion : ℕ → Option Assertion → ℕ
 with_assertion set None = set
 with_assertion set (Some look) = insert set look
 
--- the set with the assertions of the `Look` states of a list
+-- the set with the assertions of the `Look` states of a list added
 abbrev pub needs : Nfa → ℕ → List ℕ → ℕ
 needs nfa set [] = set
 needs nfa set (s ∷ xs) = needs nfa (with_assertion set (assertion_of nfa s)) xs
 
--- the value with these states after its own, and the assertions that they need
+-- the value with these NFA states after its own, and their assertions in look-need
 abbrev pub added : Nfa → Value → List ℕ → Value
 added nfa v xs = record v { look_need = needs nfa v.look_need xs; states = v.states ++ xs }
 
@@ -25,11 +25,12 @@ added nfa v xs = record v { look_need = needs nfa v.look_need xs; states = v.sta
 abbrev pub added_one : Nfa → Value → ℕ → Value
 added_one nfa v s = cond (is_capture nfa s) v (added nfa v (s ∷ []))
 
--- the value that has no assertion where it needs none
+-- the value with look-have cleared if look-need is empty
 abbrev pub settled : Value → Value
 settled value = record value { look_have = cond (value.look_need == 0) 0 value.look_have }
 
--- the value with these states after its own, and the assertions that they need; where nothing is needed, nothing is had
+-- the value with these NFA states after its own, their assertions in look-need, and look-have
+-- cleared if look-need is empty
 abbrev pub with_states : Nfa → Value → List ℕ → Value
 with_states nfa v xs = record {
   from_word = v.from_word;
@@ -40,11 +41,11 @@ with_states nfa v xs = record {
   states = v.states ++ xs;
 }
 
--- the value that records the states of a list, captures left out
+-- the value with the states of a list added, except captures
 abbrev pub recorded : Nfa → Value → List ℕ → Value
 recorded nfa v entered = with_states nfa v (without (is_capture nfa) entered)
 
--- the second value is the first with more NFA states and any two sets
+-- the second value is the first with more NFA states and any look-have and look-need
 pub record IsGrown (before now : Value) : Type 0 where
   pub from_word : now.from_word ≡ before.from_word
   pub half_crlf : now.half_crlf ≡ before.half_crlf

@@ -1,9 +1,9 @@
--- What a state of a DFA stands for, apart from its bytes.
+-- The value of a DFA state, without regard to its bytes.
 use Rattle.std.specs.Prelude.{ℕ, ◌<◌, ◌≤◌, ◌^◌, Bool, true, false, Option, Some, None, List, [], ◌∷◌, ◌++◌, All, nat_eq, bit_or}
 use mathlib.Core.Bool.{◌||◌}
 use Rattle.std.specs.List.{IsDistinct}
 
--- the two flags, the two sets of assertions by their bits, the patterns that match, the NFA states
+-- the two flags, the two sets of assertions as bits, the patterns that match, and the NFA states
 pub record Value : Type 0 where
   pub from_word : Bool
   pub half_crlf : Bool
@@ -12,11 +12,11 @@ pub record Value : Type 0 where
   pub patterns : List ℕ
   pub states : List ℕ
 
--- the value in which nothing is set and nothing is listed
+-- the dead value: nothing set, no pattern and no NFA state
 abbrev pub dead : Value
 dead = record { from_word = false; half_crlf = false; look_have = 0; look_need = 0; patterns = []; states = [] }
 
--- the sets are of the 18 assertions, no pattern stands twice, all ids are in range
+-- the sets have only the 18 assertions, the patterns are distinct, and all ids are in range
 pub record IsValue (value : Value) : Type 0 where
   pub have : value.look_have < 2 ^ 18
   pub need : value.look_need < 2 ^ 18
@@ -24,12 +24,12 @@ pub record IsValue (value : Value) : Type 0 where
   pub pattern_ids : All (λ id. id ≤ 2147483646) value.patterns
   pub state_ids : All (λ id. id ≤ 2147483646) value.states
 
--- whether a list has an item
+-- whether the list is not empty
 abbrev pub is_nonempty : List ℕ → Bool
 is_nonempty [] = false
 is_nonempty (x ∷ xs) = true
 
--- the list of the patterns, or none where nothing matches
+-- the list, or `None` if it is empty
 abbrev pub listed : List ℕ → Option (List ℕ)
 listed [] = None
 listed (id ∷ ids) = Some (id ∷ ids)
@@ -46,6 +46,6 @@ with_state value id = record value { states = value.states ++ id ∷ [] }
 abbrev pub with_looks : Value → ℕ → Value
 with_looks value looks = record value { look_have = bit_or value.look_have looks }
 
--- the value with these flags set beside its own
+-- the value with these flags set in addition to its own
 abbrev pub with_flags : Value → Bool → Bool → Value
 with_flags value from_word half_crlf = record value { from_word = value.from_word || from_word; half_crlf = value.half_crlf || half_crlf }

@@ -1,7 +1,9 @@
-//! The states of a DFA as bytes: one list of bytes for each value, and the builders that make it.
+//! The states of a DFA during determinization: their byte encoding and their builders.
 //!
-//! [`state`] holds the states and their builders, [`recording`] records NFA states in a builder.
-//! What callers may rely on beside the contracts stands in [`state_laws`].
+//! [`state`] has the states and their builders, and [`recording`] adds NFA states to a builder.
+//! [`state_laws`] has facts about the encoding.
+//!
+//! A `Result` with `AllocError` is `Err` only if an allocation fails.
 #![tactic(auto)]
 
 pub mod recording;

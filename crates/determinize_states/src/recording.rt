@@ -1,4 +1,4 @@
-//! Recording NFA states, one or a set, in the builder of a DFA state.
+//! Adding NFA states, one or a set, to the builder of a DFA state.
 
 ghost use Rattle.std.specs.Prelude.{◌≡◌, ◌<◌, [], ◌∷◌, length, OnOk, OnErr};
 ghost use Rattle.determinize_below.specs.Edges.{is_capture};
@@ -11,11 +11,11 @@ use determinize_below::nfa::State;
 use determinize_below::{NFA, SparseSet, StateID};
 use std::alloc::{AllocError, Allocator};
 
-/// Records one NFA state after the others and, for a `Look`, its assertion in look-need. A capture
-/// is left out. Look-have stays as it is, so that [`StateBuilderNFA::settle`] is due after the last
-/// state.
+/// Adds one NFA state after the others and, for a `Look` state, its assertion to look-need. A
+/// capture is skipped: its target is recorded by itself, so nothing is lost. Look-have is
+/// unchanged, so [`StateBuilderNFA::settle`] must be called after the last state.
 ///
-/// The only error is want of memory. The builder has the assertion then, and no more states.
+/// On error the builder has the assertion, but not the state.
 #[inline(always)]
 pub fn add_state<N: Allocator, A: Allocator>(
     nfa: &NFA<N>,
@@ -35,7 +35,7 @@ pub fn add_state<N: Allocator, A: Allocator>(
     builder.add_nfa_state_id(id)
 }
 
-/// Adds the states of a set. After a refusal the builder has some of them.
+/// Adds the states of a set. On error some of them have been added.
 fn add_states<N: Allocator, A: Allocator>(
     nfa: &NFA<N>,
     set: &SparseSet<A>,
@@ -52,11 +52,11 @@ fn add_states<N: Allocator, A: Allocator>(
     Ok(())
 }
 
-/// Records the states of a set in a builder.
+/// Adds the states of a set, in its order and without captures, after those of the builder. Adds
+/// the assertions of the `Look` states among them to look-need. If look-need is empty then,
+/// look-have is cleared.
 ///
-/// The set's ids go after the builder's own, in the set's order, captures left out. The builder's
-/// look-need gains the assertions of the `Look` states among them. Where look-need is then empty,
-/// look-have is emptied, since nothing will ask for it. After a refusal the builder is unchanged.
+/// On error the builder is unchanged.
 pub fn add_nfa_states<N: Allocator, A: Allocator>(
     nfa: &NFA<N>,
     set: &SparseSet<A>,
@@ -68,6 +68,7 @@ pub fn add_nfa_states<N: Allocator, A: Allocator>(
 {
     let mark = builder.mark();
     if let Err(refused) = add_states(nfa, set, builder) {
+        // Only NFA states and look-need have changed since the mark.
         builder.restore(mark);
         return Err(refused);
     }

@@ -1,7 +1,5 @@
-//! Facts on states that callers may rely on.
-//!
-//! Each function makes the calls that it speaks of, and its contract says how their answers hang
-//! together. The last one does nothing: its clauses are worked spellings.
+//! Facts about the encoding of states, as contracts of public functions. Each function but the last
+//! makes the calls that its clauses relate. The clauses of the last one are example encodings.
 
 ghost use Rattle.std.specs.Prelude.{◌≡◌, ◌↔◌, [], ◌∷◌, length, option_map, slice_get, IfOk};
 ghost use Rattle.std.specs.Bool.{Decides};
@@ -12,7 +10,8 @@ use crate::state::{State, StateBuilderNFA};
 use determinize_below::{PatternID, StateID};
 use std::alloc::{AllocError, Allocator};
 
-/// Whether two states have the same bytes: they have exactly where their values are equal.
+/// Returns whether two states have the same bytes, which is so if and only if their values are
+/// equal.
 pub fn same_bytes<A: Allocator, B: Allocator>(a: &State<A>, b: &State<B>) -> bool
     ensures answer { Decides result (a.now ≡ b.now) }
     ensures bytes { (spell a.now ≡ spell b.now) ↔ (a.now ≡ b.now) }
@@ -20,7 +19,8 @@ pub fn same_bytes<A: Allocator, B: Allocator>(a: &State<A>, b: &State<B>) -> boo
     a.as_bytes() == b.as_bytes()
 }
 
-/// Whether two builders have the same bytes: they have exactly where their values are equal.
+/// Returns whether two builders have the same bytes, which is so if and only if their values are
+/// equal.
 pub fn same_built_bytes<A: Allocator, B: Allocator>(
     a: &StateBuilderNFA<A>,
     b: &StateBuilderNFA<B>,
@@ -31,7 +31,8 @@ pub fn same_built_bytes<A: Allocator, B: Allocator>(
     a.as_bytes() == b.as_bytes()
 }
 
-/// Whether a builder has the bytes of a state: it has exactly where their values are equal.
+/// Returns whether a builder has the bytes of a state, which is so if and only if their values are
+/// equal.
 pub fn is_built<A: Allocator, B: Allocator>(state: &State<A>, builder: &StateBuilderNFA<B>) -> bool
     ensures answer { Decides result (state.now ≡ builder.now) }
     ensures bytes { (spell state.now ≡ spell builder.now) ↔ (state.now ≡ builder.now) }
@@ -39,17 +40,16 @@ pub fn is_built<A: Allocator, B: Allocator>(state: &State<A>, builder: &StateBui
     state.as_bytes() == builder.as_bytes()
 }
 
-/// Whether two states are equal: they are exactly where their values are.
+/// Returns whether two states are equal, which is so if and only if their values are equal.
 pub fn are_equal<A: Allocator>(a: &State<A>, b: &State<A>) -> bool
     ensures { Decides result (a.now ≡ b.now) }
 {
     a == b
 }
 
-/// What the readers of patterns answer: whether there is one, how many there are, all of them, and
-/// the one at an index where the index is below their number.
-///
-/// The whole list is none exactly where there is no pattern. The only error is want of memory.
+/// Returns what the readers of patterns return: whether some pattern matches, the number of
+/// patterns, all patterns (`None` if and only if there is none), and the pattern at the index if it
+/// is below their number.
 pub fn patterns_read<A: Allocator + Clone>(
     state: &State<A>,
     index: usize,
@@ -70,9 +70,7 @@ pub fn patterns_read<A: Allocator + Clone>(
     Ok((state.is_match(), count, ids, one))
 }
 
-/// The NFA states that the iterator gives until it ends: all of the state, in order.
-///
-/// The only error is want of memory.
+/// Returns all NFA states of the state, in order, as its iterator yields them.
 pub fn nfa_states_read<A: Allocator, B: Allocator>(
     state: &State<A>,
     alloc: B,
@@ -82,7 +80,8 @@ pub fn nfa_states_read<A: Allocator, B: Allocator>(
     state.iter_nfa_state_ids().collect(alloc)
 }
 
-/// The bytes of some values: the dead one, four with patterns and three with NFA states.
+/// Gives the encodings of the dead value, of four values with patterns and of three with NFA
+/// states.
 #[tactic(auto, unfolding(crate::specs::Spelling::spell, crate::specs::Varint::varint))]
 pub fn worked_spellings()
     ensures dead { spell dead ≡ 0 ∷ 0 ∷ 0 ∷ 0 ∷ 0 ∷ 0 ∷ 0 ∷ 0 ∷ 0 ∷ [] }

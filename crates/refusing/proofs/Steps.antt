@@ -1,4 +1,5 @@
--- What both walks of `Refusing` share: their parameters, a `&Refusing` as a `&` to each field, and the gate's answers at its two calls. Assumes `Logic`.
+-- Shared by both proofs of `Refusing`: their parameters, a `&Refusing` as a `&` to each field, and
+-- the results of the two calls of the gate. Assumes `Logic`.
 use Rattle.std.proofs.Common.{◌≡◌, ℕ, ◌+◌, Bool, List, [], ◌∷◌, refl, ap}
 use seplogic.Ra.Ura.{Ura}
 use mir.Syntax.{Args, a_type, dnil, dcons}
@@ -43,7 +44,7 @@ module _ (Z : Al) where
   abbrev pub self : Slot 2
   self = RefOf (0 ∷ []) tt (plain (λ _. Whole)) (λ _. tt)
 
-  -- where the fields of a `Refusing` at an address lie
+  -- the addresses of the fields of a `Refusing` at an address
   abbrev pub inner_at : ℕ × ℕ → ℕ × ℕ
   inner_at p = (p.0, p.1 + up (align (α Z)) 0)
 
@@ -56,7 +57,7 @@ module _ (Z : Al) where
       qed 𝓛 (‵ (hidden_shr Whole κ h p.0 p.1) ∷ []) ∵ unhide ! $ fsplit ! $ fsplit ! $ use1 𝓛 (‵ (seen Z κ (inner_at p) h.inner)) (id⊢ 𝓤 _) $
       move ! (1 ∷ []) $ fsplit ! $ keep ! (2 ∷ 0 ∷ []) $ done !
 
--- A `&Gate` goes to a call of one of its methods, and comes back as the token alone.
+-- A `&Gate` is passed to a call of one of its methods, which returns only the token.
 module _ {M : Type 1} {𝓤 : Ura M} (𝓛 : Logic 𝓤) (at_mem : Memory → SProp 𝓤) (run : Routine → Fun 𝓤) where
   open 𝓛 use {H, A}
 
@@ -82,7 +83,7 @@ module _ {M : Type 1} {𝓤 : Ura M} (𝓛 : Logic 𝓤) (at_mem : Memory → SP
     pub Backs-goes : ent 𝓤 (sep 𝓤 (sem 𝓛 (hidden_shr gate.the_row κ x c.0 c.1)) (A.lft κ q)) (Backs.pre at_backs)
     Backs-goes = Asks-goes
 
-    -- a flag came back, and the token
+    -- a flag and the token are returned
     pub Asks-gives : (v : Val) → ent 𝓤 (Asks.post at_asks v) (H.⇛ (ex 𝓤 (λ (y : Bool). guard 𝓤 (v ≡ vbool y) (A.lft κ q))))
     Asks-gives v =
         qed 𝓛 (raw (Asks.post at_asks v) ∷ []) ∵ updating ! $
@@ -90,7 +91,7 @@ module _ {M : Type 1} {𝓤 : Ura M} (𝓛 : Logic 𝓤) (at_mem : Memory → SP
         await ! tt $ pick ! (λ y. split ! $ split ! $ move ! (1 ∷ []) $ facts ! bool _ (shows 𝓛 bool) y (v ∷ []) (λ is.
         split ! $ at_once ! $ show ! (λ (z : Bool). guard 𝓤 (v ≡ vbool z) (A.lft κ q)) y $ check ! (ap only (bool_Tells y (v ∷ []) is)) $ keep ! (0 ∷ []) $ done !))
 
-    -- the token came back
+    -- the token is returned
     pub Backs-gives : (v : Val) → ent 𝓤 (Backs.post at_backs v) (H.⇛ (guard 𝓤 (v ≡ vunit) (A.lft κ q)))
     Backs-gives v =
         qed 𝓛 (raw (Backs.post at_backs v) ∷ []) ∵ updating ! $

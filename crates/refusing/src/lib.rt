@@ -1,5 +1,8 @@
-//! An allocator for tests, which refuses some of the growths that it is asked for and counts the
-//! blocks that it has not got back, and runs in which each growth is refused in turn.
+//! A failing allocator for tests, and a driver that makes each allocation of a run fail in turn.
+//!
+//! [`Refusing`] wraps another allocator. It fails requests by their number, and counts the requests
+//! and the blocks that have not been freed. [`in_turn`] repeats a run with it until every
+//! allocation has failed once.
 #![tactic(auto)]
 
 pub mod turns;
@@ -8,7 +11,8 @@ pub use crate::turns::{Finding, in_turn};
 use std::alloc::{AllocError, Allocator};
 use std::cell::Cell;
 
-/// Counts requests, and refuses those from one number on and below another.
+/// Counts requests and decides which of them fail: those with a number from `from` to `until`,
+/// exclusive.
 #[derive(Drop)]
 pub struct Gate {
     begun: Cell<bool>,
@@ -19,7 +23,7 @@ pub struct Gate {
     until: u64,
 }
 
-/// Counts one more.
+/// Increments the counter, up to its maximum.
 fn tick(count: &Cell<u64>) {
     count.set(count.get().saturating_add(1));
 }
@@ -36,7 +40,8 @@ impl Gate {
         }
     }
 
-    /// Takes note of a request for a block, and answers whether it is refused.
+    /// Counts a request if counting has begun, and a block if it is granted. Returns whether the
+    /// request fails.
     fn refuses(&self) -> bool {
         if self.begun.get() {
             let before = self.asked.get();
@@ -50,16 +55,16 @@ impl Gate {
         false
     }
 
-    /// Takes note of a block that is given back.
+    /// Counts a freed block.
     fn take_back(&self) {
         self.held.set(self.held.get().saturating_sub(1));
     }
 }
 
-/// Passes each request on to another allocator, except for those that its gate refuses.
+/// An allocator that passes each request on to another one, unless its gate fails the request.
 ///
-/// Nothing is refused or counted as asked before [`Refusing::begin`] and after [`Refusing::end`].
-/// The blocks that are held are counted all the time.
+/// No request fails or is counted before [`Refusing::begin`] and after [`Refusing::end`]. The
+/// blocks in use are always counted.
 #[derive(Drop)]
 pub struct Refusing<B: Allocator> {
     inner: B,
@@ -67,7 +72,7 @@ pub struct Refusing<B: Allocator> {
 }
 
 impl<B: Allocator> Refusing<B> {
-    /// Lets the first so many growths pass, and refuses every later one.
+    /// Returns an allocator that grants this number of requests and fails all later ones.
     pub fn after(inner: B, passes: u64) -> Refusing<B> {
         Refusing {
             inner,
@@ -75,7 +80,7 @@ impl<B: Allocator> Refusing<B> {
         }
     }
 
-    /// Refuses one growth, the one that so many others came before.
+    /// Returns an allocator that fails exactly one request, the one after this number of others.
     pub fn only(inner: B, before: u64) -> Refusing<B> {
         Refusing {
             inner,
@@ -83,28 +88,28 @@ impl<B: Allocator> Refusing<B> {
         }
     }
 
-    /// Counts growths and refuses some of them from here on. It may be called again after an end,
-    /// and then the count goes on.
+    /// Begins to count requests and to fail some. After `end` it may be called again, and the count
+    /// continues.
     pub fn begin(&self) {
         self.gate.begun.set(true);
     }
 
-    /// Refuses nothing and counts no growth from here on.
+    /// Stops counting and failing requests.
     pub fn end(&self) {
         self.gate.begun.set(false);
     }
 
-    /// How many growths were asked for between begin and end.
+    /// Returns the number of requests between `begin` and `end`.
     pub fn asked(&self) -> u64 {
         self.gate.asked.get()
     }
 
-    /// Whether any of them was refused.
+    /// Returns whether a request has failed.
     pub fn has_refused(&self) -> bool {
         self.gate.refused.get() > 0
     }
 
-    /// How many blocks were granted and have not been given back.
+    /// Returns the number of blocks in use: allocated and not freed.
     pub fn held(&self) -> u64 {
         self.gate.held.get()
     }

@@ -1,30 +1,31 @@
-//! Runs in which each growth is refused in turn.
+//! Runs in which each allocation fails in turn.
 
 use crate::Refusing;
 use std::alloc::Allocator;
 
-/// More runs than any test makes.
+/// The limit on the number of runs, more than any test makes.
 const MOST: u64 = 1_000_000;
 
-/// What is found of the runs. The number is that of the growths that passed before the first that
-/// was to be refused.
+/// The outcome of the runs. The number is that of the requests granted before the first that would
+/// fail.
 #[derive(Clone, Copy, Debug, PartialEq, Eq)]
 pub enum Finding {
-    /// Each run was answered, or met a refusal, and gave all of its memory back.
+    /// Each run returned a result or an error, and freed all its memory.
     Sound,
-    /// A run was not answered although no growth was refused.
+    /// A run failed although no allocation did.
     Unanswered(u64),
-    /// A run kept some of its memory.
+    /// A run did not free all its memory.
     Leak(u64),
-    /// There was no end to the runs.
+    /// The limit on the number of runs was reached.
     Endless,
 }
 
-/// Makes a run with the first of its growths refused, then with the second, and so on, until a run
-/// meets no refusal: once with all later growths refused too, and once with that one alone.
+/// Repeats a run with its first allocation failing, then its second, and so on, until a run has no
+/// failure. It does so twice: with all later allocations failing, too, and with only that one
+/// failing.
 ///
-/// The run gets the memory to use, calls [`Refusing::begin`] and [`Refusing::end`] round what is
-/// to be refused, and tells whether all of that was answered.
+/// The run receives the allocator to use, calls [`Refusing::begin`] and [`Refusing::end`] around
+/// the part that may fail, and returns whether all of that part succeeded.
 pub fn in_turn<B: Allocator + Copy, E, F: FnMut(&Refusing<B>) -> Result<bool, E>>(
     inner: B,
     mut run: F,

@@ -1,4 +1,4 @@
-//! `rows N` prints the states of a worked walk, and its last match.
+//! `rows N` prints the states of an example walk, and its last match.
 #![tactic(auto)]
 
 use std::alloc::Global;
@@ -23,7 +23,7 @@ fn main(rt: HostRuntime) -> ExitCode {
     ExitCode::from(status)
 }
 
-/// The arguments without the program's own name.
+/// Returns the arguments without the name of the program.
 fn arguments(rt: &(impl Env + Alloc<A = Global>)) -> io::Result<Vec<String>> {
     let mut words = Vec::new(rt.alloc());
     for word in env::args(rt)?.skip(1) {

@@ -1,20 +1,20 @@
-//! The answers of the worked walks, worked by hand.
+//! The outputs of the example walks, worked out by hand.
 
-/// The worked walks, each in a text: a line with its name, a line with its job, and the lines of its
-/// answer. [`parts`] takes it apart.
+/// Returns the example walks, each as a text: a line with its name, a line with its job, and the
+/// lines of its output. [`parts`] splits it.
 pub fn walks() -> &'static [&'static str] {
     WALKS.as_slice()
 }
 
-/// The name of a worked walk, its job, and the lines of its answer.
+/// Returns the name of an example walk, its job, and the lines of its output.
 pub fn parts(walk: &'static str) -> (&'static str, &'static str, &'static str) {
     let (name, rest) = walk.split_once('\n').unwrap_or((walk, ""));
     let (job, answer) = rest.split_once('\n').unwrap_or((rest, ""));
     (name, job, answer)
 }
 
-/// The worked walks, which [`walks`] alone names: a proof reads the whole table at each mention, and
-/// takes more than twice as long for twice as many texts. So each walk is one text.
+/// The example walks. Only [`walks`] names this table, and each walk is one text: a proof reads the
+/// whole table at each mention, and twice the number of texts takes more than twice the time.
 static WALKS: [&str; 45] = [
     "\
 2\n\

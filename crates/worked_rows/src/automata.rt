@@ -1,22 +1,27 @@
-//! The NFAs of the worked walks, and the walks through each of them.
+//! The NFAs of the example walks, and the walks over each of them.
+
+ghost use Rattle.std.specs.Prelude.{◌≡◌, is_some};
+ghost use Rattle.std.specs.List.{list_any};
+ghost use Rattle.worked_rows.specs.Names.{has_walk, hostile_names, is_name, names_in, ordinary_names};
 
 use crate::pieces::Piece;
 use determinize_below::{Look, MatchKind};
 
-/// An NFA and the walks through it.
+/// An NFA and the walks over it.
 pub struct Automaton {
-    /// The states. The first one is its start state, anchored or not; a walk tells its own.
+    /// The states. The first one is both start states of the NFA; each walk has its own start
+    /// state.
     pub states: &'static [Piece],
-    /// Whether it reads backwards.
+    /// Whether it is for reverse scans.
     pub is_reverse: bool,
-    /// The byte that ends a line.
+    /// The line terminator.
     pub line_terminator: u8,
     /// The walks.
     pub walks: &'static [Walk],
 }
 
-/// A walk: its name, what it reports, the state it starts from, the byte behind the text, the text,
-/// and the byte ahead of it. (So it is one line of the table.)
+/// A walk: its name, match kind, start state, look-behind byte, text, and look-ahead byte. It is a
+/// tuple so that a walk is one line of the table.
 pub type Walk = (
     &'static str,
     MatchKind,
@@ -26,14 +31,60 @@ pub type Walk = (
     Option<u8>,
 );
 
-/// The NFAs of walks 2 to 27b, 31a to 31c and 32.
-pub fn ordinary() -> &'static [Automaton] {
+impl Automaton {
+    /// Returns the walk over the NFA with this name, or `None`.
+    fn walk(&self, name: &str) -> Option<&Walk>
+        ensures { is_some result ≡ has_walk name.now self.now }
+    {
+        for walk in self.walks {
+            if walk.0 == name {
+                return Some(walk);
+            }
+        }
+        None
+    }
+}
+
+/// An NFA, and a walk over it.
+pub type Row = (&'static Automaton, &'static Walk);
+
+/// Returns the walk with this name and its NFA, or `None` if no walk has the name.
+#[tactic(auto, using(crate::proofs::Named::named_among), unfolding(crate::specs::Names::is_name))]
+pub fn named(name: &str) -> Option<Row>
+    ensures { is_some result ≡ is_name name.now }
+{
+    match named_in(ordinary(), name) {
+        Some(row) => Some(row),
+        None => named_in(hostile(), name),
+    }
+}
+
+/// Returns the walk with this name over one of these NFAs, or `None` if no walk has the name.
+fn named_in(automata: &'static [Automaton], name: &str) -> Option<Row>
+    ensures { is_some result ≡ list_any (has_walk name.now) automata.now }
+{
+    for automaton in automata {
+        if let Some(walk) = automaton.walk(name) {
+            return Some((automaton, walk));
+        }
+    }
+    None
+}
+
+/// Returns the NFAs of the walks 2 to 27b, 31a to 31c and 32.
+#[tactic(auto, unfolding(crate::specs::Names::names_in, crate::specs::Names::ordinary_names))]
+fn ordinary() -> &'static [Automaton]
+    ensures { names_in result.now ≡ ordinary_names }
+{
     ORDINARY.as_slice()
 }
 
-/// The NFAs of walks 28a to 30b, which ask for trouble: cycles, odd unions, odd terminators, a state
-/// that nothing leads to, the greatest pattern.
-pub fn hostile() -> &'static [Automaton] {
+/// Returns the NFAs of the walks 28a to 30b, which are stress tests: cycles, odd unions, odd line
+/// terminators, an unreachable state, the greatest pattern id.
+#[tactic(auto, unfolding(crate::specs::Names::names_in, crate::specs::Names::hostile_names))]
+fn hostile() -> &'static [Automaton]
+    ensures { names_in result.now ≡ hostile_names }
+{
     HOSTILE.as_slice()
 }
 
@@ -41,7 +92,7 @@ const ALL: MatchKind = MatchKind::All;
 
 const LEFTMOST_FIRST: MatchKind = MatchKind::LeftmostFirst;
 
-/// What [`ordinary`] alone names: a proof reads the whole table at each mention.
+/// Only [`ordinary`] names this table: a proof reads the whole table at each mention.
 static ORDINARY: [Automaton; 16] = [
     // `a`.
     Automaton {
@@ -53,7 +104,7 @@ static ORDINARY: [Automaton; 16] = [
             ("3", ALL, 0, None, b"a", None),
         ],
     },
-    // Three patterns that match nothing, in the order 2, 0, 1.
+    // Three patterns that match the empty string, in the order 2, 0, 1.
     Automaton {
         states: &[
             Piece::Union(&[1, 2, 3]),
@@ -68,7 +119,7 @@ static ORDINARY: [Automaton; 16] = [
             ("4b", LEFTMOST_FIRST, 0, None, b"", None),
         ],
     },
-    // `(?:\b|%)+`, whose state 4 starts it anchored.
+    // `(?:\b|%)+`, whose anchored start state is 4.
     Automaton {
         states: &[
             Piece::Two(4, 1),
@@ -107,7 +158,7 @@ static ORDINARY: [Automaton; 16] = [
             ("31c", LEFTMOST_FIRST, 0, None, b"quar", None),
         ],
     },
-    // A carriage return and then the start of a line that ends in CRLF.
+    // A carriage return and then `StartCRLF`.
     Automaton {
         states: &[
             Piece::Range(b'\r', b'\r', 1),
@@ -123,7 +174,7 @@ static ORDINARY: [Automaton; 16] = [
             ("32", ALL, 0, None, b"\r", Some(b'\n')),
         ],
     },
-    // Backwards, a line feed and then the start of a line that ends in CRLF.
+    // In reverse, a line feed and then `StartCRLF`.
     Automaton {
         states: &[
             Piece::Range(b'\n', b'\n', 1),
@@ -137,7 +188,7 @@ static ORDINARY: [Automaton; 16] = [
             ("10b", ALL, 0, None, b"\n", None),
         ],
     },
-    // Backwards, the start of a line that ends in `x`.
+    // In reverse, `StartLF` with the line terminator `x`.
     Automaton {
         states: &[Piece::Look(Look::StartLF, 1), Piece::Match(0)],
         is_reverse: true,
@@ -147,7 +198,7 @@ static ORDINARY: [Automaton; 16] = [
             ("11b", ALL, 0, Some(b'x'), b"", None),
         ],
     },
-    // `a` into a capture of itself, and an assertion on words that nothing leads to.
+    // `a` into a capture of itself, and an unreachable word assertion.
     Automaton {
         states: &[
             Piece::Range(b'a', b'a', 1),
@@ -166,7 +217,7 @@ static ORDINARY: [Automaton; 16] = [
         line_terminator: b'\n',
         walks: &[("13", ALL, 0, None, b"", None)],
     },
-    // The start of a line that ends in `a`, or half a start of a word.
+    // `StartLF` with the line terminator `a`, or a half word start.
     Automaton {
         states: &[
             Piece::Union(&[1, 2]),
@@ -179,7 +230,7 @@ static ORDINARY: [Automaton; 16] = [
         line_terminator: b'a',
         walks: &[("14", ALL, 0, Some(b'a'), b"", None)],
     },
-    // `(?:ab|c)*c`, whose state 7 starts it unanchored.
+    // `(?:ab|c)*c`, whose unanchored start state is 7.
     Automaton {
         states: &[
             Piece::Two(1, 5),
@@ -225,7 +276,7 @@ static ORDINARY: [Automaton; 16] = [
         line_terminator: b'\n',
         walks: &[("20", LEFTMOST_FIRST, 0, None, b"123 foobar 4567", None)],
     },
-    // A capture of a union of a dead end, ranges and a table.
+    // A capture of a union of a `Fail`, ranges and a table.
     Automaton {
         states: &[
             Piece::Capture(1),
@@ -242,7 +293,7 @@ static ORDINARY: [Automaton; 16] = [
             ("25b", ALL, 0, None, b"d", None),
         ],
     },
-    // The end of a line that ends in CRLF, unanchored.
+    // `EndCRLF`, unanchored.
     Automaton {
         states: &[
             Piece::Two(2, 1),
@@ -254,7 +305,7 @@ static ORDINARY: [Automaton; 16] = [
         line_terminator: b'\n',
         walks: &[("27a", ALL, 0, None, b"\r\n", None)],
     },
-    // The same backwards.
+    // `EndCRLF`, unanchored, in reverse.
     Automaton {
         states: &[
             Piece::Two(2, 1),
@@ -268,7 +319,7 @@ static ORDINARY: [Automaton; 16] = [
     },
 ];
 
-/// What [`hostile`] alone names, as above.
+/// Only [`hostile`] names this table, as above.
 static HOSTILE: [Automaton; 12] = [
     // `a` into a capture of itself, and nothing else.
     Automaton {
@@ -277,14 +328,14 @@ static HOSTILE: [Automaton; 12] = [
         line_terminator: b'\n',
         walks: &[("28a", ALL, 0, None, b"a", None)],
     },
-    // A union with itself among its alternates, which stand several times.
+    // A union with itself among its alternates, which are repeated.
     Automaton {
         states: &[Piece::Union(&[0, 0, 1, 1, 0]), Piece::Match(0)],
         is_reverse: false,
         line_terminator: b'\n',
         walks: &[("28b", ALL, 0, None, b"", None)],
     },
-    // Two unions that lead to each other, and each to a match.
+    // Two unions with transitions to each other, and each to a match.
     Automaton {
         states: &[
             Piece::Two(1, 2),
@@ -328,7 +379,7 @@ static HOSTILE: [Automaton; 12] = [
         line_terminator: b'\n',
         walks: &[("28g", LEFTMOST_FIRST, 0, None, b"aa", None)],
     },
-    // The start of a line that ends in a carriage return.
+    // `StartLF` with the line terminator `\r`.
     Automaton {
         states: &[Piece::Look(Look::StartLF, 1), Piece::Match(0)],
         is_reverse: false,
@@ -338,7 +389,7 @@ static HOSTILE: [Automaton; 12] = [
             ("29b", ALL, 0, Some(b'\n'), b"", None),
         ],
     },
-    // The byte ff and then the start of a line that ends in it.
+    // The byte ff and then `StartLF`, with the line terminator ff.
     Automaton {
         states: &[
             Piece::Range(0xff, 0xff, 1),
@@ -349,14 +400,14 @@ static HOSTILE: [Automaton; 12] = [
         line_terminator: 0xff,
         walks: &[("29c", ALL, 0, None, b"\xff", None)],
     },
-    // The end of a line that ends in the byte ff.
+    // `EndLF` with the line terminator ff.
     Automaton {
         states: &[Piece::Look(Look::EndLF, 1), Piece::Match(0)],
         is_reverse: false,
         line_terminator: 0xff,
         walks: &[("29d", ALL, 0, None, b"\xff", None)],
     },
-    // `a`, which ends lines, and then the start of a line or the end of a word.
+    // `a`, the line terminator, and then the start of a line or the end of a word.
     Automaton {
         states: &[
             Piece::Range(b'a', b'a', 1),
@@ -370,7 +421,7 @@ static HOSTILE: [Automaton; 12] = [
         line_terminator: b'a',
         walks: &[("29e", ALL, 0, None, b"a", None)],
     },
-    // `a`, and an assertion on words that nothing leads to.
+    // `a`, and an unreachable word assertion.
     Automaton {
         states: &[
             Piece::Range(b'a', b'a', 1),
@@ -381,7 +432,7 @@ static HOSTILE: [Automaton; 12] = [
         line_terminator: b'\n',
         walks: &[("30a", ALL, 0, None, b"a", None)],
     },
-    // The greatest pattern, which matches nothing.
+    // The greatest pattern id, which matches the empty string.
     Automaton {
         states: &[Piece::MatchGreatest],
         is_reverse: false,

@@ -1,5 +1,5 @@
-//! Worked walks by their names, and how they are printed: what the program `rows` does. Beside
-//! them their answers, worked by hand, for tests.
+//! Example walks by their names: the NFAs and texts, and the program `rows`, which prints the
+//! states of one. For tests, [`answers`] has the outputs of all examples, worked out by hand.
 #![tactic(auto)]
 
 pub mod answers;

@@ -1,4 +1,4 @@
-//! States of an NFA as a table holds them.
+//! States of an NFA as static data.
 
 ghost use Rattle.std.specs.Prelude.{◌≡◌};
 
@@ -8,33 +8,33 @@ use determinize_below::{
 };
 use std::alloc::{AllocError, Allocator};
 
-/// A state of an NFA. States are told by their numbers, those that it leads to last.
+/// A state of an NFA. Ids are numbers, and the targets come last.
 #[derive(Clone, Copy)]
 pub enum Piece {
-    /// A byte of a range, which is told by the least one and the greatest one.
+    /// A transition on a range of bytes, given by its first and last byte.
     Range(u8, u8, u16),
-    /// A byte of one of several ranges.
+    /// Transitions on several ranges of bytes to one state.
     Ranges(&'static [(u8, u8)], u16),
-    /// A table that goes on over one byte alone.
+    /// A dense table with a transition on one byte.
     Table(u8, u16),
     /// An assertion.
     Look(Look, u16),
     /// A union of two states, the preferred one first.
     Two(u16, u16),
-    /// A union of any number of states, in the order of preference.
+    /// A union of any number of states, in order of preference.
     Union(&'static [u16]),
     /// A capture.
     Capture(u16),
-    /// A state that leads nowhere.
+    /// A `Fail` state.
     Fail,
     /// A match of this pattern.
     Match(u16),
-    /// A match of the greatest pattern.
+    /// A match of the greatest pattern id.
     MatchGreatest,
 }
 
 impl Piece {
-    /// The state. The only error is want of memory.
+    /// Returns the state.
     pub fn state<A: Allocator>(self, alloc: A) -> Result<State<A>, AllocError> {
         Ok(match self {
             Piece::Range(start, end, next) => State::ByteRange {
@@ -63,14 +63,14 @@ impl Piece {
     }
 }
 
-/// The id of a small number.
+/// Returns the id with this number.
 fn id(number: u16) -> StateID
     ensures { result ≡ number }
 {
     StateID::must(usize::from(number))
 }
 
-/// A transition over a range of bytes.
+/// Returns a transition on a range of bytes.
 fn transition(start: u8, end: u8, next: u16) -> Transition {
     Transition {
         start,
@@ -79,7 +79,7 @@ fn transition(start: u8, end: u8, next: u16) -> Transition {
     }
 }
 
-/// A state that goes on over several ranges of bytes to one state.
+/// Returns a state with transitions on several ranges of bytes to one state.
 fn sparse<A: Allocator>(alloc: A, ranges: &[(u8, u8)], next: u16) -> Result<State<A>, AllocError> {
     let mut transitions = Vec::new(alloc);
     for (start, end) in ranges {
@@ -88,7 +88,7 @@ fn sparse<A: Allocator>(alloc: A, ranges: &[(u8, u8)], next: u16) -> Result<Stat
     Ok(State::Sparse(SparseTransitions { transitions }))
 }
 
-/// A table that goes on over one byte alone.
+/// Returns a state with a dense table that has a transition on one byte.
 fn dense<A: Allocator>(alloc: A, byte: u8, next: u16) -> Result<State<A>, AllocError> {
     let mut transitions = Vec::new(alloc);
     for other in 0..=255 {
@@ -101,7 +101,7 @@ fn dense<A: Allocator>(alloc: A, byte: u8, next: u16) -> Result<State<A>, AllocE
     Ok(State::Dense(DenseTransitions { transitions }))
 }
 
-/// A union.
+/// Returns a union.
 fn union<A: Allocator>(alloc: A, ids: &[u16]) -> Result<State<A>, AllocError> {
     let mut alternates = Vec::new(alloc);
     for number in ids {

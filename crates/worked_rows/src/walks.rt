@@ -1,6 +1,9 @@
 //! The walks by their names.
 
-use crate::automata::{Automaton, Walk, hostile, ordinary};
+ghost use Rattle.std.specs.Prelude.{◌≡◌, ◌↔◌, false, IfErr, IsErrOf};
+ghost use Rattle.worked_rows.specs.Names.{is_name};
+
+use crate::automata::{Automaton, Walk, named};
 use crate::pieces::Piece;
 use crate::run::RowError;
 use determinize_below::{BuildError, LookMatcher, NFA, StateID, nfa};
@@ -8,33 +11,31 @@ use determinize_core::determinize;
 use determinize_core::state::State;
 use std::alloc::{AllocError, Allocator};
 
-/// The states of the walk of this name.
-///
-/// The error is want of memory, or a name that no walk has.
-pub fn states_of<A: Allocator + Copy>(alloc: A, name: &str) -> Result<Vec<State<A>, A>, RowError> {
-    for automata in [ordinary(), hostile()] {
-        for automaton in automata {
-            for walk in automaton.walks {
-                if walk.0 == name {
-                    return walk_states(alloc, automaton, walk);
-                }
-            }
-        }
+/// Returns the states of the walk with this name. Returns `NoSuchRow` if and only if no walk has
+/// the name, and another error if an allocation fails.
+pub fn states_of<A: Allocator + Copy>(alloc: A, name: &str) -> Result<Vec<State<A>, A>, RowError>
+    ensures { IsErrOf result RowError.NoSuchRow ↔ (is_name name.now ≡ false) }
+{
+    match named(name) {
+        Some((automaton, walk)) => walk_states(alloc, automaton, walk),
+        None => Err(RowError::NoSuchRow),
     }
-    Err(RowError::NoSuchRow)
 }
 
-/// The states of a walk. A start that is no state of the NFA would make no walk.
+/// Returns the states of a walk, or an error if its start is not a state of the NFA or an
+/// allocation fails.
 fn walk_states<A: Allocator + Copy>(
     alloc: A,
     automaton: &Automaton,
     walk: &Walk,
-) -> Result<Vec<State<A>, A>, RowError> {
+) -> Result<Vec<State<A>, A>, RowError>
+    ensures { IfErr result (λ error. ¬ (error ≡ RowError.NoSuchRow)) }
+{
     let (_, kind, start, look_behind, text, look_ahead) = *walk;
     let nfa = nfa_of(alloc, automaton)?;
     let start = StateID::must(usize::from(start));
     if start.as_usize() >= nfa.len() {
-        return Err(RowError::NoSuchRow);
+        return Err(RowError::NoNfa);
     }
     let states = determinize::walk_between(
         alloc,
@@ -48,7 +49,7 @@ fn walk_states<A: Allocator + Copy>(
     Ok(states)
 }
 
-/// The states of an NFA. The only error is want of memory.
+/// Returns the states of an NFA.
 fn nfa_states<A: Allocator + Copy>(
     alloc: A,
     pieces: &[Piece],
@@ -60,7 +61,7 @@ fn nfa_states<A: Allocator + Copy>(
     Ok(states)
 }
 
-/// An NFA. The only error is `OutOfMemory`.
+/// Returns an NFA, or `OutOfMemory` if an allocation fails.
 fn nfa_of<A: Allocator + Copy>(alloc: A, automaton: &Automaton) -> Result<NFA<A>, BuildError> {
     let states = nfa_states(alloc, automaton.states)?;
     let mut matcher = LookMatcher::new();

@@ -1,4 +1,5 @@
--- How a sparse set keeps its ids: a list, and words with a bit for each number below the capacity.
+-- The layout of a sparse set: a list of ids, and words with a bit for each number below the
+-- capacity.
 use Rattle.std.specs.Prelude.{◌≡◌, ℕ, ◌/◌, ◌%◌, ◌<◌, ◌≤◌, Bool, List, All, length, nat_eq, slice_index}
 use Rattle.std.specs.Int.{bit_at, div_ceil}
 use Rattle.std.specs.List.{IsDistinct}
@@ -8,7 +9,8 @@ use Rattle.determinize_below.specs.Members.{has_id}
 unfoldable pub has_bit : List ℕ → ℕ → Bool
 has_bit words id = nat_eq (bit_at (slice_index words (id / 64)) (id % 64)) 1
 
--- distinct ids below a capacity for which there is room, and words with a bit for each number below it, set for just these ids
+-- distinct ids below a capacity, room for that many, and words with a bit for each number below the
+-- capacity, set exactly for these ids
 pub record IsSparse (ids words : List ℕ) (capacity room : ℕ) : Type 0 where
   pub distinct : IsDistinct nat_eq ids
   pub below : All (λ id. id < capacity) ids

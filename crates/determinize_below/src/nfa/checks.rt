@@ -1,4 +1,4 @@
-//! The checks that the parts of an NFA pass.
+//! The validation of the parts of an NFA, and the set of its assertions.
 
 ghost use Rattle.std.specs.Prelude.{◌≡◌, ℕ, Bool, Some, None, [], length, map, nat_lt, nat_eq, not, IfOk, OnOk, IfErr, ◌⊎◌, ◌||◌};
 ghost use Rattle.std.specs.List.{list_all, list_any};
@@ -15,7 +15,7 @@ use std::alloc::{AllocError, Allocator};
 use std::collections::HashSet;
 use std::hash::{BuildHasherDefault, FoldHasher};
 
-/// Whether each id in the state is below the number of states.
+/// Returns whether each id in the state is below the number of states.
 fn is_resolved<A: Allocator>(state: &State<A>, count: usize) -> bool
     ensures { result ≡ resolves count (node_of state.now) }
 {
@@ -42,13 +42,15 @@ fn have_targets_below(transitions: &[Transition], count: usize) -> bool
     transitions.iter().all(|t| t.next.as_usize() < count)
 }
 
-/// Whether the ranges of a sparse state ascend.
+/// Returns whether the ranges of a sparse state are sorted, not empty and do not overlap; true for
+/// other states.
 fn is_sparse_in_order<A: Allocator>(state: &State<A>) -> bool
     ensures { result ≡ is_sparse_sound (node_of state.now) }
 {
     let State::Sparse(sparse) = state else {
         return true;
     };
+    // The least start of the next range: 256 after a range that ends at 255.
     let mut low = 0u16;
     for t in &sparse.transitions {
         if u16::from(t.start) < low || t.end < t.start {
@@ -59,7 +61,7 @@ fn is_sparse_in_order<A: Allocator>(state: &State<A>) -> bool
     true
 }
 
-/// Whether a dense state has a target for each byte.
+/// Returns whether a dense state has 256 targets; true for other states.
 fn is_dense_whole<A: Allocator>(state: &State<A>) -> bool
     ensures { result ≡ is_dense_sound (node_of state.now) }
 {
@@ -69,7 +71,7 @@ fn is_dense_whole<A: Allocator>(state: &State<A>) -> bool
     }
 }
 
-/// The assertions of all states.
+/// Returns the set of the assertions of all states.
 pub(crate) fn looks_in<A: Allocator>(states: &[State<A>]) -> LookSet
     ensures { result ≡ looks_of (map node_of states.now) }
 {
@@ -82,10 +84,10 @@ pub(crate) fn looks_in<A: Allocator>(states: &[State<A>]) -> LookSet
     looks
 }
 
-/// The patterns that the `Match` states so far accept.
+/// The patterns of the `Match` states so far.
 type Patterns<A> = HashSet<PatternID, BuildHasherDefault<FoldHasher>, A>;
 
-/// Adds the pattern, and answers whether it is new.
+/// Adds the pattern and returns whether it was new.
 fn add_pattern<A: Allocator + Clone>(
     seen: &mut Patterns<A>,
     pattern: PatternID,
@@ -97,8 +99,7 @@ fn add_pattern<A: Allocator + Clone>(
     Ok(seen.insert(pattern)?)
 }
 
-/// The checks of one state, after states that accept the patterns in `seen`. Its own pattern is
-/// added.
+/// Validates one state and adds its pattern to `seen`, the patterns of the earlier states.
 fn check_state<A: Allocator, B: Allocator + Clone>(
     state: &State<A>,
     index: usize,
@@ -130,7 +131,7 @@ fn check_state<A: Allocator, B: Allocator + Clone>(
     Ok(())
 }
 
-/// The checks of all states, in their order. The first that fails is answered, or want of memory.
+/// Validates all states in order. Returns the first error, or `OutOfMemory` if an allocation fails.
 pub(crate) fn check_states<A: Allocator, B: Allocator + Clone>(
     alloc: B,
     states: &[State<A>],

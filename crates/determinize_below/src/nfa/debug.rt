@@ -1,4 +1,4 @@
-//! The text of an NFA: its states by their index, one in a line.
+//! The debug text of an NFA: one state per line, by index.
 
 use crate::nfa::NFA;
 use crate::nfa::state::State;
@@ -7,7 +7,7 @@ use crate::primitives::StateID;
 use std::alloc::Allocator;
 use std::fmt;
 
-/// The states, one in a line, and then the start states, the direction and the line terminator.
+/// Writes one state per line, and then the start states, the direction and the line terminator.
 /// Bytes are in hexadecimal.
 impl<A: Allocator> fmt::Debug for NFA<A> {
     fn fmt<W: fmt::Write>(&self, f: &mut fmt::Formatter<W>) -> fmt::Result {
@@ -61,7 +61,7 @@ fn write_sparse<W: fmt::Write>(
     write!(f, ")")
 }
 
-/// All targets in the order of their bytes, 0 where there is none.
+/// Writes all targets in the order of their bytes; 0 means no transition.
 fn write_dense<W: fmt::Write>(f: &mut fmt::Formatter<W>, targets: &[StateID]) -> fmt::Result {
     write!(f, "dense(")?;
     write_ids(f, targets)?;
@@ -82,7 +82,7 @@ fn write_ids<W: fmt::Write>(f: &mut fmt::Formatter<W>, ids: &[StateID]) -> fmt::
     Ok(())
 }
 
-/// Separates an item from the one before it. The first has none before it.
+/// Writes a comma before every item except the first.
 fn write_separator<W: fmt::Write>(f: &mut fmt::Formatter<W>, index: usize) -> fmt::Result {
     if index > 0 {
         write!(f, ", ")?;

@@ -1,4 +1,13 @@
 //! The states of a Thompson NFA.
+//!
+//! A state has transitions on bytes (`ByteRange`, `Sparse`, `Dense`) or epsilon transitions, which
+//! consume no input (`Look`, `Union`, `BinaryUnion`, `Capture`). `Fail` and `Match` have neither.
+//! The order of the epsilon transitions of a union is the order of preference: under
+//! `MatchKind::LeftmostFirst` a match through an earlier alternate wins. No state has a transition
+//! on EOI.
+//!
+//! A `Capture` state keeps its target only. Determinization follows it like any epsilon transition
+//! and has no use for slots.
 
 ghost use Rattle.std.specs.Prelude.{◌≡◌, ◌≤◌, count_by, length};
 ghost use Rattle.determinize_below.specs.Edges.{is_match_node};
@@ -13,28 +22,29 @@ use std::alloc::{Allocator, Global};
 #[derive(Drop)]
 #[derive_where(Debug)]
 pub enum State<A: Allocator = Global> {
-    /// Goes on over one range of bytes.
+    /// Has a transition on one range of bytes.
     ByteRange { trans: Transition },
-    /// Goes on over several ranges.
+    /// Has transitions on several ranges of bytes.
     Sparse(SparseTransitions<A>),
-    /// Goes on by a table of all bytes.
+    /// Has a table of 256 transitions, one per byte.
     Dense(DenseTransitions<A>),
-    /// Goes on without input where the assertion holds.
+    /// Has an epsilon transition that may be taken where the assertion holds.
     Look { look: Look, next: StateID },
-    /// Goes on without input to one of the alternates, the first of which is preferred.
+    /// Has epsilon transitions to the alternates, in order of preference.
     Union { alternates: Vec<StateID, A> },
-    /// Goes on without input to one of two states, the first of which is preferred.
+    /// Has epsilon transitions to two states, of which `alt1` is preferred.
     BinaryUnion { alt1: StateID, alt2: StateID },
-    /// Goes on without input.
+    /// Has an unconditional epsilon transition.
     Capture { next: StateID },
-    /// Goes nowhere.
+    /// Has no transition.
     Fail,
-    /// Accepts the pattern.
+    /// Accepts the pattern and has no transition.
     Match { pattern_id: PatternID },
 }
 
 impl<A: Allocator> State<A> {
-    /// Whether the state may go on without input: a `Look`, a union or a `Capture`.
+    /// Returns whether the state has epsilon transitions: a `Look`, a union or a `Capture`. A union
+    /// without alternates counts, too.
     pub fn is_epsilon(&self) -> bool
         ensures { result ≡ nodes.is_epsilon (nodes.node_of self.now) }
     {

@@ -1,4 +1,6 @@
-//! Transitions of NFA states over bytes.
+//! Transitions of NFA states on bytes: one range, sorted ranges, or a table of all bytes.
+//!
+//! No transition is on EOI, so each `matches_unit` returns false or `None` for it.
 
 ghost use Rattle.std.specs.Prelude.{◌≡◌, ℕ, IsTrue, length, None, Option, nat_le, Some, if◌then◌else◌};
 ghost use Rattle.std.specs.List.{find};
@@ -11,34 +13,34 @@ use crate::primitives::StateID;
 use std::alloc::{Allocator, Global};
 use std::marker::Model;
 
-/// A transition to `next` over each byte from `start` to `end`, both included. Where `start` is
-/// above `end`, it is over no byte.
+/// A transition to `next` on each byte from `start` to `end`, both included. If `start` is above
+/// `end`, it is on no byte.
 #[derive(Clone, Copy, Debug, PartialEq, Eq)]
 pub struct Transition {
-    /// The first byte.
+    /// The first byte of the range.
     pub start: u8,
-    /// The last byte.
+    /// The last byte of the range.
     pub end: u8,
-    /// The state that it leads to.
+    /// The target.
     pub next: StateID,
 }
 
 impl Transition {
-    /// Whether the transition is over this byte.
+    /// Returns whether the byte is in the range.
     pub fn matches_byte(&self, byte: u8) -> bool
         ensures { result ≡ transitions.matches self.now byte }
     {
         self.start <= byte && byte <= self.end
     }
 
-    /// Whether the transition does not end before this byte.
+    /// Returns whether the range does not end before this byte.
     fn reaches(&self, byte: u8) -> bool
         ensures { result ≡ nat_le byte self.now.end }
     {
         self.end >= byte
     }
 
-    /// Whether the transition is over this unit. It is never over the end of the input.
+    /// Returns whether the unit is a byte in the range.
     pub fn matches_unit(&self, unit: Unit) -> bool
         ensures { result ≡ transitions.matches_unit self.now (byte_of unit) }
     {
@@ -49,11 +51,11 @@ impl Transition {
     }
 }
 
-/// Transitions over ranges of bytes that, in an NFA, ascend and do not meet.
+/// Transitions on ranges of bytes. In an NFA the ranges are sorted and do not overlap.
 #[derive(Drop)]
 #[derive_where(Debug)]
 pub struct SparseTransitions<A: Allocator = Global> {
-    /// The transitions, in the order of their bytes.
+    /// The transitions, sorted by range.
     pub transitions: Vec<Transition, A>,
 }
 
@@ -67,19 +69,22 @@ impl<A: Allocator> Model for SparseTransitions<A> {
 }
 
 impl<A: Allocator> SparseTransitions<A> {
-    /// Where the byte leads, or none where no range holds it. The ranges ascend and do not meet,
-    /// so at most one holds it.
+    /// Returns the target on this byte, or `None` if no range contains it. The ranges must be
+    /// sorted and not overlap, so at most one contains it.
     pub fn matches_byte(&self, byte: u8) -> Option<StateID>
         requires { IsTrue (transitions.is_ascending self.now) }
         ensures { result ≡ transitions.sparse_target self.now byte }
     {
+        // Only the first range that does not end before the byte can contain it: the later ones
+        // begin above its end.
         match self.first_reaching(byte) {
             Some(found) => { if found.0 <= byte { Some(found.1) } else { None } }
             None => None,
         }
     }
 
-    /// Where the first transition that does not end before the byte begins, and where it leads.
+    /// Returns the start and the target of the first transition whose range does not end before the
+    /// byte.
     fn first_reaching(&self, byte: u8) -> Option<(u8, StateID)>
         ensures { result
             ≡ option_map (λ t. (t.start, t.next)) (find (λ t. nat_le byte t.end) self.now) }
@@ -90,7 +95,8 @@ impl<A: Allocator> SparseTransitions<A> {
             .map(|t| (t.start, t.next))
     }
 
-    /// Where the unit leads, a byte as by `matches_byte`. The end of the input leads nowhere.
+    /// Returns the target on this unit, or `None` if it is EOI or in no range. The ranges must be
+    /// sorted and not overlap.
     pub fn matches_unit(&self, unit: Unit) -> Option<StateID>
         requires { IsTrue (transitions.is_ascending self.now) }
         ensures { result
@@ -103,11 +109,12 @@ impl<A: Allocator> SparseTransitions<A> {
     }
 }
 
-/// In an NFA, a target for each of the 256 bytes, where id 0 means none.
+/// A table of targets, one per byte. The target 0 means that there is no transition, so no dense
+/// state can have a transition to state 0. In an NFA the table has 256 entries.
 #[derive(Drop)]
 #[derive_where(Debug)]
 pub struct DenseTransitions<A: Allocator = Global> {
-    /// The targets, the one of byte 0 first.
+    /// The targets, indexed by byte.
     pub transitions: Vec<StateID, A>,
 }
 
@@ -120,7 +127,7 @@ impl<A: Allocator> Model for DenseTransitions<A> {
 }
 
 impl<A: Allocator> DenseTransitions<A> {
-    /// Where the byte leads, or none where its id is 0. There are 256 ids.
+    /// Returns the target on this byte, or `None` if it is 0. The table must have 256 entries.
     pub fn matches_byte(&self, byte: u8) -> Option<StateID>
         requires { length self.now ≡ 256 }
         ensures { result ≡ transitions.dense_target self.now byte }
@@ -133,7 +140,8 @@ impl<A: Allocator> DenseTransitions<A> {
         }
     }
 
-    /// Where the unit leads, a byte as by `matches_byte`. The end of the input leads nowhere.
+    /// Returns the target on this unit, or `None` if it is EOI or the target is 0. The table must
+    /// have 256 entries.
     pub fn matches_unit(&self, unit: Unit) -> Option<StateID>
         requires { length self.now ≡ 256 }
         ensures { result

@@ -1,52 +1,34 @@
-//! Ids, assertions, units, transitions and sets.
+//! Ids, units, transitions and sets: texts, and calls that are generic, at one allocator.
 
 use crate::tests::{holds, same};
-use determinize_below::alphabet::is_word_byte;
 use determinize_below::{
-    DenseTransitions, Look, LookSet, MatchKind, PatternID, SparseSet, SparseTransitions, StateID,
-    StateIDError, Transition, Unit,
+    BuildError, DenseTransitions, PatternID, SparseSet, SparseTransitions, StateID, StateIDError,
+    Transition, Unit,
 };
 use std::process::Abort;
 use std::test::Fail;
 
 #[test]
-fn greatest_ids(rt: HostRuntime) {
-    let greatest = (StateID::new(2147483646), PatternID::new(2147483646));
-    holds(&rt, greatest.0.is_ok() && greatest.1.is_ok());
-    holds(&rt, PatternID::new(2147483647).is_err());
-    let (Err(state), Err(pattern)) = (StateID::new(2147483647), PatternID::new(9000000000)) else {
-        panic!(rt; "too great an id is taken");
-    };
-    same(
-        &rt,
-        (state.attempted(), pattern.attempted()),
-        (2147483647, 9000000000),
-    );
+fn texts_of_ids_and_units(rt: HostRuntime) -> Result<(), Fail> {
+    let (state, pattern) = (StateID::must(300_000), PatternID::MAX);
+    let text = format!(in rt.alloc(); "{state} {state:?} {pattern} {pattern:?}")?;
+    let wanted = "300000 StateID(300000) 2147483646 PatternID(2147483646)";
+    same(&rt, text.as_str(), wanted);
+    let (letter, end) = (Unit::u8(b'a'), Unit::from(None));
+    let text = format!(in rt.alloc(); "{letter:?} {end:?}")?;
+    same(&rt, text.as_str(), "Unit(U8(97)) Unit(Eoi(256))");
+    Ok(())
+}
+
+/// Returns the id of a state with this number, or the error of an NFA that has too many states.
+fn state_id(number: usize) -> Result<StateID, BuildError> {
+    Ok(StateID::new(number)?)
 }
 
 #[test]
-fn sets_of_assertions(rt: HostRuntime) {
-    let line = LookSet::empty().insert(Look::StartLF).insert(Look::EndCRLF);
-    let word = LookSet::from_repr(Look::WordEndHalfUnicode.as_repr());
-    let start = line.union(word).intersect(line).subtract(word);
-    same(&rt, start.remove(Look::EndCRLF).as_repr(), 0x4);
-    holds(&rt, line.contains(Look::EndCRLF) && !line.is_empty());
-    let is_of_line = line.contains_anchor_line() && line.contains_anchor_crlf();
-    let is_other = line.contains_anchor_haystack() || line.contains_word();
-    same(&rt, (is_of_line, is_other), (true, false));
-}
-
-#[test]
-fn units(rt: HostRuntime) {
-    let (letter, end) = (Unit::u8(b'a'), Unit::eoi(256));
-    same(&rt, (letter.as_u8(), end.as_u8()), (Some(b'a'), None));
-    same(&rt, (letter.is_eoi(), end.is_eoi()), (false, true));
-    holds(
-        &rt,
-        letter.is_word_byte() && letter.is_byte(b'a') && is_word_byte(b'_'),
-    );
-    holds(&rt, Unit::eoi(0) != Unit::eoi(1));
-    holds(&rt, MatchKind::All.continue_past_first_match());
+fn error_of_too_great_an_id(rt: HostRuntime) {
+    let found = state_id(2_147_483_647);
+    same(&rt, found.err(), Some(BuildError::TooManyStates));
 }
 
 #[test]
@@ -72,7 +54,8 @@ fn transitions(rt: HostRuntime) -> Result<(), Fail> {
     Ok(())
 }
 
-/// Inserts every id below the capacity of a set, from the greatest down. Each is new, or none is.
+/// Inserts every id below the capacity of a set, from the greatest down. Either each id is new, or
+/// none is.
 fn insert_down<R: Abort>(rt: &R, set: &mut SparseSet, is_new: bool) -> Result<(), StateIDError> {
     for number in (0..set.capacity()).rev() {
         let id = StateID::new(number)?;

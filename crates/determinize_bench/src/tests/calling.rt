@@ -1,9 +1,10 @@
-//! The code of the pages `CALLING.md` and of the README, and its results: each file below this one
-//! is a block of code of a page, word for word, and `readme` is a part of one.
+//! The code of the pages `CALLING.md` and of the README, with tests of its results. Each file in
+//! this folder is a block of code of a page, word for word; `readme` is part of one.
 
 mod cache;
 mod counted;
 pub mod dfa;
+mod find;
 mod input;
 mod nfa;
 mod search;
@@ -18,7 +19,7 @@ use determinize_lazy::Lazy;
 use std::process::Abort;
 use std::test::Fail;
 
-/// The match of pattern 0 that ends here.
+/// Returns the match of pattern 0 that ends at this offset.
 pub fn ended(offset: usize) -> Option<HalfMatch> {
     Some(HalfMatch::new(PatternID::ZERO, offset))
 }
@@ -59,7 +60,7 @@ fn searches(rt: HostRuntime) -> Result<(), Fail> {
     Ok(())
 }
 
-/// Whether a match ends at the end of the text, by a walk through the cache.
+/// Returns whether a match ends at the end of the text, by a walk through the cache.
 fn is_match_at_the_end(rt: &impl Abort, lazy: &mut Lazy<'_>, text: &[u8]) -> Result<bool, Fail>
     requires { lazy.old.kind ≡ kinds.All }
     ensures { lazy.new.kind ≡ lazy.old.kind }
@@ -70,7 +71,7 @@ fn is_match_at_the_end(rt: &impl Abort, lazy: &mut Lazy<'_>, text: &[u8]) -> Res
     }
 }
 
-/// Walks twice through one cache: to a match at the end of a text, and to none.
+/// Walks twice through one cache: over a text with a match at its end, and over one without.
 fn expect_walks(rt: &impl Abort, lazy: &mut Lazy<'_>) -> Result<(), Fail>
     requires { lazy.old.kind ≡ kinds.All }
 {
@@ -86,7 +87,7 @@ fn walks_through_a_cache(rt: HostRuntime) -> Result<(), Fail> {
     expect_walks(&rt, &mut lazy)
 }
 
-/// Searches both ways, for a number in the middle of a text and where there is none.
+/// Searches for both ends of a match, of a number in the middle of a text and where there is none.
 fn expect_spans(
     rt: &impl Abort,
     forward: &mut Lazy<'_>,
@@ -118,4 +119,15 @@ fn searches_of_inputs(rt: HostRuntime) -> Result<(), Fail> {
     let forward = nfa::digits(rt.alloc(), false)?;
     let backward = nfa::digits(rt.alloc(), true)?;
     search_inputs(&rt, &forward, &backward)
+}
+
+#[test]
+fn all_matches(rt: HostRuntime) -> Result<(), Fail> {
+    let nfa = nfa::digits(rt.alloc(), false)?;
+    let found = find::matches(rt.alloc(), &nfa, b"ab 42 c7")?;
+    same(&rt, found.len(), 2);
+    for (found, range) in found.iter().zip([3..5, 7..8]) {
+        holds(&rt, found.range() == range);
+    }
+    Ok(())
 }

@@ -1,4 +1,4 @@
-//! A whole DFA, built by public calls alone as in `calling::dfa`, and run.
+//! A whole DFA, built as in `calling::dfa`, and run.
 
 use crate::tests::calling::dfa::{Dfa, build};
 use crate::tests::{holds, same, same_at};
@@ -11,7 +11,7 @@ use std::process::Abort;
 use std::test::Fail;
 
 impl<A: Allocator> Dfa<A> {
-    /// The last match that a search over the text tells.
+    /// Returns the last match of a search over the text.
     fn last_match(&self, text: &[u8]) -> Option<HalfMatch> {
         let mut index = 0;
         let mut last = None;
@@ -27,13 +27,13 @@ impl<A: Allocator> Dfa<A> {
     }
 }
 
-/// The states of `foo[0-9]+|bar`, in the shape in which the original compiles it without captures:
-/// state 2 starts it anchored, and state 0 starts it after the prefix `(?s-u:.)*?`. Both
-/// alternates lead straight to the one `Match`, and so does the union of the repetition.
+/// The states of `foo[0-9]+|bar`, as the original compiles it without captures: state 2 is the
+/// anchored start, and state 0 begins the prefix `(?s-u:.)*?`. Both alternates, and the union of
+/// the repetition, go to the one `Match` state.
 const FOO_OR_BAR: &str = "\
 BU:2,1 B:00-ff>0 BU:3,8 B:66>4 B:6f>5 B:6f>6 B:30-39>7 BU:6,11 B:62>9 B:61>10 B:72>11 M:0";
 
-/// The NFA of these states, whose anchored start is this one and whose unanchored start is 0.
+/// Returns the NFA of these states, with the anchored start `anchored` and the unanchored start 0.
 fn nfa(alloc: Global, states: &str, anchored: StateID) -> Result<NFA, JobError> {
     let states = nfas::states(alloc, states)?;
     let matcher = LookMatcher::new();
@@ -44,7 +44,7 @@ fn nfa(alloc: Global, states: &str, anchored: StateID) -> Result<NFA, JobError> 
 /// The texts that each DFA is run over.
 static TEXTS: [&str; 6] = ["foo12", "xfoo9y", "bar", "ba", "", "barfoo1"];
 
-/// Runs a DFA, which tells the ends that are expected.
+/// Runs a DFA and compares the ends of its matches.
 fn run(rt: &impl Abort, dfa: &Dfa, ends: [Option<usize>; 6]) {
     for (text, end) in TEXTS.iter().zip(ends) {
         let wanted = end.map(|end| HalfMatch::new(PatternID::ZERO, end));
@@ -52,8 +52,8 @@ fn run(rt: &impl Abort, dfa: &Dfa, ends: [Option<usize>; 6]) {
     }
 }
 
-/// Builds a DFA of so many states from one of the two starts, and runs it. It isn't built where one
-/// state fewer is allowed.
+/// Builds a DFA with this number of states from one of the two starts, and runs it. It is not built
+/// if the limit is one state less.
 fn build_and_run<R: Abort + AllocGlobal>(
     rt: &R,
     nfa: &NFA,
@@ -77,11 +77,11 @@ fn build_and_run<R: Abort + AllocGlobal>(
     Ok(())
 }
 
-/// Nine states stand before the end of a match: the dead one, and those after nothing, `f`, `fo`,
-/// `foo`, `foo0`, `b`, `ba` and `bar`. Two tell of a match, after a digit that goes on and after
-/// any other unit. Unanchored searches for the preferred match have as many, since the prefix is
-/// dropped after a match. In unanchored searches for all matches five tell of a match: after a digit
-/// that goes on, `f`, `b`, any other byte, and the end of the input.
+/// Nine states are before the end of a match: the dead one, and those after nothing, `f`, `fo`,
+/// `foo`, `foo0`, `b`, `ba` and `bar`. Two are match states, after a digit that continues the match
+/// and after any other unit. Unanchored searches for the preferred match have the same number,
+/// since the prefix is dropped after a match. In unanchored searches for all matches five are match
+/// states: after a digit that continues the match, `f`, `b`, any other byte, and EOI.
 #[test]
 fn dfas(rt: HostRuntime) -> Result<(), Fail> {
     let nfa = nfa(rt.alloc(), FOO_OR_BAR, StateID::must(2))?;

@@ -1,12 +1,9 @@
-//! Laws: what their calls answer.
+//! The results of the functions whose contracts are laws of states, which are generic, at one
+//! allocator.
 
 use crate::tests::states::{built, state};
 use crate::tests::{holds, same};
-use determinize_below::laws::{clone_law, pattern_id_law, state_id_law};
-use determinize_below::look_laws::{look_member_law, look_set_law};
-use determinize_below::{Anchored, Input, Look, LookMatcher, LookSet, PatternID, StateID};
-use determinize_core::look_laws::start_clone_law;
-use determinize_core::start::{Config, Start, StartByteMap};
+use determinize_below::PatternID;
 use determinize_core::state_laws::{
     are_equal, is_built, nfa_states_read, patterns_read, same_built_bytes, same_bytes,
 };
@@ -43,61 +40,4 @@ fn states_of_the_same_bytes(rt: HostRuntime) -> Result<(), Fail> {
     holds(&rt, is_built(&state, &builder));
     holds(&rt, are_equal(&state, &state));
     Ok(())
-}
-
-/// A matcher whose lines end with `x`.
-fn ends_with_x() -> LookMatcher {
-    let mut matcher = LookMatcher::default();
-    matcher.set_line_terminator(b'x');
-    matcher
-}
-
-#[test]
-fn clones_of_starts(rt: HostRuntime) -> Result<(), Fail> {
-    let config = Config::new()
-        .look_behind(Some(b'a'))
-        .anchored(Anchored::Yes);
-    let map = StartByteMap::new(&ends_with_x());
-    let (config, map) = start_clone_law(&config, &map)?;
-    same(&rt, config.get_look_behind(), Some(b'a'));
-    same(&rt, config.get_anchored(), Anchored::Yes);
-    same(&rt, map.get(b'x'), Start::CustomLineTerminator);
-    Ok(())
-}
-
-#[test]
-fn clones_of_inputs(rt: HostRuntime) -> Result<(), Fail> {
-    let input = Input::new(b"abc").range(1..2).anchored(Anchored::Yes);
-    let (matcher, input) = clone_law(&ends_with_x(), &input)?;
-    same(&rt, matcher.get_line_terminator(), b'x');
-    same(&rt, input.haystack(), b"abc".as_slice());
-    same(&rt, (input.start(), input.end()), (1usize, 2usize));
-    same(&rt, input.get_anchored(), Anchored::Yes);
-    Ok(())
-}
-
-#[test]
-fn ids_by_their_laws(rt: HostRuntime) -> Result<(), Fail> {
-    let (least, greatest, size) = state_id_law();
-    same(
-        &rt,
-        (least, greatest, size),
-        (StateID::ZERO, StateID::MAX, 4),
-    );
-    let (least, greatest, size) = pattern_id_law();
-    same(
-        &rt,
-        (least, greatest, size),
-        (PatternID::ZERO, PatternID::MAX, 4),
-    );
-    Ok(())
-}
-
-#[test]
-fn sets_by_their_laws(rt: HostRuntime) {
-    let one = LookSet::empty().insert(Look::StartLF).insert(Look::EndCRLF);
-    let other = LookSet::empty().insert(Look::EndCRLF).insert(Look::StartLF);
-    look_set_law(one, other);
-    look_member_law(one, other, Look::End, Look::StartLF);
-    same(&rt, one, other);
 }

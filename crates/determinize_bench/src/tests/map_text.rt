@@ -1,6 +1,6 @@
-//! The text of a map from bytes to start kinds, written out by its rule.
+//! The debug text of a start byte map, written out by its rule.
 
-/// The text of the map whose line terminator is `b`.
+/// The text of the map for the line terminator `b`.
 pub const MAP_OF_B: &str = "\
 StartByteMap{\
 0 => NonWordByte, 1 => NonWordByte, 2 => NonWordByte, 3 => NonWordByte, \

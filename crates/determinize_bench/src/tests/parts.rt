@@ -1,4 +1,4 @@
-//! Making an NFA of parts.
+//! Building an NFA from parts.
 
 use crate::tests::{holds, same, same_at};
 use determinize_below::nfa::State;

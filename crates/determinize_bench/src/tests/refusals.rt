@@ -1,10 +1,10 @@
-//! Jobs that are refused, each in a line with what is said of it, after an arrow. (A table of texts
-//! would be read text by text wherever it is named.)
+//! Invalid jobs, each in a line with its error message after an arrow. They are texts and not a
+//! table, since the prover would read a table entry by entry wherever it is named.
 
 use crate::tests::runs::expect;
 use std::test::Fail;
 
-/// Verbs, and words that are no key and value.
+/// Unknown verbs, and words that are not `key=value`.
 const VERBS: &str = "\
 Dead => unknown verb \"Dead\"
  => unknown verb \"\"
@@ -16,7 +16,7 @@ walk text=61  start=0 | M:0 => no key and value: \"\"
 walk text=61 | => no key and value: \"|\"
 ";
 
-/// Keys that are unknown.
+/// Unknown keys.
 const UNKNOWN_KEYS: &str = "\
 walk texts=61 | M:0 => unknown key \"texts\"
 walk Text=61 | M:0 => unknown key \"Text\"
@@ -35,7 +35,7 @@ build fw=0 half=0 unit=eoi => unknown key \"unit\"
 size states=1 matches=1 n=1 => unknown key \"n\"
 ";
 
-/// Keys that stand twice.
+/// Repeated keys.
 const REPEATED_KEYS: &str = "\
 walk text=61 text=61 | M:0 => key text stands twice
 walk kind=all lb=61 kind=all | M:0 => key kind stands twice
@@ -45,7 +45,7 @@ dead fix=1 fix=1 => key fix stands twice
 build fw=0 half=0 have=- have=- => key have stands twice
 ";
 
-/// Keys that are missing.
+/// Missing keys.
 const MISSING_KEYS: &str = "\
 readers text=61 | M:0 => key at is missing
 readers after=62 | M:0 => key at is missing
@@ -62,7 +62,7 @@ size states=1 => key matches is missing
 size matches=1 => key states is missing
 ";
 
-/// States that make no NFA.
+/// States that `NFA::from_parts` rejects.
 const STATES: &str = "\
 walk text=61 => the states of the NFA are missing
 closure from=0 => the states of the NFA are missing
@@ -87,7 +87,7 @@ walk text=61 | C:2147483647 => not the id of a state
 walk text=61 | M:2147483647 => not the id of a pattern
 ";
 
-/// Values that can't be read.
+/// Malformed values.
 const VALUES: &str = "\
 fromusize n=+1 => not a decimal number
 fromusize n=-1 => not a decimal number
@@ -123,7 +123,7 @@ start hay=616263 range=1 => not a range of the haystack
 start hay=616263 range=+1..2 => not a decimal number
 ";
 
-/// Each job is run alone.
+/// Each job is run separately.
 #[test]
 fn jobs(rt: HostRuntime) -> Result<(), Fail> {
     for jobs in [

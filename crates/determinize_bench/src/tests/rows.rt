@@ -1,11 +1,11 @@
-//! The work of the program `rows`: words that name no walk, and writers that fail.
+//! The work of the program `rows`: unknown names of examples, and writers that fail.
 
 use crate::tests::runs::{Failing, words};
 use crate::tests::{same, same_at};
 use std::test::Fail;
 use worked_rows::run::run_rows;
 
-/// Words that name no walk, each in a line.
+/// Unknown names, one per line.
 static OTHER_WORDS: [&str; 15] = [
     "", "3\n3", "3\n4a", "1", "4", "03", "4A", "15", "21", "28", "-3", "\n", " 3", "3 ", "3\t",
 ];

@@ -1,4 +1,4 @@
-//! The program's work: its statuses, and readers and writers that fail.
+//! The work of the program: its exit statuses, and readers and writers that fail.
 
 use crate::tests::{same, same_at};
 use determinize_replay::error::{JobError, ReplayError};
@@ -19,10 +19,10 @@ impl Read for Unreadable {
     }
 }
 
-/// A writer that takes so many writes and fails at the next.
+/// A writer that fails after a number of writes.
 #[derive(Drop)]
 pub struct Failing {
-    /// How many writes are left.
+    /// The number of writes left.
     pub left: u32,
 }
 
@@ -40,7 +40,7 @@ impl Write for Failing {
     }
 }
 
-/// The arguments of a program, each of which stands in a line.
+/// Returns arguments, one per line of the text.
 pub fn words<R: AllocGlobal>(rt: &R, lines: &str) -> Result<Vec<String>, Fail> {
     let mut words = Vec::new(rt.alloc());
     for word in lines.lines() {
@@ -49,7 +49,8 @@ pub fn words<R: AllocGlobal>(rt: &R, lines: &str) -> Result<Vec<String>, Fail> {
     Ok(words)
 }
 
-/// Runs the program with arguments, each in a line, over an input, and compares all that it gives.
+/// Runs the program with arguments, one per line, over an input, and compares the status and all
+/// output.
 pub fn expect<R: Abort + AllocGlobal, I: Read + Drop>(
     rt: &R,
     arguments: &str,
@@ -69,14 +70,14 @@ pub fn expect<R: Abort + AllocGlobal, I: Read + Drop>(
     Ok(())
 }
 
-/// A job with its right answer.
+/// A job with its right output.
 const DEAD: &str = "> dead\n000000000000000000\n";
 
-/// A job with a wrong answer, and one with its right answer.
+/// A job with a wrong output, and one with its right output.
 const WRONG_FIRST: &str = "> fromusize n=6\nsome LineLF\n> dead\n000000000000000000\n";
 
-/// A walk, one with a wrong answer, the first again, one of another match kind with a byte ahead,
-/// and a job that is no walk.
+/// A walk, one with a wrong output, the first again, one of another match kind with a look-ahead
+/// byte, and a job that is no walk.
 const JOBS: &str = "\
 > walk text=61 | B:61>1 M:0
 00000000000000000000
@@ -99,7 +100,7 @@ match 0 1
 000000000000000000
 ";
 
-/// What the program prints of these jobs, through caches or without.
+/// The output of the program for these jobs, with and without caches.
 const VERDICT: &str = "\
 > walk text=- | M:0
 expected:
@@ -111,7 +112,7 @@ match 0 0
 5 jobs, 1 differ, 0 skipped
 ";
 
-/// What it prints of them where the walks are searches.
+/// The output of the program for these jobs with searches.
 const SEARCHED: &str = "\
 > walk text=- | M:0
 expected:
@@ -121,8 +122,8 @@ match 0 0
 5 jobs, 1 differ, 0 skipped
 ";
 
-/// Wrong answers: another line, no line, a line too many, an empty line, and one after a right
-/// answer.
+/// Wrong outputs: another line, no line, a line too many, an empty line, and one after a right
+/// output.
 const WRONG: &str = "\
 > dead
 000000000000000001
@@ -140,7 +141,7 @@ ids=-
 none
 ";
 
-/// What the program prints of these.
+/// The output of the program for these jobs.
 const DIFFERENCES: &str = "\
 > dead
 expected:
@@ -170,14 +171,14 @@ some NonWordByte
 6 jobs, 5 differ, 0 skipped
 ";
 
-/// What is said of other arguments.
+/// The message for invalid arguments.
 const NOT_TAKEN: &str = "arguments are not taken\n";
 
-/// Arguments, each in a line, an input, and the status, the output and the errors.
+/// Arguments, one per line, an input, and the status, the output and the errors.
 type Run = (&'static str, &'static str, u8, &'static str, &'static str);
 
-/// Jobs that agree, some that differ, nothing to replay, a job that is refused; walks through
-/// caches, and searches; jobs that are refused before walks through caches.
+/// Jobs that agree, some that differ, no job, an invalid job; walks through caches, and searches;
+/// invalid jobs before walks through caches.
 static RUNS: [Run; 19] = [
     ("", DEAD, 0, "1 jobs, 0 differ, 0 skipped\n", ""),
     (
@@ -263,7 +264,7 @@ static RUNS: [Run; 19] = [
 /// An input whose first line is no comment and no job.
 static NO_JOB: [&str; 4] = ["none\n> dead\n", "\n> dead\n", "dead\n", ">dead\n"];
 
-/// Other arguments, each in a line.
+/// Invalid arguments, one per line.
 static OTHER_ARGUMENTS: [&str; 8] = [
     "stdin",
     "--help",

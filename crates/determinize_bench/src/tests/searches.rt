@@ -1,4 +1,4 @@
-//! Searches over a cache: what they find, and how far they read.
+//! Searches through a cache: their matches, and how far they read.
 
 ghost use Rattle.std.specs.Prelude.{◌≡◌, true};
 ghost use Rattle.determinize_lazy.specs.Searches.{has_start};
@@ -15,8 +15,8 @@ use std::test::Fail;
 /// A word between other bytes.
 const HAYSTACK: &[u8] = b"== quartz ==";
 
-/// Searches an input without a pattern through a cache, and compares what is found and how many
-/// transitions the cache has computed then.
+/// Searches an input, whose anchored mode names no pattern, through a cache, and compares the match
+/// and the number of transitions computed.
 fn expect_in<R: Abort>(
     rt: &R,
     lazy: &mut Lazy<'_>,
@@ -31,7 +31,7 @@ fn expect_in<R: Abort>(
     Ok(())
 }
 
-/// Asks whether an input without a pattern has a match, through a cache.
+/// Compares whether an input, whose anchored mode names no pattern, has a match, through a cache.
 fn expect_is_match<R: Abort>(
     rt: &R,
     lazy: &mut Lazy<'_>,
@@ -44,8 +44,8 @@ fn expect_is_match<R: Abort>(
     Ok(())
 }
 
-/// A whole word has a match. Its first half and its second half have none, nor has a range before
-/// its own start.
+/// A whole word has a match. Its first half and its second half have none, and neither has a range
+/// that ends before its start.
 fn expect_words<R: Abort>(rt: &R, lazy: &mut Lazy<'_>) -> Result<(), Fail> {
     expect_is_match(rt, lazy, &Input::new(HAYSTACK).range(3..9), true)?;
     expect_is_match(rt, lazy, &Input::new(HAYSTACK).range(3..6), false)?;
@@ -64,7 +64,7 @@ fn is_match_under_both_kinds(rt: HostRuntime) -> Result<(), Fail> {
     Ok(())
 }
 
-/// Searches a range before its own start, and an empty one.
+/// Searches a range that ends before its start, and an empty one.
 fn expect_at_most_empty<R: Abort>(rt: &R, lazy: &mut Lazy<'_>) -> Result<(), Fail> {
     let done = Input::new(HAYSTACK).range(4..3);
     same(rt, done.is_done(), true);
@@ -74,7 +74,7 @@ fn expect_at_most_empty<R: Abort>(rt: &R, lazy: &mut Lazy<'_>) -> Result<(), Fai
     Ok(())
 }
 
-/// Searches a range before its own start, and an empty one, forward or backward.
+/// Searches a range that ends before its start, and an empty one, forward or in reverse.
 fn expect_short_ranges<R: Abort + AllocGlobal>(rt: &R, is_backward: bool) -> Result<(), Fail> {
     let nfa = nfa(rt, "M:0", is_backward)?;
     let mut lazy = Lazy::new(rt.alloc(), &nfa, MatchKind::All, 16);
@@ -87,10 +87,7 @@ fn nothing_to_search(rt: HostRuntime) -> Result<(), Fail> {
     expect_short_ranges(&rt, true)
 }
 
-/// How many bytes a long haystack has.
-const LONG: usize = 10_000_000;
-
-/// Searches a whole haystack of one word, where three transitions and states are enough.
+/// Searches a whole haystack of one word, for which three transitions and states are enough.
 fn expect_whole<R: Abort>(
     rt: &R,
     lazy: &mut Lazy<'_>,
@@ -104,40 +101,59 @@ fn expect_whole<R: Abort>(
     Ok(())
 }
 
-/// Searches a haystack of one word, and compares with where the match ends or begins.
+/// Searches a haystack that is one word of `len` bytes. The match ends at the end of the word or,
+/// in reverse, at its start.
 fn expect_word<R: Abort + AllocGlobal>(
     rt: &R,
-    haystack: &[u8],
+    kind: MatchKind,
     is_backward: bool,
-    end: usize,
+    len: usize,
 ) -> Result<(), Fail> {
+    let haystack = vec![in rt.alloc(); b'a'; len]?;
     let nfa = nfa(rt, WORDS, is_backward)?;
-    let kind = if is_backward {
-        MatchKind::All
-    } else {
-        MatchKind::LeftmostFirst
-    };
     let mut lazy = Lazy::new(rt.alloc(), &nfa, kind, 16);
-    expect_whole(rt, &mut lazy, haystack, end)
+    let end = if is_backward { 0 } else { len };
+    expect_whole(rt, &mut lazy, haystack.as_slice(), end)
 }
 
 #[test]
 fn long_haystack_forward(rt: HostRuntime) -> Result<(), Fail> {
-    let haystack = vec![in rt.alloc(); b'a'; LONG]?;
-    expect_word(&rt, haystack.as_slice(), false, LONG)
+    expect_word(&rt, MatchKind::LeftmostFirst, false, 10_000_000)?;
+    expect_word(&rt, MatchKind::All, false, 1_000_000)
 }
 
 #[test]
 fn long_haystack_backward(rt: HostRuntime) -> Result<(), Fail> {
-    let haystack = vec![in rt.alloc(); b'a'; LONG]?;
-    expect_word(&rt, haystack.as_slice(), true, 0)
+    expect_word(&rt, MatchKind::All, true, 10_000_000)?;
+    expect_word(&rt, MatchKind::LeftmostFirst, true, 1_000_000)
 }
 
-/// Searches backward from the end of a range for letters behind a byte ff: one that is in the range,
-/// and one that is before it.
+/// Searches a text of one word.
+fn expect_text<R: Abort>(rt: &R, lazy: &mut Lazy<'_>, text: &[u8]) -> Result<(), Fail> {
+    let start = lazy.nfa().start_anchored();
+    let found = lazy.search(start, None, text, None)?;
+    same(rt, found, ended(text.len()));
+    Ok(())
+}
+
+#[test]
+fn long_text_under_both_kinds(rt: HostRuntime) -> Result<(), Fail> {
+    let text = vec![in rt.alloc(); b'a'; 1_000_000]?;
+    let nfa = nfa(&rt, WORDS, false)?;
+    for kind in [MatchKind::All, MatchKind::LeftmostFirst] {
+        let mut lazy = Lazy::new(rt.alloc(), &nfa, kind, 16);
+        expect_text(&rt, &mut lazy, text.as_slice())?;
+    }
+    Ok(())
+}
+
+/// Letters after bytes ff.
+const LETTERS: &[u8] = b"\xff\xffaa\xffa";
+
+/// Searches in reverse from the end of a range for letters after a byte ff: one that is in the
+/// range, and one that is before it.
 fn expect_inner<R: Abort>(rt: &R, lazy: &mut Lazy<'_>) -> Result<(), Fail> {
-    let haystack = b"\xff\xffaa\xffa";
-    let inner = Input::new(haystack).range(1..4).anchored(Anchored::Yes);
+    let inner = Input::new(LETTERS).range(1..4).anchored(Anchored::Yes);
     same(rt, lazy.search_input(&inner)?, ended(1));
     same(rt, lazy.is_match(&inner)?, true);
     let mut short = inner;
@@ -147,9 +163,21 @@ fn expect_inner<R: Abort>(rt: &R, lazy: &mut Lazy<'_>) -> Result<(), Fail> {
     Ok(())
 }
 
+/// Searches in the same way a range that ends after the last letter, and one that ends before the
+/// byte ff in front of that letter.
+fn expect_moved<R: Abort>(rt: &R, lazy: &mut Lazy<'_>) -> Result<(), Fail> {
+    let mut input = Input::new(LETTERS).anchored(Anchored::Yes);
+    input.set_range(1..6);
+    same(rt, lazy.search_input(&input)?, ended(4));
+    input.set_end(4);
+    same(rt, lazy.search_input(&input)?, ended(1));
+    Ok(())
+}
+
 #[test]
 fn inner_range_backward(rt: HostRuntime) -> Result<(), Fail> {
     let nfa = nfa(&rt, "BU:1,2 B:61>0 B:ff>3 M:0", true)?;
     let mut lazy = Lazy::new(rt.alloc(), &nfa, MatchKind::All, 16);
-    expect_inner(&rt, &mut lazy)
+    expect_inner(&rt, &mut lazy)?;
+    expect_moved(&rt, &mut lazy)
 }

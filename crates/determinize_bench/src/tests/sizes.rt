@@ -5,7 +5,7 @@ use determinize_core::determinize::Steps;
 use determinize_core::state::State;
 use std::marker::Brand;
 
-/// A count takes no bytes, and a short state stands in the value itself.
+/// A step counter without a count has size zero, and a short state is stored inline.
 #[test]
 fn sizes(rt: HostRuntime) {
     same(

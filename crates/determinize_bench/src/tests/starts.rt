@@ -1,37 +1,12 @@
-//! Where a search starts.
+//! Start configurations and look-behind: texts of their tables.
 
 use crate::tests::map_text::MAP_OF_B;
 use crate::tests::{holds, lazy, same};
-use determinize_below::{Input, Look, LookMatcher, Unit};
-use determinize_core::start::{
-    Start, StartByteMap, look_ahead_forward, look_ahead_reverse, start_kind_of,
-};
+use determinize_below::{Look, LookMatcher, Unit};
+use determinize_core::start::{StartByteMap, start_kind_of};
 use determinize_looks::look_tables::LookTables;
 use std::process::Abort;
 use std::test::Fail;
-
-#[test]
-fn bytes_ahead(rt: HostRuntime) {
-    let input = Input::new(b"abc").range(1..2);
-    same(&rt, look_ahead_forward(&input), Some(b'c'));
-    same(&rt, look_ahead_reverse(&input), Some(b'a'));
-    let empty = Input::new(b"").range(1..0);
-    same(&rt, look_ahead_forward(&empty), None);
-    same(&rt, look_ahead_reverse(&empty), None);
-}
-
-#[test]
-fn numbers_of_kinds(rt: HostRuntime) {
-    for number in 0..Start::len() {
-        let Some(kind) = Start::from_usize(number) else {
-            panic!(rt; "no kind has the number {number}");
-        };
-        same(&rt, kind.as_usize(), number);
-    }
-    same(&rt, Start::len(), 6);
-    same(&rt, Start::from_usize(6), None);
-    same(&rt, Start::LineCR.as_u8(), 4);
-}
 
 #[test]
 fn text_of_a_map(rt: HostRuntime) -> Result<(), Fail> {
@@ -46,8 +21,8 @@ fn text_of_a_map(rt: HostRuntime) -> Result<(), Fail> {
 /// The start of a line, and after it the start or the end of a word.
 const ASSERTIONS: &str = "L:StartLF>1 L:WordAscii>2 M:0";
 
-/// The end of a line stands behind, then a word byte, and then the input ends. Last, the texts of
-/// what is told after the byte, and of the tables.
+/// Compares the look-behind at the start of a line and after a word byte, the assertions that EOI
+/// satisfies, and two debug texts.
 fn expect_tables<R: Abort + AllocGlobal>(rt: &R, tables: LookTables) -> Result<(), Fail> {
     let at_start = tables.at_start(start_kind_of(b'\n', Some(b'\n')));
     holds(rt, at_start.looks.contains(Look::StartLF));

@@ -1,4 +1,4 @@
-//! States and their builders, as values of other tests.
+//! States and builders, as values for other tests.
 
 use determinize_core::state::{State, StateBuilderMatches, StateBuilderNFA};
 use determinize_replay::job::Job;
@@ -6,17 +6,17 @@ use determinize_replay::{records, values};
 use std::alloc::Global;
 use std::test::Fail;
 
-/// The builder of a job of the verb `build`.
+/// Returns the builder of a job of the verb `build`.
 pub fn built(alloc: Global, line: &str) -> Result<StateBuilderNFA, Fail> {
     Ok(records::builder(alloc, &Job::read(alloc, line)?)?)
 }
 
-/// The state of a job of the verb `build`.
+/// Returns the state of a job of the verb `build`.
 pub fn state(alloc: Global, line: &str) -> Result<State, Fail> {
     Ok(built(alloc, line)?.to_state()?)
 }
 
-/// A builder with these patterns.
+/// Returns a builder with these patterns.
 pub fn with_patterns(alloc: Global, numbers: &str) -> Result<StateBuilderMatches, Fail> {
     let ids = values::pattern_ids(alloc, numbers)?;
     Ok(records::with_patterns(alloc, ids.as_slice())?)

@@ -1,4 +1,4 @@
-//! Texts of states, of their builders, of caches and of NFAs.
+//! The debug texts of states, builders, caches and NFAs.
 
 use crate::tests::lazy::{WORDS, nfa};
 use crate::tests::same;
@@ -10,7 +10,7 @@ use std::fmt::Debug;
 use std::process::Abort;
 use std::test::Fail;
 
-/// Compares the text of a value.
+/// Compares the debug text of a value.
 fn expect_text<R: Abort + AllocGlobal, T: Debug>(
     rt: &R,
     value: &T,
@@ -21,13 +21,13 @@ fn expect_text<R: Abort + AllocGlobal, T: Debug>(
     Ok(())
 }
 
-/// The text of a builder that was entered by a word byte, with patterns and a set.
+/// The text of a builder with the flag from-word, patterns and look-have.
 const ENTERED: &str = "\
 StateBuilderMatches { is_match: true, is_from_word: true, is_half_crlf: false, \
 look_have: LookSet { bits: 1 }, look_need: LookSet { bits: 0 }, \
 match_pattern_ids: [PatternID(1), PatternID(0)], nfa_state_ids: [] }";
 
-/// The text of a builder that stands behind half of a CRLF.
+/// The text of a builder with the flag half-CRLF.
 const HALF: &str = "\
 StateBuilderMatches { is_match: false, is_from_word: false, is_half_crlf: true, \
 look_have: LookSet { bits: 0 }, look_need: LookSet { bits: 0 }, \
@@ -46,7 +46,7 @@ fn texts_of_builders(rt: HostRuntime) -> Result<(), Fail> {
     expect_text(&rt, &empty, "StateBuilderEmpty { .. }")
 }
 
-/// Jobs of the verb `build`, and what the texts of their builders and states have after their names.
+/// Jobs of the verb `build`, and the texts of their builders and states after the type name.
 static TEXTS: [(&str, &str); 2] = [
     (
         "build fw=1 half=0 have=Start need=End pids=0 ids=1,3",
@@ -85,7 +85,7 @@ fn text_of_ids_that_are_left(rt: HostRuntime) -> Result<(), Fail> {
     expect_text(&rt, &ids, "[StateID(0), StateID(300)]")
 }
 
-/// The text of a cache that has walked `quartz`, in which three states join seven transitions.
+/// The text of a cache after a walk over `quartz`, with three states and seven transitions.
 const CACHE: &str = "\
 Lazy { match_kind: LeftmostFirst, limit: 16, states_kept: 3, computed: 7, .. }";
 
@@ -97,7 +97,7 @@ fn text_of_a_cache(rt: HostRuntime) -> Result<(), Fail> {
     expect_text(&rt, &lazy, CACHE)
 }
 
-/// The text of an NFA: a line for each state.
+/// The text of an NFA, one line per state.
 const STATES: &str = "\
 NFA(
 0: sparse(30-39 => 2, 41-5a => 3)

@@ -1,6 +1,6 @@
-//! Single calls whose answers were worked by hand.
+//! Single calls whose results were worked out by hand.
 
-/// Single calls, each before the lines of its answer.
+/// Single calls, each before the lines of its output.
 pub const CALLS: &str = "\
 > dead
 000000000000000000

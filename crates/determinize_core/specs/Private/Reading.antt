@@ -1,15 +1,21 @@
 -- The first reading of a working list: which of its states matter, and for what.
-use Rattle.std.specs.Prelude.{ℕ, Bool, true, false, not, Option, List, [], ◌∷◌, if◌then◌else◌}
-use Rattle.determinize_states.specs.Value.{is_nonempty}
+use Rattle.std.specs.Prelude.{◌≡◌, ℕ, ◌++◌, Bool, not, Option, None, Some, List, [], ◌∷◌, if◌then◌else◌, nat_eq}
+use Rattle.determinize_states.specs.Value.{Value, is_nonempty}
 use Rattle.determinize_below.specs.Members.{has_id}
 use mathlib.Core.Bool.{◌&&◌, ◌||◌}
 use Rattle.std.specs.List.{flat_map}
 use Rattle.determinize_below.specs.declared.search.MatchKind.{MatchKind}
-use Rattle.determinize_below.specs.Edges.{is_match, target}
+use Rattle.determinize_below.specs.Edges.{is_match, patterns_of, target}
 use Rattle.determinize_below.specs.Nfa.{Nfa}
-use Rattle.determinize_core.specs.Step.{part_read}
+use Rattle.determinize_below.specs.Reach.{fresh, none_held}
+use Rattle.determinize_core.specs.Step.{part_read, patterns_read}
+use Rattle.determinize_core.specs.Private.Changes.{with_patterns}
 use Rattle.determinize_core.specs.declared.determinize.working_list.Reading.{Reading}
-use Rattle.determinize_core.specs.declared.determinize.working_list.Reading.TheVariants.{Passed, LeadsOn, Stops}
+use Rattle.determinize_core.specs.declared.determinize.working_list.Reading.TheVariants.{Nothing, Target, Match}
+
+-- the items of a list, each once
+abbrev pub distinct : List ℕ → List ℕ
+distinct xs = fresh nat_eq none_held xs
 
 -- the roots that the reading of a list gives: where the unit leads from its states, as far as they are read
 abbrev pub roots_of : Nfa → MatchKind → Option ℕ → List ℕ → List ℕ
@@ -23,14 +29,25 @@ matters nfa u s = is_match nfa s || is_nonempty (target nfa u s)
 abbrev pub gained : Nfa → Option ℕ → List ℕ → ℕ → List ℕ
 gained nfa u kept s = if matters nfa u s && not (has_id kept s) then s ∷ [] else []
 
--- whether the reading found that the unit leads on
-abbrev pub leads_on : Reading → Bool
-leads_on Passed = false
-leads_on LeadsOn = true
-leads_on Stops = false
+-- the target that was read
+abbrev pub target_read : Reading → Option ℕ
+target_read Nothing = None
+target_read (Target id) = Some id
+target_read (Match pattern) = None
 
--- whether the reading stops there
-abbrev pub stops : Reading → Bool
-stops Passed = false
-stops LeadsOn = false
-stops Stops = true
+-- the pattern that was read
+abbrev pub pattern_read : Reading → Option ℕ
+pattern_read Nothing = None
+pattern_read (Target id) = None
+pattern_read (Match pattern) = Some pattern
+
+-- a state was read: the states that matter, the targets and the builder have gained what it gives
+pub record IsStateRead (nfa : Nfa) (u : Option ℕ) (id : ℕ) (kept kept_after targets targets_after : List ℕ) (value next : Value) : Type 0 where
+  pub kept_are : kept_after ≡ kept ++ gained nfa u kept id
+  pub targets_are : targets_after ≡ targets ++ flat_map (target nfa u) (gained nfa u kept id)
+  pub value_is : next ≡ with_patterns value (value.patterns ++ patterns_of nfa (gained nfa u kept id))
+
+-- a list was read: the builder has its patterns, and the targets are its roots
+pub record IsListRead (nfa : Nfa) (kind : MatchKind) (u : Option ℕ) (working : List ℕ) (value next : Value) (targets : List ℕ) : Type 0 where
+  pub value_is : next ≡ with_patterns value (patterns_read kind (patterns_of nfa working))
+  pub targets_are : targets ≡ roots_of nfa kind u working

@@ -1,10 +1,11 @@
 -- A search while it goes on, and how often it tries to add a state.
-use Rattle.std.specs.Prelude.{◌≡◌, ℕ, suc, ◌+◌, ◌<◌, ◌∷◌, ◌++◌, [], All, Bool, List, length, nat_eq}
+use Rattle.std.specs.Prelude.{◌≡◌, ℕ, suc, ◌+◌, ◌<◌, ◌≤◌, ◌∷◌, ◌++◌, All, Bool, List, length, nat_eq}
 use Rattle.determinize_below.specs.declared.look.Look.{Look as Assertion}
-use Rattle.determinize_below.specs.Edges.{edges}
-use Rattle.determinize_below.specs.Look.{has}
-use Rattle.determinize_below.specs.Nfa.{Nfa}
+use Rattle.determinize_below.specs.Edges.{edges, reach_past}
+use Rattle.determinize_below.specs.Members.{Members}
+use Rattle.determinize_below.specs.Nfa.{AllResolve, Nfa}
 use Rattle.determinize_below.specs.Private.Searching.{closure, search_tries}
+use Rattle.determinize_core.specs.Closure.{AddsBeginning}
 
 -- the states of a search when it ends, from those met so far and those that are pending
 unfoldable pub search_end : Nfa → (Assertion → Bool) → List ℕ → List ℕ → List ℕ
@@ -14,13 +15,20 @@ search_end nfa holds met pending = closure nat_eq (edges nfa holds) (length nfa.
 unfoldable pub tries_left : Nfa → (Assertion → Bool) → List ℕ → List ℕ → ℕ
 tries_left nfa holds met pending = search_tries nat_eq (edges nfa holds) (length nfa.states + 1) met pending
 
--- how often it tries to add a state
-abbrev pub closure_tries : Nfa → ℕ → List ℕ → ℕ → ℕ
-closure_tries nfa look_have held start = tries_left nfa (has look_have) held (start ∷ [])
-
 -- one turn of a search: a pending state was met, after others, and new states are pending
 pub record IsTurn (nfa : Nfa) (holds : Assertion → Bool) (met after : List ℕ) (id : ℕ) (rest pending : List ℕ) : Type 0 where
   pub same : search_end nfa holds after pending ≡ search_end nfa holds met (id ∷ rest)
   pub fewer : tries_left nfa holds met (id ∷ rest) ≡ suc (tries_left nfa holds after pending)
   pub grown : (more : List ℕ) × (after ≡ met ++ more)
   pub below : All (λ s. s < length nfa.states) rest → All (λ s. s < length nfa.states) pending
+
+-- a search from roots has ended: the set has gained what they lead to, and each try is counted
+pub record IsSearched (nfa : Nfa) (holds : Assertion → Bool) (roots : List ℕ) (old new : Members) (before now : ℕ) : Type 0 where
+  pub set : new ≡ record old { ids = old.ids ++ reach_past nfa holds old.ids roots }
+  pub counted : now ≡ before + tries_left nfa holds old.ids roots
+
+-- a search from roots has ended, or has stopped for want of memory
+pub record IsPartSearched (nfa : Nfa) (holds : Assertion → Bool) (roots : List ℕ) (old new : Members) (before now : ℕ) : Type 0 where
+  pub set : AddsBeginning old new (reach_past nfa holds old.ids roots)
+  pub resolve : (root : ℕ) (others : List ℕ) → roots ≡ root ∷ others → AllResolve nfa new.ids
+  pub bounded : now ≤ before + tries_left nfa holds old.ids roots

@@ -1,16 +1,19 @@
 //! The epsilon closure: the states that a state leads to without input, in the order of preference.
+//!
+//! All closures are made by one loop, [`explore`]: the next state is the one at hand or else the
+//! last of the stack, so that the first edge of a state is followed to its end before the second.
+//! The set is what stops it on cycles. A [`Recorder`] takes down each state that is new.
 
-ghost use Rattle.std.specs.Prelude.{◌≡◌, ℕ, ◌+◌, ◌<◌, ◌≤◌, List, [], ◌∷◌, ◌++◌, false, not, length, reverse, IfNone, IfSome, IfOk, OnOk, OnErr, IsOk, if◌then◌else◌};
+ghost use Rattle.std.specs.Prelude.{◌≡◌, ℕ, ◌+◌, ◌<◌, List, [], ◌∷◌, ◌++◌, None, false, fold, not, length, reverse, IfNone, IfSome, IfOk, OnOk, OnErr, IsOk, if◌then◌else◌};
 ghost use Rattle.std.specs.Option.{option_to_list};
-ghost use Rattle.determinize_below.specs.Edges.{edges, is_capture, state_at};
+ghost use Rattle.determinize_below.specs.Edges.{edges, reach_past, state_at};
 ghost use Rattle.determinize_below.specs.Look.{has};
 ghost use Rattle.determinize_below.specs.Members.{AreMembers, has_id};
-ghost use Rattle.determinize_below.specs.Nfa.{AllResolve, IsAccepted};
+ghost use Rattle.determinize_below.specs.Nfa.{AllResolve, IsAccepted, Nfa};
 ghost use Rattle.determinize_below.specs.Node.{is_epsilon};
-ghost use Rattle.determinize_below.specs.Runs.{without};
 ghost use Rattle.determinize_core.specs.Closure.{closure_of, AddsBeginning};
-ghost use Rattle.determinize_core.specs.Private.Search.{closure_tries, IsTurn};
-ghost use Rattle.determinize_states.specs.Recording.{added, added_one};
+ghost use Rattle.determinize_core.specs.Private.Search.{IsPartSearched, IsSearched, IsTurn};
+ghost use Rattle.determinize_states.specs.Recording.{added_one};
 
 use crate::determinize::steps::Steps;
 use determinize_below::nfa::State;
@@ -20,6 +23,34 @@ use determinize_states::state::StateBuilderNFA;
 use std::alloc::{AllocError, Allocator};
 use std::marker::Brand;
 use std::sync::ledger::{Blank, Ledger};
+
+/// What takes down the states that a search finds: nothing, or a builder.
+pub(crate) trait Recorder {
+    ghost with_one: { Nfa → Self → ℕ → Self };
+
+    /// Takes down one state, after those before.
+    fn record<N: Allocator>(&mut self, nfa: &NFA<N>, id: StateID) -> Result<(), AllocError>
+        requires { id < length nfa.now.states }
+        ensures { OnOk result (self.new ≡ with_one nfa.now self.old id) };
+}
+
+impl Recorder for () {
+    ghost with_one = { λ nfa recorder id. recorder };
+
+    #[inline(always)]
+    fn record<N: Allocator>(&mut self, _nfa: &NFA<N>, _id: StateID) -> Result<(), AllocError> {
+        Ok(())
+    }
+}
+
+impl<A: Allocator> Recorder for StateBuilderNFA<A> {
+    ghost with_one = { added_one };
+
+    #[inline(always)]
+    fn record<N: Allocator>(&mut self, nfa: &NFA<N>, id: StateID) -> Result<(), AllocError> {
+        add_state(nfa, id, self)
+    }
+}
 
 /// One try to add a state to a set, which counts whether the state is new or not.
 #[inline(always)]
@@ -39,6 +70,7 @@ fn visit<A: Allocator, L: Ledger>(set: &mut SparseSet<A>, id: StateID, steps: &m
 #[inline(always)]
 fn take_next<A: Allocator>(at_hand: Option<StateID>, stack: &mut Vec<StateID, A>) -> Option<StateID>
     ensures none { IfNone result (option_to_list at_hand ++ reverse stack.old.items ≡ []) }
+    ensures empty { IfNone result (stack.new.items ≡ []) }
     ensures some { IfSome result (λ id. option_to_list at_hand ++ reverse stack.old.items
         ≡ id ∷ reverse stack.new.items) }
 {
@@ -108,127 +140,38 @@ fn follow<N: Allocator, A: Allocator>(
     }
 }
 
-/// One turn of a closure: a pending state is visited and, where it is new, followed.
-fn take_turn<N: Allocator, A: Allocator, L: Ledger>(
-    nfa: &NFA<N>,
-    id: StateID,
-    look_have: LookSet,
-    stack: &mut Vec<StateID, A>,
-    set: &mut SparseSet<A>,
-    steps: &mut Steps<L>,
-) -> Result<Option<StateID>, AllocError>
-    requires accepted { IsAccepted nfa.now }
-    requires resolve { id < length nfa.now.states }
-    requires capacity { set.old.capacity ≡ length nfa.now.states }
-    ensures turn { (pending : List ℕ)
-        × IsTurn nfa.now (has look_have) set.old.ids set.new.ids id (reverse stack.old.items)
-        pending
-        × IfOk result (λ next. option_to_list next ++ reverse stack.new.items ≡ pending) }
-    ensures capacity { set.new.capacity ≡ set.old.capacity }
-    ensures resolve { AllResolve nfa.now set.new.ids }
-    ensures counted { steps.new ≡ steps.old + 1 }
-{
-    if visit(set, id, steps) {
-        follow(nfa, id, look_have, stack)
-    } else {
-        Ok(None)
-    }
-}
-
-/// Adds what a state leads to without input. After a refusal the stack is left as it is.
-fn search<N: Allocator, A: Allocator, L: Ledger>(
-    nfa: &NFA<N>,
-    start: StateID,
-    look_have: LookSet,
-    stack: &mut Vec<StateID, A>,
-    set: &mut SparseSet<A>,
-    steps: &mut Steps<L>,
-) -> Result<(), AllocError>
-    requires accepted { IsAccepted nfa.now }
-    requires stack { stack.old.items ≡ [] }
-    requires resolve { start < length nfa.now.states }
-    requires capacity { set.old.capacity ≡ length nfa.now.states }
-    ensures ok { OnOk result (set.new
-        ≡ record set.old { ids = set.old.ids ++ closure_of nfa.now look_have set.old.ids start }) }
-    ensures err { OnErr result
-        (AddsBeginning set.old set.new (closure_of nfa.now look_have set.old.ids start)) }
-    ensures resolve { AllResolve nfa.now set.new.ids }
-    ensures counted { OnOk result
-        (steps.new ≡ steps.old + closure_tries nfa.now look_have set.old.ids start) }
-    ensures bounded { steps.new ≤ steps.old + closure_tries nfa.now look_have set.old.ids start }
-{
-    let mut at_hand = take_turn(nfa, start, look_have, stack, set, steps)?;
-    while let Some(id) = take_next(at_hand, stack) {
-        at_hand = take_turn(nfa, id, look_have, stack, set, steps)?;
-    }
-    Ok(())
-}
-
-/// The closure of one state, with a count of its tries.
-pub(crate) fn counted_closure<N: Allocator, A: Allocator, L: Ledger>(
-    nfa: &NFA<N>,
-    start: StateID,
-    look_have: LookSet,
-    stack: &mut Vec<StateID, A>,
-    set: &mut SparseSet<A>,
-    steps: &mut Steps<L>,
-) -> Result<(), AllocError>
-    requires stack { stack.old.items ≡ [] }
-    requires resolve { start < length nfa.now.states }
-    requires capacity { set.old.capacity ≡ length nfa.now.states }
-    ensures ok { OnOk result (set.new
-        ≡ record set.old { ids = set.old.ids ++ closure_of nfa.now look_have set.old.ids start }) }
-    ensures err { OnErr result
-        (AddsBeginning set.old set.new (closure_of nfa.now look_have set.old.ids start)) }
-    ensures resolve { AllResolve nfa.now set.new.ids }
-    ensures stack { stack.new.items ≡ [] }
-    ensures succeeds { is_epsilon (state_at nfa.now start) ≡ false → IsOk result }
-    ensures counted { OnOk result
-        (steps.new ≡ steps.old + closure_tries nfa.now look_have set.old.ids start) }
-    ensures bounded { steps.new ≤ steps.old + closure_tries nfa.now look_have set.old.ids start }
-{
-    if !nfa.state(start).is_epsilon() {
-        visit(set, start, steps);
-        return Ok(());
-    }
-    let result = search(nfa, start, look_have, stack, set, steps);
-    stack.clear();
-    result
-}
-
-/// Records a state in the builder, and answers where it leads without input: a state that is no
-/// epsilon state, as most are, leads nowhere, and is recorded at once.
+/// Takes down a state, and answers where it leads without input. A state that is no epsilon state,
+/// as most are, leads nowhere.
 #[inline(always)]
-fn record_and_follow<N: Allocator, A: Allocator>(
+fn record_and_follow<N: Allocator, A: Allocator, W: Recorder>(
     nfa: &NFA<N>,
     id: StateID,
     look_have: LookSet,
     stack: &mut Vec<StateID, A>,
-    builder: &mut StateBuilderNFA<A>,
+    recorder: &mut W,
 ) -> Result<Option<StateID>, AllocError>
     requires { id < length nfa.now.states }
     ensures pending { IfOk result (λ next. option_to_list next ++ reverse stack.new.items
         ≡ edges nfa.now (has look_have) id ++ reverse stack.old.items) }
-    ensures recorded { OnOk result (builder.new ≡ added_one nfa.now builder.old id) }
+    ensures recorded { OnOk result (recorder.new ≡ W.with_one nfa.now recorder.old id) }
 {
     if !nfa.state(id).is_epsilon() {
-        builder.add_nfa_state_id(id)?;
+        recorder.record(nfa, id)?;
         return Ok(None);
     }
-    add_state(nfa, id, builder)?;
+    recorder.record(nfa, id)?;
     follow(nfa, id, look_have, stack)
 }
 
-/// One turn of a closure that records: a pending state is visited and, where it is new, recorded in
-/// the builder and followed.
+/// One turn of a search: a pending state is visited and, where it is new, taken down and followed.
 #[inline(always)]
-fn take_recording_turn<N: Allocator, A: Allocator, L: Ledger>(
+fn take_turn<N: Allocator, A: Allocator, W: Recorder, L: Ledger>(
     nfa: &NFA<N>,
     id: StateID,
     look_have: LookSet,
     stack: &mut Vec<StateID, A>,
     set: &mut SparseSet<A>,
-    builder: &mut StateBuilderNFA<A>,
+    recorder: &mut W,
     steps: &mut Steps<L>,
 ) -> Result<Option<StateID>, AllocError>
     requires accepted { IsAccepted nfa.now }
@@ -239,77 +182,73 @@ fn take_recording_turn<N: Allocator, A: Allocator, L: Ledger>(
         pending
         × (set.new.ids ≡ set.old.ids ++ gained)
         × IfOk result (λ next. (option_to_list next ++ reverse stack.new.items ≡ pending)
-        × (builder.new ≡ added nfa.now builder.old (without (is_capture nfa.now) gained))) }
+        × (recorder.new ≡ fold (W.with_one nfa.now) recorder.old gained)) }
     ensures capacity { set.new.capacity ≡ set.old.capacity }
+    ensures resolve { AllResolve nfa.now set.new.ids }
     ensures counted { steps.new ≡ steps.old + 1 }
 {
     if visit(set, id, steps) {
-        record_and_follow(nfa, id, look_have, stack, builder)
+        record_and_follow(nfa, id, look_have, stack, recorder)
     } else {
         Ok(None)
     }
 }
 
-/// Adds what a state leads to without input, and records it. After a refusal the stack is left as
-/// it is.
+/// Searches from the state at hand and from those on the stack, the last of them first. After a
+/// refusal the stack is left as it is.
 #[inline(always)]
-fn search_recording<N: Allocator, A: Allocator, L: Ledger>(
+fn explore<N: Allocator, A: Allocator, W: Recorder, L: Ledger>(
     nfa: &NFA<N>,
-    start: StateID,
+    first: Option<StateID>,
     look_have: LookSet,
     stack: &mut Vec<StateID, A>,
     set: &mut SparseSet<A>,
-    builder: &mut StateBuilderNFA<A>,
+    recorder: &mut W,
     steps: &mut Steps<L>,
 ) -> Result<(), AllocError>
     requires accepted { IsAccepted nfa.now }
-    requires stack { stack.old.items ≡ [] }
-    requires resolve { start < length nfa.now.states }
+    requires resolve { AllResolve nfa.now (option_to_list first ++ reverse stack.old.items) }
     requires capacity { set.old.capacity ≡ length nfa.now.states }
-    ensures ok { OnOk result (set.new
-        ≡ record set.old { ids = set.old.ids ++ closure_of nfa.now look_have set.old.ids start }) }
-    ensures recorded { OnOk result (builder.new ≡ added nfa.now builder.old
-        (without (is_capture nfa.now) (closure_of nfa.now look_have set.old.ids start))) }
-    ensures capacity { set.new.capacity ≡ set.old.capacity }
-    ensures counted { OnOk result
-        (steps.new ≡ steps.old + closure_tries nfa.now look_have set.old.ids start) }
-    ensures bounded { steps.new ≤ steps.old + closure_tries nfa.now look_have set.old.ids start }
+    ensures ok { OnOk result (IsSearched nfa.now (has look_have)
+        (option_to_list first ++ reverse stack.old.items) set.old set.new steps.old steps.new) }
+    ensures recorded { OnOk result (recorder.new ≡ fold (W.with_one nfa.now) recorder.old
+        (reach_past nfa.now (has look_have) set.old.ids
+        (option_to_list first ++ reverse stack.old.items))) }
+    ensures part { IsPartSearched nfa.now (has look_have)
+        (option_to_list first ++ reverse stack.old.items) set.old set.new steps.old steps.new }
+    ensures stack { OnOk result (stack.new.items ≡ []) }
 {
-    let mut at_hand = Some(start);
+    let mut at_hand = first;
     while let Some(id) = take_next(at_hand, stack) {
-        at_hand = take_recording_turn(nfa, id, look_have, stack, set, builder, steps)?;
+        at_hand = take_turn(nfa, id, look_have, stack, set, recorder, steps)?;
     }
     Ok(())
 }
 
-/// The closure of one state, each new state of which is recorded in the moment in which it is added
-/// to the set, captures left out. After a refusal nothing is told of the builder.
-pub(crate) fn recording_closure<N: Allocator, A: Allocator, L: Ledger>(
+/// Searches from the states on the stack, the first of them first. After a refusal the stack is
+/// left as it is.
+#[inline(always)]
+pub(crate) fn explore_all<N: Allocator, A: Allocator, W: Recorder, L: Ledger>(
     nfa: &NFA<N>,
-    start: StateID,
     look_have: LookSet,
     stack: &mut Vec<StateID, A>,
     set: &mut SparseSet<A>,
-    builder: &mut StateBuilderNFA<A>,
+    recorder: &mut W,
     steps: &mut Steps<L>,
 ) -> Result<(), AllocError>
     requires accepted { IsAccepted nfa.now }
-    requires stack { stack.old.items ≡ [] }
-    requires resolve { start < length nfa.now.states }
+    requires resolve { AllResolve nfa.now stack.old.items }
     requires capacity { set.old.capacity ≡ length nfa.now.states }
-    ensures ok { OnOk result (set.new
-        ≡ record set.old { ids = set.old.ids ++ closure_of nfa.now look_have set.old.ids start }) }
-    ensures recorded { OnOk result (builder.new ≡ added nfa.now builder.old
-        (without (is_capture nfa.now) (closure_of nfa.now look_have set.old.ids start))) }
-    ensures capacity { set.new.capacity ≡ set.old.capacity }
-    ensures stack { stack.new.items ≡ [] }
-    ensures counted { OnOk result
-        (steps.new ≡ steps.old + closure_tries nfa.now look_have set.old.ids start) }
-    ensures bounded { steps.new ≤ steps.old + closure_tries nfa.now look_have set.old.ids start }
+    ensures ok { OnOk result (IsSearched nfa.now (has look_have) stack.old.items set.old set.new
+        steps.old steps.new) }
+    ensures recorded { OnOk result (recorder.new ≡ fold (W.with_one nfa.now) recorder.old
+        (reach_past nfa.now (has look_have) set.old.ids stack.old.items)) }
+    ensures part { IsPartSearched nfa.now (has look_have) stack.old.items set.old set.new
+        steps.old steps.new }
+    ensures stack { OnOk result (stack.new.items ≡ []) }
 {
-    let result = search_recording(nfa, start, look_have, stack, set, builder, steps);
-    stack.clear();
-    result
+    stack.reverse();
+    explore(nfa, None, look_have, stack, set, recorder, steps)
 }
 
 /// The closure of one state, with a count that is let go.
@@ -336,7 +275,13 @@ fn closure_from<N: Allocator, A: Allocator, L: Ledger>(
     ensures succeeds { is_epsilon (state_at nfa.now start) ≡ false → IsOk result }
 {
     let mut steps = Steps::<L>::new(blank);
-    counted_closure(nfa, start, look_have, stack, set, &mut steps)
+    if !nfa.state(start).is_epsilon() {
+        visit(set, start, &mut steps);
+        return Ok(());
+    }
+    let result = explore(nfa, Some(start), look_have, stack, set, &mut (), &mut steps);
+    stack.clear();
+    result
 }
 
 /// Adds to the set the states that `start` leads to without input, itself included.

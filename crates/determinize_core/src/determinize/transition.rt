@@ -1,26 +1,20 @@
 //! One transition: the state of a DFA that follows a state over a unit of input.
 
-ghost use Rattle.std.specs.Prelude.{◌≡◌, ◌+◌, ◌*◌, ◌<◌, ◌≤◌, ◌++◌, ◌&&◌, [], length, IfOk, OnOk};
-ghost use Rattle.std.specs.List.{flat_map};
-ghost use Rattle.determinize_below.specs.Edges.{is_capture, reach, reach_past, target};
-ghost use Rattle.determinize_below.specs.Look.{has};
+ghost use Rattle.std.specs.Prelude.{◌≡◌, ◌+◌, ◌*◌, ◌<◌, ◌≤◌, ◌&&◌, [], length, IfOk, OnOk};
 ghost use Rattle.determinize_below.specs.Nfa.{AllResolve, IsAccepted};
-ghost use Rattle.determinize_below.specs.Runs.{without};
 ghost use Rattle.determinize_below.specs.Unit.{byte_of};
 ghost use Rattle.determinize_below.specs.declared.search.MatchKind.TheVariants as kinds;
-ghost use Rattle.determinize_core.specs.Private.Search.{tries_left};
 ghost use Rattle.determinize_looks.specs.LookTables.{from_word_after, half_crlf_after, have_after, tables_of};
-ghost use Rattle.determinize_states.specs.Recording.{added};
 ghost use Rattle.determinize_core.specs.Scratch.{IsScratch};
 ghost use Rattle.determinize_core.specs.Step.{step};
-ghost use Rattle.determinize_core.specs.Tries.{edges_in_all, tries, tries_of};
+ghost use Rattle.determinize_core.specs.Tries.{edges_in_all, tries};
 ghost use Rattle.determinize_states.specs.Value.{dead, with_flags};
 
-use crate::determinize::closure::recording_closure;
+use crate::determinize::closure::explore_all;
 use crate::determinize::lookbehind;
 use crate::determinize::steps::Steps;
-use crate::determinize::working_list::{read_working_list, target};
-use determinize_below::{LookSet, MatchKind, NFA, SparseSet, SparseSets, StateID, Unit};
+use crate::determinize::working_list::read_working_list;
+use determinize_below::{MatchKind, NFA, SparseSets, StateID, Unit};
 use determinize_looks::look_tables::{LookTables, Told};
 use determinize_states::state::{State, StateBuilderEmpty, StateBuilderMatches, StateBuilderNFA};
 use std::alloc::{AllocError, Allocator};
@@ -59,70 +53,48 @@ fn set_flags<A: Allocator>(told: Told, leads_on: bool, builder: &mut StateBuilde
     }
 }
 
-/// Records what the unit leads to from a state, where it leads on.
-#[inline(always)]
-fn record_target<N: Allocator, A: Allocator, L: Ledger>(
+/// One transition. After a refusal the stack is left as it is.
+#[inline(never)]
+fn transition<N: Allocator, A: Allocator, L: Ledger>(
     nfa: &NFA<N>,
-    id: StateID,
-    unit: Unit,
-    look_have: LookSet,
+    match_kind: MatchKind,
+    sparses: &mut SparseSets<A>,
     stack: &mut Vec<StateID, A>,
-    entered: &mut SparseSet<A>,
-    builder: &mut StateBuilderNFA<A>,
-    steps: &mut Steps<L>,
-) -> Result<(), AllocError>
-    requires accepted { IsAccepted nfa.now }
-    requires resolve { id < length nfa.now.states }
-    requires stack { stack.old.items ≡ [] }
-    requires capacity { entered.old.capacity ≡ length nfa.now.states }
-    ensures entered { OnOk result (entered.new.ids ≡ entered.old.ids ++ reach_past nfa.now
-        (has look_have) entered.old.ids (target nfa.now (byte_of unit) id)) }
-    ensures recorded { OnOk result (builder.new ≡ added nfa.now builder.old
-        (without (is_capture nfa.now) (reach_past nfa.now (has look_have) entered.old.ids
-        (target nfa.now (byte_of unit) id)))) }
-    ensures capacity { entered.new.capacity ≡ entered.old.capacity }
-    ensures stack { stack.new.items ≡ [] }
-    ensures counted { OnOk result (steps.new ≡ steps.old + tries_left nfa.now (has look_have)
-        entered.old.ids (target nfa.now (byte_of unit) id)) }
-    ensures bounded { steps.new ≤ steps.old + tries_left nfa.now (has look_have)
-        entered.old.ids (target nfa.now (byte_of unit) id) }
-{
-    match target(nfa, id, unit) {
-        Some(next) => recording_closure(nfa, next, look_have, stack, entered, builder, steps),
-        None => Ok(()),
-    }
-}
-
-/// The second reading: records what the unit leads to from the states that were kept.
-fn record_targets<N: Allocator, A: Allocator, L: Ledger>(
-    nfa: &NFA<N>,
-    kept: &SparseSet<A>,
+    state: &State<A>,
     unit: Unit,
-    stack: &mut Vec<StateID, A>,
-    entered: &mut SparseSet<A>,
-    builder: &mut StateBuilderNFA<A>,
+    empty_builder: StateBuilderEmpty<A>,
     steps: &mut Steps<L>,
-) -> Result<(), AllocError>
-    requires accepted { IsAccepted nfa.now }
-    requires below { kept.now.capacity ≡ length nfa.now.states }
-    requires stack { stack.old.items ≡ [] }
-    requires empty { entered.old.ids ≡ [] }
-    requires capacity { entered.old.capacity ≡ length nfa.now.states }
-    ensures recorded { OnOk result (builder.new ≡ added nfa.now builder.old
-        (without (is_capture nfa.now) (reach nfa.now (has builder.old.look_have)
-        (flat_map (target nfa.now (byte_of unit)) kept.now.ids)))) }
-    ensures capacity { entered.new.capacity ≡ entered.old.capacity }
-    ensures stack { stack.new.items ≡ [] }
-    ensures counted { OnOk result (steps.new ≡ steps.old + tries_of nfa.now
-        (has builder.old.look_have) (flat_map (target nfa.now (byte_of unit)) kept.now.ids)) }
-    ensures bounded { steps.new ≤ steps.old + tries_of nfa.now
-        (has builder.old.look_have) (flat_map (target nfa.now (byte_of unit)) kept.now.ids) }
+) -> Result<StateBuilderNFA<A>, AllocError>
+    requires scratch { IsScratch nfa.now sparses.old.set1 sparses.old.set2 stack.old.items }
+    requires resolve { AllResolve nfa.now state.now.states }
+    ensures ok { IfOk result
+        (λ builder. builder ≡ step nfa.now match_kind state.now (byte_of unit)) }
+    ensures resolve { IfOk result (λ builder. AllResolve nfa.now builder.states) }
+    ensures scratch { IsScratch nfa.now sparses.new.set1 sparses.new.set2 [] }
+    ensures counted { OnOk result
+        (steps.new ≡ steps.old + tries nfa.now match_kind state.now (byte_of unit)) }
+    ensures bounded { steps.new ≤ steps.old + 2 * (length nfa.now.states + edges_in_all nfa.now) }
 {
-    let look_have = builder.look_have();
-    for id in kept.iter() {
-        record_target(nfa, id, unit, look_have, stack, entered, builder, steps)?;
-    }
-    Ok(())
+    let told = told_after(nfa, unit);
+    sparses.clear();
+    let mut builder = tell(told, empty_builder)?;
+    read_working_list(
+        nfa,
+        match_kind,
+        state,
+        unit,
+        sparses,
+        stack,
+        &mut builder,
+        steps,
+    )?;
+    // A state in which nothing is entered has no flag, whatever the unit is.
+    set_flags(told, !stack.is_empty(), &mut builder);
+    let mut builder = builder.into_nfa();
+    let set = &mut sparses.set2;
+    explore_all(nfa, told.looks, stack, set, &mut builder, steps)?;
+    builder.settle();
+    Ok(builder)
 }
 
 /// The same as [`next`], with a count of the tries to add a state to a set.
@@ -153,25 +125,18 @@ pub fn next_counted<N: Allocator, A: Allocator, L: Ledger>(
         (steps.new ≡ steps.old + tries nfa.now match_kind state.now (byte_of unit)) }
     ensures bounded { steps.new ≤ steps.old + 2 * (length nfa.now.states + edges_in_all nfa.now) }
 {
-    let told = told_after(nfa, unit);
-    sparses.clear();
-    let mut builder = tell(told, empty_builder)?;
-    let leads_on = read_working_list(
+    let result = transition(
         nfa,
         match_kind,
-        state,
-        unit,
         sparses,
         stack,
-        &mut builder,
+        state,
+        unit,
+        empty_builder,
         steps,
-    )?;
-    set_flags(told, leads_on, &mut builder);
-    let mut builder = builder.into_nfa();
-    let SparseSets { set1, set2 } = sparses;
-    record_targets(nfa, set1, unit, stack, set2, &mut builder, steps)?;
-    builder.settle();
-    Ok(builder)
+    );
+    stack.clear();
+    result
 }
 
 /// The same, with a count that is let go.

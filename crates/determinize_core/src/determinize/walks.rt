@@ -1,16 +1,13 @@
 //! A whole walk: the states of a DFA over a text, from the start state on.
 
-ghost use Rattle.std.specs.Prelude.{◌≡◌, ◌<◌, ◌∷◌, ◌++◌, [], All, None, length, IfOk, OnOk};
+ghost use Rattle.std.specs.Prelude.{◌≡◌, ◌<◌, ◌∷◌, ◌++◌, [], None, length, IfOk, OnOk};
 ghost use Rattle.determinize_below.specs.Nfa.{AllResolve};
 ghost use Rattle.determinize_below.specs.Positions.{between};
 ghost use Rattle.determinize_below.specs.Unit.{byte_of};
-ghost use Rattle.determinize_below.specs.declared.search.MatchKind.TheVariants as kinds;
-ghost use Rattle.determinize_core.specs.Chain.{FollowsItself, chain};
 ghost use Rattle.determinize_core.specs.Scratch.{IsScratch};
 ghost use Rattle.determinize_core.specs.Step.{start_value, step};
 ghost use Rattle.determinize_core.specs.Walk as specs_of_walks;
-ghost use Rattle.determinize_core.specs.Walk.{IsLeftmostWalk, IsWalkOfAll};
-ghost use Rattle.determinize_core.specs.WalkStates.{RecordsReached};
+ghost use Rattle.determinize_core.specs.WholeWalk.{IsWalk};
 
 use crate::determinize::closure::epsilon_closure;
 use crate::determinize::lookbehind::set_lookbehind_from_start;
@@ -67,22 +64,8 @@ pub fn walk<N: Allocator, A: Allocator + Copy>(
     text: &[u8],
 ) -> Result<Vec<State<A>, A>, AllocError>
     requires { start < length nfa.now.states }
-    ensures values { IfOk result (λ states. states.items
-        ≡ chain nfa.now match_kind start (between look_behind text.now None)) }
-    ensures all { match_kind ≡ kinds.All → IfOk result
-        (λ states. IsWalkOfAll nfa.now start (between look_behind text.now None)
-        states.items) }
-    ensures leftmost_first { match_kind ≡ kinds.LeftmostFirst → IfOk result
-        (λ states. IsLeftmostWalk nfa.now start (between look_behind text.now None)
-        states.items) }
-    ensures records { IfOk result
-        (λ states. RecordsReached nfa.now match_kind start (between look_behind text.now None)
-        states.items) }
-    ensures follows { IfOk result
-        (λ states. FollowsItself nfa.now match_kind (between look_behind text.now None)
-        states.items) }
-    ensures resolve { IfOk result
-        (λ states. All (λ state. AllResolve nfa.now state.states) states.items) }
+    ensures { IfOk result (λ states. IsWalk nfa.now match_kind start
+        (between look_behind text.now None) states.items) }
 {
     walk_between(alloc, nfa, match_kind, start, look_behind, text, None)
 }
@@ -118,22 +101,8 @@ pub fn walk_between<N: Allocator, A: Allocator + Copy>(
     look_ahead: Option<u8>,
 ) -> Result<Vec<State<A>, A>, AllocError>
     requires { start < length nfa.now.states }
-    ensures values { IfOk result (λ states. states.items
-        ≡ chain nfa.now match_kind start (between look_behind text.now look_ahead)) }
-    ensures all { match_kind ≡ kinds.All → IfOk result
-        (λ states. IsWalkOfAll nfa.now start (between look_behind text.now look_ahead)
-        states.items) }
-    ensures leftmost_first { match_kind ≡ kinds.LeftmostFirst → IfOk result
-        (λ states. IsLeftmostWalk nfa.now start (between look_behind text.now look_ahead)
-        states.items) }
-    ensures records { IfOk result
-        (λ states. RecordsReached nfa.now match_kind start (between look_behind text.now look_ahead)
-        states.items) }
-    ensures follows { IfOk result
-        (λ states. FollowsItself nfa.now match_kind (between look_behind text.now look_ahead)
-        states.items) }
-    ensures resolve { IfOk result
-        (λ states. All (λ state. AllResolve nfa.now state.states) states.items) }
+    ensures { IfOk result (λ states. IsWalk nfa.now match_kind start
+        (between look_behind text.now look_ahead) states.items) }
 {
     let mut sparses = SparseSets::new(alloc, nfa.len())?;
     let mut stack = Vec::new(alloc);

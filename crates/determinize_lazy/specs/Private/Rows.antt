@@ -1,36 +1,55 @@
--- The table of kept transitions: for each value held a row of 258 numbers, the last of which tells its signs.
-use Rattle.std.specs.Prelude.{◌≡◌, ℕ, ◌+◌, ◌*◌, ◌/◌, true, false, Option, Some, None, List, length, replicate, slice_get, slice_index, ◌++◌, ◌∷◌, []}
+-- What is true of the rows of a transition table, and what lookups in it return.
+use Rattle.std.specs.Prelude.{◌≡◌, ℕ, ◌+◌, ◌*◌, ◌/◌, ◌<◌, ◌≤◌, ◌⊎◌, false, Option, Some, None, List, length, slice_get, slice_index, MatchOption}
 use Rattle.std.specs.List.{list_any}
 use Rattle.determinize_below.specs.Truth.{IsUnit}
 use Rattle.determinize_core.specs.Value.{Value}
-use Rattle.determinize_lazy.specs.Pairs.{Pair, is_kept, same}
-use Rattle.determinize_lazy.specs.Places.{EachApart}
-use Rattle.determinize_lazy.specs.Private.Signs.{signs_in, signs_of, StateSigns}
+use Rattle.determinize_lazy.specs.Stored.{entry_at, table_in}
+use Rattle.determinize_lazy.specs.Table.{EachApart, Table, index_in, same, with_value}
+use Rattle.determinize_lazy.specs.Private.Tags.{tag_in, tag_of}
 
--- the column of a unit in a row
-abbrev pub column : Option ℕ → ℕ
-column (Some byte) = byte
-column None = 256
+-- an entry: 1, or the offset of a row
+abbrev pub IsEntry : List Value → ℕ → Type 0
+IsEntry states entry = (entry ≡ 1) ⊎ ((entry ≡ entry / 258 * 258) × (entry / 258 < length states))
 
--- an entry of the table: the offset of the row of the value that follows where the transition is kept, else 1, which is no such offset
-pub record IsEntry (f : Value → Option ℕ → Value) (values : List Value) (pairs : List Pair) (v : Value) (u : Option ℕ) (entry : ℕ) : Type 0 where
-  pub kept : is_kept pairs v u ≡ true → (entry ≡ entry / 258 * 258) × (slice_get values (entry / 258) ≡ Some (f v u))
-  pub other : is_kept pairs v u ≡ false → entry ≡ 1
+-- a row for each of the states, of which no two are equal; each with entries and the tag of its state
+pub record AreRows (states : List Value) (rows : List ℕ) : Type 0 where
+  pub size : length rows ≡ length states * 258
+  pub apart : EachApart states
+  pub entries : (p : ℕ) (u : Option ℕ) → p < length states → IsUnit u → IsEntry states (entry_at rows p u)
+  pub tags : (p : ℕ) (v : Value) → slice_get states p ≡ Some v → tag_in (slice_index rows (p * 258 + 257)) ≡ tag_of v
 
--- the rows of the values, which tell the pairs and the signs
-pub record IsRows (f : Value → Option ℕ → Value) (values : List Value) (rows : List ℕ) (pairs : List Pair) : Type 0 where
-  pub size : length rows ≡ length values * 258
-  pub apart : EachApart values
-  pub sources : (v : Value) (u : Option ℕ) → is_kept pairs v u ≡ true → list_any (same v) values ≡ true
-  pub entries : (p : ℕ) (v : Value) (u : Option ℕ) → slice_get values p ≡ Some v → IsUnit u → IsEntry f values pairs v u (slice_index rows (p * 258 + column u))
-  pub signs : (p : ℕ) (v : Value) → slice_get values p ≡ Some v → signs_in (slice_index rows (p * 258 + 257)) ≡ signs_of v
+-- the id that a lookup returns: that of the target; `None` if the transition is not cached
+abbrev pub IsTarget : Table → Value → Option ℕ → Option ℕ → Type 0
+IsTarget t v u None = t.target v u ≡ None
+IsTarget t v u (Some id) = (t.target v u ≡ slice_get t.states id) × (id < length t.states)
 
--- the rows with one more, in which nothing is kept, and a number at its end
-abbrev pub with_row : List ℕ → ℕ → List ℕ
-with_row rows number = (rows ++ replicate 257 1) ++ number ∷ []
+-- the table with one more state
+abbrev pub with_state : Table → Value → Table
+with_state t v = record { states = with_value t.states v; target = t.target }
 
--- the rows with one more, in which nothing is kept, for a value of these signs
-pub record IsWithRow (rows : List ℕ) (more : List ℕ) (signs : StateSigns) : Type 0 where
-  pub number : ℕ
-  pub told : signs_in number ≡ signs
-  pub appended : more ≡ with_row rows number
+-- the index of a value; `None` if it is not among the states
+abbrev pub IsIndex : List Value → Value → Option ℕ → Type 0
+IsIndex states v index =
+    MatchOption index (list_any (same v) states ≡ false) (λ p. slice_get states p ≡ Some v)
+
+-- the index of the target of a transition whose source is there; `None` if it is none of the states, or the source itself
+abbrev pub IsTargetIndex : List Value → ℕ → Value → Option ℕ → Type 0
+IsTargetIndex states source w None =
+    (v : Value) → slice_get states source ≡ Some v → list_any (same w) states ≡ same v w
+IsTargetIndex states source w (Some p) = slice_get states p ≡ Some w
+
+-- states of which no two are equal, at most as many as rows have offsets of 32 bits, and a map to their indices
+pub record AreInterned (states : List Value) (index : Value → Option ℕ) : Type 0 where
+  pub mapped : (v : Value) → index v ≡ index_in states v
+  pub apart : EachApart states
+  pub few : length states ≤ 16647160
+
+-- what the program's table is seen as: states, their rows, and for each kind of start the index of the start state
+pub record StoredTable : Type 0 where
+  pub states : List Value
+  pub rows : List ℕ
+  pub starts : List (Option ℕ)
+
+-- the table that it stores
+abbrev pub table_of : StoredTable → Table
+table_of t = table_in t.states t.rows

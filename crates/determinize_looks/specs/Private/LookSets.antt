@@ -1,4 +1,4 @@
--- The sets of assertions that a unit makes true, built up one by one.
+-- The sets of assertions that a unit satisfies, built one by one.
 use Rattle.std.specs.Prelude.{ℕ, Bool, not, Option}
 use mathlib.Core.Bool.{◌&&◌, ◌||◌}
 use Rattle.determinize_below.specs.Truth.{crlf_first, crlf_second, exactly_one}
@@ -6,7 +6,7 @@ use Rattle.determinize_below.specs.Unit.{is_nothing, is_byte}
 use Rattle.determinize_below.specs.declared.look.Look.TheVariants.{End, EndLF, StartCRLF, EndCRLF, WordAscii, WordAsciiNegate, WordUnicode, WordUnicodeNegate, WordStartAscii, WordEndAscii, WordStartUnicode, WordEndUnicode, WordEndHalfAscii, WordEndHalfUnicode}
 use Rattle.determinize_looks.specs.LookTables.{Tables, insert_where}
 
--- the set of the assertions on words that are found true
+-- the set of `word_opened`
 abbrev pub word_set : Bool → Bool → ℕ
 word_set from_word word =
     insert_where (insert_where (insert_where (insert_where (insert_where (insert_where (insert_where (insert_where (insert_where (insert_where 0
@@ -21,7 +21,7 @@ word_set from_word word =
     (not word) WordEndHalfAscii)
     (not word) WordEndHalfUnicode
 
--- the set of those on the haystack and on lines
+-- the set of `line_opened`
 abbrev pub line_set : Tables → Bool → Option ℕ → ℕ
 line_set t half_crlf u =
     insert_where (insert_where (insert_where (insert_where 0

@@ -1,4 +1,4 @@
-//! Builders, and the states that they make.
+//! Builders, and the states that they build.
 
 ghost use Rattle.std.specs.Prelude.{◌≡◌, [], OnOk};
 
@@ -9,7 +9,7 @@ use std::alloc::AllocError;
 use std::process::Abort;
 use std::test::Fail;
 
-/// Asks that a builder has these bytes.
+/// Asserts that a builder has these bytes.
 fn expect_bytes(
     rt: &impl Abort,
     builder: &StateBuilderMatches<&Heap>,
@@ -19,8 +19,8 @@ fn expect_bytes(
     Ok(())
 }
 
-/// Adds a pattern and puts it behind those that the builder has. A builder that was refused is as
-/// it was, and takes the pattern with ample memory.
+/// Adds a pattern to a builder, and to the list of its patterns. If the allocation fails, the
+/// builder must be unchanged, and the pattern is added with enough memory.
 fn add_pattern(
     rt: &impl Abort,
     heap: &Heap,
@@ -47,8 +47,8 @@ fn add_pattern(
     Ok(false)
 }
 
-/// Adds an NFA state. A builder that was refused is as it was, and takes the state with ample
-/// memory.
+/// Adds an NFA state to a builder. If the allocation fails, the builder must be unchanged, and the
+/// state is added with enough memory.
 fn add_state(
     rt: &impl Abort,
     heap: &Heap,
@@ -67,7 +67,7 @@ fn add_state(
     Ok(false)
 }
 
-/// Lists these patterns in a builder that has none.
+/// Adds these patterns to a builder that has none.
 fn add_patterns<R: Abort + AllocGlobal>(
     rt: &R,
     heap: &Heap,
@@ -84,7 +84,7 @@ fn add_patterns<R: Abort + AllocGlobal>(
     Ok(is_answered)
 }
 
-/// Lists the patterns of a state in a builder that has none.
+/// Adds the patterns of a state to a builder that has none.
 fn copy_patterns<R: Abort + AllocGlobal>(
     rt: &R,
     heap: &Heap,
@@ -99,7 +99,7 @@ fn copy_patterns<R: Abort + AllocGlobal>(
     }
 }
 
-/// Asks that both builders have these bytes, and tells whether the first is there.
+/// Asserts that both builders have these bytes, and returns whether the first is present.
 pub fn are_spelled<'a>(
     rt: &impl Abort,
     builders: &(Option<StateBuilderNFA<&'a Heap>>, StateBuilderNFA<&'a Heap>),
@@ -112,7 +112,7 @@ pub fn are_spelled<'a>(
     first.is_some()
 }
 
-/// Clones a builder of nothing.
+/// Clones an empty builder.
 fn clone_empty(rt: &impl Abort, heap: &Heap) -> Result<bool, Fail> {
     let (first, second) = call_twice(heap, || StateBuilderEmpty::new(heap).clone())?;
     same(rt, second.capacity(), 0);
@@ -126,7 +126,7 @@ fn begin(rt: &impl Abort, heap: &Heap) -> Result<bool, Fail> {
     Ok(first.is_some())
 }
 
-/// Tells a builder of the flags and look-have of a state.
+/// Sets the flags and look-have of a state in a builder.
 fn set_flags(builder: &mut StateBuilderMatches<&Heap>, state: &State<&Heap>) {
     if state.is_from_word() {
         builder.set_is_from_word();
@@ -138,7 +138,7 @@ fn set_flags(builder: &mut StateBuilderMatches<&Heap>, state: &State<&Heap>) {
     builder.set_look_have(|_| have);
 }
 
-/// A builder with the flags, look-have and patterns of a state.
+/// Returns a builder with the flags, look-have and patterns of a state.
 fn build_matches<'a, R: Abort + AllocGlobal>(
     rt: &R,
     heap: &'a Heap,
@@ -152,7 +152,7 @@ fn build_matches<'a, R: Abort + AllocGlobal>(
     Ok((is_cloned && is_begun && are_added, matches))
 }
 
-/// Asks that both states have these bytes, and tells whether the first is there.
+/// Asserts that both states have these bytes, and returns whether the first is present.
 pub fn are_states<'a>(
     rt: &impl Abort,
     states: &(Option<State<&'a Heap>>, State<&'a Heap>),
@@ -165,7 +165,7 @@ pub fn are_states<'a>(
     first.is_some()
 }
 
-/// Makes a state of these bytes, and tells whether the first call was answered.
+/// Makes a state of these bytes, and returns whether the first call succeeded.
 pub fn make_state(
     rt: &impl Abort,
     heap: &Heap,
@@ -176,8 +176,8 @@ pub fn make_state(
     Ok(are_states(rt, &states, bytes))
 }
 
-/// Asks that a builder with all of its parts has these bytes, and so have its clone and its state,
-/// and tells whether the first call of each was answered.
+/// Asserts that a finished builder, its clone and its state have these bytes, and returns whether
+/// the first call of each succeeded.
 fn finish(
     rt: &impl Abort,
     heap: &Heap,
@@ -191,7 +191,7 @@ fn finish(
     Ok(is_cloned && is_made)
 }
 
-/// Clones a builder of patterns, and goes on to the NFA states with both.
+/// Clones a builder with patterns, and converts both to builders of NFA states.
 fn close_patterns<'a>(
     rt: &impl Abort,
     heap: &'a Heap,
@@ -203,7 +203,7 @@ fn close_patterns<'a>(
     Ok((are_spelled(rt, &clones, builder.as_bytes()), builder))
 }
 
-/// Tells a builder of the look-need and the NFA states of a state.
+/// Adds the look-need and the NFA states of a state to a builder.
 fn add_states(
     rt: &impl Abort,
     heap: &Heap,
@@ -219,7 +219,7 @@ fn add_states(
     Ok(is_answered)
 }
 
-/// Builds a state anew. Each builder on the way is cloned.
+/// Builds a copy of a state, with a clone of each builder on the way.
 fn build<'a, R: Abort + AllocGlobal>(
     rt: &R,
     heap: &'a Heap,
@@ -233,7 +233,7 @@ fn build<'a, R: Abort + AllocGlobal>(
     Ok(are_told && is_cloned && are_added && is_made)
 }
 
-/// Builds each state of a walk anew.
+/// Builds a copy of each state of a walk.
 fn build_states<R: Abort + AllocGlobal>(rt: &R, heap: &Heap, row: &Row) -> Result<bool, Fail> {
     let start = row.start()?;
     let states = row.walk(heap, start)?;

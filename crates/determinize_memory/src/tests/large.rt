@@ -1,5 +1,5 @@
-//! Large NFAs: long chains, wide unions and many matches. Each is walked over `ab`. How many
-//! patterns and NFA states each state of the walk lists follows from the shape of the NFA.
+//! Large NFAs: long chains, wide unions and many matches. Each is walked over `ab`. The expected
+//! numbers of patterns and NFA states of each state follow from the shape of the NFA.
 
 use crate::tests::same;
 use determinize_below::{
@@ -11,25 +11,25 @@ use std::alloc::{AllocError, Global};
 use std::process::Abort;
 use std::test::Fail;
 
-/// How many states a chain has, and how many alternates a wide union.
+/// The number of states of a chain, and of alternates of a wide union.
 const LINKS: usize = 100000;
 
-/// How many patterns match at once.
+/// The number of patterns that match at once.
 const PATTERNS: usize = 50000;
 
-/// What the states of a chain are.
+/// The kind of the states of a chain.
 #[derive(Clone, Copy)]
 enum Link {
     /// A union of the next state and the first.
     BinaryUnion,
     /// A capture.
     Capture,
-    /// An assertion.
+    /// A `Look` state.
     Look(Look),
 }
 
 impl Link {
-    /// The state of the chain that leads to this one.
+    /// Returns the state of the chain with an epsilon transition to `next`.
     fn before(self, next: StateID) -> nfa::State {
         match self {
             Link::BinaryUnion => nfa::State::BinaryUnion {
@@ -42,7 +42,8 @@ impl Link {
     }
 }
 
-/// A chain, and after it `a` and back to the first state, or else a match of pattern 0.
+/// Returns a chain, and after it a union of `a`, which continues at the first state, and a match of
+/// pattern 0.
 fn chain(alloc: Global, link: Link) -> Result<Vec<nfa::State>, Fail> {
     let mut states = Vec::new(alloc);
     for next in 1..=LINKS {
@@ -64,14 +65,14 @@ fn chain(alloc: Global, link: Link) -> Result<Vec<nfa::State>, Fail> {
     Ok(states)
 }
 
-/// One union, of itself over and over.
+/// Returns one union, whose alternates are all the union itself.
 fn union_of_itself(alloc: Global) -> Result<Vec<nfa::State>, AllocError> {
     let alternates = vec![in alloc; StateID::ZERO; LINKS]?;
     let states = vec![in alloc; nfa::State::Union { alternates }]?;
     Ok(states)
 }
 
-/// A union of matches, a pattern each.
+/// Returns a union of matches, each of another pattern.
 fn many_patterns(alloc: Global) -> Result<Vec<nfa::State>, Fail> {
     let mut alternates = Vec::new(alloc);
     for number in 1..=PATTERNS {
@@ -85,23 +86,23 @@ fn many_patterns(alloc: Global) -> Result<Vec<nfa::State>, Fail> {
     Ok(states)
 }
 
-/// The states of a walk over `ab` from the first of these NFA states.
+/// Returns the states of a walk over `ab` from the first of these NFA states.
 fn walked(alloc: Global, kind: MatchKind, states: Vec<nfa::State>) -> Result<Vec<State>, Fail> {
     let first = StateID::ZERO;
     let nfa = NFA::from_parts(alloc, states, first, first, false, LookMatcher::new())?;
     Ok(walk(alloc, &nfa, kind, nfa.start_anchored(), None, b"ab")?)
 }
 
-/// The match of pattern 0 that ends here.
+/// Returns the match of pattern 0 that ends at this offset.
 fn ended(offset: usize) -> Option<HalfMatch> {
     Some(HalfMatch::new(PatternID::ZERO, offset))
 }
 
-/// How many patterns and how many NFA states a state lists.
+/// The numbers of patterns and of NFA states of a state.
 type Sizes = (usize, usize);
 
-/// Walks over `ab` from the first of these states, and compares how much each state of the walk
-/// lists, and the last match.
+/// Walks over `ab` from the first of these states, and compares the numbers of patterns and NFA
+/// states of each state, and the last match.
 fn expect<R: Abort + AllocGlobal>(
     rt: &R,
     kind: MatchKind,
@@ -123,9 +124,9 @@ fn expect<R: Abort + AllocGlobal>(
     Ok(())
 }
 
-/// The text goes through the whole chain of unions or captures before `a` and after it. Captures
-/// are not listed. A line and a word start before `a`, and after it neither does, nor does a word
-/// end. Before `a` is read the line is known and the word is not.
+/// The walk follows the whole chain of unions or captures before `a` and after it. Captures are not
+/// recorded. Before `a` a line and a word start; after it neither starts, nor does a word end.
+/// Before `a` is read, the start of the line is known and that of the word is not.
 #[test]
 fn chains(rt: HostRuntime) -> Result<(), Fail> {
     let all = LINKS + 3;
@@ -166,13 +167,13 @@ fn many_patterns_at_once(rt: HostRuntime) -> Result<(), Fail> {
     Ok(())
 }
 
-/// How many dead ends come before the states that match.
+/// The number of `Fail` states before the `Match` states.
 const DEAD_ENDS: usize = 300_000;
 
-/// A pattern that 16 bits do not hold.
+/// A pattern id that needs more than 16 bits.
 const WIDE: usize = 65_536;
 
-/// Dead ends, then a match of each of these patterns, and last a union of the matches.
+/// Returns `Fail` states, then a match of each of these patterns, and last a union of the matches.
 fn behind_dead_ends(alloc: Global, patterns: &[PatternID]) -> Result<Vec<nfa::State>, Fail> {
     let (mut states, mut alternates) = (Vec::new(alloc), Vec::new(alloc));
     for _ in 0..DEAD_ENDS {
@@ -187,13 +188,13 @@ fn behind_dead_ends(alloc: Global, patterns: &[PatternID]) -> Result<Vec<nfa::St
     Ok(states)
 }
 
-/// An NFA that starts in the last of its states.
+/// Returns an NFA that starts in the last of its states.
 fn started_last(alloc: Global, states: Vec<nfa::State>) -> Result<NFA, Fail> {
     let last = StateID::new(states.len().saturating_sub(1))?;
     Ok(NFA::from_parts(alloc, states, last, last, false, LookMatcher::new())?)
 }
 
-/// A walk lists great states and then great patterns, in order.
+/// A walk lists large state ids and then large pattern ids, in order.
 #[test]
 fn great_ids(rt: HostRuntime) -> Result<(), Fail> {
     let patterns = [PatternID::ZERO, PatternID::new(WIDE)?, PatternID::MAX];

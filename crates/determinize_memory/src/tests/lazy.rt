@@ -1,4 +1,4 @@
-//! Walks and searches over a cache, each growth of memory refused in turn.
+//! Walks and searches through a cache, with each allocation failing in turn.
 
 ghost use Rattle.std.specs.Prelude.{◌≡◌, ◌<◌, length};
 
@@ -13,7 +13,7 @@ use std::alloc::{AllocError, Global};
 use std::process::Abort;
 use std::test::Fail;
 
-/// Walks the text of a walk from this state over a cache.
+/// Walks over the text of a walk from this state through a cache.
 fn walk_from<'a>(
     lazy: &mut Lazy<'_, Global, &'a Heap>,
     row: &Row,
@@ -29,8 +29,8 @@ fn walk_from<'a>(
     }
 }
 
-/// Walks over a new cache. After a refusal the same over the same cache, with ample memory, answers
-/// what the walk alone does.
+/// Walks through a new cache. After a failed allocation the same walk through the same cache, with
+/// enough memory, must return what the walk without a cache does.
 fn walk(rt: &impl Abort, heap: &Heap, row: &Row, limit: usize) -> Result<bool, Fail> {
     let start = row.start()?;
     let mut lazy = Lazy::new(heap, &row.nfa, row.kind, limit);
@@ -46,15 +46,15 @@ fn walk(rt: &impl Abort, heap: &Heap, row: &Row, limit: usize) -> Result<bool, F
     Ok(first.is_ok())
 }
 
-/// The last match of a walk without a cache.
+/// Returns the last match of a walk without a cache.
 fn last_walked(heap: &Heap, row: &Row, start: StateID) -> Result<Option<HalfMatch>, Fail>
     requires { start < length row.now.nfa.states }
 {
     Ok(last_match(row.walk(heap, start)?.as_slice()))
 }
 
-/// Searches the text of a walk over a new cache, and then again with enough memory. Each search
-/// that is not out of memory finds the last match of the walk.
+/// Searches the text of a walk through a new cache, and then again with enough memory. Each search
+/// that succeeds must find the last match of the walk.
 fn search(rt: &impl Abort, heap: &Heap, row: &Row, limit: usize) -> Result<bool, Fail> {
     let start = row.start()?;
     let (behind, text, ahead) = (row.look_behind, row.text.as_slice(), row.look_ahead);
@@ -83,7 +83,8 @@ fn search_input(rt: &impl Abort, heap: &Heap, row: &Row, limit: usize) -> Result
     Ok(true)
 }
 
-/// Asks whether the text of a walk as a haystack has a match, in the same way.
+/// Tests whether the text of a walk as a haystack has a match. If the call succeeds, the result
+/// must be that of a search with enough memory.
 fn is_match(rt: &impl Abort, heap: &Heap, row: &Row, limit: usize) -> Result<bool, Fail> {
     let input = Input::new(row.text.as_slice()).anchored(Anchored::Yes);
     let mut lazy = Lazy::new(heap, &row.nfa, row.kind, limit);
@@ -110,10 +111,10 @@ fn walks_and_searches(rt: HostRuntime) -> Result<(), Fail> {
     Ok(())
 }
 
-/// How many times each of two long walks goes round its three states.
+/// The number of times that each of two long walks goes through its three states.
 const ROUNDS: usize = 1_000;
 
-/// Walks a long text over a cache.
+/// Walks over a long text through a cache.
 fn walk_long(
     rt: &impl Abort,
     lazy: &mut Lazy<'_, Global, &Heap>,
@@ -125,7 +126,8 @@ fn walk_long(
     Ok(())
 }
 
-/// Walks a text twice over a cache of two states, and counts the growths asked for.
+/// Walks over a text twice through a cache of two states, and returns the number of allocations
+/// requested.
 fn growths_of_two_walks(rt: &impl Abort, heap: &Heap, nfa: &NFA, text: &[u8]) -> Result<u64, Fail> {
     let mut lazy = Lazy::new(heap, nfa, MatchKind::All, 2);
     heap.begin();
@@ -136,11 +138,11 @@ fn growths_of_two_walks(rt: &impl Abort, heap: &Heap, nfa: &NFA, text: &[u8]) ->
     Ok(heap.asked())
 }
 
-/// The NFA goes round three states, over `a`, `b` and `c`, and a cache of two states keeps none of
-/// the transitions until it is used again. The states of these walks are short. So what grows is the
-/// two lists of states, at most 13 times each if they double, and the sets, the stack, the builder
-/// and the table of the cache, a few times each. A walk that made any of them anew in each step
-/// would ask 3000 times.
+/// The NFA has a loop of three states, over `a`, `b` and `c`, and a cache of two states keeps no
+/// transition until it is used again. The states of these walks are stored inline. So only these
+/// grow: the two lists of states, at most 13 times each if they double, and the sets, the stack,
+/// the builder and the table of the cache, a few times each. A walk that allocated any of them in
+/// each step would make 3000 requests.
 #[test]
 fn growths_of_long_walks(rt: HostRuntime) -> Result<(), Fail> {
     let states = nfas::states(rt.alloc(), "B:61>1 B:62>2 B:63>0")?;

@@ -1,4 +1,4 @@
-//! The program `rows` under each name, each growth of memory refused in turn.
+//! The program `rows` with each name, with each allocation failing in turn.
 
 use crate::tests::{Heap, holds, refuse_in_turn, same};
 use std::process::Abort;
@@ -6,7 +6,7 @@ use std::test::Fail;
 use worked_rows::answers;
 use worked_rows::run::run_rows;
 
-/// Prints a walk, or says that memory was refused and prints a beginning of it.
+/// Prints a walk, or reports a failed allocation after a prefix of it.
 fn print<R: Abort + AllocGlobal>(
     rt: &R,
     heap: &Heap,
@@ -29,7 +29,7 @@ fn print<R: Abort + AllocGlobal>(
     Ok(false)
 }
 
-/// The last of the runs in turn meets no refusal, and prints the walk.
+/// The last run has no failed allocation, and prints the walk.
 #[test]
 fn prints_each_walk_or_tells_of_want_of_memory(rt: HostRuntime) -> Result<(), Fail> {
     for walk in answers::walks() {

@@ -12,7 +12,7 @@ use std::process::Abort;
 use std::test::Fail;
 use worked_rows::answers;
 
-/// Asks that a set has no ids, and room for so many.
+/// Asserts that a set is empty and has this capacity.
 fn expect_empty(rt: &impl Abort, set: &SparseSet<&Heap>, capacity: usize) {
     holds(rt, set.is_empty());
     same(rt, set.capacity(), capacity);
@@ -29,8 +29,8 @@ fn make_one(rt: &impl Abort, heap: &Heap, capacity: usize) -> Result<bool, Fail>
     Ok(first.is_some())
 }
 
-/// Asks that both answers are two sets that have no ids, and room for so many, and tells whether
-/// the first is there.
+/// Asserts that both results are two empty sets of this capacity, and returns whether the first is
+/// present.
 fn are_empty<'a>(
     rt: &impl Abort,
     answers: &(Option<SparseSets<&'a Heap>>, SparseSets<&'a Heap>),
@@ -61,13 +61,13 @@ fn make_sets(rt: &impl Abort, heap: &Heap, capacity: usize) -> Result<bool, Fail
     Ok(is_made && are_made)
 }
 
-/// The sets have room for the states of the NFAs of walks.
+/// The capacity of the sets is that of the NFAs of the example walks.
 #[test]
 fn sets(rt: HostRuntime) -> Result<(), Fail> {
     refuse_over_walks(&rt, |heap, row| make_sets(&rt, heap, row.nfa.len()))
 }
 
-/// The NFA of a job, made under the refusals of the memory.
+/// Returns the NFA of a job, built while the allocator may fail.
 fn from_job(
     alloc: Global,
     heap: &Heap,
@@ -82,20 +82,20 @@ fn from_job(
     Ok(made)
 }
 
-/// The NFA of a line, made in the same way.
+/// Returns the NFA of a line, built while the allocator may fail.
 fn from_line(alloc: Global, heap: &Heap, line: &str) -> Result<Result<NFA, BuildError>, JobError> {
     let job = Job::read(alloc, line)?;
     from_job(alloc, heap, &job)
 }
 
-/// Walks from the start of a worked walk.
+/// Makes an example walk.
 fn walk(rt: &impl Abort, heap: &Heap, row: &Row) -> Result<(), Fail> {
     let start = row.start()?;
     row.expect(rt, row.walk(heap, start)?.as_slice());
     Ok(())
 }
 
-/// Makes an NFA, and walks through it with ample memory.
+/// Builds an NFA, and walks over it with enough memory.
 fn make_nfa<R: Abort + AllocGlobal>(
     rt: &R,
     heap: &Heap,

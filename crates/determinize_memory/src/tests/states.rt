@@ -1,4 +1,4 @@
-//! States, and what is read of them.
+//! States and their readers.
 
 use crate::tests::builders::{are_states, make_state};
 use crate::tests::{Heap, Row, call_twice, holds, refuse_in_turn, refuse_over_walks, same};
@@ -7,7 +7,7 @@ use determinize_core::state::{State, StateBuilderEmpty, StateBuilderNFA};
 use std::process::Abort;
 use std::test::Fail;
 
-/// A builder of a state of so many bytes: nine, and one for each NFA state.
+/// Returns a builder of a state of `len` bytes: nine, and one per NFA state.
 fn builder_of<'a>(heap: &'a Heap, len: usize) -> Result<StateBuilderNFA<&'a Heap>, Fail> {
     let mut builder = StateBuilderEmpty::new(heap).into_matches()?.into_nfa();
     for number in 0..len.saturating_sub(9) {
@@ -16,8 +16,8 @@ fn builder_of<'a>(heap: &'a Heap, len: usize) -> Result<StateBuilderNFA<&'a Heap
     Ok(builder)
 }
 
-/// Makes a state of so many bytes and clones it. Up to 30 bytes no growth is asked for, and from 31
-/// on some is.
+/// Makes a state of `len` bytes and clones it. Up to 30 bytes nothing is allocated, and from 31 on
+/// something is.
 fn make_and_clone(rt: &impl Abort, heap: &Heap, len: usize) -> Result<bool, Fail> {
     let builder = builder_of(heap, len)?;
     let bytes = builder.as_bytes();
@@ -51,10 +51,10 @@ fn clone_state(
     Ok(are_states(rt, &clones, bytes))
 }
 
-/// The patterns of a state, where it has some.
+/// The patterns of a state, if it has some.
 type Patterns<'a> = Option<Vec<PatternID, &'a Heap>>;
 
-/// Asks that these are the patterns of a state.
+/// Asserts that these are the patterns of a state.
 fn expect_patterns(rt: &impl Abort, state: &State<&Heap>, ids: &Patterns<'_>) {
     let Some(ids) = ids else {
         holds(rt, !state.is_match());
@@ -67,7 +67,7 @@ fn expect_patterns(rt: &impl Abort, state: &State<&Heap>, ids: &Patterns<'_>) {
     }
 }
 
-/// Asks that both answers are the patterns of a state, and tells whether the first is there.
+/// Asserts that both results are the patterns of a state, and returns whether the first is present.
 fn are_patterns<'a>(
     rt: &impl Abort,
     state: &State<&'a Heap>,

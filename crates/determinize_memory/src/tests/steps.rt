@@ -24,8 +24,8 @@ use std::process::Abort;
 use std::sync::ledger::{Blank, Ledger};
 use std::test::Fail;
 
-/// Closures of the start states of walks, and one past a state that is held: the states that the
-/// set holds in the end.
+/// The closures of the start states of walks, and one with a state visited before, each with the
+/// final set.
 static CLOSURES: [(&str, &str); 5] = [
     ("closure from=0 | U:1,2,3 M:2 M:0 M:1", "0,1,2,3"),
     (
@@ -46,7 +46,7 @@ static CLOSURES: [(&str, &str); 5] = [
     ),
 ];
 
-/// A closure to be made: from which state, by which assertions, past which states.
+/// A closure to compute: its NFA, start state, assertions, and states visited before.
 #[derive(Drop)]
 struct Closing {
     nfa: NFA,
@@ -56,13 +56,13 @@ struct Closing {
 }
 
 impl Closing {
-    /// Reads a closure.
+    /// Parses a closure.
     fn read(alloc: Global, line: &str) -> Result<Closing, JobError> {
         let job = Job::read(alloc, line)?;
         Closing::of(alloc, &job)
     }
 
-    /// The closure of a job.
+    /// Returns the closure of a job.
     fn of(alloc: Global, job: &Job<'_>) -> Result<Closing, JobError> {
         let start = values::state_id(job.needed(Key::From)?)?;
         let have = values::look_set(job.value_or_none(Key::Look))?;
@@ -75,7 +75,7 @@ impl Closing {
         })
     }
 
-    /// A set with the states that are held.
+    /// Returns a set of the states visited before.
     fn set<'a>(&self, heap: &'a Heap) -> Result<SparseSet<&'a Heap>, JobError>
         ensures { IfOk result (λ set. set.capacity ≡ length self.now.nfa.states) }
     {
@@ -83,7 +83,8 @@ impl Closing {
     }
 }
 
-/// Adds a closure to a set. A set that was refused has what it had and a beginning of the rest.
+/// Adds a closure to a set. If an allocation fails, the set must have what it had and a prefix of
+/// the rest.
 fn close<R: Abort + AllocGlobal>(
     rt: &R,
     heap: &Heap,
@@ -126,7 +127,7 @@ fn closures(rt: HostRuntime) -> Result<(), Fail> {
     Ok(())
 }
 
-/// The kind of the start of a walk.
+/// Returns the start kind of a walk.
 pub fn start_kind(row: &Row) -> Start {
     match row.look_behind {
         Some(byte) => StartByteMap::new(row.nfa.look_matcher()).get(byte),
@@ -134,8 +135,8 @@ pub fn start_kind(row: &Row) -> Start {
     }
 }
 
-/// Records the first closure of a walk. A builder that was refused is as it was, and takes the
-/// states with ample memory.
+/// Records the first closure of a walk. If an allocation fails, the builder must be unchanged, and
+/// the states are added with enough memory.
 fn record(rt: &impl Abort, heap: &Heap, row: &Row) -> Result<bool, Fail> {
     let start = row.start()?;
     let mut matches = StateBuilderEmpty::new(heap).into_matches()?;
@@ -156,8 +157,8 @@ fn record(rt: &impl Abort, heap: &Heap, row: &Row) -> Result<bool, Fail> {
     Ok(added.is_ok())
 }
 
-/// Records the start of a walk alone. A builder that was refused takes the state with ample memory,
-/// and is then as if a set of this one state had been recorded.
+/// Records only the start state of a walk. If an allocation fails, the state is added with enough
+/// memory. The builder must then be as if a set of this one state had been recorded.
 fn record_one(rt: &impl Abort, heap: &Heap, row: &Row) -> Result<bool, Fail> {
     let id = row.start()?;
     let mut set = SparseSet::new(heap, row.nfa.len())?;
@@ -177,7 +178,7 @@ fn record_one(rt: &impl Abort, heap: &Heap, row: &Row) -> Result<bool, Fail> {
     Ok(added.is_ok())
 }
 
-/// Asks that the sets and the stack can be used again.
+/// Asserts that the sets and the stack can be used again.
 fn expect_scratch(
     rt: &impl Abort,
     nfa: &NFA,
@@ -189,7 +190,7 @@ fn expect_scratch(
     same(rt, sparses.set2.capacity(), nfa.len());
 }
 
-/// The first state of a walk.
+/// Returns the first state of a walk.
 fn first_state<'a>(
     heap: &'a Heap,
     row: &Row,
@@ -205,7 +206,7 @@ fn first_state<'a>(
     start_state(&row.nfa, id, row.look_behind, sparses, stack, empty)
 }
 
-/// Starts a walk twice. The sets and the stack can be used again.
+/// Starts a walk twice. The sets and the stack must be usable again each time.
 fn start_twice<'a>(
     rt: &impl Abort,
     heap: &'a Heap,
@@ -241,7 +242,7 @@ fn starts(rt: HostRuntime) -> Result<(), Fail> {
     })
 }
 
-/// The transition from a state, with a count that is let go.
+/// Computes the transition from a state, with a count that is dropped.
 fn count<'a, L: Ledger>(
     row: &Row,
     sparses: &mut SparseSets<&'a Heap>,
@@ -264,7 +265,7 @@ fn count<'a, L: Ledger>(
     )
 }
 
-/// The transition from a state, counted or not.
+/// Computes the transition from a state, with or without a count.
 fn step<'a>(
     row: &Row,
     is_counted: bool,
@@ -285,7 +286,8 @@ fn step<'a>(
     }
 }
 
-/// Leaves a state of a walk over its unit. The sets and the stack can be used again.
+/// Computes the transition from a state of a walk on its unit. The sets and the stack must be
+/// usable again.
 fn leave<'a>(
     rt: &impl Abort,
     heap: &'a Heap,
@@ -326,7 +328,7 @@ fn leave<'a>(
     Ok(are_spelled(rt, &(first.ok(), second), bytes))
 }
 
-/// Leaves each state of a walk.
+/// Computes the transition from each state of a walk.
 fn leave_states(rt: &impl Abort, heap: &Heap, row: &Row, is_counted: bool) -> Result<bool, Fail> {
     let start = row.start()?;
     let states = row.walk(heap, start)?;
@@ -347,7 +349,7 @@ fn transitions(rt: HostRuntime) -> Result<(), Fail> {
     })
 }
 
-/// Walks.
+/// Makes a whole walk.
 fn walk(rt: &impl Abort, heap: &Heap, row: &Row) -> Result<bool, Fail> {
     let start = row.start()?;
     let (first, second) = call_twice(heap, || row.walk(heap, start))?;

@@ -1,4 +1,5 @@
-//! The calls that take no memory: they are answered while every growth is refused, and ask for none.
+//! The calls that do not allocate: they succeed while every allocation would fail, and request
+//! none.
 
 use crate::tests::steps::start_kind;
 use crate::tests::{Heap, Row, holds, refuse_in_turn, refuse_over_walks, same};
@@ -10,7 +11,7 @@ use determinize_lazy::Lazy;
 use std::process::Abort;
 use std::test::Fail;
 
-/// Asks that no growth was asked for.
+/// Asserts that no allocation was requested.
 fn has_asked_none(rt: &impl Abort, heap: &Heap) -> bool {
     heap.end();
     same(rt, heap.asked(), 0);
@@ -25,7 +26,7 @@ fn insert(rt: &impl Abort, set: &mut SparseSet<&Heap>, id: StateID) {
     holds(rt, set.contains(id));
 }
 
-/// Ids are inserted, found and removed.
+/// Inserts, finds and removes ids.
 fn fill(rt: &impl Abort, sparses: &mut SparseSets<&Heap>) -> Result<(), Fail> {
     for number in [5usize, 69, 0] {
         insert(rt, &mut sparses.set1, StateID::new(number)?);
@@ -39,7 +40,7 @@ fn fill(rt: &impl Abort, sparses: &mut SparseSets<&Heap>) -> Result<(), Fail> {
     Ok(())
 }
 
-/// Two sets are filled.
+/// Fills two sets.
 fn fill_sets(rt: &impl Abort, heap: &Heap) -> Result<bool, Fail> {
     let mut sparses = SparseSets::new(heap, 70)?;
     heap.begin();
@@ -47,8 +48,8 @@ fn fill_sets(rt: &impl Abort, heap: &Heap) -> Result<bool, Fail> {
     Ok(has_asked_none(rt, heap))
 }
 
-/// The dead state is made. A builder is told of flags, sets and the pattern `ZERO`, goes on to the
-/// NFA states and is cleared.
+/// Makes the dead state. Sets flags, assertions and the pattern `ZERO` in a builder, converts it to
+/// a builder of NFA states, and clears it.
 fn build(rt: &impl Abort, heap: &Heap) -> Result<bool, Fail> {
     heap.begin();
     let dead = State::dead(heap)?;
@@ -78,7 +79,7 @@ fn build(rt: &impl Abort, heap: &Heap) -> Result<bool, Fail> {
     Ok(has_asked_none(rt, heap))
 }
 
-/// A builder with written patterns goes on to the NFA states.
+/// Converts a builder with explicit patterns to a builder of NFA states.
 fn close_patterns(rt: &impl Abort, heap: &Heap) -> Result<bool, Fail> {
     let mut matches = StateBuilderEmpty::new(heap).into_matches()?;
     matches.add_match_pattern_id(PatternID::must(1))?;
@@ -89,7 +90,7 @@ fn close_patterns(rt: &impl Abort, heap: &Heap) -> Result<bool, Fail> {
     Ok(has_asked_none(rt, heap))
 }
 
-/// The text of a walk is looked at, and a builder is told of its start.
+/// Reads the bytes around the text of a walk, and sets the look-behind of its start in a builder.
 fn begin_walk(rt: &impl Abort, heap: &Heap, row: &Row) -> Result<bool, Fail> {
     let mut matches = StateBuilderEmpty::new(heap).into_matches()?;
     heap.begin();
@@ -101,7 +102,7 @@ fn begin_walk(rt: &impl Abort, heap: &Heap, row: &Row) -> Result<bool, Fail> {
     Ok(has_asked_none(rt, heap))
 }
 
-/// The closures of the states of one sort, each added to an empty set.
+/// Computes the closures of all epsilon states, or of all others, each into an empty set.
 fn close_each<'a>(
     rt: &impl Abort,
     heap: &'a Heap,
@@ -125,8 +126,8 @@ fn close_each<'a>(
     Ok(())
 }
 
-/// The closures of the states that take input or match, whose stack has no room, and of the other
-/// states, whose stack has room for more than any worked walk pushes.
+/// Computes the closures of the states without epsilon transitions with a stack of no capacity, and
+/// of the epsilon states with a stack of more capacity than any example walk needs.
 fn close_states(rt: &impl Abort, heap: &Heap, row: &Row) -> Result<bool, Fail> {
     close_each(rt, heap, row, false, Vec::new(heap))?;
     close_each(rt, heap, row, true, Vec::with_capacity(heap, 100)?)?;
@@ -149,7 +150,7 @@ fn make_cache(rt: &impl Abort, heap: &Heap, row: &Row) -> Result<bool, Fail> {
     Ok(has_asked_none(rt, heap))
 }
 
-/// Asks all readers of a state.
+/// Calls all readers of a state.
 fn read_state(rt: &impl Abort, state: &State<&Heap>, bytes: &[u8]) {
     same(rt, state.as_bytes(), bytes);
     same(rt, state.memory_usage(), bytes.len());
@@ -172,7 +173,7 @@ fn read_state(rt: &impl Abort, state: &State<&Heap>, bytes: &[u8]) {
     }
 }
 
-/// Asks all readers of each state of a walk.
+/// Calls all readers of each state of a walk.
 fn read_states(rt: &impl Abort, heap: &Heap, row: &Row) -> Result<bool, Fail> {
     let start = row.start()?;
     let states = row.walk(heap, start)?;

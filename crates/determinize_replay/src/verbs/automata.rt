@@ -1,4 +1,4 @@
-//! Verbs over an NFA.
+//! The verbs over an NFA.
 
 ghost use Rattle.std.specs.Prelude.{◌≡◌, ◌<◌, length, IfOk};
 ghost use Rattle.determinize_below.specs.Nfa.{AllResolve};
@@ -14,7 +14,7 @@ use determinize_core::state::{State, StateBuilderEmpty, StateBuilderNFA};
 use determinize_lazy::Lazy;
 use std::alloc::{AllocError, Global};
 
-/// The id of a state of the NFA.
+/// Returns the id of a state of the NFA, or an error if it is out of range.
 fn resolved(nfa: &NFA, text: &str) -> Result<StateID, JobError>
     ensures { IfOk result (λ id. id < length nfa.now.states) }
 {
@@ -26,7 +26,7 @@ fn resolved(nfa: &NFA, text: &str) -> Result<StateID, JobError>
     }
 }
 
-/// What a walk reads: its bytes, and the bytes behind and ahead of them.
+/// The text of a walk: its bytes, and the optional bytes behind and ahead of them.
 #[derive(Drop)]
 struct Text {
     look_behind: Option<u8>,
@@ -35,7 +35,7 @@ struct Text {
 }
 
 impl Text {
-    /// The text of a walk.
+    /// Returns the text of a walk.
     fn read(alloc: Global, job: &Job<'_>) -> Result<Text, JobError> {
         Ok(Text {
             look_behind: values::optional_byte(job.value_or_none(Key::LookBehind))?,
@@ -45,12 +45,12 @@ impl Text {
     }
 }
 
-/// The states of a walk.
+/// Returns the states of a walk.
 fn states(alloc: Global, job: &Job<'_>) -> Result<Vec<State>, JobError> {
     states_over(alloc, job, &nfas::nfa(alloc, job)?)
 }
 
-/// The states of a walk over an NFA.
+/// Returns the states of a walk over an NFA.
 fn states_over(alloc: Global, job: &Job<'_>, nfa: &NFA) -> Result<Vec<State>, JobError> {
     let start = resolved(nfa, job.value(Key::Start).unwrap_or("0"))?;
     let text = Text::read(alloc, job)?;
@@ -66,12 +66,12 @@ fn states_over(alloc: Global, job: &Job<'_>, nfa: &NFA) -> Result<Vec<State>, Jo
     Ok(states)
 }
 
-/// Answers `walk`: the bytes of each state, and the last match.
+/// Runs `walk`: writes the bytes of each state, and the last match.
 pub fn walk(alloc: Global, job: &Job<'_>, text: &mut String) -> Result<(), JobError> {
     write_states(text, states(alloc, job)?.as_slice())
 }
 
-/// The states of a walk through a cache.
+/// Returns the states of a walk through a cache.
 fn cached_states(
     alloc: Global,
     job: &Job<'_>,
@@ -88,7 +88,7 @@ fn cached_states(
     Ok(states)
 }
 
-/// Answers `walk` through a cache.
+/// Runs `walk` through a cache.
 pub fn cached_walk(
     alloc: Global,
     job: &Job<'_>,
@@ -98,7 +98,7 @@ pub fn cached_walk(
     write_states(text, cached_states(alloc, job, cache)?.as_slice())
 }
 
-/// Answers `walk` by a search through a cache: the last match alone.
+/// Runs `walk` by a search through a cache: writes only the last match.
 pub fn search(
     alloc: Global,
     job: &Job<'_>,
@@ -109,7 +109,7 @@ pub fn search(
     Ok(())
 }
 
-/// The last match of a walk, by a search through a cache.
+/// Returns the last match of a walk, by a search through a cache.
 fn found(
     alloc: Global,
     job: &Job<'_>,
@@ -135,7 +135,7 @@ fn write_states(text: &mut String, states: &[State]) -> Result<(), JobError> {
     Ok(())
 }
 
-/// Writes a match, or that there is none.
+/// Writes a match, or `none`.
 fn write_match(text: &mut String, found: Option<HalfMatch>) -> Result<(), AllocError> {
     match found {
         Some(HalfMatch { pattern, offset }) => {
@@ -146,12 +146,12 @@ fn write_match(text: &mut String, found: Option<HalfMatch>) -> Result<(), AllocE
     }
 }
 
-/// Answers `readers`: what the readers of one state of a walk answer.
+/// Runs `readers`: writes the results of the readers of one state of a walk.
 pub fn readers(alloc: Global, job: &Job<'_>, text: &mut String) -> Result<(), JobError> {
     write_readers(text, job, states(alloc, job)?.as_slice())
 }
 
-/// Writes what the readers of the state that the job asks for answer.
+/// Writes the results of the readers of the state that the job selects.
 fn write_readers(text: &mut String, job: &Job<'_>, states: &[State]) -> Result<(), JobError> {
     let Some(state) = states.get(values::number(job.needed(Key::At)?)?) else {
         return Err(JobError::Malformed(Part::Position));
@@ -160,7 +160,7 @@ fn write_readers(text: &mut String, job: &Job<'_>, states: &[State]) -> Result<(
     Ok(())
 }
 
-/// The set of a key of the job, for the states of the NFA.
+/// Returns the set of a key of the job, with the capacity of the NFA.
 fn set(alloc: Global, job: &Job<'_>, key: Key, nfa: &NFA) -> Result<SparseSet, JobError>
     ensures { IfOk result (λ set. set.capacity ≡ length nfa.now.states) }
 {
@@ -168,14 +168,14 @@ fn set(alloc: Global, job: &Job<'_>, key: Key, nfa: &NFA) -> Result<SparseSet, J
     records::set(alloc, nfa.len(), ids.as_slice())
 }
 
-/// Answers `closure`: the set after the call.
+/// Runs `closure`: writes the set after the call.
 pub fn closure(alloc: Global, job: &Job<'_>, text: &mut String) -> Result<(), JobError> {
     let set = closed_set(alloc, job, &nfas::nfa(alloc, job)?)?;
     write_set(text, &set)?;
     Ok(())
 }
 
-/// The set of the job after the call of a closure.
+/// Returns the set of the job after the closure.
 fn closed_set(alloc: Global, job: &Job<'_>, nfa: &NFA) -> Result<SparseSet, JobError> {
     let start = resolved(nfa, job.needed(Key::From)?)?;
     let look_have = values::look_set(job.value_or_none(Key::Look))?;
@@ -192,7 +192,7 @@ fn write_set(text: &mut String, set: &SparseSet) -> Result<(), AllocError> {
     text.push('\n')
 }
 
-/// The start kind of this name.
+/// Returns the start kind of this name.
 fn start_kind(text: &str) -> Result<Start, JobError> {
     match text {
         "NonWordByte" => Ok(Start::NonWordByte),
@@ -205,12 +205,12 @@ fn start_kind(text: &str) -> Result<Start, JobError> {
     }
 }
 
-/// Answers `lookbehind`: the bytes of an empty record that is told of its start.
+/// Runs `lookbehind`: writes the bytes of an empty record with the look-behind of its start.
 pub fn lookbehind(alloc: Global, job: &Job<'_>, text: &mut String) -> Result<(), JobError> {
     write_lookbehind(alloc, text, job, &nfas::nfa(alloc, job)?)
 }
 
-/// Writes the bytes of an empty record that is told of its start under an NFA.
+/// Writes the bytes of an empty record with the look-behind of its start under an NFA.
 fn write_lookbehind(
     alloc: Global,
     text: &mut String,
@@ -224,7 +224,7 @@ fn write_lookbehind(
     Ok(())
 }
 
-/// The unit of a byte or of `eoi`.
+/// Returns the unit of a byte or of `eoi`.
 fn unit(text: &str) -> Result<Unit, JobError> {
     if text == "eoi" {
         Ok(Unit::eoi(256))
@@ -233,7 +233,7 @@ fn unit(text: &str) -> Result<Unit, JobError> {
     }
 }
 
-/// The state of the job's record, whose ids are states of the NFA.
+/// Returns the state of the job's record, or an error if one of its ids is not a state of the NFA.
 fn resolved_state(alloc: Global, job: &Job<'_>, nfa: &NFA) -> Result<State, JobError>
     ensures { IfOk result (λ state. AllResolve nfa.now state.states) }
 {
@@ -245,7 +245,7 @@ fn resolved_state(alloc: Global, job: &Job<'_>, nfa: &NFA) -> Result<State, JobE
     }
 }
 
-/// The two sets of the job, each for the states of the NFA.
+/// Returns the two sets of the job, with the capacity of the NFA.
 fn sparse_sets(alloc: Global, job: &Job<'_>, nfa: &NFA) -> Result<SparseSets, JobError>
     ensures set1 { IfOk result (λ sparses. sparses.set1.capacity ≡ length nfa.now.states) }
     ensures set2 { IfOk result (λ sparses. sparses.set2.capacity ≡ length nfa.now.states) }
@@ -255,7 +255,7 @@ fn sparse_sets(alloc: Global, job: &Job<'_>, nfa: &NFA) -> Result<SparseSets, Jo
     filled_sets(alloc, nfa, held1.as_slice(), held2.as_slice())
 }
 
-/// Two sets that hold these ids, each for the states of the NFA.
+/// Returns two sets of these ids, with the capacity of the NFA.
 fn filled_sets(
     alloc: Global,
     nfa: &NFA,
@@ -271,7 +271,7 @@ fn filled_sets(
     })
 }
 
-/// Writes the bytes of the state of an NFA that follows the job's record over a unit.
+/// Writes the bytes of the next state after the job's record on a unit.
 fn write_next(
     alloc: Global,
     text: &mut String,
@@ -287,7 +287,7 @@ fn write_next(
     Ok(())
 }
 
-/// The record of the state that follows a state over a unit.
+/// Returns the next state after a state on a unit, as a builder.
 fn next_after(
     alloc: Global,
     nfa: &NFA,
@@ -305,21 +305,21 @@ fn next_after(
     determinize::next(nfa, kind, sparses, &mut stack, state, unit, builder)
 }
 
-/// Answers `next`: the bytes of the state that follows the job's record.
+/// Runs `next`: writes the bytes of the next state after the job's record.
 pub fn next_state(alloc: Global, job: &Job<'_>, text: &mut String) -> Result<(), JobError> {
     let kind = job.match_kind()?;
     let unit = unit(job.needed(Key::Unit)?)?;
     write_next(alloc, text, job, &nfas::nfa(alloc, job)?, kind, unit)
 }
 
-/// Answers `addstates`: the bytes of the job's record with the states of a set.
+/// Runs `addstates`: writes the bytes of the job's record with the states of a set added.
 pub fn addstates(alloc: Global, job: &Job<'_>, text: &mut String) -> Result<(), JobError> {
     let builder = added_states(alloc, job, &nfas::nfa(alloc, job)?)?;
     values::write_bytes(text, builder.as_bytes())?;
     Ok(())
 }
 
-/// The job's record with the states of a set for an NFA.
+/// Returns the job's record with the states of a set added.
 fn added_states(alloc: Global, job: &Job<'_>, nfa: &NFA) -> Result<StateBuilderNFA, JobError> {
     let mut builder = records::builder(alloc, job)?;
     let set = set(alloc, job, Key::Set, nfa)?;

@@ -1,4 +1,4 @@
-//! Verbs without an NFA.
+//! The verbs without an NFA.
 
 use crate::error::{JobError, Part};
 use crate::job::Job;
@@ -9,7 +9,7 @@ use determinize_core::start::{Config, Start, StartByteMap};
 use determinize_core::state::State;
 use std::alloc::{AllocError, Global};
 
-/// Answers `start`: the start kind and the look-behind byte of a range of a haystack.
+/// Runs `start`: writes the start kind and the look-behind byte of a range of a haystack.
 pub fn start(alloc: Global, job: &Job<'_>, text: &mut String) -> Result<(), JobError> {
     let haystack = values::bytes(alloc, job.value_or_none(Key::Haystack))?;
     let look_behind = look_behind(job, haystack.as_slice())?;
@@ -17,7 +17,7 @@ pub fn start(alloc: Global, job: &Job<'_>, text: &mut String) -> Result<(), JobE
     Ok(())
 }
 
-/// The look-behind byte of the job's range of a haystack, in the job's direction.
+/// Returns the look-behind byte of the job's range of a haystack, in the job's direction.
 fn look_behind(job: &Job<'_>, haystack: &[u8]) -> Result<Option<u8>, JobError> {
     let (start, end) = range(job.needed(Key::Range)?)?;
     if end > haystack.len() || start > end + 1 {
@@ -32,7 +32,7 @@ fn look_behind(job: &Job<'_>, haystack: &[u8]) -> Result<Option<u8>, JobError> {
     Ok(config.get_look_behind())
 }
 
-/// The start and the end of a range such as `0..3`.
+/// Returns the start and the end of a range such as `0..3`.
 fn range(text: &str) -> Result<(usize, usize), JobError> {
     let Some((start, end)) = text.split_once("..") else {
         return Err(JobError::Malformed(Part::Range));
@@ -40,7 +40,7 @@ fn range(text: &str) -> Result<(usize, usize), JobError> {
     Ok((values::number(start)?, values::number(end)?))
 }
 
-/// Writes a start kind and the look-behind byte that makes it.
+/// Writes the start kind of a look-behind byte, and the byte.
 fn write_start(
     text: &mut String,
     matcher: &LookMatcher,
@@ -58,7 +58,7 @@ fn write_start(
     }
 }
 
-/// Answers `bytemap`: the start kind of a byte, or of each.
+/// Runs `bytemap`: writes the start kind of a byte, or of each.
 pub fn bytemap(job: &Job<'_>, text: &mut String) -> Result<(), JobError> {
     let map = StartByteMap::new(&nfas::matcher(job)?);
     let asked = values::optional_byte(job.value_or_none(Key::Byte))?;
@@ -71,7 +71,7 @@ pub fn bytemap(job: &Job<'_>, text: &mut String) -> Result<(), JobError> {
     Ok(())
 }
 
-/// Answers `fromusize`: the start kind of a number.
+/// Runs `fromusize`: writes the start kind with a number.
 pub fn fromusize(job: &Job<'_>, text: &mut String) -> Result<(), JobError> {
     match Start::from_usize(values::number(job.needed(Key::Number)?)?) {
         Some(kind) => writeln!(text, "some {kind:?}")?,
@@ -80,14 +80,14 @@ pub fn fromusize(job: &Job<'_>, text: &mut String) -> Result<(), JobError> {
     Ok(())
 }
 
-/// Answers `dead`: the bytes of the dead state.
+/// Runs `dead`: writes the bytes of the dead state.
 pub fn dead(alloc: Global, text: &mut String) -> Result<(), JobError> {
     let state = State::dead(alloc)?;
     values::write_bytes(text, state.as_bytes())?;
     Ok(())
 }
 
-/// Answers `build`: the bytes of the job's record, and what its readers answer.
+/// Runs `build`: writes the bytes of the job's record, and the results of its readers.
 pub fn build(alloc: Global, job: &Job<'_>, text: &mut String) -> Result<(), JobError> {
     let builder = records::builder(alloc, job)?;
     values::write_bytes(text, builder.as_bytes())?;
@@ -96,7 +96,8 @@ pub fn build(alloc: Global, job: &Job<'_>, text: &mut String) -> Result<(), JobE
     Ok(())
 }
 
-/// Answers `size`: the number of states of an NFA of so many states, of which the first match.
+/// Runs `size`: writes the number of states of an NFA of `states` states, of which the first
+/// `matches` are `Match` states.
 pub fn size(alloc: Global, job: &Job<'_>, text: &mut String) -> Result<(), JobError> {
     let count = values::number(job.needed(Key::States)?)?;
     let matches = values::number(job.needed(Key::Matches)?)?;
@@ -108,7 +109,7 @@ pub fn size(alloc: Global, job: &Job<'_>, text: &mut String) -> Result<(), JobEr
     Ok(())
 }
 
-/// So many states, of which the first match.
+/// Returns `count` states, of which the first `matches` are `Match` states.
 fn states(alloc: Global, count: usize, matches: usize) -> Result<Vec<nfa::State>, AllocError> {
     let mut states = Vec::new(alloc);
     for index in 0..count {

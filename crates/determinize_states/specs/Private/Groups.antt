@@ -1,7 +1,8 @@
--- How a number is read from groups of 7 bits.
+-- Decoding a varint.
 use Rattle.std.specs.Prelude.{ℕ, ◌+◌, ◌-◌, ◌*◌, Option, Some, None, List, [], ◌∷◌, nat_lt, if◌then◌else◌}
 
--- the number that the bytes begin with, of which `low` is read, at a group of this weight, and the bytes after it
+-- the varint at the start of the bytes, and the bytes after it, where a part `low` is read and the
+-- next group has this weight
 abbrev pub read : ℕ → ℕ → List ℕ → Option (ℕ × List ℕ)
 read low weight [] = None
 read low weight (byte ∷ bytes) =

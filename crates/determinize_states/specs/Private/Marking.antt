@@ -1,11 +1,11 @@
--- How a builder that gained only NFA states and assertions comes back to an earlier value.
+-- The checkpoint of a builder.
 use Rattle.std.specs.Prelude.{◌≡◌, length}
 use Rattle.determinize_states.specs.Value.{Value}
 use Rattle.determinize_states.specs.Spelling.{spell}
 use Rattle.determinize_states.specs.Varint.{last_id}
 use Rattle.determinize_states.specs.declared.state.mark.Mark.{Mark}
 
--- the mark keeps what a builder of this value needs to come back to it
+-- the mark has what a builder needs to return to this value
 pub record IsMarkOf (mark : Mark) (value : Value) : Type 0 where
   pub bytes : mark.bytes ≡ length (spell value)
   pub last : mark.last ≡ last_id 0 value.states

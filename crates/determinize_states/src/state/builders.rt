@@ -1,4 +1,10 @@
 //! The three builders of a state.
+//!
+//! `StateBuilderEmpty` has an empty buffer. `into_matches` writes the nine bytes of the header, and
+//! patterns are appended, their number being written with each. After `into_nfa`, which leaves the
+//! bytes as they are, NFA states are appended. So at any time the bytes encode the value of the
+//! builder. `to_state` copies them into a state, and `clear` returns an empty builder with the same
+//! buffer, so that a walk needs one buffer for all its states.
 
 ghost use Rattle.std.specs.Prelude.{◌≡◌, ℕ, [], true, false, nat_eq, IfOk, OnOk, OnErr, IsOk};
 ghost use Rattle.std.specs.List.{list_any};
@@ -6,7 +12,6 @@ ghost use Rattle.determinize_below.specs.Look.{insert};
 ghost use Rattle.determinize_states.specs.Value.{Value as StateValue, IsValue, dead, with_pattern, with_state, is_nonempty};
 ghost use Rattle.determinize_states.specs.Recording.{settled, IsGrown};
 ghost use Rattle.determinize_states.specs.Spelling.{spell};
-ghost use Rattle.determinize_states.specs.Building.{IsOpen, value_of_open};
 ghost use Rattle.determinize_states.specs.Private.Marking.{IsMarkOf};
 
 use crate::state::nfa_state_ids::NfaStateIds;
@@ -17,7 +22,7 @@ use determinize_below::{Look, LookSet, PatternID, StateID};
 use std::alloc::{AllocError, Allocator, Global};
 use std::marker::Model;
 
-/// A builder of a state of which nothing is known yet. It may hold memory for the next state.
+/// A builder of a state with nothing set yet. It may have memory left from an earlier state.
 #[derive(Drop)]
 pub struct StateBuilderEmpty<A: Allocator = Global> {
     bytes: Vec<u8, A>,
@@ -35,7 +40,7 @@ impl<A: Allocator> Model for StateBuilderEmpty<A> {
 }
 
 impl<A: Allocator> StateBuilderEmpty<A> {
-    /// A builder without memory, which takes what it needs from `alloc` later.
+    /// Returns a builder without memory. Later calls allocate from `alloc`.
     pub fn new(alloc: A) -> StateBuilderEmpty<A>
         ensures { result ≡ dead }
     {
@@ -44,18 +49,19 @@ impl<A: Allocator> StateBuilderEmpty<A> {
         }
     }
 
-    /// Starts a state in which nothing is set and nothing is listed.
-    ///
-    /// The only error is want of memory. The builder is given up then.
+    /// Returns the builder of the next phase, with nothing set and no patterns. On error this
+    /// builder is dropped.
     pub fn into_matches(self) -> Result<StateBuilderMatches<A>, AllocError>
         ensures { IfOk result (λ builder. builder ≡ dead) }
     {
         let mut bytes = self.bytes;
         bytes.extend_from_slice(&[0; bytes::COUNT])?;
-        Ok(StateBuilderMatches { bytes })
+        let last = StateID::ZERO;
+        let builder = StateBuilderNFA { bytes, last };
+        Ok(StateBuilderMatches { builder })
     }
 
-    /// The number of bytes that the builder has memory for, without any promise.
+    /// Returns the number of bytes that fit without a further allocation. No clause says how many.
     pub fn capacity(&self) -> usize {
         self.bytes.capacity()
     }
@@ -64,118 +70,68 @@ impl<A: Allocator> StateBuilderEmpty<A> {
 /// A builder that takes the flags of a state, its look-have and its patterns.
 #[derive(Drop)]
 pub struct StateBuilderMatches<A: Allocator = Global> {
-    bytes: Vec<u8, A>,
+    pub(crate) builder: StateBuilderNFA<A>,
 }
 
 impl<A: Allocator> Model for StateBuilderMatches<A> {
+    ghost use Rattle.std.specs.Prelude.{◌≡◌, []};
     ghost use Rattle.determinize_states.specs.Value.{Value as StateValue};
-    ghost use Rattle.determinize_states.specs.Building.{value_of_open, IsOpen};
 
     ghost Value = { StateValue };
 
-    ghost view = { λ s. value_of_open s.bytes.items };
+    ghost view = { λ s. s.builder };
 
-    ghost invariant = { λ s. IsOpen s.bytes.items };
+    ghost invariant = { λ s. s.builder.states ≡ [] };
 }
 
 impl<A: Allocator> StateBuilderMatches<A> {
-    /// Records that the state is entered by a word byte.
+    /// Sets the flag from-word: the byte before the state is a word byte.
     pub fn set_is_from_word(&mut self)
         ensures { self.new ≡ record self.old { from_word = true } }
     {
-        bytes::set_flag(&mut self.bytes, bytes::FROM_WORD);
+        self.builder.set_is_from_word();
     }
 
-    /// Records that the state stands behind the first half of a CRLF.
+    /// Sets the flag half-CRLF: the byte before the state may be the first half of a CRLF.
     pub fn set_is_half_crlf(&mut self)
         ensures { self.new ≡ record self.old { half_crlf = true } }
     {
-        bytes::set_flag(&mut self.bytes, bytes::HALF_CRLF);
+        self.builder.set_is_half_crlf();
     }
 
-    /// The assertions that are known to hold where the state is entered.
+    /// Returns look-have: the assertions known to hold at the state.
     pub fn look_have(&self) -> LookSet
         ensures { result ≡ self.now.look_have }
     {
-        bytes::open_look_have(self.bytes.as_slice())
+        self.builder.look_have()
     }
 
-    /// Replaces look-have by what `set` makes of it. It is called once.
-    pub fn set_look_have<F: FnMut(LookSet) -> LookSet>(&mut self, mut set: F)
+    /// Replaces look-have by the result of `set` for it. Calls `set` once.
+    pub fn set_look_have<F: FnMut(LookSet) -> LookSet>(&mut self, set: F)
         requires { F.pre set self.old.look_have }
         ensures { (answer : ℕ) × F.post set self.old.look_have answer
             × (self.new ≡ record self.old { look_have = answer }) }
     {
-        let look_have = set(self.look_have());
-        self.put_look_have(look_have);
+        self.builder.set_look_have(set);
     }
 
-    /// Writes look-have.
-    fn put_look_have(&mut self, look_have: LookSet)
-        ensures { self.new ≡ record self.old { look_have = look_have } }
-    {
-        bytes::put_number(&mut self.bytes, bytes::LOOK_HAVE, look_have.as_repr());
-    }
-
-    /// The assertions that are asked for, of which this builder records none.
-    pub(crate) fn look_need(&self) -> LookSet
-        ensures { result ≡ self.now.look_need }
-    {
-        bytes::open_look_need(self.bytes.as_slice())
-    }
-
-    /// Whether some pattern is listed.
-    pub(crate) fn is_match(&self) -> bool
-        ensures { result ≡ is_nonempty self.now.patterns }
-    {
-        bytes::open_is_match(self.bytes.as_slice())
-    }
-
-    /// Whether it is recorded that the state is entered by a word byte.
-    pub(crate) fn is_from_word(&self) -> bool
-        ensures { result ≡ self.now.from_word }
-    {
-        bytes::open_is_from_word(self.bytes.as_slice())
-    }
-
-    /// Whether it is recorded that the state stands behind the first half of a CRLF.
-    pub(crate) fn is_half_crlf(&self) -> bool
-        ensures { result ≡ self.now.half_crlf }
-    {
-        bytes::open_is_half_crlf(self.bytes.as_slice())
-    }
-
-    /// The patterns in order, read from the bytes.
-    pub(crate) fn iter_match_pattern_ids(&self) -> PatternIds<'_>
-        ensures { result ≡ self.now.patterns }
-    {
-        PatternIds::new(bytes::open_pattern_words(self.bytes.as_slice()))
-    }
-
-    /// Lists a pattern that isn't listed yet, after all others.
+    /// Adds a pattern, which must be new, after the others.
     ///
-    /// The only error is want of memory, and the builder is as it was then. A first pattern that is
-    /// `ZERO` is never refused.
+    /// On error the builder is unchanged. Adding `ZERO` as the first pattern never fails.
     pub fn add_match_pattern_id(&mut self, id: PatternID) -> Result<(), AllocError>
         requires { list_any (nat_eq id) self.old.patterns ≡ false }
         ensures ok { OnOk result (self.new ≡ with_pattern self.old id) }
         ensures err { OnErr result (self.new ≡ self.old) }
         ensures first { self.old.patterns ≡ [] → id ≡ 0 → IsOk result }
     {
-        bytes::add_pattern(&mut self.bytes, id.as_u32())?;
-        Ok(())
+        self.builder.add_match_pattern_id(id)
     }
 
-    /// Goes on to the NFA states. Nothing of the state changes, and no memory is taken.
+    /// Returns the builder of the next phase, with the same value. Does not allocate.
     pub fn into_nfa(self) -> StateBuilderNFA<A>
         ensures { result ≡ self }
     {
-        let mut bytes = self.bytes;
-        bytes::close(&mut bytes);
-        StateBuilderNFA {
-            bytes,
-            last: StateID::ZERO,
-        }
+        self.builder
     }
 }
 
@@ -199,21 +155,21 @@ impl<A: Allocator> Model for StateBuilderNFA<A> {
 }
 
 impl<A: Allocator> StateBuilderNFA<A> {
-    /// The assertions that are known to hold where the state is entered.
+    /// Returns look-have: the assertions known to hold at the state.
     pub fn look_have(&self) -> LookSet
         ensures { result ≡ self.now.look_have }
     {
         bytes::look_have(self.bytes.as_slice())
     }
 
-    /// The assertions that the NFA states ask for.
+    /// Returns look-need: the assertions that the NFA states test.
     pub fn look_need(&self) -> LookSet
         ensures { result ≡ self.now.look_need }
     {
         bytes::look_need(self.bytes.as_slice())
     }
 
-    /// Replaces look-have by what `set` makes of it. It is called once.
+    /// Replaces look-have by the result of `set` for it. Calls `set` once.
     pub fn set_look_have<F: FnMut(LookSet) -> LookSet>(&mut self, mut set: F)
         requires { F.pre set self.old.look_have }
         ensures { (answer : ℕ) × F.post set self.old.look_have answer
@@ -223,7 +179,7 @@ impl<A: Allocator> StateBuilderNFA<A> {
         self.put_look_have(answer);
     }
 
-    /// Replaces look-need by what `set` makes of it. It is called once.
+    /// Replaces look-need by the result of `set` for it. Calls `set` once.
     pub fn set_look_need<F: FnMut(LookSet) -> LookSet>(&mut self, mut set: F)
         requires { F.pre set self.old.look_need }
         ensures { (answer : ℕ) × F.post set self.old.look_need answer
@@ -233,42 +189,69 @@ impl<A: Allocator> StateBuilderNFA<A> {
         self.put_look_need(answer);
     }
 
-    /// Whether some pattern is listed.
+    /// Returns whether there is a pattern.
     pub(crate) fn is_match(&self) -> bool
         ensures { result ≡ is_nonempty self.now.patterns }
     {
         bytes::is_match(self.bytes.as_slice())
     }
 
-    /// Whether it is recorded that the state is entered by a word byte.
+    /// Returns the flag from-word.
     pub(crate) fn is_from_word(&self) -> bool
         ensures { result ≡ self.now.from_word }
     {
         bytes::is_from_word(self.bytes.as_slice())
     }
 
-    /// Whether it is recorded that the state stands behind the first half of a CRLF.
+    /// Returns the flag half-CRLF.
     pub(crate) fn is_half_crlf(&self) -> bool
         ensures { result ≡ self.now.half_crlf }
     {
         bytes::is_half_crlf(self.bytes.as_slice())
     }
 
-    /// The patterns in order, read from the bytes.
+    /// Returns an iterator over the patterns in order.
     pub(crate) fn iter_match_pattern_ids(&self) -> PatternIds<'_>
         ensures { result ≡ self.now.patterns }
     {
         PatternIds::new(bytes::pattern_words(self.bytes.as_slice()))
     }
 
-    /// The NFA states in order, read from the bytes.
+    /// Returns an iterator over the NFA states in order.
     pub(crate) fn iter_nfa_state_ids(&self) -> NfaStateIds<'_>
         ensures { result ≡ self.now.states }
     {
         bytes::nfa_state_ids(self.bytes.as_slice())
     }
 
-    /// Adds an assertion to look-need, which may have it already.
+    /// Sets the flag from-word.
+    pub(crate) fn set_is_from_word(&mut self)
+        ensures { self.new ≡ record self.old { from_word = true } }
+    {
+        bytes::set_flag(&mut self.bytes, bytes::FROM_WORD);
+    }
+
+    /// Sets the flag half-CRLF.
+    pub(crate) fn set_is_half_crlf(&mut self)
+        ensures { self.new ≡ record self.old { half_crlf = true } }
+    {
+        bytes::set_flag(&mut self.bytes, bytes::HALF_CRLF);
+    }
+
+    /// Adds a pattern, which must be new, after the others, before any NFA state. On error the
+    /// builder is unchanged.
+    pub(crate) fn add_match_pattern_id(&mut self, id: PatternID) -> Result<(), AllocError>
+        requires unrecorded { self.old.states ≡ [] }
+        requires new { list_any (nat_eq id) self.old.patterns ≡ false }
+        ensures ok { OnOk result (self.new ≡ with_pattern self.old id) }
+        ensures err { OnErr result (self.new ≡ self.old) }
+        ensures first { self.old.patterns ≡ [] → id ≡ 0 → IsOk result }
+    {
+        bytes::add_pattern(&mut self.bytes, id.as_u32())?;
+        Ok(())
+    }
+
+    /// Adds an assertion to look-need, which may contain it already.
     #[inline(always)]
     pub(crate) fn add_look_need(&mut self, look: Look)
         ensures { self.new ≡ record self.old { look_need = insert self.old.look_need look } }
@@ -279,8 +262,8 @@ impl<A: Allocator> StateBuilderNFA<A> {
         }
     }
 
-    /// Empties look-have where look-need is empty, since nothing will ask for it then. It cannot be
-    /// refused.
+    /// Clears look-have if look-need is empty, so that states do not differ in assertions that
+    /// nothing tests. Never fails.
     pub fn settle(&mut self)
         ensures { self.new ≡ settled self.old }
     {
@@ -303,9 +286,9 @@ impl<A: Allocator> StateBuilderNFA<A> {
         bytes::put_number(&mut self.bytes, bytes::LOOK_NEED, look_need.as_repr());
     }
 
-    /// Lists an NFA state after all others. It may be listed already.
+    /// Adds an NFA state after the others. It may be present already.
     ///
-    /// The only error is want of memory, and the builder is as it was then.
+    /// On error the builder is unchanged.
     #[inline(always)]
     pub fn add_nfa_state_id(&mut self, id: StateID) -> Result<(), AllocError>
         ensures ok { OnOk result (self.new ≡ with_state self.old id) }
@@ -317,7 +300,7 @@ impl<A: Allocator> StateBuilderNFA<A> {
         Ok(())
     }
 
-    /// The bytes of the state, the one spelling of its value.
+    /// Returns the bytes of the state, the canonical encoding of its value.
     pub fn as_bytes(&self) -> &[u8]
         ensures bytes { result.now ≡ spell self.now }
         ensures valid { IsValue self.now }
@@ -325,9 +308,7 @@ impl<A: Allocator> StateBuilderNFA<A> {
         self.bytes.as_slice()
     }
 
-    /// A state of the same value. The builder stays as it is.
-    ///
-    /// The only error is want of memory.
+    /// Returns a state with the value of the builder, which is unchanged.
     pub fn to_state(&self) -> Result<State<A>, AllocError>
     where
         A: Clone,
@@ -339,7 +320,7 @@ impl<A: Allocator> StateBuilderNFA<A> {
         })
     }
 
-    /// An empty builder, which may keep the memory of this one. It cannot be refused.
+    /// Returns an empty builder, which may keep the memory of this one. Never fails.
     pub fn clear(self) -> StateBuilderEmpty<A>
         ensures { result ≡ dead }
     {
@@ -348,7 +329,7 @@ impl<A: Allocator> StateBuilderNFA<A> {
         StateBuilderEmpty { bytes }
     }
 
-    /// Keeps in mind how the builder is.
+    /// Returns a mark of the builder's value, for `restore`.
     pub(crate) fn mark(&self) -> Mark
         ensures { IsMarkOf result self.now }
     {
@@ -360,8 +341,8 @@ impl<A: Allocator> StateBuilderNFA<A> {
         }
     }
 
-    /// Brings the builder back to the value that it had at the mark, since when NFA states were
-    /// added and sets were replaced and nothing else.
+    /// Restores the value that the builder had at the mark. Since then, only NFA states may have
+    /// been added and sets replaced.
     pub(crate) fn restore(&mut self, mark: Mark)
         requires { (value : StateValue) × IsMarkOf mark value × IsGrown value self.old }
         ensures { (value : StateValue) → IsMarkOf mark value → IsGrown value self.old
@@ -374,7 +355,7 @@ impl<A: Allocator> StateBuilderNFA<A> {
     }
 }
 
-/// A clone is as empty, without the memory. The only error is want of memory.
+/// Returns an empty builder with no memory yet.
 impl<A: Allocator + Clone> Clone for StateBuilderEmpty<A> {
     ghost is_clone = { λ a b. a ≡ b };
 
@@ -383,18 +364,18 @@ impl<A: Allocator + Clone> Clone for StateBuilderEmpty<A> {
     }
 }
 
-/// A clone has the same value. The only error is want of memory.
+/// Returns a clone with the same value.
 impl<A: Allocator + Clone> Clone for StateBuilderMatches<A> {
     ghost is_clone = { λ a b. a ≡ b };
 
     fn clone(&self) -> Result<StateBuilderMatches<A>, AllocError> {
         Ok(StateBuilderMatches {
-            bytes: self.bytes.clone()?,
+            builder: self.builder.clone()?,
         })
     }
 }
 
-/// A clone has the same value. The only error is want of memory.
+/// Returns a clone with the same value.
 impl<A: Allocator + Clone> Clone for StateBuilderNFA<A> {
     ghost is_clone = { λ a b. a ≡ b };
 

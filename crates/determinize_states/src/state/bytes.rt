@@ -1,43 +1,45 @@
-//! Reading the bytes of a state, and writing some of them.
+//! Reading and writing parts of an encoded state.
+//!
+//! The bytes of a `State` and those of a builder encode its value (`IsSpelled`), so the readers
+//! serve both.
 
 ghost use Rattle.std.specs.Prelude.{◌≡◌, ◌+◌, ◌*◌, ◌<◌, ◌≤◌, ◌^◌, [], ◌∷◌, ◌++◌, if◌then◌else◌, length, slice_index, vec_len, true, false, All, OnOk, OnErr, IsOk};
 ghost use Rattle.determinize_states.specs.Value.{is_nonempty};
 ghost use Rattle.determinize_states.specs.Spelling.{IsSpelled, value_of, number_at, numbers_in, word, words, with_word, has_flag, start_in};
-ghost use Rattle.determinize_states.specs.Building.{IsOpen, value_of_open, closed};
 ghost use Rattle.determinize_states.specs.Private.PatternBytes.{with_bit, with_pattern_bytes};
 
 use crate::state::nfa_state_ids::NfaStateIds;
 use determinize_below::{LookSet, PatternID};
 use std::alloc::{AllocError, Allocator};
 
-/// The bit of the first byte that says that some pattern matches.
+/// The flag of the first byte that some pattern matches.
 pub(crate) const MATCH: u8 = 1;
 
-/// The bit of the first byte that says that the patterns are written out.
+/// The flag of the first byte that the patterns are explicit.
 pub(crate) const EXPLICIT: u8 = 2;
 
-/// The bit of the first byte for a state that was entered by a word byte.
+/// The flag of the first byte that the byte before the state is a word byte.
 pub(crate) const FROM_WORD: u8 = 4;
 
-/// The bit of the first byte for a state that was entered by what may be the first half of a CRLF.
+/// The flag of the first byte that the byte before the state may be the first half of a CRLF.
 pub(crate) const HALF_CRLF: u8 = 8;
 
-/// Where look-have stands.
+/// The offset of look-have.
 pub(crate) const LOOK_HAVE: usize = 1;
 
-/// Where look-need stands.
+/// The offset of look-need.
 pub(crate) const LOOK_NEED: usize = 5;
 
-/// Where the number of patterns stands, and where the NFA ids begin if it doesn't.
+/// The offset of the number of patterns, or of the NFA states if the patterns are implicit.
 pub(crate) const COUNT: usize = 9;
 
-/// Where the patterns begin.
+/// The offset of the explicit patterns.
 pub(crate) const PATTERNS: usize = 13;
 
-/// The word of `ZERO`, the one pattern that is listed where no pattern is written out.
+/// The bytes of the pattern `ZERO`, for a state that has it implicitly.
 const ZERO_WORD: [u8; 4] = [0; 4];
 
-/// Whether the first byte has the bit of this weight.
+/// Returns whether the first byte has the flag.
 pub(crate) fn has_flag(bytes: &[u8], weight: u8) -> bool
     requires { 0 < length bytes.now }
     ensures { result ≡ has_flag bytes.now weight }
@@ -45,7 +47,7 @@ pub(crate) fn has_flag(bytes: &[u8], weight: u8) -> bool
     bytes[0] & weight != 0
 }
 
-/// Whether some pattern matches.
+/// Returns whether some pattern matches.
 pub(crate) fn is_match(bytes: &[u8]) -> bool
     requires { IsSpelled bytes.now }
     ensures { result ≡ is_nonempty (value_of bytes.now).patterns }
@@ -53,7 +55,7 @@ pub(crate) fn is_match(bytes: &[u8]) -> bool
     has_flag(bytes, MATCH)
 }
 
-/// The flag for a word byte.
+/// Returns the flag from-word.
 pub(crate) fn is_from_word(bytes: &[u8]) -> bool
     requires { IsSpelled bytes.now }
     ensures { result ≡ (value_of bytes.now).from_word }
@@ -61,7 +63,7 @@ pub(crate) fn is_from_word(bytes: &[u8]) -> bool
     has_flag(bytes, FROM_WORD)
 }
 
-/// The flag for half a CRLF.
+/// Returns the flag half-CRLF.
 pub(crate) fn is_half_crlf(bytes: &[u8]) -> bool
     requires { IsSpelled bytes.now }
     ensures { result ≡ (value_of bytes.now).half_crlf }
@@ -69,7 +71,7 @@ pub(crate) fn is_half_crlf(bytes: &[u8]) -> bool
     has_flag(bytes, HALF_CRLF)
 }
 
-/// The set look-have.
+/// Returns look-have.
 pub(crate) fn look_have(bytes: &[u8]) -> LookSet
     requires { IsSpelled bytes.now }
     ensures { result ≡ (value_of bytes.now).look_have }
@@ -77,7 +79,7 @@ pub(crate) fn look_have(bytes: &[u8]) -> LookSet
     look_set_at(bytes, LOOK_HAVE)
 }
 
-/// The set look-need.
+/// Returns look-need.
 pub(crate) fn look_need(bytes: &[u8]) -> LookSet
     requires { IsSpelled bytes.now }
     ensures { result ≡ (value_of bytes.now).look_need }
@@ -85,7 +87,7 @@ pub(crate) fn look_need(bytes: &[u8]) -> LookSet
     look_set_at(bytes, LOOK_NEED)
 }
 
-/// The set in the four bytes from a place on.
+/// Returns the set in the four bytes at an offset.
 pub(crate) fn look_set_at(bytes: &[u8], at: usize) -> LookSet
     requires room { at + 4 ≤ length bytes.now }
     requires small { number_at bytes.now at < 2 ^ 18 }
@@ -94,7 +96,7 @@ pub(crate) fn look_set_at(bytes: &[u8], at: usize) -> LookSet
     LookSet::from_repr(number_at(bytes, at))
 }
 
-/// The number in the four bytes from a place on.
+/// Returns the number in the four bytes at an offset.
 fn number_at(bytes: &[u8], at: usize) -> u32
     requires { at + 4 ≤ length bytes.now }
     ensures { result ≡ number_at bytes.now at }
@@ -102,47 +104,7 @@ fn number_at(bytes: &[u8], at: usize) -> u32
     u32::from_le_bytes([bytes[at], bytes[at + 1], bytes[at + 2], bytes[at + 3]])
 }
 
-/// Whether some pattern is listed, where the number of patterns isn't written yet.
-pub(crate) fn open_is_match(bytes: &[u8]) -> bool
-    requires { IsOpen bytes.now }
-    ensures { result ≡ is_nonempty (value_of_open bytes.now).patterns }
-{
-    has_flag(bytes, MATCH)
-}
-
-/// The flag for a word byte, where the number of patterns isn't written yet.
-pub(crate) fn open_is_from_word(bytes: &[u8]) -> bool
-    requires { IsOpen bytes.now }
-    ensures { result ≡ (value_of_open bytes.now).from_word }
-{
-    has_flag(bytes, FROM_WORD)
-}
-
-/// The flag for half a CRLF, where the number of patterns isn't written yet.
-pub(crate) fn open_is_half_crlf(bytes: &[u8]) -> bool
-    requires { IsOpen bytes.now }
-    ensures { result ≡ (value_of_open bytes.now).half_crlf }
-{
-    has_flag(bytes, HALF_CRLF)
-}
-
-/// The set look-have of a state whose number of patterns isn't written yet.
-pub(crate) fn open_look_have(bytes: &[u8]) -> LookSet
-    requires { IsOpen bytes.now }
-    ensures { result ≡ (value_of_open bytes.now).look_have }
-{
-    look_set_at(bytes, LOOK_HAVE)
-}
-
-/// The set look-need of a state whose number of patterns isn't written yet.
-pub(crate) fn open_look_need(bytes: &[u8]) -> LookSet
-    requires { IsOpen bytes.now }
-    ensures { result ≡ (value_of_open bytes.now).look_need }
-{
-    look_set_at(bytes, LOOK_NEED)
-}
-
-/// Sets a bit of the first byte.
+/// Sets a flag of the first byte.
 pub(crate) fn set_flag<A: Allocator>(bytes: &mut Vec<u8, A>, flag: u8)
     requires { 0 < vec_len bytes.old }
     ensures { bytes.new.items ≡ with_bit bytes.old.items flag }
@@ -150,10 +112,10 @@ pub(crate) fn set_flag<A: Allocator>(bytes: &mut Vec<u8, A>, flag: u8)
     bytes[0] |= flag;
 }
 
-/// Adds a pattern to a state whose number of patterns isn't written yet. The first pattern is only
-/// written out if it isn't `ZERO`; a `ZERO` that wasn't written out is when another follows.
+/// Adds a pattern to bytes without NFA states. If `ZERO` is the first, only its flag is set, and it
+/// is made explicit when another pattern follows.
 pub(crate) fn add_pattern<A: Allocator>(bytes: &mut Vec<u8, A>, id: u32) -> Result<(), AllocError>
-    requires { 0 < vec_len bytes.old }
+    requires { IsSpelled bytes.old.items }
     ensures ok { OnOk result (bytes.new.items ≡ with_pattern_bytes bytes.old.items id) }
     ensures err { OnErr result (bytes.new.items ≡ bytes.old.items) }
     ensures first { has_flag bytes.old.items 1 ≡ false → has_flag bytes.old.items 2 ≡ false
@@ -161,11 +123,14 @@ pub(crate) fn add_pattern<A: Allocator>(bytes: &mut Vec<u8, A>, id: u32) -> Resu
 {
     let [a, b, c, d] = id.to_le_bytes();
     if has_flag(bytes, EXPLICIT) {
+        let count = number_at(bytes, COUNT);
         bytes.extend_from_slice(&[a, b, c, d])?;
+        put_number(bytes, COUNT, count + 1);
     } else if has_flag(bytes, MATCH) {
         add_after_zero(bytes, id)?;
     } else if id != 0 {
-        bytes.extend_from_slice(&[0, 0, 0, 0, a, b, c, d])?;
+        // The flags are set last, so that the bytes are unchanged on error.
+        bytes.extend_from_slice(&[1, 0, 0, 0, a, b, c, d])?;
         set_flag(bytes, MATCH | EXPLICIT);
     } else {
         set_flag(bytes, MATCH);
@@ -173,31 +138,20 @@ pub(crate) fn add_pattern<A: Allocator>(bytes: &mut Vec<u8, A>, id: u32) -> Resu
     Ok(())
 }
 
-/// Adds a pattern where the only one is a `ZERO` that isn't written out: now both are.
+/// Adds a pattern after an implicit `ZERO`, which is made explicit.
 fn add_after_zero<A: Allocator>(bytes: &mut Vec<u8, A>, id: u32) -> Result<(), AllocError>
     requires { 0 < vec_len bytes.old }
     ensures ok { OnOk result
-        (bytes.new.items ≡ with_bit (bytes.old.items ++ (word 0 ++ word 0 ++ word id)) 2) }
+        (bytes.new.items ≡ with_bit (bytes.old.items ++ (word 2 ++ word 0 ++ word id)) 2) }
     ensures err { OnErr result (bytes.new.items ≡ bytes.old.items) }
 {
     let [a, b, c, d] = id.to_le_bytes();
-    bytes.extend_from_slice(&[0, 0, 0, 0, 0, 0, 0, 0, a, b, c, d])?;
+    bytes.extend_from_slice(&[2, 0, 0, 0, 0, 0, 0, 0, a, b, c, d])?;
     set_flag(bytes, EXPLICIT);
     Ok(())
 }
 
-/// Writes the number of patterns, where the patterns are written out.
-pub(crate) fn close<A: Allocator>(bytes: &mut Vec<u8, A>)
-    requires { IsOpen bytes.old.items }
-    ensures { bytes.new.items ≡ closed bytes.old.items }
-{
-    if has_flag(bytes, EXPLICIT) {
-        let count = (bytes.len() - PATTERNS) / PatternID::SIZE;
-        put_number(bytes, COUNT, count as u32);
-    }
-}
-
-/// Writes a number into the four bytes from a place on.
+/// Writes a number into the four bytes at an offset.
 pub(crate) fn put_number<A: Allocator>(bytes: &mut Vec<u8, A>, at: usize, number: u32)
     requires { at + 4 ≤ vec_len bytes.old }
     ensures items { bytes.new.items ≡ with_word bytes.old.items at number }
@@ -210,8 +164,8 @@ pub(crate) fn put_number<A: Allocator>(bytes: &mut Vec<u8, A>, at: usize, number
     bytes[at + 3] = fourth;
 }
 
-/// The patterns of a finished state, four bytes each. Where none is written out but some pattern
-/// matches, this is the word of `ZERO`.
+/// Returns the patterns, four bytes each. If they are implicit and there is one, these are the
+/// bytes of `ZERO`.
 pub(crate) fn pattern_words(bytes: &[u8]) -> &[u8]
     requires { IsSpelled bytes.now }
     ensures ids { numbers_in result.now ≡ (value_of bytes.now).patterns }
@@ -228,20 +182,7 @@ pub(crate) fn pattern_words(bytes: &[u8]) -> &[u8]
     ids
 }
 
-/// The patterns of a state whose number of patterns isn't written yet, four bytes each.
-pub(crate) fn open_pattern_words(bytes: &[u8]) -> &[u8]
-    requires { IsOpen bytes.now }
-    ensures ids { numbers_in result.now ≡ (value_of_open bytes.now).patterns }
-    ensures small { All (λ id. id ≤ 2147483646) (numbers_in result.now) }
-{
-    if !has_flag(bytes, EXPLICIT) {
-        return implicit_words(bytes);
-    }
-    let (_, ids) = bytes.split_at(PATTERNS);
-    ids
-}
-
-/// The patterns where none is written out: the word of `ZERO`, or nothing.
+/// Returns the implicit patterns: the bytes of `ZERO`, or nothing.
 fn implicit_words(bytes: &[u8]) -> &[u8]
     requires { 9 ≤ length bytes.now }
     ensures { result.now ≡ words (if has_flag bytes.now 1 then 0 ∷ [] else []) }
@@ -253,7 +194,7 @@ fn implicit_words(bytes: &[u8]) -> &[u8]
     }
 }
 
-/// The pattern at an index of words.
+/// Returns the pattern at an index, from patterns of four bytes each.
 pub(crate) fn pattern_at(words: &[u8], index: usize) -> PatternID
     requires index { index < length (numbers_in words.now) }
     requires small { All (λ id. id ≤ 2147483646) (numbers_in words.now) }
@@ -266,7 +207,7 @@ pub(crate) fn pattern_at(words: &[u8], index: usize) -> PatternID
     id
 }
 
-/// The NFA ids of a finished state.
+/// Returns an iterator over the NFA states.
 pub(crate) fn nfa_state_ids(bytes: &[u8]) -> NfaStateIds<'_>
     requires { IsSpelled bytes.now }
     ensures { result ≡ (value_of bytes.now).states }
@@ -276,7 +217,7 @@ pub(crate) fn nfa_state_ids(bytes: &[u8]) -> NfaStateIds<'_>
     NfaStateIds::new(rest)
 }
 
-/// Where the NFA ids begin.
+/// Returns the offset of the NFA states.
 fn ids_start(bytes: &[u8]) -> usize
     requires long { 9 ≤ length bytes.now }
     requires counted { has_flag bytes.now 2 ≡ true → 13 ≤ length bytes.now }

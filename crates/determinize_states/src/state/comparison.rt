@@ -1,4 +1,5 @@
-//! Equality, order and hash of states.
+//! Equality, order and hash of states, all by their bytes. Two states are equal if and only if
+//! their values are.
 
 ghost use Rattle.std.specs.Prelude.{◌≡◌, ◌++◌, ◌∷◌, [], length};
 ghost use Rattle.std.specs.Ordering.{as_partial_cmp};
@@ -14,7 +15,7 @@ use std::alloc::Allocator;
 use std::cmp::Ordering;
 use std::hash::{Hash, Hasher};
 
-/// Compares the bytes. States are equal exactly if their values are.
+/// Compares the bytes.
 impl<A: Allocator> PartialEq for State<A> {
     ghost eq = { same };
 
@@ -29,7 +30,7 @@ impl<A: Allocator> Eq for State<A> {
     ghost laws = { Prim.search (comparing, rules) };
 }
 
-/// The order of the bytes.
+/// Compares the bytes lexicographically.
 impl<A: Allocator> Ord for State<A> {
     ghost cmp = { by_bytes };
 
@@ -54,7 +55,7 @@ impl<A: Allocator> PartialOrd for State<A> {
     }
 }
 
-/// The hash of the bytes: their number, and then all of them at once.
+/// Hashes the length of the bytes and then the bytes, as a slice does.
 impl<A: Allocator> Hash for State<A> {
     ghost hash_input = { λ s. fed.usize (length (spell s)) ++ spell s ∷ [] };
 

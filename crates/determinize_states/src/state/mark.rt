@@ -1,8 +1,8 @@
-//! What a builder needs to come back to an earlier value.
+//! A checkpoint of a builder.
 
 use determinize_below::{LookSet, StateID};
 
-/// The value of a `StateBuilderNFA` at some moment, as far as later calls may change it.
+/// The part of a `StateBuilderNFA` that `restore` needs to undo later calls.
 #[derive(Clone, Copy)]
 pub(crate) struct Mark {
     pub(crate) bytes: usize,

@@ -1,4 +1,4 @@
-//! The NFA states of a state, decoded from its bytes.
+//! The iterator over the NFA states of a state.
 
 ghost use Rattle.std.specs.Prelude.{◌≡◌, ℕ};
 ghost use Rattle.std.specs.Iterator.{YieldsFirst, item_count};
@@ -8,9 +8,9 @@ use crate::state::varint::first_id;
 use determinize_below::StateID;
 use std::marker::Model;
 
-/// The NFA states of a state that are left, in order.
+/// An iterator over the NFA states of a state, in order.
 ///
-/// It borrows the bytes of the state and decodes one id at each call of `next`, without memory.
+/// It borrows the bytes of the state and decodes one id per call of `next`. It does not allocate.
 #[derive(Drop)]
 pub struct NfaStateIds<'a> {
     bytes: &'a [u8],
@@ -29,7 +29,7 @@ impl<'a> Model for NfaStateIds<'a> {
 }
 
 impl<'a> NfaStateIds<'a> {
-    /// The ids of these bytes.
+    /// Returns an iterator over the ids that these bytes encode.
     pub(crate) fn new(bytes: &'a [u8]) -> NfaStateIds<'a>
         requires { IsDeltas 0 bytes.now }
         ensures { result ≡ ids_from 0 0 1 bytes.now }
@@ -37,7 +37,7 @@ impl<'a> NfaStateIds<'a> {
         NfaStateIds { bytes, from: 0 }
     }
 
-    /// The same ids once more.
+    /// Returns a copy of the iterator, over the same remaining ids.
     pub(crate) fn again(&self) -> NfaStateIds<'a>
         ensures { result ≡ self.now }
     {
@@ -55,7 +55,7 @@ impl<'a> Iterator for NfaStateIds<'a> {
 
     ghost remaining = { item_count (λ s. s) };
 
-    /// The next id, or none where all were given.
+    /// Returns the next id, or `None` at the end.
     #[inline(always)]
     fn next(&mut self) -> Option<StateID> {
         let Some((id, after)) = first_id(self.from, self.bytes) else {

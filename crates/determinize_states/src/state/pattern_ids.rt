@@ -1,4 +1,4 @@
-//! The patterns of a state, read from its bytes.
+//! The iterator over the patterns of a state.
 
 ghost use Rattle.std.specs.Prelude.{◌≡◌, ℕ, ◌≤◌, All};
 ghost use Rattle.std.specs.Iterator.{YieldsFirst, item_count};
@@ -7,7 +7,7 @@ ghost use Rattle.determinize_states.specs.Spelling.{numbers_in};
 use determinize_below::PatternID;
 use std::marker::Model;
 
-/// The patterns that are left, four bytes each.
+/// An iterator over patterns of four bytes each.
 #[derive(Drop)]
 pub(crate) struct PatternIds<'a> {
     words: &'a [u8],
@@ -25,7 +25,7 @@ impl<'a> Model for PatternIds<'a> {
 }
 
 impl<'a> PatternIds<'a> {
-    /// The patterns of these bytes.
+    /// Returns an iterator over the patterns in these bytes.
     pub(crate) fn new(words: &'a [u8]) -> PatternIds<'a>
         requires { All (λ id. id ≤ 2147483646) (numbers_in words.now) }
         ensures { result ≡ numbers_in words.now }
@@ -33,7 +33,7 @@ impl<'a> PatternIds<'a> {
         PatternIds { words }
     }
 
-    /// The same patterns once more.
+    /// Returns a copy of the iterator, over the same remaining patterns.
     pub(crate) fn again(&self) -> PatternIds<'a>
         ensures { result ≡ self.now }
     {

@@ -1,28 +1,30 @@
-//! The bytes of a state: in the value itself where they are few, else in memory.
+//! A list of bytes that is stored inline if it is short.
+//!
+//! Most states of small NFAs have few bytes, and an inline state needs no allocation.
 
 ghost use Rattle.std.specs.Prelude.{◌≡◌, ◌≤◌, length, IfOk, IsOk};
 
 use std::alloc::{AllocError, Allocator};
 use std::marker::Model;
 
-/// The most bytes that stand in the value itself. With their number and what tells the two forms
-/// apart these are 32 bytes, as many as the other form takes, where the allocator takes none.
+/// The maximum number of inline bytes. With their length and the tag of the enum they fill 32
+/// bytes, the size of a vector with its tag, if the allocator has size zero.
 const SHORT: usize = 30;
 
-/// How bytes are kept.
+/// The storage of the bytes.
 #[derive(Drop)]
 enum Form<A: Allocator> {
-    /// The first `len` of the bytes, in the value itself.
+    /// The first `len` of the bytes, inline.
     Short {
         alloc: A,
         len: u8,
         bytes: [u8; SHORT],
     },
-    /// More bytes than `SHORT`, in memory.
+    /// More than `SHORT` bytes, in a vector.
     Long(Vec<u8, A>),
 }
 
-/// A list of bytes, which can't be changed.
+/// An immutable list of bytes.
 #[derive(Drop)]
 pub(crate) struct SmallBytes<A: Allocator> {
     form: Form<A>,
@@ -40,7 +42,7 @@ impl<A: Allocator> Model for SmallBytes<A> {
 }
 
 impl<A: Allocator> SmallBytes<A> {
-    /// These bytes. The only error is want of memory, which comes for more than `SHORT` alone.
+    /// Returns a copy of these bytes. Allocates only for more than `SHORT` bytes.
     #[inline]
     pub(crate) fn from_slice(alloc: A, bytes: &[u8]) -> Result<SmallBytes<A>, AllocError>
         ensures value { IfOk result (λ kept. kept ≡ bytes.now) }
@@ -61,7 +63,7 @@ impl<A: Allocator> SmallBytes<A> {
         Ok(SmallBytes { form })
     }
 
-    /// The bytes.
+    /// Returns the bytes.
     #[inline(always)]
     pub(crate) fn as_slice(&self) -> &[u8]
         ensures { result.now ≡ self.now }
@@ -72,7 +74,7 @@ impl<A: Allocator> SmallBytes<A> {
         }
     }
 
-    /// The allocator whose memory is taken where there are many bytes.
+    /// Returns the allocator of the list.
     pub(crate) fn allocator(&self) -> &A {
         match &self.form {
             Form::Short { alloc, .. } => alloc,
@@ -81,7 +83,7 @@ impl<A: Allocator> SmallBytes<A> {
     }
 }
 
-/// A clone has the same bytes. The only error is want of memory.
+/// Returns a clone with the same bytes.
 impl<A: Allocator + Clone> Clone for SmallBytes<A> {
     ghost is_clone = { λ a b. a ≡ b };
 

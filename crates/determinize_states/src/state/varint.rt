@@ -1,4 +1,9 @@
-//! NFA ids as differences in groups of 7 bits.
+//! The encoding of NFA states: differences of consecutive ids as zigzag varints.
+//!
+//! Zigzag maps a signed difference to an unsigned number, so that a small difference of either sign
+//! is a small number. A varint has 7 bits per byte, the low ones first; the top bit of a byte says
+//! that another follows. A number below 128 is the common case and has a separate path, which is
+//! inlined.
 
 ghost use Rattle.std.specs.Prelude.{◌≡◌, ◌+◌, ◌%◌, ◌≤◌, [], ◌∷◌, ◌++◌, length, take, option_map, IfNone, IfSome, OnErr, OnOk};
 ghost use Rattle.determinize_states.specs.Varint as format;
@@ -8,7 +13,8 @@ ghost use Rattle.determinize_states.specs.Varint.{unzigzag, ids_from, IsDeltas};
 use determinize_below::StateID;
 use std::alloc::{AllocError, Allocator};
 
-/// The difference between two ids as a number, small where the difference is small.
+/// Returns the difference between two ids as an unsigned number: even for a difference of 0 or
+/// more, odd for a negative one.
 #[inline(always)]
 pub(crate) fn zigzag(from: StateID, to: StateID) -> u32
     ensures value { result ≡ format.zigzag from to }
@@ -23,7 +29,7 @@ pub(crate) fn zigzag(from: StateID, to: StateID) -> u32
     }
 }
 
-/// Writes a number at the end, in groups of 7 bits.
+/// Appends a number as a varint. On error the bytes are unchanged.
 #[tactic(auto, unfolding(crate::specs::Varint::varint))]
 #[inline(always)]
 pub(crate) fn write<A: Allocator>(bytes: &mut Vec<u8, A>, number: u32) -> Result<(), AllocError>
@@ -37,7 +43,7 @@ pub(crate) fn write<A: Allocator>(bytes: &mut Vec<u8, A>, number: u32) -> Result
     write_groups(bytes, number)
 }
 
-/// The same, in any number of groups.
+/// Appends a number of any size. On error the bytes are unchanged.
 #[cold]
 fn write_groups<A: Allocator>(bytes: &mut Vec<u8, A>, number: u32) -> Result<(), AllocError>
     ensures ok { OnOk result (bytes.new.items ≡ bytes.old.items ++ format.varint number) }
@@ -51,8 +57,7 @@ fn write_groups<A: Allocator>(bytes: &mut Vec<u8, A>, number: u32) -> Result<(),
     pushed
 }
 
-/// Adds the groups of a number, the low group first, until memory is refused. Each byte but the
-/// last has its top bit set.
+/// Appends the groups of a number, the low one first. On error some of them may have been appended.
 fn push_groups<A: Allocator>(bytes: &mut Vec<u8, A>, number: u32) -> Result<(), AllocError>
     ensures ok { OnOk result (bytes.new.items ≡ bytes.old.items ++ format.varint number) }
     ensures begins { take (length bytes.old.items) bytes.new.items ≡ bytes.old.items }
@@ -66,14 +71,14 @@ fn push_groups<A: Allocator>(bytes: &mut Vec<u8, A>, number: u32) -> Result<(), 
     Ok(())
 }
 
-/// The lowest 7 bits as a group after which another follows.
+/// Returns the low 7 bits as a group that another follows.
 fn more(number: u32) -> u8
     ensures { result ≡ 128 + number % 128 }
 {
     128 + (number % 128) as u8
 }
 
-/// The first id of the differences from an id on, and the bytes after it.
+/// Decodes one id after `from`. Returns it with the remaining bytes, or `None` at the end.
 #[inline(always)]
 pub(crate) fn first_id(from: u32, bytes: &[u8]) -> Option<(StateID, &[u8])>
     requires { IsDeltas from bytes.now }
@@ -87,7 +92,7 @@ pub(crate) fn first_id(from: u32, bytes: &[u8]) -> Option<(StateID, &[u8])>
     }
 }
 
-/// The number that the bytes begin with, and the bytes after it.
+/// Decodes one varint. Returns it with the remaining bytes, or `None` at the end.
 #[inline(always)]
 fn read_number(bytes: &[u8]) -> Option<(u64, &[u8])>
     ensures { option_map (λ r. (r.0, r.1.now)) result ≡ read 0 1 bytes.now }
@@ -99,7 +104,8 @@ fn read_number(bytes: &[u8]) -> Option<(u64, &[u8])>
     read_groups(bytes)
 }
 
-/// The same, in any number of groups.
+/// Decodes one varint of any size. Returns `None` if the bytes end within it or it has more than
+/// five groups.
 #[cold]
 fn read_groups(bytes: &[u8]) -> Option<(u64, &[u8])>
     ensures { option_map (λ r. (r.0, r.1.now)) result ≡ read 0 1 bytes.now }
@@ -108,6 +114,7 @@ fn read_groups(bytes: &[u8]) -> Option<(u64, &[u8])>
     let mut weight = 1u64;
     let mut rest = bytes;
     while let Some((byte, after)) = rest.split_first() {
+        // A number of 32 bits has at most five groups.
         if weight > 268435456 {
             return None;
         }
@@ -122,7 +129,7 @@ fn read_groups(bytes: &[u8]) -> Option<(u64, &[u8])>
     None
 }
 
-/// The id whose difference to `from` is this number.
+/// Returns the id whose difference to `from` is this number.
 #[inline(always)]
 fn id_after(from: u32, number: u64) -> StateID
     requires from { from ≤ 2147483646 }

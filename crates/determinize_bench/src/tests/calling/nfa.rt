@@ -8,7 +8,7 @@ use determinize_below::nfa::State;
 use determinize_below::{BuildError, LookMatcher, NFA, PatternID, StateID, Transition};
 use std::alloc::Allocator;
 
-/// A state that goes on over each byte from `start` to `end`.
+/// Returns a state with a transition on each byte from `start` to `end`.
 fn range<A: Allocator>(start: u8, end: u8, next: u8) -> State<A>
     ensures { node_of result
         ≡ nodes.ByteRange record { start = start; end = end; next = next } }
@@ -19,7 +19,7 @@ fn range<A: Allocator>(start: u8, end: u8, next: u8) -> State<A>
     }
 }
 
-/// A state that goes on without input to one of two states, the first of which is preferred.
+/// Returns a state with epsilon transitions to two states, of which `first` is preferred.
 fn either<A: Allocator>(first: u8, second: u8) -> State<A>
     ensures { node_of result ≡ nodes.BinaryUnion first second }
 {
@@ -29,10 +29,10 @@ fn either<A: Allocator>(first: u8, second: u8) -> State<A>
     }
 }
 
-/// The NFA of `[0-9]+`, which reads forward or, where `reverse` is set, backward.
+/// Returns the NFA of `[0-9]+`, for reverse scans if `reverse` is set.
 ///
-/// State 2 starts it where a search does. State 0 starts it from anywhere: it prefers the pattern,
-/// and else goes on over any byte. The only error is want of memory.
+/// State 2 is the anchored start state. State 0 is the unanchored one, a loop over any byte that
+/// prefers to begin a match. Returns `OutOfMemory` if an allocation fails, and no other error.
 pub fn digits<A: Allocator + Copy>(alloc: A, reverse: bool) -> Result<NFA<A>, BuildError>
     ensures states { IfOk result (λ nfa. nfa.states ≡ nodes.BinaryUnion 2 1
         ∷ nodes.ByteRange record { start = 0; end = 255; next = 0 }

@@ -1,4 +1,4 @@
--- The gate takes note, and the block goes back to the inner allocator. Assumes `Logic`.
+-- The gate counts the block, and the inner allocator frees it. Assumes `Logic`.
 use Rattle.std.proofs.Common.{◌≡◌, ℕ, ◌^◌, ◌<◌, List, [], ◌∷◌, refl, w64, Bor}
 use Rattle.std.proofs.raw_atomic.Walks.{proved}
 use seplogic.Ra.Ura.{Ura}

@@ -1,10 +1,11 @@
-use Rattle.std.proofs.Common.{◌≡◌, ◌<◌, All, nat_eq}
-use Rattle.determinize_below.specs.Reach.{fresh, none_held}
+use Rattle.std.proofs.Common.{◌≡◌, ◌<◌, All}
+use Rattle.determinize_core.specs.Private.Reading.{distinct}
 use Rattle.determinize_core.proofs.determinize.working_list.collect_states.Given as goal
 
 abbrev pub invariant-loop-id : goal.invariant-loop-id
 invariant-loop-id g l = record {
-  ids : l.set.ids ≡ fresh nat_eq none_held l.yielded;
+  ids : l.set.ids ≡ distinct l.yielded;
+  stack : l.stack.items ≡ distinct l.yielded;
   capacity : l.set.capacity ≡ l.initial.set.capacity;
   left : All (λ id. id < l.initial.set.capacity) l.id-iterator;
 }

@@ -1,19 +1,14 @@
-use Rattle.std.proofs.Common.{rules, ◌≡◌, ◌<◌, ◌≤◌, true, false, arith, sym}
+use Rattle.std.proofs.Common.{rules, ◌≡◌, ◌<◌, ◌≤◌, arith, subst, sym}
 use Rattle.std.specs.List.{slice_range}
+use Rattle.std.proofs.lemmas.Result.{IfOk-weaker}
 use Rattle.determinize_below.specs.Positions.{between}
-use Rattle.determinize_below.specs.Search.{is_done}
+use Rattle.determinize_below.specs.Nfa.{IsAccepted}
+use Rattle.determinize_lazy.specs.Cache.{cache, LazyValue}
 use Rattle.determinize_lazy.specs.Searches.{in_order, start_for}
-use Rattle.determinize_lazy.proofs.Ranges.{decides, first-done, first-found, is_done-else, is_done-past, IsRead, read}
+use Rattle.determinize_lazy.proofs.Ranges.{decides, first-done, first-found, IsRead, read}
 use Rattle.determinize_lazy.proofs.lazy.Lazy.is_match.Given.{Over}
-use Rattle.determinize_lazy.proofs.lazy.Lazy.is_match.Goals.{After-byte_ahead-ahead, Then-start-end}
+use Rattle.determinize_lazy.proofs.lazy.Lazy.is_match.Goals.{After-byte_ahead-ahead}
 use Rattle.determinize_lazy.proofs.lazy.Lazy.is_match.Goals as goal
-
--- nothing is left to search
-is_past : (g : Over) (c : Then-start-end g) → c.args.input.now.end < c.args.input.now.start
-is_past g c = omega (arith, c.if-start-end.true, c.start-start.ensures.value, c.end-end.ensures.value)
-
-none_left : (g : Over) (c : Then-start-end g) → is_done c.args.input.now ≡ false → ⊥
-none_left g c = is_done-past c.args.input.now (is_past g c)
 
 -- what is read is what the input asks for
 is_read : (g : Over) (c : After-byte_ahead-ahead g)
@@ -31,42 +26,22 @@ is_read g c =
     read c.args.self.now.nfa c.args.input.now _ _ _ _ _ order direction start c.byte_behind-behind.ensures range
     c.byte_ahead-ahead.ensures
 
--- the range does not start past its end
-in_range : (g : Over) (c : After-byte_ahead-ahead g) → is_done c.args.input.now ≡ true → ⊥
-in_range g c = is_done-else c.args.input.now (is_read g c).order
-
-pub returns-then-start-end-clause-accepts : goal.returns-then-start-end-clause-accepts
-returns-then-start-end-clause-accepts g c = λ more.
-    absurd (none_left g (goal.at.returns-then-start-end-clause-accepts g c).Then-start-end more)
-
 pub returns-then-start-end-clause-after : goal.returns-then-start-end-clause-after
 returns-then-start-end-clause-after g c =
-    sym (first-done c.args.self.now c.args.input.now
-    (is_past g (goal.at.returns-then-start-end-clause-after g c).Then-start-end))
+    let past : c.args.input.now.end < c.args.input.now.start =
+    omega (arith, c.if-start-end.true, c.start-start.ensures.value, c.end-end.ensures.value) in
+    sym (first-done (cache c.args.self.now) c.args.input.now past)
 
 pub returns-clause-accepts : goal.returns-clause-accepts
 returns-clause-accepts g c = λ _.
-    decides c.args.self.now.nfa c.args.self.now.kind c.args.input.now _ _ _
-    (is_read g (goal.at.returns-clause-accepts g c).After-byte_ahead-ahead)
-    (search rules) c.in_ok-found.found c.in_ok-found.ensures.found
+    IfOk-weaker c.is_match_in.result _ _
+    (decides c.args.self.now.nfa c.args.self.now.kind c.args.input.now _ _ _
+    (is_read g (goal.at.returns-clause-accepts g c).After-byte_ahead-ahead) (subst (λ (x : LazyValue). IsAccepted x.nfa) c.self.view_is c.self.invariant.accepted))
+    c.is_match_in.ensures.found
 
 pub returns-clause-after : goal.returns-clause-after
 returns-clause-after g c =
-    first-found c.args.self.now c.args.input.now c.is_match_in.new.self _ _ _
-    (is_read g (goal.at.returns-clause-after g c).After-byte_ahead-ahead) c.in_ok-found.ensures.after
-
-pub returns-clause-done : goal.returns-clause-done
-returns-clause-done g c = λ done.
-    absurd (in_range g (goal.at.returns-clause-done g c).After-byte_ahead-ahead done)
-
-pub returns-in_err-found-clause-done : goal.returns-in_err-found-clause-done
-returns-in_err-found-clause-done g c = λ done.
-    absurd (in_range g (goal.at.returns-in_err-found-clause-done g c).After-byte_ahead-ahead done)
-
-pub returns-clause-unchanged : goal.returns-clause-unchanged
-returns-clause-unchanged g c = λ done.
-    absurd (in_range g (goal.at.returns-clause-unchanged g c).After-byte_ahead-ahead done)
-
-pub returns-in_err-found-clause-unchanged : goal.returns-in_err-found-clause-unchanged
-returns-in_err-found-clause-unchanged g c = λ done.
-    absurd (in_range g (goal.at.returns-in_err-found-clause-unchanged g c).After-byte_ahead-ahead done)
+    IfOk-weaker c.is_match_in.result (λ _. _) (λ _. _)
+    (λ _ after. first-found (cache c.args.self.now) c.args.input.now (cache c.is_match_in.new.self) _ _ _
+    (is_read g (goal.at.returns-clause-after g c).After-byte_ahead-ahead) after)
+    c.is_match_in.ensures.after

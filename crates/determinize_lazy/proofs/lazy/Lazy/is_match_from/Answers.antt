@@ -1,97 +1,88 @@
-use Rattle.std.proofs.Common.{rules, ◌≡◌, ◌<◌, ◌≤◌, arith, length, refl, sym, ◌∙◌, Some, List, ℕ}
-use Rattle.determinize_lazy.specs.Private.Standing.{current}
+use Rattle.std.proofs.Common.{◌≡◌, ◌+◌, ◌∙◌, arith, length, List, None, Option, ℕ, refl}
+use Rattle.determinize_below.specs.Positions.{between}
+use Rattle.determinize_core.specs.Chain.{units}
+use Rattle.determinize_lazy.specs.Cache.{cache}
+use Rattle.determinize_lazy.specs.Private.Cursors.{cursor_value}
 use Rattle.determinize_lazy.specs.Searches.{in_order}
-use Rattle.determinize_lazy.proofs.Matching.{decided_ahead, decided_end, decided_false, decided_text, decided_true, last_by, listed_by, unmatched-push, unmatched_byte, unmatched_none}
-use Rattle.determinize_lazy.proofs.Searching.{length-in_order, searched_resolves}
+use Rattle.determinize_lazy.proofs.Matching.{decided-end, decided-false, decided-true, tag-lists, unmatched-none, unmatched-step}
+use Rattle.determinize_lazy.proofs.Rule.{grows-more, of_err}
+use Rattle.determinize_lazy.proofs.Searching.{index-within, length-in_order, searched_resolves, tag-alive, tag-dead, units-count}
+use Rattle.determinize_lazy.proofs.Walks.{cut_off-step}
 use Rattle.determinize_lazy.proofs.lazy.Lazy.is_match_from.Goals as goal
 
-pub step-requires-clause-resolve : goal.step-requires-clause-resolve
-step-requires-clause-resolve g c =
-    searched_resolves c.args.self.now c.args.first _ _ _ _ _ c.loop-read.invariant.accepted c.requires.resolve
-    c.loop-read.invariant.unmatched.searched
-
-pub step-requires-2-clause-resolve : goal.step-requires-2-clause-resolve
-step-requires-2-clause-resolve g c =
-    searched_resolves c.args.self.now c.args.first _ _ _ _ _ c.loop-read.invariant.accepted c.requires.resolve
-    c.loop-read.invariant.unmatched.searched
-
 pub loop-read-init : goal.loop-read-init
-loop-read-init g c =
-    let few : c.args.self.now.computed ≤ 18446744073709551615 = search rules in record {
-      unmatched = unmatched_none _ c.args.first _ _ few c.place_of-place.ensures c.requires.unmatched;
-      nfa = refl;
-      kind = refl;
-      limit = refl;
-      computed = omega arith;
-      small = few;
-      accepted = search rules;
-    }
+loop-read-init g c = record {
+  unmatched = unmatched-none (cache c.args.self.now) (cursor_value c.args.self.now.states c.args.start) _
+      c.requires.sound.small c.requires.unmatched;
+  cursor = c.requires.cursor;
+  grows = record { nfa = refl; kind = refl; limit = refl; computed = omega arith };
+}
+
+pub tag_at-tag-requires : goal.tag_at-tag-requires
+tag_at-tag-requires g c = c.loop-read.invariant.cursor
 
 pub returns-then-is_match-clause-decided : goal.returns-then-is_match-clause-decided
 returns-then-is_match-clause-decided g c =
-    decided_text (in_order c.args.is_backward c.args.text.now) c.args.look_ahead c.loop-read.read
-    (decided_true c.loop-read.invariant.unmatched _
-    (listed_by _ (current c.loop-read.self c.loop-read.own c.loop-read.place)
-    c.signs-signs.ensures c.is_match.ensures c.if-is_match.true))
+    decided-true c.loop-read.invariant.unmatched
+    (tag-lists c.tag_at-tag.result.bits (cursor_value c.loop-read.self.states c.loop-read.cursor) c.tag_at-tag.ensures
+    c.is_match.ensures ∙ c.if-is_match.true)
 
-pub returns-then-is_match-2-clause-decided : goal.returns-then-is_match-2-clause-decided
-returns-then-is_match-2-clause-decided g c =
-    decided_text (in_order c.args.is_backward c.args.text.now) c.args.look_ahead c.loop-read.read
-    (decided_true c.loop-read.invariant.unmatched _
-    (listed_by _ (current c.loop-read.self c.loop-read.own c.loop-read.place)
-    c.signs-signs-2.ensures c.is_match-2.ensures c.if-is_match-2.true))
+pub returns-then-is_match-clause-grows : goal.returns-then-is_match-clause-grows
+returns-then-is_match-clause-grows g c = c.loop-read.invariant.grows
 
-pub returns-then-is_last-clause-decided : goal.returns-then-is_last-clause-decided
-returns-then-is_last-clause-decided g c =
-    decided_text (in_order c.args.is_backward c.args.text.now) c.args.look_ahead c.loop-read.read
-    (decided_false c.loop-read.invariant.unmatched _
-    (listed_by _ (current c.loop-read.self c.loop-read.own c.loop-read.place)
-    c.signs-signs.ensures c.is_match.ensures c.if-is_match.false)
-    (last_by _ (current c.loop-read.self c.loop-read.own c.loop-read.place)
-    c.signs-signs.ensures c.is_last.ensures c.if-is_last.true))
+pub returns-then-is_dead-clause-decided : goal.returns-then-is_dead-clause-decided
+returns-then-is_dead-clause-decided g c =
+    decided-false c.loop-read.invariant.unmatched
+    (tag-lists c.tag_at-tag.result.bits (cursor_value c.loop-read.self.states c.loop-read.cursor) c.tag_at-tag.ensures
+    c.is_match.ensures ∙ c.if-is_match.false)
+    (tag-dead c.tag_at-tag.result.bits (cursor_value c.loop-read.self.states c.loop-read.cursor) c.tag_at-tag.ensures
+    c.is_dead.ensures c.if-is_dead.true)
 
-pub returns-then-is_last-2-clause-decided : goal.returns-then-is_last-2-clause-decided
-returns-then-is_last-2-clause-decided g c =
-    decided_text (in_order c.args.is_backward c.args.text.now) c.args.look_ahead c.loop-read.read
-    (decided_false c.loop-read.invariant.unmatched _
-    (listed_by _ (current c.loop-read.self c.loop-read.own c.loop-read.place)
-    c.signs-signs-2.ensures c.is_match-2.ensures c.if-is_match-2.false)
-    (last_by _ (current c.loop-read.self c.loop-read.own c.loop-read.place)
-    c.signs-signs-2.ensures c.is_last-2.ensures c.if-is_last-2.true))
+pub returns-then-is_dead-clause-grows : goal.returns-then-is_dead-clause-grows
+returns-then-is_dead-clause-grows g c = c.loop-read.invariant.grows
+
+pub step-requires-clause-cursor : goal.step-requires-clause-cursor
+step-requires-clause-cursor g c = c.loop-read.invariant.cursor
+
+pub step-requires-clause-resolve : goal.step-requires-clause-resolve
+step-requires-clause-resolve g c =
+    searched_resolves c.loop-read.invariant.unmatched.searched c.requires.sound.accepted c.requires.resolve
+
+pub returns-in_err-cursor-clause-failed : goal.returns-in_err-cursor-clause-failed
+returns-in_err-cursor-clause-failed g c =
+    let us : List (Option ℕ) = units (between None (in_order c.args.is_backward c.args.text.now) c.args.look_ahead) in
+    of_err _
+    (cut_off-step (cache c.args.self.now) (cursor_value c.args.self.now.states c.args.start) us c.loop-read.read
+    (cache c.loop-read.self) (cache c.step.new.self) c.loop-read.invariant.unmatched.searched.after
+    (index-within us c.loop-read.read c.unit_at-unit.result c.unit_at-unit.ensures) c.in_err-cursor.ensures.failed)
+
+pub returns-in_err-cursor-clause-grows : goal.returns-in_err-cursor-clause-grows
+returns-in_err-cursor-clause-grows g c = grows-more c.loop-read.invariant.grows c.in_err-cursor.ensures.grows
 
 pub loop-read-preserved : goal.loop-read-preserved
-loop-read-preserved g c =
-    let text : List ℕ = in_order c.args.is_backward c.args.text.now in
-    let size : length text ≡ length c.args.text.now = length-in_order c.args.is_backward c.args.text.now in
-    let inside : c.loop-read.read < length text = omega (arith, c.loop-read-test.true, size) in record {
-      unmatched = unmatched_byte text c.args.look_ahead c.loop-read.read 0 inside c.byte_after-byte.ensures
-          (unmatched-push c.loop-read.invariant.unmatched (Some c.byte_after-byte.result) _ _ _
-          c.loop-read.invariant.small
-          (listed_by _ (current c.loop-read.self c.loop-read.own c.loop-read.place)
-          c.signs-signs.ensures c.is_match.ensures c.if-is_match.false)
-          (last_by _ (current c.loop-read.self c.loop-read.own c.loop-read.place)
-          c.signs-signs.ensures c.is_last.ensures c.if-is_last.false)
-          c.in_ok-place.ensures.value c.in_ok-place.ensures.standing c.in_ok-place.ensures.after);
-      nfa = c.step.ensures.nfa ∙ c.loop-read.invariant.nfa;
-      kind = c.step.ensures.kind ∙ c.loop-read.invariant.kind;
-      limit = c.step.ensures.limit ∙ c.loop-read.invariant.limit;
-      computed = omega (arith, c.step.ensures.computed, c.loop-read.invariant.computed);
-      small = c.loop-read.invariant.small;
-      accepted = c.loop-read.invariant.accepted;
-    }
+loop-read-preserved g c = record {
+  unmatched = unmatched-step c.loop-read.invariant.unmatched c.unit_at-unit.result _ _ c.unit_at-unit.ensures
+      (tag-lists c.tag_at-tag.result.bits (cursor_value c.loop-read.self.states c.loop-read.cursor)
+      c.tag_at-tag.ensures c.is_match.ensures ∙ c.if-is_match.false)
+      (tag-alive c.tag_at-tag.result.bits (cursor_value c.loop-read.self.states c.loop-read.cursor)
+      c.tag_at-tag.ensures c.is_dead.ensures c.if-is_dead.false)
+      c.in_ok-cursor.ensures.at.value c.in_ok-cursor.ensures.after;
+  cursor = c.in_ok-cursor.ensures.at.cursor_is;
+  grows = grows-more c.loop-read.invariant.grows c.in_ok-cursor.ensures.grows;
+}
+
+pub tag_at-requires : goal.tag_at-requires
+tag_at-requires g c = c.loop-read.invariant.cursor
 
 pub returns-clause-decided : goal.returns-clause-decided
 returns-clause-decided g c =
     let text : List ℕ = in_order c.args.is_backward c.args.text.now in
+    let count : length (units (between None text c.args.look_ahead)) ≡ length text + 1 = units-count text c.args.look_ahead in
     let size : length text ≡ length c.args.text.now = length-in_order c.args.is_backward c.args.text.now in
-    let past : length text ≤ c.loop-read.read = omega (arith, c.loop-read-test.false, size) in
-    decided_ahead text c.args.look_ahead c.loop-read.read past
-    (decided_end (unmatched-push c.loop-read.invariant.unmatched c.args.look_ahead _ _ _
-    c.loop-read.invariant.small
-    (listed_by _ (current c.loop-read.self c.loop-read.own c.loop-read.place)
-    c.signs-signs-2.ensures c.is_match-2.ensures c.if-is_match-2.false)
-    (last_by _ (current c.loop-read.self c.loop-read.own c.loop-read.place)
-    c.signs-signs-2.ensures c.is_last-2.ensures c.if-is_last-2.false)
-    c.in_ok-place-2.ensures.value c.in_ok-place-2.ensures.standing c.in_ok-place-2.ensures.after)
-    (sym (listed_by _ (current c.step-2.new.self c.step-2.new.own c.in_ok-place-2.place) c.signs.ensures
-    c.is_match-3.ensures refl)))
+    decided-end c.loop-read.invariant.unmatched
+    (tag-lists c.tag_at.result.bits (cursor_value c.loop-read.self.states c.loop-read.cursor) c.tag_at.ensures
+    c.is_match-2.ensures)
+    (omega (arith, count, size, c.loop-read-test.false))
+
+pub returns-clause-grows : goal.returns-clause-grows
+returns-clause-grows g c = c.loop-read.invariant.grows

@@ -1,9 +1,10 @@
-use Rattle.std.proofs.Common.{rules, ◌≡◌, ◌<◌, ◌≤◌, true, false, arith, sym}
+use Rattle.std.proofs.Common.{rules, ◌≡◌, ◌<◌, ◌≤◌, arith, subst, sym}
 use Rattle.std.specs.List.{slice_range}
 use Rattle.determinize_below.specs.Positions.{between}
-use Rattle.determinize_below.specs.Search.{is_done}
+use Rattle.determinize_below.specs.Nfa.{IsAccepted}
+use Rattle.determinize_lazy.specs.Cache.{cache, LazyValue}
 use Rattle.determinize_lazy.specs.Searches.{in_order, start_for}
-use Rattle.determinize_lazy.proofs.Ranges.{after-done, after-found, farthest-found, is_done-else, is_done-past, IsRead, last-done, last-found, none-found, plenty-done, plenty-found, preferred-found, read}
+use Rattle.determinize_lazy.proofs.Ranges.{after-done, after-found, farthest-found, IsRead, last-done, last-found, none-found, read}
 use Rattle.determinize_lazy.proofs.lazy.Lazy.search_input.Given.{Over}
 use Rattle.determinize_lazy.proofs.lazy.Lazy.search_input.Goals.{After-byte_ahead-ahead, Then-start-end}
 use Rattle.determinize_lazy.proofs.lazy.Lazy.search_input.Goals as goal
@@ -11,9 +12,6 @@ use Rattle.determinize_lazy.proofs.lazy.Lazy.search_input.Goals as goal
 -- nothing is left to search
 is_past : (g : Over) (c : Then-start-end g) → c.args.input.now.end < c.args.input.now.start
 is_past g c = omega (arith, c.if-start-end.true, c.start-start.ensures.value, c.end-end.ensures.value)
-
-none_left : (g : Over) (c : Then-start-end g) → is_done c.args.input.now ≡ false → ⊥
-none_left g c = is_done-past c.args.input.now (is_past g c)
 
 -- what is searched is what the input asks for
 is_read : (g : Over) (c : After-byte_ahead-ahead g)
@@ -25,63 +23,28 @@ is_read g c =
     let range : slice_range c.haystack.result.now c.start-start.result c.end-end.result ≡ slice_range c.args.input.now.haystack c.args.input.now.start c.args.input.now.end = search rules in
     read c.args.self.now.nfa c.args.input.now c.is_reverse-is_backward.result c.start_for-id.result _ _ _ order direction start c.byte_behind-behind.ensures range c.byte_ahead-ahead.ensures
 
--- the range does not start past its end
-in_range : (g : Over) (c : After-byte_ahead-ahead g) → is_done c.args.input.now ≡ true → ⊥
-in_range g c = is_done-else c.args.input.now (is_read g c).order
-
 pub returns-then-start-end-clause-last : goal.returns-then-start-end-clause-last
 returns-then-start-end-clause-last g c = last-done c.args.self.now.nfa c.args.self.now.kind c.args.input.now (is_past g (goal.at.returns-then-start-end-clause-last g c).Then-start-end)
 
-pub returns-then-start-end-clause-none : goal.returns-then-start-end-clause-none
-returns-then-start-end-clause-none g c = λ more.
-    absurd (none_left g (goal.at.returns-then-start-end-clause-none g c).Then-start-end more)
-
 pub returns-then-start-end-clause-after : goal.returns-then-start-end-clause-after
-returns-then-start-end-clause-after g c = sym (after-done c.args.self.now c.args.input.now (is_past g (goal.at.returns-then-start-end-clause-after g c).Then-start-end))
-
-pub returns-then-start-end-clause-plenty : goal.returns-then-start-end-clause-plenty
-returns-then-start-end-clause-plenty g c = plenty-done c.args.self.now c.args.self.now c.args.input.now (is_past g (goal.at.returns-then-start-end-clause-plenty g c).Then-start-end)
+returns-then-start-end-clause-after g c = sym (after-done (cache c.args.self.now) c.args.input.now (is_past g (goal.at.returns-then-start-end-clause-after g c).Then-start-end))
 
 pub returns-clause-last : goal.returns-clause-last
 returns-clause-last g c =
     last-found c.args.self.now.nfa c.args.self.now.kind c.args.input.now _ _ _ (is_read g (goal.at.returns-clause-last g c).After-byte_ahead-ahead)
-    c.in_ok-found.found c.in_haystack.result c.in_haystack.ensures.value c.in_ok-found.ensures.last
-
-pub returns-clause-preferred : goal.returns-clause-preferred
-returns-clause-preferred g c = λ kind.
-    preferred-found c.args.self.now.nfa c.args.self.now.kind c.args.input.now _ _ _ (is_read g (goal.at.returns-clause-preferred g c).After-byte_ahead-ahead)
-    c.in_ok-found.found c.in_haystack.result c.in_haystack.ensures.value (c.in_ok-found.ensures.preferred kind)
+    c.in_ok-found.found c.in_haystack.result c.in_haystack.ensures.value c.in_ok-found.ensures.search.last
 
 pub returns-clause-farthest : goal.returns-clause-farthest
 returns-clause-farthest g c = λ kind.
     farthest-found _ c.args.self.now.kind _ _ _ _
     (is_read g (goal.at.returns-clause-farthest g c).After-byte_ahead-ahead)
-    c.in_ok-found.found c.in_haystack.result c.in_haystack.ensures.value (c.in_ok-found.ensures.farthest kind)
+    c.in_ok-found.found c.in_haystack.result c.in_haystack.ensures.value (c.in_ok-found.ensures.search.farthest kind)
 
 pub returns-clause-none : goal.returns-clause-none
 returns-clause-none g c = λ _.
     none-found _ c.args.self.now.kind _ _ _ _
     (is_read g (goal.at.returns-clause-none g c).After-byte_ahead-ahead)
-    c.in_ok-found.found c.in_haystack.result c.in_haystack.ensures.value (search rules) c.in_ok-found.ensures.last
-
-pub returns-clause-done : goal.returns-clause-done
-returns-clause-done g c = λ done.
-    absurd (in_range g (goal.at.returns-clause-done g c).After-byte_ahead-ahead done)
-
-pub returns-in_err-found-clause-done : goal.returns-in_err-found-clause-done
-returns-in_err-found-clause-done g c = λ done.
-    absurd (in_range g (goal.at.returns-in_err-found-clause-done g c).After-byte_ahead-ahead done)
-
-pub returns-clause-unchanged : goal.returns-clause-unchanged
-returns-clause-unchanged g c = λ done.
-    absurd (in_range g (goal.at.returns-clause-unchanged g c).After-byte_ahead-ahead done)
-
-pub returns-in_err-found-clause-unchanged : goal.returns-in_err-found-clause-unchanged
-returns-in_err-found-clause-unchanged g c = λ done.
-    absurd (in_range g (goal.at.returns-in_err-found-clause-unchanged g c).After-byte_ahead-ahead done)
+    c.in_ok-found.found c.in_haystack.result c.in_haystack.ensures.value (subst (λ (x : LazyValue). IsAccepted x.nfa) c.self.view_is c.self.invariant.accepted) c.in_ok-found.ensures.search.last
 
 pub returns-clause-after : goal.returns-clause-after
-returns-clause-after g c = after-found c.args.self.now c.search_text.new.self c.args.input.now _ _ _ (is_read g (goal.at.returns-clause-after g c).After-byte_ahead-ahead) c.in_ok-found.ensures.after
-
-pub returns-clause-plenty : goal.returns-clause-plenty
-returns-clause-plenty g c = plenty-found c.args.self.now c.search_text.new.self c.args.input.now _ _ _ (is_read g (goal.at.returns-clause-plenty g c).After-byte_ahead-ahead) c.in_ok-found.ensures.plenty
+returns-clause-after g c = after-found (cache c.args.self.now) (cache c.search_text.new.self) c.args.input.now _ _ _ (is_read g (goal.at.returns-clause-after g c).After-byte_ahead-ahead) c.in_ok-found.ensures.after

@@ -1,15 +1,14 @@
-use Rattle.std.proofs.Common.{◌≡◌, ◌≤◌, map, take, Some}
-use Rattle.determinize_below.specs.Nfa.{IsAccepted}
-use Rattle.determinize_lazy.proofs.Walking.{IsListed}
+use Rattle.std.proofs.Common.{None}
+use Rattle.determinize_below.specs.Positions.{between}
+use Rattle.determinize_core.specs.Chain.{units}
+use Rattle.determinize_lazy.specs.Cache.{cache, Grows}
+use Rattle.determinize_lazy.specs.Private.Cursors.{cursor_value, IsCursor}
+use Rattle.determinize_lazy.proofs.Walks.{IsWalked}
 use Rattle.determinize_lazy.proofs.lazy.Lazy.walk_from.Given as goal
 
 abbrev pub invariant-loop-byte : goal.invariant-loop-byte
 invariant-loop-byte g l = record {
-  listed : IsListed l.initial.self l.fn.first (map Some (take l.byte-index l.text)) l.states.items l.place l.self;
-  nfa : l.self.nfa ≡ l.initial.self.nfa;
-  kind : l.self.kind ≡ l.initial.self.kind;
-  limit : l.self.limit ≡ l.initial.self.limit;
-  computed : l.initial.self.computed ≤ l.self.computed;
-  small : l.initial.self.computed ≤ 18446744073709551615;
-  accepted : IsAccepted l.initial.self.nfa;
+  walked : IsWalked (cache l.fn.self) l.fn.first (units (between None l.text l.fn.look_ahead)) l.byte-index l.states.items (cursor_value l.self.states l.cursor) (cache l.self);
+  cursor : IsCursor (cache l.self).table l.cursor;
+  grows : Grows (cache l.fn.self) (cache l.self);
 }

@@ -12,7 +12,7 @@ pub returns-clause-listed : goal.returns-clause-listed
 returns-clause-listed g c =
     let start : c.start_anchored-start.result ≡ c.args.lazy.now.nfa.start_anchored = search rules in
     let all : IsWalkOfAll c.args.lazy.now.nfa c.args.lazy.now.nfa.start_anchored (between None c.args.text.now None) c.in_ok-states.states.items =
-    subst (λ s. IsWalkOfAll c.args.lazy.now.nfa s (between None c.args.text.now None) c.in_ok-states.states.items) start (c.in_ok-states.ensures.all c.requires) in
+    subst (λ s. IsWalkOfAll c.args.lazy.now.nfa s (between None c.args.text.now None) c.in_ok-states.states.items) start (c.in_ok-states.ensures.walk.all c.requires) in
     let count : length c.in_ok-states.states.items ≡ length c.args.text.now + 2 = all.count in
     let size : vec_len c.in_ok-states.states ≡ length c.in_ok-states.states.items = search rules in
     let place : vec_len c.in_ok-states.states - 1 ≡ suc (length c.args.text.now) = omega (arith, count, size) in

@@ -1,20 +1,18 @@
-use Rattle.std.proofs.Common.{rules, ◌≡◌, ◌≤◌, false, None, Some, arith, length, subst, IfNone, IfSome}
+use Rattle.std.proofs.Common.{rules, ◌≡◌, ◌≤◌, false, None, arith, length, subst, IfNone, IfSome}
 use Rattle.std.proofs.lemmas.Bool.{le-ltb}
 use Rattle.determinize_below.specs.Search.{Asked, is_done}
 use Rattle.determinize_below.specs.declared.search.Anchored.TheVariants.{No, Yes}
 use Rattle.determinize_lazy.specs.Searches.{HasMatch, IsFarthestIn, IsPreferredIn}
 use Rattle.determinize_bench.proofs.tests.calling.input.span.Goals as goal
 
--- a range from 0 on does not start past its end
+-- where no end is found, no run accepts
 pub returns-in_default-clause-none : goal.returns-in_default-clause-none
 returns-in_default-clause-none g c = λ kind given.
-    let start : 0 ≤ length c.args.haystack.now = omega (arith) in
     let none : c.in_ok-last.field-0 ≡ None = search rules in
-    subst (λ (asked : Asked). is_done asked ≡ false → HasMatch c.args.forward.now.nfa asked → ⊥) c.new-whole.ensures
-    (subst (λ o. is_done c.new-whole.result ≡ false → IfNone o (HasMatch c.args.forward.now.nfa c.new-whole.result → ⊥)) none c.in_ok-last.ensures.none)
-    (le-ltb _ 0 start)
+    subst (λ (asked : Asked). HasMatch c.args.forward.now.nfa asked → ⊥) c.new-whole.ensures.value
+    (subst (λ o. IfNone o (HasMatch c.args.forward.now.nfa c.new-whole.result → ⊥)) none (c.in_ok-last.ensures.none c.new-whole.ensures.open))
 
--- the match that was found has a beginning
+-- the match that was found has a start, in a range that does not start past its end
 pub returns-in_default-2-clause-none : goal.returns-in_default-2-clause-none
 returns-in_default-2-clause-none g c = λ kind given.
     let start : 0 ≤ c.in-Some.last.offset = omega (arith) in
@@ -28,7 +26,7 @@ returns-in_default-2-clause-none g c = λ kind given.
     subst (λ (asked : Asked). is_done asked ≡ false → HasMatch c.args.backward.now.nfa asked → ⊥) asked
     (subst (λ o. is_done c.anchored-before.result ≡ false → IfNone o (HasMatch c.args.backward.now.nfa c.anchored-before.result → ⊥)) none c.in_ok-first.ensures.none)
     (le-ltb _ 0 start) in
-    absurd (first (given c.in-Some.last (subst (λ (asked : Asked). IsPreferredIn c.args.forward.now.nfa asked c.in-Some.last) c.new-whole.ensures preferred)))
+    absurd (first (given c.in-Some.last (subst (λ (asked : Asked). IsPreferredIn c.args.forward.now.nfa asked c.in-Some.last) c.new-whole.ensures.value preferred)))
 
 pub returns-clause-start : goal.returns-clause-start
 returns-clause-start g c = λ kind.

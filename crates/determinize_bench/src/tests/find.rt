@@ -1,0 +1,147 @@
+//! The leftmost match and all matches, with both ends.
+
+ghost use Rattle.std.specs.Prelude.{◌≡◌, IfOk, false, true};
+ghost use Rattle.determinize_below.specs.declared.search.MatchKind.TheVariants as kinds;
+ghost use Rattle.determinize_lazy.specs.Searches.{has_start};
+
+use crate::tests::calling::ended;
+use crate::tests::same;
+use determinize_below::{Input, LookMatcher, MatchKind, NFA, StateID};
+use determinize_find::{Match, plain, prefix, reversed};
+use determinize_lazy::Lazy;
+use determinize_replay::nfas;
+use std::process::Abort;
+use std::test::Fail;
+
+/// Pattern, start and end of a match.
+type Ends = (usize, usize, usize);
+
+/// The states of an NFA with the usual prefix, a haystack, and its matches.
+struct Row {
+    states: &'static str,
+    haystack: &'static [u8],
+    matches: &'static [Ends],
+}
+
+/// `a*`, `|b`, `b|`, `(?mR)^a*$` and, as patterns 0 and 1, `b` and `ab`.
+static ROWS: [Row; 6] = [
+    Row {
+        states: "BU:2,1 B:00-ff>0 BU:3,4 B:61>2 M:0",
+        haystack: b"baac",
+        matches: &[(0, 0, 0), (0, 1, 3), (0, 4, 4)],
+    },
+    Row {
+        states: "BU:2,1 B:00-ff>0 BU:4,3 B:62>4 M:0",
+        haystack: b"abc",
+        matches: &[(0, 0, 0), (0, 1, 1), (0, 2, 2), (0, 3, 3)],
+    },
+    Row {
+        states: "BU:2,1 B:00-ff>0 BU:3,4 B:62>4 M:0",
+        haystack: b"abc",
+        matches: &[(0, 0, 0), (0, 1, 2), (0, 3, 3)],
+    },
+    Row {
+        states: "BU:2,1 B:00-ff>0 L:StartCRLF>3 BU:4,5 B:61>3 L:EndCRLF>6 M:0",
+        haystack: b"\r\n",
+        matches: &[(0, 0, 0), (0, 2, 2)],
+    },
+    Row {
+        states: "BU:2,1 B:00-ff>0 L:StartCRLF>3 BU:4,5 B:61>3 L:EndCRLF>6 M:0",
+        haystack: b"a\r\naa\n",
+        matches: &[(0, 0, 1), (0, 3, 5), (0, 6, 6)],
+    },
+    Row {
+        states: "BU:2,1 B:00-ff>0 BU:3,4 B:62>7 B:61>5 B:62>6 M:1 M:0",
+        haystack: b"bab",
+        matches: &[(0, 0, 1), (1, 1, 3)],
+    },
+];
+
+/// `\b\w+\b`.
+const WORDS: &str =
+    "BU:2,1 B:00-ff>0 L:WordAscii>3 S:30-39>4,41-5a>4,5f-5f>4,61-7a>4 BU:3,5 L:WordAscii>6 M:0";
+
+/// Returns an NFA that reads forward, with the usual prefix in its first two states.
+fn nfa<R: Abort + AllocGlobal>(rt: &R, states: &str) -> Result<NFA, Fail>
+    ensures { IfOk result (λ nfa. nfa.reverse ≡ false) }
+{
+    let states = nfas::states(rt.alloc(), states)?;
+    let (anchored, matcher) = (StateID::must(2), LookMatcher::new());
+    let nfa = NFA::from_parts(rt.alloc(), states, anchored, StateID::ZERO, false, matcher)?;
+    same(rt, prefix::has_prefix(&nfa), true);
+    Ok(nfa)
+}
+
+/// Compares a match with its pattern and its ends.
+fn expect_match<R: Abort>(rt: &R, found: Match, wanted: Ends) {
+    let ends = (found.pattern.as_usize(), found.start, found.end);
+    same(rt, ends, wanted);
+}
+
+/// Finds all matches of a haystack, by `plain`.
+fn expect_all<R: Abort + AllocGlobal>(
+    rt: &R,
+    lazy: &mut Lazy<'_>,
+    haystack: &[u8],
+    wanted: &[Ends],
+) -> Result<(), Fail>
+    requires forward { lazy.old.nfa.reverse ≡ false }
+    requires kind { lazy.old.kind ≡ kinds.LeftmostFirst }
+{
+    let found = plain::find_all(rt.alloc(), lazy, &Input::new(haystack))?;
+    same(rt, found.len(), wanted.len());
+    for (found, wanted) in found.iter().zip(wanted) {
+        expect_match(rt, *found, *wanted);
+    }
+    Ok(())
+}
+
+#[test]
+fn all_matches(rt: HostRuntime) -> Result<(), Fail> {
+    for row in &ROWS {
+        let nfa = nfa(&rt, row.states)?;
+        let mut lazy = Lazy::new(rt.alloc(), &nfa, MatchKind::LeftmostFirst, 100);
+        expect_all(&rt, &mut lazy, row.haystack, row.matches)?;
+    }
+    Ok(())
+}
+
+/// Finds the leftmost word of a range, by `plain`.
+fn expect_word<R: Abort + AllocGlobal>(
+    rt: &R,
+    input: &Input<'_>,
+    wanted: Option<Ends>,
+) -> Result<(), Fail>
+    requires { has_start input.now.anchored ≡ true }
+{
+    let nfa = nfa(rt, WORDS)?;
+    let mut lazy = Lazy::new(rt.alloc(), &nfa, MatchKind::LeftmostFirst, 100);
+    let found = plain::find(&mut lazy, input)?;
+    let ends = found.map(|m| (m.pattern.as_usize(), m.start, m.end));
+    same(rt, ends, wanted);
+    Ok(())
+}
+
+/// Finds where a word begins, by a search backward of a range up to its end.
+fn expect_begin<R: Abort + AllocGlobal>(
+    rt: &R,
+    input: &Input<'_>,
+    wanted: usize,
+) -> Result<(), Fail>
+    requires { has_start input.now.anchored ≡ true }
+{
+    let nfa = reversed(rt.alloc(), &nfa(rt, WORDS)?)?;
+    let mut lazy = Lazy::new(rt.alloc(), &nfa, MatchKind::All, 100);
+    same(rt, lazy.search_input(input)?, ended(wanted));
+    Ok(())
+}
+
+#[test]
+fn words_of_ranges(rt: HostRuntime) -> Result<(), Fail> {
+    let text = b"abcd e";
+    expect_word(&rt, &Input::new(text).range(0..4), Some((0, 0, 4)))?;
+    expect_word(&rt, &Input::new(text).range(1..4), None)?;
+    expect_word(&rt, &Input::new(text).range(1..6), Some((0, 5, 6)))?;
+    expect_begin(&rt, &Input::new(text).range(0..4), 0)?;
+    expect_begin(&rt, &Input::new(text).range(1..6), 5)
+}

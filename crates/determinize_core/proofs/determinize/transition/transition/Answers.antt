@@ -1,0 +1,110 @@
+use Rattle.std.proofs.Common.{◌≡◌, ◌∙◌, ◌+◌, ◌≤◌, ap, fold, not, subst, sym}
+use Rattle.determinize_below.specs.Edges.{reach_past}
+use Rattle.determinize_below.specs.Look.{has}
+use Rattle.determinize_below.specs.Nfa.{AllResolve}
+use Rattle.determinize_below.specs.Unit.{byte_of}
+use Rattle.determinize_core.specs.Private.Search.{tries_left}
+use Rattle.determinize_states.specs.Recording.{added_one, settled}
+use Rattle.determinize_looks.specs.LookTables.{Telling}
+use Rattle.determinize_states.specs.Value.{Value, dead}
+use Rattle.determinize_core.proofs.Resolving.{step_resolves}
+use Rattle.determinize_core.proofs.Stepping.{IsRead, first_tries, all_tries, is_nonempty-length, row_resolves, stepped, tries_within}
+use Rattle.determinize_core.proofs.determinize.transition.transition.Goals as goal
+
+pub returns-in_err-read_working_list-clause-bounded : goal.returns-in_err-read_working_list-clause-bounded
+returns-in_err-read_working_list-clause-bounded g c =
+    first_tries c.args.nfa.now c.told_after-told.ensures.accepted c.args.match_kind c.args.state.now (byte_of c.args.unit) c.requires.resolve c.args.steps.now c.read_working_list.new.steps c.read_working_list.ensures.bounded
+
+pub explore_all-requires-clause-resolve : goal.explore_all-requires-clause-resolve
+explore_all-requires-clause-resolve g c =
+    let looks : c.told.inside.looks ≡ c.told_after-told.result.looks = ap (λ (t : Telling). t.looks) c.told.view_is in
+    let read : IsRead c.args.nfa.now c.told_after-told.ensures.accepted c.args.match_kind c.args.state.now (byte_of c.args.unit) c.requires.resolve c.told.inside.looks
+    c.told_after-told.result.from_word c.told_after-told.result.half_crlf (not c.is_empty.result) c.in_ok-builder.builder c.read_working_list.new.builder c.into_nfa-builder.result c.read_working_list.new.stack.items =
+    record {
+      have_is = looks ∙ c.told_after-told.ensures.looks;
+      word_is = c.told_after-told.ensures.from_word;
+      half_is = c.told_after-told.ensures.half_crlf;
+      told_is = c.in_ok-builder.ensures ∙ ap (λ n. record dead { look_have = n }) (sym looks);
+      list_is = c.in_ok-read_working_list.ensures.ok;
+      some_is = ap not c.is_empty.ensures ∙ is_nonempty-length _ c.read_working_list.new.stack.items c.read_working_list.new.stack.ok.0;
+      flagged_is = c.into_nfa-builder.ensures ∙ c.set_flags.ensures;
+    } in
+    row_resolves c.args.nfa.now c.told_after-told.ensures.accepted c.args.match_kind c.args.state.now (byte_of c.args.unit) c.requires.resolve _ _ _ _ _ _ _ _ read
+
+pub returns-in_err-explore_all-clause-bounded : goal.returns-in_err-explore_all-clause-bounded
+returns-in_err-explore_all-clause-bounded g c =
+    let looks : c.told.inside.looks ≡ c.told_after-told.result.looks = ap (λ (t : Telling). t.looks) c.told.view_is in
+    let read : IsRead c.args.nfa.now c.told_after-told.ensures.accepted c.args.match_kind c.args.state.now (byte_of c.args.unit) c.requires.resolve c.told.inside.looks
+    c.told_after-told.result.from_word c.told_after-told.result.half_crlf (not c.is_empty.result) c.in_ok-builder.builder c.read_working_list.new.builder c.into_nfa-builder.result c.read_working_list.new.stack.items =
+    record {
+      have_is = looks ∙ c.told_after-told.ensures.looks;
+      word_is = c.told_after-told.ensures.from_word;
+      half_is = c.told_after-told.ensures.half_crlf;
+      told_is = c.in_ok-builder.ensures ∙ ap (λ n. record dead { look_have = n }) (sym looks);
+      list_is = c.in_ok-read_working_list.ensures.ok;
+      some_is = ap not c.is_empty.ensures ∙ is_nonempty-length _ c.read_working_list.new.stack.items c.read_working_list.new.stack.ok.0;
+      flagged_is = c.into_nfa-builder.ensures ∙ c.set_flags.ensures;
+    } in
+    tries_within c.args.nfa.now c.told_after-told.ensures.accepted c.args.match_kind c.args.state.now (byte_of c.args.unit) c.requires.resolve _ _ _ _ _ _ _ _ read
+    c.args.steps.now c.read_working_list.new.steps c.explore_all.new.steps c.in_ok-read_working_list.ensures.counted
+    (subst (λ l. c.explore_all.new.steps ≤ c.read_working_list.new.steps + tries_left c.args.nfa.now (has c.told.inside.looks) l c.read_working_list.new.stack.items) c.in_ok-read_working_list.ensures.second c.explore_all.ensures.part.bounded)
+
+pub returns-clause-ok : goal.returns-clause-ok
+returns-clause-ok g c =
+    let looks : c.told.inside.looks ≡ c.told_after-told.result.looks = ap (λ (t : Telling). t.looks) c.told.view_is in
+    let read : IsRead c.args.nfa.now c.told_after-told.ensures.accepted c.args.match_kind c.args.state.now (byte_of c.args.unit) c.requires.resolve c.told.inside.looks
+    c.told_after-told.result.from_word c.told_after-told.result.half_crlf (not c.is_empty.result) c.in_ok-builder.builder c.read_working_list.new.builder c.into_nfa-builder.result c.read_working_list.new.stack.items =
+    record {
+      have_is = looks ∙ c.told_after-told.ensures.looks;
+      word_is = c.told_after-told.ensures.from_word;
+      half_is = c.told_after-told.ensures.half_crlf;
+      told_is = c.in_ok-builder.ensures ∙ ap (λ n. record dead { look_have = n }) (sym looks);
+      list_is = c.in_ok-read_working_list.ensures.ok;
+      some_is = ap not c.is_empty.ensures ∙ is_nonempty-length _ c.read_working_list.new.stack.items c.read_working_list.new.stack.ok.0;
+      flagged_is = c.into_nfa-builder.ensures ∙ c.set_flags.ensures;
+    } in
+    c.settle.ensures
+    ∙ ap settled c.in_ok-explore_all.ensures.recorded
+    ∙ ap (λ l. settled (fold (added_one c.args.nfa.now) c.into_nfa-builder.result (reach_past c.args.nfa.now (has c.told.inside.looks) l c.read_working_list.new.stack.items))) c.in_ok-read_working_list.ensures.second
+    ∙ stepped c.args.nfa.now c.told_after-told.ensures.accepted c.args.match_kind c.args.state.now (byte_of c.args.unit) c.requires.resolve _ _ _ _ _ _ _ _ read
+
+pub returns-clause-counted : goal.returns-clause-counted
+returns-clause-counted g c =
+    let looks : c.told.inside.looks ≡ c.told_after-told.result.looks = ap (λ (t : Telling). t.looks) c.told.view_is in
+    let read : IsRead c.args.nfa.now c.told_after-told.ensures.accepted c.args.match_kind c.args.state.now (byte_of c.args.unit) c.requires.resolve c.told.inside.looks
+    c.told_after-told.result.from_word c.told_after-told.result.half_crlf (not c.is_empty.result) c.in_ok-builder.builder c.read_working_list.new.builder c.into_nfa-builder.result c.read_working_list.new.stack.items =
+    record {
+      have_is = looks ∙ c.told_after-told.ensures.looks;
+      word_is = c.told_after-told.ensures.from_word;
+      half_is = c.told_after-told.ensures.half_crlf;
+      told_is = c.in_ok-builder.ensures ∙ ap (λ n. record dead { look_have = n }) (sym looks);
+      list_is = c.in_ok-read_working_list.ensures.ok;
+      some_is = ap not c.is_empty.ensures ∙ is_nonempty-length _ c.read_working_list.new.stack.items c.read_working_list.new.stack.ok.0;
+      flagged_is = c.into_nfa-builder.ensures ∙ c.set_flags.ensures;
+    } in
+    all_tries c.args.nfa.now c.told_after-told.ensures.accepted c.args.match_kind c.args.state.now (byte_of c.args.unit) c.requires.resolve _ _ _ _ _ _ _ _ read
+    c.args.steps.now c.read_working_list.new.steps c.explore_all.new.steps c.in_ok-read_working_list.ensures.counted
+    (subst (λ l. c.explore_all.new.steps ≡ c.read_working_list.new.steps + tries_left c.args.nfa.now (has c.told.inside.looks) l c.read_working_list.new.stack.items) c.in_ok-read_working_list.ensures.second c.in_ok-explore_all.ensures.ok.counted)
+
+pub returns-clause-bounded : goal.returns-clause-bounded
+returns-clause-bounded g c =
+    let looks : c.told.inside.looks ≡ c.told_after-told.result.looks = ap (λ (t : Telling). t.looks) c.told.view_is in
+    let read : IsRead c.args.nfa.now c.told_after-told.ensures.accepted c.args.match_kind c.args.state.now (byte_of c.args.unit) c.requires.resolve c.told.inside.looks
+    c.told_after-told.result.from_word c.told_after-told.result.half_crlf (not c.is_empty.result) c.in_ok-builder.builder c.read_working_list.new.builder c.into_nfa-builder.result c.read_working_list.new.stack.items =
+    record {
+      have_is = looks ∙ c.told_after-told.ensures.looks;
+      word_is = c.told_after-told.ensures.from_word;
+      half_is = c.told_after-told.ensures.half_crlf;
+      told_is = c.in_ok-builder.ensures ∙ ap (λ n. record dead { look_have = n }) (sym looks);
+      list_is = c.in_ok-read_working_list.ensures.ok;
+      some_is = ap not c.is_empty.ensures ∙ is_nonempty-length _ c.read_working_list.new.stack.items c.read_working_list.new.stack.ok.0;
+      flagged_is = c.into_nfa-builder.ensures ∙ c.set_flags.ensures;
+    } in
+    tries_within c.args.nfa.now c.told_after-told.ensures.accepted c.args.match_kind c.args.state.now (byte_of c.args.unit) c.requires.resolve _ _ _ _ _ _ _ _ read
+    c.args.steps.now c.read_working_list.new.steps c.explore_all.new.steps c.in_ok-read_working_list.ensures.counted
+    (subst (λ l. c.explore_all.new.steps ≤ c.read_working_list.new.steps + tries_left c.args.nfa.now (has c.told.inside.looks) l c.read_working_list.new.stack.items) c.in_ok-read_working_list.ensures.second c.explore_all.ensures.part.bounded)
+
+pub returns-clause-resolve : goal.returns-clause-resolve
+returns-clause-resolve g c =
+    subst (λ (v : Value). AllResolve c.args.nfa.now v.states) (sym (returns-clause-ok g c))
+    (step_resolves c.args.nfa.now c.told_after-told.ensures.accepted c.args.match_kind c.args.state.now (byte_of c.args.unit))

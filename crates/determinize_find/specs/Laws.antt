@@ -1,0 +1,68 @@
+-- Laws of the leftmost match.
+use Rattle.std.specs.Prelude.{◌≡◌, ◌<◌, ◌≤◌, ◌+◌, ◌↔◌, ℕ, All, List, None, Option, length, option_map}
+use Rattle.determinize_below.specs.Nfa.{Nfa}
+use Rattle.determinize_below.specs.Positions.{Text}
+use Rattle.determinize_below.specs.Search.{Asked}
+use Rattle.determinize_below.specs.declared.search.HalfMatch.{HalfMatch}
+use Rattle.determinize_below.specs.declared.search.Match.{Match}
+use Rattle.determinize_core.specs.Walk.{IsPreferredMatch}
+use Rattle.determinize_find.specs.Leftmost.{AcceptsFrom, IsLeftmost}
+use Rattle.determinize_find.specs.LeftmostIn.{IsLeftmostIn}
+use Rattle.determinize_find.specs.Matches.{AreApart, AreMatches}
+use Rattle.determinize_find.specs.Prefix.{HasPrefix}
+use Rattle.determinize_find.specs.Reversal.{IsMirrored, turned, upto}
+use Rattle.determinize_find.specs.Since.{since}
+
+-- a text has at most one leftmost match
+abbrev pub EachLeftmostIsOne : Type 0
+EachLeftmostIsOne = (nfa : Nfa) (text : Text) (latest : ℕ) (found other : Option Match)
+    → IsLeftmost nfa text latest found → IsLeftmost nfa text latest other → found ≡ other
+
+-- the pattern and the end of a match
+abbrev pub end_of : Match → HalfMatch
+end_of m = record { pattern = m.pattern; offset = m.end }
+
+-- after the usual prefix, the preferred match over bytes is the end of the leftmost match
+abbrev pub EachPreferredIsLeftmost : Type 0
+EachPreferredIsLeftmost = (nfa : Nfa) → HasPrefix nfa
+    → (text : Text) → All (λ b. b < 256) text.bytes
+    → (found : Option HalfMatch) → IsPreferredMatch nfa nfa.start_unanchored text found
+    → (m : Option Match) × IsLeftmost nfa text (length text.bytes) m × (found ≡ option_map end_of m)
+
+-- from the anchored start, it is the end of the leftmost match that begins with the text
+abbrev pub EachAnchoredIsLeftmost : Type 0
+EachAnchoredIsLeftmost = (nfa : Nfa) (text : Text) (found : Option HalfMatch)
+    → IsPreferredMatch nfa nfa.start_anchored text found
+    → (m : Option Match) × IsLeftmost nfa text 0 m × (found ≡ option_map end_of m)
+
+-- runs from position k + j are runs from position j of the text since k, with the same choices
+abbrev pub EachRunMoves : Type 0
+EachRunMoves = (nfa : Nfa) (text : Text) (k j start : ℕ) (cs : List ℕ) (i pattern : ℕ)
+    → (AcceptsFrom nfa text (k + j) start cs (k + i) pattern)
+    ↔ (AcceptsFrom nfa (since text k) j start cs i pattern)
+
+-- a run does not accept before the position where it begins
+abbrev pub EachRunReadsForward : Type 0
+EachRunReadsForward = (nfa : Nfa) (text : Text) (k start : ℕ) (cs : List ℕ) (i pattern : ℕ)
+    → AcceptsFrom nfa text k start cs i pattern → k ≤ i
+
+-- the text up to a position, in the other direction, is its mirror image
+abbrev pub EachReadingIsMirrored : Type 0
+EachReadingIsMirrored = (text : Text) (j : ℕ) → j ≤ length text.bytes
+    → IsMirrored text (turned (upto text j)) j
+
+-- an input has at most one leftmost match
+abbrev pub EachLeftmostInIsOne : Type 0
+EachLeftmostInIsOne = (nfa : Nfa) (asked : Asked) (found other : Option Match)
+    → IsLeftmostIn nfa asked found → IsLeftmostIn nfa asked other → found ≡ other
+
+-- at most one list is that of all matches
+abbrev pub EachMatchesAreOne : Type 0
+EachMatchesAreOne = (nfa : Nfa) (asked : Asked) (before : Option ℕ) (found other : List Match)
+    → AreMatches nfa asked before found → AreMatches nfa asked before other → found ≡ other
+
+-- the matches are in the range, do not overlap, and each ends later than the one before
+abbrev pub EachMatchesAreApart : Type 0
+EachMatchesAreApart = (nfa : Nfa) (asked : Asked) (ms : List Match)
+    → asked.end ≤ length asked.haystack → AreMatches nfa asked None ms
+    → AreApart asked.start None asked.end ms

@@ -1,0 +1,34 @@
+-- Runs from any position, and the leftmost match.
+use Rattle.std.specs.Prelude.{◌≡◌, ◌<◌, ◌≤◌, ◌⊎◌, ℕ, List, None, Option, Some, []}
+use Rattle.determinize_below.specs.Edges.{pattern_of}
+use Rattle.determinize_below.specs.Nfa.{Nfa}
+use Rattle.determinize_below.specs.Paths.{Before, IsPath}
+use Rattle.determinize_below.specs.Positions.{Text, choices}
+use Rattle.determinize_below.specs.declared.search.Match.{Match}
+
+-- the choices lead from the state at a position to the pair, and meet no pair twice
+abbrev pub IsRunFrom : Nfa → Text → ℕ → ℕ → List ℕ → ℕ × ℕ → Type 0
+IsRunFrom nfa text k start cs q = IsPath (choices nfa text) [] (k, start) cs q
+
+-- the run from the state at position k accepts the pattern at position i
+abbrev pub AcceptsFrom : Nfa → Text → ℕ → ℕ → List ℕ → ℕ → ℕ → Type 0
+AcceptsFrom nfa text k start cs i pattern =
+    (s : ℕ) × IsRunFrom nfa text k start cs (i, s) × (pattern_of nfa s ≡ Some pattern)
+
+-- no run from the anchored start at this position accepts
+abbrev pub NothingFrom : Nfa → Text → ℕ → Type 0
+NothingFrom nfa text k = (cs : List ℕ) (i pattern : ℕ)
+    → AcceptsFrom nfa text k nfa.start_anchored cs i pattern → ⊥
+
+-- no match begins before it, and of the runs that begin where it does its run is the most preferred
+pub record IsLeftmostMatch (nfa : Nfa) (text : Text) (m : Match) : Type 0 where
+  pub leftmost : (k : ℕ) → k < m.start → NothingFrom nfa text k
+  pub choices : List ℕ
+  pub accepts : AcceptsFrom nfa text m.start nfa.start_anchored choices m.end m.pattern
+  pub preferred : (ds : List ℕ) (j other : ℕ)
+      → AcceptsFrom nfa text m.start nfa.start_anchored ds j other → (choices ≡ ds) ⊎ Before choices ds
+
+-- the leftmost match that begins at position `latest` or before; `None` if no match begins there
+abbrev pub IsLeftmost : Nfa → Text → ℕ → Option Match → Type 0
+IsLeftmost nfa text latest None = (k : ℕ) → k ≤ latest → NothingFrom nfa text k
+IsLeftmost nfa text latest (Some m) = (m.start ≤ latest) × IsLeftmostMatch nfa text m

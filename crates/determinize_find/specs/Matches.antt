@@ -1,0 +1,41 @@
+-- All matches of an input.
+use Rattle.std.specs.Prelude.{◌≡◌, ◌+◌, ◌<◌, ◌≤◌, ℕ, Bool, List, None, Option, Some, [], ◌∷◌, false, nat_eq, true}
+use mathlib.Core.Bool.{◌&&◌}
+use Rattle.determinize_below.specs.Nfa.{Nfa}
+use Rattle.determinize_below.specs.Search.{Asked}
+use Rattle.determinize_below.specs.declared.search.Match.{Match}
+use Rattle.determinize_find.specs.LeftmostIn.{IsLeftmostIn}
+
+-- the input whose range starts at this index
+abbrev pub from : Asked → ℕ → Asked
+from asked start = record asked { start = start }
+
+-- whether a match is empty and begins where the one before it ended
+abbrev pub touches : Option ℕ → Match → Bool
+touches None m = false
+touches (Some end) m = nat_eq m.start m.end && nat_eq m.end end
+
+-- the leftmost match; if it touches the one before, the leftmost match from one byte further on
+abbrev pub IsTaken : Nfa → Asked → Option ℕ → Option Match → Option Match → Type 0
+IsTaken nfa asked before None found = found ≡ None
+IsTaken nfa asked before (Some m) found =
+    (touches before m ≡ true → IsLeftmostIn nfa (from asked (asked.start + 1)) found)
+    × (touches before m ≡ false → found ≡ Some m)
+
+-- the match after one that ended at `before`
+abbrev pub IsNext : Nfa → Asked → Option ℕ → Option Match → Type 0
+IsNext nfa asked before found =
+    (first : Option Match) × IsLeftmostIn nfa asked first × IsTaken nfa asked before first found
+
+-- these are the matches from the start of the range on, and there are no more
+abbrev pub AreMatches : Nfa → Asked → Option ℕ → List Match → Type 0
+AreMatches nfa asked before [] = IsNext nfa asked before None
+AreMatches nfa asked before (m ∷ ms) =
+    IsNext nfa asked before (Some m) × AreMatches nfa (from asked m.end) (Some m.end) ms
+
+-- each match is in the range, begins at the end of the one before it or later, and ends later
+abbrev pub AreApart : ℕ → Option ℕ → ℕ → List Match → Type 0
+AreApart start before end [] = Unit {0}
+AreApart start before end (m ∷ ms) =
+    (start ≤ m.start) × (m.start ≤ m.end) × (m.end ≤ end)
+    × ((last : ℕ) → before ≡ Some last → last < m.end) × AreApart m.end (Some m.end) end ms

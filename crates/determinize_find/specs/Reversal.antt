@@ -1,0 +1,29 @@
+-- A text that is read in the other direction, from a position on.
+use Rattle.std.specs.Prelude.{◌≡◌, ◌+◌, ◌-◌, ◌≤◌, ◌↔◌, ℕ, List, None, length, not, reverse, slice_get, suc, take}
+use Rattle.determinize_below.specs.Nfa.{Nfa}
+use Rattle.determinize_below.specs.Positions.{Accepts, Text, after_at, before_at, between}
+use Rattle.determinize_find.specs.Leftmost.{AcceptsFrom}
+
+-- the text in the other direction
+abbrev pub turned : Text → Text
+turned text = between text.ahead (reverse text.bytes) text.behind
+
+-- the text up to a position, with the unit after that position ahead of it
+abbrev pub upto : Text → ℕ → Text
+upto text j = between text.behind (take j text.bytes) (after_at text j)
+
+-- position r of one text has before and after it what position j - r of the other has after and before it
+pub record IsMirrored (text back : Text) (j : ℕ) : Type 0 where
+  pub before : (r i : ℕ) → r + i ≡ j → before_at back r ≡ after_at text i
+  pub after : (r i : ℕ) → r + i ≡ j → after_at back r ≡ before_at text i
+  pub byte : (r i : ℕ) → r + suc i ≡ j → slice_get back.bytes r ≡ slice_get text.bytes i
+  pub last : slice_get back.bytes j ≡ None
+
+-- read in the other direction from position j, the first NFA accepts at position k exactly where the
+-- second has a run from k that accepts at j
+pub record IsReverseOf (backward nfa : Nfa) : Type 0 where
+  pub direction : backward.reverse ≡ not nfa.reverse
+  pub begins : (text : Text) (j k : ℕ) → j ≤ length text.bytes → k ≤ j
+      → ((cs : List ℕ) × (other : ℕ)
+      × Accepts backward (turned (upto text j)) backward.start_anchored cs (j - k) other)
+      ↔ ((cs : List ℕ) × (pattern : ℕ) × AcceptsFrom nfa text k nfa.start_anchored cs j pattern)

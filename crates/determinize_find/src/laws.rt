@@ -1,0 +1,37 @@
+//! Laws of the leftmost match, as public functions with empty bodies.
+
+ghost use Rattle.determinize_find.specs.Laws.{EachAnchoredIsLeftmost, EachLeftmostInIsOne, EachLeftmostIsOne, EachMatchesAreApart, EachMatchesAreOne, EachPreferredIsLeftmost, EachReadingIsMirrored, EachRunMoves, EachRunReadsForward};
+
+/// A text has at most one leftmost match.
+pub fn leftmost_law()
+    ensures { EachLeftmostIsOne }
+{}
+
+/// The preferred match from the unanchored start of an NFA with the usual prefix has the pattern and
+/// the end of the leftmost match; if there is no preferred match, there is no leftmost one. From the
+/// anchored start, the same holds of the leftmost match that begins with the text.
+pub fn prefix_law()
+    ensures unanchored { EachPreferredIsLeftmost }
+    ensures anchored { EachAnchoredIsLeftmost }
+{}
+
+/// The runs of an NFA from a position of a text are its runs over the rest of the text, with the
+/// same choices. A run does not accept before the position where it begins.
+pub fn shift_law()
+    ensures moves { EachRunMoves }
+    ensures forward { EachRunReadsForward }
+{}
+
+/// A text up to a position, read in the other direction, has before and after each of its positions
+/// what the text has after and before the same place.
+pub fn mirror_law()
+    ensures { EachReadingIsMirrored }
+{}
+
+/// An input has at most one leftmost match, and its matches are at most one list. They are in the
+/// range, do not overlap, and each ends later than the one before.
+pub fn matches_law()
+    ensures leftmost { EachLeftmostInIsOne }
+    ensures one { EachMatchesAreOne }
+    ensures apart { EachMatchesAreApart }
+{}

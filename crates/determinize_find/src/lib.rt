@@ -1,0 +1,14 @@
+//! The leftmost match, with both of its ends, and all matches of a haystack.
+//!
+//! A search returns an error only if an allocation fails or a cache would need more than 16647160
+//! states. The caches stay usable: later results are the same.
+#![tactic(auto)]
+
+pub mod laws;
+pub mod plain;
+pub mod prefix;
+mod reached;
+pub mod reversal;
+
+pub use determinize_below::search::Match;
+pub use reversal::reversed;

@@ -1,0 +1,141 @@
+-- What the rule keeps, and what is true of a cache after it.
+use Rattle.std.proofs.Common.{arith, ◌≡◌, ◌+◌, ◌≤◌, ℕ, Bool, true, false, cond, inl, inr, Option, Some, None, [], length, refl, sym, ap, ◌∙◌, subst}
+use Rattle.std.specs.Prelude.{Err, IfOk, OnOk, nat_le, Ok, OnErr, Result, slice_get, slice_set}
+use Rattle.determinize_below.specs.Nfa.{IsAccepted, Nfa}
+use Rattle.determinize_below.specs.declared.search.MatchKind.{MatchKind}
+use Rattle.determinize_core.specs.Step.{start_value, step}
+use Rattle.determinize_core.specs.Value.{Value}
+use Rattle.determinize_lazy.specs.Cache.{Cache, count_after, fits, Grows, keep}
+use Rattle.determinize_lazy.specs.Private.Invariant.{IsLazy}
+use Rattle.determinize_lazy.specs.Private.Rows.{StoredTable, table_of}
+use Rattle.determinize_lazy.specs.Private.Starts.{start_index}
+use Rattle.determinize_lazy.specs.Private.Steps.{IsFailedStep, IsSameOrEmpty}
+use Rattle.determinize_lazy.specs.Table.{empty, IsTable, Table, with_transition, with_value}
+use Rattle.determinize_lazy.proofs.Starts.{starts-more, starts-set}
+use Rattle.determinize_lazy.proofs.Tables.{empty-is, get_with, with_transition-is}
+
+pub le_of : (m n : ℕ) → nat_le m n ≡ true → m ≤ n
+le_of m n e = grind arith
+
+module _ (f : Value → Option ℕ → Value) (limit : ℕ) (t : Table) (v w : Value) (u : Option ℕ) (w_is : w ≡ f v u) where
+  room_is : (x : Table) → fits f limit x v u ≡ nat_le (length (with_value (with_value x.states v) w)) limit
+  room_is x = ap (λ y. nat_le (length (with_value (with_value x.states v) y)) limit) (sym w_is)
+
+  pub keep_more : (b : Bool) → b ≡ true → b ≡ nat_le (length (with_value (with_value t.states v) w)) limit → keep f limit t v u ≡ with_transition t v u w
+  keep_more b holds e =
+      ap (λ x. cond x (with_transition t v u (f v u)) (cond (fits f limit empty v u) (with_transition empty v u (f v u)) empty)) (room_is t ∙ sym e ∙ holds)
+      ∙ ap (λ y. with_transition t v u y) (sym w_is)
+
+  pub keep_alone : (b d : Bool) → b ≡ false → b ≡ nat_le (length (with_value (with_value t.states v) w)) limit → d ≡ true → d ≡ nat_le (length (with_value (with_value [] v) w)) limit
+      → keep f limit t v u ≡ with_transition empty v u w
+  keep_alone b d fails e holds e' =
+      ap (λ x. cond x (with_transition t v u (f v u)) (cond (fits f limit empty v u) (with_transition empty v u (f v u)) empty)) (room_is t ∙ sym e ∙ fails)
+      ∙ ap (λ x. cond x (with_transition empty v u (f v u)) empty) (room_is empty ∙ sym e' ∙ holds)
+      ∙ ap (λ y. with_transition empty v u y) (sym w_is)
+
+  pub keep_none : (b d : Bool) → b ≡ false → b ≡ nat_le (length (with_value (with_value t.states v) w)) limit → d ≡ false → d ≡ nat_le (length (with_value (with_value [] v) w)) limit
+      → keep f limit t v u ≡ empty
+  keep_none b d fails e fails2 e' =
+      ap (λ x. cond x (with_transition t v u (f v u)) (cond (fits f limit empty v u) (with_transition empty v u (f v u)) empty)) (room_is t ∙ sym e ∙ fails)
+      ∙ ap (λ x. cond x (with_transition empty v u (f v u)) empty) (room_is empty ∙ sym e' ∙ fails2)
+
+-- the cache with another table
+pub with_table : (c : Cache) (t t' : Table) → t ≡ t' → record c { table = t } ≡ record c { table = t' }
+with_table c t t' e = ap (λ (x : Table). record c { table = x }) e
+
+-- a cache with one more transition of its NFA, for which there is room
+pub lazy-insert : (nfa : Nfa) (kind : MatchKind) (limit count : ℕ) (scratch : Option ℕ) (t t' : StoredTable) (v w : Value) (u : Option ℕ) → IsLazy nfa kind limit count scratch t
+    → w ≡ step nfa kind v u → nat_le (length (with_value (with_value t.states v) w)) limit ≡ true → table_of t' ≡ with_transition (table_of t) v u w → t'.starts ≡ t.starts
+    → IsLazy nfa kind limit count scratch t'
+lazy-insert nfa kind limit count scratch t t' v w u is w_is room table_is starts_is =
+    let states : t'.states ≡ with_value (with_value t.states v) w = ap (λ (x : Table). x.states) table_is in record {
+      accepted = is.accepted;
+      small = is.small;
+      table = subst (λ x. IsTable (step nfa kind) x) (sym table_is) (with_transition-is (step nfa kind) (table_of t) v w u is.table w_is);
+      within = subst (λ vs. length vs ≤ limit) (sym states) (le_of _ limit room);
+      starts = starts-more nfa t t' is.starts starts_is (λ p x at. ap (λ vs. slice_get vs p) states ∙ get_with (with_value t.states v) w x p (get_with t.states v x p at));
+      room = is.room;
+    }
+
+-- a cache in which nothing is cached
+pub lazy-none : (nfa : Nfa) (kind : MatchKind) (limit : ℕ) (t : StoredTable) → IsAccepted nfa → table_of t ≡ empty
+    → ((i index : ℕ) → slice_get t.starts i ≡ Some (Some index) → ⊥) → IsLazy nfa kind limit 0 None t
+lazy-none nfa kind limit t accepted table_is none = record {
+  accepted = accepted;
+  small = (let e : 0 ≤ 18446744073709551615 = omega arith in e);
+  table = subst (λ x. IsTable (step nfa kind) x) (sym table_is) (empty-is (step nfa kind));
+  within = subst (λ (x : Table). length x.states ≤ limit) (sym table_is) (let e : 0 ≤ limit = omega arith in e);
+  starts = λ start p i index _ kept. absurd (none i index kept);
+  room = tt;
+}
+
+-- an empty cache
+pub lazy-empty : (nfa : Nfa) (kind : MatchKind) (limit count : ℕ) (scratch : Option ℕ) (t t' : StoredTable) → IsLazy nfa kind limit count scratch t → table_of t' ≡ empty
+    → ((i index : ℕ) → slice_get t'.starts i ≡ Some (Some index) → ⊥) → IsLazy nfa kind limit count scratch t'
+lazy-empty nfa kind limit count scratch t t' is table_is none = record {
+  accepted = is.accepted;
+  small = is.small;
+  table = subst (λ x. IsTable (step nfa kind) x) (sym table_is) (empty-is (step nfa kind));
+  within = subst (λ (x : Table). length x.states ≤ limit) (sym table_is) (let e : 0 ≤ limit = omega arith in e);
+  starts = λ start p i index _ kept. absurd (none i index kept);
+  room = is.room;
+}
+
+-- what changes the table and the count alone
+pub grows : (old new : Cache) (t : Table) (n : ℕ) → new ≡ record old { table = t; computed = n } → old.computed ≤ n → Grows old new
+grows old new t n is more = subst (λ x. Grows old x) (sym is) (let r : Grows old (record old { table = t; computed = n }) = record { nfa = refl; kind = refl; limit = refl; computed = more } in r)
+
+-- a step that fails after the cache was emptied, or before
+pub failed-empty : (old new : Cache) → new ≡ record old { table = empty } → IsFailedStep old new
+failed-empty old new is = subst (λ x. IsFailedStep old x) (sym is) (let r : IsFailedStep old (record old { table = empty }) = record { table = inl refl; few = omega arith } in r)
+
+pub failed-same : (old new : Cache) → new ≡ old → IsFailedStep old new
+failed-same old new is = subst (λ x. IsFailedStep old x) (sym is) (let r : IsFailedStep old old = record { table = inr refl; few = omega arith } in r)
+
+-- a step that fails after its transition was counted
+pub failed-counted : (old now new : Cache) → now ≡ record old { computed = count_after old.computed 1 } → IsSameOrEmpty now new → IsFailedStep old new
+failed-counted old now new is (inl same) =
+    subst (λ x. IsFailedStep old x) (sym (same ∙ is)) (let r : IsFailedStep old (record old { computed = count_after old.computed 1 }) = record { table = inr refl; few = one old.computed } in r)
+  where
+    one : (n : ℕ) → count_after n 1 ≤ n + 1
+    one n = grind arith
+failed-counted old now new is (inr cleared) =
+    subst (λ x. IsFailedStep old x) (sym (cleared ∙ ap (λ (x : Cache). record x { table = empty }) is))
+    (let r : IsFailedStep old (record old { table = empty; computed = count_after old.computed 1 }) = record { table = inl refl; few = one old.computed } in r)
+  where
+    one : (n : ℕ) → count_after n 1 ≤ n + 1
+    one n = grind arith
+
+pub on_err : {T E : Type 0} (r : Result T E) (P Q : Type 0) → (P → Q) → OnErr r P → OnErr r Q
+on_err (Ok x) P Q f h = tt
+on_err (Err x) P Q f h = f h
+
+-- a cache with one more start
+pub lazy-start : (nfa : Nfa) (kind : MatchKind) (limit count : ℕ) (scratch : Option ℕ) (t : StoredTable) (start : ℕ) (p : Option ℕ) (i id : ℕ) (v : Value) → IsLazy nfa kind limit count scratch t
+    → start_index nfa start p ≡ Some i → slice_get t.states id ≡ Some v → v ≡ start_value nfa start p → IsLazy nfa kind limit count scratch (record t { starts = slice_set t.starts i (Some id) })
+lazy-start nfa kind limit count scratch t start p i id v is at here v_is = record {
+  accepted = is.accepted;
+  small = is.small;
+  table = is.table;
+  within = is.within;
+  starts = starts-set nfa t start p i id v is.starts at here v_is;
+  room = is.room;
+}
+
+-- what holds in any case holds of an error
+pub of_err : {T E : Type 0} (r : Result T E) {P : Type 0} → P → OnErr r P
+of_err (Ok x) p = tt
+of_err (Err x) p = p
+
+pub grows-more : {old now new : Cache} → Grows old now → Grows now new → Grows old new
+grows-more {old} {now} {new} g h = record {
+  nfa = h.nfa ∙ g.nfa;
+  kind = h.kind ∙ g.kind;
+  limit = h.limit ∙ g.limit;
+  computed = let a : old.computed ≤ now.computed = g.computed in let b : now.computed ≤ new.computed = h.computed in omega (arith, a, b);
+}
+
+-- what follows from a value holds if there is one
+pub on_ok : {T E : Type 0} (r : Result T E) {P : T → Type 0} {Q : Type 0} → ((x : T) → P x → Q) → IfOk r P → OnOk r Q
+on_ok (Ok x) f h = f x h
+on_ok (Err x) f h = tt

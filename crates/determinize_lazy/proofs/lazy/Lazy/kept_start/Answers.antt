@@ -1,0 +1,28 @@
+use Rattle.std.proofs.Common.{subst}
+use Rattle.determinize_below.specs.Nfa.{AllResolve}
+use Rattle.determinize_core.proofs.Resolving.{start_resolves}
+use Rattle.determinize_core.specs.Step.{start_value}
+use Rattle.determinize_lazy.specs.Cache.{cache, LazyValue}
+use Rattle.determinize_lazy.specs.Private.Steps.{IsSound}
+use Rattle.determinize_lazy.proofs.lazy.Lazy.kept_start.Given.{Over}
+use Rattle.determinize_lazy.proofs.lazy.Lazy.kept_start.Goals.{After-start_index}
+use Rattle.determinize_lazy.proofs.lazy.Lazy.kept_start.Goals as goal
+
+is_sound : (g : Over) (c : After-start_index g) → IsSound (cache c.args.self.now)
+is_sound g c =
+    subst (λ (x : LazyValue). IsSound (cache x)) c.self.view_is record { accepted = c.self.invariant.accepted; small = c.self.invariant.small }
+
+resolves : (g : Over) (c : After-start_index g) → AllResolve c.args.self.now.nfa (start_value c.args.self.now.nfa c.args.start c.args.look_behind).states
+resolves g c = start_resolves c.args.self.now.nfa (is_sound g c).accepted c.args.start c.args.look_behind c.requires
+
+pub returns-in_err-index-clause-resolve : goal.returns-in_err-index-clause-resolve
+returns-in_err-index-clause-resolve g c = resolves g (goal.at.returns-in_err-index-clause-resolve g c).After-start_index
+
+pub returns-in_err-index-clause-sound : goal.returns-in_err-index-clause-sound
+returns-in_err-index-clause-sound g c = is_sound g (goal.at.returns-in_err-index-clause-sound g c).After-start_index
+
+pub returns-clause-resolve : goal.returns-clause-resolve
+returns-clause-resolve g c = resolves g (goal.at.returns-clause-resolve g c).After-start_index
+
+pub returns-clause-sound : goal.returns-clause-sound
+returns-clause-sound g c = is_sound g (goal.at.returns-clause-sound g c).After-start_index

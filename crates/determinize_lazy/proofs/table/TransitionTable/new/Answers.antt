@@ -1,0 +1,11 @@
+use Rattle.std.proofs.Common.{List, ap}
+use Rattle.determinize_core.specs.Value.{Value}
+use Rattle.determinize_lazy.specs.Stored.{table_in}
+use Rattle.determinize_lazy.proofs.Starts.{none_kept}
+use Rattle.determinize_lazy.proofs.table.TransitionTable.new.Goals as goal
+
+pub returns-clause-table : goal.returns-clause-table
+returns-clause-table g c = ap (λ (vs : List Value). table_in vs c.new-2.result.items) c.new.ensures
+
+pub returns-clause-starts : goal.returns-clause-starts
+returns-clause-starts g c = none_kept

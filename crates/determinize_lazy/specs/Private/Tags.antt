@@ -1,0 +1,30 @@
+-- What a search asks of a state, and how it is stored.
+use Rattle.std.specs.Prelude.{ℕ, Bool, ◌-◌, ◌%◌, None, Some, Option, cond, nat_eq, nat_le, not, option_map, slice_get}
+use Rattle.determinize_below.specs.declared.search.HalfMatch.{HalfMatch}
+use Rattle.determinize_core.specs.Value.{Value, is_nonempty}
+use Rattle.determinize_lazy.specs.declared.tag.LastMatch.{LastMatch}
+
+-- the first pattern of a state, and whether the state is dead
+pub record Tag : Type 0 where
+  pub pattern : Option ℕ
+  pub is_dead : Bool
+
+-- the first pattern that a value lists, and whether it records no NFA states, so that it is dead
+abbrev pub tag_of : Value → Tag
+tag_of v = record { pattern = slice_get v.patterns 0; is_dead = not (is_nonempty v.states) }
+
+-- a pattern in a number: one more than it, or zero for none
+abbrev pub packed_pattern : ℕ → Option ℕ
+packed_pattern n = cond (nat_eq n 0) None (Some (n - 1))
+
+-- a tag in a number: the highest of 32 bits for a dead state, the pattern in the others
+abbrev pub tag_in : ℕ → Tag
+tag_in n = record { pattern = packed_pattern (n % 2147483648); is_dead = nat_le 2147483648 n }
+
+-- the match of a pattern that ends at an offset
+abbrev pub match_at : ℕ → Option ℕ → Option HalfMatch
+match_at offset pattern = option_map (λ p. record { pattern = p; offset = offset }) pattern
+
+-- the match that a search has found: a state that is entered by a unit reports matches that end before the unit
+abbrev pub match_of : LastMatch → Option HalfMatch
+match_of l = match_at (l.read - 1) (tag_in l.tag.bits).pattern

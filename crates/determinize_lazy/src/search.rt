@@ -1,0 +1,443 @@
+//! Searches over the cache: the last match of a walk, without a list of its states.
+
+ghost use Rattle.std.specs.Prelude.{Decides, ℕ, Option, ◌≡◌, ◌<◌, ◌≤◌, ◌-◌, false, true, [], is_some, length, option_map, slice_get, slice_index, slice_index_or, IfOk, OnErr, OnOk, Ok, None, Some};
+ghost use Rattle.std.specs.Option.{IfNone, IfSome};
+ghost use Rattle.determinize_below.specs.Nfa.{AllResolve};
+ghost use Rattle.determinize_below.specs.Positions.{between};
+ghost use Rattle.determinize_below.specs.Search.{is_done};
+ghost use Rattle.determinize_below.specs.declared.search.MatchKind.TheVariants as kinds;
+ghost use Rattle.determinize_core.specs.Chain.{chain, units};
+ghost use Rattle.determinize_core.specs.Step.{start_value};
+ghost use Rattle.determinize_core.specs.Value.{Value as StateValue, dead};
+ghost use Rattle.determinize_core.specs.Walk.{last_match};
+ghost use Rattle.determinize_lazy.specs.Cache.{Cache, Grows, IsCutOff, cache};
+ghost use Rattle.determinize_lazy.specs.Private.Cursors.{IsCursor, cursor_value};
+ghost use Rattle.determinize_lazy.specs.Private.Searched.{IsDecided, IsOver, IsSearched};
+ghost use Rattle.determinize_lazy.specs.Private.Steps.{IsSound};
+ghost use Rattle.determinize_lazy.specs.Private.Tags.{match_of};
+ghost use Rattle.determinize_lazy.specs.Searches.{HasMatch, IsCutOffIn, IsFarthestIn, IsPlenty, IsPlentyIn, IsPreferredIn, IsSearch, after_first_match, after_input, after_is_match, after_search, has_start, in_haystack, in_order, last_in, start_for, text_of};
+
+use crate::lazy::Lazy;
+use crate::state_id::LazyStateId;
+use crate::table::Cursor;
+use crate::tag::LastMatch;
+use determinize_below::{Anchored, HalfMatch, Input, StateID};
+use determinize_core::start::{look_ahead_forward, look_ahead_reverse};
+use std::alloc::{AllocError, Allocator};
+
+/// How far a search has come: where it is, how many units it has read, and the last match of the
+/// states before this one.
+#[derive(Drop)]
+struct Position<A: Allocator> {
+    cursor: Cursor<A>,
+    read: usize,
+    last: LastMatch,
+}
+
+/// A position at a cached state.
+#[derive(Clone, Copy)]
+struct Progress {
+    id: LazyStateId,
+    read: usize,
+    last: LastMatch,
+}
+
+/// Returns the byte at an index in the order of reading.
+#[inline(always)]
+fn byte_at(text: &[u8], is_backward: bool, index: usize) -> u8
+    requires { index < length text.now }
+    ensures { result ≡ slice_index (in_order is_backward text.now) index }
+{
+    if is_backward {
+        text[text.len() - 1 - index]
+    } else {
+        text[index]
+    }
+}
+
+/// Returns the unit at an index in the order of reading: a byte of the text, or the one ahead of
+/// it.
+#[inline(always)]
+fn unit_at(text: &[u8], is_backward: bool, look_ahead: Option<u8>, index: usize) -> Option<u8>
+    requires { index ≤ length text.now }
+    ensures { slice_get (units (between None (in_order is_backward text.now) look_ahead)) index
+        ≡ Some result }
+{
+    if index == text.len() {
+        look_ahead
+    } else {
+        Some(byte_at(text, is_backward, index))
+    }
+}
+
+/// Returns the byte that is read just before the range, in the direction of reading.
+fn byte_behind(input: &Input<'_>, is_backward: bool) -> Option<u8>
+    ensures { result ≡ (text_of is_backward input.now).behind }
+{
+    if is_backward {
+        look_ahead_forward(input)
+    } else {
+        look_ahead_reverse(input)
+    }
+}
+
+/// Returns the byte just ahead of the range, in the direction of reading.
+fn byte_ahead(input: &Input<'_>, is_backward: bool) -> Option<u8>
+    ensures { result ≡ (text_of is_backward input.now).ahead }
+{
+    if is_backward {
+        look_ahead_reverse(input)
+    } else {
+        look_ahead_forward(input)
+    }
+}
+
+/// Returns a match in the range, with its offset in the haystack.
+fn in_haystack(input: &Input<'_>, is_backward: bool, found: Option<HalfMatch>) -> Option<HalfMatch>
+    requires order { input.now.start ≤ input.now.end }
+    requires within { IfSome found (λ m. m.offset ≤ input.now.end - input.now.start) }
+    ensures value { result ≡ option_map (in_haystack is_backward input.now) found }
+    ensures within { IfSome result
+        (λ m. (input.now.start ≤ m.offset) × (m.offset ≤ input.now.end)) }
+{
+    let HalfMatch { pattern, offset } = found?;
+    let (start, end) = (input.start(), input.end());
+    let offset = if is_backward {
+        end - offset
+    } else {
+        start + offset
+    };
+    Some(HalfMatch { pattern, offset })
+}
+
+impl<'n, N: Allocator, A: Allocator + Copy> Lazy<'n, N, A> {
+    /// Follows cached transitions over bytes of the text, as far as they go and no state is dead.
+    /// The cache is only read.
+    #[inline(always)]
+    fn follow(&self, from: Progress, text: &[u8], is_backward: bool) -> Progress
+        requires id { from.id < length self.now.states }
+        requires read { from.read ≤ length text.now }
+        ensures id { result.id < length self.now.states }
+        ensures forward { from.read ≤ result.read }
+        ensures read { result.read ≤ length text.now }
+        ensures searched { (old : Cache) (first : StateValue) (ahead : Option ℕ)
+            → let us = units (between None (in_order is_backward text.now) ahead)
+            in IsSearched old first us from.read (slice_index_or self.now.states from.id dead)
+            (match_of from.last) (cache self.now)
+            → IsSearched old first us result.read (slice_index_or self.now.states result.id dead)
+            (match_of result.last) (cache self.now) }
+    {
+        let mut at = from;
+        while at.read < text.len() {
+            let byte = byte_at(text, is_backward, at.read);
+            // The entry comes before the tag, since the next entry waits for it.
+            let target = self.table.lookup(at.id, Some(byte));
+            let tag = self.table.tag(at.id);
+            let Some(id) = target else {
+                return at;
+            };
+            if tag.is_dead() {
+                return at;
+            }
+            at.last = at.last.or_match(tag, at.read);
+            at.id = id;
+            at.read += 1;
+        }
+        at
+    }
+
+    /// Follows cached transitions from a position, if its state is cached.
+    #[inline(always)]
+    fn run(&self, from: Position<A>, text: &[u8], is_backward: bool) -> Position<A>
+        requires cursor { IsCursor (cache self.now).table from.cursor }
+        requires read { from.read ≤ length text.now }
+        ensures cursor { IsCursor (cache self.now).table result.cursor }
+        ensures forward { from.read ≤ result.read }
+        ensures read { result.read ≤ length text.now }
+        ensures searched { (old : Cache) (first : StateValue) (ahead : Option ℕ)
+            → let us = units (between None (in_order is_backward text.now) ahead)
+            in IsSearched old first us from.read (cursor_value self.now.states from.cursor)
+            (match_of from.last) (cache self.now)
+            → IsSearched old first us result.read (cursor_value self.now.states result.cursor)
+            (match_of result.last) (cache self.now) }
+    {
+        let Position { cursor, read, last } = from;
+        match cursor {
+            Cursor::Cached(id) => {
+                let at = self.follow(Progress { id, read, last }, text, is_backward);
+                Position {
+                    cursor: Cursor::Cached(at.id),
+                    read: at.read,
+                    last: at.last,
+                }
+            }
+            Cursor::Uncached(state) => Position {
+                cursor: Cursor::Uncached(state),
+                read,
+                last,
+            },
+        }
+    }
+
+    /// Searches from a cursor, forward or backward, and returns the last match of the walk from it.
+    /// The search stops at a dead state.
+    #[inline(always)]
+    fn search_from(
+        &mut self,
+        start: Cursor<A>,
+        text: &[u8],
+        is_backward: bool,
+        look_ahead: Option<u8>,
+    ) -> Result<Option<HalfMatch>, AllocError>
+        requires cursor { IsCursor (cache self.old).table start }
+        requires unmatched { (cursor_value self.old.states start).patterns ≡ [] }
+        requires resolve { AllResolve self.old.nfa
+            (cursor_value self.old.states start).states }
+        requires sound { IsSound (cache self.old) }
+        ensures over { let us = units (between None (in_order is_backward text.now) look_ahead)
+            in IfOk result (λ found. IsOver (cache self.old)
+            (cursor_value self.old.states start) us found (cache self.new)) }
+        ensures failed { let us = units (between None (in_order is_backward text.now) look_ahead)
+            in OnErr result (IsCutOff (cache self.old)
+            (cursor_value self.old.states start) us (cache self.new)) }
+        ensures grows { Grows (cache self.old) (cache self.new) }
+    {
+        let (mut cursor, mut read, mut last) = (start, 0, LastMatch::NONE);
+        while read <= text.len() {
+            let at = self.run(Position { cursor, read, last }, text, is_backward);
+            let tag = self.tag_at(&at.cursor);
+            last = at.last.or_match(tag, at.read);
+            if tag.is_dead() {
+                return Ok(last.get());
+            }
+            let unit = unit_at(text, is_backward, look_ahead, at.read);
+            cursor = self.step(at.cursor, unit)?;
+            read = at.read + 1;
+        }
+        let tag = self.tag_at(&cursor);
+        Ok(last.or_match(tag, read).get())
+    }
+
+    /// Searches a text, forward or backward, as `search` does.
+    #[inline(always)]
+    fn search_text(
+        &mut self,
+        start: StateID,
+        look_behind: Option<u8>,
+        text: &[u8],
+        is_backward: bool,
+        look_ahead: Option<u8>,
+    ) -> Result<Option<HalfMatch>, AllocError>
+        requires { start < length self.old.nfa.states }
+        ensures search { let read = between look_behind (in_order is_backward text.now) look_ahead
+            in IfOk result (λ found. IsSearch self.old.nfa self.old.kind start read found) }
+        ensures after { let read = between look_behind (in_order is_backward text.now) look_ahead
+            in OnOk result (cache self.new ≡ after_search (cache self.old) start read) }
+        ensures plenty { let read = between look_behind (in_order is_backward text.now) look_ahead
+            in OnOk result (IsPlenty (cache self.old) start read (cache self.new)) }
+        ensures failed { let read = between look_behind (in_order is_backward text.now) look_ahead
+            in OnErr result (IsCutOff (cache self.old) (start_value self.old.nfa start look_behind)
+            (units read) (cache self.new)) }
+        ensures grows { Grows (cache self.old) (cache self.new) }
+    {
+        let cursor = self.start(start, look_behind)?;
+        self.search_from(cursor, text, is_backward, look_ahead)
+    }
+
+    /// Returns whether the walk from a cursor reaches a match state. Stops at the first one, and at
+    /// a dead state.
+    #[inline(always)]
+    fn is_match_from(
+        &mut self,
+        start: Cursor<A>,
+        text: &[u8],
+        is_backward: bool,
+        look_ahead: Option<u8>,
+    ) -> Result<bool, AllocError>
+        requires cursor { IsCursor (cache self.old).table start }
+        requires unmatched { (cursor_value self.old.states start).patterns ≡ [] }
+        requires resolve { AllResolve self.old.nfa
+            (cursor_value self.old.states start).states }
+        requires sound { IsSound (cache self.old) }
+        ensures decided { let us = units (between None (in_order is_backward text.now) look_ahead)
+            in IfOk result (λ found. IsDecided (cache self.old)
+            (cursor_value self.old.states start) us found (cache self.new)) }
+        ensures failed { let us = units (between None (in_order is_backward text.now) look_ahead)
+            in OnErr result (IsCutOff (cache self.old)
+            (cursor_value self.old.states start) us (cache self.new)) }
+        ensures grows { Grows (cache self.old) (cache self.new) }
+    {
+        let (mut cursor, mut read) = (start, 0);
+        while read <= text.len() {
+            let tag = self.tag_at(&cursor);
+            if tag.is_match() {
+                return Ok(true);
+            }
+            if tag.is_dead() {
+                return Ok(false);
+            }
+            let unit = unit_at(text, is_backward, look_ahead, read);
+            cursor = self.step(cursor, unit)?;
+            read += 1;
+        }
+        Ok(self.tag_at(&cursor).is_match())
+    }
+
+    /// Returns whether some run over a text accepts.
+    #[inline(always)]
+    fn is_match_in(
+        &mut self,
+        start: StateID,
+        look_behind: Option<u8>,
+        text: &[u8],
+        is_backward: bool,
+        look_ahead: Option<u8>,
+    ) -> Result<bool, AllocError>
+        requires { start < length self.old.nfa.states }
+        ensures found { let read = between look_behind (in_order is_backward text.now) look_ahead
+            in IfOk result
+            (λ found. found ≡ is_some (last_match (chain self.old.nfa self.old.kind start read))) }
+        ensures after { let read = between look_behind (in_order is_backward text.now) look_ahead
+            in OnOk result (cache self.new ≡ after_first_match (cache self.old) start read) }
+        ensures failed { let read = between look_behind (in_order is_backward text.now) look_ahead
+            in OnErr result (IsCutOff (cache self.old) (start_value self.old.nfa start look_behind)
+            (units read) (cache self.new)) }
+        ensures grows { Grows (cache self.old) (cache self.new) }
+    {
+        let cursor = self.start(start, look_behind)?;
+        self.is_match_from(cursor, text, is_backward, look_ahead)
+    }
+
+    /// Returns the last match of the walk that `walk_between` makes over the same text, or `None`
+    /// if it has no match. The offset of a match is the number of bytes before its end.
+    ///
+    /// - `start` is the id of the NFA state to start from, below the number of states.
+    /// - `look_behind` is the byte just before the text, if any.
+    /// - `look_ahead` is the byte just after the text, or `None` if the input ends there.
+    ///
+    /// Under `MatchKind::LeftmostFirst` the match is that of the most preferred accepting run,
+    /// under `MatchKind::All` that of the best run at the last position where any run accepts.
+    /// `None` means that no run accepts.
+    ///
+    /// The text is in the order of reading: for an NFA that reads backward, from the last byte on.
+    /// The search stops at a state that records no NFA states, since no match can follow it.
+    ///
+    /// Returns `AllocError` if an allocation fails, or if more than 16647160 states would be
+    /// cached.
+    pub fn search(
+        &mut self,
+        start: StateID,
+        look_behind: Option<u8>,
+        text: &[u8],
+        look_ahead: Option<u8>,
+    ) -> Result<Option<HalfMatch>, AllocError>
+        requires { start < length self.old.nfa.states }
+        ensures search { IfOk result (λ found. IsSearch self.old.nfa self.old.kind start
+            (between look_behind text.now look_ahead) found) }
+        ensures after { OnOk result (cache self.new ≡ after_search (cache self.old) start
+            (between look_behind text.now look_ahead)) }
+        ensures plenty { OnOk result (IsPlenty (cache self.old) start
+            (between look_behind text.now look_ahead) (cache self.new)) }
+        ensures failed { OnErr result (IsCutOff (cache self.old)
+            (start_value self.old.nfa start look_behind)
+            (units (between look_behind text.now look_ahead)) (cache self.new)) }
+        ensures grows { Grows (cache self.old) (cache self.new) }
+    {
+        self.search_text(start, look_behind, text, false, look_ahead)
+    }
+
+    /// Returns the last match of a search of an input, or `None` if no run accepts.
+    ///
+    /// The search reads the range in the direction of the NFA: an NFA that reads backward reads it
+    /// from its end to its start. The offset of a match is an index into the haystack: where the
+    /// match ends or, if it was read backward, where it begins. It lies in the range or at its end.
+    /// Which match it is depends on the match kind as for `search`.
+    ///
+    /// The search starts from the anchored or the unanchored start state of the NFA, as the input
+    /// asks. `Anchored::Pattern` has no start state here: the caller must not ask for it. To search
+    /// for one pattern only, give the pattern a start state in the NFA, and call `search` with the
+    /// id of that state.
+    ///
+    /// A match lies within the range. The bytes just before and after it are only looked at by
+    /// assertions, but the byte ahead is a unit that may be computed and cached as any other. If
+    /// the range starts past its end, nothing is read and the result is `Ok(None)`.
+    ///
+    /// Returns `AllocError` if an allocation fails, or if more than 16647160 states would be
+    /// cached.
+    pub fn search_input(&mut self, input: &Input<'_>) -> Result<Option<HalfMatch>, AllocError>
+        requires { has_start input.now.anchored ≡ true }
+        ensures last { IfOk result
+            (λ found. found ≡ last_in self.old.nfa self.old.kind input.now) }
+        ensures preferred { self.old.kind ≡ kinds.LeftmostFirst → IfOk result
+            (λ found. IfSome found (λ m. IsPreferredIn self.old.nfa input.now m)) }
+        ensures farthest { self.old.kind ≡ kinds.All → IfOk result
+            (λ found. IfSome found (λ m. IsFarthestIn self.old.nfa input.now m)) }
+        ensures none { is_done input.now ≡ false → IfOk result
+            (λ found. IfNone found (HasMatch self.old.nfa input.now → ⊥)) }
+        ensures done { is_done input.now ≡ true → result ≡ Ok None }
+        ensures within { IfOk result (λ found. IfSome found
+            (λ m. (input.now.start ≤ m.offset) × (m.offset ≤ input.now.end))) }
+        ensures after { OnOk result (cache self.new ≡ after_input (cache self.old) input.now) }
+        ensures unchanged { is_done input.now ≡ true → self.new ≡ self.old }
+        ensures plenty { OnOk result (IsPlentyIn (cache self.old) input.now (cache self.new)) }
+        ensures failed { OnErr result (IsCutOffIn (cache self.old) input.now (cache self.new)) }
+        ensures grows { Grows (cache self.old) (cache self.new) }
+    {
+        let is_backward = self.nfa.is_reverse();
+        let id = self.start_for(input.get_anchored());
+        let (start, end) = (input.start(), input.end());
+        if start > end {
+            return Ok(None);
+        }
+        let behind = byte_behind(input, is_backward);
+        let range = &input.haystack()[start..end];
+        let ahead = byte_ahead(input, is_backward);
+        let found = self.search_text(id, behind, range, is_backward, ahead)?;
+        Ok(in_haystack(input, is_backward, found))
+    }
+
+    /// Returns whether an input has a match, under both match kinds: whether some run over what
+    /// `search_input` reads accepts.
+    ///
+    /// Stops at the first match state, and at a state that records no NFA states. Over cached
+    /// transitions the cache is only read. If the range starts past its end, nothing is read and
+    /// the result is `Ok(false)`. The caller must not ask for `Anchored::Pattern`, as for
+    /// `search_input`.
+    ///
+    /// Returns `AllocError` if an allocation fails, or if more than 16647160 states would be
+    /// cached.
+    pub fn is_match(&mut self, input: &Input<'_>) -> Result<bool, AllocError>
+        requires { has_start input.now.anchored ≡ true }
+        ensures accepts { is_done input.now ≡ false → IfOk result
+            (λ found. Decides found (HasMatch self.old.nfa input.now)) }
+        ensures done { is_done input.now ≡ true → result ≡ Ok false }
+        ensures after { OnOk result (cache self.new ≡ after_is_match (cache self.old) input.now) }
+        ensures unchanged { is_done input.now ≡ true → self.new ≡ self.old }
+        ensures failed { OnErr result (IsCutOffIn (cache self.old) input.now (cache self.new)) }
+        ensures grows { Grows (cache self.old) (cache self.new) }
+    {
+        let is_backward = self.nfa.is_reverse();
+        let id = self.start_for(input.get_anchored());
+        let (start, end) = (input.start(), input.end());
+        if start > end {
+            return Ok(false);
+        }
+        let behind = byte_behind(input, is_backward);
+        let range = &input.haystack()[start..end];
+        let ahead = byte_ahead(input, is_backward);
+        self.is_match_in(id, behind, range, is_backward, ahead)
+    }
+
+    /// Returns the start state of a search that is so anchored.
+    fn start_for(&self, anchored: Anchored) -> StateID
+        requires { has_start anchored ≡ true }
+        ensures value { result ≡ start_for self.now.nfa anchored }
+        ensures resolve { result < length self.now.nfa.states }
+    {
+        match anchored {
+            Anchored::No => self.nfa.start_unanchored(),
+            Anchored::Yes => self.nfa.start_anchored(),
+            Anchored::Pattern(_) => unreachable!(),
+        }
+    }
+}

@@ -1,0 +1,103 @@
+//! What a search asks of a state, in one number, and the last match that it has found.
+
+ghost use Rattle.std.specs.Prelude.{◌≡◌, ◌-◌, is_some};
+ghost use Rattle.std.specs.Option.{option_or};
+ghost use Rattle.determinize_lazy.specs.Private.Tags.{match_at, match_of, tag_in, tag_of};
+
+use determinize_below::{HalfMatch, PatternID};
+use determinize_core::state::State;
+use std::alloc::Allocator;
+
+/// The bit of a dead state.
+const DEAD: u32 = 1 << 31;
+
+/// The first pattern of a state, and whether the state is dead: it records no NFA states, so no
+/// match follows it.
+#[derive(Clone, Copy)]
+pub(crate) struct StateTag {
+    /// The highest bit for a dead state. In the others one more than the pattern, or 0 for none.
+    pub(crate) bits: u32,
+}
+
+impl StateTag {
+    /// Returns the tag of a state.
+    pub(crate) fn of<A: Allocator>(state: &State<A>) -> StateTag
+        ensures { tag_in result.bits ≡ tag_of state.now }
+    {
+        let pattern = if state.is_match() {
+            state.match_pattern(0).as_u32() + 1
+        } else {
+            0
+        };
+        let dead = if state.iter_nfa_state_ids().next().is_none() {
+            DEAD
+        } else {
+            0
+        };
+        StateTag {
+            bits: pattern + dead,
+        }
+    }
+
+    /// Returns whether the state lists a pattern.
+    #[inline(always)]
+    pub(crate) fn is_match(self) -> bool
+        ensures { result ≡ is_some (tag_in self.bits).pattern }
+    {
+        self.bits % DEAD > 0
+    }
+
+    /// Returns whether the state is dead.
+    #[inline(always)]
+    pub(crate) fn is_dead(self) -> bool
+        ensures { result ≡ (tag_in self.bits).is_dead }
+    {
+        self.bits >= DEAD
+    }
+}
+
+/// The last match that a search has found, if any.
+#[derive(Clone, Copy)]
+pub(crate) struct LastMatch {
+    /// The tag of the match state, 0 if there is none.
+    pub(crate) tag: StateTag,
+    /// How many units were read when the state was entered. Matches are delayed by one unit, so
+    /// the match ends before the last of them.
+    pub(crate) read: usize,
+}
+
+impl LastMatch {
+    /// No match.
+    pub(crate) const NONE: LastMatch = LastMatch {
+        tag: StateTag { bits: 0 },
+        read: 0,
+    };
+
+    /// Returns the match of a state that was entered after `read` units, or this one if the state
+    /// is no match state.
+    #[inline(always)]
+    pub(crate) fn or_match(self, tag: StateTag, read: usize) -> LastMatch
+        ensures { match_of result
+            ≡ option_or (match_at (read - 1) (tag_in tag.bits).pattern) (match_of self) }
+    {
+        if tag.is_match() {
+            LastMatch { tag, read }
+        } else {
+            self
+        }
+    }
+
+    /// Returns the match, if there is one. Its offset is the number of bytes before its end.
+    pub(crate) fn get(self) -> Option<HalfMatch>
+        ensures { result ≡ match_of self }
+    {
+        let pattern = (self.tag.bits % DEAD) as usize;
+        if pattern == 0 {
+            return None;
+        }
+        Some(HalfMatch {
+            pattern: PatternID::must(pattern - 1),
+            offset: self.read.saturating_sub(1),
+        })
+    }
+}

@@ -1,9 +1,0 @@
-use Rattle.std.proofs.Common.{arith, ◌∙◌}
-use Rattle.determinize_states.proofs.OpenLaws.{open_long, open_half_crlf_of}
-use Rattle.determinize_states.proofs.state.bytes.open_is_half_crlf.Goals as goal
-
-pub has_flag-requires : goal.has_flag-requires
-has_flag-requires c = omega (arith, open_long _ c.requires)
-
-pub returns : goal.returns
-returns c = c.has_flag.ensures ∙ open_half_crlf_of _ c.requires
