@@ -26,7 +26,7 @@ Row31b = IsRowOf n4 LeftmostFirst 0 (between None (0x71 ∷ 0x75 ∷ 0x61 ∷ 0x
     ∷ (0x01 ∷ eight_zeros) ∷ [])
     (Some (0, 4))
 
--- the walk `31c`: over `quar`, to the end of the input
+-- the walk `31c`: over `quar`, up to EOI
 abbrev pub Row31c : Type 0
 Row31c = IsRowOf n4 LeftmostFirst 0 (between None (0x71 ∷ 0x75 ∷ 0x61 ∷ 0x72 ∷ []) None)
     ((0x00 ∷ 0x00 ∷ 0x40 ∷ 0x01 ∷ 0x00 ∷ 0x40 ∷ 0x00 ∷ 0x00 ∷ 0x00 ∷ 0x00 ∷ [])

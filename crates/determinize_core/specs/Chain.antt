@@ -7,17 +7,17 @@ use Rattle.determinize_below.specs.Positions.{Text, after_at}
 use Rattle.determinize_core.specs.Step.{start_value, step}
 use Rattle.determinize_states.specs.Value.{Value}
 
--- the value and those that follow it over the units
+-- a value, and the values after each of the units
 abbrev pub future : Nfa → MatchKind → Value → List (Option ℕ) → List Value
 future nfa kind v [] = v ∷ []
 future nfa kind v (u ∷ us) = v ∷ future nfa kind (step nfa kind v u) us
 
--- the last of these values: the one after all of the units
+-- the last of these values
 abbrev pub value_after : Nfa → MatchKind → Value → List (Option ℕ) → Value
 value_after nfa kind v [] = v
 value_after nfa kind v (u ∷ us) = value_after nfa kind (step nfa kind v u) us
 
--- the units of a text: what stands after each of its positions
+-- the units of a text: its bytes, and then the byte ahead or EOI
 abbrev pub units : Text → List (Option ℕ)
 units text = map (after_at text) (range_with_len 0 (suc (length text.bytes)))
 
@@ -25,6 +25,6 @@ units text = map (after_at text) (range_with_len 0 (suc (length text.bytes)))
 unfoldable pub chain : Nfa → MatchKind → ℕ → Text → List Value
 chain nfa kind s text = future nfa kind (start_value nfa s text.behind) (units text)
 
--- from each place on, the values are the one there and those that follow it over the units that are left
+-- from each of the values on, they are that value and those after the remaining units
 abbrev pub FollowsItself : Nfa → MatchKind → Text → List Value → Type 0
 FollowsItself nfa kind text values = (j : ℕ) (v : Value) → slice_get values j ≡ Some v → drop j values ≡ future nfa kind v (drop j (units text))

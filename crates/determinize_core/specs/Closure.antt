@@ -6,11 +6,11 @@ use Rattle.determinize_below.specs.Members.{Members}
 use Rattle.determinize_below.specs.Nfa.{Nfa}
 use Rattle.determinize_below.specs.Reached.{IsBeginning}
 
--- what the closure of a state adds to a set that holds some states, under a set of assertions
+-- the states that the closure of a state adds to a set, given the states in the set and the assertions that hold
 abbrev pub closure_of : Nfa → ℕ → List ℕ → ℕ → List ℕ
 closure_of nfa look_have held start = reach_past nfa (has look_have) held (start ∷ [])
 
--- the new set is the old one with a beginning of what was to be added
+-- the new set is the old one with a prefix of what was to be added
 pub record AddsBeginning (old new : Members) (added : List ℕ) : Type 0 where
   pub capacity : new.capacity ≡ old.capacity
   pub part : (more : List ℕ) × (new.ids ≡ old.ids ++ more) × IsBeginning more added

@@ -14,7 +14,7 @@ n18 = automaton false 10 (byte 0x61 1 ∷ Capture 1 ∷ [])
 abbrev pub n19 : Nfa
 n19 = automaton false 10 (Union (0 ∷ 0 ∷ 1 ∷ 1 ∷ 0 ∷ []) ∷ Match 0 ∷ [])
 
--- two unions that lead to each other
+-- two unions with a transition to each other
 abbrev pub n20 : Nfa
 n20 = automaton false 10 (BinaryUnion 1 2 ∷ BinaryUnion 0 3 ∷ Match 0 ∷ Match 1 ∷ [])
 
@@ -46,11 +46,11 @@ n26 = automaton false 0xFF (Look EndLF 1 ∷ Match 0 ∷ [])
 abbrev pub n27 : Nfa
 n27 = automaton false 0x61 (byte 0x61 1 ∷ Union (2 ∷ 3 ∷ []) ∷ Look StartLF 4 ∷ Look WordEndAscii 5 ∷ Match 0 ∷ Match 1 ∷ [])
 
--- `a`, and an assertion that nothing leads to
+-- `a`, and an unreachable assertion
 abbrev pub n28 : Nfa
 n28 = automaton false 10 (byte 0x61 1 ∷ Match 0 ∷ Look WordAscii 1 ∷ [])
 
--- the greatest pattern alone
+-- the greatest pattern only
 abbrev pub n29 : Nfa
 n29 = automaton false 10 (Match 2147483646 ∷ [])
 

@@ -20,23 +20,25 @@ use Rattle.determinize_states.specs.Value.{Value, dead}
 use Rattle.determinize_core.specs.Walk.{ListsAccepted, IsWalkOfAll, IsLeftmostWalk, IsFarthestMatch, ended_at, last_match}
 use Rattle.determinize_core.specs.WalkStates.{RecordsReached}
 
--- of every accepted NFA, the walk over each text says of whole runs what its kind of match promises
+-- the theorem: for every valid NFA, the walk over each text lists all matches under `All`, and finds the most
+-- preferred one under `LeftmostFirst`
 abbrev pub EachChainIsTrue : Type 0
 EachChainIsTrue = (nfa : Nfa) → IsAccepted nfa → (start : ℕ) (text : Text)
     → IsWalkOfAll nfa start text (chain nfa All start text)
     × IsLeftmostWalk nfa start text (chain nfa LeftmostFirst start text)
 
--- and its values but the last record of NFA states what runs reach
+-- and each of its values but the last records the NFA states that runs reach
 abbrev pub EachChainReaches : Type 0
 EachChainReaches = (nfa : Nfa) → IsAccepted nfa → (kind : MatchKind) (start : ℕ) (text : Text)
     → RecordsReached nfa kind start text (chain nfa kind start text)
 
--- with a byte ahead, the values are all but the last of those over the text with this byte as one more
+-- with a byte ahead, the values are all but the last of those over the text with this byte at its end
 abbrev pub EachByteAheadIsNext : Type 0
 EachByteAheadIsNext = (nfa : Nfa) (kind : MatchKind) (start : ℕ) (behind : Option ℕ) (bytes : List ℕ) (byte : ℕ) (ahead : Option ℕ)
     → (last : Value) × (chain nfa kind start (between behind (bytes ++ byte ∷ []) ahead) ≡ chain nfa kind start (between behind bytes (Some byte)) ++ last ∷ [])
 
--- runs determine one list of patterns, one most preferred match, and one list of the states reached, by what is known or by what is true
+-- runs determine one list of patterns, one most preferred match, and one list of the states reached, under the
+-- look-behind and under the assertions that hold
 abbrev pub EachAnswerIsOne : Type 0
 EachAnswerIsOne = (nfa : Nfa) (text : Text) (start : ℕ)
     → ((i : ℕ) (xs ys : List ℕ) → ListsAccepted nfa text start i xs → ListsAccepted nfa text start i ys → xs ≡ ys)
@@ -44,45 +46,46 @@ EachAnswerIsOne = (nfa : Nfa) (text : Text) (start : ℕ)
     × ((i : ℕ) (xs ys : List ℕ) → IsKnownReached nfa text start i xs → IsKnownReached nfa text start i ys → xs ≡ ys)
     × ((i : ℕ) (xs ys : List ℕ) → IsReached nfa text start i xs → IsReached nfa text start i ys → xs ≡ ys)
 
--- of an accepted NFA, a search from one more root goes on with what was reached held
+-- for a valid NFA, the closure of one more root adds the states that it reaches around those reached before
 abbrev pub EachReachGoesOn : Type 0
 EachReachGoesOn = (nfa : Nfa) → IsAccepted nfa → (holds : Assertion → Bool) (roots : List ℕ) (root : ℕ)
     → reach nfa holds (roots ++ root ∷ []) ≡ reach nfa holds roots ++ reach_past nfa holds (reach nfa holds roots) (root ∷ [])
 
--- a state has edges that want no input, or one over a unit, or neither
+-- a state has epsilon transitions, or at most one transition on a unit, not both
 abbrev pub EachStateHasOneKind : Type 0
 EachStateHasOneKind = (nfa : Nfa) (holds : Assertion → Bool) (u : Option ℕ) (s : ℕ)
     → (length (target nfa u s) ≤ 1) × ((edges nfa holds s ≡ []) ⊎ (target nfa u s ≡ []))
 
--- no state leads on over the end of the input
+-- no state has a transition on EOI
 abbrev pub NothingLeadsOverTheEnd : Type 0
 NothingLeadsOverTheEnd = (nfa : Nfa) (s : ℕ) → target nfa None s ≡ []
 
--- from each place on, a walk is what follows from the value there
+-- from each of its values on, a walk is what follows from that value
 abbrev pub EachFutureFollows : Type 0
 EachFutureFollows = (nfa : Nfa) (kind : MatchKind) (s : ℕ) (text : Text) → FollowsItself nfa kind text (chain nfa kind s text)
 
--- the dead value stays, and of the values that a step over an accepted NFA leaves it alone is empty, where no cycle has captures alone
+-- the dead value stays; a step of a valid NFA without cycles of captures only that gives no pattern and no NFA
+-- state gives the dead value
 abbrev pub DeadStays : Type 0
 DeadStays = (nfa : Nfa) (kind : MatchKind) (u : Option ℕ)
     → (step nfa kind dead u ≡ dead)
     × ((v : Value) → IsAccepted nfa → HasNoCaptureCycle nfa → (step nfa kind v u).patterns ≡ [] → (step nfa kind v u).states ≡ [] → step nfa kind v u ≡ dead)
 
--- a value to which states were recorded has nothing where it needs nothing
+-- a value to which states were recorded has an empty look-have if its look-need is empty
 abbrev pub NoNeedNoHave : Type 0
 NoNeedNoHave = (nfa : Nfa) (v : Value) (xs : List ℕ) → (with_states nfa v xs).look_need ≡ 0 → (with_states nfa v xs).look_have ≡ 0
 
--- where the most preferred match is wanted, a step gives one pattern at most
+-- under `LeftmostFirst` a step gives at most one pattern
 abbrev pub LeftmostGivesOne : Type 0
 LeftmostGivesOne = (nfa : Nfa) (v : Value) (u : Option ℕ) → length (step nfa LeftmostFirst v u).patterns ≤ 1
 
--- a step from a value of resolved ids makes at most two tries for each state and for each edge that wants no input
+-- a step from a value whose ids are in range makes at most two tries for each state and each epsilon transition
 abbrev pub TriesAreFew : Type 0
 TriesAreFew = (nfa : Nfa) → IsAccepted nfa → (kind : MatchKind) (v : Value) (u : Option ℕ)
     → ((s : ℕ) → member nat_eq v.states s ≡ true → s < length nfa.states)
     → tries nfa kind v u ≤ 2 * (length nfa.states + edges_in_all nfa)
 
--- of every accepted NFA, the last match of a walk under `MatchKind::All` is the farthest match
+-- for every valid NFA, the last match of a walk under `All` is the farthest match
 abbrev pub EachLastIsFarthest : Type 0
 EachLastIsFarthest = (nfa : Nfa) → IsAccepted nfa → (start : ℕ) (text : Text)
     → IsFarthestMatch nfa start text (last_match (chain nfa All start text))
@@ -124,6 +127,6 @@ EachLastUnitUnrolls = (nfa : Nfa) (kind : MatchKind) (v : Value)
 abbrev pub CapturesAscend : Nfa → Type 0
 CapturesAscend nfa = (s next : ℕ) → state_at nfa s ≡ Capture next → s < next
 
--- so no cycle consists of captures only
+-- then no cycle consists of captures only
 abbrev pub AscendingCapturesHaveNoCycle : Type 0
 AscendingCapturesHaveNoCycle = (nfa : Nfa) → CapturesAscend nfa → HasNoCaptureCycle nfa

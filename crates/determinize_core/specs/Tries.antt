@@ -1,4 +1,4 @@
--- How often a step tries to add a state to a set.
+-- The number of times that a step tries to add a state to a set.
 use Rattle.std.specs.Prelude.{ℕ, ◌+◌, Bool, true, cond, Option, List, length}
 use Rattle.determinize_below.specs.declared.look.Look.{Look as Assertion}
 use Rattle.determinize_below.specs.declared.search.MatchKind.{MatchKind}
@@ -10,11 +10,11 @@ use Rattle.determinize_core.specs.Step.{opened_by, is_reopened, distinct_states,
 use Rattle.determinize_looks.specs.LookTables.{tables_of, have_after}
 use Rattle.determinize_states.specs.Value.{Value}
 
--- the tries of a search into the empty set: its roots, and the edges of all states that it lists
+-- the tries of a closure into the empty set: one for each root, and one for each edge of the states that it lists
 abbrev pub tries_of : Nfa → (Assertion → Bool) → List ℕ → ℕ
 tries_of nfa holds roots = length roots + edge_count (edges nfa holds) (reach nfa holds roots)
 
--- the tries for the working list, where it is made by a search
+-- the tries for the working list, if its closure is computed again
 abbrev pub tries_again : Nfa → Value → Option ℕ → ℕ
 tries_again nfa v u = cond (is_reopened nfa v u) (tries_of nfa (joined (has v.look_have) (opened_by nfa v u)) (distinct_states v)) 0
 
@@ -24,6 +24,6 @@ tries nfa kind v u =
     tries_again nfa v u
     + tries_of nfa (has (have_after (tables_of nfa) u)) (targets nfa kind v u)
 
--- the edges of the NFA that want no input, with all assertions counted
+-- the number of epsilon transitions of the NFA, as if all assertions hold
 abbrev pub edges_in_all : Nfa → ℕ
 edges_in_all nfa = edge_count (edges nfa (λ look. true)) (nodes_below (length nfa.states))

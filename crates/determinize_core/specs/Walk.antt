@@ -1,4 +1,4 @@
--- What the values of a walk say of whole runs.
+-- The theorem: the patterns that the values of a walk list, by the runs of the NFA.
 use Rattle.std.specs.Prelude.{◌≡◌, ℕ, suc, ◌+◌, ◌<◌, ◌≤◌, Option, Some, None, List, [], ◌∷◌, length, slice_get, Contains, ◌↔◌}
 use Rattle.std.specs.Option.{option_or}
 use Rattle.determinize_below.specs.Nfa.{Nfa}
@@ -7,35 +7,36 @@ use Rattle.determinize_below.specs.Positions.{Text, Accepts, IsBestRun, IsPrefer
 use Rattle.determinize_below.specs.declared.search.HalfMatch.{HalfMatch}
 use Rattle.determinize_states.specs.Value.{Value}
 
--- the list has each pattern that some run accepts at the position, once, and no other, best run first
+-- the list has exactly the patterns that some run accepts at the position, each once, best run first
 pub record ListsAccepted (nfa : Nfa) (text : Text) (start i : ℕ) (patterns : List ℕ) : Type 0 where
   pub accepted : (x : ℕ) → (Contains patterns x) ↔ ((cs : List ℕ) × Accepts nfa text start cs i x)
   pub once : (a b x : ℕ) → slice_get patterns a ≡ Some x → slice_get patterns b ≡ Some x → a ≡ b
   pub best_first : (a b x y : ℕ) → a < b → slice_get patterns a ≡ Some x → slice_get patterns b ≡ Some y
       → (cs : List ℕ) × (ds : List ℕ) × IsBestRun nfa text start cs i x × IsBestRun nfa text start ds i y × Before cs ds
 
--- the end of a match of the first of some patterns, where there is one
+-- the match of the first of some patterns at an offset; `None` if there is no pattern
 abbrev pub ended_at : ℕ → List ℕ → Option HalfMatch
 ended_at offset [] = None
 ended_at offset (pattern ∷ others) = Some record { pattern = pattern; offset = offset }
 
--- the last of the values with a pattern: its first pattern, and its place, counted from n
+-- the first pattern of the last value that lists one, and the index of that value, where the first index is n
 abbrev pub last_ended : ℕ → List Value → Option HalfMatch
 last_ended n [] = None
 last_ended n (v ∷ vs) = option_or (last_ended (suc n) vs) (ended_at n v.patterns)
 
--- the last match of a walk: its first value lists no pattern, the next one tells of position 0, and so on
+-- the last match of a walk: a match is delayed by one unit, so the value at index i + 1 has the matches at position i
 abbrev pub last_match : List Value → Option HalfMatch
 last_match [] = None
 last_match (first ∷ others) = last_ended 0 others
 
--- what the values say where all matches are wanted
+-- under `All`: the first value lists no pattern, and the value at index i + 1 those that match at position i
 pub record IsWalkOfAll (nfa : Nfa) (start : ℕ) (text : Text) (values : List Value) : Type 0 where
   pub count : length values ≡ length text.bytes + 2
   pub first : (v : Value) → slice_get values 0 ≡ Some v → v.patterns ≡ []
   pub matches : (i : ℕ) (v : Value) → slice_get values (suc i) ≡ Some v → ListsAccepted nfa text start i v.patterns
 
--- what they say where the most preferred match is wanted
+-- under `LeftmostFirst`: the last match is that of the most preferred run; if there is none, no run accepts; and
+-- each pattern that is listed is accepted by some run
 pub record IsLeftmostWalk (nfa : Nfa) (start : ℕ) (text : Text) (values : List Value) : Type 0 where
   pub count : length values ≡ length text.bytes + 2
   pub first : (v : Value) → slice_get values 0 ≡ Some v → v.patterns ≡ []

@@ -9,8 +9,8 @@ use Rattle.determinize_core.specs.Walk.{IsLeftmostWalk, IsWalkOfAll}
 use Rattle.determinize_core.specs.WalkStates.{RecordsReached}
 use Rattle.determinize_states.specs.Value.{Value}
 
--- the values of the walk from an NFA state over a text, what they say of whole runs, which NFA states
--- they record, and that each of them determines the rest
+-- the values of the walk from an NFA state over a text: by computation, by the runs that they list, by the NFA
+-- states that they record, and that each of them determines the rest
 pub record IsWalk (nfa : Nfa) (kind : MatchKind) (start : ℕ) (text : Text) (states : List Value) : Type 0 where
   pub values : states ≡ chain nfa kind start text
   pub all : kind ≡ kinds.All → IsWalkOfAll nfa start text states

@@ -34,7 +34,7 @@ automaton reverse terminator states = record {
   look_set_any = looks_of states;
 }
 
--- so many entries of the first, before the list
+-- the list with this number of entries put before it
 abbrev pub padded : ℕ → ℕ → List ℕ → List ℕ
 padded zero entry ids = ids
 padded (suc count) entry ids = entry ∷ padded count entry ids
@@ -67,7 +67,7 @@ n6 = automaton true 10 (byte 0x0A 1 ∷ Look StartCRLF 2 ∷ Match 0 ∷ [])
 abbrev pub n7 : Nfa
 n7 = automaton true 0x78 (Look StartLF 1 ∷ Match 0 ∷ [])
 
--- captures alone on a cycle
+-- a cycle of captures only
 abbrev pub n8 : Nfa
 n8 = automaton false 10 (byte 0x61 1 ∷ Capture 1 ∷ Look WordAscii 3 ∷ Match 0 ∷ [])
 
@@ -127,7 +127,7 @@ pub record AreCaptureRows : Type 0 where
   pub n8_cycle : HasNoCaptureCycle n8 → ⊥
   pub n14_none : HasNoCaptureCycle n14
 
--- as many zeros
+-- eight zeros
 abbrev pub eight_zeros : List ℕ
 eight_zeros = padded 8 0 []
 
@@ -144,7 +144,7 @@ abbrev pub IsRowOf : Nfa → MatchKind → ℕ → Text → List (List ℕ) → 
 IsRowOf nfa kind start text states match =
     (map spell (chain nfa kind start text) ≡ states) × (match_and_end (chain nfa kind start text) ≡ match)
 
--- the same of a text from what is behind it to the end of the input
+-- the same for a text without a byte ahead
 abbrev pub IsRow : Nfa → MatchKind → ℕ → Option ℕ → List ℕ → List (List ℕ) → Option (ℕ × ℕ) → Type 0
 IsRow nfa kind start behind bytes states match = IsRowOf nfa kind start (between behind bytes None) states match
 

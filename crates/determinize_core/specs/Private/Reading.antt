@@ -1,4 +1,4 @@
--- The first reading of a working list: which of its states matter, and for what.
+-- The first pass over a working list: which of its states are live, with a pattern or with a target.
 use Rattle.std.specs.Prelude.{◌≡◌, ℕ, ◌++◌, Bool, not, Option, None, Some, List, [], ◌∷◌, if◌then◌else◌, nat_eq}
 use Rattle.determinize_states.specs.Value.{Value, is_nonempty}
 use Rattle.determinize_below.specs.Members.{has_id}
@@ -17,15 +17,15 @@ use Rattle.determinize_core.specs.declared.determinize.working_list.Reading.TheV
 abbrev pub distinct : List ℕ → List ℕ
 distinct xs = fresh nat_eq none_held xs
 
--- the roots that the reading of a list gives: where the unit leads from its states, as far as they are read
+-- the targets on the unit of the states of a list, as far as they are read
 abbrev pub roots_of : Nfa → MatchKind → Option ℕ → List ℕ → List ℕ
 roots_of nfa kind u working = flat_map (target nfa u) (part_read kind (is_match nfa) working)
 
--- whether a state gives a pattern or a root
+-- whether a state is live: it has a pattern, or a target on the unit
 abbrev pub matters : Nfa → Option ℕ → ℕ → Bool
 matters nfa u s = is_match nfa s || is_nonempty (target nfa u s)
 
--- what reading a state adds to those that matter, each once
+-- what reading a state adds to the live states, each once
 abbrev pub gained : Nfa → Option ℕ → List ℕ → ℕ → List ℕ
 gained nfa u kept s = if matters nfa u s && not (has_id kept s) then s ∷ [] else []
 
@@ -41,7 +41,7 @@ pattern_read Nothing = None
 pattern_read (Target id) = None
 pattern_read (Match pattern) = Some pattern
 
--- a state was read: the states that matter, the targets and the builder have gained what it gives
+-- a state was read: the live states, the targets and the builder have gained what it gives
 pub record IsStateRead (nfa : Nfa) (u : Option ℕ) (id : ℕ) (kept kept_after targets targets_after : List ℕ) (value next : Value) : Type 0 where
   pub kept_are : kept_after ≡ kept ++ gained nfa u kept id
   pub targets_are : targets_after ≡ targets ++ flat_map (target nfa u) (gained nfa u kept id)

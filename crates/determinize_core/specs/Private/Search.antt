@@ -1,4 +1,4 @@
--- A search while it goes on, and how often it tries to add a state.
+-- A depth-first search while it runs, and how often it tries to add a state.
 use Rattle.std.specs.Prelude.{◌≡◌, ℕ, suc, ◌+◌, ◌<◌, ◌≤◌, ◌∷◌, ◌++◌, All, Bool, List, length, nat_eq}
 use Rattle.determinize_below.specs.declared.look.Look.{Look as Assertion}
 use Rattle.determinize_below.specs.Edges.{edges, reach_past}
@@ -7,27 +7,27 @@ use Rattle.determinize_below.specs.Nfa.{AllResolve, Nfa}
 use Rattle.determinize_below.specs.Private.Searching.{closure, search_tries}
 use Rattle.determinize_core.specs.Closure.{AddsBeginning}
 
--- the states of a search when it ends, from those met so far and those that are pending
+-- the states of a search when it ends, given those visited so far and those pending
 unfoldable pub search_end : Nfa → (Assertion → Bool) → List ℕ → List ℕ → List ℕ
 search_end nfa holds met pending = closure nat_eq (edges nfa holds) (length nfa.states + 1) met pending
 
--- how often it still tries to add a state
+-- the number of tries that are left
 unfoldable pub tries_left : Nfa → (Assertion → Bool) → List ℕ → List ℕ → ℕ
 tries_left nfa holds met pending = search_tries nat_eq (edges nfa holds) (length nfa.states + 1) met pending
 
--- one turn of a search: a pending state was met, after others, and new states are pending
+-- one iteration of a search: a pending state was visited, and new states are pending
 pub record IsTurn (nfa : Nfa) (holds : Assertion → Bool) (met after : List ℕ) (id : ℕ) (rest pending : List ℕ) : Type 0 where
   pub same : search_end nfa holds after pending ≡ search_end nfa holds met (id ∷ rest)
   pub fewer : tries_left nfa holds met (id ∷ rest) ≡ suc (tries_left nfa holds after pending)
   pub grown : (more : List ℕ) × (after ≡ met ++ more)
   pub below : All (λ s. s < length nfa.states) rest → All (λ s. s < length nfa.states) pending
 
--- a search from roots has ended: the set has gained what they lead to, and each try is counted
+-- a search from roots has ended: the set has gained the states reachable from them, and each try is counted
 pub record IsSearched (nfa : Nfa) (holds : Assertion → Bool) (roots : List ℕ) (old new : Members) (before now : ℕ) : Type 0 where
   pub set : new ≡ record old { ids = old.ids ++ reach_past nfa holds old.ids roots }
   pub counted : now ≡ before + tries_left nfa holds old.ids roots
 
--- a search from roots has ended, or has stopped for want of memory
+-- a search from roots has ended, or has stopped because an allocation failed
 pub record IsPartSearched (nfa : Nfa) (holds : Assertion → Bool) (roots : List ℕ) (old new : Members) (before now : ℕ) : Type 0 where
   pub set : AddsBeginning old new (reach_past nfa holds old.ids roots)
   pub resolve : (root : ℕ) (others : List ℕ) → roots ≡ root ∷ others → AllResolve nfa new.ids
