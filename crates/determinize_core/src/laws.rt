@@ -1,4 +1,4 @@
-//! Laws of walks, steps, searches and recording over the definitions, as public functions with empty bodies.
+//! Laws of walks, transitions and searches, as public functions with empty bodies.
 
 ghost use Rattle.std.specs.Prelude.{◌≡◌, ℕ, Bool, true, false, ◌||◌, ◌⊎◌, List, Some};
 ghost use Rattle.std.specs.Bool.{Decides};
@@ -16,42 +16,42 @@ ghost use Rattle.determinize_states.specs.Recording.{needs};
 
 use determinize_below::{Look, LookSet};
 
-/// The walk of an accepted NFA over a text, against whole runs. Where all matches are wanted, each
-/// value lists the patterns that runs accept before its unit, best run first. Where the most
-/// preferred match is wanted, the last value with a pattern ends the most preferred of all accepting
-/// runs, and without such a value no run accepts. Captures left out, the values but the last record
-/// the NFA states that runs reach by what is known there, or a beginning of their list where the
-/// most preferred match is wanted.
+/// The walk of an accepted NFA over a text corresponds to its runs over the text. Under
+/// `MatchKind::All`, each value lists the patterns of the runs that accept before its unit, the most
+/// preferred run first. Under `MatchKind::LeftmostFirst`, the last value with a pattern is at the end
+/// of the most preferred accepting run, and if there is none, no run accepts. Except for captures,
+/// the values but the last record the NFA states that runs reach by what is known there, or a prefix
+/// of this list under `MatchKind::LeftmostFirst`.
 pub fn walk_law()
     ensures runs { EachChainIsTrue }
     ensures records { EachChainReaches }
 {}
 
-/// A byte ahead of a text is one more byte of the text, short of the last state: the values with it
-/// ahead are all but the last of those over the text with this byte at its end.
+/// The values over a text with a byte ahead are those over the text with this byte appended, without
+/// the last.
 pub fn ahead_law()
     ensures { EachByteAheadIsNext }
 {}
 
-/// What the walk answers is determined by the runs: one list of patterns at each position, one most
-/// preferred match, and one list of the NFA states, captures left out, that runs reach at a
-/// position, by what is known there and by what is true.
+/// The runs determine one list of patterns at each position, one most preferred match, and, by what
+/// is known at a position or by what is true, one list of the NFA states that runs reach there,
+/// without captures.
 pub fn answer_law()
     ensures { EachAnswerIsOne }
 {}
 
-/// A search of an accepted NFA can go on with one more root, and a state of an NFA leads on without
-/// input or over a byte, not both, and never over the end of the input.
+/// A search of an accepted NFA can be continued from one more root. A state has epsilon edges or
+/// transitions on bytes, not both, and never a transition on EOI.
 pub fn search_law()
     ensures goes_on { EachReachGoesOn }
     ensures kinds { EachStateHasOneKind }
     ensures ends { NothingLeadsOverTheEnd }
 {}
 
-/// From each of its values a walk goes on as from the start. The dead value stays, and of the values
-/// that a step over an accepted NFA leaves it alone is empty, where no cycle of the NFA has captures
-/// alone. A value to which states were recorded has no assertion in look-have where it has none in
-/// look-need. Where the most preferred match is wanted, a step gives one pattern at most.
+/// From each of its values a walk continues as a walk that starts there. The dead value has only
+/// itself as the next one, and if no cycle of the NFA consists of captures, it is the only value
+/// after a transition without patterns and NFA states. A recorded value with empty look-need has
+/// empty look-have. Under `MatchKind::LeftmostFirst` a transition gives at most one pattern.
 pub fn step_law()
     ensures future { EachFutureFollows }
     ensures dead { DeadStays }
@@ -59,14 +59,14 @@ pub fn step_law()
     ensures leftmost { LeftmostGivesOne }
 {}
 
-/// A step from a value whose ids are states of the NFA tries to add a state to a set at most twice for
-/// each state of the NFA and for each of its edges that want no input.
+/// A transition from a value whose ids are states of the NFA tries to add a state to a set at most
+/// twice for each state and each epsilon edge of the NFA.
 pub fn tries_law()
     ensures { TriesAreFew }
 {}
 
-/// The walks of the program `rows` by the definitions: the bytes of their states, and pattern and
-/// end of their last match. Their NFAs pass every check.
+/// The examples of the program `rows`: the bytes of the states of each walk, and the pattern and end
+/// of its last match. Their NFAs pass every check.
 pub fn walk_rows_law()
     ensures accepted { rows.AreAccepted }
     ensures row_2 { rows.Row2 }
@@ -101,12 +101,12 @@ pub fn walk_rows_law()
     ensures ahead { ahead.AreAheadRows }
 {}
 
-/// A worked search into a set that holds a state: it takes no path through that state.
+/// An example of a search into a set with a state: it takes no path through that state.
 pub fn search_row_law()
     ensures { rows.Row22 }
 {}
 
-/// Where no closure is redone, what is found true adds nothing that is needed.
+/// If the closure is not computed again, the unit satisfies no further assertion of look-need.
 pub fn redo_law(
     reverse: bool,
     terminator: u8,
@@ -125,8 +125,8 @@ pub fn redo_law(
         ≡ has have look }
 {}
 
-/// The assertions that a list of states needs beside a set: an assertion is needed exactly where it
-/// is in the set or some state of the list tests it.
+/// An assertion is in a set with what a list of states needs if and only if it is in the set or some
+/// state of the list tests it.
 pub fn need_law(set: LookSet, look: Look)
     ensures { (nfa : Nfa) (xs : List ℕ)
         → Decides (has (needs nfa set xs) look)

@@ -1,7 +1,10 @@
 //! Determinization: from a Thompson NFA to the states of a DFA, one state at a time.
 //!
-//! [`determinize`] holds the steps, [`start`] the start kinds, and [`state`] a state as bytes. What
-//! callers may rely on beside the contracts stands in [`laws`], [`look_laws`] and [`state_laws`].
+//! [`determinize`] has the start state, transitions and walks, [`start`] the start kinds, and
+//! [`state`] the byte encoding of a state. [`laws`], [`look_laws`] and [`state_laws`] have facts
+//! that callers may use in addition to the contracts.
+//!
+//! A `Result` with `AllocError` is `Err` only if an allocation fails.
 #![tactic(auto)]
 
 pub mod determinize;

@@ -15,6 +15,9 @@ use std::alloc::{AllocError, Allocator};
 /// capture is skipped: its target is recorded by itself, so nothing is lost. Look-have is
 /// unchanged, so [`StateBuilderNFA::settle`] must be called after the last state.
 ///
+/// Unions and `Look` states are recorded although they have no transitions: the closure may be
+/// computed again from the recorded states, and then further paths may start in them.
+///
 /// On error the builder has the assertion, but not the state.
 #[inline(always)]
 pub fn add_state<N: Allocator, A: Allocator>(

@@ -1,8 +1,8 @@
-//! The epsilon closure: the states that a state leads to without input, in the order of preference.
+//! Epsilon closure: the NFA states reachable without input, in order of preference.
 //!
-//! All closures are made by one loop, [`explore`]: the next state is the one at hand or else the
-//! last of the stack, so that the first edge of a state is followed to its end before the second.
-//! The set is what stops it on cycles. A [`Recorder`] takes down each state that is new.
+//! One loop, [`explore`], computes all closures by depth-first search. Its next state is the current
+//! one or else the top of the stack, so the first edge of a state is followed to its end before the
+//! second. The set ends the search on cycles. A [`Recorder`] receives each new state.
 
 ghost use Rattle.std.specs.Prelude.{◌≡◌, ℕ, ◌+◌, ◌<◌, List, [], ◌∷◌, ◌++◌, None, false, fold, not, length, reverse, IfNone, IfSome, IfOk, OnOk, OnErr, IsOk, if◌then◌else◌};
 ghost use Rattle.std.specs.Option.{option_to_list};
@@ -24,11 +24,11 @@ use std::alloc::{AllocError, Allocator};
 use std::marker::Brand;
 use std::sync::ledger::{Blank, Ledger};
 
-/// What takes down the states that a search finds: nothing, or a builder.
+/// Receives the states that a search finds: a builder, or `()`, which ignores them.
 pub(crate) trait Recorder {
     ghost with_one: { Nfa → Self → ℕ → Self };
 
-    /// Takes down one state, after those before.
+    /// Records a state after those before.
     fn record<N: Allocator>(&mut self, nfa: &NFA<N>, id: StateID) -> Result<(), AllocError>
         requires { id < length nfa.now.states }
         ensures { OnOk result (self.new ≡ with_one nfa.now self.old id) };
@@ -52,7 +52,7 @@ impl<A: Allocator> Recorder for StateBuilderNFA<A> {
     }
 }
 
-/// One try to add a state to a set, which counts whether the state is new or not.
+/// Adds a state to the set and returns whether it is new. Counts one try, also if it is not new.
 #[inline(always)]
 fn visit<A: Allocator, L: Ledger>(set: &mut SparseSet<A>, id: StateID, steps: &mut Steps<L>) -> bool
     requires { id < set.old.capacity }
@@ -66,7 +66,7 @@ fn visit<A: Allocator, L: Ledger>(set: &mut SparseSet<A>, id: StateID, steps: &m
     set.insert(id)
 }
 
-/// The state to visit next: the one at hand, or else the last of the stack.
+/// Returns the state to visit next: the current one, or else the top of the stack.
 #[inline(always)]
 fn take_next<A: Allocator>(at_hand: Option<StateID>, stack: &mut Vec<StateID, A>) -> Option<StateID>
     ensures none { IfNone result (option_to_list at_hand ++ reverse stack.old.items ≡ []) }
@@ -80,7 +80,7 @@ fn take_next<A: Allocator>(at_hand: Option<StateID>, stack: &mut Vec<StateID, A>
     }
 }
 
-/// Puts ids on the stack so that the first of them comes off first.
+/// Pushes ids in reverse, so that the first of them is popped first.
 #[inline(always)]
 fn push_reversed<A: Allocator>(
     ids: &[StateID],
@@ -94,7 +94,7 @@ fn push_reversed<A: Allocator>(
     Ok(())
 }
 
-/// Takes the first alternate at hand, and puts the others on the stack.
+/// Returns the first alternate, if there is one, and pushes the others.
 #[inline(always)]
 fn take_alternates<A: Allocator>(
     alternates: &[StateID],
@@ -110,7 +110,7 @@ fn take_alternates<A: Allocator>(
     Ok(Some(*first))
 }
 
-/// Where a state leads without input: the first edge at hand, the others on the stack.
+/// Returns the target of the first epsilon edge of a state, and pushes the targets of the others.
 #[inline(always)]
 fn follow<N: Allocator, A: Allocator>(
     nfa: &NFA<N>,
@@ -140,8 +140,7 @@ fn follow<N: Allocator, A: Allocator>(
     }
 }
 
-/// Takes down a state, and answers where it leads without input. A state that is no epsilon state,
-/// as most are, leads nowhere.
+/// Records a state and follows its epsilon edges. Most states have none.
 #[inline(always)]
 fn record_and_follow<N: Allocator, A: Allocator, W: Recorder>(
     nfa: &NFA<N>,
@@ -163,7 +162,7 @@ fn record_and_follow<N: Allocator, A: Allocator, W: Recorder>(
     follow(nfa, id, look_have, stack)
 }
 
-/// One turn of a search: a pending state is visited and, where it is new, taken down and followed.
+/// Visits a state and, if it is new, records it and follows its epsilon edges.
 #[inline(always)]
 fn take_turn<N: Allocator, A: Allocator, W: Recorder, L: Ledger>(
     nfa: &NFA<N>,
@@ -194,8 +193,8 @@ fn take_turn<N: Allocator, A: Allocator, W: Recorder, L: Ledger>(
     }
 }
 
-/// Searches from the state at hand and from those on the stack, the last of them first. After a
-/// refusal the stack is left as it is.
+/// Searches from the state `first` and from those on the stack, the last of them first. On error
+/// the stack is not cleared.
 #[inline(always)]
 fn explore<N: Allocator, A: Allocator, W: Recorder, L: Ledger>(
     nfa: &NFA<N>,
@@ -225,8 +224,8 @@ fn explore<N: Allocator, A: Allocator, W: Recorder, L: Ledger>(
     Ok(())
 }
 
-/// Searches from the states on the stack, the first of them first. After a refusal the stack is
-/// left as it is.
+/// Searches from the states on the stack, the first of them first. On error the stack is not
+/// cleared.
 #[inline(always)]
 pub(crate) fn explore_all<N: Allocator, A: Allocator, W: Recorder, L: Ledger>(
     nfa: &NFA<N>,
@@ -251,7 +250,7 @@ pub(crate) fn explore_all<N: Allocator, A: Allocator, W: Recorder, L: Ledger>(
     explore(nfa, None, look_have, stack, set, recorder, steps)
 }
 
-/// The closure of one state, with a count that is let go.
+/// Adds the closure of a state, with a count of tries that is dropped.
 fn closure_from<N: Allocator, A: Allocator, L: Ledger>(
     nfa: &NFA<N>,
     start: StateID,
@@ -284,13 +283,13 @@ fn closure_from<N: Allocator, A: Allocator, L: Ledger>(
     result
 }
 
-/// Adds to the set the states that `start` leads to without input, itself included.
+/// Adds the epsilon closure of `start` to the set: `start` and what it reaches without input.
 ///
-/// They go after the set's own ids, in the order of preference: depth first, a union's earlier
-/// alternates first, a `Look` followed only where its assertion is in `look_have`. A state that
-/// the set holds is not followed. Only the stack can want memory, and from a state that is no
-/// epsilon state it wants none. The stack is empty afterwards, also after a refusal; the set then
-/// holds its old ids and a beginning of what would have been added.
+/// The states are added after those of the set in order of preference: depth first, the earlier
+/// alternates of a union first, and a `Look` state is followed only if its assertion is in
+/// `look_have`. A state that the set contains already is not followed. Only the stack allocates,
+/// and not if `start` has no epsilon edge. The stack is empty afterwards, also on error. On error
+/// the set has its old ids and a prefix of those that were to be added.
 pub fn epsilon_closure<N: Allocator, A: Allocator>(
     nfa: &NFA<N>,
     start: StateID,

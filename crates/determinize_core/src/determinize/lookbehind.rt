@@ -1,4 +1,4 @@
-//! What a new state is told of the byte behind it, in its builder.
+//! Look-behind: what the builder of a new state is set to for the byte before it.
 
 ghost use Rattle.std.specs.Prelude.{◌≡◌, ℕ, true, Option};
 ghost use Rattle.determinize_below.specs.Look.{has};
@@ -15,7 +15,7 @@ use determinize_looks::start::Start;
 use determinize_states::state::StateBuilderMatches;
 use std::alloc::Allocator;
 
-/// Sets the flags that a new state is told.
+/// Sets the flags of the look-behind.
 pub(crate) fn set_flags<A: Allocator>(told: Told, builder: &mut StateBuilderMatches<A>)
     ensures { builder.new ≡ with_flags builder.old told.from_word told.half_crlf }
 {
@@ -27,8 +27,8 @@ pub(crate) fn set_flags<A: Allocator>(told: Told, builder: &mut StateBuilderMatc
     }
 }
 
-/// Tells the builder of a start state what its start kind tells of the byte behind it: it adds to
-/// look-have and sets flags, and leaves the rest of the builder. It cannot fail.
+/// Sets the look-behind of a start state, given its start kind: adds to look-have the assertions
+/// that hold for any next unit, and sets flags. The rest of the builder is unchanged. Never fails.
 pub fn set_lookbehind_from_start<N: Allocator, A: Allocator>(
     nfa: &NFA<N>,
     start: &Start,

@@ -1,15 +1,14 @@
-//! A count of steps that takes no bytes.
+//! A count of steps that has size 0.
 
 ghost use Rattle.std.specs.Prelude.{◌≡◌, ℕ, ◌+◌, ◌<◌};
 
 use std::marker::Model;
 use std::sync::ledger::{Blank, Book, Ledger, Share};
 
-/// How many times a closure has tried to add a state to a set.
+/// The number of tries to add a state to a set, each try of an epsilon closure counted.
 ///
-/// It takes no bytes at run time, so no program can read it: it is there for contracts alone.
-/// Nothing but the closures of this crate counts it up. The parameter is the ledger that keeps
-/// the count.
+/// It has size 0 and no program can read it: only contracts use it. Only the closures of this crate
+/// increment it. The parameter is the ledger of the count.
 #[derive(Drop)]
 pub struct Steps<L: Ledger> {
     book: Book<L>,
@@ -25,7 +24,7 @@ impl<L: Ledger> Model for Steps<L> {
 }
 
 impl<L: Ledger> Steps<L> {
-    /// A count that stands at 0, kept in the ledger that the blank is for.
+    /// Returns a count of 0 in the ledger that the blank is for.
     pub fn new(blank: Blank) -> Steps<L>
         requires name { blank.name ≡ L.name }
         requires parts { blank.parts ≡ L.parts }
@@ -36,7 +35,7 @@ impl<L: Ledger> Steps<L> {
         Steps { book, share }
     }
 
-    /// One more try.
+    /// Counts one more try.
     pub(crate) fn tick(&mut self)
         ensures { self.new ≡ self.old + 1 }
     {

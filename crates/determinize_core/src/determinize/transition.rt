@@ -1,4 +1,7 @@
-//! One transition: the state of a DFA that follows a state over a unit of input.
+//! One transition: from a DFA state over a unit of input to the next state.
+//!
+//! The look-behind of the next state is set from the unit, the first reading of the working list
+//! adds the patterns and pushes the targets, and the closure of the targets adds the NFA states.
 
 ghost use Rattle.std.specs.Prelude.{◌≡◌, ◌+◌, ◌*◌, ◌<◌, ◌≤◌, ◌&&◌, [], length, IfOk, OnOk};
 ghost use Rattle.determinize_below.specs.Nfa.{AllResolve, IsAccepted};
@@ -21,7 +24,7 @@ use std::alloc::{AllocError, Allocator};
 use std::marker::Brand;
 use std::sync::ledger::{Blank, Ledger};
 
-/// What the next state is told of the unit that is read.
+/// Returns the look-behind of the next state, for the unit that is read.
 fn told_after<N: Allocator>(nfa: &NFA<N>, unit: Unit) -> Told
     ensures looks { result.looks ≡ have_after (tables_of nfa.now) (byte_of unit) }
     ensures from_word { result.from_word ≡ from_word_after (tables_of nfa.now) (byte_of unit) }
@@ -31,7 +34,7 @@ fn told_after<N: Allocator>(nfa: &NFA<N>, unit: Unit) -> Told
     LookTables::of(nfa).after(unit)
 }
 
-/// Starts a builder: it has what the unit tells, and no pattern and no flag yet.
+/// Returns a builder with the look-have of the next state, without patterns and flags.
 fn tell<A: Allocator>(
     told: Told,
     empty_builder: StateBuilderEmpty<A>,
@@ -43,7 +46,7 @@ fn tell<A: Allocator>(
     Ok(builder)
 }
 
-/// Sets the flags that the unit tells, where it leads on.
+/// Sets the flags of the look-behind if some state has a transition on the unit.
 fn set_flags<A: Allocator>(told: Told, leads_on: bool, builder: &mut StateBuilderMatches<A>)
     ensures { builder.new
         ≡ with_flags builder.old (leads_on && told.from_word) (leads_on && told.half_crlf) }
@@ -53,7 +56,7 @@ fn set_flags<A: Allocator>(told: Told, leads_on: bool, builder: &mut StateBuilde
     }
 }
 
-/// One transition. After a refusal the stack is left as it is.
+/// Returns the next state in a builder. On error the stack is not cleared.
 #[inline(never)]
 fn transition<N: Allocator, A: Allocator, L: Ledger>(
     nfa: &NFA<N>,
@@ -88,7 +91,8 @@ fn transition<N: Allocator, A: Allocator, L: Ledger>(
         &mut builder,
         steps,
     )?;
-    // A state in which nothing is entered has no flag, whatever the unit is.
+    // Without targets there is nothing that could use the flags, and setting them would make
+    // different states of what is one: the dead state, or the same matches and nothing else.
     set_flags(told, !stack.is_empty(), &mut builder);
     let mut builder = builder.into_nfa();
     let set = &mut sparses.set2;
@@ -97,12 +101,11 @@ fn transition<N: Allocator, A: Allocator, L: Ledger>(
     Ok(builder)
 }
 
-/// The same as [`next`], with a count of the tries to add a state to a set.
+/// Returns the same as [`next`], and counts the tries to add a state to a set.
 ///
-/// `steps` counts the tries of the closures of the working list and of the states entered: a number
-/// that the NFA, the match kind, the state and the unit determine, and no more than twice the number
-/// of the NFA's states and of their edges that take no input. After a refusal it has grown by no
-/// more than that bound.
+/// `steps` grows by the tries of all closures of the transition. The NFA, the match kind, the state
+/// and the unit determine this number, and it is at most twice the number of states and epsilon
+/// edges of the NFA. On error too, `steps` grows by no more than that.
 pub fn next_counted<N: Allocator, A: Allocator, L: Ledger>(
     nfa: &NFA<N>,
     match_kind: MatchKind,
@@ -139,7 +142,7 @@ pub fn next_counted<N: Allocator, A: Allocator, L: Ledger>(
     result
 }
 
-/// The same, with a count that is let go.
+/// Returns the same as [`next`], with a count of tries that is dropped.
 fn next_from<N: Allocator, A: Allocator, L: Ledger>(
     nfa: &NFA<N>,
     match_kind: MatchKind,
@@ -175,18 +178,18 @@ fn next_from<N: Allocator, A: Allocator, L: Ledger>(
     )
 }
 
-/// The state that follows a state over a unit of input, in a builder.
+/// Returns the state after a state over a unit of input, in a builder.
 ///
-/// - `sparses` and `stack` are scratch: both sets have the NFA's number of states as their
-///   capacity, and what they hold before the call does not matter; the stack is empty before the
-///   call. All of this stands after the call too, also after a refusal.
-/// - `state` is the state to leave, and its ids are states of the NFA.
-/// - `unit` is the byte that is read next, or the end of the input.
+/// - `sparses` and `stack` are scratch: both sets have the number of states of the NFA as their
+///   capacity, and any contents; the stack is empty. All of this is true again afterwards, also on
+///   error.
+/// - `state` is the current state, and its ids are states of the NFA.
+/// - `unit` is the next byte, or EOI.
 ///
-/// A match is told one unit late: the next state lists the patterns that match where the unit is
-/// read, before it. These are all of them, best first, where all matches are wanted, and the first
-/// of them else. The next state then records where the unit leads, in ids of states of the NFA.
-/// The only error is want of memory, and the builder is given up then.
+/// Matches are delayed by one unit: the next state lists the patterns that match before the unit.
+/// These are all of them, most preferred first, under `MatchKind::All`, and the first of them under
+/// `MatchKind::LeftmostFirst`. Its NFA states are the closure of the targets of the unit. On error
+/// the builder is dropped.
 pub fn next<N: Allocator, A: Allocator>(
     nfa: &NFA<N>,
     match_kind: MatchKind,

@@ -1,4 +1,4 @@
-//! A whole walk: the states of a DFA over a text, from the start state on.
+//! The start state, and walks: the states of a DFA over a text, from the start state on.
 
 ghost use Rattle.std.specs.Prelude.{◌≡◌, ◌<◌, ◌∷◌, ◌++◌, [], None, length, IfOk, OnOk};
 ghost use Rattle.determinize_below.specs.Nfa.{AllResolve};
@@ -18,15 +18,14 @@ use determinize_states::recording::add_nfa_states;
 use determinize_states::state::{State, StateBuilderEmpty, StateBuilderNFA};
 use std::alloc::{AllocError, Allocator};
 
-/// The state before the first unit, in a builder: where a search stands that starts in an NFA state
-/// and has read nothing yet.
+/// Returns the state before the first unit, in a builder.
 ///
-/// - `start` is the id of the NFA state to start from, below the number of states.
-/// - `look_behind` is the byte that is read just before, or none where nothing stands there.
+/// - `start` is the NFA state to start from, below the number of states.
+/// - `look_behind` is the byte before the text, `None` at the start of the haystack.
 /// - `sparses` and `stack` are scratch, as in [`next`].
 ///
-/// It lists no pattern. It knows what the byte behind it tells, and records what `start` leads to
-/// without input. The only error is want of memory, and the builder is given up then.
+/// The state has the look-behind for that byte and the epsilon closure of `start`. It lists no
+/// pattern, since matches are delayed by one unit. On error the builder is dropped.
 pub fn start_state<N: Allocator, A: Allocator>(
     nfa: &NFA<N>,
     start: StateID,
@@ -51,10 +50,9 @@ pub fn start_state<N: Allocator, A: Allocator>(
     Ok(builder)
 }
 
-/// Walks a text to the end of the input: [`walk_between`] with no byte ahead.
+/// Returns the states over a text that ends the haystack: [`walk_between`] with no byte ahead.
 ///
-/// All that is said there holds, and the last state records no NFA states, since nothing is read
-/// after the end of the input.
+/// The last state has no NFA states, since no state has a transition on EOI.
 pub fn walk<N: Allocator, A: Allocator + Copy>(
     alloc: A,
     nfa: &NFA<N>,
@@ -70,27 +68,24 @@ pub fn walk<N: Allocator, A: Allocator + Copy>(
     walk_between(alloc, nfa, match_kind, start, look_behind, text, None)
 }
 
-/// Walks a text that may be a part of a haystack: the state at the start of a search, and after it
-/// the state that follows over each byte and, last, over what stands ahead of the text.
+/// Returns the states over a text that may be a part of a haystack: the start state, then the state
+/// after each byte, and last the state after the byte ahead of the text or EOI.
 ///
-/// - `start` is the id of the NFA state to start from, below the number of states. It may be any
-///   state, and is mostly one of the NFA's two start states.
-/// - `text` holds the bytes in the order in which they are read: an NFA that reads backwards gets
-///   its haystack from the end.
-/// - `look_behind` is the byte that is read just before the text, or none where the text begins at
-///   an end of the haystack.
-/// - `look_ahead` is the byte that would be read just after the text, or none where the text ends
-///   at the other end of the haystack. It is looked at and not read: no match goes on over it.
+/// - `start` is the NFA state to start from, below the number of states. It may be any state, and
+///   is mostly one of the two start states.
+/// - `text` is the bytes in scan order: a reverse NFA takes them from the end of the haystack.
+/// - `look_behind` is the byte before the text in scan order, `None` at an end of the haystack.
+/// - `look_ahead` is the byte after the text in scan order, `None` at an end of the haystack. It is
+///   only peeked: no match contains it.
 ///
-/// There are `text.len() + 2` states. A match is told one unit late: the state at index `j` lists
-/// the patterns that match at position `j - 1` of the text, and the first state lists none. Where
-/// all matches are wanted these are all the patterns with a match that ends there, the most
-/// preferred first. Where the leftmost match is wanted, the last state that lists a pattern lists
-/// one, and this is the pattern and the end of the most preferred match; where no state lists any
-/// pattern, there is no match.
+/// There are `text.len() + 2` states. Matches are delayed by one unit: the state at index `j` lists
+/// the patterns that match at position `j - 1` of the text, and the start state lists none. Under
+/// `MatchKind::All` these are all patterns with a match that ends there, most preferred first. Under
+/// `MatchKind::LeftmostFirst` a state lists at most one pattern, and the last one listed is the
+/// pattern of the most preferred match, which ends there. If no state lists a pattern, there is no
+/// match.
 ///
-/// All memory of the answer and of the work is taken of `alloc`. The only error is want of memory,
-/// and no state is kept then.
+/// The states and all scratch memory are allocated from `alloc`.
 pub fn walk_between<N: Allocator, A: Allocator + Copy>(
     alloc: A,
     nfa: &NFA<N>,
@@ -134,7 +129,7 @@ pub fn walk_between<N: Allocator, A: Allocator + Copy>(
     Ok(states)
 }
 
-/// Finishes the state in the builder, puts it after the others, and leaves it over a unit.
+/// Pushes the state in the builder, and returns the state after it over a unit.
 fn advance<N: Allocator, A: Allocator + Clone>(
     nfa: &NFA<N>,
     match_kind: MatchKind,
@@ -158,7 +153,7 @@ fn advance<N: Allocator, A: Allocator + Clone>(
     Ok(after)
 }
 
-/// Leaves the last state of a walk over the last unit, and gives all of its states.
+/// Returns all states of a walk, given all but the last two.
 fn finish<N: Allocator, A: Allocator + Clone>(
     nfa: &NFA<N>,
     match_kind: MatchKind,
@@ -177,7 +172,7 @@ fn finish<N: Allocator, A: Allocator + Clone>(
     with_last(states, last)
 }
 
-/// The states of a walk, with the one in the builder after them.
+/// Returns the states of a walk with the one in the builder after them.
 fn with_last<A: Allocator + Clone>(
     mut states: Vec<State<A>, A>,
     last: StateBuilderNFA<A>,
@@ -188,13 +183,11 @@ fn with_last<A: Allocator + Clone>(
     Ok(states)
 }
 
-/// The last match that the states of a walk tell: the first pattern of the last state that lists
-/// one, and where the match ends. None where no state lists any.
+/// Returns the last match of a walk: the first pattern of the last state that lists one, and the end
+/// of the match. `None` if no state lists a pattern.
 ///
-/// The first state stands before the first unit and lists no pattern, so it is passed over. The
-/// offset is the number of bytes that were read before the end of the match. For the states of a
-/// walk under `MatchKind::LeftmostFirst` these are the pattern and the end of the most preferred
-/// match.
+/// The start state, which lists no pattern, is skipped. The offset is the number of bytes before
+/// the end of the match. Under `MatchKind::LeftmostFirst` this is the most preferred match.
 pub fn last_match<A: Allocator>(states: &[State<A>]) -> Option<HalfMatch>
     ensures { result ≡ specs_of_walks.last_match states.now }
 {

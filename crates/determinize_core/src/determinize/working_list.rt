@@ -1,8 +1,8 @@
 //! The working list of a transition, and its first reading.
 //!
-//! The working list is what a transition reads: the NFA states that a state records, each once, or
-//! what they lead to where the unit makes an assertion true that they need. The first reading finds
-//! the patterns, and the targets: where the unit leads. It puts these on the stack, in order.
+//! The working list is the NFA states of a DFA state, each once, or their closure if the unit
+//! satisfies an assertion that they need. The first reading adds the patterns of the `Match` states
+//! to the builder and pushes the targets, the states after the others over the unit, in order.
 
 ghost use Rattle.std.specs.Prelude.{◌≡◌, ℕ, ◌+◌, ◌<◌, ◌≤◌, List, [], All, Option, Some, false, length, nat_eq, is_some, not, IfOk, IfSome, OnOk, ◌&&◌, ◌||◌};
 ghost use Rattle.std.specs.Iterator.{IsFinite, YieldsFirst};
@@ -31,18 +31,18 @@ use determinize_states::state::{NfaStateIds, State, StateBuilderMatches};
 use std::alloc::{AllocError, Allocator};
 use std::sync::ledger::Ledger;
 
-/// What a state of the NFA gives to the first reading.
+/// What the first reading finds in an NFA state.
 #[derive(Clone, Copy)]
 pub(crate) enum Reading {
-    /// No pattern, and the unit does not lead on from it.
+    /// No pattern, and no transition on the unit.
     Nothing,
-    /// Where the unit leads.
+    /// The target of its transition on the unit.
     Target(StateID),
-    /// The pattern that it accepts.
+    /// The pattern that matches.
     Match(PatternID),
 }
 
-/// Reads a state of the NFA: its pattern, or where it leads over a unit.
+/// Returns the pattern of an NFA state, or its target over a unit.
 #[inline(always)]
 fn read<N: Allocator>(nfa: &NFA<N>, id: StateID, unit: Unit) -> Reading
     requires { id < length nfa.now.states }
@@ -62,7 +62,7 @@ fn read<N: Allocator>(nfa: &NFA<N>, id: StateID, unit: Unit) -> Reading
     }
 }
 
-/// Puts the NFA states of a state on the empty stack, each once, by an empty set.
+/// Pushes the NFA states of a state, each once. Stack and set are empty before.
 fn collect_states<A: Allocator>(
     state: &State<A>,
     set: &mut SparseSet<A>,
@@ -82,17 +82,18 @@ fn collect_states<A: Allocator>(
     Ok(())
 }
 
-/// Whether something that was found true is needed and isn't in look-have.
+/// Returns whether the unit satisfies an assertion that is in look-need and not in look-have.
 fn is_redone(found: LookSet, have: LookSet, need: LookSet) -> bool
     ensures { result ≡ specs_of_steps.is_redone (has found) have need }
 {
-    // The bits are read for the proof alone: they tell that both sets are below 2^18.
+    // Only for the proof: the contract of `as_repr` says that both sets are below 2^18.
     let _bits = (found.as_repr(), have.as_repr());
     !found.subtract(have).intersect(need).is_empty()
 }
 
-/// The assertions under which the working list is closed again over a unit, where it is: the unit
-/// makes something true that the state needs and does not have.
+/// Returns the assertions for a new closure of the working list: look-have and those that the unit
+/// satisfies. `None` if the unit satisfies no further assertion of look-need, so that the recorded
+/// states are closed already.
 fn look_again_over<N: Allocator, A: Allocator>(
     nfa: &NFA<N>,
     state: &State<A>,
@@ -112,8 +113,8 @@ fn look_again_over<N: Allocator, A: Allocator>(
     is_redone(found, have, need).then_some(have.union(found))
 }
 
-/// Reads one state: its pattern or its target is new where the state was not kept before. Answers
-/// whether the reading stops there, at a match after which no match matters.
+/// Reads one state: adds its pattern, or pushes its target, unless the state was read before.
+/// Returns whether the reading stops: at a match, under `MatchKind::LeftmostFirst`.
 #[inline(always)]
 fn read_state<N: Allocator, A: Allocator>(
     nfa: &NFA<N>,
@@ -151,7 +152,7 @@ fn read_state<N: Allocator, A: Allocator>(
     }
 }
 
-/// The ids of a list, in order.
+/// An iterator over a list of ids, in order.
 pub(crate) trait Ids: Iterator<Item = StateID> + Drop {
     ghost left: { Self → List ℕ };
 
@@ -170,8 +171,7 @@ impl<'a> Ids for SparseSetIter<'a> {
     ghost gives = { λ s t id h. h };
 }
 
-/// Reads the states of a list, a later repeat of which is passed over: the empty stack gets the
-/// targets, and the builder the patterns.
+/// Reads the states of a list: pushes the targets and adds the patterns. Repeats are skipped.
 #[inline(always)]
 fn read_states<N: Allocator, A: Allocator, I: Ids>(
     nfa: &NFA<N>,
@@ -203,8 +203,7 @@ fn read_states<N: Allocator, A: Allocator, I: Ids>(
     Ok(())
 }
 
-/// The first reading of the working list: the builder gets its patterns, and the empty stack its
-/// targets.
+/// Reads the working list: adds its patterns to the builder and pushes its targets.
 #[inline(always)]
 pub(crate) fn read_working_list<N: Allocator, A: Allocator, L: Ledger>(
     nfa: &NFA<N>,
