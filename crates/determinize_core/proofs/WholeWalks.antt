@@ -1,9 +1,8 @@
 -- The values of a chain are what a walk returns.
-use Rattle.std.proofs.Common.{◌≡◌, ◌<◌, ℕ, All, List, length, refl, subst, sym}
-use Rattle.determinize_below.specs.Nfa.{AllResolve, IsAccepted, Nfa}
+use Rattle.std.proofs.Common.{◌≡◌, ◌<◌, ℕ, List, length, refl, subst, sym}
+use Rattle.determinize_below.specs.Nfa.{IsAccepted, Nfa}
 use Rattle.determinize_below.specs.Positions.{Text}
 use Rattle.determinize_below.specs.declared.search.MatchKind.{MatchKind}
-use Rattle.determinize_below.specs.declared.search.MatchKind.TheVariants as kinds
 use Rattle.determinize_core.specs.Chain.{chain}
 use Rattle.determinize_core.specs.Walk.{IsLeftmostWalk, IsWalkOfAll}
 use Rattle.determinize_core.specs.WholeWalk.{IsWalk}

@@ -68,33 +68,19 @@ fn visit<A: Allocator, L: Ledger>(set: &mut SparseSet<A>, id: StateID, steps: &m
 
 /// Returns the state to visit next: the current one, or else the top of the stack.
 #[inline(always)]
-fn take_next<A: Allocator>(at_hand: Option<StateID>, stack: &mut Vec<StateID, A>) -> Option<StateID>
-    ensures none { IfNone result (option_to_list at_hand ++ reverse stack.old.items ≡ []) }
+fn take_next<A: Allocator>(current: Option<StateID>, stack: &mut Vec<StateID, A>) -> Option<StateID>
+    ensures none { IfNone result (option_to_list current ++ reverse stack.old.items ≡ []) }
     ensures empty { IfNone result (stack.new.items ≡ []) }
-    ensures some { IfSome result (λ id. option_to_list at_hand ++ reverse stack.old.items
+    ensures some { IfSome result (λ id. option_to_list current ++ reverse stack.old.items
         ≡ id ∷ reverse stack.new.items) }
 {
-    match at_hand {
+    match current {
         Some(id) => Some(id),
         None => stack.pop(),
     }
 }
 
-/// Pushes ids in reverse, so that the first of them is popped first.
-#[inline(always)]
-fn push_reversed<A: Allocator>(
-    ids: &[StateID],
-    stack: &mut Vec<StateID, A>,
-) -> Result<(), AllocError>
-    ensures { OnOk result (stack.new.items ≡ stack.old.items ++ reverse ids.now) }
-{
-    for id in ids.iter().rev().copied() {
-        stack.push(id)?;
-    }
-    Ok(())
-}
-
-/// Returns the first alternate, if there is one, and pushes the others.
+/// Returns the first alternate, if there is one, and pushes the others, the last of them first.
 #[inline(always)]
 fn take_alternates<A: Allocator>(
     alternates: &[StateID],
@@ -106,7 +92,9 @@ fn take_alternates<A: Allocator>(
     let Some((first, others)) = alternates.split_first() else {
         return Ok(None);
     };
-    push_reversed(others, stack)?;
+    for id in others.iter().rev().copied() {
+        stack.push(id)?;
+    }
     Ok(Some(*first))
 }
 
@@ -123,13 +111,7 @@ fn follow<N: Allocator, A: Allocator>(
         ≡ edges nfa.now (has look_have) id ++ reverse stack.old.items) }
 {
     match nfa.state(id) {
-        State::Look { look, next } => {
-            if look_have.contains(*look) {
-                Ok(Some(*next))
-            } else {
-                Ok(None)
-            }
-        }
+        State::Look { look, next } => Ok(look_have.contains(*look).then_some(*next)),
         State::Union { alternates } => take_alternates(alternates.as_slice(), stack),
         State::BinaryUnion { alt1, alt2 } => {
             stack.push(*alt2)?;
@@ -138,28 +120,6 @@ fn follow<N: Allocator, A: Allocator>(
         State::Capture { next } => Ok(Some(*next)),
         _ => Ok(None),
     }
-}
-
-/// Records a state and follows its epsilon edges. Most states have none.
-#[inline(always)]
-fn record_and_follow<N: Allocator, A: Allocator, W: Recorder>(
-    nfa: &NFA<N>,
-    id: StateID,
-    look_have: LookSet,
-    stack: &mut Vec<StateID, A>,
-    recorder: &mut W,
-) -> Result<Option<StateID>, AllocError>
-    requires { id < length nfa.now.states }
-    ensures pending { IfOk result (λ next. option_to_list next ++ reverse stack.new.items
-        ≡ edges nfa.now (has look_have) id ++ reverse stack.old.items) }
-    ensures recorded { OnOk result (recorder.new ≡ W.with_one nfa.now recorder.old id) }
-{
-    if !nfa.state(id).is_epsilon() {
-        recorder.record(nfa, id)?;
-        return Ok(None);
-    }
-    recorder.record(nfa, id)?;
-    follow(nfa, id, look_have, stack)
 }
 
 /// Visits a state and, if it is new, records it and follows its epsilon edges.
@@ -186,17 +146,17 @@ fn take_turn<N: Allocator, A: Allocator, W: Recorder, L: Ledger>(
     ensures resolve { AllResolve nfa.now set.new.ids }
     ensures counted { steps.new ≡ steps.old + 1 }
 {
-    if visit(set, id, steps) {
-        record_and_follow(nfa, id, look_have, stack, recorder)
-    } else {
-        Ok(None)
+    if !visit(set, id, steps) {
+        return Ok(None);
     }
+    recorder.record(nfa, id)?;
+    follow(nfa, id, look_have, stack)
 }
 
-/// Searches from the state `first` and from those on the stack, the last of them first. On error
-/// the stack is not cleared.
+/// Searches from the state `first`, if there is one, and then from the states on the stack, the
+/// first of them first. On error the stack is not cleared.
 #[inline(always)]
-fn explore<N: Allocator, A: Allocator, W: Recorder, L: Ledger>(
+pub(crate) fn explore<N: Allocator, A: Allocator, W: Recorder, L: Ledger>(
     nfa: &NFA<N>,
     first: Option<StateID>,
     look_have: LookSet,
@@ -206,48 +166,23 @@ fn explore<N: Allocator, A: Allocator, W: Recorder, L: Ledger>(
     steps: &mut Steps<L>,
 ) -> Result<(), AllocError>
     requires accepted { IsAccepted nfa.now }
-    requires resolve { AllResolve nfa.now (option_to_list first ++ reverse stack.old.items) }
+    requires resolve { AllResolve nfa.now (option_to_list first ++ stack.old.items) }
     requires capacity { set.old.capacity ≡ length nfa.now.states }
     ensures ok { OnOk result (IsSearched nfa.now (has look_have)
-        (option_to_list first ++ reverse stack.old.items) set.old set.new steps.old steps.new) }
+        (option_to_list first ++ stack.old.items) set.old set.new steps.old steps.new) }
     ensures recorded { OnOk result (recorder.new ≡ fold (W.with_one nfa.now) recorder.old
         (reach_past nfa.now (has look_have) set.old.ids
-        (option_to_list first ++ reverse stack.old.items))) }
+        (option_to_list first ++ stack.old.items))) }
     ensures part { IsPartSearched nfa.now (has look_have)
-        (option_to_list first ++ reverse stack.old.items) set.old set.new steps.old steps.new }
-    ensures stack { OnOk result (stack.new.items ≡ []) }
-{
-    let mut at_hand = first;
-    while let Some(id) = take_next(at_hand, stack) {
-        at_hand = take_turn(nfa, id, look_have, stack, set, recorder, steps)?;
-    }
-    Ok(())
-}
-
-/// Searches from the states on the stack, the first of them first. On error the stack is not
-/// cleared.
-#[inline(always)]
-pub(crate) fn explore_all<N: Allocator, A: Allocator, W: Recorder, L: Ledger>(
-    nfa: &NFA<N>,
-    look_have: LookSet,
-    stack: &mut Vec<StateID, A>,
-    set: &mut SparseSet<A>,
-    recorder: &mut W,
-    steps: &mut Steps<L>,
-) -> Result<(), AllocError>
-    requires accepted { IsAccepted nfa.now }
-    requires resolve { AllResolve nfa.now stack.old.items }
-    requires capacity { set.old.capacity ≡ length nfa.now.states }
-    ensures ok { OnOk result (IsSearched nfa.now (has look_have) stack.old.items set.old set.new
-        steps.old steps.new) }
-    ensures recorded { OnOk result (recorder.new ≡ fold (W.with_one nfa.now) recorder.old
-        (reach_past nfa.now (has look_have) set.old.ids stack.old.items)) }
-    ensures part { IsPartSearched nfa.now (has look_have) stack.old.items set.old set.new
-        steps.old steps.new }
+        (option_to_list first ++ stack.old.items) set.old set.new steps.old steps.new }
     ensures stack { OnOk result (stack.new.items ≡ []) }
 {
     stack.reverse();
-    explore(nfa, None, look_have, stack, set, recorder, steps)
+    let mut current = first;
+    while let Some(id) = take_next(current, stack) {
+        current = take_turn(nfa, id, look_have, stack, set, recorder, steps)?;
+    }
+    Ok(())
 }
 
 /// Adds the closure of a state, with a count of tries that is dropped.

@@ -13,7 +13,7 @@ ghost use Rattle.determinize_core.specs.Step.{step};
 ghost use Rattle.determinize_core.specs.Tries.{edges_in_all, tries};
 ghost use Rattle.determinize_states.specs.Value.{dead, with_flags};
 
-use crate::determinize::closure::explore_all;
+use crate::determinize::closure::explore;
 use crate::determinize::lookbehind;
 use crate::determinize::steps::Steps;
 use crate::determinize::working_list::read_working_list;
@@ -96,7 +96,7 @@ fn transition<N: Allocator, A: Allocator, L: Ledger>(
     set_flags(told, !stack.is_empty(), &mut builder);
     let mut builder = builder.into_nfa();
     let set = &mut sparses.set2;
-    explore_all(nfa, told.looks, stack, set, &mut builder, steps)?;
+    explore(nfa, None, told.looks, stack, set, &mut builder, steps)?;
     builder.settle();
     Ok(builder)
 }

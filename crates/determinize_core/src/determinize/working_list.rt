@@ -21,7 +21,7 @@ ghost use Rattle.determinize_core.specs.Step.{distinct_states, is_reopened, open
 ghost use Rattle.determinize_core.specs.Tries.{tries_again};
 ghost use Rattle.determinize_core.specs.Private.Changes.{with_patterns};
 
-use crate::determinize::closure::explore_all;
+use crate::determinize::closure::explore;
 use crate::determinize::steps::Steps;
 use determinize_below::{
     LookSet, MatchKind, NFA, PatternID, SparseSet, SparseSetIter, SparseSets, StateID, Unit, nfa,
@@ -235,7 +235,7 @@ pub(crate) fn read_working_list<N: Allocator, A: Allocator, L: Ledger>(
         return read_states(nfa, match_kind, ids, unit, set1, stack, builder);
     };
     collect_states(state, set1, stack)?;
-    explore_all(nfa, look_have, stack, set2, &mut (), steps)?;
+    explore(nfa, None, look_have, stack, set2, &mut (), steps)?;
     set1.clear();
     read_states(nfa, match_kind, set2.iter(), unit, set1, stack, builder)?;
     set2.clear();

@@ -1,6 +1,6 @@
 use Rattle.std.proofs.Common.{◌≡◌, ◌∙◌, ◌++◌, [], ℕ, List, ap, append_assoc, fold, inl, inr, refl, reverse, subst, sym}
 use Rattle.std.specs.Option.{option_to_list}
-use Rattle.std.proofs.lemmas.List.{append-nil, append_cancel_left}
+use Rattle.std.proofs.lemmas.List.{append-nil, append_cancel_left, reverse-reverse}
 use Rattle.std.proofs.lemmas.List.Sums.{fold-append}
 use Rattle.determinize_below.specs.Edges.{reach_past}
 use Rattle.determinize_below.specs.Look.{has}
@@ -11,45 +11,49 @@ use Rattle.determinize_core.proofs.determinize.closure.explore.Goals as goal
 
 pub loop-id-init : goal.loop-id-init
 loop-id-init g c =
+    let roots : List ℕ = option_to_list c.args.first ++ c.args.stack.now.items in
+    let back : option_to_list c.args.first ++ reverse c.reverse.new.self.items ≡ roots =
+    ap (λ (l : List ℕ). option_to_list c.args.first ++ l) (ap (λ (l : List ℕ). reverse l) c.reverse.ensures.items ∙ reverse-reverse c.args.stack.now.items) in
     record {
-      so_far = so_far-start c.args.nfa.now (accepted_sound c.args.nfa.now c.requires.accepted) (has c.args.look_have) c.args.set.now.ids _ c.args.steps.now c.requires.resolve;
+      so_far = subst (λ (l : List ℕ). IsSoFar c.args.nfa.now (has c.args.look_have) c.args.set.now.ids roots c.args.set.now.ids l c.args.steps.now c.args.steps.now) (sym back)
+          (so_far-start c.args.nfa.now (accepted_sound c.args.nfa.now c.requires.accepted) (has c.args.look_have) c.args.set.now.ids roots c.args.steps.now c.requires.resolve);
       recorded = ([], sym (append-nil c.args.set.now.ids), refl);
       capacity = refl;
-      resolve = inl refl;
+      resolve = inl back;
     }
 
 pub loop-id-preserved : goal.loop-id-preserved
 loop-id-preserved g c =
     let sound = accepted_sound c.args.nfa.now c.requires.accepted in
-    let turn = c.in_ok-at_hand.ensures.turn in
+    let turn = c.in_ok-current.ensures.turn in
     let recorded = c.loop-id.invariant.recorded in
     let rest = reverse c.take_next.new.stack.items in
-    let next : IsTurn c.args.nfa.now (has c.args.look_have) c.loop-id.set.ids c.take_turn.new.set.ids c.in-Some.id rest (option_to_list c.in_ok-at_hand.at_hand ++ reverse c.take_turn.new.stack.items) =
+    let next : IsTurn c.args.nfa.now (has c.args.look_have) c.loop-id.set.ids c.take_turn.new.set.ids c.in-Some.id rest (option_to_list c.in_ok-current.current ++ reverse c.take_turn.new.stack.items) =
     subst (λ (l : List ℕ). IsTurn c.args.nfa.now (has c.args.look_have) c.loop-id.set.ids c.take_turn.new.set.ids c.in-Some.id rest l) (sym turn.4.0) turn.2 in
     record {
-      so_far = subst (λ (n : ℕ). IsSoFar c.args.nfa.now (has c.args.look_have) c.args.set.now.ids (option_to_list c.args.first ++ reverse c.args.stack.now.items) c.take_turn.new.set.ids (option_to_list c.in_ok-at_hand.at_hand ++ reverse c.take_turn.new.stack.items) c.args.steps.now n) (sym c.in_ok-at_hand.ensures.counted)
+      so_far = subst (λ (n : ℕ). IsSoFar c.args.nfa.now (has c.args.look_have) c.args.set.now.ids (option_to_list c.args.first ++ c.args.stack.now.items) c.take_turn.new.set.ids (option_to_list c.in_ok-current.current ++ reverse c.take_turn.new.stack.items) c.args.steps.now n) (sym c.in_ok-current.ensures.counted)
           (so_far-turn c.args.nfa.now sound (has c.args.look_have) c.args.set.now.ids _ _ _ _ _ c.loop-id.invariant.so_far _ _ rest c.in-Some.id c.in-Some.ensures.some next);
       recorded = (
         recorded.0 ++ turn.1,
         turn.3 ∙ ap (λ (l : List ℕ). l ++ turn.1) recorded.1 ∙ append_assoc c.args.set.now.ids recorded.0 turn.1,
         turn.4.1 ∙ ap (λ r. fold (g.W.Recorder.with_one c.args.nfa.now) r turn.1) recorded.2 ∙ sym (fold-append (g.W.Recorder.with_one c.args.nfa.now) c.args.recorder.now recorded.0 turn.1),
       );
-      capacity = c.in_ok-at_hand.ensures.capacity ∙ c.loop-id.invariant.capacity;
-      resolve = inr c.in_ok-at_hand.ensures.resolve;
+      capacity = c.in_ok-current.ensures.capacity ∙ c.loop-id.invariant.capacity;
+      resolve = inr c.in_ok-current.ensures.resolve;
     }
 
-pub returns-in_err-at_hand-clause-part : goal.returns-in_err-at_hand-clause-part
-returns-in_err-at_hand-clause-part g c =
+pub returns-in_err-current-clause-part : goal.returns-in_err-current-clause-part
+returns-in_err-current-clause-part g c =
     let sound = accepted_sound c.args.nfa.now c.requires.accepted in
-    let turn = c.in_err-at_hand.ensures.turn in
+    let turn = c.in_err-current.ensures.turn in
     let so_far = so_far-turn c.args.nfa.now sound (has c.args.look_have) c.args.set.now.ids _ _ _ _ _ c.loop-id.invariant.so_far _ turn.0 (reverse c.take_next.new.stack.items) c.in-Some.id c.in-Some.ensures.some turn.2 in
     record {
       set = record {
-        capacity = c.in_err-at_hand.ensures.capacity ∙ c.loop-id.invariant.capacity;
+        capacity = c.in_err-current.ensures.capacity ∙ c.loop-id.invariant.capacity;
         part = so_far-part c.args.nfa.now sound (has c.args.look_have) c.args.set.now.ids _ _ _ _ _ so_far;
       };
-      resolve = λ root others e. c.in_err-at_hand.ensures.resolve;
-      bounded = so_far-bounded c.args.nfa.now sound (has c.args.look_have) c.args.set.now.ids _ _ _ _ _ so_far _ c.in_err-at_hand.ensures.counted;
+      resolve = λ root others e. c.in_err-current.ensures.resolve;
+      bounded = so_far-bounded c.args.nfa.now sound (has c.args.look_have) c.args.set.now.ids _ _ _ _ _ so_far _ c.in_err-current.ensures.counted;
     }
 
 pub returns-clause-ok : goal.returns-clause-ok
@@ -66,7 +70,7 @@ pub returns-clause-recorded : goal.returns-clause-recorded
 returns-clause-recorded g c =
     let sound = accepted_sound c.args.nfa.now c.requires.accepted in
     let recorded = c.loop-id.invariant.recorded in
-    let roots : List ℕ = option_to_list c.args.first ++ reverse c.args.stack.now.items in
+    let roots : List ℕ = option_to_list c.args.first ++ c.args.stack.now.items in
     let found : List ℕ = reach_past c.args.nfa.now (has c.args.look_have) c.args.set.now.ids roots in
     let whole : c.args.set.now.ids ++ recorded.0 ≡ c.args.set.now.ids ++ found =
     sym recorded.1 ∙ so_far-end c.args.nfa.now sound (has c.args.look_have) c.args.set.now.ids roots _ _ _ _ c.loop-id.invariant.so_far c.in_default.ensures.none in

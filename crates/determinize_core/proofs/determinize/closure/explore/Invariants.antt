@@ -8,11 +8,11 @@ use Rattle.determinize_core.proofs.determinize.closure.explore.Given as goal
 
 abbrev pub invariant-loop-id : goal.invariant-loop-id
 invariant-loop-id g l = record {
-  so_far : IsSoFar l.nfa (has l.look_have) l.initial.set.ids (option_to_list l.fn.first ++ reverse l.initial.stack.items) l.set.ids (option_to_list l.at_hand ++ reverse l.stack.items) l.initial.steps l.steps;
+  so_far : IsSoFar l.nfa (has l.look_have) l.initial.set.ids (option_to_list l.fn.first ++ l.fn.stack.items) l.set.ids (option_to_list l.current ++ reverse l.stack.items) l.initial.steps l.steps;
   recorded : (more : List ℕ) × (l.set.ids ≡ l.initial.set.ids ++ more) × (l.recorder ≡ fold (g.W.Recorder.with_one l.nfa) l.initial.recorder more);
   capacity : l.set.capacity ≡ l.initial.set.capacity;
-  resolve : (option_to_list l.at_hand ++ reverse l.stack.items ≡ option_to_list l.fn.first ++ reverse l.initial.stack.items) ⊎ AllResolve l.nfa l.set.ids;
+  resolve : (option_to_list l.current ++ reverse l.stack.items ≡ option_to_list l.fn.first ++ l.fn.stack.items) ⊎ AllResolve l.nfa l.set.ids;
 }
 
 abbrev pub decreases-loop-id : goal.decreases-loop-id
-decreases-loop-id g l = tries_left l.nfa (has l.look_have) l.set.ids (option_to_list l.at_hand ++ reverse l.stack.items)
+decreases-loop-id g l = tries_left l.nfa (has l.look_have) l.set.ids (option_to_list l.current ++ reverse l.stack.items)

@@ -15,8 +15,8 @@ pub returns-in_err-read_working_list-clause-bounded : goal.returns-in_err-read_w
 returns-in_err-read_working_list-clause-bounded g c =
     first_tries c.args.nfa.now c.told_after-told.ensures.accepted c.args.match_kind c.args.state.now (byte_of c.args.unit) c.requires.resolve c.args.steps.now c.read_working_list.new.steps c.read_working_list.ensures.bounded
 
-pub explore_all-requires-clause-resolve : goal.explore_all-requires-clause-resolve
-explore_all-requires-clause-resolve g c =
+pub explore-requires-clause-resolve : goal.explore-requires-clause-resolve
+explore-requires-clause-resolve g c =
     let looks : c.told.inside.looks ≡ c.told_after-told.result.looks = ap (λ (t : Telling). t.looks) c.told.view_is in
     let read : IsRead c.args.nfa.now c.told_after-told.ensures.accepted c.args.match_kind c.args.state.now (byte_of c.args.unit) c.requires.resolve c.told.inside.looks
     c.told_after-told.result.from_word c.told_after-told.result.half_crlf (not c.is_empty.result) c.in_ok-builder.builder c.read_working_list.new.builder c.into_nfa-builder.result c.read_working_list.new.stack.items =
@@ -31,8 +31,8 @@ explore_all-requires-clause-resolve g c =
     } in
     row_resolves c.args.nfa.now c.told_after-told.ensures.accepted c.args.match_kind c.args.state.now (byte_of c.args.unit) c.requires.resolve _ _ _ _ _ _ _ _ read
 
-pub returns-in_err-explore_all-clause-bounded : goal.returns-in_err-explore_all-clause-bounded
-returns-in_err-explore_all-clause-bounded g c =
+pub returns-in_err-explore-clause-bounded : goal.returns-in_err-explore-clause-bounded
+returns-in_err-explore-clause-bounded g c =
     let looks : c.told.inside.looks ≡ c.told_after-told.result.looks = ap (λ (t : Telling). t.looks) c.told.view_is in
     let read : IsRead c.args.nfa.now c.told_after-told.ensures.accepted c.args.match_kind c.args.state.now (byte_of c.args.unit) c.requires.resolve c.told.inside.looks
     c.told_after-told.result.from_word c.told_after-told.result.half_crlf (not c.is_empty.result) c.in_ok-builder.builder c.read_working_list.new.builder c.into_nfa-builder.result c.read_working_list.new.stack.items =
@@ -46,8 +46,8 @@ returns-in_err-explore_all-clause-bounded g c =
       flagged_is = c.into_nfa-builder.ensures ∙ c.set_flags.ensures;
     } in
     tries_within c.args.nfa.now c.told_after-told.ensures.accepted c.args.match_kind c.args.state.now (byte_of c.args.unit) c.requires.resolve _ _ _ _ _ _ _ _ read
-    c.args.steps.now c.read_working_list.new.steps c.explore_all.new.steps c.in_ok-read_working_list.ensures.counted
-    (subst (λ l. c.explore_all.new.steps ≤ c.read_working_list.new.steps + tries_left c.args.nfa.now (has c.told.inside.looks) l c.read_working_list.new.stack.items) c.in_ok-read_working_list.ensures.second c.explore_all.ensures.part.bounded)
+    c.args.steps.now c.read_working_list.new.steps c.explore.new.steps c.in_ok-read_working_list.ensures.counted
+    (subst (λ l. c.explore.new.steps ≤ c.read_working_list.new.steps + tries_left c.args.nfa.now (has c.told.inside.looks) l c.read_working_list.new.stack.items) c.in_ok-read_working_list.ensures.second c.explore.ensures.part.bounded)
 
 pub returns-clause-ok : goal.returns-clause-ok
 returns-clause-ok g c =
@@ -64,7 +64,7 @@ returns-clause-ok g c =
       flagged_is = c.into_nfa-builder.ensures ∙ c.set_flags.ensures;
     } in
     c.settle.ensures
-    ∙ ap settled c.in_ok-explore_all.ensures.recorded
+    ∙ ap settled c.in_ok-explore.ensures.recorded
     ∙ ap (λ l. settled (fold (added_one c.args.nfa.now) c.into_nfa-builder.result (reach_past c.args.nfa.now (has c.told.inside.looks) l c.read_working_list.new.stack.items))) c.in_ok-read_working_list.ensures.second
     ∙ stepped c.args.nfa.now c.told_after-told.ensures.accepted c.args.match_kind c.args.state.now (byte_of c.args.unit) c.requires.resolve _ _ _ _ _ _ _ _ read
 
@@ -83,8 +83,8 @@ returns-clause-counted g c =
       flagged_is = c.into_nfa-builder.ensures ∙ c.set_flags.ensures;
     } in
     all_tries c.args.nfa.now c.told_after-told.ensures.accepted c.args.match_kind c.args.state.now (byte_of c.args.unit) c.requires.resolve _ _ _ _ _ _ _ _ read
-    c.args.steps.now c.read_working_list.new.steps c.explore_all.new.steps c.in_ok-read_working_list.ensures.counted
-    (subst (λ l. c.explore_all.new.steps ≡ c.read_working_list.new.steps + tries_left c.args.nfa.now (has c.told.inside.looks) l c.read_working_list.new.stack.items) c.in_ok-read_working_list.ensures.second c.in_ok-explore_all.ensures.ok.counted)
+    c.args.steps.now c.read_working_list.new.steps c.explore.new.steps c.in_ok-read_working_list.ensures.counted
+    (subst (λ l. c.explore.new.steps ≡ c.read_working_list.new.steps + tries_left c.args.nfa.now (has c.told.inside.looks) l c.read_working_list.new.stack.items) c.in_ok-read_working_list.ensures.second c.in_ok-explore.ensures.ok.counted)
 
 pub returns-clause-bounded : goal.returns-clause-bounded
 returns-clause-bounded g c =
@@ -101,8 +101,8 @@ returns-clause-bounded g c =
       flagged_is = c.into_nfa-builder.ensures ∙ c.set_flags.ensures;
     } in
     tries_within c.args.nfa.now c.told_after-told.ensures.accepted c.args.match_kind c.args.state.now (byte_of c.args.unit) c.requires.resolve _ _ _ _ _ _ _ _ read
-    c.args.steps.now c.read_working_list.new.steps c.explore_all.new.steps c.in_ok-read_working_list.ensures.counted
-    (subst (λ l. c.explore_all.new.steps ≤ c.read_working_list.new.steps + tries_left c.args.nfa.now (has c.told.inside.looks) l c.read_working_list.new.stack.items) c.in_ok-read_working_list.ensures.second c.explore_all.ensures.part.bounded)
+    c.args.steps.now c.read_working_list.new.steps c.explore.new.steps c.in_ok-read_working_list.ensures.counted
+    (subst (λ l. c.explore.new.steps ≤ c.read_working_list.new.steps + tries_left c.args.nfa.now (has c.told.inside.looks) l c.read_working_list.new.stack.items) c.in_ok-read_working_list.ensures.second c.explore.ensures.part.bounded)
 
 pub returns-clause-resolve : goal.returns-clause-resolve
 returns-clause-resolve g c =
