@@ -1,167 +1,152 @@
 -- What an input asks for, and the answer in its haystack.
-use Rattle.std.proofs.Common.{◌≡◌, refl, ℕ, ◌<◌, ◌≤◌, Bool, true, false, cond, Option, None, Some, List, sym, ap, ◌∙◌, subst, arith}
+use Rattle.std.proofs.Common.{◌≡◌, refl, ℕ, ◌≤◌, ◌-◌, Bool, true, false, cond, Option, None, Some, List, length, drop, sym, ap, ◌∙◌, subst, arith, is_some}
 use mathlib.Core.Bool.{true≢false}
-use Rattle.std.specs.Prelude.{Decides, IfNone, IfSome, is_some, nat_lt, option_map}
+use Rattle.std.specs.Prelude.{Decides, IfNone, IfSome, min, option_map}
 use Rattle.std.specs.List.{slice_range}
+use Rattle.std.proofs.lemmas.List.{length-take}
 use Rattle.determinize_below.specs.Nfa.{IsAccepted, Nfa}
-use Rattle.determinize_below.specs.Positions.{between, Text}
-use Rattle.determinize_below.specs.declared.search.MatchKind.{MatchKind}
-use Rattle.determinize_core.specs.Chain.{chain}
-use Rattle.determinize_core.specs.Walk.{IsFarthestMatch, IsPreferredMatch, last_match}
-use Rattle.determinize_lazy.proofs.Headline.{none_accepts, some_accepts}
+use Rattle.determinize_below.specs.Positions.{Text}
 use Rattle.determinize_below.specs.Search.{Asked, is_done}
 use Rattle.determinize_below.specs.declared.search.HalfMatch.{HalfMatch}
-use Rattle.determinize_lazy.specs.Cache.{Cache}
-use Rattle.determinize_lazy.specs.Searches.{after_first_match, after_input, after_is_match, after_search, found_in, HasMatch, in_haystack, in_order, index_after, IsFarthestIn, IsPlenty, IsPlentyIn, IsPreferredIn, last_in, start_for, text_of}
+use Rattle.determinize_below.specs.declared.search.MatchKind.{MatchKind}
+use Rattle.determinize_below.specs.declared.search.MatchKind.TheVariants.{All, LeftmostFirst}
+use Rattle.determinize_core.specs.Chain.{chain, units}
+use Rattle.determinize_core.specs.Step.{start_value}
+use Rattle.determinize_core.specs.Walk.{IsFarthestMatch, IsPreferredMatch, last_match}
+use Rattle.determinize_lazy.specs.Cache.{after_walk, Cache, step_of}
+use Rattle.determinize_lazy.specs.Private.Searched.{IsOverIn}
+use Rattle.determinize_lazy.specs.Searches.{after_first_match, after_input, after_is_match, after_search, HasMatch, in_haystack, IsFarthestIn, IsPlentyIn, IsPreferredIn, IsSearch, last_in, start_for, text_of, units_read}
+use Rattle.determinize_lazy.proofs.Headline.{is-search, none_accepts, some_accepts}
+use Rattle.determinize_lazy.proofs.Searching.{over-keeps}
+use Rattle.determinize_lazy.proofs.Texts.{length-in_order}
 
-past : (a b : ℕ) → b < a → nat_lt b a ≡ true
-past a b h = grind arith
-
-not_past : (a b : ℕ) → a ≤ b → nat_lt b a ≡ false
-not_past a b h = grind arith
-
--- whether the range starts past its end
-pub is_done-else : (asked : Asked) → asked.start ≤ asked.end → is_done asked ≡ true → ⊥
-is_done-else asked h done = true≢false (sym done ∙ not_past asked.start asked.end h)
-
-pub is_done-past : (asked : Asked) → asked.end < asked.start → is_done asked ≡ false → ⊥
-is_done-past asked h more = true≢false (sym (past asked.start asked.end h) ∙ more)
-
--- where nothing is left to search, nothing is found
-found-done : (nfa : Nfa) (asked : Asked) (found : Option HalfMatch) → asked.end < asked.start → found_in nfa asked found ≡ None
-found-done nfa asked found h = ap (λ b. cond b None (option_map (in_haystack nfa.reverse asked) found)) (past asked.start asked.end h)
-
-pub after-done : (c : Cache) (asked : Asked) → asked.end < asked.start → after_input c asked ≡ c
-unfolding after_input
-after-done c asked h = ap (λ b. cond b c (after_search c (start_for c.nfa asked.anchored) (text_of c.nfa.reverse asked))) (past asked.start asked.end h)
-
--- else the answer is that of the search
-found-else : (nfa : Nfa) (asked : Asked) (found : Option HalfMatch) → asked.start ≤ asked.end → found_in nfa asked found ≡ option_map (in_haystack nfa.reverse asked) found
-found-else nfa asked found h = ap (λ b. cond b None (option_map (in_haystack nfa.reverse asked) found)) (not_past asked.start asked.end h)
-
-after-else : (c : Cache) (asked : Asked) → asked.start ≤ asked.end → after_input c asked ≡ after_search c (start_for c.nfa asked.anchored) (text_of c.nfa.reverse asked)
-unfolding after_input
-after-else c asked h = ap (λ b. cond b c (after_search c (start_for c.nfa asked.anchored) (text_of c.nfa.reverse asked))) (not_past asked.start asked.end h)
-
--- the text is made of the range and its neighbours
-text-is : (backward : Bool) (asked : Asked) (behind ahead : Option ℕ) (range : List ℕ) → behind ≡ (text_of backward asked).behind → range ≡ slice_range asked.haystack asked.start asked.end → ahead ≡ (text_of backward asked).ahead
-    → between behind (in_order backward range) ahead ≡ text_of backward asked
-text-is false asked behind ahead range behind_is range_is ahead_is = ap (λ b. between b range ahead) behind_is ∙ ap (λ bs. between (text_of false asked).behind bs ahead) range_is ∙ ap (λ a. between (text_of false asked).behind (slice_range asked.haystack asked.start asked.end) a) ahead_is
-text-is true asked behind ahead range behind_is range_is ahead_is = ap (λ b. between b (in_order true range) ahead) behind_is ∙ ap (λ bs. between (text_of true asked).behind (in_order true bs) ahead) range_is ∙ ap (λ a. between (text_of true asked).behind (in_order true (slice_range asked.haystack asked.start asked.end)) a) ahead_is
-
--- what a search is given for an input whose range does not start past its end
-pub record IsRead (nfa : Nfa) (asked : Asked) (backward : Bool) (start : ℕ) (text : Text) : Type 0 where
-  pub order : asked.start ≤ asked.end
-  pub direction : backward ≡ nfa.reverse
-  pub start_is : start ≡ start_for nfa asked.anchored
-  pub text_is : text ≡ text_of nfa.reverse asked
-
--- from its parts
-pub read : (nfa : Nfa) (asked : Asked) (backward : Bool) (start : ℕ) (behind ahead : Option ℕ) (range : List ℕ) → asked.start ≤ asked.end → backward ≡ nfa.reverse → start ≡ start_for nfa asked.anchored
-    → behind ≡ (text_of backward asked).behind → range ≡ slice_range asked.haystack asked.start asked.end → ahead ≡ (text_of backward asked).ahead
-    → IsRead nfa asked backward start (between behind (in_order backward range) ahead)
-read nfa asked backward start behind ahead range order direction start_is behind_is range_is ahead_is = record {
-  order = order;
-  direction = direction;
-  start_is = start_is;
-  text_is = text-is backward asked behind ahead range behind_is range_is ahead_is ∙ ap (λ b. text_of b asked) direction;
-}
-
-module _ (nfa : Nfa) (kind : MatchKind) (asked : Asked) (backward : Bool) (start : ℕ) (text : Text) (r : IsRead nfa asked backward start text) (found answer : Option HalfMatch) (answer_is : answer ≡ option_map (in_haystack backward asked) found) where
-  answered : answer ≡ found_in nfa asked found
-  answered = answer_is ∙ ap (λ b. option_map (in_haystack b asked) found) r.direction ∙ sym (found-else nfa asked found r.order)
-
-  pub last-found : found ≡ last_match (chain nfa kind start text) → answer ≡ last_in nfa kind asked
+-- where nothing is left to search
+module _ (asked : Asked) (done : is_done asked ≡ true) where
+  pub last-done : (nfa : Nfa) (kind : MatchKind) → None ≡ last_in nfa kind asked
   unfolding last_in
-  last-found found_is = answered ∙ ap (λ o. found_in nfa asked o) (found_is ∙ ap (λ s. last_match (chain nfa kind s text)) r.start_is ∙ ap (λ t. last_match (chain nfa kind (start_for nfa asked.anchored) t)) r.text_is)
+  last-done nfa kind = sym (ap (λ b. cond b None (option_map (in_haystack nfa.reverse asked)
+      (last_match (chain nfa kind (start_for nfa asked.anchored) (text_of nfa.reverse asked))))) done)
 
-  -- a match in the haystack is a match of the text, with another offset
-  each-found : (P : Option HalfMatch → Type 0) (Q : HalfMatch → Type 0)
-      → ((m : HalfMatch) → P (Some m) → Q (in_haystack backward asked m)) → P found → IfSome answer Q
-  each-found P Q f h = subst (λ o. IfSome o Q) (sym answer_is) (each found h)
-    where
-      each : (o : Option HalfMatch) → P o → IfSome (option_map (in_haystack backward asked) o) Q
-      each None k = tt
-      each (Some m) k = f m k
+  pub after-done : (c : Cache) → c ≡ after_input c asked
+  unfolding after_input
+  after-done c = sym (ap (λ b. cond b c (after_search c (start_for c.nfa asked.anchored) (text_of c.nfa.reverse asked))) done)
 
-  -- a match of what is searched is one of what the input asks for
-  asked-for : (P : ℕ → Text → Type 0) → P start text → P (start_for nfa asked.anchored) (text_of nfa.reverse asked)
-  asked-for P h = subst (λ t. P (start_for nfa asked.anchored) t) r.text_is (subst (λ s. P s text) r.start_is h)
-
-  offset-is : (i : ℕ) → index_after backward asked i ≡ index_after nfa.reverse asked i
-  offset-is i = ap (λ b. index_after b asked i) r.direction
-
-  pub preferred-found : IsPreferredMatch nfa start text found → IfSome answer (λ m. IsPreferredIn nfa asked m)
-  preferred-found h =
-      each-found (λ o. IsPreferredMatch nfa (start_for nfa asked.anchored) (text_of nfa.reverse asked) o)
-      (λ m. IsPreferredIn nfa asked m)
-      (λ m p. (p.0, m.offset, offset-is m.offset, p.1)) (asked-for (λ s t. IsPreferredMatch nfa s t found) h)
-
-  pub farthest-found : IsFarthestMatch nfa start text found → IfSome answer (λ m. IsFarthestIn nfa asked m)
-  farthest-found h =
-      each-found (λ o. IsFarthestMatch nfa (start_for nfa asked.anchored) (text_of nfa.reverse asked) o)
-      (λ m. IsFarthestIn nfa asked m)
-      (λ m p. (m.offset, offset-is m.offset, p)) (asked-for (λ s t. IsFarthestMatch nfa s t found) h)
-
-  pub none-found : IsAccepted nfa → found ≡ last_match (chain nfa kind start text)
-      → IfNone answer (HasMatch nfa asked → ⊥)
-  none-found accepted found_is =
-      subst (λ o. IfNone o (HasMatch nfa asked → ⊥)) (sym answer_is)
-      (each found (asked-for (λ s t. found ≡ last_match (chain nfa kind s t)) found_is))
-    where
-      each : (o : Option HalfMatch)
-          → o ≡ last_match (chain nfa kind (start_for nfa asked.anchored) (text_of nfa.reverse asked))
-          → IfNone (option_map (in_haystack backward asked) o) (HasMatch nfa asked → ⊥)
-      each None e = λ h. none_accepts nfa kind _ _ accepted e h.0 h.1 h.2 h.3
-      each (Some m) e = tt
-
-pub after-found : (c new : Cache) (asked : Asked) (backward : Bool) (start : ℕ) (text : Text) → IsRead c.nfa asked backward start text → new ≡ after_search c start text → new ≡ after_input c asked
-after-found c new asked backward start text r new_is = new_is ∙ ap (λ s. after_search c s text) r.start_is ∙ ap (λ t. after_search c (start_for c.nfa asked.anchored) t) r.text_is ∙ sym (after-else c asked r.order)
-
-pub plenty-found : (c new : Cache) (asked : Asked) (backward : Bool) (start : ℕ) (text : Text) → IsRead c.nfa asked backward start text → IsPlenty c start text new → IsPlentyIn c asked new
-plenty-found c new asked backward start text r plenty = λ _. subst (λ t. IsPlenty c (start_for c.nfa asked.anchored) t new) r.text_is (subst (λ s. IsPlenty c s text new) r.start_is plenty)
-
-pub plenty-done : (c new : Cache) (asked : Asked) → asked.end < asked.start → IsPlentyIn c asked new
-plenty-done c new asked h = λ more. absurd (is_done-past asked h more)
-
--- and where it does
-module _ (nfa : Nfa) (kind : MatchKind) (asked : Asked) (past_end : asked.end < asked.start) where
-  pub last-done : None ≡ last_in nfa kind asked
-  unfolding last_in
-  last-done = sym (found-done nfa asked (last_match (chain nfa kind (start_for nfa asked.anchored) (text_of nfa.reverse asked))) past_end)
-
--- the cache after `is_match`
-module _ (c : Cache) (asked : Asked) where
-  first-is : (done : Bool) → is_done asked ≡ done → after_is_match c asked
-      ≡ cond done c (after_first_match c (start_for c.nfa asked.anchored) (text_of c.nfa.reverse asked))
+  pub first-done : (c : Cache) → c ≡ after_is_match c asked
   unfolding after_is_match
-  first-is done h =
-      ap (λ b. cond b c (after_first_match c (start_for c.nfa asked.anchored) (text_of c.nfa.reverse asked))) h
+  first-done c =
+      sym (ap (λ b. cond b c (after_first_match c (start_for c.nfa asked.anchored) (text_of c.nfa.reverse asked))) done)
 
-  pub first-done : asked.end < asked.start → after_is_match c asked ≡ c
-  first-done h = first-is true (past asked.start asked.end h)
+-- a search of an input that is over
+module _ {earliest : Bool} {old : Cache} (asked : Asked) {found : Option HalfMatch} {new : Cache}
+    (accepted : IsAccepted old.nfa) (more : is_done asked ≡ false) (o : IsOverIn earliest old asked found new) where
+  abbrev start : ℕ
+  start = start_for old.nfa asked.anchored
 
-  pub first-found : (new : Cache) (backward : Bool) (start : ℕ) (text : Text) → IsRead c.nfa asked backward start text
-      → new ≡ after_first_match c start text → new ≡ after_is_match c asked
-  first-found new backward start text r new_is =
-      new_is ∙ ap (λ s. after_first_match c s text) r.start_is
-      ∙ ap (λ t. after_first_match c (start_for c.nfa asked.anchored) t) r.text_is
-      ∙ sym (first-is false (not_past asked.start asked.end r.order))
+  abbrev text : Text
+  text = text_of old.nfa.reverse asked
 
--- a walk has a last match exactly where some run accepts
-pub decides : (nfa : Nfa) (kind : MatchKind) (asked : Asked) (backward : Bool) (start : ℕ) (text : Text)
-    → IsRead nfa asked backward start text → IsAccepted nfa
-    → (found : Bool) → found ≡ is_some (last_match (chain nfa kind start text)) → Decides found (HasMatch nfa asked)
-decides nfa kind asked backward start text r accepted found found_is =
-    subst (λ b. Decides b (HasMatch nfa asked))
-    (sym (found_is ∙ ap (λ s. is_some (last_match (chain nfa kind s text))) r.start_is
-    ∙ ap (λ t. is_some (last_match (chain nfa kind (start_for nfa asked.anchored) t))) r.text_is))
-    (each (last_match (chain nfa kind (start_for nfa asked.anchored) (text_of nfa.reverse asked))) refl)
+  pub search-is : earliest ≡ false → IsSearch old.nfa old.kind start text found
+  unfolding chain
+  search-is late = is-search old.nfa old.kind start text found accepted (o.last late)
+
+  pub after-found : earliest ≡ false → new ≡ after_input old asked
+  unfolding after_input after_search
+  after-found late = o.after ∙ ap (λ e. after_walk old (start_value old.nfa start text.behind)
+      (units_read (step_of old) e (start_value old.nfa start text.behind) (units text))) late
+      ∙ sym (ap (λ b. cond b old (after_search old start text)) more)
+
+  pub first-found : earliest ≡ true → new ≡ after_is_match old asked
+  unfolding after_is_match after_first_match
+  first-found early = o.after ∙ ap (λ e. after_walk old (start_value old.nfa start text.behind)
+      (units_read (step_of old) e (start_value old.nfa start text.behind) (units text))) early
+      ∙ sym (ap (λ b. cond b old (after_first_match old start text)) more)
+
+  -- a walk has a last match exactly where some run accepts
+  pub decides : Decides (is_some found) (HasMatch old.nfa asked)
+  unfolding chain
+  decides = subst (λ b. Decides b (HasMatch old.nfa asked)) (sym o.some)
+      (each (last_match (chain old.nfa old.kind start text)) refl)
+    where
+      each : (m : Option HalfMatch) → m ≡ last_match (chain old.nfa old.kind start text)
+          → Decides (is_some m) (HasMatch old.nfa asked)
+      each None e = (
+        λ h. absurd (true≢false (sym h)),
+        λ h. absurd (none_accepts old.nfa old.kind start text accepted e h.0 h.1 h.2 h.3),
+      )
+      each (Some m) e =
+          (λ _. let a = some_accepts old.nfa old.kind start text m accepted e in (a.0, m.offset, m.pattern, a.1), λ _. refl)
+
+-- what a search returns, in the haystack
+pub record IsAnswer (nfa : Nfa) (kind : MatchKind) (asked : Asked) (answer : Option HalfMatch) : Type 0 where
+  pub last : answer ≡ last_in nfa kind asked
+  pub preferred : kind ≡ LeftmostFirst → IfSome answer (λ m. IsPreferredIn nfa asked m)
+  pub farthest : kind ≡ All → IfSome answer (λ m. IsFarthestIn nfa asked m)
+  pub none : IfNone answer (HasMatch nfa asked → ⊥)
+
+pub is-answer : {nfa : Nfa} {kind : MatchKind} {asked : Asked} {found answer : Option HalfMatch} {is_backward : Bool}
+    → IsAccepted nfa → is_done asked ≡ false → is_backward ≡ nfa.reverse
+    → answer ≡ option_map (in_haystack is_backward asked) found
+    → IsSearch nfa kind (start_for nfa asked.anchored) (text_of nfa.reverse asked) found → IsAnswer nfa kind asked answer
+unfolding last_in
+is-answer {nfa} {kind} {asked} {found} {answer} accepted more direction answer_is s = record {
+  last = in_order ∙ ap (λ o. option_map (in_haystack nfa.reverse asked) o) s.last
+      ∙ sym (ap (λ b. cond b None (option_map (in_haystack nfa.reverse asked)
+      (last_match (chain nfa kind start text)))) more);
+  preferred = λ k. each-found (λ o. IsPreferredMatch nfa start text o) (λ m. IsPreferredIn nfa asked m)
+      (λ m p. (p.0, m.offset, refl, p.1)) (s.preferred k);
+  farthest = λ k. each-found (λ o. IsFarthestMatch nfa start text o) (λ m. IsFarthestIn nfa asked m)
+      (λ m p. (m.offset, refl, p)) (s.farthest k);
+  none = subst (λ o. IfNone o (HasMatch nfa asked → ⊥)) (sym in_order) (no_run found s.last);
+}
   where
-    each : (o : Option HalfMatch)
-        → o ≡ last_match (chain nfa kind (start_for nfa asked.anchored) (text_of nfa.reverse asked))
-        → Decides (is_some o) (HasMatch nfa asked)
-    each None e =
-        (λ h. absurd (true≢false (sym h)), λ h. absurd (none_accepts nfa kind _ _ accepted e h.0 h.1 h.2 h.3))
-    each (Some m) e =
-        (λ _. let a = some_accepts nfa kind _ _ m accepted e in (a.0, m.offset, m.pattern, a.1), λ _. refl)
+    start : ℕ
+    start = start_for nfa asked.anchored
+
+    text : Text
+    text = text_of nfa.reverse asked
+
+    in_order : answer ≡ option_map (in_haystack nfa.reverse asked) found
+    in_order = answer_is ∙ ap (λ b. option_map (in_haystack b asked) found) direction
+
+    -- a match in the haystack is a match of the text, with another offset
+    each-found : (P : Option HalfMatch → Type 0) (Q : HalfMatch → Type 0)
+        → ((m : HalfMatch) → P (Some m) → Q (in_haystack nfa.reverse asked m)) → P found → IfSome answer Q
+    each-found P Q f h = subst (λ o. IfSome o Q) (sym in_order) (each found h)
+      where
+        each : (o : Option HalfMatch) → P o → IfSome (option_map (in_haystack nfa.reverse asked) o) Q
+        each None k = tt
+        each (Some m) k = f m k
+
+    no_run : (o : Option HalfMatch) → o ≡ last_match (chain nfa kind start text)
+        → IfNone (option_map (in_haystack nfa.reverse asked) o) (HasMatch nfa asked → ⊥)
+    no_run None e = λ h. none_accepts nfa kind start text accepted e h.0 h.1 h.2 h.3
+    no_run (Some m) e = tt
+
+-- with room for all that it reads, a search keeps all of its transitions
+pub plenty-found : {old new : Cache} (asked : Asked) {found : Option HalfMatch} → IsOverIn false old asked found new
+    → IsPlentyIn old asked new
+plenty-found asked o = λ _. over-keeps o
+
+-- a match ends within the range
+pub offset-within : {nfa : Nfa} {kind : MatchKind} {start : ℕ} (asked : Asked) {found : Option HalfMatch}
+    → IsSearch nfa kind start (text_of nfa.reverse asked) found → IfSome found (λ m. m.offset ≤ asked.end - asked.start)
+offset-within {nfa} {kind} {start} asked {found} s = each found s.within
+  where
+    range : List ℕ
+    range = slice_range asked.haystack asked.start asked.end
+
+    bytes-are : (b : Bool) → length (text_of b asked).bytes ≡ length range
+    bytes-are false = refl
+    bytes-are true = length-in_order true range
+
+    each : (o : Option HalfMatch) → IfSome o (λ m. m.offset ≤ length (text_of nfa.reverse asked).bytes)
+        → IfSome o (λ m. m.offset ≤ asked.end - asked.start)
+    each None h = tt
+    each (Some m) h =
+        let a : length (text_of nfa.reverse asked).bytes ≡ length range = bytes-are nfa.reverse in
+        let b : length range ≤ asked.end - asked.start =
+        rw length-take (min-le (asked.end - asked.start) (length (drop asked.start asked.haystack))) in
+        omega (arith, a, b, h)
+      where
+        min-le : (m n : ℕ) → min m n ≤ m
+        min-le m n = grind arith

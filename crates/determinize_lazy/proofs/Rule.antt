@@ -139,3 +139,9 @@ grows-more {old} {now} {new} g h = record {
 pub on_ok : {T E : Type 0} (r : Result T E) {P : T → Type 0} {Q : Type 0} → ((x : T) → P x → Q) → IfOk r P → OnOk r Q
 on_ok (Ok x) f h = f x h
 on_ok (Err x) f h = tt
+
+-- what is said of three things is said of three that are equal to them
+pub along : {X Y Z : Type 0} {x x' : X} {y y' : Y} {z z' : Z} → x ≡ x' → y ≡ y' → z ≡ z'
+    → (P : X → Y → Z → Type 0) → P x y z → P x' y' z'
+along {x' = x'} {y = y} {y' = y'} {z = z} {z' = z'} e f g P h =
+    subst (λ w. P x' y' w) g (subst (λ w. P x' w z) f (subst (λ w. P w y z) e h))

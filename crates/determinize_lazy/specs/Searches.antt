@@ -1,5 +1,5 @@
 -- Searches over a cache: what they read, what they answer and what they leave.
-use Rattle.std.specs.Prelude.{◌≡◌, ◌≤◌, ℕ, ◌+◌, ◌-◌, Bool, true, false, cond, not, ◌&&◌, Option, Some, None, List, [], ◌∷◌, length, option_map, reverse, slice_get}
+use Rattle.std.specs.Prelude.{◌≡◌, ◌≤◌, ℕ, ◌+◌, ◌-◌, Bool, true, false, cond, not, ◌&&◌, ◌||◌, Option, Some, None, List, [], ◌∷◌, length, option_map, reverse, slice_get}
 use Rattle.std.specs.List.{slice_range}
 use Rattle.std.specs.Option.{IfSome}
 use Rattle.determinize_below.specs.Nfa.{Nfa}
@@ -18,22 +18,19 @@ use Rattle.determinize_core.specs.Walk.{IsFarthestMatch, IsPreferredMatch, last_
 use Rattle.determinize_lazy.specs.Cache.{Cache, IsCutOff, after_walk, step_of}
 use Rattle.determinize_lazy.specs.Plenty.{HasRoom, KeepsAll}
 
-module _ (f : Value → Option ℕ → Value) where
-  -- the units that a search from a value reads: none more from a value on that records no NFA states
-  abbrev pub units_read : Value → List (Option ℕ) → List (Option ℕ)
-  units_read v [] = []
-  units_read v (u ∷ us) = cond (is_nonempty v.states) (u ∷ units_read (f v u) us) []
+-- whether a search ends at a value: it records no NFA states or, in a search for the earliest match, it
+-- lists a pattern
+abbrev pub is_last : Bool → Value → Bool
+is_last earliest v = (earliest && is_nonempty v.patterns) || not (is_nonempty v.states)
 
-  -- the units that `is_match` from a value reads: none more from a value on that lists a pattern or
-  -- records no NFA states
-  abbrev pub units_to_match : Value → List (Option ℕ) → List (Option ℕ)
-  units_to_match v [] = []
-  units_to_match v (u ∷ us) =
-      cond (is_nonempty v.states && not (is_nonempty v.patterns)) (u ∷ units_to_match (f v u) us) []
+-- the units that a search from a value reads: none more from a value on at which it ends
+abbrev pub units_read : (Value → Option ℕ → Value) → Bool → Value → List (Option ℕ) → List (Option ℕ)
+units_read f earliest v [] = []
+units_read f earliest v (u ∷ us) = cond (is_last earliest v) [] (u ∷ units_read f earliest (f v u) us)
 
 -- the units that a search from an NFA state over a text reads
 abbrev pub units_searched : Cache → ℕ → Text → List (Option ℕ)
-units_searched c start text = units_read (step_of c) (start_value c.nfa start text.behind) (units text)
+units_searched c start text = units_read (step_of c) false (start_value c.nfa start text.behind) (units text)
 
 -- the cache after a search from an NFA state over a text
 unfoldable pub after_search : Cache → ℕ → Text → Cache
@@ -43,7 +40,7 @@ after_search c start text = after_walk c (start_value c.nfa start text.behind) (
 unfoldable pub after_first_match : Cache → ℕ → Text → Cache
 after_first_match c start text =
     let first : Value = start_value c.nfa start text.behind in
-    after_walk c first (units_to_match (step_of c) first (units text))
+    after_walk c first (units_read (step_of c) true first (units text))
 
 -- with room for all that a search reads, each of its transitions is cached, and each that was missing was
 -- computed once

@@ -12,7 +12,8 @@ ghost use Rattle.determinize_lazy.specs.Private.Steps.{IsSound};
 ghost use Rattle.determinize_lazy.specs.Table.{IsTable, empty};
 
 use crate::scratch::Scratch;
-use crate::table::{Cursor, TransitionTable};
+use crate::table::TransitionTable;
+use crate::text::Text;
 use determinize_below::{MatchKind, NFA, StateID};
 use determinize_core::state::State;
 use std::alloc::{AllocError, Allocator, Global};
@@ -162,33 +163,32 @@ impl<'n, N: Allocator, A: Allocator + Copy> Lazy<'n, N, A> {
         self.table.clear();
     }
 
-    /// Returns a state and the states that follow it over each byte and, last, over the unit behind
-    /// them.
+    /// Returns a state and the states that follow it over each unit of a text.
     fn walk_from(
         &mut self,
         first: State<A>,
-        text: &[u8],
-        look_ahead: Option<u8>,
+        text: &Text<'_>,
     ) -> Result<Vec<State<A>, A>, AllocError>
         requires resolve { AllResolve self.old.nfa first.states }
         requires sound { IsSound (cache self.old) }
         ensures values { IfOk result (λ states. states.items
-            ≡ future self.old.nfa self.old.kind first (units (between None text.now look_ahead))) }
-        ensures after { OnOk result (cache self.new ≡ after_walk (cache self.old) first
-            (units (between None text.now look_ahead))) }
-        ensures failed { OnErr result (IsCutOff (cache self.old) first
-            (units (between None text.now look_ahead)) (cache self.new)) }
+            ≡ future self.old.nfa self.old.kind first (units text.now)) }
+        ensures after { OnOk result (cache self.new
+            ≡ after_walk (cache self.old) first (units text.now)) }
+        ensures failed { OnErr result (IsCutOff (cache self.old) first (units text.now)
+            (cache self.new)) }
         ensures grows { Grows (cache self.old) (cache self.new) }
     {
         let mut states = Vec::with_capacity(self.alloc, text.len() + 2)?;
         let mut cursor = self.cursor_of(&first)?;
         states.push(first)?;
-        for byte in text {
-            cursor = self.step(cursor, Some(*byte))?;
+        let mut read = 0;
+        while read <= text.len() {
+            let unit = text.unit(read);
+            cursor = self.step(cursor, unit)?;
             states.push(self.state_at(&cursor)?)?;
+            read += 1;
         }
-        cursor = self.step(cursor, look_ahead)?;
-        states.push(self.state_at(&cursor)?)?;
         Ok(states)
     }
 
@@ -254,6 +254,6 @@ impl<'n, N: Allocator, A: Allocator + Copy> Lazy<'n, N, A> {
         ensures grows { Grows (cache self.old) (cache self.new) }
     {
         let first = self.start_state(start, look_behind)?;
-        self.walk_from(first, text, look_ahead)
+        self.walk_from(first, &Text::new(look_behind, text, look_ahead))
     }
 }

@@ -4,8 +4,8 @@
 //! the states that `determinize_core::determinize::walk` returns. A search returns the last match
 //! of such a walk, also in a range of a haystack and in either direction.
 //!
-//! - `lazy`: the type, and walks. `search`: searches. `step`: one step of either, and the rule of
-//!   what is cached.
+//! - `lazy`: the type, and walks. `search`: searches. `text`: what they read. `step`: one step of
+//!   either, and the rule of what is cached.
 //! - `table`: the transition table, with `state_table` (the cached states), `state_id` and `tag`.
 //! - `scratch`: what the steps of `determinize_core` work with.
 //!
@@ -22,5 +22,6 @@ mod state_table;
 mod step;
 mod table;
 mod tag;
+mod text;
 
 pub use crate::lazy::Lazy;

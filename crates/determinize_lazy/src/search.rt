@@ -1,28 +1,27 @@
 //! Searches over the cache: the last match of a walk, without a list of its states.
 
-ghost use Rattle.std.specs.Prelude.{Decides, ℕ, Option, ◌≡◌, ◌<◌, ◌≤◌, ◌-◌, false, true, [], is_some, length, option_map, slice_get, slice_index, slice_index_or, IfOk, OnErr, OnOk, Ok, None, Some};
+ghost use Rattle.std.specs.Prelude.{Decides, ◌≡◌, ◌<◌, ◌≤◌, ◌-◌, false, true, [], is_some, length, not, option_map, slice_index_or, IfOk, OnErr, OnOk, Ok, None, Some};
 ghost use Rattle.std.specs.Option.{IfNone, IfSome};
 ghost use Rattle.determinize_below.specs.Nfa.{AllResolve};
 ghost use Rattle.determinize_below.specs.Positions.{between};
 ghost use Rattle.determinize_below.specs.Search.{is_done};
 ghost use Rattle.determinize_below.specs.declared.search.MatchKind.TheVariants as kinds;
-ghost use Rattle.determinize_core.specs.Chain.{chain, units};
+ghost use Rattle.determinize_core.specs.Chain.{units};
 ghost use Rattle.determinize_core.specs.Step.{start_value};
 ghost use Rattle.determinize_core.specs.Value.{Value as StateValue, dead};
-ghost use Rattle.determinize_core.specs.Walk.{last_match};
 ghost use Rattle.determinize_lazy.specs.Cache.{Cache, Grows, IsCutOff, cache};
 ghost use Rattle.determinize_lazy.specs.Private.Cursors.{IsCursor, cursor_value};
-ghost use Rattle.determinize_lazy.specs.Private.Searched.{IsDecided, IsOver, IsSearched};
+ghost use Rattle.determinize_lazy.specs.Private.Searched.{IsOver, IsOverIn, IsSearched};
 ghost use Rattle.determinize_lazy.specs.Private.Steps.{IsSound};
 ghost use Rattle.determinize_lazy.specs.Private.Tags.{match_of};
-ghost use Rattle.determinize_lazy.specs.Searches.{HasMatch, IsCutOffIn, IsFarthestIn, IsPlenty, IsPlentyIn, IsPreferredIn, IsSearch, after_first_match, after_input, after_is_match, after_search, has_start, in_haystack, in_order, last_in, start_for, text_of};
+ghost use Rattle.determinize_lazy.specs.Searches.{HasMatch, IsCutOffIn, IsFarthestIn, IsPlenty, IsPlentyIn, IsPreferredIn, IsSearch, after_input, after_is_match, after_search, has_start, in_haystack, last_in, start_for, text_of};
 
 use crate::lazy::Lazy;
 use crate::state_id::LazyStateId;
 use crate::table::Cursor;
 use crate::tag::LastMatch;
+use crate::text::Text;
 use determinize_below::{Anchored, HalfMatch, Input, StateID};
-use determinize_core::start::{look_ahead_forward, look_ahead_reverse};
 use std::alloc::{AllocError, Allocator};
 
 /// How far a search has come: where it is, how many units it has read, and the last match of the
@@ -40,56 +39,6 @@ struct Progress {
     id: LazyStateId,
     read: usize,
     last: LastMatch,
-}
-
-/// Returns the byte at an index in the order of reading.
-#[inline(always)]
-fn byte_at(text: &[u8], is_backward: bool, index: usize) -> u8
-    requires { index < length text.now }
-    ensures { result ≡ slice_index (in_order is_backward text.now) index }
-{
-    if is_backward {
-        text[text.len() - 1 - index]
-    } else {
-        text[index]
-    }
-}
-
-/// Returns the unit at an index in the order of reading: a byte of the text, or the one ahead of
-/// it.
-#[inline(always)]
-fn unit_at(text: &[u8], is_backward: bool, look_ahead: Option<u8>, index: usize) -> Option<u8>
-    requires { index ≤ length text.now }
-    ensures { slice_get (units (between None (in_order is_backward text.now) look_ahead)) index
-        ≡ Some result }
-{
-    if index == text.len() {
-        look_ahead
-    } else {
-        Some(byte_at(text, is_backward, index))
-    }
-}
-
-/// Returns the byte that is read just before the range, in the direction of reading.
-fn byte_behind(input: &Input<'_>, is_backward: bool) -> Option<u8>
-    ensures { result ≡ (text_of is_backward input.now).behind }
-{
-    if is_backward {
-        look_ahead_forward(input)
-    } else {
-        look_ahead_reverse(input)
-    }
-}
-
-/// Returns the byte just ahead of the range, in the direction of reading.
-fn byte_ahead(input: &Input<'_>, is_backward: bool) -> Option<u8>
-    ensures { result ≡ (text_of is_backward input.now).ahead }
-{
-    if is_backward {
-        look_ahead_reverse(input)
-    } else {
-        look_ahead_forward(input)
-    }
 }
 
 /// Returns a match in the range, with its offset in the haystack.
@@ -111,32 +60,32 @@ fn in_haystack(input: &Input<'_>, is_backward: bool, found: Option<HalfMatch>) -
 }
 
 impl<'n, N: Allocator, A: Allocator + Copy> Lazy<'n, N, A> {
-    /// Follows cached transitions over bytes of the text, as far as they go and no state is dead.
+    /// Follows cached transitions over bytes of the text, up to a state at which the search ends.
     /// The cache is only read.
     #[inline(always)]
-    fn follow(&self, from: Progress, text: &[u8], is_backward: bool) -> Progress
+    fn follow(&self, from: Progress, text: &Text<'_>, earliest: bool) -> Progress
         requires id { from.id < length self.now.states }
-        requires read { from.read ≤ length text.now }
+        requires read { from.read ≤ length text.now.bytes }
         ensures id { result.id < length self.now.states }
         ensures forward { from.read ≤ result.read }
-        ensures read { result.read ≤ length text.now }
-        ensures searched { (old : Cache) (first : StateValue) (ahead : Option ℕ)
-            → let us = units (between None (in_order is_backward text.now) ahead)
-            in IsSearched old first us from.read (slice_index_or self.now.states from.id dead)
-            (match_of from.last) (cache self.now)
-            → IsSearched old first us result.read (slice_index_or self.now.states result.id dead)
-            (match_of result.last) (cache self.now) }
+        ensures read { result.read ≤ length text.now.bytes }
+        ensures searched { (old : Cache) (first : StateValue)
+            → IsSearched earliest old first (units text.now) from.read
+            (slice_index_or self.now.states from.id dead) (match_of from.last) (cache self.now)
+            → IsSearched earliest old first (units text.now) result.read
+            (slice_index_or self.now.states result.id dead) (match_of result.last)
+            (cache self.now) }
     {
         let mut at = from;
         while at.read < text.len() {
-            let byte = byte_at(text, is_backward, at.read);
+            let byte = text.byte(at.read);
             // The entry comes before the tag, since the next entry waits for it.
             let target = self.table.lookup(at.id, Some(byte));
             let tag = self.table.tag(at.id);
             let Some(id) = target else {
                 return at;
             };
-            if tag.is_dead() {
+            if tag.is_last(earliest) {
                 return at;
             }
             at.last = at.last.or_match(tag, at.read);
@@ -148,23 +97,22 @@ impl<'n, N: Allocator, A: Allocator + Copy> Lazy<'n, N, A> {
 
     /// Follows cached transitions from a position, if its state is cached.
     #[inline(always)]
-    fn run(&self, from: Position<A>, text: &[u8], is_backward: bool) -> Position<A>
+    fn run(&self, from: Position<A>, text: &Text<'_>, earliest: bool) -> Position<A>
         requires cursor { IsCursor (cache self.now).table from.cursor }
-        requires read { from.read ≤ length text.now }
+        requires read { from.read ≤ length text.now.bytes }
         ensures cursor { IsCursor (cache self.now).table result.cursor }
         ensures forward { from.read ≤ result.read }
-        ensures read { result.read ≤ length text.now }
-        ensures searched { (old : Cache) (first : StateValue) (ahead : Option ℕ)
-            → let us = units (between None (in_order is_backward text.now) ahead)
-            in IsSearched old first us from.read (cursor_value self.now.states from.cursor)
-            (match_of from.last) (cache self.now)
-            → IsSearched old first us result.read (cursor_value self.now.states result.cursor)
-            (match_of result.last) (cache self.now) }
+        ensures read { result.read ≤ length text.now.bytes }
+        ensures searched { (old : Cache) (first : StateValue)
+            → IsSearched earliest old first (units text.now) from.read
+            (cursor_value self.now.states from.cursor) (match_of from.last) (cache self.now)
+            → IsSearched earliest old first (units text.now) result.read
+            (cursor_value self.now.states result.cursor) (match_of result.last) (cache self.now) }
     {
         let Position { cursor, read, last } = from;
         match cursor {
             Cursor::Cached(id) => {
-                let at = self.follow(Progress { id, read, last }, text, is_backward);
+                let at = self.follow(Progress { id, read, last }, text, earliest);
                 Position {
                     cursor: Cursor::Cached(at.id),
                     read: at.read,
@@ -179,38 +127,35 @@ impl<'n, N: Allocator, A: Allocator + Copy> Lazy<'n, N, A> {
         }
     }
 
-    /// Searches from a cursor, forward or backward, and returns the last match of the walk from it.
-    /// The search stops at a dead state.
+    /// Searches from a cursor. The search ends at a dead state and, if `earliest`, at the first
+    /// match state. Returns the last match of the states that it enters.
     #[inline(always)]
     fn search_from(
         &mut self,
         start: Cursor<A>,
-        text: &[u8],
-        is_backward: bool,
-        look_ahead: Option<u8>,
+        text: &Text<'_>,
+        earliest: bool,
     ) -> Result<Option<HalfMatch>, AllocError>
         requires cursor { IsCursor (cache self.old).table start }
         requires unmatched { (cursor_value self.old.states start).patterns ≡ [] }
         requires resolve { AllResolve self.old.nfa
             (cursor_value self.old.states start).states }
         requires sound { IsSound (cache self.old) }
-        ensures over { let us = units (between None (in_order is_backward text.now) look_ahead)
-            in IfOk result (λ found. IsOver (cache self.old)
-            (cursor_value self.old.states start) us found (cache self.new)) }
-        ensures failed { let us = units (between None (in_order is_backward text.now) look_ahead)
-            in OnErr result (IsCutOff (cache self.old)
-            (cursor_value self.old.states start) us (cache self.new)) }
+        ensures over { IfOk result (λ found. IsOver earliest (cache self.old)
+            (cursor_value self.old.states start) (units text.now) found (cache self.new)) }
+        ensures failed { OnErr result (IsCutOff (cache self.old)
+            (cursor_value self.old.states start) (units text.now) (cache self.new)) }
         ensures grows { Grows (cache self.old) (cache self.new) }
     {
         let (mut cursor, mut read, mut last) = (start, 0, LastMatch::NONE);
         while read <= text.len() {
-            let at = self.run(Position { cursor, read, last }, text, is_backward);
+            let at = self.run(Position { cursor, read, last }, text, earliest);
             let tag = self.tag_at(&at.cursor);
             last = at.last.or_match(tag, at.read);
-            if tag.is_dead() {
+            if tag.is_last(earliest) {
                 return Ok(last.get());
             }
-            let unit = unit_at(text, is_backward, look_ahead, at.read);
+            let unit = text.unit(at.read);
             cursor = self.step(at.cursor, unit)?;
             read = at.read + 1;
         }
@@ -218,94 +163,47 @@ impl<'n, N: Allocator, A: Allocator + Copy> Lazy<'n, N, A> {
         Ok(last.or_match(tag, read).get())
     }
 
-    /// Searches a text, forward or backward, as `search` does.
+    /// Searches a text from the start state of a walk over it.
     #[inline(always)]
     fn search_text(
         &mut self,
         start: StateID,
-        look_behind: Option<u8>,
-        text: &[u8],
-        is_backward: bool,
-        look_ahead: Option<u8>,
+        text: &Text<'_>,
+        earliest: bool,
     ) -> Result<Option<HalfMatch>, AllocError>
         requires { start < length self.old.nfa.states }
-        ensures search { let read = between look_behind (in_order is_backward text.now) look_ahead
-            in IfOk result (λ found. IsSearch self.old.nfa self.old.kind start read found) }
-        ensures after { let read = between look_behind (in_order is_backward text.now) look_ahead
-            in OnOk result (cache self.new ≡ after_search (cache self.old) start read) }
-        ensures plenty { let read = between look_behind (in_order is_backward text.now) look_ahead
-            in OnOk result (IsPlenty (cache self.old) start read (cache self.new)) }
-        ensures failed { let read = between look_behind (in_order is_backward text.now) look_ahead
-            in OnErr result (IsCutOff (cache self.old) (start_value self.old.nfa start look_behind)
-            (units read) (cache self.new)) }
+        ensures over { IfOk result (λ found. IsOver earliest (cache self.old)
+            (start_value self.old.nfa start text.now.behind) (units text.now) found
+            (cache self.new)) }
+        ensures sound { IsSound (cache self.old) }
+        ensures failed { OnErr result (IsCutOff (cache self.old)
+            (start_value self.old.nfa start text.now.behind) (units text.now)
+            (cache self.new)) }
         ensures grows { Grows (cache self.old) (cache self.new) }
     {
-        let cursor = self.start(start, look_behind)?;
-        self.search_from(cursor, text, is_backward, look_ahead)
+        let cursor = self.start(start, text.behind())?;
+        self.search_from(cursor, text, earliest)
     }
 
-    /// Returns whether the walk from a cursor reaches a match state. Stops at the first one, and at
-    /// a dead state.
+    /// Searches the range of an input in the direction of the NFA. The match is one of the text that
+    /// is read.
     #[inline(always)]
-    fn is_match_from(
+    fn search_range(
         &mut self,
-        start: Cursor<A>,
-        text: &[u8],
-        is_backward: bool,
-        look_ahead: Option<u8>,
-    ) -> Result<bool, AllocError>
-        requires cursor { IsCursor (cache self.old).table start }
-        requires unmatched { (cursor_value self.old.states start).patterns ≡ [] }
-        requires resolve { AllResolve self.old.nfa
-            (cursor_value self.old.states start).states }
-        requires sound { IsSound (cache self.old) }
-        ensures decided { let us = units (between None (in_order is_backward text.now) look_ahead)
-            in IfOk result (λ found. IsDecided (cache self.old)
-            (cursor_value self.old.states start) us found (cache self.new)) }
-        ensures failed { let us = units (between None (in_order is_backward text.now) look_ahead)
-            in OnErr result (IsCutOff (cache self.old)
-            (cursor_value self.old.states start) us (cache self.new)) }
+        input: &Input<'_>,
+        earliest: bool,
+    ) -> Result<Option<HalfMatch>, AllocError>
+        requires start { has_start input.now.anchored ≡ true }
+        requires more { is_done input.now ≡ false }
+        ensures over { IfOk result
+            (λ found. IsOverIn earliest (cache self.old) input.now found (cache self.new)) }
+        ensures sound { IsSound (cache self.old) }
+        ensures failed { OnErr result (IsCutOffIn (cache self.old) input.now (cache self.new)) }
         ensures grows { Grows (cache self.old) (cache self.new) }
     {
-        let (mut cursor, mut read) = (start, 0);
-        while read <= text.len() {
-            let tag = self.tag_at(&cursor);
-            if tag.is_match() {
-                return Ok(true);
-            }
-            if tag.is_dead() {
-                return Ok(false);
-            }
-            let unit = unit_at(text, is_backward, look_ahead, read);
-            cursor = self.step(cursor, unit)?;
-            read += 1;
-        }
-        Ok(self.tag_at(&cursor).is_match())
-    }
-
-    /// Returns whether some run over a text accepts.
-    #[inline(always)]
-    fn is_match_in(
-        &mut self,
-        start: StateID,
-        look_behind: Option<u8>,
-        text: &[u8],
-        is_backward: bool,
-        look_ahead: Option<u8>,
-    ) -> Result<bool, AllocError>
-        requires { start < length self.old.nfa.states }
-        ensures found { let read = between look_behind (in_order is_backward text.now) look_ahead
-            in IfOk result
-            (λ found. found ≡ is_some (last_match (chain self.old.nfa self.old.kind start read))) }
-        ensures after { let read = between look_behind (in_order is_backward text.now) look_ahead
-            in OnOk result (cache self.new ≡ after_first_match (cache self.old) start read) }
-        ensures failed { let read = between look_behind (in_order is_backward text.now) look_ahead
-            in OnErr result (IsCutOff (cache self.old) (start_value self.old.nfa start look_behind)
-            (units read) (cache self.new)) }
-        ensures grows { Grows (cache self.old) (cache self.new) }
-    {
-        let cursor = self.start(start, look_behind)?;
-        self.is_match_from(cursor, text, is_backward, look_ahead)
+        let start = self.start_for(input.get_anchored());
+        let text = Text::of_input(input, self.nfa.is_reverse());
+        self.search_text(start, &text, earliest)
     }
 
     /// Returns the last match of the walk that `walk_between` makes over the same text, or `None`
@@ -343,7 +241,8 @@ impl<'n, N: Allocator, A: Allocator + Copy> Lazy<'n, N, A> {
             (units (between look_behind text.now look_ahead)) (cache self.new)) }
         ensures grows { Grows (cache self.old) (cache self.new) }
     {
-        self.search_text(start, look_behind, text, false, look_ahead)
+        let text = Text::new(look_behind, text, look_ahead);
+        self.search_text(start, &text, false)
     }
 
     /// Returns the last match of a search of an input, or `None` if no run accepts.
@@ -383,17 +282,11 @@ impl<'n, N: Allocator, A: Allocator + Copy> Lazy<'n, N, A> {
         ensures failed { OnErr result (IsCutOffIn (cache self.old) input.now (cache self.new)) }
         ensures grows { Grows (cache self.old) (cache self.new) }
     {
-        let is_backward = self.nfa.is_reverse();
-        let id = self.start_for(input.get_anchored());
-        let (start, end) = (input.start(), input.end());
-        if start > end {
+        if input.is_done() {
             return Ok(None);
         }
-        let behind = byte_behind(input, is_backward);
-        let range = &input.haystack()[start..end];
-        let ahead = byte_ahead(input, is_backward);
-        let found = self.search_text(id, behind, range, is_backward, ahead)?;
-        Ok(in_haystack(input, is_backward, found))
+        let found = self.search_range(input, false)?;
+        Ok(in_haystack(input, self.nfa.is_reverse(), found))
     }
 
     /// Returns whether an input has a match, under both match kinds: whether some run over what
@@ -416,16 +309,10 @@ impl<'n, N: Allocator, A: Allocator + Copy> Lazy<'n, N, A> {
         ensures failed { OnErr result (IsCutOffIn (cache self.old) input.now (cache self.new)) }
         ensures grows { Grows (cache self.old) (cache self.new) }
     {
-        let is_backward = self.nfa.is_reverse();
-        let id = self.start_for(input.get_anchored());
-        let (start, end) = (input.start(), input.end());
-        if start > end {
+        if input.is_done() {
             return Ok(false);
         }
-        let behind = byte_behind(input, is_backward);
-        let range = &input.haystack()[start..end];
-        let ahead = byte_ahead(input, is_backward);
-        self.is_match_in(id, behind, range, is_backward, ahead)
+        Ok(self.search_range(input, true)?.is_some())
     }
 
     /// Returns the start state of a search that is so anchored.

@@ -2,7 +2,7 @@
 
 ghost use Rattle.std.specs.Prelude.{◌≡◌, ◌-◌, is_some};
 ghost use Rattle.std.specs.Option.{option_or};
-ghost use Rattle.determinize_lazy.specs.Private.Tags.{match_at, match_of, tag_in, tag_of};
+ghost use Rattle.determinize_lazy.specs.Private.Tags.{is_last_tag, match_at, match_of, tag_in, tag_of};
 
 use determinize_below::{HalfMatch, PatternID};
 use determinize_core::state::State;
@@ -47,12 +47,13 @@ impl StateTag {
         self.bits % DEAD > 0
     }
 
-    /// Returns whether the state is dead.
+    /// Returns whether a search ends at the state: at a dead state and, if `earliest`, at a match
+    /// state.
     #[inline(always)]
-    pub(crate) fn is_dead(self) -> bool
-        ensures { result ≡ (tag_in self.bits).is_dead }
+    pub(crate) fn is_last(self, earliest: bool) -> bool
+        ensures { result ≡ is_last_tag earliest (tag_in self.bits) }
     {
-        self.bits >= DEAD
+        earliest && self.is_match() || self.bits >= DEAD
     }
 }
 

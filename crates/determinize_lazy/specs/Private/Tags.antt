@@ -1,5 +1,5 @@
 -- What a search asks of a state, and how it is stored.
-use Rattle.std.specs.Prelude.{ℕ, Bool, ◌-◌, ◌%◌, None, Some, Option, cond, nat_eq, nat_le, not, option_map, slice_get}
+use Rattle.std.specs.Prelude.{ℕ, Bool, ◌-◌, ◌%◌, ◌&&◌, ◌||◌, is_some, None, Some, Option, cond, nat_eq, nat_le, not, option_map, slice_get}
 use Rattle.determinize_below.specs.declared.search.HalfMatch.{HalfMatch}
 use Rattle.determinize_core.specs.Value.{Value, is_nonempty}
 use Rattle.determinize_lazy.specs.declared.tag.LastMatch.{LastMatch}
@@ -20,6 +20,10 @@ packed_pattern n = cond (nat_eq n 0) None (Some (n - 1))
 -- a tag in a number: the highest of 32 bits for a dead state, the pattern in the others
 abbrev pub tag_in : ℕ → Tag
 tag_in n = record { pattern = packed_pattern (n % 2147483648); is_dead = nat_le 2147483648 n }
+
+-- whether a search ends at a state with this tag
+abbrev pub is_last_tag : Bool → Tag → Bool
+is_last_tag earliest tag = (earliest && is_some tag.pattern) || tag.is_dead
 
 -- the match of a pattern that ends at an offset
 abbrev pub match_at : ℕ → Option ℕ → Option HalfMatch

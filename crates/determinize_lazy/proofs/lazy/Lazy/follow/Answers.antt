@@ -1,4 +1,4 @@
-use Rattle.std.proofs.Common.{arith, ◌≡◌, ◌<◌, ◌≤◌, ◌-◌, ◌∙◌, length, ap, sym, subst, Some}
+use Rattle.std.proofs.Common.{arith, rules, ◌≡◌, ◌<◌, ◌≤◌, ◌-◌, ◌∙◌, length, ap, subst, Some}
 use Rattle.std.specs.Option.{option_or}
 use Rattle.std.specs.Prelude.{slice_get, slice_index_or}
 use Rattle.std.proofs.lemmas.Option.{slice_get-get_or}
@@ -6,35 +6,34 @@ use Rattle.determinize_core.specs.Value.{dead, Value}
 use Rattle.determinize_lazy.specs.Cache.{cache, LazyValue, step_of}
 use Rattle.determinize_lazy.specs.Private.Rows.{IsTarget}
 use Rattle.determinize_lazy.specs.Private.Tags.{match_of, tag_in, tag_of}
-use Rattle.determinize_lazy.specs.Searches.{in_order}
 use Rattle.determinize_lazy.specs.Table.{IsTable}
 use Rattle.determinize_lazy.proofs.Cursors.{cached_step, cached_target}
-use Rattle.determinize_lazy.proofs.Searching.{length-in_order, searched-step, tag-alive, tag-match, unit-byte}
+use Rattle.determinize_lazy.proofs.Searching.{searched-step, tag-last, tag-match}
 use Rattle.determinize_lazy.proofs.lazy.Lazy.follow.Goals as goal
 
 pub loop-at-preserved : goal.loop-at-preserved
 loop-at-preserved g c =
     let v : Value = slice_index_or c.args.self.now.states c.loop-at.at.id dead in
-    let at : slice_get c.args.self.now.states c.loop-at.at.id ≡ Some v = slice_get-get_or c.args.self.now.states c.loop-at.at.id dead c.loop-at.invariant.id in
-    let here : slice_get c.self.inside.table.states c.loop-at.at.id ≡ Some v = ap (λ (x : LazyValue). slice_get x.states c.loop-at.at.id) c.self.view_is ∙ at in
+    let here : slice_get c.self.inside.table.states c.loop-at.at.id ≡ Some v =
+    ap (λ (x : LazyValue). slice_get x.states c.loop-at.at.id) c.self.view_is
+    ∙ slice_get-get_or c.args.self.now.states c.loop-at.at.id dead c.loop-at.invariant.id in
     let table : IsTable (step_of (cache c.args.self.now)) (cache c.args.self.now).table =
     subst (λ (x : LazyValue). IsTable (step_of (cache x)) (cache x).table) c.self.view_is c.self.invariant.table in
-    let target : IsTarget (cache c.args.self.now).table v (Some c.byte_at-byte.result) (Some c.in-Some.id) =
-    subst (λ (x : LazyValue). IsTarget (cache x).table v (Some c.byte_at-byte.result) (Some c.in-Some.id)) c.self.view_is (c.in-Some.ensures v here) in
+    let target : IsTarget (cache c.args.self.now).table v (Some c.byte-byte.result) (Some c.in-Some.id) =
+    subst (λ (x : LazyValue). IsTarget (cache x).table v (Some c.byte-byte.result) (Some c.in-Some.id)) c.self.view_is
+    (c.in-Some.ensures v here) in
     let tag : tag_in c.tag-tag.result.bits ≡ tag_of v = c.tag-tag.ensures v here in
-    let next = cached_target (cache c.args.self.now) v (Some c.byte_at-byte.result) c.in-Some.id table target {A = Unit {0}} in
-    let inside : c.loop-at.at.read < length (in_order c.args.is_backward c.args.text.now) =
-    subst (λ n. c.loop-at.at.read < n) (sym (length-in_order c.args.is_backward c.args.text.now)) c.loop-at-test.true in
+    let next = cached_target (cache c.args.self.now) v (Some c.byte-byte.result) c.in-Some.id table target
+    {A = Unit {0}} in
     record {
       id = next.cursor_is;
       forward = let so_far : c.args.from.read ≤ c.loop-at.at.read = c.loop-at.invariant.forward in omega (arith, so_far);
-      read = let more : c.loop-at.at.read < length c.args.text.now = c.loop-at-test.true in omega (arith, more);
-      searched = λ old first ahead s.
-          searched-step (c.loop-at.invariant.searched old first ahead s) (Some c.byte_at-byte.result) _ _ _
-          (unit-byte (in_order c.args.is_backward c.args.text.now) ahead c.loop-at.at.read c.byte_at-byte.result
-          (slice_get-get_or (in_order c.args.is_backward c.args.text.now) c.loop-at.at.read 0 inside ∙ ap Some (sym c.byte_at-byte.ensures)))
-          (tag-alive c.tag-tag.result.bits v tag c.is_dead.ensures c.if-is_dead.false)
-          (c.or_match-at.ensures ∙ ap (λ o. option_or o (match_of c.loop-at.at.last)) (tag-match c.tag-tag.result.bits v tag (c.loop-at.at.read - 1)))
+      read = let more : c.loop-at.at.read < length c.args.text.now.bytes = search rules in omega (arith, more);
+      searched = λ old first s.
+          searched-step (c.loop-at.invariant.searched old first s) c.byte-byte.ensures
+          (tag-last c.tag-tag.result.bits v tag _ c.is_last.ensures c.if-is_last.false)
+          (c.or_match-at.ensures
+          ∙ ap (λ o. option_or o (match_of c.loop-at.at.last)) (tag-match c.tag-tag.result.bits v tag (c.loop-at.at.read - 1)))
           next.value
-          (cached_step (cache c.args.self.now) v (Some c.byte_at-byte.result) c.in-Some.id table target);
+          (cached_step (cache c.args.self.now) v (Some c.byte-byte.result) c.in-Some.id table target);
     }

@@ -1,20 +1,18 @@
-use Rattle.std.proofs.Common.{◌-◌, ◌+◌, None, length}
-use Rattle.determinize_below.specs.Positions.{between}
+use Rattle.std.proofs.Common.{◌-◌, ◌+◌, length}
 use Rattle.determinize_core.specs.Chain.{units}
 use Rattle.determinize_lazy.specs.Cache.{cache, Grows}
 use Rattle.determinize_lazy.specs.Private.Cursors.{cursor_value, IsCursor}
 use Rattle.determinize_lazy.specs.Private.Searched.{IsSearched}
 use Rattle.determinize_lazy.specs.Private.Tags.{match_of}
-use Rattle.determinize_lazy.specs.Searches.{in_order}
 use Rattle.determinize_lazy.proofs.lazy.Lazy.search_from.Given as goal
 
 abbrev pub invariant-loop-read : goal.invariant-loop-read
 invariant-loop-read g l = record {
-  searched : IsSearched (cache l.fn.self) (cursor_value l.fn.self.states l.fn.start) (units (between None (in_order l.fn.is_backward l.text) l.fn.look_ahead)) l.read
+  searched : IsSearched l.fn.earliest (cache l.fn.self) (cursor_value l.fn.self.states l.fn.start) (units l.text) l.read
       (cursor_value l.self.states l.cursor) (match_of l.last) (cache l.self);
   cursor : IsCursor (cache l.self).table l.cursor;
   grows : Grows (cache l.fn.self) (cache l.self);
 }
 
 abbrev pub decreases-loop-read : goal.decreases-loop-read
-decreases-loop-read g l = length l.text + 1 - l.read
+decreases-loop-read g l = length l.text.bytes + 1 - l.read

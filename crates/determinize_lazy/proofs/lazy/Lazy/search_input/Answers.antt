@@ -1,50 +1,48 @@
-use Rattle.std.proofs.Common.{rules, ◌≡◌, ◌<◌, ◌≤◌, arith, subst, sym}
-use Rattle.std.specs.List.{slice_range}
-use Rattle.determinize_below.specs.Positions.{between}
-use Rattle.determinize_below.specs.Nfa.{IsAccepted}
-use Rattle.determinize_lazy.specs.Cache.{cache, LazyValue}
-use Rattle.determinize_lazy.specs.Searches.{in_order, start_for}
-use Rattle.determinize_lazy.proofs.Ranges.{after-done, after-found, farthest-found, IsRead, last-done, last-found, none-found, read}
+use Rattle.std.proofs.Common.{rules, ◌≡◌, ◌∙◌, refl, sym, false}
+use Rattle.determinize_below.specs.Search.{is_done}
+use Rattle.determinize_lazy.specs.Cache.{cache}
+use Rattle.determinize_lazy.proofs.Ranges.{after-done, after-found, IsAnswer, is-answer, last-done, offset-within, plenty-found, search-is}
 use Rattle.determinize_lazy.proofs.lazy.Lazy.search_input.Given.{Over}
-use Rattle.determinize_lazy.proofs.lazy.Lazy.search_input.Goals.{After-byte_ahead-ahead, Then-start-end}
+use Rattle.determinize_lazy.proofs.lazy.Lazy.search_input.Goals.{After-in_haystack}
 use Rattle.determinize_lazy.proofs.lazy.Lazy.search_input.Goals as goal
 
--- nothing is left to search
-is_past : (g : Over) (c : Then-start-end g) → c.args.input.now.end < c.args.input.now.start
-is_past g c = omega (arith, c.if-start-end.true, c.start-start.ensures.value, c.end-end.ensures.value)
+pub returns-then-is_done-clause-last : goal.returns-then-is_done-clause-last
+returns-then-is_done-clause-last g c = last-done c.args.input.now (sym c.is_done.ensures ∙ c.if-is_done.true) _ _
 
--- what is searched is what the input asks for
-is_read : (g : Over) (c : After-byte_ahead-ahead g)
-    → IsRead c.args.self.now.nfa c.args.input.now c.is_reverse-is_backward.result c.start_for-id.result (between c.byte_behind-behind.result (in_order c.is_reverse-is_backward.result (slice_range c.haystack.result.now c.start-start.result c.end-end.result)) c.byte_ahead-ahead.result)
-is_read g c =
-    let order : c.args.input.now.start ≤ c.args.input.now.end = omega (arith, c.if-start-end.false, c.start-start.ensures.value, c.end-end.ensures.value) in
-    let direction : c.is_reverse-is_backward.result ≡ c.args.self.now.nfa.reverse = search rules in
-    let start : c.start_for-id.result ≡ start_for c.args.self.now.nfa c.args.input.now.anchored = search rules in
-    let range : slice_range c.haystack.result.now c.start-start.result c.end-end.result ≡ slice_range c.args.input.now.haystack c.args.input.now.start c.args.input.now.end = search rules in
-    read c.args.self.now.nfa c.args.input.now c.is_reverse-is_backward.result c.start_for-id.result _ _ _ order direction start c.byte_behind-behind.ensures range c.byte_ahead-ahead.ensures
+pub returns-then-is_done-clause-after : goal.returns-then-is_done-clause-after
+returns-then-is_done-clause-after g c =
+    after-done c.args.input.now (sym c.is_done.ensures ∙ c.if-is_done.true) (cache c.args.self.now)
 
-pub returns-then-start-end-clause-last : goal.returns-then-start-end-clause-last
-returns-then-start-end-clause-last g c = last-done c.args.self.now.nfa c.args.self.now.kind c.args.input.now (is_past g (goal.at.returns-then-start-end-clause-last g c).Then-start-end)
+pub in_haystack-requires-clause-within : goal.in_haystack-requires-clause-within
+in_haystack-requires-clause-within g c =
+    offset-within c.args.input.now (search-is c.args.input.now c.search_range.ensures.sound.accepted
+    (sym c.is_done.ensures ∙ c.if-is_done.false) c.in_ok-found.ensures.over refl)
 
-pub returns-then-start-end-clause-after : goal.returns-then-start-end-clause-after
-returns-then-start-end-clause-after g c = sym (after-done (cache c.args.self.now) c.args.input.now (is_past g (goal.at.returns-then-start-end-clause-after g c).Then-start-end))
+-- the match that is returned
+answer : (g : Over) (c : After-in_haystack g)
+    → IsAnswer c.args.self.now.nfa c.args.self.now.kind c.args.input.now c.in_haystack.result
+answer g c =
+    let more : is_done c.args.input.now ≡ false = sym c.is_done.ensures ∙ c.if-is_done.false in
+    let direction : c.is_reverse.result ≡ c.args.self.now.nfa.reverse = search rules in
+    is-answer c.search_range.ensures.sound.accepted more direction c.in_haystack.ensures.value
+    (search-is c.args.input.now c.search_range.ensures.sound.accepted more c.in_ok-found.ensures.over refl)
 
 pub returns-clause-last : goal.returns-clause-last
-returns-clause-last g c =
-    last-found c.args.self.now.nfa c.args.self.now.kind c.args.input.now _ _ _ (is_read g (goal.at.returns-clause-last g c).After-byte_ahead-ahead)
-    c.in_ok-found.found c.in_haystack.result c.in_haystack.ensures.value c.in_ok-found.ensures.search.last
+returns-clause-last g c = (answer g (goal.at.returns-clause-last g c).After-in_haystack).last
+
+pub returns-clause-preferred : goal.returns-clause-preferred
+returns-clause-preferred g c = (answer g (goal.at.returns-clause-preferred g c).After-in_haystack).preferred
 
 pub returns-clause-farthest : goal.returns-clause-farthest
-returns-clause-farthest g c = λ kind.
-    farthest-found _ c.args.self.now.kind _ _ _ _
-    (is_read g (goal.at.returns-clause-farthest g c).After-byte_ahead-ahead)
-    c.in_ok-found.found c.in_haystack.result c.in_haystack.ensures.value (c.in_ok-found.ensures.search.farthest kind)
+returns-clause-farthest g c = (answer g (goal.at.returns-clause-farthest g c).After-in_haystack).farthest
 
 pub returns-clause-none : goal.returns-clause-none
-returns-clause-none g c = λ _.
-    none-found _ c.args.self.now.kind _ _ _ _
-    (is_read g (goal.at.returns-clause-none g c).After-byte_ahead-ahead)
-    c.in_ok-found.found c.in_haystack.result c.in_haystack.ensures.value (subst (λ (x : LazyValue). IsAccepted x.nfa) c.self.view_is c.self.invariant.accepted) c.in_ok-found.ensures.search.last
+returns-clause-none g c = λ _. (answer g (goal.at.returns-clause-none g c).After-in_haystack).none
 
 pub returns-clause-after : goal.returns-clause-after
-returns-clause-after g c = after-found (cache c.args.self.now) (cache c.search_text.new.self) c.args.input.now _ _ _ (is_read g (goal.at.returns-clause-after g c).After-byte_ahead-ahead) c.in_ok-found.ensures.after
+returns-clause-after g c =
+    after-found c.args.input.now c.search_range.ensures.sound.accepted (sym c.is_done.ensures ∙ c.if-is_done.false)
+    c.in_ok-found.ensures.over refl
+
+pub returns-clause-plenty : goal.returns-clause-plenty
+returns-clause-plenty g c = plenty-found c.args.input.now c.in_ok-found.ensures.over

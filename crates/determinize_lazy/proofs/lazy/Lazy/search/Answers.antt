@@ -1,0 +1,38 @@
+use Rattle.std.proofs.Common.{false, refl, subst}
+use Rattle.std.specs.Prelude.{IfOk}
+use Rattle.std.proofs.lemmas.Result.{IfOk-weaker}
+use Rattle.determinize_below.specs.Positions.{between, Text}
+use Rattle.determinize_core.specs.Chain.{chain, units}
+use Rattle.determinize_core.specs.Step.{start_value}
+use Rattle.determinize_lazy.specs.Cache.{cache}
+use Rattle.determinize_lazy.specs.Private.Searched.{IsOver}
+use Rattle.determinize_lazy.specs.Searches.{after_search}
+use Rattle.determinize_lazy.proofs.Headline.{is-search}
+use Rattle.determinize_lazy.proofs.Rule.{on_ok}
+use Rattle.determinize_lazy.proofs.Searching.{over-keeps}
+use Rattle.determinize_lazy.proofs.lazy.Lazy.search.Given.{Over}
+use Rattle.determinize_lazy.proofs.lazy.Lazy.search.Goals.{After-search_text}
+use Rattle.determinize_lazy.proofs.lazy.Lazy.search.Goals as goal
+
+over : (g : Over) (c : After-search_text g) → IfOk c.search_text.result (λ found. IsOver false (cache c.args.self.now)
+    (start_value c.args.self.now.nfa c.args.start c.args.look_behind)
+    (units (between c.args.look_behind c.args.text.now c.args.look_ahead)) found (cache c.search_text.new.self))
+over g c =
+    subst (λ (t : Text). IfOk c.search_text.result (λ found. IsOver false (cache c.args.self.now)
+    (start_value c.args.self.now.nfa c.args.start t.behind) (units t) found (cache c.search_text.new.self)))
+    c.new-text.ensures c.search_text.ensures.over
+
+pub returns-clause-search : goal.returns-clause-search
+unfolding chain
+returns-clause-search g c =
+    IfOk-weaker c.search_text.result _ _
+    (λ found o. is-search c.args.self.now.nfa c.args.self.now.kind c.args.start
+    (between c.args.look_behind c.args.text.now c.args.look_ahead) found c.search_text.ensures.sound.accepted
+    (o.last refl)) (over g c)
+
+pub returns-clause-after : goal.returns-clause-after
+unfolding after_search
+returns-clause-after g c = on_ok c.search_text.result (λ found o. o.after) (over g c)
+
+pub returns-clause-plenty : goal.returns-clause-plenty
+returns-clause-plenty g c = on_ok c.search_text.result (λ found o. over-keeps o) (over g c)

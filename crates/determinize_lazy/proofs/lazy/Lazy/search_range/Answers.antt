@@ -1,0 +1,36 @@
+use Rattle.std.proofs.Common.{rules, ◌≡◌, ◌∙◌, ap, refl, ℕ}
+use Rattle.std.specs.Prelude.{IfOk, OnErr}
+use Rattle.determinize_below.specs.Positions.{Text}
+use Rattle.determinize_core.specs.Chain.{units}
+use Rattle.determinize_core.specs.Step.{start_value}
+use Rattle.determinize_lazy.specs.Cache.{cache, IsCutOff, LazyValue}
+use Rattle.determinize_lazy.specs.Private.Searched.{IsOver}
+use Rattle.determinize_lazy.specs.Searches.{start_for, text_of}
+use Rattle.determinize_lazy.proofs.Rule.{along}
+use Rattle.determinize_lazy.proofs.lazy.Lazy.search_range.Given.{Over}
+use Rattle.determinize_lazy.proofs.lazy.Lazy.search_range.Goals.{After-search_text}
+use Rattle.determinize_lazy.proofs.lazy.Lazy.search_range.Goals as goal
+
+start_is : (g : Over) (c : After-search_text g)
+    → c.start_for-start.result ≡ start_for c.args.self.now.nfa c.args.input.now.anchored
+start_is g c = c.start_for-start.ensures.value ∙ ap (λ a. start_for c.args.self.now.nfa a) c.get_anchored.ensures
+
+text_is : (g : Over) (c : After-search_text g)
+    → c.of_input-text.result ≡ text_of c.args.self.now.nfa.reverse c.args.input.now
+text_is g c =
+    let direction : c.is_reverse.result ≡ c.args.self.now.nfa.reverse = search rules in
+    c.of_input-text.ensures ∙ ap (λ b. text_of b c.args.input.now) direction
+
+pub returns-clause-over : goal.returns-clause-over
+returns-clause-over g c =
+    let d = (goal.at.returns-clause-over g c).After-search_text in
+    along {x = c.args.self.now} refl (start_is g d) (text_is g d)
+    (λ (x : LazyValue) (s : ℕ) (t : Text). IfOk c.search_text.result (λ found. IsOver c.args.earliest (cache x)
+    (start_value x.nfa s t.behind) (units t) found (cache c.search_text.new.self))) c.search_text.ensures.over
+
+pub returns-clause-failed : goal.returns-clause-failed
+returns-clause-failed g c =
+    let d = (goal.at.returns-clause-failed g c).After-search_text in
+    along {x = c.args.self.now} refl (start_is g d) (text_is g d)
+    (λ (x : LazyValue) (s : ℕ) (t : Text). OnErr c.search_text.result (IsCutOff (cache x)
+    (start_value x.nfa s t.behind) (units t) (cache c.search_text.new.self))) c.search_text.ensures.failed
