@@ -1,18 +1,13 @@
 -- The last match of a walk, in words of runs.
-use Rattle.std.proofs.Common.{arith, ◌≡◌, ℕ, suc, ◌<◌, ◌≤◌, List, None, Option, Some, length, refl, subst, sym}
-use Rattle.std.specs.Option.{IfSome}
+use Rattle.determinize_lazy.proofs.Common.{◌<◌, ◌≡◌, ◌≤◌, All, arith, future, HalfMatch, IfSome, IsAccepted}
+use Rattle.determinize_lazy.proofs.Common.{IsFarthestMatch, IsPreferredMatch, IsSearch, last_match, LeftmostFirst}
+use Rattle.determinize_lazy.proofs.Common.{length, List, MatchKind, Nfa, None, Option, refl, Some, start_value, subst}
+use Rattle.determinize_lazy.proofs.Common.{suc, sym, units, ℕ}
 use Rattle.std.proofs.lemmas.List.FromFn.{length-map-range_with_len}
-use Rattle.determinize_core.specs.Chain.{chain, future, units}
-use Rattle.determinize_core.specs.Step.{start_value}
-use Rattle.determinize_core.specs.Walk.{IsFarthestMatch, IsPreferredMatch, last_match}
+use Rattle.determinize_core.specs.Chain.{chain}
 use Rattle.determinize_core.proofs.Farthest.{each_last_is_farthest}
 use Rattle.determinize_core.proofs.WholeWalk.{leftmost_walk}
-use Rattle.determinize_below.specs.Nfa.{IsAccepted, Nfa}
 use Rattle.determinize_below.specs.Positions.{Accepts, Text, after_at}
-use Rattle.determinize_below.specs.declared.search.HalfMatch.{HalfMatch}
-use Rattle.determinize_below.specs.declared.search.MatchKind.{MatchKind}
-use Rattle.determinize_below.specs.declared.search.MatchKind.TheVariants.{All, LeftmostFirst}
-use Rattle.determinize_lazy.specs.Searches.{IsSearch}
 use Rattle.determinize_lazy.proofs.LastUnits.{last_match-within}
 
 -- the last match of a chain for the preferred match is that match

@@ -1,10 +1,10 @@
 -- Indices of values in a list.
-use Rattle.std.proofs.Common.{◌≡◌, ℕ, zero, suc, ◌+◌, Bool, true, false, cond, ◌||◌, ◌⊎◌, Option, Some, None, List, [], ◌∷◌, ◌++◌, length, refl, sym, ap, ◌∙◌, inl, inr, arith, add-zero}
-use Rattle.std.specs.Prelude.{slice_get, unwrap_or}
-use Rattle.std.specs.Cmp.{IsEquivalence}
-use Rattle.std.specs.List.{list_any, position_from}
-use Rattle.std.proofs.lemmas.Map.Steps.{list_any_congr}
-use mathlib.Core.Bool.{true≢false}
+use Rattle.determinize_lazy.proofs.Common.{[], ◌++◌, ◌+◌, ◌||◌, ◌∙◌, ◌∷◌, ◌≡◌, ◌⊎◌, ap, arith, Bool, cond, false, inl}
+use Rattle.determinize_lazy.proofs.Common.{inr, IsEquivalence, length, List, list_any, list_any_congr, None, Option}
+use Rattle.determinize_lazy.proofs.Common.{refl, slice_get, Some, suc, sym, true, true≢false, zero, ℕ}
+use Rattle.std.proofs.Common.{add-zero}
+use Rattle.std.specs.Prelude.{unwrap_or}
+use Rattle.std.specs.List.{position_from}
 
 pub of_some : {A : Type 0} {x y : A} → Some x ≡ Some y → x ≡ y
 of_some {A} {x} e = ap (λ (o : Option A). unwrap_or o x) e

@@ -1,14 +1,13 @@
 -- States of which no two are equal, with a map to their indices.
-use Rattle.std.proofs.Common.{◌≡◌, ℕ, ◌+◌, ◌-◌, ◌<◌, ◌≤◌, true, false, cond, Option, Some, None, List, [], ◌∷◌, ◌++◌, length, take, sym, ap, ◌∙◌, subst, arith, length-append}
-use Rattle.std.specs.Prelude.{slice_get}
-use Rattle.std.specs.Cmp.{IsEquivalence, on_equiv}
+use Rattle.determinize_lazy.proofs.Common.{[], ◌++◌, ◌+◌, ◌-◌, ◌<◌, ◌∙◌, ◌∷◌, ◌≡◌, ◌≤◌, ap, arith, cond, false}
+use Rattle.determinize_lazy.proofs.Common.{index_in, IsEquivalence, IsIndex, length, length-append, length_push, List}
+use Rattle.determinize_lazy.proofs.Common.{list_any, None, Option, same, slice_get, Some, subst, sym, take, true, Value}
+use Rattle.determinize_lazy.proofs.Common.{ℕ}
+use Rattle.std.specs.Cmp.{on_equiv}
 use Rattle.std.specs.Cmp.Lexicographic.{nat_list_eq_equiv}
-use Rattle.std.specs.List.{list_any}
-use Rattle.std.proofs.lemmas.List.{length_push, take_at}
-use Rattle.determinize_lazy.specs.Table.{index_in, same}
-use Rattle.determinize_lazy.specs.Private.Rows.{AreInterned, IsIndex}
+use Rattle.std.proofs.lemmas.List.{take_at}
+use Rattle.determinize_lazy.specs.Private.Rows.{AreInterned}
 use Rattle.determinize_core.specs.Equality.{Decides-same, parts}
-use Rattle.determinize_core.specs.Value.{Value}
 use Rattle.determinize_lazy.proofs.Indices.{apart-push, found, none_passes, not_none, position_from-push}
 
 pub same_laws : IsEquivalence same

@@ -1,21 +1,19 @@
 -- The last match of a walk where no NFA state is left; it ends within what is read.
-use Rattle.std.proofs.Common.{◌≡◌, ℕ, suc, ◌+◌, ◌<◌, cond, Option, Some, None, true, false, List, [], ◌∷◌, ◌++◌, length, refl, sym, ap, ◌∙◌, arith, subst}
-use Rattle.std.specs.Option.{IfSome, option_or}
+use Rattle.determinize_lazy.proofs.Common.{[], ◌++◌, ◌+◌, ◌<◌, ◌∙◌, ◌∷◌, ◌≡◌, ap, arith, cond, dead, ended_at, false}
+use Rattle.determinize_lazy.proofs.Common.{future, future_is, HalfMatch, IfSome, last_match, length, List, MatchKind}
+use Rattle.determinize_lazy.proofs.Common.{Nfa, None, Option, option_or, refl, Some, subst, suc, sym, tables_of, tail}
+use Rattle.determinize_lazy.proofs.Common.{true, Value, value_after, ℕ}
 use Rattle.std.specs.List.{flat_map}
 use Rattle.determinize_core.proofs.ClosingAll.{reach-none}
-use Rattle.determinize_core.proofs.LastMatches.{future_is, last_match-tail, tail}
+use Rattle.determinize_core.proofs.LastMatches.{last_match-tail}
 use Rattle.determinize_core.proofs.StepLaws.{dead_stays}
-use Rattle.determinize_core.specs.Value.{dead, Value}
-use Rattle.determinize_core.specs.Chain.{future, value_after}
-use Rattle.determinize_core.specs.Step.{distinct_states, is_reopened, left_by, opened_by, part_read, patterns_read, step, working_list}
-use Rattle.determinize_core.specs.Walk.{ended_at, last_ended, last_match}
-use Rattle.determinize_looks.specs.LookTables.{have_after, tables_of}
+use Rattle.determinize_core.specs.Step.{distinct_states, is_reopened, left_by, opened_by, part_read, patterns_read}
+use Rattle.determinize_core.specs.Step.{step, working_list}
+use Rattle.determinize_core.specs.Walk.{last_ended}
+use Rattle.determinize_looks.specs.LookTables.{have_after}
 use Rattle.determinize_below.specs.Edges.{is_match, patterns_of, reach, target}
 use Rattle.determinize_below.specs.Look.{has}
 use Rattle.determinize_below.specs.Reach.{joined}
-use Rattle.determinize_below.specs.declared.search.HalfMatch.{HalfMatch}
-use Rattle.determinize_below.specs.Nfa.{Nfa}
-use Rattle.determinize_below.specs.declared.search.MatchKind.{MatchKind}
 
 -- a value that records no NFA states
 

@@ -1,17 +1,14 @@
 -- If there is room for all states of a walk, each of its transitions is cached and computed once.
-use Rattle.std.proofs.Common.{◌≡◌, ℕ, ◌+◌, ◌≤◌, Bool, true, false, cond, ◌&&◌, ◌||◌, Option, Some, List, [], ◌∷◌, ◌++◌, length, refl, sym, ap, ◌∙◌, subst, arith}
-use Rattle.std.specs.Prelude.{⊤, min, nat_le, is_some, Result, Ok, Err, OnOk}
-use Rattle.std.specs.List.{list_any}
-use Rattle.std.proofs.lemmas.Map.Steps.{list_any_congr}
-use Rattle.determinize_below.specs.Nfa.{Nfa}
-use Rattle.determinize_below.specs.declared.search.MatchKind.{MatchKind}
-use Rattle.determinize_core.specs.Chain.{future}
+use Rattle.determinize_lazy.proofs.Common.{[], ◌&&◌, ◌++◌, ◌+◌, ◌||◌, ◌∙◌, ◌∷◌, ◌≡◌, ◌≤◌, after_step, after_walk, ap}
+use Rattle.determinize_lazy.proofs.Common.{arith, Bool, Cache, cond, count_after, empty, Err, false, fits, future}
+use Rattle.determinize_lazy.proofs.Common.{future_is, HasRoom, is_cached, is_some, keep, KeepsAll, kept, length, List}
+use Rattle.determinize_lazy.proofs.Common.{list_any, list_any_congr, MatchKind, min, missed, nat_le, Nfa, Ok, OnOk}
+use Rattle.determinize_lazy.proofs.Common.{Option, refl, Result, same, same_unit, Some, subst, sym, Table, tail, true}
+use Rattle.determinize_lazy.proofs.Common.{Value, with_transition, with_value, ℕ}
+use Rattle.std.specs.Prelude.{⊤}
 use Rattle.determinize_core.specs.Step.{step}
-use Rattle.determinize_core.specs.Value.{Value}
-use Rattle.determinize_core.proofs.LastMatches.{future_is, tail}
-use Rattle.determinize_lazy.specs.Cache.{Cache, after_step, after_walk, count_after, fits, keep, kept, missed}
-use Rattle.determinize_lazy.specs.Plenty.{HasRoom, KeepsAll, missing, with_step, with_walk}
-use Rattle.determinize_lazy.specs.Table.{Table, empty, is_cached, same, same_unit, with_transition, with_value, with_values}
+use Rattle.determinize_lazy.specs.Plenty.{missing, with_step, with_walk}
+use Rattle.determinize_lazy.specs.Table.{with_values}
 use Rattle.determinize_lazy.proofs.Interning.{same_laws}
 use Rattle.determinize_lazy.proofs.Rows.{same_unit_itself}
 use Rattle.determinize_lazy.proofs.Tables.{any_with, length_with}

@@ -1,21 +1,18 @@
 -- What an input asks for, and the answer in its haystack.
-use Rattle.std.proofs.Common.{◌≡◌, refl, ℕ, ◌≤◌, ◌-◌, Bool, true, false, cond, Option, None, Some, List, length, drop, sym, ap, ◌∙◌, subst, arith, is_some}
-use mathlib.Core.Bool.{true≢false}
-use Rattle.std.specs.Prelude.{Decides, IfNone, IfSome, min, option_map}
+use Rattle.determinize_lazy.proofs.Common.{◌-◌, ◌∙◌, ◌≡◌, ◌≤◌, after_walk, All, ap, arith, Bool, Cache, cond, Decides}
+use Rattle.determinize_lazy.proofs.Common.{drop, false, HalfMatch, HasMatch, IfSome, is_done, is_some, IsAccepted}
+use Rattle.determinize_lazy.proofs.Common.{IsFarthestMatch, IsPreferredMatch, IsSearch, last_match, LeftmostFirst}
+use Rattle.determinize_lazy.proofs.Common.{length, length-take, List, MatchKind, min, Nfa, None, Option, option_map}
+use Rattle.determinize_lazy.proofs.Common.{refl, Some, start_for, start_value, step_of, subst, sym, text_of, true}
+use Rattle.determinize_lazy.proofs.Common.{true≢false, units, units_read, ℕ}
+use Rattle.std.specs.Prelude.{IfNone}
 use Rattle.std.specs.List.{slice_range}
-use Rattle.std.proofs.lemmas.List.{length-take}
-use Rattle.determinize_below.specs.Nfa.{IsAccepted, Nfa}
 use Rattle.determinize_below.specs.Positions.{Text}
-use Rattle.determinize_below.specs.Search.{Asked, is_done}
-use Rattle.determinize_below.specs.declared.search.HalfMatch.{HalfMatch}
-use Rattle.determinize_below.specs.declared.search.MatchKind.{MatchKind}
-use Rattle.determinize_below.specs.declared.search.MatchKind.TheVariants.{All, LeftmostFirst}
-use Rattle.determinize_core.specs.Chain.{chain, units}
-use Rattle.determinize_core.specs.Step.{start_value}
-use Rattle.determinize_core.specs.Walk.{IsFarthestMatch, IsPreferredMatch, last_match}
-use Rattle.determinize_lazy.specs.Cache.{after_walk, Cache, step_of}
+use Rattle.determinize_below.specs.Search.{Asked}
+use Rattle.determinize_core.specs.Chain.{chain}
 use Rattle.determinize_lazy.specs.Private.Searched.{IsOverIn}
-use Rattle.determinize_lazy.specs.Searches.{after_first_match, after_input, after_is_match, after_search, HasMatch, in_haystack, IsFarthestIn, IsPlentyIn, IsPreferredIn, IsSearch, last_in, start_for, text_of, units_read}
+use Rattle.determinize_lazy.specs.Searches.{after_first_match, after_input, after_is_match, after_search, in_haystack}
+use Rattle.determinize_lazy.specs.Searches.{IsFarthestIn, IsPlentyIn, IsPreferredIn, last_in}
 use Rattle.determinize_lazy.proofs.Headline.{is-search, none_accepts, some_accepts}
 use Rattle.determinize_lazy.proofs.Searching.{over-keeps}
 use Rattle.determinize_lazy.proofs.Texts.{length-in_order}

@@ -1,18 +1,19 @@
 -- The rows of a transition table: one more state, and one more transition.
-use Rattle.std.proofs.Common.{◌≡◌, ◌≢◌, ℕ, ◌+◌, ◌-◌, ◌*◌, ◌/◌, ◌<◌, ◌≤◌, Bool, true, false, cond, ◌&&◌, Option, Some, None, List, [], ◌∷◌, ◌++◌, drop, get_or, length, replicate, take, refl, sym, ap, ◌∙◌, subst, inl, inr, arith, length-append, get_or-set_same, get_or-set_other}
-use Rattle.std.specs.Prelude.{slice_get, slice_index, slice_set, nat_eq, nat_lt}
-use Rattle.std.specs.List.{list_any}
-use Rattle.std.proofs.lemmas.List.{get_or_append_left, get_or-append_right, get_or-drop, get_or-replicate, get_or-take, length-replicate, length-set, length_push}
-use Rattle.std.proofs.lemmas.Map.Steps.{list_any_congr}
-use Rattle.std.proofs.lemmas.Option.{slice_get-get_or, slice_get_within}
-use mathlib.Core.Bool.{true≢false}
+use Rattle.determinize_lazy.proofs.Common.{[], ◌&&◌, ◌*◌, ◌++◌, ◌+◌, ◌-◌, ◌<◌, ◌∙◌, ◌∷◌, ◌≡◌, ◌≤◌, ap, AreRows, arith}
+use Rattle.determinize_lazy.proofs.Common.{Bool, column, cond, drop, entry_at, false, get_or, index_in, inl, inr}
+use Rattle.determinize_lazy.proofs.Common.{IsEntry, length, length-append, length_push, List, list_any, list_any_congr}
+use Rattle.determinize_lazy.proofs.Common.{nat_eq, None, Option, refl, replicate, same, same_unit, slice_get}
+use Rattle.determinize_lazy.proofs.Common.{slice_get-get_or, slice_get_within, slice_index, slice_set, Some, state_at}
+use Rattle.determinize_lazy.proofs.Common.{subst, sym, tag_in, tag_of, take, target_in, true, true≢false, Value}
+use Rattle.determinize_lazy.proofs.Common.{with_target, ℕ}
+use Rattle.std.proofs.Common.{◌≢◌, ◌/◌, get_or-set_same, get_or-set_other}
+use Rattle.std.specs.Prelude.{nat_lt}
+use Rattle.std.proofs.lemmas.List.{get_or_append_left, get_or-append_right, get_or-drop, get_or-replicate, get_or-take}
+use Rattle.std.proofs.lemmas.List.{length-replicate, length-set}
 use Rattle.determinize_below.specs.Truth.{IsUnit}
-use Rattle.determinize_core.specs.Value.{Value}
-use Rattle.determinize_lazy.specs.Private.Rows.{AreRows, IsEntry}
-use Rattle.determinize_lazy.specs.Private.Tags.{tag_in, tag_of}
-use Rattle.determinize_lazy.specs.Stored.{column, entry_at, is_unit, state_at, target_from, target_in}
-use Rattle.determinize_lazy.specs.Table.{index_in, same, same_unit, with_target}
-use Rattle.determinize_lazy.proofs.Indices.{absent, apart-push, found, get_more, get_push, not_both, of_some, position_from-push, position_from-same}
+use Rattle.determinize_lazy.specs.Stored.{is_unit, target_from}
+use Rattle.determinize_lazy.proofs.Indices.{absent, apart-push, found, get_more, get_push, not_both, of_some}
+use Rattle.determinize_lazy.proofs.Indices.{position_from-push, position_from-same}
 use Rattle.determinize_lazy.proofs.Interning.{same_is, same_laws}
 
 pub column-lt : (u : Option ℕ) → IsUnit u → column u < 257

@@ -1,16 +1,12 @@
 -- What the rule keeps, and what is true of a cache after it.
-use Rattle.std.proofs.Common.{arith, ◌≡◌, ◌+◌, ◌≤◌, ℕ, Bool, true, false, cond, inl, inr, Option, Some, None, [], length, refl, sym, ap, ◌∙◌, subst}
-use Rattle.std.specs.Prelude.{Err, IfOk, OnOk, nat_le, Ok, OnErr, Result, slice_get, slice_set}
-use Rattle.determinize_below.specs.Nfa.{IsAccepted, Nfa}
-use Rattle.determinize_below.specs.declared.search.MatchKind.{MatchKind}
-use Rattle.determinize_core.specs.Step.{start_value, step}
-use Rattle.determinize_core.specs.Value.{Value}
-use Rattle.determinize_lazy.specs.Cache.{Cache, count_after, fits, Grows, keep}
-use Rattle.determinize_lazy.specs.Private.Invariant.{IsLazy}
-use Rattle.determinize_lazy.specs.Private.Rows.{StoredTable, table_of}
-use Rattle.determinize_lazy.specs.Private.Starts.{start_index}
-use Rattle.determinize_lazy.specs.Private.Steps.{IsFailedStep, IsSameOrEmpty}
-use Rattle.determinize_lazy.specs.Table.{empty, IsTable, Table, with_transition, with_value}
+use Rattle.determinize_lazy.proofs.Common.{[], ◌+◌, ◌∙◌, ◌≡◌, ◌≤◌, ap, arith, Bool, Cache, cond, count_after, empty}
+use Rattle.determinize_lazy.proofs.Common.{Err, false, fits, Grows, IfOk, inl, inr, IsAccepted, IsFailedStep, IsLazy}
+use Rattle.determinize_lazy.proofs.Common.{IsTable, keep, length, MatchKind, nat_le, Nfa, None, Ok, OnErr, OnOk, Option}
+use Rattle.determinize_lazy.proofs.Common.{refl, Result, slice_get, slice_set, Some, start_index, start_value}
+use Rattle.determinize_lazy.proofs.Common.{StoredTable, subst, sym, Table, table_of, true, Value, with_transition}
+use Rattle.determinize_lazy.proofs.Common.{with_value, ℕ}
+use Rattle.determinize_core.specs.Step.{step}
+use Rattle.determinize_lazy.specs.Private.Steps.{IsSameOrEmpty}
 use Rattle.determinize_lazy.proofs.Starts.{starts-more, starts-set}
 use Rattle.determinize_lazy.proofs.Tables.{empty-is, get_with, with_transition-is}
 

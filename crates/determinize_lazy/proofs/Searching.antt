@@ -1,23 +1,16 @@
 -- A search, one unit more at a time, and what it leaves.
-use Rattle.std.proofs.Common.{◌≡◌, ℕ, Bool, ◌+◌, ◌-◌, ◌<◌, ◌≤◌, cond, Option, Some, None, true, false, List, [], ◌∷◌, ◌++◌, length, not, ◌&&◌, ◌||◌, take, drop, refl, sym, ap, ◌∙◌, subst, arith, is_some}
-use Rattle.std.specs.Option.{option_or}
-use Rattle.std.specs.Prelude.{slice_get}
-use Rattle.std.proofs.lemmas.List.{append-nil, append_assoc, drop_all, length-take-le, take_all, take-append-drop}
-use Rattle.std.proofs.lemmas.Option.{slice_get_within}
-use mathlib.Core.Bool.{true≢false}
+use Rattle.determinize_lazy.proofs.Common.{[], ◌&&◌, ◌++◌, ◌+◌, ◌-◌, ◌<◌, ◌||◌, ◌∙◌, ◌∷◌, ◌≡◌, ◌≤◌, after_unit}
+use Rattle.determinize_lazy.proofs.Common.{after_walk, ap, arith, Bool, Cache, cond, drop, ended_at, false, future}
+use Rattle.determinize_lazy.proofs.Common.{HalfMatch, HasRoom, is_some, IsOver, IsSearched, KeepsAll, last_match}
+use Rattle.determinize_lazy.proofs.Common.{length, List, MatchKind, Nfa, None, Option, option_or, refl, slice_get}
+use Rattle.determinize_lazy.proofs.Common.{slice_get_within, Some, step_of, subst, sym, tag_in, tag_of, take, take_all}
+use Rattle.determinize_lazy.proofs.Common.{true, true≢false, units_read, Value, value_after, ℕ}
+use Rattle.std.proofs.Common.{not}
+use Rattle.std.proofs.lemmas.List.{append-nil, append_assoc, drop_all, length-take-le, take-append-drop}
 use Rattle.determinize_core.proofs.LastMatches.{last_match-push}
-use Rattle.determinize_core.specs.Chain.{future, value_after}
-use Rattle.determinize_core.specs.Value.{Value, is_nonempty}
-use Rattle.determinize_core.specs.Walk.{ended_at, last_match}
-use Rattle.determinize_below.specs.Nfa.{Nfa}
-use Rattle.determinize_below.specs.declared.search.HalfMatch.{HalfMatch}
-use Rattle.determinize_below.specs.declared.search.MatchKind.{MatchKind}
-use Rattle.determinize_lazy.specs.Cache.{Cache, after_walk, step_of}
-use Rattle.determinize_lazy.specs.Plenty.{HasRoom, KeepsAll}
-use Rattle.determinize_lazy.specs.Private.Searched.{IsOver, IsSearched}
-use Rattle.determinize_lazy.specs.Private.Steps.{after_unit}
-use Rattle.determinize_lazy.specs.Private.Tags.{Tag, is_last_tag, match_at, tag_in, tag_of}
-use Rattle.determinize_lazy.specs.Searches.{is_last, units_read}
+use Rattle.determinize_core.specs.Value.{is_nonempty}
+use Rattle.determinize_lazy.specs.Private.Tags.{Tag, is_last_tag, match_at}
+use Rattle.determinize_lazy.specs.Searches.{is_last}
 use Rattle.determinize_lazy.proofs.LastUnits.{last_match-over}
 use Rattle.determinize_lazy.proofs.Plenty.{keeps_all}
 use Rattle.determinize_lazy.proofs.Walks.{drop-one, follows, reached-none, reached-push, take-one}

@@ -1,17 +1,17 @@
 -- The kept starts: which are kept, and that a start state depends on the kind of start alone.
-use Rattle.std.proofs.Common.{arith, ◌≡◌, ◌+◌, ◌<◌, ℕ, zero, suc, Bool, true, false, cond, List, [], ◌∷◌, Some, None, Option, replicate, refl, sym, ap, ◌∙◌}
-use Rattle.std.specs.Prelude.{nat_eq, slice_get, slice_set}
-use Rattle.determinize_below.specs.Nfa.{Nfa}
+use Rattle.determinize_lazy.proofs.Common.{[], ◌+◌, ◌<◌, ◌∙◌, ◌∷◌, ◌≡◌, ap, arith, Bool, cond, false, List, nat_eq, Nfa}
+use Rattle.determinize_lazy.proofs.Common.{None, Option, refl, replicate, slice_get, slice_set, Some, start_index}
+use Rattle.determinize_lazy.proofs.Common.{start_value, StoredTable, suc, sym, tables_of, true, Value, zero, ℕ}
 use Rattle.determinize_below.specs.Edges.{reach}
 use Rattle.determinize_below.specs.Look.{has}
-use Rattle.determinize_core.specs.Step.{begun, start_value}
-use Rattle.determinize_core.specs.Value.{Value}
-use Rattle.determinize_lazy.specs.Private.Rows.{StoredTable}
-use Rattle.determinize_lazy.specs.Private.Starts.{AreStarts, start_index}
-use Rattle.determinize_looks.specs.LookTables.{from_word_at_start, half_crlf_at_start, have_at_start, start_from_word, start_half_crlf, start_have, tables_of}
+use Rattle.determinize_core.specs.Step.{begun}
+use Rattle.determinize_lazy.specs.Private.Starts.{AreStarts}
+use Rattle.determinize_looks.specs.LookTables.{from_word_at_start, half_crlf_at_start, have_at_start, start_from_word}
+use Rattle.determinize_looks.specs.LookTables.{start_half_crlf, start_have}
 use Rattle.determinize_looks.specs.StartKinds.{number_of, start_kind_of, start_of_number}
 use Rattle.determinize_looks.specs.declared.start.Start.{Start as Kind}
-use Rattle.determinize_looks.specs.declared.start.Start.TheVariants.{CustomLineTerminator, LineCR, LineLF, NonWordByte, Text, WordByte}
+use Rattle.determinize_looks.specs.declared.start.Start.TheVariants.{CustomLineTerminator, LineCR, LineLF, NonWordByte}
+use Rattle.determinize_looks.specs.declared.start.Start.TheVariants.{Text, WordByte}
 use Rattle.determinize_states.specs.Recording.{recorded}
 use Rattle.determinize_lazy.proofs.Indices.{not_both, not_none, of_some}
 

@@ -1,15 +1,14 @@
 -- Tables with one more state or transition.
-use Rattle.std.proofs.Common.{◌≡◌, ℕ, ◌+◌, ◌<◌, Bool, true, false, cond, ◌&&◌, ◌||◌, ◌⊎◌, inl, inr, Option, Some, None, List, [], ◌∷◌, ◌++◌, length, refl, sym, ap, ◌∙◌, subst, arith}
-use Rattle.std.specs.Prelude.{Contains, is_some, slice_get}
-use Rattle.std.specs.List.{list_any}
-use Rattle.std.proofs.lemmas.List.{length_push}
+use Rattle.determinize_lazy.proofs.Common.{[], ◌&&◌, ◌++◌, ◌+◌, ◌<◌, ◌||◌, ◌∙◌, ◌∷◌, ◌≡◌, ◌⊎◌, ap, arith, Bool, cond}
+use Rattle.determinize_lazy.proofs.Common.{empty, false, inl, inr, is_some, IsIndex, IsTable, IsTargetIndex, length}
+use Rattle.determinize_lazy.proofs.Common.{length_push, List, list_any, list_any_congr, None, Option, refl, same}
+use Rattle.determinize_lazy.proofs.Common.{same_unit, slice_get, Some, subst, sym, Table, true, Value, with_state}
+use Rattle.determinize_lazy.proofs.Common.{with_target, with_transition, with_value, ℕ}
+use Rattle.std.specs.Prelude.{Contains}
 use Rattle.std.proofs.lemmas.List.Elements.{Contains-append_left, Contains-push, Contains-push_cases}
 use Rattle.std.proofs.lemmas.List.Folds.{list_any-append}
-use Rattle.std.proofs.lemmas.Map.Steps.{list_any_congr}
 use Rattle.std.proofs.lemmas.Map.Views.{Contains-from_any}
-use Rattle.determinize_core.specs.Value.{Value}
-use Rattle.determinize_lazy.specs.Private.Rows.{IsIndex, IsTargetIndex, with_state}
-use Rattle.determinize_lazy.specs.Table.{EachApart, IsTable, Table, empty, same, same_unit, with_target, with_transition, with_value}
+use Rattle.determinize_lazy.specs.Table.{EachApart}
 use Rattle.determinize_lazy.proofs.Indices.{apart-push, get_more, not_both, of_some, one_passes}
 use Rattle.determinize_lazy.proofs.Interning.{same_is, same_laws}
 use Rattle.determinize_lazy.proofs.Rows.{and_true, same_unit_is, same_unit_itself}

@@ -1,19 +1,15 @@
 -- Walks, one step more at a time, and what is left of a walk that fails.
-use Rattle.std.proofs.Common.{◌≡◌, ℕ, suc, ◌+◌, ◌<◌, ◌≤◌, Bool, true, false, cond, inl, inr, Option, Some, List, [], ◌∷◌, ◌++◌, length, take, drop, refl, sym, ap, ◌∙◌, subst, arith, add_assoc, drop-cons}
-use Rattle.std.specs.Prelude.{min, slice_get}
-use Rattle.std.proofs.lemmas.List.{length-take, take_all, take_more}
-use Rattle.std.proofs.lemmas.Option.{get_or_from_slice_get, slice_get_within}
-use Rattle.determinize_below.specs.Nfa.{AllResolve, IsAccepted, Nfa}
-use Rattle.determinize_below.specs.declared.search.MatchKind.{MatchKind}
-use Rattle.determinize_core.specs.Chain.{future, value_after}
+use Rattle.determinize_lazy.proofs.Common.{[], ◌++◌, ◌+◌, ◌<◌, ◌∙◌, ◌∷◌, ◌≡◌, ◌≤◌, after_step, after_unit, after_walk}
+use Rattle.determinize_lazy.proofs.Common.{AllResolve, ap, arith, Bool, Cache, cond, drop, false, future}
+use Rattle.determinize_lazy.proofs.Common.{get_or_from_slice_get, inl, inr, is_cached, IsAccepted, IsCutOff}
+use Rattle.determinize_lazy.proofs.Common.{IsFailedStep, IsReached, kept, length, length-take, List, MatchKind, min}
+use Rattle.determinize_lazy.proofs.Common.{missed, Nfa, Option, refl, slice_get, slice_get_within, Some, step_of, subst}
+use Rattle.determinize_lazy.proofs.Common.{suc, sym, Table, take, take_all, true, Value, value_after, ℕ}
+use Rattle.std.proofs.Common.{add_assoc, drop-cons}
+use Rattle.std.proofs.lemmas.List.{take_more}
 use Rattle.determinize_core.specs.Step.{step}
-use Rattle.determinize_core.specs.Value.{Value}
 use Rattle.determinize_core.proofs.Loops.{future-push, value_after-push}
 use Rattle.determinize_core.proofs.Resolving.{step_resolves}
-use Rattle.determinize_lazy.specs.Cache.{Cache, IsCutOff, after_step, after_walk, kept, missed, step_of}
-use Rattle.determinize_lazy.specs.Private.Searched.{IsReached}
-use Rattle.determinize_lazy.specs.Private.Steps.{IsFailedStep, after_unit}
-use Rattle.determinize_lazy.specs.Table.{Table, is_cached}
 
 module _ (nfa : Nfa) (kind : MatchKind) where
   -- the table after one more unit

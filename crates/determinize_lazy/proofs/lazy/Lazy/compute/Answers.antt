@@ -1,4 +1,4 @@
-use Rattle.determinize_lazy.specs.Cache.{cache}
+use Rattle.determinize_lazy.proofs.Common.{cache}
 use Rattle.determinize_lazy.proofs.Rule.{failed-counted, on_err}
 use Rattle.determinize_lazy.proofs.lazy.Lazy.compute.Goals as goal
 

@@ -1,7 +1,4 @@
-use Rattle.std.proofs.Common.{sym, subst}
-use Rattle.determinize_lazy.specs.Cache.{cache, LazyValue}
-use Rattle.determinize_lazy.specs.Private.Cursors.{IsUncached}
-use Rattle.determinize_lazy.specs.Private.Rows.{table_of}
+use Rattle.determinize_lazy.proofs.Common.{cache, IsUncached, LazyValue, subst, sym, table_of}
 use Rattle.determinize_lazy.proofs.Cursors.{at_state, not_source}
 use Rattle.determinize_lazy.proofs.lazy.Lazy.cursor_of.Goals as goal
 

@@ -1,12 +1,6 @@
-use Rattle.std.proofs.Common.{arith, rules, ◌≡◌, ◌<◌, ◌≤◌, ◌-◌, ◌∙◌, length, ap, subst, Some}
-use Rattle.std.specs.Option.{option_or}
-use Rattle.std.specs.Prelude.{slice_get, slice_index_or}
-use Rattle.std.proofs.lemmas.Option.{slice_get-get_or}
-use Rattle.determinize_core.specs.Value.{dead, Value}
-use Rattle.determinize_lazy.specs.Cache.{cache, LazyValue, step_of}
-use Rattle.determinize_lazy.specs.Private.Rows.{IsTarget}
-use Rattle.determinize_lazy.specs.Private.Tags.{match_of, tag_in, tag_of}
-use Rattle.determinize_lazy.specs.Table.{IsTable}
+use Rattle.determinize_lazy.proofs.Common.{◌-◌, ◌<◌, ◌∙◌, ◌≡◌, ◌≤◌, ap, arith, cache, dead, IsTable, IsTarget}
+use Rattle.determinize_lazy.proofs.Common.{LazyValue, length, match_of, option_or, rules, slice_get, slice_get-get_or}
+use Rattle.determinize_lazy.proofs.Common.{slice_index_or, Some, step_of, subst, tag_in, tag_of, Value}
 use Rattle.determinize_lazy.proofs.Cursors.{cached_step, cached_target}
 use Rattle.determinize_lazy.proofs.Searching.{searched-step, tag-last, tag-match}
 use Rattle.determinize_lazy.proofs.lazy.Lazy.follow.Goals as goal

@@ -1,10 +1,5 @@
-use Rattle.std.proofs.Common.{◌<◌, ◌≤◌, ◌-◌, length}
-use Rattle.std.specs.Prelude.{slice_index_or}
-use Rattle.determinize_core.specs.Chain.{units}
-use Rattle.determinize_core.specs.Value.{dead, Value}
-use Rattle.determinize_lazy.specs.Cache.{Cache, cache}
-use Rattle.determinize_lazy.specs.Private.Searched.{IsSearched}
-use Rattle.determinize_lazy.specs.Private.Tags.{match_of}
+use Rattle.determinize_lazy.proofs.Common.{◌-◌, ◌<◌, ◌≤◌, Cache, cache, dead, IsSearched, length, match_of}
+use Rattle.determinize_lazy.proofs.Common.{slice_index_or, units, Value}
 use Rattle.determinize_lazy.proofs.lazy.Lazy.follow.Given as goal
 
 abbrev pub invariant-loop-at : goal.invariant-loop-at

@@ -1,9 +1,5 @@
-use Rattle.std.proofs.Common.{◌≡◌, true, length, subst, sym}
-use Rattle.std.specs.Prelude.{nat_le}
-use Rattle.determinize_lazy.specs.Cache.{cache, LazyValue, step_of}
-use Rattle.determinize_lazy.specs.Private.Cursors.{cursor_value}
-use Rattle.determinize_lazy.specs.Private.Rows.{table_of}
-use Rattle.determinize_lazy.specs.Table.{with_value}
+use Rattle.determinize_lazy.proofs.Common.{◌≡◌, cache, cursor_value, LazyValue, length, nat_le, step_of, subst, sym}
+use Rattle.determinize_lazy.proofs.Common.{table_of, true, with_value}
 use Rattle.determinize_lazy.proofs.Cursors.{at_id}
 use Rattle.determinize_lazy.proofs.Rule.{lazy-insert}
 use Rattle.determinize_lazy.proofs.lazy.Lazy.insert.Goals as goal

@@ -1,7 +1,4 @@
-use Rattle.std.proofs.Common.{◌∙◌, refl, subst, sym}
-use Rattle.std.specs.Prelude.{Decides}
-use Rattle.determinize_lazy.specs.Cache.{cache}
-use Rattle.determinize_lazy.specs.Searches.{HasMatch}
+use Rattle.determinize_lazy.proofs.Common.{◌∙◌, cache, Decides, HasMatch, refl, subst, sym}
 use Rattle.determinize_lazy.proofs.Ranges.{decides, first-done, first-found}
 use Rattle.determinize_lazy.proofs.lazy.Lazy.is_match.Goals as goal
 

@@ -1,11 +1,5 @@
-use Rattle.std.proofs.Common.{◌≡◌, ◌∙◌, Some, ap, subst, sym}
-use Rattle.std.specs.Prelude.{slice_get}
-use Rattle.determinize_core.specs.Step.{start_value}
-use Rattle.determinize_core.specs.Value.{Value}
-use Rattle.determinize_lazy.specs.Cache.{cache, LazyValue}
-use Rattle.determinize_lazy.specs.Private.Cursors.{IsUncached}
-use Rattle.determinize_lazy.specs.Private.Invariant.{IsLazy}
-use Rattle.determinize_lazy.specs.Private.Rows.{StoredTable, table_of}
+use Rattle.determinize_lazy.proofs.Common.{◌∙◌, ◌≡◌, ap, cache, IsLazy, IsUncached, LazyValue, slice_get, Some}
+use Rattle.determinize_lazy.proofs.Common.{start_value, StoredTable, subst, sym, table_of, Value}
 use Rattle.determinize_lazy.proofs.Cursors.{at_id, at_state, not_source}
 use Rattle.determinize_lazy.proofs.Rule.{lazy-start}
 use Rattle.determinize_lazy.proofs.lazy.Lazy.keep_start.Goals as goal

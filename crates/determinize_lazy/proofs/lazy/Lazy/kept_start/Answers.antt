@@ -1,8 +1,5 @@
-use Rattle.std.proofs.Common.{subst}
-use Rattle.determinize_below.specs.Nfa.{AllResolve}
+use Rattle.determinize_lazy.proofs.Common.{AllResolve, cache, LazyValue, start_value, subst}
 use Rattle.determinize_core.proofs.Resolving.{start_resolves}
-use Rattle.determinize_core.specs.Step.{start_value}
-use Rattle.determinize_lazy.specs.Cache.{cache, LazyValue}
 use Rattle.determinize_lazy.specs.Private.Steps.{IsSound}
 use Rattle.determinize_lazy.proofs.lazy.Lazy.kept_start.Given.{Over}
 use Rattle.determinize_lazy.proofs.lazy.Lazy.kept_start.Goals.{After-start_index}

@@ -1,11 +1,7 @@
-use Rattle.std.proofs.Common.{false, refl, subst}
-use Rattle.std.specs.Prelude.{IfOk}
-use Rattle.std.proofs.lemmas.Result.{IfOk-weaker}
-use Rattle.determinize_below.specs.Positions.{between, Text}
-use Rattle.determinize_core.specs.Chain.{chain, units}
-use Rattle.determinize_core.specs.Step.{start_value}
-use Rattle.determinize_lazy.specs.Cache.{cache}
-use Rattle.determinize_lazy.specs.Private.Searched.{IsOver}
+use Rattle.determinize_lazy.proofs.Common.{between, cache, false, IfOk, IfOk-weaker, IsOver, refl, start_value, subst}
+use Rattle.determinize_lazy.proofs.Common.{units}
+use Rattle.determinize_below.specs.Positions.{Text}
+use Rattle.determinize_core.specs.Chain.{chain}
 use Rattle.determinize_lazy.specs.Searches.{after_search}
 use Rattle.determinize_lazy.proofs.Headline.{is-search}
 use Rattle.determinize_lazy.proofs.Rule.{on_ok}

@@ -1,11 +1,5 @@
-use Rattle.std.proofs.Common.{arith, ◌≡◌, ◌≤◌, ◌-◌, ◌∙◌, length, ap}
-use Rattle.std.specs.Option.{option_or}
-use Rattle.determinize_core.specs.Chain.{units}
-use Rattle.determinize_core.specs.Walk.{ended_at}
-use Rattle.determinize_lazy.specs.Cache.{cache}
-use Rattle.determinize_lazy.specs.Private.Cursors.{cursor_value}
-use Rattle.determinize_lazy.specs.Private.Searched.{IsSearched}
-use Rattle.determinize_lazy.specs.Private.Tags.{match_of}
+use Rattle.determinize_lazy.proofs.Common.{◌-◌, ◌∙◌, ◌≡◌, ◌≤◌, ap, arith, cache, cursor_value, ended_at, IsSearched}
+use Rattle.determinize_lazy.proofs.Common.{length, match_of, option_or, units}
 use Rattle.determinize_lazy.proofs.Rule.{grows-more, of_err}
 use Rattle.determinize_lazy.proofs.Searching.{finished, searched-step, stopped, tag-last, tag-match}
 use Rattle.determinize_lazy.proofs.Texts.{all_read}

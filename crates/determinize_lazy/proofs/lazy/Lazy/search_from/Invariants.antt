@@ -1,9 +1,5 @@
-use Rattle.std.proofs.Common.{◌-◌, ◌+◌, length}
-use Rattle.determinize_core.specs.Chain.{units}
-use Rattle.determinize_lazy.specs.Cache.{cache, Grows}
-use Rattle.determinize_lazy.specs.Private.Cursors.{cursor_value, IsCursor}
-use Rattle.determinize_lazy.specs.Private.Searched.{IsSearched}
-use Rattle.determinize_lazy.specs.Private.Tags.{match_of}
+use Rattle.determinize_lazy.proofs.Common.{◌+◌, ◌-◌, cache, cursor_value, Grows, IsCursor, IsSearched, length, match_of}
+use Rattle.determinize_lazy.proofs.Common.{units}
 use Rattle.determinize_lazy.proofs.lazy.Lazy.search_from.Given as goal
 
 abbrev pub invariant-loop-read : goal.invariant-loop-read

@@ -1,7 +1,6 @@
-use Rattle.std.proofs.Common.{rules, ◌≡◌, ◌∙◌, refl, sym, false}
-use Rattle.determinize_below.specs.Search.{is_done}
-use Rattle.determinize_lazy.specs.Cache.{cache}
-use Rattle.determinize_lazy.proofs.Ranges.{after-done, after-found, IsAnswer, is-answer, last-done, offset-within, plenty-found, search-is}
+use Rattle.determinize_lazy.proofs.Common.{◌∙◌, ◌≡◌, cache, false, is_done, refl, rules, sym}
+use Rattle.determinize_lazy.proofs.Ranges.{after-done, after-found, IsAnswer, is-answer, last-done, offset-within}
+use Rattle.determinize_lazy.proofs.Ranges.{plenty-found, search-is}
 use Rattle.determinize_lazy.proofs.lazy.Lazy.search_input.Given.{Over}
 use Rattle.determinize_lazy.proofs.lazy.Lazy.search_input.Goals.{After-in_haystack}
 use Rattle.determinize_lazy.proofs.lazy.Lazy.search_input.Goals as goal

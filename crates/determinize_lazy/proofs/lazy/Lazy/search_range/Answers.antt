@@ -1,11 +1,6 @@
-use Rattle.std.proofs.Common.{rules, ◌≡◌, ◌∙◌, ap, refl, ℕ}
-use Rattle.std.specs.Prelude.{IfOk, OnErr}
+use Rattle.determinize_lazy.proofs.Common.{◌∙◌, ◌≡◌, ap, cache, IfOk, IsCutOff, IsOver, LazyValue, OnErr, refl, rules}
+use Rattle.determinize_lazy.proofs.Common.{start_for, start_value, text_of, units, ℕ}
 use Rattle.determinize_below.specs.Positions.{Text}
-use Rattle.determinize_core.specs.Chain.{units}
-use Rattle.determinize_core.specs.Step.{start_value}
-use Rattle.determinize_lazy.specs.Cache.{cache, IsCutOff, LazyValue}
-use Rattle.determinize_lazy.specs.Private.Searched.{IsOver}
-use Rattle.determinize_lazy.specs.Searches.{start_for, text_of}
 use Rattle.determinize_lazy.proofs.Rule.{along}
 use Rattle.determinize_lazy.proofs.lazy.Lazy.search_range.Given.{Over}
 use Rattle.determinize_lazy.proofs.lazy.Lazy.search_range.Goals.{After-search_text}

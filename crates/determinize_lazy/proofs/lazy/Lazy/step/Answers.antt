@@ -1,9 +1,5 @@
-use Rattle.std.proofs.Common.{◌≡◌, ◌∙◌, Some, ap, subst}
-use Rattle.std.specs.Prelude.{slice_get}
-use Rattle.determinize_lazy.specs.Cache.{cache, LazyValue, step_of}
-use Rattle.determinize_lazy.specs.Private.Cursors.{cursor_value}
-use Rattle.determinize_lazy.specs.Private.Rows.{IsTarget}
-use Rattle.determinize_lazy.specs.Table.{IsTable}
+use Rattle.determinize_lazy.proofs.Common.{◌∙◌, ◌≡◌, ap, cache, cursor_value, IsTable, IsTarget, LazyValue, slice_get}
+use Rattle.determinize_lazy.proofs.Common.{Some, step_of, subst}
 use Rattle.determinize_lazy.proofs.Cursors.{cached_step, cached_target, state_at}
 use Rattle.determinize_lazy.proofs.lazy.Lazy.step.Given.{Over}
 use Rattle.determinize_lazy.proofs.lazy.Lazy.step.Goals.{In-Some}

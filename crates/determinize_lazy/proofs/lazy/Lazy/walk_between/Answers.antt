@@ -1,11 +1,9 @@
-use Rattle.std.proofs.Common.{◌≡◌}
-use Rattle.std.specs.Prelude.{IfOk, OnOk}
-use Rattle.std.proofs.lemmas.Result.{IfOk-weaker}
-use Rattle.determinize_below.specs.Positions.{between, Text}
+use Rattle.determinize_lazy.proofs.Common.{◌≡◌, after_walk, between, cache, future, IfOk, IfOk-weaker, LazyValue, OnOk}
+use Rattle.determinize_lazy.proofs.Common.{units, Value}
+use Rattle.determinize_below.specs.Positions.{Text}
 use Rattle.determinize_core.proofs.WholeWalks.{is_walk}
-use Rattle.determinize_core.specs.Chain.{chain, future, units}
-use Rattle.determinize_core.specs.Value.{Value}
-use Rattle.determinize_lazy.specs.Cache.{after_text, after_walk, cache, LazyValue}
+use Rattle.determinize_core.specs.Chain.{chain}
+use Rattle.determinize_lazy.specs.Cache.{after_text}
 use Rattle.determinize_lazy.proofs.Plenty.{keeps_all_where_ok}
 use Rattle.determinize_lazy.proofs.Rule.{along}
 use Rattle.determinize_lazy.proofs.lazy.Lazy.walk_between.Goals as goal

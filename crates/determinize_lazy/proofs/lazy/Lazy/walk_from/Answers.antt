@@ -1,10 +1,8 @@
-use Rattle.std.proofs.Common.{◌++◌, ◌∷◌, [], ◌∙◌, ap}
-use Rattle.std.proofs.lemmas.List.{take_all}
-use Rattle.determinize_core.specs.Chain.{future, units}
-use Rattle.determinize_core.specs.Value.{Value}
+use Rattle.determinize_lazy.proofs.Common.{[], ◌++◌, ◌∙◌, ◌∷◌, ap, future, take_all, units, Value}
 use Rattle.determinize_lazy.proofs.Rule.{grows-more, of_err}
 use Rattle.determinize_lazy.proofs.Texts.{all_read}
-use Rattle.determinize_lazy.proofs.Walks.{cut_off-here, cut_off-step, future-more, reached-all, reached-push, reached-resolves}
+use Rattle.determinize_lazy.proofs.Walks.{cut_off-here, cut_off-step, future-more, reached-all, reached-push}
+use Rattle.determinize_lazy.proofs.Walks.{reached-resolves}
 use Rattle.determinize_lazy.proofs.lazy.Lazy.walk_from.Goals as goal
 
 pub step-requires-clause-resolve : goal.step-requires-clause-resolve

@@ -1,8 +1,5 @@
-use Rattle.std.proofs.Common.{◌≡◌, ◌+◌, ◌-◌, length, take}
-use Rattle.determinize_core.specs.Chain.{future, units}
-use Rattle.determinize_lazy.specs.Cache.{cache, Grows}
-use Rattle.determinize_lazy.specs.Private.Cursors.{cursor_value, IsCursor}
-use Rattle.determinize_lazy.specs.Private.Searched.{IsReached}
+use Rattle.determinize_lazy.proofs.Common.{◌+◌, ◌-◌, ◌≡◌, cache, cursor_value, future, Grows, IsCursor, IsReached}
+use Rattle.determinize_lazy.proofs.Common.{length, take, units}
 use Rattle.determinize_lazy.proofs.lazy.Lazy.walk_from.Given as goal
 
 abbrev pub invariant-loop-read : goal.invariant-loop-read

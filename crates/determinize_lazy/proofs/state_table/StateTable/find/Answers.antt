@@ -1,6 +1,4 @@
-use Rattle.std.proofs.Common.{rules, ◌≡◌}
-use Rattle.std.specs.HashMap.{get}
-use Rattle.determinize_lazy.specs.Table.{same}
+use Rattle.determinize_lazy.proofs.Common.{◌≡◌, get, rules, same}
 use Rattle.determinize_lazy.proofs.Interning.{is_index}
 use Rattle.determinize_lazy.proofs.state_table.StateTable.find.Goals as goal
 

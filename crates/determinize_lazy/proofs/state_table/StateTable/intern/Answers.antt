@@ -1,8 +1,5 @@
-use Rattle.std.proofs.Common.{rules, ◌≡◌, ◌<◌, ◌++◌, ◌∷◌, [], Some, cond, false, length, ap, ◌∙◌}
-use Rattle.std.specs.List.{list_any}
-use Rattle.std.specs.HashMap.{get}
-use Rattle.std.specs.Map.{lookup}
-use Rattle.determinize_lazy.specs.Table.{same}
+use Rattle.determinize_lazy.proofs.Common.{[], ◌++◌, ◌<◌, ◌∙◌, ◌∷◌, ◌≡◌, ap, cond, false, get, length, list_any, lookup}
+use Rattle.determinize_lazy.proofs.Common.{rules, same, Some}
 use Rattle.determinize_lazy.proofs.Interning.{interned-pop, interned-push}
 use Rattle.determinize_lazy.proofs.state_table.StateTable.intern.Goals as goal
 

@@ -1,6 +1,4 @@
-use Rattle.std.proofs.Common.{ap}
-use Rattle.std.specs.Map.{lookup}
-use Rattle.determinize_lazy.specs.Table.{same}
+use Rattle.determinize_lazy.proofs.Common.{ap, lookup, same}
 use Rattle.determinize_lazy.proofs.Interning.{interned-none}
 use Rattle.determinize_lazy.proofs.state_table.StateTable.new.Goals as goal
 

@@ -1,11 +1,8 @@
-use Rattle.std.proofs.Common.{rules, arith, ◌≡◌, ◌+◌, ◌*◌, ◌<◌, ℕ, List, Some, length, refl, sym, ap, ◌∙◌, subst}
-use Rattle.std.specs.Prelude.{slice_get, slice_set}
+use Rattle.determinize_lazy.proofs.Common.{◌*◌, ◌+◌, ◌<◌, ◌∙◌, ◌≡◌, ap, AreRows, arith, column, cursor_value}
+use Rattle.determinize_lazy.proofs.Common.{IsTargetIndex, length, List, refl, rules, slice_get, slice_get_within}
+use Rattle.determinize_lazy.proofs.Common.{slice_set, Some, StoredTable, subst, sym, Table, table_in, table_of}
+use Rattle.determinize_lazy.proofs.Common.{target_in, with_state, with_value, ℕ}
 use Rattle.std.specs.Vec.{vec_len}
-use Rattle.std.proofs.lemmas.Option.{slice_get_within}
-use Rattle.determinize_lazy.specs.Private.Cursors.{cursor_value}
-use Rattle.determinize_lazy.specs.Private.Rows.{AreRows, IsTargetIndex, StoredTable, table_of, with_state}
-use Rattle.determinize_lazy.specs.Stored.{column, table_in, target_in}
-use Rattle.determinize_lazy.specs.Table.{Table, with_value}
 use Rattle.determinize_lazy.proofs.Rows.{rows-set, targets-set}
 use Rattle.determinize_lazy.proofs.Tables.{get_with, same_table, target_index, transition_is}
 use Rattle.determinize_lazy.proofs.table.TransitionTable.insert.Given.{Over}

@@ -1,12 +1,6 @@
-use Rattle.std.proofs.Common.{rules, arith, ◌≡◌, ◌≤◌, ◌+◌, ◌-◌, ◌++◌, ◌∷◌, [], false, List, length, replicate, take, sym, ap, ◌∙◌, subst}
-use Rattle.std.specs.Prelude.{slice_get, slice_set}
-use Rattle.std.specs.List.{list_any}
-use Rattle.std.proofs.lemmas.List.{take_all}
-use Rattle.determinize_core.specs.Value.{Value}
-use Rattle.determinize_lazy.specs.Private.Rows.{AreRows, StoredTable}
-use Rattle.determinize_lazy.specs.Private.Tags.{tag_in, tag_of}
-use Rattle.determinize_lazy.specs.Stored.{target_in}
-use Rattle.determinize_lazy.specs.Table.{same}
+use Rattle.determinize_lazy.proofs.Common.{[], ◌++◌, ◌+◌, ◌-◌, ◌∙◌, ◌∷◌, ◌≡◌, ◌≤◌, ap, AreRows, arith, false, length}
+use Rattle.determinize_lazy.proofs.Common.{List, list_any, replicate, rules, same, slice_get, slice_set, StoredTable}
+use Rattle.determinize_lazy.proofs.Common.{subst, sym, tag_in, tag_of, take, take_all, target_in, Value}
 use Rattle.determinize_lazy.proofs.Indices.{get_last}
 use Rattle.determinize_lazy.proofs.Rows.{rows-push, targets-push}
 use Rattle.determinize_lazy.proofs.Tables.{same_table, with_value-new}

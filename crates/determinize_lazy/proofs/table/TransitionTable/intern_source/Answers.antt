@@ -1,4 +1,4 @@
-use Rattle.determinize_lazy.specs.Private.Rows.{table_of}
+use Rattle.determinize_lazy.proofs.Common.{table_of}
 use Rattle.determinize_lazy.proofs.Cursors.{source_there, state_at}
 use Rattle.determinize_lazy.proofs.table.TransitionTable.intern_source.Goals as goal
 

@@ -1,7 +1,5 @@
-use Rattle.std.proofs.Common.{rules, ◌≡◌, ap, ◌∙◌, refl, sym, subst, true, Some}
-use Rattle.std.specs.Prelude.{slice_get}
-use Rattle.determinize_lazy.specs.Private.Rows.{IsTargetIndex}
-use Rattle.determinize_lazy.specs.Table.{same}
+use Rattle.determinize_lazy.proofs.Common.{◌∙◌, ◌≡◌, ap, IsTargetIndex, refl, rules, same, slice_get, Some, subst, sym}
+use Rattle.determinize_lazy.proofs.Common.{true}
 use Rattle.determinize_lazy.proofs.Interning.{same_is}
 use Rattle.determinize_lazy.proofs.Tables.{same_table, there, with_value-there}
 use Rattle.determinize_lazy.proofs.table.TransitionTable.intern_target.Given.{Over}

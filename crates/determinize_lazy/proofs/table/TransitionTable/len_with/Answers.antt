@@ -1,8 +1,5 @@
-use Rattle.std.proofs.Common.{rules, arith, ◌≡◌, ◌+◌, ◌||◌, ◌∙◌, ap, sym, false, true, length}
-use Rattle.std.specs.List.{list_any}
-use Rattle.determinize_lazy.specs.Private.Cursors.{cursor_value}
-use Rattle.determinize_lazy.specs.Private.Rows.{StoredTable, table_of}
-use Rattle.determinize_lazy.specs.Table.{same, with_value}
+use Rattle.determinize_lazy.proofs.Common.{◌+◌, ◌||◌, ◌∙◌, ◌≡◌, ap, arith, cursor_value, false, length, list_any, rules}
+use Rattle.determinize_lazy.proofs.Common.{same, StoredTable, sym, table_of, true, with_value}
 use Rattle.determinize_lazy.proofs.Cursors.{state_at, state_is, uncached}
 use Rattle.determinize_lazy.proofs.Tables.{apart_of, count_with, either_of, index_some, neither_of, there}
 use Rattle.determinize_lazy.proofs.table.TransitionTable.len_with.Given.{Over}

@@ -1,7 +1,6 @@
-use Rattle.std.proofs.Common.{◌≡◌, ◌-◌, ◌+◌, ◌*◌, ◌<◌, length, take, drop, ap, ◌∙◌, sym, subst, ℕ, List, Some}
-use Rattle.std.specs.Prelude.{slice_get, slice_index}
-use Rattle.determinize_lazy.specs.Private.Rows.{IsEntry, IsTarget, StoredTable, table_of}
-use Rattle.determinize_lazy.specs.Stored.{entry_at, state_at}
+use Rattle.determinize_lazy.proofs.Common.{◌*◌, ◌+◌, ◌-◌, ◌<◌, ◌∙◌, ◌≡◌, ap, drop, entry_at, IsEntry, IsTarget, length}
+use Rattle.determinize_lazy.proofs.Common.{List, slice_get, slice_index, Some, state_at, StoredTable, subst, sym}
+use Rattle.determinize_lazy.proofs.Common.{table_of, take, ℕ}
 use Rattle.determinize_lazy.proofs.Rows.{entry_from, row_of_entry, target_at}
 use Rattle.determinize_lazy.proofs.table.TransitionTable.lookup.Given.{Over}
 use Rattle.determinize_lazy.proofs.table.TransitionTable.lookup.Goals.{Else-entry-eq-UNKNOWN}

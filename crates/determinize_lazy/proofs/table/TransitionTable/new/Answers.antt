@@ -1,6 +1,4 @@
-use Rattle.std.proofs.Common.{List, ap}
-use Rattle.determinize_core.specs.Value.{Value}
-use Rattle.determinize_lazy.specs.Stored.{table_in}
+use Rattle.determinize_lazy.proofs.Common.{ap, List, table_in, Value}
 use Rattle.determinize_lazy.proofs.Starts.{none_kept}
 use Rattle.determinize_lazy.proofs.table.TransitionTable.new.Goals as goal
 

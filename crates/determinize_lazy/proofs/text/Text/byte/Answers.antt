@@ -1,4 +1,4 @@
-use Rattle.std.proofs.Common.{◌≡◌, ◌<◌, length, sym, ap, ◌∙◌, subst}
+use Rattle.determinize_lazy.proofs.Common.{◌<◌, ◌∙◌, ◌≡◌, ap, length, subst, sym}
 use Rattle.std.proofs.lemmas.List.{get_or-reverse}
 use Rattle.determinize_below.specs.Positions.{Text}
 use Rattle.determinize_lazy.proofs.Texts.{length-in_order, unit-byte}
