@@ -26,7 +26,8 @@ module _ (asked : Asked) (done : is_done asked ≡ true) where
 
   pub after-done : (c : Cache) → c ≡ after_input c asked
   unfolding after_input
-  after-done c = sym (ap (λ b. cond b c (after_search c (start_for c.nfa asked.anchored) (text_of c.nfa.reverse asked))) done)
+  after-done c = sym (ap (λ b. cond b c (after_search c (start_for c.nfa asked.anchored) (text_of c.nfa.reverse asked)))
+      done)
 
   pub first-done : (c : Cache) → c ≡ after_is_match c asked
   unfolding after_is_match
@@ -70,8 +71,11 @@ module _ {earliest : Bool} {old : Cache} (asked : Asked) {found : Option HalfMat
         λ h. absurd (true≢false (sym h)),
         λ h. absurd (none_accepts old.nfa old.kind start text accepted e h.0 h.1 h.2 h.3),
       )
-      each (Some m) e =
-          (λ _. let a = some_accepts old.nfa old.kind start text m accepted e in (a.0, m.offset, m.pattern, a.1), λ _. refl)
+      each (Some m) e = (
+        λ _. let a = some_accepts old.nfa old.kind start text m accepted e in
+            (a.0, m.offset, m.pattern, a.1),
+        λ _. refl,
+      )
 
 -- what a search returns, in the haystack
 pub record IsAnswer (nfa : Nfa) (kind : MatchKind) (asked : Asked) (answer : Option HalfMatch) : Type 0 where
@@ -83,7 +87,8 @@ pub record IsAnswer (nfa : Nfa) (kind : MatchKind) (asked : Asked) (answer : Opt
 pub is-answer : {nfa : Nfa} {kind : MatchKind} {asked : Asked} {found answer : Option HalfMatch} {is_backward : Bool}
     → IsAccepted nfa → is_done asked ≡ false → is_backward ≡ nfa.reverse
     → answer ≡ option_map (in_haystack is_backward asked) found
-    → IsSearch nfa kind (start_for nfa asked.anchored) (text_of nfa.reverse asked) found → IsAnswer nfa kind asked answer
+    → IsSearch nfa kind (start_for nfa asked.anchored) (text_of nfa.reverse asked) found
+    → IsAnswer nfa kind asked answer
 unfolding last_in
 is-answer {nfa} {kind} {asked} {found} {answer} accepted more direction answer_is s = record {
   last = in_order ∙ ap (λ o. option_map (in_haystack nfa.reverse asked) o) s.last

@@ -31,7 +31,8 @@ column_once None (Some b) h k e = absurd (omega (arith, k, e))
 column_once None None h k e = refl
 
 pub same_unit_is : (u w : Option ℕ) → same_unit u w ≡ true → u ≡ w
-same_unit_is (Some a) (Some b) e = ap Some (let known : nat_eq a b ≡ true = e in let r : a ≡ b = grind (arith, known) in r)
+same_unit_is (Some a) (Some b) e = ap Some (let known : nat_eq a b ≡ true = e in let r : a ≡ b = grind (arith, known) in
+    r)
 same_unit_is (Some a) None e = not_both e refl
 same_unit_is None (Some b) e = not_both e refl
 same_unit_is None None e = refl
@@ -57,7 +58,8 @@ no_state : (states : List Value) (e : ℕ) → e ≡ 1 → state_at states e ≡
 no_state states e is = ap (λ k. state_at states k) is
 
 -- the offset of a row leads to its state
-pub state_of_row : (states : List Value) (t : ℕ) (w : Value) → slice_get states t ≡ Some w → state_at states (t * 258) ≡ Some w
+pub state_of_row : (states : List Value) (t : ℕ) (w : Value) → slice_get states t ≡ Some w
+    → state_at states (t * 258) ≡ Some w
 state_of_row states t w at =
     let apart : nat_eq (t * 258) 1 ≡ false = grind arith in
     let back : t * 258 / 258 ≡ t = omega arith in
@@ -66,7 +68,8 @@ state_of_row states t w at =
 -- the index of a value is within the states
 pub index_within : (states : List Value) (x : Value) (p : ℕ) → index_in states x ≡ Some p → slice_get states p ≡ Some x
 index_within states x p here =
-    let f : (k : ℕ) × (y : Value) × (p ≡ 0 + k) × (slice_get states k ≡ Some y) × (same x y ≡ true) = found (same x) states 0 p here in
+    let f : (k : ℕ) × (y : Value) × (p ≡ 0 + k) × (slice_get states k ≡ Some y) × (same x y ≡ true) =
+    found (same x) states 0 p here in
     let p_is : p ≡ f.0 = let known : p ≡ 0 + f.0 = f.2 in omega (arith, known) in
     ap (λ k. slice_get states k) p_is ∙ f.3 ∙ ap Some (sym (same_is x (f.1) f.4))
 
@@ -86,84 +89,112 @@ module _ (states : List Value) (rows : List ℕ) (w : Value) (n : ℕ) (more : L
   in_row : (k : ℕ) → k < 257 → slice_index more (length rows + k) ≡ 1
   in_row k bound =
       ap (λ xs. slice_index xs (length rows + k)) more_is
-      ∙ get_or-set_other (rows ++ replicate 258 1) (length rows + 257) (length rows + k) n 0 (λ e. absurd (omega (arith, bound, e)))
-      ∙ get_or-append_right rows (replicate 258 1) (length rows) (length rows + k) 0 refl (let e : length rows ≤ length rows + k = omega arith in e)
+      ∙ get_or-set_other (rows ++ replicate 258 1) (length rows + 257) (length rows + k) n 0
+      (λ e. absurd (omega (arith, bound, e)))
+      ∙ get_or-append_right rows (replicate 258 1) (length rows) (length rows + k) 0 refl
+      (let e : length rows ≤ length rows + k = omega arith in e)
       ∙ get_or-replicate 258 (length rows + k - length rows) 1 0 (omega (arith, bound))
 
   behind_row : slice_index more (length rows + 257) ≡ n
   behind_row =
       ap (λ xs. slice_index xs (length rows + 257)) more_is
-      ∙ get_or-set_same (rows ++ replicate 258 1) (length rows + 257) n 0 (let len : length (rows ++ replicate 258 1) ≡ length rows + 258 = longer in omega (arith, len))
+      ∙ get_or-set_same (rows ++ replicate 258 1) (length rows + 257) n 0 (let len : length (rows ++ replicate 258 1)
+      ≡ length rows + 258 = longer in omega (arith, len))
 
   entry_before : (p : ℕ) (u : Option ℕ) → p < length states → IsUnit u → entry_at more p u ≡ entry_at rows p u
-  entry_before p u inside unit = before_row (p * 258 + column u) (let b : column u < 257 = column-lt u unit in omega (arith, inside, b, r.size))
+  entry_before p u inside unit = before_row (p * 258 + column u) (let b : column u < 257 = column-lt u unit in
+      omega (arith, inside, b, r.size))
 
   entry_new : (p : ℕ) (u : Option ℕ) → p ≡ length states → IsUnit u → entry_at more p u ≡ 1
   entry_new p u last unit =
-      ap (λ k. slice_index more k) (let e : p * 258 + column u ≡ length rows + column u = omega (arith, last, r.size) in e) ∙ in_row (column u) (column-lt u unit)
+      ap (λ k. slice_index more k) (let e : p * 258 + column u ≡ length rows + column u = omega (arith, last, r.size) in
+      e) ∙ in_row (column u) (column-lt u unit)
 
   still : (e : ℕ) → IsEntry states e → IsEntry (states ++ w ∷ []) e
   still e (inl one) = inl one
-  still e (inr row) = inr (row.0, (let a : e / 258 < length states = row.1 in let len : length (states ++ w ∷ []) ≡ length states + 1 = length_push states w in omega (arith, a, len)))
+  still e (inr row) = inr (
+    row.0,
+    (let a : e / 258 < length states = row.1 in
+        let len : length (states ++ w ∷ []) ≡ length states + 1 = length_push states w in omega (arith, a, len)),
+  )
 
   pub rows-push : AreRows (states ++ w ∷ []) more
   rows-push = record {
-    size = let len : length (rows ++ replicate 258 1) ≡ length rows + 258 = longer in let one : length (states ++ w ∷ []) ≡ length states + 1 = length_push states w in
-        let all : length more ≡ length (rows ++ replicate 258 1) = ap length more_is ∙ length-set (rows ++ replicate 258 1) (length rows + 257) n in omega (arith, all, len, one, r.size);
+    size = let len : length (rows ++ replicate 258 1) ≡ length rows + 258 = longer in
+        let one : length (states ++ w ∷ []) ≡ length states + 1 = length_push states w in
+        let all : length more ≡ length (rows ++ replicate 258 1) =
+        ap length more_is ∙ length-set (rows ++ replicate 258 1) (length rows + 257) n in
+        omega (arith, all, len, one, r.size);
     apart = apart-push same_laws states w r.apart new;
     entries = λ p u inside unit. entry p u (nat_lt p (length states)) refl inside unit;
     tags = λ p v at. elim (get_push states w p v at) [
-      | inl h ↦ let inside : p * 258 + 257 < length rows = let a : p < length states = slice_get_within states p v h in omega (arith, a, r.size) in
+      | inl h ↦ let inside : p * 258 + 257 < length rows = let a : p < length states = slice_get_within states p v h in
+          omega (arith, a, r.size) in
           ap tag_in (before_row (p * 258 + 257) inside) ∙ r.tags p v h
-      | inr h ↦ let place : p * 258 + 257 ≡ length rows + 257 = let a : p ≡ length states = h.0 in omega (arith, a, r.size) in
+      | inr h ↦ let place : p * 258 + 257 ≡ length rows + 257 = let a : p ≡ length states = h.0 in
+          omega (arith, a, r.size) in
           ap (λ k. tag_in (slice_index more k)) place ∙ ap tag_in behind_row ∙ told ∙ ap tag_of (sym h.1)
     ];
   }
     where
-      entry : (p : ℕ) (u : Option ℕ) (b : Bool) → nat_lt p (length states) ≡ b → p < length (states ++ w ∷ []) → IsUnit u → IsEntry (states ++ w ∷ []) (entry_at more p u)
+      entry : (p : ℕ) (u : Option ℕ) (b : Bool) → nat_lt p (length states) ≡ b → p < length (states ++ w ∷ [])
+          → IsUnit u → IsEntry (states ++ w ∷ []) (entry_at more p u)
       entry p u true e inside unit = let here : p < length states = grind (arith, e) in
-          subst (λ k. IsEntry (states ++ w ∷ []) k) (sym (entry_before p u here unit)) (still _ (r.entries p u here unit))
-      entry p u false e inside unit = let len : length (states ++ w ∷ []) ≡ length states + 1 = length_push states w in let past : length states ≤ p = grind (arith, e) in
+          subst (λ k. IsEntry (states ++ w ∷ []) k) (sym (entry_before p u here unit))
+          (still _ (r.entries p u here unit))
+      entry p u false e inside unit = let len : length (states ++ w ∷ []) ≡ length states + 1 = length_push states w in
+          let past : length states ≤ p = grind (arith, e) in
           inl (entry_new p u (omega (arith, inside, len, past)) unit)
 
   -- it changes no target
   pub targets-push : (x : Value) (y : Option ℕ) → target_in (states ++ w ∷ []) more x y ≡ target_in states rows x y
   targets-push x y =
       ap (λ o. target_from (states ++ w ∷ []) more y o) (position_from-push same_laws states w x 0 new)
-      ∙ elim (same w x) as (λ b. same w x ≡ b → target_from (states ++ w ∷ []) more y (cond b (Some (0 + length states)) (index_in states x)) ≡ target_from states rows y (index_in states x)) [
+      ∙ elim (same w x) as (λ b. same w x ≡ b → target_from (states ++ w ∷ []) more y
+      (cond b (Some (0 + length states)) (index_in states x)) ≡ target_from states rows y (index_in states x)) [
         | true ↦ λ e. at_new (0 + length states) (let k : 0 + length states ≡ length states = omega arith in k)
-            ∙ sym (ap (λ o. target_from states rows y o) (absent (same x) states 0 (sym (list_any_congr same_laws w x states e) ∙ new)))
+            ∙ sym (ap (λ o. target_from states rows y o)
+            (absent (same x) states 0 (sym (list_any_congr same_laws w x states e) ∙ new)))
         | false ↦ λ _. at_old (index_in states x) refl
       ] refl
     where
-      at_new : (p : ℕ) → p ≡ length states → cond (is_unit y) (state_at (states ++ w ∷ []) (entry_at more p y)) None ≡ None
-      at_new p last = elim (is_unit y) as (λ b. is_unit y ≡ b → cond b (state_at (states ++ w ∷ []) (entry_at more p y)) None ≡ None) [
-        | true ↦ λ u. no_state (states ++ w ∷ []) (entry_at more p y) (entry_new p y last (unit_is y u))
-        | false ↦ λ _. refl
-      ] refl
+      at_new : (p : ℕ) → p ≡ length states → cond (is_unit y) (state_at (states ++ w ∷ []) (entry_at more p y)) None
+          ≡ None
+      at_new p last = elim (is_unit y) as (λ b. is_unit y ≡ b → cond b (state_at (states ++ w ∷ []) (entry_at more p y))
+          None ≡ None) [
+            | true ↦ λ u. no_state (states ++ w ∷ []) (entry_at more p y) (entry_new p y last (unit_is y u))
+            | false ↦ λ _. refl
+          ] refl
 
       same_state : (e : ℕ) → IsEntry states e → state_at (states ++ w ∷ []) e ≡ state_at states e
       same_state e (inl one) = no_state (states ++ w ∷ []) e one ∙ sym (no_state states e one)
       same_state e (inr row) = ap (λ o. cond (nat_eq e 1) None o) (get_within (e / 258) row.1)
         where
           get_within : (k : ℕ) → k < length states → slice_get (states ++ w ∷ []) k ≡ slice_get states k
-          get_within k inside = get_more states (w ∷ []) k _ (slice_get-get_or states k w inside) ∙ sym (slice_get-get_or states k w inside)
+          get_within k inside = get_more states (w ∷ []) k _ (slice_get-get_or states k w inside)
+              ∙ sym (slice_get-get_or states k w inside)
 
-      at_old : (o : Option ℕ) → index_in states x ≡ o → target_from (states ++ w ∷ []) more y o ≡ target_from states rows y o
+      at_old : (o : Option ℕ) → index_in states x ≡ o → target_from (states ++ w ∷ []) more y o
+          ≡ target_from states rows y o
       at_old None e = refl
-      at_old (Some p) e = elim (is_unit y) as (λ b. is_unit y ≡ b → cond b (state_at (states ++ w ∷ []) (entry_at more p y)) None ≡ cond b (state_at states (entry_at rows p y)) None) [
-        | true ↦ λ u. let inside : p < length states = slice_get_within states p x (index_within states x p e) in
-            ap (λ k. state_at (states ++ w ∷ []) k) (entry_before p y inside (unit_is y u)) ∙ same_state (entry_at rows p y) (r.entries p y inside (unit_is y u))
-        | false ↦ λ _. refl
-      ] refl
+      at_old (Some p) e = elim (is_unit y) as (λ b. is_unit y ≡ b
+          → cond b (state_at (states ++ w ∷ []) (entry_at more p y)) None
+          ≡ cond b (state_at states (entry_at rows p y)) None) [
+            | true ↦ λ u. let inside : p < length states = slice_get_within states p x (index_within states x p e) in
+                ap (λ k. state_at (states ++ w ∷ []) k) (entry_before p y inside (unit_is y u))
+                ∙ same_state (entry_at rows p y) (r.entries p y inside (unit_is y u))
+            | false ↦ λ _. refl
+          ] refl
 
 -- one more transition, between states that are there
-module _ (states : List Value) (rows : List ℕ) (s t : ℕ) (v w : Value) (u : Option ℕ) (r : AreRows states rows) (at_s : slice_get states s ≡ Some v) (at_t : slice_get states t ≡ Some w) (unit : IsUnit u) where
+module _ (states : List Value) (rows : List ℕ) (s t : ℕ) (v w : Value) (u : Option ℕ) (r : AreRows states rows)
+    (at_s : slice_get states s ≡ Some v) (at_t : slice_get states t ≡ Some w) (unit : IsUnit u) where
   abbrev more : List ℕ
   more = slice_set rows (s * 258 + column u) (t * 258)
 
   within : s * 258 + column u < length rows
-  within = let a : s < length states = slice_get_within states s v at_s in let b : column u < 257 = column-lt u unit in omega (arith, a, b, r.size)
+  within = let a : s < length states = slice_get_within states s v at_s in let b : column u < 257 = column-lt u unit in
+      omega (arith, a, b, r.size)
 
   entry_here : entry_at more s u ≡ t * 258
   entry_here = get_or-set_same rows (s * 258 + column u) (t * 258) 0 within
@@ -181,21 +212,34 @@ module _ (states : List Value) (rows : List ℕ) (s t : ℕ) (v w : Value) (u : 
     size = length-set rows (s * 258 + column u) (t * 258) ∙ r.size;
     apart = r.apart;
     entries = λ p y inside unit_y. entry p y inside unit_y (nat_eq p s) refl (same_unit y u) refl;
-    tags = λ p x at. ap tag_in (get_or-set_other rows (s * 258 + column u) (p * 258 + 257) (t * 258) 0 (λ e. let b : column u < 257 = column-lt u unit in absurd (omega (arith, b, e)))) ∙ r.tags p x at;
+    tags = λ p x at. ap tag_in (get_or-set_other rows (s * 258 + column u) (p * 258 + 257) (t * 258) 0
+        (λ e. let b : column u < 257 = column-lt u unit in absurd (omega (arith, b, e)))) ∙ r.tags p x at;
   }
     where
-      entry : (p : ℕ) (y : Option ℕ) → p < length states → IsUnit y → (a : Bool) → nat_eq p s ≡ a → (b : Bool) → same_unit y u ≡ b → IsEntry states (entry_at more p y)
+      entry : (p : ℕ) (y : Option ℕ) → p < length states → IsUnit y → (a : Bool) → nat_eq p s ≡ a → (b : Bool)
+          → same_unit y u ≡ b → IsEntry states (entry_at more p y)
       entry p y inside unit_y true a true b =
           let p_is : p ≡ s = grind (arith, a) in
-          subst (λ e. IsEntry states e) (sym (ap (λ k. entry_at more k y) p_is ∙ ap (λ z. entry_at more s z) (same_unit_is y u b) ∙ entry_here))
-          (let back : t * 258 / 258 ≡ t = omega arith in inr (ap (λ k. k * 258) (sym back), subst (λ k. k < length states) (sym back) (slice_get_within states t w at_t)))
+          subst (λ e. IsEntry states e)
+          (sym (ap (λ k. entry_at more k y) p_is ∙ ap (λ z. entry_at more s z) (same_unit_is y u b) ∙ entry_here))
+          (let back : t * 258 / 258 ≡ t = omega arith in
+          inr (
+            ap (λ k. k * 258) (sym back),
+            subst (λ k. k < length states) (sym back)
+                (slice_get_within states t w at_t),
+          ))
       entry p y inside unit_y false a b e =
-          subst (λ k. IsEntry states k) (sym (entry_there p y unit_y (λ p_is _. not_both (let yes : nat_eq p s ≡ true = grind (arith, p_is) in yes) a))) (r.entries p y inside unit_y)
+          subst (λ k. IsEntry states k)
+          (sym (entry_there p y unit_y (λ p_is _. not_both (let yes : nat_eq p s ≡ true = grind (arith, p_is) in
+          yes) a))) (r.entries p y inside unit_y)
       entry p y inside unit_y true a false b =
-          subst (λ k. IsEntry states k) (sym (entry_there p y unit_y (λ _ y_is. not_both (ap (λ z. same_unit z u) y_is ∙ same_unit_itself u) b))) (r.entries p y inside unit_y)
+          subst (λ k. IsEntry states k)
+          (sym (entry_there p y unit_y (λ _ y_is. not_both (ap (λ z. same_unit z u) y_is ∙ same_unit_itself u) b)))
+          (r.entries p y inside unit_y)
 
   -- it is the target over this unit, and changes no other
-  pub targets-set : (x : Value) (y : Option ℕ) → target_in states more x y ≡ with_target (target_in states rows) v u w x y
+  pub targets-set : (x : Value) (y : Option ℕ)
+      → target_in states more x y ≡ with_target (target_in states rows) v u w x y
   targets-set x y = at_index (index_in states x) refl (same x v) refl (same_unit y u) refl
     where
       unit_too : same_unit y u ≡ true → is_unit y ≡ true
@@ -205,15 +249,18 @@ module _ (states : List Value) (rows : List ℕ) (s t : ℕ) (v w : Value) (u : 
           of_unit (Some b) h = let k : b < 256 = h in let r : nat_lt b 256 ≡ true = grind (arith, k) in r
           of_unit None h = refl
 
-      other : (p : ℕ) → slice_get states p ≡ Some x → (p ≡ s → y ≡ u → ⊥) → target_from states more y (Some p) ≡ target_from states rows y (Some p)
-      other p at apart = elim (is_unit y) as (λ b. is_unit y ≡ b → cond b (state_at states (entry_at more p y)) None ≡ cond b (state_at states (entry_at rows p y)) None) [
-        | true ↦ λ unit_y. ap (λ e. state_at states e) (entry_there p y (unit_is y unit_y) apart)
-        | false ↦ λ _. refl
-      ] refl
+      other : (p : ℕ) → slice_get states p ≡ Some x → (p ≡ s → y ≡ u → ⊥) → target_from states more y (Some p)
+          ≡ target_from states rows y (Some p)
+      other p at apart = elim (is_unit y) as (λ b. is_unit y ≡ b → cond b (state_at states (entry_at more p y)) None
+          ≡ cond b (state_at states (entry_at rows p y)) None) [
+            | true ↦ λ unit_y. ap (λ e. state_at states e) (entry_there p y (unit_is y unit_y) apart)
+            | false ↦ λ _. refl
+          ] refl
 
       at_index : (o : Option ℕ) → index_in states x ≡ o → (a : Bool) → same x v ≡ a → (b : Bool) → same_unit y u ≡ b
           → target_from states more y o ≡ cond (a && b) (Some w) (target_from states rows y o)
-      at_index None none true e b k = not_none (sym none ∙ position_from-same same_laws x v states 0 e ∙ r.apart s v at_s)
+      at_index None none true e b k =
+          not_none (sym none ∙ position_from-same same_laws x v states 0 e ∙ r.apart s v at_s)
         where
           not_none : {X : Type 0} → None ≡ Some s → X
           not_none q = absurd (let no : ⊥ = (cc) in no)
@@ -221,21 +268,32 @@ module _ (states : List Value) (rows : List ℕ) (s t : ℕ) (v w : Value) (u : 
       at_index (Some p) here true e true k =
           let p_is : p ≡ s = of_some (sym here ∙ position_from-same same_laws x v states 0 e ∙ r.apart s v at_s) in
           ap (λ c. cond c (state_at states (entry_at more p y)) None) (unit_too k)
-          ∙ ap (λ q. state_at states (entry_at more q y)) p_is ∙ ap (λ z. state_at states (entry_at more s z)) (same_unit_is y u k)
+          ∙ ap (λ q. state_at states (entry_at more q y)) p_is ∙ ap (λ z. state_at states (entry_at more s z))
+          (same_unit_is y u k)
           ∙ ap (λ q. state_at states q) entry_here ∙ state_of_row states t w at_t
       at_index (Some p) here true e false k =
-          other p (index_within states x p here) (λ _ y_is. not_both (ap (λ z. same_unit z u) y_is ∙ same_unit_itself u) k)
+          other p (index_within states x p here) (λ _ y_is. not_both (ap (λ z. same_unit z u) y_is ∙ same_unit_itself u)
+          k)
       at_index (Some p) here false e b k =
           other p (index_within states x p here) (λ p_is _. not_both
-          (ap (λ z. same x z) (sym (of_some (sym (index_within states x p here) ∙ ap (λ q. slice_get states q) p_is ∙ at_s))) ∙ same_laws.refl x) e)
+          (ap (λ z. same x z) (sym (of_some (sym (index_within states x p here) ∙ ap (λ q. slice_get states q) p_is
+          ∙ at_s))) ∙ same_laws.refl x) e)
 
 -- the target over a unit is where the entry of the row leads
-pub target_at : (states : List Value) (rows : List ℕ) (id : ℕ) (v : Value) (u : Option ℕ) → AreRows states rows → slice_get states id ≡ Some v → is_unit u ≡ true
+pub target_at : (states : List Value) (rows : List ℕ) (id : ℕ) (v : Value) (u : Option ℕ) → AreRows states rows
+    → slice_get states id ≡ Some v → is_unit u ≡ true
     → target_in states rows v u ≡ state_at states (entry_at rows id u)
 target_at states rows id v u r at unit =
-    ap (λ o. target_from states rows u o) (r.apart id v at) ∙ ap (λ b. cond b (state_at states (entry_at rows id u)) None) unit
+    ap (λ o. target_from states rows u o) (r.apart id v at)
+    ∙ ap (λ b. cond b (state_at states (entry_at rows id u)) None) unit
 
 -- an entry that is not 1 is the offset of a row
-pub row_of_entry : (states : List Value) (e : ℕ) → IsEntry states e → e ≢ 1 → (e ≡ e / 258 * 258) × (e / 258 < length states) × (state_at states e ≡ slice_get states (e / 258))
+pub row_of_entry : (states : List Value) (e : ℕ) → IsEntry states e → e ≢ 1
+    → (e ≡ e / 258 * 258) × (e / 258 < length states) × (state_at states e ≡ slice_get states (e / 258))
 row_of_entry states e (inl one) apart = absurd (apart one)
-row_of_entry states e (inr row) apart = (row.0, row.1, (let no : nat_eq e 1 ≡ false = grind (arith, apart) in ap (λ b. cond b None (slice_get states (e / 258))) no))
+row_of_entry states e (inr row) apart = (
+  row.0,
+  row.1,
+  (let no : nat_eq e 1 ≡ false = grind (arith, apart) in
+      ap (λ b. cond b None (slice_get states (e / 258))) no),
+)

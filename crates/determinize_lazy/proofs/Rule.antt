@@ -17,22 +17,28 @@ module _ (f : Value → Option ℕ → Value) (limit : ℕ) (t : Table) (v w : V
   room_is : (x : Table) → fits f limit x v u ≡ nat_le (length (with_value (with_value x.states v) w)) limit
   room_is x = ap (λ y. nat_le (length (with_value (with_value x.states v) y)) limit) (sym w_is)
 
-  pub keep_more : (b : Bool) → b ≡ true → b ≡ nat_le (length (with_value (with_value t.states v) w)) limit → keep f limit t v u ≡ with_transition t v u w
+  pub keep_more : (b : Bool) → b ≡ true → b ≡ nat_le (length (with_value (with_value t.states v) w)) limit
+      → keep f limit t v u ≡ with_transition t v u w
   keep_more b holds e =
-      ap (λ x. cond x (with_transition t v u (f v u)) (cond (fits f limit empty v u) (with_transition empty v u (f v u)) empty)) (room_is t ∙ sym e ∙ holds)
+      ap (λ x. cond x (with_transition t v u (f v u)) (cond (fits f limit empty v u) (with_transition empty v u (f v u))
+      empty)) (room_is t ∙ sym e ∙ holds)
       ∙ ap (λ y. with_transition t v u y) (sym w_is)
 
-  pub keep_alone : (b d : Bool) → b ≡ false → b ≡ nat_le (length (with_value (with_value t.states v) w)) limit → d ≡ true → d ≡ nat_le (length (with_value (with_value [] v) w)) limit
+  pub keep_alone : (b d : Bool) → b ≡ false → b ≡ nat_le (length (with_value (with_value t.states v) w)) limit
+      → d ≡ true → d ≡ nat_le (length (with_value (with_value [] v) w)) limit
       → keep f limit t v u ≡ with_transition empty v u w
   keep_alone b d fails e holds e' =
-      ap (λ x. cond x (with_transition t v u (f v u)) (cond (fits f limit empty v u) (with_transition empty v u (f v u)) empty)) (room_is t ∙ sym e ∙ fails)
+      ap (λ x. cond x (with_transition t v u (f v u)) (cond (fits f limit empty v u) (with_transition empty v u (f v u))
+      empty)) (room_is t ∙ sym e ∙ fails)
       ∙ ap (λ x. cond x (with_transition empty v u (f v u)) empty) (room_is empty ∙ sym e' ∙ holds)
       ∙ ap (λ y. with_transition empty v u y) (sym w_is)
 
-  pub keep_none : (b d : Bool) → b ≡ false → b ≡ nat_le (length (with_value (with_value t.states v) w)) limit → d ≡ false → d ≡ nat_le (length (with_value (with_value [] v) w)) limit
+  pub keep_none : (b d : Bool) → b ≡ false → b ≡ nat_le (length (with_value (with_value t.states v) w)) limit
+      → d ≡ false → d ≡ nat_le (length (with_value (with_value [] v) w)) limit
       → keep f limit t v u ≡ empty
   keep_none b d fails e fails2 e' =
-      ap (λ x. cond x (with_transition t v u (f v u)) (cond (fits f limit empty v u) (with_transition empty v u (f v u)) empty)) (room_is t ∙ sym e ∙ fails)
+      ap (λ x. cond x (with_transition t v u (f v u)) (cond (fits f limit empty v u) (with_transition empty v u (f v u))
+      empty)) (room_is t ∙ sym e ∙ fails)
       ∙ ap (λ x. cond x (with_transition empty v u (f v u)) empty) (room_is empty ∙ sym e' ∙ fails2)
 
 -- the cache with another table
@@ -40,16 +46,20 @@ pub with_table : (c : Cache) (t t' : Table) → t ≡ t' → record c { table = 
 with_table c t t' e = ap (λ (x : Table). record c { table = x }) e
 
 -- a cache with one more transition of its NFA, for which there is room
-pub lazy-insert : (nfa : Nfa) (kind : MatchKind) (limit count : ℕ) (scratch : Option ℕ) (t t' : StoredTable) (v w : Value) (u : Option ℕ) → IsLazy nfa kind limit count scratch t
-    → w ≡ step nfa kind v u → nat_le (length (with_value (with_value t.states v) w)) limit ≡ true → table_of t' ≡ with_transition (table_of t) v u w → t'.starts ≡ t.starts
+pub lazy-insert : (nfa : Nfa) (kind : MatchKind) (limit count : ℕ) (scratch : Option ℕ) (t t' : StoredTable)
+    (v w : Value) (u : Option ℕ) → IsLazy nfa kind limit count scratch t
+    → w ≡ step nfa kind v u → nat_le (length (with_value (with_value t.states v) w)) limit ≡ true
+    → table_of t' ≡ with_transition (table_of t) v u w → t'.starts ≡ t.starts
     → IsLazy nfa kind limit count scratch t'
 lazy-insert nfa kind limit count scratch t t' v w u is w_is room table_is starts_is =
     let states : t'.states ≡ with_value (with_value t.states v) w = ap (λ (x : Table). x.states) table_is in record {
       accepted = is.accepted;
       small = is.small;
-      table = subst (λ x. IsTable (step nfa kind) x) (sym table_is) (with_transition-is (step nfa kind) (table_of t) v w u is.table w_is);
+      table = subst (λ x. IsTable (step nfa kind) x) (sym table_is) (with_transition-is (step nfa kind)
+          (table_of t) v w u is.table w_is);
       within = subst (λ vs. length vs ≤ limit) (sym states) (le_of _ limit room);
-      starts = starts-more nfa t t' is.starts starts_is (λ p x at. ap (λ vs. slice_get vs p) states ∙ get_with (with_value t.states v) w x p (get_with t.states v x p at));
+      starts = starts-more nfa t t' is.starts starts_is (λ p x at. ap (λ vs. slice_get vs p) states
+          ∙ get_with (with_value t.states v) w x p (get_with t.states v x p at));
       room = is.room;
     }
 
@@ -66,7 +76,8 @@ lazy-none nfa kind limit t accepted table_is none = record {
 }
 
 -- an empty cache
-pub lazy-empty : (nfa : Nfa) (kind : MatchKind) (limit count : ℕ) (scratch : Option ℕ) (t t' : StoredTable) → IsLazy nfa kind limit count scratch t → table_of t' ≡ empty
+pub lazy-empty : (nfa : Nfa) (kind : MatchKind) (limit count : ℕ) (scratch : Option ℕ) (t t' : StoredTable)
+    → IsLazy nfa kind limit count scratch t → table_of t' ≡ empty
     → ((i index : ℕ) → slice_get t'.starts i ≡ Some (Some index) → ⊥) → IsLazy nfa kind limit count scratch t'
 lazy-empty nfa kind limit count scratch t t' is table_is none = record {
   accepted = is.accepted;
@@ -78,26 +89,43 @@ lazy-empty nfa kind limit count scratch t t' is table_is none = record {
 }
 
 -- what changes the table and the count alone
-pub grows : (old new : Cache) (t : Table) (n : ℕ) → new ≡ record old { table = t; computed = n } → old.computed ≤ n → Grows old new
-grows old new t n is more = subst (λ x. Grows old x) (sym is) (let r : Grows old (record old { table = t; computed = n }) = record { nfa = refl; kind = refl; limit = refl; computed = more } in r)
+pub grows : (old new : Cache) (t : Table) (n : ℕ) → new ≡ record old { table = t; computed = n } → old.computed ≤ n
+    → Grows old new
+grows old new t n is more =
+    subst (λ x. Grows old x) (sym is) (let r : Grows old (record old { table = t; computed = n }) = record {
+      nfa = refl;
+      kind = refl;
+      limit = refl;
+      computed = more;
+    } in r)
 
 -- a step that fails after the cache was emptied, or before
 pub failed-empty : (old new : Cache) → new ≡ record old { table = empty } → IsFailedStep old new
-failed-empty old new is = subst (λ x. IsFailedStep old x) (sym is) (let r : IsFailedStep old (record old { table = empty }) = record { table = inl refl; few = omega arith } in r)
+failed-empty old new is =
+    subst (λ x. IsFailedStep old x) (sym is)
+    (let r : IsFailedStep old (record old { table = empty }) = record { table = inl refl; few = omega arith } in r)
 
 pub failed-same : (old new : Cache) → new ≡ old → IsFailedStep old new
-failed-same old new is = subst (λ x. IsFailedStep old x) (sym is) (let r : IsFailedStep old old = record { table = inr refl; few = omega arith } in r)
+failed-same old new is =
+    subst (λ x. IsFailedStep old x) (sym is)
+    (let r : IsFailedStep old old = record { table = inr refl; few = omega arith } in r)
 
 -- a step that fails after its transition was counted
-pub failed-counted : (old now new : Cache) → now ≡ record old { computed = count_after old.computed 1 } → IsSameOrEmpty now new → IsFailedStep old new
+pub failed-counted : (old now new : Cache) → now ≡ record old { computed = count_after old.computed 1 }
+    → IsSameOrEmpty now new → IsFailedStep old new
 failed-counted old now new is (inl same) =
-    subst (λ x. IsFailedStep old x) (sym (same ∙ is)) (let r : IsFailedStep old (record old { computed = count_after old.computed 1 }) = record { table = inr refl; few = one old.computed } in r)
+    subst (λ x. IsFailedStep old x) (sym (same ∙ is))
+    (let r : IsFailedStep old (record old { computed = count_after old.computed 1 }) = record {
+      table = inr refl;
+      few = one old.computed;
+    } in r)
   where
     one : (n : ℕ) → count_after n 1 ≤ n + 1
     one n = grind arith
 failed-counted old now new is (inr cleared) =
     subst (λ x. IsFailedStep old x) (sym (cleared ∙ ap (λ (x : Cache). record x { table = empty }) is))
-    (let r : IsFailedStep old (record old { table = empty; computed = count_after old.computed 1 }) = record { table = inl refl; few = one old.computed } in r)
+    (let r : IsFailedStep old (record old { table = empty; computed = count_after old.computed 1 }) =
+    record { table = inl refl; few = one old.computed } in r)
   where
     one : (n : ℕ) → count_after n 1 ≤ n + 1
     one n = grind arith
@@ -107,8 +135,10 @@ on_err (Ok x) P Q f h = tt
 on_err (Err x) P Q f h = f h
 
 -- a cache with one more start
-pub lazy-start : (nfa : Nfa) (kind : MatchKind) (limit count : ℕ) (scratch : Option ℕ) (t : StoredTable) (start : ℕ) (p : Option ℕ) (i id : ℕ) (v : Value) → IsLazy nfa kind limit count scratch t
-    → start_index nfa start p ≡ Some i → slice_get t.states id ≡ Some v → v ≡ start_value nfa start p → IsLazy nfa kind limit count scratch (record t { starts = slice_set t.starts i (Some id) })
+pub lazy-start : (nfa : Nfa) (kind : MatchKind) (limit count : ℕ) (scratch : Option ℕ) (t : StoredTable) (start : ℕ)
+    (p : Option ℕ) (i id : ℕ) (v : Value) → IsLazy nfa kind limit count scratch t
+    → start_index nfa start p ≡ Some i → slice_get t.states id ≡ Some v → v ≡ start_value nfa start p
+    → IsLazy nfa kind limit count scratch (record t { starts = slice_set t.starts i (Some id) })
 lazy-start nfa kind limit count scratch t start p i id v is at here v_is = record {
   accepted = is.accepted;
   small = is.small;
@@ -128,7 +158,8 @@ grows-more {old} {now} {new} g h = record {
   nfa = h.nfa ∙ g.nfa;
   kind = h.kind ∙ g.kind;
   limit = h.limit ∙ g.limit;
-  computed = let a : old.computed ≤ now.computed = g.computed in let b : now.computed ≤ new.computed = h.computed in omega (arith, a, b);
+  computed = let a : old.computed ≤ now.computed = g.computed in let b : now.computed ≤ new.computed = h.computed in
+      omega (arith, a, b);
 }
 
 -- what follows from a value holds if there is one

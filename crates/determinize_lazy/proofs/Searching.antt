@@ -33,7 +33,8 @@ module _ (bits : ℕ) (v : Value) (tag : tag_in bits ≡ tag_of v) where
   pub tag-last : (earliest : Bool) {test answer : Bool} → test ≡ is_last_tag earliest (tag_in bits) → test ≡ answer
       → is_last earliest v ≡ answer
   tag-last earliest told is =
-      sym (ap (λ t. is_last_tag earliest t) tag ∙ ap (λ b. (earliest && b) || not (is_nonempty v.states)) (first_of v.patterns))
+      sym (ap (λ t. is_last_tag earliest t) tag ∙ ap (λ b. (earliest && b) || not (is_nonempty v.states))
+      (first_of v.patterns))
       ∙ sym told ∙ is
     where
       first_of : (patterns : List ℕ) → is_some (slice_get patterns 0) ≡ is_nonempty patterns
@@ -112,7 +113,8 @@ module _ {earliest : Bool} {old : Cache} {first : Value} {us : List (Option ℕ)
 
   -- once no more units are read
   module _ {found : Option HalfMatch} (found_is : found ≡ option_or (ended_at (read - 1) v.patterns) last) where
-    over : (earliest ≡ false → so_far ≡ last_of us) → is_some so_far ≡ is_some (last_of us) → reads v (drop read us) ≡ []
+    over : (earliest ≡ false → so_far ≡ last_of us) → is_some so_far ≡ is_some (last_of us)
+        → reads v (drop read us) ≡ []
         → IsOver earliest old first us found now
     over last_is some_is none = record {
       last = λ e. found_is ∙ s.found ∙ last_is e;
@@ -163,7 +165,8 @@ module _ {earliest : Bool} {old : Cache} {first : Value} {us : List (Option ℕ)
 pub over-from : {earliest : Bool} {old now : Cache} {first v : Value} {us : List (Option ℕ)} {found : Option HalfMatch}
     {new : Cache} → first ≡ v → now ≡ old → IsOver earliest now first us found new → IsOver earliest old v us found new
 over-from {earliest} {old} {now} {first} {v} {us} {found} {new} first_is now_is o =
-    subst (λ x. IsOver earliest old x us found new) first_is (subst (λ c. IsOver earliest c first us found new) now_is o)
+    subst (λ x. IsOver earliest old x us found new) first_is (subst (λ c. IsOver earliest c first us found new) now_is
+    o)
 
 -- with room for all that was read, a search keeps all of its transitions
 pub over-keeps : {old : Cache} {v : Value} {us : List (Option ℕ)} {found : Option HalfMatch} {new : Cache}

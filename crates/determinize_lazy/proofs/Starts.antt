@@ -25,9 +25,12 @@ none_kept i index = none 12 i
     none (suc n) (suc k) e = none n k e
 
 -- the start state depends on the kind of start alone
-same_start : (nfa : Nfa) (s : ℕ) (p q : Option ℕ) → start_kind_of nfa.terminator p ≡ start_kind_of nfa.terminator q → start_value nfa s p ≡ start_value nfa s q
+same_start : (nfa : Nfa) (s : ℕ) (p q : Option ℕ) → start_kind_of nfa.terminator p ≡ start_kind_of nfa.terminator q
+    → start_value nfa s p ≡ start_value nfa s q
 unfolding have_at_start from_word_at_start half_crlf_at_start
-same_start nfa s p q e = ap (λ k. recorded nfa (begun (start_from_word (tables_of nfa) k) (start_half_crlf (tables_of nfa) k) (start_have (tables_of nfa) k) [])
+same_start nfa s p q e =
+    ap (λ k. recorded nfa (begun (start_from_word (tables_of nfa) k) (start_half_crlf (tables_of nfa) k)
+    (start_have (tables_of nfa) k) [])
     (reach nfa (has (start_have (tables_of nfa) k)) (s ∷ []))) e
 
 number_below : (k : Kind) → number_of k < 6
@@ -58,13 +61,17 @@ index-lt nfa start p i = by (nat_eq start nfa.start_anchored) (nat_eq start nfa.
     n = number_of (start_kind_of nfa.terminator p)
 
     by : (a b : Bool) → cond a (Some n) (cond b (Some (6 + n)) None) ≡ Some i → i < 12
-    by true b e = let is : n ≡ i = of_some e in let below : n < 6 = number_below (start_kind_of nfa.terminator p) in omega (arith, is, below)
-    by false true e = let is : 6 + n ≡ i = of_some e in let below : n < 6 = number_below (start_kind_of nfa.terminator p) in omega (arith, is, below)
+    by true b e = let is : n ≡ i = of_some e in let below : n < 6 = number_below (start_kind_of nfa.terminator p) in
+        omega (arith, is, below)
+    by false true e = let is : 6 + n ≡ i = of_some e in let below : n < 6 =
+        number_below (start_kind_of nfa.terminator p) in omega (arith, is, below)
     by false false e = not_none (sym e)
 
 -- starts that are kept at one index have the same start state
-one_start : (nfa : Nfa) (s t : ℕ) (p q : Option ℕ) (i : ℕ) → start_index nfa s p ≡ Some i → start_index nfa t q ≡ Some i → start_value nfa s p ≡ start_value nfa t q
-one_start nfa s t p q i = by (nat_eq s nfa.start_anchored) refl (nat_eq s nfa.start_unanchored) refl (nat_eq t nfa.start_anchored) refl (nat_eq t nfa.start_unanchored) refl
+one_start : (nfa : Nfa) (s t : ℕ) (p q : Option ℕ) (i : ℕ) → start_index nfa s p ≡ Some i → start_index nfa t q ≡ Some i
+    → start_value nfa s p ≡ start_value nfa t q
+one_start nfa s t p q i = by (nat_eq s nfa.start_anchored) refl (nat_eq s nfa.start_unanchored) refl
+    (nat_eq t nfa.start_anchored) refl (nat_eq t nfa.start_unanchored) refl
   where
     j : ℕ
     j = number_of (start_kind_of nfa.terminator p)
@@ -73,7 +80,8 @@ one_start nfa s t p q i = by (nat_eq s nfa.start_anchored) refl (nat_eq s nfa.st
     k = number_of (start_kind_of nfa.terminator q)
 
     equal : s ≡ t → j ≡ k → start_value nfa s p ≡ start_value nfa t q
-    equal starts kinds = same_start nfa s p q (same_kind (start_kind_of nfa.terminator p) (start_kind_of nfa.terminator q) kinds) ∙ ap (λ x. start_value nfa x q) starts
+    equal starts kinds = same_start nfa s p q (same_kind (start_kind_of nfa.terminator p)
+        (start_kind_of nfa.terminator q) kinds) ∙ ap (λ x. start_value nfa x q) starts
 
     low : j < 6
     low = number_below (start_kind_of nfa.terminator p)
@@ -81,36 +89,49 @@ one_start nfa s t p q i = by (nat_eq s nfa.start_anchored) refl (nat_eq s nfa.st
     less : k < 6
     less = number_below (start_kind_of nfa.terminator q)
 
-    by : (a : Bool) → nat_eq s nfa.start_anchored ≡ a → (b : Bool) → nat_eq s nfa.start_unanchored ≡ b → (c : Bool) → nat_eq t nfa.start_anchored ≡ c → (d : Bool) → nat_eq t nfa.start_unanchored ≡ d
-        → cond a (Some j) (cond b (Some (6 + j)) None) ≡ Some i → cond c (Some k) (cond d (Some (6 + k)) None) ≡ Some i → start_value nfa s p ≡ start_value nfa t q
-    by true a b b_is true c d d_is e f = equal (let one : s ≡ nfa.start_anchored = grind (arith, a) in let other : t ≡ nfa.start_anchored = grind (arith, c) in one ∙ sym other) (of_some (e ∙ sym f))
-    by true a b b_is false c true d e f = absurd (let one : j ≡ i = of_some e in let other : 6 + k ≡ i = of_some f in omega (arith, one, other, low))
+    by : (a : Bool) → nat_eq s nfa.start_anchored ≡ a → (b : Bool) → nat_eq s nfa.start_unanchored ≡ b → (c : Bool)
+        → nat_eq t nfa.start_anchored ≡ c → (d : Bool) → nat_eq t nfa.start_unanchored ≡ d
+        → cond a (Some j) (cond b (Some (6 + j)) None) ≡ Some i → cond c (Some k) (cond d (Some (6 + k)) None) ≡ Some i
+        → start_value nfa s p ≡ start_value nfa t q
+    by true a b b_is true c d d_is e f = equal (let one : s ≡ nfa.start_anchored = grind (arith, a) in
+        let other : t ≡ nfa.start_anchored = grind (arith, c) in one ∙ sym other) (of_some (e ∙ sym f))
+    by true a b b_is false c true d e f = absurd (let one : j ≡ i = of_some e in let other : 6 + k ≡ i = of_some f in
+        omega (arith, one, other, low))
     by true a b b_is false c false d e f = not_none (sym f)
-    by false a true b true c d d_is e f = absurd (let one : 6 + j ≡ i = of_some e in let other : k ≡ i = of_some f in omega (arith, one, other, less))
+    by false a true b true c d d_is e f = absurd (let one : 6 + j ≡ i = of_some e in let other : k ≡ i = of_some f in
+        omega (arith, one, other, less))
     by false a true b false c true d e f =
-        equal (let one : s ≡ nfa.start_unanchored = grind (arith, b) in let other : t ≡ nfa.start_unanchored = grind (arith, d) in one ∙ sym other)
+        equal (let one : s ≡ nfa.start_unanchored = grind (arith, b) in
+        let other : t ≡ nfa.start_unanchored = grind (arith, d) in one ∙ sym other)
         (let both : 6 + j ≡ 6 + k = of_some (e ∙ sym f) in omega (arith, both))
     by false a true b false c false d e f = not_none (sym f)
     by false a false b c c_is d d_is e f = not_none (sym e)
 
 -- one more start is kept
-pub starts-set : (nfa : Nfa) (t : StoredTable) (start : ℕ) (p : Option ℕ) (i id : ℕ) (v : Value) → AreStarts nfa t → start_index nfa start p ≡ Some i
-    → slice_get t.states id ≡ Some v → v ≡ start_value nfa start p → AreStarts nfa (record t { starts = slice_set t.starts i (Some id) })
+pub starts-set : (nfa : Nfa) (t : StoredTable) (start : ℕ) (p : Option ℕ) (i id : ℕ) (v : Value) → AreStarts nfa t
+    → start_index nfa start p ≡ Some i
+    → slice_get t.states id ≡ Some v → v ≡ start_value nfa start p
+    → AreStarts nfa (record t { starts = slice_set t.starts i (Some id) })
 starts-set nfa t start p i id v are at here is s q j k at_j kept = by (nat_eq j i) refl
   where
     by : (b : Bool) → nat_eq j i ≡ b → slice_get t.states k ≡ Some (start_value nfa s q)
     by true e =
         let j_is : j ≡ i = grind (arith, e) in
-        let k_is : id ≡ k = of_set t.starts i k (ap (λ n. slice_get (slice_set t.starts i (Some id)) n) (sym j_is) ∙ kept) in
-        ap (λ n. slice_get t.states n) (sym k_is) ∙ here ∙ ap Some (is ∙ one_start nfa start s p q i at (at_j ∙ ap Some j_is))
+        let k_is : id ≡ k = of_set t.starts i k (ap (λ n. slice_get (slice_set t.starts i (Some id)) n) (sym j_is)
+        ∙ kept) in
+        ap (λ n. slice_get t.states n) (sym k_is) ∙ here
+        ∙ ap Some (is ∙ one_start nfa start s p q i at (at_j ∙ ap Some j_is))
       where
         of_set : (xs : List (Option ℕ)) (n k : ℕ) → slice_get (slice_set xs n (Some id)) n ≡ Some (Some k) → id ≡ k
         of_set [] n k e = not_none (sym e)
         of_set (x ∷ xs) zero k e = of_some (of_some e)
         of_set (x ∷ xs) (suc n) k e = of_set xs n k e
-    by false e = are s q j k at_j (sym (others t.starts i j (λ same. not_both (let yes : nat_eq j i ≡ true = grind (arith, same) in yes) e)) ∙ kept)
+    by false e = are s q j k at_j
+        (sym (others t.starts i j (λ same. not_both (let yes : nat_eq j i ≡ true = grind (arith, same) in yes) e))
+        ∙ kept)
       where
-        others : (xs : List (Option ℕ)) (n m : ℕ) → (m ≡ n → ⊥) → slice_get (slice_set xs n (Some id)) m ≡ slice_get xs m
+        others : (xs : List (Option ℕ)) (n m : ℕ) → (m ≡ n → ⊥) → slice_get (slice_set xs n (Some id)) m
+            ≡ slice_get xs m
         others [] n m apart = refl
         others (x ∷ xs) zero zero apart = absurd (apart refl)
         others (x ∷ xs) zero (suc m) apart = refl
@@ -120,4 +141,5 @@ starts-set nfa t start p i id v are at here is s q j k at_j kept = by (nat_eq j 
 -- the starts that are kept stay right with more states
 pub starts-more : (nfa : Nfa) (t t' : StoredTable) → AreStarts nfa t → t'.starts ≡ t.starts
     → ((p : ℕ) (v : Value) → slice_get t.states p ≡ Some v → slice_get t'.states p ≡ Some v) → AreStarts nfa t'
-starts-more nfa t t' are same more s p i index at kept = more index _ (are s p i index at (ap (λ xs. slice_get xs i) (sym same) ∙ kept))
+starts-more nfa t t' are same more s p i index at kept =
+    more index _ (are s p i index at (ap (λ xs. slice_get xs i) (sym same) ∙ kept))

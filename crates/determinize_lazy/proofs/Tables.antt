@@ -15,34 +15,47 @@ use Rattle.determinize_lazy.proofs.Rows.{and_true, same_unit_is, same_unit_itsel
 
 -- two tables with the same states and the same targets are equal
 pub same_table : (states more : List Value) (target other : Value → Option ℕ → Option Value) → states ≡ more
-    → ((v : Value) (u : Option ℕ) → target v u ≡ other v u) → ◌≡◌ {A = Table} record { states = states; target = target } record { states = more; target = other }
+    → ((v : Value) (u : Option ℕ) → target v u ≡ other v u)
+    → ◌≡◌ {A = Table} record { states = states; target = target } record { states = more; target = other }
 same_table states more target other e h = λ i. record { states = e i; target = λ v u. h v u i }
 
-pub with_value-there : (values : List Value) (v : Value) → list_any (same v) values ≡ true → with_value values v ≡ values
+pub with_value-there : (values : List Value) (v : Value) → list_any (same v) values ≡ true
+    → with_value values v ≡ values
 with_value-there values v e = ap (λ b. cond b values (values ++ v ∷ [])) e
 
-pub with_value-new : (values : List Value) (v : Value) → list_any (same v) values ≡ false → with_value values v ≡ values ++ v ∷ []
+pub with_value-new : (values : List Value) (v : Value) → list_any (same v) values ≡ false
+    → with_value values v ≡ values ++ v ∷ []
 with_value-new values v e = ap (λ b. cond b values (values ++ v ∷ [])) e
 
 pub there : (values : List Value) (v : Value) (p : ℕ) → slice_get values p ≡ Some v → list_any (same v) values ≡ true
 there values v p at = one_passes (same v) values p v at (same_laws.refl v)
 
-pub get_with : (values : List Value) (w v : Value) (p : ℕ) → slice_get values p ≡ Some v → slice_get (with_value values w) p ≡ Some v
-get_with values w v p at = elim (list_any (same w) values) as (λ b. slice_get (cond b values (values ++ w ∷ [])) p ≡ Some v) [ true ↦ at | false ↦ get_more values (w ∷ []) p v at ]
+pub get_with : (values : List Value) (w v : Value) (p : ℕ) → slice_get values p ≡ Some v
+    → slice_get (with_value values w) p ≡ Some v
+get_with values w v p at =
+    elim (list_any (same w) values) as (λ b. slice_get (cond b values (values ++ w ∷ [])) p ≡ Some v)
+    [ true ↦ at | false ↦ get_more values (w ∷ []) p v at ]
 
 -- how many values there are with one more
-pub length_with : (values : List Value) (v : Value) → length (with_value values v) ≡ length values + cond (list_any (same v) values) 0 1
-length_with values v = elim (list_any (same v) values) as (λ b. length (cond b values (values ++ v ∷ [])) ≡ length values + cond b 0 1) [ true ↦ omega arith | false ↦ length_push values v ]
+pub length_with : (values : List Value) (v : Value) → length (with_value values v)
+    ≡ length values + cond (list_any (same v) values) 0 1
+length_with values v = elim (list_any (same v) values) as (λ b. length (cond b values (values ++ v ∷ []))
+    ≡ length values + cond b 0 1) [ true ↦ omega arith | false ↦ length_push values v ]
 
 -- whether a value is there with one more
-pub any_with : (values : List Value) (v w : Value) → list_any (same w) (with_value values v) ≡ (list_any (same w) values || same v w)
+pub any_with : (values : List Value) (v w : Value) → list_any (same w) (with_value values v)
+    ≡ (list_any (same w) values || same v w)
 any_with values v w =
-    elim (list_any (same v) values) as (λ b. list_any (same v) values ≡ b → list_any (same w) (cond b values (values ++ v ∷ [])) ≡ (list_any (same w) values || same v w)) [
-      | true ↦ λ here. elim (same v w) as (λ b. same v w ≡ b → list_any (same w) values ≡ (list_any (same w) values || b)) [
-        | true ↦ λ e. (let known : list_any (same w) values ≡ true = sym (list_any_congr same_laws v w values e) ∙ here in known ∙ sym (ap (λ b. b || true) known))
-        | false ↦ λ _. or_nothing (list_any (same w) values)
-      ] refl
-      | false ↦ λ _. list_any-append (same w) values (v ∷ []) ∙ ap (λ b. list_any (same w) values || (b || false)) (same_laws.symm w v) ∙ ap (λ b. list_any (same w) values || b) (sym (or_nothing (same v w)))
+    elim (list_any (same v) values) as (λ b. list_any (same v) values ≡ b
+    → list_any (same w) (cond b values (values ++ v ∷ [])) ≡ (list_any (same w) values || same v w)) [
+      | true ↦ λ here. elim (same v w) as (λ b. same v w ≡ b → list_any (same w) values
+          ≡ (list_any (same w) values || b)) [
+            | true ↦ λ e. (let known : list_any (same w) values ≡ true = sym (list_any_congr same_laws v w values e)
+                ∙ here in known ∙ sym (ap (λ b. b || true) known))
+            | false ↦ λ _. or_nothing (list_any (same w) values)
+          ] refl
+      | false ↦ λ _. list_any-append (same w) values (v ∷ []) ∙ ap (λ b. list_any (same w) values || (b || false))
+          (same_laws.symm w v) ∙ ap (λ b. list_any (same w) values || b) (sym (or_nothing (same v w)))
     ] refl
   where
     or_nothing : (b : Bool) → b ≡ (b || false)
@@ -50,28 +63,35 @@ any_with values v w =
     or_nothing false = refl
 
 -- how many values there are with two more
-pub length_with_two : (values : List Value) (v w : Value) → length (with_value (with_value values v) w) ≡ length values + cond (list_any (same v) values) 0 1 + cond (list_any (same w) values || same v w) 0 1
-length_with_two values v w = length_with (with_value values v) w ∙ ap (λ n. n + cond (list_any (same w) (with_value values v)) 0 1) (length_with values v)
+pub length_with_two : (values : List Value) (v w : Value) → length (with_value (with_value values v) w)
+    ≡ length values + cond (list_any (same v) values) 0 1 + cond (list_any (same w) values || same v w) 0 1
+length_with_two values v w =
+    length_with (with_value values v) w ∙ ap (λ n. n + cond (list_any (same w) (with_value values v)) 0 1)
+    (length_with values v)
     ∙ ap (λ b. length values + cond (list_any (same v) values) 0 1 + cond b 0 1) (any_with values v w)
 
 -- a value is among the values with it
 pub has_new : (values : List Value) (v : Value) → Contains (with_value values v) v
-has_new values v = elim (list_any (same v) values) as (λ b. list_any (same v) values ≡ b → Contains (cond b values (values ++ v ∷ [])) v) [
-  | true ↦ λ e. Contains-from_any same_is v values e
-  | false ↦ λ _. Contains-push values v
-] refl
+has_new values v = elim (list_any (same v) values) as (λ b. list_any (same v) values ≡ b
+    → Contains (cond b values (values ++ v ∷ [])) v) [
+      | true ↦ λ e. Contains-from_any same_is v values e
+      | false ↦ λ _. Contains-push values v
+    ] refl
 
 pub has_more : (values : List Value) (w v : Value) → Contains values v → Contains (with_value values w) v
-has_more values w v h = elim (list_any (same w) values) as (λ b. Contains (cond b values (values ++ w ∷ [])) v) [ true ↦ h | false ↦ Contains-append_left values (w ∷ []) v h ]
+has_more values w v h = elim (list_any (same w) values) as (λ b. Contains (cond b values (values ++ w ∷ [])) v)
+    [ true ↦ h | false ↦ Contains-append_left values (w ∷ []) v h ]
 
 pub of_with : (values : List Value) (w v : Value) → Contains (with_value values w) v → Contains values v ⊎ (w ≡ v)
-of_with values w v = elim (list_any (same w) values) as (λ b. Contains (cond b values (values ++ w ∷ [])) v → Contains values v ⊎ (w ≡ v)) [ true ↦ λ h. inl h | false ↦ λ h. Contains-push_cases values w v h ]
+of_with values w v = elim (list_any (same w) values) as (λ b. Contains (cond b values (values ++ w ∷ [])) v
+    → Contains values v ⊎ (w ≡ v)) [ true ↦ λ h. inl h | false ↦ λ h. Contains-push_cases values w v h ]
 
 pub apart-with : (values : List Value) (w : Value) → EachApart values → EachApart (with_value values w)
-apart-with values w h = elim (list_any (same w) values) as (λ b. list_any (same w) values ≡ b → EachApart (cond b values (values ++ w ∷ []))) [
-  | true ↦ λ _. h
-  | false ↦ λ e. apart-push same_laws values w h e
-] refl
+apart-with values w h = elim (list_any (same w) values) as (λ b. list_any (same w) values ≡ b
+    → EachApart (cond b values (values ++ w ∷ []))) [
+      | true ↦ λ _. h
+      | false ↦ λ e. apart-push same_laws values w h e
+    ] refl
 
 module _ (f : Value → Option ℕ → Value) where
   pub empty-is : IsTable f empty
@@ -83,22 +103,31 @@ module _ (f : Value → Option ℕ → Value) where
   }
 
   -- a step more
-  pub with_transition-is : (t : Table) (v w : Value) (u : Option ℕ) → IsTable f t → w ≡ f v u → IsTable f (with_transition t v u w)
+  pub with_transition-is : (t : Table) (v w : Value) (u : Option ℕ) → IsTable f t → w ≡ f v u
+      → IsTable f (with_transition t v u w)
   with_transition-is t v w u is w_is = record {
     apart = apart-with (with_value t.states v) w (apart-with t.states v is.apart);
-    steps = λ x y z. elim (same x v && same_unit y u) as (λ b. (same x v && same_unit y u) ≡ b → cond b (Some w) (t.target x y) ≡ Some z → z ≡ f x y) [
-      | true ↦ λ e k. let both = and_true (same x v) (same_unit y u) e in
-          sym (of_some k) ∙ w_is ∙ ap (λ a. f a u) (sym (same_is x v both.0)) ∙ ap (λ b. f x b) (sym (same_unit_is y u both.1))
-      | false ↦ λ _ k. is.steps x y z k
-    ] refl;
-    ends = λ x y z. elim (same x v && same_unit y u) as (λ b. (same x v && same_unit y u) ≡ b → cond b (Some w) (t.target x y) ≡ Some z
+    steps = λ x y z. elim (same x v && same_unit y u) as (λ b. (same x v && same_unit y u) ≡ b
+        → cond b (Some w) (t.target x y) ≡ Some z → z ≡ f x y) [
+          | true ↦ λ e k. let both = and_true (same x v) (same_unit y u) e in
+              sym (of_some k) ∙ w_is ∙ ap (λ a. f a u) (sym (same_is x v both.0))
+              ∙ ap (λ b. f x b) (sym (same_unit_is y u both.1))
+          | false ↦ λ _ k. is.steps x y z k
+        ] refl;
+    ends = λ x y z. elim (same x v && same_unit y u) as (λ b. (same x v && same_unit y u) ≡ b
+        → cond b (Some w) (t.target x y) ≡ Some z
         → Contains (with_value (with_value t.states v) w) x × Contains (with_value (with_value t.states v) w) z) [
           | true ↦ λ e k. let both = and_true (same x v) (same_unit y u) e in (
-            subst (λ a. Contains (with_value (with_value t.states v) w) a) (sym (same_is x v both.0)) (has_more (with_value t.states v) w v (has_new t.states v)),
-            subst (λ a. Contains (with_value (with_value t.states v) w) a) (of_some k) (has_new (with_value t.states v) w),
+            subst (λ a. Contains (with_value (with_value t.states v) w) a) (sym (same_is x v both.0))
+                (has_more (with_value t.states v) w v (has_new t.states v)),
+            subst (λ a. Contains (with_value (with_value t.states v) w) a) (of_some k)
+                (has_new (with_value t.states v) w),
           )
-          | false ↦ λ _ k. let old = is.ends x y z k in
-              (has_more (with_value t.states v) w x (has_more t.states v x old.0), has_more (with_value t.states v) w z (has_more t.states v z old.1))
+          | false ↦ λ _ k. let old = is.ends x y z k in (
+            has_more (with_value t.states v) w x (has_more t.states v x old.0),
+            has_more (with_value t.states v) w z
+                (has_more t.states v z old.1),
+          )
         ] refl;
     used = λ x h. elim (of_with (with_value t.states v) w x h) [
       | inr at ↦ (v, u, w, here, inr (sym at))
@@ -110,14 +139,18 @@ module _ (f : Value → Option ℕ → Value) where
   }
     where
       here : with_target t.target v u w v u ≡ Some w
-      here = ap (λ b. cond (b && same_unit u u) (Some w) (t.target v u)) (same_laws.refl v) ∙ ap (λ b. cond b (Some w) (t.target v u)) (same_unit_itself u)
+      here = ap (λ b. cond (b && same_unit u u) (Some w) (t.target v u)) (same_laws.refl v)
+          ∙ ap (λ b. cond b (Some w) (t.target v u)) (same_unit_itself u)
 
       stays : (x : Value) (y : Option ℕ) (z : Value) → t.target x y ≡ Some z → with_target t.target v u w x y ≡ Some z
-      stays x y z k = elim (same x v && same_unit y u) as (λ b. (same x v && same_unit y u) ≡ b → cond b (Some w) (t.target x y) ≡ Some z) [
-        | true ↦ λ e. let both = and_true (same x v) (same_unit y u) e in
-            ap Some (w_is ∙ ap (λ a. f a u) (sym (same_is x v both.0)) ∙ ap (λ b. f x b) (sym (same_unit_is y u both.1)) ∙ sym (is.steps x y z k))
-        | false ↦ λ _. k
-      ] refl
+      stays x y z k = elim (same x v && same_unit y u) as (λ b. (same x v && same_unit y u) ≡ b
+          → cond b (Some w) (t.target x y) ≡ Some z) [
+            | true ↦ λ e. let both = and_true (same x v) (same_unit y u) e in
+                ap Some (w_is ∙ ap (λ a. f a u) (sym (same_is x v both.0))
+                ∙ ap (λ b. f x b) (sym (same_unit_is y u both.1))
+                ∙ sym (is.steps x y z k))
+            | false ↦ λ _. k
+          ] refl
 
 -- a transition between two states, put in place after both
 pub transition_is : (t t1 t2 t3 : Table) (v w : Value) (u : Option ℕ) → t1 ≡ with_state t v → t2 ≡ with_state t1 w
@@ -133,20 +166,25 @@ target_index values v w source None none at =
 target_index values v w source (Some p) there at = get_with values v w p there
 
 -- how many values there are with two more, of which each is there or not
-pub count_with : (values : List Value) (v w : Value) (a b : Bool) → list_any (same v) values ≡ a → (list_any (same w) values || same v w) ≡ b
+pub count_with : (values : List Value) (v w : Value) (a b : Bool) → list_any (same v) values ≡ a
+    → (list_any (same w) values || same v w) ≡ b
     → length (with_value (with_value values v) w) ≡ length values + cond a 0 1 + cond b 0 1
-count_with values v w a b e k = length_with_two values v w ∙ ap (λ x. length values + cond x 0 1 + cond (list_any (same w) values || same v w) 0 1) e
+count_with values v w a b e k =
+    length_with_two values v w ∙ ap (λ x. length values + cond x 0 1 + cond (list_any (same w) values || same v w) 0 1)
+    e
     ∙ ap (λ x. length values + cond a 0 1 + cond x 0 1) k
 
 -- a value that is there is not equal to one that is not
-pub apart_of : (values : List Value) (v w : Value) → list_any (same v) values ≡ true → list_any (same w) values ≡ false → same v w ≡ false
+pub apart_of : (values : List Value) (v w : Value) → list_any (same v) values ≡ true → list_any (same w) values ≡ false
+    → same v w ≡ false
 apart_of values v w here none = elim (same v w) as (λ b. same v w ≡ b → b ≡ false) [
   | true ↦ λ e. not_both (sym (list_any_congr same_laws v w values e) ∙ here) none
   | false ↦ λ _. refl
 ] refl
 
 -- whether a value is there, by its index
-pub index_some : (values : List Value) (w : Value) (target : Option ℕ) → IsIndex values w target → (b : Bool) → is_some target ≡ b → list_any (same w) values ≡ b
+pub index_some : (values : List Value) (w : Value) (target : Option ℕ) → IsIndex values w target → (b : Bool)
+    → is_some target ≡ b → list_any (same w) values ≡ b
 index_some values w None h b e = h ∙ e
 index_some values w (Some p) h b e = there values w p h ∙ e
 

@@ -18,11 +18,13 @@ module _ (text : Text) where
   units_listed = units_are text.behind text.ahead text.bytes
 
   -- each byte is a unit
-  pub unit-byte : (i b : ℕ) → i < length text.bytes → b ≡ get_or text.bytes i 0 → slice_get (units text) i ≡ Some (Some b)
+  pub unit-byte : (i b : ℕ) → i < length text.bytes → b ≡ get_or text.bytes i 0
+      → slice_get (units text) i ≡ Some (Some b)
   unit-byte i b inside is =
       ap (λ us. slice_get us i) units_listed
       ∙ get_more (map Some text.bytes) (text.ahead ∷ []) i (Some b)
-      (slice_get-map Some text.bytes i ∙ ap (λ o. option_map Some o) (slice_get-get_or text.bytes i 0 inside ∙ ap Some (sym is)))
+      (slice_get-map Some text.bytes i ∙ ap (λ o. option_map Some o) (slice_get-get_or text.bytes i 0 inside
+      ∙ ap Some (sym is)))
 
   -- and so is what is ahead of them
   pub unit-last : (i : ℕ) → i ≡ length text.bytes → slice_get (units text) i ≡ Some text.ahead

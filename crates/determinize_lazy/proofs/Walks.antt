@@ -14,48 +14,69 @@ use Rattle.determinize_core.proofs.Resolving.{step_resolves}
 module _ (nfa : Nfa) (kind : MatchKind) where
   -- the table after one more unit
   kept-push : (limit : ℕ) (t : Table) (v : Value) (us : List (Option ℕ)) (u : Option ℕ)
-      → kept (step nfa kind) limit t v (us ++ u ∷ []) ≡ after_step (step nfa kind) limit (kept (step nfa kind) limit t v us) (value_after nfa kind v us) u
+      → kept (step nfa kind) limit t v (us ++ u ∷ [])
+      ≡ after_step (step nfa kind) limit (kept (step nfa kind) limit t v us) (value_after nfa kind v us) u
   kept-push limit t v [] u = refl
   kept-push limit t v (w ∷ us) u = kept-push limit (after_step (step nfa kind) limit t v w) (step nfa kind v w) us u
 
   -- what is computed after one more unit
-  missed-push : (limit : ℕ) (t : Table) (v : Value) (us : List (Option ℕ)) (u : Option ℕ) → missed (step nfa kind) limit t v (us ++ u ∷ [])
-      ≡ missed (step nfa kind) limit t v us + cond (is_cached (kept (step nfa kind) limit t v us) (value_after nfa kind v us) u) 0 1
-  missed-push limit t v [] u = let r : cond (is_cached t v u) 0 1 + 0 ≡ 0 + cond (is_cached t v u) 0 1 = omega arith in r
+  missed-push : (limit : ℕ) (t : Table) (v : Value) (us : List (Option ℕ)) (u : Option ℕ)
+      → missed (step nfa kind) limit t v (us ++ u ∷ [])
+      ≡ missed (step nfa kind) limit t v us + cond (is_cached (kept (step nfa kind) limit t v us)
+      (value_after nfa kind v us) u) 0 1
+  missed-push limit t v [] u = let r : cond (is_cached t v u) 0 1 + 0 ≡ 0 + cond (is_cached t v u) 0 1 = omega arith in
+      r
   missed-push limit t v (w ∷ us) u =
-      ap (λ n. cond (is_cached t v w) 0 1 + n) (missed-push limit (after_step (step nfa kind) limit t v w) (step nfa kind v w) us u)
-      ∙ sym (add_assoc (cond (is_cached t v w) 0 1) (missed (step nfa kind) limit (after_step (step nfa kind) limit t v w) (step nfa kind v w) us) _)
+      ap (λ n. cond (is_cached t v w) 0 1 + n) (missed-push limit (after_step (step nfa kind) limit t v w)
+      (step nfa kind v w) us u)
+      ∙ sym (add_assoc (cond (is_cached t v w) 0 1)
+      (missed (step nfa kind) limit (after_step (step nfa kind) limit t v w) (step nfa kind v w) us) _)
 
   -- the value after some units has states of the NFA, if the first has
-  pub after_resolves : IsAccepted nfa → (v : Value) (us : List (Option ℕ)) → AllResolve nfa v.states → AllResolve nfa (value_after nfa kind v us).states
+  pub after_resolves : IsAccepted nfa → (v : Value) (us : List (Option ℕ)) → AllResolve nfa v.states
+      → AllResolve nfa (value_after nfa kind v us).states
   after_resolves accepted v [] h = h
-  after_resolves accepted v (u ∷ us) h = after_resolves accepted (step nfa kind v u) us (step_resolves nfa accepted kind v u)
+  after_resolves accepted v (u ∷ us) h =
+      after_resolves accepted (step nfa kind v u) us (step_resolves nfa accepted kind v u)
 
 -- no more transitions are computed than there are units
-missed-few : (f : Value → Option ℕ → Value) (limit : ℕ) (t : Table) (v : Value) (us : List (Option ℕ)) → missed f limit t v us ≤ length us
+missed-few : (f : Value → Option ℕ → Value) (limit : ℕ) (t : Table) (v : Value) (us : List (Option ℕ))
+    → missed f limit t v us ≤ length us
 missed-few f limit t v [] = omega arith
 missed-few f limit t v (u ∷ us) =
-    let rest : missed f limit (after_step f limit t v u) (f v u) us ≤ length us = missed-few f limit (after_step f limit t v u) (f v u) us in
-    elim (is_cached t v u) as (λ b. cond b 0 1 + missed f limit (after_step f limit t v u) (f v u) us ≤ suc (length us)) [ true ↦ omega (arith, rest) | false ↦ omega (arith, rest) ]
+    let rest : missed f limit (after_step f limit t v u) (f v u) us ≤ length us =
+    missed-few f limit (after_step f limit t v u) (f v u) us in
+    elim (is_cached t v u) as (λ b. cond b 0 1 + missed f limit (after_step f limit t v u) (f v u) us ≤ suc (length us))
+    [ true ↦ omega (arith, rest) | false ↦ omega (arith, rest) ]
 
 -- the count after one step more
-count_after-more : (a x m : ℕ) (b : Bool) → cond b (min (a + x) m) (min (min (a + x) m + 1) m) ≡ min (a + (x + cond b 0 1)) m
+count_after-more : (a x m : ℕ) (b : Bool) → cond b (min (a + x) m) (min (min (a + x) m + 1) m)
+    ≡ min (a + (x + cond b 0 1)) m
 count_after-more a x m true = ap (λ n. min (a + n) m) (let r : x ≡ x + 0 = omega arith in r)
 count_after-more a x m false = grind arith
 
 -- no unit
-pub after_walk-none : (old : Cache) (first : Value) → old.computed ≤ 18446744073709551615 → after_walk old first [] ≡ old
+pub after_walk-none : (old : Cache) (first : Value) → old.computed ≤ 18446744073709551615
+    → after_walk old first [] ≡ old
 after_walk-none old first h =
-    ap (λ n. record old { computed = n }) (let r : min (old.computed + 0) 18446744073709551615 ≡ old.computed = grind (arith, h) in r)
+    ap (λ n. record old { computed = n }) (let r : min (old.computed + 0) 18446744073709551615
+    ≡ old.computed = grind (arith, h) in r)
 
 -- one more unit
 pub after_walk-push : (old : Cache) (first : Value) (us : List (Option ℕ)) (u : Option ℕ)
-    → after_unit (after_walk old first us) (value_after old.nfa old.kind first us) u ≡ after_walk old first (us ++ u ∷ [])
+    → after_unit (after_walk old first us) (value_after old.nfa old.kind first us) u
+    ≡ after_walk old first (us ++ u ∷ [])
 after_walk-push old first us u =
     ap (λ (n : ℕ). record old { table = after_step (step_of old) old.limit now v u; computed = n })
-    (count_after-more old.computed (missed (step_of old) old.limit old.table first us) 18446744073709551615 (is_cached now v u)
-    ∙ ap (λ n. min (old.computed + n) 18446744073709551615) (sym (missed-push old.nfa old.kind old.limit old.table first us u)))
-    ∙ ap (λ (t : Table). record old { table = t; computed = min (old.computed + missed (step_of old) old.limit old.table first (us ++ u ∷ [])) 18446744073709551615 })
+    (count_after-more old.computed (missed (step_of old) old.limit old.table first us) 18446744073709551615
+    (is_cached now v u)
+    ∙ ap (λ n. min (old.computed + n) 18446744073709551615)
+    (sym (missed-push old.nfa old.kind old.limit old.table first us u)))
+    ∙ ap (λ (t : Table). record old {
+      table = t;
+      computed = min (old.computed + missed (step_of old) old.limit old.table
+          first (us ++ u ∷ [])) 18446744073709551615;
+    })
     (sym (kept-push old.nfa old.kind old.limit old.table first us u))
   where
     v : Value
@@ -65,7 +86,8 @@ after_walk-push old first us u =
     now = kept (step_of old) old.limit old.table first us
 
 -- what a walk leaves that fails before its first step
-pub cut_off-none : (old : Cache) (first : Value) (us : List (Option ℕ)) (new : Cache) → new ≡ old → IsCutOff old first us new
+pub cut_off-none : (old : Cache) (first : Value) (us : List (Option ℕ)) (new : Cache) → new ≡ old
+    → IsCutOff old first us new
 cut_off-none old first us new same = record {
   table = inr (0, ap (λ (c : Cache). c.table) same);
   few = let e : new.computed ≡ old.computed = ap (λ (c : Cache). c.computed) same in omega (arith, e);
@@ -90,7 +112,8 @@ module _ {K : Type 0} (xs : List K) (i : ℕ) (x : K) (at : slice_get xs i ≡ S
       ∙ ap (λ y. take i xs ++ y ∷ []) (get_or_from_slice_get xs i x x at)
 
   pub drop-one : drop i xs ≡ x ∷ drop (i + 1) xs
-  drop-one = drop-cons xs i x (slice_get_within xs i x at) ∙ ap (λ y. y ∷ drop (suc i) xs) (get_or_from_slice_get xs i x x at)
+  drop-one = drop-cons xs i x (slice_get_within xs i x at) ∙ ap (λ y. y ∷ drop (suc i) xs)
+      (get_or_from_slice_get xs i x x at)
       ∙ ap (λ n. x ∷ drop n xs) (let e : suc i ≡ i + 1 = omega arith in e)
 
 -- no unit yet

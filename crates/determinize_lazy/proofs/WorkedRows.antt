@@ -15,7 +15,9 @@ use Rattle.determinize_lazy.specs.Searches.{after_search, last_in}
 use Rattle.determinize_lazy.specs.WorkedRows.{AreWorkedRows}
 
 pub are_worked_rows : AreWorkedRows
-unfolding has insert is_word_byte meets insert_where known_set word_opened line_opened opened have_after from_word_after half_crlf_after start_have start_from_word start_half_crlf have_at_start from_word_at_start half_crlf_at_start reach step spell varint chain after_text after_search last_in
+unfolding has insert is_word_byte meets insert_where known_set word_opened line_opened opened
+    have_after from_word_after half_crlf_after start_have start_from_word start_half_crlf have_at_start
+    from_word_at_start half_crlf_at_start reach step spell varint chain after_text after_search last_in
 are_worked_rows = record {
   room_for_all = (refl, refl);
   room_again = (refl, refl);

@@ -1,5 +1,6 @@
 -- Searches over a cache: what they read, what they answer and what they leave.
-use Rattle.std.specs.Prelude.{◌≡◌, ◌≤◌, ℕ, ◌+◌, ◌-◌, Bool, true, false, cond, not, ◌&&◌, ◌||◌, Option, Some, None, List, [], ◌∷◌, length, option_map, reverse, slice_get}
+use Rattle.std.specs.Prelude.{◌≡◌, ◌≤◌, ℕ, ◌+◌, ◌-◌, Bool, true, false, cond, not, ◌&&◌, ◌||◌, Option, Some, None, List}
+use Rattle.std.specs.Prelude.{[], ◌∷◌, length, option_map, reverse, slice_get}
 use Rattle.std.specs.List.{slice_range}
 use Rattle.std.specs.Option.{IfSome}
 use Rattle.determinize_below.specs.Nfa.{Nfa}
@@ -74,8 +75,10 @@ in_order true bytes = reverse bytes
 
 -- what a search of a range reads: its bytes, with what stands beside it in the haystack
 abbrev pub text_of : Bool → Asked → Text
-text_of false asked = between (byte_before asked.haystack asked.start) (slice_range asked.haystack asked.start asked.end) (slice_get asked.haystack asked.end)
-text_of true asked = between (slice_get asked.haystack asked.end) (reverse (slice_range asked.haystack asked.start asked.end)) (byte_before asked.haystack asked.start)
+text_of false asked = between (byte_before asked.haystack asked.start)
+    (slice_range asked.haystack asked.start asked.end) (slice_get asked.haystack asked.end)
+text_of true asked = between (slice_get asked.haystack asked.end)
+    (reverse (slice_range asked.haystack asked.start asked.end)) (byte_before asked.haystack asked.start)
 
 -- the index in the haystack after so many bytes
 abbrev pub index_after : Bool → Asked → ℕ → ℕ
@@ -92,7 +95,8 @@ found_in nfa asked found = cond (is_done asked) None (option_map (in_haystack nf
 
 -- the last match of the walk over what an input asks for
 unfoldable pub last_in : Nfa → MatchKind → Asked → Option HalfMatch
-last_in nfa kind asked = found_in nfa asked (last_match (chain nfa kind (start_for nfa asked.anchored) (text_of nfa.reverse asked)))
+last_in nfa kind asked =
+    found_in nfa asked (last_match (chain nfa kind (start_for nfa asked.anchored) (text_of nfa.reverse asked)))
 
 -- some run over what an input asks for accepts
 abbrev pub HasMatch : Nfa → Asked → Type 0
@@ -113,7 +117,8 @@ IsFarthestIn nfa asked m = (i : ℕ) × (m.offset ≡ index_after nfa.reverse as
 
 -- the cache after a search of an input
 unfoldable pub after_input : Cache → Asked → Cache
-after_input c asked = cond (is_done asked) c (after_search c (start_for c.nfa asked.anchored) (text_of c.nfa.reverse asked))
+after_input c asked = cond (is_done asked) c (after_search c (start_for c.nfa asked.anchored)
+    (text_of c.nfa.reverse asked))
 
 -- the cache after `is_match` of an input
 unfoldable pub after_is_match : Cache → Asked → Cache
@@ -123,7 +128,8 @@ after_is_match c asked =
 
 -- with room for all that it reads, each of its transitions is cached, and each that was missing was computed once
 abbrev pub IsPlentyIn : Cache → Asked → Cache → Type 0
-IsPlentyIn old asked new = is_done asked ≡ false → IsPlenty old (start_for old.nfa asked.anchored) (text_of old.nfa.reverse asked) new
+IsPlentyIn old asked new = is_done asked ≡ false → IsPlenty old (start_for old.nfa asked.anchored)
+    (text_of old.nfa.reverse asked) new
 
 -- what a search of an input leaves if it fails
 abbrev pub IsCutOffIn : Cache → Asked → Cache → Type 0

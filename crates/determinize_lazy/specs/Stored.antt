@@ -1,5 +1,6 @@
 -- How a transition table is stored: for each cached state a row of 258 numbers.
-use Rattle.std.specs.Prelude.{ℕ, ◌+◌, ◌*◌, ◌/◌, Bool, true, cond, Option, Some, None, List, nat_eq, nat_lt, slice_get, slice_index}
+use Rattle.std.specs.Prelude.{ℕ, ◌+◌, ◌*◌, ◌/◌, Bool, true, cond, Option, Some, None, List, nat_eq, nat_lt, slice_get}
+use Rattle.std.specs.Prelude.{slice_index}
 use Rattle.determinize_core.specs.Value.{Value}
 use Rattle.determinize_lazy.specs.Table.{Table, index_in}
 

@@ -1,5 +1,6 @@
 -- A transition table: the cached states, and the cached transitions between them.
-use Rattle.std.specs.Prelude.{◌≡◌, ℕ, Bool, cond, ◌&&◌, Option, Some, None, List, [], ◌∷◌, ◌++◌, ◌⊎◌, is_some, nat_eq, slice_get, Contains}
+use Rattle.std.specs.Prelude.{◌≡◌, ℕ, Bool, cond, ◌&&◌, Option, Some, None, List, [], ◌∷◌, ◌++◌, ◌⊎◌, is_some, nat_eq}
+use Rattle.std.specs.Prelude.{slice_get, Contains}
 use Rattle.std.specs.List.{list_any, position_from}
 use Rattle.std.specs.Option.{option_eq}
 pub use Rattle.determinize_core.specs.Equality.{same}

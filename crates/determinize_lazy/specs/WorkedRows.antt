@@ -1,5 +1,5 @@
--- Worked walks and searches over one cache of the NFA `\b\w+\b`, the preferred match wanted: how many transitions are computed, and how many states
--- are cached then.
+-- Worked walks and searches over one cache of the NFA `\b\w+\b`, the preferred match wanted: how many transitions are
+-- computed, and how many states are cached then.
 use Rattle.std.specs.Prelude.{◌≡◌, ℕ, true, Option, Some, None, List, [], ◌∷◌, length}
 use Rattle.determinize_below.specs.declared.search.MatchKind.TheVariants.{LeftmostFirst}
 use Rattle.determinize_below.specs.Positions.{Text, between}
@@ -34,15 +34,22 @@ after_texts c (Some text ∷ texts) = after_texts (after_text c 0 text) texts
 
 -- after the texts n transitions are computed and m states cached
 abbrev pub Leaves : ℕ → List (Option Text) → ℕ → ℕ → Type 0
-Leaves limit texts computed cached = ((after_texts (empty limit) texts).computed ≡ computed) × (length (after_texts (empty limit) texts).table.states ≡ cached)
+Leaves limit texts computed cached = ((after_texts (empty limit) texts).computed ≡ computed)
+    × (length (after_texts (empty limit) texts).table.states ≡ cached)
 
 -- after a search of the text n transitions are computed and m states cached
 abbrev pub LeavesAfterSearch : Text → ℕ → ℕ → Type 0
-LeavesAfterSearch text computed cached = ((after_search (empty 16) 0 text).computed ≡ computed) × (length (after_search (empty 16) 0 text).table.states ≡ cached)
+LeavesAfterSearch text computed cached = ((after_search (empty 16) 0 text).computed ≡ computed)
+    × (length (after_search (empty 16) 0 text).table.states ≡ cached)
 
 -- a range of `= ok =`, in which a word stands from 2 to 4
 abbrev pub between_signs : ℕ → ℕ → Asked
-between_signs start end = record { haystack = 0x3D ∷ 0x20 ∷ 0x6F ∷ 0x6B ∷ 0x20 ∷ 0x3D ∷ []; start = start; end = end; anchored = Yes }
+between_signs start end = record {
+  haystack = 0x3D ∷ 0x20 ∷ 0x6F ∷ 0x6B ∷ 0x20 ∷ 0x3D ∷ [];
+  start = start;
+  end = end;
+  anchored = Yes;
+}
 
 -- what is computed and cached after walks and searches, and what searches of ranges find
 pub record AreWorkedRows : Type 0 where
@@ -57,7 +64,8 @@ pub record AreWorkedRows : Type 0 where
   pub searched : LeavesAfterSearch whole_word 7 3
   pub stopped : LeavesAfterSearch inside_a_word 1 2
   pub forward : last_in n4 LeftmostFirst (between_signs 2 6) ≡ Some record { pattern = 0; offset = 4 }
-  pub backward : last_in (record n4 { reverse = true }) LeftmostFirst (between_signs 0 4) ≡ Some record { pattern = 0; offset = 2 }
+  pub backward : last_in (record n4 { reverse = true }) LeftmostFirst (between_signs 0 4)
+      ≡ Some record { pattern = 0; offset = 2 }
   pub inside : last_in n4 LeftmostFirst (between_signs 3 6) ≡ None
   pub cut_ahead : last_in n4 LeftmostFirst (between_signs 2 3) ≡ None
   pub cut_behind : last_in (record n4 { reverse = true }) LeftmostFirst (between_signs 3 4) ≡ None

@@ -9,7 +9,8 @@ use Rattle.determinize_lazy.specs.Table.{IsTable}
 
 -- an NFA that has passed every check, a table of its steps with at most `limit` states, a count of 64 bits, the start
 -- states, and scratch space with room for each state of the NFA, if there is any
-pub record IsLazy (nfa : Nfa) (kind : MatchKind) (limit computed : ℕ) (scratch : Option ℕ) (stored : StoredTable) : Type 0 where
+pub record IsLazy (nfa : Nfa) (kind : MatchKind) (limit computed : ℕ) (scratch : Option ℕ) (stored : StoredTable)
+    : Type 0 where
   pub accepted : IsAccepted nfa
   pub table : IsTable (step nfa kind) (table_of stored)
   pub small : computed ≤ 18446744073709551615

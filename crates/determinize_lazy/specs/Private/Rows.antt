@@ -1,5 +1,6 @@
 -- What is true of the rows of a transition table, and what lookups in it return.
-use Rattle.std.specs.Prelude.{◌≡◌, ℕ, ◌+◌, ◌*◌, ◌/◌, ◌<◌, ◌≤◌, ◌⊎◌, false, Option, Some, None, List, length, slice_get, slice_index, MatchOption}
+use Rattle.std.specs.Prelude.{◌≡◌, ℕ, ◌+◌, ◌*◌, ◌/◌, ◌<◌, ◌≤◌, ◌⊎◌, false, Option, Some, None, List, length, slice_get}
+use Rattle.std.specs.Prelude.{slice_index, MatchOption}
 use Rattle.std.specs.List.{list_any}
 use Rattle.determinize_below.specs.Truth.{IsUnit}
 use Rattle.determinize_core.specs.Value.{Value}
@@ -32,7 +33,8 @@ abbrev pub IsIndex : List Value → Value → Option ℕ → Type 0
 IsIndex states v index =
     MatchOption index (list_any (same v) states ≡ false) (λ p. slice_get states p ≡ Some v)
 
--- the index of the target of a transition whose source is there; `None` if it is none of the states, or the source itself
+-- the index of the target of a transition whose source is there; `None` if it is none of the states, or the source
+-- itself
 abbrev pub IsTargetIndex : List Value → ℕ → Value → Option ℕ → Type 0
 IsTargetIndex states source w None =
     (v : Value) → slice_get states source ≡ Some v → list_any (same w) states ≡ same v w

@@ -1,5 +1,6 @@
 -- What a search asks of a state, and how it is stored.
-use Rattle.std.specs.Prelude.{ℕ, Bool, ◌-◌, ◌%◌, ◌&&◌, ◌||◌, is_some, None, Some, Option, cond, nat_eq, nat_le, not, option_map, slice_get}
+use Rattle.std.specs.Prelude.{ℕ, Bool, ◌-◌, ◌%◌, ◌&&◌, ◌||◌, is_some, None, Some, Option, cond, nat_eq, nat_le, not}
+use Rattle.std.specs.Prelude.{option_map, slice_get}
 use Rattle.determinize_below.specs.declared.search.HalfMatch.{HalfMatch}
 use Rattle.determinize_core.specs.Value.{Value, is_nonempty}
 use Rattle.determinize_lazy.specs.declared.tag.LastMatch.{LastMatch}

@@ -5,4 +5,5 @@ use Rattle.determinize_lazy.proofs.lazy.Lazy.compute.Goals as goal
 pub returns-clause-failed : goal.returns-clause-failed
 returns-clause-failed g c =
     on_err c.cache.result _ _
-    (failed-counted (cache c.args.self.now) (cache c.next_state.new.self) (cache c.cache.new.self) c.in_ok-following.ensures.counted) c.cache.ensures.failed
+    (failed-counted (cache c.args.self.now) (cache c.next_state.new.self) (cache c.cache.new.self)
+    c.in_ok-following.ensures.counted) c.cache.ensures.failed

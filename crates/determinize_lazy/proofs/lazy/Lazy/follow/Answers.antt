@@ -21,13 +21,15 @@ loop-at-preserved g c =
     {A = Unit {0}} in
     record {
       id = next.cursor_is;
-      forward = let so_far : c.args.from.read ≤ c.loop-at.at.read = c.loop-at.invariant.forward in omega (arith, so_far);
+      forward = let so_far : c.args.from.read ≤ c.loop-at.at.read = c.loop-at.invariant.forward in
+          omega (arith, so_far);
       read = let more : c.loop-at.at.read < length c.args.text.now.bytes = search rules in omega (arith, more);
       searched = λ old first s.
           searched-step (c.loop-at.invariant.searched old first s) c.byte-byte.ensures
           (tag-last c.tag-tag.result.bits v tag _ c.is_last.ensures c.if-is_last.false)
           (c.or_match-at.ensures
-          ∙ ap (λ o. option_or o (match_of c.loop-at.at.last)) (tag-match c.tag-tag.result.bits v tag (c.loop-at.at.read - 1)))
+          ∙ ap (λ o. option_or o (match_of c.loop-at.at.last)) (tag-match c.tag-tag.result.bits v tag
+          (c.loop-at.at.read - 1)))
           next.value
           (cached_step (cache c.args.self.now) v (Some c.byte-byte.result) c.in-Some.id table target);
     }

@@ -7,9 +7,13 @@ use Rattle.determinize_lazy.proofs.lazy.Lazy.kept_start.Goals as goal
 
 is_sound : (g : Over) (c : After-start_index g) → IsSound (cache c.args.self.now)
 is_sound g c =
-    subst (λ (x : LazyValue). IsSound (cache x)) c.self.view_is record { accepted = c.self.invariant.accepted; small = c.self.invariant.small }
+    subst (λ (x : LazyValue). IsSound (cache x)) c.self.view_is record {
+      accepted = c.self.invariant.accepted;
+      small = c.self.invariant.small;
+    }
 
-resolves : (g : Over) (c : After-start_index g) → AllResolve c.args.self.now.nfa (start_value c.args.self.now.nfa c.args.start c.args.look_behind).states
+resolves : (g : Over) (c : After-start_index g)
+    → AllResolve c.args.self.now.nfa (start_value c.args.self.now.nfa c.args.start c.args.look_behind).states
 resolves g c = start_resolves c.args.self.now.nfa (is_sound g c).accepted c.args.start c.args.look_behind c.requires
 
 pub returns-in_err-index-clause-resolve : goal.returns-in_err-index-clause-resolve

@@ -17,16 +17,19 @@ here g c = c.run-at.ensures.searched _ _ c.loop-read.invariant.searched
 
 -- the match of the state there, or the last one before
 found : (g : Over) (c : After-or_match-last g) → match_of c.or_match-last.result
-    ≡ option_or (ended_at (c.run-at.result.read - 1) (cursor_value c.loop-read.self.states c.run-at.result.cursor).patterns)
+    ≡ option_or (ended_at (c.run-at.result.read - 1)
+    (cursor_value c.loop-read.self.states c.run-at.result.cursor).patterns)
     (match_of c.run-at.result.last)
 found g c = c.or_match-last.ensures ∙ ap (λ o. option_or o (match_of c.run-at.result.last))
-    (tag-match c.tag_at-tag.result.bits (cursor_value c.loop-read.self.states c.run-at.result.cursor) c.tag_at-tag.ensures (c.run-at.result.read - 1))
+    (tag-match c.tag_at-tag.result.bits (cursor_value c.loop-read.self.states c.run-at.result.cursor)
+    c.tag_at-tag.ensures (c.run-at.result.read - 1))
 
 pub returns-then-is_last-clause-over : goal.returns-then-is_last-clause-over
 returns-then-is_last-clause-over g c =
     let d = (goal.at.returns-then-is_last-clause-over g c).After-or_match-last in
     stopped (here g d) (c.get.ensures ∙ found g d)
-    (tag-last c.tag_at-tag.result.bits (cursor_value c.loop-read.self.states c.run-at.result.cursor) c.tag_at-tag.ensures _ c.is_last.ensures c.if-is_last.true)
+    (tag-last c.tag_at-tag.result.bits (cursor_value c.loop-read.self.states c.run-at.result.cursor)
+    c.tag_at-tag.ensures _ c.is_last.ensures c.if-is_last.true)
 
 pub step-requires-clause-resolve : goal.step-requires-clause-resolve
 step-requires-clause-resolve g c =
@@ -48,7 +51,8 @@ pub loop-read-preserved : goal.loop-read-preserved
 loop-read-preserved g c =
     let d = (goal.at.loop-read-preserved g c).After-or_match-last in record {
       searched = searched-step (here g d) c.unit-unit.ensures
-          (tag-last c.tag_at-tag.result.bits (cursor_value c.loop-read.self.states c.run-at.result.cursor) c.tag_at-tag.ensures _ c.is_last.ensures c.if-is_last.false) (found g d)
+          (tag-last c.tag_at-tag.result.bits (cursor_value c.loop-read.self.states c.run-at.result.cursor)
+          c.tag_at-tag.ensures _ c.is_last.ensures c.if-is_last.false) (found g d)
           c.in_ok-cursor.ensures.at.value c.in_ok-cursor.ensures.after;
       cursor = c.in_ok-cursor.ensures.at.cursor_is;
       grows = grows-more c.loop-read.invariant.grows c.in_ok-cursor.ensures.grows;

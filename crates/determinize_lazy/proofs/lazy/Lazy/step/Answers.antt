@@ -6,19 +6,26 @@ use Rattle.determinize_lazy.proofs.lazy.Lazy.step.Goals.{In-Some}
 use Rattle.determinize_lazy.proofs.lazy.Lazy.step.Goals as goal
 
 is_table : (g : Over) (c : In-Some g) → IsTable (step_of (cache c.args.self.now)) (cache c.args.self.now).table
-is_table g c = subst (λ (x : LazyValue). IsTable (step_of (cache x)) (cache x).table) c.self.view_is c.self.invariant.table
+is_table g c = subst (λ (x : LazyValue). IsTable (step_of (cache x)) (cache x).table) c.self.view_is
+    c.self.invariant.table
 
 -- the lookup found the target of the state at the cursor
 is_target : (g : Over) (c : In-Some g)
-    → IsTarget (cache c.args.self.now).table (cursor_value c.args.self.now.states c.args.cursor) c.args.unit (Some c.in-Some.next)
+    → IsTarget (cache c.args.self.now).table (cursor_value c.args.self.now.states c.args.cursor) c.args.unit
+    (Some c.in-Some.next)
 is_target g c =
-    let at : slice_get c.args.self.now.states c.in-Cached.id ≡ Some (cursor_value c.args.self.now.states c.args.cursor) =
+    let at : slice_get c.args.self.now.states c.in-Cached.id ≡ Some
+    (cursor_value c.args.self.now.states c.args.cursor) =
     state_at (cache c.args.self.now).table c.args.cursor c.requires.cursor c.in-Cached.id c.in-Cached.is in
-    subst (λ (x : LazyValue). IsTarget (cache x).table (cursor_value c.args.self.now.states c.args.cursor) c.args.unit (Some c.in-Some.next)) c.self.view_is
-    (c.in-Some.ensures (cursor_value c.args.self.now.states c.args.cursor) (ap (λ (x : LazyValue). slice_get x.states c.in-Cached.id) c.self.view_is ∙ at))
+    subst (λ (x : LazyValue). IsTarget (cache x).table (cursor_value c.args.self.now.states c.args.cursor) c.args.unit
+    (Some c.in-Some.next)) c.self.view_is
+    (c.in-Some.ensures (cursor_value c.args.self.now.states c.args.cursor)
+    (ap (λ (x : LazyValue). slice_get x.states c.in-Cached.id) c.self.view_is ∙ at))
 
 pub returns-in-Some-clause-at : goal.returns-in-Some-clause-at
-returns-in-Some-clause-at g c = cached_target (cache c.args.self.now) _ c.args.unit c.in-Some.next (is_table g c) (is_target g c)
+returns-in-Some-clause-at g c = cached_target (cache c.args.self.now) _ c.args.unit c.in-Some.next (is_table g c)
+    (is_target g c)
 
 pub returns-in-Some-clause-after : goal.returns-in-Some-clause-after
-returns-in-Some-clause-after g c = cached_step (cache c.args.self.now) _ c.args.unit c.in-Some.next (is_table g c) (is_target g c)
+returns-in-Some-clause-after g c = cached_step (cache c.args.self.now) _ c.args.unit c.in-Some.next (is_table g c)
+    (is_target g c)

@@ -29,7 +29,8 @@ loop-read-preserved g c =
     record {
       values = future-more c.loop-read.invariant.reached c.unit-unit.ensures value c.in_ok-cursor-2.ensures.after
           c.loop-read.invariant.values
-          (c.in_ok-push-2.ensures.items ∙ ap (λ (v : Value). c.loop-read.states.items ++ v ∷ []) c.in_ok-state_at.ensures);
+          (c.in_ok-push-2.ensures.items ∙ ap (λ (v : Value). c.loop-read.states.items ++ v ∷ [])
+          c.in_ok-state_at.ensures);
       reached = reached-push c.loop-read.invariant.reached c.unit-unit.ensures value c.in_ok-cursor-2.ensures.after;
       cursor = c.in_ok-cursor-2.ensures.at.cursor_is;
       grows = grows-more c.loop-read.invariant.grows c.in_ok-cursor-2.ensures.grows;
@@ -39,8 +40,10 @@ pub returns-clause-values : goal.returns-clause-values
 returns-clause-values g c =
     c.loop-read.invariant.values
     ∙ ap (λ all. future c.args.self.now.nfa c.args.self.now.kind c.args.first all)
-    (take_all c.loop-read.read (units c.args.text.now) (all_read c.args.text.now c.loop-read-test.false c.len-in-loop-read.ensures.value))
+    (take_all c.loop-read.read (units c.args.text.now)
+    (all_read c.args.text.now c.loop-read-test.false c.len-in-loop-read.ensures.value))
 
 pub returns-clause-after : goal.returns-clause-after
 returns-clause-after g c =
-    (reached-all c.loop-read.invariant.reached (all_read c.args.text.now c.loop-read-test.false c.len-in-loop-read.ensures.value)).1
+    (reached-all c.loop-read.invariant.reached
+    (all_read c.args.text.now c.loop-read-test.false c.len-in-loop-read.ensures.value)).1

@@ -10,11 +10,14 @@ invariant_of-self-in-Ok g c =
     let key : c.in_ok-key.key ≡ c.args.state = search rules in
     let few : c.in-Some.id < 16647160 = search rules in
     let more : c.push.new.self.items ≡ c.self.inside.states.items ++ c.args.state ∷ [] = search rules in
-    interned-push c.self.inside.states.items _ c.args.state (get same c.self.inside.ids) (get same c.insert.new.self) c.in-Some.id c.self.invariant none len few more
-    (λ q. c.in-Ok.ensures.updates.0 q ∙ ap (λ k. cond (same k q) (Some c.in-Some.id) (get same c.self.inside.ids q)) key)
+    interned-push c.self.inside.states.items _ c.args.state (get same c.self.inside.ids) (get same c.insert.new.self)
+    c.in-Some.id c.self.invariant none len few more
+    (λ q. c.in-Ok.ensures.updates.0 q ∙ ap (λ k. cond (same k q) (Some c.in-Some.id) (get same c.self.inside.ids q))
+    key)
 
 pub invariant_of-self-in-Err : goal.invariant_of-self-in-Err
 invariant_of-self-in-Err g c =
     let more : c.push.new.self.items ≡ c.self.inside.states.items ++ c.args.state ∷ [] = search rules in
-    interned-pop c.self.inside.states.items c.push.new.self.items c.pop.new.self.items c.args.state (get same c.self.inside.ids) (get same c.insert.new.self) _ c.self.invariant more (search rules) c.pop.ensures.rest
+    interned-pop c.self.inside.states.items c.push.new.self.items c.pop.new.self.items c.args.state
+    (get same c.self.inside.ids) (get same c.insert.new.self) _ c.self.invariant more (search rules) c.pop.ensures.rest
     (λ q. ap (λ es. lookup (same q) es) c.in-Err.ensures.err)

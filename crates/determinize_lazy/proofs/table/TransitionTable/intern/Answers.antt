@@ -10,15 +10,19 @@ use Rattle.determinize_lazy.proofs.table.TransitionTable.intern.Goals as goal
 
 -- the rows with a row in which nothing is cached, and its tag
 row_is : (g : Over) (c : In-Ok g) → slice_set c.resize.new.self.items (c.len-len.result + 257) c.of-tag.result.bits
-    ≡ slice_set (c.self.inside.rows.items ++ replicate 258 1) (length c.self.inside.rows.items + 257) c.of-tag.result.bits
+    ≡ slice_set (c.self.inside.rows.items ++ replicate 258 1) (length c.self.inside.rows.items + 257)
+    c.of-tag.result.bits
 row_is g c =
     let len : c.len-len.result ≡ length c.self.inside.rows.items = search rules in
-    let resized : c.resize.new.self.items ≡ take (c.len-len.result + 258) c.self.inside.rows.items ++ replicate (c.len-len.result + 258 - length c.self.inside.rows.items) 1 = search rules in
+    let resized : c.resize.new.self.items ≡ take (c.len-len.result + 258) c.self.inside.rows.items ++ replicate
+    (c.len-len.result + 258 - length c.self.inside.rows.items) 1 = search rules in
     let whole : take (c.len-len.result + 258) c.self.inside.rows.items ≡ c.self.inside.rows.items =
-    take_all (c.len-len.result + 258) c.self.inside.rows.items (let k : length c.self.inside.rows.items ≤ c.len-len.result + 258 = omega (arith, len) in k) in
+    take_all (c.len-len.result + 258) c.self.inside.rows.items (let k : length c.self.inside.rows.items
+    ≤ c.len-len.result + 258 = omega (arith, len) in k) in
     let more : c.len-len.result + 258 - length c.self.inside.rows.items ≡ 258 = omega (arith, len) in
     ap (λ xs. slice_set xs (c.len-len.result + 257) c.of-tag.result.bits)
-    (resized ∙ ap (λ xs. xs ++ replicate (c.len-len.result + 258 - length c.self.inside.rows.items) 1) whole ∙ ap (λ n. c.self.inside.rows.items ++ replicate n 1) more)
+    (resized ∙ ap (λ xs. xs ++ replicate (c.len-len.result + 258 - length c.self.inside.rows.items) 1) whole
+    ∙ ap (λ n. c.self.inside.rows.items ++ replicate n 1) more)
     ∙ ap (λ n. slice_set (c.self.inside.rows.items ++ replicate 258 1) (n + 257) c.of-tag.result.bits) len
 
 is_new : (g : Over) (c : In-Ok g) → list_any (same c.args.state) c.self.inside.states ≡ false
@@ -30,11 +34,14 @@ told g c = search rules
 pub invariant_of-self-in-Ok : goal.invariant_of-self-in-Ok
 invariant_of-self-in-Ok g c =
     let d = (goal.at.invariant_of-self-in-Ok g c).In-Ok in
-    subst (λ vs. AreRows vs (slice_set c.resize.new.self.items (c.len-len.result + 257) c.of-tag.result.bits)) (sym c.in-Ok.ensures.states)
-    (rows-push c.self.inside.states c.self.inside.rows.items c.args.state c.of-tag.result.bits _ c.self.invariant (is_new g d) (told g d) (row_is g d))
+    subst (λ vs. AreRows vs (slice_set c.resize.new.self.items (c.len-len.result + 257) c.of-tag.result.bits))
+    (sym c.in-Ok.ensures.states)
+    (rows-push c.self.inside.states c.self.inside.rows.items c.args.state c.of-tag.result.bits _ c.self.invariant
+    (is_new g d) (told g d) (row_is g d))
 
 pub returns-in-Ok-clause-id : goal.returns-in-Ok-clause-id
-returns-in-Ok-clause-id g c = ap (λ vs. slice_get vs c.in-Ok.id) c.in-Ok.ensures.states ∙ ap (λ i. slice_get (c.self.inside.states ++ c.args.state ∷ []) i) c.in-Ok.ensures.id
+returns-in-Ok-clause-id g c = ap (λ vs. slice_get vs c.in-Ok.id) c.in-Ok.ensures.states
+    ∙ ap (λ i. slice_get (c.self.inside.states ++ c.args.state ∷ []) i) c.in-Ok.ensures.id
     ∙ get_last c.self.inside.states c.args.state
 
 pub returns-in-Ok-clause-table : goal.returns-in-Ok-clause-table
@@ -43,5 +50,7 @@ returns-in-Ok-clause-table g c =
     let added : c.intern.new.self ≡ c.self.inside.states ++ c.args.state ∷ [] = c.in-Ok.ensures.states in
     rw (← c.self.view_is)
     (same_table c.intern.new.self _ _ _ (added ∙ sym (with_value-new c.self.inside.states c.args.state (is_new g d)))
-    (λ x y. ap (λ (vs : List Value). target_in vs (slice_set c.resize.new.self.items (c.len-len.result + 257) c.of-tag.result.bits) x y) added
-    ∙ targets-push c.self.inside.states c.self.inside.rows.items c.args.state c.of-tag.result.bits _ c.self.invariant (is_new g d) (told g d) (row_is g d) x y))
+    (λ x y. ap (λ (vs : List Value). target_in vs (slice_set c.resize.new.self.items (c.len-len.result + 257)
+    c.of-tag.result.bits) x y) added
+    ∙ targets-push c.self.inside.states c.self.inside.rows.items c.args.state c.of-tag.result.bits _ c.self.invariant
+    (is_new g d) (told g d) (row_is g d) x y))

@@ -8,8 +8,11 @@ use Rattle.determinize_lazy.proofs.table.TransitionTable.intern_target.Goals as 
 
 pub returns-in-Some-clause-table : goal.returns-in-Some-clause-table
 returns-in-Some-clause-table g c =
-    let at : slice_get c.args.self.now.states c.in-Some.id ≡ Some c.args.following = subst (λ o. IsTargetIndex c.args.self.now.states c.args.source c.args.following o) c.in-Some.is c.requires.target in
-    same_table c.args.self.now.states _ _ _ (sym (with_value-there c.args.self.now.states c.args.following (there c.args.self.now.states c.args.following c.in-Some.id at))) (λ x y. refl)
+    let at : slice_get c.args.self.now.states c.in-Some.id ≡ Some c.args.following =
+    subst (λ o. IsTargetIndex c.args.self.now.states c.args.source c.args.following o) c.in-Some.is c.requires.target in
+    same_table c.args.self.now.states _ _ _
+    (sym (with_value-there c.args.self.now.states c.args.following
+    (there c.args.self.now.states c.args.following c.in-Some.id at))) (λ x y. refl)
 
 at_source : (g : Over) (c : Then-eq g) → slice_get c.args.self.now.states c.args.source ≡ Some c.args.following
 at_source g c =
@@ -23,4 +26,6 @@ returns-then-eq-clause-id g c = at_source g (goal.at.returns-then-eq-clause-id g
 pub returns-then-eq-clause-table : goal.returns-then-eq-clause-table
 returns-then-eq-clause-table g c =
     let at = at_source g (goal.at.returns-then-eq-clause-table g c).Then-eq in
-    same_table c.args.self.now.states _ _ _ (sym (with_value-there c.args.self.now.states c.args.following (there c.args.self.now.states c.args.following c.args.source at))) (λ x y. refl)
+    same_table c.args.self.now.states _ _ _
+    (sym (with_value-there c.args.self.now.states c.args.following
+    (there c.args.self.now.states c.args.following c.args.source at))) (λ x y. refl)
