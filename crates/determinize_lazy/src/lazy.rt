@@ -1,4 +1,8 @@
 //! A bounded cache of transitions, and walks over it.
+//!
+//! The cache is cleared as a whole, and only in two places: by `clear`, and by a step whose
+//! transition was computed and has no room beside what is cached. No single state or transition is
+//! ever removed, so between two clears each id stays that of its state.
 
 ghost use Rattle.std.specs.Prelude.{◌≡◌, ◌<◌, ◌≤◌, ◌*◌, length, IfOk, OnErr, OnOk};
 ghost use Rattle.determinize_below.specs.Nfa.{AllResolve, IsAccepted};

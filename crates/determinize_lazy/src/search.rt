@@ -1,4 +1,13 @@
 //! Searches over the cache: the last match of a walk, without a list of its states.
+//!
+//! For each byte of cached transitions a search reads two numbers in the row of the state where it
+//! is: the entry of the byte, which is the offset of the next row, and the tag. The loop that does
+//! so, `follow`, neither allocates nor hashes. It is left for a transition that is not cached, for
+//! the last unit, and at a state at which the search ends. A search whose start is kept as well
+//! (`step`) computes and looks up nothing at all.
+//!
+//! Matches are delayed by one unit: a state lists the patterns that match before the unit that led
+//! to it. So a search also reads the unit ahead of its text, and a start state is no match state.
 
 ghost use Rattle.std.specs.Prelude.{Decides, ◌≡◌, ◌<◌, ◌≤◌, ◌-◌, false, true, [], is_some, length, not, option_map, slice_index_or, IfOk, OnErr, OnOk, Ok, None, Some};
 ghost use Rattle.std.specs.Option.{IfNone, IfSome};

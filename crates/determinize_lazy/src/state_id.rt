@@ -1,4 +1,4 @@
-//! The id of a cached state.
+//! The id of a cached state: the offset of its row in the transition table.
 
 ghost use Rattle.std.specs.Prelude.{◌≡◌, ◌*◌, ◌/◌, is_some, nat_lt};
 ghost use Rattle.std.specs.Option.{IfSome};

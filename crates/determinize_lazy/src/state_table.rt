@@ -1,4 +1,8 @@
 //! The cached states, each once, with an index of them.
+//!
+//! A new state is hashed twice, by `find` and by `intern`. An entry of the map could save that, but
+//! it takes a copy of the state before it is known to be new, and borrows the map while the source
+//! of the transition is added.
 
 ghost use Rattle.std.specs.Prelude.{◌≡◌, ◌++◌, ◌∷◌, ◌<◌, ◌≤◌, [], Some, false, length, slice_get, IfOk, OnErr, OnOk};
 ghost use Rattle.std.specs.List.{list_any};

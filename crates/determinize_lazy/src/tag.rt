@@ -1,4 +1,5 @@
-//! What a search asks of a state, in one number, and the last match that it has found.
+//! What a search asks of a state, in one number: the tag in the last column of the state's row. And
+//! the last match that a search has found.
 
 ghost use Rattle.std.specs.Prelude.{◌≡◌, ◌-◌, is_some};
 ghost use Rattle.std.specs.Option.{option_or};

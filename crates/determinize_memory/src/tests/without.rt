@@ -3,11 +3,14 @@
 
 use crate::tests::steps::start_kind;
 use crate::tests::{Heap, Row, holds, refuse_in_turn, refuse_over_walks, same};
-use determinize_below::{Input, Look, LookSet, PatternID, SparseSet, SparseSets, StateID};
+use determinize_below::{
+    Anchored, HalfMatch, Input, Look, LookSet, MatchKind, PatternID, SparseSet, SparseSets, StateID,
+};
 use determinize_core::determinize::{epsilon_closure, set_lookbehind_from_start};
 use determinize_core::start::Config;
 use determinize_core::state::{State, StateBuilderEmpty};
 use determinize_lazy::Lazy;
+use std::alloc::{AllocError, Global};
 use std::process::Abort;
 use std::test::Fail;
 
@@ -150,6 +153,31 @@ fn make_cache(rt: &impl Abort, heap: &Heap, row: &Row) -> Result<bool, Fail> {
     Ok(has_asked_none(rt, heap))
 }
 
+/// Searches the text of a walk through a cache: for its last match, as a haystack, and for any match.
+fn search_each(
+    lazy: &mut Lazy<'_, Global, &Heap>,
+    row: &Row,
+) -> Result<(Option<HalfMatch>, Option<HalfMatch>, bool), AllocError> {
+    let start = lazy.nfa().start_anchored();
+    let input = Input::new(row.text.as_slice()).anchored(Anchored::Yes);
+    let last = lazy.search(start, row.look_behind, row.text.as_slice(), row.look_ahead)?;
+    let found = lazy.search_input(&input)?;
+    Ok((last, found, lazy.is_match(&input)?))
+}
+
+/// Searches three times through one cache. The first searches cache each transition, and the second
+/// find the start states in the cache, so that the third only read it.
+fn search_cached(rt: &impl Abort, heap: &Heap, row: &Row, kind: MatchKind) -> Result<bool, Fail> {
+    let mut lazy = Lazy::new(heap, &row.nfa, kind, 100);
+    search_each(&mut lazy, row)?;
+    let wanted = search_each(&mut lazy, row)?;
+    let computed = lazy.computed();
+    heap.begin();
+    let found = search_each(&mut lazy, row)?;
+    holds(rt, found == wanted && lazy.computed() == computed);
+    Ok(has_asked_none(rt, heap))
+}
+
 /// Calls all readers of a state.
 fn read_state(rt: &impl Abort, state: &State<&Heap>, bytes: &[u8]) {
     same(rt, state.as_bytes(), bytes);
@@ -186,6 +214,14 @@ fn read_states(rt: &impl Abort, heap: &Heap, row: &Row) -> Result<bool, Fail> {
 fn sets_and_builders(rt: HostRuntime) -> Result<(), Fail> {
     refuse_in_turn(&rt, |heap| {
         Ok(fill_sets(&rt, heap)? && build(&rt, heap)? && close_patterns(&rt, heap)?)
+    })
+}
+
+#[test]
+fn cached_searches(rt: HostRuntime) -> Result<(), Fail> {
+    refuse_over_walks(&rt, |heap, row| {
+        Ok(search_cached(&rt, heap, row, MatchKind::All)?
+            && search_cached(&rt, heap, row, MatchKind::LeftmostFirst)?)
     })
 }
 
