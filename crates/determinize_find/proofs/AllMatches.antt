@@ -96,12 +96,12 @@ length-range asked l =
     omega (arith, b, c)
 
 -- where the leftmost match lies
-record LiesIn (asked : Asked) (m : Match) : Type 0 where
-  low : asked.start ≤ m.start
-  order : m.start ≤ m.end
-  high : m.end ≤ asked.end
+pub record LiesIn (asked : Asked) (m : Match) : Type 0 where
+  pub low : asked.start ≤ m.start
+  pub order : m.start ≤ m.end
+  pub high : m.end ≤ asked.end
 
-lies : (nfa : Nfa) (asked : Asked) (m : Match) → asked.end ≤ length asked.haystack → IsLeftmostIn nfa asked (Some m)
+pub lies : (nfa : Nfa) (asked : Asked) (m : Match) → asked.end ≤ length asked.haystack → IsLeftmostIn nfa asked (Some m)
     → LiesIn asked m
 lies nfa asked m l h = by_test (is_done asked)
     (λ d. absurd (let e : Some m ≡ None = h.done d in cc))

@@ -21,3 +21,4 @@ pub mod Shifts
 pub mod Skips
 pub mod TurnedNodes
 pub mod TurnedSteps
+pub mod TwoSearches

@@ -1,8 +1,10 @@
 -- The next match, from one or two leftmost ones.
-use Rattle.std.proofs.Common.{◌≡◌, ◌<◌, ◌≤◌, ◌+◌, ◌++◌, ◌∙◌, ◌∷◌, ℕ, List, None, Option, Some, [], append-nil, append_assoc, arith, false, length, refl, subst, sym, true}
+use Rattle.std.proofs.Common.{◌≡◌, ◌<◌, ◌≤◌, ◌+◌, ◌++◌, ◌∙◌, ◌∷◌, ℕ, List, None, Option, Some, [], append-nil, ap, append_assoc, arith, false, length, refl, subst, sym, true}
 use Rattle.std.proofs.lemmas.Bool.{false≢true, true≢false}
 use Rattle.determinize_below.specs.Nfa.{Nfa}
 use Rattle.determinize_below.specs.Search.{Asked}
+use Rattle.determinize_below.proofs.Tests.{some_injective}
+use Rattle.determinize_find.specs.Cursors.{SearcherValue, after_match}
 use Rattle.determinize_find.specs.LeftmostIn.{IsLeftmostIn}
 use Rattle.determinize_find.specs.Matches.{AreMatches, IsNext, from}
 use Rattle.determinize_find.specs.Private.Touching.{is_touching}
@@ -76,3 +78,36 @@ all_found nfa now asked rest start before ms e r h n =
 
 pub none_first : (nfa : Nfa) (asked : Asked) → AreFirst nfa asked asked.start None []
 none_first nfa asked rest h = h
+
+-- a cursor behind the first matches of an input
+pub record IsAfter (nfa : Nfa) (asked : Asked) (s : SearcherValue) (ms : List Match) : Type 0 where
+  pub rest : s.asked ≡ from asked s.asked.start
+  pub last : (end : ℕ) → s.before ≡ Some end → end ≡ s.asked.start
+  pub first : AreFirst nfa asked s.asked.start s.before ms
+
+pub after_none : (nfa : Nfa) (asked : Asked) (s : SearcherValue) (ms : List Match)
+    → s ≡ record { asked = asked; before = None } → ms ≡ [] → IsAfter nfa asked s ms
+after_none nfa asked s ms e n =
+    subst (λ w. IsAfter nfa asked w ms) (sym e)
+    (subst (λ w. IsAfter nfa asked record { asked = asked; before = None } w) (sym n)
+    record { rest = refl; last = λ end z. absurd (let y : None ≡ Some end = z in cc); first = none_first nfa asked })
+
+-- one match more, and a cursor with fewer indices before it
+pub after_one : (nfa now : Nfa) (asked : Asked) (s new : SearcherValue) (ms : List Match) (m : Match) → now ≡ nfa
+    → asked.end ≤ length asked.haystack → IsAfter nfa asked s ms → IsNext now s.asked s.before (Some m)
+    → new ≡ after_match s (Some m)
+    → IsAfter nfa asked new (ms ++ m ∷ [])
+    × (left asked.end new.asked.start new.before < left asked.end s.asked.start s.before)
+after_one nfa now asked s new ms m e l a n z = (
+  subst (λ w. IsAfter nfa asked w (ms ++ m ∷ [])) (sym z) record {
+    rest = ap (λ w. from w m.end) a.rest;
+    last = λ end y. sym (some_injective m.end end y);
+    first = one_more nfa now asked s.asked s.asked.start s.before ms m e a.rest a.first n;
+  },
+  subst (λ (w : SearcherValue). left asked.end w.asked.start w.before < left asked.end s.asked.start s.before) (sym z)
+      (fewer nfa now asked s.asked s.asked.start s.before m e a.rest l a.last n).0,
+)
+
+pub after_all : (nfa now : Nfa) (asked : Asked) (s : SearcherValue) (ms : List Match) → now ≡ nfa
+    → IsAfter nfa asked s ms → IsNext now s.asked s.before None → AreMatches nfa asked None ms
+after_all nfa now asked s ms e a n = all_found nfa now asked s.asked s.asked.start s.before ms e a.rest a.first n

@@ -1,8 +1,10 @@
+pub mod Cursors
 pub mod Laws
 pub mod Leftmost
 pub mod LeftmostIn
 pub mod Matches
 pub mod Prefix
 pub mod Private
+pub mod Regexes
 pub mod Reversal
 pub mod Since

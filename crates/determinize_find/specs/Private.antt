@@ -1,7 +1,10 @@
 pub mod AnyByte
+pub mod Begins
 pub mod BestAt
 pub mod Closed
 pub mod Gathered
 pub mod Left
+pub mod Pairs
+pub mod Places
 pub mod Touching
 pub mod Turning

@@ -4,11 +4,15 @@
 //! states. The caches stay usable: later results are the same.
 #![tactic(auto)]
 
+pub mod iter;
 pub mod laws;
 pub mod plain;
 pub mod prefix;
 mod reached;
+pub mod regex;
 pub mod reversal;
 
 pub use determinize_below::search::Match;
+pub use iter::Searcher;
+pub use regex::Regex;
 pub use reversal::reversed;

@@ -9,11 +9,10 @@ ghost use Rattle.determinize_below.specs.declared.search.MatchKind.TheVariants a
 ghost use Rattle.determinize_lazy.specs.Searches.{has_start};
 ghost use Rattle.determinize_find.specs.LeftmostIn as inputs;
 ghost use Rattle.determinize_find.specs.LeftmostIn.{IsLeftmostIn};
-ghost use Rattle.determinize_find.specs.Matches as matches;
 ghost use Rattle.determinize_find.specs.Matches.{AreMatches, IsNext};
 ghost use Rattle.determinize_find.specs.Private.BestAt.{IsBestIn, from_index};
-ghost use Rattle.determinize_find.specs.Private.Touching as touching;
 
+use crate::iter::is_touching;
 use determinize_below::{Anchored, HalfMatch, Input, Match, NFA};
 use determinize_lazy::Lazy;
 use std::alloc::{AllocError, Allocator};
@@ -95,26 +94,6 @@ pub fn find<N: Allocator, A: Allocator + Copy>(
         }
     }
     find_at(lazy, input, latest)
-}
-
-/// Returns whether the match is empty and begins where the match before it ended.
-fn touches(before: Option<usize>, found: &Match) -> bool
-    ensures { result ≡ matches.touches before found.now }
-{
-    match before {
-        Some(end) => found.start == found.end && found.end == end,
-        None => false,
-    }
-}
-
-/// Returns whether there is a match and it touches the one before it.
-fn is_touching(before: Option<usize>, found: &Option<Match>) -> bool
-    ensures { result ≡ touching.is_touching before found.now }
-{
-    match found {
-        Some(found) => touches(before, found),
-        None => false,
-    }
 }
 
 /// Returns the match of an input that follows a match which ended at `before`, where the range

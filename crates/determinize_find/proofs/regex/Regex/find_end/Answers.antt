@@ -1,0 +1,23 @@
+use Rattle.std.proofs.Common.{rules, ◌≡◌, IfOk, ap, subst}
+use Rattle.determinize_below.specs.Nfa.{Nfa}
+use Rattle.determinize_below.specs.Search.{Asked}
+use Rattle.determinize_find.specs.Private.Begins.{IsEnding}
+use Rattle.determinize_find.specs.Regexes.{RegexValue}
+use Rattle.determinize_find.proofs.TwoSearches.{all_bytes, ended_in}
+use Rattle.determinize_find.proofs.regex.Regex.find_end.Goals as goal
+
+pub returns-clause-end : goal.returns-clause-end
+returns-clause-end g c =
+    let asked : Asked = record {
+      haystack = c.args.haystack.now;
+      start = c.args.range.start;
+      end = c.args.range.end;
+      anchored = c.args.anchored;
+    } in
+    let own : c.anchored-input.result ≡ asked = search rules in
+    subst (λ (n : Nfa). IfOk c.search_input.result (λ found. IsEnding n asked found))
+    (ap (λ (v : RegexValue). v.nfa) c.self.view_is)
+    (ended_in c.search_input.result c.self.inside.forward.nfa asked c.anchored-input.result own
+    c.self.invariant.reads_forward c.self.invariant.prefix c.requires.start c.requires.in_haystack
+    (all_bytes c.args.haystack.now c.type_inv.haystack)
+    (c.search_input.ensures.preferred c.self.invariant.kind) c.search_input.ensures.none c.search_input.ensures.done)

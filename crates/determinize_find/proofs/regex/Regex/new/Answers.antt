@@ -1,0 +1,15 @@
+use Rattle.std.proofs.Common.{◌∙◌, ap, subst, sym}
+use Rattle.determinize_below.specs.Nfa.{Nfa}
+use Rattle.determinize_find.specs.Prefix.{HasPrefix}
+use Rattle.determinize_find.specs.Reversal.{IsReverseOf}
+use Rattle.determinize_find.proofs.regex.Regex.new.Goals as goal
+
+pub invariant_of-result : goal.invariant_of-result
+invariant_of-result g c = record {
+  kind = c.new.ensures.kind;
+  kind_backward = c.new-2.ensures.kind;
+  reads_forward = ap (λ (n : Nfa). n.reverse) c.new.ensures.nfa ∙ c.requires.forward;
+  prefix = subst (λ (n : Nfa). HasPrefix n) (sym c.new.ensures.nfa) c.requires.prefix;
+  reverse = subst (λ (n : Nfa). IsReverseOf c.new-2.result.nfa n) (sym c.new.ensures.nfa)
+      (subst (λ (n : Nfa). IsReverseOf n c.args.nfa.now) (sym c.new-2.ensures.nfa) c.requires.reverse);
+}

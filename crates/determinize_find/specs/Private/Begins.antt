@@ -1,0 +1,31 @@
+-- The end of a leftmost match, and its start.
+use Rattle.std.specs.Prelude.{◌≡◌, ◌≤◌, ℕ, List, Option, Some, length, option_map}
+use Rattle.determinize_below.specs.Nfa.{Nfa}
+use Rattle.determinize_below.specs.Search.{Asked}
+use Rattle.determinize_below.specs.declared.search.HalfMatch.{HalfMatch}
+use Rattle.determinize_below.specs.declared.search.Match.{Match}
+use Rattle.determinize_find.specs.Laws.{end_of}
+use Rattle.determinize_find.specs.LeftmostIn.{IsLeftmostIn}
+
+-- the pattern and the end are those of the leftmost match
+pub record IsEnding (nfa : Nfa) (asked : Asked) (found : Option HalfMatch) : Type 0 where
+  pub match : Option Match
+  pub leftmost : IsLeftmostIn nfa asked match
+  pub is : found ≡ option_map end_of match
+
+-- the match is the leftmost one of some range that starts at this index, and has this end
+pub record IsEnded (nfa : Nfa) (haystack : List ℕ) (start end : ℕ) (asked : Asked) (m : Match) : Type 0 where
+  pub same : asked.haystack ≡ haystack
+  pub starts : asked.start ≡ start
+  pub within : asked.end ≤ length haystack
+  pub leftmost : IsLeftmostIn nfa asked (Some m)
+  pub ends : m.end ≡ end
+
+-- some leftmost match has this end
+abbrev pub IsEndOf : Nfa → List ℕ → ℕ → ℕ → Type 0
+IsEndOf nfa haystack start end = (asked : Asked) × (m : Match) × IsEnded nfa haystack start end asked m
+
+-- each leftmost match that has this end begins here
+abbrev pub IsBeginOf : Nfa → List ℕ → ℕ → ℕ → ℕ → Type 0
+IsBeginOf nfa haystack start end begin =
+    (asked : Asked) (m : Match) → IsEnded nfa haystack start end asked m → m.start ≡ begin
