@@ -12,9 +12,9 @@ use Rattle.determinize_states.specs.Value.{IsValue, Value}
 use Rattle.determinize_states.proofs.SpellingLaws.{decided, spell_tells}
 
 -- comparing the bytes is comparing the values
-pub same-bytes : (v w : Value) (xs ys : List ℕ) (r : Bool) → IsValue v → IsValue w → xs ≡ spell v → ys ≡ spell w
+pub same_bytes : (v w : Value) (xs ys : List ℕ) (r : Bool) → IsValue v → IsValue w → xs ≡ spell v → ys ≡ spell w
     → r ≡ pointwise ◌==◌ xs ys → r ≡ same v w
-same-bytes v w xs ys r hv hw ex ey e = one_answer r (same v w) (decided v w xs ys r hv hw ex ey e) (Decides-same v w)
+same_bytes v w xs ys r hv hw ex ey e = one_answer r (same v w) (decided v w xs ys r hv hw ex ey e) (Decides-same v w)
 
 -- the order of the bytes is the order of the values
 pub bytes-decide : (v w : Value) (xs ys : List ℕ) (r : Ordering) → IsValue v → IsValue w → xs ≡ spell v → ys ≡ spell w

@@ -21,6 +21,7 @@ impl<A: Allocator> PartialEq for State<A> {
 
     ghost laws = { Prim.search (comparing, rules) };
 
+    #[tactic(auto, using(crate::proofs::Equality::same_bytes))]
     fn eq(&self, other: &State<A>) -> bool {
         self.as_bytes() == other.as_bytes()
     }
