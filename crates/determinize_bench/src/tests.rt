@@ -1,15 +1,18 @@
 //! Tests through public calls only: outputs that were worked out by hand, texts of values, and the
 //! work of the programs.
+//!
+//! Each function of a test is proved, which takes longer than its run. So they compare by `same` and
+//! `holds`, since the message that a macro writes is proved at each place; and a function that can
+//! fail owns little, since the drop of all that it owns is proved at each of its exits. One that
+//! makes an NFA and a cache lends them to another one as its last call.
 
 mod below;
-mod calling;
 mod dfa;
 mod find;
 mod laws;
 mod lazy;
 mod map_text;
 mod parts;
-mod readme;
 mod refusals;
 mod rows;
 mod runs;
@@ -20,6 +23,7 @@ mod states;
 mod texts;
 mod worked;
 
+use determinize_below::{HalfMatch, PatternID};
 use determinize_replay::job::Job;
 use determinize_replay::verbs;
 use std::fmt::Debug;
@@ -45,6 +49,11 @@ pub fn same_at<R: Abort, L: Debug + Copy, T: PartialEq + Debug + Copy>(
 /// Asserts a condition.
 pub fn holds<R: Abort>(rt: &R, is_so: bool) {
     assert!(rt; is_so);
+}
+
+/// Returns the match of pattern 0 that ends at this offset.
+pub fn ended(offset: usize) -> Option<HalfMatch> {
+    Some(HalfMatch::new(PatternID::ZERO, offset))
 }
 
 /// Runs a job and compares its output.

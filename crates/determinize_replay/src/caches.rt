@@ -1,4 +1,7 @@
 //! Caches that the walks of one NFA and match kind share.
+//!
+//! A `Lazy` borrows its NFA. So the whole input is read first, and the NFAs of all walks are made
+//! before the first cache.
 
 use crate::error::JobError;
 use crate::job::Job;

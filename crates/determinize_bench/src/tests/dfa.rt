@@ -1,31 +1,14 @@
-//! A whole DFA, built as in `calling::dfa`, and run.
+//! A whole DFA, built and run by `determinize_uses::dfa`.
 
-use crate::tests::calling::dfa::{Dfa, build};
 use crate::tests::{holds, same, same_at};
 use determinize_below::{HalfMatch, LookMatcher, MatchKind, NFA, PatternID, StateID};
 use determinize_replay::error::JobError;
 use determinize_replay::nfas;
+use determinize_uses::dfa::{Dfa, build};
 use refusing::{Finding, Refusing, in_turn};
-use std::alloc::{Allocator, Global};
+use std::alloc::Global;
 use std::process::Abort;
 use std::test::Fail;
-
-impl<A: Allocator> Dfa<A> {
-    /// Returns the last match of a search over the text.
-    fn last_match(&self, text: &[u8]) -> Option<HalfMatch> {
-        let mut index = 0;
-        let mut last = None;
-        for offset in 0..=text.len() {
-            let column = text.get(offset).map_or(256, |byte| usize::from(*byte));
-            index = *self.rows.get(index)?.get(column)?;
-            let state = self.states.get(index)?;
-            if state.is_match() {
-                last = Some(HalfMatch::new(state.match_pattern(0), offset));
-            }
-        }
-        last
-    }
-}
 
 /// The states of `foo[0-9]+|bar`, as the original compiles it without captures: state 2 is the
 /// anchored start, and state 0 begins the prefix `(?s-u:.)*?`. Both alternates, and the union of

@@ -3,7 +3,7 @@
 ghost use Rattle.std.specs.Prelude.{◌≡◌, true};
 ghost use Rattle.determinize_lazy.specs.Searches.{has_start};
 
-use crate::tests::calling::ended;
+use crate::tests::ended;
 use crate::tests::lazy::{WORDS, nfa};
 use crate::tests::same;
 use determinize_below::{Anchored, HalfMatch, Input, MatchKind};

@@ -1,0 +1,23 @@
+//! Uses of the libraries, to read and to copy. Each module is one use, and its contracts are proved.
+//! Tests run all but [`counted`]; those of [`dfa`] are in `determinize_bench`.
+//!
+//! - [`nfa`] makes an NFA by hand, and [`readme`] is that of the README's program.
+//! - [`scanner`] finds all matches of a haystack, and [`lexer`] the longest token at each position.
+//! - [`input`] finds whether a haystack has a match, and both ends of the preferred one.
+//! - [`search`] and [`cache`] search and walk many texts through one cache.
+//! - [`walk`] finds the preferred match without a cache, and [`counted`] makes one counted step.
+//! - [`dfa`] builds a whole DFA, and runs it.
+#![tactic(auto)]
+
+pub mod cache;
+pub mod counted;
+pub mod dfa;
+pub mod input;
+pub mod lexer;
+pub mod nfa;
+pub mod readme;
+pub mod scanner;
+pub mod search;
+#[cfg(test)]
+mod tests;
+pub mod walk;
