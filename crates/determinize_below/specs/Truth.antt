@@ -6,11 +6,11 @@ use Rattle.determinize_below.specs.Unit.{is_word, is_byte, is_nothing}
 use Rattle.determinize_below.specs.declared.look.Look.{Look}
 use Rattle.determinize_below.specs.declared.look.Look.TheVariants.{Start, End, StartLF, EndLF, StartCRLF, EndCRLF, WordAscii, WordAsciiNegate, WordUnicode, WordUnicodeNegate, WordStartAscii, WordEndAscii, WordStartUnicode, WordEndUnicode, WordStartHalfAscii, WordEndHalfAscii, WordStartHalfUnicode, WordEndHalfUnicode}
 
--- the byte of a CRLF that is read first
+-- the byte of a CRLF that is read first: `\r` (13) forward, `\n` (10) in reverse
 abbrev pub crlf_first : Bool → ℕ
 crlf_first reverse = cond reverse 10 13
 
--- the byte of a CRLF that is read second
+-- the byte of a CRLF that is read second: `\n` (10) forward, `\r` (13) in reverse
 abbrev pub crlf_second : Bool → ℕ
 crlf_second reverse = cond reverse 13 10
 
