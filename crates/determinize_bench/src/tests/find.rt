@@ -4,8 +4,7 @@ ghost use Rattle.std.specs.Prelude.{◌≡◌, IfOk, false, true};
 ghost use Rattle.determinize_below.specs.declared.search.MatchKind.TheVariants as kinds;
 ghost use Rattle.determinize_lazy.specs.Searches.{has_start};
 
-use crate::tests::ended;
-use crate::tests::same;
+use crate::tests::{ended, same};
 use determinize_below::{Input, LookMatcher, MatchKind, NFA, StateID};
 use determinize_find::{Match, plain, prefix, reversed};
 use determinize_lazy::Lazy;

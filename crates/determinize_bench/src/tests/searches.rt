@@ -3,9 +3,8 @@
 ghost use Rattle.std.specs.Prelude.{◌≡◌, true};
 ghost use Rattle.determinize_lazy.specs.Searches.{has_start};
 
-use crate::tests::ended;
 use crate::tests::lazy::{WORDS, nfa};
-use crate::tests::same;
+use crate::tests::{ended, same};
 use determinize_below::{Anchored, HalfMatch, Input, MatchKind};
 use determinize_lazy::Lazy;
 use std::alloc::AllocError;
