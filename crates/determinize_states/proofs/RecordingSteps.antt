@@ -1,5 +1,6 @@
 -- Adding states to a builder one by one.
-use Rattle.std.proofs.Common.{◌≡◌, ◌<◌, ℕ, All, subst, true, false, not, List, [], ◌∷◌, ◌++◌, refl, sym, ap, ◌∙◌, append_assoc}
+use Rattle.std.proofs.Common.{◌≡◌, ◌<◌, ℕ, All, subst, true, false, not, List, [], ◌∷◌, ◌++◌, Result, Ok, Err, refl, sym, ap, ◌∙◌, append_assoc}
+use Rattle.std.specs.Result.{IfOk, OnOk}
 use Rattle.std.proofs.lemmas.List.{append-nil}
 use Rattle.std.proofs.lemmas.List.Elements.{All-tail, filter-append}
 use Rattle.determinize_below.specs.Edges.{is_capture, assertion_of}
@@ -51,6 +52,11 @@ module _ (nfa : Nfa) where
   pub added-after : (v : Value) (xs ys : List ℕ) → added nfa (added nfa v (without (is_capture nfa) xs)) (without (is_capture nfa) ys) ≡ added nfa v (without (is_capture nfa) (xs ++ ys))
   added-after v xs ys =
       added-append v (without (is_capture nfa) xs) (without (is_capture nfa) ys) ∙ ap (λ l. added nfa v l) (sym (filter-append (λ x. not (is_capture nfa x)) xs ys))
+
+-- combining two facts of a result
+pub with_fact : {T E : Type 0} (r : Result T E) (P : T → Type 0) (Q R : Type 0) → (Q → R) → IfOk r P → OnOk r Q → IfOk r (λ x. P x × R)
+with_fact (Ok x) P Q R f p q = (p, f q)
+with_fact (Err e) P Q R f p q = tt
 
 -- the rest of a list whose elements are below a bound
 pub rest_below : (bound : ℕ) (xs ys : List ℕ) (x : ℕ) → xs ≡ x ∷ ys → All (λ id. id < bound) xs → All (λ id. id < bound) ys

@@ -122,6 +122,28 @@ fn follow<N: Allocator, A: Allocator>(
     }
 }
 
+/// Records a state and follows its epsilon edges. Most states have none, so that is tested first.
+#[inline(always)]
+fn record_and_follow<N: Allocator, A: Allocator, W: Recorder>(
+    nfa: &NFA<N>,
+    id: StateID,
+    look_have: LookSet,
+    stack: &mut Vec<StateID, A>,
+    recorder: &mut W,
+) -> Result<Option<StateID>, AllocError>
+    requires { id < length nfa.now.states }
+    ensures pending { IfOk result (λ next. option_to_list next ++ reverse stack.new.items
+        ≡ edges nfa.now (has look_have) id ++ reverse stack.old.items) }
+    ensures recorded { OnOk result (recorder.new ≡ W.with_one nfa.now recorder.old id) }
+{
+    if !nfa.state(id).is_epsilon() {
+        recorder.record(nfa, id)?;
+        return Ok(None);
+    }
+    recorder.record(nfa, id)?;
+    follow(nfa, id, look_have, stack)
+}
+
 /// Visits a state and, if it is new, records it and follows its epsilon edges.
 #[inline(always)]
 fn take_turn<N: Allocator, A: Allocator, W: Recorder, L: Ledger>(
@@ -146,11 +168,11 @@ fn take_turn<N: Allocator, A: Allocator, W: Recorder, L: Ledger>(
     ensures resolve { AllResolve nfa.now set.new.ids }
     ensures counted { steps.new ≡ steps.old + 1 }
 {
-    if !visit(set, id, steps) {
-        return Ok(None);
+    if visit(set, id, steps) {
+        record_and_follow(nfa, id, look_have, stack, recorder)
+    } else {
+        Ok(None)
     }
-    recorder.record(nfa, id)?;
-    follow(nfa, id, look_have, stack)
 }
 
 /// Searches from the state `first`, if there is one, and then from the states on the stack, the
