@@ -8,7 +8,7 @@ use Rattle.determinize_below.specs.Reach.{edge_count, ordered}
 use Rattle.determinize_core.specs.Private.Search.{tries_left}
 use Rattle.determinize_core.specs.Tries.{tries_of}
 
--- no root leads to nothing
+-- without roots nothing is reached
 pub reach-none : (nfa : Nfa) (holds : Assertion → Bool) → reach nfa holds [] ≡ []
 unfolding reach
 reach-none nfa holds = refl

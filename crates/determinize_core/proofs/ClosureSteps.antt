@@ -66,7 +66,7 @@ module _ (nfa : Nfa) (sound : IsSound nfa) (look : Assertion → Bool) where
   unfolding search_end reach_past
   search_end-start held roots = refl
 
-  -- what a search has met is a beginning of what it ends with
+  -- what a search has visited is a prefix of what it ends with
   pub met_so_far : (held met pending roots : List ℕ) → search_end nfa look met pending ≡ search_end nfa look held roots → (grown : (more : List ℕ) × (met ≡ held ++ more))
       → IsBeginning grown.0 (reach_past nfa look held roots)
   unfolding search_end
@@ -76,7 +76,7 @@ module _ (nfa : Nfa) (sound : IsSound nfa) (look : Assertion → Bool) where
       ap (λ l. l ++ rest) (sym grown.1) ∙ same ∙ search_end-start held roots in
       (rest, sym (append_cancel_left held (grown.0 ++ rest) (reach_past nfa look held roots) (sym (append_assoc held grown.0 rest) ∙ whole)))
 
--- a search from roots, after some turns: what was met, what is pending, and the tries before and by now
+-- a search from roots, after some turns: what was visited, what is pending, and the tries before and after them
 pub record IsSoFar (nfa : Nfa) (look : Assertion → Bool) (held roots met pending : List ℕ) (before now : ℕ) : Type 0 where
   pub same : search_end nfa look met pending ≡ search_end nfa look held roots
   pub counted : now + tries_left nfa look met pending ≡ before + tries_left nfa look held roots
@@ -125,7 +125,7 @@ pub none_left : (nfa : Nfa) (roots met pending : List ℕ) → pending ≡ [] �
 none_left nfa roots met pending none (inl same) root others e = absurd (let k : [] ≡ root ∷ others = sym none ∙ same ∙ e in cc)
 none_left nfa roots met pending none (inr all) root others e = all
 
--- the list that is chosen by what a test answered
+-- the list that is chosen by the result of a test
 pub inserted : {A : Type 0} (b : Bool) (xs ys : List A) → b ≡ true → (if b then xs else ys) ≡ xs
 inserted b xs ys e = rw e refl
 

@@ -50,14 +50,14 @@ holds-filter p (y ∷ xs) x = by_test (p y)
     neither a = grind arith
 
 module _ (nfa : Nfa) (u : Option ℕ) where
-  -- a state that does not matter has no pattern and leads nowhere
+  -- a state that gives nothing has no pattern and no transition on the unit
   pub matters-pattern : (s : ℕ) → matters nfa u s ≡ false → option_to_list (pattern_of nfa s) ≡ []
   matters-pattern s e = none_of (pattern_of nfa s) (or_false_left (is_match nfa s) (is_nonempty (target nfa u s)) e)
 
   pub matters-target : (s : ℕ) → matters nfa u s ≡ false → target nfa u s ≡ []
   matters-target s e = empty_of (target nfa u s) (or_false_right (is_match nfa s) (is_nonempty (target nfa u s)) e)
 
-  -- what the states give that matter, all give
+  -- what the states with a pattern or a target give, all give
   all_that_matters : (f : ℕ → List ℕ) → ((s : ℕ) → matters nfa u s ≡ false → f s ≡ []) → (xs : List ℕ) → flat_map f (filter (matters nfa u) xs) ≡ flat_map f xs
   all_that_matters f h [] = refl
   all_that_matters f h (x ∷ xs) = by_test (matters nfa u x)
@@ -84,7 +84,7 @@ module _ (nfa : Nfa) (u : Option ℕ) where
   unfolding one_more
   one_more-new xs x e = rw e refl
 
-  -- and what it adds to those that matter
+  -- and what it adds to those with a pattern or a target
   gained_is : (xs : List ℕ) (x : ℕ) → gained nfa u (filter (matters nfa u) (distinct xs)) x ≡ filter (matters nfa u) (one_more xs x)
   unfolding one_more
   gained_is xs x = by_test (matters nfa u x)
@@ -95,7 +95,7 @@ module _ (nfa : Nfa) (u : Option ℕ) where
       (λ k. rw (k, e) refl)
       (λ k. rw (k, e) refl))
 
--- a list read up to some place: the states that matter, what the builder has, and the targets
+-- a list read up to some place: the states with a pattern or a target, what the builder has, and the targets
 pub record IsFirstRead (nfa : Nfa) (kind : MatchKind) (u : Option ℕ) (done : List ℕ) (begun value : Value) (kept targets : List ℕ) : Type 0 where
   pub kept_are : kept ≡ filter (matters nfa u) (distinct done)
   pub value_is : value ≡ with_patterns begun (patterns_of nfa (distinct done))
@@ -181,7 +181,7 @@ module _ (nfa : Nfa) (u : Option ℕ) (begun : Value) where
         targets_are = so_far.targets_are ∙ ap (λ l. flat_map (target nfa u) l) (sym on.0);
       }
 
-  -- the first match, after which nothing matters
+  -- the first match, after which nothing is read
   pub first_read-stop : (kind : MatchKind) (done left : List ℕ) (id : ℕ) (value next : Value) (kept after targets further : List ℕ)
       → IsFirstRead nfa kind u done begun value kept targets
       → IsStateRead nfa u id kept after targets further value next

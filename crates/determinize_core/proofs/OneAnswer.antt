@@ -1,4 +1,4 @@
--- The answers that the walk gives are determined.
+-- The results of a walk are determined.
 use Rattle.std.proofs.Common.{◌≡◌, ℕ, Bool, List, [], sym, ap, ◌∙◌, subst}
 use Rattle.determinize_below.specs.Edges.{is_capture, pattern_of}
 use Rattle.determinize_below.specs.Nfa.{Nfa}

@@ -67,7 +67,7 @@ step_dead nfa kind u =
     ∙ ap (λ l. left_by nfa u (patterns_read kind []) (reach nfa (has (have_after (tables_of nfa) u)) (flat_map (target nfa u) l))) (read_none kind (is_match nfa))
     ∙ ap (λ ps. left_by nfa u ps []) (no_patterns kind)
 
--- a list of captures alone
+-- a list of captures only
 all_capture : (nfa : Nfa) (xs : List ℕ) (x : ℕ) → without (is_capture nfa) xs ≡ [] → member nat_eq xs x ≡ true → is_capture nfa x ≡ true
 all_capture nfa [] x e m = absurd (false≢true m)
 all_capture nfa (y ∷ xs) x e m = by_test (is_capture nfa y)
@@ -76,7 +76,7 @@ all_capture nfa (y ∷ xs) x e m = by_test (is_capture nfa y)
     (λ k. all_capture nfa xs x (rw c at e) (rw k at m)))
     (λ c. absurd (let k : y ∷ without (is_capture nfa) xs ≡ [] = rw c at e in cc))
 
--- s leads to r by captures alone, in at least one step
+-- r is reached from s through captures only, in at least one step
 abbrev LeadsTo : Nfa → ℕ → ℕ → Type 0
 LeadsTo nfa s r = (i : ℕ) × (followed nfa (suc i) s ≡ r) × ((j : ℕ) → j ≤ i → is_capture nfa (followed nfa j s) ≡ true)
 
@@ -106,7 +106,7 @@ module _ (nfa : Nfa) (none : HasNoCaptureCycle nfa) (holds : Assertion → Bool)
           (λ e. let y : j ≡ suc i = eqb-true j (suc i) e in ap (λ n. is_capture nfa (followed nfa n h)) y ∙ c)
           (λ e. f j (grind (arith, e, l)))
 
--- a search that lists captures alone lists nothing
+-- a search that lists only captures lists nothing
 only_captures : (nfa : Nfa) (sound : IsSound nfa) → HasNoCaptureCycle nfa → (holds : Assertion → Bool) (roots : List ℕ) → without (is_capture nfa) (reach nfa holds roots) ≡ [] → reach nfa holds roots ≡ []
 unfolding reach
 only_captures nfa sound none holds roots e =
@@ -156,7 +156,7 @@ one_pattern nfa kind v u k next e =
     let same : length next.patterns ≡ length (step nfa LeftmostFirst v u).patterns = ap (λ (w : Value). length w.patterns) (e ∙ ap (λ m. step nfa m v u) k) in
     omega arith
 
--- of one answer
+-- of one result
 pub few_in : {E : Type 0} (nfa : Nfa) (kind : MatchKind) (v : Value) (u : Option ℕ) → kind ≡ LeftmostFirst → (r : Result Value E) → IfOk r (λ next. next ≡ step nfa kind v u) → IfOk r (λ next. length next.patterns ≤ 1)
 few_in nfa kind v u k (Ok next) e = one_pattern nfa kind v u k next e
 few_in nfa kind v u k (Err error) e = tt

@@ -35,7 +35,7 @@ member-below bound (x ∷ xs) all s m = by_test (nat_eq x s)
     (λ e. subst (λ t. t < bound) (eqb-true x s e) (All-head (λ id. id < bound) x xs all))
     (λ e. member-below bound xs (All-tail (λ id. id < bound) x xs all) s (rw e at m))
 
--- a search leads somewhere exactly where it has a root
+-- a search reaches a state if and only if it has a root
 is_nonempty-reach : (nfa : Nfa) (holds : Assertion → Bool) (roots : List ℕ) → is_nonempty (reach nfa holds roots) ≡ is_nonempty roots
 unfolding reach
 is_nonempty-reach nfa holds [] = refl
@@ -44,7 +44,7 @@ is_nonempty-reach nfa holds (r ∷ roots) =
     ap (λ n. is_nonempty (ordered nat_eq (edges nfa holds) n none_held (r ∷ roots))) more
 
 module _ (nfa : Nfa) (accepted : IsAccepted nfa) (kind : MatchKind) (v : Value) (u : Option ℕ) (inside : Each (λ id. id < length nfa.states) v.states) where
-  -- the working list has states of the NFA alone
+  -- the working list has only states of the NFA
   pub working_resolves : (working : List ℕ) → working ≡ working_list nfa v u → Each (λ id. id < length nfa.states) working
   working_resolves working e = All-from_member same_decides (λ id. id < length nfa.states) working (λ x m.
       by_test (is_reopened nfa v u)
@@ -60,12 +60,12 @@ module _ (nfa : Nfa) (accepted : IsAccepted nfa) (kind : MatchKind) (v : Value) 
   pub step_tries : tries nfa kind v u ≤ 2 * (length nfa.states + edges_in_all nfa)
   step_tries = tries_are_few nfa accepted kind v u (member-below (length nfa.states) v.states inside)
 
-  -- those for the working list alone are no more
+  -- those for the working list are no more
   pub first_tries : (before now : ℕ) → now ≤ before + tries_again nfa v u → now ≤ before + 2 * (length nfa.states + edges_in_all nfa)
   unfolding tries
   first_tries before now h = omega (arith, step_tries)
 
-  -- a builder that was told of the unit and has read the working list, and the targets on the stack
+  -- a builder with the look-behind for the unit, after the working list was read, and the targets on the stack
   pub record IsRead (have : ℕ) (from_word half_crlf some : Bool) (told read flagged : Value) (row : List ℕ) : Type 0 where
     pub have_is : have ≡ have_after (tables_of nfa) u
     pub word_is : from_word ≡ from_word_after (tables_of nfa) u

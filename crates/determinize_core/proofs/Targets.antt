@@ -5,7 +5,7 @@ use Rattle.determinize_below.specs.Edges.{pattern_in, pattern_of, state_at, targ
 use Rattle.determinize_below.specs.Nfa.{Nfa}
 use Rattle.determinize_below.specs.Node.{Node, ByteRange, Sparse, Dense, Look, Union, BinaryUnion, Capture, Fail, Match}
 
--- a match leads nowhere
+-- a match has no transition
 target_of-match : (u : Option ℕ) (s : Node) (p : ℕ) → pattern_in s ≡ Some p → target_of u s ≡ None
 target_of-match u (ByteRange t) p e = absurd (let k : None ≡ Some p = e in cc)
 target_of-match u (Sparse ts) p e = absurd (let k : None ≡ Some p = e in cc)

@@ -112,7 +112,7 @@ recorded_by-suc : (nfa : Nfa) (kind : MatchKind) (s : ℕ) (text : Text) (k : �
 recorded_by-suc nfa All s text k = refl
 recorded_by-suc nfa LeftmostFirst s text k = refl
 
--- inside a text a byte stands after each position
+-- inside a text a byte follows each position
 after_inside : (behind ahead : Option ℕ) (bytes : List ℕ) (k : ℕ) → k < length bytes → after_at (between behind bytes ahead) k ≡ slice_get bytes k
 after_inside behind ahead [] k l = absurd (omega arith)
 after_inside behind ahead (b ∷ bytes) zero l = refl
@@ -159,7 +159,7 @@ module _ (nfa : Nfa) (accepted : IsAccepted nfa) (kind : MatchKind) (s : ℕ) (t
       ∙ patterns-without nfa (listing nfa (length text.bytes) (truth nfa (before_at text k) (after_at text k)) (value_at nfa kind s text k).states)
       ∙ ap (λ l. patterns_of nfa (listing nfa (length text.bytes) (truth nfa (before_at text k) (after_at text k)) l)) (states_at_is k l))
 
-  -- no state is recorded after the end of the input
+  -- no state is recorded after EOI
   pub states_last : text.ahead ≡ None → (value_at nfa kind s text (suc (length text.bytes))).states ≡ []
   states_last e =
       let past : slice_get text.bytes (length text.bytes) ≡ None = slice_get_past text.bytes (length text.bytes) (omega arith) in

@@ -98,7 +98,7 @@ module _ (nfa : Nfa) (accepted : IsAccepted nfa) (start : ℕ) (text : Text) whe
   reached_at : (k : ℕ) → IsReached nfa text start k (without (is_capture nfa) (redone_by nfa All start text k))
   reached_at k = walk.reached k
 
-  -- an item but the first stands after a position of the text
+  -- an item but the first belongs to a position of the text
   position_of : (kind : MatchKind) (i : ℕ) (v : Value) → slice_get (chain nfa kind start text) (suc i) ≡ Some v → i ≤ length text.bytes
   position_of kind i v h =
       let l : suc i < length (chain nfa kind start text) = slice_get_within _ (suc i) v h in
@@ -171,7 +171,7 @@ module _ (nfa : Nfa) (accepted : IsAccepted nfa) (start : ℕ) (text : Text) whe
     matches = λ i v h x c. leftmost_accepted i x (position_of LeftmostFirst i v h) (subst (λ w. Contains w.patterns x) (sym (item_is LeftmostFirst (suc i) v h)) c);
   }
 
-  -- what is recorded at a position is the list that runs reach there, or a beginning of it
+  -- what is recorded at a position is the list that runs reach there, or a prefix of it
   part_kept : (kind : MatchKind) (i : ℕ) → IsPartKept kind (recorded_by nfa kind start text i) (recorded_by nfa All start text i)
   part_kept All i = refl
   part_kept LeftmostFirst i = begins_at i

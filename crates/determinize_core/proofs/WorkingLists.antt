@@ -75,7 +75,7 @@ module _ (nfa : Nfa) (accepted : IsAccepted nfa) (m : ℕ) where
       middle : (a b c : Bool) → (a && b && c) ≡ true → b ≡ true
       middle a b c h = grind arith
 
-  -- where it is not, the recorded list stands for it
+  -- if it is not, it is the recorded list
   kept_same : (b u : Option ℕ) (v : Value) (roots : List ℕ) → IsEntered nfa m b v roots → is_reopened nfa v u ≡ false
       → without (is_capture nfa) (distinct_states v) ≡ without (is_capture nfa) (listing nfa m (truth nfa b u) v.states)
   kept_same b u v roots e r =
