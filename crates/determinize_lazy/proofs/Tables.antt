@@ -62,14 +62,6 @@ any_with values v w =
     or_nothing true = refl
     or_nothing false = refl
 
--- how many values there are with two more
-pub length_with_two : (values : List Value) (v w : Value) → length (with_value (with_value values v) w)
-    ≡ length values + cond (list_any (same v) values) 0 1 + cond (list_any (same w) values || same v w) 0 1
-length_with_two values v w =
-    length_with (with_value values v) w ∙ ap (λ n. n + cond (list_any (same w) (with_value values v)) 0 1)
-    (length_with values v)
-    ∙ ap (λ b. length values + cond (list_any (same v) values) 0 1 + cond b 0 1) (any_with values v w)
-
 -- a value is among the values with it
 pub has_new : (values : List Value) (v : Value) → Contains (with_value values v) v
 has_new values v = elim (list_any (same v) values) as (λ b. list_any (same v) values ≡ b
@@ -165,31 +157,28 @@ target_index values v w source None none at =
     λ x here. any_with values v w ∙ ap (λ b. b || same v w) none ∙ ap (λ y. same y w) (of_some (sym at ∙ here))
 target_index values v w source (Some p) there at = get_with values v w p there
 
--- how many values there are with two more, of which each is there or not
-pub count_with : (values : List Value) (v w : Value) (a b : Bool) → list_any (same v) values ≡ a
-    → (list_any (same w) values || same v w) ≡ b
-    → length (with_value (with_value values v) w) ≡ length values + cond a 0 1 + cond b 0 1
-count_with values v w a b e k =
-    length_with_two values v w ∙ ap (λ x. length values + cond x 0 1 + cond (list_any (same w) values || same v w) 0 1)
-    e
-    ∙ ap (λ x. length values + cond a 0 1 + cond x 0 1) k
+-- whether a value is there, by its index
+there_is : (values : List Value) (w : Value) (target : Option ℕ) → IsIndex values w target
+    → list_any (same w) values ≡ is_some target
+there_is values w None h = h
+there_is values w (Some p) h = there values w p h
 
 -- a value that is there is not equal to one that is not
-pub apart_of : (values : List Value) (v w : Value) → list_any (same v) values ≡ true → list_any (same w) values ≡ false
-    → same v w ≡ false
-apart_of values v w here none = elim (same v w) as (λ b. same v w ≡ b → b ≡ false) [
-  | true ↦ λ e. not_both (sym (list_any_congr same_laws v w values e) ∙ here) none
+pub apart_of : (values : List Value) (v w : Value) (target : Option ℕ) → list_any (same v) values ≡ true
+    → IsIndex values w target → is_some target ≡ false → same v w ≡ false
+apart_of values v w target here index none = elim (same v w) as (λ b. same v w ≡ b → b ≡ false) [
+  | true ↦ λ e. not_both (sym (list_any_congr same_laws v w values e) ∙ here) (there_is values w target index ∙ none)
   | false ↦ λ _. refl
 ] refl
 
--- whether a value is there, by its index
-pub index_some : (values : List Value) (w : Value) (target : Option ℕ) → IsIndex values w target → (b : Bool)
-    → is_some target ≡ b → list_any (same w) values ≡ b
-index_some values w None h b e = h ∙ e
-index_some values w (Some p) h b e = there values w p h ∙ e
-
-pub neither_of : {a b : Bool} → a ≡ false → b ≡ false → (a || b) ≡ false
-neither_of {a} {b} e k = ap (λ x. x || b) e ∙ k
-
-pub either_of : {a b : Bool} → a ≡ false → b ≡ true → (a || b) ≡ true
-either_of {a} {b} e k = ap (λ x. x || b) e ∙ k
+-- how many values there are with two more, by whether each is new
+pub count_two : (values : List Value) (v w : Value) (target : Option ℕ) {n k : ℕ} {s t e : Bool}
+    → IsIndex values w target → n ≡ length values → list_any (same v) values ≡ s → is_some target ≡ t → same v w ≡ e
+    → k ≡ n + cond s 0 1 + cond (t || e) 0 1 → k ≡ length (with_value (with_value values v) w)
+count_two values v w target {n} {k} {s} {t} {e} index len s_is t_is e_is k_is =
+    k_is
+    ∙ sym (length_with (with_value values v) w
+    ∙ ap (λ m. m + cond (list_any (same w) (with_value values v)) 0 1) (length_with values v
+    ∙ ap (λ m. m + cond (list_any (same v) values) 0 1) (sym len) ∙ ap (λ b. n + cond b 0 1) s_is)
+    ∙ ap (λ b. n + cond s 0 1 + cond b 0 1) (any_with values v w
+    ∙ ap (λ b. b || same v w) (there_is values w target index ∙ t_is) ∙ ap (λ b. t || b) e_is))
