@@ -1,10 +1,9 @@
 -- What is known of a cursor at a cached state, and of one at a state that is not cached.
 use Rattle.determinize_lazy.proofs.Common.{◌∙◌, ◌≡◌, after_unit, ap, Cache, cond, count_after, cursor_value, dead}
-use Rattle.determinize_lazy.proofs.Common.{false, get_or_from_slice_get, is_cached, is_some, IsCursor, IsTable}
+use Rattle.determinize_lazy.proofs.Common.{false, get_or_from_slice_get, is_cached, is_some, IsAt, IsCursor, IsTable}
 use Rattle.determinize_lazy.proofs.Common.{IsTarget, IsUncached, keep, list_any, None, Option, refl, same, slice_get}
 use Rattle.determinize_lazy.proofs.Common.{slice_get-get_or, slice_get_within, Some, step_of, subst, sym, Table, true}
 use Rattle.determinize_lazy.proofs.Common.{Value, with_state, ℕ}
-use Rattle.determinize_lazy.specs.Private.Cursors.{IsAt}
 use Rattle.determinize_lazy.specs.declared.table.Cursor.{Cursor}
 use Rattle.determinize_lazy.specs.declared.table.Cursor.TheVariants.{Cached, Uncached}
 use Rattle.std.proofs.lemmas.Map.Views.{list_any-from_Contains}

@@ -1,13 +1,12 @@
 -- The last match of a walk, in words of runs.
-use Rattle.determinize_lazy.proofs.Common.{◌<◌, ◌≡◌, ◌≤◌, All, arith, future, HalfMatch, IfSome, IsAccepted}
-use Rattle.determinize_lazy.proofs.Common.{IsFarthestMatch, IsPreferredMatch, IsSearch, last_match, LeftmostFirst}
-use Rattle.determinize_lazy.proofs.Common.{length, List, MatchKind, Nfa, None, Option, refl, Some, start_value, subst}
-use Rattle.determinize_lazy.proofs.Common.{suc, sym, units, ℕ}
+use Rattle.determinize_lazy.proofs.Common.{◌<◌, ◌≡◌, ◌≤◌, Accepts, after_at, All, arith, future, HalfMatch, IfSome}
+use Rattle.determinize_lazy.proofs.Common.{IsAccepted, IsFarthestMatch, IsPreferredMatch, IsSearch, last_match}
+use Rattle.determinize_lazy.proofs.Common.{LeftmostFirst, length, List, MatchKind, Nfa, None, Option, refl, Some}
+use Rattle.determinize_lazy.proofs.Common.{start_value, subst, suc, sym, Text, units, ℕ}
 use Rattle.std.proofs.lemmas.List.FromFn.{length-map-range_with_len}
 use Rattle.determinize_core.specs.Chain.{chain}
 use Rattle.determinize_core.proofs.Farthest.{each_last_is_farthest}
 use Rattle.determinize_core.proofs.WholeWalk.{leftmost_walk}
-use Rattle.determinize_below.specs.Positions.{Accepts, Text, after_at}
 use Rattle.determinize_lazy.proofs.LastUnits.{last_match-within}
 
 -- the last match of a chain for the preferred match is that match

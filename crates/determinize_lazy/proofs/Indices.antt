@@ -1,10 +1,8 @@
 -- Indices of values in a list.
-use Rattle.determinize_lazy.proofs.Common.{[], ◌++◌, ◌+◌, ◌||◌, ◌∙◌, ◌∷◌, ◌≡◌, ◌⊎◌, ap, arith, Bool, cond, false, inl}
-use Rattle.determinize_lazy.proofs.Common.{inr, IsEquivalence, length, List, list_any, list_any_congr, None, Option}
-use Rattle.determinize_lazy.proofs.Common.{refl, slice_get, Some, suc, sym, true, true≢false, zero, ℕ}
-use Rattle.std.proofs.Common.{add-zero}
-use Rattle.std.specs.Prelude.{unwrap_or}
-use Rattle.std.specs.List.{position_from}
+use Rattle.determinize_lazy.proofs.Common.{[], ◌++◌, ◌+◌, ◌||◌, ◌∙◌, ◌∷◌, ◌≡◌, ◌⊎◌, add-zero, ap, arith, Bool, cond}
+use Rattle.determinize_lazy.proofs.Common.{false, inl, inr, IsEquivalence, length, List, list_any, list_any_congr, None}
+use Rattle.determinize_lazy.proofs.Common.{Option, position_from, refl, slice_get, Some, suc, sym, true, true≢false}
+use Rattle.determinize_lazy.proofs.Common.{unwrap_or, zero, ℕ}
 
 pub of_some : {A : Type 0} {x y : A} → Some x ≡ Some y → x ≡ y
 of_some {A} {x} e = ap (λ (o : Option A). unwrap_or o x) e

@@ -1,12 +1,9 @@
 -- States of which no two are equal, with a map to their indices.
-use Rattle.determinize_lazy.proofs.Common.{[], ◌++◌, ◌+◌, ◌-◌, ◌<◌, ◌∙◌, ◌∷◌, ◌≡◌, ◌≤◌, ap, arith, cond, false}
-use Rattle.determinize_lazy.proofs.Common.{index_in, IsEquivalence, IsIndex, length, length-append, length_push, List}
-use Rattle.determinize_lazy.proofs.Common.{list_any, None, Option, same, slice_get, Some, subst, sym, take, true, Value}
-use Rattle.determinize_lazy.proofs.Common.{ℕ}
-use Rattle.std.specs.Cmp.{on_equiv}
+use Rattle.determinize_lazy.proofs.Common.{[], ◌++◌, ◌+◌, ◌-◌, ◌<◌, ◌∙◌, ◌∷◌, ◌≡◌, ◌≤◌, ap, AreInterned, arith, cond}
+use Rattle.determinize_lazy.proofs.Common.{false, index_in, IsEquivalence, IsIndex, length, length-append, length_push}
+use Rattle.determinize_lazy.proofs.Common.{List, list_any, None, on_equiv, Option, same, slice_get, Some, subst, sym}
+use Rattle.determinize_lazy.proofs.Common.{take, take_at, true, Value, ℕ}
 use Rattle.std.specs.Cmp.Lexicographic.{nat_list_eq_equiv}
-use Rattle.std.proofs.lemmas.List.{take_at}
-use Rattle.determinize_lazy.specs.Private.Rows.{AreInterned}
 use Rattle.determinize_core.specs.Equality.{Decides-same, parts}
 use Rattle.determinize_lazy.proofs.Indices.{apart-push, found, none_passes, not_none, position_from-push}
 

@@ -1,15 +1,13 @@
 -- The last match of a walk where no NFA state is left; it ends within what is read.
-use Rattle.determinize_lazy.proofs.Common.{[], ◌++◌, ◌+◌, ◌<◌, ◌∙◌, ◌∷◌, ◌≡◌, ap, arith, cond, dead, ended_at, false}
-use Rattle.determinize_lazy.proofs.Common.{future, future_is, HalfMatch, IfSome, last_match, length, List, MatchKind}
-use Rattle.determinize_lazy.proofs.Common.{Nfa, None, Option, option_or, refl, Some, subst, suc, sym, tables_of, tail}
-use Rattle.determinize_lazy.proofs.Common.{true, Value, value_after, ℕ}
-use Rattle.std.specs.List.{flat_map}
+use Rattle.determinize_lazy.proofs.Common.{[], ◌++◌, ◌+◌, ◌<◌, ◌∙◌, ◌∷◌, ◌≡◌, ap, arith, cond, dead, distinct_states}
+use Rattle.determinize_lazy.proofs.Common.{ended_at, false, flat_map, future, future_is, HalfMatch, IfSome, is_reopened}
+use Rattle.determinize_lazy.proofs.Common.{last_ended, last_match, last_match-tail, left_by, length, List, MatchKind}
+use Rattle.determinize_lazy.proofs.Common.{Nfa, None, opened_by, Option, option_or, part_read, patterns_read, refl}
+use Rattle.determinize_lazy.proofs.Common.{Some, subst, suc, sym, tables_of, tail, true, Value, value_after}
+use Rattle.determinize_lazy.proofs.Common.{working_list, ℕ}
 use Rattle.determinize_core.proofs.ClosingAll.{reach-none}
-use Rattle.determinize_core.proofs.LastMatches.{last_match-tail}
 use Rattle.determinize_core.proofs.StepLaws.{dead_stays}
-use Rattle.determinize_core.specs.Step.{distinct_states, is_reopened, left_by, opened_by, part_read, patterns_read}
-use Rattle.determinize_core.specs.Step.{step, working_list}
-use Rattle.determinize_core.specs.Walk.{last_ended}
+use Rattle.determinize_core.specs.Step.{step}
 use Rattle.determinize_looks.specs.LookTables.{have_after}
 use Rattle.determinize_below.specs.Edges.{is_match, patterns_of, reach, target}
 use Rattle.determinize_below.specs.Look.{has}

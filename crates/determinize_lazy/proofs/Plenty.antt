@@ -2,13 +2,11 @@
 use Rattle.determinize_lazy.proofs.Common.{[], ◌&&◌, ◌++◌, ◌+◌, ◌||◌, ◌∙◌, ◌∷◌, ◌≡◌, ◌≤◌, after_step, after_walk, ap}
 use Rattle.determinize_lazy.proofs.Common.{arith, Bool, Cache, cond, count_after, empty, Err, false, fits, future}
 use Rattle.determinize_lazy.proofs.Common.{future_is, HasRoom, is_cached, is_some, keep, KeepsAll, kept, length, List}
-use Rattle.determinize_lazy.proofs.Common.{list_any, list_any_congr, MatchKind, min, missed, nat_le, Nfa, Ok, OnOk}
-use Rattle.determinize_lazy.proofs.Common.{Option, refl, Result, same, same_unit, Some, subst, sym, Table, tail, true}
-use Rattle.determinize_lazy.proofs.Common.{Value, with_transition, with_value, ℕ}
-use Rattle.std.specs.Prelude.{⊤}
+use Rattle.determinize_lazy.proofs.Common.{list_any, list_any_congr, MatchKind, min, missed, missing, nat_le, Nfa, Ok}
+use Rattle.determinize_lazy.proofs.Common.{OnOk, Option, refl, Result, same, same_unit, Some, subst, sym, Table, tail}
+use Rattle.determinize_lazy.proofs.Common.{true, Value, with_step, with_transition, with_value, with_values, with_walk}
+use Rattle.determinize_lazy.proofs.Common.{ℕ, ⊤}
 use Rattle.determinize_core.specs.Step.{step}
-use Rattle.determinize_lazy.specs.Plenty.{missing, with_step, with_walk}
-use Rattle.determinize_lazy.specs.Table.{with_values}
 use Rattle.determinize_lazy.proofs.Interning.{same_laws}
 use Rattle.determinize_lazy.proofs.Rows.{same_unit_itself}
 use Rattle.determinize_lazy.proofs.Tables.{any_with, length_with}

@@ -1,18 +1,14 @@
 -- What an input asks for, and the answer in its haystack.
-use Rattle.determinize_lazy.proofs.Common.{◌-◌, ◌∙◌, ◌≡◌, ◌≤◌, after_walk, All, ap, arith, Bool, Cache, cond, Decides}
-use Rattle.determinize_lazy.proofs.Common.{drop, false, HalfMatch, HasMatch, IfSome, is_done, is_some, IsAccepted}
-use Rattle.determinize_lazy.proofs.Common.{IsFarthestMatch, IsPreferredMatch, IsSearch, last_match, LeftmostFirst}
-use Rattle.determinize_lazy.proofs.Common.{length, length-take, List, MatchKind, min, Nfa, None, Option, option_map}
-use Rattle.determinize_lazy.proofs.Common.{refl, Some, start_for, start_value, step_of, subst, sym, text_of, true}
-use Rattle.determinize_lazy.proofs.Common.{true≢false, units, units_read, ℕ}
-use Rattle.std.specs.Prelude.{IfNone}
-use Rattle.std.specs.List.{slice_range}
-use Rattle.determinize_below.specs.Positions.{Text}
-use Rattle.determinize_below.specs.Search.{Asked}
+use Rattle.determinize_lazy.proofs.Common.{◌-◌, ◌∙◌, ◌≡◌, ◌≤◌, after_walk, All, ap, arith, Asked, Bool, Cache, cond}
+use Rattle.determinize_lazy.proofs.Common.{Decides, drop, false, HalfMatch, HasMatch, IfNone, IfSome, in_haystack}
+use Rattle.determinize_lazy.proofs.Common.{is_done, is_some, IsAccepted, IsFarthestIn, IsFarthestMatch, IsOverIn}
+use Rattle.determinize_lazy.proofs.Common.{IsPlentyIn, IsPreferredIn, IsPreferredMatch, IsSearch, last_match}
+use Rattle.determinize_lazy.proofs.Common.{LeftmostFirst, length, length-take, List, MatchKind, min, Nfa, None, Option}
+use Rattle.determinize_lazy.proofs.Common.{option_map, refl, slice_range, Some, start_for, start_value, step_of, subst}
+use Rattle.determinize_lazy.proofs.Common.{sym, Text, text_of, true, true≢false, units, units_read, ℕ}
 use Rattle.determinize_core.specs.Chain.{chain}
-use Rattle.determinize_lazy.specs.Private.Searched.{IsOverIn}
-use Rattle.determinize_lazy.specs.Searches.{after_first_match, after_input, after_is_match, after_search, in_haystack}
-use Rattle.determinize_lazy.specs.Searches.{IsFarthestIn, IsPlentyIn, IsPreferredIn, last_in}
+use Rattle.determinize_lazy.specs.Searches.{after_first_match, after_input, after_is_match, after_search}
+use Rattle.determinize_lazy.specs.Searches.{last_in}
 use Rattle.determinize_lazy.proofs.Headline.{is-search, none_accepts, some_accepts}
 use Rattle.determinize_lazy.proofs.Searching.{over-keeps}
 use Rattle.determinize_lazy.proofs.Texts.{length-in_order}

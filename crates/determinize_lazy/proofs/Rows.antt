@@ -1,17 +1,15 @@
 -- The rows of a transition table: one more state, and one more transition.
-use Rattle.determinize_lazy.proofs.Common.{[], ◌&&◌, ◌*◌, ◌++◌, ◌+◌, ◌-◌, ◌<◌, ◌∙◌, ◌∷◌, ◌≡◌, ◌≤◌, ap, AreRows, arith}
-use Rattle.determinize_lazy.proofs.Common.{Bool, column, cond, drop, entry_at, false, get_or, index_in, inl, inr}
-use Rattle.determinize_lazy.proofs.Common.{IsEntry, length, length-append, length_push, List, list_any, list_any_congr}
-use Rattle.determinize_lazy.proofs.Common.{nat_eq, None, Option, refl, replicate, same, same_unit, slice_get}
-use Rattle.determinize_lazy.proofs.Common.{slice_get-get_or, slice_get_within, slice_index, slice_set, Some, state_at}
-use Rattle.determinize_lazy.proofs.Common.{subst, sym, tag_in, tag_of, take, target_in, true, true≢false, Value}
-use Rattle.determinize_lazy.proofs.Common.{with_target, ℕ}
-use Rattle.std.proofs.Common.{◌≢◌, ◌/◌, get_or-set_same, get_or-set_other}
-use Rattle.std.specs.Prelude.{nat_lt}
-use Rattle.std.proofs.lemmas.List.{get_or_append_left, get_or-append_right, get_or-drop, get_or-replicate, get_or-take}
-use Rattle.std.proofs.lemmas.List.{length-replicate, length-set}
+use Rattle.determinize_lazy.proofs.Common.{[], ◌&&◌, ◌*◌, ◌++◌, ◌+◌, ◌-◌, ◌/◌, ◌<◌, ◌∙◌, ◌∷◌, ◌≡◌, ◌≢◌, ◌≤◌, ap}
+use Rattle.determinize_lazy.proofs.Common.{AreRows, arith, Bool, column, cond, drop, entry_at, false, get_or}
+use Rattle.determinize_lazy.proofs.Common.{get_or-append_right, get_or-drop, get_or-replicate, get_or-set_other}
+use Rattle.determinize_lazy.proofs.Common.{get_or-set_same, get_or-take, get_or_append_left, index_in, inl, inr}
+use Rattle.determinize_lazy.proofs.Common.{is_unit, IsEntry, length, length-append, length-replicate, length-set}
+use Rattle.determinize_lazy.proofs.Common.{length_push, List, list_any, list_any_congr, nat_eq, nat_lt, None, Option}
+use Rattle.determinize_lazy.proofs.Common.{refl, replicate, same, same_unit, slice_get, slice_get-get_or}
+use Rattle.determinize_lazy.proofs.Common.{slice_get_within, slice_index, slice_set, Some, state_at, subst, sym, tag_in}
+use Rattle.determinize_lazy.proofs.Common.{tag_of, take, target_from, target_in, true, true≢false, Value, with_target}
+use Rattle.determinize_lazy.proofs.Common.{ℕ}
 use Rattle.determinize_below.specs.Truth.{IsUnit}
-use Rattle.determinize_lazy.specs.Stored.{is_unit, target_from}
 use Rattle.determinize_lazy.proofs.Indices.{absent, apart-push, found, get_more, get_push, not_both, of_some}
 use Rattle.determinize_lazy.proofs.Indices.{position_from-push, position_from-same}
 use Rattle.determinize_lazy.proofs.Interning.{same_is, same_laws}

@@ -1,12 +1,11 @@
 -- What the rule keeps, and what is true of a cache after it.
 use Rattle.determinize_lazy.proofs.Common.{[], ◌+◌, ◌∙◌, ◌≡◌, ◌≤◌, ap, arith, Bool, Cache, cond, count_after, empty}
 use Rattle.determinize_lazy.proofs.Common.{Err, false, fits, Grows, IfOk, inl, inr, IsAccepted, IsFailedStep, IsLazy}
-use Rattle.determinize_lazy.proofs.Common.{IsTable, keep, length, MatchKind, nat_le, Nfa, None, Ok, OnErr, OnOk, Option}
-use Rattle.determinize_lazy.proofs.Common.{refl, Result, slice_get, slice_set, Some, start_index, start_value}
-use Rattle.determinize_lazy.proofs.Common.{StoredTable, subst, sym, Table, table_of, true, Value, with_transition}
-use Rattle.determinize_lazy.proofs.Common.{with_value, ℕ}
+use Rattle.determinize_lazy.proofs.Common.{IsSameOrEmpty, IsTable, keep, length, MatchKind, nat_le, Nfa, None, Ok}
+use Rattle.determinize_lazy.proofs.Common.{OnErr, OnOk, Option, refl, Result, slice_get, slice_set, Some, start_index}
+use Rattle.determinize_lazy.proofs.Common.{start_value, StoredTable, subst, sym, Table, table_of, true, Value}
+use Rattle.determinize_lazy.proofs.Common.{with_transition, with_value, ℕ}
 use Rattle.determinize_core.specs.Step.{step}
-use Rattle.determinize_lazy.specs.Private.Steps.{IsSameOrEmpty}
 use Rattle.determinize_lazy.proofs.Starts.{starts-more, starts-set}
 use Rattle.determinize_lazy.proofs.Tables.{empty-is, get_with, with_transition-is}
 

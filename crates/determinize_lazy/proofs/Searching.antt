@@ -1,16 +1,12 @@
 -- A search, one unit more at a time, and what it leaves.
 use Rattle.determinize_lazy.proofs.Common.{[], ◌&&◌, ◌++◌, ◌+◌, ◌-◌, ◌<◌, ◌||◌, ◌∙◌, ◌∷◌, ◌≡◌, ◌≤◌, after_unit}
-use Rattle.determinize_lazy.proofs.Common.{after_walk, ap, arith, Bool, Cache, cond, drop, ended_at, false, future}
-use Rattle.determinize_lazy.proofs.Common.{HalfMatch, HasRoom, is_some, IsOver, IsSearched, KeepsAll, last_match}
-use Rattle.determinize_lazy.proofs.Common.{length, List, MatchKind, Nfa, None, Option, option_or, refl, slice_get}
-use Rattle.determinize_lazy.proofs.Common.{slice_get_within, Some, step_of, subst, sym, tag_in, tag_of, take, take_all}
+use Rattle.determinize_lazy.proofs.Common.{after_walk, ap, append-nil, append_assoc, arith, Bool, Cache, cond, drop}
+use Rattle.determinize_lazy.proofs.Common.{drop_all, ended_at, false, future, HalfMatch, HasRoom, is_last, is_last_tag}
+use Rattle.determinize_lazy.proofs.Common.{is_nonempty, is_some, IsOver, IsSearched, KeepsAll, last_match}
+use Rattle.determinize_lazy.proofs.Common.{last_match-push, length, length-take-le, List, match_at, MatchKind, Nfa}
+use Rattle.determinize_lazy.proofs.Common.{None, not, Option, option_or, refl, slice_get, slice_get_within, Some}
+use Rattle.determinize_lazy.proofs.Common.{step_of, subst, sym, Tag, tag_in, tag_of, take, take-append-drop, take_all}
 use Rattle.determinize_lazy.proofs.Common.{true, true≢false, units_read, Value, value_after, ℕ}
-use Rattle.std.proofs.Common.{not}
-use Rattle.std.proofs.lemmas.List.{append-nil, append_assoc, drop_all, length-take-le, take-append-drop}
-use Rattle.determinize_core.proofs.LastMatches.{last_match-push}
-use Rattle.determinize_core.specs.Value.{is_nonempty}
-use Rattle.determinize_lazy.specs.Private.Tags.{Tag, is_last_tag, match_at}
-use Rattle.determinize_lazy.specs.Searches.{is_last}
 use Rattle.determinize_lazy.proofs.LastUnits.{last_match-over}
 use Rattle.determinize_lazy.proofs.Plenty.{keeps_all}
 use Rattle.determinize_lazy.proofs.Walks.{drop-one, follows, reached-none, reached-push, take-one}

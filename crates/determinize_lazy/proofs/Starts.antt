@@ -1,11 +1,10 @@
 -- The kept starts: which are kept, and that a start state depends on the kind of start alone.
-use Rattle.determinize_lazy.proofs.Common.{[], ◌+◌, ◌<◌, ◌∙◌, ◌∷◌, ◌≡◌, ap, arith, Bool, cond, false, List, nat_eq, Nfa}
-use Rattle.determinize_lazy.proofs.Common.{None, Option, refl, replicate, slice_get, slice_set, Some, start_index}
-use Rattle.determinize_lazy.proofs.Common.{start_value, StoredTable, suc, sym, tables_of, true, Value, zero, ℕ}
+use Rattle.determinize_lazy.proofs.Common.{[], ◌+◌, ◌<◌, ◌∙◌, ◌∷◌, ◌≡◌, ap, AreStarts, arith, begun, Bool, cond, false}
+use Rattle.determinize_lazy.proofs.Common.{List, nat_eq, Nfa, None, Option, refl, replicate, slice_get, slice_set, Some}
+use Rattle.determinize_lazy.proofs.Common.{start_index, start_value, StoredTable, suc, sym, tables_of, true, Value}
+use Rattle.determinize_lazy.proofs.Common.{zero, ℕ}
 use Rattle.determinize_below.specs.Edges.{reach}
 use Rattle.determinize_below.specs.Look.{has}
-use Rattle.determinize_core.specs.Step.{begun}
-use Rattle.determinize_lazy.specs.Private.Starts.{AreStarts}
 use Rattle.determinize_looks.specs.LookTables.{from_word_at_start, half_crlf_at_start, have_at_start, start_from_word}
 use Rattle.determinize_looks.specs.LookTables.{start_half_crlf, start_have}
 use Rattle.determinize_looks.specs.StartKinds.{number_of, start_kind_of, start_of_number}

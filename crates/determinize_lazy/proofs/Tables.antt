@@ -1,14 +1,12 @@
 -- Tables with one more state or transition.
 use Rattle.determinize_lazy.proofs.Common.{[], ◌&&◌, ◌++◌, ◌+◌, ◌<◌, ◌||◌, ◌∙◌, ◌∷◌, ◌≡◌, ◌⊎◌, ap, arith, Bool, cond}
-use Rattle.determinize_lazy.proofs.Common.{empty, false, inl, inr, is_some, IsIndex, IsTable, IsTargetIndex, length}
-use Rattle.determinize_lazy.proofs.Common.{length_push, List, list_any, list_any_congr, None, Option, refl, same}
-use Rattle.determinize_lazy.proofs.Common.{same_unit, slice_get, Some, subst, sym, Table, true, Value, with_state}
-use Rattle.determinize_lazy.proofs.Common.{with_target, with_transition, with_value, ℕ}
-use Rattle.std.specs.Prelude.{Contains}
+use Rattle.determinize_lazy.proofs.Common.{Contains, EachApart, empty, false, inl, inr, is_some, IsIndex, IsTable}
+use Rattle.determinize_lazy.proofs.Common.{IsTargetIndex, length, length_push, List, list_any, list_any_congr, None}
+use Rattle.determinize_lazy.proofs.Common.{Option, refl, same, same_unit, slice_get, Some, subst, sym, Table, true}
+use Rattle.determinize_lazy.proofs.Common.{Value, with_state, with_target, with_transition, with_value, ℕ}
 use Rattle.std.proofs.lemmas.List.Elements.{Contains-append_left, Contains-push, Contains-push_cases}
 use Rattle.std.proofs.lemmas.List.Folds.{list_any-append}
 use Rattle.std.proofs.lemmas.Map.Views.{Contains-from_any}
-use Rattle.determinize_lazy.specs.Table.{EachApart}
 use Rattle.determinize_lazy.proofs.Indices.{apart-push, get_more, not_both, of_some, one_passes}
 use Rattle.determinize_lazy.proofs.Interning.{same_is, same_laws}
 use Rattle.determinize_lazy.proofs.Rows.{and_true, same_unit_is, same_unit_itself}

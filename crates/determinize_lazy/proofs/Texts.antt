@@ -1,13 +1,9 @@
 -- The units of a text, and the text that an input asks for.
 use Rattle.determinize_lazy.proofs.Common.{[], ◌++◌, ◌+◌, ◌<◌, ◌∙◌, ◌∷◌, ◌≡◌, ◌≤◌, ap, arith, Bool, false, get_or}
-use Rattle.determinize_lazy.proofs.Common.{length, length-append, List, Option, option_map, refl, slice_get}
-use Rattle.determinize_lazy.proofs.Common.{slice_get-get_or, Some, sym, true, units, ℕ}
-use Rattle.std.proofs.Common.{map}
-use Rattle.std.proofs.lemmas.List.{length-map, length-reverse}
-use Rattle.std.proofs.lemmas.Option.{slice_get-map}
+use Rattle.determinize_lazy.proofs.Common.{in_order, length, length-append, length-map, length-reverse, List, map}
+use Rattle.determinize_lazy.proofs.Common.{Option, option_map, refl, slice_get, slice_get-get_or, slice_get-map, Some}
+use Rattle.determinize_lazy.proofs.Common.{sym, Text, true, units, ℕ}
 use Rattle.determinize_core.proofs.UnitLists.{units_are}
-use Rattle.determinize_below.specs.Positions.{Text}
-use Rattle.determinize_lazy.specs.Searches.{in_order}
 use Rattle.determinize_lazy.proofs.Indices.{get_last, get_more}
 
 module _ (text : Text) where

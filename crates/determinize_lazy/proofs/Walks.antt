@@ -1,12 +1,10 @@
 -- Walks, one step more at a time, and what is left of a walk that fails.
-use Rattle.determinize_lazy.proofs.Common.{[], ◌++◌, ◌+◌, ◌<◌, ◌∙◌, ◌∷◌, ◌≡◌, ◌≤◌, after_step, after_unit, after_walk}
-use Rattle.determinize_lazy.proofs.Common.{AllResolve, ap, arith, Bool, Cache, cond, drop, false, future}
-use Rattle.determinize_lazy.proofs.Common.{get_or_from_slice_get, inl, inr, is_cached, IsAccepted, IsCutOff}
+use Rattle.determinize_lazy.proofs.Common.{[], ◌++◌, ◌+◌, ◌<◌, ◌∙◌, ◌∷◌, ◌≡◌, ◌≤◌, add_assoc, after_step, after_unit}
+use Rattle.determinize_lazy.proofs.Common.{after_walk, AllResolve, ap, arith, Bool, Cache, cond, drop, drop-cons, false}
+use Rattle.determinize_lazy.proofs.Common.{future, get_or_from_slice_get, inl, inr, is_cached, IsAccepted, IsCutOff}
 use Rattle.determinize_lazy.proofs.Common.{IsFailedStep, IsReached, kept, length, length-take, List, MatchKind, min}
 use Rattle.determinize_lazy.proofs.Common.{missed, Nfa, Option, refl, slice_get, slice_get_within, Some, step_of, subst}
-use Rattle.determinize_lazy.proofs.Common.{suc, sym, Table, take, take_all, true, Value, value_after, ℕ}
-use Rattle.std.proofs.Common.{add_assoc, drop-cons}
-use Rattle.std.proofs.lemmas.List.{take_more}
+use Rattle.determinize_lazy.proofs.Common.{suc, sym, Table, take, take_all, take_more, true, Value, value_after, ℕ}
 use Rattle.determinize_core.specs.Step.{step}
 use Rattle.determinize_core.proofs.Loops.{future-push, value_after-push}
 use Rattle.determinize_core.proofs.Resolving.{step_resolves}

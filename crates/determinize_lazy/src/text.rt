@@ -30,6 +30,7 @@ impl<'h> Model for Text<'h> {
 
 impl<'h> Text<'h> {
     /// Returns a text that is read forward.
+    #[inline(always)]
     pub(crate) fn new(behind: Option<u8>, bytes: &'h [u8], ahead: Option<u8>) -> Text<'h>
         ensures { result ≡ between behind bytes.now ahead }
     {
@@ -42,6 +43,7 @@ impl<'h> Text<'h> {
     }
 
     /// Returns the range of an input, with the bytes before and after it in the haystack.
+    #[inline(always)]
     pub(crate) fn of_input(input: &Input<'h>, is_backward: bool) -> Text<'h>
         requires { is_done input.now ≡ false }
         ensures { result ≡ text_of is_backward input.now }
@@ -62,6 +64,7 @@ impl<'h> Text<'h> {
     }
 
     /// Returns the byte behind the first.
+    #[inline(always)]
     pub(crate) fn behind(&self) -> Option<u8>
         ensures { result ≡ self.now.behind }
     {

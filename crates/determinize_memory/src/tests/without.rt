@@ -220,8 +220,10 @@ fn sets_and_builders(rt: HostRuntime) -> Result<(), Fail> {
 #[test]
 fn cached_searches(rt: HostRuntime) -> Result<(), Fail> {
     refuse_over_walks(&rt, |heap, row| {
-        Ok(search_cached(&rt, heap, row, MatchKind::All)?
-            && search_cached(&rt, heap, row, MatchKind::LeftmostFirst)?)
+        Ok(
+            search_cached(&rt, heap, row, MatchKind::All)?
+                && search_cached(&rt, heap, row, MatchKind::LeftmostFirst)?,
+        )
     })
 }
 

@@ -1,6 +1,5 @@
-use Rattle.determinize_lazy.proofs.Common.{AllResolve, cache, LazyValue, start_value, subst}
+use Rattle.determinize_lazy.proofs.Common.{AllResolve, cache, IsSound, LazyValue, start_value, subst}
 use Rattle.determinize_core.proofs.Resolving.{start_resolves}
-use Rattle.determinize_lazy.specs.Private.Steps.{IsSound}
 use Rattle.determinize_lazy.proofs.lazy.Lazy.kept_start.Given.{Over}
 use Rattle.determinize_lazy.proofs.lazy.Lazy.kept_start.Goals.{After-start_index}
 use Rattle.determinize_lazy.proofs.lazy.Lazy.kept_start.Goals as goal

@@ -1,6 +1,5 @@
 use Rattle.determinize_lazy.proofs.Common.{between, cache, false, IfOk, IfOk-weaker, IsOver, refl, start_value, subst}
-use Rattle.determinize_lazy.proofs.Common.{units}
-use Rattle.determinize_below.specs.Positions.{Text}
+use Rattle.determinize_lazy.proofs.Common.{Text, units}
 use Rattle.determinize_core.specs.Chain.{chain}
 use Rattle.determinize_lazy.specs.Searches.{after_search}
 use Rattle.determinize_lazy.proofs.Headline.{is-search}

@@ -1,6 +1,5 @@
 use Rattle.determinize_lazy.proofs.Common.{◌∙◌, ◌≡◌, ap, cache, IfOk, IsCutOff, IsOver, LazyValue, OnErr, refl, rules}
-use Rattle.determinize_lazy.proofs.Common.{start_for, start_value, text_of, units, ℕ}
-use Rattle.determinize_below.specs.Positions.{Text}
+use Rattle.determinize_lazy.proofs.Common.{start_for, start_value, Text, text_of, units, ℕ}
 use Rattle.determinize_lazy.proofs.Rule.{along}
 use Rattle.determinize_lazy.proofs.lazy.Lazy.search_range.Given.{Over}
 use Rattle.determinize_lazy.proofs.lazy.Lazy.search_range.Goals.{After-search_text}

@@ -1,6 +1,5 @@
 use Rattle.determinize_lazy.proofs.Common.{◌≡◌, after_walk, between, cache, future, IfOk, IfOk-weaker, LazyValue, OnOk}
-use Rattle.determinize_lazy.proofs.Common.{units, Value}
-use Rattle.determinize_below.specs.Positions.{Text}
+use Rattle.determinize_lazy.proofs.Common.{Text, units, Value}
 use Rattle.determinize_core.proofs.WholeWalks.{is_walk}
 use Rattle.determinize_core.specs.Chain.{chain}
 use Rattle.determinize_lazy.specs.Cache.{after_text}

@@ -17,16 +17,19 @@ source_there g c = there c.args.self.now.states _ c.in-Cached.field-0
 pub returns-then-is_some : goal.returns-then-is_some
 returns-then-is_some g c =
     let at = goal.at.returns-then-is_some g c in
-    count_two c.args.self.now.states _ c.args.following.now c.args.target.now c.requires.target (len_is g at.After-len-len)
+    count_two c.args.self.now.states _ c.args.following.now c.args.target.now c.requires.target
+    (len_is g at.After-len-len)
     (source_there g at.In-Cached) (sym c.is_some.ensures ∙ c.if-is_some.true) refl (omega arith)
 
 pub returns-else-is_some : goal.returns-else-is_some
 returns-else-is_some g c =
     let at = goal.at.returns-else-is_some g c in
     let none = sym c.is_some.ensures ∙ c.if-is_some.false in
-    count_two c.args.self.now.states _ c.args.following.now c.args.target.now c.requires.target (len_is g at.After-len-len)
+    count_two c.args.self.now.states _ c.args.following.now c.args.target.now c.requires.target
+    (len_is g at.After-len-len)
     (source_there g at.In-Cached) none
-    (apart_of c.args.self.now.states _ c.args.following.now c.args.target.now (source_there g at.In-Cached) c.requires.target none)
+    (apart_of c.args.self.now.states _ c.args.following.now c.args.target.now (source_there g at.In-Cached)
+    c.requires.target none)
     (omega arith)
 
 pub returns-in-Uncached : goal.returns-in-Uncached

@@ -1,6 +1,4 @@
-use Rattle.determinize_lazy.proofs.Common.{◌<◌, ◌∙◌, ◌≡◌, ap, length, subst, sym}
-use Rattle.std.proofs.lemmas.List.{get_or-reverse}
-use Rattle.determinize_below.specs.Positions.{Text}
+use Rattle.determinize_lazy.proofs.Common.{◌<◌, ◌∙◌, ◌≡◌, ap, get_or-reverse, length, subst, sym, Text}
 use Rattle.determinize_lazy.proofs.Texts.{length-in_order, unit-byte}
 use Rattle.determinize_lazy.proofs.text.Text.byte.Goals as goal
 

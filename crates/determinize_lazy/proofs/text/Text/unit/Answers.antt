@@ -1,5 +1,4 @@
-use Rattle.determinize_lazy.proofs.Common.{◌∙◌, ap, Some, sym}
-use Rattle.determinize_below.specs.Positions.{Text}
+use Rattle.determinize_lazy.proofs.Common.{◌∙◌, ap, Some, sym, Text}
 use Rattle.determinize_lazy.proofs.Texts.{unit-last}
 use Rattle.determinize_lazy.proofs.text.Text.unit.Goals as goal
 
