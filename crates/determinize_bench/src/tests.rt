@@ -9,6 +9,7 @@
 mod below;
 mod dfa;
 mod find;
+mod find_jobs;
 mod laws;
 mod lazy;
 mod map_text;

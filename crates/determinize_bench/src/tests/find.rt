@@ -2,11 +2,12 @@
 
 ghost use Rattle.std.specs.Prelude.{◌≡◌, IfOk, false, true};
 ghost use Rattle.determinize_below.specs.declared.search.MatchKind.TheVariants as kinds;
+ghost use Rattle.determinize_find.specs.Prefix.{HasPrefix};
 ghost use Rattle.determinize_lazy.specs.Searches.{has_start};
 
 use crate::tests::{ended, same};
 use determinize_below::{Input, LookMatcher, MatchKind, NFA, StateID};
-use determinize_find::{Match, plain, prefix, reversed};
+use determinize_find::{Match, Regex, plain, prefix, reversed};
 use determinize_lazy::Lazy;
 use determinize_replay::nfas;
 use std::process::Abort;
@@ -77,6 +78,28 @@ fn expect_match<R: Abort>(rt: &R, found: Match, wanted: Ends) {
     same(rt, ends, wanted);
 }
 
+/// Finds all matches of a haystack, by an NFA with the usual prefix and by its reverse.
+fn expect_by_regex<R: Abort + AllocGlobal>(
+    rt: &R,
+    nfa: &NFA,
+    haystack: &[u8],
+    wanted: &[Ends],
+) -> Result<(), Fail>
+    requires forward { nfa.now.reverse ≡ false }
+    requires prefix { HasPrefix nfa.now }
+{
+    let backward = reversed(rt.alloc(), nfa)?;
+    let mut regex = Regex::new(rt.alloc(), nfa, &backward, 100);
+    let input = Input::new(haystack);
+    same(rt, regex.is_match(&input)?, !wanted.is_empty());
+    let found = regex.find_all(rt.alloc(), &input)?;
+    same(rt, found.len(), wanted.len());
+    for (found, wanted) in found.iter().zip(wanted) {
+        expect_match(rt, *found, *wanted);
+    }
+    Ok(())
+}
+
 /// Finds all matches of a haystack, by `plain`.
 fn expect_all<R: Abort + AllocGlobal>(
     rt: &R,
@@ -101,6 +124,9 @@ fn all_matches(rt: HostRuntime) -> Result<(), Fail> {
         let nfa = nfa(&rt, row.states)?;
         let mut lazy = Lazy::new(rt.alloc(), &nfa, MatchKind::LeftmostFirst, 100);
         expect_all(&rt, &mut lazy, row.haystack, row.matches)?;
+        if prefix::has_prefix(&nfa) {
+            expect_by_regex(&rt, &nfa, row.haystack, row.matches)?;
+        }
     }
     Ok(())
 }
