@@ -12,38 +12,6 @@ use Rattle.determinize_lazy.proofs.Tables.{empty-is, get_with, with_transition-i
 pub le_of : (m n : ℕ) → nat_le m n ≡ true → m ≤ n
 le_of m n e = grind arith
 
-module _ (f : Value → Option ℕ → Value) (limit : ℕ) (t : Table) (v w : Value) (u : Option ℕ) (w_is : w ≡ f v u) where
-  room_is : (x : Table) → fits f limit x v u ≡ nat_le (length (with_value (with_value x.states v) w)) limit
-  room_is x = ap (λ y. nat_le (length (with_value (with_value x.states v) y)) limit) (sym w_is)
-
-  pub keep_more : (b : Bool) → b ≡ true → b ≡ nat_le (length (with_value (with_value t.states v) w)) limit
-      → keep f limit t v u ≡ with_transition t v u w
-  keep_more b holds e =
-      ap (λ x. cond x (with_transition t v u (f v u)) (cond (fits f limit empty v u) (with_transition empty v u (f v u))
-      empty)) (room_is t ∙ sym e ∙ holds)
-      ∙ ap (λ y. with_transition t v u y) (sym w_is)
-
-  pub keep_alone : (b d : Bool) → b ≡ false → b ≡ nat_le (length (with_value (with_value t.states v) w)) limit
-      → d ≡ true → d ≡ nat_le (length (with_value (with_value [] v) w)) limit
-      → keep f limit t v u ≡ with_transition empty v u w
-  keep_alone b d fails e holds e' =
-      ap (λ x. cond x (with_transition t v u (f v u)) (cond (fits f limit empty v u) (with_transition empty v u (f v u))
-      empty)) (room_is t ∙ sym e ∙ fails)
-      ∙ ap (λ x. cond x (with_transition empty v u (f v u)) empty) (room_is empty ∙ sym e' ∙ holds)
-      ∙ ap (λ y. with_transition empty v u y) (sym w_is)
-
-  pub keep_none : (b d : Bool) → b ≡ false → b ≡ nat_le (length (with_value (with_value t.states v) w)) limit
-      → d ≡ false → d ≡ nat_le (length (with_value (with_value [] v) w)) limit
-      → keep f limit t v u ≡ empty
-  keep_none b d fails e fails2 e' =
-      ap (λ x. cond x (with_transition t v u (f v u)) (cond (fits f limit empty v u) (with_transition empty v u (f v u))
-      empty)) (room_is t ∙ sym e ∙ fails)
-      ∙ ap (λ x. cond x (with_transition empty v u (f v u)) empty) (room_is empty ∙ sym e' ∙ fails2)
-
--- the cache with another table
-pub with_table : (c : Cache) (t t' : Table) → t ≡ t' → record c { table = t } ≡ record c { table = t' }
-with_table c t t' e = ap (λ (x : Table). record c { table = x }) e
-
 -- a cache with one more transition of its NFA, for which there is room
 pub lazy-insert : (nfa : Nfa) (kind : MatchKind) (limit count : ℕ) (scratch : Option ℕ) (t t' : StoredTable)
     (v w : Value) (u : Option ℕ) → IsLazy nfa kind limit count scratch t
@@ -74,19 +42,6 @@ lazy-none nfa kind limit t accepted table_is none = record {
   room = tt;
 }
 
--- an empty cache
-pub lazy-empty : (nfa : Nfa) (kind : MatchKind) (limit count : ℕ) (scratch : Option ℕ) (t t' : StoredTable)
-    → IsLazy nfa kind limit count scratch t → table_of t' ≡ empty
-    → ((i index : ℕ) → slice_get t'.starts i ≡ Some (Some index) → ⊥) → IsLazy nfa kind limit count scratch t'
-lazy-empty nfa kind limit count scratch t t' is table_is none = record {
-  accepted = is.accepted;
-  small = is.small;
-  table = subst (λ x. IsTable (step nfa kind) x) (sym table_is) (empty-is (step nfa kind));
-  within = subst (λ (x : Table). length x.states ≤ limit) (sym table_is) (let e : 0 ≤ limit = omega arith in e);
-  starts = λ start p i index _ kept. absurd (none i index kept);
-  room = is.room;
-}
-
 -- what changes the table and the count alone
 pub grows : (old new : Cache) (t : Table) (n : ℕ) → new ≡ record old { table = t; computed = n } → old.computed ≤ n
     → Grows old new
@@ -97,17 +52,6 @@ grows old new t n is more =
       limit = refl;
       computed = more;
     } in r)
-
--- a step that fails after the cache was emptied, or before
-pub failed-empty : (old new : Cache) → new ≡ record old { table = empty } → IsFailedStep old new
-failed-empty old new is =
-    subst (λ x. IsFailedStep old x) (sym is)
-    (let r : IsFailedStep old (record old { table = empty }) = record { table = inl refl; few = omega arith } in r)
-
-pub failed-same : (old new : Cache) → new ≡ old → IsFailedStep old new
-failed-same old new is =
-    subst (λ x. IsFailedStep old x) (sym is)
-    (let r : IsFailedStep old old = record { table = inr refl; few = omega arith } in r)
 
 -- a step that fails after its transition was counted
 pub failed-counted : (old now new : Cache) → now ≡ record old { computed = count_after old.computed 1 }

@@ -60,15 +60,6 @@ longer nfa kind v us (u ∷ rest) h =
     either None p k = k
     either (Some m) p k = refl
 
--- no unit yet
-pub searched-none : {earliest : Bool} (old : Cache) (first : Value) (us : List (Option ℕ))
-    → old.computed ≤ 18446744073709551615 → first.patterns ≡ [] → IsSearched earliest old first us 0 first None old
-searched-none old first us small none = record {
-  reached = reached-none old first us small;
-  found = ap (λ ps. option_or (ended_at 0 ps) None) none;
-  rest = refl;
-}
-
 module _ {earliest : Bool} {old : Cache} {first : Value} {us : List (Option ℕ)} {read : ℕ} {v : Value}
     {last : Option HalfMatch} {now : Cache} (s : IsSearched earliest old first us read v last now) where
   abbrev so_far : Option HalfMatch
@@ -156,13 +147,6 @@ module _ {earliest : Bool} {old : Cache} {first : Value} {us : List (Option ℕ)
     finished all_read =
         let same : so_far ≡ last_of us = ap last_of (take_all read us all_read) in
         over (λ _. same) (ap is_some same) (ap (λ all. reads v all) (drop_all read us all_read))
-
--- a search from a start that was made
-pub over-from : {earliest : Bool} {old now : Cache} {first v : Value} {us : List (Option ℕ)} {found : Option HalfMatch}
-    {new : Cache} → first ≡ v → now ≡ old → IsOver earliest now first us found new → IsOver earliest old v us found new
-over-from {earliest} {old} {now} {first} {v} {us} {found} {new} first_is now_is o =
-    subst (λ x. IsOver earliest old x us found new) first_is (subst (λ c. IsOver earliest c first us found new) now_is
-    o)
 
 -- with room for all that was read, a search keeps all of its transitions
 pub over-keeps : {old : Cache} {v : Value} {us : List (Option ℕ)} {found : Option HalfMatch} {new : Cache}

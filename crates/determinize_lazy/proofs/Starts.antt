@@ -52,20 +52,6 @@ same_kind j k e = of_some (sym (at j) ∙ ap start_of_number e ∙ at k)
     at LineCR = refl
     at CustomLineTerminator = refl
 
--- the index of a start is below 12
-pub index-lt : (nfa : Nfa) (start : ℕ) (p : Option ℕ) (i : ℕ) → start_index nfa start p ≡ Some i → i < 12
-index-lt nfa start p i = by (nat_eq start nfa.start_anchored) (nat_eq start nfa.start_unanchored)
-  where
-    n : ℕ
-    n = number_of (start_kind_of nfa.terminator p)
-
-    by : (a b : Bool) → cond a (Some n) (cond b (Some (6 + n)) None) ≡ Some i → i < 12
-    by true b e = let is : n ≡ i = of_some e in let below : n < 6 = number_below (start_kind_of nfa.terminator p) in
-        omega (arith, is, below)
-    by false true e = let is : 6 + n ≡ i = of_some e in let below : n < 6 =
-        number_below (start_kind_of nfa.terminator p) in omega (arith, is, below)
-    by false false e = not_none (sym e)
-
 -- starts that are kept at one index have the same start state
 one_start : (nfa : Nfa) (s t : ℕ) (p q : Option ℕ) (i : ℕ) → start_index nfa s p ≡ Some i → start_index nfa t q ≡ Some i
     → start_value nfa s p ≡ start_value nfa t q

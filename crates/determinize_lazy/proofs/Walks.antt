@@ -83,14 +83,6 @@ after_walk-push old first us u =
     now : Table
     now = kept (step_of old) old.limit old.table first us
 
--- what a walk leaves that fails before its first step
-pub cut_off-none : (old : Cache) (first : Value) (us : List (Option ℕ)) (new : Cache) → new ≡ old
-    → IsCutOff old first us new
-cut_off-none old first us new same = record {
-  table = inr (0, ap (λ (c : Cache). c.table) same);
-  few = let e : new.computed ≡ old.computed = ap (λ (c : Cache). c.computed) same in omega (arith, e);
-}
-
 few_after : (old : Cache) (first : Value) (us : List (Option ℕ)) (k : ℕ)
     → (after_walk old first (take k us)).computed ≤ old.computed + min k (length us)
 few_after old first us k =
