@@ -1,7 +1,7 @@
 -- What the rule keeps, and what is true of a cache after it.
-use Rattle.determinize_lazy.proofs.Common.{[], ◌+◌, ◌∙◌, ◌≡◌, ◌≤◌, ap, arith, Bool, Cache, cond, count_after, empty}
-use Rattle.determinize_lazy.proofs.Common.{Err, false, fits, Grows, IfOk, inl, inr, IsAccepted, IsFailedStep, IsLazy}
-use Rattle.determinize_lazy.proofs.Common.{IsSameOrEmpty, IsTable, keep, length, MatchKind, nat_le, Nfa, None, Ok}
+use Rattle.determinize_lazy.proofs.Common.{◌+◌, ◌∙◌, ◌≡◌, ◌≤◌, ap, arith, Cache, count_after, empty}
+use Rattle.determinize_lazy.proofs.Common.{Err, Grows, IfOk, inl, inr, IsAccepted, IsFailedStep, IsLazy}
+use Rattle.determinize_lazy.proofs.Common.{IsSameOrEmpty, IsTable, length, MatchKind, nat_le, Nfa, None, Ok}
 use Rattle.determinize_lazy.proofs.Common.{OnErr, OnOk, Option, refl, Result, slice_get, slice_set, Some, start_index}
 use Rattle.determinize_lazy.proofs.Common.{start_value, StoredTable, subst, sym, Table, table_of, true, Value}
 use Rattle.determinize_lazy.proofs.Common.{with_transition, with_value, ℕ}

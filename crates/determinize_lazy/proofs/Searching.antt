@@ -9,7 +9,7 @@ use Rattle.determinize_lazy.proofs.Common.{step_of, subst, sym, Tag, tag_in, tag
 use Rattle.determinize_lazy.proofs.Common.{true, true≢false, units_read, Value, value_after, ℕ}
 use Rattle.determinize_lazy.proofs.LastUnits.{last_match-over}
 use Rattle.determinize_lazy.proofs.Plenty.{keeps_all}
-use Rattle.determinize_lazy.proofs.Walks.{drop-one, follows, reached-none, reached-push, take-one}
+use Rattle.determinize_lazy.proofs.Walks.{drop-one, follows, reached-push, take-one}
 
 empty_is : (xs : List ℕ) → is_nonempty xs ≡ false → xs ≡ []
 empty_is [] h = refl
