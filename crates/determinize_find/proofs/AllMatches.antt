@@ -29,8 +29,10 @@ each_leftmost_in_is_one nfa asked found other a b = by_test (is_done asked)
     (λ d. a.done d ∙ sym (b.done d))
     (λ d. both (a.found d) (b.found d))
   where
-    both : ((m : Option Match) × IsLeftmost nfa (text_of false asked) (latest nfa asked) m × (found ≡ option_map (moved asked.start) m))
-        → ((m : Option Match) × IsLeftmost nfa (text_of false asked) (latest nfa asked) m × (other ≡ option_map (moved asked.start) m)) → found ≡ other
+    both : ((m : Option Match) × IsLeftmost nfa (text_of false asked) (latest nfa asked) m
+        × (found ≡ option_map (moved asked.start) m))
+        → ((m : Option Match) × IsLeftmost nfa (text_of false asked) (latest nfa asked) m
+        × (other ≡ option_map (moved asked.start) m)) → found ≡ other
     both p q =
         p.2 ∙ ap (λ m. option_map (moved asked.start) m)
         (each_leftmost_is_one nfa (text_of false asked) (latest nfa asked) p.0 q.0 p.1 q.1) ∙ sym q.2
@@ -105,7 +107,8 @@ pub lies : (nfa : Nfa) (asked : Asked) (m : Match) → asked.end ≤ length aske
     → LiesIn asked m
 lies nfa asked m l h = by_test (is_done asked)
     (λ d. absurd (let e : Some m ≡ None = h.done d in cc))
-    (λ d. let r : (n : Option Match) × IsLeftmost nfa (text_of false asked) (latest nfa asked) n × (Some m ≡ option_map (moved asked.start) n) = h.found d in
+    (λ d. let r : (n : Option Match) × IsLeftmost nfa (text_of false asked) (latest nfa asked) n
+    × (Some m ≡ option_map (moved asked.start) n) = h.found d in
     inside r.0 r.1 r.2 (order d))
   where
     order : is_done asked ≡ false → asked.start ≤ asked.end
@@ -179,7 +182,8 @@ next_lies nfa asked before m l starts h = go h.0 h.1 h.2
               (λ j. let p : m.end ≡ last = omega arith in
               let q : m.start ≡ m.end = omega arith in
               absurd
-              (true≢false (sym (and_from (nat_eq m.start m.end) (nat_eq m.end last) (eq-eqb m.start m.end q) (eq-eqb m.end last p)) ∙ w)));
+              (true≢false (sym (and_from (nat_eq m.start m.end) (nat_eq m.end last) (eq-eqb m.start m.end q)
+              (eq-eqb m.end last p)) ∙ w)));
         })
 
 apart : (nfa : Nfa) (asked : Asked) (before : Option ℕ) (ms : List Match) → asked.end ≤ length asked.haystack
@@ -187,8 +191,14 @@ apart : (nfa : Nfa) (asked : Asked) (before : Option ℕ) (ms : List Match) → 
     → AreMatches nfa asked before ms → AreApart asked.start before asked.end ms
 apart nfa asked before [] l starts h = tt
 apart nfa asked before (m ∷ ms) l starts h =
-    let n : IsLater asked before m = next_lies nfa asked before m l starts h.0 in
-    (n.low, n.order, n.high, n.later, apart nfa (from asked m.end) (Some m.end) ms l (λ last e. sym (some_injective m.end last e)) h.1)
+    let n : IsLater asked before m = next_lies nfa asked before m l starts h.0 in (
+      n.low,
+      n.order,
+      n.high,
+      n.later,
+      apart nfa (from asked m.end) (Some m.end) ms l
+          (λ last e. sym (some_injective m.end last e)) h.1,
+    )
 
 pub each_matches_are_apart : EachMatchesAreApart
 each_matches_are_apart nfa asked ms l h = apart nfa asked None ms l (λ last e. absurd (cc)) h

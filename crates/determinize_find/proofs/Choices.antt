@@ -43,7 +43,8 @@ pub byte_choice : (nfa : Nfa) (text : Text) (i s t : ℕ)
 byte_choice nfa text i s t e =
     In_append_left (suc i, t) (map (placed (suc i)) (byte_edges nfa text i s))
     (map (placed i) (true_edges nfa text i s))
-    (In_map (placed (suc i)) t (byte_edges nfa text i s) (In_some (target_of (slice_get text.bytes i) (state_at nfa s)) t e))
+    (In_map (placed (suc i)) t (byte_edges nfa text i s)
+    (In_some (target_of (slice_get text.bytes i) (state_at nfa s)) t e))
 
 -- and so is one without input
 pub free_choice : (nfa : Nfa) (text : Text) (i s t : ℕ) → In t (true_edges nfa text i s)
@@ -96,9 +97,11 @@ sparse_leads : (ts : List Transition) (b t : ℕ) → sparse_target ts b ≡ Som
 sparse_leads [] b t e = absurd (let k : None ≡ Some t = e in cc)
 sparse_leads (r ∷ ts) b t e = by_test (matches r b)
     (λ z. or_left (nat_eq t r.next) (list_any (λ w. nat_eq t w.next) ts)
-    (eq-eqb t r.next (sym (some_injective r.next t (subst (λ y. option_map (λ w. w.next) (cond y (Some r) (find (λ w. matches w b) ts)) ≡ Some t) z e)))))
+    (eq-eqb t r.next (sym (some_injective r.next t
+    (subst (λ y. option_map (λ w. w.next) (cond y (Some r) (find (λ w. matches w b) ts)) ≡ Some t) z e)))))
     (λ z. or_right (nat_eq t r.next) (list_any (λ w. nat_eq t w.next) ts)
-    (sparse_leads ts b t (subst (λ y. option_map (λ w. w.next) (cond y (Some r) (find (λ w. matches w b) ts)) ≡ Some t) z e)))
+    (sparse_leads ts b t (subst (λ y. option_map (λ w. w.next) (cond y (Some r) (find (λ w. matches w b) ts))
+    ≡ Some t) z e)))
 
 at_any : (ids : List ℕ) (b t : ℕ) → get_or ids b 0 ≡ t → nat_eq t 0 ≡ false → list_any (nat_eq t) ids ≡ true
 at_any [] b t e z = absurd (false≢true (sym z ∙ eq-eqb t 0 (sym e)))
@@ -109,7 +112,8 @@ dense_leads : (ids : List ℕ) (b t : ℕ) → dense_target ids b ≡ Some t
     → (not (nat_eq t 0) && list_any (nat_eq t) ids) ≡ true
 dense_leads ids b t e = by_test (nat_eq (get_or ids b 0) 0)
     (λ z. absurd (let k : None ≡ Some t = subst (λ y. cond y None (Some (get_or ids b 0)) ≡ Some t) z e in cc))
-    (λ z. let k : get_or ids b 0 ≡ t = some_injective (get_or ids b 0) t (subst (λ y. cond y None (Some (get_or ids b 0)) ≡ Some t) z e) in
+    (λ z. let k : get_or ids b 0 ≡ t = some_injective (get_or ids b 0) t
+    (subst (λ y. cond y None (Some (get_or ids b 0)) ≡ Some t) z e) in
     let w : nat_eq t 0 ≡ false = subst (λ y. nat_eq y 0 ≡ false) k z in
     rw w (at_any ids b t k w))
 

@@ -32,8 +32,10 @@ any_In t (x ∷ xs) k = by_test (nat_eq t x)
 any_In_next : (t : ℕ) (rs : List Transition) → list_any (λ r. nat_eq t r.next) rs ≡ true → In t (map (λ r. r.next) rs)
 any_In_next t [] k = absurd (false≢true k)
 any_In_next t (x ∷ xs) k = by_test (nat_eq t x.next)
-    (λ e. subst (λ w. In w (x.next ∷ map (λ (r : Transition). r.next) xs)) (sym (eqb-true t x.next e)) (In_head x.next (map (λ (r : Transition). r.next) xs)))
-    (λ e. In_tail t x.next (map (λ (r : Transition). r.next) xs) (any_In_next t xs (subst (λ b. (b || list_any (λ (r : Transition). nat_eq t r.next) xs) ≡ true) e k)))
+    (λ e. subst (λ w. In w (x.next ∷ map (λ (r : Transition). r.next) xs)) (sym (eqb-true t x.next e))
+    (In_head x.next (map (λ (r : Transition). r.next) xs)))
+    (λ e. In_tail t x.next (map (λ (r : Transition). r.next) xs)
+    (any_In_next t xs (subst (λ b. (b || list_any (λ (r : Transition). nat_eq t r.next) xs) ≡ true) e k)))
 
 any_In_table : (t : ℕ) (ids : List ℕ) → nat_eq t 0 ≡ false → list_any (nat_eq t) ids ≡ true
     → In t (filter (λ id. not (nat_eq id 0)) ids)
@@ -42,8 +44,10 @@ any_In_table t (x ∷ xs) n k = by_test (nat_eq t x)
     (λ e. let z : t ≡ x = eqb-true t x e in
     let y : nat_eq x 0 ≡ false = subst (λ w. nat_eq w 0 ≡ false) z n in
     rw y
-    (subst (λ w. In w (x ∷ filter (λ id. not (nat_eq id 0)) xs)) (sym z) (In_head x (filter (λ id. not (nat_eq id 0)) xs))))
-    (λ e. let r : In t (filter (λ id. not (nat_eq id 0)) xs) = any_In_table t xs n (subst (λ b. (b || list_any (nat_eq t) xs) ≡ true) e k) in
+    (subst (λ w. In w (x ∷ filter (λ id. not (nat_eq id 0)) xs)) (sym z)
+    (In_head x (filter (λ id. not (nat_eq id 0)) xs))))
+    (λ e. let r : In t (filter (λ id. not (nat_eq id 0)) xs) = any_In_table t xs n
+    (subst (λ b. (b || list_any (nat_eq t) xs) ≡ true) e k) in
     by_test (nat_eq x 0)
     (λ y. rw y r)
     (λ y. rw y (In_tail t x (filter (λ id. not (nat_eq id 0)) xs) r)))
@@ -121,7 +125,8 @@ longer_all count (y ∷ ys) ids d b f =
     let all = longer_all count ys (visited ids y) one.0.distinct one.0.below (λ x k. f x (In_tail x y ys k)) in (
       longer_then count ids (visited ids y) (all_visited (visited ids y) ys) one.0 all.0,
       λ x k. In_cases x y ys k
-          (λ e. stays count (visited ids y) (all_visited (visited ids y) ys) x all.0 (subst (λ w. In w (visited ids y)) (sym e) one.1))
+          (λ e. stays count (visited ids y) (all_visited (visited ids y) ys) x all.0
+          (subst (λ w. In w (visited ids y)) (sym e) one.1))
           (λ k'. all.1 x k'),
     )
 
@@ -133,10 +138,12 @@ next_leads : (t : ℕ) (rs : List Transition) → In t (map (λ r. r.next) rs) �
 next_leads t rs k = In_map_from (λ (r : Transition). r.next) t rs k
     (λ r i e. any_by (λ (x : Transition). nat_eq t x.next) r rs i (eq-eqb t r.next e))
 
-table_leads : (t : ℕ) (ids : List ℕ) → In t (filter (λ id. not (nat_eq id 0)) ids) → In t ids × (not (nat_eq t 0) ≡ true)
+table_leads : (t : ℕ) (ids : List ℕ) → In t (filter (λ id. not (nat_eq id 0)) ids) → In t ids
+    × (not (nat_eq t 0) ≡ true)
 table_leads t [] k = absurd (let z : Some t ≡ None = sym k.1 in cc)
 table_leads t (x ∷ xs) k = by_test (nat_eq x 0)
-    (λ e. let r : In t xs × (not (nat_eq t 0) ≡ true) = table_leads t xs (subst (λ b. In t (rest b)) e k) in (In_tail t x xs r.0, r.1))
+    (λ e. let r : In t xs × (not (nat_eq t 0) ≡ true) = table_leads t xs (subst (λ b. In t (rest b)) e k) in
+    (In_tail t x xs r.0, r.1))
     (λ e. In_cases t x (filter (λ id. not (nat_eq id 0)) xs) (subst (λ b. In t (rest b)) e k)
     (λ z. (subst (λ w. In w (x ∷ xs)) (sym z) (In_head x xs), ap not (ap (λ w. nat_eq w 0) z ∙ e)))
     (λ i. let r : In t xs × (not (nat_eq t 0) ≡ true) = table_leads t xs i in (In_tail t x xs r.0, r.1)))
@@ -175,7 +182,8 @@ pub record IsFound (nfa : Nfa) (ids : List ℕ) (done : ℕ) : Type 0 where
 
 pub found_start : (nfa : Nfa) → nfa.start_anchored < length nfa.states → IsFound nfa (visited [] nfa.start_anchored) 0
 found_start nfa l =
-    let one = longer_one (length nfa.states) [] nfa.start_anchored (distinct_none [] refl) (All-nil (λ x. x < length nfa.states)) l in
+    let one = longer_one (length nfa.states) [] nfa.start_anchored (distinct_none [] refl)
+    (All-nil (λ x. x < length nfa.states)) l in
     record {
       distinct = one.0.distinct;
       below = one.0.below;
@@ -189,20 +197,24 @@ found_count nfa ids done f = length-le_from_distinct_below ids (length nfa.state
 
 -- the next state is followed
 pub found_more : (nfa : Nfa) → IsAccepted nfa → (ids : List ℕ) (k s : ℕ) (node : Node) → IsFound nfa ids k
-    → slice_get ids k ≡ Some s → slice_get nfa.states s ≡ Some node → IsFound nfa (all_visited ids (targets_in node)) (k + 1)
+    → slice_get ids k ≡ Some s → slice_get nfa.states s ≡ Some node
+    → IsFound nfa (all_visited ids (targets_in node)) (k + 1)
 found_more nfa accepted ids k s node f e n =
     let is : state_at nfa s ≡ node = state_is nfa s node n in
     let all = longer_all (length nfa.states) (targets_in node) ids f.distinct f.below
-    (λ x i. resolves_leads (length nfa.states) node x (each_passes nfa accepted s node n).resolves (targets_lead x node i)) in
+    (λ x i. resolves_leads (length nfa.states) node x (each_passes nfa accepted s node n).resolves
+    (targets_lead x node i)) in
     record {
       distinct = all.0.distinct;
       below = all.0.below;
       start = stays (length nfa.states) ids (all_visited ids (targets_in node)) nfa.start_anchored all.0 f.start;
       followed = λ i x t l z m. by_cases (cases_lt i k)
-          (λ j. stays (length nfa.states) ids (all_visited ids (targets_in node)) t all.0 (f.followed i x t j (earlier all.0 i x z (omega (arith, within))) m))
+          (λ j. stays (length nfa.states) ids (all_visited ids (targets_in node)) t all.0
+          (f.followed i x t j (earlier all.0 i x z (omega (arith, within))) m))
           (λ j. let y : i ≡ k = omega arith in
           let w : x ≡ s = same all.0 x (subst (λ c. slice_get (all_visited ids (targets_in node)) c ≡ Some x) y z) in
-          all.1 t (targets_have t node (subst (λ c. leads_to t c ≡ true) is (subst (λ c. leads_to t (state_at nfa c) ≡ true) w m))));
+          all.1 t (targets_have t node (subst (λ c. leads_to t c ≡ true) is
+          (subst (λ c. leads_to t (state_at nfa c) ≡ true) w m))));
     }
   where
     within : k < length ids
@@ -213,7 +225,8 @@ found_more nfa accepted ids k s node f e n =
     earlier longer i x z l =
         let a : slice_get ids i ≡ Some (get_or ids i 0) = slice_get-get_or ids i 0 l in
         let b : slice_get (all_visited ids (targets_in node)) i ≡ Some (get_or ids i 0)
-        = subst (λ w. slice_get w i ≡ Some (get_or ids i 0)) (sym longer.is) (slice_get-left ids longer.more i (get_or ids i 0) a) in
+        = subst (λ w. slice_get w i ≡ Some (get_or ids i 0)) (sym longer.is)
+        (slice_get-left ids longer.more i (get_or ids i 0) a) in
         a ∙ sym b ∙ z
 
     same : IsLonger (length nfa.states) ids (all_visited ids (targets_in node)) → (x : ℕ)

@@ -21,8 +21,11 @@ module _ {N : Type 0} {eq : N → N → Bool} (dec : (a b : N) → Decides (eq a
 
   pub path_remember : (cs : List ℕ) (hs : List N) (r q : N) → Q r → IsPath edges hs r cs q
       → IsPath edges (hs ++ further) r cs q
-  path_remember [] hs r q k p =
-      (λ w. In_append_cases r hs further (Contains_In dec (hs ++ further) r w) (λ l. p.0 (In_Contains dec hs r l)) (λ l. apart r k l), p.1)
+  path_remember [] hs r q k p = (
+    λ w. In_append_cases r hs further (Contains_In dec (hs ++ further) r w) (λ l. p.0 (In_Contains dec hs r l))
+        (λ l. apart r k l),
+    p.1,
+  )
   path_remember (c ∷ cs) hs r q k p = (
     λ w. In_append_cases r hs further (Contains_In dec (hs ++ further) r w) (λ l. p.0 (In_Contains dec hs r l))
         (λ l. apart r k l),

@@ -11,7 +11,8 @@ use Rattle.determinize_find.proofs.ReversedRuns.{IsMadeOf, made_reverse}
 use Rattle.determinize_find.proofs.TurnedNodes.{all_recorded}
 
 pub made_of_all : (nfa backward : Nfa) (met : List ℕ) (h : Turned) → IsAccepted nfa → IsClosed nfa met
-    → All (λ s. s < length nfa.states) met → turned_over nfa met ≡ h → IsMadeOf nfa backward h → IsReverseOf backward nfa
+    → All (λ s. s < length nfa.states) met → turned_over nfa met ≡ h → IsMadeOf nfa backward h
+    → IsReverseOf backward nfa
 made_of_all nfa backward met h accepted closed below is made =
     made_reverse nfa backward met h made
     (subst (λ t. IsRecorded nfa met t) is

@@ -48,7 +48,8 @@ fewer nfa now asked rest start before m e r l starts n =
     go : (b : Option ℕ) → IsLater (from asked start) b m → ((last : ℕ) → b ≡ Some last → last ≡ start)
         → left asked.end m.end (Some m.end) < left asked.end start b
     go None y f =
-        let a : start ≤ m.start = y.low in let b : m.start ≤ m.end = y.order in let c : m.end ≤ asked.end = y.high in omega arith
+        let a : start ≤ m.start = y.low in let b : m.start ≤ m.end = y.order in let c : m.end ≤ asked.end = y.high in
+        omega arith
     go (Some last) y f =
         let a : last < m.end = y.later last refl in
         let b : last ≡ start = f last refl in

@@ -41,7 +41,8 @@ module _ (nfa : Nfa) (text : Text) where
       let r : (m.end ≡ n.end) × (m.pattern ≡ n.pattern)
       = one_from m.start m.end n.end m.pattern n.pattern a.choices b.choices a.accepts a.preferred
       (subst (λ k. AcceptsFrom nfa text k nfa.start_anchored b.choices n.end n.pattern) e b.accepts)
-      (subst (λ k. (es : List ℕ) (l other : ℕ) → AcceptsFrom nfa text k nfa.start_anchored es l other → (b.choices ≡ es) ⊎ Before b.choices es) e b.preferred) in
+      (subst (λ k. (es : List ℕ) (l other : ℕ) → AcceptsFrom nfa text k nfa.start_anchored es l other
+      → (b.choices ≡ es) ⊎ Before b.choices es) e b.preferred) in
       same_match m n r.1 (sym e) r.0
 
 pub each_leftmost_is_one : EachLeftmostIsOne

@@ -14,7 +14,8 @@ module _ {N M : Type 0} {eq : N → N → Bool} {eq' : M → M → Bool} (dec : 
     (same : (p : N) → fs (f p) ≡ map f (es p)) where
   not_there : (held : List N) (r : N) → ¬ (Contains held r) → ¬ (Contains (map f held) (f r))
   not_there held r n w =
-      n (In_Contains dec held r (In_map_from f (f r) held (Contains_In dec' (map f held) (f r) w) (λ y m e. subst (λ z. In z held) (sym (one r y e)) m)))
+      n (In_Contains dec held r (In_map_from f (f r) held (Contains_In dec' (map f held) (f r) w)
+      (λ y m e. subst (λ z. In z held) (sym (one r y e)) m)))
 
   not_here : (held : List N) (r : N) → ¬ (Contains (map f held) (f r)) → ¬ (Contains held r)
   not_here held r n w = n (In_Contains dec' (map f held) (f r) (In_map f r held (Contains_In dec held r w)))
@@ -23,7 +24,12 @@ module _ {N M : Type 0} {eq : N → N → Bool} {eq' : M → M → Bool} (dec : 
   path_map [] held r q p = (not_there held r p.0, ap f p.1)
   path_map (c ∷ cs) held r q p = (
     not_there held r p.0,
-    (f p.1.0, ap (λ l. slice_get l c) (same r) ∙ slice_get-map f (es r) c ∙ ap (λ o. option_map f o) p.1.1, path_map cs (r ∷ held) p.1.0 q p.1.2),
+    (
+      f p.1.0,
+      ap (λ l. slice_get l c) (same r) ∙ slice_get-map f (es r) c
+          ∙ ap (λ o. option_map f o) p.1.1,
+      path_map cs (r ∷ held) p.1.0 q p.1.2,
+    ),
   )
 
   pub path_unmap : (cs : List ℕ) (held : List N) (r : N) (z : M) → IsPath fs (map f held) (f r) cs z

@@ -39,7 +39,8 @@ range-since : (xs : List ℕ) (start k end : ℕ) → start + k ≤ end
     → slice_range xs (start + k) end ≡ drop k (slice_range xs start end)
 range-since xs start k end l =
     let n : end - start ≡ k + (end - (start + k)) = omega arith in
-    sym (ap (λ w. drop k (take w (drop start xs))) n ∙ drop-take k (end - (start + k)) (drop start xs) ∙ ap (λ w. take (end - (start + k)) w) (drop-drop k start xs))
+    sym (ap (λ w. drop k (take w (drop start xs))) n ∙ drop-take k (end - (start + k)) (drop start xs)
+    ∙ ap (λ w. take (end - (start + k)) w) (drop-drop k start xs))
 
 behind-since : (xs : List ℕ) (start k end : ℕ) (ahead : Option ℕ) → start + k ≤ end
     → byte_before xs (start + k) ≡ before_at (between (byte_before xs start) (slice_range xs start end) ahead) k
@@ -56,9 +57,11 @@ text-since : (asked from : Asked) (k : ℕ) → from.haystack ≡ asked.haystack
 text-since asked from k h s e l =
     ap (λ w. between (byte_before w from.start) (slice_range w from.start from.end) (slice_get w from.end)) h
     ∙ ap
-    (λ w. between (byte_before asked.haystack from.start) (slice_range asked.haystack from.start w) (slice_get asked.haystack w)) e
+    (λ w. between (byte_before asked.haystack from.start) (slice_range asked.haystack from.start w)
+    (slice_get asked.haystack w)) e
     ∙ ap
-    (λ w. between (byte_before asked.haystack w) (slice_range asked.haystack w asked.end) (slice_get asked.haystack asked.end)) s
+    (λ w. between (byte_before asked.haystack w) (slice_range asked.haystack w asked.end)
+    (slice_get asked.haystack asked.end)) s
     ∙ ap
     (λ w. between w (slice_range asked.haystack (asked.start + k) asked.end) (slice_get asked.haystack asked.end))
     (behind-since asked.haystack asked.start k asked.end (slice_get asked.haystack asked.end) l)
@@ -74,7 +77,8 @@ rest_of nfa text k cs i y acc =
     let z : k ≡ k + 0 = omega arith in
     let w : i ≡ k + (i - k) = omega arith in
     (each_run_moves nfa text k 0 nfa.start_anchored cs (i - k) y).0
-    (subst (λ a. AcceptsFrom nfa text a nfa.start_anchored cs (k + (i - k)) y) z (subst (λ b. AcceptsFrom nfa text k nfa.start_anchored cs b y) w acc))
+    (subst (λ a. AcceptsFrom nfa text a nfa.start_anchored cs (k + (i - k)) y) z
+    (subst (λ b. AcceptsFrom nfa text k nfa.start_anchored cs b y) w acc))
 
 in_text : (nfa : Nfa) (text : Text) (k : ℕ) (cs : List ℕ) (i pattern : ℕ)
     → Accepts nfa (since text k) nfa.start_anchored cs i pattern
@@ -87,7 +91,8 @@ in_text nfa text k cs i y acc =
 -- what a search of the rest of a text finds, as a match of the text
 abbrev IsBestSince : Nfa → Text → ℕ → Option HalfMatch → Type 0
 IsBestSince nfa text k found = (m : Option Match) × IsBestAt nfa text k m × ((start at : ℕ) → start + k ≡ at
-    → option_map (moved start) m ≡ option_map (λ h. record { pattern = h.pattern; start = at; end = at + h.offset }) found)
+    → option_map (moved start) m ≡ option_map
+    (λ h. record { pattern = h.pattern; start = at; end = at + h.offset }) found)
 
 best_since : (nfa : Nfa) (text : Text) (k : ℕ) (found : Option HalfMatch)
     → IsPreferredMatch nfa nfa.start_anchored (since text k) found → IsBestSince nfa text k found
@@ -138,7 +143,8 @@ best_in nfa asked from at found answer e forward l m p n a =
     (b.0, b.1, a ∙ ap (λ w. option_map (from_index at) w) f ∙ joined own q.found ∙ sym (b.2 asked.start at z))
   where
     joined : (own : Asked) (o : Option HalfMatch)
-        → option_map (from_index own.start) (option_map (in_haystack false own) o) ≡ option_map (λ h. record { pattern = h.pattern; start = own.start; end = own.start + h.offset }) o
+        → option_map (from_index own.start) (option_map (in_haystack false own) o)
+        ≡ option_map (λ h. record { pattern = h.pattern; start = own.start; end = own.start + h.offset }) o
     joined own None = refl
     joined own (Some h) = refl
 
@@ -155,7 +161,8 @@ pub nothing_more : (nfa : Nfa) (asked : Asked) (at : ℕ) → asked.start ≤ at
     → IsBestIn nfa asked at None → NothingBefore nfa asked (at + 1)
 nothing_more nfa asked at l h b k m = by_cases (cases_lt (asked.start + k) at)
     (λ j. h k j)
-    (λ j. let z : at - asked.start ≡ k = omega arith in subst (λ w. NothingFrom nfa (text_of false asked) w) z (nothing b.0 b.1 b.2))
+    (λ j. let z : at - asked.start ≡ k = omega arith in subst (λ w. NothingFrom nfa (text_of false asked) w) z
+    (nothing b.0 b.1 b.2))
   where
     nothing : (o : Option Match) → IsBestAt nfa (text_of false asked) (at - asked.start) o
         → None ≡ option_map (moved asked.start) o → NothingFrom nfa (text_of false asked) (at - asked.start)
@@ -177,7 +184,8 @@ best_leftmost nfa text k limit (Some m) l h b n =
         choices = b.1.0;
         accepts = subst (λ w. AcceptsFrom nfa text w nfa.start_anchored b.1.0 m.end m.pattern) z b.1.1.accepts;
         preferred = subst
-            (λ w. (ds : List ℕ) (j other : ℕ) → AcceptsFrom nfa text w nfa.start_anchored ds j other → (b.1.0 ≡ ds) ⊎ Before b.1.0 ds) z b.1.1.preferred;
+            (λ w. (ds : List ℕ) (j other : ℕ) → AcceptsFrom nfa text w nfa.start_anchored ds j other → (b.1.0 ≡ ds)
+            ⊎ Before b.1.0 ds) z b.1.1.preferred;
       },
     )
 

@@ -48,12 +48,18 @@ module _ (nfa : Nfa) (text : Text) (has : HasPrefix nfa) (small : All (λ b. b <
                 (λ e. let b : Before cs cs = subst (λ w. Before w cs) (sym e) first in Before-asym cs cs b b)
                 (λ b. Before-asym cs (skip k es) b first);
             choices = s.choices_then;
-            accepts = (r.accepts.0, subst (λ w. IsPath (choices nfa text) [] (w, nfa.start_anchored) s.choices_then (h.offset, r.accepts.0)) z s.run, r.accepts.2);
+            accepts = (
+              r.accepts.0,
+              subst (λ w. IsPath (choices nfa text) [] (w, nfa.start_anchored) s.choices_then
+                  (h.offset, r.accepts.0)) z s.run,
+              r.accepts.2,
+            );
             preferred = λ es i other acc.
                 let run : Accepts nfa text nfa.start_unanchored (skip s.over es) i other
                 = from_start s.over es i other l acc in
                 skip_same s.over s.choices_then es
-                (subst (λ w. (w ≡ skip s.over es) ⊎ Before w (skip s.over es)) s.is (r.preferred (skip s.over es) i other run));
+                (subst (λ w. (w ≡ skip s.over es) ⊎ Before w (skip s.over es)) s.is
+                (r.preferred (skip s.over es) i other run));
           },
         ),
         refl,

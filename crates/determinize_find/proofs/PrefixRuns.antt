@@ -60,7 +60,8 @@ module _ (nfa : Nfa) (text : Text) (has : HasPrefix nfa) (small : All (λ b. b <
       → (k < length text.bytes) × (c ≡ 0) × (t ≡ (suc k, u))
   from_x k c t e = by_option (slice_get text.bytes k)
       (λ z. absurd (let w : None ≡ Some t = subst (λ l. slice_get l c ≡ Some t) (choices_x_end k z) e in cc))
-      (λ b z. let o : (c ≡ 0) × (t ≡ (suc k, u)) = one c (subst (λ l. slice_get l c ≡ Some t) (choices_x k b z) e) in (slice_get_within text.bytes k b z, o.0, o.1))
+      (λ b z. let o : (c ≡ 0) × (t ≡ (suc k, u)) = one c (subst (λ l. slice_get l c ≡ Some t) (choices_x k b z) e) in
+      (slice_get_within text.bytes k b z, o.0, o.1))
     where
       one : (i : ℕ) → slice_get ((suc k, u) ∷ []) i ≡ Some t → (i ≡ 0) × (t ≡ (suc k, u))
       one zero z = (refl, sym (some_injective (suc k, u) t z))
@@ -213,7 +214,12 @@ module _ (nfa : Nfa) (text : Text) (has : HasPrefix nfa) (small : All (λ b. b <
   unshape zero k cs q l p =
       let z : k + 0 ≡ k = omega arith in (
         not_met k u,
-        ((k, a), ap (λ w. slice_get w 0) (choices_u k), remember k cs q (subst (λ w. IsPath (choices nfa text) [] (w, a) cs q) z p)),
+        (
+          (k, a),
+          ap (λ w. slice_get w 0) (choices_u k),
+          remember k cs q
+              (subst (λ w. IsPath (choices nfa text) [] (w, a) cs q) z p),
+        ),
       )
   unshape (suc d) k cs q l p =
       let z : k + suc d ≡ suc k + d = omega arith in

@@ -110,7 +110,8 @@ module _ (into : List (List ℕ)) (t y : ℕ) (l : t < length into) where
   pub came_in : {P : Type 0} (u z : ℕ) → In z (get_or longer u []) → (In z (get_or into u []) → P)
       → (u ≡ t → z ≡ y → P) → P
   came_in u z k f g = by_cases (cases_eq u t)
-      (λ e. In_append_cases z (get_or into t []) (y ∷ []) (subst (λ w. In z w) same_there (subst (λ w. In z (get_or longer w [])) e k))
+      (λ e. In_append_cases z (get_or into t []) (y ∷ [])
+      (subst (λ w. In z w) same_there (subst (λ w. In z (get_or longer w [])) e k))
       (λ d. f (subst (λ w. In z (get_or into w [])) (sym e) d))
       (λ d. g e (one d)))
       (λ n. f (subst (λ w. In z w) (get_or-set_other into t u (get_or into t [] ++ y ∷ []) [] n) k))
@@ -182,12 +183,20 @@ module _ (nfa : Nfa) (h : Turned) (sound : IsSound nfa h) where
     count = length-set h.into t (sources h t ++ last_id ∷ []) ∙ sound.count;
     into = λ u z k. came_in h.into t last_id (within t l) u z k
         (λ f. source_stays nfa h.rest (node ∷ []) u z (sound.into u z f))
-        (λ e f. inr (inr (length h.rest, node, f ∙ last_is, slice_get-last h.rest node, subst (λ w. IsArc nfa w node) (sym e) arc)));
+        (λ e f. inr (inr (
+          length h.rest,
+          node,
+          f
+              ∙ last_is,
+          slice_get-last h.rest node,
+          subst (λ w. IsArc nfa w node) (sym e) arc,
+        )));
     ends = sound.ends;
   }
 
   pub there_state : (t : ℕ) (node : Node) → t < length nfa.states
-      → (i : ℕ) × In (id_of nfa i) (sources (with_state h t node) t) × (slice_get (with_state h t node).rest i ≡ Some node)
+      → (i : ℕ) × In (id_of nfa i) (sources (with_state h t node) t)
+      × (slice_get (with_state h t node).rest i ≡ Some node)
   there_state t node l = (
     length h.rest,
     subst (λ w. In w (sources (with_state h t node) t)) last_is (is_there h.into t last_id (within t l)),

@@ -90,7 +90,8 @@ module _ (nfa backward : Nfa) (met : List ℕ) (h : Turned) (made : IsMadeOf nfa
   forth_free : (i r s t : ℕ) → r + i ≡ j → In s met → In t (true_edges nfa text i s)
       → Leads (choices backward back) (r, t) (r, s)
   forth_free i r s t e m k = by_cases ((recorded.arcs s m).free (here i) t k)
-      (λ d. leads_by (choices backward back) (r, t) (r, s) (r, s) (to_source r t s d) (leads_here (choices backward back) (r, s)))
+      (λ d. leads_by (choices backward back) (r, t) (r, s) (r, s) (to_source r t s d)
+      (leads_here (choices backward back) (r, s)))
       (λ d. tested d.0 d.1.0 d.1.1 d.1.2 d.2)
     where
       tested : (look : Assertion) (x : ℕ) → In (n + 2 + x) (sources h t)
@@ -101,7 +102,8 @@ module _ (nfa backward : Nfa) (met : List ℕ) (h : Turned) (made : IsMadeOf nfa
           (subst (λ y. In s (edges_of (there r) y)) (sym (laid.others x (Look (reversed look) s) w))
           (look_edge (there r) (reversed look) s (same_truth r i look e ∙ z))) in
           leads_by (choices backward back) (r, t) (r, n + 2 + x) (r, s) (to_source r t (n + 2 + x) d)
-          (leads_by (choices backward back) (r, n + 2 + x) (r, s) (r, s) step (leads_here (choices backward back) (r, s)))
+          (leads_by (choices backward back) (r, n + 2 + x) (r, s) (r, s) step
+          (leads_here (choices backward back) (r, s)))
 
   -- a step of the NFA over a byte
   forth_byte : (i r s t : ℕ) → r + suc i ≡ j → In s met → target_of (slice_get text.bytes i) (state_at nfa s) ≡ Some t
@@ -120,7 +122,8 @@ module _ (nfa backward : Nfa) (met : List ℕ) (h : Turned) (made : IsMadeOf nfa
           (subst (λ v. target_of (Some b) v ≡ Some s) (sym (laid.others x (range_to s t') w))
           (range_target record { start = t'.start; end = t'.end; next = s } b y))) in
           leads_by (choices backward back) (r, t) (r, n + 2 + x) (suc r, s) (to_source r t (n + 2 + x) d)
-          (leads_by (choices backward back) (r, n + 2 + x) (suc r, s) (suc r, s) step (leads_here (choices backward back) (suc r, s)))
+          (leads_by (choices backward back) (r, n + 2 + x) (suc r, s) (suc r, s) step
+          (leads_here (choices backward back) (suc r, s)))
 
   met_step : (p q : ℕ × ℕ) (c : ℕ) → slice_get (choices nfa text p) c ≡ Some q → In p.1 met → In q.1 met
   met_step p q c e m = recorded.closed.further p.1 q.1 m (choice_leads nfa text p q c e)
@@ -198,9 +201,16 @@ module _ (nfa backward : Nfa) (met : List ℕ) (h : Turned) (made : IsMadeOf nfa
   from_start : (r i x : ℕ) (q : ℕ × ℕ) (c : ℕ) → r + i ≡ j → i ≡ j → x ≡ suc n
       → slice_get (choices backward back (r, x)) c ≡ Some q → HasReadAt q
   from_start r i x q c e z y k = choice_cases backward back (r, x) q c k
-      (λ a t. absurd (let w : None ≡ Some q.1 = subst (λ v. target_of (slice_get back.bytes r) v ≡ Some q.1) at t in cc))
-      (λ a t. let d = recorded.sound.ends q.1 (subst (λ v. In q.1 (edges_of (there r) v)) at t) in
-      (j, omega arith, inr (inl (pattern_within nfa q.1 d.0 d.1, (q.1, d.0, leads_here (choices nfa text) (j, q.1), d.1)))))
+      (λ a t. absurd (let w : None ≡ Some q.1 = subst
+      (λ v. target_of (slice_get back.bytes r) v ≡ Some q.1) at t in cc))
+      (λ a t. let d = recorded.sound.ends q.1 (subst (λ v. In q.1 (edges_of (there r) v)) at t) in (
+        j,
+        omega arith,
+        inr (inl (
+          pattern_within nfa q.1 d.0 d.1,
+          (q.1, d.0, leads_here (choices nfa text) (j, q.1), d.1),
+        )),
+      ))
     where
       at : state_at backward x ≡ Union h.ends
       at = ap (λ v. state_at backward v) y ∙ laid.starts
@@ -215,7 +225,8 @@ module _ (nfa backward : Nfa) (met : List ℕ) (h : Turned) (made : IsMadeOf nfa
         i,
         omega arith,
         arrived (recorded.sound.into x q.1
-            (subst (λ v. In q.1 v) (edges-gathered (there r) (sources h x)) (subst (λ v. In q.1 (edges_of (there r) v)) (laid.gathers x l) t))),
+            (subst (λ v. In q.1 v) (edges-gathered (there r) (sources h x))
+            (subst (λ v. In q.1 (edges_of (there r) v)) (laid.gathers x l) t))),
       ))
     where
       arrived : IsSource nfa h.rest x q.1 → HasRead i q.1
@@ -230,7 +241,8 @@ module _ (nfa backward : Nfa) (met : List ℕ) (h : Turned) (made : IsMadeOf nfa
       → IsArc nfa t node → Accepting i t
       → slice_get (choices backward back (r, x)) c ≡ Some q → HasReadAt q
   from_arc r i x t (ByteRange v) q c e z arc acc k = choice_cases backward back (r, x) q c k
-      (λ a w. range_target_is v (slice_get back.bytes r) q.1 (subst (λ y. target_of (slice_get back.bytes r) y ≡ Some q.1) z w)
+      (λ a w. range_target_is v (slice_get back.bytes r) q.1
+      (subst (λ y. target_of (slice_get back.bytes r) y ≡ Some q.1) z w)
       (λ b s y n'. over i e acc b s y n' a))
       (λ a w. none_in q.1 (subst (λ y. In q.1 (edges_of (there r) y)) z w))
     where
@@ -258,8 +270,15 @@ module _ (nfa backward : Nfa) (met : List ℕ) (h : Turned) (made : IsMadeOf nfa
       = sym (same_truth r i (reversed look) e) ∙ ap (there r) (reversed_twice look) ∙ true_there in
       let s : state_at nfa q.1 ≡ Look (reversed look) t = ap (λ d. state_at nfa d) to ∙ arc in
       let f : In t (edges_of (here i) (state_at nfa q.1))
-      = subst (λ d. In t (edges_of (here i) d)) (sym s) (look_edge (here i) (reversed look) t y) in
-      (i, omega arith, inr (inl (edge_within nfa q.1 (here i) t f, before_it i i q.1 t (free_choice nfa text i q.1 t f) acc)))))
+      = subst (λ d. In t (edges_of (here i) d)) (sym s) (look_edge (here i) (reversed look) t y) in (
+        i,
+        omega arith,
+        inr (inl (
+          edge_within nfa q.1 (here i) t f,
+          before_it i i q.1 t
+              (free_choice nfa text i q.1 t f) acc,
+        )),
+      )))
   from_arc r i x t (Sparse ts) q c e z arc acc k = absurd arc
   from_arc r i x t (Dense ids) q c e z arc acc k = absurd arc
   from_arc r i x t (Union ids) q c e z arc acc k = absurd arc
@@ -271,7 +290,8 @@ module _ (nfa backward : Nfa) (met : List ℕ) (h : Turned) (made : IsMadeOf nfa
   -- the match state has no transition
   from_match : (r x : ℕ) (q : ℕ × ℕ) (c : ℕ) → x ≡ n → slice_get (choices backward back (r, x)) c ≡ Some q → HasReadAt q
   from_match r x q c z k = choice_cases backward back (r, x) q c k
-      (λ a t. absurd (let w : None ≡ Some q.1 = subst (λ v. target_of (slice_get back.bytes r) v ≡ Some q.1) at t in cc))
+      (λ a t. absurd (let w : None ≡ Some q.1 = subst
+      (λ v. target_of (slice_get back.bytes r) v ≡ Some q.1) at t in cc))
       (λ a t. none_in q.1 (subst (λ v. In q.1 (edges_of (there r) v)) at t))
     where
       at : state_at backward x ≡ Match 0
@@ -311,9 +331,11 @@ module _ (nfa backward : Nfa) (met : List ℕ) (h : Turned) (made : IsMadeOf nfa
       let d : HasReadAt (j - k, acc.0)
       = read_all cs (0, backward.start_anchored) (j - k, acc.0) w (j, z, inl (refl, made.start)) in
       by_cases d.2
-      (λ f. absurd (let y : None ≡ Some other = sym (ap pattern_in (ap (λ v. state_at backward v) f.1 ∙ laid.starts)) ∙ acc.2 in cc))
+      (λ f. absurd (let y : None ≡ Some other = sym (ap pattern_in (ap (λ v. state_at backward v) f.1 ∙ laid.starts))
+      ∙ acc.2 in cc))
       (λ f. by_cases f
-      (λ g. absurd (let y : None ≡ Some other = sym (pattern-gathered (sources h acc.0)) ∙ sym (ap pattern_in (laid.gathers acc.0 g.0)) ∙ acc.2 in cc))
+      (λ g. absurd (let y : None ≡ Some other = sym (pattern-gathered (sources h acc.0))
+      ∙ sym (ap pattern_in (laid.gathers acc.0 g.0)) ∙ acc.2 in cc))
       (λ g. by_cases g
       (λ v. let z : d.0 ≡ k = (let y : j - k + d.0 ≡ j = d.1 in omega arith) in
       let a : Accepting k nfa.start_anchored = subst (λ y. Accepting y nfa.start_anchored) z v.1 in

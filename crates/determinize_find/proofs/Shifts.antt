@@ -79,8 +79,12 @@ module _ (nfa : Nfa) (text : Text) (k : ℕ) where
 
   unmoved : (j start : ℕ) (cs : List ℕ) (i pattern : ℕ) → AcceptsFrom nfa (since text k) j start cs i pattern
       → AcceptsFrom nfa text (k + j) start cs (k + i) pattern
-  unmoved j start cs i y p =
-      (p.0, path_map pairs pairs (shifted k) (shifted_one k) (choices nfa (since text k)) (choices nfa text) choices-since cs [] (j, start) (i, p.0) p.1, p.2)
+  unmoved j start cs i y p = (
+    p.0,
+    path_map pairs pairs (shifted k) (shifted_one k) (choices nfa (since text k))
+        (choices nfa text) choices-since cs [] (j, start) (i, p.0) p.1,
+    p.2,
+  )
 
 pub each_run_moves : EachRunMoves
 each_run_moves nfa text k j start cs i y = (moved nfa text k j start cs i y, unmoved nfa text k j start cs i y)

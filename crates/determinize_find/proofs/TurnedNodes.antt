@@ -72,8 +72,11 @@ sparse_from : {P : Type 0} (ts : List Transition) (b t : ℕ) → sparse_target 
     → ((r : Transition) → In r ts → matches r b ≡ true → t ≡ r.next → P) → P
 sparse_from [] b t e f = absurd (let k : None ≡ Some t = e in cc)
 sparse_from (r ∷ rs) b t e f = by_test (matches r b)
-    (λ z. f r (In_head r rs) z (sym (some_injective r.next t (subst (λ w. option_map (λ (x : Transition). x.next) (cond w (Some r) (find (λ x. matches x b) rs)) ≡ Some t) z e))))
-    (λ z. sparse_from rs b t (subst (λ w. option_map (λ (x : Transition). x.next) (cond w (Some r) (find (λ x. matches x b) rs)) ≡ Some t) z e)
+    (λ z. f r (In_head r rs) z (sym
+    (some_injective r.next t (subst
+    (λ w. option_map (λ (x : Transition). x.next) (cond w (Some r) (find (λ x. matches x b) rs)) ≡ Some t) z e))))
+    (λ z. sparse_from rs b t (subst
+    (λ w. option_map (λ (x : Transition). x.next) (cond w (Some r) (find (λ x. matches x b) rs)) ≡ Some t) z e)
     (λ x k m y. f x (In_tail x r rs k) m y))
 
 -- a table has its target at a byte
@@ -132,7 +135,8 @@ module _ (nfa : Nfa) where
 
   -- transitions without input
   frees : (s : ℕ) → s < length nfa.states → (ids : List ℕ) (h : Turned) → IsSound nfa h
-      → ((t : ℕ) → In t ids → (t < length nfa.states) × ((holds : Assertion → Bool) → In t (edges_of holds (state_at nfa s))))
+      → ((t : ℕ) → In t ids → (t < length nfa.states)
+      × ((holds : Assertion → Bool) → In t (edges_of holds (state_at nfa s))))
       → IsMore nfa h (with_frees h s ids) × ((t : ℕ) → In t ids → In s (sources (with_frees h s ids) t))
   frees s l [] h sound f = (more_self h sound, λ t k. none_in t k)
   frees s l (id ∷ ids) h sound f =
@@ -141,7 +145,8 @@ module _ (nfa : Nfa) where
       let all = frees s l ids (added h id s) one.sound (λ t k. f t (In_tail t id ids k)) in (
         more_then h (added h id s) (with_frees (added h id s) s ids) one all.0,
         λ t k. In_cases t id ids k
-            (λ e. all.0.grown.into t s (subst (λ w. In s (sources (added h id s) w)) (sym e) (there_added nfa h sound id s d.0)))
+            (λ e. all.0.grown.into t s (subst (λ w. In s (sources (added h id s) w)) (sym e)
+            (there_added nfa h sound id s d.0)))
             (λ k'. all.1 t k'),
       )
 
@@ -159,16 +164,19 @@ module _ (nfa : Nfa) where
             (with_ranges (with_state h x.next (range_to s x)) s rs) one all.0,
         λ r k. In_cases r x rs k
             (λ e. subst (λ w. HasRange nfa (with_ranges (with_state h x.next (range_to s x)) s rs) s w.next w) (sym e)
-            (range_stays (with_state h x.next (range_to s x)) (with_ranges (with_state h x.next (range_to s x)) s rs) s x.next x all.0.grown
+            (range_stays (with_state h x.next (range_to s x))
+            (with_ranges (with_state h x.next (range_to s x)) s rs) s x.next x all.0.grown
             (there_state nfa h sound x.next (range_to s x) d.0)))
             (λ k'. all.1 r k'),
       )
 
   -- transitions of a table
   tables : (s : ℕ) (ids : List ℕ) (b : ℕ) (h : Turned) → IsSound nfa h
-      → ((c t : ℕ) → slice_get ids c ≡ Some t → nat_eq t 0 ≡ false → (t < length nfa.states) × IsArc nfa t (ByteRange (one_range (b + c) s)))
+      → ((c t : ℕ) → slice_get ids c ≡ Some t → nat_eq t 0 ≡ false → (t < length nfa.states)
+      × IsArc nfa t (ByteRange (one_range (b + c) s)))
       → IsMore nfa h (with_table h s b ids)
-      × ((c t : ℕ) → slice_get ids c ≡ Some t → nat_eq t 0 ≡ false → HasRange nfa (with_table h s b ids) s t (one_range (b + c) s))
+      × ((c t : ℕ) → slice_get ids c ≡ Some t → nat_eq t 0 ≡ false
+      → HasRange nfa (with_table h s b ids) s t (one_range (b + c) s))
   tables s [] b h sound f = (more_self h sound, λ c t e n. absurd (let k : None ≡ Some t = e in cc))
   tables s (id ∷ ids) b h sound f = by_test (nat_eq id 0)
       (λ z. let all = tables s ids (suc b) h sound (shifted id ids f) in
@@ -197,7 +205,8 @@ module _ (nfa : Nfa) where
           → HasRange nfa (after x) s t (one_range (b + c) s))
 
       shifted : (id : ℕ) (ids : List ℕ)
-          → ((c t : ℕ) → slice_get (id ∷ ids) c ≡ Some t → nat_eq t 0 ≡ false → (t < length nfa.states) × IsArc nfa t (ByteRange (one_range (b + c) s)))
+          → ((c t : ℕ) → slice_get (id ∷ ids) c ≡ Some t → nat_eq t 0 ≡ false → (t < length nfa.states)
+          × IsArc nfa t (ByteRange (one_range (b + c) s)))
           → (c t : ℕ) → slice_get ids c ≡ Some t → nat_eq t 0 ≡ false
           → (t < length nfa.states) × IsArc nfa t (ByteRange (one_range (suc b + c) s))
       shifted id ids f c t e n =
@@ -314,8 +323,10 @@ module _ (nfa : Nfa) where
         record {
           ends = λ pattern z. absurd (let k : None ≡ Some pattern = z in cc);
           free = λ holds t k. inl (two_of t a b k
-              (λ z. subst (λ w. In s (sources (added (added h a s) b s) w)) (sym z) (two.grown.into a s (there_added nfa h sound a s m)))
-              (λ z. subst (λ w. In s (sources (added (added h a s) b s) w)) (sym z) (there_added nfa (added h a s) one.sound b s n)));
+              (λ z. subst (λ w. In s (sources (added (added h a s) b s) w)) (sym z)
+              (two.grown.into a s (there_added nfa h sound a s m)))
+              (λ z. subst (λ w. In s (sources (added (added h a s) b s) w)) (sym z)
+              (there_added nfa (added h a s) one.sound b s n)));
           bytes = λ c t k. absurd (let z : None ≡ Some t = k in cc);
         },
       )
@@ -366,8 +377,10 @@ all_any : (count : ℕ) (ids : List ℕ) (t : ℕ) → list_all (λ i. nat_lt i 
     → list_any (nat_eq t) ids ≡ true → t < count
 all_any count [] t a k = absurd (false≢true k)
 all_any count (x ∷ xs) t a k = by_test (nat_eq t x)
-    (λ z. let e : t ≡ x = eqb-true t x z in let l : x < count = below x count (and_parts (nat_lt x count) (list_all (λ i. nat_lt i count) xs) a).0 in omega arith)
-    (λ z. all_any count xs t (and_parts (nat_lt x count) (list_all (λ i. nat_lt i count) xs) a).1 (subst (λ b. (b || list_any (nat_eq t) xs) ≡ true) z k))
+    (λ z. let e : t ≡ x = eqb-true t x z in let l : x < count = below x count
+    (and_parts (nat_lt x count) (list_all (λ i. nat_lt i count) xs) a).0 in omega arith)
+    (λ z. all_any count xs t (and_parts (nat_lt x count) (list_all (λ i. nat_lt i count) xs) a).1
+    (subst (λ b. (b || list_any (nat_eq t) xs) ≡ true) z k))
 
 all_any_next : (count : ℕ) (rs : List Transition) (t : ℕ) → list_all (λ r. nat_lt r.next count) rs ≡ true
     → list_any (λ r. nat_eq t r.next) rs ≡ true → t < count
@@ -419,8 +432,10 @@ module _ (nfa : Nfa) (accepted : IsAccepted nfa) where
         more_then nfa h (with_node h x (state_at nfa x))
             (with_nodes nfa (with_node h x (state_at nfa x)) ss) one.0 all.0,
         λ s k. In_cases s x ss k
-            (λ e. subst (λ w. HasArcs nfa (with_nodes nfa (with_node h x (state_at nfa x)) ss) w (state_at nfa w)) (sym e)
-            (arcs_stay nfa (with_node h x (state_at nfa x)) (with_nodes nfa (with_node h x (state_at nfa x)) ss) x (state_at nfa x) all.0.grown one.1))
+            (λ e. subst (λ w. HasArcs nfa (with_nodes nfa (with_node h x (state_at nfa x)) ss) w (state_at nfa w))
+            (sym e)
+            (arcs_stay nfa (with_node h x (state_at nfa x)) (with_nodes nfa (with_node h x (state_at nfa x)) ss) x
+            (state_at nfa x) all.0.grown one.1))
             (λ k'. all.1 s k'),
       )
 
@@ -434,7 +449,8 @@ module _ (nfa : Nfa) (accepted : IsAccepted nfa) where
       empty : (t : ℕ) → sources (none_turned (length nfa.states)) t ≡ []
       empty t = by_cases (cases_lt t (length nfa.states))
           (λ l. get_or-replicate (length nfa.states) t [] [] l)
-          (λ l. let c : length (replicate {A = List ℕ} (length nfa.states) []) ≡ length nfa.states = length-replicate (length nfa.states) [] in
+          (λ l. let c : length (replicate {A = List ℕ} (length nfa.states) [])
+          ≡ length nfa.states = length-replicate (length nfa.states) [] in
           get_or_past (replicate (length nfa.states) []) t [] (omega arith))
 
   pub all_recorded : (met : List ℕ) → IsClosed nfa met → ((s : ℕ) → In s met → s < length nfa.states)

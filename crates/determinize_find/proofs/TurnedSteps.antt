@@ -35,10 +35,12 @@ count-ranges s (r ∷ rs) h =
 count-table : (s : ℕ) (ids : List ℕ) (b : ℕ) (h : Turned) → length (with_table h s b ids).into ≡ length h.into
 count-table s [] b h = refl
 count-table s (id ∷ ids) b h =
-    count-table s ids (suc b) (cond (nat_eq id 0) h (with_state h id (ByteRange record { start = b; end = b; next = s })))
+    count-table s ids (suc b) (cond (nat_eq id 0) h
+    (with_state h id (ByteRange record { start = b; end = b; next = s })))
     ∙ by_test (nat_eq id 0)
     (λ e. ap (λ x. length (after x).into) e)
-    (λ e. ap (λ x. length (after x).into) e ∙ length-set h.into id (sources h id ++ (length h.into + 2 + length h.rest) ∷ []))
+    (λ e. ap (λ x. length (after x).into) e
+    ∙ length-set h.into id (sources h id ++ (length h.into + 2 + length h.rest) ∷ []))
   where
     after : Bool → Turned
     after x = cond x h (with_state h id (ByteRange record { start = b; end = b; next = s }))
@@ -77,7 +79,8 @@ over_more nfa whole h new met k s node o l e n w =
           ∙ ap (λ t. with_nodes nfa t (drop (k + 1) met)) (sym w);
     }
 
-pub over_all : (nfa : Nfa) (whole h : Turned) (met : List ℕ) (k : ℕ) → IsOver nfa whole h met k → length met ≤ k → whole ≡ h
+pub over_all : (nfa : Nfa) (whole h : Turned) (met : List ℕ) (k : ℕ) → IsOver nfa whole h met k → length met ≤ k
+    → whole ≡ h
 over_all nfa whole h met k o l = o.rest ∙ ap (λ x. with_nodes nfa h x) (none_left met k l)
   where
     none_left : (xs : List ℕ) (k : ℕ) → length xs ≤ k → ◌≡◌ {A = List ℕ} (drop k xs) []

@@ -46,7 +46,8 @@ starts_differ nfa has = by_test (nat_eq nfa.start_unanchored nfa.start_anchored)
         = or_left (nat_eq nfa.start_unanchored nfa.start_anchored) (nat_eq nfa.start_unanchored has.skip) e in
         let s : nfa.start_unanchored ≡ has.skip
         = has.alone nfa.start_unanchored (subst (λ w. leads_to nfa.start_unanchored w ≡ true) (sym has.first) l) in
-        let z : BinaryUnion nfa.start_anchored has.skip ≡ ByteRange record { start = 0; end = 255; next = nfa.start_unanchored }
+        let z : BinaryUnion nfa.start_anchored has.skip
+        ≡ ByteRange record { start = 0; end = 255; next = nfa.start_unanchored }
         = sym has.first ∙ ap (λ w. state_at nfa w) s ∙ has.any in cc
 
 -- the preferred match from the start for a mode is the end of the leftmost match
@@ -74,7 +75,8 @@ leftmost_end nfa asked found forward has s within small some none done = by_test
     (λ d. not_done d (found_in_text nfa asked found some (none d)))
   where
     both : (o : Option Match)
-        → option_map (in_haystack false asked) (option_map end_of o) ≡ option_map end_of (option_map (moved asked.start) o)
+        → option_map (in_haystack false asked) (option_map end_of o)
+        ≡ option_map end_of (option_map (moved asked.start) o)
     both None = refl
     both (Some m) = refl
 
@@ -109,10 +111,12 @@ text-back : (asked : Asked) (j : ℕ) → asked.start + j ≤ asked.end → aske
     → text_of true record { haystack = asked.haystack; start = asked.start; end = asked.start + j; anchored = Yes }
     ≡ turned (upto (text_of false asked) j)
 text-back asked j l within =
-    ap (λ o. between o (reverse (slice_range asked.haystack asked.start (asked.start + j))) (byte_before asked.haystack asked.start)) ahead
+    ap (λ o. between o (reverse (slice_range asked.haystack asked.start (asked.start + j)))
+    (byte_before asked.haystack asked.start)) ahead
     ∙ ap (λ xs. between (after_at (text_of false asked) j) (reverse xs) (byte_before asked.haystack asked.start)) bytes
   where
-    bytes : slice_range asked.haystack asked.start (asked.start + j) ≡ take j (slice_range asked.haystack asked.start asked.end)
+    bytes : slice_range asked.haystack asked.start (asked.start + j)
+        ≡ take j (slice_range asked.haystack asked.start asked.end)
     bytes =
         let z : asked.start + j - asked.start ≡ j = omega arith in
         ap (λ n. take n (drop asked.start asked.haystack)) z
@@ -121,7 +125,8 @@ text-back asked j l within =
     ahead : slice_get asked.haystack (asked.start + j) ≡ after_at (text_of false asked) j
     ahead = by_cases (cases_lt j (asked.end - asked.start))
         (λ k. sym (ap (λ o. option_or o (slice_get asked.haystack asked.end))
-        (slice_get-take (asked.end - asked.start) (drop asked.start asked.haystack) j k ∙ slice_get-drop asked.start asked.haystack j)
+        (slice_get-take (asked.end - asked.start) (drop asked.start asked.haystack) j k
+        ∙ slice_get-drop asked.start asked.haystack j)
         ∙ or_some asked.haystack (asked.start + j) (slice_get asked.haystack asked.end) (omega arith)))
         (λ k. let z : asked.end ≡ asked.start + j = omega arith in
         let n : length (slice_range asked.haystack asked.start asked.end) ≡ asked.end - asked.start
@@ -130,7 +135,8 @@ text-back asked j l within =
         (slice_get_past (slice_range asked.haystack asked.start asked.end) j (omega arith))
         ∙ ap (λ w. slice_get asked.haystack w) z))
 
-module _ (nfa backward : Nfa) (is : IsReverseOf backward nfa) (text : Text) (m : Match) (within : m.end ≤ length text.bytes)
+module _ (nfa backward : Nfa) (is : IsReverseOf backward nfa) (text : Text) (m : Match)
+    (within : m.end ≤ length text.bytes)
     (left : IsLeftmostMatch nfa text m) where
   order : m.start ≤ m.end
   order = each_run_reads_forward nfa text m.start nfa.start_anchored left.choices m.end m.pattern left.accepts
@@ -142,18 +148,24 @@ module _ (nfa backward : Nfa) (is : IsReverseOf backward nfa) (text : Text) (m :
 
   -- and none accepts farther, if the match is the leftmost
   farthest_back : (h : HalfMatch)
-      → IsFarthestMatch backward backward.start_anchored (turned (upto text m.end)) (Some h) → h.offset + m.start ≡ m.end
+      → IsFarthestMatch backward backward.start_anchored (turned (upto text m.end)) (Some h) → h.offset + m.start
+      ≡ m.end
   farthest_back h f =
       let p : (cs : List ℕ) × Accepts backward (turned (upto text m.end)) backward.start_anchored cs h.offset h.pattern
       = (f.0.1.accepted h.pattern).0 (0, omega arith, refl) in
       let n : length (reverse (take m.end text.bytes)) ≡ m.end
       = length-reverse (take m.end text.bytes) ∙ length-take-le m.end text.bytes within in
       let l : h.offset ≤ length (reverse (take m.end text.bytes))
-      = path_within backward (turned (upto text m.end)) p.0 [] (0, backward.start_anchored) (h.offset, p.1.0) p.1.1 (omega arith) in
+      = path_within backward (turned (upto text m.end)) p.0 [] (0, backward.start_anchored) (h.offset, p.1.0) p.1.1
+      (omega arith) in
       let z : h.offset ≡ m.end - (m.end - h.offset) = omega arith in
       let r : (cs : List ℕ) × (other : ℕ) × AcceptsFrom nfa text (m.end - h.offset) nfa.start_anchored cs m.end other
-      = (is.begins text m.end (m.end - h.offset) within (omega arith)).0
-      (p.0, h.pattern, subst (λ w. Accepts backward (turned (upto text m.end)) backward.start_anchored p.0 w h.pattern) z p.1) in
+      = (is.begins text m.end (m.end - h.offset) within (omega arith)).0 (
+        p.0,
+        h.pattern,
+        subst (λ w. Accepts backward
+            (turned (upto text m.end)) backward.start_anchored p.0 w h.pattern) z p.1,
+      ) in
       let o : m.start ≤ m.end = order in
       let g : m.end - m.start ≤ h.offset
       = f.1 accepts_back.0 (m.end - m.start) accepts_back.1 accepts_back.2 in
@@ -220,13 +232,19 @@ begin_found nfa backward haystack start end asked back m found is forward e b so
         let own : Asked
         = record { haystack = asked.haystack; start = asked.start; end = asked.start + n.end; anchored = Yes } in
         let ends : end ≡ asked.start + n.end = sym e.ends ∙ t in
-        let k : back ≡ record { haystack = asked.haystack; start = asked.start; end = asked.start + n.end; anchored = Yes }
+        let k : back ≡ record {
+          haystack = asked.haystack;
+          start = asked.start;
+          end = asked.start + n.end;
+          anchored = Yes;
+        }
         = b ∙ (λ i. record { haystack = sym e.same i; start = sym e.starts i; end = ends i; anchored = Yes }) in
         let g : text_of backward.reverse own ≡ turned (upto (text_of false asked) n.end)
         = ap (λ w. text_of w own) reads_back ∙ text-back asked n.end (omega arith) inside in
         ended own n found x.1 f g s t refl
         (subst (λ w. IfSome found (λ q. IsFarthestIn backward w q)) k some)
-        (subst (λ w. is_done w ≡ false → IfNone found (HasMatch backward w → ⊥)) k none (not_past asked.start (asked.start + n.end) (omega arith)))
+        (subst (λ w. is_done w ≡ false → IfNone found (HasMatch backward w → ⊥)) k none
+        (not_past asked.start (asked.start + n.end) (omega arith)))
       where
         ended : (own : Asked) (n : Match) (o : Option HalfMatch) → IsLeftmostMatch nfa (text_of false asked) n
             → n.end ≤ length (text_of false asked).bytes
@@ -236,7 +254,8 @@ begin_found nfa backward haystack start end asked back m found is forward e b so
             → IfSome o (λ q. IsFarthestIn backward own q) → IfNone o (HasMatch backward own → ⊥) → IsAt o m.start
         ended own n None l w g s t r p q =
             let a = accepts_back nfa backward is (text_of false asked) n w l in
-            let u : start_for backward own.anchored ≡ backward.start_anchored = ap (λ v. start_for backward v.anchored) r in
+            let u : start_for backward own.anchored
+            ≡ backward.start_anchored = ap (λ v. start_for backward v.anchored) r in
             absurd (q (
               a.0,
               n.end - n.start,
@@ -245,13 +264,17 @@ begin_found nfa backward haystack start end asked back m found is forward e b so
                   (subst (λ v. Accepts backward v backward.start_anchored a.0 (n.end - n.start) a.1) (sym g) a.2),
             ))
         ended own n (Some q) l w g s t r p none_of =
-            let u : start_for backward own.anchored ≡ backward.start_anchored = ap (λ v. start_for backward v.anchored) r in
+            let u : start_for backward own.anchored
+            ≡ backward.start_anchored = ap (λ v. start_for backward v.anchored) r in
             let far : IsFarthestMatch backward backward.start_anchored (turned (upto (text_of false asked) n.end))
             (Some record { pattern = q.pattern; offset = p.0 })
-            = subst (λ v. IsFarthestMatch backward backward.start_anchored v (Some record { pattern = q.pattern; offset = p.0 })) g
-            (subst (λ v. IsFarthestMatch backward v (text_of backward.reverse own) (Some record { pattern = q.pattern; offset = p.0 })) u p.2) in
+            = subst (λ v. IsFarthestMatch backward backward.start_anchored v
+            (Some record { pattern = q.pattern; offset = p.0 })) g
+            (subst (λ v. IsFarthestMatch backward v (text_of backward.reverse own)
+            (Some record { pattern = q.pattern; offset = p.0 })) u p.2) in
             let x : p.0 + n.start ≡ n.end
-            = farthest_back nfa backward is (text_of false asked) n w l record { pattern = q.pattern; offset = p.0 } far in
+            = farthest_back nfa backward is
+            (text_of false asked) n w l record { pattern = q.pattern; offset = p.0 } far in
             let y : q.offset ≡ own.end - p.0 = p.1 ∙ ap (λ v. index_after v own p.0) reads_back in
             let v : own.end ≡ asked.start + n.end = ap (λ v. v.end) r in
             record { half = q; is = refl; offset = omega arith }
@@ -289,8 +312,10 @@ found_or_none nfa asked found forward has s within small d done = by_test (is_do
           done = λ k. refl;
           found = λ k. (
             None,
-            subst (λ w. IsLeftmost nfa (text_of false asked) w None) (ap (λ w. cond (is_anchored nfa asked.anchored) 0 w) l)
-                (subst (λ w. IsLeftmost nfa (text_of false asked) (cond (is_anchored nfa asked.anchored) 0 (length (text_of false asked).bytes)) w) o r.1),
+            subst (λ w. IsLeftmost nfa (text_of false asked) w None)
+                (ap (λ w. cond (is_anchored nfa asked.anchored) 0 w) l)
+                (subst (λ w. IsLeftmost nfa (text_of false asked)
+                (cond (is_anchored nfa asked.anchored) 0 (length (text_of false asked).bytes)) w) o r.1),
             refl,
           );
         }
@@ -404,7 +429,8 @@ ends_of nfa asked h within e =
 -- what the start of a match is known to be
 abbrev pub IsStart : Nfa → Asked → ℕ → ℕ → Type 0
 IsStart nfa asked end start =
-    ((is_anchored nfa asked.anchored ≡ true) × (start ≡ asked.start)) ⊎ IsBeginOf nfa asked.haystack asked.start end start
+    ((is_anchored nfa asked.anchored ≡ true) × (start ≡ asked.start))
+    ⊎ IsBeginOf nfa asked.haystack asked.start end start
 
 pub whole_match : (nfa : Nfa) (asked : Asked) (h : HalfMatch) (start : ℕ) → asked.end ≤ length asked.haystack
     → IsEnding nfa asked (Some h) → IsStart nfa asked h.offset start

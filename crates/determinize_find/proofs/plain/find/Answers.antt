@@ -26,12 +26,15 @@ returns-in-Some-clause-leftmost g c =
           l ∙ sym (ap (λ (x : Bool). cond x c.args.input.now.start c.args.input.now.end) b)
     ] in
     let last : IsLatest c.args.lazy.now.nfa c.args.input.now c.if-is_fixed.latest
-    = latest_is c.args.lazy.now.nfa c.args.input.now c.is_anchored-is_fixed.result c.if-is_fixed.latest fixed order value in
+    = latest_is c.args.lazy.now.nfa c.args.input.now c.is_anchored-is_fixed.result c.if-is_fixed.latest fixed order
+    value in
     let low : c.args.input.now.start ≤ c.loop-at.at = omega (arith, c.start-start.ensures.value) in
     let high : c.loop-at.at < c.if-is_fixed.latest = omega arith in
     let is : c.in_ok-found.field-0 ≡ Some c.in-Some.found = search rules in
-    found_here c.args.lazy.now.nfa c.loop-at.lazy.nfa c.args.input.now c.loop-at.at c.if-is_fixed.latest c.in-Some.found c.loop-at.invariant.nfa last low high c.loop-at.invariant.nothing
-    (subst (λ (o : Option Match). IsBestIn c.loop-at.lazy.nfa c.args.input.now c.loop-at.at o) is c.in_ok-found.ensures.best)
+    found_here c.args.lazy.now.nfa c.loop-at.lazy.nfa c.args.input.now c.loop-at.at c.if-is_fixed.latest
+    c.in-Some.found c.loop-at.invariant.nfa last low high c.loop-at.invariant.nothing
+    (subst (λ (o : Option Match). IsBestIn c.loop-at.lazy.nfa c.args.input.now c.loop-at.at o) is
+    c.in_ok-found.ensures.best)
 
 pub loop-at-preserved : goal.loop-at-preserved
 loop-at-preserved g c =
@@ -42,8 +45,10 @@ loop-at-preserved g c =
       kind = search rules;
       limit = search rules;
       nothing =
-          more_nothing c.args.lazy.now.nfa c.loop-at.lazy.nfa c.args.input.now c.loop-at.at c.loop-at.invariant.nfa low c.loop-at.invariant.nothing
-          (subst (λ (o : Option Match). IsBestIn c.loop-at.lazy.nfa c.args.input.now c.loop-at.at o) is c.in_ok-found.ensures.best);
+          more_nothing c.args.lazy.now.nfa c.loop-at.lazy.nfa c.args.input.now c.loop-at.at c.loop-at.invariant.nfa
+          low c.loop-at.invariant.nothing
+          (subst (λ (o : Option Match). IsBestIn c.loop-at.lazy.nfa c.args.input.now c.loop-at.at o) is
+          c.in_ok-found.ensures.best);
     }
 
 pub returns-clause-leftmost : goal.returns-clause-leftmost
@@ -63,10 +68,12 @@ returns-clause-leftmost g c =
           l ∙ sym (ap (λ (x : Bool). cond x c.args.input.now.start c.args.input.now.end) b)
     ] in
     let last : IsLatest c.args.lazy.now.nfa c.args.input.now c.if-is_fixed.latest
-    = latest_is c.args.lazy.now.nfa c.args.input.now c.is_anchored-is_fixed.result c.if-is_fixed.latest fixed order value in
+    = latest_is c.args.lazy.now.nfa c.args.input.now c.is_anchored-is_fixed.result c.if-is_fixed.latest fixed order
+    value in
     let past : c.if-is_fixed.latest ≤ c.loop-at.at = omega arith in
     IfOk-weaker c.find_at-2.result
     (λ found. IsBestIn c.loop-at.lazy.nfa c.args.input.now c.if-is_fixed.latest found)
     (λ found. IsLeftmostIn c.args.lazy.now.nfa c.args.input.now found)
-    (λ found b. found_last c.args.lazy.now.nfa c.loop-at.lazy.nfa c.args.input.now c.loop-at.at c.if-is_fixed.latest found c.loop-at.invariant.nfa last past c.loop-at.invariant.nothing b)
+    (λ found b. found_last c.args.lazy.now.nfa c.loop-at.lazy.nfa c.args.input.now c.loop-at.at c.if-is_fixed.latest
+    found c.loop-at.invariant.nfa last past c.loop-at.invariant.nothing b)
     c.find_at-2.ensures.best

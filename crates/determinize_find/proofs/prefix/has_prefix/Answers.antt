@@ -10,7 +10,8 @@ use Rattle.determinize_find.proofs.prefix.has_prefix.Goals as goal
 pub state-requires-2 : goal.state-requires-2
 state-requires-2 g c =
     let n : node_of c.state.result.now ≡ BinaryUnion c.in-BinaryUnion.alt1 c.in-BinaryUnion.alt2 = search rules in
-    let e : state_at c.args.nfa.now c.args.nfa.now.start_unanchored ≡ BinaryUnion c.in-BinaryUnion.alt1 c.in-BinaryUnion.alt2
+    let e : state_at c.args.nfa.now c.args.nfa.now.start_unanchored
+    ≡ BinaryUnion c.in-BinaryUnion.alt1 c.in-BinaryUnion.alt2
     = start_is c.args.nfa.now c.start_unanchored-start.result c.in-BinaryUnion.alt1 c.in-BinaryUnion.alt2
     (node_of c.state.result.now) c.start_unanchored-start.ensures.value c.state.ensures.state n in
     skip_within c.args.nfa.now c.in-BinaryUnion.alt1 c.in-BinaryUnion.alt2 e c.state.ensures.accepted
@@ -18,23 +19,31 @@ state-requires-2 g c =
 pub returns-then-not-is_any_byte : goal.returns-then-not-is_any_byte
 returns-then-not-is_any_byte g c =
     let n : node_of c.state.result.now ≡ BinaryUnion c.in-BinaryUnion.alt1 c.in-BinaryUnion.alt2 = search rules in
-    let e : state_at c.args.nfa.now c.args.nfa.now.start_unanchored ≡ BinaryUnion c.in-BinaryUnion.alt1 c.in-BinaryUnion.alt2
+    let e : state_at c.args.nfa.now c.args.nfa.now.start_unanchored
+    ≡ BinaryUnion c.in-BinaryUnion.alt1 c.in-BinaryUnion.alt2
     = start_is c.args.nfa.now c.start_unanchored-start.result c.in-BinaryUnion.alt1 c.in-BinaryUnion.alt2
     (node_of c.state.result.now) c.start_unanchored-start.ensures.value c.state.ensures.state n in
     let b : c.is_any_byte.result ≡ false = search rules in (
       λ h. absurd (false≢true h),
       λ h. absurd (not_any c.args.nfa.now c.in-BinaryUnion.alt1 c.in-BinaryUnion.alt2 e
-          (any_read c.args.nfa.now c.start_unanchored-start.result c.in-BinaryUnion.alt2 (node_of c.state-2.result.now) c.is_any_byte.result c.start_unanchored-start.ensures.value c.state-2.ensures.state c.is_any_byte.ensures ∙ b) h),
+          (any_read c.args.nfa.now c.start_unanchored-start.result c.in-BinaryUnion.alt2
+          (node_of c.state-2.result.now) c.is_any_byte.result c.start_unanchored-start.ensures.value
+          c.state-2.ensures.state c.is_any_byte.ensures ∙ b) h),
     )
 
 pub returns : goal.returns
 returns g c =
     let n : node_of c.state.result.now ≡ BinaryUnion c.in-BinaryUnion.alt1 c.in-BinaryUnion.alt2 = search rules in
-    let e : state_at c.args.nfa.now c.args.nfa.now.start_unanchored ≡ BinaryUnion c.in-BinaryUnion.alt1 c.in-BinaryUnion.alt2
+    let e : state_at c.args.nfa.now c.args.nfa.now.start_unanchored
+    ≡ BinaryUnion c.in-BinaryUnion.alt1 c.in-BinaryUnion.alt2
     = start_is c.args.nfa.now c.start_unanchored-start.result c.in-BinaryUnion.alt1 c.in-BinaryUnion.alt2
     (node_of c.state.result.now) c.start_unanchored-start.ensures.value c.state.ensures.state n in
     let b : c.is_any_byte.result ≡ true = search rules in
     let f : c.in-BinaryUnion.alt1 ≡ c.args.nfa.now.start_anchored = search rules in
     Decides-alone c.args.nfa.now c.in-BinaryUnion.alt1 c.in-BinaryUnion.alt2 e c.leads_alone.result f
-    (any_read c.args.nfa.now c.start_unanchored-start.result c.in-BinaryUnion.alt2 (node_of c.state-2.result.now) c.is_any_byte.result c.start_unanchored-start.ensures.value c.state-2.ensures.state c.is_any_byte.ensures ∙ b)
-    (subst (λ (u : ℕ). Decides c.leads_alone.result ((t : ℕ) → leads_to u (state_at c.args.nfa.now t) ≡ true → t ≡ c.in-BinaryUnion.alt2)) c.start_unanchored-start.ensures.value c.leads_alone.ensures)
+    (any_read c.args.nfa.now c.start_unanchored-start.result c.in-BinaryUnion.alt2
+    (node_of c.state-2.result.now) c.is_any_byte.result c.start_unanchored-start.ensures.value
+    c.state-2.ensures.state c.is_any_byte.ensures ∙ b)
+    (subst (λ (u : ℕ). Decides c.leads_alone.result
+    ((t : ℕ) → leads_to u (state_at c.args.nfa.now t) ≡ true → t ≡ c.in-BinaryUnion.alt2))
+    c.start_unanchored-start.ensures.value c.leads_alone.ensures)

@@ -25,24 +25,28 @@ state-requires g c =
 pub visit_targets-requires : goal.visit_targets-requires
 visit_targets-requires g c =
     subst (λ (n : ℕ). resolves n (node_of c.state.result.now) ≡ true) (sym c.loop-id.invariant.capacity)
-    (each_passes c.args.nfa.now c.state.ensures.accepted c.in-Some.id (node_of c.state.result.now) c.state.ensures.state).resolves
+    (each_passes c.args.nfa.now c.state.ensures.accepted c.in-Some.id
+    (node_of c.state.result.now) c.state.ensures.state).resolves
 
 pub overflow_add-index : goal.overflow_add-index
 overflow_add-index g c =
     let is : slice_get c.loop-id.found.ids c.loop-id.index ≡ Some c.in-Some.id = search rules in
-    let low = (found_index c.args.nfa.now c.loop-id.found.ids c.loop-id.index c.in-Some.id c.loop-id.invariant.found is).0 in
+    let low = (found_index c.args.nfa.now c.loop-id.found.ids c.loop-id.index c.in-Some.id c.loop-id.invariant.found
+    is).0 in
     omega (arith, low, c.len.ensures.count, c.len.ensures.limit)
 
 pub loop-id-smaller : goal.loop-id-smaller
 loop-id-smaller g c =
     let is : slice_get c.loop-id.found.ids c.loop-id.index ≡ Some c.in-Some.id = search rules in
-    let low = (found_index c.args.nfa.now c.loop-id.found.ids c.loop-id.index c.in-Some.id c.loop-id.invariant.found is).0 in
+    let low = (found_index c.args.nfa.now c.loop-id.found.ids c.loop-id.index c.in-Some.id c.loop-id.invariant.found
+    is).0 in
     omega (arith, low)
 
 pub loop-id-preserved : goal.loop-id-preserved
 loop-id-preserved g c =
     let is : slice_get c.loop-id.found.ids c.loop-id.index ≡ Some c.in-Some.id = search rules in
-    let ids : c.visit_targets.new.self.ids ≡ all_visited c.loop-id.found.ids (targets_in (node_of c.state.result.now)) = search rules in
+    let ids : c.visit_targets.new.self.ids
+    ≡ all_visited c.loop-id.found.ids (targets_in (node_of c.state.result.now)) = search rules in
     record {
       capacity = search rules;
       found = subst (λ (xs : List ℕ). IsFound c.args.nfa.now xs (c.loop-id.index + 1)) (sym ids)

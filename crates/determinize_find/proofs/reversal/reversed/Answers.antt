@@ -14,15 +14,19 @@ use Rattle.determinize_find.proofs.reversal.reversed.Goals as goal
 pub add_node-requires-clause-resolves : goal.add_node-requires-clause-resolves
 add_node-requires-clause-resolves g c =
     subst (λ (n : ℕ). resolves n (node_of c.state.result.now) ≡ true) (sym c.loop-id.invariant.count)
-    (each_passes c.args.nfa.now c.state.ensures.accepted c.id-item.result (node_of c.state.result.now) c.state.ensures.state).resolves
+    (each_passes c.args.nfa.now c.state.ensures.accepted c.id-item.result
+    (node_of c.state.result.now) c.state.ensures.state).resolves
 
 pub loop-id-preserved : goal.loop-id-preserved
 loop-id-preserved g c =
     let low : c.loop-id.id-index < length c.deref-id-items.result.now = search rules in
     let item : get_or c.deref-id-items.result.now c.loop-id.id-index 0 ≡ c.id-item.result
-    = sym (get_or_default_zero c.deref-id-items.result.now c.loop-id.id-index c.id-item.result low) ∙ sym c.id-item.is in
-    let new : c.add_node.new.self ≡ with_node c.loop-id.turned c.id-item.result (node_of c.state.result.now) = search rules in
-    over_more c.args.nfa.now (turned_over c.args.nfa.now c.deref-id-items.result.now) c.loop-id.turned c.add_node.new.self
+    = sym (get_or_default_zero c.deref-id-items.result.now c.loop-id.id-index c.id-item.result low)
+    ∙ sym c.id-item.is in
+    let new : c.add_node.new.self ≡ with_node c.loop-id.turned c.id-item.result
+    (node_of c.state.result.now) = search rules in
+    over_more c.args.nfa.now (turned_over c.args.nfa.now c.deref-id-items.result.now) c.loop-id.turned
+    c.add_node.new.self
     c.deref-id-items.result.now c.loop-id.id-index c.id-item.result (node_of c.state.result.now) c.loop-id.invariant
     low item c.state.ensures.state new
 
@@ -47,7 +51,8 @@ returns g c =
             look_set_any = looks_of (map node_of c.in_ok-states.states.items);
           })
           (λ (b : Nfa). IsReverseOf b c.args.nfa.now)
-          (λ b p. made_of_all c.args.nfa.now b c.in_ok-reached.field-0.items c.loop-id.turned c.len-count.ensures.accepted
+          (λ b p. made_of_all c.args.nfa.now b c.in_ok-reached.field-0.items c.loop-id.turned
+          c.len-count.ensures.accepted
           c.in_ok-reached.ensures.closed c.in_ok-reached.ensures.below
           (ap (λ (xs : List ℕ). turned_over c.args.nfa.now xs) items ∙ all)
           record {

@@ -25,7 +25,8 @@ returns-clause-within g c =
     (subst (λ (o : Option HalfMatch). IsEnding c.args.self.now.nfa asked o) c.in-Some.is c.in_ok-found.ensures.end) in
     let start : IsStart c.args.self.now.nfa c.args.input.now c.in-Some.found.offset c.match-get_anchored.start
     = elim c.match-get_anchored.branch [
-      | in-No+in_ok-start-in-No w ↦ let b : IsBeginOf c.args.self.now.nfa c.args.input.now.haystack c.args.input.now.start c.in-Some.found.offset
+      | in-No+in_ok-start-in-No w ↦ let b : IsBeginOf c.args.self.now.nfa c.args.input.now.haystack
+          c.args.input.now.start c.in-Some.found.offset
           c.match-get_anchored.start = search rules in
           inr b
       | in-Yes w ↦ let z : c.match-get_anchored.start ≡ c.args.input.now.start = search rules in

@@ -9,7 +9,8 @@ use Rattle.determinize_find.proofs.regex.Regex.find_all.Goals as goal
 pub loop-all-init : goal.loop-all-init
 loop-all-init g c = record {
   same = search rules;
-  after = after_none c.args.self.now.nfa c.args.input.now c.new-searcher.result c.new-all.result.items (search rules) (search rules);
+  after = after_none c.args.self.now.nfa c.args.input.now c.new-searcher.result c.new-all.result.items (search rules)
+      (search rules);
 }
 
 pub loop-all-smaller : goal.loop-all-smaller
@@ -19,7 +20,8 @@ loop-all-smaller g c =
     (after_one c.args.self.now.nfa c.loop-all.self.nfa c.args.input.now c.loop-all.searcher c.advance.new.self
     c.loop-all.all.items c.in-Some.found (ap (λ (v : RegexValue). v.nfa) c.loop-all.invariant.same) inside
     c.loop-all.invariant.after
-    (subst (λ (o : Option Match). IsNext c.loop-all.self.nfa c.loop-all.searcher.asked c.loop-all.searcher.before o) c.in-Some.is
+    (subst (λ (o : Option Match). IsNext c.loop-all.self.nfa c.loop-all.searcher.asked c.loop-all.searcher.before o)
+    c.in-Some.is
     c.in_ok-found.ensures.next)
     (c.in_ok-found.ensures.after ∙ ap (λ (o : Option Match). after_match c.loop-all.searcher o) c.in-Some.is)).1
 
@@ -35,7 +37,8 @@ loop-all-preserved g c =
           (after_one c.args.self.now.nfa c.loop-all.self.nfa c.args.input.now c.loop-all.searcher c.advance.new.self
           c.loop-all.all.items c.in-Some.found (ap (λ (v : RegexValue). v.nfa) c.loop-all.invariant.same) inside
           c.loop-all.invariant.after
-          (subst (λ (o : Option Match). IsNext c.loop-all.self.nfa c.loop-all.searcher.asked c.loop-all.searcher.before o) c.in-Some.is
+          (subst (λ (o : Option Match). IsNext c.loop-all.self.nfa c.loop-all.searcher.asked
+          c.loop-all.searcher.before o) c.in-Some.is
           c.in_ok-found.ensures.next)
           (c.in_ok-found.ensures.after ∙ ap (λ (o : Option Match). after_match c.loop-all.searcher o) c.in-Some.is)).0;
     }

@@ -12,12 +12,14 @@ use Rattle.determinize_find.proofs.regex.Regex.find_start.Goals as goal
 pub range-requires-clause-in_haystack : goal.range-requires-clause-in_haystack
 range-requires-clause-in_haystack g c =
     let z : c.new.result.haystack ≡ c.args.haystack.now = search rules in
-    rw z (ended_within c.args.self.now.nfa c.args.haystack.now c.args.start c.args.end c.requires.0 c.requires.1 c.requires.2).1
+    rw z (ended_within c.args.self.now.nfa c.args.haystack.now c.args.start c.args.end c.requires.0 c.requires.1
+    c.requires.2).1
 
 pub range-requires-clause-near : goal.range-requires-clause-near
 range-requires-clause-near g c =
     let l : c.args.start ≤ c.args.end
-    = (ended_within c.args.self.now.nfa c.args.haystack.now c.args.start c.args.end c.requires.0 c.requires.1 c.requires.2).0 in
+    = (ended_within c.args.self.now.nfa c.args.haystack.now c.args.start c.args.end c.requires.0 c.requires.1
+    c.requires.2).0 in
     search rules
 
 pub unreachable-requires : goal.unreachable-requires
@@ -26,7 +28,8 @@ unreachable-requires g c =
     = record { haystack = c.args.haystack.now; start = c.args.start; end = c.args.end; anchored = Yes } in
     let own : c.anchored-before.result ≡ back = search rules in
     let at : IsAt c.in_ok-begin.field-0 c.requires.1.start
-    = begin_found c.self.inside.forward.nfa c.self.inside.backward.nfa c.args.haystack.now c.args.start c.args.end c.requires.0
+    = begin_found c.self.inside.forward.nfa c.self.inside.backward.nfa c.args.haystack.now c.args.start c.args.end
+    c.requires.0
     c.anchored-before.result c.requires.1 c.in_ok-begin.field-0 c.self.invariant.reverse c.self.invariant.reads_forward
     (subst (λ (n : Nfa). IsEnded n c.args.haystack.now c.args.start c.args.end c.requires.0 c.requires.1)
     (sym (ap (λ (v : RegexValue). v.nfa) c.self.view_is)) c.requires.2)
