@@ -38,7 +38,7 @@ pub use Rattle.determinize_lazy.specs.Private.Cursors.{cursor_value, IsAt, IsCur
 pub use Rattle.determinize_lazy.specs.Private.Invariant.{IsLazy}
 pub use Rattle.determinize_lazy.specs.Private.Rows.{AreInterned, AreRows, IsEntry, IsIndex, IsTarget, IsTargetIndex}
 pub use Rattle.determinize_lazy.specs.Private.Rows.{StoredTable, table_of, with_state}
-pub use Rattle.determinize_lazy.specs.Private.Searched.{IsOver, IsOverIn, IsReached, IsSearched}
+pub use Rattle.determinize_lazy.specs.Private.Searched.{IsCutOffSearch, IsOver, IsOverIn, IsReached, IsSearched}
 pub use Rattle.determinize_lazy.specs.Private.Starts.{AreStarts, start_index}
 pub use Rattle.determinize_lazy.specs.Private.Steps.{after_unit, IsFailedStep, IsSameOrEmpty, IsSound}
 pub use Rattle.determinize_lazy.specs.Private.Tags.{is_last_tag, match_at, match_of, Tag, tag_in, tag_of}

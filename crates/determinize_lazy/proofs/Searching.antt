@@ -1,15 +1,16 @@
 -- A search, one unit more at a time, and what it leaves.
-use Rattle.determinize_lazy.proofs.Common.{[], ◌&&◌, ◌++◌, ◌+◌, ◌-◌, ◌<◌, ◌||◌, ◌∙◌, ◌∷◌, ◌≡◌, ◌≤◌, after_unit}
-use Rattle.determinize_lazy.proofs.Common.{after_walk, ap, append-nil, append_assoc, arith, Bool, Cache, cond, drop}
-use Rattle.determinize_lazy.proofs.Common.{drop_all, ended_at, false, future, HalfMatch, HasRoom, is_last, is_last_tag}
-use Rattle.determinize_lazy.proofs.Common.{is_nonempty, is_some, IsOver, IsSearched, KeepsAll, last_match}
-use Rattle.determinize_lazy.proofs.Common.{last_match-push, length, length-take-le, List, match_at, MatchKind, Nfa}
-use Rattle.determinize_lazy.proofs.Common.{None, not, Option, option_or, refl, slice_get, slice_get_within, Some}
-use Rattle.determinize_lazy.proofs.Common.{step_of, subst, sym, Tag, tag_in, tag_of, take, take-append-drop, take_all}
-use Rattle.determinize_lazy.proofs.Common.{true, true≢false, units_read, Value, value_after, ℕ}
+use Rattle.determinize_lazy.proofs.Common.{[], ◌&&◌, ◌++◌, ◌+◌, ◌-◌, ◌||◌, ◌∙◌, ◌∷◌, ◌≡◌, ◌≤◌, after_unit, after_walk}
+use Rattle.determinize_lazy.proofs.Common.{ap, append-nil, append_assoc, arith, Bool, Cache, cond, drop, drop_all}
+use Rattle.determinize_lazy.proofs.Common.{ended_at, false, future, HalfMatch, HasRoom, is_last, is_last_tag}
+use Rattle.determinize_lazy.proofs.Common.{is_nonempty, is_some, IsCutOffSearch, IsFailedStep, IsOver, IsReached}
+use Rattle.determinize_lazy.proofs.Common.{IsSearched, KeepsAll, last_match, last_match-push, length, List, match_at}
+use Rattle.determinize_lazy.proofs.Common.{MatchKind, Nfa, None, not, Option, option_or, refl, slice_get, Some, step_of}
+use Rattle.determinize_lazy.proofs.Common.{subst, sym, Tag, tag_in, tag_of, take, take-append-drop, take_all, true}
+use Rattle.determinize_lazy.proofs.Common.{true≢false, units_read, Value, value_after, ℕ}
 use Rattle.determinize_lazy.proofs.LastUnits.{last_match-over}
 use Rattle.determinize_lazy.proofs.Plenty.{keeps_all}
-use Rattle.determinize_lazy.proofs.Walks.{drop-one, follows, reached-push, take-one}
+use Rattle.determinize_lazy.proofs.Walks.{cut_off-step, drop-one, follows, get-after, reached-push, take-before}
+use Rattle.determinize_lazy.proofs.Walks.{take-length, take-one}
 
 empty_is : (xs : List ℕ) → is_nonempty xs ≡ false → xs ≡ []
 empty_is [] h = refl
@@ -71,6 +72,28 @@ module _ {earliest : Bool} {old : Cache} {first : Value} {us : List (Option ℕ)
   abbrev last_of : List (Option ℕ) → Option HalfMatch
   last_of all = last_match (future old.nfa old.kind first all)
 
+  -- the units that are read go on with the next one
+  goes_on : {u : Option ℕ} → slice_get us read ≡ Some u → is_last earliest v ≡ false
+      → reads first us ≡ take read us ++ u ∷ reads (step_of old v u) (drop (read + 1) us)
+  goes_on {u} at more = s.rest
+      ∙ ap (λ all. take read us ++ reads v all) (drop-one us read u at)
+      ∙ ap (λ b. take read us ++ cond b [] (u ∷ reads (step_of old v u) (drop (read + 1) us))) more
+
+  -- what is left if the next step fails
+  pub searched-fails : {u : Option ℕ} {new : Cache} → slice_get us read ≡ Some u → is_last earliest v ≡ false
+      → IsFailedStep now new → IsCutOffSearch earliest old first us new
+  searched-fails {u} {new} at more failed =
+      cut_off-step {us = reads first us} (let r : IsReached old first (reads first us) read v now = record {
+        end = s.reached.end ∙ ap (λ all. value_after old.nfa old.kind first all) (sym front);
+        after = s.reached.after ∙ ap (λ all. after_walk old first all) (sym front);
+      } in r)
+      (ap (λ all. slice_get all read) (goes_on at more) ∙ get-after (take read us) u _ read (take-length us read u at))
+      failed
+    where
+      front : take read (reads first us) ≡ take read us
+      front = ap (λ all. take read all) (goes_on at more) ∙ take-before (take read us) u _ read
+          (take-length us read u at)
+
   -- one more unit
   pub searched-step : {u : Option ℕ} {w : Value} {next : Option HalfMatch} {new : Cache} → slice_get us read ≡ Some u
       → is_last earliest v ≡ false → next ≡ option_or (ended_at (read - 1) v.patterns) last
@@ -82,9 +105,7 @@ module _ {earliest : Bool} {old : Cache} {first : Value} {us : List (Option ℕ)
         ∙ ap (λ (x : Value). option_or (ended_at (length (take read us)) x.patterns) so_far)
         ((reached-push s.reached at w_is new_is).end ∙ ap (λ all. value_after old.nfa old.kind first all) taken)
         ∙ sym (last_match-push old.nfa old.kind first (take read us) u) ∙ ap last_of (sym taken);
-    rest = s.rest
-        ∙ ap (λ all. take read us ++ reads v all) (drop-one us read u at)
-        ∙ ap (λ b. take read us ++ cond b [] (u ∷ reads (step_of old v u) (drop (read + 1) us))) more
+    rest = goes_on at more
         ∙ ap (λ x. take read us ++ u ∷ reads x (drop (read + 1) us)) (sym (follows s.reached at w_is new_is))
         ∙ sym (append_assoc (take read us) (u ∷ []) (reads w (drop (read + 1) us)))
         ∙ ap (λ all. all ++ reads w (drop (read + 1) us)) (sym taken);
@@ -94,9 +115,7 @@ module _ {earliest : Bool} {old : Cache} {first : Value} {us : List (Option ℕ)
       taken = take-one us read u at
 
       count : read + 1 - 1 ≡ length (take read us)
-      count = let within : read < length us = slice_get_within us read u at in
-          (let e : read + 1 - 1 ≡ read = omega arith in e)
-          ∙ sym (length-take-le read us (let k : read ≤ length us = omega (arith, within) in k))
+      count = (let e : read + 1 - 1 ≡ read = omega arith in e) ∙ sym (take-length us read u at)
 
   -- once no more units are read
   module _ {found : Option HalfMatch} (found_is : found ≡ option_or (ended_at (read - 1) v.patterns) last) where

@@ -1,13 +1,16 @@
 -- Walks, one step more at a time, and what is left of a walk that fails.
 use Rattle.determinize_lazy.proofs.Common.{[], ◌++◌, ◌+◌, ◌<◌, ◌∙◌, ◌∷◌, ◌≡◌, ◌≤◌, add_assoc, after_step, after_unit}
-use Rattle.determinize_lazy.proofs.Common.{after_walk, AllResolve, ap, arith, Bool, Cache, cond, drop, drop-cons, false}
-use Rattle.determinize_lazy.proofs.Common.{future, get_or_from_slice_get, inl, inr, is_cached, IsAccepted, IsCutOff}
-use Rattle.determinize_lazy.proofs.Common.{IsFailedStep, IsReached, kept, length, length-take, List, MatchKind, min}
-use Rattle.determinize_lazy.proofs.Common.{missed, Nfa, Option, refl, slice_get, slice_get_within, Some, step_of, subst}
-use Rattle.determinize_lazy.proofs.Common.{suc, sym, Table, take, take_all, take_more, true, Value, value_after, ℕ}
+use Rattle.determinize_lazy.proofs.Common.{after_walk, AllResolve, ap, append_assoc, arith, Bool, Cache, cond, drop}
+use Rattle.determinize_lazy.proofs.Common.{drop-cons, false, future, get_or_from_slice_get, inl, inr, is_cached}
+use Rattle.determinize_lazy.proofs.Common.{IsAccepted, IsCutOff, IsFailedStep, IsReached, kept, length, length-take}
+use Rattle.determinize_lazy.proofs.Common.{length-take-le, List, MatchKind, min, missed, Nfa, Option, refl, slice_get}
+use Rattle.determinize_lazy.proofs.Common.{slice_get_within, Some, step_of, subst, suc, sym, Table, take, take_all}
+use Rattle.determinize_lazy.proofs.Common.{take_more, true, Value, value_after, ℕ}
+use Rattle.std.proofs.Math.Seq.{take-append_seam}
 use Rattle.determinize_core.specs.Step.{step}
 use Rattle.determinize_core.proofs.Loops.{future-push, value_after-push}
 use Rattle.determinize_core.proofs.Resolving.{step_resolves}
+use Rattle.determinize_lazy.proofs.Indices.{get_last, get_more}
 
 module _ (nfa : Nfa) (kind : MatchKind) where
   -- the table after one more unit
@@ -105,6 +108,20 @@ module _ {K : Type 0} (xs : List K) (i : ℕ) (x : K) (at : slice_get xs i ≡ S
   drop-one = drop-cons xs i x (slice_get_within xs i x at) ∙ ap (λ y. y ∷ drop (suc i) xs)
       (get_or_from_slice_get xs i x x at)
       ∙ ap (λ n. x ∷ drop n xs) (let e : suc i ≡ i + 1 = omega arith in e)
+
+  pub take-length : length (take i xs) ≡ i
+  take-length =
+      let within : i < length xs = slice_get_within xs i x at in
+      length-take-le i xs (let k : i ≤ length xs = omega (arith, within) in k)
+
+-- the part of a list before an element, and the element
+module _ {K : Type 0} (xs : List K) (x : K) (rest : List K) (i : ℕ) (at : length xs ≡ i) where
+  pub take-before : take i (xs ++ x ∷ rest) ≡ xs
+  take-before = ap (λ n. take n (xs ++ x ∷ rest)) (sym at) ∙ take-append_seam xs (x ∷ rest)
+
+  pub get-after : slice_get (xs ++ x ∷ rest) i ≡ Some x
+  get-after = ap (λ all. slice_get all i) (sym (append_assoc xs (x ∷ []) rest))
+      ∙ get_more (xs ++ x ∷ []) rest i x (ap (λ n. slice_get (xs ++ x ∷ []) n) (sym at) ∙ get_last xs x)
 
 -- no unit yet
 pub reached-none : (old : Cache) (first : Value) (us : List (Option ℕ)) → old.computed ≤ 18446744073709551615

@@ -131,8 +131,9 @@ abbrev pub IsPlentyIn : Cache → Asked → Cache → Type 0
 IsPlentyIn old asked new = is_done asked ≡ false → IsPlenty old (start_for old.nfa asked.anchored)
     (text_of old.nfa.reverse asked) new
 
--- what a search of an input leaves if it fails
-abbrev pub IsCutOffIn : Cache → Asked → Cache → Type 0
-IsCutOffIn old asked new =
+-- what a search of an input leaves if it fails: that of the units that it reads
+abbrev pub IsCutOffIn : Bool → Cache → Asked → Cache → Type 0
+IsCutOffIn earliest old asked new =
     let text : Text = text_of old.nfa.reverse asked in
-    IsCutOff old (start_value old.nfa (start_for old.nfa asked.anchored) text.behind) (units text) new
+    let first : Value = start_value old.nfa (start_for old.nfa asked.anchored) text.behind in
+    IsCutOff old first (units_read (step_of old) earliest first (units text)) new

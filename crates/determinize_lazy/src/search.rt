@@ -20,10 +20,10 @@ ghost use Rattle.determinize_core.specs.Step.{start_value};
 ghost use Rattle.determinize_core.specs.Value.{Value as StateValue, dead};
 ghost use Rattle.determinize_lazy.specs.Cache.{Cache, Grows, IsCutOff, cache};
 ghost use Rattle.determinize_lazy.specs.Private.Cursors.{IsCursor, cursor_value};
-ghost use Rattle.determinize_lazy.specs.Private.Searched.{IsOver, IsOverIn, IsSearched};
+ghost use Rattle.determinize_lazy.specs.Private.Searched.{IsCutOffSearch, IsOver, IsOverIn, IsSearched};
 ghost use Rattle.determinize_lazy.specs.Private.Steps.{IsSound};
 ghost use Rattle.determinize_lazy.specs.Private.Tags.{match_of};
-ghost use Rattle.determinize_lazy.specs.Searches.{HasMatch, IsCutOffIn, IsFarthestIn, IsPlenty, IsPlentyIn, IsPreferredIn, IsSearch, after_input, after_is_match, after_search, has_start, in_haystack, last_in, start_for, text_of};
+ghost use Rattle.determinize_lazy.specs.Searches.{HasMatch, IsCutOffIn, IsFarthestIn, IsPlenty, IsPlentyIn, IsPreferredIn, IsSearch, after_input, after_is_match, after_search, has_start, in_haystack, last_in, start_for, text_of, units_searched};
 
 use crate::lazy::Lazy;
 use crate::state_id::LazyStateId;
@@ -152,7 +152,7 @@ impl<'n, N: Allocator, A: Allocator + Copy> Lazy<'n, N, A> {
         requires sound { IsSound (cache self.old) }
         ensures over { IfOk result (λ found. IsOver earliest (cache self.old)
             (cursor_value self.old.states start) (units text.now) found (cache self.new)) }
-        ensures failed { OnErr result (IsCutOff (cache self.old)
+        ensures failed { OnErr result (IsCutOffSearch earliest (cache self.old)
             (cursor_value self.old.states start) (units text.now) (cache self.new)) }
         ensures grows { Grows (cache self.old) (cache self.new) }
     {
@@ -185,7 +185,7 @@ impl<'n, N: Allocator, A: Allocator + Copy> Lazy<'n, N, A> {
             (start_value self.old.nfa start text.now.behind) (units text.now) found
             (cache self.new)) }
         ensures sound { IsSound (cache self.old) }
-        ensures failed { OnErr result (IsCutOff (cache self.old)
+        ensures failed { OnErr result (IsCutOffSearch earliest (cache self.old)
             (start_value self.old.nfa start text.now.behind) (units text.now)
             (cache self.new)) }
         ensures grows { Grows (cache self.old) (cache self.new) }
@@ -207,7 +207,8 @@ impl<'n, N: Allocator, A: Allocator + Copy> Lazy<'n, N, A> {
         ensures over { IfOk result
             (λ found. IsOverIn earliest (cache self.old) input.now found (cache self.new)) }
         ensures sound { IsSound (cache self.old) }
-        ensures failed { OnErr result (IsCutOffIn (cache self.old) input.now (cache self.new)) }
+        ensures failed { OnErr result
+            (IsCutOffIn earliest (cache self.old) input.now (cache self.new)) }
         ensures grows { Grows (cache self.old) (cache self.new) }
     {
         let start = self.start_for(input.get_anchored());
@@ -247,7 +248,8 @@ impl<'n, N: Allocator, A: Allocator + Copy> Lazy<'n, N, A> {
             (between look_behind text.now look_ahead) (cache self.new)) }
         ensures failed { OnErr result (IsCutOff (cache self.old)
             (start_value self.old.nfa start look_behind)
-            (units (between look_behind text.now look_ahead)) (cache self.new)) }
+            (units_searched (cache self.old) start (between look_behind text.now look_ahead))
+            (cache self.new)) }
         ensures grows { Grows (cache self.old) (cache self.new) }
     {
         let text = Text::new(look_behind, text, look_ahead);
@@ -288,7 +290,8 @@ impl<'n, N: Allocator, A: Allocator + Copy> Lazy<'n, N, A> {
         ensures after { OnOk result (cache self.new ≡ after_input (cache self.old) input.now) }
         ensures unchanged { is_done input.now ≡ true → self.new ≡ self.old }
         ensures plenty { OnOk result (IsPlentyIn (cache self.old) input.now (cache self.new)) }
-        ensures failed { OnErr result (IsCutOffIn (cache self.old) input.now (cache self.new)) }
+        ensures failed { OnErr result
+            (IsCutOffIn false (cache self.old) input.now (cache self.new)) }
         ensures grows { Grows (cache self.old) (cache self.new) }
     {
         if input.is_done() {
@@ -315,7 +318,8 @@ impl<'n, N: Allocator, A: Allocator + Copy> Lazy<'n, N, A> {
         ensures done { is_done input.now ≡ true → result ≡ Ok false }
         ensures after { OnOk result (cache self.new ≡ after_is_match (cache self.old) input.now) }
         ensures unchanged { is_done input.now ≡ true → self.new ≡ self.old }
-        ensures failed { OnErr result (IsCutOffIn (cache self.old) input.now (cache self.new)) }
+        ensures failed { OnErr result
+            (IsCutOffIn true (cache self.old) input.now (cache self.new)) }
         ensures grows { Grows (cache self.old) (cache self.new) }
     {
         if input.is_done() {

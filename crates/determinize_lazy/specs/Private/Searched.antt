@@ -8,7 +8,7 @@ use Rattle.determinize_core.specs.Chain.{future, units, value_after}
 use Rattle.determinize_core.specs.Step.{start_value}
 use Rattle.determinize_core.specs.Value.{Value}
 use Rattle.determinize_core.specs.Walk.{ended_at, last_match}
-use Rattle.determinize_lazy.specs.Cache.{Cache, after_walk, step_of}
+use Rattle.determinize_lazy.specs.Cache.{Cache, IsCutOff, after_walk, step_of}
 use Rattle.determinize_lazy.specs.Searches.{start_for, text_of, units_read}
 
 -- a walk from a value over units, of which it has read some: the value where it is, and the cache
@@ -39,3 +39,7 @@ abbrev pub IsOverIn : Bool → Cache → Asked → Option HalfMatch → Cache �
 IsOverIn earliest old asked found new =
     let text : Text = text_of old.nfa.reverse asked in
     IsOver earliest old (start_value old.nfa (start_for old.nfa asked.anchored) text.behind) (units text) found new
+
+-- what a search leaves if it fails: that of the units that it reads
+abbrev pub IsCutOffSearch : Bool → Cache → Value → List (Option ℕ) → Cache → Type 0
+IsCutOffSearch earliest old first us new = IsCutOff old first (units_read (step_of old) earliest first us) new

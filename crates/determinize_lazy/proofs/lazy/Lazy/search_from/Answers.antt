@@ -1,9 +1,9 @@
 use Rattle.determinize_lazy.proofs.Common.{◌-◌, ◌∙◌, ◌≡◌, ◌≤◌, ap, arith, cache, cursor_value, ended_at, IsSearched}
 use Rattle.determinize_lazy.proofs.Common.{length, match_of, option_or, units}
 use Rattle.determinize_lazy.proofs.Rule.{grows-more, of_err}
-use Rattle.determinize_lazy.proofs.Searching.{finished, searched-step, stopped, tag-last, tag-match}
+use Rattle.determinize_lazy.proofs.Searching.{finished, searched-fails, searched-step, stopped, tag-last, tag-match}
 use Rattle.determinize_lazy.proofs.Texts.{all_read}
-use Rattle.determinize_lazy.proofs.Walks.{cut_off-step, reached-resolves}
+use Rattle.determinize_lazy.proofs.Walks.{reached-resolves}
 use Rattle.determinize_lazy.proofs.lazy.Lazy.search_from.Given.{Over}
 use Rattle.determinize_lazy.proofs.lazy.Lazy.search_from.Goals.{After-or_match-last}
 use Rattle.determinize_lazy.proofs.lazy.Lazy.search_from.Goals as goal
@@ -39,7 +39,9 @@ step-requires-clause-resolve g c =
 pub returns-in_err-cursor-clause-failed : goal.returns-in_err-cursor-clause-failed
 returns-in_err-cursor-clause-failed g c =
     let d = (goal.at.returns-in_err-cursor-clause-failed g c).After-or_match-last in
-    of_err _ (cut_off-step (here g d).reached c.unit-unit.ensures c.in_err-cursor.ensures.failed)
+    of_err _ (searched-fails (here g d) c.unit-unit.ensures
+    (tag-last c.tag_at-tag.result.bits (cursor_value c.loop-read.self.states c.run-at.result.cursor)
+    c.tag_at-tag.ensures _ c.is_last.ensures c.if-is_last.false) c.in_err-cursor.ensures.failed)
 
 pub loop-read-smaller : goal.loop-read-smaller
 loop-read-smaller g c =

@@ -1,5 +1,5 @@
-use Rattle.determinize_lazy.proofs.Common.{◌∙◌, ◌≡◌, ap, cache, IfOk, IsCutOff, IsOver, LazyValue, OnErr, refl, rules}
-use Rattle.determinize_lazy.proofs.Common.{start_for, start_value, Text, text_of, units, ℕ}
+use Rattle.determinize_lazy.proofs.Common.{◌∙◌, ◌≡◌, ap, cache, IfOk, IsCutOffSearch, IsOver, LazyValue, OnErr, refl}
+use Rattle.determinize_lazy.proofs.Common.{rules, start_for, start_value, Text, text_of, units, ℕ}
 use Rattle.determinize_lazy.proofs.Rule.{along}
 use Rattle.determinize_lazy.proofs.lazy.Lazy.search_range.Given.{Over}
 use Rattle.determinize_lazy.proofs.lazy.Lazy.search_range.Goals.{After-search_text}
@@ -26,5 +26,5 @@ pub returns-clause-failed : goal.returns-clause-failed
 returns-clause-failed g c =
     let d = (goal.at.returns-clause-failed g c).After-search_text in
     along {x = c.args.self.now} refl (start_is g d) (text_is g d)
-    (λ (x : LazyValue) (s : ℕ) (t : Text). OnErr c.search_text.result (IsCutOff (cache x)
+    (λ (x : LazyValue) (s : ℕ) (t : Text). OnErr c.search_text.result (IsCutOffSearch c.args.earliest (cache x)
     (start_value x.nfa s t.behind) (units t) (cache c.search_text.new.self))) c.search_text.ensures.failed
