@@ -40,7 +40,8 @@ pub use Rattle.determinize_lazy.specs.Private.Rows.{AreInterned, AreRows, IsEntr
 pub use Rattle.determinize_lazy.specs.Private.Rows.{StoredTable, table_of, with_state}
 pub use Rattle.determinize_lazy.specs.Private.Searched.{IsCutOffSearch, IsOver, IsOverIn, IsReached, IsSearched}
 pub use Rattle.determinize_lazy.specs.Private.Starts.{AreStarts, start_index}
-pub use Rattle.determinize_lazy.specs.Private.Steps.{after_unit, IsFailedStep, IsSameOrEmpty, IsSound}
+pub use Rattle.determinize_lazy.specs.Private.Steps.{after_unit, IsFailedStep, IsSameOrComputed, IsSameOrEmpty, IsSound}
+pub use Rattle.determinize_lazy.specs.Private.Steps.{with_computed}
 pub use Rattle.determinize_lazy.specs.Private.Tags.{is_last_tag, match_at, match_of, Tag, tag_in, tag_of}
 pub use Rattle.determinize_lazy.specs.Searches.{HasMatch, in_haystack, in_order, is_last, IsFarthestIn, IsPlentyIn}
 pub use Rattle.determinize_lazy.specs.Searches.{IsPreferredIn, IsSearch, start_for, text_of, units_read}

@@ -1,10 +1,10 @@
 -- What the rule keeps, and what is true of a cache after it.
-use Rattle.determinize_lazy.proofs.Common.{◌+◌, ◌∙◌, ◌≡◌, ◌≤◌, ap, arith, Cache, count_after, empty}
-use Rattle.determinize_lazy.proofs.Common.{Err, Grows, IfOk, inl, inr, IsAccepted, IsFailedStep, IsLazy}
-use Rattle.determinize_lazy.proofs.Common.{IsSameOrEmpty, IsTable, length, MatchKind, nat_le, Nfa, None, Ok}
-use Rattle.determinize_lazy.proofs.Common.{OnErr, OnOk, Option, refl, Result, slice_get, slice_set, Some, start_index}
-use Rattle.determinize_lazy.proofs.Common.{start_value, StoredTable, subst, sym, Table, table_of, true, Value}
-use Rattle.determinize_lazy.proofs.Common.{with_transition, with_value, ℕ}
+use Rattle.determinize_lazy.proofs.Common.{◌∙◌, ◌≡◌, ◌≤◌, after_unit, ap, arith, Cache, cond, count_after, empty, Err}
+use Rattle.determinize_lazy.proofs.Common.{false, Grows, IfOk, inl, inr, is_cached, IsAccepted, IsFailedStep, IsLazy}
+use Rattle.determinize_lazy.proofs.Common.{IsSameOrComputed, IsSameOrEmpty, IsTable, length, MatchKind, nat_le, Nfa}
+use Rattle.determinize_lazy.proofs.Common.{None, Ok, OnErr, OnOk, Option, refl, Result, slice_get, slice_set, Some}
+use Rattle.determinize_lazy.proofs.Common.{start_index, start_value, StoredTable, subst, sym, Table, table_of, true}
+use Rattle.determinize_lazy.proofs.Common.{Value, with_computed, with_transition, with_value, ℕ}
 use Rattle.determinize_core.specs.Step.{step}
 use Rattle.determinize_lazy.proofs.Starts.{starts-more, starts-set}
 use Rattle.determinize_lazy.proofs.Tables.{empty-is, get_with, with_transition-is}
@@ -53,25 +53,30 @@ grows old new t n is more =
       computed = more;
     } in r)
 
--- a step that fails after its transition was counted
-pub failed-counted : (old now new : Cache) → now ≡ record old { computed = count_after old.computed 1 }
-    → IsSameOrEmpty now new → IsFailedStep old new
-failed-counted old now new is (inl same) =
-    subst (λ x. IsFailedStep old x) (sym (same ∙ is))
-    (let r : IsFailedStep old (record old { computed = count_after old.computed 1 }) = record {
-      table = inr refl;
-      few = one old.computed;
-    } in r)
-  where
-    one : (n : ℕ) → count_after n 1 ≤ n + 1
-    one n = grind arith
-failed-counted old now new is (inr cleared) =
-    subst (λ x. IsFailedStep old x) (sym (cleared ∙ ap (λ (x : Cache). record x { table = empty }) is))
-    (let r : IsFailedStep old (record old { table = empty; computed = count_after old.computed 1 }) =
-    record { table = inl refl; few = one old.computed } in r)
-  where
-    one : (n : ℕ) → count_after n 1 ≤ n + 1
-    one n = grind arith
+-- what a step leaves that is not cached, if it fails
+module _ (old : Cache) (v : Value) (u : Option ℕ) (missing : is_cached old.table v u ≡ false) where
+  counted_is : (new : Cache) → new.computed ≡ count_after old.computed 1
+      → new.computed ≡ (after_unit old v u).computed
+  counted_is new is = is ∙ ap (λ b. cond b old.computed (count_after old.computed 1)) (sym missing)
+
+  -- where its target is computed
+  pub failed-computing : (new : Cache) → IsSameOrComputed old new → IsFailedStep old v u new
+  failed-computing new (inl same) = record {
+    table = inr (ap (λ (c : Cache). c.table) same);
+    counted = inl (ap (λ (c : Cache). c.computed) same);
+  }
+  failed-computing new (inr one) = record {
+    table = inr (ap (λ (c : Cache). c.table) one);
+    counted = inr (counted_is new (ap (λ (c : Cache). c.computed) one));
+  }
+
+  -- and where the transition is cached
+  pub failed-caching : (now new : Cache) → now ≡ with_computed old → IsSameOrEmpty now new → IsFailedStep old v u new
+  failed-caching now new is (inl same) = failed-computing new (inr (same ∙ is))
+  failed-caching now new is (inr cleared) = record {
+    table = inl (ap (λ (c : Cache). c.table) cleared);
+    counted = inr (counted_is new (ap (λ (c : Cache). c.computed) cleared ∙ ap (λ (c : Cache). c.computed) is));
+  }
 
 pub on_err : {T E : Type 0} (r : Result T E) (P Q : Type 0) → (P → Q) → OnErr r P → OnErr r Q
 on_err (Ok x) P Q f h = tt

@@ -81,7 +81,7 @@ module _ {earliest : Bool} {old : Cache} {first : Value} {us : List (Option ℕ)
 
   -- what is left if the next step fails
   pub searched-fails : {u : Option ℕ} {new : Cache} → slice_get us read ≡ Some u → is_last earliest v ≡ false
-      → IsFailedStep now new → IsCutOffSearch earliest old first us new
+      → IsFailedStep now v u new → IsCutOffSearch earliest old first us new
   searched-fails {u} {new} at more failed =
       cut_off-step {us = reads first us} (let r : IsReached old first (reads first us) read v now = record {
         end = s.reached.end ∙ ap (λ all. value_after old.nfa old.kind first all) (sym front);

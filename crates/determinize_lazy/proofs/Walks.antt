@@ -86,17 +86,26 @@ after_walk-push old first us u =
     now : Table
     now = kept (step_of old) old.limit old.table first us
 
-few_after : (old : Cache) (first : Value) (us : List (Option ℕ)) (k : ℕ)
-    → (after_walk old first (take k us)).computed ≤ old.computed + min k (length us)
-few_after old first us k =
-    let a : missed (step_of old) old.limit old.table first (take k us) ≤ length (take k us) =
-    missed-few (step_of old) old.limit old.table first (take k us) in
-    let b : length (take k us) ≡ min k (length us) = length-take k us in
-    capped old.computed (missed (step_of old) old.limit old.table first (take k us)) (min k (length us))
-    18446744073709551615 (omega (arith, a, b))
+-- what a walk leaves that fails before its first step
+pub cut_off-none : {old : Cache} {first : Value} {us : List (Option ℕ)} {new : Cache}
+    → old.computed ≤ 18446744073709551615 → new ≡ old → IsCutOff old first us new
+cut_off-none {old} {first} {us} {new} small same = record {
+  table = inr (0, ap (λ (c : Cache). c.table) same);
+  counted = (0, ap (λ (c : Cache). c.computed) (same ∙ sym (after_walk-none old first small)));
+}
+
+-- a walk that fails computes no more transitions than there are units
+pub cut_off-few : {old : Cache} {first : Value} {us : List (Option ℕ)} {new : Cache} → IsCutOff old first us new
+    → new.computed ≤ old.computed + length us
+cut_off-few {old} {first} {us} {new} h =
+    let few : missed (step_of old) old.limit old.table first (take h.counted.0 us) ≤ length (take h.counted.0 us) =
+    missed-few (step_of old) old.limit old.table first (take h.counted.0 us) in
+    let taken : length (take h.counted.0 us) ≡ min h.counted.0 (length us) = length-take h.counted.0 us in
+    capped old.computed new.computed (missed (step_of old) old.limit old.table first (take h.counted.0 us))
+    (length (take h.counted.0 us)) h.counted.0 (length us) 18446744073709551615 h.counted.1 few taken
   where
-    capped : (a x y m : ℕ) → x ≤ y → min (a + x) m ≤ a + y
-    capped a x y m h = grind (arith, h)
+    capped : (a x m l k n top : ℕ) → x ≡ min (a + m) top → m ≤ l → l ≡ min k n → x ≤ a + n
+    capped a x m l k n top e f t = grind (arith, e, f, t)
 
 -- the part of a list up to an index, and from there on
 module _ {K : Type 0} (xs : List K) (i : ℕ) (x : K) (at : slice_get xs i ≡ Some x) where
@@ -137,35 +146,6 @@ module _ {old : Cache} {first : Value} {us : List (Option ℕ)} {read : ℕ} {v 
       (subst (λ (x : Value). AllResolve old.nfa x.states) (sym r.end)
       (after_resolves old.nfa old.kind accepted first (take read us) h))
 
-  few_here : now.computed ≤ old.computed + min read (length us)
-  few_here = subst (λ (c : Cache). c.computed ≤ old.computed + min read (length us)) (sym r.after)
-      (few_after old first us read)
-
-  -- what is left if the walk fails here
-  pub cut_off-here : IsCutOff old first us now
-  cut_off-here = record {
-    table = inr (read, ap (λ (c : Cache). c.table) r.after);
-    few = shorter old.computed now.computed read (length us) few_here;
-  }
-    where
-      shorter : (a x k n : ℕ) → x ≤ a + min k n → x ≤ a + n
-      shorter a x k n h = grind (arith, h)
-
-  -- and if it fails in the next step
-  pub cut_off-step : {new : Cache} {u : Option ℕ} → slice_get us read ≡ Some u → IsFailedStep now new
-      → IsCutOff old first us new
-  cut_off-step {new} {u} at failed = record {
-    table = elim failed.table [
-      | inl none ↦ inl none
-      | inr stays ↦ inr (read, stays ∙ ap (λ (c : Cache). c.table) r.after)
-    ];
-    few = one_more old.computed now.computed new.computed read (length us) few_here failed.few
-        (slice_get_within us read u at);
-  }
-    where
-      one_more : (a x y k n : ℕ) → x ≤ a + min k n → y ≤ x + 1 → k < n → y ≤ a + n
-      one_more a x y k n h j i = grind (arith, h, j, i)
-
   -- once all units are read
   pub reached-all : length us ≤ read → (v ≡ value_after old.nfa old.kind first us) × (now ≡ after_walk old first us)
   reached-all all_read = (
@@ -199,3 +179,28 @@ module _ {old : Cache} {first : Value} {us : List (Option ℕ)} {read : ℕ} {v 
         ∙ ap (λ x. future old.nfa old.kind first (take read us) ++ x ∷ []) (follows ∙ ap (λ x. step_of old x u) r.end)
         ∙ sym (future-push old.nfa old.kind first (take read us) u)
         ∙ ap (λ all. future old.nfa old.kind first all) (sym taken)
+
+  -- what is left if the walk fails here
+  pub cut_off-here : IsCutOff old first us now
+  cut_off-here = record {
+    table = inr (read, ap (λ (c : Cache). c.table) r.after);
+    counted = (read, ap (λ (c : Cache). c.computed) r.after);
+  }
+
+  -- and if it fails in the next step
+  pub cut_off-step : {new : Cache} {u : Option ℕ} → slice_get us read ≡ Some u → IsFailedStep now v u new
+      → IsCutOff old first us new
+  cut_off-step {new} {u} at failed = record {
+    table = elim failed.table [
+      | inl none ↦ inl none
+      | inr stays ↦ inr (read, stays ∙ ap (λ (c : Cache). c.table) r.after)
+    ];
+    counted = elim failed.counted [
+      | inl same ↦ (read, same ∙ ap (λ (c : Cache). c.computed) r.after)
+      | inr one ↦ (
+        read + 1,
+        one ∙ ap (λ (c : Cache). c.computed)
+            (reached-push {u = u} {w = step_of now v u} {new = after_unit now v u} at refl refl).after,
+      )
+    ];
+  }

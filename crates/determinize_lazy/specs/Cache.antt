@@ -90,8 +90,8 @@ pub record Grows (old new : Cache) : Type 0 where
   pub limit : new.limit ≡ old.limit
   pub computed : old.computed ≤ new.computed
 
--- what a walk leaves if it fails: the table of a prefix of the walk, or nothing is cached; and no more
--- transitions were computed than there are units
+-- what a walk leaves if it fails: the table of a prefix of the walk, or nothing is cached; and the
+-- count of a prefix of the walk
 pub record IsCutOff (old : Cache) (v : Value) (us : List (Option ℕ)) (new : Cache) : Type 0 where
   pub table : (new.table ≡ empty) ⊎ ((k : ℕ) × (new.table ≡ (after_walk old v (take k us)).table))
-  pub few : new.computed ≤ old.computed + length us
+  pub counted : (k : ℕ) × (new.computed ≡ (after_walk old v (take k us)).computed)

@@ -131,7 +131,7 @@ abbrev pub IsPlentyIn : Cache → Asked → Cache → Type 0
 IsPlentyIn old asked new = is_done asked ≡ false → IsPlenty old (start_for old.nfa asked.anchored)
     (text_of old.nfa.reverse asked) new
 
--- what a search of an input leaves if it fails: that of the units that it reads
+-- what a search of an input leaves if it fails: what the walk over the units that it reads leaves
 abbrev pub IsCutOffIn : Bool → Cache → Asked → Cache → Type 0
 IsCutOffIn earliest old asked new =
     let text : Text = text_of old.nfa.reverse asked in

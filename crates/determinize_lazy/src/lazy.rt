@@ -32,8 +32,8 @@ use std::marker::Model;
 ///
 /// A walk or a search returns `AllocError` if an allocation fails, or if more than 16647160 states
 /// would be cached, since the ids of states have 32 bits. After an error the cache is empty or
-/// holds what the same call would have cached by some point; the NFA, the match kind and the limit
-/// are unchanged, and `computed` has grown by at most the number of units.
+/// holds what the same call would have cached by some point, and `computed` is what it would have
+/// been by some point; the NFA, the match kind and the limit are unchanged.
 pub struct Lazy<'n, N: Allocator = Global, A: Allocator = Global> {
     pub(crate) alloc: A,
     pub(crate) nfa: &'n NFA<N>,
@@ -119,7 +119,7 @@ impl<'n, N: Allocator, A: Allocator + Copy> Lazy<'n, N, A> {
         self.match_kind
     }
 
-    /// Returns the greatest number of cached states.
+    /// Returns the limit: how many states are cached at most.
     pub fn limit(&self) -> usize
         ensures { result ≡ self.now.limit }
     {
@@ -146,9 +146,9 @@ impl<'n, N: Allocator, A: Allocator + Copy> Lazy<'n, N, A> {
 
     /// Returns the heap memory that the cache uses now, in bytes.
     ///
-    /// This counts the cached states, their rows and transitions, and the working memory of the
-    /// steps. It does not count the size of the `Lazy` itself, the NFA, or what is allocated but
-    /// not in use, such as the memory of states that were cleared.
+    /// This counts the cached states, their rows, and the working memory of the steps with its
+    /// spare capacity. It does not count the size of the `Lazy` itself, the NFA, free places of the
+    /// map that finds a state by its bytes, or spare capacity for states and rows.
     pub fn memory_usage(&self) -> usize
         ensures rows { length self.now.states * 1032 ≤ result }
     {

@@ -9,7 +9,7 @@
 //! - `table`: the transition table, with `state_table` (the cached states), `state_id` and `tag`.
 //! - `scratch`: what the steps of `determinize_core` work with.
 //!
-//! A `Result` is `Err` only if an allocation fails or the ids of states run out.
+//! A `Result` is `Err` only if an allocation fails or more than 16647160 states would be cached.
 #![tactic(auto)]
 
 mod debug;

@@ -1,4 +1,4 @@
-//! Scratch space that is reused across steps. It holds nothing between them.
+//! Scratch space that is reused across steps. No result depends on what it holds between them.
 
 ghost use Rattle.std.specs.Prelude.{◌≡◌, ◌<◌, length, IfOk};
 ghost use Rattle.determinize_below.specs.Nfa.{AllResolve};

@@ -11,11 +11,11 @@ ghost use Rattle.std.specs.Prelude.{◌≡◌, ◌<◌, ◌≤◌, false, true, 
 ghost use Rattle.std.specs.Option.{IfSome};
 ghost use Rattle.determinize_below.specs.Nfa.{AllResolve};
 ghost use Rattle.determinize_core.specs.Step.{start_value};
-ghost use Rattle.determinize_lazy.specs.Cache.{Grows, cache, count_after, keep, step_of};
+ghost use Rattle.determinize_lazy.specs.Cache.{Grows, cache, keep, step_of};
 ghost use Rattle.determinize_lazy.specs.Private.Cursors.{IsAt, IsCursor, cursor_value};
 ghost use Rattle.determinize_lazy.specs.Private.Rows.{IsIndex};
 ghost use Rattle.determinize_lazy.specs.Private.Starts.{start_index};
-ghost use Rattle.determinize_lazy.specs.Private.Steps.{IsFailedStep, IsSameOrEmpty, IsSound, after_unit};
+ghost use Rattle.determinize_lazy.specs.Private.Steps.{IsFailedStep, IsSameOrComputed, IsSameOrEmpty, IsSound, after_unit, with_computed};
 ghost use Rattle.determinize_lazy.specs.Private.Tags.{tag_in, tag_of};
 ghost use Rattle.determinize_lazy.specs.Table.{empty, is_cached, with_transition, with_value};
 
@@ -169,7 +169,8 @@ impl<'n, N: Allocator, A: Allocator + Copy> Lazy<'n, N, A> {
             (step_of (cache self.old) (cursor_value self.old.states cursor) unit)) }
         ensures after { OnOk result (cache self.new ≡ after_unit (cache self.old)
             (cursor_value self.old.states cursor) unit) }
-        ensures failed { OnErr result (IsFailedStep (cache self.old) (cache self.new)) }
+        ensures failed { OnErr result (IsFailedStep (cache self.old)
+            (cursor_value self.old.states cursor) unit (cache self.new)) }
         ensures grows { Grows (cache self.old) (cache self.new) }
     {
         match cursor {
@@ -195,7 +196,8 @@ impl<'n, N: Allocator, A: Allocator + Copy> Lazy<'n, N, A> {
             (step_of (cache self.old) (cursor_value self.old.states cursor) unit)) }
         ensures after { OnOk result (cache self.new ≡ after_unit (cache self.old)
             (cursor_value self.old.states cursor) unit) }
-        ensures failed { OnErr result (IsFailedStep (cache self.old) (cache self.new)) }
+        ensures failed { OnErr result (IsFailedStep (cache self.old)
+            (cursor_value self.old.states cursor) unit (cache self.new)) }
         ensures grows { Grows (cache self.old) (cache self.new) }
     {
         let following = self.next_state(&cursor, unit)?;
@@ -209,9 +211,8 @@ impl<'n, N: Allocator, A: Allocator + Copy> Lazy<'n, N, A> {
             (cursor_value self.old.states cursor.now).states }
         ensures value { IfOk result (λ following. following
             ≡ step_of (cache self.old) (cursor_value self.old.states cursor.now) unit) }
-        ensures counted { OnOk result (cache self.new
-            ≡ record (cache self.old) { computed = count_after self.old.computed 1 }) }
-        ensures failed { OnErr result (IsFailedStep (cache self.old) (cache self.new)) }
+        ensures counted { OnOk result (cache self.new ≡ with_computed (cache self.old)) }
+        ensures failed { OnErr result (IsSameOrComputed (cache self.old) (cache self.new)) }
         ensures grows { Grows (cache self.old) (cache self.new) }
     {
         let mut scratch = self.take_scratch()?;

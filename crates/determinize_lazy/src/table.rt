@@ -1,8 +1,8 @@
 //! The transition table: the cached states, and a row of targets for each.
 //!
 //! A row has 258 numbers. In the column of a unit (a byte, or 256 for EOI) is the offset of the
-//! row of the next state, or `UNKNOWN` if the transition is not cached. In the last column is the
-//! tag of the state. So a search over cached transitions reads two numbers a byte, and no state.
+//! row of the next state, counted in numbers, or `UNKNOWN` if the transition is not cached. In the
+//! last column is the tag of the state. So a search over cached transitions reads two numbers a byte, and no state.
 
 ghost use Rattle.std.specs.Prelude.{ℕ, ◌≡◌, ◌*◌, ◌<◌, ◌≤◌, ◌∷◌, [], Bool, List, true, false, None, Option, Some, cond, length, nat_le, slice_get, slice_set, slice_index, IfOk, OnErr, OnOk};
 ghost use Rattle.std.specs.List.{list_any};
@@ -23,10 +23,11 @@ use std::alloc::{AllocError, Allocator, Global};
 use std::marker::Model;
 use std::mem::size_of;
 
-/// The entry of a transition that is not cached. It is the offset of no row.
+/// The entry of a transition that is not cached. It is the offset of no row, since these are
+/// multiples of 258.
 const UNKNOWN: u32 = 1;
 
-/// The number of kept starts: two start states of the NFA, each with six kinds of start.
+/// How many start states can be kept: two start states of the NFA, each with six kinds of start.
 pub(crate) const STARTS: usize = 12;
 
 /// Where a walk or a search is.
@@ -108,7 +109,8 @@ impl<A: Allocator + Copy> TransitionTable<A> {
         self.states.len()
     }
 
-    /// Returns the number of cached states with the source and the target of one more transition.
+    /// Returns how many states would be cached with the source and the target of one more
+    /// transition.
     ///
     /// - `target` is the id of `following` if it is cached.
     pub(crate) fn len_with(

@@ -93,8 +93,8 @@ impl<'h> Text<'h> {
         }
     }
 
-    /// Returns the unit at an index: a byte, or the byte ahead of the last or the end of input
-    /// (EOI).
+    /// Returns the unit at an index: a byte of the text; after the last one the byte ahead, or the
+    /// end of input (EOI).
     #[inline(always)]
     pub(crate) fn unit(&self, index: usize) -> Option<u8>
         requires { index ≤ length self.now.bytes }

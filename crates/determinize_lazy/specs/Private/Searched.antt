@@ -40,6 +40,6 @@ IsOverIn earliest old asked found new =
     let text : Text = text_of old.nfa.reverse asked in
     IsOver earliest old (start_value old.nfa (start_for old.nfa asked.anchored) text.behind) (units text) found new
 
--- what a search leaves if it fails: that of the units that it reads
+-- what a search leaves if it fails: what the walk over the units that it reads leaves
 abbrev pub IsCutOffSearch : Bool → Cache → Value → List (Option ℕ) → Cache → Type 0
 IsCutOffSearch earliest old first us new = IsCutOff old first (units_read (step_of old) earliest first us) new

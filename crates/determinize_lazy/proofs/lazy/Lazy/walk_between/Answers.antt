@@ -1,11 +1,17 @@
-use Rattle.determinize_lazy.proofs.Common.{◌≡◌, after_walk, between, cache, future, IfOk, IfOk-weaker, LazyValue, OnOk}
-use Rattle.determinize_lazy.proofs.Common.{Text, units, Value}
+use Rattle.determinize_lazy.proofs.Common.{◌≡◌, after_walk, ap, between, cache, future, IfOk, IfOk-weaker, LazyValue}
+use Rattle.determinize_lazy.proofs.Common.{OnOk, Text, units, Value}
 use Rattle.determinize_core.proofs.WholeWalks.{is_walk}
 use Rattle.determinize_core.specs.Chain.{chain}
 use Rattle.determinize_lazy.specs.Cache.{after_text}
 use Rattle.determinize_lazy.proofs.Plenty.{keeps_all_where_ok}
-use Rattle.determinize_lazy.proofs.Rule.{along}
+use Rattle.determinize_lazy.proofs.Rule.{along, of_err}
+use Rattle.determinize_lazy.proofs.Walks.{cut_off-none}
 use Rattle.determinize_lazy.proofs.lazy.Lazy.walk_between.Goals as goal
+
+pub returns-in_err-first-clause-failed : goal.returns-in_err-first-clause-failed
+returns-in_err-first-clause-failed g c =
+    of_err _ (cut_off-none c.in_err-first.ensures.sound.small (ap (λ (x : LazyValue). cache x)
+    c.in_err-first.ensures.unchanged))
 
 pub returns-clause-walk : goal.returns-clause-walk
 unfolding chain
