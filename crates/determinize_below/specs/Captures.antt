@@ -1,8 +1,7 @@
 -- Cycles of `Capture` states.
 use Rattle.std.specs.Prelude.{◌≡◌, ◌≤◌, ℕ, zero, suc, true}
-use Rattle.determinize_below.specs.Edges.{is_capture, state_at}
-use Rattle.determinize_below.specs.Nfa.{Nfa}
-use Rattle.determinize_below.specs.Node.{Node, Capture}
+use Rattle.determinize_below.specs.Edges.{is_capture}
+use Rattle.determinize_below.specs.Semantics.{state_at, Nfa, Node, Capture}
 
 -- the target of a capture, 0 for any other state
 abbrev pub capture_next : Node → ℕ

@@ -1,48 +1,21 @@
--- The transitions of NFA states: epsilon transitions under a set of assertions, and transitions on
--- a unit. A unit is `Some byte`, or `None` for EOI.
-use Rattle.std.specs.Prelude.{◌≡◌, ◌+◌, ℕ, Bool, true, false, cond, Option, Some, None, List, [], ◌∷◌, length, nat_eq, slice_index_or}
+-- The transitions of the states of an NFA by their ids, their patterns and assertions, and the
+-- epsilon closure.
+use Rattle.std.specs.Prelude.{◌≡◌, ◌+◌, ℕ, Bool, true, false, Option, Some, None, List, length, nat_eq}
 use Rattle.std.specs.Option.{is_some, option_to_list}
 use Rattle.std.specs.List.{count_by, flat_map}
 use Rattle.determinize_below.specs.declared.look.Look.{Look as Assertion}
-use Rattle.determinize_below.specs.Node.{Node, ByteRange, Sparse, Dense, Look, Union, BinaryUnion, Capture, Fail, Match}
-use Rattle.determinize_below.specs.Nfa.{Nfa}
-use Rattle.determinize_below.specs.Transition.{matches_unit, sparse_target, dense_target, over_unit}
-use Rattle.determinize_below.specs.Reach.{member, none_held, ordered}
-
--- the targets of the epsilon transitions of a state, in order of preference, where `holds` says
--- which assertions hold
-abbrev pub edges_of : (Assertion → Bool) → Node → List ℕ
-edges_of holds (Look look next) = cond (holds look) (next ∷ []) []
-edges_of holds (Union ids) = ids
-edges_of holds (BinaryUnion a b) = a ∷ b ∷ []
-edges_of holds (Capture next) = next ∷ []
-edges_of holds _ = []
-
--- the target of a state on a unit
-abbrev pub target_of : Option ℕ → Node → Option ℕ
-target_of u (ByteRange t) = cond (matches_unit t u) (Some t.next) None
-target_of u (Sparse ts) = over_unit (sparse_target ts) u
-target_of u (Dense ids) = over_unit (dense_target ids) u
-target_of u _ = None
+use Rattle.determinize_below.specs.Semantics.{Capture, Look, Nfa, Node, edges_of, pattern_in, state_at, target_of}
+use Rattle.ordered_reach.specs.Reach.{member, none_held, ordered}
 
 -- whether the state is a capture
 abbrev pub tests_capture : Node → Bool
 tests_capture (Capture next) = true
 tests_capture _ = false
 
--- the pattern of a `Match` state
-abbrev pub pattern_in : Node → Option ℕ
-pattern_in (Match pattern) = Some pattern
-pattern_in _ = None
-
 -- the assertion of a `Look` state
 abbrev pub assertion_in : Node → Option Assertion
 assertion_in (Look look next) = Some look
 assertion_in _ = None
-
--- the state with this id, `Fail` for an id out of range
-abbrev pub state_at : Nfa → ℕ → Node
-state_at nfa s = slice_index_or nfa.states s Fail
 
 -- the targets of the epsilon transitions of the state with this id
 abbrev pub edges : Nfa → (Assertion → Bool) → ℕ → List ℕ

@@ -1,3 +1,4 @@
+pub mod ByteClasses
 pub mod Captures
 pub mod Classes
 pub mod Edges
@@ -6,14 +7,12 @@ pub mod Members
 pub mod Messages
 pub mod Nfa
 pub mod Node
-pub mod Paths
 pub mod Positions
 pub mod Private
-pub mod Reach
 pub mod ReachLaws
 pub mod Reached
-pub mod Runs
 pub mod Search
+pub mod Semantics
 pub mod Transition
 pub mod Truth
 pub mod Unit

@@ -1,23 +1,13 @@
--- Thompson NFAs as data, and the validation of their parts.
+-- The validation of the parts of an NFA.
 use Rattle.std.specs.Prelude.{◌≡◌, ℕ, ◌+◌, ◌<◌, All, Bool, true, false, not, Option, Some, None, List, [], ◌∷◌, ◌++◌, nat_lt, nat_eq, length, if◌then◌else◌}
 use mathlib.Core.Bool.{◌&&◌}
 use Rattle.std.specs.List.{list_all, list_any}
 use Rattle.std.specs.Option.{option_or}
-use Rattle.determinize_below.specs.Node.{Node, ByteRange, Sparse, Dense, Look, Union, BinaryUnion, Capture, Fail, Match}
+use Rattle.determinize_below.specs.Semantics.{Nfa, Node, ByteRange, Sparse, Dense, Look, Union, BinaryUnion, Capture, Fail, Match}
 use Rattle.determinize_below.specs.Transition.{is_ascending}
 use Rattle.determinize_below.specs.Look as looks
 use Rattle.determinize_below.specs.declared.nfa.BuildError.{BuildError}
 use Rattle.determinize_below.specs.declared.nfa.BuildError.TheVariants as refusal
-
--- an NFA: its states, two start states, its direction, its line terminator, and the set of the
--- assertions of its `Look` states
-pub record Nfa : Type 0 where
-  pub states : List Node
-  pub start_anchored : ℕ
-  pub start_unanchored : ℕ
-  pub reverse : Bool
-  pub terminator : ℕ
-  pub look_set_any : ℕ
 
 -- whether each id in the state is below the number of states
 abbrev pub resolves : ℕ → Node → Bool

@@ -1,21 +1,8 @@
--- The states of a Thompson NFA as data.
-use Rattle.std.specs.Prelude.{ℕ, Bool, true, false, List}
-use Rattle.determinize_below.specs.declared.look.Look.{Look as Assertion}
+-- The states of the program as data.
+use Rattle.std.specs.Prelude.{Bool, true, false}
 use Rattle.determinize_below.specs.declared.nfa.state.State.{State}
 use Rattle.determinize_below.specs.declared.nfa.state.State.TheVariants as states
-use Rattle.determinize_below.specs.declared.nfa.transitions.Transition.{Transition}
-
--- `nfa::State` without its allocator
-pub data Node : Type 0 where
-  ByteRange : Transition → Node
-  Sparse : List Transition → Node
-  Dense : List ℕ → Node
-  Look : Assertion → ℕ → Node
-  Union : List ℕ → Node
-  BinaryUnion : ℕ → ℕ → Node
-  Capture : ℕ → Node
-  Fail : Node
-  Match : ℕ → Node
+use Rattle.determinize_below.specs.Semantics.{Node, ByteRange, Sparse, Dense, Look, Union, BinaryUnion, Capture, Fail, Match}
 
 -- the state of the program as data
 abbrev pub node_of : {A : Type 0} → State A → Node

@@ -1,4 +1,4 @@
 -- Definitions of contracts between private functions. No public contract cites them.
 pub mod Clearing
-pub mod Searching
+pub mod Sorting
 pub mod Sparse

@@ -1,43 +1,9 @@
--- The truth of an assertion. p is the byte before the position, or `None` if there is none; q is
--- the unit after it, a byte or `None` for EOI. Both are in reading order.
-use Rattle.std.specs.Prelude.{ℕ, suc, zero, Bool, true, false, not, cond, Option, Some, None, ◌<◌}
-use mathlib.Core.Bool.{◌&&◌, ◌||◌}
-use Rattle.determinize_below.specs.Unit.{is_word, is_byte, is_nothing}
+-- The assertions that the look-behind satisfies: those that hold for every next unit.
+use Rattle.std.specs.Prelude.{ℕ, suc, zero, Bool, true, false, Option, Some, None, ◌<◌}
+use mathlib.Core.Bool.{◌&&◌}
+pub use Rattle.determinize_below.specs.Semantics.{holds}
 use Rattle.determinize_below.specs.declared.look.Look.{Look}
-use Rattle.determinize_below.specs.declared.look.Look.TheVariants.{Start, End, StartLF, EndLF, StartCRLF, EndCRLF, WordAscii, WordAsciiNegate, WordUnicode, WordUnicodeNegate, WordStartAscii, WordEndAscii, WordStartUnicode, WordEndUnicode, WordStartHalfAscii, WordEndHalfAscii, WordStartHalfUnicode, WordEndHalfUnicode}
-
--- the byte of a CRLF that is read first: `\r` (13) forward, `\n` (10) in reverse
-abbrev pub crlf_first : Bool → ℕ
-crlf_first reverse = cond reverse 10 13
-
--- the byte of a CRLF that is read second: `\n` (10) forward, `\r` (13) in reverse
-abbrev pub crlf_second : Bool → ℕ
-crlf_second reverse = cond reverse 13 10
-
--- exclusive or
-abbrev pub exactly_one : Bool → Bool → Bool
-exactly_one a b = (a && not b) || (not a && b)
-
--- whether the assertion holds between p and q, for a direction of reading and a line terminator t
-abbrev pub holds : Bool → ℕ → Option ℕ → Option ℕ → Look → Bool
-holds reverse t p q Start = is_nothing p
-holds reverse t p q End = is_nothing q
-holds reverse t p q StartLF = is_nothing p || is_byte p t
-holds reverse t p q EndLF = is_nothing q || is_byte q t
-holds reverse t p q StartCRLF = is_nothing p || is_byte p (crlf_second reverse) || (is_byte p (crlf_first reverse) && not (is_byte q (crlf_second reverse)))
-holds reverse t p q EndCRLF = is_nothing q || is_byte q (crlf_first reverse) || (is_byte q (crlf_second reverse) && not (is_byte p (crlf_first reverse)))
-holds reverse t p q WordAscii = exactly_one (is_word p) (is_word q)
-holds reverse t p q WordAsciiNegate = not (exactly_one (is_word p) (is_word q))
-holds reverse t p q WordUnicode = exactly_one (is_word p) (is_word q)
-holds reverse t p q WordUnicodeNegate = not (exactly_one (is_word p) (is_word q))
-holds reverse t p q WordStartAscii = not (is_word p) && is_word q
-holds reverse t p q WordEndAscii = is_word p && not (is_word q)
-holds reverse t p q WordStartUnicode = not (is_word p) && is_word q
-holds reverse t p q WordEndUnicode = is_word p && not (is_word q)
-holds reverse t p q WordStartHalfAscii = not (is_word p)
-holds reverse t p q WordEndHalfAscii = not (is_word q)
-holds reverse t p q WordStartHalfUnicode = not (is_word p)
-holds reverse t p q WordEndHalfUnicode = not (is_word q)
+use Rattle.determinize_below.specs.declared.look.Look.TheVariants.{Start, StartLF, StartCRLF, WordStartHalfAscii, WordStartHalfUnicode}
 
 -- whether every number below n passes the test
 unfoldable pub all_below : ℕ → (ℕ → Bool) → Bool

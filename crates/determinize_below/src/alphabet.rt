@@ -5,14 +5,20 @@
 //! a transition on it.
 
 ghost use Rattle.std.specs.Prelude.{◌≡◌, ℕ, ◌≤◌, Option, Bool};
+ghost use Rattle.std.specs.Option.{is_none};
+ghost use Rattle.determinize_below.specs.Semantics as semantics;
 ghost use Rattle.determinize_below.specs.Unit as units;
 
 use std::marker::Model;
 
+pub mod classes;
+
+pub use classes::ByteClasses;
+
 /// Returns whether the byte is an ASCII digit, an ASCII letter or an underscore.
-#[tactic(auto, unfolding(crate::specs::Unit::is_word_byte))]
+#[tactic(auto, unfolding(crate::specs::Semantics::is_word_byte))]
 pub fn is_word_byte(byte: u8) -> bool
-    ensures { result ≡ units.is_word_byte byte }
+    ensures { result ≡ semantics.is_word_byte byte }
 {
     byte.is_ascii_alphanumeric() || byte == b'_'
 }
@@ -86,21 +92,21 @@ impl Unit {
 
     /// Returns whether the unit is this byte, which is false for EOI.
     pub fn is_byte(self, byte: u8) -> bool
-        ensures { result ≡ units.is_byte (units.byte_of self) byte }
+        ensures { result ≡ semantics.is (units.byte_of self) byte }
     {
         self.as_u8() == Some(byte)
     }
 
     /// Returns whether the unit is EOI.
     pub fn is_eoi(self) -> bool
-        ensures { result ≡ units.is_nothing (units.byte_of self) }
+        ensures { result ≡ is_none (units.byte_of self) }
     {
         self.as_u8().is_none()
     }
 
     /// Returns whether the unit is a word byte, which is false for EOI.
     pub fn is_word_byte(self) -> bool
-        ensures { result ≡ units.is_word (units.byte_of self) }
+        ensures { result ≡ semantics.is_word (units.byte_of self) }
     {
         match self.as_u8() {
             Some(byte) => is_word_byte(byte),

@@ -1,30 +1,17 @@
 //! Facts about the definitions of closures and about constants and clones, as contracts of public
 //! functions.
 
-ghost use Rattle.std.specs.Prelude.{◌≡◌, nat_eq, [], ◌∷◌, IfOk, IsOk};
-ghost use Rattle.determinize_below.specs.Reach.{ordered, member, none_held};
-ghost use Rattle.determinize_below.specs.ReachLaws.{EachReachIsInOrder, EachReachIsOne, EachReachIsInTurn, EachNfaReachIsInOrder, EachNfaReachIsOne, EachNfaReachIsInTurn, EachReachIsPastNothing, small_graph};
+ghost use Rattle.std.specs.Prelude.{◌≡◌, IfOk, IsOk};
+ghost use Rattle.determinize_below.specs.ReachLaws.{EachNfaReachIsInOrder, EachNfaReachIsOne, EachNfaReachIsInTurn, EachReachIsPastNothing};
 
 use crate::look::LookMatcher;
 use crate::primitives::{PatternID, StateID};
 use crate::search::Input;
+pub use ordered_reach::laws::reach_law;
 use std::alloc::AllocError;
 
-/// States that the computed depth-first search of a graph on numbers, whose edges go below some
-/// bound, returns the one list of the reachable nodes in the order of their least paths, and that
-/// it can be computed root by root. Three small examples follow.
-pub fn reach_law()
-    ensures in_order { EachReachIsInOrder }
-    ensures only { EachReachIsOne }
-    ensures in_turn { EachReachIsInTurn }
-    ensures row { ordered nat_eq small_graph 5 none_held (0 ∷ []) ≡ 0 ∷ 1 ∷ 2 ∷ 3 ∷ [] }
-    ensures row_held { ordered nat_eq small_graph 5 (member nat_eq (1 ∷ [])) (0 ∷ []) ≡ 0 ∷ 3 ∷ [] }
-    ensures row_roots { ordered nat_eq small_graph 5 none_held (2 ∷ 7 ∷ 1 ∷ [])
-        ≡ 2 ∷ 0 ∷ 1 ∷ 3 ∷ 7 ∷ [] }
-{}
-
-/// States the same of an NFA that passed validation, for any roots and any set of states visited
-/// before. With nothing visited, `reach` is `reach_past` of the empty list.
+/// States the laws of [`reach_law`] of an NFA that passed validation, for any roots and any set of
+/// states visited before. With nothing visited, `reach` is `reach_past` of the empty list.
 pub fn nfa_reach_law()
     ensures in_order { EachNfaReachIsInOrder }
     ensures only { EachNfaReachIsOne }

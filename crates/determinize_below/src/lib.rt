@@ -18,7 +18,7 @@ pub mod primitives;
 pub mod search;
 pub mod sparse_set;
 
-pub use alphabet::Unit;
+pub use alphabet::{ByteClasses, Unit};
 pub use look::{Look, LookMatcher, LookSet};
 pub use nfa::{BuildError, DenseTransitions, NFA, SparseTransitions, Transition};
 pub use primitives::{PatternID, PatternIDError, StateID, StateIDError};

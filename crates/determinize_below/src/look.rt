@@ -3,7 +3,7 @@
 //! An assertion is a condition on the bytes before and after a position. A `Look` state of an NFA
 //! has an epsilon transition that may be taken only where its assertion holds. Its two bytes are
 //! those before and after the position in reading order, so in a reverse NFA `Start` holds at the
-//! end of the haystack. `determinize_looks` computes which assertions hold; here are only their
+//! end of the haystack. `determinize_start` computes which assertions hold; here are only their
 //! bits.
 
 ghost use Rattle.std.specs.Prelude.{◌≡◌, ℕ, ◌^◌, ◌<◌, ◌==◌, bit_and, bit_or};
@@ -108,7 +108,7 @@ impl Model for LookSet {
     ghost inverse = { λ n. record { bits = n } };
 }
 
-#[tactic(auto, using(crate::proofs::LookBounds::bit_small, crate::proofs::LookBounds::or_of_18), unfolding(crate::specs::Look::has, crate::specs::Look::insert, crate::specs::Look::remove, crate::specs::Look::subtract, crate::specs::Look::meets))]
+#[tactic(auto, using(crate::proofs::looks::LookBounds::bit_small, crate::proofs::looks::LookBounds::or_of_18), unfolding(crate::specs::Look::has, crate::specs::Look::insert, crate::specs::Look::remove, crate::specs::Look::subtract, crate::specs::Look::meets))]
 impl LookSet {
     /// Returns the empty set.
     pub fn empty() -> LookSet

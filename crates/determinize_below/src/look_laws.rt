@@ -6,15 +6,15 @@
 ghost use Rattle.std.specs.Prelude.{◌≡◌, ℕ, Bool, true, false, not, ◌==◌, ◌&&◌, ◌||◌, Option, Some, List};
 ghost use Rattle.std.specs.Bool.{Decides};
 ghost use Rattle.std.specs.Int.{to_le_bytes, w32};
+ghost use Rattle.std.specs.Option.{is_none};
 ghost use Rattle.std.specs.List.{Any, list_any};
 ghost use Rattle.determinize_below.specs.Classes as classes;
 ghost use Rattle.determinize_below.specs.Edges.{assertion_in, IsTested};
 ghost use Rattle.determinize_below.specs.Look as looks;
 ghost use Rattle.determinize_below.specs.Look.{has};
-ghost use Rattle.determinize_below.specs.Nfa.{looks_of, IsAccepted, Nfa};
-ghost use Rattle.determinize_below.specs.Node.{Node};
+ghost use Rattle.determinize_below.specs.Nfa.{looks_of, IsAccepted};
+ghost use Rattle.determinize_below.specs.Semantics.{Nfa, Node, holds, is, is_word, lf};
 ghost use Rattle.determinize_below.specs.Truth as truth;
-ghost use Rattle.determinize_below.specs.Unit as units;
 ghost use Rattle.determinize_below.specs.declared.look.Look.{Look as Assertion};
 
 use crate::look::{Look, LookSet};
@@ -58,19 +58,19 @@ pub fn look_class_law(set: LookSet)
 /// and gives a table of them.
 pub fn known_law(reverse: bool, terminator: u8, before: Option<u8>, look: Look)
     ensures every { Decides (truth.is_known reverse terminator before look)
-        ((q : Option ℕ) → truth.IsUnit q → truth.holds reverse terminator before q look ≡ true) }
+        ((q : Option ℕ) → truth.IsUnit q → holds reverse terminator before q look ≡ true) }
     ensures table { truth.is_known reverse terminator before look ≡ truth.behind_test
-        (units.is_nothing before)
-        (units.is_nothing before || units.is_byte before terminator)
-        (units.is_nothing before || units.is_byte before (truth.crlf_second reverse))
-        (not (units.is_word before)) look }
+        (is_none before)
+        (is_none before || is before terminator)
+        (is_none before || is before (lf reverse))
+        (not (is_word before)) look }
 {}
 
 /// States that an assertion holds between two units if and only if the reversed one holds between
 /// them in the other direction. Reversed twice, it is the assertion itself.
 pub fn reversed_law(look: Look)
     ensures holds { (reverse : Bool) (t : ℕ) (p q : Option ℕ)
-        → truth.holds (not reverse) t q p (looks.reversed look) ≡ truth.holds reverse t p q look }
+        → holds (not reverse) t q p (looks.reversed look) ≡ holds reverse t p q look }
     ensures twice { looks.reversed (looks.reversed look) ≡ look }
 {}
 

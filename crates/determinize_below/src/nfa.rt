@@ -22,6 +22,7 @@ use std::error::Error;
 use std::fmt;
 use std::marker::Model;
 
+mod byte_classes;
 mod checks;
 mod debug;
 pub mod state;
@@ -114,7 +115,8 @@ pub struct NFA<A: Allocator = Global> {
 impl<A: Allocator> Model for NFA<A> {
     ghost use Rattle.std.specs.Prelude.{map};
     ghost use Rattle.determinize_below.specs.Node.{node_of};
-    ghost use Rattle.determinize_below.specs.Nfa.{Nfa, IsAccepted};
+    ghost use Rattle.determinize_below.specs.Semantics.{Nfa};
+    ghost use Rattle.determinize_below.specs.Nfa.{IsAccepted};
 
     ghost Value = { Nfa };
 

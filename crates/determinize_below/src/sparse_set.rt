@@ -43,7 +43,7 @@ impl<A: Allocator> Model for SparseSet<A> {
 impl<A: Allocator + Clone> SparseSet<A> {
     /// Returns an empty set for ids below the capacity, which must be at most 2147483647. Allocates
     /// all memory that the set will ever need, and none is kept on error.
-    #[tactic(auto, using(crate::proofs::Sparse::emptying))]
+    #[tactic(auto, using(crate::proofs::sets::SparseSets::emptying))]
     pub fn new(alloc: A, capacity: usize) -> Result<SparseSet<A>, AllocError>
         requires { capacity ≤ 2147483647 }
         ensures { IfOk result (λ s. s ≡ record { ids = []; capacity = capacity }) }
@@ -92,7 +92,7 @@ impl<A: Allocator> SparseSet<A> {
 
     /// Adds the id, which must be below the capacity, and returns whether it was new. A set that
     /// contains the id already is unchanged. Does not allocate.
-    #[tactic(auto, using(crate::proofs::Sparse::pushing))]
+    #[tactic(auto, using(crate::proofs::sets::SparseSets::pushing))]
     pub fn insert(&mut self, id: StateID) -> bool
         requires { id < self.old.capacity }
         ensures new { result ≡ not (has_id self.old.ids id) }
@@ -111,7 +111,7 @@ impl<A: Allocator> SparseSet<A> {
     }
 
     /// Removes all ids. The capacity is unchanged.
-    #[tactic(auto, using(crate::proofs::Sparse::emptying))]
+    #[tactic(auto, using(crate::proofs::sets::SparseSets::emptying))]
     pub fn clear(&mut self)
         ensures { self.new ≡ record self.old { ids = [] } }
     {
@@ -131,7 +131,7 @@ impl<A: Allocator> SparseSet<A> {
 }
 
 /// Returns whether the bit of the id is set in these words.
-#[tactic(auto, using(crate::proofs::Bits::one_bit))]
+#[tactic(auto, using(crate::proofs::sets::Bits::one_bit))]
 fn is_bit_set(words: &[u64], id: StateID) -> bool
     requires { id < 64 * length words.now }
     ensures { result ≡ has_bit words.now id }
@@ -141,7 +141,7 @@ fn is_bit_set(words: &[u64], id: StateID) -> bool
 }
 
 /// Sets the bit of the id.
-#[tactic(auto, using(crate::proofs::Bits::one_bit))]
+#[tactic(auto, using(crate::proofs::sets::Bits::one_bit))]
 fn set_bit(words: &mut [u64], id: StateID)
     requires { id < 64 * length words.old }
     ensures { (other : ℕ) → has_bit words.new other ≡ (nat_eq other id || has_bit words.old other) }

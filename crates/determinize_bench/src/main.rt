@@ -5,12 +5,11 @@
 #[cfg(test)]
 mod tests;
 
+use determinize_replay::arguments::arguments;
 use determinize_replay::error::ReplayError;
 use determinize_replay::run;
-use std::alloc::Global;
+use std::io;
 use std::process::ExitCode;
-use std::rt::Env;
-use std::{env, io};
 
 fn main(rt: HostRuntime) -> ExitCode {
     let mut out = io::writer(&rt);
@@ -23,13 +22,4 @@ fn main(rt: HostRuntime) -> ExitCode {
         Err(error) => run::report(Err(ReplayError::of_arguments(&error)), &mut err),
     };
     ExitCode::from(status)
-}
-
-/// Returns the arguments without the name of the program.
-fn arguments(rt: &(impl Env + Alloc<A = Global>)) -> io::Result<Vec<String>> {
-    let mut words = Vec::new(rt.alloc());
-    for word in env::args(rt)?.skip(1) {
-        words.push(word)?;
-    }
-    Ok(words)
 }

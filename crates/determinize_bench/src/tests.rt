@@ -7,9 +7,6 @@
 //! makes an NFA and a cache lends them to another one as its last call.
 
 mod below;
-mod dfa;
-mod find;
-mod find_jobs;
 mod laws;
 mod lazy;
 mod map_text;
@@ -25,12 +22,12 @@ mod texts;
 mod worked;
 
 use determinize_below::{HalfMatch, PatternID};
+use determinize_replay::examples::{Example, examples};
 use determinize_replay::job::Job;
 use determinize_replay::verbs;
 use std::fmt::Debug;
 use std::process::Abort;
 use std::test::Fail;
-use worked_rows::answers;
 
 /// Asserts that two values are equal.
 pub fn same<R: Abort, T: PartialEq + Debug + Copy>(rt: &R, found: T, wanted: T) {
@@ -57,18 +54,17 @@ pub fn ended(offset: usize) -> Option<HalfMatch> {
     Some(HalfMatch::new(PatternID::ZERO, offset))
 }
 
-/// Runs a job and compares its output.
-fn replay<R: Abort + AllocGlobal>(rt: &R, line: &str, wanted: &str) -> Result<(), Fail> {
-    let answer = verbs::answer(rt.alloc(), &Job::read(rt.alloc(), line)?)?;
-    same_at(rt, line, answer.as_str(), wanted);
+/// Runs the job of an example and compares its output.
+fn replay<R: Abort + AllocGlobal>(rt: &R, example: &Example) -> Result<(), Fail> {
+    let output = verbs::output(rt.alloc(), &Job::read(example.job)?)?;
+    same_at(rt, example.name, output.as_str(), example.output);
     Ok(())
 }
 
 #[test]
 fn walks(rt: HostRuntime) -> Result<(), Fail> {
-    for walk in answers::walks() {
-        let (_, line, wanted) = answers::parts(walk);
-        replay(&rt, line, wanted)?;
+    for example in examples() {
+        replay(&rt, example)?;
     }
     Ok(())
 }

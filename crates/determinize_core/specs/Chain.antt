@@ -2,10 +2,9 @@
 use Rattle.std.specs.Prelude.{◌≡◌, ℕ, suc, Option, Some, List, [], ◌∷◌, drop, length, map, slice_get}
 use Rattle.std.specs.List.{range_with_len}
 use Rattle.determinize_below.specs.declared.search.MatchKind.{MatchKind}
-use Rattle.determinize_below.specs.Nfa.{Nfa}
-use Rattle.determinize_below.specs.Positions.{Text, after_at}
+use Rattle.determinize_below.specs.Semantics.{Nfa, Text, after_at}
 use Rattle.determinize_core.specs.Step.{start_value, step}
-use Rattle.determinize_states.specs.Value.{Value}
+use Rattle.determinize_state.specs.Value.{Value}
 
 -- a value, and the values after each of the units
 abbrev pub future : Nfa → MatchKind → Value → List (Option ℕ) → List Value

@@ -3,8 +3,8 @@ use Rattle.std.specs.Prelude.{◌≡◌, ℕ, ◌∷◌, ◌++◌, [], List}
 use Rattle.determinize_below.specs.Edges.{reach_past}
 use Rattle.determinize_below.specs.Look.{has}
 use Rattle.determinize_below.specs.Members.{Members}
-use Rattle.determinize_below.specs.Nfa.{Nfa}
-use Rattle.determinize_below.specs.Reached.{IsBeginning}
+use Rattle.determinize_below.specs.Semantics.{Nfa}
+use Rattle.ordered_reach.specs.Runs.{IsBeginning}
 
 -- the states that the closure of a state adds to a set, given the states in the set and the assertions that hold
 abbrev pub closure_of : Nfa → ℕ → List ℕ → ℕ → List ℕ

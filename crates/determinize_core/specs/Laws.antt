@@ -2,30 +2,31 @@
 use Rattle.std.specs.Prelude.{◌≡◌, ℕ, suc, ◌+◌, ◌*◌, ◌<◌, ◌≤◌, ◌⊎◌, Bool, true, Option, None, Some, List, [], ◌∷◌, ◌++◌, length, map, nat_eq, option_map}
 use Rattle.std.specs.Option.{option_or}
 use Rattle.determinize_below.specs.Captures.{HasNoCaptureCycle}
-use Rattle.determinize_below.specs.Edges.{edges, target, reach, reach_past, state_at}
-use Rattle.determinize_below.specs.Nfa.{Nfa, IsAccepted}
-use Rattle.determinize_below.specs.Node.{Capture}
-use Rattle.determinize_below.specs.Positions.{Accepts, IsPreferredRun, IsRun, Text, between}
+use Rattle.determinize_below.specs.Edges.{edges, target, reach, reach_past}
+use Rattle.determinize_below.specs.Semantics.{state_at, Nfa, Capture, Accepts, IsPreferredRun, Text, between}
+use Rattle.determinize_below.specs.Nfa.{IsAccepted}
+use Rattle.determinize_below.specs.Positions.{IsRun}
 use Rattle.determinize_below.specs.Reached.{IsKnownReached, IsReached}
-use Rattle.determinize_below.specs.Reach.{member}
+use Rattle.ordered_reach.specs.Reach.{member}
 use Rattle.determinize_below.specs.declared.look.Look.{Look as Assertion}
 use Rattle.determinize_below.specs.declared.search.HalfMatch.{HalfMatch}
 use Rattle.determinize_below.specs.declared.search.MatchKind.{MatchKind}
 use Rattle.determinize_below.specs.declared.search.MatchKind.TheVariants.{All, LeftmostFirst}
 use Rattle.determinize_core.specs.Chain.{FollowsItself, chain, future, units, value_after}
 use Rattle.determinize_core.specs.Step.{step}
-use Rattle.determinize_states.specs.Recording.{with_states}
+use Rattle.determinize_state.specs.Recording.{with_states}
 use Rattle.determinize_core.specs.Tries.{tries, edges_in_all}
-use Rattle.determinize_states.specs.Value.{Value, dead}
-use Rattle.determinize_core.specs.Walk.{ListsAccepted, IsWalkOfAll, IsLeftmostWalk, IsFarthestMatch, ended_at, last_match}
+use Rattle.determinize_state.specs.Value.{Value, dead}
+use Rattle.determinize_core.specs.LastMatch.{lists_of, IsFarthestMatch, ended_at, last_match}
+use Rattle.determinize_core.specs.Walk.{ListsAccepted, IsWalkOfAll, IsLeftmostWalk}
 use Rattle.determinize_core.specs.WalkStates.{RecordsReached}
 
 -- the theorem: for every valid NFA, the walk over each text lists all matches under `All`, and finds the most
 -- preferred one under `LeftmostFirst`
 abbrev pub EachChainIsTrue : Type 0
 EachChainIsTrue = (nfa : Nfa) → IsAccepted nfa → (start : ℕ) (text : Text)
-    → IsWalkOfAll nfa start text (chain nfa All start text)
-    × IsLeftmostWalk nfa start text (chain nfa LeftmostFirst start text)
+    → IsWalkOfAll nfa start text (lists_of (chain nfa All start text))
+    × IsLeftmostWalk nfa start text (lists_of (chain nfa LeftmostFirst start text))
 
 -- and each of its values but the last records the NFA states that runs reach
 abbrev pub EachChainReaches : Type 0

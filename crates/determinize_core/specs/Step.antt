@@ -6,14 +6,14 @@ use Rattle.determinize_below.specs.declared.look.Look.{Look as Assertion}
 use Rattle.determinize_below.specs.declared.search.MatchKind.{MatchKind}
 use Rattle.determinize_below.specs.declared.search.MatchKind.TheVariants.{All, LeftmostFirst}
 use Rattle.determinize_below.specs.Look.{has, each_look}
-use Rattle.determinize_below.specs.Nfa.{Nfa}
+use Rattle.determinize_below.specs.Semantics.{Nfa}
 use Rattle.determinize_below.specs.Edges.{target, is_match, patterns_of, reach}
-use Rattle.determinize_below.specs.Reach.{fresh, joined, none_held}
-use Rattle.determinize_below.specs.Runs.{before}
-use Rattle.determinize_looks.specs.LookTables.{tables_of, start_have, start_from_word, start_half_crlf, opened, have_after, from_word_after, half_crlf_after, have_at_start, from_word_at_start, half_crlf_at_start}
-use Rattle.determinize_looks.specs.declared.start.Start.{Start as Kind}
-use Rattle.determinize_states.specs.Recording.{recorded}
-use Rattle.determinize_states.specs.Value.{Value, is_nonempty, with_flags, with_looks}
+use Rattle.ordered_reach.specs.Reach.{fresh, joined, none_held}
+use Rattle.ordered_reach.specs.Runs.{before}
+use Rattle.determinize_start.specs.LookTables.{tables_of, start_have, start_from_word, start_half_crlf, opened, have_after, from_word_after, half_crlf_after, have_at_start, from_word_at_start, half_crlf_at_start}
+use Rattle.determinize_start.specs.declared.start.Start.{Start as Kind}
+use Rattle.determinize_state.specs.Recording.{recorded}
+use Rattle.determinize_state.specs.Value.{Value, is_nonempty, with_flags, with_looks}
 
 -- a value without NFA states
 abbrev pub begun : Bool → Bool → ℕ → List ℕ → Value

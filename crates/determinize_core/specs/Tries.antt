@@ -4,11 +4,11 @@ use Rattle.determinize_below.specs.declared.look.Look.{Look as Assertion}
 use Rattle.determinize_below.specs.declared.search.MatchKind.{MatchKind}
 use Rattle.determinize_below.specs.Edges.{edges, reach}
 use Rattle.determinize_below.specs.Look.{has}
-use Rattle.determinize_below.specs.Nfa.{Nfa}
-use Rattle.determinize_below.specs.Reach.{edge_count, joined, nodes_below}
+use Rattle.determinize_below.specs.Semantics.{Nfa}
+use Rattle.ordered_reach.specs.Reach.{edge_count, joined, nodes_below}
 use Rattle.determinize_core.specs.Step.{opened_by, is_reopened, distinct_states, targets}
-use Rattle.determinize_looks.specs.LookTables.{tables_of, have_after}
-use Rattle.determinize_states.specs.Value.{Value}
+use Rattle.determinize_start.specs.LookTables.{tables_of, have_after}
+use Rattle.determinize_state.specs.Value.{Value}
 
 -- the tries of a closure into the empty set: one for each root, and one for each edge of the states that it lists
 abbrev pub tries_of : Nfa → (Assertion → Bool) → List ℕ → ℕ

@@ -1,11 +1,11 @@
 -- The NFA states that the values of a walk record.
 use Rattle.std.specs.Prelude.{◌≡◌, ℕ, suc, ◌≤◌, Some, None, List, [], length, slice_get}
-use Rattle.determinize_below.specs.Nfa.{Nfa}
-use Rattle.determinize_below.specs.Positions.{Text}
-use Rattle.determinize_below.specs.Reached.{IsBeginning, IsKnownReached}
+use Rattle.determinize_below.specs.Semantics.{Nfa, Text}
+use Rattle.ordered_reach.specs.Runs.{IsBeginning}
+use Rattle.determinize_below.specs.Reached.{IsKnownReached}
 use Rattle.determinize_below.specs.declared.search.MatchKind.{MatchKind}
 use Rattle.determinize_below.specs.declared.search.MatchKind.TheVariants.{All, LeftmostFirst}
-use Rattle.determinize_states.specs.Value.{Value}
+use Rattle.determinize_state.specs.Value.{Value}
 
 -- the part of a list that is recorded: all of it, or under `LeftmostFirst` a prefix
 abbrev pub IsPartKept : MatchKind → List ℕ → List ℕ → Type 0

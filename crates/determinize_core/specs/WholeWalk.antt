@@ -1,20 +1,21 @@
 -- What a walk returns.
 use Rattle.std.specs.Prelude.{◌≡◌, ℕ, All, List}
-use Rattle.determinize_below.specs.Nfa.{AllResolve, Nfa}
-use Rattle.determinize_below.specs.Positions.{Text}
+use Rattle.determinize_below.specs.Nfa.{AllResolve}
+use Rattle.determinize_below.specs.Semantics.{Nfa, Text}
 use Rattle.determinize_below.specs.declared.search.MatchKind.{MatchKind}
 use Rattle.determinize_below.specs.declared.search.MatchKind.TheVariants as kinds
 use Rattle.determinize_core.specs.Chain.{FollowsItself, chain}
+use Rattle.determinize_core.specs.LastMatch.{lists_of}
 use Rattle.determinize_core.specs.Walk.{IsLeftmostWalk, IsWalkOfAll}
 use Rattle.determinize_core.specs.WalkStates.{RecordsReached}
-use Rattle.determinize_states.specs.Value.{Value}
+use Rattle.determinize_state.specs.Value.{Value}
 
 -- the values of the walk from an NFA state over a text: by computation, by the runs that they list, by the NFA
 -- states that they record, and that each of them determines the rest
 pub record IsWalk (nfa : Nfa) (kind : MatchKind) (start : ℕ) (text : Text) (states : List Value) : Type 0 where
   pub values : states ≡ chain nfa kind start text
-  pub all : kind ≡ kinds.All → IsWalkOfAll nfa start text states
-  pub leftmost_first : kind ≡ kinds.LeftmostFirst → IsLeftmostWalk nfa start text states
+  pub all : kind ≡ kinds.All → IsWalkOfAll nfa start text (lists_of states)
+  pub leftmost_first : kind ≡ kinds.LeftmostFirst → IsLeftmostWalk nfa start text (lists_of states)
   pub records : RecordsReached nfa kind start text states
   pub follows : FollowsItself nfa kind text states
   pub resolve : All (λ (state : Value). AllResolve nfa state.states) states

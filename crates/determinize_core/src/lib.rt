@@ -10,5 +10,5 @@
 pub mod determinize;
 pub mod laws;
 
-pub use determinize_looks::{look_laws, start};
-pub use determinize_states::{state, state_laws};
+pub use determinize_start::{look_laws, look_tables, start};
+pub use determinize_state::{recording, state, state_laws};

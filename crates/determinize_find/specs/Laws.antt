@@ -1,14 +1,14 @@
 -- Laws of the leftmost match.
-use Rattle.std.specs.Prelude.{◌≡◌, ◌<◌, ◌≤◌, ◌+◌, ◌↔◌, ℕ, All, List, None, Option, length, option_map}
-use Rattle.determinize_below.specs.Nfa.{Nfa}
-use Rattle.determinize_below.specs.Positions.{Text}
+use Rattle.std.specs.Prelude.{◌≡◌, ◌<◌, ◌≤◌, ◌+◌, ◌↔◌, ℕ, All, List, None, Option, false, length, option_map}
+use Rattle.std.specs.List.{Contains}
+use Rattle.determinize_below.specs.Semantics.{Nfa, Text}
 use Rattle.determinize_below.specs.Search.{Asked}
 use Rattle.determinize_below.specs.declared.search.HalfMatch.{HalfMatch}
 use Rattle.determinize_below.specs.declared.search.Match.{Match}
-use Rattle.determinize_core.specs.Walk.{IsPreferredMatch}
+use Rattle.determinize_core.specs.LastMatch.{IsPreferredMatch}
 use Rattle.determinize_find.specs.Leftmost.{AcceptsFrom, IsLeftmost}
-use Rattle.determinize_find.specs.LeftmostIn.{IsLeftmostIn}
-use Rattle.determinize_find.specs.Matches.{AreApart, AreMatches}
+use Rattle.determinize_find.specs.LeftmostIn.{IsLeftmostIn, is_anchored}
+use Rattle.determinize_find.specs.Matches.{AreApart, AreMatches, BeginsAt, Covers}
 use Rattle.determinize_find.specs.Prefix.{HasPrefix}
 use Rattle.determinize_find.specs.Reversal.{IsMirrored, turned, upto}
 use Rattle.determinize_find.specs.Since.{since}
@@ -66,3 +66,10 @@ abbrev pub EachMatchesAreApart : Type 0
 EachMatchesAreApart = (nfa : Nfa) (asked : Asked) (ms : List Match)
     → asked.end ≤ length asked.haystack → AreMatches nfa asked None ms
     → AreApart asked.start None asked.end ms
+
+-- no match is passed over: where one begins, a match of the list covers the index
+abbrev pub EachStartIsCovered : Type 0
+EachStartIsCovered = (nfa : Nfa) (asked : Asked) (ms : List Match) (at : ℕ)
+    → is_anchored nfa asked.anchored ≡ false → asked.end ≤ length asked.haystack
+    → AreMatches nfa asked None ms → at ≤ asked.end → BeginsAt nfa asked at
+    → (m : Match) × Contains ms m × Covers nfa asked at m

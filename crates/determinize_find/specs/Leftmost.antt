@@ -1,9 +1,8 @@
 -- Runs from any position, and the leftmost match.
 use Rattle.std.specs.Prelude.{◌≡◌, ◌<◌, ◌≤◌, ◌⊎◌, ℕ, List, None, Option, Some, []}
 use Rattle.determinize_below.specs.Edges.{pattern_of}
-use Rattle.determinize_below.specs.Nfa.{Nfa}
-use Rattle.determinize_below.specs.Paths.{Before, IsPath}
-use Rattle.determinize_below.specs.Positions.{Text, choices}
+use Rattle.determinize_below.specs.Semantics.{Nfa, Text, choices}
+use Rattle.ordered_reach.specs.Paths.{Before, IsPath}
 use Rattle.determinize_below.specs.declared.search.Match.{Match}
 
 -- the choices lead from the state at a position to the pair, and meet no pair twice

@@ -1,3 +1,4 @@
+pub mod Builder
 pub mod Cursors
 pub mod Laws
 pub mod Leftmost

@@ -1,9 +1,11 @@
 -- All matches of an input.
-use Rattle.std.specs.Prelude.{◌≡◌, ◌+◌, ◌<◌, ◌≤◌, ℕ, Bool, List, None, Option, Some, [], ◌∷◌, false, nat_eq, true}
+use Rattle.std.specs.Prelude.{◌≡◌, ◌+◌, ◌<◌, ◌≤◌, ◌⊎◌, ℕ, Bool, List, None, Option, Some, [], ◌∷◌, false, nat_eq, true}
 use mathlib.Core.Bool.{◌&&◌}
-use Rattle.determinize_below.specs.Nfa.{Nfa}
+use Rattle.determinize_below.specs.Semantics.{Nfa}
 use Rattle.determinize_below.specs.Search.{Asked}
 use Rattle.determinize_below.specs.declared.search.Match.{Match}
+use Rattle.determinize_lazy.specs.Searches.{text_of}
+use Rattle.determinize_find.specs.Leftmost.{AcceptsFrom}
 use Rattle.determinize_find.specs.LeftmostIn.{IsLeftmostIn}
 
 -- the input whose range starts at this index
@@ -32,6 +34,21 @@ abbrev pub AreMatches : Nfa → Asked → Option ℕ → List Match → Type 0
 AreMatches nfa asked before [] = IsNext nfa asked before None
 AreMatches nfa asked before (m ∷ ms) =
     IsNext nfa asked before (Some m) × AreMatches nfa (from asked m.end) (Some m.end) ms
+
+-- some run from the anchored start that accepts begins at this index of the haystack
+abbrev pub BeginsAt : Nfa → Asked → ℕ → Type 0
+BeginsAt nfa asked at = (k : ℕ) × (asked.start + k ≡ at) × (cs : List ℕ) × (i : ℕ) × (pattern : ℕ)
+    × AcceptsFrom nfa (text_of false asked) k nfa.start_anchored cs i pattern
+
+-- the leftmost match from this index on begins and ends here
+abbrev pub IsEmptyAt : Nfa → Asked → ℕ → Type 0
+IsEmptyAt nfa asked at = (pattern : ℕ)
+    × IsLeftmostIn nfa (from asked at) (Some record { pattern = pattern; start = at; end = at })
+
+-- the index is in the match, or at its end and the leftmost match from there on is empty
+abbrev pub Covers : Nfa → Asked → ℕ → Match → Type 0
+Covers nfa asked at m =
+    (m.start ≤ at) × ((at < m.end) ⊎ ((m.end ≡ at) × IsEmptyAt nfa asked at))
 
 -- each match is in the range, begins at the end of the one before it or later, and ends later
 abbrev pub AreApart : ℕ → Option ℕ → ℕ → List Match → Type 0

@@ -1,6 +1,6 @@
 -- What a `Regex` is seen as.
 use Rattle.std.specs.Prelude.{ℕ}
-use Rattle.determinize_below.specs.Nfa.{Nfa}
+use Rattle.determinize_below.specs.Semantics.{Nfa}
 
 -- the NFA that reads forward, and the greatest number of states of each cache
 pub record RegexValue : Type 0 where

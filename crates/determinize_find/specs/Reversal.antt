@@ -1,7 +1,9 @@
 -- A text that is read in the other direction, from a position on.
-use Rattle.std.specs.Prelude.{◌≡◌, ◌+◌, ◌-◌, ◌≤◌, ◌↔◌, ℕ, List, None, length, not, reverse, slice_get, suc, take}
-use Rattle.determinize_below.specs.Nfa.{Nfa}
-use Rattle.determinize_below.specs.Positions.{Accepts, Text, after_at, before_at, between}
+use Rattle.std.specs.Prelude.{◌≡◌, ◌+◌, ◌-◌, ◌<◌, ◌≤◌, ◌↔◌, ◌⊎◌, ℕ, List, None, length, nat_eq, not, reverse, slice_get, suc, take}
+use Rattle.std.specs.List.{count_by, sum_by}
+use Rattle.determinize_below.specs.Semantics.{Nfa, Node, ByteRange, Sparse, Dense, Look, Accepts, Text, after_at, before_at, between}
+use Rattle.determinize_below.specs.declared.nfa.BuildError.{BuildError}
+use Rattle.determinize_below.specs.declared.nfa.BuildError.TheVariants.{OutOfMemory, TooManyStates}
 use Rattle.determinize_find.specs.Leftmost.{AcceptsFrom}
 
 -- the text in the other direction
@@ -27,3 +29,19 @@ pub record IsReverseOf (backward nfa : Nfa) : Type 0 where
       → ((cs : List ℕ) × (other : ℕ)
       × Accepts backward (turned (upto text j)) backward.start_anchored cs (j - k) other)
       ↔ ((cs : List ℕ) × (pattern : ℕ) × AcceptsFrom nfa text k nfa.start_anchored cs j pattern)
+
+-- how many ranges of bytes, bytes of a table, and assertions a state has
+abbrev pub reads_in : Node → ℕ
+reads_in (ByteRange t) = 1
+reads_in (Sparse ts) = length ts
+reads_in (Dense ids) = count_by (λ id. not (nat_eq id 0)) ids
+reads_in (Look look next) = 1
+reads_in _ = 0
+
+-- the most states that the reversed NFA may have
+abbrev pub most_states : Nfa → ℕ
+most_states nfa = length nfa.states + sum_by reads_in nfa.states + 2
+
+-- an allocation failed, or there are too many states
+abbrev pub IsTooLarge : ℕ → BuildError → Type 0
+IsTooLarge count e = (e ≡ OutOfMemory) ⊎ ((e ≡ TooManyStates) × (2147483647 < count))

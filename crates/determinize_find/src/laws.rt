@@ -1,6 +1,7 @@
 //! Laws of the leftmost match, as public functions with empty bodies.
 
 ghost use Rattle.determinize_find.specs.Laws.{EachAnchoredIsLeftmost, EachLeftmostInIsOne, EachLeftmostIsOne, EachMatchesAreApart, EachMatchesAreOne, EachPreferredIsLeftmost, EachReadingIsMirrored, EachRunMoves, EachRunReadsForward};
+ghost use Rattle.determinize_find.specs.Laws.{EachStartIsCovered};
 
 /// A text has at most one leftmost match.
 pub fn leftmost_law()
@@ -29,9 +30,12 @@ pub fn mirror_law()
 {}
 
 /// An input has at most one leftmost match, and its matches are at most one list. They are in the
-/// range, do not overlap, and each ends later than the one before.
+/// range, do not overlap, and each ends later than the one before. In an input that is not anchored
+/// none is passed over: where a run begins that accepts, a match of the list contains the index, or
+/// ends there and the leftmost match from there on is empty.
 pub fn matches_law()
     ensures leftmost { EachLeftmostInIsOne }
     ensures one { EachMatchesAreOne }
     ensures apart { EachMatchesAreApart }
+    ensures covered { EachStartIsCovered }
 {}

@@ -4,6 +4,7 @@
 //! states. The caches stay usable: later results are the same.
 #![tactic(auto)]
 
+pub mod builder;
 pub mod iter;
 pub mod laws;
 pub mod plain;
@@ -12,7 +13,9 @@ mod reached;
 pub mod regex;
 pub mod reversal;
 
+pub use builder::Builder;
 pub use determinize_below::search::Match;
 pub use iter::Searcher;
+pub use prefix::has_prefix;
 pub use regex::Regex;
 pub use reversal::reversed;

@@ -3,7 +3,7 @@
 //! These calls accept any NFA that reads forward, without a prefix and without a second NFA. An
 //! input may be read once from each index of its range.
 
-ghost use Rattle.std.specs.Prelude.{◌≡◌, ◌≤◌, false, true, None, option_map, IfOk};
+ghost use Rattle.std.specs.Prelude.{◌≡◌, ◌≤◌, cond, false, true, None, option_map, IfOk};
 ghost use Rattle.std.specs.Option.{IfSome};
 ghost use Rattle.determinize_below.specs.declared.search.MatchKind.TheVariants as kinds;
 ghost use Rattle.determinize_lazy.specs.Searches.{has_start};
@@ -24,6 +24,18 @@ fn is_anchored<N: Allocator>(nfa: &NFA<N>, anchored: Anchored) -> bool
     match anchored {
         Anchored::No => nfa.start_unanchored() == nfa.start_anchored(),
         Anchored::Yes | Anchored::Pattern(_) => true,
+    }
+}
+
+/// Returns the last index of the range at which a match may begin.
+fn latest_start<N: Allocator>(nfa: &NFA<N>, input: &Input<'_>) -> usize
+    ensures { result ≡ cond (inputs.is_anchored nfa.now input.now.anchored)
+        input.now.start input.now.end }
+{
+    if is_anchored(nfa, input.get_anchored()) {
+        input.start()
+    } else {
+        input.end()
     }
 }
 
@@ -86,8 +98,7 @@ pub fn find<N: Allocator, A: Allocator + Copy>(
     if start > end {
         return Ok(None);
     }
-    let is_fixed = is_anchored(lazy.nfa(), input.get_anchored());
-    let latest = if is_fixed { start } else { end };
+    let latest = latest_start(lazy.nfa(), input);
     for at in start..latest {
         if let Some(found) = find_at(lazy, input, at)? {
             return Ok(Some(found));

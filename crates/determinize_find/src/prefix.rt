@@ -3,7 +3,7 @@
 ghost use Rattle.std.specs.Prelude.{◌≡◌, ℕ, true, nat_eq};
 ghost use Rattle.std.specs.List.{list_any};
 ghost use Rattle.std.specs.Bool.{Decides};
-ghost use Rattle.determinize_below.specs.Edges.{state_at};
+ghost use Rattle.determinize_below.specs.Semantics.{state_at};
 ghost use Rattle.determinize_below.specs.Node.{node_of};
 ghost use Rattle.determinize_find.specs.Prefix as prefixes;
 ghost use Rattle.determinize_find.specs.Prefix.{HasPrefix};
@@ -28,7 +28,7 @@ fn have_target(transitions: &[Transition], id: StateID) -> bool
 }
 
 /// Returns whether the state has a transition to the id, over some byte or without input.
-fn leads_to<A: Allocator>(state: &State<A>, id: StateID) -> bool
+pub(crate) fn leads_to<A: Allocator>(state: &State<A>, id: StateID) -> bool
     ensures { result ≡ prefixes.leads_to id (node_of state.now) }
 {
     match state {

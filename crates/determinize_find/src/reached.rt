@@ -1,7 +1,7 @@
 //! The states of an NFA that its anchored start reaches.
 
 ghost use Rattle.std.specs.Prelude.{◌≡◌, ◌<◌, All, IfOk, OnOk, length, map, nat_eq, not, slice_get, true};
-ghost use Rattle.std.specs.List.{filter};
+ghost use Rattle.std.specs.List.{IsDistinct, filter};
 ghost use Rattle.determinize_below.specs.Nfa.{AllResolve, resolves};
 ghost use Rattle.determinize_below.specs.Node.{node_of};
 ghost use Rattle.determinize_find.specs.Private.Closed.{IsClosed, all_visited, targets_in, visited};
@@ -120,6 +120,7 @@ pub(crate) fn reached<N: Allocator, A: Allocator + Copy>(
 ) -> Result<Vec<StateID, A>, AllocError>
     ensures closed { IfOk result (λ met. IsClosed nfa.now met.items) }
     ensures below { IfOk result (λ met. AllResolve nfa.now met.items) }
+    ensures distinct { IfOk result (λ met. IsDistinct nat_eq met.items) }
 {
     let (set, order) = (SparseSet::new(alloc, nfa.len())?, Vec::new(alloc));
     let mut found = Found { set, order };

@@ -7,7 +7,7 @@ ghost use Rattle.determinize_lazy.specs.Searches.{has_start};
 ghost use Rattle.determinize_find.specs.LeftmostIn.{IsLeftmostIn};
 ghost use Rattle.determinize_find.specs.Matches.{AreMatches};
 ghost use Rattle.determinize_find.specs.Prefix.{HasPrefix};
-ghost use Rattle.determinize_find.specs.Private.Begins.{IsBeginOf, IsEndOf, IsEnding};
+ghost use Rattle.determinize_find.specs.Private.Begins.{IsBeginOf, IsEndOf, IsEnding, asked_of};
 ghost use Rattle.determinize_find.specs.Reversal.{IsReverseOf};
 
 use crate::iter::Searcher;
@@ -64,12 +64,8 @@ impl<'n, N: Allocator, B: Allocator, A: Allocator + Copy> Regex<'n, N, B, A> {
         requires in_haystack { range.end ≤ length haystack.now }
         requires near { range.start ≤ range.end + 1 }
         requires start { has_start anchored ≡ true }
-        ensures end { IfOk result (λ found. IsEnding self.old.nfa record {
-          haystack = haystack.now;
-          start = range.start;
-          end = range.end;
-          anchored = anchored;
-        } found) }
+        ensures end { IfOk result (λ found.
+            IsEnding self.old.nfa (asked_of haystack.now range.start range.end anchored) found) }
         ensures same { self.new ≡ self.old }
     {
         let input = Input::new(haystack).range(range).anchored(anchored);
@@ -98,7 +94,7 @@ impl<'n, N: Allocator, B: Allocator, A: Allocator + Copy> Regex<'n, N, B, A> {
     /// The bytes next to the range are seen by assertions. If the range starts past its end, the
     /// result is `Ok(None)`. An input that is anchored needs no search backward.
     pub fn find(&mut self, input: &Input<'_>) -> Result<Option<Match>, AllocError>
-        requires { has_start input.now.anchored ≡ true }
+        requires start { has_start input.now.anchored ≡ true }
         ensures leftmost { IfOk result (λ found. IsLeftmostIn self.old.nfa input.now found) }
         ensures within { IfOk result (λ found. IfSome found (λ m.
             (input.now.start ≤ m.start) × (m.start ≤ m.end) × (m.end ≤ input.now.end))) }
@@ -130,12 +126,9 @@ impl<'n, N: Allocator, B: Allocator, A: Allocator + Copy> Regex<'n, N, B, A> {
         requires in_haystack { range.end ≤ length haystack.now }
         requires near { range.start ≤ range.end + 1 }
         requires start { has_start anchored ≡ true }
-        ensures found { IfOk result (λ found. Decides found (IsLeftmostIn self.old.nfa record {
-          haystack = haystack.now;
-          start = range.start;
-          end = range.end;
-          anchored = anchored;
-        } None → ⊥)) }
+        ensures found { IfOk result (λ found. Decides found
+            (IsLeftmostIn self.old.nfa (asked_of haystack.now range.start range.end anchored) None
+            → ⊥)) }
         ensures same { self.new ≡ self.old }
     {
         let input = Input::new(haystack).range(range).anchored(anchored);
@@ -144,7 +137,7 @@ impl<'n, N: Allocator, B: Allocator, A: Allocator + Copy> Regex<'n, N, B, A> {
 
     /// Returns whether an input has a match. Stops where the end of one is found.
     pub fn is_match(&mut self, input: &Input<'_>) -> Result<bool, AllocError>
-        requires { has_start input.now.anchored ≡ true }
+        requires start { has_start input.now.anchored ≡ true }
         ensures found { IfOk result
             (λ found. Decides found (IsLeftmostIn self.old.nfa input.now None → ⊥)) }
         ensures same { self.new ≡ self.old }
@@ -159,7 +152,7 @@ impl<'n, N: Allocator, B: Allocator, A: Allocator + Copy> Regex<'n, N, B, A> {
         alloc: C,
         input: &Input<'_>,
     ) -> Result<Vec<Match, C>, AllocError>
-        requires { has_start input.now.anchored ≡ true }
+        requires start { has_start input.now.anchored ≡ true }
         ensures all { IfOk result (λ found. AreMatches self.old.nfa input.now None found.items) }
         ensures same { self.new ≡ self.old }
     {

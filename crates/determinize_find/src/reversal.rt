@@ -1,11 +1,16 @@
 //! The NFA that reads in the other direction.
+//!
+//! Each range of bytes and each assertion becomes a state of its own between target and source, and
+//! epsilon transitions are turned. The start is a union of the match states, and the anchored start
+//! becomes the one match state.
 
-ghost use Rattle.std.specs.Prelude.{◌≡◌, ◌<◌, ◌≤◌, All, IfOk, OnOk, length, map, true};
+ghost use Rattle.std.specs.Prelude.{◌≡◌, ◌+◌, ◌<◌, ◌≤◌, All, IfErr, IfOk, OnOk, length, map, true};
 ghost use Rattle.determinize_below.specs.Nfa.{is_dense_sound, resolves};
+ghost use Rattle.determinize_below.specs.Semantics as nodes;
 ghost use Rattle.determinize_below.specs.Node.{node_of};
 ghost use Rattle.determinize_find.specs.Private.Gathered as states;
 ghost use Rattle.determinize_find.specs.Private.Turning as turning;
-ghost use Rattle.determinize_find.specs.Reversal.{IsReverseOf};
+ghost use Rattle.determinize_find.specs.Reversal.{IsReverseOf, IsTooLarge, most_states, reads_in};
 
 use crate::reached::reached;
 use determinize_below::nfa::{BuildError, State, Transition};
@@ -68,7 +73,9 @@ impl<A: Allocator + Copy> Turned<A> {
     fn add_state(&mut self, from: StateID, state: State<A>) -> Result<(), BuildError>
         requires from { from < length self.old.into }
         requires small { length self.old.into ≤ 2147483647 }
-        ensures { OnOk result (self.new ≡ turning.with_state self.old from (node_of state)) }
+        ensures turned { OnOk result (self.new ≡ turning.with_state self.old from (node_of state)) }
+        ensures err { IfErr result (λ e.
+            IsTooLarge (turning.total self.old + 1) e) }
     {
         let id = StateID::new(self.into.len() + 2 + self.rest.len())?;
         self.rest.push(state)?;
@@ -80,8 +87,10 @@ impl<A: Allocator + Copy> Turned<A> {
     fn add_range(&mut self, state: StateID, range: Transition) -> Result<(), BuildError>
         requires next { range.next < length self.old.into }
         requires small { length self.old.into ≤ 2147483647 }
-        ensures { OnOk result
+        ensures turned { OnOk result
             (self.new ≡ turning.with_state self.old range.next (turning.range_to state range)) }
+        ensures err { IfErr result (λ e.
+            IsTooLarge (turning.total self.old + 1) e) }
     {
         let Transition { start, end, next } = range;
         let trans = Transition {
@@ -96,7 +105,9 @@ impl<A: Allocator + Copy> Turned<A> {
     fn add_ranges(&mut self, state: StateID, ranges: &[Transition]) -> Result<(), BuildError>
         requires next { All (λ r. r.next < length self.old.into) ranges.now }
         requires small { length self.old.into ≤ 2147483647 }
-        ensures { OnOk result (self.new ≡ turning.with_ranges self.old state ranges.now) }
+        ensures turned { OnOk result (self.new ≡ turning.with_ranges self.old state ranges.now) }
+        ensures err { IfErr result (λ e.
+            IsTooLarge (turning.total self.old + length ranges.now) e) }
     {
         for range in ranges {
             self.add_range(state, *range)?;
@@ -109,7 +120,9 @@ impl<A: Allocator + Copy> Turned<A> {
         requires next { All (λ id. id < length self.old.into) targets.now }
         requires whole { length targets.now ≡ 256 }
         requires small { length self.old.into ≤ 2147483647 }
-        ensures { OnOk result (self.new ≡ turning.with_table self.old state 0 targets.now) }
+        ensures turned { OnOk result (self.new ≡ turning.with_table self.old state 0 targets.now) }
+        ensures err { IfErr result (λ e.
+            IsTooLarge (turning.total self.old + reads_in (nodes.Dense targets.now)) e) }
     {
         for (byte, next) in targets.iter().enumerate() {
             if *next != StateID::ZERO {
@@ -136,7 +149,9 @@ impl<A: Allocator + Copy> Turned<A> {
         requires resolves { resolves (length self.old.into) (node_of state.now) ≡ true }
         requires whole { is_dense_sound (node_of state.now) ≡ true }
         requires small { length self.old.into ≤ 2147483647 }
-        ensures { OnOk result (self.new ≡ turning.with_node self.old id (node_of state.now)) }
+        ensures turned { OnOk result (self.new ≡ turning.with_node self.old id (node_of state.now)) }
+        ensures err { IfErr result (λ e.
+            IsTooLarge (turning.total self.old + reads_in (node_of state.now)) e) }
     {
         match state {
             State::ByteRange { trans } => self.add_range(id, *trans)?,
@@ -196,12 +211,16 @@ fn gathered<A: Allocator>(alternates: Vec<StateID, A>) -> State<A>
 /// position.
 ///
 /// Both of its starts are one state, and its one pattern is 0. It reverses the transitions of the
-/// states that the anchored start reaches.
+/// states that the anchored start reaches. Returns `TooManyStates` only if two states more than
+/// those of the NFA, one for each range of bytes, each assertion and each target of a dense state
+/// are above the limit.
 pub fn reversed<N: Allocator, A: Allocator + Copy>(
     alloc: A,
     nfa: &NFA<N>,
 ) -> Result<NFA<A>, BuildError>
     ensures reverse { IfOk result (λ backward. IsReverseOf backward nfa.now) }
+    ensures size { IfOk result (λ backward. length backward.states ≤ most_states nfa.now) }
+    ensures err { IfErr result (λ e. IsTooLarge (most_states nfa.now) e) }
 {
     let count = nfa.len();
     let (begin, start) = (StateID::new(count)?, StateID::new(count + 1)?);

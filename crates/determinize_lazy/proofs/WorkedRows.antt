@@ -2,10 +2,10 @@
 use Rattle.determinize_lazy.proofs.Common.{refl}
 use Rattle.determinize_below.specs.Edges.{reach}
 use Rattle.determinize_below.specs.Look.{has, insert, meets}
-use Rattle.determinize_below.specs.Unit.{is_word_byte}
-use Rattle.determinize_looks.specs.LookTables.{insert_where, known_set, word_opened, line_opened, opened, have_after}
-use Rattle.determinize_looks.specs.LookTables.{from_word_after, half_crlf_after, start_have, start_from_word}
-use Rattle.determinize_looks.specs.LookTables.{start_half_crlf, have_at_start, from_word_at_start, half_crlf_at_start}
+use Rattle.determinize_below.specs.Semantics.{is_word_byte}
+use Rattle.determinize_start.specs.LookTables.{insert_where, known_set, word_opened, line_opened, opened, have_after}
+use Rattle.determinize_start.specs.LookTables.{from_word_after, half_crlf_after, start_have, start_from_word}
+use Rattle.determinize_start.specs.LookTables.{start_half_crlf, have_at_start, from_word_at_start, half_crlf_at_start}
 use Rattle.determinize_core.specs.Spelling.{spell}
 use Rattle.determinize_core.specs.Step.{step}
 use Rattle.determinize_core.specs.Varint.{varint}

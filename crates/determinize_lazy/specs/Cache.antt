@@ -1,7 +1,6 @@
 -- A bounded cache of transitions, and the rule of what it caches.
 use Rattle.std.specs.Prelude.{◌≡◌, ℕ, ◌+◌, ◌≤◌, ◌⊎◌, Bool, cond, Option, List, [], ◌∷◌, length, min, nat_le, take}
-use Rattle.determinize_below.specs.Nfa.{Nfa}
-use Rattle.determinize_below.specs.Positions.{Text}
+use Rattle.determinize_below.specs.Semantics.{Nfa, Text}
 use Rattle.determinize_below.specs.declared.search.MatchKind.{MatchKind}
 use Rattle.determinize_core.specs.Chain.{units}
 use Rattle.determinize_core.specs.Step.{start_value, step}
@@ -41,42 +40,33 @@ cache v = record {
 abbrev pub step_of : Cache → Value → Option ℕ → Value
 step_of c = step c.nfa c.kind
 
-module _ (f : Value → Option ℕ → Value) (limit : ℕ) where
-  -- whether the table with one more transition has at most `limit` states
-  abbrev pub fits : Table → Value → Option ℕ → Bool
-  fits t v u = nat_le (length (with_transition t v u (f v u)).states) limit
+-- whether the table with one more transition, from v over u to w, has at most `limit` states
+abbrev pub fits : ℕ → Table → Value → Option ℕ → Value → Bool
+fits limit t v u w = nat_le (length (with_transition t v u w).states) limit
 
-  -- the table with one more transition; if it does not fit, that transition only; if that does not
-  -- fit either, nothing
-  abbrev pub keep : Table → Value → Option ℕ → Table
-  keep t v u =
-      cond (fits t v u) (with_transition t v u (f v u))
-      (cond (fits empty v u) (with_transition empty v u (f v u)) empty)
-
-  -- the table after one step: a transition that is not cached is kept by this rule
-  abbrev pub after_step : Table → Value → Option ℕ → Table
-  after_step t v u = cond (is_cached t v u) t (keep t v u)
-
-  -- the table after a walk from a value over units
-  abbrev pub kept : Table → Value → List (Option ℕ) → Table
-  kept t v [] = t
-  kept t v (u ∷ us) = kept (after_step t v u) (f v u) us
-
-  -- how many transitions that walk computes: those that are not cached when they are reached
-  abbrev pub missed : Table → Value → List (Option ℕ) → ℕ
-  missed t v [] = 0
-  missed t v (u ∷ us) = cond (is_cached t v u) 0 1 + missed (after_step t v u) (f v u) us
+-- the table with one more transition; if it does not fit, that transition only; if that does not
+-- fit either, nothing
+abbrev pub keep : ℕ → Table → Value → Option ℕ → Value → Table
+keep limit t v u w =
+    cond (fits limit t v u w) (with_transition t v u w)
+    (cond (fits limit empty v u w) (with_transition empty v u w) empty)
 
 -- the count after n more computed transitions, which stays at the greatest number of 64 bits
 abbrev pub count_after : ℕ → ℕ → ℕ
 count_after computed n = min (computed + n) 18446744073709551615
 
+-- the cache after one step from a value over a unit: a transition that is not cached is computed,
+-- which is counted, and kept by this rule
+abbrev pub after_step : Cache → Value → Option ℕ → Cache
+after_step c v u = record c {
+  table = cond (is_cached c.table v u) c.table (keep c.limit c.table v u (step_of c v u));
+  computed = cond (is_cached c.table v u) c.computed (count_after c.computed 1);
+}
+
 -- the cache after a walk from a value over units
 abbrev pub after_walk : Cache → Value → List (Option ℕ) → Cache
-after_walk c v us = record c {
-  table = kept (step_of c) c.limit c.table v us;
-  computed = count_after c.computed (missed (step_of c) c.limit c.table v us);
-}
+after_walk c v [] = c
+after_walk c v (u ∷ us) = after_walk (after_step c v u) (step_of c v u) us
 
 -- the cache after the walk from an NFA state over a text
 unfoldable pub after_text : Cache → ℕ → Text → Cache
@@ -95,3 +85,7 @@ pub record Grows (old new : Cache) : Type 0 where
 pub record IsCutOff (old : Cache) (v : Value) (us : List (Option ℕ)) (new : Cache) : Type 0 where
   pub table : (new.table ≡ empty) ⊎ ((k : ℕ) × (new.table ≡ (after_walk old v (take k us)).table))
   pub counted : (k : ℕ) × (new.computed ≡ (after_walk old v (take k us)).computed)
+
+-- the same of the walk from an NFA state over a text
+abbrev pub IsCutOffText : Cache → ℕ → Text → Cache → Type 0
+IsCutOffText old start text new = IsCutOff old (start_value old.nfa start text.behind) (units text) new

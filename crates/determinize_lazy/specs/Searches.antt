@@ -3,8 +3,7 @@ use Rattle.std.specs.Prelude.{◌≡◌, ◌≤◌, ℕ, ◌+◌, ◌-◌, Bool,
 use Rattle.std.specs.Prelude.{[], ◌∷◌, length, option_map, reverse, slice_get}
 use Rattle.std.specs.List.{slice_range}
 use Rattle.std.specs.Option.{IfSome}
-use Rattle.determinize_below.specs.Nfa.{Nfa}
-use Rattle.determinize_below.specs.Positions.{Accepts, IsPreferredRun, Text, between}
+use Rattle.determinize_below.specs.Semantics.{Nfa, Accepts, IsPreferredRun, Text, between}
 use Rattle.determinize_below.specs.Search.{Asked, is_done}
 use Rattle.determinize_below.specs.declared.search.Anchored.{Anchored}
 use Rattle.determinize_below.specs.declared.search.Anchored.TheVariants.{No, Pattern, Yes}
@@ -12,10 +11,10 @@ use Rattle.determinize_below.specs.declared.search.HalfMatch.{HalfMatch}
 use Rattle.determinize_below.specs.declared.search.MatchKind.{MatchKind}
 use Rattle.determinize_below.specs.declared.search.MatchKind.TheVariants.{All, LeftmostFirst}
 use Rattle.determinize_core.specs.Chain.{chain, units}
-use Rattle.determinize_looks.specs.StartKinds.{byte_before}
+use Rattle.determinize_start.specs.StartKinds.{byte_before}
 use Rattle.determinize_core.specs.Step.{start_value}
 use Rattle.determinize_core.specs.Value.{Value, is_nonempty}
-use Rattle.determinize_core.specs.Walk.{IsFarthestMatch, IsPreferredMatch, last_match}
+use Rattle.determinize_core.specs.LastMatch.{IsFarthestMatch, IsPreferredMatch, last_match}
 use Rattle.determinize_lazy.specs.Cache.{Cache, IsCutOff, after_walk, step_of}
 use Rattle.determinize_lazy.specs.Plenty.{HasRoom, KeepsAll}
 

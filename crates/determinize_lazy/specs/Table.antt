@@ -49,7 +49,7 @@ index_in values v = position_from (same v) 0 values
 
 -- no two of the values are equal
 abbrev pub EachApart : List Value → Type 0
-EachApart values = (p : ℕ) (v : Value) → slice_get values p ≡ Some v → index_in values v ≡ Some p
+EachApart values = (p q : ℕ) (v : Value) → slice_get values p ≡ Some v → slice_get values q ≡ Some v → p ≡ q
 
 -- each state is there once, and it is the source or the target of a cached transition; each cached
 -- transition is a step of the DFA, and its source and its target are there

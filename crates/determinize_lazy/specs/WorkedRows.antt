@@ -2,7 +2,7 @@
 -- computed, and how many states are cached then.
 use Rattle.std.specs.Prelude.{◌≡◌, ℕ, true, Option, Some, None, List, [], ◌∷◌, length}
 use Rattle.determinize_below.specs.declared.search.MatchKind.TheVariants.{LeftmostFirst}
-use Rattle.determinize_below.specs.Positions.{Text, between}
+use Rattle.determinize_below.specs.Semantics.{Text, between}
 use Rattle.determinize_below.specs.Search.{Asked}
 use Rattle.determinize_below.specs.declared.search.Anchored.TheVariants.{Yes}
 use Rattle.determinize_core.specs.WorkedRows.{n4}

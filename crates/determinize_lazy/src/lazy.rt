@@ -1,24 +1,23 @@
 //! A bounded cache of transitions, and walks over it.
 //!
-//! The cache is cleared as a whole, and only in two places: by `clear`, and by a step whose
-//! transition was computed and has no room beside what is cached. No single state or transition is
-//! ever removed, so between two clears each id stays that of its state.
+//! The cache is only ever cleared as a whole: by `clear`, by a step whose computed transition does
+//! not fit with what is cached, and if an allocation fails while a transition is added. No single
+//! state or transition is ever removed, so between two clears each id stays that of its state.
 
 ghost use Rattle.std.specs.Prelude.{◌≡◌, ◌<◌, ◌≤◌, ◌*◌, length, IfOk, OnErr, OnOk};
 ghost use Rattle.determinize_below.specs.Nfa.{AllResolve, IsAccepted};
-ghost use Rattle.determinize_below.specs.Positions.{between};
+ghost use Rattle.determinize_below.specs.Semantics.{between};
 ghost use Rattle.determinize_core.specs.Chain.{future, units};
-ghost use Rattle.determinize_core.specs.Step.{start_value};
 ghost use Rattle.determinize_core.specs.WholeWalk.{IsWalk};
-ghost use Rattle.determinize_lazy.specs.Cache.{Cache, Grows, IsCutOff, cache, after_text, after_walk, step_of};
-ghost use Rattle.determinize_lazy.specs.Plenty.{HasRoom, KeepsAll};
+ghost use Rattle.determinize_lazy.specs.Cache.{Grows, IsCutOff, IsCutOffText, after_text, after_walk, cache, step_of};
+ghost use Rattle.determinize_lazy.specs.Plenty.{IsPlentyText};
 ghost use Rattle.determinize_lazy.specs.Private.Steps.{IsSound};
 ghost use Rattle.determinize_lazy.specs.Table.{IsTable, empty};
 
-use crate::scratch::Scratch;
 use crate::table::TransitionTable;
 use crate::text::Text;
 use determinize_below::{MatchKind, NFA, StateID};
+use determinize_core::determinize::Stepper;
 use determinize_core::state::State;
 use std::alloc::{AllocError, Allocator, Global};
 use std::marker::Model;
@@ -36,24 +35,20 @@ use std::marker::Model;
 /// been by some point; the NFA, the match kind and the limit are unchanged.
 pub struct Lazy<'n, N: Allocator = Global, A: Allocator = Global> {
     pub(crate) alloc: A,
-    pub(crate) nfa: &'n NFA<N>,
-    pub(crate) match_kind: MatchKind,
+    pub(crate) stepper: Stepper<'n, N, A>,
     pub(crate) limit: usize,
     pub(crate) computed: u64,
-    pub(crate) scratch: Option<Scratch<A>>,
     pub(crate) table: TransitionTable<A>,
 }
 
-// A call of its own, so that a function that owns a cache drops it in one step.
+// Takes the fields apart in one call, so that a function that owns a cache drops it in one step.
 impl<'n, N: Allocator, A: Allocator> Drop for Lazy<'n, N, A> {
     fn drop(self) {
         let Lazy {
             alloc: _,
-            nfa: _,
-            match_kind: _,
+            stepper: _,
             limit: _,
             computed: _,
-            scratch: _,
             table: _,
         } = self;
     }
@@ -66,15 +61,15 @@ impl<'n, N: Allocator, A: Allocator> Model for Lazy<'n, N, A> {
     ghost Value = { LazyValue };
 
     ghost view = { λ a. record {
-      nfa = a.nfa.now;
-      kind = a.match_kind;
+      nfa = a.stepper.nfa;
+      kind = a.stepper.kind;
       limit = a.limit;
       states = a.table.states;
       rows = a.table.rows;
       computed = a.computed;
     } };
 
-    ghost invariant = { λ a. IsLazy a.nfa.now a.match_kind a.limit a.computed a.scratch a.table };
+    ghost invariant = { λ a. IsLazy a.stepper.nfa a.stepper.kind a.limit a.computed a.table };
 }
 
 impl<'n, N: Allocator, A: Allocator + Copy> Lazy<'n, N, A> {
@@ -95,11 +90,9 @@ impl<'n, N: Allocator, A: Allocator + Copy> Lazy<'n, N, A> {
         let _ = nfa.len();
         Lazy {
             alloc,
-            nfa,
-            match_kind,
+            stepper: Stepper::new(alloc, nfa, match_kind),
             limit,
             computed: 0,
-            scratch: None,
             table: TransitionTable::new(alloc),
         }
     }
@@ -109,14 +102,14 @@ impl<'n, N: Allocator, A: Allocator + Copy> Lazy<'n, N, A> {
         ensures value { result.now ≡ self.now.nfa }
         ensures accepted { IsAccepted self.now.nfa }
     {
-        self.nfa
+        self.stepper.nfa()
     }
 
     /// Returns the match kind.
     pub fn match_kind(&self) -> MatchKind
         ensures { result ≡ self.now.kind }
     {
-        self.match_kind
+        self.stepper.match_kind()
     }
 
     /// Returns the limit: how many states are cached at most.
@@ -152,11 +145,9 @@ impl<'n, N: Allocator, A: Allocator + Copy> Lazy<'n, N, A> {
     pub fn memory_usage(&self) -> usize
         ensures rows { length self.now.states * 1032 ≤ result }
     {
-        let scratch = match &self.scratch {
-            Some(scratch) => scratch.memory_usage(),
-            None => 0,
-        };
-        self.table.memory_usage().saturating_add(scratch)
+        self.table
+            .memory_usage()
+            .saturating_add(self.stepper.memory_usage())
     }
 
     /// Clears the cache. Does not reset `computed`.
@@ -217,13 +208,10 @@ impl<'n, N: Allocator, A: Allocator + Copy> Lazy<'n, N, A> {
             (between look_behind text.now None) states.items) }
         ensures after { OnOk result (cache self.new ≡ after_text (cache self.old) start
             (between look_behind text.now None)) }
-        ensures plenty { let first = start_value self.old.nfa start look_behind
-            in let read = units (between look_behind text.now None)
-            in HasRoom (cache self.old) first read
-            → OnOk result (KeepsAll (cache self.old) first read (cache self.new)) }
-        ensures failed { OnErr result (IsCutOff (cache self.old)
-            (start_value self.old.nfa start look_behind) (units (between look_behind text.now None))
-            (cache self.new)) }
+        ensures plenty { OnOk result (IsPlentyText (cache self.old) start
+            (between look_behind text.now None) (cache self.new)) }
+        ensures failed { OnErr result (IsCutOffText (cache self.old) start
+            (between look_behind text.now None) (cache self.new)) }
         ensures grows { Grows (cache self.old) (cache self.new) }
     {
         self.walk_between(start, look_behind, text, None)
@@ -248,13 +236,10 @@ impl<'n, N: Allocator, A: Allocator + Copy> Lazy<'n, N, A> {
             (between look_behind text.now look_ahead) states.items) }
         ensures after { OnOk result (cache self.new ≡ after_text (cache self.old) start
             (between look_behind text.now look_ahead)) }
-        ensures plenty { let first = start_value self.old.nfa start look_behind
-            in let read = units (between look_behind text.now look_ahead)
-            in HasRoom (cache self.old) first read
-            → OnOk result (KeepsAll (cache self.old) first read (cache self.new)) }
-        ensures failed { OnErr result (IsCutOff (cache self.old)
-            (start_value self.old.nfa start look_behind)
-            (units (between look_behind text.now look_ahead)) (cache self.new)) }
+        ensures plenty { OnOk result (IsPlentyText (cache self.old) start
+            (between look_behind text.now look_ahead) (cache self.new)) }
+        ensures failed { OnErr result (IsCutOffText (cache self.old) start
+            (between look_behind text.now look_ahead) (cache self.new)) }
         ensures grows { Grows (cache self.old) (cache self.new) }
     {
         let first = self.start_state(start, look_behind)?;

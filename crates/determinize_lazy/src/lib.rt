@@ -5,9 +5,9 @@
 //! of such a walk, also in a range of a haystack and in either direction.
 //!
 //! - `lazy`: the type, and walks. `search`: searches. `text`: what they read. `step`: one step of
-//!   either, and the rule of what is cached.
-//! - `table`: the transition table, with `state_table` (the cached states), `state_id` and `tag`.
-//! - `scratch`: what the steps of `determinize_core` work with.
+//!   either.
+//! - `table`: the transition table and the rule of what is cached, with `state_table` (the cached
+//!   states), `state_id` and `tag`.
 //!
 //! A `Result` is `Err` only if an allocation fails or more than 16647160 states would be cached.
 #![tactic(auto)]
@@ -15,7 +15,6 @@
 mod debug;
 pub mod laws;
 pub mod lazy;
-mod scratch;
 mod search;
 mod state_id;
 mod state_table;

@@ -4,7 +4,7 @@
 //! is: the entry of the byte, which is the offset of the next row, and the tag. The loop that does
 //! so, `follow`, neither allocates nor hashes. It is left for a transition that is not cached, for
 //! the last unit, and at a state at which the search ends. A search whose start is kept as well
-//! (`step`) computes and looks up nothing at all.
+//! (`step`) computes no state and searches no map.
 //!
 //! Matches are delayed by one unit: a state lists the patterns that match before the unit that led
 //! to it. So a search also reads the unit ahead of its text, and a start state is no match state.
@@ -12,7 +12,7 @@
 ghost use Rattle.std.specs.Prelude.{Decides, ◌≡◌, ◌<◌, ◌≤◌, ◌-◌, false, true, [], is_some, length, not, option_map, slice_index_or, IfOk, OnErr, OnOk, Ok, None, Some};
 ghost use Rattle.std.specs.Option.{IfNone, IfSome};
 ghost use Rattle.determinize_below.specs.Nfa.{AllResolve};
-ghost use Rattle.determinize_below.specs.Positions.{between};
+ghost use Rattle.determinize_below.specs.Semantics.{between};
 ghost use Rattle.determinize_below.specs.Search.{is_done};
 ghost use Rattle.determinize_below.specs.declared.search.MatchKind.TheVariants as kinds;
 ghost use Rattle.determinize_core.specs.Chain.{units};
@@ -107,9 +107,9 @@ impl<'n, N: Allocator, A: Allocator + Copy> Lazy<'n, N, A> {
     /// Follows cached transitions from a position, if its state is cached.
     #[inline(always)]
     fn run(&self, from: Position<A>, text: &Text<'_>, earliest: bool) -> Position<A>
-        requires cursor { IsCursor (cache self.now).table from.cursor }
+        requires cursor { IsCursor self.now.states from.cursor }
         requires read { from.read ≤ length text.now.bytes }
-        ensures cursor { IsCursor (cache self.now).table result.cursor }
+        ensures cursor { IsCursor self.now.states result.cursor }
         ensures forward { from.read ≤ result.read }
         ensures read { result.read ≤ length text.now.bytes }
         ensures searched { (old : Cache) (first : StateValue)
@@ -145,7 +145,7 @@ impl<'n, N: Allocator, A: Allocator + Copy> Lazy<'n, N, A> {
         text: &Text<'_>,
         earliest: bool,
     ) -> Result<Option<HalfMatch>, AllocError>
-        requires cursor { IsCursor (cache self.old).table start }
+        requires cursor { IsCursor self.old.states start }
         requires unmatched { (cursor_value self.old.states start).patterns ≡ [] }
         requires resolve { AllResolve self.old.nfa
             (cursor_value self.old.states start).states }
@@ -212,7 +212,7 @@ impl<'n, N: Allocator, A: Allocator + Copy> Lazy<'n, N, A> {
         ensures grows { Grows (cache self.old) (cache self.new) }
     {
         let start = self.start_for(input.get_anchored());
-        let text = Text::of_input(input, self.nfa.is_reverse());
+        let text = Text::of_input(input, self.nfa().is_reverse());
         self.search_text(start, &text, earliest)
     }
 
@@ -298,7 +298,7 @@ impl<'n, N: Allocator, A: Allocator + Copy> Lazy<'n, N, A> {
             return Ok(None);
         }
         let found = self.search_range(input, false)?;
-        Ok(in_haystack(input, self.nfa.is_reverse(), found))
+        Ok(in_haystack(input, self.nfa().is_reverse(), found))
     }
 
     /// Returns whether an input has a match, under both match kinds: whether some run over what
@@ -335,8 +335,8 @@ impl<'n, N: Allocator, A: Allocator + Copy> Lazy<'n, N, A> {
         ensures resolve { result < length self.now.nfa.states }
     {
         match anchored {
-            Anchored::No => self.nfa.start_unanchored(),
-            Anchored::Yes => self.nfa.start_anchored(),
+            Anchored::No => self.nfa().start_unanchored(),
+            Anchored::Yes => self.nfa().start_anchored(),
             Anchored::Pattern(_) => unreachable!(),
         }
     }

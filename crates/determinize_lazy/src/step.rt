@@ -5,28 +5,27 @@
 //! states alone are too many, the cache stays empty.
 //!
 //! The start states of searches are kept by the kind of their start, which is all that they depend
-//! on besides the NFA state. A start is computed until its state is cached.
+//! on besides the NFA state. A search computes its start state anew as long as that is not cached.
 
-ghost use Rattle.std.specs.Prelude.{◌≡◌, ◌<◌, ◌≤◌, false, true, cond, length, nat_le, slice_get, IfOk, OnErr, OnOk, Ok, Some};
+ghost use Rattle.std.specs.Prelude.{◌≡◌, ◌<◌, ℕ, false, length, slice_get, IfOk, OnErr, OnOk, Some};
 ghost use Rattle.std.specs.Option.{IfSome};
 ghost use Rattle.determinize_below.specs.Nfa.{AllResolve};
 ghost use Rattle.determinize_core.specs.Step.{start_value};
-ghost use Rattle.determinize_lazy.specs.Cache.{Grows, cache, keep, step_of};
+ghost use Rattle.determinize_lazy.specs.Cache.{Grows, after_step, cache, step_of};
 ghost use Rattle.determinize_lazy.specs.Private.Cursors.{IsAt, IsCursor, cursor_value};
-ghost use Rattle.determinize_lazy.specs.Private.Rows.{IsIndex};
 ghost use Rattle.determinize_lazy.specs.Private.Starts.{start_index};
-ghost use Rattle.determinize_lazy.specs.Private.Steps.{IsFailedStep, IsSameOrComputed, IsSameOrEmpty, IsSound, after_unit, with_computed};
+ghost use Rattle.determinize_lazy.specs.Private.Steps.{IsFailedStep, IsSound};
 ghost use Rattle.determinize_lazy.specs.Private.Tags.{tag_in, tag_of};
-ghost use Rattle.determinize_lazy.specs.Table.{empty, is_cached, with_transition, with_value};
+ghost use Rattle.determinize_lazy.specs.Table.{is_cached};
+ghost use Rattle.determinize_lazy.specs.declared.table.Cursor.TheVariants as cursors;
 
 use crate::lazy::Lazy;
-use crate::scratch::Scratch;
 use crate::state_id::LazyStateId;
 use crate::table::Cursor;
 use crate::tag::StateTag;
-use determinize_below::{NFA, StateID};
+use determinize_below::{NFA, StateID, Unit};
 use determinize_core::start::{Start, start_kind_of};
-use determinize_core::state::{State, StateBuilderNFA};
+use determinize_core::state::State;
 use std::alloc::{AllocError, Allocator};
 
 /// Returns the index at which the start of a search is kept: the kind of the start, for the
@@ -60,10 +59,7 @@ impl<'n, N: Allocator, A: Allocator + Copy> Lazy<'n, N, A> {
         ensures sound { IsSound (cache self.old) }
         ensures unchanged { self.new ≡ self.old }
     {
-        let mut scratch = self.take_scratch()?;
-        let state = scratch.start(self.alloc, self.nfa, start, look_behind);
-        self.scratch = Some(scratch);
-        state
+        self.stepper.start(start, look_behind)
     }
 
     /// Returns where a search begins. If the start state is cached, its id is kept, so that the
@@ -74,7 +70,7 @@ impl<'n, N: Allocator, A: Allocator + Copy> Lazy<'n, N, A> {
         look_behind: Option<u8>,
     ) -> Result<Cursor<A>, AllocError>
         requires { start < length self.old.nfa.states }
-        ensures at { IfOk result (λ cursor. IsAt (cache self.old).table cursor
+        ensures at { IfOk result (λ cursor. IsAt self.old.states cursor
             (start_value self.old.nfa start look_behind)) }
         ensures resolve { OnOk result
             (AllResolve self.old.nfa (start_value self.old.nfa start look_behind).states) }
@@ -100,21 +96,21 @@ impl<'n, N: Allocator, A: Allocator + Copy> Lazy<'n, N, A> {
             (start_value self.now.nfa start look_behind).states }
         ensures sound { IsSound (cache self.now) }
     {
-        let index = start_index(self.nfa, start, look_behind)?;
+        let index = start_index(self.stepper.nfa(), start, look_behind)?;
         self.table.start(index)
     }
 
     /// Returns the cursor of a start state, and keeps its id if the state is cached.
     fn keep_start(&mut self, start: StateID, look_behind: Option<u8>, state: State<A>) -> Cursor<A>
         requires { state ≡ start_value self.old.nfa start look_behind }
-        ensures at { IsAt (cache self.old).table result
+        ensures at { IsAt self.old.states result
             (start_value self.old.nfa start look_behind) }
         ensures unchanged { self.new ≡ self.old }
     {
         let Some(id) = self.table.find(&state) else {
             return Cursor::Uncached(state);
         };
-        if let Some(index) = start_index(self.nfa, start, look_behind) {
+        if let Some(index) = start_index(self.stepper.nfa(), start, look_behind) {
             self.table.set_start(index, id);
         }
         Cursor::Cached(id)
@@ -122,7 +118,7 @@ impl<'n, N: Allocator, A: Allocator + Copy> Lazy<'n, N, A> {
 
     /// Returns the cursor of a state.
     pub(crate) fn cursor_of(&self, state: &State<A>) -> Result<Cursor<A>, AllocError>
-        ensures { IfOk result (λ cursor. IsAt (cache self.now).table cursor state.now) }
+        ensures { IfOk result (λ cursor. IsAt self.now.states cursor state.now) }
     {
         match self.table.find(state) {
             Some(id) => Ok(Cursor::Cached(id)),
@@ -132,20 +128,17 @@ impl<'n, N: Allocator, A: Allocator + Copy> Lazy<'n, N, A> {
 
     /// Returns a copy of the state at a cursor.
     pub(crate) fn state_at(&self, cursor: &Cursor<A>) -> Result<State<A>, AllocError>
-        requires { IsCursor (cache self.now).table cursor.now }
+        requires { IsCursor self.now.states cursor.now }
         ensures { IfOk result
             (λ state. state ≡ cursor_value self.now.states cursor.now) }
     {
-        match cursor {
-            Cursor::Cached(id) => self.table.get(*id).clone(),
-            Cursor::Uncached(state) => state.clone(),
-        }
+        self.table.state(cursor).clone()
     }
 
     /// Returns the tag of the state at a cursor.
     #[inline(always)]
     pub(crate) fn tag_at(&self, cursor: &Cursor<A>) -> StateTag
-        requires { IsCursor (cache self.now).table cursor.now }
+        requires { IsCursor self.now.states cursor.now }
         ensures { tag_in result.bits ≡ tag_of (cursor_value self.now.states cursor.now) }
     {
         match cursor {
@@ -162,12 +155,12 @@ impl<'n, N: Allocator, A: Allocator + Copy> Lazy<'n, N, A> {
         cursor: Cursor<A>,
         unit: Option<u8>,
     ) -> Result<Cursor<A>, AllocError>
-        requires cursor { IsCursor (cache self.old).table cursor }
+        requires cursor { IsCursor self.old.states cursor }
         requires resolve { AllResolve self.old.nfa
             (cursor_value self.old.states cursor).states }
-        ensures at { IfOk result (λ next. IsAt (cache self.new).table next
+        ensures at { IfOk result (λ next. IsAt self.new.states next
             (step_of (cache self.old) (cursor_value self.old.states cursor) unit)) }
-        ensures after { OnOk result (cache self.new ≡ after_unit (cache self.old)
+        ensures after { OnOk result (cache self.new ≡ after_step (cache self.old)
             (cursor_value self.old.states cursor) unit) }
         ensures failed { OnErr result (IsFailedStep (cache self.old)
             (cursor_value self.old.states cursor) unit (cache self.new)) }
@@ -182,152 +175,27 @@ impl<'n, N: Allocator, A: Allocator + Copy> Lazy<'n, N, A> {
         }
     }
 
-    /// Takes a step that is not cached: the state that follows is computed, and the transition is
-    /// cached by the rule.
+    /// Takes a step that is not cached: the state that follows is computed and counted, and the
+    /// transition is cached by the rule. No other call computes a transition.
     #[cold]
     #[inline(never)]
     fn compute(&mut self, cursor: Cursor<A>, unit: Option<u8>) -> Result<Cursor<A>, AllocError>
-        requires cursor { IsCursor (cache self.old).table cursor }
+        requires cursor { IsCursor self.old.states cursor }
         requires resolve { AllResolve self.old.nfa
             (cursor_value self.old.states cursor).states }
-        requires uncached { is_cached (cache self.old).table
+        requires uncached { (id : ℕ) → cursor ≡ cursors.Cached id → is_cached (cache self.old).table
             (cursor_value self.old.states cursor) unit ≡ false }
-        ensures at { IfOk result (λ next. IsAt (cache self.new).table next
+        ensures at { IfOk result (λ next. IsAt self.new.states next
             (step_of (cache self.old) (cursor_value self.old.states cursor) unit)) }
-        ensures after { OnOk result (cache self.new ≡ after_unit (cache self.old)
+        ensures after { OnOk result (cache self.new ≡ after_step (cache self.old)
             (cursor_value self.old.states cursor) unit) }
         ensures failed { OnErr result (IsFailedStep (cache self.old)
             (cursor_value self.old.states cursor) unit (cache self.new)) }
         ensures grows { Grows (cache self.old) (cache self.new) }
     {
-        let following = self.next_state(&cursor, unit)?;
-        self.cache(cursor, unit, following)
-    }
-
-    /// Computes the state that follows, and counts it. No other call computes a transition.
-    fn next_state(&mut self, cursor: &Cursor<A>, unit: Option<u8>) -> Result<State<A>, AllocError>
-        requires cursor { IsCursor (cache self.old).table cursor.now }
-        requires resolve { AllResolve self.old.nfa
-            (cursor_value self.old.states cursor.now).states }
-        ensures value { IfOk result (λ following. following
-            ≡ step_of (cache self.old) (cursor_value self.old.states cursor.now) unit) }
-        ensures counted { OnOk result (cache self.new ≡ with_computed (cache self.old)) }
-        ensures failed { OnErr result (IsSameOrComputed (cache self.old) (cache self.new)) }
-        ensures grows { Grows (cache self.old) (cache self.new) }
-    {
-        let mut scratch = self.take_scratch()?;
-        let builder = self.successor(&mut scratch, cursor, unit)?;
+        let state = self.table.state(&cursor);
+        let following = self.stepper.next(state, Unit::from(unit))?;
         self.computed = self.computed.saturating_add(1);
-        let state = scratch.finish(builder);
-        self.scratch = Some(scratch);
-        state
-    }
-
-    /// Returns the scratch space, which the caller puts back. It is made if there is none.
-    fn take_scratch(&mut self) -> Result<Scratch<A>, AllocError>
-        ensures room { IfOk result (λ scratch. scratch ≡ length self.old.nfa.states) }
-        ensures sound { IsSound (cache self.old) }
-        ensures unchanged { self.new ≡ self.old }
-    {
-        match self.scratch.take() {
-            Some(scratch) => Ok(scratch),
-            None => Scratch::new(self.alloc, self.nfa),
-        }
-    }
-
-    /// Computes the state that follows, in a builder.
-    fn successor(
-        &self,
-        scratch: &mut Scratch<A>,
-        cursor: &Cursor<A>,
-        unit: Option<u8>,
-    ) -> Result<StateBuilderNFA<A>, AllocError>
-        requires room { scratch.old ≡ length self.now.nfa.states }
-        requires cursor { IsCursor (cache self.now).table cursor.now }
-        requires resolve { AllResolve self.now.nfa
-            (cursor_value self.now.states cursor.now).states }
-        ensures value { IfOk result (λ builder. builder
-            ≡ step_of (cache self.now) (cursor_value self.now.states cursor.now) unit) }
-        ensures room { scratch.new ≡ scratch.old }
-    {
-        let (alloc, nfa, kind) = (self.alloc, self.nfa, self.match_kind);
-        match cursor {
-            Cursor::Cached(id) => scratch.next(alloc, nfa, kind, self.table.get(*id), unit),
-            Cursor::Uncached(state) => scratch.next(alloc, nfa, kind, state, unit),
-        }
-    }
-
-    /// Caches a computed transition by the rule, and returns the cursor of its target.
-    ///
-    /// If an allocation fails, the table is unchanged or empty.
-    fn cache(
-        &mut self,
-        source: Cursor<A>,
-        unit: Option<u8>,
-        following: State<A>,
-    ) -> Result<Cursor<A>, AllocError>
-        requires source { IsCursor (cache self.old).table source }
-        requires follows { following
-            ≡ step_of (cache self.old) (cursor_value self.old.states source) unit }
-        ensures at { IfOk result (λ next. IsAt (cache self.new).table next following) }
-        ensures after { OnOk result (cache self.new ≡ record (cache self.old) {
-          table = keep (step_of (cache self.old)) self.old.limit (cache self.old).table
-              (cursor_value self.old.states source) unit;
-        }) }
-        ensures failed { OnErr result (IsSameOrEmpty (cache self.old) (cache self.new)) }
-    {
-        let target = self.table.find(&following);
-        if self.fits(&source, &following, &target) {
-            return self.insert(source, unit, following, target);
-        }
-        let source = self.state_at(&source)?;
-        self.clear();
-        let source = Cursor::Uncached(source);
-        if self.fits(&source, &following, &None) {
-            return self.insert(source, unit, following, None);
-        }
-        Ok(Cursor::Uncached(following))
-    }
-
-    /// Returns whether the cached states with the two of one more transition are at most `limit`.
-    fn fits(&self, source: &Cursor<A>, following: &State<A>, target: &Option<LazyStateId>) -> bool
-        requires source { IsCursor (cache self.now).table source.now }
-        requires target { IsIndex self.now.states following.now target.now }
-        ensures { result ≡ nat_le (length (with_value (with_value self.now.states
-            (cursor_value self.now.states source.now)) following.now)) self.now.limit }
-    {
-        self.table.len_with(source, following, target) <= self.limit
-    }
-
-    /// Caches a transition for which there is room, and returns the cursor of its target.
-    ///
-    /// If an allocation fails, the cache is empty.
-    fn insert(
-        &mut self,
-        source: Cursor<A>,
-        unit: Option<u8>,
-        following: State<A>,
-        target: Option<LazyStateId>,
-    ) -> Result<Cursor<A>, AllocError>
-        requires source { IsCursor (cache self.old).table source }
-        requires target { IsIndex self.old.states following target }
-        requires follows { following
-            ≡ step_of (cache self.old) (cursor_value self.old.states source) unit }
-        requires fits { nat_le (length (with_value (with_value self.old.states
-            (cursor_value self.old.states source)) following)) self.old.limit ≡ true }
-        ensures at { IfOk result (λ next. IsAt (cache self.new).table next following) }
-        ensures after { OnOk result (cache self.new ≡ record (cache self.old) {
-          table = with_transition (cache self.old).table
-              (cursor_value self.old.states source) unit following;
-        }) }
-        ensures err { OnErr result (cache self.new ≡ record (cache self.old) { table = empty }) }
-    {
-        match self.table.insert(source, unit, following, target) {
-            Ok(id) => Ok(Cursor::Cached(id)),
-            Err(failed) => {
-                self.table.clear();
-                Err(failed)
-            }
-        }
+        self.table.keep(cursor, unit, following, self.limit)
     }
 }

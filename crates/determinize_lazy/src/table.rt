@@ -1,19 +1,21 @@
 //! The transition table: the cached states, and a row of targets for each.
 //!
-//! A row has 258 numbers. In the column of a unit (a byte, or 256 for EOI) is the offset of the
-//! row of the next state, counted in numbers, or `UNKNOWN` if the transition is not cached. In the
-//! last column is the tag of the state. So a search over cached transitions reads two numbers a byte, and no state.
+//! A row has 258 numbers. In the column of a unit (a byte, or 256 for EOI) is the row of the next
+//! state, as an index into `rows`, or `UNKNOWN` if the transition is not cached. In the last column
+//! is the tag of the state. So a search over cached transitions reads two numbers a byte, and no
+//! state. The table also has the rule of what is cached (`keep`), and the rows of the start states
+//! that searches have used.
 
-ghost use Rattle.std.specs.Prelude.{ℕ, ◌≡◌, ◌*◌, ◌<◌, ◌≤◌, ◌∷◌, [], Bool, List, true, false, None, Option, Some, cond, length, nat_le, slice_get, slice_set, slice_index, IfOk, OnErr, OnOk};
+ghost use Rattle.std.specs.Prelude.{◌≡◌, ◌*◌, ◌<◌, ◌≤◌, ◌⊎◌, ℕ, false, true, length, nat_le, slice_get, slice_set, IfOk, OnErr, OnOk, Some};
 ghost use Rattle.std.specs.List.{list_any};
-ghost use Rattle.std.specs.Option.{IfSome};
 ghost use Rattle.determinize_below.specs.Truth.{IsUnit};
 ghost use Rattle.determinize_core.specs.Value.{Value as StateValue};
-ghost use Rattle.determinize_lazy.specs.Table.{EachApart, Table, empty, same, with_transition, with_value};
-ghost use Rattle.determinize_lazy.specs.Private.Cursors.{IsCursor, cursor_value};
-ghost use Rattle.determinize_lazy.specs.Private.Rows.{IsIndex, IsTarget, IsTargetIndex, table_of, with_state};
-ghost use Rattle.determinize_lazy.specs.Stored.{column, is_unit};
+ghost use Rattle.determinize_lazy.specs.Cache.{keep};
+ghost use Rattle.determinize_lazy.specs.Private.Cursors.{IsAt, IsCursor, cursor_value};
+ghost use Rattle.determinize_lazy.specs.Private.Rows.{IsIndex, IsTarget, IsTargetIndex, StartsStay, table_of, with_state};
 ghost use Rattle.determinize_lazy.specs.Private.Tags.{tag_in, tag_of};
+ghost use Rattle.determinize_lazy.specs.Stored.{column, is_unit};
+ghost use Rattle.determinize_lazy.specs.Table.{empty, same, with_transition, with_value};
 
 use crate::state_id::{COLUMNS, LazyStateId, UNITS};
 use crate::state_table::StateTable;
@@ -49,7 +51,7 @@ pub(crate) struct TransitionTable<A: Allocator = Global> {
 }
 
 impl<A: Allocator> Model for TransitionTable<A> {
-    ghost use Rattle.determinize_lazy.specs.Private.Rows.{AreRows, StoredTable};
+    ghost use Rattle.determinize_lazy.specs.Private.Rows.{IsStored, StoredTable};
 
     ghost Value = { StoredTable };
 
@@ -59,7 +61,7 @@ impl<A: Allocator> Model for TransitionTable<A> {
       starts = t.starts;
     } };
 
-    ghost invariant = { λ t. AreRows t.states t.rows.items };
+    ghost invariant = { λ t. IsStored t.states t.rows.items };
 }
 
 /// Returns the column of a unit in a row.
@@ -113,13 +115,13 @@ impl<A: Allocator + Copy> TransitionTable<A> {
     /// transition.
     ///
     /// - `target` is the id of `following` if it is cached.
-    pub(crate) fn len_with(
+    fn len_with(
         &self,
         source: &Cursor<A>,
         following: &State<A>,
         target: &Option<LazyStateId>,
     ) -> usize
-        requires source { IsCursor (table_of self.now) source.now }
+        requires source { IsCursor self.now.states source.now }
         requires target { IsIndex self.now.states following.now target.now }
         ensures { result ≡ length (with_value (with_value self.now.states
             (cursor_value self.now.states source.now)) following.now) }
@@ -157,6 +159,18 @@ impl<A: Allocator + Copy> TransitionTable<A> {
         self.states.get(id)
     }
 
+    /// Returns the state at a cursor.
+    #[inline(always)]
+    pub(crate) fn state<'a>(&'a self, cursor: &'a Cursor<A>) -> &'a State<A>
+        requires { IsCursor self.now.states cursor.now }
+        ensures { result.now ≡ cursor_value self.now.states cursor.now }
+    {
+        match cursor {
+            Cursor::Cached(id) => self.get(*id),
+            Cursor::Uncached(state) => state,
+        }
+    }
+
     /// Returns the id of the state that follows a cached state over a unit, or `None` if that
     /// transition is not cached.
     #[inline(always)]
@@ -165,7 +179,7 @@ impl<A: Allocator + Copy> TransitionTable<A> {
         ensures { (v : StateValue) → slice_get self.now.states id ≡ Some v
             → IsTarget (table_of self.now) v unit result }
     {
-        // The rows from the column on: where that begins is known before the id is.
+        // Slicing at the column first keeps that addition off the path from one id to the next.
         let rows = &self.rows[column(unit)..];
         let entry = rows[id.row()];
         if entry == UNKNOWN {
@@ -229,7 +243,7 @@ impl<A: Allocator + Copy> TransitionTable<A> {
 
     /// Caches the source of a transition, and returns its id.
     fn intern_source(&mut self, source: Cursor<A>) -> Result<LazyStateId, AllocError>
-        requires { IsCursor (table_of self.old) source }
+        requires { IsCursor self.old.states source }
         ensures id { IfOk result
             (λ id. slice_get self.new.states id ≡ Some (cursor_value self.old.states source)) }
         ensures table { OnOk result (table_of self.new
@@ -277,14 +291,14 @@ impl<A: Allocator + Copy> TransitionTable<A> {
     /// - `target` is the id of `following` if it is cached.
     ///
     /// If an allocation fails, no transition is added, but the source may be cached.
-    pub(crate) fn insert(
+    fn add(
         &mut self,
         source: Cursor<A>,
         unit: Option<u8>,
         following: State<A>,
         target: Option<LazyStateId>,
     ) -> Result<LazyStateId, AllocError>
-        requires source { IsCursor (table_of self.old) source }
+        requires source { IsCursor self.old.states source }
         requires target { IsIndex self.old.states following target }
         ensures id { IfOk result
             (λ id. slice_get self.new.states id ≡ Some following) }
@@ -296,5 +310,91 @@ impl<A: Allocator + Copy> TransitionTable<A> {
         let target = self.intern_target(source, following, target)?;
         self.rows[source.row() + column(unit)] = target.entry();
         Ok(target)
+    }
+
+    /// Caches a transition as `add` does, and returns the cursor of its target.
+    ///
+    /// If an allocation fails, the table is empty.
+    fn insert(
+        &mut self,
+        source: Cursor<A>,
+        unit: Option<u8>,
+        following: State<A>,
+        target: Option<LazyStateId>,
+    ) -> Result<Cursor<A>, AllocError>
+        requires source { IsCursor self.old.states source }
+        requires target { IsIndex self.old.states following target }
+        ensures at { IfOk result (λ next. IsAt self.new.states next following) }
+        ensures table { OnOk result (table_of self.new ≡ with_transition (table_of self.old)
+            (cursor_value self.old.states source) unit following) }
+        ensures starts { StartsStay self.old self.new }
+        ensures err { OnErr result (table_of self.new ≡ empty) }
+    {
+        match self.add(source, unit, following, target) {
+            Ok(id) => Ok(Cursor::Cached(id)),
+            Err(failed) => {
+                self.clear();
+                Err(failed)
+            }
+        }
+    }
+
+    /// Caches a computed transition if it fits within `limit` states, after clearing the table if it
+    /// does not fit with the rest. Returns the cursor of its target.
+    ///
+    /// If an allocation fails, the table is unchanged or empty.
+    pub(crate) fn keep(
+        &mut self,
+        source: Cursor<A>,
+        unit: Option<u8>,
+        following: State<A>,
+        limit: usize,
+    ) -> Result<Cursor<A>, AllocError>
+        requires { IsCursor self.old.states source }
+        ensures at { IfOk result (λ next. IsAt self.new.states next following) }
+        ensures table { OnOk result (table_of self.new ≡ keep limit (table_of self.old)
+            (cursor_value self.old.states source) unit following) }
+        ensures starts { StartsStay self.old self.new }
+        ensures failed { OnErr result
+            ((table_of self.new ≡ empty) ⊎ (table_of self.new ≡ table_of self.old)) }
+    {
+        let target = self.find(&following);
+        if self.fits(&source, &following, &target, limit) {
+            return self.insert(source, unit, following, target);
+        }
+        let source = self.into_state(source)?;
+        self.clear();
+        let source = Cursor::Uncached(source);
+        if self.fits(&source, &following, &None, limit) {
+            return self.insert(source, unit, following, None);
+        }
+        Ok(Cursor::Uncached(following))
+    }
+
+    /// Returns whether the cached states with the two of one more transition are at most `limit`.
+    fn fits(
+        &self,
+        source: &Cursor<A>,
+        following: &State<A>,
+        target: &Option<LazyStateId>,
+        limit: usize,
+    ) -> bool
+        requires source { IsCursor self.now.states source.now }
+        requires target { IsIndex self.now.states following.now target.now }
+        ensures { result ≡ nat_le (length (with_value (with_value self.now.states
+            (cursor_value self.now.states source.now)) following.now)) limit }
+    {
+        self.len_with(source, following, target) <= limit
+    }
+
+    /// Returns the state at a cursor, as a value that no longer needs the table.
+    fn into_state(&self, cursor: Cursor<A>) -> Result<State<A>, AllocError>
+        requires { IsCursor self.now.states cursor }
+        ensures { IfOk result (λ state. state ≡ cursor_value self.now.states cursor) }
+    {
+        match cursor {
+            Cursor::Cached(id) => self.get(id).clone(),
+            Cursor::Uncached(state) => Ok(state),
+        }
     }
 }

@@ -1,7 +1,7 @@
 //! What a search reads: the bytes of a range, forward or backward, and the bytes around it.
 
 ghost use Rattle.std.specs.Prelude.{◌≡◌, ◌<◌, ◌≤◌, ◌^◌, Some, false, length, slice_get, slice_index};
-ghost use Rattle.determinize_below.specs.Positions.{between};
+ghost use Rattle.determinize_below.specs.Semantics.{between};
 ghost use Rattle.determinize_below.specs.Search.{is_done};
 ghost use Rattle.determinize_core.specs.Chain.{units};
 ghost use Rattle.determinize_lazy.specs.Searches.{text_of};
@@ -20,12 +20,12 @@ pub(crate) struct Text<'h> {
 }
 
 impl<'h> Model for Text<'h> {
-    ghost use Rattle.determinize_below.specs.Positions as positions;
+    ghost use Rattle.determinize_below.specs.Semantics as semantics;
     ghost use Rattle.determinize_lazy.specs.Searches.{in_order};
 
-    ghost Value = { positions.Text };
+    ghost Value = { semantics.Text };
 
-    ghost view = { λ t. positions.between t.behind (in_order t.is_backward t.bytes.now) t.ahead };
+    ghost view = { λ t. semantics.between t.behind (in_order t.is_backward t.bytes.now) t.ahead };
 }
 
 impl<'h> Text<'h> {

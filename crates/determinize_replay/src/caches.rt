@@ -6,7 +6,7 @@
 use crate::error::JobError;
 use crate::job::Job;
 use crate::key::Key;
-use crate::mode::Way;
+use crate::mode::Operation;
 use crate::nfas;
 use crate::verb::Verb;
 use determinize_below::{MatchKind, NFA};
@@ -51,14 +51,14 @@ impl Automata {
 
     /// Returns an empty cache of at most `limit` states for each NFA and match kind, for walks or
     /// for searches.
-    pub fn caches(&self, way: Way, limit: usize) -> Result<Caches<'_>, AllocError> {
+    pub fn caches(&self, operation: Operation, limit: usize) -> Result<Caches<'_>, AllocError> {
         let mut caches = Vec::new(self.alloc);
         for (nfa, kind) in self.automata.iter() {
             caches.push(Lazy::new(self.alloc, nfa, *kind, limit))?;
         }
         Ok(Caches {
             alloc: self.alloc,
-            way,
+            operation,
             places: &self.places,
             caches,
         })
@@ -69,15 +69,15 @@ impl Automata {
 #[derive(Drop)]
 pub struct Caches<'n> {
     alloc: Global,
-    way: Way,
+    operation: Operation,
     places: &'n HashMap<String, usize>,
     caches: Vec<Lazy<'n>>,
 }
 
 impl<'n> Caches<'n> {
     /// Returns what is done with a walk.
-    pub fn way(&self) -> Way {
-        self.way
+    pub fn operation(&self) -> Operation {
+        self.operation
     }
 
     /// Returns the cache for a job, or `None` if the job is no walk or its NFA is not present.

@@ -1,13 +1,13 @@
-//! The errors of a job, of a line of input and of a replay.
+//! The errors of a job, of its text, of a line of input and of a replay.
 
 use crate::key::Key;
 use determinize_below::BuildError;
-use std::alloc::{AllocError, AllocFailed};
+use std::alloc::{AllocError, AllocFailed, Global};
 use std::num::ParseIntError;
 use std::{fmt, io};
 
 /// The part of a job that is malformed or that the preconditions of its call exclude.
-#[derive(Clone, Copy, Debug, PartialEq, Eq)]
+#[derive(Clone, Copy, Debug)]
 pub enum Part {
     /// The match kind.
     MatchKind,
@@ -66,17 +66,11 @@ impl fmt::Display for Part {
     }
 }
 
-/// An error from a job.
-#[derive(Debug, Drop)]
+/// An error from a job whose words are known.
+#[derive(Clone, Copy, Debug)]
 pub enum JobError {
     /// An allocation failed.
     OutOfMemory,
-    /// There is no verb of this name.
-    UnknownVerb(String),
-    /// This word is not `key=value`.
-    NoValue(String),
-    /// The verb does not take a key of this name.
-    UnknownKey(String),
     /// The key is repeated.
     RepeatedKey(Key),
     /// The verb needs the key, and it is missing.
@@ -120,11 +114,6 @@ impl From<ParseIntError> for JobError {
     }
 }
 
-/// Writes a quoted text after a message.
-fn write_quoted<W: fmt::Write>(f: &mut fmt::Formatter<W>, words: &str, text: &str) -> fmt::Result {
-    write!(f, "{words} {text:?}")
-}
-
 /// Writes a key before a message about it.
 fn write_key<W: fmt::Write>(f: &mut fmt::Formatter<W>, key: Key, words: &str) -> fmt::Result {
     write!(f, "key {key} {words}")
@@ -134,9 +123,6 @@ impl fmt::Display for JobError {
     fn fmt<W: fmt::Write>(&self, f: &mut fmt::Formatter<W>) -> fmt::Result {
         match self {
             JobError::OutOfMemory => f.write_str("out of memory"),
-            JobError::UnknownVerb(name) => write_quoted(f, "unknown verb", name.as_str()),
-            JobError::NoValue(word) => write_quoted(f, "no key and value:", word.as_str()),
-            JobError::UnknownKey(name) => write_quoted(f, "unknown key", name.as_str()),
             JobError::RepeatedKey(key) => write_key(f, *key, "stands twice"),
             JobError::MissingKey(key) => write_key(f, *key, "is missing"),
             JobError::NoStates => f.write_str("the states of the NFA are missing"),
@@ -148,6 +134,36 @@ impl fmt::Display for JobError {
     }
 }
 
+/// An error from the text of a job.
+#[derive(Clone, Copy, Debug)]
+pub enum ReadError<'a> {
+    /// There is no verb of this name.
+    UnknownVerb(&'a str),
+    /// This word is not `key=value`.
+    NoValue(&'a str),
+    /// The verb does not take a key of this name.
+    UnknownKey(&'a str),
+    /// The words are known, and the job has this error.
+    Job(JobError),
+}
+
+impl From<JobError> for ReadError<'_> {
+    fn from(error: JobError) -> Self {
+        ReadError::Job(error)
+    }
+}
+
+impl fmt::Display for ReadError<'_> {
+    fn fmt<W: fmt::Write>(&self, f: &mut fmt::Formatter<W>) -> fmt::Result {
+        match self {
+            ReadError::UnknownVerb(name) => write!(f, "unknown verb {name:?}"),
+            ReadError::NoValue(word) => write!(f, "no key and value: {word:?}"),
+            ReadError::UnknownKey(name) => write!(f, "unknown key {name:?}"),
+            ReadError::Job(error) => write!(f, "{error}"),
+        }
+    }
+}
+
 /// An error from a line of input.
 #[derive(Debug, Drop)]
 pub enum LineError {
@@ -155,8 +171,8 @@ pub enum LineError {
     Unreadable,
     /// The line is neither a job nor a comment, and there is no job before it.
     NoJob,
-    /// The job of the line cannot be run.
-    Job(JobError),
+    /// The job of the line cannot be run, for this reason.
+    Job(String),
 }
 
 impl fmt::Display for LineError {
@@ -164,7 +180,7 @@ impl fmt::Display for LineError {
         match self {
             LineError::Unreadable => write!(f, "can't be read"),
             LineError::NoJob => write!(f, "an answer without a job"),
-            LineError::Job(error) => write!(f, "{error}"),
+            LineError::Job(reason) => write!(f, "{reason}"),
         }
     }
 }
@@ -186,10 +202,13 @@ pub enum ReplayError {
 
 impl ReplayError {
     /// Returns the error for the job of this line.
-    pub fn of_job(number: u64, error: JobError) -> ReplayError {
-        match error {
-            JobError::OutOfMemory => ReplayError::OutOfMemory,
-            error => ReplayError::Line(number, LineError::Job(error)),
+    pub fn of_job(alloc: Global, number: u64, error: ReadError<'_>) -> ReplayError {
+        if let ReadError::Job(JobError::OutOfMemory) = error {
+            return ReplayError::OutOfMemory;
+        }
+        match format!(in alloc; "{error}") {
+            Ok(reason) => ReplayError::Line(number, LineError::Job(reason)),
+            Err(_) => ReplayError::OutOfMemory,
         }
     }
 

@@ -1,17 +1,16 @@
 //! A job: a verb, its keys with their values, and the states of an NFA.
 
-use crate::error::{JobError, Part};
+use crate::error::{JobError, Part, ReadError};
 use crate::key::Key;
 use crate::values;
 use crate::verb::Verb;
 use determinize_below::MatchKind;
-use std::alloc::Global;
 
 /// A parsed job.
-#[derive(Debug, Drop)]
+#[derive(Clone, Copy)]
 pub struct Job<'a> {
     verb: Verb,
-    values: Vec<(Key, &'a str)>,
+    words: &'a str,
     states: &'a str,
 }
 
@@ -22,49 +21,72 @@ impl<'a> Job<'a> {
     /// does not take or that is repeated, a missing key that the verb needs, an `id` that is not a
     /// number, a `fix` that is not a flag, states if the verb takes none, or no states if it takes
     /// some.
-    pub fn read(alloc: Global, line: &'a str) -> Result<Job<'a>, JobError> {
-        let (words, states) = match line.split_once(" | ") {
-            Some((words, states)) => (words, Some(states)),
+    pub fn read(line: &'a str) -> Result<Job<'a>, ReadError<'a>> {
+        let (line, states) = match line.split_once(" | ") {
+            Some((line, states)) => (line, Some(states)),
             None => (line, None),
         };
-        let mut words = words.split(' ');
-        let verb = verb(alloc, words.next().unwrap_or(""))?;
-        let mut job = Job {
+        let (name, words) = match line.split_once(' ') {
+            Some((name, words)) => (name, Some(words)),
+            None => (line, None),
+        };
+        let Some(verb) = Verb::named(name) else {
+            return Err(ReadError::UnknownVerb(name));
+        };
+        let job = Job {
             verb,
-            values: Vec::new(alloc),
+            words: words.unwrap_or(""),
             states: states.unwrap_or(""),
         };
-        for word in words {
-            job.take_word(alloc, word)?;
+        if words.is_some() {
+            job.check_words()?;
         }
-        for key in verb.needed() {
-            job.needed(*key)?;
-        }
-        job.check_marks()?;
+        job.check_keys()?;
         match (verb.has_nfa(), states.is_some()) {
-            (true, false) => Err(JobError::NoStates),
-            (false, true) => Err(JobError::UnwantedStates),
+            (true, false) => Err(ReadError::Job(JobError::NoStates)),
+            (false, true) => Err(ReadError::Job(JobError::UnwantedStates)),
             _ => Ok(job),
         }
     }
 
-    /// Adds a key and its value.
-    fn take_word(&mut self, alloc: Global, word: &'a str) -> Result<(), JobError> {
-        let Some((name, value)) = word.split_once('=') else {
-            return Err(JobError::NoValue(String::from_str(alloc, word)?));
-        };
-        let key = match Key::named(name) {
-            Some(key) if self.verb.takes(key) => key,
-            _ => return Err(JobError::UnknownKey(String::from_str(alloc, name)?)),
-        };
-        if self.value(key).is_some() {
-            return Err(JobError::RepeatedKey(key));
+    /// Checks that each word is `key=value` with a key that the verb takes, each key once.
+    fn check_words(&self) -> Result<(), ReadError<'a>> {
+        for word in self.words.split(' ') {
+            let Some((name, _)) = word.split_once('=') else {
+                return Err(ReadError::NoValue(word));
+            };
+            let key = match Key::named(name) {
+                Some(key) if self.verb.takes(key) => key,
+                _ => return Err(ReadError::UnknownKey(name)),
+            };
+            if self.count(key) > 1 {
+                return Err(ReadError::Job(JobError::RepeatedKey(key)));
+            }
         }
-        self.values.push((key, value))?;
         Ok(())
     }
 
-    /// Checks the values that say where the job comes from. They have no effect on its output.
+    /// Returns the number of words with this key.
+    fn count(&self, key: Key) -> usize {
+        let mut count = 0usize;
+        for word in self.words.split(' ') {
+            if key.value_in(word).is_some() {
+                count = count.saturating_add(1);
+            }
+        }
+        count
+    }
+
+    /// Checks that the job has each key that its verb needs, and the values that say where the job
+    /// comes from, which have no effect on its output.
+    fn check_keys(&self) -> Result<(), JobError> {
+        for key in self.verb.needed() {
+            self.needed(*key)?;
+        }
+        self.check_marks()
+    }
+
+    /// Checks the values that say where the job comes from.
     fn check_marks(&self) -> Result<(), JobError> {
         if let Some(text) = self.value(Key::Id) {
             values::number(text)?;
@@ -87,9 +109,9 @@ impl<'a> Job<'a> {
 
     /// Returns the value of a key, or `None` if the job does not have it.
     pub fn value(&self, key: Key) -> Option<&'a str> {
-        for (found, value) in self.values.iter() {
-            if *found == key {
-                return Some(*value);
+        for word in self.words.split(' ') {
+            if let Some(value) = key.value_in(word) {
+                return Some(value);
             }
         }
         None
@@ -123,13 +145,5 @@ impl<'a> Job<'a> {
             Some("rev") => Ok(true),
             Some(_) => Err(JobError::Malformed(Part::Direction)),
         }
-    }
-}
-
-/// Returns the verb of this name.
-fn verb(alloc: Global, name: &str) -> Result<Verb, JobError> {
-    match Verb::named(name) {
-        Some(verb) => Ok(verb),
-        None => Err(JobError::UnknownVerb(String::from_str(alloc, name)?)),
     }
 }

@@ -3,7 +3,7 @@
 use std::fmt;
 
 /// The meaning of a value of a job.
-#[derive(Clone, Copy, Debug, PartialEq, Eq)]
+#[derive(Clone, Copy, Debug)]
 pub enum Key {
     /// The number that the job had when it was generated.
     Id,
@@ -107,6 +107,14 @@ impl Key {
             }
         }
         None
+    }
+
+    /// Returns the value of a word `key=value` with this key, or `None` for any other word.
+    pub fn value_in<'a>(self, word: &'a str) -> Option<&'a str> {
+        match word.split_once('=') {
+            Some((name, value)) if name == self.name() => Some(value),
+            _ => None,
+        }
     }
 
     /// Returns the name of the key in a job.

@@ -4,8 +4,8 @@ use crate::error::ReplayError;
 use crate::values;
 
 /// What is done with a walk through a cache.
-#[derive(Clone, Copy, Debug, PartialEq, Eq)]
-pub enum Way {
+#[derive(Clone, Copy)]
+pub enum Operation {
     /// A walk: its states and its last match.
     Walk,
     /// A search: only the last match.
@@ -13,13 +13,13 @@ pub enum Way {
 }
 
 /// How the walks of jobs are made.
-#[derive(Clone, Copy, Debug, PartialEq, Eq)]
+#[derive(Clone, Copy)]
 pub enum Mode {
     /// Each by a separate call.
     Single,
     /// Through caches of at most this number of states. The walks of one NFA and match kind share a
     /// cache.
-    Cached(Way, usize),
+    Cached(Operation, usize),
 }
 
 impl Mode {
@@ -33,13 +33,13 @@ impl Mode {
                 Err(ReplayError::Arguments)
             };
         };
-        let way = match word.as_str() {
-            "cache" => Way::Walk,
-            "search" => Way::Search,
+        let operation = match word.as_str() {
+            "cache" => Operation::Walk,
+            "search" => Operation::Search,
             _ => return Err(ReplayError::Arguments),
         };
         match values::number(limit.as_str()) {
-            Ok(limit) => Ok(Mode::Cached(way, limit)),
+            Ok(limit) => Ok(Mode::Cached(operation, limit)),
             Err(_) => Err(ReplayError::Arguments),
         }
     }

@@ -8,7 +8,7 @@ use determinize_below::nfa::State;
 use determinize_below::{
     DenseTransitions, LookMatcher, NFA, SparseTransitions, StateID, Transition,
 };
-use std::alloc::Global;
+use std::alloc::Allocator;
 
 /// Returns the matcher with the job's line terminator.
 pub fn matcher(job: &Job<'_>) -> Result<LookMatcher, JobError> {
@@ -20,7 +20,7 @@ pub fn matcher(job: &Job<'_>) -> Result<LookMatcher, JobError> {
 }
 
 /// Returns the NFA of the job. Both start states are state 0.
-pub fn nfa(alloc: Global, job: &Job<'_>) -> Result<NFA, JobError> {
+pub fn nfa<A: Allocator + Copy>(alloc: A, job: &Job<'_>) -> Result<NFA<A>, JobError> {
     let nfa = NFA::from_parts(
         alloc,
         states(alloc, job.states())?,
@@ -33,7 +33,7 @@ pub fn nfa(alloc: Global, job: &Job<'_>) -> Result<NFA, JobError> {
 }
 
 /// Returns the states of a text, one word each.
-pub fn states(alloc: Global, text: &str) -> Result<Vec<State>, JobError> {
+pub fn states<A: Allocator + Copy>(alloc: A, text: &str) -> Result<Vec<State<A>, A>, JobError> {
     let mut states = Vec::new(alloc);
     for word in text.split(' ') {
         if !word.is_empty() {
@@ -45,7 +45,7 @@ pub fn states(alloc: Global, text: &str) -> Result<Vec<State>, JobError> {
 }
 
 /// Returns the state of a word such as `BU:4,1`.
-fn state(alloc: Global, word: &str) -> Result<State, JobError> {
+fn state<A: Allocator + Copy>(alloc: A, word: &str) -> Result<State<A>, JobError> {
     let (kind, parts) = word.split_once(':').unwrap_or((word, ""));
     match kind {
         "B" => byte_range(parts),
@@ -81,14 +81,14 @@ fn ends(range: &str) -> Result<(u8, u8), JobError> {
 }
 
 /// Returns a state with one transition.
-fn byte_range(parts: &str) -> Result<State, JobError> {
+fn byte_range<A: Allocator>(parts: &str) -> Result<State<A>, JobError> {
     Ok(State::ByteRange {
         trans: transition(parts)?,
     })
 }
 
 /// Returns a sparse state.
-fn sparse(alloc: Global, parts: &str) -> Result<State, JobError> {
+fn sparse<A: Allocator + Copy>(alloc: A, parts: &str) -> Result<State<A>, JobError> {
     let mut transitions = Vec::new(alloc);
     if !parts.is_empty() {
         for part in parts.split(',') {
@@ -101,7 +101,7 @@ fn sparse(alloc: Global, parts: &str) -> Result<State, JobError> {
 
 /// Returns a dense state. Returns an error for a range whose first byte is above its last, since it
 /// would write nothing.
-fn dense(alloc: Global, parts: &str) -> Result<State, JobError> {
+fn dense<A: Allocator + Copy>(alloc: A, parts: &str) -> Result<State<A>, JobError> {
     let mut table = [StateID::ZERO; 256];
     if !parts.is_empty() {
         for part in parts.split(',') {
@@ -124,7 +124,7 @@ fn write_range(table: &mut [StateID; 256], transition: Transition) {
 }
 
 /// Returns a `Look` state.
-fn look(parts: &str) -> Result<State, JobError> {
+fn look<A: Allocator>(parts: &str) -> Result<State<A>, JobError> {
     let Some((name, next)) = parts.split_once('>') else {
         return Err(JobError::Malformed(Part::Look));
     };
@@ -135,14 +135,14 @@ fn look(parts: &str) -> Result<State, JobError> {
 }
 
 /// Returns a union.
-fn union(alloc: Global, parts: &str) -> Result<State, JobError> {
+fn union<A: Allocator + Copy>(alloc: A, parts: &str) -> Result<State<A>, JobError> {
     Ok(State::Union {
         alternates: values::state_ids(alloc, parts)?,
     })
 }
 
 /// Returns a union of two states.
-fn binary_union(parts: &str) -> Result<State, JobError> {
+fn binary_union<A: Allocator>(parts: &str) -> Result<State<A>, JobError> {
     let Some((first, second)) = parts.split_once(',') else {
         return Err(JobError::Malformed(Part::Union));
     };
@@ -153,14 +153,14 @@ fn binary_union(parts: &str) -> Result<State, JobError> {
 }
 
 /// Returns a capture.
-fn capture(parts: &str) -> Result<State, JobError> {
+fn capture<A: Allocator>(parts: &str) -> Result<State<A>, JobError> {
     Ok(State::Capture {
         next: values::state_id(parts)?,
     })
 }
 
 /// Returns a `Match` state.
-fn matching(parts: &str) -> Result<State, JobError> {
+fn matching<A: Allocator>(parts: &str) -> Result<State<A>, JobError> {
     Ok(State::Match {
         pattern_id: values::pattern_id(parts)?,
     })

@@ -105,11 +105,12 @@ pub fn resolves<A: Allocator>(state: &State<A>, count: usize) -> bool
 }
 
 /// Writes the results of the readers of a state, in three lines.
-pub fn write_readers(text: &mut String, state: &State) -> Result<(), AllocError> {
+pub fn write_readers(alloc: Global, text: &mut String, state: &State) -> Result<(), AllocError> {
     write_match_readers(text, state)?;
     write_flag_readers(text, state)?;
     text.push_str("ids=")?;
-    values::write_numbers(text, state.iter_nfa_state_ids().map(|id| id.as_u32()))?;
+    let ids: Vec<StateID> = state.iter_nfa_state_ids().collect(alloc)?;
+    values::write_ids(text, ids.as_slice())?;
     text.push('\n')
 }
 
@@ -127,7 +128,7 @@ fn write_match_readers(text: &mut String, state: &State) -> Result<(), AllocErro
 fn write_patterns(text: &mut String, state: &State) -> Result<(), AllocError> {
     match state.match_pattern_ids()? {
         None => text.push_str("none"),
-        Some(ids) => values::write_numbers(text, ids.iter().map(|id| id.as_u32())),
+        Some(ids) => values::write_ids(text, ids.as_slice()),
     }
 }
 

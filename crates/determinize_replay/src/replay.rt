@@ -7,9 +7,9 @@
 ghost use Rattle.std.specs.Prelude.{◌≡◌, ◌≤◌, ◌↔◌, IsTrue};
 
 use crate::caches::Caches;
-use crate::error::{JobError, LineError, ReplayError};
+use crate::error::{JobError, LineError, ReadError, ReplayError};
 use crate::job::Job;
-use crate::mode::Way;
+use crate::mode::Operation;
 use crate::verbs;
 use determinize_lazy::Lazy;
 use std::alloc::{AllocError, Global};
@@ -17,7 +17,7 @@ use std::io::Write;
 use std::{fmt, io};
 
 /// The counts of a replay.
-#[derive(Clone, Copy, Debug, PartialEq, Eq)]
+#[derive(Clone, Copy)]
 pub struct Tally {
     /// The number of jobs.
     pub jobs: u64,
@@ -59,38 +59,38 @@ struct Pending {
 
 /// The output of a job: all lines, or only the last one.
 #[derive(Drop)]
-struct Answer {
+struct Output {
     text: String,
     is_whole: bool,
 }
 
-impl Answer {
+impl Output {
     /// Returns the output of a walk through a cache, or the last line of it from a search.
     fn through(
         alloc: Global,
         job: &Job<'_>,
-        way: Way,
+        operation: Operation,
         cache: &mut Lazy<'_>,
-    ) -> Result<Answer, JobError> {
-        match way {
-            Way::Walk => Ok(Answer {
-                text: verbs::cached_answer(alloc, job, cache)?,
+    ) -> Result<Output, JobError> {
+        match operation {
+            Operation::Walk => Ok(Output {
+                text: verbs::cached_output(alloc, job, cache)?,
                 is_whole: true,
             }),
-            Way::Search => Ok(Answer {
-                text: verbs::found_answer(alloc, job, cache)?,
+            Operation::Search => Ok(Output {
+                text: verbs::search_output(alloc, job, cache)?,
                 is_whole: false,
             }),
         }
     }
 
     /// Returns whether the output is the expected one, or its last line.
-    fn agrees(&self, wanted: &str) -> bool {
-        let answer = self.text.as_str();
+    fn agrees(&self, expected: &str) -> bool {
+        let output = self.text.as_str();
         if self.is_whole {
-            answer == wanted
+            output == expected
         } else {
-            answer.lines().last() == wanted.lines().last()
+            output.lines().last() == expected.lines().last()
         }
     }
 }
@@ -102,7 +102,7 @@ pub struct Replay<'n> {
     caches: Option<Caches<'n>>,
     line: u64,
     job: Option<Pending>,
-    wanted: String,
+    expected: String,
     tally: Tally,
 }
 
@@ -115,7 +115,7 @@ impl<'n> Replay<'n> {
             caches,
             line: 1,
             job: None,
-            wanted: String::new(alloc),
+            expected: String::new(alloc),
             tally: Tally { jobs: 0, differ: 0 },
         }
     }
@@ -146,14 +146,14 @@ impl<'n> Replay<'n> {
         if self.job.is_none() {
             return Err(ReplayError::Line(line, LineError::NoJob));
         }
-        self.take_answer(text)?;
+        self.add_expected(text)?;
         Ok(())
     }
 
     /// Adds a line to the expected output of the current job.
-    fn take_answer(&mut self, text: &str) -> Result<(), AllocError> {
-        self.wanted.push_str(text)?;
-        self.wanted.push('\n')
+    fn add_expected(&mut self, text: &str) -> Result<(), AllocError> {
+        self.expected.push_str(text)?;
+        self.expected.push('\n')
     }
 
     /// Judges the last job and returns the counts.
@@ -168,50 +168,55 @@ impl<'n> Replay<'n> {
             self.tally.jobs = self.tally.jobs.saturating_add(1);
             self.judge_job(&job, out)?;
         }
-        self.wanted.clear();
+        self.expected.clear();
         Ok(())
     }
 
     /// Runs a job and compares its output with the expected one.
     fn judge_job<W: Write>(&mut self, job: &Pending, out: &mut W) -> Result<(), ReplayError> {
-        match self.answer(job.text.as_str()) {
-            Ok(answer) => self.judge_answer(job.text.as_str(), &answer, out),
-            Err(error) => Err(ReplayError::of_job(job.line, error)),
+        match self.run(job.text.as_str()) {
+            Ok(output) => self.judge_output(job.text.as_str(), &output, out),
+            Err(error) => Err(ReplayError::of_job(self.alloc, job.line, error)),
         }
     }
 
     /// Compares the output of a job with the expected one.
-    fn judge_answer<W: Write>(
+    fn judge_output<W: Write>(
         &mut self,
         job: &str,
-        answer: &Answer,
+        output: &Output,
         out: &mut W,
     ) -> Result<(), ReplayError> {
-        if !answer.agrees(self.wanted.as_str()) {
-            self.tell(job, answer.text.as_str(), out)?;
+        if !output.agrees(self.expected.as_str()) {
+            self.report(job, output.text.as_str(), out)?;
         }
         Ok(())
     }
 
     /// Returns the output of the job of this text.
-    fn answer(&mut self, text: &str) -> Result<Answer, JobError> {
-        let job = Job::read(self.alloc, text)?;
+    fn run<'t>(&mut self, text: &'t str) -> Result<Output, ReadError<'t>> {
+        let output = self.run_job(&Job::read(text)?)?;
+        Ok(output)
+    }
+
+    /// Returns the output of a job.
+    fn run_job(&mut self, job: &Job<'_>) -> Result<Output, JobError> {
         if let Some(caches) = self.caches.as_mut() {
-            let way = caches.way();
-            if let Some(cache) = caches.of(&job)? {
-                return Answer::through(self.alloc, &job, way, cache);
+            let operation = caches.operation();
+            if let Some(cache) = caches.of(job)? {
+                return Output::through(self.alloc, job, operation, cache);
             }
         }
-        Ok(Answer {
-            text: verbs::answer(self.alloc, &job)?,
+        Ok(Output {
+            text: verbs::output(self.alloc, job)?,
             is_whole: true,
         })
     }
 
     /// Counts and prints a job that differs.
-    fn tell<W: Write>(&mut self, job: &str, answer: &str, out: &mut W) -> io::Result<()> {
+    fn report<W: Write>(&mut self, job: &str, output: &str, out: &mut W) -> io::Result<()> {
         self.tally.differ = self.tally.differ.saturating_add(1);
-        let wanted = self.wanted.as_str();
-        write!(out, "> {job}\nexpected:\n{wanted}got:\n{answer}")
+        let expected = self.expected.as_str();
+        write!(out, "> {job}\nexpected:\n{expected}got:\n{output}")
     }
 }

@@ -5,7 +5,7 @@ ghost use Rattle.std.specs.Prelude.{◌≡◌, ◌≤◌, ◌↔◌, IfOk, OnErr
 use crate::caches::Automata;
 use crate::error::{JobError, ReplayError};
 use crate::job::Job;
-use crate::mode::{Mode, Way};
+use crate::mode::{Mode, Operation};
 use crate::replay::{Replay, Tally};
 use std::alloc::Global;
 use std::io::{self, BufRead, BufReader, Read, Write};
@@ -63,7 +63,7 @@ fn replay<R: Read + Drop, W: Write>(
     };
     match mode {
         Mode::Single => replay_single(alloc, input, out),
-        Mode::Cached(way, limit) => replay_cached(alloc, way, limit, input, out),
+        Mode::Cached(operation, limit) => replay_cached(alloc, operation, limit, input, out),
     }
 }
 
@@ -95,14 +95,14 @@ fn take_read_line<W: Write>(
 /// Reads all lines, and then replays them through caches of this limit.
 fn replay_cached<I: BufRead + Drop, W: Write>(
     alloc: Global,
-    way: Way,
+    operation: Operation,
     limit: usize,
     input: I,
     out: &mut W,
 ) -> Result<Tally, ReplayError> {
     let lines = lines(alloc, input)?;
     let automata = automata(alloc, lines.as_slice())?;
-    let replay = Replay::new(alloc, Some(automata.caches(way, limit)?));
+    let replay = Replay::new(alloc, Some(automata.caches(operation, limit)?));
     replay_lines(replay, lines.as_slice(), out)
 }
 
@@ -140,16 +140,14 @@ fn automata(alloc: Global, lines: &[String]) -> Result<Automata, ReplayError> {
         let Some(text) = line.as_str().strip_prefix("> ") else {
             continue;
         };
-        if let Err(JobError::OutOfMemory) = take_job(&mut automata, alloc, text) {
+        let Ok(job) = Job::read(text) else {
+            continue;
+        };
+        if let Err(JobError::OutOfMemory) = automata.take(&job) {
             return Err(ReplayError::OutOfMemory);
         }
     }
     Ok(automata)
-}
-
-/// Adds the NFA of the job of this text.
-fn take_job(automata: &mut Automata, alloc: Global, text: &str) -> Result<(), JobError> {
-    automata.take(&Job::read(alloc, text)?)
 }
 
 /// Judges the last job and writes the counts.

@@ -1,11 +1,11 @@
 //! Parses and writes the values of jobs: bytes, ids and sets of assertions.
 
 ghost use Rattle.std.specs.Prelude.{◌<◌, IfSome};
-ghost use Rattle.std.specs.Iterator.{IsFinite};
 
 use crate::error::{JobError, Part};
-use determinize_below::{Look, LookSet, PatternID, StateID};
-use std::alloc::{AllocError, Global};
+use determinize_below::{HalfMatch, Look, LookSet, PatternID, StateID};
+use std::alloc::{AllocError, Allocator, Global};
+use std::fmt;
 
 /// The names of the assertions, in the order of their bits.
 static LOOKS: [(&str, Look); 18] = [
@@ -70,7 +70,7 @@ pub fn optional_byte(text: &str) -> Result<Option<u8>, JobError> {
 }
 
 /// Returns the bytes of a text of hexadecimal digits.
-pub fn bytes(alloc: Global, text: &str) -> Result<Vec<u8>, JobError> {
+pub fn bytes<A: Allocator>(alloc: A, text: &str) -> Result<Vec<u8, A>, JobError> {
     let mut found = Vec::new(alloc);
     if is_none(text) {
         return Ok(found);
@@ -116,7 +116,7 @@ pub fn pattern_id(text: &str) -> Result<PatternID, JobError> {
 }
 
 /// Returns a list of ids of NFA states.
-pub fn state_ids(alloc: Global, text: &str) -> Result<Vec<StateID>, JobError> {
+pub fn state_ids<A: Allocator>(alloc: A, text: &str) -> Result<Vec<StateID, A>, JobError> {
     let mut ids = Vec::new(alloc);
     if is_none(text) {
         return Ok(ids);
@@ -163,32 +163,51 @@ pub fn look_set(text: &str) -> Result<LookSet, JobError> {
     Ok(set)
 }
 
-/// Writes bytes as hexadecimal digits, and a line break.
-pub fn write_bytes(text: &mut String, bytes: &[u8]) -> Result<(), AllocError> {
-    for byte in bytes {
-        write!(text, "{byte:02x}")?;
+/// Bytes, written as lower-case hexadecimal digits.
+#[derive(Clone, Copy)]
+pub struct Hex<'a>(pub &'a [u8]);
+
+impl fmt::Display for Hex<'_> {
+    fn fmt<W: fmt::Write>(&self, f: &mut fmt::Formatter<W>) -> fmt::Result {
+        for byte in self.0 {
+            write!(f, "{byte:02x}")?;
+        }
+        Ok(())
     }
-    text.push('\n')
 }
 
-/// Writes a list of numbers joined by commas, or `-` if it is empty.
-pub fn write_numbers<I: Iterator<Item = u32>>(
-    text: &mut String,
-    numbers: I,
-) -> Result<(), AllocError>
-    requires can { I.can_next numbers }
-    requires ends { IsFinite (I.remaining numbers) }
-{
-    let mut is_first = true;
-    for number in numbers {
-        if !is_first {
+/// The last match of a walk, written as `match P E` with its pattern and its end, or as `none`.
+#[derive(Clone, Copy)]
+pub struct LastMatch(pub Option<HalfMatch>);
+
+impl fmt::Display for LastMatch {
+    fn fmt<W: fmt::Write>(&self, f: &mut fmt::Formatter<W>) -> fmt::Result {
+        match self.0 {
+            Some(HalfMatch { pattern, offset }) => {
+                let pattern = pattern.as_u32();
+                write!(f, "match {pattern} {offset}")
+            }
+            None => f.write_str("none"),
+        }
+    }
+}
+
+/// Writes bytes as hexadecimal digits, and a line break.
+pub fn write_bytes(text: &mut String, bytes: &[u8]) -> Result<(), AllocError> {
+    let bytes = Hex(bytes);
+    writeln!(text, "{bytes}")
+}
+
+/// Writes a list of ids joined by commas, or `-` if it is empty.
+pub fn write_ids<T: fmt::Display>(text: &mut String, ids: &[T]) -> Result<(), AllocError> {
+    if ids.is_empty() {
+        return text.push('-');
+    }
+    for (index, id) in ids.iter().enumerate() {
+        if index > 0 {
             text.push(',')?;
         }
-        write!(text, "{number}")?;
-        is_first = false;
-    }
-    if is_first {
-        text.push('-')?;
+        write!(text, "{id}")?;
     }
     Ok(())
 }

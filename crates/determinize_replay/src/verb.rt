@@ -3,7 +3,7 @@
 use crate::key::Key;
 
 /// What a job computes.
-#[derive(Clone, Copy, Debug, PartialEq, Eq)]
+#[derive(Clone, Copy, PartialEq)]
 pub enum Verb {
     /// The states of a walk, and its last match.
     Walk,

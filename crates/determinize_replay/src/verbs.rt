@@ -6,18 +6,27 @@ mod small;
 use crate::error::JobError;
 use crate::job::Job;
 use crate::verb::Verb;
+use determinize_core::state::State;
 use determinize_lazy::Lazy;
-use std::alloc::Global;
+use std::alloc::{Allocator, Global};
+
+/// Returns the states of a walk.
+pub fn walk_states<A: Allocator + Copy>(
+    alloc: A,
+    job: &Job<'_>,
+) -> Result<Vec<State<A>, A>, JobError> {
+    automata::states(alloc, job)
+}
 
 /// Returns the output of a job.
-pub fn answer(alloc: Global, job: &Job<'_>) -> Result<String, JobError> {
+pub fn output(alloc: Global, job: &Job<'_>) -> Result<String, JobError> {
     let mut text = String::new(alloc);
-    write_answer(alloc, job, &mut text)?;
+    write_output(alloc, job, &mut text)?;
     Ok(text)
 }
 
 /// Returns the output of a walk through a cache.
-pub fn cached_answer(
+pub fn cached_output(
     alloc: Global,
     job: &Job<'_>,
     cache: &mut Lazy<'_>,
@@ -28,7 +37,7 @@ pub fn cached_answer(
 }
 
 /// Returns the last line of the output of a walk, from a search through a cache.
-pub fn found_answer(
+pub fn search_output(
     alloc: Global,
     job: &Job<'_>,
     cache: &mut Lazy<'_>,
@@ -39,7 +48,7 @@ pub fn found_answer(
 }
 
 /// Writes the output of a job.
-fn write_answer(alloc: Global, job: &Job<'_>, text: &mut String) -> Result<(), JobError> {
+fn write_output(alloc: Global, job: &Job<'_>, text: &mut String) -> Result<(), JobError> {
     match job.verb() {
         Verb::Walk => automata::walk(alloc, job, text),
         Verb::Readers => automata::readers(alloc, job, text),

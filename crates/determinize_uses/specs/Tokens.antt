@@ -1,6 +1,6 @@
 -- The tokens of a lexer.
 use Rattle.std.specs.Prelude.{ℕ, List, length}
-use Rattle.determinize_below.specs.Nfa.{Nfa}
+use Rattle.determinize_below.specs.Semantics.{Nfa}
 use Rattle.determinize_below.specs.declared.search.Anchored.TheVariants.{Yes}
 use Rattle.determinize_below.specs.declared.search.Match.{Match}
 use Rattle.determinize_lazy.specs.Searches.{IsFarthestIn}

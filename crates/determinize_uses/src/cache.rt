@@ -1,7 +1,7 @@
 //! A walk through a cache, and the patterns at the end of a text.
 
 ghost use Rattle.std.specs.Prelude.{◌≡◌, length, IfOk, IfSome, IsSome, None};
-ghost use Rattle.determinize_below.specs.Positions.{between};
+ghost use Rattle.determinize_below.specs.Semantics.{between};
 ghost use Rattle.determinize_below.specs.declared.search.MatchKind.TheVariants as kinds;
 ghost use Rattle.determinize_core.specs.Walk.{ListsAccepted};
 

@@ -1,13 +1,12 @@
 //! A whole DFA: a worklist, and a map from states to indices.
 
-ghost use Rattle.std.specs.Prelude.{◌<◌, length, All, OnOk};
+ghost use Rattle.std.specs.Prelude.{◌≡◌, ◌<◌, length, All, OnOk};
 ghost use Rattle.determinize_below.specs.Nfa.{AllResolve};
-ghost use Rattle.determinize_core.specs.Scratch.{IsScratch};
 ghost use Rattle.determinize_core.specs.Value.{Value};
 
-use determinize_below::{HalfMatch, MatchKind, NFA, SparseSets, StateID, Unit};
-use determinize_core::determinize::{next, start_state};
-use determinize_core::state::{State, StateBuilderEmpty};
+use determinize_below::{HalfMatch, MatchKind, NFA, StateID, Unit};
+use determinize_core::determinize::Stepper;
+use determinize_core::state::State;
 use std::alloc::{AllocError, Allocator, Global};
 use std::collections::HashMap;
 use std::hash::{BuildHasherDefault, FoldHasher};
@@ -70,29 +69,24 @@ fn index_of<N: Allocator, A: Allocator + Copy>(
 /// Returns the row of the state with this index, and adds the states that it finds.
 fn row<N: Allocator, A: Allocator + Copy>(
     alloc: A,
-    nfa: &NFA<N>,
-    kind: MatchKind,
-    sparses: &mut SparseSets<A>,
-    stack: &mut Vec<StateID, A>,
+    stepper: &mut Stepper<'_, N, A>,
     states: &mut Vec<State<A>, A>,
     indices: &mut Indices<A>,
     index: usize,
 ) -> Result<Vec<usize, A>, AllocError>
-    requires scratch { IsScratch nfa.now sparses.old.set1 sparses.old.set2 stack.old.items }
-    requires resolve { All (λ (state : Value). AllResolve nfa.now state.states) states.old.items }
+    requires resolve { All (λ (state : Value). AllResolve stepper.old.nfa state.states)
+        states.old.items }
     requires below { index < length states.old.items }
-    ensures scratch { IsScratch nfa.now sparses.new.set1 sparses.new.set2 stack.new.items }
-    ensures resolve { OnOk result
-        (All (λ (state : Value). AllResolve nfa.now state.states) states.new.items) }
+    ensures unchanged { stepper.new ≡ stepper.old }
+    ensures resolve { OnOk result (All (λ (state : Value). AllResolve stepper.old.nfa state.states)
+        states.new.items) }
 {
     let state = states[index].clone()?;
     let mut row = Vec::new(alloc);
-    let mut empty = StateBuilderEmpty::new(alloc);
     for column in 0..=256 {
         let unit = Unit::from(u8::try_from(column).ok());
-        let builder = next(nfa, kind, sparses, stack, &state, unit, empty)?;
-        row.push(index_of(nfa, states, indices, builder.to_state()?)?)?;
-        empty = builder.clear();
+        let next = stepper.next(&state, unit)?;
+        row.push(index_of(stepper.nfa(), states, indices, next)?)?;
     }
     Ok(row)
 }
@@ -108,29 +102,17 @@ pub fn build<N: Allocator, A: Allocator + Copy>(
 ) -> Result<Option<Dfa<A>>, AllocError>
     requires { start < length nfa.now.states }
 {
-    let mut sparses = SparseSets::new(alloc, nfa.len())?;
-    let mut stack = Vec::new(alloc);
-    let empty = StateBuilderEmpty::new(alloc);
-    let first = start_state(nfa, start, None, &mut sparses, &mut stack, empty)?;
+    let mut stepper = Stepper::new(alloc, nfa, kind);
+    let first = stepper.start(start, None)?;
     let mut states = Vec::new(alloc);
     let mut indices = HashMap::new(alloc);
-    index_of(nfa, &mut states, &mut indices, first.to_state()?)?;
+    index_of(nfa, &mut states, &mut indices, first)?;
     let mut rows = Vec::new(alloc);
     for index in 0..=limit {
         if index >= states.len() {
             return Ok(Some(Dfa { states, rows }));
         }
-        let sets = &mut sparses;
-        rows.push(row(
-            alloc,
-            nfa,
-            kind,
-            sets,
-            &mut stack,
-            &mut states,
-            &mut indices,
-            index,
-        )?)?;
+        rows.push(row(alloc, &mut stepper, &mut states, &mut indices, index)?)?;
     }
     Ok(None)
 }

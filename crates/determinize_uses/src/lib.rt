@@ -1,6 +1,7 @@
 //! Uses of the libraries, to read and to copy. Each module is one use, and its contracts are proved.
-//! Tests run all but [`counted`]; those of [`dfa`] are in `determinize_bench`.
+//! `search_tests` runs all but [`counted`].
 //!
+//! - [`values`] makes one value of each small type: sets, start kinds, closures, states.
 //! - [`nfa`] makes an NFA by hand, and [`readme`] is that of the README's program.
 //! - [`scanner`] finds all matches of a haystack, and [`lexer`] the longest token at each position.
 //! - [`input`] finds whether a haystack has a match, and both ends of the preferred one.
@@ -18,6 +19,5 @@ pub mod nfa;
 pub mod readme;
 pub mod scanner;
 pub mod search;
-#[cfg(test)]
-mod tests;
+pub mod values;
 pub mod walk;

@@ -1,7 +1,7 @@
 //! An NFA by hand, with contracts that say which states it has.
 
 ghost use Rattle.std.specs.Prelude.{◌≡◌, [], ◌∷◌, IfErr, IfOk};
-ghost use Rattle.determinize_below.specs.Node as nodes;
+ghost use Rattle.determinize_below.specs.Semantics as nodes;
 ghost use Rattle.determinize_below.specs.Node.{node_of};
 
 use determinize_below::nfa::State;

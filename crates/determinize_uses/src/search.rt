@@ -1,10 +1,10 @@
 //! Searches of many texts through one cache.
 
 ghost use Rattle.std.specs.Prelude.{◌≡◌, map, IfOk, None};
-ghost use Rattle.determinize_below.specs.Positions.{between};
+ghost use Rattle.determinize_below.specs.Semantics.{between};
 ghost use Rattle.determinize_below.specs.declared.search.MatchKind.TheVariants as kinds;
 ghost use Rattle.determinize_core.specs.Chain.{chain};
-ghost use Rattle.determinize_core.specs.Walk.{last_match};
+ghost use Rattle.determinize_core.specs.LastMatch.{last_match};
 
 use determinize_below::{HalfMatch, MatchKind, NFA};
 use determinize_lazy::Lazy;

@@ -1,7 +1,7 @@
 //! A walk without a cache, with a contract that speaks of runs only.
 
 ghost use Rattle.std.specs.Prelude.{◌≡◌, ◌<◌, ℕ, List, length, IfOk, IfSome, None};
-ghost use Rattle.determinize_below.specs.Positions.{Accepts, IsPreferredRun, between};
+ghost use Rattle.determinize_below.specs.Semantics.{Accepts, IsPreferredRun, between};
 
 use determinize_below::{HalfMatch, MatchKind, NFA, StateID};
 use determinize_core::determinize::{last_match, walk};

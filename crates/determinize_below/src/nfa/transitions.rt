@@ -4,7 +4,8 @@
 
 ghost use Rattle.std.specs.Prelude.{◌≡◌, ℕ, IsTrue, length, None, Option, nat_le, Some, if◌then◌else◌};
 ghost use Rattle.std.specs.List.{find};
-ghost use Rattle.std.specs.Option.{option_map};
+ghost use Rattle.std.specs.Option.{option_and_then, option_map};
+ghost use Rattle.determinize_below.specs.Semantics.{sparse_target};
 ghost use Rattle.determinize_below.specs.Transition as transitions;
 ghost use Rattle.determinize_below.specs.Unit.{byte_of};
 
@@ -73,7 +74,7 @@ impl<A: Allocator> SparseTransitions<A> {
     /// sorted and not overlap, so at most one contains it.
     pub fn matches_byte(&self, byte: u8) -> Option<StateID>
         requires { IsTrue (transitions.is_ascending self.now) }
-        ensures { result ≡ transitions.sparse_target self.now byte }
+        ensures { result ≡ sparse_target self.now byte }
     {
         // Only the first range that does not end before the byte can contain it: the later ones
         // begin above its end.
@@ -100,7 +101,7 @@ impl<A: Allocator> SparseTransitions<A> {
     pub fn matches_unit(&self, unit: Unit) -> Option<StateID>
         requires { IsTrue (transitions.is_ascending self.now) }
         ensures { result
-            ≡ transitions.over_unit (transitions.sparse_target self.now) (byte_of unit) }
+            ≡ option_and_then (sparse_target self.now) (byte_of unit) }
     {
         match unit.as_u8() {
             Some(byte) => self.matches_byte(byte),
@@ -145,7 +146,7 @@ impl<A: Allocator> DenseTransitions<A> {
     pub fn matches_unit(&self, unit: Unit) -> Option<StateID>
         requires { length self.now ≡ 256 }
         ensures { result
-            ≡ transitions.over_unit (transitions.dense_target self.now) (byte_of unit) }
+            ≡ option_and_then (transitions.dense_target self.now) (byte_of unit) }
     {
         match unit.as_u8() {
             Some(byte) => self.matches_byte(byte),

@@ -2,8 +2,8 @@
 
 use crate::tests::runs::{Failing, words};
 use crate::tests::{same, same_at};
+use determinize_replay::rows::run_rows;
 use std::test::Fail;
-use worked_rows::run::run_rows;
 
 /// Unknown names, one per line.
 static OTHER_WORDS: [&str; 15] = [

@@ -1,7 +1,7 @@
 //! The work of the program: its exit statuses, and readers and writers that fail.
 
 use crate::tests::{same, same_at};
-use determinize_replay::error::{JobError, ReplayError};
+use determinize_replay::error::{JobError, ReadError, ReplayError};
 use determinize_replay::run::{report, run};
 use std::alloc::AllocError;
 use std::io;
@@ -342,7 +342,7 @@ fn tells_of_each_error(rt: HostRuntime) {
         (ReplayError::of_reading(3, &memory), "out of memory\n"),
         (ReplayError::of_arguments(&memory), "out of memory\n"),
         (
-            ReplayError::of_job(3, JobError::from(AllocError)),
+            ReplayError::of_job(rt.alloc(), 3, ReadError::from(JobError::from(AllocError))),
             "out of memory\n",
         ),
         (ReplayError::of_arguments(&other), NOT_TAKEN),

@@ -3,8 +3,8 @@
 use crate::tests::map_text::MAP_OF_B;
 use crate::tests::{holds, lazy, same};
 use determinize_below::{Look, LookMatcher, Unit};
+use determinize_core::look_tables::LookTables;
 use determinize_core::start::{StartByteMap, start_kind_of};
-use determinize_looks::look_tables::LookTables;
 use std::process::Abort;
 use std::test::Fail;
 

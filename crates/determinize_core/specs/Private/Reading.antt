@@ -1,13 +1,13 @@
 -- The first pass over a working list: which of its states are live, with a pattern or with a target.
 use Rattle.std.specs.Prelude.{◌≡◌, ℕ, ◌++◌, Bool, not, Option, None, Some, List, [], ◌∷◌, if◌then◌else◌, nat_eq}
-use Rattle.determinize_states.specs.Value.{Value, is_nonempty}
+use Rattle.determinize_state.specs.Value.{Value, is_nonempty}
 use Rattle.determinize_below.specs.Members.{has_id}
 use mathlib.Core.Bool.{◌&&◌, ◌||◌}
 use Rattle.std.specs.List.{flat_map}
 use Rattle.determinize_below.specs.declared.search.MatchKind.{MatchKind}
 use Rattle.determinize_below.specs.Edges.{is_match, patterns_of, target}
-use Rattle.determinize_below.specs.Nfa.{Nfa}
-use Rattle.determinize_below.specs.Reach.{fresh, none_held}
+use Rattle.determinize_below.specs.Semantics.{Nfa}
+use Rattle.ordered_reach.specs.Reach.{fresh, none_held}
 use Rattle.determinize_core.specs.Step.{part_read, patterns_read}
 use Rattle.determinize_core.specs.Private.Changes.{with_patterns}
 use Rattle.determinize_core.specs.declared.determinize.working_list.Reading.{Reading}

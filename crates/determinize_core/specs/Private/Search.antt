@@ -3,8 +3,9 @@ use Rattle.std.specs.Prelude.{◌≡◌, ℕ, suc, ◌+◌, ◌<◌, ◌≤◌, 
 use Rattle.determinize_below.specs.declared.look.Look.{Look as Assertion}
 use Rattle.determinize_below.specs.Edges.{edges, reach_past}
 use Rattle.determinize_below.specs.Members.{Members}
-use Rattle.determinize_below.specs.Nfa.{AllResolve, Nfa}
-use Rattle.determinize_below.specs.Private.Searching.{closure, search_tries}
+use Rattle.determinize_below.specs.Nfa.{AllResolve}
+use Rattle.determinize_below.specs.Semantics.{Nfa}
+use Rattle.ordered_reach.specs.StackSearch.{closure, search_tries}
 use Rattle.determinize_core.specs.Closure.{AddsBeginning}
 
 -- the states of a search when it ends, given those visited so far and those pending

@@ -6,20 +6,21 @@
 
 ghost use Rattle.std.specs.Prelude.{◌≡◌, ℕ, ◌+◌, ◌<◌, List, [], ◌∷◌, ◌++◌, None, false, fold, not, length, reverse, IfNone, IfSome, IfOk, OnOk, OnErr, IsOk, if◌then◌else◌};
 ghost use Rattle.std.specs.Option.{option_to_list};
-ghost use Rattle.determinize_below.specs.Edges.{edges, reach_past, state_at};
+ghost use Rattle.determinize_below.specs.Edges.{edges, reach_past};
+ghost use Rattle.determinize_below.specs.Semantics.{state_at, Nfa};
 ghost use Rattle.determinize_below.specs.Look.{has};
 ghost use Rattle.determinize_below.specs.Members.{AreMembers, has_id};
-ghost use Rattle.determinize_below.specs.Nfa.{AllResolve, IsAccepted, Nfa};
+ghost use Rattle.determinize_below.specs.Nfa.{AllResolve, IsAccepted};
 ghost use Rattle.determinize_below.specs.Node.{is_epsilon};
 ghost use Rattle.determinize_core.specs.Closure.{closure_of, AddsBeginning};
 ghost use Rattle.determinize_core.specs.Private.Search.{IsPartSearched, IsSearched, IsTurn};
-ghost use Rattle.determinize_states.specs.Recording.{added_one};
+ghost use Rattle.determinize_state.specs.Recording.{added_one};
 
 use crate::determinize::steps::Steps;
 use determinize_below::nfa::State;
 use determinize_below::{LookSet, NFA, SparseSet, StateID};
-use determinize_states::recording::add_state;
-use determinize_states::state::StateBuilderNFA;
+use determinize_state::recording::add_state;
+use determinize_state::state::StateBuilderNFA;
 use std::alloc::{AllocError, Allocator};
 use std::marker::Brand;
 use std::sync::ledger::{Blank, Ledger};

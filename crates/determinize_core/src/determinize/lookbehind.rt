@@ -5,14 +5,14 @@ ghost use Rattle.determinize_below.specs.Look.{has};
 ghost use Rattle.determinize_below.specs.Reached as reached;
 ghost use Rattle.determinize_below.specs.declared.look.Look.{Look as Assertion};
 ghost use Rattle.determinize_core.specs.Step.{with_start};
-ghost use Rattle.determinize_looks.specs.LookTables.{start_have, tables_of};
-ghost use Rattle.determinize_looks.specs.StartKinds.{start_kind_of};
-ghost use Rattle.determinize_states.specs.Value.{with_flags};
+ghost use Rattle.determinize_start.specs.LookTables.{start_have, tables_of};
+ghost use Rattle.determinize_start.specs.StartKinds.{start_kind_of};
+ghost use Rattle.determinize_state.specs.Value.{with_flags};
 
 use determinize_below::NFA;
-use determinize_looks::look_tables::{LookTables, Told};
-use determinize_looks::start::Start;
-use determinize_states::state::StateBuilderMatches;
+use determinize_start::look_tables::{LookTables, Told};
+use determinize_start::start::Start;
+use determinize_state::state::StateBuilderMatches;
 use std::alloc::Allocator;
 
 /// Sets the flags of the look-behind.

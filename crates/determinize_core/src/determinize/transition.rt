@@ -7,19 +7,19 @@ ghost use Rattle.std.specs.Prelude.{◌≡◌, ◌+◌, ◌*◌, ◌<◌, ◌≤
 ghost use Rattle.determinize_below.specs.Nfa.{AllResolve, IsAccepted};
 ghost use Rattle.determinize_below.specs.Unit.{byte_of};
 ghost use Rattle.determinize_below.specs.declared.search.MatchKind.TheVariants as kinds;
-ghost use Rattle.determinize_looks.specs.LookTables.{from_word_after, half_crlf_after, have_after, tables_of};
+ghost use Rattle.determinize_start.specs.LookTables.{from_word_after, half_crlf_after, have_after, tables_of};
 ghost use Rattle.determinize_core.specs.Scratch.{IsScratch};
 ghost use Rattle.determinize_core.specs.Step.{step};
 ghost use Rattle.determinize_core.specs.Tries.{edges_in_all, tries};
-ghost use Rattle.determinize_states.specs.Value.{dead, with_flags};
+ghost use Rattle.determinize_state.specs.Value.{dead, with_flags};
 
 use crate::determinize::closure::explore;
 use crate::determinize::lookbehind;
 use crate::determinize::steps::Steps;
 use crate::determinize::working_list::read_working_list;
 use determinize_below::{MatchKind, NFA, SparseSets, StateID, Unit};
-use determinize_looks::look_tables::{LookTables, Told};
-use determinize_states::state::{State, StateBuilderEmpty, StateBuilderMatches, StateBuilderNFA};
+use determinize_start::look_tables::{LookTables, Told};
+use determinize_state::state::{State, StateBuilderEmpty, StateBuilderMatches, StateBuilderNFA};
 use std::alloc::{AllocError, Allocator};
 use std::marker::Brand;
 use std::sync::ledger::{Blank, Ledger};

@@ -1,28 +1,27 @@
 //! The start state, and walks: the states of a DFA over a text, from the start state on.
 
-ghost use Rattle.std.specs.Prelude.{◌≡◌, ◌<◌, ◌∷◌, ◌++◌, [], None, length, IfOk, OnOk};
+ghost use Rattle.std.specs.Prelude.{◌≡◌, ◌<◌, None, length, IfOk};
 ghost use Rattle.determinize_below.specs.Nfa.{AllResolve};
-ghost use Rattle.determinize_below.specs.Positions.{between};
-ghost use Rattle.determinize_below.specs.Unit.{byte_of};
+ghost use Rattle.determinize_below.specs.Semantics.{between};
 ghost use Rattle.determinize_core.specs.Scratch.{IsScratch};
-ghost use Rattle.determinize_core.specs.Step.{start_value, step};
-ghost use Rattle.determinize_core.specs.Walk as specs_of_walks;
+ghost use Rattle.determinize_core.specs.Step.{start_value};
+ghost use Rattle.determinize_core.specs.LastMatch as matches;
 ghost use Rattle.determinize_core.specs.WholeWalk.{IsWalk};
 
 use crate::determinize::closure::epsilon_closure;
 use crate::determinize::lookbehind::set_lookbehind_from_start;
-use crate::determinize::transition::next;
+use crate::determinize::stepper::Stepper;
 use determinize_below::{HalfMatch, MatchKind, NFA, SparseSets, StateID, Unit};
-use determinize_looks::start::start_kind_of;
-use determinize_states::recording::add_nfa_states;
-use determinize_states::state::{State, StateBuilderEmpty, StateBuilderNFA};
+use determinize_start::start::start_kind_of;
+use determinize_state::recording::add_nfa_states;
+use determinize_state::state::{State, StateBuilderEmpty, StateBuilderNFA};
 use std::alloc::{AllocError, Allocator};
 
 /// Returns the state before the first unit, in a builder.
 ///
 /// - `start` is the NFA state to start from, below the number of states.
 /// - `look_behind` is the byte before the text, `None` at the start of the haystack.
-/// - `sparses` and `stack` are scratch, as in [`next`].
+/// - `sparses` and `stack` are scratch, as in [`crate::determinize::next`].
 ///
 /// The state has the look-behind for that byte and the epsilon closure of `start`. It lists no
 /// pattern, since matches are delayed by one unit. On error the builder is dropped.
@@ -99,87 +98,19 @@ pub fn walk_between<N: Allocator, A: Allocator + Copy>(
     ensures { IfOk result (λ states. IsWalk nfa.now match_kind start
         (between look_behind text.now look_ahead) states.items) }
 {
-    let mut sparses = SparseSets::new(alloc, nfa.len())?;
-    let mut stack = Vec::new(alloc);
-    let empty = StateBuilderEmpty::new(alloc);
-    let mut builder = start_state(nfa, start, look_behind, &mut sparses, &mut stack, empty)?;
+    let mut stepper = Stepper::new(alloc, nfa, match_kind);
+    let mut state = stepper.start(start, look_behind)?;
     let mut states = Vec::new(alloc);
     for byte in text {
         let unit = Unit::u8(*byte);
-        builder = advance(
-            nfa,
-            match_kind,
-            &mut sparses,
-            &mut stack,
-            builder,
-            unit,
-            &mut states,
-        )?;
+        let next = stepper.next(&state, unit)?;
+        states.push(state)?;
+        state = next;
     }
     let unit = Unit::from(look_ahead);
-    let states = finish(
-        nfa,
-        match_kind,
-        &mut sparses,
-        &mut stack,
-        builder,
-        unit,
-        states,
-    )?;
-    Ok(states)
-}
-
-/// Pushes the state in the builder, and returns the state after it over a unit.
-fn advance<N: Allocator, A: Allocator + Clone>(
-    nfa: &NFA<N>,
-    match_kind: MatchKind,
-    sparses: &mut SparseSets<A>,
-    stack: &mut Vec<StateID, A>,
-    builder: StateBuilderNFA<A>,
-    unit: Unit,
-    states: &mut Vec<State<A>, A>,
-) -> Result<StateBuilderNFA<A>, AllocError>
-    requires scratch { IsScratch nfa.now sparses.old.set1 sparses.old.set2 stack.old.items }
-    requires resolve { AllResolve nfa.now builder.states }
-    ensures ok { IfOk result (λ after. after ≡ step nfa.now match_kind builder (byte_of unit)) }
-    ensures pushed { OnOk result (states.new.items ≡ states.old.items ++ builder ∷ []) }
-    ensures resolve { IfOk result (λ after. AllResolve nfa.now after.states) }
-    ensures scratch { IsScratch nfa.now sparses.new.set1 sparses.new.set2 stack.new.items }
-{
-    let state = builder.to_state()?;
-    let empty = builder.clear();
-    let after = next(nfa, match_kind, sparses, stack, &state, unit, empty)?;
+    let last = stepper.next(&state, unit)?;
     states.push(state)?;
-    Ok(after)
-}
-
-/// Returns all states of a walk, given all but the last two.
-fn finish<N: Allocator, A: Allocator + Clone>(
-    nfa: &NFA<N>,
-    match_kind: MatchKind,
-    sparses: &mut SparseSets<A>,
-    stack: &mut Vec<StateID, A>,
-    builder: StateBuilderNFA<A>,
-    unit: Unit,
-    mut states: Vec<State<A>, A>,
-) -> Result<Vec<State<A>, A>, AllocError>
-    requires scratch { IsScratch nfa.now sparses.old.set1 sparses.old.set2 stack.old.items }
-    requires resolve { AllResolve nfa.now builder.states }
-    ensures { IfOk result (λ all. all.items
-        ≡ (states.items ++ builder ∷ []) ++ step nfa.now match_kind builder (byte_of unit) ∷ []) }
-{
-    let last = advance(nfa, match_kind, sparses, stack, builder, unit, &mut states)?;
-    with_last(states, last)
-}
-
-/// Returns the states of a walk with the one in the builder after them.
-fn with_last<A: Allocator + Clone>(
-    mut states: Vec<State<A>, A>,
-    last: StateBuilderNFA<A>,
-) -> Result<Vec<State<A>, A>, AllocError>
-    ensures { IfOk result (λ all. all.items ≡ states.items ++ last ∷ []) }
-{
-    states.push(last.to_state()?)?;
+    states.push(last)?;
     Ok(states)
 }
 
@@ -189,7 +120,7 @@ fn with_last<A: Allocator + Clone>(
 /// The start state, which lists no pattern, is skipped. The offset is the number of bytes before
 /// the end of the match. Under `MatchKind::LeftmostFirst` this is the most preferred match.
 pub fn last_match<A: Allocator>(states: &[State<A>]) -> Option<HalfMatch>
-    ensures { result ≡ specs_of_walks.last_match states.now }
+    ensures { result ≡ matches.last_match states.now }
 {
     let Some((_, others)) = states.split_first() else {
         return None;

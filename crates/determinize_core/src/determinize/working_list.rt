@@ -7,11 +7,12 @@
 ghost use Rattle.std.specs.Prelude.{◌≡◌, ℕ, ◌+◌, ◌<◌, ◌≤◌, List, [], All, Option, Some, false, length, nat_eq, is_some, not, IfOk, IfSome, OnOk, ◌&&◌, ◌||◌};
 ghost use Rattle.std.specs.Iterator.{IsFinite, YieldsFirst};
 ghost use Rattle.std.specs.List.{flat_map, list_any};
-ghost use Rattle.determinize_below.specs.Edges.{is_match, pattern_of, patterns_of, state_at, target, target_of};
+ghost use Rattle.determinize_below.specs.Edges.{is_match, pattern_of, patterns_of, target};
+ghost use Rattle.determinize_below.specs.Semantics.{state_at, target_of};
 ghost use Rattle.determinize_below.specs.Look.{has};
 ghost use Rattle.determinize_below.specs.Members.{has_id};
 ghost use Rattle.determinize_below.specs.Nfa.{AllResolve, IsAccepted};
-ghost use Rattle.determinize_below.specs.Reach.{joined};
+ghost use Rattle.ordered_reach.specs.Reach.{joined};
 ghost use Rattle.determinize_below.specs.Search.{continues};
 ghost use Rattle.determinize_below.specs.Unit.{byte_of};
 ghost use Rattle.determinize_core.specs.Private.Reading.{distinct, IsListRead, IsStateRead, pattern_read, target_read};
@@ -26,8 +27,8 @@ use crate::determinize::steps::Steps;
 use determinize_below::{
     LookSet, MatchKind, NFA, PatternID, SparseSet, SparseSetIter, SparseSets, StateID, Unit, nfa,
 };
-use determinize_looks::look_tables::LookTables;
-use determinize_states::state::{NfaStateIds, State, StateBuilderMatches};
+use determinize_start::look_tables::LookTables;
+use determinize_state::state::{NfaStateIds, State, StateBuilderMatches};
 use std::alloc::{AllocError, Allocator};
 use std::sync::ledger::Ledger;
 

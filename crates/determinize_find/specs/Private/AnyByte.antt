@@ -1,7 +1,7 @@
 -- The transition over all bytes.
 use Rattle.std.specs.Prelude.{ℕ, Bool, false, nat_eq}
 use mathlib.Core.Bool.{◌&&◌}
-use Rattle.determinize_below.specs.Node.{Node, ByteRange}
+use Rattle.determinize_below.specs.Semantics.{Node, ByteRange}
 
 -- whether the state is the transition over all bytes to the id
 abbrev pub passes_any : ℕ → Node → Bool

@@ -1,11 +1,17 @@
 -- The end of a leftmost match, and its start.
 use Rattle.std.specs.Prelude.{◌≡◌, ◌≤◌, ℕ, List, Option, Some, length, option_map}
-use Rattle.determinize_below.specs.Nfa.{Nfa}
+use Rattle.determinize_below.specs.Semantics.{Nfa}
 use Rattle.determinize_below.specs.Search.{Asked}
+use Rattle.determinize_below.specs.declared.search.Anchored.{Anchored}
 use Rattle.determinize_below.specs.declared.search.HalfMatch.{HalfMatch}
 use Rattle.determinize_below.specs.declared.search.Match.{Match}
 use Rattle.determinize_find.specs.Laws.{end_of}
 use Rattle.determinize_find.specs.LeftmostIn.{IsLeftmostIn}
+
+-- the range of a haystack
+abbrev pub asked_of : List ℕ → ℕ → ℕ → Anchored → Asked
+asked_of haystack start end anchored =
+    record { haystack = haystack; start = start; end = end; anchored = anchored }
 
 -- the pattern and the end are those of the leftmost match
 pub record IsEnding (nfa : Nfa) (asked : Asked) (found : Option HalfMatch) : Type 0 where

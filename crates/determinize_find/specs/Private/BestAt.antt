@@ -1,8 +1,7 @@
 -- The most preferred match that begins at one index.
 use Rattle.std.specs.Prelude.{◌≡◌, ◌-◌, ◌⊎◌, ℕ, List, None, Option, Some, false, option_map}
-use Rattle.determinize_below.specs.Nfa.{Nfa}
-use Rattle.determinize_below.specs.Paths.{Before}
-use Rattle.determinize_below.specs.Positions.{Text}
+use Rattle.determinize_below.specs.Semantics.{Nfa, Text}
+use Rattle.ordered_reach.specs.Paths.{Before}
 use Rattle.determinize_below.specs.Search.{Asked}
 use Rattle.determinize_below.specs.declared.search.HalfMatch.{HalfMatch}
 use Rattle.determinize_below.specs.declared.search.Match.{Match}

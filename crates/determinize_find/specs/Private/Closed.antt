@@ -1,10 +1,8 @@
 -- The states that the anchored start of an NFA reaches.
 use Rattle.std.specs.Prelude.{◌≡◌, ◌++◌, ◌∷◌, ℕ, List, Some, [], cond, map, nat_eq, not, slice_get, true}
 use Rattle.std.specs.List.{filter}
-use Rattle.determinize_below.specs.Edges.{state_at}
+use Rattle.determinize_below.specs.Semantics.{state_at, Nfa, Node, ByteRange, Sparse, Dense, Look, Union, BinaryUnion, Capture, Fail, Match}
 use Rattle.determinize_below.specs.Members.{has_id}
-use Rattle.determinize_below.specs.Nfa.{Nfa}
-use Rattle.determinize_below.specs.Node.{Node, ByteRange, Sparse, Dense, Look, Union, BinaryUnion, Capture, Fail, Match}
 use Rattle.determinize_find.specs.Prefix.{leads_to}
 
 -- the id is one of these

@@ -1,6 +1,6 @@
 -- The states of a reversed NFA.
 use Rattle.std.specs.Prelude.{◌++◌, ◌∷◌, List, [], map, ℕ}
-use Rattle.determinize_below.specs.Node.{Node, Capture, Fail, Match, Union}
+use Rattle.determinize_below.specs.Semantics.{Node, Capture, Fail, Match, Union}
 use Rattle.determinize_find.specs.Private.Turning.{Turned}
 
 -- a state with transitions to these ids, without input

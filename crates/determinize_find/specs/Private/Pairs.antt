@@ -9,6 +9,7 @@ use Rattle.determinize_find.specs.Reversal.{IsReverseOf}
 pub record IsPair (forward backward : LazyValue) : Type 0 where
   pub kind : forward.kind ≡ LeftmostFirst
   pub kind_backward : backward.kind ≡ All
+  pub limit : backward.limit ≡ forward.limit
   pub reads_forward : forward.nfa.reverse ≡ false
   pub prefix : HasPrefix forward.nfa
   pub reverse : IsReverseOf backward.nfa forward.nfa

@@ -1,9 +1,7 @@
 -- The transitions of an NFA, reversed one after another.
 use Rattle.std.specs.Prelude.{◌++◌, ◌+◌, ◌∷◌, ℕ, List, [], cond, length, nat_eq, replicate, slice_index_or, slice_set, suc}
-use Rattle.determinize_below.specs.Edges.{state_at}
+use Rattle.determinize_below.specs.Semantics.{state_at, Nfa, Node, ByteRange, Sparse, Dense, Look, Union, BinaryUnion, Capture, Fail, Match}
 use Rattle.determinize_below.specs.Look.{reversed}
-use Rattle.determinize_below.specs.Nfa.{Nfa}
-use Rattle.determinize_below.specs.Node.{Node, ByteRange, Sparse, Dense, Look, Union, BinaryUnion, Capture, Fail, Match}
 use Rattle.determinize_below.specs.declared.nfa.transitions.Transition.{Transition}
 
 -- for each state the ids that it has transitions to in the reversed NFA, the states of the reversed
@@ -12,6 +10,10 @@ pub record Turned : Type 0 where
   pub into : List (List ℕ)
   pub rest : List Node
   pub ends : List ℕ
+
+-- the number of states of the reversed NFA
+abbrev pub total : Turned → ℕ
+total h = length h.into + 2 + length h.rest
 
 -- the ids that a state has transitions to in the reversed NFA
 abbrev pub sources : Turned → ℕ → List ℕ

@@ -1,23 +1,31 @@
 -- What is true of the rows of a transition table, and what lookups in it return.
-use Rattle.std.specs.Prelude.{◌≡◌, ℕ, ◌+◌, ◌*◌, ◌/◌, ◌<◌, ◌≤◌, ◌⊎◌, false, Option, Some, None, List, length, slice_get}
+use Rattle.std.specs.Prelude.{◌≡◌, ℕ, ◌+◌, ◌*◌, ◌<◌, ◌≤◌, false, Option, Some, None, List, length, slice_get}
 use Rattle.std.specs.Prelude.{slice_index, MatchOption}
 use Rattle.std.specs.List.{list_any}
 use Rattle.determinize_below.specs.Truth.{IsUnit}
 use Rattle.determinize_core.specs.Value.{Value}
-use Rattle.determinize_lazy.specs.Stored.{entry_at, table_in}
-use Rattle.determinize_lazy.specs.Table.{EachApart, Table, index_in, same, with_value}
+use Rattle.determinize_lazy.specs.Stored.{entry_at, table_in, target_in}
+use Rattle.determinize_lazy.specs.Table.{EachApart, Table, same, with_value}
 use Rattle.determinize_lazy.specs.Private.Tags.{tag_in, tag_of}
 
--- an entry: 1, or the offset of a row
-abbrev pub IsEntry : List Value → ℕ → Type 0
-IsEntry states entry = (entry ≡ 1) ⊎ ((entry ≡ entry / 258 * 258) × (entry / 258 < length states))
+-- an entry leads to the state of which it is the offset of the row, or nowhere: 1 is the offset of no row
+abbrev pub Leads : List Value → ℕ → Option Value → Type 0
+Leads states entry None = entry ≡ 1
+Leads states entry (Some w) = (p : ℕ) × (entry ≡ p * 258) × (slice_get states p ≡ Some w)
 
--- a row for each of the states, of which no two are equal; each with entries and the tag of its state
-pub record AreRows (states : List Value) (rows : List ℕ) : Type 0 where
+-- a row for each of the states, of which no two are equal: in the column of a unit it leads to the target of the
+-- transition, and in the last one is the tag of the state; there are no other transitions
+pub record AreRows (states : List Value) (rows : List ℕ) (target : Value → Option ℕ → Option Value) : Type 0 where
   pub size : length rows ≡ length states * 258
   pub apart : EachApart states
-  pub entries : (p : ℕ) (u : Option ℕ) → p < length states → IsUnit u → IsEntry states (entry_at rows p u)
+  pub entries : (p : ℕ) (v : Value) (u : Option ℕ) → slice_get states p ≡ Some v → IsUnit u
+      → Leads states (entry_at rows p u) (target v u)
+  pub others : (v : Value) (u : Option ℕ) → ((p : ℕ) → slice_get states p ≡ Some v → IsUnit u → ⊥) → target v u ≡ None
   pub tags : (p : ℕ) (v : Value) → slice_get states p ≡ Some v → tag_in (slice_index rows (p * 258 + 257)) ≡ tag_of v
+
+-- the same of the table that they store
+abbrev pub IsStored : List Value → List ℕ → Type 0
+IsStored states rows = AreRows states rows (target_in states rows)
 
 -- the id that a lookup returns: that of the target; `None` if the transition is not cached
 abbrev pub IsTarget : Table → Value → Option ℕ → Option ℕ → Type 0
@@ -42,7 +50,7 @@ IsTargetIndex states source w (Some p) = slice_get states p ≡ Some w
 
 -- states of which no two are equal, at most as many as rows have offsets of 32 bits, and a map to their indices
 pub record AreInterned (states : List Value) (index : Value → Option ℕ) : Type 0 where
-  pub mapped : (v : Value) → index v ≡ index_in states v
+  pub mapped : (v : Value) → IsIndex states v (index v)
   pub apart : EachApart states
   pub few : length states ≤ 16647160
 
@@ -55,3 +63,9 @@ pub record StoredTable : Type 0 where
 -- the table that it stores
 abbrev pub table_of : StoredTable → Table
 table_of t = table_in t.states t.rows
+
+-- each kept start was kept before, and is still that of the same state
+abbrev pub StartsStay : StoredTable → StoredTable → Type 0
+StartsStay old new = (i index : ℕ) → slice_get new.starts i ≡ Some (Some index)
+    → (slice_get old.starts i ≡ Some (Some index))
+    × ((v : Value) → slice_get old.states index ≡ Some v → slice_get new.states index ≡ Some v)

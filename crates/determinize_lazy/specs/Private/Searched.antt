@@ -2,12 +2,12 @@
 use Rattle.std.specs.Prelude.{◌≡◌, ℕ, ◌-◌, ◌++◌, Bool, false, Option, List, drop, is_some, take}
 use Rattle.std.specs.Option.{option_or}
 use Rattle.determinize_below.specs.declared.search.HalfMatch.{HalfMatch}
-use Rattle.determinize_below.specs.Positions.{Text}
+use Rattle.determinize_below.specs.Semantics.{Text}
 use Rattle.determinize_below.specs.Search.{Asked}
 use Rattle.determinize_core.specs.Chain.{future, units, value_after}
 use Rattle.determinize_core.specs.Step.{start_value}
 use Rattle.determinize_core.specs.Value.{Value}
-use Rattle.determinize_core.specs.Walk.{ended_at, last_match}
+use Rattle.determinize_core.specs.LastMatch.{ended_at, last_match}
 use Rattle.determinize_lazy.specs.Cache.{Cache, IsCutOff, after_walk, step_of}
 use Rattle.determinize_lazy.specs.Searches.{start_for, text_of, units_read}
 

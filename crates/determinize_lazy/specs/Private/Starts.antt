@@ -1,9 +1,9 @@
 -- The cached start states of searches: by the start state of the NFA and the kind of start.
 use Rattle.std.specs.Prelude.{◌≡◌, ℕ, ◌+◌, cond, Option, Some, None, nat_eq, slice_get}
-use Rattle.determinize_below.specs.Nfa.{Nfa}
+use Rattle.determinize_below.specs.Semantics.{Nfa}
 use Rattle.determinize_core.specs.Step.{start_value}
 use Rattle.determinize_lazy.specs.Private.Rows.{StoredTable}
-use Rattle.determinize_looks.specs.StartKinds.{number_of, start_kind_of}
+use Rattle.determinize_start.specs.StartKinds.{number_of, start_kind_of}
 
 -- where a start is kept: the anchored start by its kind, the unanchored one behind these; no other is
 abbrev pub start_index : Nfa → ℕ → Option ℕ → Option ℕ

@@ -6,16 +6,17 @@ ghost use Rattle.determinize_below.specs.Nfa.{AllResolve};
 use crate::error::{JobError, Part};
 use crate::job::Job;
 use crate::key::Key;
+use crate::values::LastMatch;
 use crate::{nfas, records, values};
 use determinize_below::{HalfMatch, MatchKind, NFA, SparseSet, SparseSets, StateID, Unit};
 use determinize_core::determinize;
 use determinize_core::start::Start;
 use determinize_core::state::{State, StateBuilderEmpty, StateBuilderNFA};
 use determinize_lazy::Lazy;
-use std::alloc::{AllocError, Global};
+use std::alloc::{AllocError, Allocator, Global};
 
 /// Returns the id of a state of the NFA, or an error if it is out of range.
-fn resolved(nfa: &NFA, text: &str) -> Result<StateID, JobError>
+fn resolved<A: Allocator>(nfa: &NFA<A>, text: &str) -> Result<StateID, JobError>
     ensures { IfOk result (λ id. id < length nfa.now.states) }
 {
     let id = values::state_id(text)?;
@@ -28,15 +29,15 @@ fn resolved(nfa: &NFA, text: &str) -> Result<StateID, JobError>
 
 /// The text of a walk: its bytes, and the optional bytes behind and ahead of them.
 #[derive(Drop)]
-struct Text {
+struct Text<A: Allocator = Global> {
     look_behind: Option<u8>,
-    bytes: Vec<u8>,
+    bytes: Vec<u8, A>,
     look_ahead: Option<u8>,
 }
 
-impl Text {
+impl<A: Allocator> Text<A> {
     /// Returns the text of a walk.
-    fn read(alloc: Global, job: &Job<'_>) -> Result<Text, JobError> {
+    fn read(alloc: A, job: &Job<'_>) -> Result<Text<A>, JobError> {
         Ok(Text {
             look_behind: values::optional_byte(job.value_or_none(Key::LookBehind))?,
             bytes: values::bytes(alloc, job.value_or_none(Key::Text))?,
@@ -46,12 +47,16 @@ impl Text {
 }
 
 /// Returns the states of a walk.
-fn states(alloc: Global, job: &Job<'_>) -> Result<Vec<State>, JobError> {
+pub fn states<A: Allocator + Copy>(alloc: A, job: &Job<'_>) -> Result<Vec<State<A>, A>, JobError> {
     states_over(alloc, job, &nfas::nfa(alloc, job)?)
 }
 
 /// Returns the states of a walk over an NFA.
-fn states_over(alloc: Global, job: &Job<'_>, nfa: &NFA) -> Result<Vec<State>, JobError> {
+fn states_over<A: Allocator + Copy>(
+    alloc: A,
+    job: &Job<'_>,
+    nfa: &NFA<A>,
+) -> Result<Vec<State<A>, A>, JobError> {
     let start = resolved(nfa, job.value(Key::Start).unwrap_or("0"))?;
     let text = Text::read(alloc, job)?;
     let states = determinize::walk_between(
@@ -135,28 +140,28 @@ fn write_states(text: &mut String, states: &[State]) -> Result<(), JobError> {
     Ok(())
 }
 
-/// Writes a match, or `none`.
+/// Writes a match or `none` in a line.
 fn write_match(text: &mut String, found: Option<HalfMatch>) -> Result<(), AllocError> {
-    match found {
-        Some(HalfMatch { pattern, offset }) => {
-            let pattern = pattern.as_u32();
-            writeln!(text, "match {pattern} {offset}")
-        }
-        None => text.push_str("none\n"),
-    }
+    let found = LastMatch(found);
+    writeln!(text, "{found}")
 }
 
 /// Runs `readers`: writes the results of the readers of one state of a walk.
 pub fn readers(alloc: Global, job: &Job<'_>, text: &mut String) -> Result<(), JobError> {
-    write_readers(text, job, states(alloc, job)?.as_slice())
+    write_readers(alloc, text, job, states(alloc, job)?.as_slice())
 }
 
 /// Writes the results of the readers of the state that the job selects.
-fn write_readers(text: &mut String, job: &Job<'_>, states: &[State]) -> Result<(), JobError> {
+fn write_readers(
+    alloc: Global,
+    text: &mut String,
+    job: &Job<'_>,
+    states: &[State],
+) -> Result<(), JobError> {
     let Some(state) = states.get(values::number(job.needed(Key::At)?)?) else {
         return Err(JobError::Malformed(Part::Position));
     };
-    records::write_readers(text, state)?;
+    records::write_readers(alloc, text, state)?;
     Ok(())
 }
 
@@ -171,7 +176,7 @@ fn set(alloc: Global, job: &Job<'_>, key: Key, nfa: &NFA) -> Result<SparseSet, J
 /// Runs `closure`: writes the set after the call.
 pub fn closure(alloc: Global, job: &Job<'_>, text: &mut String) -> Result<(), JobError> {
     let set = closed_set(alloc, job, &nfas::nfa(alloc, job)?)?;
-    write_set(text, &set)?;
+    write_set(alloc, text, &set)?;
     Ok(())
 }
 
@@ -186,9 +191,10 @@ fn closed_set(alloc: Global, job: &Job<'_>, nfa: &NFA) -> Result<SparseSet, JobE
 }
 
 /// Writes the ids of a set in a line.
-fn write_set(text: &mut String, set: &SparseSet) -> Result<(), AllocError> {
+fn write_set(alloc: Global, text: &mut String, set: &SparseSet) -> Result<(), AllocError> {
     text.push_str("set ")?;
-    values::write_numbers(text, set.iter().map(|id| id.as_u32()))?;
+    let ids: Vec<StateID> = set.iter().collect(alloc)?;
+    values::write_ids(text, ids.as_slice())?;
     text.push('\n')
 }
 

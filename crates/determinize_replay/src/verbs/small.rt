@@ -92,7 +92,7 @@ pub fn build(alloc: Global, job: &Job<'_>, text: &mut String) -> Result<(), JobE
     let builder = records::builder(alloc, job)?;
     values::write_bytes(text, builder.as_bytes())?;
     let state = builder.to_state()?;
-    records::write_readers(text, &state)?;
+    records::write_readers(alloc, text, &state)?;
     Ok(())
 }
 

@@ -1,4 +1,4 @@
-use Rattle.determinize_below.proofs.ReachLemmas.{each_nfa_reach_is_in_order, each_nfa_reach_is_one, each_nfa_reach_is_in_turn, each_reach_is_past_nothing}
+use Rattle.determinize_below.proofs.nfas.ClosureLaws.{each_nfa_reach_is_in_order, each_nfa_reach_is_one, each_nfa_reach_is_in_turn, each_reach_is_past_nothing}
 use Rattle.determinize_below.proofs.laws.nfa_reach_law.Goals as goal
 
 pub returns : goal.returns

@@ -1,4 +1,4 @@
-use Rattle.determinize_below.proofs.Known.{known_is, known-every}
+use Rattle.determinize_below.proofs.looks.LookBehindTable.{known_is, known-every}
 use Rattle.determinize_below.proofs.look_laws.known_law.Goals as goal
 
 pub returns-clause-every : goal.returns-clause-every

@@ -1,4 +1,4 @@
-use Rattle.determinize_below.proofs.LookMeets.{has-haystack, has-line, has-crlf, has-word}
+use Rattle.determinize_below.proofs.looks.CommonLooks.{has-haystack, has-line, has-crlf, has-word}
 use Rattle.determinize_below.proofs.look_laws.look_class_law.Goals as goal
 
 pub returns-clause-haystack : goal.returns-clause-haystack

@@ -1,5 +1,5 @@
-use Rattle.std.proofs.Common.{arith}
-use Rattle.determinize_below.proofs.LookLaws.{has-insert_own, has-insert_others, has-remove_own, has-remove_others, has-union, has-intersect, has-subtract}
+use Rattle.determinize_below.proofs.Common.{arith}
+use Rattle.determinize_below.proofs.looks.LookSets.{has-insert_own, has-insert_others, has-remove_own, has-remove_others, has-union, has-intersect, has-subtract}
 use Rattle.determinize_below.proofs.look_laws.look_member_law.Goals as goal
 
 pub returns-clause-insert : goal.returns-clause-insert

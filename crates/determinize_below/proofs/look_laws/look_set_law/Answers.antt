@@ -1,5 +1,5 @@
-use Rattle.std.proofs.Common.{arith}
-use Rattle.determinize_below.proofs.LookLaws.{same_sets, Decides-empty}
+use Rattle.determinize_below.proofs.Common.{arith}
+use Rattle.determinize_below.proofs.looks.LookSets.{same_sets, Decides-empty}
 use Rattle.determinize_below.proofs.look_laws.look_set_law.Goals as goal
 
 pub returns-clause-members : goal.returns-clause-members

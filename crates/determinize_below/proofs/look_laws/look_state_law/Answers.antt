@@ -1,4 +1,4 @@
-use Rattle.determinize_below.proofs.TestedLooks.{Decides-looks_of, Decides-look_set_any}
+use Rattle.determinize_below.proofs.nfas.TestedLooks.{Decides-looks_of, Decides-look_set_any}
 use Rattle.determinize_below.proofs.look_laws.look_state_law.Goals as goal
 
 pub returns-clause-states : goal.returns-clause-states

@@ -1,4 +1,4 @@
-use Rattle.determinize_below.proofs.ReversedLooks.{reversed_holds, reversed_twice}
+use Rattle.determinize_below.proofs.looks.ReversedLooks.{reversed_holds, reversed_twice}
 use Rattle.determinize_below.proofs.look_laws.reversed_law.Goals as goal
 
 pub returns-clause-holds : goal.returns-clause-holds

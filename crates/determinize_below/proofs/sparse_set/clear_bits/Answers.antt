@@ -1,6 +1,6 @@
-use Rattle.std.proofs.Common.{◌≡◌, ◌*◌, ◌<◌, get_or, length, arith, ◌∙◌}
+use Rattle.determinize_below.proofs.Common.{arith, get_or, length, ◌*◌, ◌<◌, ◌∙◌, ◌≡◌}
 use Rattle.std.proofs.lemmas.Grind.{get_or_default_zero}
-use Rattle.determinize_below.proofs.Sparse.{cleared_all, cleared_more}
+use Rattle.determinize_below.proofs.sets.SparseSets.{cleared_all, cleared_more}
 use Rattle.determinize_below.proofs.sparse_set.clear_bits.Goals as goal
 
 pub returns-then-ids-words : goal.returns-then-ids-words

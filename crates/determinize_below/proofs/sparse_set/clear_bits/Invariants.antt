@@ -1,5 +1,4 @@
-use Rattle.std.proofs.Common.{take}
-use Rattle.determinize_below.specs.Private.Clearing.{IsCleared}
+use Rattle.determinize_below.proofs.Common.{IsCleared, take}
 use Rattle.determinize_below.proofs.sparse_set.clear_bits.Given as goal
 
 abbrev pub invariant-loop-id : goal.invariant-loop-id

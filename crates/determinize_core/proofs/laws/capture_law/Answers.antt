@@ -1,4 +1,4 @@
-use Rattle.determinize_core.proofs.CaptureCycles.{ascending_captures_have_no_cycle, capture_rows}
+use Rattle.determinize_core.proofs.closure.CaptureCycles.{ascending_captures_have_no_cycle, capture_rows}
 use Rattle.determinize_core.proofs.laws.capture_law.Goals as goal
 
 pub returns : goal.returns

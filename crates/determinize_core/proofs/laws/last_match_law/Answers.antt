@@ -1,4 +1,4 @@
-use Rattle.determinize_core.proofs.LastMatches.{each_first_unit_unrolls, each_last_unit_unrolls}
+use Rattle.determinize_core.proofs.walk.LastMatches.{each_first_unit_unrolls, each_last_unit_unrolls}
 use Rattle.determinize_core.proofs.laws.last_match_law.Goals as goal
 
 pub returns : goal.returns

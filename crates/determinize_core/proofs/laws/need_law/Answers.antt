@@ -1,4 +1,4 @@
-use Rattle.determinize_states.proofs.NeedLemmas.{Decides-needs}
+use Rattle.determinize_state.proofs.values.TestedSets.{Decides-needs}
 use Rattle.determinize_core.proofs.laws.need_law.Goals as goal
 
 pub returns : goal.returns

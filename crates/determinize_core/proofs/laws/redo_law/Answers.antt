@@ -1,5 +1,5 @@
-use Rattle.determinize_looks.specs.LookTables.{tables, opened}
-use Rattle.determinize_core.proofs.Redo.{not_redone}
+use Rattle.determinize_start.specs.LookTables.{tables, opened}
+use Rattle.determinize_core.proofs.step.RedoTest.{not_redone}
 use Rattle.determinize_core.proofs.laws.redo_law.Goals as goal
 
 pub returns : goal.returns

@@ -1,4 +1,4 @@
-use Rattle.determinize_core.proofs.WalkRows.{row_22}
+use Rattle.determinize_core.proofs.examples.WalkRows.{row_22}
 use Rattle.determinize_core.proofs.laws.search_row_law.Goals as goal
 
 pub returns : goal.returns

@@ -1,4 +1,4 @@
-use Rattle.determinize_core.proofs.TryBounds.{tries_are_few}
+use Rattle.determinize_core.proofs.step.StepBound.{tries_are_few}
 use Rattle.determinize_core.proofs.laws.tries_law.Goals as goal
 
 pub returns : goal.returns

@@ -1,4 +1,4 @@
-use Rattle.determinize_core.proofs.UnitLists.{units_are}
+use Rattle.determinize_core.proofs.walk.UnitLists.{units_are}
 use Rattle.determinize_core.proofs.laws.units_law.Goals as goal
 
 pub returns : goal.returns

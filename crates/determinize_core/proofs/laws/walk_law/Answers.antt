@@ -1,4 +1,4 @@
-use Rattle.determinize_core.proofs.WholeWalk.{each_chain_is_true, each_chain_reaches}
+use Rattle.determinize_core.proofs.walk.WalkOfRuns.{each_chain_is_true, each_chain_reaches}
 use Rattle.determinize_core.proofs.laws.walk_law.Goals as goal
 
 pub returns : goal.returns

@@ -1,10 +1,11 @@
 use Rattle.std.proofs.Common.{rules, ◌≡◌, ◌<◌, ◌+◌, ℕ, List, None, Some, [], arith, length, subst, sym, true}
-use Rattle.std.specs.Prelude.{slice_get}
+use Rattle.std.specs.List.{IsDistinct}
+use Rattle.std.specs.Prelude.{nat_eq, slice_get}
 use Rattle.determinize_below.specs.Nfa.{resolves}
 use Rattle.determinize_below.specs.Node.{node_of}
-use Rattle.determinize_below.proofs.SoundNfa.{each_passes}
+use Rattle.determinize_below.proofs.nfas.SoundNfa.{each_passes}
 use Rattle.determinize_find.specs.Private.Closed.{IsClosed, all_visited, targets_in, visited}
-use Rattle.determinize_find.proofs.Closing.{IsFound, found_all, found_index, found_more, found_start}
+use Rattle.determinize_find.proofs.ReversedNfa.FoundStates.{IsFound, found_all, found_index, found_more, found_start}
 use Rattle.determinize_find.proofs.reached.reached.Goals as goal
 
 pub loop-id-init : goal.loop-id-init
@@ -60,3 +61,8 @@ returns-clause-closed g c =
     let items : c.found-in-loop-id.inside.order.items ≡ c.loop-id.found.ids = search rules in
     subst (λ (xs : List ℕ). IsClosed c.args.nfa.now xs) (sym items)
     (found_all c.args.nfa.now c.loop-id.found.ids c.loop-id.index c.loop-id.invariant.found none)
+
+pub returns-clause-distinct : goal.returns-clause-distinct
+returns-clause-distinct g c =
+    let items : c.found-in-loop-id.inside.order.items ≡ c.loop-id.found.ids = search rules in
+    subst (λ (xs : List ℕ). IsDistinct nat_eq xs) (sym items) c.loop-id.invariant.found.distinct

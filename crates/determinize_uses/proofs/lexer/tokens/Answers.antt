@@ -1,6 +1,6 @@
 use Rattle.std.proofs.Common.{rules, ◌∷◌, [], All, IfSome, subst, sym}
 use Rattle.std.proofs.lemmas.List.Elements.{All-append, All-cons, All-nil}
-use Rattle.determinize_below.specs.Nfa.{Nfa}
+use Rattle.determinize_below.specs.Semantics.{Nfa}
 use Rattle.determinize_below.specs.declared.search.Match.{Match}
 use Rattle.determinize_uses.specs.Tokens.{IsLongest}
 use Rattle.determinize_uses.proofs.lexer.tokens.Goals as goal

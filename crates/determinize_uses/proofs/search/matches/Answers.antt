@@ -1,10 +1,10 @@
 use Rattle.std.proofs.Common.{rules, ◌≡◌, ap, map, ◌∙◌}
 use Rattle.std.specs.Prelude.{None}
 use Rattle.std.proofs.lemmas.List.{take_all}
-use Rattle.determinize_below.specs.Positions.{between}
+use Rattle.determinize_below.specs.Semantics.{between}
 use Rattle.determinize_below.specs.declared.search.MatchKind.TheVariants as kinds
 use Rattle.determinize_core.specs.Chain.{chain}
-use Rattle.determinize_core.specs.Walk.{last_match}
+use Rattle.determinize_core.specs.LastMatch.{last_match}
 use Rattle.determinize_uses.proofs.search.matches.Goals as goal
 
 pub returns : goal.returns

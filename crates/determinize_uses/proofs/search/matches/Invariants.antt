@@ -1,9 +1,9 @@
 use Rattle.std.proofs.Common.{◌≡◌, map, take}
 use Rattle.std.specs.Prelude.{None}
-use Rattle.determinize_below.specs.Positions.{between}
+use Rattle.determinize_below.specs.Semantics.{between}
 use Rattle.determinize_below.specs.declared.search.MatchKind.TheVariants as kinds
 use Rattle.determinize_core.specs.Chain.{chain}
-use Rattle.determinize_core.specs.Walk.{last_match}
+use Rattle.determinize_core.specs.LastMatch.{last_match}
 use Rattle.determinize_uses.proofs.search.matches.Given as goal
 
 abbrev pub invariant-loop-text : goal.invariant-loop-text

@@ -1,19 +1,23 @@
-use Rattle.std.proofs.Common.{◌<◌, ap, arith, length}
+use Rattle.determinize_below.proofs.Common.{ap, arith, length, Nfa, node_of, ◌<◌}
 use Rattle.std.proofs.lemmas.List.{length-map}
-use Rattle.determinize_below.specs.Nfa.{Nfa}
-use Rattle.determinize_below.specs.Node.{node_of}
-use Rattle.determinize_below.proofs.Checks.{slice_get-map_read}
-use Rattle.determinize_below.proofs.SoundNfa.{each_passes}
+use Rattle.determinize_below.proofs.nfas.StateChecks.{slice_get-map_read}
+use Rattle.determinize_below.proofs.nfas.SoundNfa.{each_passes}
 use Rattle.determinize_below.proofs.nfa.NFA.state.Goals as goal
 
 pub returns-clause-ascends : goal.returns-clause-ascends
 returns-clause-ascends g c =
     let count = ap (λ (n : Nfa). length n.states) c.self.view_is in
-    let within : c.as_usize.result < length c.self.inside.states.items = omega (arith, c.requires, c.as_usize.ensures.value, count, length-map c.self.inside.states.items node_of) in
-    (each_passes _ c.self.invariant c.as_usize.result _ (slice_get-map_read node_of c.self.inside.states.items c.as_usize.result c.index.result.now within c.index.ensures)).ascends
+    let within : c.as_usize.result < length c.self.inside.states.items =
+    omega (arith, c.requires, c.as_usize.ensures.value, count, length-map c.self.inside.states.items node_of) in
+    (each_passes _ c.self.invariant c.as_usize.result _
+    (slice_get-map_read node_of c.self.inside.states.items c.as_usize.result c.index.result.now
+    within c.index.ensures)).ascends
 
 pub returns-clause-whole : goal.returns-clause-whole
 returns-clause-whole g c =
     let count = ap (λ (n : Nfa). length n.states) c.self.view_is in
-    let within : c.as_usize.result < length c.self.inside.states.items = omega (arith, c.requires, c.as_usize.ensures.value, count, length-map c.self.inside.states.items node_of) in
-    (each_passes _ c.self.invariant c.as_usize.result _ (slice_get-map_read node_of c.self.inside.states.items c.as_usize.result c.index.result.now within c.index.ensures)).whole
+    let within : c.as_usize.result < length c.self.inside.states.items =
+    omega (arith, c.requires, c.as_usize.ensures.value, count, length-map c.self.inside.states.items node_of) in
+    (each_passes _ c.self.invariant c.as_usize.result _
+    (slice_get-map_read node_of c.self.inside.states.items c.as_usize.result c.index.result.now
+    within c.index.ensures)).whole

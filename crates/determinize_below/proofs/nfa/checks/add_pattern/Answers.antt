@@ -1,5 +1,4 @@
-use Rattle.std.proofs.Common.{◌≡◌, ℕ, Bool, true, cond, nat_eq, ◌||◌, ◌∙◌, arith}
-use Rattle.std.proofs.lemmas.Bool.Decides.{nat_tests}
+use Rattle.determinize_below.proofs.Common.{arith, Bool, cond, nat_eq, nat_tests, true, ℕ, ◌||◌, ◌∙◌, ◌≡◌}
 use Rattle.determinize_below.proofs.nfa.checks.add_pattern.Goals as goal
 
 one_more : (p q : ℕ) (b : Bool) → cond (nat_eq p q) true b ≡ (nat_eq q p || b)

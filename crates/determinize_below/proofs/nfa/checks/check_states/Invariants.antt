@@ -1,13 +1,10 @@
-use Rattle.std.proofs.Common.{◌≡◌, ℕ, [], take, drop, length, map, nat_eq}
-use Rattle.std.specs.List.{list_any}
-use Rattle.std.specs.HashSet.{contains}
-use Rattle.determinize_below.specs.Node.{node_of}
-use Rattle.determinize_below.specs.Nfa.{is_match_of, states_failure}
+use Rattle.determinize_below.proofs.Common.{[], contains, drop, is_match_of, length, list_any, map, nat_eq, node_of, states_failure, take, ℕ, ◌≡◌}
 use Rattle.determinize_below.proofs.nfa.checks.check_states.Given as goal
 
 abbrev pub invariant-loop-index : goal.invariant-loop-index
 invariant-loop-index g l = record {
   same : states_failure (length l.states) [] 0 (map node_of l.states)
-      ≡ states_failure (length l.states) (map node_of (take l.index l.states)) l.index (map node_of (drop l.index l.states));
+      ≡ states_failure (length l.states) (map node_of (take l.index l.states)) l.index
+      (map node_of (drop l.index l.states));
   seen : (q : ℕ) → contains nat_eq l.seen q ≡ list_any (is_match_of q) (map node_of (take l.index l.states));
 }

@@ -3,9 +3,10 @@ use Rattle.determinize_below.specs.Look.{has}
 use Rattle.determinize_below.specs.Members.{Members}
 use Rattle.std.proofs.lemmas.Bool.{true≢false}
 use Rattle.std.proofs.lemmas.Option.{get_or_from_slice_get}
-use Rattle.determinize_below.specs.Node.{is_epsilon, Fail}
-use Rattle.determinize_below.proofs.SoundNfa.{accepted_sound}
-use Rattle.determinize_core.proofs.ClosureSteps.{leaf_set, members_same}
+use Rattle.determinize_below.specs.Node.{is_epsilon}
+use Rattle.determinize_below.specs.Semantics.{Fail}
+use Rattle.determinize_below.proofs.nfas.SoundNfa.{accepted_sound}
+use Rattle.determinize_core.proofs.closure.ClosureSteps.{leaf_set, members_same}
 use Rattle.determinize_core.proofs.determinize.closure.closure_from.Goals as goal
 
 pub returns-then-not-is_epsilon-clause-ok : goal.returns-then-not-is_epsilon-clause-ok

@@ -4,9 +4,9 @@ use Rattle.std.proofs.lemmas.List.{append-nil, append_cancel_left, reverse-rever
 use Rattle.std.proofs.lemmas.List.Sums.{fold-append}
 use Rattle.determinize_below.specs.Edges.{reach_past}
 use Rattle.determinize_below.specs.Look.{has}
-use Rattle.determinize_below.proofs.SoundNfa.{accepted_sound}
+use Rattle.determinize_below.proofs.nfas.SoundNfa.{accepted_sound}
 use Rattle.determinize_core.specs.Private.Search.{IsTurn}
-use Rattle.determinize_core.proofs.ClosureSteps.{IsSoFar, so_far-start, so_far-turn, so_far-end, so_far-counted, so_far-part, so_far-bounded, members_same, none_left}
+use Rattle.determinize_core.proofs.closure.ClosureSteps.{IsSoFar, so_far-start, so_far-turn, so_far-end, so_far-counted, so_far-part, so_far-bounded, members_same, none_left}
 use Rattle.determinize_core.proofs.determinize.closure.explore.Goals as goal
 
 pub loop-id-init : goal.loop-id-init

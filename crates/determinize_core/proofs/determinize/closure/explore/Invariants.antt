@@ -3,7 +3,7 @@ use Rattle.std.specs.Option.{option_to_list}
 use Rattle.determinize_below.specs.Look.{has}
 use Rattle.determinize_below.specs.Nfa.{AllResolve}
 use Rattle.determinize_core.specs.Private.Search.{tries_left}
-use Rattle.determinize_core.proofs.ClosureSteps.{IsSoFar}
+use Rattle.determinize_core.proofs.closure.ClosureSteps.{IsSoFar}
 use Rattle.determinize_core.proofs.determinize.closure.explore.Given as goal
 
 abbrev pub invariant-loop-id : goal.invariant-loop-id

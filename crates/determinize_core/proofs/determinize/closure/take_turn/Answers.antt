@@ -5,10 +5,10 @@ use Rattle.std.proofs.lemmas.List.{append-nil}
 use Rattle.determinize_below.specs.Edges.{edges}
 use Rattle.determinize_below.specs.Look.{has}
 use Rattle.determinize_below.specs.Members.{Members}
-use Rattle.determinize_below.proofs.SoundNfa.{accepted_sound}
+use Rattle.determinize_below.proofs.nfas.SoundNfa.{accepted_sound}
 use Rattle.determinize_core.specs.Private.Search.{IsTurn}
-use Rattle.determinize_core.proofs.ClosureSteps.{turn_held, turn_new, inserted, not_inserted}
-use Rattle.determinize_states.proofs.RecordingSteps.{with_fact}
+use Rattle.determinize_core.proofs.closure.ClosureSteps.{turn_held, turn_new, inserted, not_inserted}
+use Rattle.determinize_state.proofs.values.RecordingSteps.{with_fact}
 use Rattle.determinize_core.proofs.determinize.closure.take_turn.Goals as goal
 
 pub returns-then-visit-clause-turn : goal.returns-then-visit-clause-turn

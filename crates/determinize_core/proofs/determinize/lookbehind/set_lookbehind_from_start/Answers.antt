@@ -1,6 +1,6 @@
 use Rattle.determinize_below.specs.Reached.{known}
-use Rattle.determinize_looks.specs.LookTables.{tables_of}
-use Rattle.determinize_looks.proofs.StartKinds.{start_have-known}
+use Rattle.determinize_start.specs.LookTables.{tables_of}
+use Rattle.determinize_start.proofs.kinds.StartKinds.{start_have-known}
 use Rattle.determinize_core.proofs.determinize.lookbehind.set_lookbehind_from_start.Goals as goal
 
 pub returns-clause-known : goal.returns-clause-known

@@ -1,5 +1,5 @@
 use Rattle.determinize_below.specs.Unit.{byte_of}
-use Rattle.determinize_core.proofs.StepLaws.{few_in}
+use Rattle.determinize_core.proofs.step.StepLaws.{few_in}
 use Rattle.determinize_core.proofs.determinize.transition.next_counted.Goals as goal
 
 pub returns-clause-single : goal.returns-clause-single

@@ -4,11 +4,11 @@ use Rattle.determinize_below.specs.Look.{has}
 use Rattle.determinize_below.specs.Nfa.{AllResolve}
 use Rattle.determinize_below.specs.Unit.{byte_of}
 use Rattle.determinize_core.specs.Private.Search.{tries_left}
-use Rattle.determinize_states.specs.Recording.{added_one, settled}
-use Rattle.determinize_looks.specs.LookTables.{Telling}
-use Rattle.determinize_states.specs.Value.{Value, dead}
-use Rattle.determinize_core.proofs.Resolving.{step_resolves}
-use Rattle.determinize_core.proofs.Stepping.{IsRead, first_tries, all_tries, is_nonempty-length, row_resolves, stepped, tries_within}
+use Rattle.determinize_state.specs.Recording.{added_one, settled}
+use Rattle.determinize_start.specs.LookTables.{Telling}
+use Rattle.determinize_state.specs.Value.{Value, dead}
+use Rattle.determinize_core.proofs.step.Resolving.{step_resolves}
+use Rattle.determinize_core.proofs.step.StepParts.{IsRead, first_tries, all_tries, is_nonempty-length, row_resolves, stepped, tries_within}
 use Rattle.determinize_core.proofs.determinize.transition.transition.Goals as goal
 
 pub returns-in_err-read_working_list-clause-bounded : goal.returns-in_err-read_working_list-clause-bounded

@@ -1,5 +1,5 @@
 use Rattle.std.proofs.Common.{◌∙◌, sym}
-use Rattle.determinize_core.proofs.LastMatches.{first_listed, last_ended-match, last_ended-none, last_match-read}
+use Rattle.determinize_core.proofs.walk.LastMatches.{first_listed, last_ended-match, last_ended-none, last_match-read}
 use Rattle.determinize_core.proofs.determinize.walks.last_match.Goals as goal
 use Rattle.determinize_core.proofs.determinize.walks.last_match.Goals.{then-is_match, else-is_match}
 

@@ -1,10 +1,10 @@
 use Rattle.std.proofs.Common.{◌≡◌, ◌∙◌, [], ap, refl, subst, sym}
 use Rattle.determinize_below.specs.Members.{Members}
 use Rattle.determinize_below.specs.Nfa.{AllResolve}
-use Rattle.determinize_looks.specs.StartKinds.{start_kind_of}
-use Rattle.determinize_states.specs.Value.{Value}
-use Rattle.determinize_core.proofs.Resolving.{start_resolves}
-use Rattle.determinize_core.proofs.Walking.{start_value-made}
+use Rattle.determinize_start.specs.StartKinds.{start_kind_of}
+use Rattle.determinize_state.specs.Value.{Value}
+use Rattle.determinize_core.proofs.step.Resolving.{start_resolves}
+use Rattle.determinize_core.proofs.walk.WalkSteps.{start_value-made}
 use Rattle.determinize_core.proofs.determinize.walks.start_state.Goals as goal
 
 pub returns-clause-ok : goal.returns-clause-ok

@@ -1,9 +1,9 @@
 use Rattle.std.proofs.Common.{◌≡◌, ◌∙◌, ◌++◌, ◌∷◌, [], List, ℕ, ap, sym}
 use Rattle.determinize_below.specs.Members.{Members}
-use Rattle.determinize_states.proofs.RecordingSteps.{rest_below}
+use Rattle.determinize_state.proofs.values.RecordingSteps.{rest_below}
 use Rattle.determinize_core.specs.Private.Reading.{distinct}
-use Rattle.determinize_core.proofs.ClosureSteps.{inserted, not_inserted}
-use Rattle.determinize_core.proofs.Collecting.{pushed}
+use Rattle.determinize_core.proofs.closure.ClosureSteps.{inserted, not_inserted}
+use Rattle.determinize_core.proofs.step.Collecting.{pushed}
 use Rattle.determinize_core.proofs.determinize.working_list.collect_states.Goals as goal
 
 pub loop-id-preserved : goal.loop-id-preserved

@@ -1,10 +1,10 @@
 use Rattle.std.proofs.Common.{◌≡◌, ◌∙◌, ap, sym, Bool, ℕ}
 use Rattle.std.proofs.lemmas.Bool.{eqb-true}
 use Rattle.determinize_below.specs.Unit.{byte_of}
-use Rattle.determinize_looks.specs.LookTables.{Tables, opened, tables_of}
+use Rattle.determinize_start.specs.LookTables.{Tables, opened, tables_of}
 use Rattle.determinize_core.specs.Step.{is_redone, opened_by}
-use Rattle.determinize_core.proofs.Redo.{unneeded}
-use Rattle.determinize_core.proofs.Reopening.{IfSome-again}
+use Rattle.determinize_core.proofs.step.RedoTest.{unneeded}
+use Rattle.determinize_core.proofs.step.RepeatedClosure.{IfSome-again}
 use Rattle.determinize_core.proofs.determinize.working_list.look_again_over.Goals as goal
 
 pub returns-then-is_empty-clause-whether : goal.returns-then-is_empty-clause-whether

@@ -1,11 +1,11 @@
 use Rattle.std.proofs.Common.{◌≡◌, ◌∙◌, ◌<◌, ◌++◌, ◌∷◌, All, Some, None, ap, sym, subst, refl, List, ℕ, length}
 use Rattle.std.proofs.lemmas.List.{append-nil}
 use Rattle.determinize_below.specs.Unit.{byte_of}
-use Rattle.determinize_below.proofs.SoundNfa.{accepted_sound}
+use Rattle.determinize_below.proofs.nfas.SoundNfa.{accepted_sound}
 use Rattle.determinize_core.specs.Private.Reading.{distinct, IsListRead}
-use Rattle.determinize_states.proofs.RecordingSteps.{rest_below}
-use Rattle.determinize_core.proofs.Collecting.{rest_behind}
-use Rattle.determinize_core.proofs.FirstReading.{first_read-start, first_read-new, first_read-next, first_read-stop, first_read-end}
+use Rattle.determinize_state.proofs.values.RecordingSteps.{rest_below}
+use Rattle.determinize_core.proofs.step.Collecting.{rest_behind}
+use Rattle.determinize_core.proofs.step.FirstReading.{first_read-start, first_read-new, first_read-next, first_read-stop, first_read-end}
 use Rattle.determinize_core.proofs.determinize.working_list.read_states.Goals as goal
 
 pub loop-id-init : goal.loop-id-init

@@ -1,6 +1,6 @@
 use Rattle.std.proofs.Common.{◌≡◌, ◌<◌, ◌++◌, All, length}
 use Rattle.determinize_below.specs.Unit.{byte_of}
-use Rattle.determinize_core.proofs.FirstReading.{IsFirstRead}
+use Rattle.determinize_core.proofs.step.FirstReading.{IsFirstRead}
 use Rattle.determinize_core.proofs.determinize.working_list.read_states.Given as goal
 
 abbrev pub invariant-loop-id : goal.invariant-loop-id

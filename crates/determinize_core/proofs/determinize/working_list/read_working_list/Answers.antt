@@ -1,11 +1,11 @@
 use Rattle.std.proofs.Common.{◌≡◌, ◌∙◌, ◌+◌, ◌<◌, ◌≤◌, All, ap, sym, subst, List, ℕ, length}
 use Rattle.determinize_below.specs.Members.{Members}
-use Rattle.determinize_below.specs.Reach.{none_held}
+use Rattle.ordered_reach.specs.Reach.{none_held}
 use Rattle.determinize_below.specs.Unit.{byte_of}
 use Rattle.determinize_core.specs.Private.Reading.{distinct, IsListRead}
-use Rattle.determinize_core.proofs.Collecting.{All-fresh}
-use Rattle.determinize_core.proofs.FirstReading.{distinct_same}
-use Rattle.determinize_core.proofs.Reopening.{reached_again, tried_again}
+use Rattle.determinize_core.proofs.step.Collecting.{All-fresh}
+use Rattle.determinize_core.proofs.step.FirstReading.{distinct_same}
+use Rattle.determinize_core.proofs.step.RepeatedClosure.{reached_again, tried_again}
 use Rattle.determinize_core.proofs.determinize.working_list.read_working_list.Goals as goal
 
 pub explore-requires-clause-resolve : goal.explore-requires-clause-resolve

@@ -1,19 +1,14 @@
 use Rattle.std.proofs.Common.{rules, ◌≡◌, IfOk, ap, subst}
-use Rattle.determinize_below.specs.Nfa.{Nfa}
+use Rattle.determinize_below.specs.Semantics.{Nfa}
 use Rattle.determinize_below.specs.Search.{Asked}
-use Rattle.determinize_find.specs.Private.Begins.{IsEnding}
+use Rattle.determinize_find.specs.Private.Begins.{IsEnding, asked_of}
 use Rattle.determinize_find.specs.Regexes.{RegexValue}
-use Rattle.determinize_find.proofs.TwoSearches.{all_bytes, ended_in}
+use Rattle.determinize_find.proofs.LeftmostMatch.TwoSearches.{all_bytes, ended_in}
 use Rattle.determinize_find.proofs.regex.Regex.find_end.Goals as goal
 
 pub returns-clause-end : goal.returns-clause-end
 returns-clause-end g c =
-    let asked : Asked = record {
-      haystack = c.args.haystack.now;
-      start = c.args.range.start;
-      end = c.args.range.end;
-      anchored = c.args.anchored;
-    } in
+    let asked : Asked = asked_of c.args.haystack.now c.args.range.start c.args.range.end c.args.anchored in
     let own : c.anchored-input.result ≡ asked = search rules in
     subst (λ (n : Nfa). IfOk c.search_input.result (λ found. IsEnding n asked found))
     (ap (λ (v : RegexValue). v.nfa) c.self.view_is)

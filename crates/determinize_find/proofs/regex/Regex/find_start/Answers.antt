@@ -1,12 +1,12 @@
 use Rattle.std.proofs.Common.{rules, ◌≡◌, ◌≤◌, ◌∙◌, None, Some, ap, subst, sym}
-use Rattle.determinize_below.specs.Nfa.{Nfa}
+use Rattle.determinize_below.specs.Semantics.{Nfa}
 use Rattle.determinize_below.specs.Search.{Asked}
 use Rattle.determinize_below.specs.declared.search.Anchored.TheVariants.{Yes}
 use Rattle.determinize_below.specs.declared.search.HalfMatch.{HalfMatch}
-use Rattle.determinize_below.proofs.Tests.{some_injective}
+use Rattle.ordered_reach.proofs.Cases.{some_injective}
 use Rattle.determinize_find.specs.Private.Begins.{IsEnded}
 use Rattle.determinize_find.specs.Regexes.{RegexValue}
-use Rattle.determinize_find.proofs.TwoSearches.{IsAt, begin_found, ended_within}
+use Rattle.determinize_find.proofs.LeftmostMatch.TwoSearches.{IsAt, begin_found, ended_within}
 use Rattle.determinize_find.proofs.regex.Regex.find_start.Goals as goal
 
 pub range-requires-clause-in_haystack : goal.range-requires-clause-in_haystack

@@ -1,20 +1,16 @@
 use Rattle.std.proofs.Common.{rules, ◌≡◌, IfOk, None, ap, subst}
 use Rattle.std.specs.Bool.{Decides}
-use Rattle.determinize_below.specs.Nfa.{Nfa}
+use Rattle.determinize_below.specs.Semantics.{Nfa}
 use Rattle.determinize_below.specs.Search.{Asked}
 use Rattle.determinize_find.specs.LeftmostIn.{IsLeftmostIn}
+use Rattle.determinize_find.specs.Private.Begins.{asked_of}
 use Rattle.determinize_find.specs.Regexes.{RegexValue}
-use Rattle.determinize_find.proofs.TwoSearches.{all_bytes, found_in}
+use Rattle.determinize_find.proofs.LeftmostMatch.TwoSearches.{all_bytes, found_in}
 use Rattle.determinize_find.proofs.regex.Regex.is_match_in.Goals as goal
 
 pub returns-clause-found : goal.returns-clause-found
 returns-clause-found g c =
-    let asked : Asked = record {
-      haystack = c.args.haystack.now;
-      start = c.args.range.start;
-      end = c.args.range.end;
-      anchored = c.args.anchored;
-    } in
+    let asked : Asked = asked_of c.args.haystack.now c.args.range.start c.args.range.end c.args.anchored in
     let own : c.anchored-input.result ≡ asked = search rules in
     subst (λ (n : Nfa). IfOk c.is_match.result (λ found. Decides found (IsLeftmostIn n asked None → ⊥)))
     (ap (λ (v : RegexValue). v.nfa) c.self.view_is)

@@ -1,5 +1,6 @@
 use Rattle.std.proofs.Common.{◌≡◌, ◌++◌, ◌∷◌, map}
-use Rattle.determinize_below.specs.Node.{node_of, Match, Union}
+use Rattle.determinize_below.specs.Node.{node_of}
+use Rattle.determinize_below.specs.Semantics.{Match, Union}
 use Rattle.determinize_find.specs.Private.Gathered.{gathered, states_of}
 use Rattle.determinize_find.proofs.reversal.Turned.into_states.Given as goal
 

@@ -1,8 +1,8 @@
-use Rattle.determinize_lazy.proofs.Common.{◌-◌, ◌<◌, ◌∙◌, ◌≡◌, ◌≤◌, ap, arith, cache, dead, IsTable, IsTarget}
-use Rattle.determinize_lazy.proofs.Common.{LazyValue, length, match_of, option_or, rules, slice_get, slice_get-get_or}
-use Rattle.determinize_lazy.proofs.Common.{slice_index_or, Some, step_of, subst, tag_in, tag_of, Value}
-use Rattle.determinize_lazy.proofs.Cursors.{cached_step, cached_target}
-use Rattle.determinize_lazy.proofs.Searching.{searched-step, tag-last, tag-match}
+use Rattle.determinize_lazy.proofs.Common.{ap, arith, cache, dead, IsTable, IsTarget, LazyValue, length}
+use Rattle.determinize_lazy.proofs.Common.{match_of, option_or, rules, slice_get, slice_get-get_or, slice_index_or}
+use Rattle.determinize_lazy.proofs.Common.{Some, step_of, subst, tag_in, tag_of, Value, ◌-◌, ◌<◌, ◌∙◌, ◌≡◌, ◌≤◌}
+use Rattle.determinize_lazy.proofs.finding.Searching.{searched-step, tag-last, tag-match}
+use Rattle.determinize_lazy.proofs.steps.Cursors.{cached_step, cached_target}
 use Rattle.determinize_lazy.proofs.lazy.Lazy.follow.Goals as goal
 
 pub loop-at-preserved : goal.loop-at-preserved

@@ -1,5 +1,5 @@
-use Rattle.determinize_lazy.proofs.Common.{◌-◌, ◌<◌, ◌≤◌, Cache, cache, dead, IsSearched, length, match_of}
-use Rattle.determinize_lazy.proofs.Common.{slice_index_or, units, Value}
+use Rattle.determinize_lazy.proofs.Common.{Cache, cache, dead, IsSearched, length, match_of, slice_index_or, units}
+use Rattle.determinize_lazy.proofs.Common.{Value, ◌-◌, ◌<◌, ◌≤◌}
 use Rattle.determinize_lazy.proofs.lazy.Lazy.follow.Given as goal
 
 abbrev pub invariant-loop-at : goal.invariant-loop-at

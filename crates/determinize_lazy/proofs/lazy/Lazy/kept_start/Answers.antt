@@ -1,5 +1,5 @@
 use Rattle.determinize_lazy.proofs.Common.{AllResolve, cache, IsSound, LazyValue, start_value, subst}
-use Rattle.determinize_core.proofs.Resolving.{start_resolves}
+use Rattle.determinize_core.proofs.step.Resolving.{start_resolves}
 use Rattle.determinize_lazy.proofs.lazy.Lazy.kept_start.Given.{Over}
 use Rattle.determinize_lazy.proofs.lazy.Lazy.kept_start.Goals.{After-start_index}
 use Rattle.determinize_lazy.proofs.lazy.Lazy.kept_start.Goals as goal
@@ -8,6 +8,7 @@ is_sound : (g : Over) (c : After-start_index g) → IsSound (cache c.args.self.n
 is_sound g c =
     subst (λ (x : LazyValue). IsSound (cache x)) c.self.view_is record {
       accepted = c.self.invariant.accepted;
+      table = c.self.invariant.table;
       small = c.self.invariant.small;
     }
 

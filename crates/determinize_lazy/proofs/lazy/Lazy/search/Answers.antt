@@ -2,9 +2,9 @@ use Rattle.determinize_lazy.proofs.Common.{between, cache, false, IfOk, IfOk-wea
 use Rattle.determinize_lazy.proofs.Common.{Text, units}
 use Rattle.determinize_core.specs.Chain.{chain}
 use Rattle.determinize_lazy.specs.Searches.{after_search}
-use Rattle.determinize_lazy.proofs.Headline.{is-search}
-use Rattle.determinize_lazy.proofs.Rule.{on_ok}
-use Rattle.determinize_lazy.proofs.Searching.{over-keeps}
+use Rattle.determinize_lazy.proofs.finding.Headline.{is-search}
+use Rattle.determinize_lazy.proofs.steps.Rule.{on_ok}
+use Rattle.determinize_lazy.proofs.walking.Plenty.{keeps_all}
 use Rattle.determinize_lazy.proofs.lazy.Lazy.search.Given.{Over}
 use Rattle.determinize_lazy.proofs.lazy.Lazy.search.Goals.{After-search_text}
 use Rattle.determinize_lazy.proofs.lazy.Lazy.search.Goals as goal
@@ -30,4 +30,4 @@ unfolding after_search
 returns-clause-after g c = on_ok c.search_text.result (λ found o. o.after) (over g c)
 
 pub returns-clause-plenty : goal.returns-clause-plenty
-returns-clause-plenty g c = on_ok c.search_text.result (λ found o. over-keeps o) (over g c)
+returns-clause-plenty g c = on_ok c.search_text.result (λ found o. keeps_all c.search_text.ensures.sound o.after) (over g c)

@@ -1,9 +1,10 @@
-use Rattle.determinize_lazy.proofs.Common.{◌-◌, ◌∙◌, ◌≡◌, ◌≤◌, ap, arith, cache, cursor_value, ended_at, IsSearched}
-use Rattle.determinize_lazy.proofs.Common.{length, match_of, option_or, units}
-use Rattle.determinize_lazy.proofs.Rule.{grows-more, of_err}
-use Rattle.determinize_lazy.proofs.Searching.{finished, searched-fails, searched-step, stopped, tag-last, tag-match}
-use Rattle.determinize_lazy.proofs.Texts.{all_read}
-use Rattle.determinize_lazy.proofs.Walks.{reached-resolves}
+use Rattle.determinize_lazy.proofs.Common.{ap, arith, cache, cursor_value, ended_at, IsSearched, length}
+use Rattle.determinize_lazy.proofs.Common.{match_of, option_or, units, ◌-◌, ◌∙◌, ◌≡◌, ◌≤◌}
+use Rattle.determinize_lazy.proofs.finding.Searching.{finished, searched-fails, searched-step, stopped, tag-last}
+use Rattle.determinize_lazy.proofs.finding.Searching.{tag-match}
+use Rattle.determinize_lazy.proofs.finding.Texts.{all_read}
+use Rattle.determinize_lazy.proofs.steps.Rule.{grows-more, of_err}
+use Rattle.determinize_lazy.proofs.walking.CachedWalks.{reached-resolves}
 use Rattle.determinize_lazy.proofs.lazy.Lazy.search_from.Given.{Over}
 use Rattle.determinize_lazy.proofs.lazy.Lazy.search_from.Goals.{After-or_match-last}
 use Rattle.determinize_lazy.proofs.lazy.Lazy.search_from.Goals as goal

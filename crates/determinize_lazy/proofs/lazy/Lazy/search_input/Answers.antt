@@ -1,6 +1,7 @@
-use Rattle.determinize_lazy.proofs.Common.{◌∙◌, ◌≡◌, cache, false, is_done, refl, rules, sym}
-use Rattle.determinize_lazy.proofs.Ranges.{after-done, after-found, IsAnswer, is-answer, last-done, offset-within}
-use Rattle.determinize_lazy.proofs.Ranges.{plenty-found, search-is}
+use Rattle.determinize_lazy.proofs.Common.{cache, false, is_done, refl, rules, sym, ◌∙◌, ◌≡◌}
+use Rattle.determinize_lazy.proofs.finding.Ranges.{after-done, after-found, is-answer, IsAnswer, last-done}
+use Rattle.determinize_lazy.proofs.finding.Ranges.{offset-within, search-is}
+use Rattle.determinize_lazy.proofs.walking.Plenty.{keeps_all}
 use Rattle.determinize_lazy.proofs.lazy.Lazy.search_input.Given.{Over}
 use Rattle.determinize_lazy.proofs.lazy.Lazy.search_input.Goals.{After-in_haystack}
 use Rattle.determinize_lazy.proofs.lazy.Lazy.search_input.Goals as goal
@@ -44,4 +45,4 @@ returns-clause-after g c =
     c.in_ok-found.ensures.over refl
 
 pub returns-clause-plenty : goal.returns-clause-plenty
-returns-clause-plenty g c = plenty-found c.args.input.now c.in_ok-found.ensures.over
+returns-clause-plenty g c = λ _. keeps_all c.search_range.ensures.sound c.in_ok-found.ensures.over.after

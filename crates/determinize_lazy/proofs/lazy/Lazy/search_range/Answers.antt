@@ -1,6 +1,6 @@
-use Rattle.determinize_lazy.proofs.Common.{◌∙◌, ◌≡◌, ap, cache, IfOk, IsCutOffSearch, IsOver, LazyValue, OnErr, refl}
-use Rattle.determinize_lazy.proofs.Common.{rules, start_for, start_value, Text, text_of, units, ℕ}
-use Rattle.determinize_lazy.proofs.Rule.{along}
+use Rattle.determinize_lazy.proofs.Common.{ap, cache, IfOk, IsCutOffSearch, IsOver, LazyValue, OnErr, refl, rules}
+use Rattle.determinize_lazy.proofs.Common.{start_for, start_value, Text, text_of, units, ℕ, ◌∙◌, ◌≡◌}
+use Rattle.determinize_lazy.proofs.steps.Rule.{along}
 use Rattle.determinize_lazy.proofs.lazy.Lazy.search_range.Given.{Over}
 use Rattle.determinize_lazy.proofs.lazy.Lazy.search_range.Goals.{After-search_text}
 use Rattle.determinize_lazy.proofs.lazy.Lazy.search_range.Goals as goal

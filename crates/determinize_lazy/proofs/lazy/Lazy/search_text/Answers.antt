@@ -1,7 +1,7 @@
 use Rattle.determinize_lazy.proofs.Common.{◌∙◌, ap, cache, cursor_value, IsCutOffSearch, LazyValue, OnErr, start_value}
 use Rattle.determinize_lazy.proofs.Common.{subst, units, Value}
-use Rattle.determinize_lazy.proofs.Rule.{of_err}
-use Rattle.determinize_lazy.proofs.Walks.{cut_off-none}
+use Rattle.determinize_lazy.proofs.steps.Rule.{of_err}
+use Rattle.determinize_lazy.proofs.walking.CachedWalks.{cut_off-none}
 use Rattle.determinize_lazy.proofs.lazy.Lazy.search_text.Goals as goal
 
 pub returns-clause-over : goal.returns-clause-over
@@ -11,7 +11,7 @@ returns-clause-over g c =
 
 pub returns-in_err-cursor-clause-failed : goal.returns-in_err-cursor-clause-failed
 returns-in_err-cursor-clause-failed g c =
-    of_err _ (cut_off-none c.in_err-cursor.ensures.sound.small (ap (λ (x : LazyValue). cache x)
+    of_err _ (cut_off-none (ap (λ (x : LazyValue). cache x)
     c.in_err-cursor.ensures.unchanged))
 
 pub returns-clause-failed : goal.returns-clause-failed

@@ -1,6 +1,6 @@
-use Rattle.determinize_lazy.proofs.Common.{◌∙◌, ◌≡◌, ap, cache, cursor_value, IsTable, IsTarget, LazyValue, slice_get}
-use Rattle.determinize_lazy.proofs.Common.{Some, step_of, subst}
-use Rattle.determinize_lazy.proofs.Cursors.{cached_step, cached_target, state_at}
+use Rattle.determinize_lazy.proofs.Common.{ap, cache, cursor_value, IsTable, IsTarget, LazyValue, slice_get, Some}
+use Rattle.determinize_lazy.proofs.Common.{step_of, subst, ◌∙◌, ◌≡◌}
+use Rattle.determinize_lazy.proofs.steps.Cursors.{cached_step, cached_target, state_of}
 use Rattle.determinize_lazy.proofs.lazy.Lazy.step.Given.{Over}
 use Rattle.determinize_lazy.proofs.lazy.Lazy.step.Goals.{In-Some}
 use Rattle.determinize_lazy.proofs.lazy.Lazy.step.Goals as goal
@@ -16,7 +16,7 @@ is_target : (g : Over) (c : In-Some g)
 is_target g c =
     let at : slice_get c.args.self.now.states c.in-Cached.id ≡ Some
     (cursor_value c.args.self.now.states c.args.cursor) =
-    state_at (cache c.args.self.now).table c.args.cursor c.requires.cursor c.in-Cached.id c.in-Cached.is in
+    state_of c.args.self.now.states c.args.cursor c.requires.cursor c.in-Cached.id c.in-Cached.is in
     subst (λ (x : LazyValue). IsTarget (cache x).table (cursor_value c.args.self.now.states c.args.cursor) c.args.unit
     (Some c.in-Some.next)) c.self.view_is
     (c.in-Some.ensures (cursor_value c.args.self.now.states c.args.cursor)
@@ -29,3 +29,6 @@ returns-in-Some-clause-at g c = cached_target (cache c.args.self.now) _ c.args.u
 pub returns-in-Some-clause-after : goal.returns-in-Some-clause-after
 returns-in-Some-clause-after g c = cached_step (cache c.args.self.now) _ c.args.unit c.in-Some.next (is_table g c)
     (is_target g c)
+
+pub compute-requires-in-Uncached-clause-uncached : goal.compute-requires-in-Uncached-clause-uncached
+compute-requires-in-Uncached-clause-uncached g c = λ id e. absurd (let no : ⊥ = (cc) in no)

@@ -1,16 +1,16 @@
-use Rattle.determinize_lazy.proofs.Common.{◌≡◌, after_walk, ap, between, cache, future, IfOk, IfOk-weaker, LazyValue}
-use Rattle.determinize_lazy.proofs.Common.{OnOk, Text, units, Value}
-use Rattle.determinize_core.proofs.WholeWalks.{is_walk}
+use Rattle.determinize_lazy.proofs.Common.{after_walk, ap, between, cache, future, IfOk, IfOk-weaker, LazyValue}
+use Rattle.determinize_lazy.proofs.Common.{on_ok_weaker, OnOk, Text, units, Value, ◌≡◌}
+use Rattle.determinize_core.proofs.walk.ReturnedWalk.{is_walk}
 use Rattle.determinize_core.specs.Chain.{chain}
 use Rattle.determinize_lazy.specs.Cache.{after_text}
-use Rattle.determinize_lazy.proofs.Plenty.{keeps_all_where_ok}
-use Rattle.determinize_lazy.proofs.Rule.{along, of_err}
-use Rattle.determinize_lazy.proofs.Walks.{cut_off-none}
+use Rattle.determinize_lazy.proofs.steps.Rule.{along, of_err}
+use Rattle.determinize_lazy.proofs.walking.CachedWalks.{cut_off-none}
+use Rattle.determinize_lazy.proofs.walking.Plenty.{keeps_all}
 use Rattle.determinize_lazy.proofs.lazy.Lazy.walk_between.Goals as goal
 
 pub returns-in_err-first-clause-failed : goal.returns-in_err-first-clause-failed
 returns-in_err-first-clause-failed g c =
-    of_err _ (cut_off-none c.in_err-first.ensures.sound.small (ap (λ (x : LazyValue). cache x)
+    of_err _ (cut_off-none (ap (λ (x : LazyValue). cache x)
     c.in_err-first.ensures.unchanged))
 
 pub returns-clause-walk : goal.returns-clause-walk
@@ -34,4 +34,4 @@ returns-clause-after g c =
 pub returns-clause-plenty : goal.returns-clause-plenty
 unfolding after_text
 returns-clause-plenty g c =
-    keeps_all_where_ok c.walk_from.result (cache c.args.self.now) _ _ _ (returns-clause-after g c)
+    on_ok_weaker c.walk_from.result (λ after. keeps_all c.in_ok-first.ensures.sound after) (returns-clause-after g c)

@@ -1,8 +1,8 @@
-use Rattle.determinize_lazy.proofs.Common.{[], ◌++◌, ◌∙◌, ◌∷◌, ap, future, refl, take_all, units, Value}
-use Rattle.determinize_lazy.proofs.Rule.{grows-more, of_err}
-use Rattle.determinize_lazy.proofs.Texts.{all_read}
-use Rattle.determinize_lazy.proofs.Walks.{cut_off-here, cut_off-none, cut_off-step, future-more, reached-all}
-use Rattle.determinize_lazy.proofs.Walks.{reached-push, reached-resolves}
+use Rattle.determinize_lazy.proofs.Common.{[], ap, future, refl, take_all, units, Value, ◌++◌, ◌∙◌, ◌∷◌}
+use Rattle.determinize_lazy.proofs.finding.Texts.{all_read}
+use Rattle.determinize_lazy.proofs.steps.Rule.{grows-more, of_err}
+use Rattle.determinize_lazy.proofs.walking.CachedWalks.{cut_off-here, cut_off-none, cut_off-step, future-more}
+use Rattle.determinize_lazy.proofs.walking.CachedWalks.{reached-all, reached-push, reached-resolves}
 use Rattle.determinize_lazy.proofs.lazy.Lazy.walk_from.Goals as goal
 
 pub step-requires-clause-resolve : goal.step-requires-clause-resolve
@@ -10,13 +10,13 @@ step-requires-clause-resolve g c =
     reached-resolves c.loop-read.invariant.reached c.requires.sound.accepted c.requires.resolve
 
 pub returns-in_err-states-clause-failed : goal.returns-in_err-states-clause-failed
-returns-in_err-states-clause-failed g c = of_err _ (cut_off-none c.requires.sound.small refl)
+returns-in_err-states-clause-failed g c = of_err _ (cut_off-none refl)
 
 pub returns-in_err-cursor-clause-failed : goal.returns-in_err-cursor-clause-failed
-returns-in_err-cursor-clause-failed g c = of_err _ (cut_off-none c.requires.sound.small refl)
+returns-in_err-cursor-clause-failed g c = of_err _ (cut_off-none refl)
 
 pub returns-in_err-push-clause-failed : goal.returns-in_err-push-clause-failed
-returns-in_err-push-clause-failed g c = of_err _ (cut_off-none c.requires.sound.small refl)
+returns-in_err-push-clause-failed g c = of_err _ (cut_off-none refl)
 
 pub returns-in_err-cursor-2-clause-failed : goal.returns-in_err-cursor-2-clause-failed
 returns-in_err-cursor-2-clause-failed g c =

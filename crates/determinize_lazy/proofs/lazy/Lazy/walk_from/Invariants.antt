@@ -1,5 +1,5 @@
-use Rattle.determinize_lazy.proofs.Common.{◌+◌, ◌-◌, ◌≡◌, cache, cursor_value, future, Grows, IsCursor, IsReached}
-use Rattle.determinize_lazy.proofs.Common.{length, take, units}
+use Rattle.determinize_lazy.proofs.Common.{cache, cursor_value, future, Grows, IsCursor, IsReached, length, take}
+use Rattle.determinize_lazy.proofs.Common.{units, ◌+◌, ◌-◌, ◌≡◌}
 use Rattle.determinize_lazy.proofs.lazy.Lazy.walk_from.Given as goal
 
 abbrev pub invariant-loop-read : goal.invariant-loop-read
@@ -7,7 +7,7 @@ invariant-loop-read g l = record {
   values : l.states.items ≡ future l.fn.self.nfa l.fn.self.kind l.fn.first (take l.read (units l.text));
   reached : IsReached (cache l.fn.self) l.fn.first (units l.text) l.read (cursor_value l.self.states l.cursor)
       (cache l.self);
-  cursor : IsCursor (cache l.self).table l.cursor;
+  cursor : IsCursor l.self.states l.cursor;
   grows : Grows (cache l.fn.self) (cache l.self);
 }
 

@@ -1,5 +1,5 @@
 use Rattle.determinize_lazy.proofs.Common.{ap, lookup, same}
-use Rattle.determinize_lazy.proofs.Interning.{interned-none}
+use Rattle.determinize_lazy.proofs.tables.Interning.{interned-none}
 use Rattle.determinize_lazy.proofs.state_table.StateTable.new.Goals as goal
 
 pub invariant_of-result : goal.invariant_of-result

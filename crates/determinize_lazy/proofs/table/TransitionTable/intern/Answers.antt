@@ -1,9 +1,9 @@
-use Rattle.determinize_lazy.proofs.Common.{[], ◌++◌, ◌+◌, ◌-◌, ◌∙◌, ◌∷◌, ◌≡◌, ◌≤◌, ap, AreRows, arith, false, length}
-use Rattle.determinize_lazy.proofs.Common.{List, list_any, replicate, rules, same, slice_get, slice_set, StoredTable}
-use Rattle.determinize_lazy.proofs.Common.{subst, sym, tag_in, tag_of, take, take_all, target_in, Value}
-use Rattle.determinize_lazy.proofs.Indices.{get_last}
-use Rattle.determinize_lazy.proofs.Rows.{rows-push, targets-push}
-use Rattle.determinize_lazy.proofs.Tables.{same_table, with_value-new}
+use Rattle.determinize_lazy.proofs.Common.{[], ap, AreRows, arith, false, IsStored, length, List, list_any}
+use Rattle.determinize_lazy.proofs.Common.{replicate, rules, same, slice_get, slice_set, StoredTable, subst, sym}
+use Rattle.determinize_lazy.proofs.Common.{table_in, table_of, take, take_all, target_in, Value, with_state, ◌++◌, ◌+◌}
+use Rattle.determinize_lazy.proofs.Common.{◌-◌, ◌∙◌, ◌∷◌, ◌≡◌, ◌≤◌}
+use Rattle.determinize_lazy.proofs.tables.TableRows.{rows-push, rows-store, table-is}
+use Rattle.determinize_lazy.proofs.tables.Values.{get_last, with_value-new}
 use Rattle.determinize_lazy.proofs.table.TransitionTable.intern.Given.{Over}
 use Rattle.determinize_lazy.proofs.table.TransitionTable.intern.Goals.{In-Ok}
 use Rattle.determinize_lazy.proofs.table.TransitionTable.intern.Goals as goal
@@ -28,16 +28,17 @@ row_is g c =
 is_new : (g : Over) (c : In-Ok g) → list_any (same c.args.state) c.self.inside.states ≡ false
 is_new g c = ap (λ (v : StoredTable). list_any (same c.args.state) v.states) c.self.view_is ∙ c.requires
 
-told : (g : Over) (c : In-Ok g) → tag_in c.of-tag.result.bits ≡ tag_of c.args.state
-told g c = search rules
+rows_are : (g : Over) (c : In-Ok g) → AreRows (c.self.inside.states ++ c.args.state ∷ [])
+    (slice_set (c.self.inside.rows.items ++ replicate 258 1) (length c.self.inside.rows.items + 257)
+    c.of-tag.result.bits) (target_in c.self.inside.states c.self.inside.rows.items)
+rows_are g c = rows-push c.self.invariant c.args.state c.of-tag.result.bits (is_new g c) (search rules)
 
 pub invariant_of-self-in-Ok : goal.invariant_of-self-in-Ok
 invariant_of-self-in-Ok g c =
     let d = (goal.at.invariant_of-self-in-Ok g c).In-Ok in
-    subst (λ vs. AreRows vs (slice_set c.resize.new.self.items (c.len-len.result + 257) c.of-tag.result.bits))
+    subst (λ vs. IsStored vs (slice_set c.resize.new.self.items (c.len-len.result + 257) c.of-tag.result.bits))
     (sym c.in-Ok.ensures.states)
-    (rows-push c.self.inside.states c.self.inside.rows.items c.args.state c.of-tag.result.bits _ c.self.invariant
-    (is_new g d) (told g d) (row_is g d))
+    (subst (λ xs. IsStored (c.self.inside.states ++ c.args.state ∷ []) xs) (sym (row_is g d)) (rows-store (rows_are g d)))
 
 pub returns-in-Ok-clause-id : goal.returns-in-Ok-clause-id
 returns-in-Ok-clause-id g c = ap (λ vs. slice_get vs c.in-Ok.id) c.in-Ok.ensures.states
@@ -47,10 +48,11 @@ returns-in-Ok-clause-id g c = ap (λ vs. slice_get vs c.in-Ok.id) c.in-Ok.ensure
 pub returns-in-Ok-clause-table : goal.returns-in-Ok-clause-table
 returns-in-Ok-clause-table g c =
     let d = (goal.at.returns-in-Ok-clause-table g c).In-Ok in
-    let added : c.intern.new.self ≡ c.self.inside.states ++ c.args.state ∷ [] = c.in-Ok.ensures.states in
-    rw (← c.self.view_is)
-    (same_table c.intern.new.self _ _ _ (added ∙ sym (with_value-new c.self.inside.states c.args.state (is_new g d)))
-    (λ x y. ap (λ (vs : List Value). target_in vs (slice_set c.resize.new.self.items (c.len-len.result + 257)
-    c.of-tag.result.bits) x y) added
-    ∙ targets-push c.self.inside.states c.self.inside.rows.items c.args.state c.of-tag.result.bits _ c.self.invariant
-    (is_new g d) (told g d) (row_is g d) x y))
+    ap (λ (vs : List Value). table_in vs (slice_set c.resize.new.self.items (c.len-len.result + 257)
+    c.of-tag.result.bits)) c.in-Ok.ensures.states
+    ∙ ap (λ xs. table_in (c.self.inside.states ++ c.args.state ∷ []) xs) (row_is g d) ∙ table-is (rows_are g d)
+    ∙ ap (λ (vs : List Value). record {
+      states = vs;
+      target = target_in c.self.inside.states c.self.inside.rows.items;
+    }) (sym (with_value-new c.self.inside.states c.args.state (is_new g d)))
+    ∙ ap (λ (x : StoredTable). with_state (table_of x) c.args.state) c.self.view_is

@@ -1,7 +1,8 @@
-use Rattle.determinize_lazy.proofs.Common.{◌∙◌, ◌≡◌, ap, arith, cursor_value, false, length, list_any, refl, rules}
-use Rattle.determinize_lazy.proofs.Common.{same, StoredTable, sym, table_of, true}
-use Rattle.determinize_lazy.proofs.Cursors.{state_at, state_is, uncached}
-use Rattle.determinize_lazy.proofs.Tables.{apart_of, count_two, there}
+use Rattle.determinize_lazy.proofs.Common.{ap, arith, cursor_value, false, length, list_any, refl, rules}
+use Rattle.determinize_lazy.proofs.Common.{same, StoredTable, sym, true, ◌∙◌, ◌≡◌}
+use Rattle.determinize_lazy.proofs.steps.Cursors.{state_is, state_of, uncached}
+use Rattle.determinize_lazy.proofs.tables.Transitions.{apart_of, count_two}
+use Rattle.determinize_lazy.proofs.tables.Values.{there}
 use Rattle.determinize_lazy.proofs.table.TransitionTable.len_with.Given.{Over}
 use Rattle.determinize_lazy.proofs.table.TransitionTable.len_with.Goals.{After-len-len, In-Cached}
 use Rattle.determinize_lazy.proofs.table.TransitionTable.len_with.Goals as goal
@@ -12,7 +13,7 @@ len_is g c = c.len-len.ensures.value ∙ ap (λ (x : StoredTable). length x.stat
 source_there : (g : Over) (c : In-Cached g)
     → list_any (same (cursor_value c.args.self.now.states c.args.source.now)) c.args.self.now.states ≡ true
 source_there g c = there c.args.self.now.states _ c.in-Cached.field-0
-    (state_at (table_of c.args.self.now) c.args.source.now c.requires.source c.in-Cached.field-0 c.in-Cached.is)
+    (state_of c.args.self.now.states c.args.source.now c.requires.source c.in-Cached.field-0 c.in-Cached.is)
 
 pub returns-then-is_some : goal.returns-then-is_some
 returns-then-is_some g c =
@@ -36,17 +37,17 @@ pub returns-in-Uncached : goal.returns-in-Uncached
 returns-in-Uncached g c =
     count_two c.args.self.now.states _ c.args.following.now c.args.target.now c.requires.target
     (len_is g (goal.at.returns-in-Uncached g c).After-len-len)
-    (uncached (table_of c.args.self.now) c.args.source.now c.requires.source c.in-Uncached.field-0
-    c.in-Uncached.is).state (sym c.if-is_some-2.ensures) refl (omega arith)
+    (uncached c.args.self.now.states c.args.source.now c.requires.source c.in-Uncached.field-0
+    c.in-Uncached.is) (sym c.if-is_some-2.ensures) refl (omega arith)
 
 pub returns-in-Uncached-2 : goal.returns-in-Uncached-2
 returns-in-Uncached-2 g c =
     let equal : same c.in-Uncached-2.state c.args.following.now ≡ true = search rules in
     count_two c.args.self.now.states _ c.args.following.now c.args.target.now c.requires.target
     (len_is g (goal.at.returns-in-Uncached-2 g c).After-len-len)
-    (uncached (table_of c.args.self.now) c.args.source.now c.requires.source c.in-Uncached-2.state
-    c.in-Uncached-2.is).state (sym c.if-is_some-2.ensures)
-    (ap (λ v. same v c.args.following.now) (state_is (table_of c.args.self.now) c.args.source.now c.requires.source
+    (uncached c.args.self.now.states c.args.source.now c.requires.source c.in-Uncached-2.state
+    c.in-Uncached-2.is) (sym c.if-is_some-2.ensures)
+    (ap (λ v. same v c.args.following.now) (state_is c.args.self.now.states c.args.source.now c.requires.source
     c.in-Uncached-2.state c.in-Uncached-2.is) ∙ equal) (omega arith)
 
 pub returns-in-Uncached-3 : goal.returns-in-Uncached-3
@@ -54,7 +55,7 @@ returns-in-Uncached-3 g c =
     let apart : same c.in-Uncached-2.state c.args.following.now ≡ false = search rules in
     count_two c.args.self.now.states _ c.args.following.now c.args.target.now c.requires.target
     (len_is g (goal.at.returns-in-Uncached-3 g c).After-len-len)
-    (uncached (table_of c.args.self.now) c.args.source.now c.requires.source c.in-Uncached-3.field-0
-    c.in-Uncached-3.is).state (sym c.if-is_some-2.ensures)
-    (ap (λ v. same v c.args.following.now) (state_is (table_of c.args.self.now) c.args.source.now c.requires.source
+    (uncached c.args.self.now.states c.args.source.now c.requires.source c.in-Uncached-3.field-0
+    c.in-Uncached-3.is) (sym c.if-is_some-2.ensures)
+    (ap (λ v. same v c.args.following.now) (state_is c.args.self.now.states c.args.source.now c.requires.source
     c.in-Uncached-2.state c.in-Uncached-2.is) ∙ apart) (omega arith)

@@ -1,5 +1,5 @@
 use Rattle.determinize_lazy.proofs.Common.{ap, List, table_in, Value}
-use Rattle.determinize_lazy.proofs.Starts.{none_kept}
+use Rattle.determinize_lazy.proofs.steps.Starts.{none_kept}
 use Rattle.determinize_lazy.proofs.table.TransitionTable.new.Goals as goal
 
 pub returns-clause-table : goal.returns-clause-table

@@ -1,5 +1,5 @@
 use Rattle.determinize_lazy.proofs.Common.{◌∙◌, ap, Some, sym, Text}
-use Rattle.determinize_lazy.proofs.Texts.{unit-last}
+use Rattle.determinize_lazy.proofs.finding.Texts.{unit-last}
 use Rattle.determinize_lazy.proofs.text.Text.unit.Goals as goal
 
 pub returns-then-index-len : goal.returns-then-index-len

@@ -1,0 +1,6 @@
+pub mod CommonLooks
+pub mod EveryUnit
+pub mod LookBehindTable
+pub mod LookBounds
+pub mod LookSets
+pub mod ReversedLooks

@@ -1,0 +1,251 @@
+-- Assertions and sets of them as numbers: members, equality, emptiness and classes.
+-- Main statements: has-union, has-insert, same_sets, Decides-empty.
+-- Used by: all that computes with sets of assertions.
+-- Idea: a set is the bits of its members, and the bits of two assertions are distinct.
+use Rattle.determinize_below.proofs.Common.{and_right, ap, arith, bit_and, bit_at, bit_at-zero, bit_of, bit_or, Bool, Decides, each_look, End, EndCRLF, EndLF, eqb-true, false, get_or, inl, inr, list_any, list_any_at, lit<, Look, nat_eq, not, refl, Start, StartCRLF, StartLF, sym, true, WordAscii, WordAsciiNegate, WordEndAscii, WordEndHalfAscii, WordEndHalfUnicode, WordEndUnicode, WordStartAscii, WordStartHalfAscii, WordStartHalfUnicode, WordStartUnicode, WordUnicode, WordUnicodeNegate, ℕ, ◌&&◌, ◌*◌, ◌<◌, ◌^◌, ◌∙◌, ◌≡◌, ◌⊎◌}
+use Rattle.std.proofs.Common.{◌-◌, max, min, eq-eqb}
+use Rattle.std.specs.Int.{bit_not, w32}
+use mathlib.Core.Bool.{◌||◌}
+use Rattle.std.proofs.lemmas.Nat.{pow_pos}
+use Rattle.std.proofs.lemmas.Nat.Bits.{bit_at_or, bit_at_and, bit_at_not, bit_at-lt, and_pow, bit_at-pow_same, bit_at-pow_other, same_from_bits_below}
+use Rattle.std.proofs.lemmas.Bool.Decides.{eqb_tells}
+use Rattle.std.proofs.lemmas.Bool.{or_right, false_from_ne_true}
+use Rattle.determinize_below.proofs.looks.LookBounds.{bit_small}
+use borrow.Author.Count.{below_none, below_more}
+use Rattle.determinize_below.specs.Look.{has, insert, remove, subtract}
+
+-- the number of the assertion, from 0
+unfoldable pub index_of : Look → ℕ
+index_of Start = 0
+index_of End = 1
+index_of StartLF = 2
+index_of EndLF = 3
+index_of StartCRLF = 4
+index_of EndCRLF = 5
+index_of WordAscii = 6
+index_of WordAsciiNegate = 7
+index_of WordUnicode = 8
+index_of WordUnicodeNegate = 9
+index_of WordStartAscii = 10
+index_of WordEndAscii = 11
+index_of WordStartUnicode = 12
+index_of WordEndUnicode = 13
+index_of WordStartHalfAscii = 14
+index_of WordEndHalfAscii = 15
+index_of WordStartHalfUnicode = 16
+index_of WordEndHalfUnicode = 17
+
+-- its bit is 2 to the power of its number
+bit_is : (l : Look) → bit_of l ≡ 2 ^ index_of l
+unfolding index_of
+bit_is Start = refl
+bit_is End = refl
+bit_is StartLF = refl
+bit_is EndLF = refl
+bit_is StartCRLF = refl
+bit_is EndCRLF = refl
+bit_is WordAscii = refl
+bit_is WordAsciiNegate = refl
+bit_is WordUnicode = refl
+bit_is WordUnicodeNegate = refl
+bit_is WordStartAscii = refl
+bit_is WordEndAscii = refl
+bit_is WordStartUnicode = refl
+bit_is WordEndUnicode = refl
+bit_is WordStartHalfAscii = refl
+bit_is WordEndHalfAscii = refl
+bit_is WordStartHalfUnicode = refl
+bit_is WordEndHalfUnicode = refl
+
+index_small : (l : Look) → index_of l < 18
+unfolding index_of
+index_small Start = lit< tt
+index_small End = lit< tt
+index_small StartLF = lit< tt
+index_small EndLF = lit< tt
+index_small StartCRLF = lit< tt
+index_small EndCRLF = lit< tt
+index_small WordAscii = lit< tt
+index_small WordAsciiNegate = lit< tt
+index_small WordUnicode = lit< tt
+index_small WordUnicodeNegate = lit< tt
+index_small WordStartAscii = lit< tt
+index_small WordEndAscii = lit< tt
+index_small WordStartUnicode = lit< tt
+index_small WordEndUnicode = lit< tt
+index_small WordStartHalfAscii = lit< tt
+index_small WordEndHalfAscii = lit< tt
+index_small WordStartHalfUnicode = lit< tt
+index_small WordEndHalfUnicode = lit< tt
+
+-- the list of all assertions has each at its index
+each_look-at : (l : Look) → get_or each_look (index_of l) Start ≡ l
+unfolding index_of
+each_look-at Start = refl
+each_look-at End = refl
+each_look-at StartLF = refl
+each_look-at EndLF = refl
+each_look-at StartCRLF = refl
+each_look-at EndCRLF = refl
+each_look-at WordAscii = refl
+each_look-at WordAsciiNegate = refl
+each_look-at WordUnicode = refl
+each_look-at WordUnicodeNegate = refl
+each_look-at WordStartAscii = refl
+each_look-at WordEndAscii = refl
+each_look-at WordStartUnicode = refl
+each_look-at WordEndUnicode = refl
+each_look-at WordStartHalfAscii = refl
+each_look-at WordEndHalfAscii = refl
+each_look-at WordStartHalfUnicode = refl
+each_look-at WordEndHalfUnicode = refl
+
+-- a property of the index of each assertion is one of each number below 18
+at_indices : (P : ℕ → Type 0) → ((l : Look) → P (index_of l)) → (i : ℕ) → i < 18 → P i
+unfolding index_of
+at_indices P h = (below_more P 17
+    (below_more P 16 (below_more P 15
+    (below_more P 14 (below_more P 13
+    (below_more P 12 (below_more P 11
+    (below_more P 10 (below_more P 9
+    (below_more P 8 (below_more P 7
+    (below_more P 6 (below_more P 5
+    (below_more P 4 (below_more P 3
+    (below_more P 2 (below_more P 1 (below_more P 0 (below_none P) (h Start)) (h End))
+    (h StartLF)) (h EndLF)) (h StartCRLF)) (h EndCRLF)) (h WordAscii))
+    (h WordAsciiNegate)) (h WordUnicode)) (h WordUnicodeNegate)) (h WordStartAscii))
+    (h WordEndAscii)) (h WordStartUnicode)) (h WordEndUnicode))
+    (h WordStartHalfAscii)) (h WordEndHalfAscii)) (h WordStartHalfUnicode))
+    (h WordEndHalfUnicode))
+
+-- a bit as a test
+test_of_bit : (x p : ℕ) → x < 2 → 0 < p → not (nat_eq (x * p) 0) ≡ nat_eq x 1
+test_of_bit x p h q = grind arith
+
+two : (x : ℕ) → x < 2 → (x ≡ 0) ⊎ (x ≡ 1)
+two x h = grind arith
+
+pub has-bit : (s : ℕ) (l : Look) → has s l ≡ nat_eq (bit_at s (index_of l)) 1
+unfolding has
+has-bit s l = rw (bit_is l, and_pow s (index_of l)) (test_of_bit _ _ (bit_at-lt s (index_of l)) (pow_pos (index_of l)))
+
+or_test : (x y : ℕ) → x < 2 → y < 2 → nat_eq (max x y) 1 ≡ (nat_eq x 1 || nat_eq y 1)
+or_test x y h k = elim
+    (two x h) [
+      | inl p ↦ rw p (elim (two y k) [ inl q ↦ rw q | inr q ↦ rw q ])
+      | inr p ↦ rw p
+          (elim (two y k) [ inl q ↦ rw q | inr q ↦ rw q ])
+    ]
+
+and_test : (x y : ℕ) → x < 2 → y < 2 → nat_eq (min x y) 1 ≡ (nat_eq x 1 && nat_eq y 1)
+and_test x y h k = elim
+    (two x h) [
+      | inl p ↦ rw p (elim (two y k) [ inl q ↦ rw q | inr q ↦ rw q ])
+      | inr p ↦ rw p
+          (elim (two y k) [ inl q ↦ rw q | inr q ↦ rw q ])
+    ]
+
+not_test : (x : ℕ) → x < 2 → nat_eq (1 - x) 1 ≡ not (nat_eq x 1)
+not_test x h = elim (two x h) [ inl p ↦ rw p | inr p ↦ rw p ]
+
+pub has-union : (a b : ℕ) (l : Look) → has (bit_or a b) l ≡ (has a l || has b l)
+has-union a b l =
+    rw (has-bit (bit_or a b) l, has-bit a l, has-bit b l, bit_at_or a b (index_of l))
+    (or_test _ _ (bit_at-lt a (index_of l)) (bit_at-lt b (index_of l)))
+
+pub has-intersect : (a b : ℕ) (l : Look) → has (bit_and a b) l ≡ (has a l && has b l)
+has-intersect a b l =
+    rw (has-bit (bit_and a b) l, has-bit a l, has-bit b l, bit_at_and a b (index_of l))
+    (and_test _ _ (bit_at-lt a (index_of l)) (bit_at-lt b (index_of l)))
+
+pub has-subtract : (a b : ℕ) (l : Look) → b < 2 ^ 32 → has (subtract a b) l ≡ (has a l && not (has b l))
+unfolding subtract
+has-subtract a b l h =
+    rw (
+      has-intersect a (bit_not w32 b) l,
+      has-bit (bit_not w32 b) l,
+      has-bit b l,
+      bit_at_not w32 b (index_of l) h
+          (let k : index_of l < 18 = index_small l in omega arith),
+      not_test _ (bit_at-lt b (index_of l)),
+    )
+
+pub has-empty : (l : Look) → has 0 l ≡ false
+has-empty l = rw (has-bit 0 l, bit_at-zero (index_of l))
+
+-- whether two assertions are equal
+unfoldable pub same : Look → Look → Bool
+same l k = nat_eq (index_of l) (index_of k)
+
+bit_of_pow : (i j : ℕ) → nat_eq (bit_at (2 ^ i) j) 1 ≡ nat_eq i j
+bit_of_pow i j =
+    elim (eqb_tells j i) [
+      | inl h ↦ rw (h.1, bit_at-pow_same i) (sym (eq-eqb i i refl))
+      | inr h ↦ rw (bit_at-pow_other i j h.1) (sym (grind (arith, h.1)))
+    ]
+
+has_single : (l k : Look) → has (bit_of l) k ≡ same l k
+unfolding same
+has_single l k = rw (has-bit (bit_of l) k, bit_is l) (bit_of_pow (index_of l) (index_of k))
+
+pub has-insert : (s : ℕ) (l k : Look) → has (insert s l) k ≡ (has s k || same l k)
+unfolding insert
+has-insert s l k = rw (has-union s (bit_of l) k, has_single l k)
+
+pub has-remove : (s : ℕ) (l k : Look) → has (remove s l) k ≡ (has s k && not (same l k))
+unfolding remove subtract
+has-remove s l k =
+    let h : bit_of l < 2 ^ 18 = bit_small l in
+    has-subtract s (bit_of l) k (omega arith) ∙ ap (λ b. has s k && not b) (has_single l k)
+
+-- the test of two assertions is their equality
+pub Decides-same : (l k : Look) → Decides (same l k) (l ≡ k)
+unfolding same
+Decides-same l k = (
+  λ h. sym (each_look-at l) ∙ ap (λ i. get_or each_look i Start) (eqb-true _ _ h) ∙ each_look-at k,
+  λ e. eq-eqb _ _ (ap index_of e),
+)
+
+same_other : (l k : Look) → ¬ (k ≡ l) → same l k ≡ false
+same_other l k n = false_from_ne_true _ (λ h. n (sym ((Decides-same l k).0 h)))
+
+pub has-insert_own : (s : ℕ) (l : Look) → has (insert s l) l ≡ true
+has-insert_own s l = has-insert s l l ∙ or_right (has s l) (same l l) ((Decides-same l l).1 refl)
+
+pub has-insert_others : (s : ℕ) (l k : Look) → ¬ (k ≡ l) → has (insert s l) k ≡ has s k
+has-insert_others s l k n = has-insert s l k ∙ ap (λ b. has s k || b) (same_other l k n) ∙ kept (has s k)
+  where
+    kept : (a : Bool) → (a || false) ≡ a
+    kept a = grind arith
+
+pub has-remove_own : (s : ℕ) (l : Look) → has (remove s l) l ≡ false
+has-remove_own s l = has-remove s l l ∙ ap (λ b. has s l && not b) ((Decides-same l l).1 refl) ∙ and_right
+    (has s l) false refl
+
+pub has-remove_others : (s : ℕ) (l k : Look) → ¬ (k ≡ l) → has (remove s l) k ≡ has s k
+has-remove_others s l k n = has-remove s l k ∙ ap (λ b. has s k && not b) (same_other l k n) ∙ kept (has s k)
+  where
+    kept : (a : Bool) → (a && true) ≡ a
+    kept a = grind arith
+
+-- one assertion that passes the test
+pub each_look-any : (test : Look → Bool) (l : Look) → test l ≡ true → list_any test each_look ≡ true
+each_look-any test l h = list_any_at test each_look (index_of l) Start (index_small l) (ap test (each_look-at l) ∙ h)
+
+test_tells : (x y : ℕ) → x < 2 → y < 2 → nat_eq x 1 ≡ nat_eq y 1 → x ≡ y
+test_tells x y h k e = grind arith
+
+-- two sets with the same members are the same number
+pub same_sets : (a b : ℕ) → a < 2 ^ 18 → b < 2 ^ 18 → ((l : Look) → has a l ≡ has b l) → a ≡ b
+same_sets a b h k same_members =
+    same_from_bits_below 18 a b h k
+    (at_indices (λ i. bit_at a i ≡ bit_at b i)
+    (λ l. test_tells _ _ (bit_at-lt a (index_of l)) (bit_at-lt b (index_of l))
+    (sym (has-bit a l) ∙ same_members l ∙ has-bit b l)))
+
+-- a set is empty if and only if it has no member
+pub Decides-empty : (s : ℕ) → s < 2 ^ 18 → Decides (nat_eq s 0) ((l : Look) → has s l ≡ false)
+Decides-empty s h = (
+  λ e l. ap (λ a. has a l) (eqb-true s 0 e) ∙ has-empty l,
+  λ none. eq-eqb s 0 (same_sets s 0 h (lit< tt) (λ l. none l ∙ sym (has-empty l))),
+)

@@ -1,0 +1,6 @@
+use Rattle.std.proofs.Common.{◌<◌, ℕ, get_or}
+use Rattle.determinize_below.specs.ByteClasses.{AreAlike}
+use Rattle.determinize_below.proofs.nfa.byte_classes.first_alike.Given as goal
+
+abbrev pub invariant-loop-k : goal.invariant-loop-k
+invariant-loop-k g l = (k : ℕ) → k < l.k → AreAlike l.nfa (get_or l.firsts k 0) l.byte → ⊥

@@ -1,0 +1,7 @@
+pub mod ClosureLaws
+pub mod Edges
+pub mod SortedBytes
+pub mod SortedRanges
+pub mod SoundNfa
+pub mod StateChecks
+pub mod TestedLooks

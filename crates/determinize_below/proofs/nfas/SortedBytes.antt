@@ -1,0 +1,189 @@
+-- Bytes that are sorted into classes one after another.
+use Rattle.std.proofs.Common.{◌≡◌, ℕ, ◌+◌, ◌<◌, ◌≤◌, ◌≢◌, List, length, get_or, take, refl, sym, ap, ◌∙◌, subst, arith}
+use Rattle.std.proofs.Math.ListN.{set}
+use Rattle.std.proofs.lemmas.Bool.{cases_lt}
+use Rattle.std.proofs.lemmas.List.{get_or-set_other, get_or-set_same, get_or-take, length-set, length-take-le}
+use borrow.Author.Count.{below_more}
+use Rattle.determinize_below.specs.ByteClasses.{AreAlike, AreClassesOf}
+use Rattle.determinize_below.specs.Semantics.{Nfa}
+use Rattle.determinize_below.specs.Private.Sorting.{AreSorted}
+use Rattle.ordered_reach.proofs.Cases.{by_cases}
+
+module _ (nfa : Nfa) where
+  pub alike-self : (b : ℕ) → AreAlike nfa b b
+  alike-self b = record {
+    targets = λ s. refl;
+    tests = record { line = λ h. refl; carriage = λ h. refl; feed = λ h. refl; word = λ h. refl };
+  }
+
+  pub alike-swap : (b c : ℕ) → AreAlike nfa b c → AreAlike nfa c b
+  alike-swap b c e = record {
+    targets = λ s. sym (e.targets s);
+    tests = record {
+      line = λ h. sym (e.tests.line h);
+      carriage = λ h. sym (e.tests.carriage h);
+      feed = λ h. sym (e.tests.feed h);
+      word = λ h. sym (e.tests.word h);
+    };
+  }
+
+  pub alike-chain : (a b c : ℕ) → AreAlike nfa a b → AreAlike nfa b c → AreAlike nfa a c
+  alike-chain a b c e f = record {
+    targets = λ s. e.targets s ∙ f.targets s;
+    tests = record {
+      line = λ h. e.tests.line h ∙ f.tests.line h;
+      carriage = λ h. e.tests.carriage h ∙ f.tests.carriage h;
+      feed = λ h. e.tests.feed h ∙ f.tests.feed h;
+      word = λ h. e.tests.word h ∙ f.tests.word h;
+    };
+  }
+
+  module _ (n len : ℕ) (B F : List ℕ) (s : AreSorted nfa n len B F) (is_byte : n < 256) where
+    in_bytes : n < length B
+    in_bytes = omega (arith, s.count)
+
+    in_firsts : len < length F
+    in_firsts = omega (arith, s.room, s.few)
+
+    -- the classes with that of one more byte
+    own_class : (k : ℕ) → get_or (set B n k) n 0 ≡ k
+    own_class k = get_or-set_same B n k 0 in_bytes
+
+    other_class : (k b : ℕ) → b < n → get_or (set B n k) b 0 ≡ get_or B b 0
+    other_class k b h = let ne : b ≢ n = omega arith in get_or-set_other B n b k 0 ne
+
+    -- the byte goes into a class that there is
+    pub sorted_held : (k : ℕ) → k < len → AreAlike nfa (get_or F k 0) n → AreSorted nfa (n + 1) len (set B n k) F
+    sorted_held k l a = record {
+      few = omega (arith, s.few);
+      count = length-set B n k ∙ s.count;
+      room = s.room;
+      within = below_more (λ b. get_or (set B n k) b 0 < len) n
+          (λ b h. subst (λ (x : ℕ). x < len) (sym (other_class k b h)) (s.within b h))
+          (subst (λ (x : ℕ). x < len) (sym (own_class k)) l);
+      bytes = λ j h. let less : get_or F j 0 < n = s.bytes j h in omega arith;
+      own = λ j h. other_class k (get_or F j 0) (s.bytes j h) ∙ s.own j h;
+      least = below_more (λ b. get_or F (get_or (set B n k) b 0) 0 ≤ b) n
+          (λ b h. subst (λ (x : ℕ). get_or F x 0 ≤ b) (sym (other_class k b h)) (s.least b h))
+          (subst (λ (x : ℕ). get_or F x 0 ≤ n) (sym (own_class k))
+          (let less : get_or F k 0 < n = s.bytes k l in omega arith));
+      ascend = s.ascend;
+      alike = below_more (λ b. AreAlike nfa (get_or F (get_or (set B n k) b 0) 0) b) n
+          (λ b h. subst (λ (x : ℕ). AreAlike nfa (get_or F x 0) b) (sym (other_class k b h)) (s.alike b h))
+          (subst (λ (x : ℕ). AreAlike nfa (get_or F x 0) n) (sym (own_class k)) a);
+      apart = s.apart;
+    }
+
+    -- the first bytes with one more
+    own_first : get_or (set F len n) len 0 ≡ n
+    own_first = get_or-set_same F len n 0 in_firsts
+
+    other_first : (k : ℕ) → k < len → get_or (set F len n) k 0 ≡ get_or F k 0
+    other_first k h = let ne : k ≢ len = omega arith in get_or-set_other F len k n 0 ne
+
+    -- the first byte of the class of an earlier byte
+    first_same : (b : ℕ) → b < n → get_or (set F len n) (get_or (set B n len) b 0) 0 ≡ get_or F (get_or B b 0) 0
+    first_same b h = ap (λ (x : ℕ). get_or (set F len n) x 0) (other_class len b h) ∙ other_first (get_or B b 0) (s.within b h)
+
+    first_new : get_or (set F len n) (get_or (set B n len) n 0) 0 ≡ n
+    first_new = ap (λ (x : ℕ). get_or (set F len n) x 0) (own_class len) ∙ own_first
+
+    -- the byte is the first of a new class
+    pub sorted_new : ((k : ℕ) → k < len → AreAlike nfa (get_or F k 0) n → ⊥)
+        → AreSorted nfa (n + 1) (len + 1) (set B n len) (set F len n)
+    sorted_new apart = record {
+      few = omega (arith, s.few);
+      count = length-set B n len ∙ s.count;
+      room = length-set F len n ∙ s.room;
+      within = below_more (λ b. get_or (set B n len) b 0 < len + 1) n
+          (λ b h. subst (λ (x : ℕ). x < len + 1) (sym (other_class len b h))
+          (let less : get_or B b 0 < len = s.within b h in omega arith))
+          (subst (λ (x : ℕ). x < len + 1) (sym (own_class len)) (omega arith));
+      bytes = below_more (λ k. get_or (set F len n) k 0 < n + 1) len
+          (λ k h. subst (λ (x : ℕ). x < n + 1) (sym (other_first k h))
+          (let less : get_or F k 0 < n = s.bytes k h in omega arith))
+          (subst (λ (x : ℕ). x < n + 1) (sym own_first) (omega arith));
+      own = below_more (λ k. get_or (set B n len) (get_or (set F len n) k 0) 0 ≡ k) len
+          (λ k h. ap (λ (x : ℕ). get_or (set B n len) x 0) (other_first k h)
+          ∙ other_class len (get_or F k 0) (s.bytes k h) ∙ s.own k h)
+          (ap (λ (x : ℕ). get_or (set B n len) x 0) own_first ∙ own_class len);
+      least = below_more (λ b. get_or (set F len n) (get_or (set B n len) b 0) 0 ≤ b) n
+          (λ b h. subst (λ (x : ℕ). x ≤ b) (sym (first_same b h)) (s.least b h))
+          (subst (λ (x : ℕ). x ≤ n) (sym first_new) (omega arith));
+      ascend = λ j k l h. ascends k h j l;
+      alike = below_more (λ b. AreAlike nfa (get_or (set F len n) (get_or (set B n len) b 0) 0) b) n
+          (λ b h. subst (λ (x : ℕ). AreAlike nfa x b) (sym (first_same b h)) (s.alike b h))
+          (subst (λ (x : ℕ). AreAlike nfa x n) (sym first_new) (alike-self n));
+      apart = λ j k l h. are_apart k h j l;
+    }
+      where
+        ascends : (k : ℕ) → k < len + 1 → (j : ℕ) → j < k → get_or (set F len n) j 0 < get_or (set F len n) k 0
+        ascends = below_more (λ k. (j : ℕ) → j < k → get_or (set F len n) j 0 < get_or (set F len n) k 0) len
+            (λ k h j l.
+            let low : j < len = omega arith in
+            let a : get_or (set F len n) j 0 ≡ get_or F j 0 = other_first j low in
+            let b : get_or (set F len n) k 0 ≡ get_or F k 0 = other_first k h in
+            let less : get_or F j 0 < get_or F k 0 = s.ascend j k l h in
+            omega arith)
+            (λ j l.
+            let a : get_or (set F len n) j 0 ≡ get_or F j 0 = other_first j l in
+            let b : get_or (set F len n) len 0 ≡ n = own_first in
+            let less : get_or F j 0 < n = s.bytes j l in
+            omega arith)
+
+        are_apart : (k : ℕ) → k < len + 1 → (j : ℕ) → j < k
+            → AreAlike nfa (get_or (set F len n) j 0) (get_or (set F len n) k 0) → ⊥
+        are_apart = below_more (λ k. (j : ℕ) → j < k → AreAlike nfa (get_or (set F len n) j 0) (get_or (set F len n) k 0) → ⊥) len
+            (λ k h j l a.
+            let low : j < len = omega arith in
+            s.apart j k l h
+            (subst (λ (x : ℕ). AreAlike nfa x (get_or F k 0)) (other_first j low)
+            (subst (λ (x : ℕ). AreAlike nfa (get_or (set F len n) j 0) x) (other_first k h) a)))
+            (λ j l a. apart j l
+            (subst (λ (x : ℕ). AreAlike nfa x n) (other_first j l)
+            (subst (λ (x : ℕ). AreAlike nfa (get_or (set F len n) j 0) x) own_first a)))
+
+    -- a turn of the loop, where `k` is the index of the first of these bytes that is alike
+    module _ (k more : ℕ) (firsts : List ℕ) where
+      size : length (take len F) ≡ len
+      size = length-take-le len F (omega (arith, s.few, s.room))
+
+      pub turn_held : k ≤ length (take len F) → (k < length (take len F) → AreAlike nfa (get_or (take len F) k 0) n)
+          → (k ≡ len → ⊥) → more ≡ len → firsts ≡ F → AreSorted nfa (n + 1) more (set B n k) firsts
+      turn_held within alike other more_is firsts_is =
+          let l : k < len = omega (arith, size) in
+          let a : AreAlike nfa (get_or F k 0) n = subst (λ (x : ℕ). AreAlike nfa x n) (get_or-take len F k 0 l) (alike (omega (arith, size))) in
+          subst (λ (x : ℕ). AreSorted nfa (n + 1) x (set B n k) firsts) (sym more_is)
+          (subst (λ (xs : List ℕ). AreSorted nfa (n + 1) len (set B n k) xs) (sym firsts_is) (sorted_held k l a))
+
+      pub turn_new : ((j : ℕ) → j < k → AreAlike nfa (get_or (take len F) j 0) n → ⊥)
+          → k ≡ len → more ≡ len + 1 → firsts ≡ set F len n → AreSorted nfa (n + 1) more (set B n k) firsts
+      turn_new before last more_is firsts_is =
+          let new : AreSorted nfa (n + 1) (len + 1) (set B n len) (set F len n) =
+          sorted_new (λ j h a. before j (omega arith) (subst (λ (x : ℕ). AreAlike nfa x n) (sym (get_or-take len F j 0 h)) a)) in
+          subst (λ (x : ℕ). AreSorted nfa (n + 1) more (set B n x) firsts) (sym last)
+          (subst (λ (x : ℕ). AreSorted nfa (n + 1) x (set B n len) firsts) (sym more_is)
+          (subst (λ (xs : List ℕ). AreSorted nfa (n + 1) (len + 1) (set B n len) xs) (sym firsts_is) new))
+
+  -- all bytes are sorted
+  module _ (len : ℕ) (B F : List ℕ) (s : AreSorted nfa 256 len B F) where
+    pub sorted_alike : AreClassesOf nfa record { of_bytes = B; firsts = take len F }
+    sorted_alike = record { alike = one_class; coarsest = no_more }
+      where
+        one_class : (b c : ℕ) → b < 256 → c < 256 → get_or B b 0 ≡ get_or B c 0 → AreAlike nfa b c
+        one_class b c hb hc e = alike-chain b (get_or F (get_or B b 0) 0) c
+            (alike-swap (get_or F (get_or B b 0) 0) b (s.alike b hb))
+            (subst (λ (x : ℕ). AreAlike nfa (get_or F x 0) c) (sym e) (s.alike c hc))
+
+        no_more : (b c : ℕ) → b < 256 → c < 256 → AreAlike nfa b c → get_or B b 0 ≡ get_or B c 0
+        no_more b c hb hc a =
+            let firsts : AreAlike nfa (get_or F (get_or B b 0) 0) (get_or F (get_or B c 0) 0) =
+            alike-chain (get_or F (get_or B b 0) 0) c (get_or F (get_or B c 0) 0)
+            (alike-chain (get_or F (get_or B b 0) 0) b c (s.alike b hb) a)
+            (alike-swap (get_or F (get_or B c 0) 0) c (s.alike c hc)) in
+            by_cases (cases_lt (get_or B b 0) (get_or B c 0))
+            (λ l. absurd (s.apart (get_or B b 0) (get_or B c 0) l (s.within c hc) firsts))
+            (λ g. by_cases (cases_lt (get_or B c 0) (get_or B b 0))
+            (λ l. absurd (s.apart (get_or B c 0) (get_or B b 0) l (s.within b hb)
+            (alike-swap (get_or F (get_or B b 0) 0) (get_or F (get_or B c 0) 0) firsts)))
+            (λ m. omega arith))

@@ -1,0 +1,99 @@
+-- The loop of the validation: the states of an NFA one by one, with the set of the patterns seen.
+-- Main statements: states_failure-turn, goes_on, fails_here.
+-- Used by: `check_states`.
+-- Idea: the first error of a list is that of its first state, or that of the rest.
+use Rattle.determinize_below.proofs.Common.{[], ap, arith, BinaryUnion, Bool, ByteRange, Capture, Dense, drop, Fail, false, get_or, inl, inr, is_match_of, length, List, list_any, list_any-append, map, Match, Node, None, refl, slice_get, Some, Sparse, state_failure, states_failure, suc, sym, take, Union, zero, ℕ, ◌++◌, ◌+◌, ◌<◌, ◌||◌, ◌∙◌, ◌∷◌, ◌≡◌, ◌⊎◌}
+use Rattle.std.specs.Option.{option_or}
+use Rattle.std.proofs.Math.Seq.{drop-cons}
+use Rattle.std.proofs.lemmas.List.{take_more, map-append}
+use Rattle.determinize_below.specs.Semantics.{Look}
+use Rattle.determinize_below.specs.Nfa.{repeats, failure_of}
+use Rattle.determinize_below.specs.declared.nfa.BuildError.{BuildError}
+use Rattle.determinize_below.specs.declared.nfa.BuildError.TheVariants.{OutOfMemory}
+
+-- equal sets of seen patterns give the same test
+repeats-same : (f g : ℕ → Bool) (node : Node) → ((q : ℕ) → f q ≡ g q) → repeats f node ≡ repeats g node
+repeats-same f g (ByteRange t) h = refl
+repeats-same f g (Sparse ts) h = refl
+repeats-same f g (Dense ids) h = refl
+repeats-same f g (Look look next) h = refl
+repeats-same f g (Union ids) h = refl
+repeats-same f g (BinaryUnion a b) h = refl
+repeats-same f g (Capture next) h = refl
+repeats-same f g Fail h = refl
+repeats-same f g (Match pattern) h = h pattern
+
+module _ {S : Type 0} (f : S → Node) (states : List S) (i : ℕ) (x : S) (within : i < length states)
+    (at : x ≡ get_or states i x) where
+  -- the states up to and including the current one
+  nodes_more : map f (take (i + 1) states) ≡ map f (take i states) ++ f x ∷ []
+  nodes_more = ap (λ l. map f l) (take_more states i x within)
+      ∙ map-append f (take i states) (get_or states i x ∷ [])
+      ∙ ap (λ y. map f (take i states) ++ f y ∷ []) (sym at)
+
+  -- the states from the current one on
+  nodes_left : map f (drop i states) ≡ f x ∷ map f (drop (i + 1) states)
+  nodes_left = ap (λ l. map f l) (drop-cons states i x within)
+      ∙ ap (λ y. f y ∷ map f (drop (suc i) states)) (sym at)
+      ∙ (let z : suc i ≡ i + 1 = omega arith in ap (λ j. f x ∷ map f (drop j states)) z)
+
+  -- the first error from the current state on
+  pub states_failure-turn : (count : ℕ) → states_failure count (map f (take i states)) i (map f (drop i states))
+      ≡ option_or (state_failure count (map f (take i states)) i (f x))
+      (states_failure count (map f (take (i + 1) states)) (i + 1) (map f (drop (i + 1) states)))
+  states_failure-turn count =
+      ap (λ l. states_failure count (map f (take i states)) i l) nodes_left
+      ∙ ap (λ l. option_or (state_failure count (map f (take i states)) i (f x))
+      (states_failure count l (i + 1) (map f (drop (i + 1) states)))) (sym nodes_more)
+
+  -- the patterns seen, with that of the current state
+  pub seen-turn : (old new : ℕ → Bool) → ((q : ℕ) → old q ≡ list_any (is_match_of q) (map f (take i states)))
+      → ((q : ℕ) → new q ≡ (is_match_of q (f x) || old q))
+      → (q : ℕ) → new q ≡ list_any (is_match_of q) (map f (take (i + 1) states))
+  seen-turn old new h k q =
+      k q ∙ ap (λ b. is_match_of q (f x) || b) (h q)
+      ∙ turn (is_match_of q (f x)) (list_any (is_match_of q) (map f (take i states)))
+      ∙ sym (ap (λ l. list_any (is_match_of q) l) nodes_more ∙ list_any-append (is_match_of q) (map f (take i states))
+      (f x ∷ []))
+    where
+      turn : (a b : Bool) → (a || b) ≡ (b || (a || false))
+      turn a b = grind arith
+
+  -- the error of the current state, by the patterns seen
+  pub state_failure-seen : (seen : ℕ → Bool) (count : ℕ)
+      → ((q : ℕ) → seen q ≡ list_any (is_match_of q) (map f (take i states)))
+      → failure_of count (repeats seen (f x)) i (f x) ≡ state_failure count (map f (take i states)) i (f x)
+  state_failure-seen seen count h =
+      ap (λ b. failure_of count b i (f x))
+      (repeats-same seen (λ q. list_any (is_match_of q) (map f (take i states))) (f x) h)
+
+  -- no error so far
+  pub goes_on : (seen : ℕ → Bool) (count : ℕ) → ((q : ℕ) → seen q ≡ list_any (is_match_of q) (map f (take i states)))
+      → states_failure count [] 0 (map f states) ≡ states_failure count (map f (take i states)) i
+      (map f (drop i states))
+      → failure_of count (repeats seen (f x)) i (f x) ≡ None
+      → states_failure count [] 0 (map f states) ≡ states_failure count (map f (take (i + 1) states)) (i + 1)
+      (map f (drop (i + 1) states))
+  goes_on seen count h same none =
+      same ∙ states_failure-turn count
+      ∙ ap (λ o. option_or o (states_failure count (map f (take (i + 1) states)) (i + 1) (map f (drop (i + 1) states))))
+      (sym (state_failure-seen seen count h) ∙ none)
+
+  -- the error of the current state is the first
+  pub fails_here : (seen : ℕ → Bool) (count : ℕ) → ((q : ℕ) → seen q ≡ list_any (is_match_of q) (map f (take i states)))
+      → states_failure count [] 0 (map f states) ≡ states_failure count (map f (take i states)) i
+      (map f (drop i states))
+      → (e : BuildError) → (failure_of count (repeats seen (f x)) i (f x) ≡ Some e) ⊎ (e ≡ OutOfMemory)
+      → (states_failure count [] 0 (map f states) ≡ Some e) ⊎ (e ≡ OutOfMemory)
+  fails_here seen count h same e (inl some) = inl (
+      same ∙ states_failure-turn count
+      ∙ ap (λ o. option_or o (states_failure count (map f (take (i + 1) states)) (i + 1) (map f (drop (i + 1) states))))
+      (sym (state_failure-seen seen count h) ∙ some))
+  fails_here seen count h same e (inr memory) = inr memory
+
+-- reading an element of a mapped list
+pub slice_get-map_read : {A B : Type 0} (f : A → B) (xs : List A) (i : ℕ) (x : A) → i < length xs → x ≡ get_or xs i x
+    → slice_get (map f xs) i ≡ Some (f x)
+slice_get-map_read f [] i x h e = absurd (omega arith)
+slice_get-map_read f (y ∷ xs) zero x h e = ap (λ z. Some (f z)) (sym e)
+slice_get-map_read f (y ∷ xs) (suc i) x h e = slice_get-map_read f xs i x (omega arith) e

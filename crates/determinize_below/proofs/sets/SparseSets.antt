@@ -1,0 +1,93 @@
+-- Sparse sets as a list of ids and its bits.
+-- Main statements: distinct_push, room_for_one, cleared_all, the rulesets emptying and pushing.
+-- Used by: the calls of `SparseSet`.
+-- Idea: a bit is set exactly if its id is in the list.
+use Rattle.determinize_below.proofs.Common.{[], arith, Bool, by_cases, cases_lt, false, false≢true, get_or, has_bit, inl, inr, IsCleared, length, List, list_any-append, nat_eq, not, replicate, set, subst, sym, take, true, ℕ, ◌*◌, ◌++◌, ◌+◌, ◌/◌, ◌<◌, ◌||◌, ◌∙◌, ◌∷◌, ◌≡◌, ◌≤◌, ◌⊎◌}
+use Rattle.std.proofs.Common.{All, length-append}
+use Rattle.std.specs.Cmp.{nat_eq_equiv}
+use Rattle.std.specs.List.{IsDistinct}
+use Rattle.std.proofs.Math.ListN.{get_or-append}
+use Rattle.std.proofs.Math.Seq.{get_or-append_seam}
+pub use Rattle.std.proofs.lemmas.List.{length-replicate}
+use Rattle.std.proofs.lemmas.List.Folds.{list_any_more}
+use Rattle.std.proofs.lemmas.Map.Keys.{IsDistinct-push}
+use Rattle.std.proofs.lemmas.Map.Steps.{length-le_from_distinct_below}
+use Rattle.std.proofs.lemmas.Map.Views.{Contains-from_any}
+use Rattle.determinize_below.specs.Members.{has_id}
+use Rattle.determinize_below.specs.Private.Sparse.{IsSparse}
+use Rattle.determinize_below.proofs.sets.Bits.{has_bit-empty}
+pub use Rattle.determinize_below.proofs.sets.Bits.{has_bit-zeros, words_back}
+
+-- an empty list
+pub distinct_none : (ids : List ℕ) → ids ≡ [] → IsDistinct nat_eq ids
+unfolding IsDistinct
+distinct_none ids e = rw e tt
+
+-- adding a new id
+pub distinct_push : (ids : List ℕ) (id : ℕ) → IsDistinct nat_eq ids → has_id ids id ≡ false
+    → IsDistinct nat_eq (ids ++ id ∷ [])
+distinct_push ids id d none = IsDistinct-push nat_eq_equiv ids id d none
+
+pub holds-push : (ids : List ℕ) (id other : ℕ) → has_id (ids ++ id ∷ []) other ≡ (nat_eq other id || has_id ids other)
+holds-push ids id other = list_any-append (nat_eq other) ids (id ∷ []) ∙ turned (has_id ids other) (nat_eq other id)
+  where
+    turned : (a b : Bool) → (a || (b || false)) ≡ (b || a)
+    turned a b = grind arith
+
+pub get_or-push : (ids : List ℕ) (id k d : ℕ) → k < length (ids ++ id ∷ [])
+    → (get_or (ids ++ id ∷ []) k d ≡ id) ⊎ ((k < length ids) × (get_or (ids ++ id ∷ []) k d ≡ get_or ids k d))
+get_or-push ids id k d h =
+    by_cases (cases_lt k (length ids))
+    (λ l. inr (l, get_or-append ids (id ∷ []) d k l))
+    (λ g. let last : k ≡ length ids =
+    omega (arith, length-append ids (id ∷ [])) in inl (rw last (get_or-append_seam ids id [] d)))
+
+-- distinct ids below the capacity are at most the capacity
+length_at_most : (ids : List ℕ) (capacity : ℕ) → IsDistinct nat_eq ids → All (λ i. i < capacity) ids
+    → length ids ≤ capacity
+length_at_most ids capacity d below =
+    length-le_from_distinct_below ids capacity d
+    (λ q h. let at = Contains-from_any {eq = nat_eq} same q ids h in subst (λ n. n < capacity) at.2
+    (below at.0 q at.1))
+  where
+    same : (x y : ℕ) → nat_eq x y ≡ true → x ≡ y
+    same x y h = grind (arith, h)
+
+-- so there is room for an id whose bit is not set
+pub room_for_one : (ids words : List ℕ) (id capacity room : ℕ) → IsSparse ids words capacity room → id < capacity
+    → has_bit words id ≡ false → length ids < room
+room_for_one ids words id capacity room sparse small unset =
+    let new : has_id ids id ≡ false = sym (sparse.marked id small) ∙ unset in
+    let below : All (λ i. i < capacity) (ids ++ id ∷ []) = grind (arith, get_or-push) in
+    omega (
+      arith,
+      sparse.room_for_all,
+      length-append ids (id ∷ []),
+      length_at_most (ids ++ id ∷ []) capacity
+          (distinct_push ids id sparse.distinct new) below,
+    )
+
+-- no bit is left
+pub cleared_all : (words ids : List ℕ) (n : ℕ) → IsCleared words (replicate n 0) ids
+cleared_all words ids n = record {
+  was = λ id e. absurd (false≢true (sym (has_bit-zeros n id) ∙ e));
+  none = λ id e. absurd (false≢true (sym (has_bit-zeros n id) ∙ e));
+}
+
+-- clearing the word of one more id
+pub cleared_more : (words fewer ids : List ℕ) (i : ℕ) → i < length ids → get_or ids i 0 < 64 * length fewer
+    → IsCleared words fewer (take i ids) → IsCleared words (set fewer (get_or ids i 0 / 64) 0) (take (i + 1) ids)
+cleared_more words fewer ids i h within so_far = record {
+  was = λ id e. so_far.was id (has_bit-empty fewer (get_or ids i 0) id within e).0;
+  none = λ id e. let now = has_bit-empty fewer (get_or ids i 0) id within e in
+      rw (list_any_more (nat_eq id) ids i 0 h)
+      (neither (has_id (take i ids) id) (nat_eq id (get_or ids i 0)) (so_far.none id now.0) now.1);
+}
+  where
+    neither : (a b : Bool) → not a ≡ true → b ≡ false → not (a || b) ≡ true
+    neither a b p q = grind arith
+
+-- the rules for the invariant of an empty set, and of a set with a new id
+pub ruleset emptying = (distinct_none, has_bit-zeros, length-replicate, words_back)
+
+pub ruleset pushing = (distinct_push, get_or-push, holds-push, words_back)

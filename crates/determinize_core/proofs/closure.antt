@@ -1,0 +1,3 @@
+pub mod CaptureCycles
+pub mod ClosureSteps
+pub mod EmptySearch

@@ -1,0 +1,12 @@
+pub mod AlikeBytes
+pub mod Collecting
+pub mod FirstReading
+pub mod Recorders
+pub mod RedoTest
+pub mod RepeatedClosure
+pub mod Resolving
+pub mod StepBound
+pub mod StepLaws
+pub mod StepParts
+pub mod Targets
+pub mod WorkingLists

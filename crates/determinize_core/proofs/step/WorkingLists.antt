@@ -1,0 +1,115 @@
+-- One step: the working list against the search under what is true.
+-- Main statements: IsEntered, reach_is, working_is.
+-- Used by: WalkValues.
+-- Idea: closing again under more assertions, or not, gives the closure under the true ones.
+use Rattle.std.proofs.Common.{◌≡◌, ℕ, zero, suc, ◌+◌, Bool, true, false, not, ◌||◌, ◌&&◌, List, length, sym, ap, ◌∙◌, arith, Option, nat_eq}
+use Rattle.determinize_below.specs.Edges.{edges, is_capture, reach, IsTested}
+use Rattle.determinize_below.specs.Look.{has, each_look}
+use Rattle.determinize_below.specs.Semantics.{Nfa, truth}
+use Rattle.determinize_below.specs.Nfa.{IsAccepted}
+use Rattle.determinize_below.specs.Reached.{known}
+use Rattle.ordered_reach.specs.Reach.{ends, fresh, joined, member, none_held, ordered}
+use Rattle.ordered_reach.specs.Runs.{without}
+use Rattle.determinize_below.specs.declared.look.Look.{Look as Assertion}
+use Rattle.determinize_below.proofs.nfas.Edges.{edges-agree, edges-same, edges-more, edges-capture, next_of}
+use Rattle.ordered_reach.proofs.graph.ClosedSets.{IsEnough}
+use Rattle.ordered_reach.proofs.graph.Fuel.{IsEnough-plus, ordered-enough}
+use Rattle.ordered_reach.proofs.lists.Pieces.{list_any_some, without_twice}
+use Rattle.determinize_below.proofs.looks.CommonLooks.{each_look-false}
+use Rattle.ordered_reach.proofs.graph.FiniteGraphs.{IsEnough-below, same_decides}
+use Rattle.ordered_reach.proofs.graph.SameSearch.{not_redone}
+use Rattle.ordered_reach.proofs.runs.RunFuel.{run_fuel}
+use Rattle.ordered_reach.proofs.lists.NewNodes.{filter-fresh, fresh-flat_map, fresh-fresh}
+use Rattle.determinize_below.proofs.nfas.SoundNfa.{accepted_sound, edges_enough, IsSound}
+use Rattle.ordered_reach.proofs.Cases.{by_test}
+use Rattle.determinize_core.specs.Step.{opened_by, is_reopened, distinct_states, working_list}
+use Rattle.determinize_state.specs.Recording.{needs}
+use Rattle.determinize_start.specs.LookTables.{tables_of, opened, from_word_after, half_crlf_after}
+use Rattle.determinize_state.specs.Value.{Value}
+use Rattle.determinize_state.proofs.values.TestedSets.{needs_member, needs_some}
+use Rattle.determinize_start.proofs.tables.TrueTables.{known_truth, opened_truth}
+
+-- the fuel of all runs over m bytes
+abbrev pub fuel : Nfa → ℕ → ℕ
+fuel nfa m = run_fuel (suc (length nfa.states)) m
+
+-- the search with that fuel
+abbrev pub listing : Nfa → ℕ → (Assertion → Bool) → List ℕ → List ℕ
+listing nfa m holds roots = ordered nat_eq (edges nfa holds) (fuel nfa m) none_held roots
+
+-- the value records what the roots reach after the look-behind
+pub record IsEntered (nfa : Nfa) (m : ℕ) (b : Option ℕ) (v : Value) (roots : List ℕ) : Type 0 where
+  pub states : v.states ≡ without (is_capture nfa) (listing nfa m (known nfa b) roots)
+  pub need : v.look_need ≡ needs nfa 0 v.states
+  pub have : (k : Assertion) → has v.look_need k ≡ true → (l : Assertion) → IsTested nfa l → has v.look_have l ≡ known nfa b l
+  pub flags : (s : ℕ) → member nat_eq v.states s ≡ true → (v.from_word ≡ from_word_after (tables_of nfa) b) × (v.half_crlf ≡ half_crlf_after (tables_of nfa) b)
+
+module _ (nfa : Nfa) (sound : IsSound nfa) where
+  fuel_enough : (m : ℕ) (holds : Assertion → Bool) (s : ℕ) → IsEnough nat_eq (edges nfa holds) (fuel nfa m) none_held s
+  fuel_enough zero holds s = IsEnough-below (edges nfa holds) (length nfa.states) (sound.resolves holds) s
+  fuel_enough (suc m) holds s = IsEnough-plus same_decides (edges nfa holds) (suc (length nfa.states)) (fuel nfa m) none_held s (fuel_enough m holds s)
+
+  -- the definitions' search is the one with the fuel of all runs
+  pub reach_is : (m : ℕ) (holds : Assertion → Bool) (roots : List ℕ) → reach nfa holds roots ≡ listing nfa m holds roots
+  unfolding reach
+  reach_is m holds roots = ordered-enough same_decides (edges nfa holds) (length nfa.states + 1) (fuel nfa m) none_held roots (edges_enough nfa sound holds) (fuel_enough m holds)
+
+module _ (nfa : Nfa) (accepted : IsAccepted nfa) (m : ℕ) where
+  sound : IsSound nfa
+  sound = accepted_sound nfa accepted
+
+  opened_is : (b u : Option ℕ) (v : Value) → (v.from_word ≡ from_word_after (tables_of nfa) b) × (v.half_crlf ≡ half_crlf_after (tables_of nfa) b) → opened_by nfa v u ≡ opened (tables_of nfa) (from_word_after (tables_of nfa) b) (half_crlf_after (tables_of nfa) b) u
+  opened_is b u v f = ap (λ w. opened (tables_of nfa) w v.half_crlf u) f.0 ∙ ap (λ h. opened (tables_of nfa) (from_word_after (tables_of nfa) b) h u) f.1
+
+  -- where the closure is redone, it is redone under what is true
+  redo_same : (b u : Option ℕ) (v : Value) (roots : List ℕ) → IsEntered nfa m b v roots → is_reopened nfa v u ≡ true
+      → reach nfa (joined (has v.look_have) (opened_by nfa v u)) (distinct_states v) ≡ listing nfa m (truth nfa b u) v.states
+  redo_same b u v roots e r = list_any_some (λ l. opened_by nfa v u l && has v.look_need l && not (has v.look_have l)) each_look r (λ k z.
+      let needed : has v.look_need k ≡ true = middle (opened_by nfa v u k) (has v.look_need k) (not (has v.look_have k)) z in
+      needs_some nfa v.states k (ap (λ n. has n k) (sym e.need) ∙ needed) (λ s i.
+      reach_is nfa sound m (joined (has v.look_have) (opened_by nfa v u)) (distinct_states v)
+      ∙ fresh-flat_map same_decides (ends nat_eq (edges nfa (joined (has v.look_have) (opened_by nfa v u))) (fuel nfa m) none_held) none_held v.states
+      ∙ ap (λ g. ordered nat_eq g (fuel nfa m) none_held v.states)
+      (edges-same nfa (joined (has v.look_have) (opened_by nfa v u)) (truth nfa b u) (λ l q.
+      ap (λ c. c || opened_by nfa v u l) (e.have k needed l q)
+      ∙ ap (λ o. known nfa b l || o l) (opened_is b u v (e.flags s i))
+      ∙ opened_truth nfa accepted b u l q))))
+    where
+      middle : (a b c : Bool) → (a && b && c) ≡ true → b ≡ true
+      middle a b c h = grind arith
+
+  -- if it is not, it is the recorded list
+  kept_same : (b u : Option ℕ) (v : Value) (roots : List ℕ) → IsEntered nfa m b v roots → is_reopened nfa v u ≡ false
+      → without (is_capture nfa) (distinct_states v) ≡ without (is_capture nfa) (listing nfa m (truth nfa b u) v.states)
+  kept_same b u v roots e r =
+      let cap : ℕ → Bool = is_capture nfa in
+      let K : List ℕ = listing nfa m (known nfa b) roots in
+      let once : distinct_states v ≡ v.states =
+      ap (λ l. fresh nat_eq none_held l) e.states
+      ∙ sym (filter-fresh same_decides cap none_held K)
+      ∙ ap (λ l. without cap l) (fresh-fresh same_decides none_held none_held _ (λ x z. z))
+      ∙ sym e.states in
+      ap (λ l. without cap l) (once ∙ e.states)
+      ∙ without_twice cap K
+      ∙ sym (not_redone same_decides (edges nfa (known nfa b)) (edges nfa (truth nfa b u))
+      (λ x y z. edges-more nfa (known nfa b) (truth nfa b u) x y (λ l. known_truth nfa b u l) z)
+      (fuel nfa m) cap (next_of nfa) (edges-capture nfa (known nfa b)) (edges-capture nfa (truth nfa b u)) roots
+      (fuel_enough nfa sound m (known nfa b)) (fuel_enough nfa sound m (truth nfa b u))
+      (λ x z. edges-agree nfa (known nfa b) (truth nfa b u) x (λ l a.
+      let i : member nat_eq v.states x ≡ true = ap (λ l. member nat_eq l x) e.states ∙ z in
+      let needed : has v.look_need l ≡ true = ap (λ n. has n l) e.need ∙ needs_member nfa 0 v.states x l i a in
+      settled (known nfa b l) (truth nfa b u l) (opened_by nfa v u l) (has v.look_need l) (has v.look_have l)
+      (e.have l needed l (x, a)) needed
+      (each_look-false (λ k. opened_by nfa v u k && has v.look_need k && not (has v.look_have k)) r l)
+      (ap (λ o. known nfa b l || o l) (opened_is b u v (e.flags x i)) ∙ opened_truth nfa accepted b u l (x, a)))))
+      ∙ ap (λ l. without cap (listing nfa m (truth nfa b u) l)) (sym e.states)
+    where
+      settled : (k h o n v : Bool) → v ≡ k → n ≡ true → (o && n && not v) ≡ false → (k || o) ≡ h → k ≡ h
+      settled k h o n v p q r s = grind arith
+
+  -- captures aside, the working list is what is reached under what is true
+  pub working_is : (b u : Option ℕ) (v : Value) (roots : List ℕ) → IsEntered nfa m b v roots
+      → without (is_capture nfa) (working_list nfa v u) ≡ without (is_capture nfa) (listing nfa m (truth nfa b u) v.states)
+  working_is b u v roots e = by_test (is_reopened nfa v u)
+      (λ r. rw r (ap (λ l. without (is_capture nfa) l) (redo_same b u v roots e r)))
+      (λ r. rw r (kept_same b u v roots e r))

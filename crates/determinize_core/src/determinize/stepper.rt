@@ -1,0 +1,166 @@
+//! Steps without scratch to pass: the start state and each next state of one NFA.
+
+ghost use Rattle.std.specs.Prelude.{◌≡◌, ◌<◌, ◌≤◌, length, IfOk, OnOk};
+ghost use Rattle.determinize_below.specs.Nfa.{AllResolve, IsAccepted};
+ghost use Rattle.determinize_below.specs.Unit.{byte_of};
+ghost use Rattle.determinize_below.specs.declared.search.MatchKind.TheVariants as kinds;
+ghost use Rattle.determinize_core.specs.Step.{start_value, step};
+ghost use Rattle.determinize_core.specs.Stepper.{IsPrepared};
+
+use crate::determinize::transition::next;
+use crate::determinize::walks::start_state;
+use determinize_below::{MatchKind, NFA, SparseSets, StateID, Unit};
+use determinize_state::state::{State, StateBuilderEmpty, StateBuilderNFA};
+use std::alloc::{AllocError, Allocator, Global};
+use std::marker::Model;
+use std::mem;
+use std::mem::size_of;
+
+/// Computes the states of a DFA, one at a time: [`start_state`] and [`next`] with the scratch and
+/// the memory of the builder, which are reused.
+///
+/// The states depend on the NFA, the match kind and the arguments of the call only, not on earlier
+/// calls. After an error a stepper can be used as before.
+///
+/// The first call allocates the sets. The stack and the builder's memory keep their capacity between
+/// calls. A stepper is seen as its NFA and its match kind.
+#[derive(Drop)]
+pub struct Stepper<'n, N: Allocator = Global, A: Allocator = Global> {
+    alloc: A,
+    nfa: &'n NFA<N>,
+    match_kind: MatchKind,
+    sparses: Option<SparseSets<A>>,
+    stack: Vec<StateID, A>,
+    empty_builder: StateBuilderEmpty<A>,
+}
+
+impl<'n, N: Allocator, A: Allocator> Model for Stepper<'n, N, A> {
+    ghost use Rattle.std.specs.Prelude.{◌≡◌, IfSome, []};
+    ghost use Rattle.determinize_core.specs.Stepper.{IsPrepared, StepperValue};
+
+    ghost Value = { StepperValue };
+
+    ghost view = { λ s. record { nfa = s.nfa.now; kind = s.match_kind } };
+
+    ghost invariant = { λ s.
+        IfSome s.sparses (λ sets. IsPrepared s.nfa.now sets.set1 sets.set2) × (s.stack.items ≡ []) };
+}
+
+impl<'n, N: Allocator, A: Allocator + Copy> Stepper<'n, N, A> {
+    /// Returns a stepper for an NFA, whose calls allocate from `alloc`. Does not allocate.
+    pub fn new(alloc: A, nfa: &'n NFA<N>, match_kind: MatchKind) -> Stepper<'n, N, A>
+        ensures { result ≡ record { nfa = nfa.now; kind = match_kind } }
+    {
+        Stepper {
+            alloc,
+            nfa,
+            match_kind,
+            sparses: None,
+            stack: Vec::new(alloc),
+            empty_builder: StateBuilderEmpty::new(alloc),
+        }
+    }
+
+    /// Returns the NFA.
+    pub fn nfa(&self) -> &'n NFA<N>
+        ensures { result.now ≡ self.now.nfa }
+    {
+        self.nfa
+    }
+
+    /// Returns the match kind.
+    pub fn match_kind(&self) -> MatchKind
+        ensures { result ≡ self.now.kind }
+    {
+        self.match_kind
+    }
+
+    /// Returns the heap memory of the scratch and of the builder, in bytes. A set has an id and a
+    /// bit for each NFA state.
+    pub fn memory_usage(&self) -> usize {
+        let states = match &self.sparses {
+            Some(sparses) => sparses.set1.capacity(),
+            None => 0,
+        };
+        let ids = states.saturating_mul(size_of::<StateID>());
+        let bits = states.div_ceil(64).saturating_mul(size_of::<u64>());
+        let sets = ids.saturating_add(bits).saturating_mul(2);
+        let stack = self.stack.capacity().saturating_mul(size_of::<StateID>());
+        sets.saturating_add(stack)
+            .saturating_add(self.empty_builder.capacity())
+    }
+
+    /// Returns the state before the first unit, as [`start_state`] does.
+    ///
+    /// - `start` is the NFA state to start from, below the number of states.
+    /// - `look_behind` is the byte before the text, `None` at the start of the haystack.
+    pub fn start(&mut self, start: StateID, look_behind: Option<u8>) -> Result<State<A>, AllocError>
+        requires { start < length self.old.nfa.states }
+        ensures ok { IfOk result (λ state. state ≡ start_value self.old.nfa start look_behind) }
+        ensures resolve { IfOk result (λ state. AllResolve self.old.nfa state.states) }
+        ensures accepted { OnOk result (IsAccepted self.old.nfa) }
+        ensures unchanged { self.new ≡ self.old }
+    {
+        let mut sparses = self.take_sparses()?;
+        let empty = mem::replace(&mut self.empty_builder, StateBuilderEmpty::new(self.alloc));
+        let result = start_state(
+            self.nfa,
+            start,
+            look_behind,
+            &mut sparses,
+            &mut self.stack,
+            empty,
+        );
+        self.sparses = Some(sparses);
+        self.finish(result?)
+    }
+
+    /// Returns the state after a state over a unit of input, as [`next`] does.
+    ///
+    /// - `state` is the current state, and its ids are states of the NFA.
+    /// - `unit` is the next byte, or EOI.
+    pub fn next(&mut self, state: &State<A>, unit: Unit) -> Result<State<A>, AllocError>
+        requires { AllResolve self.old.nfa state.now.states }
+        ensures ok { IfOk result
+            (λ after. after ≡ step self.old.nfa self.old.kind state.now (byte_of unit)) }
+        ensures single { self.old.kind ≡ kinds.LeftmostFirst
+            → IfOk result (λ after. length after.patterns ≤ 1) }
+        ensures resolve { IfOk result (λ after. AllResolve self.old.nfa after.states) }
+        ensures unchanged { self.new ≡ self.old }
+    {
+        let mut sparses = self.take_sparses()?;
+        let empty = mem::replace(&mut self.empty_builder, StateBuilderEmpty::new(self.alloc));
+        let result = next(
+            self.nfa,
+            self.match_kind,
+            &mut sparses,
+            &mut self.stack,
+            state,
+            unit,
+            empty,
+        );
+        self.sparses = Some(sparses);
+        self.finish(result?)
+    }
+
+    /// Returns the sets, which the caller puts back. They are made if there are none.
+    fn take_sparses(&mut self) -> Result<SparseSets<A>, AllocError>
+        ensures prepared { IfOk result (λ sets. IsPrepared self.old.nfa sets.set1 sets.set2) }
+        ensures unchanged { self.new ≡ self.old }
+    {
+        match self.sparses.take() {
+            Some(sparses) => Ok(sparses),
+            None => SparseSets::new(self.alloc, self.nfa.len()),
+        }
+    }
+
+    /// Returns the state that was built. Keeps the builder's memory for the next one.
+    fn finish(&mut self, builder: StateBuilderNFA<A>) -> Result<State<A>, AllocError>
+        ensures ok { IfOk result (λ state. state ≡ builder) }
+        ensures unchanged { self.new ≡ self.old }
+    {
+        let state = builder.to_state();
+        self.empty_builder = builder.clear();
+        state
+    }
+}

@@ -1,0 +1,3 @@
+pub mod CoveredStarts
+pub mod NextMatch
+pub mod OneList

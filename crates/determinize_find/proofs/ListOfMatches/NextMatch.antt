@@ -1,0 +1,117 @@
+-- The next match is one of two leftmost ones, and one more match keeps what was found a prefix of the list. Main
+-- statements: next_plain, next_further, next_none, after_one, after_all. `next_match`, `Searcher::advance` and both
+-- `find_all` rest on them. The idea: a list of all matches from the cursor on, after what was found, is the list of all
+-- matches.
+use Rattle.std.proofs.Common.{◌≡◌, ◌<◌, ◌≤◌, ◌+◌, ◌++◌, ◌∙◌, ◌∷◌, ℕ, List, None, Option, Some, [], append-nil, ap, append_assoc, arith, false, length, refl, subst, sym, true}
+use Rattle.std.proofs.lemmas.Bool.{false≢true, true≢false}
+use Rattle.determinize_below.specs.Semantics.{Nfa}
+use Rattle.determinize_below.specs.Search.{Asked}
+use Rattle.ordered_reach.proofs.Cases.{some_injective}
+use Rattle.determinize_find.specs.Cursors.{SearcherValue, after_match}
+use Rattle.determinize_find.specs.LeftmostIn.{IsLeftmostIn}
+use Rattle.determinize_find.specs.Matches.{AreMatches, IsNext, from}
+use Rattle.determinize_find.specs.Private.Touching.{is_touching}
+use Rattle.determinize_below.specs.declared.search.Match.{Match}
+use Rattle.determinize_find.specs.Private.Left.{left}
+use Rattle.determinize_find.proofs.ListOfMatches.OneList.{IsLater, next_lies}
+use Rattle.determinize_find.proofs.LeftmostMatch.SearchInTurn.{found_past}
+
+pub next_plain : (nfa : Nfa) (asked : Asked) (before : Option ℕ) (first : Option Match) → IsLeftmostIn nfa asked first
+    → is_touching before first ≡ false → IsNext nfa asked before first
+next_plain nfa asked before None x t = (None, x, refl)
+next_plain nfa asked before (Some m) x t = (Some m, x, (λ e. absurd (true≢false (sym e ∙ t)), λ e. refl))
+
+pub next_further : (nfa now : Nfa) (asked further : Asked) (before : Option ℕ) (first found : Option Match)
+    → now ≡ nfa → further ≡ from asked (asked.start + 1)
+    → IsLeftmostIn nfa asked first → is_touching before first ≡ true → IsLeftmostIn now further found
+    → IsNext nfa asked before found
+next_further nfa now asked further before None found n f x t y = absurd (false≢true t)
+next_further nfa now asked further before (Some m) found n f x t y =
+    let z : IsLeftmostIn nfa (from asked (asked.start + 1)) found
+    = subst (λ w. IsLeftmostIn w (from asked (asked.start + 1)) found) n
+    (subst (λ w. IsLeftmostIn now w found) f y) in
+    (Some m, x, (λ e. z, λ e. absurd (true≢false (sym t ∙ e))))
+
+pub next_none : (nfa : Nfa) (asked : Asked) (before : Option ℕ) (first : Option Match) → asked.end ≤ asked.start
+    → IsLeftmostIn nfa asked first → is_touching before first ≡ true → IsNext nfa asked before None
+next_none nfa asked before first l x t =
+    next_further nfa nfa asked (from asked (asked.start + 1)) before first None refl refl x t
+    (found_past nfa (from asked (asked.start + 1)) (omega arith))
+
+-- each match leaves fewer indices
+pub fewer : (nfa now : Nfa) (asked rest : Asked) (start : ℕ) (before : Option ℕ) (m : Match) → now ≡ nfa
+    → rest ≡ from asked start → asked.end ≤ length asked.haystack
+    → ((last : ℕ) → before ≡ Some last → last ≡ start) → IsNext now rest before (Some m)
+    → (left asked.end m.end (Some m.end) < left asked.end start before) × (m.end ≤ asked.end)
+fewer nfa now asked rest start before m e r l starts n =
+    let k : IsNext now (from asked start) before (Some m) = subst (λ w. IsNext now w before (Some m)) r n in
+    let y : IsLater (from asked start) before m = next_lies now (from asked start) before m l starts k in
+    (go before y starts, y.high)
+  where
+    go : (b : Option ℕ) → IsLater (from asked start) b m → ((last : ℕ) → b ≡ Some last → last ≡ start)
+        → left asked.end m.end (Some m.end) < left asked.end start b
+    go None y f =
+        let a : start ≤ m.start = y.low in let b : m.start ≤ m.end = y.order in let c : m.end ≤ asked.end = y.high in
+        omega arith
+    go (Some last) y f =
+        let a : last < m.end = y.later last refl in
+        let b : last ≡ start = f last refl in
+        let c : m.end ≤ asked.end = y.high in omega arith
+
+-- what was found so far, before all that is left
+abbrev pub AreFirst : Nfa → Asked → ℕ → Option ℕ → List Match → Type 0
+AreFirst nfa asked start before ms =
+    (rest : List Match) → AreMatches nfa (from asked start) before rest → AreMatches nfa asked None (ms ++ rest)
+
+pub one_more : (nfa now : Nfa) (asked rest : Asked) (start : ℕ) (before : Option ℕ) (ms : List Match) (m : Match)
+    → now ≡ nfa → rest ≡ from asked start
+    → AreFirst nfa asked start before ms → IsNext now rest before (Some m)
+    → AreFirst nfa asked m.end (Some m.end) (ms ++ m ∷ [])
+one_more nfa now asked rest start before ms m e r h n others o =
+    let k : IsNext nfa (from asked start) before (Some m)
+    = subst (λ w. IsNext w (from asked start) before (Some m)) e (subst (λ w. IsNext now w before (Some m)) r n) in
+    rw append_assoc (h (m ∷ others) (k, o))
+
+pub all_found : (nfa now : Nfa) (asked rest : Asked) (start : ℕ) (before : Option ℕ) (ms : List Match) → now ≡ nfa
+    → rest ≡ from asked start
+    → AreFirst nfa asked start before ms → IsNext now rest before None → AreMatches nfa asked None ms
+all_found nfa now asked rest start before ms e r h n =
+    let k : IsNext nfa (from asked start) before None
+    = subst (λ w. IsNext w (from asked start) before None) e (subst (λ w. IsNext now w before None) r n) in
+    subst (λ w. AreMatches nfa asked None w) (append-nil ms) (h [] k)
+
+pub none_first : (nfa : Nfa) (asked : Asked) → AreFirst nfa asked asked.start None []
+none_first nfa asked rest h = h
+
+-- a cursor behind the first matches of an input
+pub record IsAfter (nfa : Nfa) (asked : Asked) (s : SearcherValue) (ms : List Match) : Type 0 where
+  pub rest : s.asked ≡ from asked s.asked.start
+  pub last : (end : ℕ) → s.before ≡ Some end → end ≡ s.asked.start
+  pub first : AreFirst nfa asked s.asked.start s.before ms
+
+pub after_none : (nfa : Nfa) (asked : Asked) (s : SearcherValue) (ms : List Match)
+    → s ≡ record { asked = asked; before = None } → ms ≡ [] → IsAfter nfa asked s ms
+after_none nfa asked s ms e n =
+    subst (λ w. IsAfter nfa asked w ms) (sym e)
+    (subst (λ w. IsAfter nfa asked record { asked = asked; before = None } w) (sym n)
+    record { rest = refl; last = λ end z. absurd (let y : None ≡ Some end = z in cc); first = none_first nfa asked })
+
+-- one match more, and a cursor with fewer indices before it
+pub after_one : (nfa now : Nfa) (asked : Asked) (s new : SearcherValue) (ms : List Match) (m : Match) → now ≡ nfa
+    → asked.end ≤ length asked.haystack → IsAfter nfa asked s ms → IsNext now s.asked s.before (Some m)
+    → new ≡ after_match s (Some m)
+    → IsAfter nfa asked new (ms ++ m ∷ [])
+    × (left asked.end new.asked.start new.before < left asked.end s.asked.start s.before)
+after_one nfa now asked s new ms m e l a n z = (
+  subst (λ w. IsAfter nfa asked w (ms ++ m ∷ [])) (sym z) record {
+    rest = ap (λ w. from w m.end) a.rest;
+    last = λ end y. sym (some_injective m.end end y);
+    first = one_more nfa now asked s.asked s.asked.start s.before ms m e a.rest a.first n;
+  },
+  subst (λ (w : SearcherValue). left asked.end w.asked.start w.before < left asked.end s.asked.start s.before) (sym z)
+      (fewer nfa now asked s.asked s.asked.start s.before m e a.rest l a.last n).0,
+)
+
+pub after_all : (nfa now : Nfa) (asked : Asked) (s : SearcherValue) (ms : List Match) → now ≡ nfa
+    → IsAfter nfa asked s ms → IsNext now s.asked s.before None → AreMatches nfa asked None ms
+after_all nfa now asked s ms e a n = all_found nfa now asked s.asked s.asked.start s.before ms e a.rest a.first n

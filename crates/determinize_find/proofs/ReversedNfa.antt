@@ -1,0 +1,10 @@
+pub mod Arcs
+pub mod BothWays
+pub mod Counts
+pub mod FoundStates
+pub mod MadeNfa
+pub mod Recorded
+pub mod RecordedStates
+pub mod StatesById
+pub mod Steps
+pub mod Validation

@@ -1,0 +1,3 @@
+pub mod AfterPrefix
+pub mod Parts
+pub mod Skips

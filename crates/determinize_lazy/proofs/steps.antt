@@ -1,0 +1,4 @@
+-- One step: where it starts, what the rule keeps, and what is true of a cache after it.
+pub mod Cursors
+pub mod Rule
+pub mod Starts

@@ -1,0 +1,3 @@
+-- Walks through the cache, and what they leave.
+pub mod CachedWalks
+pub mod Plenty

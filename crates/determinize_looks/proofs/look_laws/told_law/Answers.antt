@@ -1,9 +1,0 @@
-use Rattle.determinize_looks.specs.LookTables.{tables}
-use Rattle.determinize_looks.proofs.StepTables.{has-have_after, have_after-known}
-use Rattle.determinize_looks.proofs.look_laws.told_law.Goals as goal
-
-pub returns-clause-known : goal.returns-clause-known
-returns-clause-known c = have_after-known (tables c.args.reverse c.args.terminator c.args.any) c.args.byte c.args.look
-
-pub returns-clause-all : goal.returns-clause-all
-returns-clause-all c = has-have_after (tables c.args.reverse c.args.terminator c.args.any) c.args.byte c.args.look

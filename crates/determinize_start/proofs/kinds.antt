@@ -1,0 +1,2 @@
+pub mod StartKinds
+pub mod StartRows

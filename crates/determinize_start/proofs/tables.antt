@@ -1,0 +1,5 @@
+pub mod KnownSet
+pub mod NoAssertions
+pub mod OpenedSet
+pub mod StepTables
+pub mod TrueTables

@@ -1,0 +1,64 @@
+-- The members of the sets that a unit satisfies.
+-- Main statements: has-opened.
+-- Used by: `LookTables::opened`.
+-- Idea: as KnownSet, for word and for line assertions.
+use Rattle.determinize_start.proofs.Common.{Bool, cr, End, EndCRLF, EndLF, false, has, is, is_none, is_word, lf, Look, not, Option, refl, StartCRLF, Tables, WordAscii, WordAsciiNegate, WordEndAscii, WordEndHalfAscii, WordEndHalfUnicode, WordEndUnicode, WordStartAscii, WordStartUnicode, WordUnicode, WordUnicodeNegate, ℕ, ◌&&◌, ◌||◌, ◌≡◌}
+use Rattle.std.proofs.Common.{bit_or}
+use Rattle.determinize_below.specs.Semantics.{exactly_one}
+use Rattle.determinize_below.proofs.looks.LookSets.{has-empty, has-union, same, index_of}
+use Rattle.determinize_start.specs.LookTables.{word_opened, line_opened, opened}
+use Rattle.determinize_start.specs.Private.LookSets.{word_set, line_set}
+use Rattle.determinize_start.proofs.tables.KnownSet.{has-insert_where, or_none}
+
+-- the members of the word set, the last inserted first
+word_each : (f w : Bool) (k : Look)
+    → ((same WordEndHalfUnicode k && not w)
+    || ((same WordEndHalfAscii k && not w)
+    || ((same WordEndUnicode k && (f && not w))
+    || ((same WordEndAscii k && (f && not w))
+    || ((same WordStartUnicode k && (not f && w))
+    || ((same WordStartAscii k && (not f && w))
+    || ((same WordUnicodeNegate k && not (exactly_one f w))
+    || ((same WordAsciiNegate k && not (exactly_one f w))
+    || ((same WordUnicode k && exactly_one f w)
+    || ((same WordAscii k && exactly_one f w) || false)))))))))) ≡ word_opened f w k
+unfolding same index_of word_opened
+word_each f w WordAscii = or_none _
+word_each f w WordAsciiNegate = or_none _
+word_each f w WordUnicode = or_none _
+word_each f w WordUnicodeNegate = or_none _
+word_each f w WordStartAscii = or_none _
+word_each f w WordEndAscii = or_none _
+word_each f w WordStartUnicode = or_none _
+word_each f w WordEndUnicode = or_none _
+word_each f w WordEndHalfAscii = or_none _
+word_each f w WordEndHalfUnicode = or_none _
+word_each f w k = refl
+
+pub has-word_set : (f w : Bool) (k : Look) → has (word_set f w) k ≡ word_opened f w k
+has-word_set f w k = simp (has-insert_where, has-empty) (word_each f w k)
+
+-- the members of the haystack and line set
+line_each : (t : Tables) (half : Bool) (u : Option ℕ) (k : Look)
+    → ((same StartCRLF k && (half && not (is u (lf t.reverse))))
+    || ((same EndCRLF k && (is_none u || is u (cr t.reverse) || (is u (lf t.reverse) && not half)))
+    || ((same EndLF k && (is_none u || is u t.terminator)) || ((same End k && is_none u) || false))))
+    ≡ line_opened t half u k
+unfolding same index_of line_opened
+line_each t half u End = or_none _
+line_each t half u EndLF = or_none _
+line_each t half u StartCRLF = or_none _
+line_each t half u EndCRLF = or_none _
+line_each t half u k = refl
+
+pub has-line_set : (t : Tables) (half : Bool) (u : Option ℕ) (k : Look)
+    → has (line_set t half u) k ≡ line_opened t half u k
+has-line_set t half u k = simp (has-insert_where, has-empty) (line_each t half u k)
+
+-- the members of both
+pub has-opened : (t : Tables) (f half : Bool) (u : Option ℕ) (k : Look)
+    → has (bit_or (word_set f (is_word u)) (line_set t half u)) k ≡ opened t f half u k
+unfolding opened
+has-opened t f half u k =
+    rw (has-union (word_set f (is_word u)) (line_set t half u) k, has-word_set f (is_word u) k, has-line_set t half u k)
+    refl

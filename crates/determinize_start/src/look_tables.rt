@@ -1,0 +1,254 @@
+//! Look-behind: the assertions satisfied behind a position, and those that the next unit satisfies.
+//!
+//! An assertion depends on the byte before a position and on the unit after it. When a step enters
+//! a state, only the byte before is known. So `after` (or `at_start`) returns the assertions that
+//! hold for every next unit, and two flags that keep what else the next step needs of the byte:
+//! whether it is a word byte, and whether it may be the first half of a CRLF. The next step then
+//! passes the flags and its unit to `opened`, which returns the assertions that hold in addition.
+//!
+//! The look-behind has assertions and flags of a class only if the NFA has an assertion of that
+//! class, so an NFA without word assertions has no state with from-word set. Within a class it may
+//! have assertions that the NFA does not test. They have no effect on matches, but they are part of
+//! the bytes of a state.
+
+ghost use Rattle.std.specs.Prelude.{◌≡◌, true, false, not, ◌&&◌};
+ghost use Rattle.determinize_below.specs.Look.{has, has_word};
+ghost use Rattle.determinize_below.specs.Nfa.{IsAccepted};
+ghost use Rattle.determinize_below.specs.Semantics.{cr, lf};
+ghost use Rattle.determinize_below.specs.Unit.{byte_of};
+ghost use Rattle.determinize_below.specs.declared.look.Look.{Look as Assertion};
+ghost use Rattle.determinize_start.specs.LookTables as tables;
+ghost use Rattle.determinize_start.specs.Private.LookSets as sets;
+ghost use Rattle.determinize_start.specs.LookTables.{known_set, tables_of};
+
+use crate::start::Start;
+use determinize_below::alphabet::is_word_byte;
+use determinize_below::{Look, LookSet, NFA, Unit};
+use std::alloc::Allocator;
+use std::marker::Model;
+
+/// The look-behind of a new state: look-have and flags.
+#[derive(Clone, Copy, Debug)]
+pub struct Told {
+    /// The assertions that hold for every next unit.
+    pub looks: LookSet,
+    /// Whether the byte behind is a word byte and the NFA has word assertions.
+    pub from_word: bool,
+    /// Whether the byte behind may be the first half of a CRLF and the NFA has CRLF assertions.
+    pub half_crlf: bool,
+}
+
+impl Model for Told {
+    ghost use Rattle.determinize_start.specs.LookTables.{Telling};
+
+    ghost Value = { Telling };
+
+    ghost view = { λ t. record { looks = t.looks; from_word = t.from_word; half_crlf = t.half_crlf } };
+
+    ghost inverse = { λ t. record { looks = t.looks; from_word = t.from_word; half_crlf = t.half_crlf } };
+}
+
+impl Told {
+    /// Returns the empty look-behind.
+    fn nothing() -> Told
+        ensures looks { result.looks ≡ 0 }
+        ensures from_word { result.from_word ≡ false }
+        ensures half_crlf { result.half_crlf ≡ false }
+    {
+        Told {
+            looks: LookSet::empty(),
+            from_word: false,
+            half_crlf: false,
+        }
+    }
+
+    /// Returns the look-behind with the assertion added if `test` is true.
+    fn with(self, test: bool, look: Look) -> Told
+        ensures { result ≡ record self { looks = tables.insert_where self.looks test look } }
+    {
+        Told {
+            looks: insert_where(self.looks, test, look),
+            ..self
+        }
+    }
+}
+
+/// Returns the set with the assertion added if `test` is true.
+#[tactic(auto, unfolding(crate::specs::LookTables::insert_where))]
+fn insert_where(set: LookSet, test: bool, look: Look) -> LookSet
+    ensures { result ≡ tables.insert_where set test look }
+{
+    if test { set.insert(look) } else { set }
+}
+
+/// Returns the word assertions that hold between two bytes, given whether each is a word byte,
+/// except `WordStartHalfAscii` and `WordStartHalfUnicode`, which the look-behind satisfies.
+fn word_set(from_word: bool, word: bool) -> LookSet
+    ensures { result ≡ sets.word_set from_word word }
+{
+    let set = LookSet::empty();
+    let set = insert_where(set, from_word != word, Look::WordAscii);
+    let set = insert_where(set, from_word != word, Look::WordUnicode);
+    let set = insert_where(set, from_word == word, Look::WordAsciiNegate);
+    let set = insert_where(set, from_word == word, Look::WordUnicodeNegate);
+    let set = insert_where(set, !from_word && word, Look::WordStartAscii);
+    let set = insert_where(set, !from_word && word, Look::WordStartUnicode);
+    let set = insert_where(set, from_word && !word, Look::WordEndAscii);
+    let set = insert_where(set, from_word && !word, Look::WordEndUnicode);
+    let set = insert_where(set, !word, Look::WordEndHalfAscii);
+    insert_where(set, !word, Look::WordEndHalfUnicode)
+}
+
+/// The configuration of an NFA that look-behind depends on.
+#[derive(Clone, Copy, Debug)]
+pub struct LookTables {
+    /// Whether the NFA scans in reverse.
+    reverse: bool,
+    /// The line terminator.
+    terminator: u8,
+    /// The assertions of the NFA.
+    any: LookSet,
+}
+
+impl Model for LookTables {
+    ghost use Rattle.determinize_start.specs.LookTables.{Tables};
+
+    ghost Value = { Tables };
+
+    ghost view = { λ t. record { reverse = t.reverse; terminator = t.terminator; any = t.any } };
+
+    ghost inverse = { λ t. record { reverse = t.reverse; terminator = t.terminator; any = t.any } };
+}
+
+impl LookTables {
+    /// Returns the configuration of an NFA.
+    pub fn of<N: Allocator>(nfa: &NFA<N>) -> LookTables
+        ensures tables { result ≡ tables_of nfa.now }
+        ensures accepted { IsAccepted nfa.now }
+    {
+        LookTables {
+            reverse: nfa.is_reverse(),
+            terminator: nfa.look_matcher().get_line_terminator(),
+            any: nfa.look_set_any(),
+        }
+    }
+
+    /// Returns the byte of a CRLF that is read first.
+    fn crlf_first(self) -> u8
+        ensures { result ≡ cr self.reverse }
+    {
+        if self.reverse { b'\n' } else { b'\r' }
+    }
+
+    /// Returns the byte of a CRLF that is read second.
+    fn crlf_second(self) -> u8
+        ensures { result ≡ lf self.reverse }
+    {
+        if self.reverse { b'\r' } else { b'\n' }
+    }
+
+    /// Returns the look-behind of word assertions, given whether the byte behind is a word byte.
+    #[tactic(auto, unfolding(crate::specs::LookTables::known_set, crate::specs::LookTables::insert_where))]
+    fn words(self, word_byte: bool) -> Told
+        ensures looks { result.looks
+            ≡ known_set false false false (has_word self.any && not word_byte) }
+        ensures from_word { result.from_word ≡ (has_word self.any && word_byte) }
+        ensures half_crlf { result.half_crlf ≡ false }
+    {
+        let word = self.any.contains_word();
+        let no_word_byte = word && !word_byte;
+        let looks = insert_where(LookSet::empty(), no_word_byte, Look::WordStartHalfAscii);
+        Told {
+            looks: insert_where(looks, no_word_byte, Look::WordStartHalfUnicode),
+            from_word: word && word_byte,
+            half_crlf: false,
+        }
+    }
+
+    /// Returns the look-behind of the first state for a start kind.
+    #[tactic(auto, unfolding(crate::specs::LookTables::known_set, crate::specs::LookTables::insert_where, crate::specs::LookTables::start_have, crate::specs::LookTables::start_from_word, crate::specs::LookTables::start_half_crlf))]
+    pub fn at_start(self, kind: Start) -> Told
+        ensures looks { result.looks ≡ tables.start_have self kind }
+        ensures from_word { result.from_word ≡ tables.start_from_word self kind }
+        ensures half_crlf { result.half_crlf ≡ tables.start_half_crlf self kind }
+    {
+        let line = self.any.contains_anchor_line();
+        let crlf = self.any.contains_anchor_crlf();
+        // In reverse a CRLF is read from `\n` to `\r`, so the two kinds swap their roles. The
+        // classes are those that the original tests: they decide the bytes of the first state.
+        match kind {
+            Start::NonWordByte => self.words(false),
+            Start::WordByte => self.words(true),
+            Start::Text => self
+                .words(false)
+                .with(line, Look::StartLF)
+                .with(line, Look::StartCRLF)
+                .with(self.any.contains_anchor_haystack(), Look::Start),
+            Start::LineLF => Told {
+                half_crlf: crlf && self.reverse,
+                ..self
+                    .words(false)
+                    .with(line && self.terminator == b'\n', Look::StartLF)
+                    .with(line && !self.reverse, Look::StartCRLF)
+            },
+            Start::LineCR => Told {
+                half_crlf: crlf && !self.reverse,
+                ..self
+                    .words(false)
+                    .with(line && self.terminator == b'\r', Look::StartLF)
+                    .with(crlf && self.reverse, Look::StartCRLF)
+            },
+            Start::CustomLineTerminator => self
+                .words(is_word_byte(self.terminator))
+                .with(line, Look::StartLF),
+        }
+    }
+
+    /// Returns the look-behind after a step over the unit, which is empty if the NFA has no
+    /// assertions. The flags are to be set only if some state has a transition on the unit.
+    #[tactic(auto, unfolding(crate::specs::LookTables::known_set, crate::specs::LookTables::insert_where, crate::specs::LookTables::have_after, crate::specs::LookTables::from_word_after, crate::specs::LookTables::half_crlf_after))]
+    pub fn after(self, unit: Unit) -> Told
+        ensures looks { result.looks ≡ tables.have_after self (byte_of unit) }
+        ensures from_word { result.from_word ≡ tables.from_word_after self (byte_of unit) }
+        ensures half_crlf { result.half_crlf ≡ tables.half_crlf_after self (byte_of unit) }
+    {
+        // Only for speed: without assertions the code below returns the same.
+        if self.any.is_empty() {
+            return Told::nothing();
+        }
+        let line = self.any.contains_anchor_line();
+        let crlf = self.any.contains_anchor_crlf();
+        Told {
+            half_crlf: crlf && unit.is_byte(self.crlf_first()),
+            ..self
+                .words(unit.is_word_byte())
+                .with(line && unit.is_byte(self.terminator), Look::StartLF)
+                .with(crlf && unit.is_byte(self.crlf_second()), Look::StartCRLF)
+        }
+    }
+
+    /// Returns the haystack and line assertions that the unit satisfies, given whether the byte
+    /// behind is the first half of a CRLF.
+    fn line_set(self, half_crlf: bool, unit: Unit) -> LookSet
+        ensures { result ≡ sets.line_set self half_crlf (byte_of unit) }
+    {
+        let end = unit.is_eoi();
+        let first = unit.is_byte(self.crlf_first());
+        let second = unit.is_byte(self.crlf_second());
+        let set = insert_where(LookSet::empty(), end, Look::End);
+        let set = insert_where(set, end || unit.is_byte(self.terminator), Look::EndLF);
+        let set = insert_where(set, end || first || (second && !half_crlf), Look::EndCRLF);
+        // After the first byte of a CRLF a line starts unless the second follows: known only now.
+        insert_where(set, half_crlf && !second, Look::StartCRLF)
+    }
+
+    /// Returns the assertions that the unit satisfies for a state with these flags, in addition to
+    /// those in its look-have.
+    pub fn opened(self, from_word: bool, half_crlf: bool, unit: Unit) -> LookSet
+        ensures { (look : Assertion)
+            → has result look ≡ tables.opened self from_word half_crlf (byte_of unit) look }
+    {
+        let words = word_set(from_word, unit.is_word_byte());
+        words.union(self.line_set(half_crlf, unit))
+    }
+}

@@ -1,0 +1,3 @@
+pub mod building
+pub mod encoding
+pub mod values

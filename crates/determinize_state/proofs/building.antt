@@ -1,0 +1,3 @@
+pub mod AddedPatterns
+pub mod RestoredMarks
+pub mod UnfinishedBytes

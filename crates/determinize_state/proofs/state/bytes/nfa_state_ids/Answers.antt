@@ -1,0 +1,22 @@
+use Rattle.std.proofs.Common.{arith, ◌≡◌, ◌∙◌, ap, ℕ, drop}
+use Rattle.determinize_state.specs.Spelling.{start_in}
+use Rattle.determinize_state.specs.Varint.{ids_from}
+use Rattle.determinize_state.proofs.encoding.ReadBytes.{long, has_patterns, start_of, rest_valid, rest_ids}
+use Rattle.determinize_state.proofs.state.bytes.nfa_state_ids.Goals as goal
+
+pub ids_start-start-requires-clause-long : goal.ids_start-start-requires-clause-long
+ids_start-start-requires-clause-long c = long _ c.requires
+
+pub ids_start-start-requires-clause-counted : goal.ids_start-start-requires-clause-counted
+ids_start-start-requires-clause-counted c e = omega (arith, (has_patterns _ c.requires e).room)
+
+pub split_at-requires : goal.split_at-requires
+split_at-requires c = rw c.ids_start-start.ensures (start_of _ c.requires)
+
+pub new-requires : goal.new-requires
+new-requires c = rw (c.split_at.ensures.back, c.ids_start-start.ensures) (rest_valid _ c.requires)
+
+pub returns : goal.returns
+returns c =
+    let rest : c.split_at.result.1.now ≡ drop (start_in c.args.bytes.now) c.args.bytes.now = c.split_at.ensures.back ∙ ap (λ (n : ℕ). drop n c.args.bytes.now) c.ids_start-start.ensures in
+    c.new.ensures ∙ ap (ids_from 0 0 1) rest ∙ rest_ids _

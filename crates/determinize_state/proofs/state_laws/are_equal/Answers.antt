@@ -1,0 +1,8 @@
+use Rattle.std.proofs.Common.{◌≡◌, subst, sym}
+use Rattle.std.specs.Bool.{Decides}
+use Rattle.determinize_state.specs.Equality.{Decides-same}
+use Rattle.determinize_state.proofs.state_laws.are_equal.Goals as goal
+
+pub returns : goal.returns
+returns g c =
+    subst (λ r. Decides r (c.args.a.now ≡ c.args.b.now)) (sym c.eq.ensures) (Decides-same c.args.a.now c.args.b.now)

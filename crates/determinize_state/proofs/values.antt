@@ -1,0 +1,3 @@
+pub mod RecordingSteps
+pub mod ReplacedParts
+pub mod TestedSets

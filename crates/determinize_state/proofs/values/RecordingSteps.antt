@@ -1,0 +1,66 @@
+-- Adding states to a builder one by one.
+-- Main statements: added_one-after, added-after, with_fact.
+-- Used by: `add_states`, and the closure that records.
+-- Idea: the value after a list is that after its first states and then one more.
+use Rattle.std.proofs.Common.{◌≡◌, ◌<◌, ℕ, All, subst, true, false, not, List, [], ◌∷◌, ◌++◌, Result, Ok, Err, refl, sym, ap, ◌∙◌, append_assoc}
+use Rattle.std.specs.Result.{IfOk, OnOk}
+use Rattle.std.proofs.lemmas.List.{append-nil}
+use Rattle.std.proofs.lemmas.List.Elements.{All-tail, filter-append}
+use Rattle.determinize_below.specs.Edges.{is_capture, assertion_of}
+use Rattle.determinize_below.specs.Semantics.{Nfa}
+use Rattle.ordered_reach.specs.Runs.{without}
+use Rattle.ordered_reach.proofs.Cases.{by_test}
+use Rattle.determinize_state.specs.Recording.{added, added_one, needs, with_assertion}
+use Rattle.determinize_state.specs.Value.{Value}
+
+module _ (nfa : Nfa) where
+  needs-append : (set : ℕ) (xs ys : List ℕ) → needs nfa set (xs ++ ys) ≡ needs nfa (needs nfa set xs) ys
+  needs-append set [] ys = refl
+  needs-append set (x ∷ xs) ys = needs-append (with_assertion set (assertion_of nfa x)) xs ys
+
+  added_by : Value → ℕ → List ℕ → Value
+  added_by v need states = record v { look_need = need; states = states }
+
+  added-append : (v : Value) (xs ys : List ℕ) → added nfa (added nfa v xs) ys ≡ added nfa v (xs ++ ys)
+  unfolding added_by
+  added-append v xs ys =
+      ap (λ n. added_by v n ((v.states ++ xs) ++ ys)) (sym (needs-append v.look_need xs ys))
+      ∙ ap (λ l. added_by v (needs nfa v.look_need (xs ++ ys)) l) (append_assoc v.states xs ys)
+
+  -- one more state after those of a list
+  pub added_one-after : (v : Value) (xs : List ℕ) (s : ℕ) → added_one nfa (added nfa v (without (is_capture nfa) xs)) s ≡ added nfa v (without (is_capture nfa) (xs ++ s ∷ []))
+  added_one-after v xs s =
+      by_test (is_capture nfa s)
+      (λ e. rw e (ap (λ l. added nfa v l) (sym (append-nil (without (is_capture nfa) xs)) ∙ ap (λ l. without (is_capture nfa) xs ++ l) (sym (dropped e)) ∙ sym (filter-append (λ x. not (is_capture nfa x)) xs (s ∷ [])))))
+      (λ e. rw e (added-append v (without (is_capture nfa) xs) (s ∷ []) ∙ ap (λ l. added nfa v l) (ap (λ l. without (is_capture nfa) xs ++ l) (sym (kept e)) ∙ sym (filter-append (λ x. not (is_capture nfa x)) xs (s ∷ [])))))
+    where
+      dropped : is_capture nfa s ≡ true → without (is_capture nfa) (s ∷ []) ≡ []
+      dropped e = rw e refl
+
+      kept : is_capture nfa s ≡ false → without (is_capture nfa) (s ∷ []) ≡ s ∷ []
+      kept e = rw e refl
+
+  -- no more state
+  pub added-none : (v : Value) → v ≡ added nfa v []
+  unfolding added_by
+  added-none v = ap (λ l. added_by v v.look_need l) (sym (append-nil v.states))
+
+  -- one more state, unless it is a capture
+  pub added_one-alone : (v : Value) (s : ℕ) → added_one nfa v s ≡ added nfa v (without (is_capture nfa) (s ∷ []))
+  added_one-alone v s = by_test (is_capture nfa s)
+      (λ e. rw e (added-none v))
+      (λ e. rw e refl)
+
+  -- more states after those of a list
+  pub added-after : (v : Value) (xs ys : List ℕ) → added nfa (added nfa v (without (is_capture nfa) xs)) (without (is_capture nfa) ys) ≡ added nfa v (without (is_capture nfa) (xs ++ ys))
+  added-after v xs ys =
+      added-append v (without (is_capture nfa) xs) (without (is_capture nfa) ys) ∙ ap (λ l. added nfa v l) (sym (filter-append (λ x. not (is_capture nfa x)) xs ys))
+
+-- combining two facts of a result
+pub with_fact : {T E : Type 0} (r : Result T E) (P : T → Type 0) (Q R : Type 0) → (Q → R) → IfOk r P → OnOk r Q → IfOk r (λ x. P x × R)
+with_fact (Ok x) P Q R f p q = (p, f q)
+with_fact (Err e) P Q R f p q = tt
+
+-- the rest of a list whose elements are below a bound
+pub rest_below : (bound : ℕ) (xs ys : List ℕ) (x : ℕ) → xs ≡ x ∷ ys → All (λ id. id < bound) xs → All (λ id. id < bound) ys
+rest_below bound xs ys x e h = All-tail (λ id. id < bound) x ys (subst (λ l. All (λ id. id < bound) l) e h)

@@ -1,0 +1,20 @@
+-- Values with one part replaced.
+-- Main statements: with_have, with_need.
+-- Used by: UnfinishedBytes.
+-- Idea: a record is equal if its parts are.
+use Rattle.std.proofs.Common.{ℕ, ◌<◌}
+use Rattle.determinize_state.specs.Value.{Value, IsValue}
+
+-- the value with another look-have
+abbrev pub with_have : Value → ℕ → Value
+with_have v set = record v { look_have = set }
+
+-- the value with another look-need
+abbrev pub with_need : Value → ℕ → Value
+with_need v set = record v { look_need = set }
+
+pub with_have_valid : (v : Value) (set : ℕ) → IsValue v → set < 262144 → IsValue (with_have v set)
+with_have_valid v set h small = record { have = small; need = h.need; distinct = h.distinct; pattern_ids = h.pattern_ids; state_ids = h.state_ids }
+
+pub with_need_valid : (v : Value) (set : ℕ) → IsValue v → set < 262144 → IsValue (with_need v set)
+with_need_valid v set h small = record { have = h.have; need = small; distinct = h.distinct; pattern_ids = h.pattern_ids; state_ids = h.state_ids }

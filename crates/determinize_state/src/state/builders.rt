@@ -1,0 +1,354 @@
+//! The three builders of a state.
+//!
+//! `StateBuilderEmpty` has an empty buffer, or the nine bytes of an empty header. `into_matches`
+//! ensures the latter, and patterns are appended, their number being written with each. After
+//! `into_nfa`, which leaves the bytes as they are, NFA states are appended. So the bytes always
+//! encode the value of the builder. `to_state` copies them into a state, and `clear` returns an
+//! empty builder with the same buffer, so that a walk needs one buffer for all its states.
+//!
+//! `clear` leaves an empty header, so that for all states but the first nothing is written before
+//! the buffer moves to the next builder: a move just after a write has to wait for it.
+
+ghost use Rattle.std.specs.Prelude.{◌≡◌, ℕ, [], true, false, nat_eq, IfOk, OnOk, OnErr, IsOk};
+ghost use Rattle.std.specs.List.{list_any};
+ghost use Rattle.determinize_below.specs.Look.{insert};
+ghost use Rattle.determinize_state.specs.Value.{Value as StateValue, IsValue, dead, with_pattern, with_state};
+ghost use Rattle.determinize_state.specs.Recording.{settled, IsGrown};
+ghost use Rattle.determinize_state.specs.Spelling.{spell};
+ghost use Rattle.determinize_state.specs.Private.Marking.{IsMarkOf};
+
+use crate::state::small_bytes::SmallBytes;
+use crate::state::{Mark, State, bytes, varint};
+use determinize_below::{Look, LookSet, PatternID, StateID};
+use std::alloc::{AllocError, Allocator, Global};
+use std::marker::Model;
+
+/// A builder of a state with nothing set yet. It may have memory left from an earlier state.
+#[derive(Drop)]
+pub struct StateBuilderEmpty<A: Allocator = Global> {
+    bytes: Vec<u8, A>,
+}
+
+impl<A: Allocator> Model for StateBuilderEmpty<A> {
+    ghost use Rattle.determinize_state.specs.Value.{Value as StateValue, dead};
+    ghost use Rattle.determinize_state.specs.Building.{IsClear};
+
+    ghost Value = { StateValue };
+
+    ghost view = { λ s. dead };
+
+    ghost invariant = { λ s. IsClear s.bytes.items };
+}
+
+impl<A: Allocator> StateBuilderEmpty<A> {
+    /// Returns a builder without memory. Later calls allocate from `alloc`.
+    pub fn new(alloc: A) -> StateBuilderEmpty<A>
+        ensures { result ≡ dead }
+    {
+        StateBuilderEmpty {
+            bytes: Vec::new(alloc),
+        }
+    }
+
+    /// Returns the builder of the next phase, with nothing set and no patterns. On error this
+    /// builder is dropped.
+    pub fn into_matches(self) -> Result<StateBuilderMatches<A>, AllocError>
+        ensures { IfOk result (λ builder. builder ≡ dead) }
+    {
+        let bytes = bytes::with_header(self.bytes)?;
+        let last = StateID::ZERO;
+        let builder = StateBuilderNFA { bytes, last };
+        Ok(StateBuilderMatches { builder })
+    }
+
+    /// Returns the number of bytes that fit without a further allocation. No clause says how many.
+    pub fn capacity(&self) -> usize {
+        self.bytes.capacity()
+    }
+}
+
+/// A builder that takes the flags of a state, its look-have and its patterns.
+#[derive(Drop)]
+pub struct StateBuilderMatches<A: Allocator = Global> {
+    pub(crate) builder: StateBuilderNFA<A>,
+}
+
+impl<A: Allocator> Model for StateBuilderMatches<A> {
+    ghost use Rattle.std.specs.Prelude.{◌≡◌, []};
+    ghost use Rattle.determinize_state.specs.Value.{Value as StateValue};
+
+    ghost Value = { StateValue };
+
+    ghost view = { λ s. s.builder };
+
+    ghost invariant = { λ s. s.builder.states ≡ [] };
+}
+
+impl<A: Allocator> StateBuilderMatches<A> {
+    /// Sets the flag from-word: the byte before the state is a word byte.
+    pub fn set_is_from_word(&mut self)
+        ensures { self.new ≡ record self.old { from_word = true } }
+    {
+        self.builder.set_is_from_word();
+    }
+
+    /// Sets the flag half-CRLF: the byte before the state may be the first half of a CRLF.
+    pub fn set_is_half_crlf(&mut self)
+        ensures { self.new ≡ record self.old { half_crlf = true } }
+    {
+        self.builder.set_is_half_crlf();
+    }
+
+    /// Returns look-have: the assertions known to hold at the state.
+    pub fn look_have(&self) -> LookSet
+        ensures { result ≡ self.now.look_have }
+    {
+        self.builder.look_have()
+    }
+
+    /// Replaces look-have by the result of `set` for it. Calls `set` once.
+    pub fn set_look_have<F: FnMut(LookSet) -> LookSet>(&mut self, set: F)
+        requires { F.pre set self.old.look_have }
+        ensures { (answer : ℕ) × F.post set self.old.look_have answer
+            × (self.new ≡ record self.old { look_have = answer }) }
+    {
+        self.builder.set_look_have(set);
+    }
+
+    /// Adds a pattern, which must be new, after the others.
+    ///
+    /// On error the builder is unchanged. Adding `ZERO` as the first pattern never fails.
+    pub fn add_match_pattern_id(&mut self, id: PatternID) -> Result<(), AllocError>
+        requires { list_any (nat_eq id) self.old.patterns ≡ false }
+        ensures ok { OnOk result (self.new ≡ with_pattern self.old id) }
+        ensures err { OnErr result (self.new ≡ self.old) }
+        ensures first { self.old.patterns ≡ [] → id ≡ 0 → IsOk result }
+    {
+        self.builder.add_match_pattern_id(id)
+    }
+
+    /// Returns the builder of the next phase, with the same value. Does not allocate.
+    pub fn into_nfa(self) -> StateBuilderNFA<A>
+        ensures { result ≡ self }
+    {
+        self.builder
+    }
+}
+
+/// A builder that takes the NFA states of a state and its sets of assertions.
+#[derive(Drop)]
+pub struct StateBuilderNFA<A: Allocator = Global> {
+    pub(crate) bytes: Vec<u8, A>,
+    last: StateID,
+}
+
+impl<A: Allocator> Model for StateBuilderNFA<A> {
+    ghost use Rattle.determinize_state.specs.Value.{Value as StateValue};
+    ghost use Rattle.determinize_state.specs.Spelling.{value_of};
+    ghost use Rattle.determinize_state.specs.Building.{IsBuilding};
+
+    ghost Value = { StateValue };
+
+    ghost view = { λ s. value_of s.bytes.items };
+
+    ghost invariant = { λ s. IsBuilding s.bytes.items s.last };
+}
+
+impl<A: Allocator> StateBuilderNFA<A> {
+    /// Returns look-have: the assertions known to hold at the state.
+    pub fn look_have(&self) -> LookSet
+        ensures { result ≡ self.now.look_have }
+    {
+        bytes::look_have(self.bytes.as_slice())
+    }
+
+    /// Returns look-need: the assertions that the NFA states test.
+    pub fn look_need(&self) -> LookSet
+        ensures { result ≡ self.now.look_need }
+    {
+        bytes::look_need(self.bytes.as_slice())
+    }
+
+    /// Replaces look-have by the result of `set` for it. Calls `set` once.
+    pub fn set_look_have<F: FnMut(LookSet) -> LookSet>(&mut self, mut set: F)
+        requires { F.pre set self.old.look_have }
+        ensures { (answer : ℕ) × F.post set self.old.look_have answer
+            × (self.new ≡ record self.old { look_have = answer }) }
+    {
+        let answer = set(self.look_have());
+        self.put_look_have(answer);
+    }
+
+    /// Replaces look-need by the result of `set` for it. Calls `set` once.
+    pub fn set_look_need<F: FnMut(LookSet) -> LookSet>(&mut self, mut set: F)
+        requires { F.pre set self.old.look_need }
+        ensures { (answer : ℕ) × F.post set self.old.look_need answer
+            × (self.new ≡ record self.old { look_need = answer }) }
+    {
+        let answer = set(self.look_need());
+        self.put_look_need(answer);
+    }
+
+    /// Sets the flag from-word.
+    pub(crate) fn set_is_from_word(&mut self)
+        ensures { self.new ≡ record self.old { from_word = true } }
+    {
+        bytes::set_flag(&mut self.bytes, bytes::FROM_WORD);
+    }
+
+    /// Sets the flag half-CRLF.
+    pub(crate) fn set_is_half_crlf(&mut self)
+        ensures { self.new ≡ record self.old { half_crlf = true } }
+    {
+        bytes::set_flag(&mut self.bytes, bytes::HALF_CRLF);
+    }
+
+    /// Adds a pattern, which must be new, after the others, before any NFA state. On error the
+    /// builder is unchanged.
+    pub(crate) fn add_match_pattern_id(&mut self, id: PatternID) -> Result<(), AllocError>
+        requires unrecorded { self.old.states ≡ [] }
+        requires new { list_any (nat_eq id) self.old.patterns ≡ false }
+        ensures ok { OnOk result (self.new ≡ with_pattern self.old id) }
+        ensures err { OnErr result (self.new ≡ self.old) }
+        ensures first { self.old.patterns ≡ [] → id ≡ 0 → IsOk result }
+    {
+        bytes::add_pattern(&mut self.bytes, id.as_u32())?;
+        Ok(())
+    }
+
+    /// Adds an assertion to look-need, which may contain it already.
+    #[inline(always)]
+    pub(crate) fn add_look_need(&mut self, look: Look)
+        ensures { self.new ≡ record self.old { look_need = insert self.old.look_need look } }
+    {
+        let look_need = bytes::look_need(self.bytes.as_slice());
+        if !look_need.contains(look) {
+            self.put_look_need(look_need.insert(look));
+        }
+    }
+
+    /// Clears look-have if look-need is empty, so that states do not differ in assertions that
+    /// nothing tests. Never fails.
+    pub fn settle(&mut self)
+        ensures { self.new ≡ settled self.old }
+    {
+        if self.look_need().is_empty() {
+            self.put_look_have(LookSet::empty());
+        }
+    }
+
+    /// Writes look-have.
+    fn put_look_have(&mut self, look_have: LookSet)
+        ensures { self.new ≡ record self.old { look_have = look_have } }
+    {
+        bytes::put_number(&mut self.bytes, bytes::LOOK_HAVE, look_have.as_repr());
+    }
+
+    /// Writes look-need.
+    fn put_look_need(&mut self, look_need: LookSet)
+        ensures { self.new ≡ record self.old { look_need = look_need } }
+    {
+        bytes::put_number(&mut self.bytes, bytes::LOOK_NEED, look_need.as_repr());
+    }
+
+    /// Adds an NFA state after the others. It may be present already.
+    ///
+    /// On error the builder is unchanged.
+    #[inline(always)]
+    pub fn add_nfa_state_id(&mut self, id: StateID) -> Result<(), AllocError>
+        ensures ok { OnOk result (self.new ≡ with_state self.old id) }
+        ensures err { OnErr result (self.new ≡ self.old) }
+    {
+        let difference = varint::zigzag(self.last, id);
+        varint::write(&mut self.bytes, difference)?;
+        self.last = id;
+        Ok(())
+    }
+
+    /// Returns the bytes of the state, the canonical encoding of its value.
+    pub fn as_bytes(&self) -> &[u8]
+        ensures bytes { result.now ≡ spell self.now }
+        ensures valid { IsValue self.now }
+    {
+        self.bytes.as_slice()
+    }
+
+    /// Returns a state with the value of the builder, which is unchanged.
+    pub fn to_state(&self) -> Result<State<A>, AllocError>
+    where
+        A: Clone,
+        ensures { IfOk result (λ state. state ≡ self.now) }
+    {
+        let alloc = self.bytes.allocator().clone()?;
+        Ok(State {
+            bytes: SmallBytes::from_slice(alloc, self.bytes.as_slice())?,
+        })
+    }
+
+    /// Returns an empty builder, which may keep the memory of this one. Never fails.
+    pub fn clear(self) -> StateBuilderEmpty<A>
+        ensures { result ≡ dead }
+    {
+        let mut bytes = self.bytes;
+        bytes::clear(&mut bytes);
+        StateBuilderEmpty { bytes }
+    }
+
+    /// Returns a mark of the builder's value, for `restore`.
+    pub(crate) fn mark(&self) -> Mark
+        ensures { IsMarkOf result self.now }
+    {
+        Mark {
+            bytes: self.bytes.len(),
+            last: self.last,
+            look_have: self.look_have(),
+            look_need: self.look_need(),
+        }
+    }
+
+    /// Restores the value that the builder had at the mark. Since then, only NFA states may have
+    /// been added and sets replaced.
+    pub(crate) fn restore(&mut self, mark: Mark)
+        requires { (value : StateValue) × IsMarkOf mark value × IsGrown value self.old }
+        ensures { (value : StateValue) → IsMarkOf mark value → IsGrown value self.old
+            → self.new ≡ value }
+    {
+        self.bytes.truncate(mark.bytes);
+        self.last = mark.last;
+        bytes::put_number(&mut self.bytes, bytes::LOOK_HAVE, mark.look_have.as_repr());
+        bytes::put_number(&mut self.bytes, bytes::LOOK_NEED, mark.look_need.as_repr());
+    }
+}
+
+/// Returns an empty builder with no memory yet.
+impl<A: Allocator + Clone> Clone for StateBuilderEmpty<A> {
+    ghost is_clone = { λ a b. a ≡ b };
+
+    fn clone(&self) -> Result<StateBuilderEmpty<A>, AllocError> {
+        Ok(StateBuilderEmpty::new(self.bytes.allocator().clone()?))
+    }
+}
+
+/// Returns a clone with the same value.
+impl<A: Allocator + Clone> Clone for StateBuilderMatches<A> {
+    ghost is_clone = { λ a b. a ≡ b };
+
+    fn clone(&self) -> Result<StateBuilderMatches<A>, AllocError> {
+        Ok(StateBuilderMatches {
+            builder: self.builder.clone()?,
+        })
+    }
+}
+
+/// Returns a clone with the same value.
+impl<A: Allocator + Clone> Clone for StateBuilderNFA<A> {
+    ghost is_clone = { λ a b. a ≡ b };
+
+    fn clone(&self) -> Result<StateBuilderNFA<A>, AllocError> {
+        let bytes = self.bytes.clone()?;
+        Ok(StateBuilderNFA {
+            bytes,
+            last: self.last,
+        })
+    }
+}

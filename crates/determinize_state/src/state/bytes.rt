@@ -1,0 +1,257 @@
+//! Reading and writing parts of an encoded state.
+//!
+//! The bytes of a `State` and those of a builder encode its value (`IsSpelled`), so the readers
+//! serve both.
+
+ghost use Rattle.std.specs.Prelude.{◌≡◌, ◌+◌, ◌*◌, ◌<◌, ◌≤◌, ◌^◌, [], ◌∷◌, ◌++◌, if◌then◌else◌, length, slice_index, vec_len, true, false, All, IfOk, OnOk, OnErr, IsOk};
+ghost use Rattle.determinize_state.specs.Value.{is_nonempty};
+ghost use Rattle.determinize_state.specs.Spelling.{IsSpelled, value_of, number_at, numbers_in, word, words, with_word, has_flag, start_in};
+ghost use Rattle.determinize_state.specs.Building.{header, IsClear};
+ghost use Rattle.determinize_state.specs.Private.PatternBytes.{with_bit, with_pattern_bytes};
+
+use crate::state::nfa_state_ids::NfaStateIds;
+use determinize_below::{LookSet, PatternID};
+use std::alloc::{AllocError, Allocator};
+
+/// The flag of the first byte that some pattern matches.
+pub(crate) const MATCH: u8 = 1;
+
+/// The flag of the first byte that the patterns are explicit.
+pub(crate) const EXPLICIT: u8 = 2;
+
+/// The flag of the first byte that the byte before the state is a word byte.
+pub(crate) const FROM_WORD: u8 = 4;
+
+/// The flag of the first byte that the byte before the state may be the first half of a CRLF.
+pub(crate) const HALF_CRLF: u8 = 8;
+
+/// The offset of look-have.
+pub(crate) const LOOK_HAVE: usize = 1;
+
+/// The offset of look-need.
+pub(crate) const LOOK_NEED: usize = 5;
+
+/// The offset of the number of patterns, or of the NFA states if the patterns are implicit.
+pub(crate) const COUNT: usize = 9;
+
+/// The offset of the explicit patterns.
+pub(crate) const PATTERNS: usize = 13;
+
+/// The bytes of the pattern `ZERO`, for a state that has it implicitly.
+const ZERO_WORD: [u8; 4] = [0; 4];
+
+/// Returns the bytes of an empty header, given these or none.
+#[inline(always)]
+pub(crate) fn with_header<A: Allocator>(bytes: Vec<u8, A>) -> Result<Vec<u8, A>, AllocError>
+    requires { IsClear bytes.items }
+    ensures { IfOk result (λ bytes. bytes.items ≡ header) }
+{
+    let mut bytes = bytes;
+    if bytes.is_empty() {
+        bytes.extend_from_slice(&[0; COUNT])?;
+    }
+    Ok(bytes)
+}
+
+/// Removes all but the header, and empties that.
+#[inline(always)]
+pub(crate) fn clear<A: Allocator>(bytes: &mut Vec<u8, A>)
+    requires { 9 ≤ vec_len bytes.old }
+    ensures { bytes.new.items ≡ header }
+{
+    bytes.truncate(COUNT);
+    bytes[0] = 0;
+    put_number(bytes, LOOK_HAVE, 0);
+    put_number(bytes, LOOK_NEED, 0);
+}
+
+/// Returns whether the first byte has the flag.
+pub(crate) fn has_flag(bytes: &[u8], weight: u8) -> bool
+    requires { 0 < length bytes.now }
+    ensures { result ≡ has_flag bytes.now weight }
+{
+    bytes[0] & weight != 0
+}
+
+/// Returns whether some pattern matches.
+pub(crate) fn is_match(bytes: &[u8]) -> bool
+    requires { IsSpelled bytes.now }
+    ensures { result ≡ is_nonempty (value_of bytes.now).patterns }
+{
+    has_flag(bytes, MATCH)
+}
+
+/// Returns the flag from-word.
+pub(crate) fn is_from_word(bytes: &[u8]) -> bool
+    requires { IsSpelled bytes.now }
+    ensures { result ≡ (value_of bytes.now).from_word }
+{
+    has_flag(bytes, FROM_WORD)
+}
+
+/// Returns the flag half-CRLF.
+pub(crate) fn is_half_crlf(bytes: &[u8]) -> bool
+    requires { IsSpelled bytes.now }
+    ensures { result ≡ (value_of bytes.now).half_crlf }
+{
+    has_flag(bytes, HALF_CRLF)
+}
+
+/// Returns look-have.
+pub(crate) fn look_have(bytes: &[u8]) -> LookSet
+    requires { IsSpelled bytes.now }
+    ensures { result ≡ (value_of bytes.now).look_have }
+{
+    look_set_at(bytes, LOOK_HAVE)
+}
+
+/// Returns look-need.
+pub(crate) fn look_need(bytes: &[u8]) -> LookSet
+    requires { IsSpelled bytes.now }
+    ensures { result ≡ (value_of bytes.now).look_need }
+{
+    look_set_at(bytes, LOOK_NEED)
+}
+
+/// Returns the set in the four bytes at an offset.
+pub(crate) fn look_set_at(bytes: &[u8], at: usize) -> LookSet
+    requires room { at + 4 ≤ length bytes.now }
+    requires small { number_at bytes.now at < 2 ^ 18 }
+    ensures { result ≡ number_at bytes.now at }
+{
+    LookSet::from_repr(number_at(bytes, at))
+}
+
+/// Returns the number in the four bytes at an offset.
+fn number_at(bytes: &[u8], at: usize) -> u32
+    requires { at + 4 ≤ length bytes.now }
+    ensures { result ≡ number_at bytes.now at }
+{
+    u32::from_le_bytes([bytes[at], bytes[at + 1], bytes[at + 2], bytes[at + 3]])
+}
+
+/// Sets a flag of the first byte.
+pub(crate) fn set_flag<A: Allocator>(bytes: &mut Vec<u8, A>, flag: u8)
+    requires { 0 < vec_len bytes.old }
+    ensures { bytes.new.items ≡ with_bit bytes.old.items flag }
+{
+    bytes[0] |= flag;
+}
+
+/// Adds a pattern to bytes without NFA states. If `ZERO` is the first, only its flag is set, and it
+/// is made explicit when another pattern follows.
+pub(crate) fn add_pattern<A: Allocator>(bytes: &mut Vec<u8, A>, id: u32) -> Result<(), AllocError>
+    requires { IsSpelled bytes.old.items }
+    ensures ok { OnOk result (bytes.new.items ≡ with_pattern_bytes bytes.old.items id) }
+    ensures err { OnErr result (bytes.new.items ≡ bytes.old.items) }
+    ensures first { has_flag bytes.old.items 1 ≡ false → has_flag bytes.old.items 2 ≡ false
+        → id ≡ 0 → IsOk result }
+{
+    let [a, b, c, d] = id.to_le_bytes();
+    if has_flag(bytes, EXPLICIT) {
+        let count = number_at(bytes, COUNT);
+        bytes.extend_from_slice(&[a, b, c, d])?;
+        put_number(bytes, COUNT, count + 1);
+    } else if has_flag(bytes, MATCH) {
+        add_after_zero(bytes, id)?;
+    } else if id != 0 {
+        // The flags are set last, so that the bytes are unchanged on error.
+        bytes.extend_from_slice(&[1, 0, 0, 0, a, b, c, d])?;
+        set_flag(bytes, MATCH | EXPLICIT);
+    } else {
+        set_flag(bytes, MATCH);
+    }
+    Ok(())
+}
+
+/// Adds a pattern after an implicit `ZERO`, which is made explicit.
+fn add_after_zero<A: Allocator>(bytes: &mut Vec<u8, A>, id: u32) -> Result<(), AllocError>
+    requires { 0 < vec_len bytes.old }
+    ensures ok { OnOk result
+        (bytes.new.items ≡ with_bit (bytes.old.items ++ (word 2 ++ word 0 ++ word id)) 2) }
+    ensures err { OnErr result (bytes.new.items ≡ bytes.old.items) }
+{
+    let [a, b, c, d] = id.to_le_bytes();
+    bytes.extend_from_slice(&[2, 0, 0, 0, 0, 0, 0, 0, a, b, c, d])?;
+    set_flag(bytes, EXPLICIT);
+    Ok(())
+}
+
+/// Writes a number into the four bytes at an offset.
+pub(crate) fn put_number<A: Allocator>(bytes: &mut Vec<u8, A>, at: usize, number: u32)
+    requires { at + 4 ≤ vec_len bytes.old }
+    ensures items { bytes.new.items ≡ with_word bytes.old.items at number }
+    ensures len { vec_len bytes.new ≡ vec_len bytes.old }
+{
+    let [first, second, third, fourth] = number.to_le_bytes();
+    bytes[at] = first;
+    bytes[at + 1] = second;
+    bytes[at + 2] = third;
+    bytes[at + 3] = fourth;
+}
+
+/// Returns the patterns, four bytes each. If they are implicit and there is one, these are the
+/// bytes of `ZERO`.
+pub(crate) fn pattern_words(bytes: &[u8]) -> &[u8]
+    requires { IsSpelled bytes.now }
+    ensures ids { numbers_in result.now ≡ (value_of bytes.now).patterns }
+    ensures size { length result.now ≡ 4 * length (value_of bytes.now).patterns }
+    ensures small { All (λ id. id ≤ 2147483646) (numbers_in result.now) }
+    ensures few { length (numbers_in result.now) ≤ 2147483647 }
+{
+    if !has_flag(bytes, EXPLICIT) {
+        return implicit_words(bytes);
+    }
+    let size = PatternID::SIZE * number_at(bytes, COUNT) as usize;
+    let (_, rest) = bytes.split_at(PATTERNS);
+    let (ids, _) = rest.split_at(size);
+    ids
+}
+
+/// Returns the implicit patterns: the bytes of `ZERO`, or nothing.
+fn implicit_words(bytes: &[u8]) -> &[u8]
+    requires { 9 ≤ length bytes.now }
+    ensures { result.now ≡ words (if has_flag bytes.now 1 then 0 ∷ [] else []) }
+{
+    if has_flag(bytes, MATCH) {
+        &ZERO_WORD
+    } else {
+        &[]
+    }
+}
+
+/// Returns the pattern at an index, from patterns of four bytes each.
+pub(crate) fn pattern_at(words: &[u8], index: usize) -> PatternID
+    requires index { index < length (numbers_in words.now) }
+    requires small { All (λ id. id ≤ 2147483646) (numbers_in words.now) }
+    requires few { length (numbers_in words.now) ≤ 2147483647 }
+    ensures { result ≡ slice_index (numbers_in words.now) index }
+{
+    let Ok(id) = PatternID::new(number_at(words, PatternID::SIZE * index) as usize) else {
+        unreachable!()
+    };
+    id
+}
+
+/// Returns an iterator over the NFA states.
+pub(crate) fn nfa_state_ids(bytes: &[u8]) -> NfaStateIds<'_>
+    requires { IsSpelled bytes.now }
+    ensures { result ≡ (value_of bytes.now).states }
+{
+    let start = ids_start(bytes);
+    let (_, rest) = bytes.split_at(start);
+    NfaStateIds::new(rest)
+}
+
+/// Returns the offset of the NFA states.
+fn ids_start(bytes: &[u8]) -> usize
+    requires long { 9 ≤ length bytes.now }
+    requires counted { has_flag bytes.now 2 ≡ true → 13 ≤ length bytes.now }
+    ensures { result ≡ start_in bytes.now }
+{
+    if has_flag(bytes, EXPLICIT) {
+        PATTERNS + PatternID::SIZE * number_at(bytes, COUNT) as usize
+    } else {
+        COUNT
+    }
+}

@@ -1,0 +1,65 @@
+//! The debug texts of states and their builders.
+
+ghost use Rattle.determinize_state.specs.Spelling.{IsSpelled};
+
+use crate::state::nfa_state_ids::NfaStateIds;
+use crate::state::pattern_ids::PatternIds;
+use crate::state::{State, StateBuilderEmpty, StateBuilderMatches, StateBuilderNFA, bytes};
+use std::alloc::Allocator;
+use std::fmt;
+
+impl<'a> fmt::Debug for PatternIds<'a> {
+    fn fmt<W: fmt::Write>(&self, f: &mut fmt::Formatter<W>) -> fmt::Result {
+        f.debug_list().entries(self.again()).finish()
+    }
+}
+
+/// Writes the list of the remaining ids.
+impl<'a> fmt::Debug for NfaStateIds<'a> {
+    fn fmt<W: fmt::Write>(&self, f: &mut fmt::Formatter<W>) -> fmt::Result {
+        f.debug_list().entries(self.again()).finish()
+    }
+}
+
+impl<A: Allocator> fmt::Debug for State<A> {
+    fn fmt<W: fmt::Write>(&self, f: &mut fmt::Formatter<W>) -> fmt::Result {
+        write_value("State", self.bytes.as_slice(), f)
+    }
+}
+
+impl<A: Allocator> fmt::Debug for StateBuilderEmpty<A> {
+    fn fmt<W: fmt::Write>(&self, f: &mut fmt::Formatter<W>) -> fmt::Result {
+        f.debug_struct("StateBuilderEmpty").finish_non_exhaustive()
+    }
+}
+
+impl<A: Allocator> fmt::Debug for StateBuilderMatches<A> {
+    fn fmt<W: fmt::Write>(&self, f: &mut fmt::Formatter<W>) -> fmt::Result {
+        let builder = &self.builder;
+        write_value("StateBuilderMatches", builder.bytes.as_slice(), f)
+    }
+}
+
+impl<A: Allocator> fmt::Debug for StateBuilderNFA<A> {
+    fn fmt<W: fmt::Write>(&self, f: &mut fmt::Formatter<W>) -> fmt::Result {
+        write_value("StateBuilderNFA", self.bytes.as_slice(), f)
+    }
+}
+
+/// Writes the parts of an encoded value as the fields of a struct with this name.
+fn write_value<W: fmt::Write>(name: &str, bytes: &[u8], f: &mut fmt::Formatter<W>) -> fmt::Result
+    requires { IsSpelled bytes.now }
+{
+    f.debug_struct(name)
+        .field("is_match", &bytes::is_match(bytes))
+        .field("is_from_word", &bytes::is_from_word(bytes))
+        .field("is_half_crlf", &bytes::is_half_crlf(bytes))
+        .field("look_have", &bytes::look_have(bytes))
+        .field("look_need", &bytes::look_need(bytes))
+        .field(
+            "match_pattern_ids",
+            &PatternIds::new(bytes::pattern_words(bytes)),
+        )
+        .field("nfa_state_ids", &bytes::nfa_state_ids(bytes))
+        .finish()
+}

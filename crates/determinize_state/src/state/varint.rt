@@ -1,0 +1,146 @@
+//! The encoding of NFA states: differences of consecutive ids as zigzag varints.
+//!
+//! Zigzag maps a signed difference to an unsigned number, so that a small difference of either sign
+//! is a small number. A varint has 7 bits per byte, the low ones first; the top bit of a byte says
+//! that another follows. A number below 128 is the common case and has a separate path, which is
+//! inlined.
+
+ghost use Rattle.std.specs.Prelude.{◌≡◌, ◌+◌, ◌%◌, ◌≤◌, [], ◌∷◌, ◌++◌, length, take, option_map, IfNone, IfSome, OnErr, OnOk};
+ghost use Rattle.determinize_state.specs.Varint as format;
+ghost use Rattle.determinize_state.specs.Private.Groups.{read};
+ghost use Rattle.determinize_state.specs.Varint.{unzigzag, ids_from, IsDeltas};
+
+use determinize_below::StateID;
+use std::alloc::{AllocError, Allocator};
+
+/// Returns the difference between two ids as an unsigned number: even for a difference of 0 or
+/// more, odd for a negative one.
+#[inline(always)]
+pub(crate) fn zigzag(from: StateID, to: StateID) -> u32
+    ensures value { result ≡ format.zigzag from to }
+    ensures small { to ≤ 2147483646 }
+{
+    let from = from.as_u32();
+    let to = to.as_u32();
+    if from <= to {
+        2 * (to - from)
+    } else {
+        2 * (from - to) - 1
+    }
+}
+
+/// Appends a number as a varint. On error the bytes are unchanged.
+#[tactic(auto, unfolding(crate::specs::Varint::varint))]
+#[inline(always)]
+pub(crate) fn write<A: Allocator>(bytes: &mut Vec<u8, A>, number: u32) -> Result<(), AllocError>
+    ensures ok { OnOk result (bytes.new.items ≡ bytes.old.items ++ format.varint number) }
+    ensures err { OnErr result (bytes.new.items ≡ bytes.old.items) }
+{
+    if number < 128 {
+        bytes.push(number as u8)?;
+        return Ok(());
+    }
+    write_groups(bytes, number)
+}
+
+/// Appends a number of any size. On error the bytes are unchanged.
+#[cold]
+fn write_groups<A: Allocator>(bytes: &mut Vec<u8, A>, number: u32) -> Result<(), AllocError>
+    ensures ok { OnOk result (bytes.new.items ≡ bytes.old.items ++ format.varint number) }
+    ensures err { OnErr result (bytes.new.items ≡ bytes.old.items) }
+{
+    let before = bytes.len();
+    let pushed = push_groups(bytes, number);
+    if pushed.is_err() {
+        bytes.truncate(before);
+    }
+    pushed
+}
+
+/// Appends the groups of a number, the low one first. On error some of them may have been appended.
+fn push_groups<A: Allocator>(bytes: &mut Vec<u8, A>, number: u32) -> Result<(), AllocError>
+    ensures ok { OnOk result (bytes.new.items ≡ bytes.old.items ++ format.varint number) }
+    ensures begins { take (length bytes.old.items) bytes.new.items ≡ bytes.old.items }
+{
+    let mut rest = number;
+    while rest >= 128 {
+        bytes.push(more(rest))?;
+        rest /= 128;
+    }
+    bytes.push(rest as u8)?;
+    Ok(())
+}
+
+/// Returns the low 7 bits as a group that another follows.
+fn more(number: u32) -> u8
+    ensures { result ≡ 128 + number % 128 }
+{
+    128 + (number % 128) as u8
+}
+
+/// Decodes one id after `from`. Returns it with the remaining bytes, or `None` at the end.
+#[inline(always)]
+pub(crate) fn first_id(from: u32, bytes: &[u8]) -> Option<(StateID, &[u8])>
+    requires { IsDeltas from bytes.now }
+    ensures none { IfNone result (ids_from from 0 1 bytes.now ≡ []) }
+    ensures some { IfSome result (λ r. ids_from from 0 1 bytes.now ≡ r.0 ∷ ids_from r.0 0 1 r.1.now) }
+    ensures rest { IfSome result (λ r. IsDeltas r.0 r.1.now) }
+{
+    match read_number(bytes) {
+        None => None,
+        Some((number, after)) => Some((id_after(from, number), after)),
+    }
+}
+
+/// Decodes one varint. Returns it with the remaining bytes, or `None` at the end.
+#[inline(always)]
+fn read_number(bytes: &[u8]) -> Option<(u64, &[u8])>
+    ensures { option_map (λ r. (r.0, r.1.now)) result ≡ read 0 1 bytes.now }
+{
+    let (byte, after) = bytes.split_first()?;
+    if *byte < 128 {
+        return Some((*byte as u64, after));
+    }
+    read_groups(bytes)
+}
+
+/// Decodes one varint of any size. Returns `None` if the bytes end within it or it has more than
+/// five groups.
+#[cold]
+fn read_groups(bytes: &[u8]) -> Option<(u64, &[u8])>
+    ensures { option_map (λ r. (r.0, r.1.now)) result ≡ read 0 1 bytes.now }
+{
+    let mut low = 0u64;
+    let mut weight = 1u64;
+    let mut rest = bytes;
+    while let Some((byte, after)) = rest.split_first() {
+        // A number of 32 bits has at most five groups.
+        if weight > 268435456 {
+            return None;
+        }
+        let byte = *byte as u64;
+        if byte < 128 {
+            return Some((low + weight * byte, after));
+        }
+        low += weight * (byte - 128);
+        weight *= 128;
+        rest = after;
+    }
+    None
+}
+
+/// Returns the id whose difference to `from` is this number.
+#[inline(always)]
+fn id_after(from: u32, number: u64) -> StateID
+    requires from { from ≤ 2147483646 }
+    requires small { unzigzag from number ≤ 2147483646 }
+    requires back { number ≡ format.zigzag from (unzigzag from number) }
+    ensures { result ≡ unzigzag from number }
+{
+    let id = if number % 2 == 0 {
+        from as u64 + number / 2
+    } else {
+        from as u64 - (number + 1) / 2
+    };
+    StateID::must(id as usize)
+}

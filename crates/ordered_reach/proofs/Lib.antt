@@ -1,0 +1,5 @@
+pub mod Cases
+pub mod Common
+pub mod graph
+pub mod lists
+pub mod runs

@@ -1,0 +1,12 @@
+pub mod ClosedSets
+pub mod FiniteGraphs
+pub mod FiniteReach
+pub mod Fuel
+pub mod LeastPaths
+pub mod PathLists
+pub mod RepeatedSearch
+pub mod RootByRoot
+pub mod SameSearch
+pub mod SearchBound
+pub mod StackSearch
+pub mod UniqueOrder

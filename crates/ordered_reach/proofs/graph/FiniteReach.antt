@@ -1,0 +1,34 @@
+-- The laws of the depth-first search in a graph on numbers below a bound.
+-- Main statements: each_reach_is_in_order, each_reach_is_one, each_reach_is_in_turn.
+-- Used by: the functions of `laws`.
+-- Idea: LeastPaths, UniqueOrder and RootByRoot with the fuel of FiniteGraphs.
+use Rattle.ordered_reach.proofs.Common.{[], arith, false≢true, IsInOrderOfReach, LeadsBelow, List, member, nat_eq, none_held, ordered, subst, suc, ℕ, ◌+◌, ◌≡◌}
+use Rattle.ordered_reach.specs.Laws.{EachReachIsInOrder, EachReachIsInTurn, EachReachIsOne}
+use Rattle.ordered_reach.proofs.graph.ClosedSets.{IsEnough, IsEnough-more_held}
+use Rattle.ordered_reach.proofs.graph.FiniteGraphs.{IsEnough-below, same_decides}
+use Rattle.ordered_reach.proofs.graph.LeastPaths.{ordered_in_order}
+use Rattle.ordered_reach.proofs.graph.RootByRoot.{ordered_in_turn}
+use Rattle.ordered_reach.proofs.graph.UniqueOrder.{one_order}
+
+module _ (edges : ℕ → List ℕ) (count : ℕ) (h : LeadsBelow edges count) where
+  enough : (held : List ℕ) (r : ℕ) → IsEnough nat_eq edges (count + 1) (member nat_eq held) r
+  enough held r = let z : suc count ≡ count + 1 = omega arith in
+      subst (λ n. IsEnough nat_eq edges n (member nat_eq held) r) z
+      (IsEnough-more_held same_decides edges (suc count) none_held (member nat_eq held) r (λ y w. absurd (false≢true w))
+      (IsEnough-below edges count h r))
+
+  in_order : (held roots : List ℕ)
+      → IsInOrderOfReach edges held roots (ordered nat_eq edges (count + 1) (member nat_eq held) roots)
+  in_order held roots = ordered_in_order same_decides edges (count + 1) held roots (enough held)
+
+pub each_reach_is_in_order : EachReachIsInOrder
+each_reach_is_in_order = in_order
+
+pub each_reach_is_one : EachReachIsOne
+each_reach_is_one edges count h held roots xs is =
+    one_order same_decides edges held roots xs (ordered nat_eq edges (count + 1) (member nat_eq held) roots) is
+    (in_order edges count h held roots)
+
+pub each_reach_is_in_turn : EachReachIsInTurn
+each_reach_is_in_turn edges count h held roots =
+    ordered_in_turn same_decides edges (count + 1) (enough edges count h []) held roots

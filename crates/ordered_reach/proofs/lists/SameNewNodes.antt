@@ -1,0 +1,54 @@
+-- Lists with the same new nodes in the same order, apart from the nodes of a set.
+-- Main statements: Alike, Alike-flat_map, Alike-front.
+-- Used by: RepeatedSearch.
+-- Idea: the relation is kept by concatenation, so it can be shown root by root.
+use Rattle.ordered_reach.proofs.Common.{[], ap, append-nil, arith, Bool, by_test, Decides, false, flat_map, fresh, joined, List, member, not, or_left, or_more, or_right, refl, sym, true, ◌&&◌, ◌++◌, ◌||◌, ◌∙◌, ◌∷◌, ◌≡◌}
+use Rattle.ordered_reach.proofs.lists.NewNodes.{eq-self, fresh-append, fresh-same, fresh_none, member-fresh}
+
+-- the lists have the same new nodes in the same order, for every seen set that contains c
+abbrev pub Alike : {N : Type 0} → (N → N → Bool) → (N → Bool) → List N → List N → Type 0
+Alike {N} eq c xs ys = (seen : N → Bool) → ((x : N) → c x ≡ true → seen x ≡ true) → fresh eq seen xs ≡ fresh eq seen ys
+
+module _ {N : Type 0} {eq : N → N → Bool} (dec : (a b : N) → Decides (eq a b) (a ≡ b)) where
+  Alike-member : (c : N → Bool) (xs ys : List N) → Alike eq c xs ys → (x : N) → c x ≡ false
+      → member eq xs x ≡ member eq ys x
+  Alike-member c xs ys h x e =
+      let p : (member eq xs x && not (c x)) ≡ (member eq ys x && not (c x)) =
+      sym (member-fresh dec c xs x) ∙ ap (λ l. member eq l x) (h c (λ y m. m)) ∙ member-fresh dec c ys x in
+      drop_not (member eq xs x) (member eq ys x) (c x) e p
+    where
+      drop_not : (a b c : Bool) → c ≡ false → (a && not c) ≡ (b && not c) → a ≡ b
+      drop_not a b c e p = grind arith
+
+  Alike-append : (c : N → Bool) (xs xs' ys ys' : List N) → Alike eq c xs xs' → Alike eq c ys ys'
+      → Alike eq c (xs ++ ys) (xs' ++ ys')
+  Alike-append c xs xs' ys ys' h k seen s =
+      fresh-append dec seen xs ys
+      ∙ ap (λ l. l ++ fresh eq (joined (member eq xs) seen) ys) (h seen s)
+      ∙ ap (λ l. fresh eq seen xs' ++ l)
+      (fresh-same dec _ _ ys (λ x. by_test (c x)
+      (λ e. rw (s x e) (or_true (member eq xs x) (member eq xs' x)))
+      (λ e. ap (λ b. b || seen x) (Alike-member c xs xs' h x e)))
+      ∙ k (joined (member eq xs') seen) (λ x m. or_right (member eq xs' x) (seen x) (s x m)))
+      ∙ sym (fresh-append dec seen xs' ys')
+    where
+      or_true : (a b : Bool) → (a || true) ≡ (b || true)
+      or_true a b = grind arith
+
+  pub Alike-flat_map : (c : N → Bool) (f g : N → List N) (xs : List N)
+      → ((x : N) → member eq xs x ≡ true → Alike eq c (f x) (g x)) → Alike eq c (flat_map f xs) (flat_map g xs)
+  Alike-flat_map c f g [] h = λ seen s. refl
+  Alike-flat_map c f g (x ∷ xs) h =
+      Alike-append c (f x) (g x) (flat_map f xs) (flat_map g xs)
+      (h x (or_left (eq x x) (member eq xs x) (eq-self dec x)))
+      (Alike-flat_map c f g xs (λ y m. h y (or_right (eq x y) (member eq xs y) m)))
+
+  -- the elements of the first list add nothing after it
+  pub Alike-front : (c : N → Bool) (xs ys : List N) → ((x : N) → member eq ys x ≡ true → (member eq xs x || c x) ≡ true)
+      → Alike eq c (xs ++ ys) xs
+  Alike-front c xs ys h seen s =
+      fresh-append dec seen xs ys
+      ∙ ap (λ l. fresh eq seen xs ++ l)
+      (fresh_none dec (joined (member eq xs) seen) ys
+      (λ x m. or_more (member eq xs x) (c x) (seen x) (s x) (h x m)))
+      ∙ append-nil (fresh eq seen xs)

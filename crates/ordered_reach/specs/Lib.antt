@@ -1,0 +1,5 @@
+pub mod Laws
+pub mod Paths
+pub mod Reach
+pub mod Runs
+pub mod StackSearch

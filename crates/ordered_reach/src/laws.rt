@@ -1,0 +1,18 @@
+//! Laws of depth-first search in a graph, as contracts of public functions.
+
+ghost use Rattle.std.specs.Prelude.{◌≡◌, nat_eq, [], ◌∷◌};
+ghost use Rattle.ordered_reach.specs.Laws.{EachReachIsInOrder, EachReachIsInTurn, EachReachIsOne, small_graph};
+ghost use Rattle.ordered_reach.specs.Reach.{member, none_held, ordered};
+
+/// States that the computed depth-first search of a graph on numbers, whose edges go below some
+/// bound, returns the one list of the reachable nodes in the order of their least paths, and that
+/// it can be computed root by root. Three small examples follow.
+pub fn reach_law()
+    ensures in_order { EachReachIsInOrder }
+    ensures only { EachReachIsOne }
+    ensures in_turn { EachReachIsInTurn }
+    ensures row { ordered nat_eq small_graph 5 none_held (0 ∷ []) ≡ 0 ∷ 1 ∷ 2 ∷ 3 ∷ [] }
+    ensures row_held { ordered nat_eq small_graph 5 (member nat_eq (1 ∷ [])) (0 ∷ []) ≡ 0 ∷ 3 ∷ [] }
+    ensures row_roots { ordered nat_eq small_graph 5 none_held (2 ∷ 7 ∷ 1 ∷ [])
+        ≡ 2 ∷ 0 ∷ 1 ∷ 3 ∷ 7 ∷ [] }
+{}

@@ -1,0 +1,26 @@
+//! Searches whose results were worked out by hand, or are those of another search.
+
+mod classes;
+mod dfa;
+mod find;
+mod find_jobs;
+mod uses;
+
+use determinize_below::{HalfMatch, PatternID};
+use std::fmt::Debug;
+use std::process::Abort;
+
+/// Asserts that two values are equal.
+pub fn same<R: Abort, T: PartialEq + Debug + Copy>(rt: &R, found: T, wanted: T) {
+    assert_eq!(rt; found, wanted);
+}
+
+/// Asserts a condition.
+pub fn holds<R: Abort>(rt: &R, is_so: bool) {
+    assert!(rt; is_so);
+}
+
+/// Returns the match of pattern 0 that ends at this offset.
+pub fn ended(offset: usize) -> Option<HalfMatch> {
+    Some(HalfMatch::new(PatternID::ZERO, offset))
+}

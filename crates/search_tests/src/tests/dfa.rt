@@ -1,0 +1,110 @@
+//! A whole DFA, built and run by `determinize_uses::dfa`.
+
+use crate::tests::{holds, same};
+use determinize_below::{HalfMatch, LookMatcher, MatchKind, NFA, PatternID, StateID};
+use determinize_replay::error::JobError;
+use determinize_replay::nfas;
+use determinize_uses::dfa::{Dfa, build};
+use failing_alloc::{FailingAllocator, Outcome, fail_each_allocation};
+use std::alloc::Global;
+use std::process::Abort;
+use std::test::Fail;
+
+/// The states of `foo[0-9]+|bar`, as the original compiles it without captures: state 2 is the
+/// anchored start, and state 0 begins the prefix `(?s-u:.)*?`. Both alternates, and the union of
+/// the repetition, go to the one `Match` state.
+const FOO_OR_BAR: &str = "\
+BU:2,1 B:00-ff>0 BU:3,8 B:66>4 B:6f>5 B:6f>6 B:30-39>7 BU:6,11 B:62>9 B:61>10 B:72>11 M:0";
+
+/// Returns the NFA of these states, with the anchored start `anchored` and the unanchored start 0.
+fn nfa(alloc: Global, states: &str, anchored: StateID) -> Result<NFA, JobError> {
+    let states = nfas::states(alloc, states)?;
+    let matcher = LookMatcher::new();
+    let nfa = NFA::from_parts(alloc, states, anchored, StateID::ZERO, false, matcher)?;
+    Ok(nfa)
+}
+
+/// The texts that each DFA is run over.
+static TEXTS: [&str; 6] = ["foo12", "xfoo9y", "bar", "ba", "", "barfoo1"];
+
+/// Runs a DFA and compares the ends of its matches.
+fn run(rt: &impl Abort, dfa: &Dfa, ends: [Option<usize>; 6]) {
+    for (text, end) in TEXTS.iter().zip(ends) {
+        let wanted = end.map(|end| HalfMatch::new(PatternID::ZERO, end));
+        same(
+            rt,
+            (*text, dfa.last_match(text.as_bytes())),
+            (*text, wanted),
+        );
+    }
+}
+
+/// Builds a DFA with this number of states from one of the two starts, and runs it. It is not built
+/// if the limit is one state less.
+fn build_and_run<R: Abort + AllocGlobal>(
+    rt: &R,
+    nfa: &NFA,
+    kind: MatchKind,
+    is_anchored: bool,
+    count: usize,
+    ends: [Option<usize>; 6],
+) -> Result<(), Fail> {
+    let start = if is_anchored {
+        nfa.start_anchored()
+    } else {
+        nfa.start_unanchored()
+    };
+    let fewer = count.saturating_sub(1);
+    holds(rt, build(rt.alloc(), nfa, kind, start, fewer)?.is_none());
+    let Some(dfa) = build(rt.alloc(), nfa, kind, start, count)? else {
+        panic!(rt; "more than {count} states");
+    };
+    same(rt, dfa.states.len(), count);
+    run(rt, &dfa, ends);
+    Ok(())
+}
+
+/// Nine states are before the end of a match: the dead one, and those after nothing, `f`, `fo`,
+/// `foo`, `foo0`, `b`, `ba` and `bar`. Two are match states, after a digit that continues the match
+/// and after any other unit. Unanchored searches for the preferred match have the same number,
+/// since the prefix is dropped after a match. In unanchored searches for all matches five are match
+/// states: after a digit that continues the match, `f`, `b`, any other byte, and EOI.
+#[test]
+fn dfas(rt: HostRuntime) -> Result<(), Fail> {
+    let nfa = nfa(rt.alloc(), FOO_OR_BAR, StateID::must(2))?;
+    let anchored = [Some(5), None, Some(3), None, None, Some(3)];
+    let first = [Some(5), Some(5), Some(3), None, None, Some(3)];
+    let all = [Some(5), Some(5), Some(3), None, None, Some(7)];
+    for (kind, is_anchored, count, ends) in [
+        (MatchKind::All, true, 11, anchored),
+        (MatchKind::LeftmostFirst, true, 11, anchored),
+        (MatchKind::LeftmostFirst, false, 11, first),
+        (MatchKind::All, false, 14, all),
+    ] {
+        build_and_run(&rt, &nfa, kind, is_anchored, count, ends)?;
+    }
+    Ok(())
+}
+
+/// Builds the DFA of a loop over the byte `a`, which has two states.
+fn build_loop<R: Abort + AllocGlobal>(
+    rt: &R,
+    heap: &FailingAllocator<Global>,
+) -> Result<bool, Fail> {
+    let nfa = nfa(rt.alloc(), "B:61>0", StateID::ZERO)?;
+    heap.begin();
+    let built = build(heap, &nfa, MatchKind::All, nfa.start_anchored(), 2);
+    heap.end();
+    let Ok(dfa) = built else {
+        return Ok(false);
+    };
+    same(rt, dfa.map(|dfa| dfa.states.len()), Some(2));
+    Ok(true)
+}
+
+#[test]
+fn under_refusals(rt: HostRuntime) -> Result<(), Fail> {
+    let outcome = fail_each_allocation(rt.alloc(), |heap| build_loop(&rt, heap))?;
+    same(&rt, outcome, Outcome::Sound);
+    Ok(())
+}

@@ -1,0 +1,230 @@
+//! Runs of each caller, and NFAs of a `Builder`.
+
+ghost use Rattle.std.specs.Prelude.{◌≡◌};
+ghost use Rattle.determinize_below.specs.declared.search.MatchKind.TheVariants as kinds;
+
+use crate::tests::{ended, holds, same};
+use determinize_below::{
+    BuildError, Input, Look, LookMatcher, MatchKind, NFA, StateID, Transition,
+};
+use determinize_core::start::Start;
+use determinize_find::Builder;
+use determinize_lazy::Lazy;
+use determinize_uses::{cache, input, lexer, nfa, readme, scanner, search, values, walk};
+use std::alloc::Allocator;
+use std::process::Abort;
+use std::test::Fail;
+
+#[test]
+fn small_values(rt: HostRuntime) -> Result<(), Fail> {
+    let ids: Vec<StateID> = values::ids(rt.alloc())?.iter().collect(rt.alloc())?;
+    same(
+        &rt,
+        ids.as_slice(),
+        [StateID::must(3), StateID::must(1)].as_slice(),
+    );
+    let set = values::assertions();
+    holds(&rt, set.contains_word() && set.contains_anchor_line());
+    holds(&rt, !set.contains_anchor_haystack());
+    let mut matcher = LookMatcher::new();
+    let input = Input::new(b"\nabc");
+    same(&rt, values::start_kind(&matcher, &input), Start::Text);
+    let input = input.range(1..4);
+    same(&rt, values::start_kind(&matcher, &input), Start::LineLF);
+    let input = input.range(2..4);
+    same(&rt, values::start_kind(&matcher, &input), Start::WordByte);
+    matcher.set_line_terminator(b'a');
+    same(
+        &rt,
+        values::start_kind(&matcher, &input),
+        Start::CustomLineTerminator,
+    );
+    let state = values::state(rt.alloc())?;
+    let bytes = b"\x07\0\0\0\0\x40\0\0\0\x02\0\0\0\x01\0\0\0\0\0\0\0\x02\x04\x01";
+    same(&rt, state.as_bytes(), bytes.as_slice());
+    Ok(())
+}
+
+/// The closure of the start of `[0-9]+` is that state, and that of the unanchored start has two
+/// more.
+#[test]
+fn closures(rt: HostRuntime) -> Result<(), Fail> {
+    let nfa = nfa::digits(rt.alloc(), false)?;
+    let ids: Vec<StateID> = values::closure(rt.alloc(), &nfa, nfa.start_anchored())?
+        .iter()
+        .collect(rt.alloc())?;
+    same(&rt, ids.as_slice(), [StateID::must(2)].as_slice());
+    let ids: Vec<StateID> = values::closure(rt.alloc(), &nfa, nfa.start_unanchored())?
+        .iter()
+        .collect(rt.alloc())?;
+    let wanted = [StateID::ZERO, StateID::must(2), StateID::must(1)];
+    same(&rt, ids.as_slice(), wanted.as_slice());
+    Ok(())
+}
+
+#[test]
+fn first_search(rt: HostRuntime) -> Result<(), Fail> {
+    let (nfa, text) = (readme::digits(rt.alloc())?, b"a12");
+    let mut first = Lazy::new(rt.alloc(), &nfa, MatchKind::LeftmostFirst, 100);
+    same(&rt, first.search_input(&Input::new(text))?, ended(3));
+    let mut all = Lazy::new(rt.alloc(), &nfa, MatchKind::All, 100);
+    let states = all.walk(all.nfa().start_unanchored(), None, text)?;
+    for (position, state) in states.iter().skip(1).enumerate() {
+        holds(&rt, state.match_pattern_ids()?.is_some() == (position > 1));
+    }
+    Ok(())
+}
+
+/// Returns the NFA of `(?m)^[a-cx]$`, where `;` ends a line.
+fn lines<A: Allocator + Copy>(alloc: A) -> Result<NFA<A>, BuildError> {
+    let mut builder = Builder::new(alloc);
+    let mut matcher = LookMatcher::new();
+    matcher.set_line_terminator(b';');
+    builder.set_look_matcher(matcher);
+    let done = builder.add_match()?;
+    let end = builder.add_look(done, Look::EndLF)?;
+    let letters = builder.add_sparse(&[over(b'a', b'c', end), over(b'x', b'x', end)])?;
+    let joint = builder.add_empty()?;
+    builder.patch(joint, letters)?;
+    let start = builder.add_look(joint, Look::StartLF)?;
+    let fail = builder.add_fail()?;
+    let either = builder.add_union(&[fail, start])?;
+    builder.build_with_prefix(either)
+}
+
+/// Returns the transition to `next` on each byte from `start` to `end`.
+fn over(start: u8, end: u8, next: StateID) -> Transition {
+    Transition { start, end, next }
+}
+
+#[test]
+fn builds(rt: HostRuntime) -> Result<(), Fail> {
+    let nfa = lines(rt.alloc())?;
+    same(&rt, (nfa.len(), nfa.pattern_len()), (9, 1));
+    let mut lazy = Lazy::new(rt.alloc(), &nfa, MatchKind::LeftmostFirst, 100);
+    let found = lazy.search_input(&Input::new(b"ab;d;x;c"))?;
+    same(&rt, found, ended(6));
+    Ok(())
+}
+
+#[test]
+fn builds_no_bad_prefix(rt: HostRuntime) -> Result<(), Fail> {
+    let none = Builder::new(rt.alloc()).build_with_prefix(StateID::ZERO);
+    holds(&rt, matches!(&none, Err(BuildError::UnresolvedStart)));
+    // The two states of the prefix, and the first id after them.
+    for id in 1..4usize {
+        let mut builder = Builder::new(rt.alloc());
+        let first = builder.add_range(over(0, 255, StateID::must(id)))?;
+        let early = builder.build_with_prefix(first);
+        holds(&rt, matches!(&early, Err(BuildError::UnresolvedId(0))));
+    }
+    Ok(())
+}
+
+#[test]
+fn walks(rt: HostRuntime) -> Result<(), Fail> {
+    let nfa = nfa::digits(rt.alloc(), false)?;
+    let text = b"ab 42 c";
+    let found = walk::preferred(rt.alloc(), &nfa, nfa.start_unanchored(), text)?;
+    same(&rt, found, ended(5));
+    let found = walk::preferred(rt.alloc(), &nfa, nfa.start_anchored(), text)?;
+    same(&rt, found, None);
+    Ok(())
+}
+
+#[test]
+fn searches(rt: HostRuntime) -> Result<(), Fail> {
+    let nfa = nfa::digits(rt.alloc(), false)?;
+    let texts: [&[u8]; 4] = [b"42 c", b"ab", b"7", b""];
+    for limit in [0, 2, 100] {
+        let found = search::matches(rt.alloc(), &nfa, &texts, limit)?;
+        let wanted = [ended(2), None, ended(1), None];
+        same(&rt, found.as_slice(), wanted.as_slice());
+    }
+    Ok(())
+}
+
+/// Returns whether a match ends at the end of the text, by a walk through the cache.
+fn is_match_at_the_end(rt: &impl Abort, lazy: &mut Lazy<'_>, text: &[u8]) -> Result<bool, Fail>
+    requires { lazy.old.kind ≡ kinds.All }
+    ensures { lazy.new.kind ≡ lazy.old.kind }
+{
+    match cache::at_the_end(lazy, text)? {
+        Some(state) => Ok(state.is_match()),
+        None => panic!(rt; "a walk has states"),
+    }
+}
+
+/// Walks twice through one cache: over a text with a match at its end, and over one without.
+fn expect_walks(rt: &impl Abort, lazy: &mut Lazy<'_>) -> Result<(), Fail>
+    requires { lazy.old.kind ≡ kinds.All }
+{
+    holds(rt, is_match_at_the_end(rt, lazy, b"42")?);
+    holds(rt, !is_match_at_the_end(rt, lazy, b"4x")?);
+    Ok(())
+}
+
+#[test]
+fn walks_through_a_cache(rt: HostRuntime) -> Result<(), Fail> {
+    let nfa = nfa::digits(rt.alloc(), false)?;
+    let mut lazy = Lazy::new(rt.alloc(), &nfa, MatchKind::All, 100);
+    expect_walks(&rt, &mut lazy)
+}
+
+/// Searches for both ends of a match, of a number in the middle of a text and where there is none.
+fn expect_spans(
+    rt: &impl Abort,
+    forward: &mut Lazy<'_>,
+    backward: &mut Lazy<'_>,
+) -> Result<(), Fail> {
+    holds(
+        rt,
+        input::span(forward, backward, b"ab 42 c")? == Some(3..5),
+    );
+    holds(rt, input::span(forward, backward, b"ab")?.is_none());
+    holds(rt, input::contains(forward, b"ab 42 c")?);
+    holds(rt, !input::contains(forward, b"ab")?);
+    Ok(())
+}
+
+/// Searches through a cache for each of the two NFAs.
+fn search_inputs<R: Abort + AllocGlobal>(
+    rt: &R,
+    forward: &NFA,
+    backward: &NFA,
+) -> Result<(), Fail> {
+    let mut forward = Lazy::new(rt.alloc(), forward, MatchKind::LeftmostFirst, 100);
+    let mut backward = Lazy::new(rt.alloc(), backward, MatchKind::All, 100);
+    expect_spans(rt, &mut forward, &mut backward)
+}
+
+#[test]
+fn searches_of_inputs(rt: HostRuntime) -> Result<(), Fail> {
+    let forward = nfa::digits(rt.alloc(), false)?;
+    let backward = nfa::digits(rt.alloc(), true)?;
+    search_inputs(&rt, &forward, &backward)
+}
+
+#[test]
+fn all_matches(rt: HostRuntime) -> Result<(), Fail> {
+    let nfa = nfa::digits(rt.alloc(), false)?;
+    let found = scanner::matches(rt.alloc(), &nfa, b"ab 42 c7")?;
+    same(&rt, found.len(), 2);
+    for (found, range) in found.iter().zip([3..5, 7..8]) {
+        holds(&rt, found.range() == range);
+    }
+    Ok(())
+}
+
+/// Splits a text into the longest numbers, up to the first byte that begins none.
+#[test]
+fn longest_tokens(rt: HostRuntime) -> Result<(), Fail> {
+    let nfa = nfa::digits(rt.alloc(), false)?;
+    let mut lazy = Lazy::new(rt.alloc(), &nfa, MatchKind::All, 100);
+    let found = lexer::tokens(rt.alloc(), &mut lazy, b"427 c")?;
+    same(&rt, found.len(), 1);
+    for token in &found {
+        holds(&rt, token.range() == (0..3));
+    }
+    Ok(())
+}
