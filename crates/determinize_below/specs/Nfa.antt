@@ -7,7 +7,7 @@ use Rattle.determinize_below.specs.Semantics.{Nfa, Node, ByteRange, Sparse, Dens
 use Rattle.determinize_below.specs.Transition.{is_ascending}
 use Rattle.determinize_below.specs.Look as looks
 use Rattle.determinize_below.specs.declared.nfa.BuildError.{BuildError}
-use Rattle.determinize_below.specs.declared.nfa.BuildError.TheVariants as refusal
+use Rattle.determinize_below.specs.declared.nfa.BuildError.TheVariants as errors
 
 -- whether each id in the state is below the number of states
 abbrev pub resolves : ℕ → Node → Bool
@@ -52,10 +52,10 @@ is_repeated earlier node = repeats (λ pattern. list_any (is_match_of pattern) e
 -- the first error of the state at `index`, given whether it repeats a pattern
 abbrev pub failure_of : ℕ → Bool → ℕ → Node → Option BuildError
 failure_of count repeated index node =
-    if not (resolves count node) then Some (refusal.UnresolvedId index)
-    else (if not (is_sparse_sound node) then Some (refusal.BadSparse index)
-    else (if not (is_dense_sound node) then Some (refusal.BadDense index)
-    else (if repeated then Some (refusal.RepeatedPattern index) else None)))
+    if not (resolves count node) then Some (errors.UnresolvedId index)
+    else (if not (is_sparse_sound node) then Some (errors.BadSparse index)
+    else (if not (is_dense_sound node) then Some (errors.BadDense index)
+    else (if repeated then Some (errors.RepeatedPattern index) else None)))
 
 -- the first error of the state at `index`, given the earlier states
 abbrev pub state_failure : ℕ → List Node → ℕ → Node → Option BuildError
@@ -70,8 +70,8 @@ states_failure count earlier index (node ∷ rest) =
 -- the first error of all
 abbrev pub failure : List Node → ℕ → ℕ → Option BuildError
 failure states anchored unanchored =
-    if nat_lt 2147483647 (length states) then Some refusal.TooManyStates
-    else (if not (nat_lt anchored (length states) && nat_lt unanchored (length states)) then Some refusal.UnresolvedStart
+    if nat_lt 2147483647 (length states) then Some errors.TooManyStates
+    else (if not (nat_lt anchored (length states) && nat_lt unanchored (length states)) then Some errors.UnresolvedStart
     else states_failure (length states) [] 0 states)
 
 -- the set with the assertion of the state added

@@ -55,7 +55,7 @@ impl From<AllocError> for BuildError {
 
     ghost from_gives = { λ _ e. e ≡ OutOfMemory };
 
-    fn from(_refused: AllocError) -> BuildError {
+    fn from(_error: AllocError) -> BuildError {
         BuildError::OutOfMemory
     }
 }
@@ -65,7 +65,7 @@ impl<T: Drop> From<AllocFailed<T>> for BuildError {
 
     ghost from_gives = { λ _ e. e ≡ OutOfMemory };
 
-    fn from(_refused: AllocFailed<T>) -> BuildError {
+    fn from(_error: AllocFailed<T>) -> BuildError {
         BuildError::OutOfMemory
     }
 }
@@ -76,15 +76,15 @@ impl From<StateIDError> for BuildError {
 
     ghost from_gives = { λ _ e. e ≡ TooManyStates };
 
-    fn from(_refused: StateIDError) -> BuildError {
+    fn from(_error: StateIDError) -> BuildError {
         BuildError::TooManyStates
     }
 }
 
 impl fmt::Display for BuildError {
-    ghost use Rattle.determinize_below.specs.Messages.{build_refusal};
+    ghost use Rattle.determinize_below.specs.Messages.{build_message};
 
-    ghost output = { λ e. Some (build_refusal e) };
+    ghost output = { λ e. Some (build_message e) };
 
     fn fmt<W: fmt::Write>(&self, f: &mut fmt::Formatter<W>) -> fmt::Result {
         match self {

@@ -60,10 +60,10 @@ impl StateIDError {
 }
 
 impl fmt::Display for StateIDError {
-    ghost use Rattle.determinize_below.specs.Messages.{state_id_refusal};
+    ghost use Rattle.determinize_below.specs.Messages.{state_id_message};
     ghost use Rattle.std.specs.Prelude.{Some};
 
-    ghost output = { λ n. Some (state_id_refusal n) };
+    ghost output = { λ n. Some (state_id_message n) };
 
     fn fmt<W: fmt::Write>(&self, f: &mut fmt::Formatter<W>) -> fmt::Result {
         let attempted = self.attempted;
@@ -175,10 +175,10 @@ impl PatternIDError {
 }
 
 impl fmt::Display for PatternIDError {
-    ghost use Rattle.determinize_below.specs.Messages.{pattern_id_refusal};
+    ghost use Rattle.determinize_below.specs.Messages.{pattern_id_message};
     ghost use Rattle.std.specs.Prelude.{Some};
 
-    ghost output = { λ n. Some (pattern_id_refusal n) };
+    ghost output = { λ n. Some (pattern_id_message n) };
 
     fn fmt<W: fmt::Write>(&self, f: &mut fmt::Formatter<W>) -> fmt::Result {
         let attempted = self.attempted;

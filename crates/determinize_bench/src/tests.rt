@@ -7,11 +7,11 @@
 //! makes an NFA and a cache lends them to another one as its last call.
 
 mod below;
+mod invalid_jobs;
 mod laws;
 mod lazy;
 mod map_text;
 mod parts;
-mod refusals;
 mod rows;
 mod runs;
 mod searches;

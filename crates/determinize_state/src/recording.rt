@@ -70,10 +70,10 @@ pub fn add_nfa_states<N: Allocator, A: Allocator>(
     ensures err { OnErr result (builder.new ≡ builder.old) }
 {
     let mark = builder.mark();
-    if let Err(refused) = add_states(nfa, set, builder) {
+    if let Err(error) = add_states(nfa, set, builder) {
         // Only NFA states and look-need have changed since the mark.
         builder.restore(mark);
-        return Err(refused);
+        return Err(error);
     }
     builder.settle();
     Ok(())

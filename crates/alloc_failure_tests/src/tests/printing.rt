@@ -31,7 +31,7 @@ fn print<R: Abort + AllocGlobal>(
 
 /// The last run has no failed allocation, and prints the walk.
 #[test]
-fn prints_each_walk_or_tells_of_want_of_memory(rt: HostRuntime) -> Result<(), Fail> {
+fn prints_each_walk_or_fails_to_allocate(rt: HostRuntime) -> Result<(), Fail> {
     for example in examples() {
         let words = vec![in rt.alloc(); String::from_str(rt.alloc(), example.name)?]?;
         fail_each_in_turn(

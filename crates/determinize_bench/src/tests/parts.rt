@@ -7,7 +7,7 @@ use determinize_replay::nfas;
 use std::test::Fail;
 
 #[test]
-fn refuses_a_short_table(rt: HostRuntime) -> Result<(), Fail> {
+fn rejects_a_short_table(rt: HostRuntime) -> Result<(), Fail> {
     for (count, wanted) in [
         (255usize, Some(BuildError::BadDense(0))),
         (256, None),

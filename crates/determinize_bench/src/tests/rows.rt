@@ -11,7 +11,7 @@ static OTHER_WORDS: [&str; 15] = [
 ];
 
 #[test]
-fn refuses_other_words(rt: HostRuntime) -> Result<(), Fail> {
+fn rejects_other_arguments(rt: HostRuntime) -> Result<(), Fail> {
     for line in &OTHER_WORDS {
         let words = words(&rt, line)?;
         let mut out = Vec::new(rt.alloc());

@@ -31,11 +31,7 @@ static TEXTS: [&str; 6] = ["foo12", "xfoo9y", "bar", "ba", "", "barfoo1"];
 fn run(rt: &impl Abort, dfa: &Dfa, ends: [Option<usize>; 6]) {
     for (text, end) in TEXTS.iter().zip(ends) {
         let wanted = end.map(|end| HalfMatch::new(PatternID::ZERO, end));
-        same(
-            rt,
-            (*text, dfa.last_match(text.as_bytes())),
-            (*text, wanted),
-        );
+        same(rt, dfa.last_match(text.as_bytes()), wanted);
     }
 }
 
@@ -103,7 +99,7 @@ fn build_loop<R: Abort + AllocGlobal>(
 }
 
 #[test]
-fn under_refusals(rt: HostRuntime) -> Result<(), Fail> {
+fn failing_allocations(rt: HostRuntime) -> Result<(), Fail> {
     let outcome = fail_each_allocation(rt.alloc(), |heap| build_loop(&rt, heap))?;
     same(&rt, outcome, Outcome::Sound);
     Ok(())

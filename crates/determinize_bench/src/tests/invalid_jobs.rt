@@ -125,7 +125,7 @@ start hay=616263 range=+1..2 => not a decimal number
 
 /// Each job is run separately.
 #[test]
-fn jobs(rt: HostRuntime) -> Result<(), Fail> {
+fn error_messages(rt: HostRuntime) -> Result<(), Fail> {
     for jobs in [
         VERBS,
         UNKNOWN_KEYS,
