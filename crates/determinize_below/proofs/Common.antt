@@ -13,7 +13,7 @@ pub use Rattle.std.specs.Int.{bit_at}
 pub use Rattle.std.specs.List.{find, list_any}
 pub use Rattle.std.specs.Option.{option_map, option_to_list}
 pub use Rattle.std.specs.Prelude.{slice_get}
-pub use mathlib.Core.Bool.{◌&&◌}
+pub use mathlib.Core.Bool.{◌&&◌, beq}
 pub use mathlib.Core.Path.{fun_ext}
 pub use Rattle.determinize_below.specs.Edges.{assertion_in, edges, IsTested, pattern_of, target}
 pub use Rattle.determinize_below.specs.Look.{bit_of, each_look}
@@ -22,8 +22,9 @@ pub use Rattle.determinize_below.specs.Nfa.{with_looks_of}
 pub use Rattle.determinize_below.specs.Node.{node_of}
 pub use Rattle.determinize_below.specs.Private.Clearing.{IsCleared}
 pub use Rattle.determinize_below.specs.Private.Sparse.{has_bit}
-pub use Rattle.determinize_below.specs.Semantics.{BinaryUnion, ByteRange, Capture, Dense, edges_of, exactly_one, Fail}
-pub use Rattle.determinize_below.specs.Semantics.{holds, is_word, Match, Nfa, Node, pattern_in, Sparse, state_at}
+pub use Rattle.determinize_below.specs.Semantics.{BinaryUnion, ByteRange, Capture, Dense, edges_of, Fail}
+pub use Rattle.determinize_below.specs.Semantics.{holds, is_word, Match, Nfa, Node, Sparse, state_at}
+pub use Rattle.determinize_below.specs.Edges.{pattern_in}
 pub use Rattle.determinize_below.specs.Semantics.{target_of, Union}
 pub use Rattle.determinize_below.specs.Transition.{ascends_from}
 pub use Rattle.determinize_below.specs.Truth.{IsUnit}

@@ -4,7 +4,8 @@ use Rattle.determinize_below.specs.Semantics.{state_at, target_of, Nfa, is_word_
 use Rattle.determinize_below.specs.Look.{has_crlf, has_line, has_word}
 
 -- bytes that a transition tests alike: an NFA with an assertion on lines or CRLF tests for the line
--- terminator, one with an assertion on CRLF for `\r` (13) and `\n` (10), one on words for word bytes
+-- terminator, one with an assertion on CRLF for `\r` (13) and `\n` (10), one on words for word
+-- bytes
 pub record AreTestedAlike (nfa : Nfa) (b c : ℕ) : Type 0 where
   pub line : has_line nfa.look_set_any ≡ true → nat_eq b nfa.terminator ≡ nat_eq c nfa.terminator
   pub carriage : has_crlf nfa.look_set_any ≡ true → nat_eq b 13 ≡ nat_eq c 13

@@ -15,4 +15,5 @@ followed nfa (suc count) s = capture_next (state_at nfa (followed nfa count s))
 
 -- no cycle consists of captures only
 abbrev pub HasNoCaptureCycle : Nfa → Type 0
-HasNoCaptureCycle nfa = (s k : ℕ) → ((j : ℕ) → j ≤ k → is_capture nfa (followed nfa j s) ≡ true) → followed nfa (suc k) s ≡ s → ⊥
+HasNoCaptureCycle nfa = (s k : ℕ) → ((j : ℕ) → j ≤ k → is_capture nfa (followed nfa j s) ≡ true)
+    → followed nfa (suc k) s ≡ s → ⊥

@@ -4,8 +4,13 @@ use Rattle.std.specs.Prelude.{◌≡◌, ◌+◌, ℕ, Bool, true, false, Option
 use Rattle.std.specs.Option.{is_some, option_to_list}
 use Rattle.std.specs.List.{count_by, flat_map}
 use Rattle.determinize_below.specs.declared.look.Look.{Look as Assertion}
-use Rattle.determinize_below.specs.Semantics.{Capture, Look, Nfa, Node, edges_of, pattern_in, state_at, target_of}
+use Rattle.determinize_below.specs.Semantics.{Capture, Look, Match, Nfa, Node, edges_of, state_at, target_of}
 use Rattle.ordered_reach.specs.Reach.{member, none_held, ordered}
+
+-- the pattern of a `Match` state
+abbrev pub pattern_in : Node → Option ℕ
+pattern_in (Match pattern) = Some pattern
+pattern_in _ = None
 
 -- whether the state is a capture
 abbrev pub tests_capture : Node → Bool
@@ -60,7 +65,8 @@ reach nfa holds roots = ordered nat_eq (edges nfa holds) (length nfa.states + 1)
 
 -- the epsilon closure along paths that avoid the states visited before, which `held` lists
 unfoldable pub reach_past : Nfa → (Assertion → Bool) → List ℕ → List ℕ → List ℕ
-reach_past nfa holds held roots = ordered nat_eq (edges nfa holds) (length nfa.states + 1) (member nat_eq held) roots
+reach_past nfa holds held roots =
+    ordered nat_eq (edges nfa holds) (length nfa.states + 1) (member nat_eq held) roots
 
 -- some state of the NFA tests the assertion
 abbrev pub IsTested : Nfa → Assertion → Type 0

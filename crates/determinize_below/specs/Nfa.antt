@@ -65,13 +65,15 @@ state_failure count earlier index node = failure_of count (is_repeated earlier n
 abbrev pub states_failure : ℕ → List Node → ℕ → List Node → Option BuildError
 states_failure count earlier index [] = None
 states_failure count earlier index (node ∷ rest) =
-    option_or (state_failure count earlier index node) (states_failure count (earlier ++ node ∷ []) (index + 1) rest)
+    option_or (state_failure count earlier index node)
+    (states_failure count (earlier ++ node ∷ []) (index + 1) rest)
 
 -- the first error of all
 abbrev pub failure : List Node → ℕ → ℕ → Option BuildError
 failure states anchored unanchored =
     if nat_lt 2147483647 (length states) then Some errors.TooManyStates
-    else (if not (nat_lt anchored (length states) && nat_lt unanchored (length states)) then Some errors.UnresolvedStart
+    else (if not (nat_lt anchored (length states) && nat_lt unanchored (length states))
+    then Some errors.UnresolvedStart
     else states_failure (length states) [] 0 states)
 
 -- the set with the assertion of the state added

@@ -1,8 +1,13 @@
 -- The edges of a run, by the ids of states, and the runs to a pair of a position and a state.
-use Rattle.std.specs.Prelude.{ℕ, List, [], slice_get}
+use Rattle.std.specs.Prelude.{ℕ, Bool, Option, List, [], slice_get}
 use Rattle.determinize_below.specs.Edges.{edges, target}
-use Rattle.determinize_below.specs.Semantics.{Nfa, Text, after_at, before_at, choices, truth}
+use Rattle.determinize_below.specs.Semantics.{Nfa, Text, after_at, before_at, choices, holds}
+use Rattle.determinize_below.specs.declared.look.Look.{Look as Assertion}
 use Rattle.ordered_reach.specs.Paths.{IsPath}
+
+-- whether the assertion holds between an optional byte and a unit
+abbrev pub truth : Nfa → Option ℕ → Option ℕ → Assertion → Bool
+truth nfa p q look = holds nfa.reverse nfa.terminator p q look
 
 -- the epsilon transitions at a position, under the assertions that hold there
 abbrev pub true_edges : Nfa → Text → ℕ → ℕ → List ℕ

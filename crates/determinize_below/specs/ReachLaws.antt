@@ -8,17 +8,20 @@ use Rattle.ordered_reach.specs.Paths.{IsInOrderOfReach, IsListedInTurn}
 
 -- the epsilon closure of a valid NFA is in the order of least paths, for any roots
 abbrev pub EachNfaReachIsInOrder : Type 0
-EachNfaReachIsInOrder = (nfa : Nfa) → IsAccepted nfa → (holds : Assertion → Bool) (held roots : List ℕ)
+EachNfaReachIsInOrder = (nfa : Nfa) → IsAccepted nfa
+    → (holds : Assertion → Bool) (held roots : List ℕ)
     → IsInOrderOfReach (edges nfa holds) held roots (reach_past nfa holds held roots)
 
 -- no other list is in that order
 abbrev pub EachNfaReachIsOne : Type 0
-EachNfaReachIsOne = (nfa : Nfa) → IsAccepted nfa → (holds : Assertion → Bool) (held roots xs : List ℕ)
+EachNfaReachIsOne = (nfa : Nfa) → IsAccepted nfa
+    → (holds : Assertion → Bool) (held roots xs : List ℕ)
     → IsInOrderOfReach (edges nfa holds) held roots xs → xs ≡ reach_past nfa holds held roots
 
 -- the epsilon closure can be computed root by root
 abbrev pub EachNfaReachIsInTurn : Type 0
-EachNfaReachIsInTurn = (nfa : Nfa) → IsAccepted nfa → (holds : Assertion → Bool) (held roots : List ℕ)
+EachNfaReachIsInTurn = (nfa : Nfa) → IsAccepted nfa
+    → (holds : Assertion → Bool) (held roots : List ℕ)
     → IsListedInTurn (edges nfa holds) held roots (reach_past nfa holds held roots)
 
 -- an epsilon closure with no state visited before

@@ -18,7 +18,8 @@ known_edges nfa text i = edges nfa (known nfa (before_at text i))
 
 -- the edges of the product graph where position i has only the look-behind
 abbrev pub known_choices : Nfa → Text → ℕ → ℕ × ℕ → List (ℕ × ℕ)
-known_choices nfa text i = run_edges (known_at i (known_edges nfa text) (true_edges nfa text)) (byte_edges nfa text)
+known_choices nfa text i =
+    run_edges (known_at i (known_edges nfa text) (true_edges nfa text)) (byte_edges nfa text)
 
 -- the list has the states, except captures, in which some run ends at the position, each once, by
 -- the least such run
@@ -27,4 +28,5 @@ IsReached nfa text start i xs = ListsReached (choices nfa text) (is_capture nfa)
 
 -- the list of `IsReached` where the position has only the look-behind
 abbrev pub IsKnownReached : Nfa → Text → ℕ → ℕ → List ℕ → Type 0
-IsKnownReached nfa text start i xs = ListsReached (known_choices nfa text i) (is_capture nfa) start i xs
+IsKnownReached nfa text start i xs =
+    ListsReached (known_choices nfa text i) (is_capture nfa) start i xs

@@ -1,13 +1,13 @@
--- The definitions of the theorem, in reading order: what an NFA is, when an assertion holds, what a run
--- over a text is, what it accepts, and which run is preferred.
+-- The definitions of the theorem, in reading order: what an NFA is, when an assertion holds, what a
+-- run over a text is, what it accepts, and which run is preferred.
 --
 -- Ids, bytes and patterns are numbers. A unit is `Some byte`, or `None` for the end of input (EOI).
--- A run is a path in the graph of positions and states: the list of the numbers of the edges that it
--- chooses. So one run is preferred to another where its list is before the other's.
+-- A run is a path in the graph of positions and states: the list of the numbers of the edges that
+-- it chooses. So one run is preferred to another where its list is before the other's.
 use Rattle.std.specs.List.{find}
 use Rattle.std.specs.Option.{is_none, option_and_then, option_eq, option_map, option_map_or, option_or, option_to_list}
 use Rattle.std.specs.Prelude.{◌≡◌, ◌++◌, ◌⊎◌, ℕ, zero, suc, Bool, false, not, cond, Option, Some, None, List, [], ◌∷◌, map, nat_eq, nat_le, slice_get, slice_index, slice_index_or, if◌then◌else◌}
-use mathlib.Core.Bool.{◌&&◌, ◌||◌}
+use mathlib.Core.Bool.{◌&&◌, ◌||◌, beq}
 use Rattle.determinize_below.specs.declared.look.Look.{Look as Assertion}
 use Rattle.determinize_below.specs.declared.look.Look.TheVariants.{Start, End, StartLF, EndLF, StartCRLF, EndCRLF, WordAscii, WordAsciiNegate, WordUnicode, WordUnicodeNegate, WordStartAscii, WordEndAscii, WordStartUnicode, WordEndUnicode, WordStartHalfAscii, WordEndHalfAscii, WordStartHalfUnicode, WordEndHalfUnicode}
 use Rattle.determinize_below.specs.declared.nfa.transitions.Transition.{Transition}
@@ -39,11 +39,6 @@ pub record Nfa : Type 0 where
 abbrev pub state_at : Nfa → ℕ → Node
 state_at nfa s = slice_index_or nfa.states s Fail
 
--- the pattern of a `Match` state
-abbrev pub pattern_in : Node → Option ℕ
-pattern_in (Match pattern) = Some pattern
-pattern_in _ = None
-
 -- the targets of the epsilon transitions of a state, in order of preference, where `holds` says
 -- which assertions hold
 abbrev pub edges_of : (Assertion → Bool) → Node → List ℕ
@@ -57,14 +52,12 @@ edges_of holds _ = []
 abbrev pub within : ℕ → ℕ → ℕ → Bool
 within low high byte = nat_le low byte && nat_le byte high
 
--- the target of the first range that contains the byte
-abbrev pub sparse_target : List Transition → ℕ → Option ℕ
-sparse_target ts byte = option_map (λ t. t.next) (find (λ t. within t.start t.end byte) ts)
-
--- the target of a state on a unit: in a dense state 0 means no transition, and none is on EOI
+-- the target of a state on a unit: in a sparse state that of the first range that contains the
+-- byte; in a dense state 0 means no transition; and none is on EOI
 abbrev pub target_of : Option ℕ → Node → Option ℕ
 target_of u (ByteRange t) = cond (option_map_or (within t.start t.end) u false) (Some t.next) None
-target_of u (Sparse ts) = option_and_then (sparse_target ts) u
+target_of u (Sparse ts) =
+    option_and_then (λ b. option_map (λ t. t.next) (find (λ t. within t.start t.end b) ts)) u
 target_of u (Dense ids) =
     option_and_then (λ b. if nat_eq (slice_index ids b) 0 then None else Some (slice_index ids b)) u
 target_of u _ = None
@@ -82,16 +75,12 @@ abbrev pub is : Option ℕ → ℕ → Bool
 is p b = option_eq nat_eq p (Some b)
 
 -- the byte of a CRLF that is read first: `\r` (13) forward, `\n` (10) in reverse
-abbrev pub cr : Bool → ℕ
-cr reverse = cond reverse 10 13
+abbrev pub crlf_1 : Bool → ℕ
+crlf_1 reverse = cond reverse 10 13
 
 -- the byte of a CRLF that is read second: `\n` (10) forward, `\r` (13) in reverse
-abbrev pub lf : Bool → ℕ
-lf reverse = cond reverse 13 10
-
--- exclusive or
-abbrev pub exactly_one : Bool → Bool → Bool
-exactly_one a b = (a && not b) || (not a && b)
+abbrev pub crlf_2 : Bool → ℕ
+crlf_2 reverse = cond reverse 13 10
 
 -- whether the assertion holds between the byte p behind and the unit q ahead, both in reading
 -- order, where r says whether the NFA is a reverse one, and t is the line terminator
@@ -100,12 +89,12 @@ holds r t p q Start = is_none p
 holds r t p q End = is_none q
 holds r t p q StartLF = is_none p || is p t
 holds r t p q EndLF = is_none q || is q t
-holds r t p q StartCRLF = is_none p || is p (lf r) || (is p (cr r) && not (is q (lf r)))
-holds r t p q EndCRLF = is_none q || is q (cr r) || (is q (lf r) && not (is p (cr r)))
-holds r t p q WordAscii = exactly_one (is_word p) (is_word q)
-holds r t p q WordAsciiNegate = not (exactly_one (is_word p) (is_word q))
-holds r t p q WordUnicode = exactly_one (is_word p) (is_word q)
-holds r t p q WordUnicodeNegate = not (exactly_one (is_word p) (is_word q))
+holds r t p q StartCRLF = is_none p || is p (crlf_2 r) || (is p (crlf_1 r) && not (is q (crlf_2 r)))
+holds r t p q EndCRLF = is_none q || is q (crlf_1 r) || (is q (crlf_2 r) && not (is p (crlf_1 r)))
+holds r t p q WordAscii = not (beq (is_word p) (is_word q))
+holds r t p q WordAsciiNegate = beq (is_word p) (is_word q)
+holds r t p q WordUnicode = not (beq (is_word p) (is_word q))
+holds r t p q WordUnicodeNegate = beq (is_word p) (is_word q)
 holds r t p q WordStartAscii = not (is_word p) && is_word q
 holds r t p q WordEndAscii = is_word p && not (is_word q)
 holds r t p q WordStartUnicode = not (is_word p) && is_word q
@@ -135,29 +124,27 @@ before_at text (suc i) = slice_get text.bytes i
 abbrev pub after_at : Text → ℕ → Option ℕ
 after_at text i = option_or (slice_get text.bytes i) text.ahead
 
--- whether the assertion holds between an optional byte and a unit
-unfoldable pub truth : Nfa → Option ℕ → Option ℕ → Assertion → Bool
-truth nfa p q look = holds nfa.reverse nfa.terminator p q look
-
 -- the edges from a pair of a position and a state: the transition over the next byte of the text,
 -- and the epsilon transitions under the assertions that hold at the position; no state has both
 abbrev pub choices : Nfa → Text → ℕ × ℕ → List (ℕ × ℕ)
 choices nfa text (i, s) =
-    map (λ s. (suc i, s)) (option_to_list (target_of (slice_get text.bytes i) (state_at nfa s)))
-    ++ map (λ s. (i, s)) (edges_of (truth nfa (before_at text i) (after_at text i)) (state_at nfa s))
+    map (λ t. (suc i, t)) (option_to_list (target_of (slice_get text.bytes i) (state_at nfa s)))
+    ++ map (λ t. (i, t)) (edges_of
+    (holds nfa.reverse nfa.terminator (before_at text i) (after_at text i)) (state_at nfa s))
 
 -- the choices are a run from the start state at position 0 to a `Match` state of the pattern at
 -- position i; it meets no pair of a position and a state twice
 abbrev pub Accepts : Nfa → Text → ℕ → List ℕ → ℕ → ℕ → Type 0
-Accepts nfa text start cs i pattern = (s : ℕ) × IsPath (choices nfa text) [] (0, start) cs (i, s)
-    × (pattern_in (state_at nfa s) ≡ Some pattern)
+Accepts nfa text start cs i pattern =
+    (s : ℕ) × IsPath (choices nfa text) [] (0, start) cs (i, s) × (state_at nfa s ≡ Match pattern)
 
--- the least of the runs that accept the pattern at the position
-pub record IsBestRun (nfa : Nfa) (text : Text) (start : ℕ) (cs : List ℕ) (i pattern : ℕ) : Type 0 where
-  pub accepts : Accepts nfa text start cs i pattern
-  pub best : (ds : List ℕ) → Accepts nfa text start ds i pattern → (cs ≡ ds) ⊎ Before cs ds
+-- the least of the runs that accept the pattern x at position i
+pub record IsBestRun (nfa : Nfa) (text : Text) (start : ℕ) (cs : List ℕ) (i x : ℕ) : Type 0 where
+  pub accepts : Accepts nfa text start cs i x
+  pub best : (ds : List ℕ) → Accepts nfa text start ds i x → (cs ≡ ds) ⊎ Before cs ds
 
--- the least of all accepting runs, of any pattern and at any position
-pub record IsPreferredRun (nfa : Nfa) (text : Text) (start : ℕ) (cs : List ℕ) (i pattern : ℕ) : Type 0 where
-  pub accepts : Accepts nfa text start cs i pattern
+-- the least of all accepting runs, of any pattern and at any position: it accepts x at i
+pub record IsPreferredRun (nfa : Nfa) (text : Text) (start : ℕ) (cs : List ℕ) (i x : ℕ)
+    : Type 0 where
+  pub accepts : Accepts nfa text start cs i x
   pub preferred : (ds : List ℕ) (j y : ℕ) → Accepts nfa text start ds j y → (cs ≡ ds) ⊎ Before cs ds

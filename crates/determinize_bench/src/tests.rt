@@ -1,10 +1,10 @@
 //! Tests through public calls only: outputs that were worked out by hand, texts of values, and the
 //! work of the programs.
 //!
-//! Each function of a test is proved, which takes longer than its run. So they compare by `same` and
-//! `holds`, since the message that a macro writes is proved at each place; and a function that can
-//! fail owns little, since the drop of all that it owns is proved at each of its exits. One that
-//! makes an NFA and a cache lends them to another one as its last call.
+//! Each function of a test is proved, which takes longer than its run. So they compare by `same`
+//! and `holds`, since the message that a macro writes is proved at each place; and a function that
+//! can fail owns little, since the drop of all that it owns is proved at each of its exits. One
+//! that makes an NFA and a cache lends them to another one as its last call.
 
 mod below;
 mod invalid_jobs;

@@ -1,4 +1,4 @@
+mod Common
 pub mod closure
-pub mod examples
 pub mod step
 pub mod walk

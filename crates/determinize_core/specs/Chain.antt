@@ -26,4 +26,5 @@ chain nfa kind s text = future nfa kind (start_value nfa s text.behind) (units t
 
 -- from each of the values on, they are that value and those after the remaining units
 abbrev pub FollowsItself : Nfa → MatchKind → Text → List Value → Type 0
-FollowsItself nfa kind text values = (j : ℕ) (v : Value) → slice_get values j ≡ Some v → drop j values ≡ future nfa kind v (drop j (units text))
+FollowsItself nfa kind text values = (j : ℕ) (v : Value) → slice_get values j ≡ Some v
+    → drop j values ≡ future nfa kind v (drop j (units text))

@@ -6,7 +6,8 @@ use Rattle.determinize_below.specs.Members.{Members}
 use Rattle.determinize_below.specs.Semantics.{Nfa}
 use Rattle.ordered_reach.specs.Runs.{IsBeginning}
 
--- the states that the closure of a state adds to a set, given the states in the set and the assertions that hold
+-- the states that the closure of a state adds to a set, given the states in the set and the
+-- assertions that hold
 abbrev pub closure_of : Nfa → ℕ → List ℕ → ℕ → List ℕ
 closure_of nfa look_have held start = reach_past nfa (has look_have) held (start ∷ [])
 

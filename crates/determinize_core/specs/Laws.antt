@@ -1,5 +1,5 @@
 -- Laws of steps and of walks.
-use Rattle.std.specs.Prelude.{◌≡◌, ℕ, suc, ◌+◌, ◌*◌, ◌<◌, ◌≤◌, ◌⊎◌, Bool, true, Option, None, Some, List, [], ◌∷◌, ◌++◌, length, map, nat_eq, option_map}
+use Rattle.std.specs.Prelude.{◌≡◌, ℕ, suc, ◌+◌, ◌*◌, ◌<◌, ◌≤◌, ◌⊎◌, Bool, true, Option, None, Some, List, [], ◌∷◌, ◌++◌, length, map, nat_eq, option_map, slice_get}
 use Rattle.std.specs.Option.{option_or}
 use Rattle.determinize_below.specs.Captures.{HasNoCaptureCycle}
 use Rattle.determinize_below.specs.Edges.{edges, target, reach, reach_past}
@@ -21,36 +21,52 @@ use Rattle.determinize_core.specs.LastMatch.{lists_of, IsFarthestMatch, ended_at
 use Rattle.determinize_core.specs.Walk.{ListsAccepted, IsWalkOfAll, IsLeftmostWalk}
 use Rattle.determinize_core.specs.WalkStates.{RecordsReached}
 
--- the theorem: for every valid NFA, the walk over each text lists all matches under `All`, and finds the most
--- preferred one under `LeftmostFirst`
+-- the theorem: for every valid NFA, the walk over each text lists all matches under `All`, and
+-- finds the most preferred one under `LeftmostFirst`
 abbrev pub EachChainIsTrue : Type 0
 EachChainIsTrue = (nfa : Nfa) → IsAccepted nfa → (start : ℕ) (text : Text)
     → IsWalkOfAll nfa start text (lists_of (chain nfa All start text))
     × IsLeftmostWalk nfa start text (lists_of (chain nfa LeftmostFirst start text))
+
+-- each walk has a list before the first unit, which is empty, and one after each unit
+abbrev pub EachChainHasItsLists : Type 0
+EachChainHasItsLists = (nfa : Nfa) (kind : MatchKind) (start : ℕ) (text : Text)
+    → (length (chain nfa kind start text) ≡ length text.bytes + 2)
+    × (slice_get (lists_of (chain nfa kind start text)) 0 ≡ Some [])
 
 -- and each of its values but the last records the NFA states that runs reach
 abbrev pub EachChainReaches : Type 0
 EachChainReaches = (nfa : Nfa) → IsAccepted nfa → (kind : MatchKind) (start : ℕ) (text : Text)
     → RecordsReached nfa kind start text (chain nfa kind start text)
 
--- with a byte ahead, the values are all but the last of those over the text with this byte at its end
+-- with a byte ahead, the values are all but the last of those over the text with this byte at its
+-- end
 abbrev pub EachByteAheadIsNext : Type 0
-EachByteAheadIsNext = (nfa : Nfa) (kind : MatchKind) (start : ℕ) (behind : Option ℕ) (bytes : List ℕ) (byte : ℕ) (ahead : Option ℕ)
-    → (last : Value) × (chain nfa kind start (between behind (bytes ++ byte ∷ []) ahead) ≡ chain nfa kind start (between behind bytes (Some byte)) ++ last ∷ [])
+EachByteAheadIsNext = (nfa : Nfa) (kind : MatchKind) (start : ℕ) (behind : Option ℕ)
+    (bytes : List ℕ) (byte : ℕ) (ahead : Option ℕ)
+    → (last : Value) × (chain nfa kind start (between behind (bytes ++ byte ∷ []) ahead)
+    ≡ chain nfa kind start (between behind bytes (Some byte)) ++ last ∷ [])
 
--- runs determine one list of patterns, one most preferred match, and one list of the states reached, under the
--- look-behind and under the assertions that hold
+-- runs determine one list of patterns, one most preferred match, and one list of the states
+-- reached, under the look-behind and under the assertions that hold
 abbrev pub EachAnswerIsOne : Type 0
 EachAnswerIsOne = (nfa : Nfa) (text : Text) (start : ℕ)
-    → ((i : ℕ) (xs ys : List ℕ) → ListsAccepted nfa text start i xs → ListsAccepted nfa text start i ys → xs ≡ ys)
-    × ((i j x y : ℕ) (cs ds : List ℕ) → IsPreferredRun nfa text start cs i x → IsPreferredRun nfa text start ds j y → (i ≡ j) × (x ≡ y))
-    × ((i : ℕ) (xs ys : List ℕ) → IsKnownReached nfa text start i xs → IsKnownReached nfa text start i ys → xs ≡ ys)
-    × ((i : ℕ) (xs ys : List ℕ) → IsReached nfa text start i xs → IsReached nfa text start i ys → xs ≡ ys)
+    → ((i : ℕ) (xs ys : List ℕ) → ListsAccepted nfa text start i xs
+    → ListsAccepted nfa text start i ys → xs ≡ ys)
+    × ((i j x y : ℕ) (cs ds : List ℕ) → IsPreferredRun nfa text start cs i x
+    → IsPreferredRun nfa text start ds j y → (i ≡ j) × (x ≡ y))
+    × ((i : ℕ) (xs ys : List ℕ) → IsKnownReached nfa text start i xs
+    → IsKnownReached nfa text start i ys → xs ≡ ys)
+    × ((i : ℕ) (xs ys : List ℕ) → IsReached nfa text start i xs → IsReached nfa text start i ys
+    → xs ≡ ys)
 
--- for a valid NFA, the closure of one more root adds the states that it reaches around those reached before
+-- for a valid NFA, the closure of one more root adds the states that it reaches around those
+-- reached before
 abbrev pub EachReachGoesOn : Type 0
-EachReachGoesOn = (nfa : Nfa) → IsAccepted nfa → (holds : Assertion → Bool) (roots : List ℕ) (root : ℕ)
-    → reach nfa holds (roots ++ root ∷ []) ≡ reach nfa holds roots ++ reach_past nfa holds (reach nfa holds roots) (root ∷ [])
+EachReachGoesOn = (nfa : Nfa) → IsAccepted nfa
+    → (holds : Assertion → Bool) (roots : List ℕ) (root : ℕ)
+    → reach nfa holds (roots ++ root ∷ []) ≡ reach nfa holds roots
+    ++ reach_past nfa holds (reach nfa holds roots) (root ∷ [])
 
 -- a state has epsilon transitions, or at most one transition on a unit, not both
 abbrev pub EachStateHasOneKind : Type 0
@@ -63,24 +79,29 @@ NothingLeadsOverTheEnd = (nfa : Nfa) (s : ℕ) → target nfa None s ≡ []
 
 -- from each of its values on, a walk is what follows from that value
 abbrev pub EachFutureFollows : Type 0
-EachFutureFollows = (nfa : Nfa) (kind : MatchKind) (s : ℕ) (text : Text) → FollowsItself nfa kind text (chain nfa kind s text)
+EachFutureFollows = (nfa : Nfa) (kind : MatchKind) (s : ℕ) (text : Text)
+    → FollowsItself nfa kind text (chain nfa kind s text)
 
--- the dead value stays; a step of a valid NFA without cycles of captures only that gives no pattern and no NFA
--- state gives the dead value
+-- the dead value stays; a step of a valid NFA without cycles of captures only that gives no pattern
+-- and no NFA state gives the dead value
 abbrev pub DeadStays : Type 0
 DeadStays = (nfa : Nfa) (kind : MatchKind) (u : Option ℕ)
     → (step nfa kind dead u ≡ dead)
-    × ((v : Value) → IsAccepted nfa → HasNoCaptureCycle nfa → (step nfa kind v u).patterns ≡ [] → (step nfa kind v u).states ≡ [] → step nfa kind v u ≡ dead)
+    × ((v : Value) → IsAccepted nfa → HasNoCaptureCycle nfa → (step nfa kind v u).patterns ≡ []
+    → (step nfa kind v u).states ≡ [] → step nfa kind v u ≡ dead)
 
 -- a value to which states were recorded has an empty look-have if its look-need is empty
 abbrev pub NoNeedNoHave : Type 0
-NoNeedNoHave = (nfa : Nfa) (v : Value) (xs : List ℕ) → (with_states nfa v xs).look_need ≡ 0 → (with_states nfa v xs).look_have ≡ 0
+NoNeedNoHave = (nfa : Nfa) (v : Value) (xs : List ℕ) → (with_states nfa v xs).look_need ≡ 0
+    → (with_states nfa v xs).look_have ≡ 0
 
 -- under `LeftmostFirst` a step gives at most one pattern
 abbrev pub LeftmostGivesOne : Type 0
-LeftmostGivesOne = (nfa : Nfa) (v : Value) (u : Option ℕ) → length (step nfa LeftmostFirst v u).patterns ≤ 1
+LeftmostGivesOne = (nfa : Nfa) (v : Value) (u : Option ℕ)
+    → length (step nfa LeftmostFirst v u).patterns ≤ 1
 
--- a step from a value whose ids are in range makes at most two tries for each state and each epsilon transition
+-- a step from a value whose ids are in range makes at most two tries for each state and each
+-- epsilon transition
 abbrev pub TriesAreFew : Type 0
 TriesAreFew = (nfa : Nfa) → IsAccepted nfa → (kind : MatchKind) (v : Value) (u : Option ℕ)
     → ((s : ℕ) → member nat_eq v.states s ≡ true → s < length nfa.states)

@@ -37,7 +37,8 @@ with_start nfa kind v =
 -- the value before the first unit, for an NFA state to start from and an optional look-behind byte
 abbrev pub start_value : Nfa → ℕ → Option ℕ → Value
 start_value nfa s p =
-    recorded nfa (begun (from_word_at_start (tables_of nfa) p) (half_crlf_at_start (tables_of nfa) p) (have_at_start (tables_of nfa) p) [])
+    recorded nfa (begun (from_word_at_start (tables_of nfa) p)
+    (half_crlf_at_start (tables_of nfa) p) (have_at_start (tables_of nfa) p) [])
     (reach nfa (has (have_at_start (tables_of nfa) p)) (s ∷ []))
 
 -- whether some assertion that was found to hold is in look-need and not in look-have
@@ -56,14 +57,16 @@ is_reopened nfa v u = is_redone (opened_by nfa v u) v.look_have v.look_need
 abbrev pub distinct_states : Value → List ℕ
 distinct_states v = fresh nat_eq none_held v.states
 
--- the list that the step reads: the recorded states, or their closure under all assertions that hold
+-- the list that the step reads: the recorded states, or their closure under all assertions that
+-- hold
 abbrev pub working_list : Nfa → Value → Option ℕ → List ℕ
 working_list nfa v u =
     cond (is_reopened nfa v u)
     (reach nfa (joined (has v.look_have) (opened_by nfa v u)) (distinct_states v))
     (distinct_states v)
 
--- the part of it whose targets are entered: all of it, or under `LeftmostFirst` the states before the first match
+-- the part of it whose targets are entered: all of it, or under `LeftmostFirst` the states before
+-- the first match
 abbrev pub part_read : MatchKind → (ℕ → Bool) → List ℕ → List ℕ
 part_read All accepts xs = xs
 part_read LeftmostFirst accepts xs = before accepts xs
@@ -73,16 +76,20 @@ abbrev pub patterns_read : MatchKind → List ℕ → List ℕ
 patterns_read All ps = ps
 patterns_read LeftmostFirst ps = take 1 ps
 
--- the value after a unit, given the patterns found and the states entered; flags are set only if some state is entered
+-- the value after a unit, given the patterns found and the states entered; flags are set only if
+-- some state is entered
 abbrev pub left_by : Nfa → Option ℕ → List ℕ → List ℕ → Value
 left_by nfa u patterns entered =
     recorded nfa
-    (begun (is_nonempty entered && from_word_after (tables_of nfa) u) (is_nonempty entered && half_crlf_after (tables_of nfa) u) (have_after (tables_of nfa) u) patterns)
+    (begun (is_nonempty entered && from_word_after (tables_of nfa) u)
+    (is_nonempty entered && half_crlf_after (tables_of nfa) u)
+    (have_after (tables_of nfa) u) patterns)
     entered
 
 -- the targets on the unit of the states that are read
 abbrev pub targets : Nfa → MatchKind → Value → Option ℕ → List ℕ
-targets nfa kind v u = flat_map (target nfa u) (part_read kind (is_match nfa) (working_list nfa v u))
+targets nfa kind v u =
+    flat_map (target nfa u) (part_read kind (is_match nfa) (working_list nfa v u))
 
 -- the value after the unit
 unfoldable pub step : Nfa → MatchKind → Value → Option ℕ → Value

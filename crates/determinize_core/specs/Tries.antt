@@ -10,13 +10,15 @@ use Rattle.determinize_core.specs.Step.{opened_by, is_reopened, distinct_states,
 use Rattle.determinize_start.specs.LookTables.{tables_of, have_after}
 use Rattle.determinize_state.specs.Value.{Value}
 
--- the tries of a closure into the empty set: one for each root, and one for each edge of the states that it lists
+-- the tries of a closure into the empty set: one for each root, and one for each edge of the states
+-- that it lists
 abbrev pub tries_of : Nfa → (Assertion → Bool) → List ℕ → ℕ
 tries_of nfa holds roots = length roots + edge_count (edges nfa holds) (reach nfa holds roots)
 
 -- the tries for the working list, if its closure is computed again
 abbrev pub tries_again : Nfa → Value → Option ℕ → ℕ
-tries_again nfa v u = cond (is_reopened nfa v u) (tries_of nfa (joined (has v.look_have) (opened_by nfa v u)) (distinct_states v)) 0
+tries_again nfa v u = cond (is_reopened nfa v u)
+    (tries_of nfa (joined (has v.look_have) (opened_by nfa v u)) (distinct_states v)) 0
 
 -- the tries of a step: those for the working list, and those for the states entered
 unfoldable pub tries : Nfa → MatchKind → Value → Option ℕ → ℕ

@@ -12,9 +12,11 @@ abbrev pub IsPartKept : MatchKind → List ℕ → List ℕ → Type 0
 IsPartKept All part whole = part ≡ whole
 IsPartKept LeftmostFirst part whole = IsBeginning part whole
 
--- each value but the last records the states that runs reach at its position under the look-behind; the last one
--- records none if there is no byte ahead
-pub record RecordsReached (nfa : Nfa) (kind : MatchKind) (start : ℕ) (text : Text) (values : List Value) : Type 0 where
+-- each value but the last records the states that runs reach at its position under the look-behind;
+-- the last one records none if there is no byte ahead
+pub record RecordsReached (nfa : Nfa) (kind : MatchKind) (start : ℕ) (text : Text)
+    (values : List Value) : Type 0 where
   pub ids : (i : ℕ) (v : Value) → i ≤ length text.bytes → slice_get values i ≡ Some v
       → (xs : List ℕ) × IsKnownReached nfa text start i xs × IsPartKept kind v.states xs
-  pub last : text.ahead ≡ None → (v : Value) → slice_get values (suc (length text.bytes)) ≡ Some v → v.states ≡ []
+  pub last : text.ahead ≡ None → (v : Value) → slice_get values (suc (length text.bytes)) ≡ Some v
+      → v.states ≡ []

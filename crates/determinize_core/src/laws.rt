@@ -8,7 +8,7 @@ ghost use Rattle.determinize_below.specs.Look.{has};
 ghost use Rattle.determinize_below.specs.Semantics.{Nfa};
 ghost use Rattle.determinize_core.specs.WorkedRows as rows;
 ghost use Rattle.determinize_core.specs.Alike.{EachClassSteps, EachNeedIsTested};
-ghost use Rattle.determinize_core.specs.Laws.{AscendingCapturesHaveNoCycle, EachChainIsTrue, EachChainReaches, EachByteAheadIsNext, EachAnswerIsOne, EachReachGoesOn, EachStateHasOneKind, NothingLeadsOverTheEnd, EachFutureFollows, EachFirstUnitUnrolls, EachLastIsFarthest, EachLastUnitUnrolls, EachUnitIsAByte, NoRunLeavesTheText, DeadStays, LeftmostGivesOne, NoNeedNoHave, TriesAreFew};
+ghost use Rattle.determinize_core.specs.Laws.{AscendingCapturesHaveNoCycle, EachChainHasItsLists, EachChainIsTrue, EachChainReaches, EachByteAheadIsNext, EachAnswerIsOne, EachReachGoesOn, EachStateHasOneKind, NothingLeadsOverTheEnd, EachFutureFollows, EachFirstUnitUnrolls, EachLastIsFarthest, EachLastUnitUnrolls, EachUnitIsAByte, NoRunLeavesTheText, DeadStays, LeftmostGivesOne, NoNeedNoHave, TriesAreFew};
 ghost use Rattle.determinize_core.specs.Step.{is_redone};
 ghost use Rattle.determinize_start.specs.LookTables.{opened, tables};
 ghost use Rattle.determinize_state.specs.Recording.{needs};
@@ -16,18 +16,19 @@ ghost use Rattle.determinize_state.specs.Recording.{needs};
 use determinize_below::{Look, LookSet};
 
 /// The walk of an accepted NFA over a text corresponds to its runs over the text. Under
-/// `MatchKind::All`, each value lists the patterns of the runs that accept before its unit, the most
-/// preferred run first. Under `MatchKind::LeftmostFirst`, the last value with a pattern is at the end
-/// of the most preferred accepting run, and if there is none, no run accepts. Except for captures,
-/// the values but the last record the NFA states that runs reach by what is known there, or a prefix
-/// of this list under `MatchKind::LeftmostFirst`.
+/// `MatchKind::All`, each value lists the patterns of the runs that accept before its unit, the
+/// most preferred run first. Under `MatchKind::LeftmostFirst`, the last value with a pattern is at
+/// the end of the most preferred accepting run, and if there is none, no run accepts. Except for
+/// captures, the values but the last record the NFA states that runs reach by what is known there,
+/// or a prefix of this list under `MatchKind::LeftmostFirst`.
 pub fn walk_law()
     ensures runs { EachChainIsTrue }
+    ensures lists { EachChainHasItsLists }
     ensures records { EachChainReaches }
 {}
 
-/// The values over a text with a byte ahead are those over the text with this byte appended, without
-/// the last.
+/// The values over a text with a byte ahead are those over the text with this byte appended,
+/// without the last.
 pub fn ahead_law()
     ensures { EachByteAheadIsNext }
 {}
@@ -72,18 +73,18 @@ pub fn tries_law()
     ensures { TriesAreFew }
 {}
 
-/// States eight examples of the program `rows`: the bytes of the states of each walk, and the pattern
-/// and end of its last match. Their NFAs pass every check.
+/// States eight examples of the program `rows`: the bytes of the states of each walk, and the
+/// pattern and end of its last match. Their NFAs pass every check.
 pub fn walk_rows_law()
     ensures accepted { rows.AreAccepted }
-    ensures row_3 { rows.Row3 }
     ensures row_4a { rows.Row4a }
     ensures row_4b { rows.Row4b }
     ensures row_5 { rows.Row5 }
     ensures row_8a { rows.Row8a }
     ensures row_9a { rows.Row9a }
-    ensures row_12 { rows.Row12 }
+    ensures row_11b { rows.Row11b }
     ensures row_18 { rows.Row18 }
+    ensures row_31a { rows.Row31a }
 {}
 
 /// An example of a search into a set with a state: it takes no path through that state.
@@ -110,8 +111,8 @@ pub fn redo_law(
         ≡ has have look }
 {}
 
-/// An assertion is in a set with what a list of states needs if and only if it is in the set or some
-/// state of the list tests it.
+/// An assertion is in a set with what a list of states needs if and only if it is in the set or
+/// some state of the list tests it.
 pub fn need_law(set: LookSet, look: Look)
     ensures { (nfa : Nfa) (xs : List ℕ)
         → Decides (has (needs nfa set xs) look)

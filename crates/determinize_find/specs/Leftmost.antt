@@ -1,7 +1,6 @@
 -- Runs from any position, and the leftmost match.
 use Rattle.std.specs.Prelude.{◌≡◌, ◌<◌, ◌≤◌, ◌⊎◌, ℕ, List, None, Option, Some, []}
-use Rattle.determinize_below.specs.Edges.{pattern_of}
-use Rattle.determinize_below.specs.Semantics.{Nfa, Text, choices}
+use Rattle.determinize_below.specs.Semantics.{Match as MatchState, Nfa, Text, choices, state_at}
 use Rattle.ordered_reach.specs.Paths.{Before, IsPath}
 use Rattle.determinize_below.specs.declared.search.Match.{Match}
 
@@ -12,7 +11,7 @@ IsRunFrom nfa text k start cs q = IsPath (choices nfa text) [] (k, start) cs q
 -- the run from the state at position k accepts the pattern at position i
 abbrev pub AcceptsFrom : Nfa → Text → ℕ → ℕ → List ℕ → ℕ → ℕ → Type 0
 AcceptsFrom nfa text k start cs i pattern =
-    (s : ℕ) × IsRunFrom nfa text k start cs (i, s) × (pattern_of nfa s ≡ Some pattern)
+    (s : ℕ) × IsRunFrom nfa text k start cs (i, s) × (state_at nfa s ≡ MatchState pattern)
 
 -- no run from the anchored start at this position accepts
 abbrev pub NothingFrom : Nfa → Text → ℕ → Type 0

@@ -1,3 +1,4 @@
 -- Walks through the cache, and what they leave.
 pub mod CachedWalks
 pub mod Plenty
+pub mod WalkCounts

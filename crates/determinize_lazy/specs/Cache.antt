@@ -88,4 +88,12 @@ pub record IsCutOff (old : Cache) (v : Value) (us : List (Option ℕ)) (new : Ca
 
 -- the same of the walk from an NFA state over a text
 abbrev pub IsCutOffText : Cache → ℕ → Text → Cache → Type 0
-IsCutOffText old start text new = IsCutOff old (start_value old.nfa start text.behind) (units text) new
+IsCutOffText old start text new =
+    IsCutOff old (start_value old.nfa start text.behind) (units text) new
+
+-- a walk computes at most one transition for each of its units
+abbrev pub EachWalkComputesFew : Type 0
+EachWalkComputesFew = (c : Cache) (v : Value) (us : List (Option ℕ))
+    → c.computed ≤ 18446744073709551615
+    → (c.computed ≤ (after_walk c v us).computed)
+    × ((after_walk c v us).computed ≤ c.computed + length us)

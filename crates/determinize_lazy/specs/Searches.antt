@@ -18,23 +18,27 @@ use Rattle.determinize_core.specs.LastMatch.{IsFarthestMatch, IsPreferredMatch, 
 use Rattle.determinize_lazy.specs.Cache.{Cache, IsCutOff, after_walk, step_of}
 use Rattle.determinize_lazy.specs.Plenty.{HasRoom, KeepsAll}
 
--- whether a search ends at a value: it records no NFA states or, in a search for the earliest match, it
--- lists a pattern
+-- whether a search ends at a value: it records no NFA states or, in a search for the earliest
+-- match, it lists a pattern
 abbrev pub is_last : Bool → Value → Bool
 is_last earliest v = (earliest && is_nonempty v.patterns) || not (is_nonempty v.states)
 
 -- the units that a search from a value reads: none more from a value on at which it ends
-abbrev pub units_read : (Value → Option ℕ → Value) → Bool → Value → List (Option ℕ) → List (Option ℕ)
+abbrev pub units_read : (Value → Option ℕ → Value) → Bool → Value → List (Option ℕ)
+    → List (Option ℕ)
 units_read f earliest v [] = []
-units_read f earliest v (u ∷ us) = cond (is_last earliest v) [] (u ∷ units_read f earliest (f v u) us)
+units_read f earliest v (u ∷ us) =
+    cond (is_last earliest v) [] (u ∷ units_read f earliest (f v u) us)
 
 -- the units that a search from an NFA state over a text reads
 abbrev pub units_searched : Cache → ℕ → Text → List (Option ℕ)
-units_searched c start text = units_read (step_of c) false (start_value c.nfa start text.behind) (units text)
+units_searched c start text =
+    units_read (step_of c) false (start_value c.nfa start text.behind) (units text)
 
 -- the cache after a search from an NFA state over a text
 unfoldable pub after_search : Cache → ℕ → Text → Cache
-after_search c start text = after_walk c (start_value c.nfa start text.behind) (units_searched c start text)
+after_search c start text =
+    after_walk c (start_value c.nfa start text.behind) (units_searched c start text)
 
 -- the cache after `is_match` from an NFA state over a text
 unfoldable pub after_first_match : Cache → ℕ → Text → Cache
@@ -42,15 +46,18 @@ after_first_match c start text =
     let first : Value = start_value c.nfa start text.behind in
     after_walk c first (units_read (step_of c) true first (units text))
 
--- with room for all that a search reads, each of its transitions is cached, and each that was missing was
--- computed once
+-- with room for all that a search reads, each of its transitions is cached, and each that was
+-- missing was computed once
 abbrev pub IsPlenty : Cache → ℕ → Text → Cache → Type 0
 IsPlenty old start text new =
     let first : Value = start_value old.nfa start text.behind in
-    HasRoom old first (units_searched old start text) → KeepsAll old first (units_searched old start text) new
+    HasRoom old first (units_searched old start text)
+    → KeepsAll old first (units_searched old start text) new
 
--- the last match of the walk from an NFA state over a text, in words of runs too; it ends within the text
-pub record IsSearch (nfa : Nfa) (kind : MatchKind) (start : ℕ) (text : Text) (found : Option HalfMatch) : Type 0 where
+-- the last match of the walk from an NFA state over a text, in words of runs too; it ends within
+-- the text
+pub record IsSearch (nfa : Nfa) (kind : MatchKind) (start : ℕ) (text : Text)
+    (found : Option HalfMatch) : Type 0 where
   pub last : found ≡ last_match (chain nfa kind start text)
   pub preferred : kind ≡ LeftmostFirst → IsPreferredMatch nfa start text found
   pub farthest : kind ≡ All → IsFarthestMatch nfa start text found
@@ -77,7 +84,8 @@ abbrev pub text_of : Bool → Asked → Text
 text_of false asked = between (byte_before asked.haystack asked.start)
     (slice_range asked.haystack asked.start asked.end) (slice_get asked.haystack asked.end)
 text_of true asked = between (slice_get asked.haystack asked.end)
-    (reverse (slice_range asked.haystack asked.start asked.end)) (byte_before asked.haystack asked.start)
+    (reverse (slice_range asked.haystack asked.start asked.end))
+    (byte_before asked.haystack asked.start)
 
 -- the index in the haystack after so many bytes
 abbrev pub index_after : Bool → Asked → ℕ → ℕ
@@ -90,12 +98,14 @@ in_haystack backward asked m = record m { offset = index_after backward asked m.
 
 -- the answer to an input: that of a search of its text, in the haystack
 abbrev pub found_in : Nfa → Asked → Option HalfMatch → Option HalfMatch
-found_in nfa asked found = cond (is_done asked) None (option_map (in_haystack nfa.reverse asked) found)
+found_in nfa asked found =
+    cond (is_done asked) None (option_map (in_haystack nfa.reverse asked) found)
 
 -- the last match of the walk over what an input asks for
 unfoldable pub last_in : Nfa → MatchKind → Asked → Option HalfMatch
 last_in nfa kind asked =
-    found_in nfa asked (last_match (chain nfa kind (start_for nfa asked.anchored) (text_of nfa.reverse asked)))
+    found_in nfa asked (last_match (chain nfa kind (start_for nfa asked.anchored)
+    (text_of nfa.reverse asked)))
 
 -- some run over what an input asks for accepts
 abbrev pub HasMatch : Nfa → Asked → Type 0
@@ -125,7 +135,8 @@ after_is_match c asked =
     cond (is_done asked) c
     (after_first_match c (start_for c.nfa asked.anchored) (text_of c.nfa.reverse asked))
 
--- with room for all that it reads, each of its transitions is cached, and each that was missing was computed once
+-- with room for all that it reads, each of its transitions is cached, and each that was missing was
+-- computed once
 abbrev pub IsPlentyIn : Cache → Asked → Cache → Type 0
 IsPlentyIn old asked new = is_done asked ≡ false → IsPlenty old (start_for old.nfa asked.anchored)
     (text_of old.nfa.reverse asked) new

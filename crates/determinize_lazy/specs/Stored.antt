@@ -18,7 +18,8 @@ is_unit None = true
 abbrev pub entry_at : List ℕ → ℕ → Option ℕ → ℕ
 entry_at rows p u = slice_index rows (p * 258 + column u)
 
--- the state to which an entry leads: the one whose row has this offset; none for 1, the offset of no row
+-- the state to which an entry leads: the one whose row has this offset; none for 1, the offset of
+-- no row
 abbrev pub state_at : List Value → ℕ → Option Value
 state_at states entry = cond (nat_eq entry 1) None (slice_get states (entry / 258))
 

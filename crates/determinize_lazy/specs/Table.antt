@@ -6,7 +6,8 @@ use Rattle.std.specs.Option.{option_eq}
 pub use Rattle.determinize_core.specs.Equality.{same}
 use Rattle.determinize_core.specs.Value.{Value}
 
--- the cached states, and for each cached transition, from a state over a byte or over EOI, its target
+-- the cached states, and for each cached transition, from a state over a byte or over EOI, its
+-- target
 pub record Table : Type 0 where
   pub states : List Value
   pub target : Value → Option ℕ → Option Value
@@ -33,7 +34,8 @@ with_values values [] = values
 with_values values (v ∷ vs) = with_values (with_value values v) vs
 
 -- the targets with w as that of the transition from v over u
-abbrev pub with_target : (Value → Option ℕ → Option Value) → Value → Option ℕ → Value → Value → Option ℕ → Option Value
+abbrev pub with_target : (Value → Option ℕ → Option Value) → Value → Option ℕ → Value → Value
+    → Option ℕ → Option Value
 with_target target v u w x y = cond (same x v && same_unit y u) (Some w) (target x y)
 
 -- the table with the transition from v over u to w, and with both states
@@ -49,7 +51,8 @@ index_in values v = position_from (same v) 0 values
 
 -- no two of the values are equal
 abbrev pub EachApart : List Value → Type 0
-EachApart values = (p q : ℕ) (v : Value) → slice_get values p ≡ Some v → slice_get values q ≡ Some v → p ≡ q
+EachApart values = (p q : ℕ) (v : Value) → slice_get values p ≡ Some v → slice_get values q ≡ Some v
+    → p ≡ q
 
 -- each state is there once, and it is the source or the target of a cached transition; each cached
 -- transition is a step of the DFA, and its source and its target are there

@@ -1,5 +1,5 @@
--- Worked walks and searches over one cache of the NFA `\b\w+\b`, the preferred match wanted: how many transitions are
--- computed, and how many states are cached then.
+-- Worked walks and searches over one cache of the NFA `\b\w+\b`, the preferred match wanted: how
+-- many transitions are computed, and how many states are cached then.
 use Rattle.std.specs.Prelude.{◌≡◌, ℕ, true, Option, Some, None, List, [], ◌∷◌, length}
 use Rattle.determinize_below.specs.declared.search.MatchKind.TheVariants.{LeftmostFirst}
 use Rattle.determinize_below.specs.Semantics.{Text, between}
@@ -12,7 +12,8 @@ use Rattle.determinize_lazy.specs.Searches.{after_search, last_in}
 
 -- an empty cache of at most so many states
 abbrev pub empty : ℕ → Cache
-empty limit = record { nfa = n4; kind = LeftmostFirst; limit = limit; table = nothing; computed = 0 }
+empty limit =
+    record { nfa = n4; kind = LeftmostFirst; limit = limit; table = nothing; computed = 0 }
 
 -- `quartz`, a whole word
 abbrev pub whole_word : Text
@@ -63,7 +64,8 @@ pub record AreWorkedRows : Type 0 where
   pub room_for_one : Leaves 1 (Some inside_a_word ∷ Some inside_a_word ∷ []) 12 1
   pub searched : LeavesAfterSearch whole_word 7 3
   pub stopped : LeavesAfterSearch inside_a_word 1 2
-  pub forward : last_in n4 LeftmostFirst (between_signs 2 6) ≡ Some record { pattern = 0; offset = 4 }
+  pub forward : last_in n4 LeftmostFirst (between_signs 2 6)
+      ≡ Some record { pattern = 0; offset = 4 }
   pub backward : last_in (record n4 { reverse = true }) LeftmostFirst (between_signs 0 4)
       ≡ Some record { pattern = 0; offset = 2 }
   pub inside : last_in n4 LeftmostFirst (between_signs 3 6) ≡ None

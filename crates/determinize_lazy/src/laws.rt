@@ -1,5 +1,6 @@
 //! Laws of the cache over the definitions, as public functions with empty bodies.
 
+ghost use Rattle.determinize_lazy.specs.Cache.{EachWalkComputesFew};
 ghost use Rattle.determinize_lazy.specs.WorkedRows.{AreWorkedRows};
 
 /// Walks and searches over one cache by the definitions: how many transitions are computed and how
@@ -7,4 +8,9 @@ ghost use Rattle.determinize_lazy.specs.WorkedRows.{AreWorkedRows};
 /// for none, and after searches; and the last match in ranges of a haystack, in both directions.
 pub fn cache_rows_law()
     ensures { AreWorkedRows }
+{}
+
+/// A walk through a cache computes at most one transition for each of its units.
+pub fn walk_count_law()
+    ensures { EachWalkComputesFew }
 {}

@@ -1,2 +1,1 @@
 pub mod StartKinds
-pub mod StartRows

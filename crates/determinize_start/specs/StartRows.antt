@@ -1,7 +1,7 @@
 -- Examples: the start kinds of small searches, and the look-behind of start kinds and of single
 -- units.
 use Rattle.std.specs.Prelude.{◌≡◌, ℕ, Bool, true, false, List, [], ◌∷◌, Option, Some, None, codes, slice_get}
-use Rattle.determinize_start.specs.LookTables.{tables, start_have, start_from_word, start_half_crlf, have_after, from_word_after, half_crlf_after}
+use Rattle.determinize_start.specs.LookTables.{Tables, tables, start_have, start_from_word, start_half_crlf, have_after, from_word_after, half_crlf_after}
 use Rattle.determinize_start.specs.StartKinds.{byte_before, start_kind, start_kind_of}
 use Rattle.determinize_start.specs.declared.start.Start.{Start as Kind}
 use Rattle.determinize_start.specs.declared.start.Start.TheVariants.{NonWordByte, WordByte, Text, LineLF, LineCR, CustomLineTerminator}
@@ -48,13 +48,14 @@ ByteRows =
     × (start_kind 13 13 ≡ LineCR)
     × (start_kind 13 10 ≡ LineLF)
 
--- the look-behind of a start kind for an NFA with these assertions: look-have, from-word and
--- half-CRLF
+-- the look-behind of a start kind: look-have, from-word and half-CRLF
+abbrev told : Tables → Kind → ℕ × Bool × Bool
+told t kind = (start_have t kind, start_from_word t kind, start_half_crlf t kind)
+
+-- it is this for an NFA with these assertions
 abbrev IsTold : ℕ → Bool → ℕ → Kind → ℕ → Bool → Bool → Type 0
 IsTold any reverse terminator kind have from_word half =
-    (start_have (tables reverse terminator any) kind ≡ have)
-    × (start_from_word (tables reverse terminator any) kind ≡ from_word)
-    × (start_half_crlf (tables reverse terminator any) kind ≡ half)
+    told (tables reverse terminator any) kind ≡ (have, from_word, half)
 
 -- for an NFA with Start, StartLF, StartCRLF and WordAscii; the line terminators are a line feed, a
 -- carriage return, x, a and a semicolon
@@ -84,13 +85,14 @@ ClassRows =
     × IsTold 0x1 false 10 WordByte 0 false false
     × IsTold 0x40 false 10 LineLF 0x14000 false false
 
--- the look-behind after a forward step over a unit, for an NFA with these assertions and the line
--- terminator `\n`: look-have, from-word and half-CRLF
+-- the look-behind after a step over a unit
+abbrev told_after : Tables → Option ℕ → ℕ × Bool × Bool
+told_after t u = (have_after t u, from_word_after t u, half_crlf_after t u)
+
+-- it is this after a forward step, for an NFA with these assertions and the line terminator `\n`
 abbrev IsToldAfter : ℕ → Option ℕ → ℕ → Bool → Bool → Type 0
 IsToldAfter any unit have from_word half =
-    (have_after (tables false 10 any) unit ≡ have)
-    × (from_word_after (tables false 10 any) unit ≡ from_word)
-    × (half_crlf_after (tables false 10 any) unit ≡ half)
+    told_after (tables false 10 any) unit ≡ (have, from_word, half)
 
 -- for NFAs with only StartLF, only StartCRLF and only WordAscii, over a line feed, a carriage
 -- return, a and EOI
@@ -108,7 +110,4 @@ StepRows =
 -- an NFA without assertions has an empty look-behind at the start
 abbrev pub NothingTold : Type 0
 NothingTold =
-    (reverse : Bool) (t : ℕ) (kind : Kind)
-    → (start_have (tables reverse t 0) kind ≡ 0)
-    × (start_from_word (tables reverse t 0) kind ≡ false)
-    × (start_half_crlf (tables reverse t 0) kind ≡ false)
+    (reverse : Bool) (t : ℕ) (kind : Kind) → IsTold 0 reverse t kind 0 false false

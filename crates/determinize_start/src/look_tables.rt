@@ -14,7 +14,7 @@
 ghost use Rattle.std.specs.Prelude.{◌≡◌, true, false, not, ◌&&◌};
 ghost use Rattle.determinize_below.specs.Look.{has, has_word};
 ghost use Rattle.determinize_below.specs.Nfa.{IsAccepted};
-ghost use Rattle.determinize_below.specs.Semantics.{cr, lf};
+ghost use Rattle.determinize_below.specs.Semantics.{crlf_1, crlf_2};
 ghost use Rattle.determinize_below.specs.Unit.{byte_of};
 ghost use Rattle.determinize_below.specs.declared.look.Look.{Look as Assertion};
 ghost use Rattle.determinize_start.specs.LookTables as tables;
@@ -43,9 +43,11 @@ impl Model for Told {
 
     ghost Value = { Telling };
 
-    ghost view = { λ t. record { looks = t.looks; from_word = t.from_word; half_crlf = t.half_crlf } };
+    ghost view = { λ t.
+        record { looks = t.looks; from_word = t.from_word; half_crlf = t.half_crlf } };
 
-    ghost inverse = { λ t. record { looks = t.looks; from_word = t.from_word; half_crlf = t.half_crlf } };
+    ghost inverse = { λ t.
+        record { looks = t.looks; from_word = t.from_word; half_crlf = t.half_crlf } };
 }
 
 impl Told {
@@ -135,14 +137,14 @@ impl LookTables {
 
     /// Returns the byte of a CRLF that is read first.
     fn crlf_first(self) -> u8
-        ensures { result ≡ cr self.reverse }
+        ensures { result ≡ crlf_1 self.reverse }
     {
         if self.reverse { b'\n' } else { b'\r' }
     }
 
     /// Returns the byte of a CRLF that is read second.
     fn crlf_second(self) -> u8
-        ensures { result ≡ lf self.reverse }
+        ensures { result ≡ crlf_2 self.reverse }
     {
         if self.reverse { b'\r' } else { b'\n' }
     }

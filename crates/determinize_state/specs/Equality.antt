@@ -14,7 +14,8 @@ use Rattle.determinize_state.specs.Value.{Value}
 -- the NFA states
 abbrev pub parts : Value → List ℕ
 parts v =
-    cond v.from_word 1 0 ∷ cond v.half_crlf 1 0 ∷ v.look_have ∷ v.look_need ∷ length v.patterns ∷ v.patterns ++ v.states
+    cond v.from_word 1 0 ∷ cond v.half_crlf 1 0 ∷ v.look_have ∷ v.look_need ∷ length v.patterns
+    ∷ v.patterns ++ v.states
 
 -- whether two values are equal
 abbrev pub same : Value → Value → Bool
@@ -52,14 +53,18 @@ from_parts-parts v = λ i. record {
 -- `same` decides equality
 pub Decides-same : (v w : Value) → Decides (same v w) (v ≡ w)
 Decides-same v w =
-    let lists : Decides (same v w) (parts v ≡ parts w) = bytes_decides (parts v) (parts w) in
-    (λ e. sym (from_parts-parts v) ∙ ap from_parts (lists.0 e) ∙ from_parts-parts w, λ e. lists.1 (ap parts e))
+    let lists : Decides (same v w) (parts v ≡ parts w) = bytes_decides (parts v) (parts w) in (
+      λ e. sym (from_parts-parts v) ∙ ap from_parts (lists.0 e) ∙ from_parts-parts w,
+      λ e. lists.1 (ap parts e),
+    )
 
 -- two values are the same if and only if their order is a tie
 pub same-ties : (v w : Value) → same v w ≡ eq_by_cmp by_bytes v w
 same-ties v w =
-    first (same v w) (pointwise ◌==◌ (spell v) (spell w)) (λ e. (bytes_decides (spell v) (spell w)).1 (ap spell ((Decides-same v w).0 e)))
-    ∙ both_tied _ _ _ _ (lists_ties nat_cmp unsigned_ties (spell v) (spell w)) (lists_ties nat_cmp unsigned_ties (parts v) (parts w))
+    first (same v w) (pointwise ◌==◌ (spell v) (spell w))
+    (λ e. (bytes_decides (spell v) (spell w)).1 (ap spell ((Decides-same v w).0 e)))
+    ∙ both_tied _ _ _ _ (lists_ties nat_cmp unsigned_ties (spell v) (spell w))
+    (lists_ties nat_cmp unsigned_ties (parts v) (parts w))
   where
     first : (s t : Bool) → (s ≡ true → t ≡ true) → s ≡ (t && s)
     first true t so = rw (so refl)

@@ -17,7 +17,9 @@ is_explicit _ = true
 -- the first byte: whether some pattern matches, whether the patterns are explicit, and the two
 -- flags
 abbrev pub flags : Value → ℕ
-flags value = bit (is_nonempty value.patterns) 1 + bit (is_explicit value.patterns) 2 + bit value.from_word 4 + bit value.half_crlf 8
+flags value =
+    bit (is_nonempty value.patterns) 1 + bit (is_explicit value.patterns) 2
+    + bit value.from_word 4 + bit value.half_crlf 8
 
 -- a number in four bytes, little-endian
 abbrev pub word : ℕ → List ℕ
@@ -35,7 +37,8 @@ pattern_bytes ids = if is_explicit ids then word (length ids) ++ words ids else 
 -- the encoding of a value
 unfoldable pub spell : Value → List ℕ
 spell value =
-    flags value ∷ word value.look_have ++ word value.look_need ++ pattern_bytes value.patterns ++ deltas 0 value.states
+    flags value ∷ word value.look_have ++ word value.look_need ++ pattern_bytes value.patterns
+    ++ deltas 0 value.states
 
 -- the number in the four bytes at an offset
 abbrev pub number_at : List ℕ → ℕ → ℕ
@@ -44,7 +47,9 @@ number_at bytes at = from_le_bytes w32 (take 4 (drop at bytes))
 -- the bytes with a number written into the four at an offset
 abbrev pub with_word : List ℕ → ℕ → ℕ → List ℕ
 with_word bytes at number =
-    slice_set (slice_set (slice_set (slice_set bytes at (number % 256)) (at + 1) (number / 256 % 256)) (at + 2) (number / 65536 % 256)) (at + 3) (number / 16777216 % 256)
+    slice_set (slice_set (slice_set (slice_set bytes
+    at (number % 256)) (at + 1) (number / 256 % 256))
+    (at + 2) (number / 65536 % 256)) (at + 3) (number / 16777216 % 256)
 
 -- the numbers in the bytes, four bytes each
 abbrev pub numbers_in : List ℕ → List ℕ
@@ -63,7 +68,8 @@ start_in bytes = if has_flag bytes 2 then 13 + 4 * number_at bytes 9 else 9
 -- matches
 abbrev pub patterns_in : List ℕ → List ℕ
 patterns_in bytes =
-    if has_flag bytes 2 then numbers_in (take (4 * number_at bytes 9) (drop 13 bytes)) else (if has_flag bytes 1 then 0 ∷ [] else [])
+    if has_flag bytes 2 then numbers_in (take (4 * number_at bytes 9) (drop 13 bytes))
+    else (if has_flag bytes 1 then 0 ∷ [] else [])
 
 -- the value that the bytes encode
 unfoldable pub value_of : List ℕ → Value

@@ -14,7 +14,14 @@ pub record Value : Type 0 where
 
 -- the dead value: nothing set, no pattern and no NFA state
 abbrev pub dead : Value
-dead = record { from_word = false; half_crlf = false; look_have = 0; look_need = 0; patterns = []; states = [] }
+dead = record {
+  from_word = false;
+  half_crlf = false;
+  look_have = 0;
+  look_need = 0;
+  patterns = [];
+  states = [];
+}
 
 -- the sets have only the 18 assertions, the patterns are distinct, and all ids are in range
 pub record IsValue (value : Value) : Type 0 where
@@ -48,4 +55,7 @@ with_looks value looks = record value { look_have = bit_or value.look_have looks
 
 -- the value with these flags set in addition to its own
 abbrev pub with_flags : Value → Bool → Bool → Value
-with_flags value from_word half_crlf = record value { from_word = value.from_word || from_word; half_crlf = value.half_crlf || half_crlf }
+with_flags value from_word half_crlf = record value {
+  from_word = value.from_word || from_word;
+  half_crlf = value.half_crlf || half_crlf;
+}

@@ -13,7 +13,8 @@ unzigzag from number = if nat_eq (number % 2) 0 then from + number / 2 else from
 -- more
 abbrev pub groups : ℕ → ℕ → List ℕ
 groups zero number = number ∷ []
-groups (suc more) number = if nat_lt number 128 then number ∷ [] else (128 + number % 128) ∷ groups more (number / 128)
+groups (suc more) number =
+    if nat_lt number 128 then number ∷ [] else (128 + number % 128) ∷ groups more (number / 128)
 
 -- a number in as few groups as it needs, at most five
 unfoldable pub varint : ℕ → List ℕ
@@ -34,7 +35,8 @@ last_id from (id ∷ ids) = last_id id ids
 abbrev pub ids_from : ℕ → ℕ → ℕ → List ℕ → List ℕ
 ids_from from low weight [] = []
 ids_from from low weight (byte ∷ bytes) =
-    if nat_lt byte 128 then unzigzag from (low + weight * byte) ∷ ids_from (unzigzag from (low + weight * byte)) 0 1 bytes
+    if nat_lt byte 128 then unzigzag from (low + weight * byte)
+    ∷ ids_from (unzigzag from (low + weight * byte)) 0 1 bytes
     else ids_from from (low + weight * (byte - 128)) (weight * 128) bytes
 
 -- the bytes encode ids in range, after `from`

@@ -5,7 +5,8 @@ use Rattle.determinize_below.specs.declared.search.Anchored.TheVariants.{Yes}
 use Rattle.determinize_below.specs.declared.search.Match.{Match}
 use Rattle.determinize_lazy.specs.Searches.{IsFarthestIn}
 
--- the token is the longest one that begins where it does, with the pattern of the best run that ends there
+-- the token is the longest one that begins where it does, with the pattern of the best run that
+-- ends there
 abbrev pub IsLongest : Nfa → List ℕ → Match → Type 0
 IsLongest nfa text m = IsFarthestIn nfa record {
   haystack = text;

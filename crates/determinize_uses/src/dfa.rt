@@ -11,8 +11,9 @@ use std::alloc::{AllocError, Allocator, Global};
 use std::collections::HashMap;
 use std::hash::{BuildHasherDefault, FoldHasher};
 
-/// A DFA: its states in the order in which they are found, the start state first, and for each state
-/// a row with the indices of the next states, over each byte and, last, over the end of input (EOI).
+/// A DFA: its states in the order in which they are found, the start state first, and for each
+/// state a row with the indices of the next states, over each byte and, last, over the end of input
+/// (EOI).
 #[derive(Drop)]
 pub struct Dfa<A: Allocator = Global> {
     /// The states.
@@ -42,8 +43,8 @@ impl<A: Allocator> Dfa<A> {
 /// The index of each state that was found.
 type Indices<A> = HashMap<State<A>, usize, BuildHasherDefault<FoldHasher>, A>;
 
-/// Returns the index of a state among those found, and adds it as the last one if it is new. The ids
-/// of all of them are states of the NFA, before and after.
+/// Returns the index of a state among those found, and adds it as the last one if it is new. The
+/// ids of all of them are states of the NFA, before and after.
 ///
 /// On error the map may have a state that the list lacks.
 fn index_of<N: Allocator, A: Allocator + Copy>(

@@ -59,7 +59,8 @@ pub fn span<N: Allocator, A: Allocator + Copy>(
         record { haystack = haystack.now; start = 0; end = m.offset; anchored = Yes })
         → IfOk result (λ found. IfNone found (HasMatch forward.old.nfa text → ⊥)) }
     ensures ordered { IfOk result (λ found. IfSome found (λ range. range.start ≤ range.end)) }
-    ensures within { IfOk result (λ found. IfSome found (λ range. range.end ≤ length haystack.now)) }
+    ensures within { IfOk result (λ found.
+        IfSome found (λ range. range.end ≤ length haystack.now)) }
 {
     let whole = Input::new(haystack);
     let Some(last) = forward.search_input(&whole)? else {

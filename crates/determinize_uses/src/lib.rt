@@ -1,5 +1,5 @@
-//! Uses of the libraries, to read and to copy. Each module is one use, and its contracts are proved.
-//! `search_tests` runs all but [`counted`].
+//! Uses of the libraries, to read and to copy. Each module is one use, and its contracts are
+//! proved. `search_tests` runs all but [`counted`].
 //!
 //! - [`values`] makes one value of each small type: sets, start kinds, closures, states.
 //! - [`nfa`] makes an NFA by hand, and [`readme`] is that of the README's program.

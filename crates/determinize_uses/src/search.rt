@@ -10,8 +10,8 @@ use determinize_below::{HalfMatch, MatchKind, NFA};
 use determinize_lazy::Lazy;
 use std::alloc::{AllocError, Allocator};
 
-/// Returns the preferred match of each text from its beginning, through one cache of at most `limit`
-/// states: the matches of walks without a cache.
+/// Returns the preferred match of each text from its beginning, through one cache of at most
+/// `limit` states: the matches of walks without a cache.
 pub fn matches<N: Allocator, A: Allocator + Copy>(
     alloc: A,
     nfa: &NFA<N>,

@@ -51,8 +51,8 @@ pub fn closure<N: Allocator, A: Allocator + Copy>(
     Ok(set)
 }
 
-/// Returns the state that was entered by a word byte, in which the patterns 1 and 0 match, and which
-/// has the NFA states 1, 3 and 2.
+/// Returns the state that was entered by a word byte, in which the patterns 1 and 0 match, and
+/// which has the NFA states 1, 3 and 2.
 pub fn state<A: Allocator + Copy>(alloc: A) -> Result<State<A>, AllocError>
     ensures from_word { IfOk result (λ state. state.from_word ≡ true) }
     ensures patterns { IfOk result (λ state. state.patterns ≡ 1 ∷ 0 ∷ []) }

@@ -7,8 +7,8 @@ use determinize_below::{HalfMatch, MatchKind, NFA, StateID};
 use determinize_core::determinize::{last_match, walk};
 use std::alloc::{AllocError, Allocator};
 
-/// Returns the pattern and the end of the most preferred match that starts where the text starts, or
-/// `None` if there is no match.
+/// Returns the pattern and the end of the most preferred match that starts where the text starts,
+/// or `None` if there is no match.
 pub fn preferred<N: Allocator, A: Allocator + Copy>(
     alloc: A,
     nfa: &NFA<N>,

@@ -52,9 +52,12 @@ module _ (Z : Al) where
   gate_at p = (p.0, p.1 + up 8 (up (align (α Z)) 0 + size (α Z)))
 
   pub both_fields : {M : Type 1} {𝓤 : Ura M} (𝓛 : Logic 𝓤) (κ : Lft) (h : Whole.Denot) (p : ℕ × ℕ)
-      → ent 𝓤 (sem 𝓛 (hidden_shr Whole κ h p.0 p.1)) (sep 𝓤 (sem 𝓛 (seen Z κ (inner_at p) h.inner)) (sem 𝓛 (hidden_shr gate.the_row κ h.gate (gate_at p).0 (gate_at p).1)))
+      → ent 𝓤 (sem 𝓛 (hidden_shr Whole κ h p.0 p.1))
+      (sep 𝓤 (sem 𝓛 (seen Z κ (inner_at p) h.inner))
+      (sem 𝓛 (hidden_shr gate.the_row κ h.gate (gate_at p).0 (gate_at p).1)))
   both_fields {𝓤 = 𝓤} 𝓛 κ h p =
-      qed 𝓛 (‵ (hidden_shr Whole κ h p.0 p.1) ∷ []) ∵ unhide ! $ fsplit ! $ fsplit ! $ use1 𝓛 (‵ (seen Z κ (inner_at p) h.inner)) (id⊢ 𝓤 _) $
+      qed 𝓛 (‵ (hidden_shr Whole κ h p.0 p.1) ∷ []) ∵ unhide ! $ fsplit ! $ fsplit ! $
+      use1 𝓛 (‵ (seen Z κ (inner_at p) h.inner)) (id⊢ 𝓤 _) $
       move ! (1 ∷ []) $ fsplit ! $ keep ! (2 ∷ 0 ∷ []) $ done !
 
 -- A `&Gate` is passed to a call of one of its methods, which returns only the token.
@@ -76,24 +79,31 @@ module _ {M : Type 1} {𝓤 : Ura M} (𝓛 : Logic 𝓤) (at_mem : Memory → SP
 
     pub Asks-goes : ent 𝓤 (sep 𝓤 (sem 𝓛 (hidden_shr gate.the_row κ x c.0 c.1)) (A.lft κ q)) (Asks.pre at_asks)
     Asks-goes =
-        qed 𝓛 (‵ (hidden_shr gate.the_row κ x c.0 c.1) ∷ ‵ (flft κ q) ∷ []) ∵ feq_i ! (List Val) (vptr c.0 c.1 ∷ []) _ refl $ fjoin ! $
-        nothing ! $ move ! (1 ∷ 0 ∷ []) $ fjoin ! $ nothing ! $ move ! (2 ∷ 0 ∷ []) $ join ! $ move ! (0 ∷ 1 ∷ []) $ join ! $
+        qed 𝓛 (‵ (hidden_shr gate.the_row κ x c.0 c.1) ∷ ‵ (flft κ q) ∷ []) ∵ feq_i ! (List Val)
+        (vptr c.0 c.1 ∷ []) _ refl $ fjoin ! $
+        nothing ! $ move ! (1 ∷ 0 ∷ []) $ fjoin ! $ nothing ! $ move ! (2 ∷ 0 ∷ []) $ join ! $ move ! (0 ∷ 1 ∷ []) $
+        join ! $
         nothing ! $ move ! (1 ∷ 0 ∷ []) $ join ! $ done !
 
     pub Backs-goes : ent 𝓤 (sep 𝓤 (sem 𝓛 (hidden_shr gate.the_row κ x c.0 c.1)) (A.lft κ q)) (Backs.pre at_backs)
     Backs-goes = Asks-goes
 
     -- a flag and the token are returned
-    pub Asks-gives : (v : Val) → ent 𝓤 (Asks.post at_asks v) (H.⇛ (ex 𝓤 (λ (y : Bool). guard 𝓤 (v ≡ vbool y) (A.lft κ q))))
+    pub Asks-gives : (v : Val) → ent 𝓤 (Asks.post at_asks v)
+        (H.⇛ (ex 𝓤 (λ (y : Bool). guard 𝓤 (v ≡ vbool y) (A.lft κ q))))
     Asks-gives v =
         qed 𝓛 (raw (Asks.post at_asks v) ∷ []) ∵ updating ! $
-        use1 𝓛 (later (some (λ (y : Bool). ((‵ (flft κ q) ⊛ ‵ ftrue) ⊛ ‵ (bool.own_val y (v ∷ []))) ⊛ some (λ (ws : Unit {0} × Unit {0}). ‵ (fsep ftrue ftrue) ⊛ ‵ ftrue)))) (id⊢ 𝓤 _) $
+        use1 𝓛 (later (some (λ (y : Bool). ((‵ (flft κ q) ⊛ ‵ ftrue) ⊛ ‵ (bool.own_val y (v ∷ []))) ⊛ some
+        (λ (ws : Unit {0} × Unit {0}). ‵ (fsep ftrue ftrue) ⊛ ‵ ftrue)))) (id⊢ 𝓤 _) $
         await ! tt $ pick ! (λ y. split ! $ split ! $ move ! (1 ∷ []) $ facts ! bool _ (shows 𝓛 bool) y (v ∷ []) (λ is.
-        split ! $ at_once ! $ show ! (λ (z : Bool). guard 𝓤 (v ≡ vbool z) (A.lft κ q)) y $ check ! (ap only (bool_Tells y (v ∷ []) is)) $ keep ! (0 ∷ []) $ done !))
+        split ! $ at_once ! $ show ! (λ (z : Bool). guard 𝓤 (v ≡ vbool z) (A.lft κ q)) y $
+        check ! (ap only (bool_Tells y (v ∷ []) is)) $ keep ! (0 ∷ []) $ done !))
 
     -- the token is returned
     pub Backs-gives : (v : Val) → ent 𝓤 (Backs.post at_backs v) (H.⇛ (guard 𝓤 (v ≡ vunit) (A.lft κ q)))
     Backs-gives v =
         qed 𝓛 (raw (Backs.post at_backs v) ∷ []) ∵ updating ! $
-        use1 𝓛 (later (some (λ (r : Unit {0}). ((‵ (flft κ q) ⊛ ‵ ftrue) ⊛ ‵ (unit.own_val r (v ∷ []))) ⊛ some (λ (ws : Unit {0} × Unit {0}). ‵ (fsep ftrue ftrue) ⊛ ‵ ftrue)))) (id⊢ 𝓤 _) $ await ! tt $ pick ! (λ r.
-        split ! $ split ! $ move ! (1 ∷ []) $ feq_l ! (λ e. split ! $ at_once ! $ check ! (ap only e) $ keep ! (0 ∷ []) $ done !))
+        use1 𝓛 (later (some (λ (r : Unit {0}). ((‵ (flft κ q) ⊛ ‵ ftrue) ⊛ ‵ (unit.own_val r (v ∷ []))) ⊛ some
+        (λ (ws : Unit {0} × Unit {0}). ‵ (fsep ftrue ftrue) ⊛ ‵ ftrue)))) (id⊢ 𝓤 _) $ await ! tt $ pick ! (λ r.
+        split ! $ split ! $ move ! (1 ∷ []) $ feq_l !
+        (λ e. split ! $ at_once ! $ check ! (ap only e) $ keep ! (0 ∷ []) $ done !))

@@ -1,8 +1,8 @@
 //! A failing allocator for tests, and a driver that makes each allocation of a run fail in turn.
 //!
-//! [`FailingAllocator`] wraps another allocator. It fails requests by their number, and counts the requests
-//! and the blocks that have not been freed. [`fail_each_allocation`] repeats a run with it until every
-//! allocation has failed once.
+//! [`FailingAllocator`] wraps another allocator. It fails requests by their number, and counts the
+//! requests and the blocks that have not been freed. [`fail_each_allocation`] repeats a run with it
+//! until every allocation has failed once.
 #![tactic(auto)]
 
 pub mod turns;
@@ -63,8 +63,8 @@ impl Gate {
 
 /// An allocator that passes each request on to another one, unless its gate fails the request.
 ///
-/// No request fails or is counted before [`FailingAllocator::begin`] and after [`FailingAllocator::end`]. The
-/// blocks in use are always counted.
+/// No request fails or is counted before [`FailingAllocator::begin`] and after
+/// [`FailingAllocator::end`]. The blocks in use are always counted.
 #[derive(Drop)]
 pub struct FailingAllocator<B: Allocator> {
     inner: B,

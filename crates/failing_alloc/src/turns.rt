@@ -24,8 +24,9 @@ pub enum Outcome {
 /// failure. It does so twice: with all later allocations failing, too, and with only that one
 /// failing.
 ///
-/// The run receives the allocator to use, calls [`FailingAllocator::begin`] and [`FailingAllocator::end`] around
-/// the part that may fail, and returns whether all of that part succeeded.
+/// The run receives the allocator to use, calls [`FailingAllocator::begin`] and
+/// [`FailingAllocator::end`] around the part that may fail, and returns whether all of that part
+/// succeeded.
 pub fn fail_each_allocation<
     B: Allocator + Copy,
     E,

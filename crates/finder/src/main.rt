@@ -1,5 +1,5 @@
-//! Prints all matches of two patterns in standard input, one on a line: the pattern, where the match
-//! begins and where it ends.
+//! Prints all matches of two patterns in standard input, one on a line: the pattern, where the
+//! match begins and where it ends.
 #![tactic(auto)]
 
 ghost use Rattle.std.specs.Prelude.{◌≡◌, false, IfOk};

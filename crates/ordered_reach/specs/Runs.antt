@@ -30,14 +30,18 @@ abbrev pub IsBeginning : {N : Type 0} → List N → List N → Type 0
 IsBeginning {N} xs ys = (zs : List N) × (ys ≡ xs ++ zs)
 
 -- cs is the least run from the start to s
-pub record IsLeastRun {N : Type 0} (edges : N → List N) (start : N) (cs : List ℕ) (s : N) : Type 0 where
+pub record IsLeastRun {N : Type 0} (edges : N → List N) (start : N) (cs : List ℕ)
+    (s : N) : Type 0 where
   pub run : IsPath edges [] start cs s
   pub least : IsLeast (λ ds. IsPath edges [] start ds s) cs
 
 -- the list has each state, except those of `cap`, in which some run from the start ends at the
 -- position, once, sorted by the least such run
-pub record ListsReached {N : Type 0} (choices : ℕ × N → List (ℕ × N)) (cap : N → Bool) (start : N) (i : ℕ) (xs : List N) : Type 0 where
-  pub reached : (s : N) → (Contains xs s) ↔ ((cap s ≡ false) × ((cs : List ℕ) × IsPath choices [] (0, start) cs (i, s)))
+pub record ListsReached {N : Type 0} (choices : ℕ × N → List (ℕ × N)) (cap : N → Bool) (start : N)
+    (i : ℕ) (xs : List N) : Type 0 where
+  pub reached : (s : N) → (Contains xs s)
+      ↔ ((cap s ≡ false) × ((cs : List ℕ) × IsPath choices [] (0, start) cs (i, s)))
   pub once : (a b : ℕ) (s : N) → slice_get xs a ≡ Some s → slice_get xs b ≡ Some s → a ≡ b
   pub by_least : (a b : ℕ) (s t : N) → a < b → slice_get xs a ≡ Some s → slice_get xs b ≡ Some t
-      → (cs : List ℕ) × (ds : List ℕ) × IsLeastRun choices (0, start) cs (i, s) × IsLeastRun choices (0, start) ds (i, t) × Before cs ds
+      → (cs : List ℕ) × (ds : List ℕ) × IsLeastRun choices (0, start) cs (i, s)
+      × IsLeastRun choices (0, start) ds (i, t) × Before cs ds

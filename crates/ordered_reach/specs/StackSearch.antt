@@ -8,4 +8,5 @@ closure eq edges n met pending = met ++ ordered eq edges n (member eq met) pendi
 
 -- the number of nodes that the search has still to pop
 abbrev pub search_tries : {N : Type 0} → (N → N → Bool) → (N → List N) → ℕ → List N → List N → ℕ
-search_tries eq edges n met pending = length pending + edge_count edges (ordered eq edges n (member eq met) pending)
+search_tries eq edges n met pending =
+    length pending + edge_count edges (ordered eq edges n (member eq met) pending)

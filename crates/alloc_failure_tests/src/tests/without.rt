@@ -153,7 +153,8 @@ fn make_cache(rt: &impl Abort, heap: &Heap, row: &Row) -> Result<bool, Fail> {
     Ok(has_asked_none(rt, heap))
 }
 
-/// Searches the text of a walk through a cache: for its last match, as a haystack, and for any match.
+/// Searches the text of a walk through a cache: for its last match, as a haystack, and for any
+/// match.
 fn search_each(
     lazy: &mut Lazy<'_, Global, &Heap>,
     row: &Row,

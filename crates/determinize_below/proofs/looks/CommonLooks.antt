@@ -2,7 +2,8 @@
 -- Main statements: meets-from, meets-some, has-word.
 -- Used by: the four classes, and whether a closure is repeated.
 -- Idea: a bit that is in both numbers is that of an assertion.
-use Rattle.determinize_below.proofs.Common.{and_from, and_right, ap, arith, bit_and, Bool, both_ways, by_test, each_look, false, fun_ext, list_any, lit<, Look, nat_eq, not, refl, sym, true, ℕ, ◌&&◌, ◌<◌, ◌^◌, ◌∙◌, ◌≡◌}
+use mathlib.Core.Bool.{and-true, and-false}
+use Rattle.determinize_below.proofs.Common.{and_from, ap, arith, bit_and, Bool, both_ways, by_test, each_look, false, fun_ext, list_any, lit<, Look, nat_eq, not, sym, true, ℕ, ◌&&◌, ◌<◌, ◌^◌, ◌∙◌, ◌≡◌}
 use Rattle.std.proofs.lemmas.Nat.{and_le_r}
 use Rattle.determinize_below.specs.Classes.{haystack_looks, line_looks, crlf_looks, word_looks}
 use Rattle.determinize_below.specs.Look.{has, meets, has_haystack, has_line, has_crlf, has_word}
@@ -46,25 +47,19 @@ meets-some a b h = by_test (meets a b)
 class_is : (set class : ℕ) → class < 2 ^ 18 → meets set class ≡ list_any (λ l. has set l && has class l) each_look
 class_is set class h = meets-some set class (omega (arith, and_le_r set class))
 
-and_true : (a : Bool) → (a && true) ≡ a
-and_true a = grind arith
-
-and_false : (a : Bool) → (a && false) ≡ false
-and_false a = and_right a false refl
-
 -- a set meets a class if and only if some member of the class is in the set
 pub has-haystack : (set : ℕ) → has_haystack set ≡ list_any (has set) haystack_looks
 unfolding has
-has-haystack set = class_is set 0x3 (lit< tt) ∙ simp (and_true, and_false)
+has-haystack set = class_is set 0x3 (lit< tt) ∙ simp (and-true, and-false)
 
 pub has-line : (set : ℕ) → has_line set ≡ list_any (has set) line_looks
 unfolding has
-has-line set = class_is set 0x3C (lit< tt) ∙ simp (and_true, and_false)
+has-line set = class_is set 0x3C (lit< tt) ∙ simp (and-true, and-false)
 
 pub has-crlf : (set : ℕ) → has_crlf set ≡ list_any (has set) crlf_looks
 unfolding has
-has-crlf set = class_is set 0x30 (lit< tt) ∙ simp (and_true, and_false)
+has-crlf set = class_is set 0x30 (lit< tt) ∙ simp (and-true, and-false)
 
 pub has-word : (set : ℕ) → has_word set ≡ list_any (has set) word_looks
 unfolding has
-has-word set = class_is set 0x3FFC0 (lit< tt) ∙ simp (and_true, and_false)
+has-word set = class_is set 0x3FFC0 (lit< tt) ∙ simp (and-true, and-false)

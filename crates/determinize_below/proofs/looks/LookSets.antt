@@ -2,10 +2,10 @@
 -- Main statements: has-union, has-insert, same_sets, Decides-empty.
 -- Used by: all that computes with sets of assertions.
 -- Idea: a set is the bits of its members, and the bits of two assertions are distinct.
-use Rattle.determinize_below.proofs.Common.{and_right, ap, arith, bit_and, bit_at, bit_at-zero, bit_of, bit_or, Bool, Decides, each_look, End, EndCRLF, EndLF, eqb-true, false, get_or, inl, inr, list_any, list_any_at, lit<, Look, nat_eq, not, refl, Start, StartCRLF, StartLF, sym, true, WordAscii, WordAsciiNegate, WordEndAscii, WordEndHalfAscii, WordEndHalfUnicode, WordEndUnicode, WordStartAscii, WordStartHalfAscii, WordStartHalfUnicode, WordStartUnicode, WordUnicode, WordUnicodeNegate, ℕ, ◌&&◌, ◌*◌, ◌<◌, ◌^◌, ◌∙◌, ◌≡◌, ◌⊎◌}
+use Rattle.determinize_below.proofs.Common.{and_right, ap, arith, bit_and, bit_at, bit_at-zero, bit_of, bit_or, Bool, Decides, each_look, End, EndCRLF, EndLF, eqb-true, false, get_or, inl, inr, list_any, list_any_at, lit<, Look, nat_eq, not, refl, Start, StartCRLF, StartLF, sym, true, WordAscii, WordAsciiNegate, WordEndAscii, WordEndHalfAscii, WordEndHalfUnicode, WordEndUnicode, WordStartAscii, WordStartHalfAscii, WordStartHalfUnicode, WordStartUnicode, WordUnicode, WordUnicodeNegate, ℕ, ◌&&◌, ◌*◌, ◌<◌, ◌^◌, ◌∙◌, ◌≡◌}
 use Rattle.std.proofs.Common.{◌-◌, max, min, eq-eqb}
 use Rattle.std.specs.Int.{bit_not, w32}
-use mathlib.Core.Bool.{◌||◌}
+use mathlib.Core.Bool.{◌||◌, or-false, and-true}
 use Rattle.std.proofs.lemmas.Nat.{pow_pos}
 use Rattle.std.proofs.lemmas.Nat.Bits.{bit_at_or, bit_at_and, bit_at_not, bit_at-lt, and_pow, bit_at-pow_same, bit_at-pow_other, same_from_bits_below}
 use Rattle.std.proofs.lemmas.Bool.Decides.{eqb_tells}
@@ -35,70 +35,12 @@ index_of WordEndHalfAscii = 15
 index_of WordStartHalfUnicode = 16
 index_of WordEndHalfUnicode = 17
 
--- its bit is 2 to the power of its number
-bit_is : (l : Look) → bit_of l ≡ 2 ^ index_of l
+-- its bit is 2 to the power of its number, which is its index in the list of all assertions
+numbered : (l : Look)
+    → (bit_of l ≡ 2 ^ index_of l) × (index_of l < 18) × (get_or each_look (index_of l) Start ≡ l)
 unfolding index_of
-bit_is Start = refl
-bit_is End = refl
-bit_is StartLF = refl
-bit_is EndLF = refl
-bit_is StartCRLF = refl
-bit_is EndCRLF = refl
-bit_is WordAscii = refl
-bit_is WordAsciiNegate = refl
-bit_is WordUnicode = refl
-bit_is WordUnicodeNegate = refl
-bit_is WordStartAscii = refl
-bit_is WordEndAscii = refl
-bit_is WordStartUnicode = refl
-bit_is WordEndUnicode = refl
-bit_is WordStartHalfAscii = refl
-bit_is WordEndHalfAscii = refl
-bit_is WordStartHalfUnicode = refl
-bit_is WordEndHalfUnicode = refl
-
-index_small : (l : Look) → index_of l < 18
-unfolding index_of
-index_small Start = lit< tt
-index_small End = lit< tt
-index_small StartLF = lit< tt
-index_small EndLF = lit< tt
-index_small StartCRLF = lit< tt
-index_small EndCRLF = lit< tt
-index_small WordAscii = lit< tt
-index_small WordAsciiNegate = lit< tt
-index_small WordUnicode = lit< tt
-index_small WordUnicodeNegate = lit< tt
-index_small WordStartAscii = lit< tt
-index_small WordEndAscii = lit< tt
-index_small WordStartUnicode = lit< tt
-index_small WordEndUnicode = lit< tt
-index_small WordStartHalfAscii = lit< tt
-index_small WordEndHalfAscii = lit< tt
-index_small WordStartHalfUnicode = lit< tt
-index_small WordEndHalfUnicode = lit< tt
-
--- the list of all assertions has each at its index
-each_look-at : (l : Look) → get_or each_look (index_of l) Start ≡ l
-unfolding index_of
-each_look-at Start = refl
-each_look-at End = refl
-each_look-at StartLF = refl
-each_look-at EndLF = refl
-each_look-at StartCRLF = refl
-each_look-at EndCRLF = refl
-each_look-at WordAscii = refl
-each_look-at WordAsciiNegate = refl
-each_look-at WordUnicode = refl
-each_look-at WordUnicodeNegate = refl
-each_look-at WordStartAscii = refl
-each_look-at WordEndAscii = refl
-each_look-at WordStartUnicode = refl
-each_look-at WordEndUnicode = refl
-each_look-at WordStartHalfAscii = refl
-each_look-at WordEndHalfAscii = refl
-each_look-at WordStartHalfUnicode = refl
-each_look-at WordEndHalfUnicode = refl
+numbered Start = (refl, lit< tt, refl)
+numbered s = (refl, lit< tt, refl)
 
 -- a property of the index of each assertion is one of each number below 18
 at_indices : (P : ℕ → Type 0) → ((l : Look) → P (index_of l)) → (i : ℕ) → i < 18 → P i
@@ -122,31 +64,19 @@ at_indices P h = (below_more P 17
 test_of_bit : (x p : ℕ) → x < 2 → 0 < p → not (nat_eq (x * p) 0) ≡ nat_eq x 1
 test_of_bit x p h q = grind arith
 
-two : (x : ℕ) → x < 2 → (x ≡ 0) ⊎ (x ≡ 1)
-two x h = grind arith
-
 pub has-bit : (s : ℕ) (l : Look) → has s l ≡ nat_eq (bit_at s (index_of l)) 1
 unfolding has
-has-bit s l = rw (bit_is l, and_pow s (index_of l)) (test_of_bit _ _ (bit_at-lt s (index_of l)) (pow_pos (index_of l)))
+has-bit s l =
+    rw ((numbered l).0, and_pow s (index_of l)) (test_of_bit _ _ (bit_at-lt s (index_of l)) (pow_pos (index_of l)))
 
 or_test : (x y : ℕ) → x < 2 → y < 2 → nat_eq (max x y) 1 ≡ (nat_eq x 1 || nat_eq y 1)
-or_test x y h k = elim
-    (two x h) [
-      | inl p ↦ rw p (elim (two y k) [ inl q ↦ rw q | inr q ↦ rw q ])
-      | inr p ↦ rw p
-          (elim (two y k) [ inl q ↦ rw q | inr q ↦ rw q ])
-    ]
+or_test x y h k = grind arith
 
 and_test : (x y : ℕ) → x < 2 → y < 2 → nat_eq (min x y) 1 ≡ (nat_eq x 1 && nat_eq y 1)
-and_test x y h k = elim
-    (two x h) [
-      | inl p ↦ rw p (elim (two y k) [ inl q ↦ rw q | inr q ↦ rw q ])
-      | inr p ↦ rw p
-          (elim (two y k) [ inl q ↦ rw q | inr q ↦ rw q ])
-    ]
+and_test x y h k = grind arith
 
 not_test : (x : ℕ) → x < 2 → nat_eq (1 - x) 1 ≡ not (nat_eq x 1)
-not_test x h = elim (two x h) [ inl p ↦ rw p | inr p ↦ rw p ]
+not_test x h = grind arith
 
 pub has-union : (a b : ℕ) (l : Look) → has (bit_or a b) l ≡ (has a l || has b l)
 has-union a b l =
@@ -166,7 +96,7 @@ has-subtract a b l h =
       has-bit (bit_not w32 b) l,
       has-bit b l,
       bit_at_not w32 b (index_of l) h
-          (let k : index_of l < 18 = index_small l in omega arith),
+          (let k : index_of l < 18 = (numbered l).1 in omega arith),
       not_test _ (bit_at-lt b (index_of l)),
     )
 
@@ -186,7 +116,7 @@ bit_of_pow i j =
 
 has_single : (l k : Look) → has (bit_of l) k ≡ same l k
 unfolding same
-has_single l k = rw (has-bit (bit_of l) k, bit_is l) (bit_of_pow (index_of l) (index_of k))
+has_single l k = rw (has-bit (bit_of l) k, (numbered l).0) (bit_of_pow (index_of l) (index_of k))
 
 pub has-insert : (s : ℕ) (l k : Look) → has (insert s l) k ≡ (has s k || same l k)
 unfolding insert
@@ -202,7 +132,7 @@ has-remove s l k =
 pub Decides-same : (l k : Look) → Decides (same l k) (l ≡ k)
 unfolding same
 Decides-same l k = (
-  λ h. sym (each_look-at l) ∙ ap (λ i. get_or each_look i Start) (eqb-true _ _ h) ∙ each_look-at k,
+  λ h. sym ((numbered l).2) ∙ ap (λ i. get_or each_look i Start) (eqb-true _ _ h) ∙ (numbered k).2,
   λ e. eq-eqb _ _ (ap index_of e),
 )
 
@@ -213,24 +143,18 @@ pub has-insert_own : (s : ℕ) (l : Look) → has (insert s l) l ≡ true
 has-insert_own s l = has-insert s l l ∙ or_right (has s l) (same l l) ((Decides-same l l).1 refl)
 
 pub has-insert_others : (s : ℕ) (l k : Look) → ¬ (k ≡ l) → has (insert s l) k ≡ has s k
-has-insert_others s l k n = has-insert s l k ∙ ap (λ b. has s k || b) (same_other l k n) ∙ kept (has s k)
-  where
-    kept : (a : Bool) → (a || false) ≡ a
-    kept a = grind arith
+has-insert_others s l k n = has-insert s l k ∙ ap (λ b. has s k || b) (same_other l k n) ∙ or-false (has s k)
 
 pub has-remove_own : (s : ℕ) (l : Look) → has (remove s l) l ≡ false
 has-remove_own s l = has-remove s l l ∙ ap (λ b. has s l && not b) ((Decides-same l l).1 refl) ∙ and_right
     (has s l) false refl
 
 pub has-remove_others : (s : ℕ) (l k : Look) → ¬ (k ≡ l) → has (remove s l) k ≡ has s k
-has-remove_others s l k n = has-remove s l k ∙ ap (λ b. has s k && not b) (same_other l k n) ∙ kept (has s k)
-  where
-    kept : (a : Bool) → (a && true) ≡ a
-    kept a = grind arith
+has-remove_others s l k n = has-remove s l k ∙ ap (λ b. has s k && not b) (same_other l k n) ∙ and-true (has s k)
 
 -- one assertion that passes the test
 pub each_look-any : (test : Look → Bool) (l : Look) → test l ≡ true → list_any test each_look ≡ true
-each_look-any test l h = list_any_at test each_look (index_of l) Start (index_small l) (ap test (each_look-at l) ∙ h)
+each_look-any test l h = list_any_at test each_look (index_of l) Start (numbered l).1 (ap test ((numbered l).2) ∙ h)
 
 test_tells : (x y : ℕ) → x < 2 → y < 2 → nat_eq x 1 ≡ nat_eq y 1 → x ≡ y
 test_tells x y h k e = grind arith

@@ -2,7 +2,7 @@
 -- Main statements: edges-agree, edges-more, edges-capture, edges-or-target.
 -- Used by: SoundNfa, and the steps of a walk.
 -- Idea: by the kinds of states; only a `Look` state depends on the set.
-use Rattle.determinize_below.proofs.Common.{[], ap, arith, assertion_in, BinaryUnion, Bool, by_cases, by_test, ByteRange, Capture, cases_lt, Dense, edges, edges_of, Fail, false, false≢true, fun_ext, get_or, inl, inr, IsTested, length, List, Match, member, nat_eq, Nfa, Node, None, Option, option_to_list, pattern_in, pattern_of, refl, Some, Sparse, state_at, suc, target, target_of, true, Union, zero, ℕ, ◌<◌, ◌∷◌, ◌≡◌, ◌≤◌, ◌⊎◌}
+use Rattle.determinize_below.proofs.Common.{[], ap, arith, assertion_in, Bool, by_cases, by_test, ByteRange, Capture, cases_lt, Dense, edges, edges_of, Fail, false, false≢true, fun_ext, get_or, inl, inr, IsTested, length, List, Match, member, nat_eq, Nfa, Node, None, Option, option_to_list, pattern_in, pattern_of, refl, Some, Sparse, state_at, suc, target, target_of, true, zero, ℕ, ◌<◌, ◌∷◌, ◌≡◌, ◌≤◌, ◌⊎◌}
 use Rattle.std.specs.Option.{is_some}
 use Rattle.determinize_below.specs.Captures.{capture_next}
 use Rattle.determinize_below.specs.Semantics.{Look}
@@ -15,15 +15,8 @@ use Rattle.ordered_reach.proofs.lists.Pieces.{flat_map-without}
 edges_of-agree : (holds others : Assertion → Bool) (s : Node)
     → ((look : Assertion) → assertion_in s ≡ Some look → holds look ≡ others look)
     → edges_of holds s ≡ edges_of others s
-edges_of-agree holds others (ByteRange t) h = refl
-edges_of-agree holds others (Sparse ts) h = refl
-edges_of-agree holds others (Dense ids) h = refl
 edges_of-agree holds others (Look look next) h = rw (h look refl) refl
-edges_of-agree holds others (Union ids) h = refl
-edges_of-agree holds others (BinaryUnion a b) h = refl
-edges_of-agree holds others (Capture next) h = refl
-edges_of-agree holds others Fail h = refl
-edges_of-agree holds others (Match pattern) h = refl
+edges_of-agree holds others s h = refl
 
 pub edges-agree : (nfa : Nfa) (holds others : Assertion → Bool) (s : ℕ)
     → ((look : Assertion) → assertion_of nfa s ≡ Some look → holds look ≡ others look)
@@ -39,17 +32,10 @@ edges-same nfa holds others h = fun_ext (λ s. edges-agree nfa holds others s (�
 edges_of-more : (holds others : Assertion → Bool) (s : Node) (y : ℕ)
     → ((look : Assertion) → holds look ≡ true → others look ≡ true) → member nat_eq (edges_of holds s) y ≡ true
     → member nat_eq (edges_of others s) y ≡ true
-edges_of-more holds others (ByteRange t) y h m = m
-edges_of-more holds others (Sparse ts) y h m = m
-edges_of-more holds others (Dense ids) y h m = m
 edges_of-more holds others (Look look next) y h m = by_test (holds look)
     (λ e. rw (h look e) (rw e at m))
     (λ e. absurd (false≢true (rw e at m)))
-edges_of-more holds others (Union ids) y h m = m
-edges_of-more holds others (BinaryUnion a b) y h m = m
-edges_of-more holds others (Capture next) y h m = m
-edges_of-more holds others Fail y h m = m
-edges_of-more holds others (Match pattern) y h m = m
+edges_of-more holds others s y h m = m
 
 pub edges-more : (nfa : Nfa) (holds others : Assertion → Bool) (s y : ℕ)
     → ((look : Assertion) → holds look ≡ true → others look ≡ true) → member nat_eq (edges nfa holds s) y ≡ true
@@ -58,15 +44,8 @@ edges-more nfa holds others s y h m = edges_of-more holds others (state_at nfa s
 
 -- the set of all assertions gives the most edges
 length-edges_of : (holds : Assertion → Bool) (s : Node) → length (edges_of holds s) ≤ length (edges_of (λ look. true) s)
-length-edges_of holds (ByteRange t) = omega arith
-length-edges_of holds (Sparse ts) = omega arith
-length-edges_of holds (Dense ids) = omega arith
 length-edges_of holds (Look look next) = by_test (holds look) (λ e. rw e (omega arith)) (λ e. rw e (omega arith))
-length-edges_of holds (Union ids) = omega arith
-length-edges_of holds (BinaryUnion a b) = omega arith
-length-edges_of holds (Capture next) = omega arith
-length-edges_of holds Fail = omega arith
-length-edges_of holds (Match pattern) = omega arith
+length-edges_of holds s = omega arith
 
 pub length-edges : (nfa : Nfa) (holds : Assertion → Bool) (s : ℕ)
     → length (edges nfa holds s) ≤ length (edges nfa (λ look. true) s)
@@ -74,48 +53,22 @@ length-edges nfa holds s = length-edges_of holds (state_at nfa s)
 
 edges_of-capture : (holds : Assertion → Bool) (s : Node) → tests_capture s ≡ true
     → edges_of holds s ≡ capture_next s ∷ []
-edges_of-capture holds (ByteRange t) e = absurd (false≢true e)
-edges_of-capture holds (Sparse ts) e = absurd (false≢true e)
-edges_of-capture holds (Dense ids) e = absurd (false≢true e)
-edges_of-capture holds (Look look next) e = absurd (false≢true e)
-edges_of-capture holds (Union ids) e = absurd (false≢true e)
-edges_of-capture holds (BinaryUnion a b) e = absurd (false≢true e)
 edges_of-capture holds (Capture next) e = refl
-edges_of-capture holds Fail e = absurd (false≢true e)
-edges_of-capture holds (Match pattern) e = absurd (false≢true e)
+edges_of-capture holds s e = absurd (false≢true e)
 
 target_of-capture : (u : Option ℕ) (s : Node) → tests_capture s ≡ true → target_of u s ≡ None
 target_of-capture u (ByteRange t) e = absurd (false≢true e)
 target_of-capture u (Sparse ts) e = absurd (false≢true e)
 target_of-capture u (Dense ids) e = absurd (false≢true e)
-target_of-capture u (Look look next) e = refl
-target_of-capture u (Union ids) e = refl
-target_of-capture u (BinaryUnion a b) e = refl
-target_of-capture u (Capture next) e = refl
-target_of-capture u Fail e = refl
-target_of-capture u (Match pattern) e = refl
+target_of-capture u s e = refl
 
 match_no_capture : (s : Node) → is_some (pattern_in s) ≡ true → tests_capture s ≡ false
-match_no_capture (ByteRange t) e = refl
-match_no_capture (Sparse ts) e = refl
-match_no_capture (Dense ids) e = refl
-match_no_capture (Look look next) e = refl
-match_no_capture (Union ids) e = refl
-match_no_capture (BinaryUnion a b) e = refl
 match_no_capture (Capture next) e = absurd (false≢true e)
-match_no_capture Fail e = refl
-match_no_capture (Match pattern) e = refl
+match_no_capture s e = refl
 
 capture_no_pattern : (s : Node) → tests_capture s ≡ true → pattern_in s ≡ None
-capture_no_pattern (ByteRange t) e = refl
-capture_no_pattern (Sparse ts) e = refl
-capture_no_pattern (Dense ids) e = refl
-capture_no_pattern (Look look next) e = refl
-capture_no_pattern (Union ids) e = refl
-capture_no_pattern (BinaryUnion a b) e = refl
-capture_no_pattern (Capture next) e = refl
-capture_no_pattern Fail e = refl
 capture_no_pattern (Match pattern) e = absurd (false≢true e)
+capture_no_pattern s e = refl
 
 module _ (nfa : Nfa) where
   pub pattern-capture : (s : ℕ) → is_capture nfa s ≡ true → pattern_of nfa s ≡ None
@@ -142,14 +95,7 @@ module _ (nfa : Nfa) where
 
 target_of-end : (s : Node) → target_of None s ≡ None
 target_of-end (ByteRange t) = refl
-target_of-end (Sparse ts) = refl
-target_of-end (Dense ids) = refl
-target_of-end (Look look next) = refl
-target_of-end (Union ids) = refl
-target_of-end (BinaryUnion a b) = refl
-target_of-end (Capture next) = refl
-target_of-end Fail = refl
-target_of-end (Match pattern) = refl
+target_of-end s = refl
 
 -- no state has a transition on EOI
 pub target-end : (nfa : Nfa) (s : ℕ) → target nfa None s ≡ []
@@ -168,12 +114,7 @@ edges_or_target : (holds : Assertion → Bool) (u : Option ℕ) (s : Node)
 edges_or_target holds u (ByteRange t) = inl refl
 edges_or_target holds u (Sparse ts) = inl refl
 edges_or_target holds u (Dense ids) = inl refl
-edges_or_target holds u (Look look next) = inr refl
-edges_or_target holds u (Union ids) = inr refl
-edges_or_target holds u (BinaryUnion a b) = inr refl
-edges_or_target holds u (Capture next) = inr refl
-edges_or_target holds u Fail = inr refl
-edges_or_target holds u (Match pattern) = inr refl
+edges_or_target holds u s = inr refl
 
 -- a state has epsilon transitions, or a target on a unit, but not both
 pub edges-or-target : (nfa : Nfa) (holds : Assertion → Bool) (u : Option ℕ) (s : ℕ)

@@ -83,7 +83,8 @@ module _ (nfa : Nfa) where
 
     -- the first byte of the class of an earlier byte
     first_same : (b : ℕ) → b < n → get_or (set F len n) (get_or (set B n len) b 0) 0 ≡ get_or F (get_or B b 0) 0
-    first_same b h = ap (λ (x : ℕ). get_or (set F len n) x 0) (other_class len b h) ∙ other_first (get_or B b 0) (s.within b h)
+    first_same b h =
+        ap (λ (x : ℕ). get_or (set F len n) x 0) (other_class len b h) ∙ other_first (get_or B b 0) (s.within b h)
 
     first_new : get_or (set F len n) (get_or (set B n len) n 0) 0 ≡ n
     first_new = ap (λ (x : ℕ). get_or (set F len n) x 0) (own_class len) ∙ own_first
@@ -133,7 +134,8 @@ module _ (nfa : Nfa) where
 
         are_apart : (k : ℕ) → k < len + 1 → (j : ℕ) → j < k
             → AreAlike nfa (get_or (set F len n) j 0) (get_or (set F len n) k 0) → ⊥
-        are_apart = below_more (λ k. (j : ℕ) → j < k → AreAlike nfa (get_or (set F len n) j 0) (get_or (set F len n) k 0) → ⊥) len
+        are_apart = below_more (λ k. (j : ℕ) → j < k
+            → AreAlike nfa (get_or (set F len n) j 0) (get_or (set F len n) k 0) → ⊥) len
             (λ k h j l a.
             let low : j < len = omega arith in
             s.apart j k l h
@@ -152,7 +154,8 @@ module _ (nfa : Nfa) where
           → (k ≡ len → ⊥) → more ≡ len → firsts ≡ F → AreSorted nfa (n + 1) more (set B n k) firsts
       turn_held within alike other more_is firsts_is =
           let l : k < len = omega (arith, size) in
-          let a : AreAlike nfa (get_or F k 0) n = subst (λ (x : ℕ). AreAlike nfa x n) (get_or-take len F k 0 l) (alike (omega (arith, size))) in
+          let a : AreAlike nfa (get_or F k 0) n =
+          subst (λ (x : ℕ). AreAlike nfa x n) (get_or-take len F k 0 l) (alike (omega (arith, size))) in
           subst (λ (x : ℕ). AreSorted nfa (n + 1) x (set B n k) firsts) (sym more_is)
           (subst (λ (xs : List ℕ). AreSorted nfa (n + 1) len (set B n k) xs) (sym firsts_is) (sorted_held k l a))
 
@@ -160,7 +163,8 @@ module _ (nfa : Nfa) where
           → k ≡ len → more ≡ len + 1 → firsts ≡ set F len n → AreSorted nfa (n + 1) more (set B n k) firsts
       turn_new before last more_is firsts_is =
           let new : AreSorted nfa (n + 1) (len + 1) (set B n len) (set F len n) =
-          sorted_new (λ j h a. before j (omega arith) (subst (λ (x : ℕ). AreAlike nfa x n) (sym (get_or-take len F j 0 h)) a)) in
+          sorted_new (λ j h a. before j (omega arith)
+          (subst (λ (x : ℕ). AreAlike nfa x n) (sym (get_or-take len F j 0 h)) a)) in
           subst (λ (x : ℕ). AreSorted nfa (n + 1) more (set B n x) firsts) (sym last)
           (subst (λ (x : ℕ). AreSorted nfa (n + 1) x (set B n len) firsts) (sym more_is)
           (subst (λ (xs : List ℕ). AreSorted nfa (n + 1) (len + 1) (set B n len) xs) (sym firsts_is) new))

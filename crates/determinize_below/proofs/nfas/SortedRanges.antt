@@ -6,7 +6,7 @@ use Rattle.determinize_below.proofs.Common.{[], ap, arith, ascends_from, Bool, b
 use Rattle.std.proofs.Common.{nat_le}
 use Rattle.std.specs.Bool.{then_some}
 use Rattle.determinize_below.specs.Transition.{matches}
-use Rattle.determinize_below.specs.Semantics.{sparse_target}
+use Rattle.determinize_below.specs.Transition.{sparse_target}
 
 -- the target of a range, if it does not begin above the byte
 abbrev pub from_first : ℕ → Option Transition → Option ℕ

@@ -2,11 +2,12 @@
 -- Main statements: IsSound, accepted_sound, edges_enough, reach_within.
 -- Used by: nearly all proofs about closures and steps.
 -- Idea: each edge goes to a state, a pattern has one `Match`, and fuel one above the number of states is enough.
-use Rattle.determinize_below.proofs.Common.{[], ap, arith, BinaryUnion, Bool, by_cases, by_test, ByteRange, Capture, cases_lt, cond, Dense, edges, edges_of, eq-eqb, eqb-true, Fail, false, false≢true, fun_ext, get_or, is_match_of, IsAccepted, length, List, list_any_at, Match, member, nat_eq, Nfa, Node, None, not, Option, option_to_list, or_left, pattern_in, pattern_of, refl, slice_get, Some, Sparse, state_at, state_failure, states_failure, subst, suc, sym, take, target, target_of, Transition, true, Union, zero, ℕ, ◌++◌, ◌+◌, ◌<◌, ◌||◌, ◌∙◌, ◌∷◌, ◌≡◌, ◌≤◌}
+use mathlib.Core.Bool.{or-false}
+use Rattle.determinize_below.proofs.Common.{[], ap, arith, BinaryUnion, Bool, by_cases, by_test, ByteRange, Capture, cases_lt, cond, Dense, edges, edges_of, eq-eqb, eqb-true, Fail, false, false≢true, fun_ext, get_or, is_match_of, IsAccepted, length, List, list_any_at, Match, member, nat_eq, Nfa, Node, None, not, Option, option_to_list, or_left, pattern_in, pattern_of, refl, slice_get, Some, Sparse, state_at, state_failure, states_failure, subst, suc, sym, take, target, target_of, Transition, true, Union, zero, ℕ, ◌++◌, ◌+◌, ◌<◌, ◌∙◌, ◌∷◌, ◌≡◌, ◌≤◌}
 use Rattle.std.proofs.Common.{◌&&◌, append_assoc}
 use Rattle.std.specs.Prelude.{slice_index, nat_lt, find, option_map}
 use Rattle.std.specs.List.{flat_map, list_all}
-use Rattle.std.proofs.lemmas.Bool.{true≢false, not-false, cases_order}
+use Rattle.std.proofs.lemmas.Bool.{true≢false, not-false, cases_order, and_parts, ltb-true, lt-ltb}
 use Rattle.std.proofs.lemmas.List.{append-nil, get_or-take}
 use Rattle.std.proofs.lemmas.Option.{slice_get-get_or}
 use Rattle.determinize_below.specs.Semantics.{Look}
@@ -35,15 +36,6 @@ some_not_none a e = absurd cc
 passed : {A : Type 0} (b : Bool) (a : A) (o : Option A) → cond b (Some a) o ≡ None → (b ≡ false) × (o ≡ None)
 passed true a o e = some_not_none a e
 passed false a o e = (refl, e)
-
-both_left : (a b : Bool) → (a && b) ≡ true → a ≡ true
-both_left a b h = grind arith
-
-both_right : (a b : Bool) → (a && b) ≡ true → b ≡ true
-both_right a b h = grind arith
-
-below : (a b : ℕ) → nat_lt a b ≡ true → a < b
-below a b e = grind arith
 
 -- the facts of a state without an error, after the earlier states
 pub record HasPassed (count : ℕ) (earlier : List Node) (s : Node) : Type 0 where
@@ -84,8 +76,8 @@ all_pass count earlier i (x ∷ xs) e j s h = by_option (state_failure count ear
 list_all_member : (p : ℕ → Bool) (xs : List ℕ) (t : ℕ) → list_all p xs ≡ true → member nat_eq xs t ≡ true → p t ≡ true
 list_all_member p [] t a m = absurd (false≢true m)
 list_all_member p (x ∷ xs) t a m = by_test (nat_eq x t)
-    (λ e. let q : x ≡ t = eqb-true x t e in ap p (sym q) ∙ both_left (p x) (list_all p xs) a)
-    (λ e. list_all_member p xs t (both_right (p x) (list_all p xs) a) (rw e at m))
+    (λ e. let q : x ≡ t = eqb-true x t e in ap p (sym q) ∙ (and_parts _ _ a).0)
+    (λ e. list_all_member p xs t (and_parts _ _ a).1 (rw e at m))
 
 one_member : (count x t : ℕ) → nat_lt x count ≡ true → member nat_eq (x ∷ []) t ≡ true → nat_lt t count ≡ true
 one_member count x t r m = list_all_member (λ y. nat_lt y count) (x ∷ []) t (ap (λ b. b && true) r) m
@@ -93,9 +85,6 @@ one_member count x t r m = list_all_member (λ y. nat_lt y count) (x ∷ []) t (
 -- the epsilon transitions of a state whose ids are in range
 edges_resolve : (count : ℕ) (holds : Assertion → Bool) (s : Node) (t : ℕ) → resolves count s ≡ true
     → member nat_eq (edges_of holds s) t ≡ true → nat_lt t count ≡ true
-edges_resolve count holds (ByteRange x) t r m = absurd (false≢true m)
-edges_resolve count holds (Sparse x) t r m = absurd (false≢true m)
-edges_resolve count holds (Dense x) t r m = absurd (false≢true m)
 edges_resolve count holds (Look look next) t r m = by_test (holds look)
     (λ e. one_member count next t r (rw e at m))
     (λ e. absurd (false≢true (rw e at m)))
@@ -106,16 +95,15 @@ edges_resolve count holds (BinaryUnion a b) t r m =
     both : (p q : Bool) → (p && q) ≡ true → (p && (q && true)) ≡ true
     both p q h = grind arith
 edges_resolve count holds (Capture next) t r m = one_member count next t r m
-edges_resolve count holds Fail t r m = absurd (false≢true m)
-edges_resolve count holds (Match pattern) t r m = absurd (false≢true m)
+edges_resolve count holds s t r m = absurd (false≢true m)
 
 sparse_resolves : (count : ℕ) (p : Transition → Bool) (ts : List Transition) (y : ℕ)
     → list_all (λ t. nat_lt t.next count) ts ≡ true
     → member nat_eq (option_to_list (option_map (λ t. t.next) (find p ts))) y ≡ true → nat_lt y count ≡ true
 sparse_resolves count p [] y a m = absurd (false≢true m)
 sparse_resolves count p (t ∷ ts) y a m = by_test (p t)
-    (λ e. one_member count t.next y (both_left (nat_lt t.next count) _ a) (rw e at m))
-    (λ e. sparse_resolves count p ts y (both_right (nat_lt t.next count) _ a) (rw e at m))
+    (λ e. one_member count t.next y (and_parts _ _ a).0 (rw e at m))
+    (λ e. sparse_resolves count p ts y (and_parts _ _ a).1 (rw e at m))
 
 -- an entry of a dense state that is not 0 is an element of its list
 dense_resolves : (count : ℕ) (ids : List ℕ) (byte y : ℕ) → list_all (λ id. nat_lt id count) ids ≡ true
@@ -127,8 +115,8 @@ dense_resolves count ids byte y a m = by_test (nat_eq (slice_index ids byte) 0)
     item : (ids : List ℕ) (byte : ℕ) → list_all (λ id. nat_lt id count) ids ≡ true
         → nat_eq (slice_index ids byte) 0 ≡ false → nat_lt (slice_index ids byte) count ≡ true
     item [] byte a e = absurd (true≢false e)
-    item (id ∷ ids) zero a e = both_left (nat_lt id count) _ a
-    item (id ∷ ids) (suc byte) a e = item ids byte (both_right (nat_lt id count) _ a) e
+    item (id ∷ ids) zero a e = (and_parts _ _ a).0
+    item (id ∷ ids) (suc byte) a e = item ids byte (and_parts _ _ a).1 e
 
 -- the target of a state whose ids are in range
 targets_resolve : (count : ℕ) (byte : ℕ) (s : Node) (t : ℕ) → resolves count s ≡ true
@@ -138,23 +126,11 @@ targets_resolve count byte (ByteRange x) t r m = by_test (transitions.matches x 
     (λ e. absurd (false≢true (rw e at m)))
 targets_resolve count byte (Sparse ts) t r m = sparse_resolves count (λ x. transitions.matches x byte) ts t r m
 targets_resolve count byte (Dense ids) t r m = dense_resolves count ids byte t r m
-targets_resolve count byte (Look look next) t r m = absurd (false≢true m)
-targets_resolve count byte (Union ids) t r m = absurd (false≢true m)
-targets_resolve count byte (BinaryUnion a b) t r m = absurd (false≢true m)
-targets_resolve count byte (Capture next) t r m = absurd (false≢true m)
-targets_resolve count byte Fail t r m = absurd (false≢true m)
-targets_resolve count byte (Match pattern) t r m = absurd (false≢true m)
+targets_resolve count byte s t r m = absurd (false≢true m)
 
-match_in : (s : Node) (p : ℕ) → pattern_in s ≡ Some p → s ≡ Match p
-match_in (ByteRange x) p e = some_not_none p (sym e)
-match_in (Sparse x) p e = some_not_none p (sym e)
-match_in (Dense x) p e = some_not_none p (sym e)
-match_in (Look look next) p e = some_not_none p (sym e)
-match_in (Union ids) p e = some_not_none p (sym e)
-match_in (BinaryUnion a b) p e = some_not_none p (sym e)
-match_in (Capture next) p e = some_not_none p (sym e)
-match_in Fail p e = some_not_none p (sym e)
+pub match_in : (s : Node) (p : ℕ) → pattern_in s ≡ Some p → s ≡ Match p
 match_in (Match pattern) p e = let k : pattern ≡ p = cc in ap Match k
+match_in s p e = some_not_none p (sym e)
 
 module _ (nfa : Nfa) (a : IsAccepted nfa) where
   -- each state is valid after those before it
@@ -193,7 +169,7 @@ module _ (nfa : Nfa) (a : IsAccepted nfa) where
   -- a valid NFA is sound
   pub accepted_sound : IsSound nfa
   accepted_sound = record {
-    resolves = λ holds s t m. below t (length nfa.states)
+    resolves = λ holds s t m. ltb-true t (length nfa.states)
         (edges_resolve (length nfa.states) holds (state_at nfa s) t
         (state_resolves s (edges_within nfa holds s t m)) m);
     one_match = λ i j p x y. by_cases (cases_order i j) (λ e. e)
@@ -204,7 +180,7 @@ module _ (nfa : Nfa) (a : IsAccepted nfa) where
   pub target_within : (u : Option ℕ) (s t : ℕ) → member nat_eq (target nfa u s) t ≡ true → t < length nfa.states
   target_within None s t m = absurd (false≢true (rw (target-end nfa s) at m))
   target_within (Some byte) s t m = by_cases (cases_lt s (length nfa.states))
-      (λ l. below t (length nfa.states)
+      (λ l. ltb-true t (length nfa.states)
       (targets_resolve (length nfa.states) byte (state_at nfa s) t (state_resolves s l) m))
       (λ l. absurd (false≢true (rw (state_past nfa s l) at m)))
 
@@ -222,10 +198,7 @@ module _ (nfa : Nfa) (sound : IsSound nfa) (holds : Assertion → Bool) where
   reach-append roots more =
       ordered-append same_decides (edges nfa holds) (length nfa.states + 1) edges_enough none_held roots more
       ∙ ap (λ h. reach nfa holds roots ++ ordered nat_eq (edges nfa holds) (length nfa.states + 1) h more)
-      (fun_ext (λ x. or_none (member nat_eq (reach nfa holds roots) x)))
-    where
-      or_none : (a : Bool) → (a || false) ≡ a
-      or_none a = grind arith
+      (fun_ext (λ x. or-false (member nat_eq (reach nfa holds roots) x)))
 
   -- a closure of states of the NFA has only states of the NFA
   pub ends_within_states : (count : ℕ) (held : ℕ → Bool) (roots : List ℕ)
@@ -234,15 +207,12 @@ module _ (nfa : Nfa) (sound : IsSound nfa) (holds : Assertion → Bool) where
       → x < length nfa.states
   ends_within_states count held roots inside x m =
       flat_map-member same_decides (ends nat_eq (edges nfa holds) count held) roots x m (λ r l z.
-      below x (length nfa.states)
+      ltb-true x (length nfa.states)
       (ends_within same_decides (edges nfa holds) count (λ y. nat_lt y (length nfa.states)) none_held held r x
       (λ y w p q. or_left (nat_lt w (length nfa.states)) false
-      (above w (length nfa.states) (sound.resolves holds y w q)))
+      (lt-ltb w (length nfa.states) (sound.resolves holds y w q)))
       (λ y h. absurd (false≢true h))
-      (or_left (nat_lt r (length nfa.states)) false (above r (length nfa.states) (inside r l))) z))
-    where
-      above : (a b : ℕ) → a < b → nat_lt a b ≡ true
-      above a b l = grind arith
+      (or_left (nat_lt r (length nfa.states)) false (lt-ltb r (length nfa.states) (inside r l))) z))
 
   pub reach_within : (roots : List ℕ) → ((r : ℕ) → member nat_eq roots r ≡ true → r < length nfa.states) → (x : ℕ)
       → member nat_eq (reach nfa holds roots) x ≡ true → x < length nfa.states

@@ -2,26 +2,18 @@
 -- Main statements: states_failure-turn, goes_on, fails_here.
 -- Used by: `check_states`.
 -- Idea: the first error of a list is that of its first state, or that of the rest.
-use Rattle.determinize_below.proofs.Common.{[], ap, arith, BinaryUnion, Bool, ByteRange, Capture, Dense, drop, Fail, false, get_or, inl, inr, is_match_of, length, List, list_any, list_any-append, map, Match, Node, None, refl, slice_get, Some, Sparse, state_failure, states_failure, suc, sym, take, Union, zero, ℕ, ◌++◌, ◌+◌, ◌<◌, ◌||◌, ◌∙◌, ◌∷◌, ◌≡◌, ◌⊎◌}
+use Rattle.determinize_below.proofs.Common.{[], ap, arith, Bool, drop, false, get_or, inl, inr, is_match_of, length, List, list_any, list_any-append, map, Match, Node, None, refl, slice_get, Some, state_failure, states_failure, suc, sym, take, zero, ℕ, ◌++◌, ◌+◌, ◌<◌, ◌||◌, ◌∙◌, ◌∷◌, ◌≡◌, ◌⊎◌}
 use Rattle.std.specs.Option.{option_or}
 use Rattle.std.proofs.Math.Seq.{drop-cons}
 use Rattle.std.proofs.lemmas.List.{take_more, map-append}
-use Rattle.determinize_below.specs.Semantics.{Look}
 use Rattle.determinize_below.specs.Nfa.{repeats, failure_of}
 use Rattle.determinize_below.specs.declared.nfa.BuildError.{BuildError}
 use Rattle.determinize_below.specs.declared.nfa.BuildError.TheVariants.{OutOfMemory}
 
 -- equal sets of seen patterns give the same test
 repeats-same : (f g : ℕ → Bool) (node : Node) → ((q : ℕ) → f q ≡ g q) → repeats f node ≡ repeats g node
-repeats-same f g (ByteRange t) h = refl
-repeats-same f g (Sparse ts) h = refl
-repeats-same f g (Dense ids) h = refl
-repeats-same f g (Look look next) h = refl
-repeats-same f g (Union ids) h = refl
-repeats-same f g (BinaryUnion a b) h = refl
-repeats-same f g (Capture next) h = refl
-repeats-same f g Fail h = refl
 repeats-same f g (Match pattern) h = h pattern
+repeats-same f g s h = refl
 
 module _ {S : Type 0} (f : S → Node) (states : List S) (i : ℕ) (x : S) (within : i < length states)
     (at : x ≡ get_or states i x) where

@@ -2,7 +2,8 @@
 -- Main statements: Decides-looks_of, Decides-look_set_any.
 -- Used by: `look_state_law`, and the truth of look-behind.
 -- Idea: the set is built state by state, and each state adds what it tests.
-use Rattle.determinize_below.proofs.Common.{[], ap, arith, assertion_in, BinaryUnion, Bool, by_cases, ByteRange, Capture, cases_lt, Decides, Dense, Fail, false, false≢true, IsAccepted, IsTested, length, List, list_any, looks_of, Match, Nfa, Node, None, Option, Some, Sparse, state_at, sym, true, Union, with_looks_of, ℕ, ◌||◌, ◌∙◌, ◌∷◌, ◌≡◌}
+use mathlib.Core.Bool.{or-false, or_assoc}
+use Rattle.determinize_below.proofs.Common.{[], ap, assertion_in, Bool, by_cases, cases_lt, Decides, Fail, false, false≢true, IsAccepted, IsTested, length, List, list_any, looks_of, Nfa, Node, None, Option, Some, state_at, sym, true, with_looks_of, ℕ, ◌||◌, ◌∙◌, ◌∷◌, ◌≡◌}
 use Rattle.std.specs.List.{Any}
 use Rattle.std.proofs.lemmas.Bool.Decides.{Decides-at, Decides-like}
 use Rattle.std.proofs.lemmas.List.{get_or_default}
@@ -34,33 +35,20 @@ Decides-list_any_look f xs look = (
   λ a. list_any-from_Any (λ x. is_look (f x) look) xs (a.0, a.1, a.2, a.3, (Decides-is_look (f a.1) look).1 a.4),
 )
 
-kept : (a : Bool) → a ≡ (a || false)
-kept a = grind arith
-
 -- the set with the assertion of one more state
 has-with_look : (set : ℕ) (s : Node) (look : Assertion)
     → has (with_look set s) look ≡ (has set look || is_look (assertion_in s) look)
-has-with_look set (ByteRange t) look = kept (has set look)
-has-with_look set (Sparse ts) look = kept (has set look)
-has-with_look set (Dense ids) look = kept (has set look)
 has-with_look set (Look other next) look = has-insert set other look
-has-with_look set (Union ids) look = kept (has set look)
-has-with_look set (BinaryUnion a b) look = kept (has set look)
-has-with_look set (Capture next) look = kept (has set look)
-has-with_look set Fail look = kept (has set look)
-has-with_look set (Match pattern) look = kept (has set look)
+has-with_look set s look = sym (or-false (has set look))
 
 -- the set with the assertions of more states
 has-with_looks_of : (set : ℕ) (xs : List Node) (look : Assertion)
     → has (with_looks_of set xs) look ≡ (has set look || list_any (λ s. is_look (assertion_in s) look) xs)
-has-with_looks_of set [] look = kept (has set look)
+has-with_looks_of set [] look = sym (or-false (has set look))
 has-with_looks_of set (s ∷ xs) look =
     has-with_looks_of (with_look set s) xs look
     ∙ ap (λ b. b || list_any (λ s. is_look (assertion_in s) look) xs) (has-with_look set s look)
-    ∙ together (has set look) (is_look (assertion_in s) look) (list_any (λ s. is_look (assertion_in s) look) xs)
-  where
-    together : (a b c : Bool) → ((a || b) || c) ≡ (a || (b || c))
-    together a b c = grind arith
+    ∙ or_assoc (has set look) (is_look (assertion_in s) look) (list_any (λ s. is_look (assertion_in s) look) xs)
 
 -- the assertion set of some states contains exactly the assertions that one of them tests
 pub Decides-looks_of : (xs : List Node) (look : Assertion)

@@ -2,6 +2,7 @@
 -- Main statements: distinct_push, room_for_one, cleared_all, the rulesets emptying and pushing.
 -- Used by: the calls of `SparseSet`.
 -- Idea: a bit is set exactly if its id is in the list.
+use Rattle.std.proofs.lemmas.Bool.{eqb-true}
 use Rattle.determinize_below.proofs.Common.{[], arith, Bool, by_cases, cases_lt, false, false≢true, get_or, has_bit, inl, inr, IsCleared, length, List, list_any-append, nat_eq, not, replicate, set, subst, sym, take, true, ℕ, ◌*◌, ◌++◌, ◌+◌, ◌/◌, ◌<◌, ◌||◌, ◌∙◌, ◌∷◌, ◌≡◌, ◌≤◌, ◌⊎◌}
 use Rattle.std.proofs.Common.{All, length-append}
 use Rattle.std.specs.Cmp.{nat_eq_equiv}
@@ -47,11 +48,8 @@ length_at_most : (ids : List ℕ) (capacity : ℕ) → IsDistinct nat_eq ids →
     → length ids ≤ capacity
 length_at_most ids capacity d below =
     length-le_from_distinct_below ids capacity d
-    (λ q h. let at = Contains-from_any {eq = nat_eq} same q ids h in subst (λ n. n < capacity) at.2
+    (λ q h. let at = Contains-from_any {eq = nat_eq} eqb-true q ids h in subst (λ n. n < capacity) at.2
     (below at.0 q at.1))
-  where
-    same : (x y : ℕ) → nat_eq x y ≡ true → x ≡ y
-    same x y h = grind (arith, h)
 
 -- so there is room for an id whose bit is not set
 pub room_for_one : (ids words : List ℕ) (id capacity room : ℕ) → IsSparse ids words capacity room → id < capacity

@@ -3,8 +3,8 @@ use Rattle.std.specs.Prelude.{◌≡◌, ℕ, ◌<◌, ◌≤◌, List, length, 
 use Rattle.determinize_below.specs.ByteClasses.{AreAlike}
 use Rattle.determinize_below.specs.Semantics.{Nfa}
 
--- the bytes below n are sorted into `len` classes: each is alike to the first byte of its class, and
--- no two first bytes are alike
+-- the bytes below n are sorted into `len` classes: each is alike to the first byte of its class,
+-- and no two first bytes are alike
 pub record AreSorted (nfa : Nfa) (n len : ℕ) (of_bytes firsts : List ℕ) : Type 0 where
   pub few : len ≤ n
   pub count : length of_bytes ≡ 256

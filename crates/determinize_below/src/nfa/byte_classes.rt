@@ -89,13 +89,13 @@ fn first_alike<A: Allocator>(nfa: &NFA<A>, firsts: &[u8], byte: u8) -> usize
 }
 
 impl<A: Allocator> NFA<A> {
-    /// Returns the classes of bytes that a transition does not distinguish. Two bytes have one class
-    /// exactly if every state has the same target on both, and if a transition tests both alike: by
-    /// word bytes if the NFA has an assertion on words, by the line terminator if it has one on
-    /// lines or CRLF, and by `\r` and `\n` if it has one on CRLF.
+    /// Returns the classes of bytes that a transition does not distinguish. Two bytes have one
+    /// class exactly if every state has the same target on both, and if a transition tests both
+    /// alike: by word bytes if the NFA has an assertion on words, by the line terminator if it has
+    /// one on lines or CRLF, and by `\r` and `\n` if it has one on CRLF.
     ///
-    /// The classes are computed anew by each call. Each byte is compared with the least byte of each
-    /// class so far, and a comparison reads each state at most once. Does not allocate.
+    /// The classes are computed anew by each call. Each byte is compared with the least byte of
+    /// each class so far, and a comparison reads each state at most once. Does not allocate.
     pub fn byte_classes(&self) -> ByteClasses
         ensures { AreClassesOf self.now result }
     {

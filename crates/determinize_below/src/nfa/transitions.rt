@@ -5,7 +5,7 @@
 ghost use Rattle.std.specs.Prelude.{◌≡◌, ℕ, IsTrue, length, None, Option, nat_le, Some, if◌then◌else◌};
 ghost use Rattle.std.specs.List.{find};
 ghost use Rattle.std.specs.Option.{option_and_then, option_map};
-ghost use Rattle.determinize_below.specs.Semantics.{sparse_target};
+ghost use Rattle.determinize_below.specs.Transition.{sparse_target};
 ghost use Rattle.determinize_below.specs.Transition as transitions;
 ghost use Rattle.determinize_below.specs.Unit.{byte_of};
 

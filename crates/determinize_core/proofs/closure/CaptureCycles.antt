@@ -2,25 +2,17 @@
 -- Main statements: ascending_captures_have_no_cycle, capture_rows.
 -- Used by: `capture_law`.
 -- Idea: ids that ascend along captures never return.
-use Rattle.std.proofs.Common.{◌≡◌, ℕ, zero, suc, ◌<◌, ◌≤◌, true, refl, sym, ap, arith}
-use Rattle.std.proofs.lemmas.Bool.{false≢true}
-use Rattle.determinize_below.specs.Captures.{capture_next, followed}
-use Rattle.determinize_below.specs.Edges.{is_capture, tests_capture}
-use Rattle.determinize_below.specs.Semantics.{state_at, Nfa, Node, ByteRange, Sparse, Dense, Look, Union, BinaryUnion, Capture, Fail, Match}
+use Rattle.determinize_core.proofs.Common.{ap, arith, Capture, capture_next}
+use Rattle.determinize_core.proofs.Common.{false≢true, followed, is_capture, Nfa, Node, refl}
+use Rattle.determinize_core.proofs.Common.{state_at, suc, sym, true, zero, ℕ, ◌<◌, ◌≡◌, ◌≤◌}
+use Rattle.determinize_below.specs.Edges.{tests_capture}
 use Rattle.determinize_core.specs.Laws.{AscendingCapturesHaveNoCycle, CapturesAscend}
-use Rattle.determinize_core.specs.WorkedRows.{AreCaptureRows, n8, n14}
+use Rattle.determinize_core.specs.WorkedRows.{AreCaptureRows, n14, n8}
 
 -- a capture, by its next state
 capture_is : (node : Node) → tests_capture node ≡ true → node ≡ Capture (capture_next node)
-capture_is (ByteRange t) e = absurd (false≢true e)
-capture_is (Sparse ts) e = absurd (false≢true e)
-capture_is (Dense ids) e = absurd (false≢true e)
-capture_is (Look look next) e = absurd (false≢true e)
-capture_is (Union ids) e = absurd (false≢true e)
-capture_is (BinaryUnion a b) e = absurd (false≢true e)
 capture_is (Capture next) e = refl
-capture_is Fail e = absurd (false≢true e)
-capture_is (Match pattern) e = absurd (false≢true e)
+capture_is s e = absurd (false≢true e)
 
 -- after captures that ascend comes a greater id
 followed_above : (nfa : Nfa) → CapturesAscend nfa → (s k : ℕ)
@@ -39,12 +31,8 @@ ascending_captures_have_no_cycle nfa ascend s k f back =
 
 n14_ascends : CapturesAscend n14
 n14_ascends zero next e = let z : next ≡ 1 = ap capture_next (sym e) in omega arith
-n14_ascends (suc zero) next e = absurd (false≢true (ap tests_capture e))
-n14_ascends (suc (suc zero)) next e = absurd (false≢true (ap tests_capture e))
-n14_ascends (suc (suc (suc zero))) next e = absurd (false≢true (ap tests_capture e))
-n14_ascends (suc (suc (suc (suc zero)))) next e = absurd (false≢true (ap tests_capture e))
-n14_ascends (suc (suc (suc (suc (suc zero))))) next e = absurd (false≢true (ap tests_capture e))
 n14_ascends (suc (suc (suc (suc (suc (suc s)))))) next e = absurd (false≢true (ap tests_capture e))
+n14_ascends s next e = absurd (false≢true (ap tests_capture e))
 
 -- state 1 of n8 is a capture, and its own next state
 n8_loops : (j : ℕ) → j ≤ 0 → is_capture n8 (followed n8 j 1) ≡ true

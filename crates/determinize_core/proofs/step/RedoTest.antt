@@ -2,15 +2,15 @@
 -- Main statements: redone_from_found, not_redone, unneeded.
 -- Used by: `is_redone`, `look_again_over`.
 -- Idea: two sets meet exactly if they have a common assertion.
-use Rattle.std.proofs.Common.{◌≡◌, ℕ, ◌<◌, ◌^◌, Bool, true, false, not, bit_and, ap, ◌∙◌, arith}
+use Rattle.determinize_core.proofs.Common.{ap, arith, Bool, each_look, false, fun_ext, list_any, not, true, ℕ, ◌<◌, ◌∙◌}
+use Rattle.determinize_core.proofs.Common.{◌≡◌}
+use Rattle.determinize_below.proofs.looks.CommonLooks.{each_look-false, meets-some}
+use Rattle.determinize_below.proofs.looks.LookSets.{has-empty, has-subtract}
+use Rattle.std.proofs.Common.{bit_and, ◌^◌}
 use mathlib.Core.Bool.{◌&&◌, ◌||◌}
-use mathlib.Core.Path.{fun_ext}
 use Rattle.std.proofs.lemmas.Nat.{and_le_l}
 use Rattle.std.specs.Int.{bit_not, w32}
-use Rattle.std.specs.List.{list_any}
-use Rattle.determinize_below.specs.Look.{has, meets, subtract, each_look}
-use Rattle.determinize_below.proofs.looks.LookSets.{has-empty, has-subtract}
-use Rattle.determinize_below.proofs.looks.CommonLooks.{meets-some, each_look-false}
+use Rattle.determinize_below.specs.Look.{has, meets, subtract}
 use Rattle.determinize_below.specs.declared.look.Look.{Look}
 use Rattle.determinize_core.specs.Step.{is_redone}
 
@@ -23,21 +23,27 @@ pub redone_from_found : (found have need : ℕ) → found < 2 ^ 18 → have < 2 
     → meets (subtract found have) need ≡ is_redone (has found) have need
 redone_from_found found have need h k =
     meets-some (subtract found have) need (small found have need h)
-    ∙ ap (λ (t : Look → Bool). list_any t each_look) (fun_ext (λ l. ap (λ x. x && has need l) (has-subtract found have l (omega arith)) ∙ member (has have l) (has found l) (has need l)))
+    ∙ ap (λ (t : Look → Bool). list_any t each_look)
+    (fun_ext (λ l. ap (λ x. x && has need l) (has-subtract found have l (omega arith))
+    ∙ member (has have l) (has found l) (has need l)))
   where
     member : (h f n : Bool) → ((f && not h) && n) ≡ (f && n && not h)
     member h f n = grind arith
 
 -- where no closure is redone, what is found true adds nothing that is needed
-pub not_redone : (found : Look → Bool) (have need : ℕ) (l : Look) → is_redone found have need ≡ false → has need l ≡ true → (has have l || found l) ≡ has have l
-not_redone found have need l h k = from_test (found l) (has need l) (has have l) k (each_look-false (λ x. found x && has need x && not (has have x)) h l)
+pub not_redone : (found : Look → Bool) (have need : ℕ) (l : Look) → is_redone found have need ≡ false
+    → has need l ≡ true → (has have l || found l) ≡ has have l
+not_redone found have need l h k = from_test (found l) (has need l) (has have l) k
+    (each_look-false (λ x. found x && has need x && not (has have x)) h l)
   where
     from_test : (f n h : Bool) → n ≡ true → (f && n && not h) ≡ false → (h || f) ≡ h
     from_test f n h k e = grind arith
 
 -- where nothing is needed, no closure is redone
 pub unneeded : (found : Look → Bool) (have : ℕ) → is_redone found have 0 ≡ false
-unneeded found have = ap (λ (t : Look → Bool). list_any t each_look) (fun_ext (λ l. ap (λ n. found l && n && not (has have l)) (has-empty l) ∙ without_need (found l) (not (has have l))))
+unneeded found have = ap (λ (t : Look → Bool). list_any t each_look)
+    (fun_ext (λ l. ap (λ n. found l && n && not (has have l)) (has-empty l)
+    ∙ without_need (found l) (not (has have l))))
   where
     without_need : (f h : Bool) → (f && false && h) ≡ false
     without_need f h = grind arith

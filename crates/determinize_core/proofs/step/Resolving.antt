@@ -2,39 +2,45 @@
 -- Main statements: start_resolves, targets_resolve, step_resolves.
 -- Used by: WalkSteps, `start_state`, `transition`.
 -- Idea: edges and targets of a valid NFA go to its states.
-use Rattle.std.proofs.Common.{◌≡◌, ℕ, ◌<◌, true, not, [], ◌∷◌, length, All as Each, arith, Option, nat_eq}
-use Rattle.std.proofs.lemmas.Bool.{eqb-true}
-use Rattle.determinize_below.specs.Edges.{is_capture, is_match, reach, target}
-use Rattle.determinize_below.specs.Look.{has}
-use Rattle.determinize_below.specs.Semantics.{Nfa}
-use Rattle.determinize_below.specs.Nfa.{IsAccepted}
-use Rattle.ordered_reach.specs.Reach.{member}
-use Rattle.determinize_below.specs.declared.search.MatchKind.{MatchKind}
-use Rattle.ordered_reach.proofs.lists.Elements.{All-from_member}
-use Rattle.ordered_reach.proofs.graph.FiniteGraphs.{same_decides}
-use Rattle.ordered_reach.proofs.lists.NewNodes.{flat_map-member, member-filter}
+use Rattle.determinize_core.proofs.Common.{[], arith, eqb-true, is_capture, is_match, IsAccepted, length, MatchKind}
+use Rattle.determinize_core.proofs.Common.{member, nat_eq, Nfa, not, Option, part_read, start_value, tables_of, target}
+use Rattle.determinize_core.proofs.Common.{targets, true, Value, working_list, ℕ, ◌<◌, ◌∷◌, ◌≡◌}
 use Rattle.determinize_below.proofs.nfas.SoundNfa.{accepted_sound, reach_within, target_within}
+use Rattle.ordered_reach.proofs.lists.Elements.{All-from_member}
+use Rattle.ordered_reach.proofs.lists.NewNodes.{flat_map-member, member-filter}
+use Rattle.ordered_reach.proofs.graph.FiniteGraphs.{same_decides}
+use Rattle.std.proofs.Common.{All as Each}
+use Rattle.determinize_below.specs.Edges.{reach}
+use Rattle.determinize_below.specs.Look.{has}
 use Rattle.ordered_reach.proofs.Cases.{or_false}
-use Rattle.determinize_core.specs.Step.{part_read, start_value, step, targets, working_list}
-use Rattle.determinize_start.specs.LookTables.{tables_of, have_after, have_at_start}
-use Rattle.determinize_state.specs.Value.{Value}
+use Rattle.determinize_core.specs.Step.{step}
+use Rattle.determinize_start.specs.LookTables.{have_after, have_at_start}
 
 module _ (nfa : Nfa) (accepted : IsAccepted nfa) where
   -- the value before the first unit, of a search that starts in a state of the NFA
-  pub start_resolves : (s : ℕ) (p : Option ℕ) → s < length nfa.states → Each (λ id. id < length nfa.states) (start_value nfa s p).states
-  start_resolves s p l = All-from_member same_decides (λ id. id < length nfa.states) (start_value nfa s p).states (λ x m.
+  pub start_resolves : (s : ℕ) (p : Option ℕ) → s < length nfa.states
+      → Each (λ id. id < length nfa.states) (start_value nfa s p).states
+  start_resolves s p l =
+      All-from_member same_decides (λ id. id < length nfa.states) (start_value nfa s p).states (λ x m.
       reach_within nfa (accepted_sound nfa accepted) (has (have_at_start (tables_of nfa) p)) (s ∷ [])
       (λ r k. let e : s ≡ r = eqb-true s r (or_false (nat_eq s r) k) in omega arith) x
-      (member-filter same_decides (λ y. not (is_capture nfa y)) (reach nfa (has (have_at_start (tables_of nfa) p)) (s ∷ [])) x m))
+      (member-filter same_decides (λ y. not (is_capture nfa y))
+      (reach nfa (has (have_at_start (tables_of nfa) p)) (s ∷ [])) x m))
 
   -- the targets that a step enters
-  pub targets_resolve : (kind : MatchKind) (v : Value) (u : Option ℕ) (r : ℕ) → member nat_eq (targets nfa kind v u) r ≡ true → r < length nfa.states
-  targets_resolve kind v u r m = flat_map-member same_decides (target nfa u) (part_read kind (is_match nfa) (working_list nfa v u)) r m
+  pub targets_resolve : (kind : MatchKind) (v : Value) (u : Option ℕ) (r : ℕ)
+      → member nat_eq (targets nfa kind v u) r ≡ true → r < length nfa.states
+  targets_resolve kind v u r m =
+      flat_map-member same_decides (target nfa u) (part_read kind (is_match nfa) (working_list nfa v u)) r m
       (λ s l z. target_within nfa accepted u s r z)
 
   -- the value after a unit
-  pub step_resolves : (kind : MatchKind) (v : Value) (u : Option ℕ) → Each (λ id. id < length nfa.states) (step nfa kind v u).states
+  pub step_resolves : (kind : MatchKind) (v : Value) (u : Option ℕ)
+      → Each (λ id. id < length nfa.states) (step nfa kind v u).states
   unfolding step
-  step_resolves kind v u = All-from_member same_decides (λ id. id < length nfa.states) (step nfa kind v u).states (λ x m.
-      reach_within nfa (accepted_sound nfa accepted) (has (have_after (tables_of nfa) u)) (targets nfa kind v u) (targets_resolve kind v u) x
-      (member-filter same_decides (λ y. not (is_capture nfa y)) (reach nfa (has (have_after (tables_of nfa) u)) (targets nfa kind v u)) x m))
+  step_resolves kind v u =
+      All-from_member same_decides (λ id. id < length nfa.states) (step nfa kind v u).states (λ x m.
+      reach_within nfa (accepted_sound nfa accepted) (has (have_after (tables_of nfa) u)) (targets nfa kind v u)
+      (targets_resolve kind v u) x
+      (member-filter same_decides (λ y. not (is_capture nfa y))
+      (reach nfa (has (have_after (tables_of nfa) u)) (targets nfa kind v u)) x m))

@@ -2,45 +2,49 @@
 -- Main statements: each_reach_goes_on, each_future_follows, dead_stays, few_in.
 -- Used by: `step_law`, and the cache.
 -- Idea: each is a consequence of the definition of a step.
-use Rattle.std.proofs.Common.{◌≡◌, ℕ, zero, suc, ◌+◌, ◌≤◌, Bool, true, false, not, ◌||◌, ◌&&◌, List, [], ◌∷◌, length, take, drop, refl, sym, ap, ◌∙◌, arith, Option, Some, None, nat_eq, Result, Ok, Err}
-use Rattle.std.specs.Result.{IfOk}
-use Rattle.std.specs.Prelude.{◌==◌, cond, slice_get}
-use Rattle.std.specs.List.{flat_map}
-use Rattle.std.proofs.lemmas.Bool.{false≢true, or_left, eqb-true, eq-eqb}
-use Rattle.determinize_below.specs.Captures.{HasNoCaptureCycle, capture_next, followed}
-use Rattle.determinize_below.specs.Edges.{edges, target, is_capture, is_match, patterns_of, reach}
-use Rattle.determinize_below.specs.Semantics.{state_at, Nfa}
-use Rattle.determinize_below.specs.Look.{has, each_look}
-use Rattle.ordered_reach.specs.Reach.{ends, fresh, member, none_held, with_node}
-use Rattle.ordered_reach.specs.Runs.{without}
-use Rattle.determinize_below.specs.declared.look.Look.{Look as Assertion}
-use Rattle.determinize_below.specs.declared.search.MatchKind.{MatchKind}
-use Rattle.determinize_below.specs.declared.search.MatchKind.TheVariants.{All, LeftmostFirst}
+use Rattle.ordered_reach.proofs.Cases.{or_false}
+use mathlib.Core.Bool.{and-true}
+use Rattle.determinize_core.proofs.Common.{[], All, ap, arith, Bool, by_test, capture_next, cond, dead, each_look}
+use Rattle.determinize_core.proofs.Common.{edges, ends, eq-eqb, eqb-true, false, false≢true, flat_map, followed, fresh}
+use Rattle.determinize_core.proofs.Common.{future, is_capture, is_match, is_reopened, left_by, LeftmostFirst, length}
+use Rattle.determinize_core.proofs.Common.{List, MatchKind, member, nat_eq, Nfa, None, none_held, not, opened_by}
+use Rattle.determinize_core.proofs.Common.{Option, or_left, part_read, patterns_of, patterns_read, refl, slice_get}
+use Rattle.determinize_core.proofs.Common.{Some, some_injective, start_value, state_at, suc, sym, tables_of, take}
+use Rattle.determinize_core.proofs.Common.{target, true, units, Value, with_node, without, working_list, zero, ℕ, ◌&&◌}
+use Rattle.determinize_core.proofs.Common.{◌+◌, ◌==◌, ◌∙◌, ◌∷◌, ◌≡◌, ◌≤◌}
+use Rattle.determinize_below.proofs.nfas.SoundNfa.{accepted_sound, edges_enough, IsSound, reach-append}
 use Rattle.determinize_below.proofs.nfas.Edges.{edges-capture, edges-or-target, length-target}
-use Rattle.ordered_reach.proofs.graph.ClosedSets.{IsClosed, IsEnough}
-use Rattle.ordered_reach.proofs.lists.Pieces.{list_any_unmet}
 use Rattle.determinize_below.proofs.looks.LookSets.{has-empty}
-use Rattle.ordered_reach.proofs.graph.FiniteGraphs.{same_decides}
-use Rattle.ordered_reach.proofs.graph.SameSearch.{roots_closed}
+use Rattle.ordered_reach.proofs.graph.ClosedSets.{IsClosed, IsEnough}
 use Rattle.ordered_reach.proofs.lists.NewNodes.{member-fresh}
-use Rattle.determinize_below.proofs.nfas.SoundNfa.{accepted_sound, edges_enough, reach-append, IsSound}
-use Rattle.ordered_reach.proofs.Cases.{by_test, some_injective}
-use Rattle.determinize_core.specs.Chain.{future, units, chain}
-use Rattle.determinize_core.specs.Laws.{EachFutureFollows, EachReachGoesOn, EachStateHasOneKind, DeadStays, LeftmostGivesOne, NoNeedNoHave}
-use Rattle.determinize_core.specs.Step.{start_value, step, left_by, working_list, is_reopened, opened_by, part_read, patterns_read}
-use Rattle.determinize_start.specs.LookTables.{tables_of, have_after}
-use Rattle.determinize_state.specs.Value.{Value, dead}
+use Rattle.ordered_reach.proofs.graph.FiniteGraphs.{same_decides}
+use Rattle.std.proofs.Common.{drop, Err, Ok, Result}
+use Rattle.std.specs.Result.{IfOk}
+use Rattle.determinize_below.specs.Captures.{HasNoCaptureCycle}
+use Rattle.determinize_below.specs.Edges.{reach}
+use Rattle.determinize_below.specs.Look.{has}
+use Rattle.determinize_below.specs.declared.look.Look.{Look as Assertion}
+use Rattle.ordered_reach.proofs.lists.Pieces.{list_any_unmet}
+use Rattle.ordered_reach.proofs.graph.SameSearch.{roots_closed}
+use Rattle.determinize_core.specs.Chain.{chain}
+use Rattle.determinize_core.specs.Laws.{DeadStays, EachFutureFollows, EachReachGoesOn, EachStateHasOneKind}
+use Rattle.determinize_core.specs.Laws.{LeftmostGivesOne, NoNeedNoHave}
+use Rattle.determinize_core.specs.Step.{step}
+use Rattle.determinize_start.specs.LookTables.{have_after}
 
 pub each_reach_goes_on : EachReachGoesOn
-each_reach_goes_on nfa accepted holds roots root = reach-append nfa (accepted_sound nfa accepted) holds roots (root ∷ [])
+each_reach_goes_on nfa accepted holds roots root =
+    reach-append nfa (accepted_sound nfa accepted) holds roots (root ∷ [])
 
 pub each_state_has_one_kind : EachStateHasOneKind
 each_state_has_one_kind nfa holds u s = (length-target nfa u s, edges-or-target nfa holds u s)
 
-drop-future : (nfa : Nfa) (kind : MatchKind) (us : List (Option ℕ)) (v w : Value) (j : ℕ) → slice_get (future nfa kind v us) j ≡ Some w → drop j (future nfa kind v us) ≡ future nfa kind w (drop j us)
+drop-future : (nfa : Nfa) (kind : MatchKind) (us : List (Option ℕ)) (v w : Value) (j : ℕ)
+    → slice_get (future nfa kind v us) j ≡ Some w → drop j (future nfa kind v us) ≡ future nfa kind w (drop j us)
 drop-future nfa kind [] v w zero h = let e : v ≡ w = some_injective v w h in ap (λ x. x ∷ []) e
 drop-future nfa kind [] v w (suc j) h = absurd (let k : None ≡ Some w = h in cc)
-drop-future nfa kind (u ∷ us) v w zero h = let e : v ≡ w = some_injective v w h in ap (λ x. future nfa kind x (u ∷ us)) e
+drop-future nfa kind (u ∷ us) v w zero h = let e : v ≡ w = some_injective v w h in
+    ap (λ x. future nfa kind x (u ∷ us)) e
 drop-future nfa kind (u ∷ us) v w (suc j) h = drop-future nfa kind us (step nfa kind v u) w j h
 
 pub each_future_follows : EachFutureFollows
@@ -57,7 +61,9 @@ no_patterns LeftmostFirst = refl
 
 working_dead : (nfa : Nfa) (u : Option ℕ) → working_list nfa dead u ≡ []
 working_dead nfa u =
-    let e : is_reopened nfa dead u ≡ false = list_any_unmet (λ l. opened_by nfa dead u l && has 0 l && not (has 0 l)) each_look (λ l. rw (has-empty l) (none (opened_by nfa dead u l))) in
+    let e : is_reopened nfa dead u ≡ false =
+    list_any_unmet (λ l. opened_by nfa dead u l && has 0 l && not (has 0 l)) each_look
+    (λ l. rw (has-empty l) (none (opened_by nfa dead u l))) in
     rw e refl
   where
     none : (a : Bool) → (a && false && not false) ≡ false
@@ -66,12 +72,16 @@ working_dead nfa u =
 step_dead : (nfa : Nfa) (kind : MatchKind) (u : Option ℕ) → step nfa kind dead u ≡ dead
 unfolding step reach
 step_dead nfa kind u =
-    ap (λ l. left_by nfa u (patterns_read kind (patterns_of nfa l)) (reach nfa (has (have_after (tables_of nfa) u)) (flat_map (target nfa u) (part_read kind (is_match nfa) l)))) (working_dead nfa u)
-    ∙ ap (λ l. left_by nfa u (patterns_read kind []) (reach nfa (has (have_after (tables_of nfa) u)) (flat_map (target nfa u) l))) (read_none kind (is_match nfa))
+    ap (λ l. left_by nfa u (patterns_read kind (patterns_of nfa l))
+    (reach nfa (has (have_after (tables_of nfa) u)) (flat_map (target nfa u) (part_read kind (is_match nfa) l))))
+    (working_dead nfa u)
+    ∙ ap (λ l. left_by nfa u (patterns_read kind [])
+    (reach nfa (has (have_after (tables_of nfa) u)) (flat_map (target nfa u) l))) (read_none kind (is_match nfa))
     ∙ ap (λ ps. left_by nfa u ps []) (no_patterns kind)
 
 -- a list of captures only
-all_capture : (nfa : Nfa) (xs : List ℕ) (x : ℕ) → without (is_capture nfa) xs ≡ [] → member nat_eq xs x ≡ true → is_capture nfa x ≡ true
+all_capture : (nfa : Nfa) (xs : List ℕ) (x : ℕ) → without (is_capture nfa) xs ≡ [] → member nat_eq xs x ≡ true
+    → is_capture nfa x ≡ true
 all_capture nfa [] x e m = absurd (false≢true m)
 all_capture nfa (y ∷ xs) x e m = by_test (is_capture nfa y)
     (λ c. by_test (nat_eq y x)
@@ -83,52 +93,63 @@ all_capture nfa (y ∷ xs) x e m = by_test (is_capture nfa y)
 abbrev LeadsTo : Nfa → ℕ → ℕ → Type 0
 LeadsTo nfa s r = (i : ℕ) × (followed nfa (suc i) s ≡ r) × ((j : ℕ) → j ≤ i → is_capture nfa (followed nfa j s) ≡ true)
 
-module _ (nfa : Nfa) (none : HasNoCaptureCycle nfa) (holds : Assertion → Bool) (v : ℕ → Bool) (captures : (x : ℕ) → v x ≡ true → is_capture nfa x ≡ true)
+module _ (nfa : Nfa) (none : HasNoCaptureCycle nfa) (holds : Assertion → Bool) (v : ℕ → Bool)
+    (captures : (x : ℕ) → v x ≡ true → is_capture nfa x ≡ true)
     (closed : (x y : ℕ) → v x ≡ true → member nat_eq (edges nfa holds x) y ≡ true → v y ≡ true) where
   -- with fuel, the captures from r on come to an end
-  no_loop : (k : ℕ) (held : ℕ → Bool) (r : ℕ) → IsEnough nat_eq (edges nfa holds) k held r → v r ≡ true → ((h : ℕ) → held h ≡ true → LeadsTo nfa h r) → ⊥
+  no_loop : (k : ℕ) (held : ℕ → Bool) (r : ℕ) → IsEnough nat_eq (edges nfa holds) k held r → v r ≡ true
+      → ((h : ℕ) → held h ≡ true → LeadsTo nfa h r) → ⊥
   no_loop zero held r a m inv = let l : LeadsTo nfa r r = inv r a in none r l.0 l.2 l.1
   no_loop (suc k) held r a m inv = by_test (held r)
       (λ e. let l : LeadsTo nfa r r = inv r e in none r l.0 l.2 l.1)
       (λ e. let c : is_capture nfa r ≡ true = captures r m in
       let q : edges nfa holds r ≡ capture_next (state_at nfa r) ∷ [] = edges-capture nfa holds r c in
       let i : member nat_eq (edges nfa holds r) (capture_next (state_at nfa r)) ≡ true =
-      ap (λ l. member nat_eq l (capture_next (state_at nfa r))) q ∙ or_left (nat_eq (capture_next (state_at nfa r)) (capture_next (state_at nfa r))) false (eq-eqb _ _ refl) in
-      no_loop k (with_node nat_eq held r) (capture_next (state_at nfa r)) (a e (capture_next (state_at nfa r)) i) (closed r (capture_next (state_at nfa r)) m i)
+      ap (λ l. member nat_eq l (capture_next (state_at nfa r))) q
+      ∙ or_left (nat_eq (capture_next (state_at nfa r)) (capture_next (state_at nfa r))) false (eq-eqb _ _ refl) in
+      no_loop k (with_node nat_eq held r) (capture_next (state_at nfa r)) (a e (capture_next (state_at nfa r)) i)
+      (closed r (capture_next (state_at nfa r)) m i)
       (λ h w. by_test (nat_eq r h)
-      (λ z. let y : r ≡ h = eqb-true r h z in (0, ap (λ n. capture_next (state_at nfa n)) (sym y), (λ j l. at_zero h (ap (λ n. is_capture nfa n) (sym y) ∙ c) j l)))
-      (λ z. let l : LeadsTo nfa h r = inv h (rw z at w) in
-      (suc l.0, ap (λ n. capture_next (state_at nfa n)) l.1, (λ j b. longer h l.0 l.2 (ap (λ n. is_capture nfa n) l.1 ∙ c) j b)))))
+      (λ z. let y : r ≡ h = eqb-true r h z in (
+        0,
+        ap (λ n. capture_next (state_at nfa n)) (sym y),
+        (λ j l. at_zero h (ap (λ n. is_capture nfa n) (sym y) ∙ c) j l),
+      ))
+      (λ z. let l : LeadsTo nfa h r = inv h (rw z at w) in (
+        suc l.0,
+        ap (λ n. capture_next (state_at nfa n)) l.1,
+        (λ j b. longer h l.0 l.2 (ap (λ n. is_capture nfa n) l.1 ∙ c) j b),
+      ))))
     where
       at_zero : (h : ℕ) → is_capture nfa h ≡ true → (j : ℕ) → j ≤ 0 → is_capture nfa (followed nfa j h) ≡ true
       at_zero h c zero l = c
       at_zero h c (suc j) l = absurd (omega arith)
 
-      longer : (h i : ℕ) → ((j : ℕ) → j ≤ i → is_capture nfa (followed nfa j h) ≡ true) → is_capture nfa (followed nfa (suc i) h) ≡ true → (j : ℕ) → j ≤ suc i → is_capture nfa (followed nfa j h) ≡ true
+      longer : (h i : ℕ) → ((j : ℕ) → j ≤ i → is_capture nfa (followed nfa j h) ≡ true)
+          → is_capture nfa (followed nfa (suc i) h) ≡ true → (j : ℕ) → j ≤ suc i
+          → is_capture nfa (followed nfa j h) ≡ true
       longer h i f c j l = by_test (nat_eq j (suc i))
           (λ e. let y : j ≡ suc i = eqb-true j (suc i) e in ap (λ n. is_capture nfa (followed nfa n h)) y ∙ c)
           (λ e. f j (grind (arith, e, l)))
 
 -- a search that lists only captures lists nothing
-only_captures : (nfa : Nfa) (sound : IsSound nfa) → HasNoCaptureCycle nfa → (holds : Assertion → Bool) (roots : List ℕ) → without (is_capture nfa) (reach nfa holds roots) ≡ [] → reach nfa holds roots ≡ []
+only_captures : (nfa : Nfa) (sound : IsSound nfa) → HasNoCaptureCycle nfa → (holds : Assertion → Bool) (roots : List ℕ)
+    → without (is_capture nfa) (reach nfa holds roots) ≡ [] → reach nfa holds roots ≡ []
 unfolding reach
 only_captures nfa sound none holds roots e =
     let f : List ℕ = flat_map (ends nat_eq (edges nfa holds) (length nfa.states + 1) none_held) roots in
     let same : reach nfa holds roots ≡ fresh nat_eq none_held f = refl in
-    let in_f : (x : ℕ) → member nat_eq (fresh nat_eq none_held f) x ≡ member nat_eq f x = λ x. member-fresh same_decides none_held f x ∙ and_true (member nat_eq f x) in
-    let is_closed : IsClosed nat_eq (edges nfa holds) (member nat_eq f) none_held = roots_closed same_decides (edges nfa holds) (length nfa.states + 1) roots (edges_enough nfa sound holds) in
+    let in_f : (x : ℕ) → member nat_eq (fresh nat_eq none_held f) x ≡ member nat_eq f x =
+    λ x. member-fresh same_decides none_held f x ∙ and-true (member nat_eq f x) in
+    let is_closed : IsClosed nat_eq (edges nfa holds) (member nat_eq f) none_held =
+    roots_closed same_decides (edges nfa holds) (length nfa.states + 1) roots (edges_enough nfa sound holds) in
     same ∙ empty (fresh nat_eq none_held f) (λ x m.
     no_loop nfa none holds (member nat_eq f)
     (λ y k. all_capture nfa (reach nfa holds roots) y e (ap (λ l. member nat_eq l y) same ∙ in_f y ∙ k))
-    (λ y z k l. only (member nat_eq f z) (is_closed y z k l))
-    (length nfa.states + 1) none_held x (edges_enough nfa sound holds x) (sym (in_f x) ∙ m) (λ h w. absurd (false≢true w)))
+    (λ y z k l. or_false (member nat_eq f z) (is_closed y z k l))
+    (length nfa.states + 1) none_held x (edges_enough nfa sound holds x) (sym (in_f x) ∙ m)
+    (λ h w. absurd (false≢true w)))
   where
-    and_true : (a : Bool) → (a && not false) ≡ a
-    and_true a = grind arith
-
-    only : (a : Bool) → (a || false) ≡ true → a ≡ true
-    only a h = grind arith
-
     empty : (xs : List ℕ) → ((x : ℕ) → member nat_eq xs x ≡ true → ⊥) → xs ≡ []
     empty [] h = refl
     empty (x ∷ xs) h = absurd (h x (or_left (nat_eq x x) (member nat_eq xs x) (eq-eqb x x refl)))
@@ -139,7 +160,8 @@ dead_stays nfa kind u = (
   step_dead nfa kind u,
   (λ v accepted none ps ss.
       let roots : List ℕ = flat_map (target nfa u) (part_read kind (is_match nfa) (working_list nfa v u)) in
-      let e : reach nfa (has (have_after (tables_of nfa) u)) roots ≡ [] = only_captures nfa (accepted_sound nfa accepted) none (has (have_after (tables_of nfa) u)) roots ss in
+      let e : reach nfa (has (have_after (tables_of nfa) u)) roots ≡ [] =
+      only_captures nfa (accepted_sound nfa accepted) none (has (have_after (tables_of nfa) u)) roots ss in
       ap (λ l. left_by nfa u (patterns_read kind (patterns_of nfa (working_list nfa v u))) l) e
       ∙ ap (λ l. left_by nfa u l []) ps),
 )
@@ -153,14 +175,17 @@ leftmost_gives_one nfa v u = at_most (patterns_of nfa (working_list nfa v u))
     at_most (p ∷ ps) = omega arith
 
 -- so a value that is such a step has one pattern at most
-pub one_pattern : (nfa : Nfa) (kind : MatchKind) (v : Value) (u : Option ℕ) → kind ≡ LeftmostFirst → (next : Value) → next ≡ step nfa kind v u → length next.patterns ≤ 1
+pub one_pattern : (nfa : Nfa) (kind : MatchKind) (v : Value) (u : Option ℕ) → kind ≡ LeftmostFirst → (next : Value)
+    → next ≡ step nfa kind v u → length next.patterns ≤ 1
 one_pattern nfa kind v u k next e =
     let few : length (step nfa LeftmostFirst v u).patterns ≤ 1 = leftmost_gives_one nfa v u in
-    let same : length next.patterns ≡ length (step nfa LeftmostFirst v u).patterns = ap (λ (w : Value). length w.patterns) (e ∙ ap (λ m. step nfa m v u) k) in
+    let same : length next.patterns ≡ length (step nfa LeftmostFirst v u).patterns =
+    ap (λ (w : Value). length w.patterns) (e ∙ ap (λ m. step nfa m v u) k) in
     omega arith
 
 -- of one result
-pub few_in : {E : Type 0} (nfa : Nfa) (kind : MatchKind) (v : Value) (u : Option ℕ) → kind ≡ LeftmostFirst → (r : Result Value E) → IfOk r (λ next. next ≡ step nfa kind v u) → IfOk r (λ next. length next.patterns ≤ 1)
+pub few_in : {E : Type 0} (nfa : Nfa) (kind : MatchKind) (v : Value) (u : Option ℕ) → kind ≡ LeftmostFirst
+    → (r : Result Value E) → IfOk r (λ next. next ≡ step nfa kind v u) → IfOk r (λ next. length next.patterns ≤ 1)
 few_in nfa kind v u k (Ok next) e = one_pattern nfa kind v u k next e
 few_in nfa kind v u k (Err error) e = tt
 

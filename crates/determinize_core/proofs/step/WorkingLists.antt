@@ -2,32 +2,28 @@
 -- Main statements: IsEntered, reach_is, working_is.
 -- Used by: WalkValues.
 -- Idea: closing again under more assertions, or not, gives the closure under the true ones.
-use Rattle.std.proofs.Common.{◌≡◌, ℕ, zero, suc, ◌+◌, Bool, true, false, not, ◌||◌, ◌&&◌, List, length, sym, ap, ◌∙◌, arith, Option, nat_eq}
-use Rattle.determinize_below.specs.Edges.{edges, is_capture, reach, IsTested}
-use Rattle.determinize_below.specs.Look.{has, each_look}
-use Rattle.determinize_below.specs.Semantics.{Nfa, truth}
-use Rattle.determinize_below.specs.Nfa.{IsAccepted}
-use Rattle.determinize_below.specs.Reached.{known}
-use Rattle.ordered_reach.specs.Reach.{ends, fresh, joined, member, none_held, ordered}
-use Rattle.ordered_reach.specs.Runs.{without}
-use Rattle.determinize_below.specs.declared.look.Look.{Look as Assertion}
-use Rattle.determinize_below.proofs.nfas.Edges.{edges-agree, edges-same, edges-more, edges-capture, next_of}
+use Rattle.determinize_core.proofs.Common.{ap, arith, Bool, by_test, distinct_states, each_look, edges, ends, false}
+use Rattle.determinize_core.proofs.Common.{fresh, is_capture, is_reopened, IsAccepted, IsTested, joined, length, List}
+use Rattle.determinize_core.proofs.Common.{member, nat_eq, needs, Nfa, none_held, not, opened_by, Option, ordered, suc}
+use Rattle.determinize_core.proofs.Common.{sym, tables_of, true, truth, Value, without, working_list, zero, ℕ, ◌&&◌}
+use Rattle.determinize_core.proofs.Common.{◌+◌, ◌||◌, ◌∙◌, ◌≡◌}
+use Rattle.determinize_below.proofs.nfas.SoundNfa.{accepted_sound, edges_enough, IsSound}
+use Rattle.determinize_below.proofs.looks.CommonLooks.{each_look-false}
+use Rattle.determinize_below.proofs.nfas.Edges.{edges-agree, edges-capture, edges-more, edges-same, next_of}
 use Rattle.ordered_reach.proofs.graph.ClosedSets.{IsEnough}
+use Rattle.determinize_start.proofs.tables.TrueTables.{known_truth, opened_truth}
+use Rattle.ordered_reach.proofs.graph.FiniteGraphs.{IsEnough-below, same_decides}
+use Rattle.determinize_below.specs.Edges.{reach}
+use Rattle.determinize_below.specs.Look.{has}
+use Rattle.determinize_below.specs.Reached.{known}
+use Rattle.determinize_below.specs.declared.look.Look.{Look as Assertion}
 use Rattle.ordered_reach.proofs.graph.Fuel.{IsEnough-plus, ordered-enough}
 use Rattle.ordered_reach.proofs.lists.Pieces.{list_any_some, without_twice}
-use Rattle.determinize_below.proofs.looks.CommonLooks.{each_look-false}
-use Rattle.ordered_reach.proofs.graph.FiniteGraphs.{IsEnough-below, same_decides}
 use Rattle.ordered_reach.proofs.graph.SameSearch.{not_redone}
 use Rattle.ordered_reach.proofs.runs.RunFuel.{run_fuel}
 use Rattle.ordered_reach.proofs.lists.NewNodes.{filter-fresh, fresh-flat_map, fresh-fresh}
-use Rattle.determinize_below.proofs.nfas.SoundNfa.{accepted_sound, edges_enough, IsSound}
-use Rattle.ordered_reach.proofs.Cases.{by_test}
-use Rattle.determinize_core.specs.Step.{opened_by, is_reopened, distinct_states, working_list}
-use Rattle.determinize_state.specs.Recording.{needs}
-use Rattle.determinize_start.specs.LookTables.{tables_of, opened, from_word_after, half_crlf_after}
-use Rattle.determinize_state.specs.Value.{Value}
+use Rattle.determinize_start.specs.LookTables.{from_word_after, half_crlf_after, opened}
 use Rattle.determinize_state.proofs.values.TestedSets.{needs_member, needs_some}
-use Rattle.determinize_start.proofs.tables.TrueTables.{known_truth, opened_truth}
 
 -- the fuel of all runs over m bytes
 abbrev pub fuel : Nfa → ℕ → ℕ
@@ -41,34 +37,46 @@ listing nfa m holds roots = ordered nat_eq (edges nfa holds) (fuel nfa m) none_h
 pub record IsEntered (nfa : Nfa) (m : ℕ) (b : Option ℕ) (v : Value) (roots : List ℕ) : Type 0 where
   pub states : v.states ≡ without (is_capture nfa) (listing nfa m (known nfa b) roots)
   pub need : v.look_need ≡ needs nfa 0 v.states
-  pub have : (k : Assertion) → has v.look_need k ≡ true → (l : Assertion) → IsTested nfa l → has v.look_have l ≡ known nfa b l
-  pub flags : (s : ℕ) → member nat_eq v.states s ≡ true → (v.from_word ≡ from_word_after (tables_of nfa) b) × (v.half_crlf ≡ half_crlf_after (tables_of nfa) b)
+  pub have : (k : Assertion) → has v.look_need k ≡ true → (l : Assertion) → IsTested nfa l
+      → has v.look_have l ≡ known nfa b l
+  pub flags : (s : ℕ) → member nat_eq v.states s ≡ true → (v.from_word ≡ from_word_after (tables_of nfa) b)
+      × (v.half_crlf ≡ half_crlf_after (tables_of nfa) b)
 
 module _ (nfa : Nfa) (sound : IsSound nfa) where
   fuel_enough : (m : ℕ) (holds : Assertion → Bool) (s : ℕ) → IsEnough nat_eq (edges nfa holds) (fuel nfa m) none_held s
   fuel_enough zero holds s = IsEnough-below (edges nfa holds) (length nfa.states) (sound.resolves holds) s
-  fuel_enough (suc m) holds s = IsEnough-plus same_decides (edges nfa holds) (suc (length nfa.states)) (fuel nfa m) none_held s (fuel_enough m holds s)
+  fuel_enough (suc m) holds s = IsEnough-plus same_decides (edges nfa holds) (suc (length nfa.states))
+      (fuel nfa m) none_held s (fuel_enough m holds s)
 
   -- the definitions' search is the one with the fuel of all runs
   pub reach_is : (m : ℕ) (holds : Assertion → Bool) (roots : List ℕ) → reach nfa holds roots ≡ listing nfa m holds roots
   unfolding reach
-  reach_is m holds roots = ordered-enough same_decides (edges nfa holds) (length nfa.states + 1) (fuel nfa m) none_held roots (edges_enough nfa sound holds) (fuel_enough m holds)
+  reach_is m holds roots = ordered-enough same_decides (edges nfa holds) (length nfa.states + 1)
+      (fuel nfa m) none_held roots (edges_enough nfa sound holds) (fuel_enough m holds)
 
 module _ (nfa : Nfa) (accepted : IsAccepted nfa) (m : ℕ) where
   sound : IsSound nfa
   sound = accepted_sound nfa accepted
 
-  opened_is : (b u : Option ℕ) (v : Value) → (v.from_word ≡ from_word_after (tables_of nfa) b) × (v.half_crlf ≡ half_crlf_after (tables_of nfa) b) → opened_by nfa v u ≡ opened (tables_of nfa) (from_word_after (tables_of nfa) b) (half_crlf_after (tables_of nfa) b) u
-  opened_is b u v f = ap (λ w. opened (tables_of nfa) w v.half_crlf u) f.0 ∙ ap (λ h. opened (tables_of nfa) (from_word_after (tables_of nfa) b) h u) f.1
+  opened_is : (b u : Option ℕ) (v : Value) → (v.from_word ≡ from_word_after (tables_of nfa) b)
+      × (v.half_crlf ≡ half_crlf_after (tables_of nfa) b)
+      → opened_by nfa v u ≡ opened (tables_of nfa) (from_word_after (tables_of nfa) b)
+      (half_crlf_after (tables_of nfa) b) u
+  opened_is b u v f = ap (λ w. opened (tables_of nfa) w v.half_crlf u) f.0
+      ∙ ap (λ h. opened (tables_of nfa) (from_word_after (tables_of nfa) b) h u) f.1
 
   -- where the closure is redone, it is redone under what is true
   redo_same : (b u : Option ℕ) (v : Value) (roots : List ℕ) → IsEntered nfa m b v roots → is_reopened nfa v u ≡ true
-      → reach nfa (joined (has v.look_have) (opened_by nfa v u)) (distinct_states v) ≡ listing nfa m (truth nfa b u) v.states
-  redo_same b u v roots e r = list_any_some (λ l. opened_by nfa v u l && has v.look_need l && not (has v.look_have l)) each_look r (λ k z.
-      let needed : has v.look_need k ≡ true = middle (opened_by nfa v u k) (has v.look_need k) (not (has v.look_have k)) z in
+      → reach nfa (joined (has v.look_have) (opened_by nfa v u)) (distinct_states v)
+      ≡ listing nfa m (truth nfa b u) v.states
+  redo_same b u v roots e r =
+      list_any_some (λ l. opened_by nfa v u l && has v.look_need l && not (has v.look_have l)) each_look r (λ k z.
+      let needed : has v.look_need k ≡ true =
+      middle (opened_by nfa v u k) (has v.look_need k) (not (has v.look_have k)) z in
       needs_some nfa v.states k (ap (λ n. has n k) (sym e.need) ∙ needed) (λ s i.
       reach_is nfa sound m (joined (has v.look_have) (opened_by nfa v u)) (distinct_states v)
-      ∙ fresh-flat_map same_decides (ends nat_eq (edges nfa (joined (has v.look_have) (opened_by nfa v u))) (fuel nfa m) none_held) none_held v.states
+      ∙ fresh-flat_map same_decides (ends nat_eq (edges nfa (joined (has v.look_have) (opened_by nfa v u)))
+      (fuel nfa m) none_held) none_held v.states
       ∙ ap (λ g. ordered nat_eq g (fuel nfa m) none_held v.states)
       (edges-same nfa (joined (has v.look_have) (opened_by nfa v u)) (truth nfa b u) (λ l q.
       ap (λ c. c || opened_by nfa v u l) (e.have k needed l q)
@@ -109,7 +117,8 @@ module _ (nfa : Nfa) (accepted : IsAccepted nfa) (m : ℕ) where
 
   -- captures aside, the working list is what is reached under what is true
   pub working_is : (b u : Option ℕ) (v : Value) (roots : List ℕ) → IsEntered nfa m b v roots
-      → without (is_capture nfa) (working_list nfa v u) ≡ without (is_capture nfa) (listing nfa m (truth nfa b u) v.states)
+      → without (is_capture nfa) (working_list nfa v u)
+      ≡ without (is_capture nfa) (listing nfa m (truth nfa b u) v.states)
   working_is b u v roots e = by_test (is_reopened nfa v u)
       (λ r. rw r (ap (λ l. without (is_capture nfa) l) (redo_same b u v roots e r)))
       (λ r. rw r (kept_same b u v roots e r))

@@ -2,24 +2,19 @@
 -- Main statements: each_last_is_farthest.
 -- Used by: `farthest_law`, and searches.
 -- Idea: a later position with a match would be listed later.
-use Rattle.std.proofs.Common.{◌≡◌, ℕ, zero, suc, ◌+◌, ◌<◌, ◌≤◌, List, [], ◌∷◌, length, refl, sym, ap, ◌∙◌, arith, Option, Some, None, subst}
-use Rattle.std.specs.Prelude.{slice_get, Contains}
-use Rattle.std.specs.Option.{option_or}
-use Rattle.std.proofs.lemmas.Bool.{cases_order}
-use Rattle.determinize_below.specs.Semantics.{Nfa, Text, Accepts}
-use Rattle.determinize_below.specs.declared.search.HalfMatch.{HalfMatch}
-use Rattle.determinize_below.specs.declared.search.MatchKind.TheVariants.{All}
+use Rattle.determinize_core.proofs.Common.{[], Accepts, All, ap, arith, by_cases, by_option, Contains, ended_at}
+use Rattle.determinize_core.proofs.Common.{HalfMatch, last_ended, last_match, length, List, ListsAccepted, Nfa, None}
+use Rattle.determinize_core.proofs.Common.{Option, option_or, refl, slice_get, Some, some_injective, subst, suc, sym}
+use Rattle.determinize_core.proofs.Common.{Text, Value, zero, ℕ, ◌+◌, ◌<◌, ◌∙◌, ◌∷◌, ◌≡◌, ◌≤◌}
 use Rattle.ordered_reach.proofs.lists.Elements.{Contains_In, In}
 use Rattle.ordered_reach.proofs.graph.FiniteGraphs.{same_decides}
-use Rattle.ordered_reach.proofs.Cases.{by_option, some_injective, by_cases}
+use Rattle.std.proofs.lemmas.Bool.{cases_order}
 use Rattle.determinize_core.specs.Chain.{chain}
 use Rattle.determinize_core.specs.Laws.{EachLastIsFarthest}
 use Rattle.determinize_core.proofs.walk.ValueWalks.{ListsAll}
-use Rattle.determinize_core.specs.LastMatch.{IsFarthestMatch, ended_at, last_ended, last_match}
-use Rattle.determinize_core.specs.Walk.{ListsAccepted}
+use Rattle.determinize_core.specs.LastMatch.{IsFarthestMatch}
 use Rattle.determinize_core.proofs.walk.TextBounds.{no_run_leaves_the_text}
 use Rattle.determinize_core.proofs.walk.WalkOfRuns.{walk_of_all}
-use Rattle.determinize_state.specs.Value.{Value}
 
 -- no value after an index lists a pattern
 abbrev NoneListsAfter : List Value → ℕ → Type 0

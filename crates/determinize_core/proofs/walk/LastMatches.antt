@@ -2,27 +2,23 @@
 -- Main statements: last_match-read, last_match-push, each_last_unit_unrolls.
 -- Used by: `last_match`, and searches.
 -- Idea: one more value replaces the last match if it lists a pattern.
-use Rattle.std.proofs.Common.{◌≡◌, ℕ, suc, ◌+◌, ◌<◌, ◌≤◌, true, false, List, [], ◌∷◌, ◌++◌, Option, Some, get_or, length, take, refl, sym, ap, ◌∙◌, arith}
-use Rattle.std.specs.Option.{option_or}
-use Rattle.std.specs.Prelude.{option_map, slice_index}
-use Rattle.std.proofs.Math.Seq.{take-suc}
-use Rattle.std.proofs.lemmas.Bool.{false≢true, true≢false}
-use Rattle.std.proofs.lemmas.List.{length-take-le, take_all}
-use Rattle.determinize_below.specs.declared.search.HalfMatch.{HalfMatch}
+use Rattle.determinize_core.proofs.Common.{[], ap, arith, ended_at, false, false≢true, future, get_or, HalfMatch}
+use Rattle.determinize_core.proofs.Common.{is_nonempty, last_ended, last_match, length, List, MatchKind, Nfa, Option}
+use Rattle.determinize_core.proofs.Common.{option_or, refl, Some, suc, sym, take, take-suc, take_all, true, true≢false}
+use Rattle.determinize_core.proofs.Common.{Value, value_after, ℕ, ◌++◌, ◌+◌, ◌<◌, ◌∙◌, ◌∷◌, ◌≡◌, ◌≤◌}
 use Rattle.ordered_reach.proofs.lists.Pieces.{map-option_or, option_or-assoc, option_or-None}
-use Rattle.determinize_below.specs.Semantics.{Nfa}
-use Rattle.determinize_below.specs.declared.search.MatchKind.{MatchKind}
-use Rattle.determinize_state.specs.Value.{Value, is_nonempty}
-use Rattle.determinize_core.specs.Chain.{future, value_after}
+use Rattle.std.specs.Prelude.{option_map, slice_index}
+use Rattle.std.proofs.lemmas.List.{length-take-le}
 use Rattle.determinize_core.specs.Laws.{EachFirstUnitUnrolls, EachLastUnitUnrolls, one_later}
 use Rattle.determinize_core.specs.Step.{step}
-use Rattle.determinize_core.specs.LastMatch.{ended_at, last_ended, last_match}
 use Rattle.determinize_core.proofs.walk.WalkLoops.{value_after-push}
 
 -- one more value
-last_ended-push : (n : ℕ) (vs : List Value) (v : Value) → last_ended n (vs ++ v ∷ []) ≡ option_or (ended_at (n + length vs) v.patterns) (last_ended n vs)
+last_ended-push : (n : ℕ) (vs : List Value) (v : Value)
+    → last_ended n (vs ++ v ∷ []) ≡ option_or (ended_at (n + length vs) v.patterns) (last_ended n vs)
 last_ended-push n [] v =
-    let z : n ≡ n + 0 = omega arith in ap (λ k. ended_at k v.patterns) z ∙ sym (option_or-None (ended_at (n + 0) v.patterns))
+    let z : n ≡ n + 0 = omega arith in ap (λ k. ended_at k v.patterns) z
+    ∙ sym (option_or-None (ended_at (n + 0) v.patterns))
 last_ended-push n (w ∷ vs) v =
     let z : suc n + length vs ≡ n + suc (length vs) = omega arith in
     ap (λ o. option_or o (ended_at n w.patterns)) (last_ended-push (suc n) vs v)
@@ -30,7 +26,8 @@ last_ended-push n (w ∷ vs) v =
     ∙ ap (λ k. option_or (ended_at k v.patterns) (option_or (last_ended (suc n) vs) (ended_at n w.patterns))) z
 
 -- one more value of a list
-last_ended-more : (vs : List Value) (i : ℕ) (v : Value) → i < length vs → v ≡ get_or vs i v → last_ended 0 (take (i + 1) vs) ≡ option_or (ended_at i v.patterns) (last_ended 0 (take i vs))
+last_ended-more : (vs : List Value) (i : ℕ) (v : Value) → i < length vs → v ≡ get_or vs i v
+    → last_ended 0 (take (i + 1) vs) ≡ option_or (ended_at i v.patterns) (last_ended 0 (take i vs))
 last_ended-more vs i v l e =
     let plus : i + 1 ≡ suc i = omega arith in
     let here : 0 + length (take i vs) ≡ i = let k = length-take-le i vs (omega arith) in omega arith in
@@ -39,7 +36,8 @@ last_ended-more vs i v l e =
     ∙ last_ended-push 0 (take i vs) v
     ∙ ap (λ k. option_or (ended_at k v.patterns) (last_ended 0 (take i vs))) here
 
-ended_at-match : (i : ℕ) (ps : List ℕ) (o : Option HalfMatch) → is_nonempty ps ≡ true → option_or (ended_at i ps) o ≡ Some record { pattern = slice_index ps 0; offset = i }
+ended_at-match : (i : ℕ) (ps : List ℕ) (o : Option HalfMatch) → is_nonempty ps ≡ true
+    → option_or (ended_at i ps) o ≡ Some record { pattern = slice_index ps 0; offset = i }
 ended_at-match i [] o e = absurd (false≢true e)
 ended_at-match i (p ∷ ps) o e = refl
 
@@ -54,20 +52,24 @@ first_listed (x ∷ xs) e = omega arith
 
 module _ (vs : List Value) (i : ℕ) (v : Value) (within : i < length vs) (here : v ≡ get_or vs i v) where
   -- a value that lists a pattern is the last that does, so far
-  pub last_ended-match : (before now : Option HalfMatch) (pattern : ℕ) → is_nonempty v.patterns ≡ true → pattern ≡ slice_index v.patterns 0 → now ≡ Some record { pattern = pattern; offset = i }
+  pub last_ended-match : (before now : Option HalfMatch) (pattern : ℕ) → is_nonempty v.patterns ≡ true
+      → pattern ≡ slice_index v.patterns 0 → now ≡ Some record { pattern = pattern; offset = i }
       → now ≡ last_ended 0 (take (i + 1) vs)
   last_ended-match before now pattern m p e =
       e ∙ ap (λ (x : ℕ). Some record { pattern = x; offset = i }) p
       ∙ sym (ended_at-match i v.patterns (last_ended 0 (take i vs)) m) ∙ sym (last_ended-more vs i v within here)
 
   -- one that lists none changes nothing
-  pub last_ended-none : (before now : Option HalfMatch) → is_nonempty v.patterns ≡ false → before ≡ last_ended 0 (take i vs) → now ≡ before → now ≡ last_ended 0 (take (i + 1) vs)
+  pub last_ended-none : (before now : Option HalfMatch) → is_nonempty v.patterns ≡ false
+      → before ≡ last_ended 0 (take i vs) → now ≡ before → now ≡ last_ended 0 (take (i + 1) vs)
   last_ended-none before now m b e =
       e ∙ b ∙ sym (ended_at-none i v.patterns (last_ended 0 (take i vs)) m) ∙ sym (last_ended-more vs i v within here)
 
 -- all values but the first were read
-pub last_match-read : (values vs : List Value) (first : Value) (i : ℕ) (last : Option HalfMatch) → values ≡ first ∷ vs → length vs ≤ i → last ≡ last_ended 0 (take i vs) → last ≡ last_match values
-last_match-read values vs first i last whole l e = e ∙ ap (λ ws. last_ended 0 ws) (take_all i vs l) ∙ sym (ap last_match whole)
+pub last_match-read : (values vs : List Value) (first : Value) (i : ℕ) (last : Option HalfMatch) → values ≡ first ∷ vs
+    → length vs ≤ i → last ≡ last_ended 0 (take i vs) → last ≡ last_match values
+last_match-read values vs first i last whole l e =
+    e ∙ ap (λ ws. last_ended 0 ws) (take_all i vs l) ∙ sym (ap last_match whole)
 
 -- a match, one position later
 ended_at-later : (n : ℕ) (ps : List ℕ) → ended_at (suc n) ps ≡ option_map one_later (ended_at n ps)
@@ -111,7 +113,8 @@ module _ (nfa : Nfa) (kind : MatchKind) where
       (option_or (last_ended (suc n) (tail next us)) (ended_at n next.patterns))) z
       ∙ ap (λ vs. option_or (ended_at (n + suc (length us)) last.patterns) (last_ended n vs)) (sym (future_is next us))
 
-  pub last_match-tail : (v : Value) (us : List (Option ℕ)) → last_match (future nfa kind v us) ≡ last_ended 0 (tail v us)
+  pub last_match-tail : (v : Value) (us : List (Option ℕ))
+      → last_match (future nfa kind v us) ≡ last_ended 0 (tail v us)
   last_match-tail v us = ap last_match (future_is v us)
 
   -- the last match over one more unit

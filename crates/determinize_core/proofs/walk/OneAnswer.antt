@@ -2,25 +2,23 @@
 -- Main statements: each_answer_is_one.
 -- Used by: `answer_law`.
 -- Idea: least runs are unique, so lists in their order are.
-use Rattle.std.proofs.Common.{◌≡◌, ℕ, Bool, List, [], sym, ap, ◌∙◌, subst}
-use Rattle.determinize_below.specs.Edges.{is_capture, pattern_of}
-use Rattle.determinize_below.specs.Semantics.{Nfa, Text, choices, IsBestRun, IsPreferredRun}
-use Rattle.ordered_reach.specs.Paths.{Before, IsPath}
-use Rattle.determinize_below.specs.Reached.{known_choices}
-use Rattle.ordered_reach.specs.Runs.{IsLeastRun, ListsReached}
+use Rattle.determinize_core.proofs.Common.{[], ap, Before, Bool, choices, is_capture, IsBestRun, IsLeastRun, IsPath}
+use Rattle.determinize_core.proofs.Common.{IsPreferredRun, List, ListsAccepted, Nfa, pattern_in, some_injective}
+use Rattle.determinize_core.proofs.Common.{state_at, subst, sym, Text, ℕ, ◌∙◌, ◌≡◌}
 use Rattle.ordered_reach.proofs.lists.Elements.{Contains_In, In_Contains, same_by_order}
 use Rattle.ordered_reach.proofs.graph.FiniteGraphs.{same_decides}
+use Rattle.determinize_below.specs.Reached.{known_choices}
+use Rattle.ordered_reach.specs.Runs.{ListsReached}
 use Rattle.ordered_reach.proofs.lists.Pairs.{pairs_at}
-use Rattle.ordered_reach.proofs.Cases.{some_injective}
 use Rattle.ordered_reach.proofs.lists.Lexicographic.{Before-asym, same_least}
 use Rattle.ordered_reach.proofs.graph.UniqueOrder.{one_end}
 use Rattle.determinize_core.specs.Laws.{EachAnswerIsOne}
-use Rattle.determinize_core.specs.Walk.{ListsAccepted}
 
 module _ (nfa : Nfa) (text : Text) (start : ℕ) where
   -- the best run of one pattern is before that of another
   abbrev IsBetter : ℕ → ℕ → ℕ → Type 0
-  IsBetter i x y = (cs : List ℕ) × (ds : List ℕ) × IsBestRun nfa text start cs i x × IsBestRun nfa text start ds i y × Before cs ds
+  IsBetter i x y = (cs : List ℕ) × (ds : List ℕ) × IsBestRun nfa text start cs i x × IsBestRun nfa text start ds i y
+      × Before cs ds
 
   better_asym : (i x y : ℕ) → IsBetter i x y → IsBetter i y x → ⊥
   better_asym i x y a b =
@@ -28,22 +26,29 @@ module _ (nfa : Nfa) (text : Text) (start : ℕ) where
       let f : a.1 ≡ b.0 = same_least a.1 b.0 (a.3.best b.0 b.2.accepts) (b.2.best a.1 a.3.accepts) in
       Before-asym a.0 a.1 a.4 (subst (λ z. Before a.1 z) (sym e) (subst (λ z. Before z b.1) (sym f) b.4))
 
-  one_listing : (i : ℕ) (ps qs : List ℕ) → ListsAccepted nfa text start i ps → ListsAccepted nfa text start i qs → ps ≡ qs
+  one_listing : (i : ℕ) (ps qs : List ℕ) → ListsAccepted nfa text start i ps → ListsAccepted nfa text start i qs
+      → ps ≡ qs
   one_listing i ps qs a b = same_by_order (λ x y. IsBetter i x y) (better_asym i) ps qs
       (λ x h. Contains_In same_decides qs x ((b.accepted x).1 ((a.accepted x).0 (In_Contains same_decides ps x h))))
       (λ x h. Contains_In same_decides ps x ((a.accepted x).1 ((b.accepted x).0 (In_Contains same_decides qs x h))))
       (pairs_at (IsBetter i) ps a.best_first)
       (pairs_at (IsBetter i) qs b.best_first)
 
-  one_preferred : (i j x y : ℕ) (cs ds : List ℕ) → IsPreferredRun nfa text start cs i x → IsPreferredRun nfa text start ds j y → (i ≡ j) × (x ≡ y)
+  one_preferred : (i j x y : ℕ) (cs ds : List ℕ) → IsPreferredRun nfa text start cs i x
+      → IsPreferredRun nfa text start ds j y → (i ≡ j) × (x ≡ y)
   one_preferred i j x y cs ds a b =
       let e : cs ≡ ds = same_least cs ds (a.preferred ds j y b.accepts) (b.preferred cs i x a.accepts) in
-      let q : (i, a.accepts.0) ≡ (j, b.accepts.0) = one_end (choices nfa text) [] (0, start) ds (i, a.accepts.0) (j, b.accepts.0)
-      (subst (λ z. IsPath (choices nfa text) [] (0, start) z (i, a.accepts.0)) e a.accepts.1) b.accepts.1 in
-      (ap (λ w. w.0) q, some_injective x y (sym a.accepts.2 ∙ ap (λ w. pattern_of nfa w.1) q ∙ b.accepts.2))
+      let q : (i, a.accepts.0) ≡ (j, b.accepts.0) =
+      one_end (choices nfa text) [] (0, start) ds (i, a.accepts.0) (j, b.accepts.0)
+      (subst (λ z. IsPath (choices nfa text) [] (0, start) z (i, a.accepts.0)) e a.accepts.1) b.accepts.1 in (
+        ap (λ w. w.0) q,
+        some_injective x y (ap pattern_in
+            (sym a.accepts.2 ∙ ap (λ w. state_at nfa w.1) q ∙ b.accepts.2)),
+      )
 
 -- a list in the order of the least runs is one
-one_reached : (edges : ℕ × ℕ → List (ℕ × ℕ)) (cap : ℕ → Bool) (start i : ℕ) (xs ys : List ℕ) → ListsReached edges cap start i xs → ListsReached edges cap start i ys → xs ≡ ys
+one_reached : (edges : ℕ × ℕ → List (ℕ × ℕ)) (cap : ℕ → Bool) (start i : ℕ) (xs ys : List ℕ)
+    → ListsReached edges cap start i xs → ListsReached edges cap start i ys → xs ≡ ys
 one_reached edges cap start i xs ys a b = same_by_order IsLess asym xs ys
     (λ s h. Contains_In same_decides ys s ((b.reached s).1 ((a.reached s).0 (In_Contains same_decides xs s h))))
     (λ s h. Contains_In same_decides xs s ((a.reached s).1 ((b.reached s).0 (In_Contains same_decides ys s h))))
@@ -51,7 +56,8 @@ one_reached edges cap start i xs ys a b = same_by_order IsLess asym xs ys
     (λ j k s t l u v. b.by_least j k s t l u v)
   where
     IsLess : ℕ → ℕ → Type 0
-    IsLess s t = (cs : List ℕ) × (ds : List ℕ) × IsLeastRun edges (0, start) cs (i, s) × IsLeastRun edges (0, start) ds (i, t) × Before cs ds
+    IsLess s t = (cs : List ℕ) × (ds : List ℕ) × IsLeastRun edges (0, start) cs (i, s)
+        × IsLeastRun edges (0, start) ds (i, t) × Before cs ds
 
     asym : (s t : ℕ) → IsLess s t → IsLess t s → ⊥
     asym s t p q =

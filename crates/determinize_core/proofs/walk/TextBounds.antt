@@ -2,17 +2,12 @@
 -- Main statements: no_run_leaves_the_text.
 -- Used by: `farthest_law`, Farthest.
 -- Idea: no transition leads over EOI.
-use Rattle.std.proofs.Common.{◌≡◌, ℕ, suc, ◌<◌, ◌≤◌, List, [], ◌∷◌, length, sym, ap, arith, None, Some, subst}
-use Rattle.std.specs.Prelude.{map, slice_get}
-use Rattle.std.proofs.lemmas.Option.{slice_get_within}
-use Rattle.determinize_below.specs.Edges.{target}
-use Rattle.determinize_below.specs.Semantics.{Nfa, Text, choices}
-use Rattle.ordered_reach.specs.Paths.{IsPath}
-use Rattle.determinize_below.specs.Positions.{byte_edges, true_edges}
-use Rattle.ordered_reach.specs.Runs.{placed}
-use Rattle.determinize_below.proofs.nfas.Edges.{target-end}
+use Rattle.determinize_core.proofs.Common.{[], ap, arith, by_option, byte_edges, choices, IsPath, length, List, Nfa}
+use Rattle.determinize_core.proofs.Common.{None, placed, slice_get, slice_get_within, Some, subst, suc, sym, target}
+use Rattle.determinize_core.proofs.Common.{Text, true_edges, ℕ, ◌<◌, ◌∷◌, ◌≡◌, ◌≤◌}
 use Rattle.ordered_reach.proofs.lists.Elements.{In, In_append_cases, In_map_from}
-use Rattle.ordered_reach.proofs.Cases.{by_option}
+use Rattle.determinize_below.proofs.nfas.Edges.{target-end}
+use Rattle.std.specs.Prelude.{map}
 use Rattle.determinize_core.specs.Laws.{NoRunLeavesTheText}
 
 -- a choice at a position of the text goes to a position of it

@@ -2,28 +2,31 @@
 -- Main statements: units_are, each_byte_ahead_is_next.
 -- Used by: `units_law`, `ahead_law`, WalkSteps.
 -- Idea: the bytes of a text, and then what is ahead.
-use Rattle.std.proofs.Common.{◌≡◌, ℕ, zero, suc, ◌+◌, List, [], ◌∷◌, ◌++◌, length, map, refl, sym, ap, ◌∙◌, arith, Option, Some}
-use Rattle.std.specs.List.{range_with_len}
-use Rattle.std.proofs.lemmas.List.{map-append}
-use Rattle.determinize_below.specs.Semantics.{after_at, between}
-use Rattle.determinize_core.specs.Chain.{chain, future, units, value_after}
+use Rattle.determinize_core.proofs.Common.{[], after_at, ap, arith, between, future, length, List, map, map-append}
+use Rattle.determinize_core.proofs.Common.{Option, range_with_len, refl, Some, start_value, suc, sym, units}
+use Rattle.determinize_core.proofs.Common.{value_after, zero, ℕ, ◌++◌, ◌+◌, ◌∙◌, ◌∷◌, ◌≡◌}
+use Rattle.determinize_core.specs.Chain.{chain}
 use Rattle.determinize_core.specs.Laws.{EachByteAheadIsNext}
-use Rattle.determinize_core.specs.Step.{start_value, step}
+use Rattle.determinize_core.specs.Step.{step}
 use Rattle.determinize_core.proofs.walk.WalkLoops.{future-push}
 
 -- positions of a text with one more byte before its own
 later_units : (behind ahead : Option ℕ) (b : ℕ) (bytes : List ℕ) (k n : ℕ)
-    → map (after_at (between behind (b ∷ bytes) ahead)) (range_with_len (suc k) n) ≡ map (after_at (between behind bytes ahead)) (range_with_len k n)
+    → map (after_at (between behind (b ∷ bytes) ahead)) (range_with_len (suc k) n)
+    ≡ map (after_at (between behind bytes ahead)) (range_with_len k n)
 later_units behind ahead b bytes k zero = refl
 later_units behind ahead b bytes k (suc n) =
     let one : suc k + 1 ≡ suc (k + 1) = omega arith in
-    ap (λ m. after_at (between behind bytes ahead) k ∷ map (after_at (between behind (b ∷ bytes) ahead)) (range_with_len m n)) one
+    ap (λ m. after_at (between behind bytes ahead) k
+    ∷ map (after_at (between behind (b ∷ bytes) ahead)) (range_with_len m n)) one
     ∙ ap (λ us. after_at (between behind bytes ahead) k ∷ us) (later_units behind ahead b bytes (k + 1) n)
 
 -- the units are the bytes and what is ahead of them
-pub units_are : (behind ahead : Option ℕ) (bytes : List ℕ) → units (between behind bytes ahead) ≡ map Some bytes ++ ahead ∷ []
+pub units_are : (behind ahead : Option ℕ) (bytes : List ℕ)
+    → units (between behind bytes ahead) ≡ map Some bytes ++ ahead ∷ []
 units_are behind ahead [] = refl
-units_are behind ahead (b ∷ bytes) = ap (λ us. Some b ∷ us) (later_units behind ahead b bytes 0 (suc (length bytes)) ∙ units_are behind ahead bytes)
+units_are behind ahead (b ∷ bytes) =
+    ap (λ us. Some b ∷ us) (later_units behind ahead b bytes 0 (suc (length bytes)) ∙ units_are behind ahead bytes)
 
 pub each_byte_ahead_is_next : EachByteAheadIsNext
 unfolding chain

@@ -2,25 +2,20 @@
 -- Main statements: ListsAll, FindsLeftmost, all_listed, leftmost_listed.
 -- Used by: WalkOfRuns, Farthest.
 -- Idea: the list at an index is that of the value at the index.
-use Rattle.std.proofs.Common.{◌≡◌, ◌+◌, ◌∷◌, ◌∙◌, ℕ, List, None, Some, [], ap, arith, length, refl, subst, suc, sym, zero}
-use Rattle.std.specs.Prelude.{Contains, drop, slice_get}
-use Rattle.determinize_below.specs.Semantics.{Accepts, IsPreferredRun, Nfa, Text}
-use Rattle.determinize_below.specs.declared.search.HalfMatch.{HalfMatch}
-use Rattle.ordered_reach.proofs.Cases.{some_injective}
-use Rattle.determinize_core.specs.LastMatch.{last_match, lists_of}
-use Rattle.determinize_core.specs.Walk.{IsLeftmostWalk, IsWalkOfAll, ListsAccepted, last_listed}
-use Rattle.determinize_state.specs.Value.{Value}
+use Rattle.determinize_core.proofs.Common.{[], Accepts, ap, Contains, HalfMatch, IsLeftmostWalk, IsPreferredRun}
+use Rattle.determinize_core.proofs.Common.{IsWalkOfAll, last_match, length, List, lists_of, ListsAccepted, Nfa, None}
+use Rattle.determinize_core.proofs.Common.{refl, slice_get, Some, some_injective, subst, suc, sym, Text, Value, zero, ℕ}
+use Rattle.determinize_core.proofs.Common.{◌+◌, ◌∙◌, ◌∷◌, ◌≡◌}
+use Rattle.std.specs.Prelude.{drop}
+use Rattle.determinize_core.specs.Walk.{last_listed}
 
 -- `IsWalkOfAll` of the values of a walk
 pub record ListsAll (nfa : Nfa) (start : ℕ) (text : Text) (values : List Value) : Type 0 where
   pub count : length values ≡ length text.bytes + 2
-  pub first : (v : Value) → slice_get values 0 ≡ Some v → v.patterns ≡ []
   pub matches : (i : ℕ) (v : Value) → slice_get values (suc i) ≡ Some v → ListsAccepted nfa text start i v.patterns
 
 -- `IsLeftmostWalk` of the values of a walk
 pub record FindsLeftmost (nfa : Nfa) (start : ℕ) (text : Text) (values : List Value) : Type 0 where
-  pub count : length values ≡ length text.bytes + 2
-  pub first : (v : Value) → slice_get values 0 ≡ Some v → v.patterns ≡ []
   pub preferred : (m : HalfMatch) → last_match values ≡ Some m
       → (cs : List ℕ) × IsPreferredRun nfa text start cs m.offset m.pattern
   pub none : last_match values ≡ None → (cs : List ℕ) (i pattern : ℕ) → Accepts nfa text start cs i pattern → ⊥
@@ -41,32 +36,19 @@ list_of [] i v e = absurd (let z : None ≡ Some v = e in cc)
 list_of (w ∷ vs) zero v e = ap (λ (u : Value). Some u.patterns) (some_injective w v e)
 list_of (w ∷ vs) (suc i) v e = list_of vs i v e
 
-pub length-lists : (values : List Value) → length (lists_of values) ≡ length values
-length-lists [] = refl
-length-lists (v ∷ vs) = ap suc (length-lists vs)
-
 pub last_is : (values : List Value) → last_match values ≡ last_listed 0 (drop 1 (lists_of values))
 last_is [] = refl
 last_is (v ∷ vs) = refl
 
-first_list : (values : List Value) (n : ℕ) → length values ≡ n + 2
-    → ((v : Value) → slice_get values 0 ≡ Some v → v.patterns ≡ []) → slice_get (lists_of values) 0 ≡ Some []
-first_list [] n e h = absurd (omega arith)
-first_list (v ∷ vs) n e h = ap Some (h v refl)
-
 module _ (nfa : Nfa) (start : ℕ) (text : Text) (values : List Value) where
   pub all_listed : ListsAll nfa start text values → IsWalkOfAll nfa start text (lists_of values)
   all_listed w = record {
-    count = length-lists values ∙ w.count;
-    first = first_list values (length text.bytes) w.count w.first;
     matches = λ i ps e. let r = value_of values (suc i) ps e in
         subst (λ l. ListsAccepted nfa text start i l) r.2 (w.matches i r.0 r.1);
   }
 
   pub leftmost_listed : FindsLeftmost nfa start text values → IsLeftmostWalk nfa start text (lists_of values)
   leftmost_listed w = record {
-    count = length-lists values ∙ w.count;
-    first = first_list values (length text.bytes) w.count w.first;
     preferred = λ m e. w.preferred m (last_is values ∙ e);
     none = λ e. w.none (last_is values ∙ e);
     matches = λ i ps e x c. let r = value_of values (suc i) ps e in

@@ -2,22 +2,14 @@
 -- Main statements: future-push, value_after-push, pattern_new, stops_at.
 -- Used by: WalkSteps, FirstReading.
 -- Idea: what a loop has done grows at its end.
-use Rattle.std.proofs.Common.{◌≡◌, ℕ, false, List, [], ◌∷◌, ◌++◌, take, refl, sym, ap, ◌∙◌, Option, Some, nat_eq}
-use Rattle.std.specs.Option.{option_to_list}
-use Rattle.std.specs.List.{flat_map, list_any}
-use Rattle.std.proofs.lemmas.Bool.{eq-eqb, eqb-true, true≢false}
-use Rattle.std.proofs.lemmas.List.{append-nil}
-use Rattle.std.proofs.lemmas.List.Concat.{flat_map-append}
-use Rattle.determinize_below.specs.Edges.{is_match, pattern_of, patterns_of, target}
-use Rattle.determinize_below.specs.Semantics.{Nfa}
-use Rattle.ordered_reach.specs.Runs.{before}
-use Rattle.determinize_below.specs.declared.search.MatchKind.{MatchKind}
-use Rattle.determinize_below.specs.declared.search.MatchKind.TheVariants.{LeftmostFirst}
+use Rattle.determinize_core.proofs.Common.{[], ap, append-nil, by_option, by_test, eq-eqb, eqb-true, false, flat_map}
+use Rattle.determinize_core.proofs.Common.{flat_map-append, future, is_match, LeftmostFirst, List, list_any, MatchKind}
+use Rattle.determinize_core.proofs.Common.{nat_eq, Nfa, Option, option_to_list, or_false_left, or_false_right}
+use Rattle.determinize_core.proofs.Common.{part_read, pattern_of, patterns_of, patterns_read, refl, Some, sym, take}
+use Rattle.determinize_core.proofs.Common.{target, true≢false, Value, value_after, ℕ, ◌++◌, ◌∙◌, ◌∷◌, ◌≡◌}
 use Rattle.determinize_below.proofs.nfas.SoundNfa.{IsSound}
-use Rattle.ordered_reach.proofs.Cases.{by_option, by_test, or_false_left, or_false_right}
-use Rattle.determinize_core.specs.Chain.{future, value_after}
-use Rattle.determinize_core.specs.Step.{step, part_read, patterns_read}
-use Rattle.determinize_state.specs.Value.{Value}
+use Rattle.ordered_reach.specs.Runs.{before}
+use Rattle.determinize_core.specs.Step.{step}
 
 -- one more unit
 pub future-push : (nfa : Nfa) (kind : MatchKind) (v : Value) (us : List (Option ℕ)) (u : Option ℕ)
@@ -31,17 +23,23 @@ value_after-push nfa kind v [] u = refl
 value_after-push nfa kind v (w ∷ us) u = value_after-push nfa kind (step nfa kind v w) us u
 
 -- one more state
-pub patterns-push : (nfa : Nfa) (xs : List ℕ) (s : ℕ) → patterns_of nfa (xs ++ s ∷ []) ≡ patterns_of nfa xs ++ option_to_list (pattern_of nfa s)
-patterns-push nfa xs s = flat_map-append (λ x. option_to_list (pattern_of nfa x)) xs (s ∷ []) ∙ ap (λ l. patterns_of nfa xs ++ l) (append-nil (option_to_list (pattern_of nfa s)))
+pub patterns-push : (nfa : Nfa) (xs : List ℕ) (s : ℕ)
+    → patterns_of nfa (xs ++ s ∷ []) ≡ patterns_of nfa xs ++ option_to_list (pattern_of nfa s)
+patterns-push nfa xs s = flat_map-append (λ x. option_to_list (pattern_of nfa x)) xs (s ∷ [])
+    ∙ ap (λ l. patterns_of nfa xs ++ l) (append-nil (option_to_list (pattern_of nfa s)))
 
-pub targets-push : (nfa : Nfa) (u : Option ℕ) (xs : List ℕ) (s : ℕ) → flat_map (target nfa u) (xs ++ s ∷ []) ≡ flat_map (target nfa u) xs ++ target nfa u s
-targets-push nfa u xs s = flat_map-append (target nfa u) xs (s ∷ []) ∙ ap (λ l. flat_map (target nfa u) xs ++ l) (append-nil (target nfa u s))
+pub targets-push : (nfa : Nfa) (u : Option ℕ) (xs : List ℕ) (s : ℕ)
+    → flat_map (target nfa u) (xs ++ s ∷ []) ≡ flat_map (target nfa u) xs ++ target nfa u s
+targets-push nfa u xs s =
+    flat_map-append (target nfa u) xs (s ∷ []) ∙ ap (λ l. flat_map (target nfa u) xs ++ l) (append-nil (target nfa u s))
 
 -- the pattern of one more state is new
-pub pattern_new : (nfa : Nfa) → IsSound nfa → (xs : List ℕ) (s p : ℕ) → list_any (nat_eq s) xs ≡ false → pattern_of nfa s ≡ Some p → list_any (nat_eq p) (patterns_of nfa xs) ≡ false
+pub pattern_new : (nfa : Nfa) → IsSound nfa → (xs : List ℕ) (s p : ℕ) → list_any (nat_eq s) xs ≡ false
+    → pattern_of nfa s ≡ Some p → list_any (nat_eq p) (patterns_of nfa xs) ≡ false
 pattern_new nfa sound [] s p h e = refl
 pattern_new nfa sound (x ∷ xs) s p h e =
-    let ih : list_any (nat_eq p) (patterns_of nfa xs) ≡ false = pattern_new nfa sound xs s p (or_false_right (nat_eq s x) (list_any (nat_eq s) xs) h) e in
+    let ih : list_any (nat_eq p) (patterns_of nfa xs) ≡ false =
+    pattern_new nfa sound xs s p (or_false_right (nat_eq s x) (list_any (nat_eq s) xs) h) e in
     by_option (pattern_of nfa x)
     (λ k. rw k ih)
     (λ q k. by_test (nat_eq p q)
@@ -52,15 +50,18 @@ pattern_new nfa sound (x ∷ xs) s p h e =
 
 -- states without a match, and then a match: there the reading stops
 pub stops_at : (nfa : Nfa) (xs zs : List ℕ) (s p : ℕ) → list_any (is_match nfa) xs ≡ false → pattern_of nfa s ≡ Some p
-    → (part_read LeftmostFirst (is_match nfa) (xs ++ s ∷ zs) ≡ xs) × (patterns_read LeftmostFirst (patterns_of nfa (xs ++ s ∷ zs)) ≡ p ∷ [])
+    → (part_read LeftmostFirst (is_match nfa) (xs ++ s ∷ zs) ≡ xs)
+    × (patterns_read LeftmostFirst (patterns_of nfa (xs ++ s ∷ zs)) ≡ p ∷ [])
 stops_at nfa [] zs s p h e = rw e (refl, refl)
 stops_at nfa (x ∷ xs) zs s p h e = by_option (pattern_of nfa x)
-    (λ k. let r : (before (is_match nfa) (xs ++ s ∷ zs) ≡ xs) × (take 1 (patterns_of nfa (xs ++ s ∷ zs)) ≡ p ∷ []) = stops_at nfa xs zs s p (rw k at h) e in
+    (λ k. let r : (before (is_match nfa) (xs ++ s ∷ zs) ≡ xs)
+    × (take 1 (patterns_of nfa (xs ++ s ∷ zs)) ≡ p ∷ []) = stops_at nfa xs zs s p (rw k at h) e in
     rw k (ap (λ l. x ∷ l) r.0, r.1))
     (λ q k. absurd (true≢false (rw k at h)))
 
 -- states without a match are all read, and have no pattern
-pub goes_on : (nfa : Nfa) (xs : List ℕ) → list_any (is_match nfa) xs ≡ false → (part_read LeftmostFirst (is_match nfa) xs ≡ xs) × (patterns_of nfa xs ≡ [])
+pub goes_on : (nfa : Nfa) (xs : List ℕ) → list_any (is_match nfa) xs ≡ false
+    → (part_read LeftmostFirst (is_match nfa) xs ≡ xs) × (patterns_of nfa xs ≡ [])
 goes_on nfa [] h = (refl, refl)
 goes_on nfa (x ∷ xs) h = by_option (pattern_of nfa x)
     (λ k. let r : (before (is_match nfa) xs ≡ xs) × (patterns_of nfa xs ≡ []) = goes_on nfa xs (rw k at h) in

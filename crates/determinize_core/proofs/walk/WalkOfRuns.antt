@@ -2,42 +2,36 @@
 -- Main statements: walk_of_all, leftmost_walk, records_reached, each_chain_is_true.
 -- Used by: ReturnedWalk, `walk_law`, and searches.
 -- Idea: an NFA over a text is an automaton over numbers, so Automata applies.
-use Rattle.std.proofs.Common.{◌≡◌, ℕ, zero, suc, ◌+◌, ◌<◌, ◌≤◌, true, false, List, [], ◌∷◌, length, take, refl, sym, ap, ◌∙◌, arith, Option, Some, None, subst}
-use Rattle.std.specs.List.{find}
-use Rattle.std.specs.Prelude.{slice_get, Contains}
-use Rattle.std.specs.Option.{is_some, option_map, option_or}
-use Rattle.std.proofs.lemmas.Bool.{true≢false, false≢true}
-use Rattle.std.proofs.lemmas.Option.{slice_get_within, slice_get_past}
-use Rattle.determinize_below.specs.Edges.{is_capture, is_match, pattern_of, patterns_of, target}
-use Rattle.determinize_below.specs.Semantics.{Nfa, Text, before_at, after_at, truth, choices, Accepts, IsPreferredRun}
-use Rattle.determinize_below.specs.Nfa.{IsAccepted}
-use Rattle.determinize_below.specs.Positions.{true_edges, byte_edges, IsRun}
-use Rattle.determinize_below.specs.Reached.{known, known_edges, IsReached}
-use Rattle.ordered_reach.specs.Runs.{IsBeginning, placed, without}
-use Rattle.ordered_reach.specs.Reach.{none_held}
-use Rattle.determinize_below.specs.declared.search.HalfMatch.{HalfMatch}
-use Rattle.determinize_below.specs.declared.search.MatchKind.{MatchKind}
-use Rattle.determinize_below.specs.declared.search.MatchKind.TheVariants.{All, LeftmostFirst}
-use Rattle.ordered_reach.proofs.lists.Prefixes.{Beginning-ordered}
-use Rattle.determinize_below.proofs.nfas.Edges.{edges-more, edges-capture, target-capture, target-end, match-capture, next_of, patterns-without}
-use Rattle.ordered_reach.proofs.lists.Elements.{Contains_In, In, In_Contains, In_append_left, In_take_one, without-In}
-use Rattle.ordered_reach.proofs.runs.CutLists.{last_accepting}
+use Rattle.determinize_core.proofs.Common.{[], Accepts, after_at, All, ap, arith, before_at, by_option, byte_edges}
+use Rattle.determinize_core.proofs.Common.{choices, Contains, ended_at, false, false≢true, HalfMatch, is_capture}
+use Rattle.determinize_core.proofs.Common.{is_match, is_some, IsAccepted, IsBeginning, IsPreferredRun, IsReached, IsRun}
+use Rattle.determinize_core.proofs.Common.{known_edges, last_ended, last_match, LeftmostFirst, length, List}
+use Rattle.determinize_core.proofs.Common.{ListsAccepted, MatchKind, Nfa, None, none_held, Option, option_or}
+use Rattle.determinize_core.proofs.Common.{pattern_of, patterns_of, placed, refl, slice_get, slice_get_past}
+use Rattle.determinize_core.proofs.Common.{slice_get_within, Some, some_injective, state_at, subst, suc, sym, take}
+use Rattle.determinize_core.proofs.Common.{target, Text, true, true_edges, true≢false, truth, Value, without, zero, ℕ}
+use Rattle.determinize_core.proofs.Common.{◌+◌, ◌<◌, ◌∙◌, ◌∷◌, ◌≡◌, ◌≤◌}
+use Rattle.determinize_below.proofs.nfas.SoundNfa.{accepted_sound, match_in}
+use Rattle.ordered_reach.proofs.lists.Elements.{Contains_In, In, In_append_left, In_Contains, In_take_one, without-In}
+use Rattle.determinize_below.proofs.nfas.Edges.{edges-capture, edges-more, match-capture, next_of, patterns-without}
+use Rattle.determinize_below.proofs.nfas.Edges.{target-capture, target-end}
+use Rattle.determinize_start.proofs.tables.TrueTables.{known_truth}
 use Rattle.ordered_reach.proofs.lists.Pieces.{map-option_or}
 use Rattle.ordered_reach.proofs.graph.FiniteGraphs.{same_decides}
+use Rattle.std.specs.List.{find}
+use Rattle.std.specs.Option.{option_map}
+use Rattle.determinize_below.specs.Reached.{known}
+use Rattle.ordered_reach.proofs.lists.Prefixes.{Beginning-ordered}
+use Rattle.ordered_reach.proofs.runs.CutLists.{last_accepting}
 use Rattle.ordered_reach.proofs.runs.MostPreferred.{IsMostPreferred}
-use Rattle.determinize_below.proofs.nfas.SoundNfa.{accepted_sound}
-use Rattle.ordered_reach.proofs.Cases.{by_option, some_injective}
 use Rattle.ordered_reach.proofs.runs.Automata.{IsAutomaton, IsTrueWalk, true_walk}
 use Rattle.determinize_core.specs.Chain.{chain}
-use Rattle.determinize_core.specs.Laws.{EachChainIsTrue, EachChainReaches}
-use Rattle.determinize_state.specs.Value.{Value}
-use Rattle.determinize_core.proofs.walk.ValueWalks.{FindsLeftmost, ListsAll, all_listed, leftmost_listed}
-use Rattle.determinize_core.specs.Walk.{ListsAccepted}
-use Rattle.determinize_core.specs.LastMatch.{ended_at, last_ended, last_match}
+use Rattle.determinize_core.specs.Laws.{EachChainHasItsLists, EachChainIsTrue, EachChainReaches}
+use Rattle.determinize_core.proofs.walk.ValueWalks.{all_listed, FindsLeftmost, leftmost_listed, list_of, ListsAll}
 use Rattle.determinize_core.specs.WalkStates.{IsPartKept, RecordsReached}
-use Rattle.determinize_core.proofs.walk.AcceptedPatterns.{patterns_In, match_of, lists_accepted}
-use Rattle.determinize_start.proofs.tables.TrueTables.{known_truth}
-use Rattle.determinize_core.proofs.walk.WalkValues.{value_at, recorded_by, redone_by, states_at_is, patterns_at_is, states_last, chain_item, length-chain}
+use Rattle.determinize_core.proofs.walk.AcceptedPatterns.{lists_accepted, match_of, matches_at, patterns_In}
+use Rattle.determinize_core.proofs.walk.WalkValues.{chain_item, length-chain, patterns_at_is, recorded_by, redone_by}
+use Rattle.determinize_core.proofs.walk.WalkValues.{states_at_is, states_last, value_at}
 use Rattle.determinize_core.proofs.step.WorkingLists.{fuel}
 
 -- the number in an option, or 0
@@ -54,14 +48,17 @@ module _ (nfa : Nfa) where
   abbrev pub named : ℕ × ℕ → HalfMatch
   named q = record { pattern = or_zero (pattern_of nfa q.1); offset = q.0 }
 
-  first-named : (k : ℕ) (xs : List ℕ) → ended_at k (take 1 (patterns_of nfa xs)) ≡ option_map named (option_map (placed k) (find (is_match nfa) xs))
+  first-named : (k : ℕ) (xs : List ℕ) → ended_at k (take 1 (patterns_of nfa xs))
+      ≡ option_map named (option_map (placed k) (find (is_match nfa) xs))
   first-named k [] = refl
   first-named k (z ∷ xs) = by_option (pattern_of nfa z)
       (λ e. rw e (first-named k xs))
       (λ w e. rw e (rw e refl))
 
-  last_named : (value : ℕ → Value) (lists : ℕ → List ℕ) (end : ℕ) → ((k : ℕ) → k ≤ end → (value (suc k)).patterns ≡ take 1 (patterns_of nfa (lists k)))
-      → (d k : ℕ) (vs : List Value) → k + d ≤ end → length vs ≡ suc d → ((j : ℕ) → j ≤ d → slice_get vs j ≡ Some (value (suc (k + j))))
+  last_named : (value : ℕ → Value) (lists : ℕ → List ℕ) (end : ℕ)
+      → ((k : ℕ) → k ≤ end → (value (suc k)).patterns ≡ take 1 (patterns_of nfa (lists k)))
+      → (d k : ℕ) (vs : List Value) → k + d ≤ end → length vs ≡ suc d
+      → ((j : ℕ) → j ≤ d → slice_get vs j ≡ Some (value (suc (k + j))))
       → last_ended k vs ≡ option_map named (last_accepting lists (is_match nfa) d k)
   last_named value lists end h d k [] i l g = absurd (omega arith)
   last_named value lists end h zero k (v ∷ []) i l g =
@@ -75,15 +72,21 @@ module _ (nfa : Nfa) where
       let here : ended_at k v.patterns ≡ option_map named (option_map (placed k) (find (is_match nfa) (lists k))) =
       ap (λ u. ended_at k u.patterns) e ∙ ap (λ ps. ended_at k ps) (h k (omega arith)) ∙ first-named k (lists k) in
       ap (λ o. option_or o (ended_at k v.patterns))
-      (last_named value lists end h d (suc k) vs (omega arith) (omega arith) (λ j i. let y : suc (k + suc j) ≡ suc (suc k + j) = omega arith in g (suc j) (omega arith) ∙ ap (λ n. Some (value n)) y))
+      (last_named value lists end h d (suc k) vs (omega arith) (omega arith)
+      (λ j i. let y : suc (k + suc j) ≡ suc (suc k + j) = omega arith in g (suc j) (omega arith)
+      ∙ ap (λ n. Some (value n)) y))
       ∙ ap (λ o. option_or (option_map named (last_accepting lists (is_match nfa) d (suc k))) o) here
-      ∙ sym (map-option_or named (last_accepting lists (is_match nfa) d (suc k)) (option_map (placed k) (find (is_match nfa) (lists k))))
+      ∙ sym (map-option_or named (last_accepting lists (is_match nfa) d (suc k))
+      (option_map (placed k) (find (is_match nfa) (lists k))))
 
 module _ (nfa : Nfa) (accepted : IsAccepted nfa) (start : ℕ) (text : Text) where
-  automaton : IsAutomaton (length nfa.states) (length text.bytes) (known_edges nfa text) (true_edges nfa text) (byte_edges nfa text) (is_capture nfa) (is_match nfa) (next_of nfa)
+  automaton : IsAutomaton (length nfa.states) (length text.bytes) (known_edges nfa text) (true_edges nfa text)
+      (byte_edges nfa text) (is_capture nfa) (is_match nfa) (next_of nfa)
   automaton = record {
     within = λ i s x m. (accepted_sound nfa accepted).resolves (truth nfa (before_at text i) (after_at text i)) s x m;
-    fewer = λ i s x m. edges-more nfa (known nfa (before_at text i)) (truth nfa (before_at text i) (after_at text i)) s x (λ l. known_truth nfa (before_at text i) (after_at text i) l) m;
+    fewer = λ i s x m. edges-more nfa (known nfa (before_at text i))
+        (truth nfa (before_at text i) (after_at text i)) s x
+        (λ l. known_truth nfa (before_at text i) (after_at text i) l) m;
     ends = λ i s l. ap (λ u. target nfa u s) (slice_get_past text.bytes i l) ∙ target-end nfa s;
     cap_known = λ i s e. edges-capture nfa (known nfa (before_at text i)) s e;
     cap_eps = λ i s e. edges-capture nfa (truth nfa (before_at text i) (after_at text i)) s e;
@@ -91,11 +94,14 @@ module _ (nfa : Nfa) (accepted : IsAccepted nfa) (start : ℕ) (text : Text) whe
     cap_acc = match-capture nfa;
   }
 
-  walk : IsTrueWalk (length nfa.states) (length text.bytes) (known_edges nfa text) (true_edges nfa text) (byte_edges nfa text) (is_capture nfa) (is_match nfa) start
-  walk = true_walk (length nfa.states) (length text.bytes) (known_edges nfa text) (true_edges nfa text) (byte_edges nfa text) (is_capture nfa) (is_match nfa) (next_of nfa) start automaton
+  walk : IsTrueWalk (length nfa.states) (length text.bytes) (known_edges nfa text) (true_edges nfa text)
+      (byte_edges nfa text) (is_capture nfa) (is_match nfa) start
+  walk = true_walk (length nfa.states) (length text.bytes) (known_edges nfa text) (true_edges nfa text)
+      (byte_edges nfa text) (is_capture nfa) (is_match nfa) (next_of nfa) start automaton
 
   -- an item of a chain is the value of its place
-  item_is : (kind : MatchKind) (j : ℕ) (v : Value) → slice_get (chain nfa kind start text) j ≡ Some v → value_at nfa kind start text j ≡ v
+  item_is : (kind : MatchKind) (j : ℕ) (v : Value) → slice_get (chain nfa kind start text) j ≡ Some v
+      → value_at nfa kind start text j ≡ v
   item_is kind j v h =
       let l : j < length (chain nfa kind start text) = slice_get_within _ j v h in
       let n : length (chain nfa kind start text) ≡ length text.bytes + 2 = length-chain nfa kind start text in
@@ -105,44 +111,56 @@ module _ (nfa : Nfa) (accepted : IsAccepted nfa) (start : ℕ) (text : Text) whe
   reached_at k = walk.reached k
 
   -- an item but the first belongs to a position of the text
-  position_of : (kind : MatchKind) (i : ℕ) (v : Value) → slice_get (chain nfa kind start text) (suc i) ≡ Some v → i ≤ length text.bytes
+  position_of : (kind : MatchKind) (i : ℕ) (v : Value) → slice_get (chain nfa kind start text) (suc i) ≡ Some v
+      → i ≤ length text.bytes
   position_of kind i v h =
       let l : suc i < length (chain nfa kind start text) = slice_get_within _ (suc i) v h in
       let n : length (chain nfa kind start text) ≡ length text.bytes + 2 = length-chain nfa kind start text in
       omega arith
 
-  all_patterns : (i : ℕ) → i ≤ length text.bytes → ListsAccepted nfa text start i (value_at nfa All start text (suc i)).patterns
+  all_patterns : (i : ℕ) → i ≤ length text.bytes
+      → ListsAccepted nfa text start i (value_at nfa All start text (suc i)).patterns
   all_patterns i l = subst (λ ps. ListsAccepted nfa text start i ps)
-      (sym (patterns_at_is nfa accepted All start text i l ∙ sym (patterns-without nfa (redone_by nfa All start text i))))
-      (lists_accepted nfa (accepted_sound nfa accepted) text start i (without (is_capture nfa) (redone_by nfa All start text i)) (reached_at i))
+      (sym (patterns_at_is nfa accepted All start text i l
+      ∙ sym (patterns-without nfa (redone_by nfa All start text i))))
+      (lists_accepted nfa (accepted_sound nfa accepted) text start i
+      (without (is_capture nfa) (redone_by nfa All start text i)) (reached_at i))
 
   pub walk_of_all : ListsAll nfa start text (chain nfa All start text)
   walk_of_all = record {
     count = length-chain nfa All start text;
-    first = λ v h. ap (λ w. w.patterns) (sym (item_is All 0 v h));
-    matches = λ i v h. subst (λ w. ListsAccepted nfa text start i w.patterns) (item_is All (suc i) v h) (all_patterns i (position_of All i v h));
+    matches = λ i v h. subst (λ w. ListsAccepted nfa text start i w.patterns) (item_is All (suc i) v h)
+        (all_patterns i (position_of All i v h));
   }
 
   -- the last match of the chain is the last accepting state of the cut lists
-  last_match_is : last_match (chain nfa LeftmostFirst start text) ≡ option_map (named nfa) (last_accepting (λ k. redone_by nfa LeftmostFirst start text k) (is_match nfa) (length text.bytes) 0)
-  last_match_is = by_items (chain nfa LeftmostFirst start text) (length-chain nfa LeftmostFirst start text) (λ j l. chain_item nfa LeftmostFirst start text j l)
+  last_match_is : last_match (chain nfa LeftmostFirst start text)
+      ≡ option_map (named nfa) (last_accepting (λ k. redone_by nfa LeftmostFirst start text k) (is_match nfa)
+      (length text.bytes) 0)
+  last_match_is = by_items (chain nfa LeftmostFirst start text) (length-chain nfa LeftmostFirst start text)
+      (λ j l. chain_item nfa LeftmostFirst start text j l)
     where
-      by_items : (vs : List Value) → length vs ≡ length text.bytes + 2 → ((j : ℕ) → j ≤ length text.bytes + 1 → slice_get vs j ≡ Some (value_at nfa LeftmostFirst start text j))
-          → last_match vs ≡ option_map (named nfa) (last_accepting (λ k. redone_by nfa LeftmostFirst start text k) (is_match nfa) (length text.bytes) 0)
+      by_items : (vs : List Value) → length vs ≡ length text.bytes + 2
+          → ((j : ℕ) → j ≤ length text.bytes + 1 → slice_get vs j ≡ Some (value_at nfa LeftmostFirst start text j))
+          → last_match vs ≡ option_map (named nfa)
+          (last_accepting (λ k. redone_by nfa LeftmostFirst start text k) (is_match nfa) (length text.bytes) 0)
       by_items [] n g = absurd (omega arith)
       by_items (v ∷ vs) n g =
           last_named nfa (value_at nfa LeftmostFirst start text) (λ k. redone_by nfa LeftmostFirst start text k)
-          (length text.bytes) (patterns_at_is nfa accepted LeftmostFirst start text) (length text.bytes) 0 vs (omega arith) (omega arith)
-          (λ j l. let z : suc j ≡ suc (0 + j) = omega arith in g (suc j) (omega arith) ∙ ap (λ i. Some (value_at nfa LeftmostFirst start text i)) z)
+          (length text.bytes) (patterns_at_is nfa accepted LeftmostFirst start text) (length text.bytes) 0 vs
+          (omega arith) (omega arith)
+          (λ j l. let z : suc j ≡ suc (0 + j) = omega arith in g (suc j) (omega arith)
+          ∙ ap (λ i. Some (value_at nfa LeftmostFirst start text i)) z)
 
-  preferred_of : (q : ℕ × ℕ) → last_accepting (λ k. redone_by nfa LeftmostFirst start text k) (is_match nfa) (length text.bytes) 0 ≡ Some q
+  preferred_of : (q : ℕ × ℕ) → last_accepting (λ k. redone_by nfa LeftmostFirst start text k) (is_match nfa)
+      (length text.bytes) 0 ≡ Some q
       → (cs : List ℕ) × IsPreferredRun nfa text start cs q.0 (or_zero (pattern_of nfa q.1))
   preferred_of q e =
       let h : IsMostPreferred (choices nfa text) (0, start) (λ r. is_match nfa r.1) q = walk.preferred q e in (
         h.choices,
         record {
-          accepts = (q.1, h.run, is_some_of (pattern_of nfa q.1) h.accepted);
-          preferred = λ ds j other a. h.preferred ds (j, a.0) a.1 (match_of nfa a.0 other a.2);
+          accepts = (q.1, h.run, match_in (state_at nfa q.1) _ (is_some_of (pattern_of nfa q.1) h.accepted));
+          preferred = λ ds j other a. h.preferred ds (j, a.0) a.1 (matches_at nfa a.0 other a.2);
         },
       )
 
@@ -150,35 +168,50 @@ module _ (nfa : Nfa) (accepted : IsAccepted nfa) (start : ℕ) (text : Text) whe
   begins_at k = walk.cut_begins k
 
   -- a pattern of a value under `LeftmostFirst` is accepted by some run
-  leftmost_accepted : (i x : ℕ) → i ≤ length text.bytes → Contains (value_at nfa LeftmostFirst start text (suc i)).patterns x → (cs : List ℕ) × Accepts nfa text start cs i x
+  leftmost_accepted : (i x : ℕ) → i ≤ length text.bytes
+      → Contains (value_at nfa LeftmostFirst start text (suc i)).patterns x → (cs : List ℕ)
+      × Accepts nfa text start cs i x
   leftmost_accepted i x within c =
       let cut : List ℕ = redone_by nfa LeftmostFirst start text i in
       let whole : List ℕ = redone_by nfa All start text i in
-      let j : In x (take 1 (patterns_of nfa cut)) = subst (λ ps. In x ps) (patterns_at_is nfa accepted LeftmostFirst start text i within) (Contains_In same_decides _ x c) in
-      let b : IsBeginning cut whole = Beginning-ordered same_decides (true_edges nfa text i) (fuel nfa (length text.bytes)) none_held (recorded_by nfa LeftmostFirst start text i) (recorded_by nfa All start text i) (begins_at i) in
+      let j : In x (take 1 (patterns_of nfa cut)) =
+      subst (λ ps. In x ps) (patterns_at_is nfa accepted LeftmostFirst start text i within)
+      (Contains_In same_decides _ x c) in
+      let b : IsBeginning cut whole = Beginning-ordered same_decides (true_edges nfa text i)
+      (fuel nfa (length text.bytes)) none_held (recorded_by nfa LeftmostFirst start text i)
+      (recorded_by nfa All start text i) (begins_at i) in
       patterns_In nfa cut x (In_take_one (patterns_of nfa cut) x j) (λ s k e.
       let l : In s whole = subst (λ xs. In s xs) (sym b.1) (In_append_left s cut b.0 k) in
       let r : (is_capture nfa s ≡ false) × ((cs : List ℕ) × IsRun nfa text start cs (i, s)) =
-      ((reached_at i).reached s).0 (In_Contains same_decides _ s (without-In (is_capture nfa) whole s l (match-capture nfa s (match_of nfa s x e)))) in
-      (r.1.0, (s, r.1.1, e)))
+      ((reached_at i).reached s).0 (In_Contains same_decides _ s
+      (without-In (is_capture nfa) whole s l (match-capture nfa s (match_of nfa s x e)))) in
+      (r.1.0, (s, r.1.1, match_in (state_at nfa s) x e)))
 
   pub leftmost_walk : FindsLeftmost nfa start text (chain nfa LeftmostFirst start text)
   leftmost_walk = record {
-    count = length-chain nfa LeftmostFirst start text;
-    first = λ v h. ap (λ w. w.patterns) (sym (item_is LeftmostFirst 0 v h));
-    preferred = λ m h. by_option (last_accepting (λ k. redone_by nfa LeftmostFirst start text k) (is_match nfa) (length text.bytes) 0)
+    preferred = λ m h. by_option (last_accepting (λ k. redone_by nfa LeftmostFirst start text k) (is_match nfa)
+        (length text.bytes) 0)
         (λ e. absurd (let z : None ≡ Some m = ap (λ o. option_map (named nfa) o) (sym e) ∙ sym last_match_is ∙ h in cc))
-        (λ q e. let z : Some (named nfa q) ≡ Some m = ap (λ o. option_map (named nfa) o) (sym e) ∙ sym last_match_is ∙ h in
-        let r : (cs : List ℕ) × IsPreferredRun nfa text start cs q.0 (or_zero (pattern_of nfa q.1)) = preferred_of q e in
-        (r.0, subst (λ (w : HalfMatch). IsPreferredRun nfa text start r.0 w.offset w.pattern) (some_injective (named nfa q) m z) r.1));
-    none = λ h cs i pattern a. by_option (last_accepting (λ k. redone_by nfa LeftmostFirst start text k) (is_match nfa) (length text.bytes) 0)
-        (λ e. true≢false (sym (match_of nfa a.0 pattern a.2) ∙ walk.none e cs (i, a.0) a.1))
-        (λ q e. let z : Some (named nfa q) ≡ None = ap (λ o. option_map (named nfa) o) (sym e) ∙ sym last_match_is ∙ h in absurd cc);
-    matches = λ i v h x c. leftmost_accepted i x (position_of LeftmostFirst i v h) (subst (λ w. Contains w.patterns x) (sym (item_is LeftmostFirst (suc i) v h)) c);
+        (λ q e. let z : Some (named nfa q) ≡ Some m = ap (λ o. option_map (named nfa) o) (sym e) ∙ sym last_match_is
+        ∙ h in
+        let r : (cs : List ℕ) × IsPreferredRun nfa text start cs q.0 (or_zero (pattern_of nfa q.1)) =
+        preferred_of q e in (
+          r.0,
+          subst (λ (w : HalfMatch). IsPreferredRun nfa text start r.0 w.offset w.pattern)
+              (some_injective (named nfa q) m z) r.1,
+        ));
+    none = λ h cs i pattern a. by_option (last_accepting (λ k. redone_by nfa LeftmostFirst start text k) (is_match nfa)
+        (length text.bytes) 0)
+        (λ e. true≢false (sym (matches_at nfa a.0 pattern a.2) ∙ walk.none e cs (i, a.0) a.1))
+        (λ q e. let z : Some (named nfa q) ≡ None = ap (λ o. option_map (named nfa) o) (sym e) ∙ sym last_match_is
+        ∙ h in absurd cc);
+    matches = λ i v h x c. leftmost_accepted i x (position_of LeftmostFirst i v h)
+        (subst (λ w. Contains w.patterns x) (sym (item_is LeftmostFirst (suc i) v h)) c);
   }
 
   -- what is recorded at a position is the list that runs reach there, or a prefix of it
-  part_kept : (kind : MatchKind) (i : ℕ) → IsPartKept kind (recorded_by nfa kind start text i) (recorded_by nfa All start text i)
+  part_kept : (kind : MatchKind) (i : ℕ) → IsPartKept kind (recorded_by nfa kind start text i)
+      (recorded_by nfa All start text i)
   part_kept All i = refl
   part_kept LeftmostFirst i = begins_at i
 
@@ -187,15 +220,25 @@ module _ (nfa : Nfa) (accepted : IsAccepted nfa) (start : ℕ) (text : Text) whe
     ids = λ i v l h. (
       recorded_by nfa All start text i,
       walk.recorded_reached i,
-      subst (λ xs. IsPartKept kind xs (recorded_by nfa All start text i)) (sym (states_at_is nfa accepted kind start text i l) ∙ ap (λ u. u.states) (item_is kind i v h)) (part_kept kind i),
+      subst (λ xs. IsPartKept kind xs (recorded_by nfa All start text i))
+          (sym (states_at_is nfa accepted kind start text i l) ∙ ap (λ u. u.states) (item_is kind i v h))
+          (part_kept kind i),
     );
-    last = λ e v h. ap (λ w. w.states) (sym (item_is kind (suc (length text.bytes)) v h)) ∙ states_last nfa accepted kind start text e;
+    last = λ e v h. ap (λ w. w.states) (sym (item_is kind (suc (length text.bytes)) v h))
+        ∙ states_last nfa accepted kind start text e;
   }
 
 pub each_chain_is_true : EachChainIsTrue
 each_chain_is_true nfa accepted start text = (
   all_listed nfa start text (chain nfa All start text) (walk_of_all nfa accepted start text),
   leftmost_listed nfa start text (chain nfa LeftmostFirst start text) (leftmost_walk nfa accepted start text),
+)
+
+pub each_chain_has_its_lists : EachChainHasItsLists
+each_chain_has_its_lists nfa kind start text = (
+  length-chain nfa kind start text,
+  list_of (chain nfa kind start text) 0 (value_at nfa kind start text 0)
+      (chain_item nfa kind start text 0 (omega arith)),
 )
 
 pub each_chain_reaches : EachChainReaches

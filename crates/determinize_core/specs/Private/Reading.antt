@@ -1,4 +1,5 @@
--- The first pass over a working list: which of its states are live, with a pattern or with a target.
+-- The first pass over a working list: which of its states are live, with a pattern or with a
+-- target.
 use Rattle.std.specs.Prelude.{◌≡◌, ℕ, ◌++◌, Bool, not, Option, None, Some, List, [], ◌∷◌, if◌then◌else◌, nat_eq}
 use Rattle.determinize_state.specs.Value.{Value, is_nonempty}
 use Rattle.determinize_below.specs.Members.{has_id}
@@ -42,12 +43,15 @@ pattern_read (Target id) = None
 pattern_read (Match pattern) = Some pattern
 
 -- a state was read: the live states, the targets and the builder have gained what it gives
-pub record IsStateRead (nfa : Nfa) (u : Option ℕ) (id : ℕ) (kept kept_after targets targets_after : List ℕ) (value next : Value) : Type 0 where
+pub record IsStateRead (nfa : Nfa) (u : Option ℕ) (id : ℕ)
+    (kept kept_after targets targets_after : List ℕ) (value next : Value) : Type 0 where
   pub kept_are : kept_after ≡ kept ++ gained nfa u kept id
   pub targets_are : targets_after ≡ targets ++ flat_map (target nfa u) (gained nfa u kept id)
-  pub value_is : next ≡ with_patterns value (value.patterns ++ patterns_of nfa (gained nfa u kept id))
+  pub value_is : next ≡ with_patterns value
+      (value.patterns ++ patterns_of nfa (gained nfa u kept id))
 
 -- a list was read: the builder has its patterns, and the targets are its roots
-pub record IsListRead (nfa : Nfa) (kind : MatchKind) (u : Option ℕ) (working : List ℕ) (value next : Value) (targets : List ℕ) : Type 0 where
+pub record IsListRead (nfa : Nfa) (kind : MatchKind) (u : Option ℕ) (working : List ℕ)
+    (value next : Value) (targets : List ℕ) : Type 0 where
   pub value_is : next ≡ with_patterns value (patterns_read kind (patterns_of nfa working))
   pub targets_are : targets ≡ roots_of nfa kind u working

@@ -10,26 +10,32 @@ use Rattle.determinize_core.specs.Closure.{AddsBeginning}
 
 -- the states of a search when it ends, given those visited so far and those pending
 unfoldable pub search_end : Nfa → (Assertion → Bool) → List ℕ → List ℕ → List ℕ
-search_end nfa holds met pending = closure nat_eq (edges nfa holds) (length nfa.states + 1) met pending
+search_end nfa holds met pending =
+    closure nat_eq (edges nfa holds) (length nfa.states + 1) met pending
 
 -- the number of tries that are left
 unfoldable pub tries_left : Nfa → (Assertion → Bool) → List ℕ → List ℕ → ℕ
-tries_left nfa holds met pending = search_tries nat_eq (edges nfa holds) (length nfa.states + 1) met pending
+tries_left nfa holds met pending =
+    search_tries nat_eq (edges nfa holds) (length nfa.states + 1) met pending
 
 -- one iteration of a search: a pending state was visited, and new states are pending
-pub record IsTurn (nfa : Nfa) (holds : Assertion → Bool) (met after : List ℕ) (id : ℕ) (rest pending : List ℕ) : Type 0 where
+pub record IsTurn (nfa : Nfa) (holds : Assertion → Bool) (met after : List ℕ) (id : ℕ)
+    (rest pending : List ℕ) : Type 0 where
   pub same : search_end nfa holds after pending ≡ search_end nfa holds met (id ∷ rest)
   pub fewer : tries_left nfa holds met (id ∷ rest) ≡ suc (tries_left nfa holds after pending)
   pub grown : (more : List ℕ) × (after ≡ met ++ more)
   pub below : All (λ s. s < length nfa.states) rest → All (λ s. s < length nfa.states) pending
 
--- a search from roots has ended: the set has gained the states reachable from them, and each try is counted
-pub record IsSearched (nfa : Nfa) (holds : Assertion → Bool) (roots : List ℕ) (old new : Members) (before now : ℕ) : Type 0 where
+-- a search from roots has ended: the set has gained the states reachable from them, and each try is
+-- counted
+pub record IsSearched (nfa : Nfa) (holds : Assertion → Bool) (roots : List ℕ) (old new : Members)
+    (before now : ℕ) : Type 0 where
   pub set : new ≡ record old { ids = old.ids ++ reach_past nfa holds old.ids roots }
   pub counted : now ≡ before + tries_left nfa holds old.ids roots
 
 -- a search from roots has ended, or has stopped because an allocation failed
-pub record IsPartSearched (nfa : Nfa) (holds : Assertion → Bool) (roots : List ℕ) (old new : Members) (before now : ℕ) : Type 0 where
+pub record IsPartSearched (nfa : Nfa) (holds : Assertion → Bool) (roots : List ℕ)
+    (old new : Members) (before now : ℕ) : Type 0 where
   pub set : AddsBeginning old new (reach_past nfa holds old.ids roots)
   pub resolve : (root : ℕ) (others : List ℕ) → roots ≡ root ∷ others → AllResolve nfa new.ids
   pub bounded : now ≤ before + tries_left nfa holds old.ids roots

@@ -22,8 +22,8 @@ use std::mem::size_of;
 /// The states depend on the NFA, the match kind and the arguments of the call only, not on earlier
 /// calls. After an error a stepper can be used as before.
 ///
-/// The first call allocates the sets. The stack and the builder's memory keep their capacity between
-/// calls. A stepper is seen as its NFA and its match kind.
+/// The first call allocates the sets. The stack and the builder's memory keep their capacity
+/// between calls. A stepper is seen as its NFA and its match kind.
 #[derive(Drop)]
 pub struct Stepper<'n, N: Allocator = Global, A: Allocator = Global> {
     alloc: A,
@@ -43,7 +43,8 @@ impl<'n, N: Allocator, A: Allocator> Model for Stepper<'n, N, A> {
     ghost view = { λ s. record { nfa = s.nfa.now; kind = s.match_kind } };
 
     ghost invariant = { λ s.
-        IfSome s.sparses (λ sets. IsPrepared s.nfa.now sets.set1 sets.set2) × (s.stack.items ≡ []) };
+        IfSome s.sparses (λ sets. IsPrepared s.nfa.now sets.set1 sets.set2)
+        × (s.stack.items ≡ []) };
 }
 
 impl<'n, N: Allocator, A: Allocator + Copy> Stepper<'n, N, A> {

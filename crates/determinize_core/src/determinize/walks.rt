@@ -79,10 +79,10 @@ pub fn walk<N: Allocator, A: Allocator + Copy>(
 ///
 /// There are `text.len() + 2` states. Matches are delayed by one unit: the state at index `j` lists
 /// the patterns that match at position `j - 1` of the text, and the start state lists none. Under
-/// `MatchKind::All` these are all patterns with a match that ends there, most preferred first. Under
-/// `MatchKind::LeftmostFirst` a state lists at most one pattern, and the last one listed is the
-/// pattern of the most preferred match, which ends there. If no state lists a pattern, there is no
-/// match.
+/// `MatchKind::All` these are all patterns with a match that ends there, most preferred first.
+/// Under `MatchKind::LeftmostFirst` a state lists at most one pattern, and the last one listed is
+/// the pattern of the most preferred match, which ends there. If no state lists a pattern, there is
+/// no match.
 ///
 /// The states and all scratch memory are allocated from `alloc`.
 pub fn walk_between<N: Allocator, A: Allocator + Copy>(
@@ -114,8 +114,8 @@ pub fn walk_between<N: Allocator, A: Allocator + Copy>(
     Ok(states)
 }
 
-/// Returns the last match of a walk: the first pattern of the last state that lists one, and the end
-/// of the match. `None` if no state lists a pattern.
+/// Returns the last match of a walk: the first pattern of the last state that lists one, and the
+/// end of the match. `None` if no state lists a pattern.
 ///
 /// The start state, which lists no pattern, is skipped. The offset is the number of bytes before
 /// the end of the match. Under `MatchKind::LeftmostFirst` this is the most preferred match.

@@ -3,8 +3,8 @@
 -- position the least accepting one is one.
 use Rattle.std.proofs.Common.{◌≡◌, ◌⊎◌, ◌∙◌, ℕ, List, None, Some, [], ap, arith, refl, subst, sym}
 use Rattle.std.proofs.lemmas.Bool.{cases_lt}
-use Rattle.determinize_below.specs.Edges.{pattern_of}
-use Rattle.determinize_below.specs.Semantics.{Nfa, Text, choices}
+use Rattle.determinize_below.specs.Edges.{pattern_in}
+use Rattle.determinize_below.specs.Semantics.{Nfa, Text, choices, state_at}
 use Rattle.ordered_reach.specs.Paths.{Before, IsPath}
 use Rattle.ordered_reach.proofs.Cases.{by_cases, some_injective}
 use Rattle.ordered_reach.proofs.graph.UniqueOrder.{one_end}
@@ -28,7 +28,7 @@ module _ (nfa : Nfa) (text : Text) where
       let e : cs ≡ ds = same_least cs ds (p ds j y b) (q cs i x a) in
       let z : (i, a.0) ≡ (j, b.0) = one_end (choices nfa text) [] (k, nfa.start_anchored) ds (i, a.0) (j, b.0)
       (subst (λ w. IsPath (choices nfa text) [] (k, nfa.start_anchored) w (i, a.0)) e a.1) b.1 in
-      (ap (λ w. w.0) z, some_injective x y (sym a.2 ∙ ap (λ w. pattern_of nfa w.1) z ∙ b.2))
+      (ap (λ w. w.0) z, some_injective x y (ap pattern_in (sym a.2 ∙ ap (λ w. state_at nfa w.1) z ∙ b.2)))
 
   one_start : (m n : Match) → IsLeftmostMatch nfa text m → IsLeftmostMatch nfa text n → m.start ≡ n.start
   one_start m n a b = by_cases (cases_lt m.start n.start)

@@ -2,7 +2,8 @@
 -- each_preferred_is_leftmost, each_anchored_is_leftmost, for `laws::prefix_law`. The search forward rests on it. The
 -- idea: after the prefix a run that skips fewer bytes is preferred, so the preferred run begins leftmost.
 use Rattle.std.specs.Prelude.{All, option_map}
-use Rattle.std.proofs.Common.{◌≡◌, ◌<◌, ◌≤◌, ◌+◌, ◌⊎◌, ℕ, List, None, Option, Some, [], arith, length, refl, subst, sym}
+use Rattle.std.proofs.Common.{◌≡◌, ◌<◌, ◌≤◌, ◌+◌, ◌⊎◌, ℕ, List, None, Option, Some, [], ap, arith, length, refl, subst, sym}
+use Rattle.determinize_below.specs.Edges.{pattern_in}
 use Rattle.determinize_below.specs.Semantics.{Nfa, Accepts, IsPreferredRun, Text, choices}
 use Rattle.ordered_reach.specs.Paths.{Before, IsPath}
 use Rattle.determinize_below.specs.declared.search.HalfMatch.{HalfMatch}
@@ -32,7 +33,7 @@ module _ (nfa : Nfa) (text : Text) (has : HasPrefix nfa) (small : All (λ b. b <
       → (m : Option Match) × IsLeftmost nfa text (length text.bytes) m × (Some h ≡ option_map end_of m)
   preferred_one h cs r =
       let s : IsSkip nfa text has small 0 cs (h.offset, r.accepts.0)
-      = shape nfa text has small cs 0 (h.offset, r.accepts.0) h.pattern (omega arith) r.accepts.2 r.accepts.1 in
+      = shape nfa text has small cs 0 (h.offset, r.accepts.0) h.pattern (omega arith) (ap pattern_in r.accepts.2) r.accepts.1 in
       let d : ℕ = s.over in
       let z : 0 + s.over ≡ s.over = omega arith in
       let l : s.over ≤ length text.bytes = (let w : 0 + s.over ≤ length text.bytes = s.within in omega arith) in (

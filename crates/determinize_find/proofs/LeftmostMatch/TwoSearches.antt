@@ -10,6 +10,7 @@ use Rattle.std.proofs.lemmas.Bool.{cases_lt, false≢true, or_left, true≢false
 use Rattle.std.proofs.lemmas.List.{length-reverse, length-take-le, take-take}
 use Rattle.std.proofs.lemmas.List.Elements.{All-drop, All-from_get_or, All-take}
 use Rattle.std.proofs.lemmas.Option.{slice_get_past}
+use Rattle.determinize_below.specs.Edges.{pattern_in}
 use Rattle.determinize_below.specs.Semantics.{state_at, Nfa, BinaryUnion, ByteRange, Accepts, Text, after_at, between}
 use Rattle.determinize_below.specs.Search.{Asked, is_done}
 use Rattle.determinize_below.specs.declared.search.Anchored.{Anchored}
@@ -350,7 +351,7 @@ found_or_none nfa asked found forward has s within small d done = by_test (is_do
             → (cs : List ℕ) (i y : ℕ) → Accepts nfa (text_of false asked) (start_for nfa mode) cs i y → ⊥
         nothing No t last b q cs i y acc =
             let k : IsSkip nfa (text_of false asked) has bytes 0 cs (i, acc.0)
-            = shape nfa (text_of false asked) has bytes cs 0 (i, acc.0) y (omega arith) acc.2 acc.1 in
+            = shape nfa (text_of false asked) has bytes cs 0 (i, acc.0) y (omega arith) (ap pattern_in acc.2) acc.1 in
             let w : 0 + k.over ≤ length (text_of false asked).bytes = k.within in
             let m : length (text_of false asked).bytes ≤ last = b (starts_differ nfa has) in
             q (0 + k.over) (omega arith) k.choices_then i y (acc.0, k.run, acc.2)

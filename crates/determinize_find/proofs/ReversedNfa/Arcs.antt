@@ -11,14 +11,7 @@ use Rattle.ordered_reach.proofs.Cases.{by_test, some_injective}
 
 pub no_end : {P : Type 0} (s : Node) (t : ℕ) → target_of None s ≡ Some t → P
 no_end (ByteRange r) t e = absurd (let k : None ≡ Some t = e in cc)
-no_end (Sparse ts) t e = absurd (let k : None ≡ Some t = e in cc)
-no_end (Dense ids) t e = absurd (let k : None ≡ Some t = e in cc)
-no_end (Look look next) t e = absurd (let k : None ≡ Some t = e in cc)
-no_end (Union ids) t e = absurd (let k : None ≡ Some t = e in cc)
-no_end (BinaryUnion a b) t e = absurd (let k : None ≡ Some t = e in cc)
-no_end (Capture next) t e = absurd (let k : None ≡ Some t = e in cc)
-no_end Fail t e = absurd (let k : None ≡ Some t = e in cc)
-no_end (Match pattern) t e = absurd (let k : None ≡ Some t = e in cc)
+no_end s t e = absurd (let k : None ≡ Some t = e in cc)
 
 pub none_in : {P : Type 0} (x : ℕ) → In x [] → P
 none_in x h = absurd (let k : Some x ≡ None = sym h.1 in cc)

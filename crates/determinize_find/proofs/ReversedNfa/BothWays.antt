@@ -4,10 +4,10 @@
 use Rattle.std.specs.Bool.{Decides}
 use Rattle.std.specs.Prelude.{nat_eq, slice_get}
 use Rattle.std.proofs.Common.{◌≡◌, ◌<◌, ◌≤◌, ◌+◌, ◌-◌, ◌⊎◌, ◌∙◌, ◌∷◌, ℕ, Bool, List, None, Option, Some, [], ap, arith, inl, inr, length, not, refl, subst, suc, sym, true, zero}
-use Rattle.determinize_below.specs.Semantics.{edges_of, pattern_in, state_at, target_of, Nfa, Node, ByteRange, Sparse, Dense, Look, Union, BinaryUnion, Capture, Fail, Match, Accepts, Text, after_at, before_at, choices, truth}
-use Rattle.determinize_below.specs.Edges.{pattern_of}
+use Rattle.determinize_below.specs.Semantics.{edges_of, state_at, target_of, Nfa, Node, ByteRange, Sparse, Dense, Look, Union, BinaryUnion, Capture, Fail, Match, Accepts, Text, after_at, before_at, choices}
+use Rattle.determinize_below.specs.Edges.{pattern_in, pattern_of}
 use Rattle.determinize_below.specs.Look.{reversed}
-use Rattle.determinize_below.specs.Positions.{true_edges}
+use Rattle.determinize_below.specs.Positions.{true_edges, truth}
 use Rattle.determinize_below.specs.Transition.{matches}
 use Rattle.determinize_below.specs.Truth as truths
 use Rattle.determinize_below.specs.declared.look.Look.{Look as Assertion}
@@ -15,6 +15,7 @@ use Rattle.determinize_below.specs.declared.nfa.transitions.Transition.{Transiti
 use Rattle.ordered_reach.proofs.lists.Elements.{In}
 use Rattle.ordered_reach.proofs.runs.ByPosition.{Decides-pair_eq, pair_eq}
 use Rattle.ordered_reach.proofs.graph.FiniteGraphs.{same_decides}
+use Rattle.determinize_below.proofs.nfas.SoundNfa.{match_in}
 use Rattle.determinize_below.proofs.looks.ReversedLooks.{reversed_holds, reversed_twice}
 use Rattle.ordered_reach.proofs.Cases.{by_cases, by_option}
 use Rattle.determinize_find.specs.Leftmost.{AcceptsFrom}
@@ -40,7 +41,6 @@ pairs = Decides-pair_eq same_decides
 
 truth_is : (nfa : Nfa) (p q : Option ℕ) (look : Assertion)
     → truth nfa p q look ≡ truths.holds nfa.reverse nfa.terminator p q look
-unfolding truth
 truth_is nfa p q look = refl
 
 module _ (nfa backward : Nfa) (met : List ℕ) (h : Turned) (made : IsMadeOf nfa backward h)
@@ -170,7 +170,7 @@ module _ (nfa backward : Nfa) (met : List ℕ) (h : Turned) (made : IsMadeOf nfa
       = walk_of_path (choices nfa text) cs [] (k, nfa.start_anchored) (j, acc.0) acc.1 in
       let m : In acc.0 met = met_walk cs (k, nfa.start_anchored) (j, acc.0) w recorded.closed.start in
       let first : In (0, acc.0) (choices backward back (0, suc n)) = free_choice backward back 0 (suc n) acc.0
-      (subst (λ v. In acc.0 (edges_of (there 0) v)) (sym laid.starts) ((recorded.arcs acc.0 m).ends pattern acc.2)) in
+      (subst (λ v. In acc.0 (edges_of (there 0) v)) (sym laid.starts) ((recorded.arcs acc.0 m).ends pattern (ap pattern_in acc.2))) in
       let middle : Leads (choices backward back) (0, acc.0) (j - k, nfa.start_anchored)
       = forth cs (k, nfa.start_anchored) (j, acc.0) (j - k) (omega arith) refl recorded.closed.start w in
       let last : Leads (choices backward back) (j - k, nfa.start_anchored) (j - k, n)
@@ -181,7 +181,7 @@ module _ (nfa backward : Nfa) (met : List ℕ) (h : Turned) (made : IsMadeOf nfa
       (leads_by (choices backward back) (0, suc n) (0, acc.0) (j - k, n) first
       (leads_then (choices backward back) (0, acc.0) (j - k, nfa.start_anchored) (j - k, n) middle last)) in
       let p = path_of_walk pairs (choices backward back) (0, backward.start_anchored) (j - k, n) whole in
-      (p.0, 0, (n, p.1, ap pattern_in laid.match))
+      (p.0, 0, (n, p.1, laid.match))
 
   -- some walk from the state at a position accepts at position j
   abbrev Accepting : ℕ → ℕ → Type 0
@@ -314,13 +314,7 @@ module _ (nfa backward : Nfa) (met : List ℕ) (h : Turned) (made : IsMadeOf nfa
   no_arc : {P : Type 0} (t other : ℕ) (node : Node) → IsArc nfa t node → pattern_in node ≡ Some other → P
   no_arc t other (ByteRange v) arc e = absurd (let k : None ≡ Some other = e in cc)
   no_arc t other (Look look next) arc e = absurd (let k : None ≡ Some other = e in cc)
-  no_arc t other (Sparse ts) arc e = absurd arc
-  no_arc t other (Dense ids) arc e = absurd arc
-  no_arc t other (Union ids) arc e = absurd arc
-  no_arc t other (BinaryUnion a b) arc e = absurd arc
-  no_arc t other (Capture next) arc e = absurd arc
-  no_arc t other Fail arc e = absurd arc
-  no_arc t other (Match pattern) arc e = absurd arc
+  no_arc t other s arc e = absurd arc
 
   pub run_reversed : (k : ℕ) → k ≤ j → (cs : List ℕ) (other : ℕ)
       → Accepts backward back backward.start_anchored cs (j - k) other
@@ -333,16 +327,16 @@ module _ (nfa backward : Nfa) (met : List ℕ) (h : Turned) (made : IsMadeOf nfa
       = read_all cs (0, backward.start_anchored) (j - k, acc.0) w (j, z, inl (refl, made.start)) in
       by_cases d.2
       (λ f. absurd (let y : None ≡ Some other = sym (ap pattern_in (ap (λ v. state_at backward v) f.1 ∙ laid.starts))
-      ∙ acc.2 in cc))
+      ∙ ap pattern_in acc.2 in cc))
       (λ f. by_cases f
       (λ g. absurd (let y : None ≡ Some other = sym (pattern-gathered (sources h acc.0))
-      ∙ sym (ap pattern_in (laid.gathers acc.0 g.0)) ∙ acc.2 in cc))
+      ∙ sym (ap pattern_in (laid.gathers acc.0 g.0)) ∙ ap pattern_in acc.2 in cc))
       (λ g. by_cases g
       (λ v. let z : d.0 ≡ k = (let y : j - k + d.0 ≡ j = d.1 in omega arith) in
       let a : Accepting k nfa.start_anchored = subst (λ y. Accepting y nfa.start_anchored) z v.1 in
       let p = path_of_walk pairs (choices nfa text) (k, nfa.start_anchored) (j, a.0) a.2 in
-      (p.0, a.1, (a.0, p.1, a.3)))
-      (λ v. no_arc v.0 other v.1 v.3 (sym (ap pattern_in v.2) ∙ acc.2))))
+      (p.0, a.1, (a.0, p.1, match_in (state_at nfa a.0) a.1 a.3)))
+      (λ v. no_arc v.0 other v.1 v.3 (sym (ap pattern_in v.2) ∙ ap pattern_in acc.2))))
 
 -- an NFA that was made of the reversed transitions reads in the other direction
 pub made_reverse : (nfa backward : Nfa) (met : List ℕ) (h : Turned) → IsMadeOf nfa backward h → IsRecorded nfa met h

@@ -65,10 +65,7 @@ rest_node s (Sparse rs) h = rest_ranges s rs h
 rest_node s (Dense ids) h = rest_table s ids 0 h
 rest_node s (Look look next) h = refl
 rest_node s (Union ids) h = rest_frees s ids h ∙ sym (append-nil h.rest)
-rest_node s (BinaryUnion a b) h = sym (append-nil h.rest)
-rest_node s (Capture next) h = sym (append-nil h.rest)
-rest_node s Fail h = sym (append-nil h.rest)
-rest_node s (Match pattern) h = sym (append-nil h.rest)
+rest_node s l h = sym (append-nil h.rest)
 
 module _ (nfa : Nfa) where
   -- the states for those of a list
@@ -103,15 +100,9 @@ length-table s ids = is_count_by (λ xs. length (made_table s 0 xs)) (λ id. not
         let k : suc (length (made_table s 1 xs)) ≡ 1 + length (made_table s 0 xs) = omega (arith, h) in rw e k)
 
 pub length-made : (s : ℕ) (node : Node) → length (made_by s node) ≡ reads_in node
-length-made s (ByteRange r) = refl
 length-made s (Sparse rs) = length-map rs (range_to s)
 length-made s (Dense ids) = length-table s ids
-length-made s (Look look next) = refl
-length-made s (Union ids) = refl
-length-made s (BinaryUnion a b) = refl
-length-made s (Capture next) = refl
-length-made s Fail = refl
-length-made s (Match pattern) = refl
+length-made s l = refl
 
 -- a sum over distinct places of a list is at most that over the list
 module _ (f : Node → ℕ) (none : f Fail ≡ 0) where

@@ -74,8 +74,7 @@ targets_have t (BinaryUnion a b) k = by_test (nat_eq t a)
     (λ e. subst (λ w. In w (a ∷ b ∷ [])) (sym (eqb-true t a e)) (In_head a (b ∷ [])))
     (λ e. In_tail t a (b ∷ []) (one_In t b (subst (λ w. (w || nat_eq t b) ≡ true) e k)))
 targets_have t (Capture next) k = one_In t next k
-targets_have t Fail k = absurd (false≢true k)
-targets_have t (Match pattern) k = absurd (false≢true k)
+targets_have t s k = absurd (false≢true k)
 
 -- distinct ids below a number, which go on these
 pub record IsLonger (count : ℕ) (old new : List ℕ) : Type 0 where
@@ -164,8 +163,7 @@ targets_lead t (BinaryUnion a b) k = In_cases t a (b ∷ []) k
     (λ e. or_left (nat_eq t a) (nat_eq t b) (eq-eqb t a e))
     (λ i. or_right (nat_eq t a) (nat_eq t b) (one_leads t b i))
 targets_lead t (Capture next) k = one_leads t next k
-targets_lead t Fail k = absurd (let z : Some t ≡ None = sym k.1 in cc)
-targets_lead t (Match pattern) k = absurd (let z : Some t ≡ None = sym k.1 in cc)
+targets_lead t s k = absurd (let z : Some t ≡ None = sym k.1 in cc)
 
 -- an element of a list whose elements are below a number
 pub In_below : (count : ℕ) (ids : List ℕ) (x : ℕ) → All (λ id. id < count) ids → In x ids → x < count

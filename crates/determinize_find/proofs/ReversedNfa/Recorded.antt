@@ -5,7 +5,8 @@ use Rattle.std.specs.Prelude.{slice_get, slice_set}
 use Rattle.std.proofs.Common.{◌≡◌, ◌<◌, ◌+◌, ◌++◌, ◌⊎◌, ◌∙◌, ◌∷◌, ℕ, Bool, List, None, Some, [], ap, arith, get_or, inl, inr, length, refl, subst, suc, sym, true, zero}
 use Rattle.std.proofs.lemmas.Bool.{cases_eq}
 use Rattle.std.proofs.lemmas.List.{get_or-set_other, get_or-set_same, length-set}
-use Rattle.determinize_below.specs.Semantics.{edges_of, pattern_in, state_at, target_of, Nfa, Node, ByteRange, Look}
+use Rattle.determinize_below.specs.Semantics.{edges_of, state_at, target_of, Nfa, Node, ByteRange, Look}
+use Rattle.determinize_below.specs.Edges.{pattern_in}
 use Rattle.determinize_below.specs.Edges.{pattern_of}
 use Rattle.determinize_below.specs.Look.{reversed}
 use Rattle.determinize_below.specs.Transition.{matches}

@@ -8,7 +8,9 @@ use Rattle.std.proofs.lemmas.Bool.{and_from, and_parts, cases_lt, eq-eqb, eqb-tr
 use Rattle.std.proofs.lemmas.Bool.Decides.{nat_tests}
 use Rattle.std.proofs.lemmas.List.{get_or-replicate, get_or_past, length-replicate}
 use Rattle.std.proofs.lemmas.Option.{get_or_from_slice_get, slice_get-get_or}
-use Rattle.determinize_below.specs.Semantics.{edges_of, pattern_in, state_at, target_of, Nfa, Node, ByteRange, Sparse, Dense, Look, Union, BinaryUnion, Capture, Fail, Match, sparse_target}
+use Rattle.determinize_below.specs.Semantics.{edges_of, state_at, target_of, Nfa, Node, ByteRange, Sparse, Dense, Look, Union, BinaryUnion, Capture, Fail, Match}
+use Rattle.determinize_below.specs.Transition.{sparse_target}
+use Rattle.determinize_below.specs.Edges.{pattern_in}
 use Rattle.determinize_below.specs.Edges.{pattern_of}
 use Rattle.determinize_below.specs.Look.{reversed}
 use Rattle.determinize_below.specs.Nfa.{IsAccepted, is_sparse_sound, resolves}
@@ -412,8 +414,7 @@ resolves_leads count (BinaryUnion x y) t a k =
     (λ z. one_target count x t b.0 z)
     (λ z. one_target count y t b.1 (subst (λ w. (w || nat_eq t y) ≡ true) z k))
 resolves_leads count (Capture next) t a k = one_target count next t a k
-resolves_leads count Fail t a k = absurd (false≢true k)
-resolves_leads count (Match pattern) t a k = absurd (false≢true k)
+resolves_leads count s t a k = absurd (false≢true k)
 
 module _ (nfa : Nfa) (accepted : IsAccepted nfa) where
   pub leads_within : (s t : ℕ) → s < length nfa.states → leads_to t (state_at nfa s) ≡ true → t < length nfa.states

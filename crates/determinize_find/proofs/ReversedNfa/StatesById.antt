@@ -5,7 +5,8 @@ use Rattle.std.specs.Prelude.{slice_get}
 use Rattle.std.proofs.Common.{◌≡◌, ◌<◌, ◌+◌, ◌++◌, ◌∙◌, ◌∷◌, ℕ, Bool, List, None, Option, Some, [], ap, arith, get_or, length, map, refl, subst, suc, sym, zero}
 use Rattle.std.proofs.lemmas.Bool.{cases_lt}
 use Rattle.std.proofs.lemmas.Option.{get_or_from_slice_get}
-use Rattle.determinize_below.specs.Semantics.{edges_of, pattern_in, state_at, target_of, Nfa, Node, Fail, Match, Union}
+use Rattle.determinize_below.specs.Semantics.{edges_of, state_at, target_of, Nfa, Node, Fail, Match, Union}
+use Rattle.determinize_below.specs.Edges.{pattern_in}
 use Rattle.determinize_below.specs.Edges.{pattern_of}
 use Rattle.determinize_below.specs.declared.look.Look.{Look as Assertion}
 use Rattle.determinize_below.proofs.nfas.Edges.{state_past}

@@ -58,8 +58,7 @@ count-node s (Look look next) h = length-set h.into next (sources h next ++ (len
 count-node s (Union ids) h = count-frees s ids h
 count-node s (BinaryUnion a b) h = count-frees s (a ∷ b ∷ []) h
 count-node s (Capture next) h = count-frees s (next ∷ []) h
-count-node s Fail h = refl
-count-node s (Match pattern) h = refl
+count-node s l h = refl
 
 -- the states of a list, one by one
 pub record IsOver (nfa : Nfa) (whole h : Turned) (met : List ℕ) (k : ℕ) : Type 0 where

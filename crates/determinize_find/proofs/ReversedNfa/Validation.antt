@@ -9,7 +9,8 @@ use Rattle.std.proofs.lemmas.Bool.{and_from}
 use Rattle.std.proofs.lemmas.Bool.Decides.{nat_tests}
 use Rattle.std.proofs.lemmas.List.Folds.{list_any-append}
 use Rattle.std.proofs.lemmas.Option.{get_or_from_slice_get, slice_get_within}
-use Rattle.determinize_below.specs.Semantics.{pattern_in, state_at, Nfa, Node, ByteRange, Sparse, Dense, Look, Union, BinaryUnion, Capture, Fail, Match}
+use Rattle.determinize_below.specs.Semantics.{state_at, Nfa, Node, ByteRange, Sparse, Dense, Look, Union, BinaryUnion, Capture, Fail, Match}
+use Rattle.determinize_below.specs.Edges.{pattern_in}
 use Rattle.determinize_below.specs.Nfa.{failure, is_dense_sound, is_match_of, is_repeated, is_sparse_sound, resolves, state_failure, states_failure}
 use Rattle.determinize_below.specs.declared.nfa.BuildError.{BuildError}
 use Rattle.determinize_below.specs.declared.nfa.BuildError.TheVariants.{TooManyStates, UnresolvedStart}
@@ -64,11 +65,7 @@ made_plain count s l (Look look next) x k = In_cases x _ [] k
     (λ z. subst (λ w. IsPlain count w) (sym z)
     record { resolves = below s count l; ascends = refl; whole = refl; pattern = refl })
     (λ i. nothing_in x i)
-made_plain count s l (Union ids) x k = nothing_in x k
-made_plain count s l (BinaryUnion a b) x k = nothing_in x k
-made_plain count s l (Capture next) x k = nothing_in x k
-made_plain count s l Fail x k = nothing_in x k
-made_plain count s l (Match pattern) x k = nothing_in x k
+made_plain count s l o x k = nothing_in x k
 
 pub each_plain : (nfa : Nfa) (count : ℕ) (met : List ℕ) → ((s : ℕ) → In s met → s < count)
     → (x : Node) → In x (made_of_each nfa met) → IsPlain count x
@@ -100,26 +97,12 @@ gathered_plain count (y ∷ z ∷ zs) f = record {
 
 -- validation of such states
 not_repeated : (earlier : List Node) (node : Node) → pattern_in node ≡ None → is_repeated earlier node ≡ false
-not_repeated earlier (ByteRange t) e = refl
-not_repeated earlier (Sparse ts) e = refl
-not_repeated earlier (Dense ids) e = refl
-not_repeated earlier (Look look next) e = refl
-not_repeated earlier (Union ids) e = refl
-not_repeated earlier (BinaryUnion a b) e = refl
-not_repeated earlier (Capture next) e = refl
-not_repeated earlier Fail e = refl
 not_repeated earlier (Match pattern) e = absurd (let k : Some pattern ≡ None = e in cc)
+not_repeated earlier s e = refl
 
 not_match : (q : ℕ) (node : Node) → pattern_in node ≡ None → is_match_of q node ≡ false
-not_match q (ByteRange t) e = refl
-not_match q (Sparse ts) e = refl
-not_match q (Dense ids) e = refl
-not_match q (Look look next) e = refl
-not_match q (Union ids) e = refl
-not_match q (BinaryUnion a b) e = refl
-not_match q (Capture next) e = refl
-not_match q Fail e = refl
 not_match q (Match pattern) e = absurd (let k : Some pattern ≡ None = e in cc)
+not_match q s e = refl
 
 plain_passes : (count i : ℕ) (earlier : List Node) (node : Node) → IsPlain count node
     → state_failure count earlier i node ≡ None

@@ -6,7 +6,8 @@ use Rattle.std.specs.Option.{option_to_list}
 use Rattle.std.specs.Prelude.{nat_eq, option_map, slice_get}
 use Rattle.std.proofs.Common.{◌≡◌, ◌≤◌, ◌∙◌, ◌∷◌, ◌&&◌, ℕ, Bool, List, None, Option, Some, [], ap, arith, cond, false, get_or, map, not, refl, subst, suc, sym, true, zero}
 use Rattle.std.proofs.lemmas.Bool.{eq-eqb, false≢true, or_left, or_right}
-use Rattle.determinize_below.specs.Semantics.{edges_of, state_at, target_of, Nfa, Node, ByteRange, Sparse, Dense, Look, Union, BinaryUnion, Capture, Fail, Match, Text, choices, sparse_target}
+use Rattle.determinize_below.specs.Semantics.{edges_of, state_at, target_of, Nfa, Node, ByteRange, Sparse, Dense, Look, Union, BinaryUnion, Capture, Fail, Match, Text, choices}
+use Rattle.determinize_below.specs.Transition.{sparse_target}
 use Rattle.determinize_below.specs.Positions.{byte_edges, true_edges}
 use Rattle.ordered_reach.specs.Runs.{placed}
 use Rattle.determinize_below.specs.Transition.{dense_target, matches, matches_unit}
@@ -72,9 +73,6 @@ no_In x h = absurd (let k : Some x ≡ None = sym h.1 in cc)
 
 -- an edge without input leads where the state leads
 pub edge_leads : (holds : Assertion → Bool) (node : Node) (t : ℕ) → In t (edges_of holds node) → leads_to t node ≡ true
-edge_leads holds (ByteRange r) t h = no_In t h
-edge_leads holds (Sparse ts) t h = no_In t h
-edge_leads holds (Dense ids) t h = no_In t h
 edge_leads holds (Look look next) t h = by_test (holds look)
     (λ e. In_one t next (subst (λ b. In t (cond b (next ∷ []) [])) e h))
     (λ e. no_In t (subst (λ b. In t (cond b (next ∷ []) [])) e h))
@@ -83,8 +81,7 @@ edge_leads holds (BinaryUnion a b) t h = In_cases t a (b ∷ []) h
     (λ e. or_left (nat_eq t a) (nat_eq t b) (eq-eqb t a e))
     (λ k. or_right (nat_eq t a) (nat_eq t b) (In_one t b k))
 edge_leads holds (Capture next) t h = In_one t next h
-edge_leads holds Fail t h = no_In t h
-edge_leads holds (Match pattern) t h = no_In t h
+edge_leads holds s t h = no_In t h
 
 range_leads : (r : Transition) (u : Option ℕ) (t : ℕ) → cond (matches_unit r u) (Some r.next) None ≡ Some t
     → nat_eq t r.next ≡ true
@@ -124,12 +121,7 @@ target_leads None (Sparse ts) t e = absurd (let k : None ≡ Some t = e in cc)
 target_leads (Some b) (Sparse ts) t e = sparse_leads ts b t e
 target_leads None (Dense ids) t e = absurd (let k : None ≡ Some t = e in cc)
 target_leads (Some b) (Dense ids) t e = dense_leads ids b t e
-target_leads u (Look look next) t e = absurd (let k : None ≡ Some t = e in cc)
-target_leads u (Union ids) t e = absurd (let k : None ≡ Some t = e in cc)
-target_leads u (BinaryUnion a b) t e = absurd (let k : None ≡ Some t = e in cc)
-target_leads u (Capture next) t e = absurd (let k : None ≡ Some t = e in cc)
-target_leads u Fail t e = absurd (let k : None ≡ Some t = e in cc)
-target_leads u (Match pattern) t e = absurd (let k : None ≡ Some t = e in cc)
+target_leads u s t e = absurd (let k : None ≡ Some t = e in cc)
 
 -- a choice leads where the state leads
 pub choice_leads : (nfa : Nfa) (text : Text) (p q : ℕ × ℕ) (c : ℕ) → slice_get (choices nfa text p) c ≡ Some q

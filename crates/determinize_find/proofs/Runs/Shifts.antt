@@ -7,7 +7,8 @@ use Rattle.std.specs.Prelude.{nat_eq, slice_get}
 use Rattle.std.proofs.Common.{◌≡◌, ◌≤◌, ◌+◌, ◌++◌, ◌∙◌, ◌∷◌, ℕ, List, [], ap, arith, drop, map, refl, subst, suc, sym, zero}
 use Rattle.std.proofs.lemmas.List.{map-append}
 use Rattle.determinize_below.specs.Edges.{edges, target}
-use Rattle.determinize_below.specs.Semantics.{Nfa, Text, after_at, before_at, choices, truth}
+use Rattle.determinize_below.specs.Semantics.{Nfa, Text, after_at, before_at, choices}
+use Rattle.determinize_below.specs.Positions.{truth}
 use Rattle.ordered_reach.specs.Paths.{IsPath}
 use Rattle.determinize_below.specs.Positions.{byte_edges, true_edges}
 use Rattle.ordered_reach.specs.Runs.{placed}

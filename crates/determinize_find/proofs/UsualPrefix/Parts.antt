@@ -34,14 +34,7 @@ all_is t next h =
 
 any_is : (next : ℕ) (node : Node) → passes_any next node ≡ true → node ≡ ByteRange (all_to next)
 any_is next (ByteRange t) h = ap ByteRange (all_is t next h)
-any_is next (Sparse ts) h = absurd (false≢true h)
-any_is next (Dense ids) h = absurd (false≢true h)
-any_is next (Look look to) h = absurd (false≢true h)
-any_is next (Union ids) h = absurd (false≢true h)
-any_is next (BinaryUnion a b) h = absurd (false≢true h)
-any_is next (Capture to) h = absurd (false≢true h)
-any_is next Fail h = absurd (false≢true h)
-any_is next (Match pattern) h = absurd (false≢true h)
+any_is next s h = absurd (false≢true h)
 
 passes_all : (next : ℕ) → passes_any next (ByteRange (all_to next)) ≡ true
 passes_all next = eq-eqb next next refl

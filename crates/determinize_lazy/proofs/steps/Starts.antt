@@ -37,11 +37,7 @@ kept_at nfa i = option_map (of_kind nfa (cond (nat_lt i 6) nfa.start_anchored nf
 kind_at : (nfa : Nfa) (k : Kind) → (kept_at nfa (number_of k) ≡ Some (of_kind nfa nfa.start_anchored k))
     × (kept_at nfa (6 + number_of k) ≡ Some (of_kind nfa nfa.start_unanchored k))
 kind_at nfa NonWordByte = (refl, refl)
-kind_at nfa WordByte = (refl, refl)
-kind_at nfa Text = (refl, refl)
-kind_at nfa LineLF = (refl, refl)
-kind_at nfa LineCR = (refl, refl)
-kind_at nfa CustomLineTerminator = (refl, refl)
+kind_at nfa s = (refl, refl)
 
 -- the start state of a start is that of its index: it depends on the kind of start alone
 at_its_index : (nfa : Nfa) (s : ℕ) (p : Option ℕ) (i : ℕ) → start_index nfa s p ≡ Some i

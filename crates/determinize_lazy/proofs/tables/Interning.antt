@@ -36,7 +36,8 @@ module _ {values : List Value} {at at' : Value → Option ℕ} {n : ℕ} (v : Va
   pub interned-pop : {more back : List Value} → more ≡ values ++ v ∷ [] → n ≡ length more → back ≡ take (n - 1) more
       → ((q : Value) → at' q ≡ at q) → AreInterned back at'
   interned-pop more_is len back_is same_map =
-      let n_is : length values ≡ n - 1 = let k : n ≡ length values + 1 = len ∙ ap length more_is ∙ length_push values v in
+      let n_is : length values ≡ n - 1 = let k : n ≡ length values + 1 =
+      len ∙ ap length more_is ∙ length_push values v in
       omega (arith, k) in
       subst (λ xs. AreInterned xs at') (sym (back_is ∙ ap (λ xs. take (n - 1) xs) more_is
       ∙ take_at values (v ∷ []) (n - 1) n_is)) record {

@@ -127,19 +127,22 @@ module _ {states : List Value} {rows : List ℕ} {target : Value → Option ℕ 
           omega (arith, len, one, r.size);
       apart = apart-push states w r.apart new;
       entries = λ p v u at unit. elim (get_push states w p v at) [
-        | inl h ↦ let inside : p * 258 + column u < length rows = let a : p < length states = slice_get_within states p v h
+        | inl h ↦ let inside : p * 258 + column u < length rows = let a : p < length states = slice_get_within states p
+            v h
             in let b : column u < 257 = column-lt u unit in omega (arith, a, b, r.size) in
             subst (λ e. Leads (states ++ w ∷ []) e (target v u)) (sym (before rows n (p * 258 + column u) inside))
             (leads-more (entry_at rows p u) (target v u) (r.entries p v u h unit))
         | inr h ↦ let place : p * 258 + column u ≡ length rows + column u = let a : p ≡ length states = h.0 in
             omega (arith, a, r.size) in
-            subst (λ o. Leads (states ++ w ∷ []) (entry_at (with_row rows n) p u) o) (sym (r.others v u (λ q at_q _. not_both
+            subst (λ o. Leads (states ++ w ∷ []) (entry_at (with_row rows n) p u) o)
+            (sym (r.others v u (λ q at_q _. not_both
             (there states w q (at_q ∙ ap Some h.1)) new)))
             (ap (λ k. slice_index (with_row rows n) k) place ∙ in_row rows n (column u) (column-lt u unit))
       ];
       others = λ v u never. r.others v u (λ p at unit. never p (get_more states (w ∷ []) p v at) unit);
       tags = λ p v at. elim (get_push states w p v at) [
-        | inl h ↦ let inside : p * 258 + 257 < length rows = let a : p < length states = slice_get_within states p v h in
+        | inl h ↦ let inside : p * 258 + 257 < length rows = let a : p < length states = slice_get_within states p v
+            h in
             omega (arith, a, r.size) in
             ap tag_in (before rows n (p * 258 + 257) inside) ∙ r.tags p v h
         | inr h ↦ let place : p * 258 + 257 ≡ length rows + 257 = let a : p ≡ length states = h.0 in
@@ -175,7 +178,8 @@ module _ {states : List Value} {rows : List ℕ} {target : Value → Option ℕ 
             ∙ ap (λ z. s * 258 + column z) both.1 in (
               t,
               ap (λ k. slice_index (slice_set rows (s * 258 + column u) (t * 258)) k) here
-                  ∙ get_or-set_same rows (s * 258 + column u) (t * 258) 0 (let a : s < length states = slice_get_within states s v at_s in
+                  ∙ get_or-set_same rows (s * 258 + column u) (t * 258) 0
+                  (let a : s < length states = slice_get_within states s v at_s in
                   omega (arith, a, bound, r.size)),
               at_t,
             )

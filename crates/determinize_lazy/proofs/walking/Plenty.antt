@@ -73,7 +73,8 @@ module _ (c : Cache) (v : Value) (u : Option ℕ) (us : List (Option ℕ)) (room
 
   abbrev Kept : Bool → Table → Table → Type 0
   Kept b t s = ((after_walk (after b t) next us).table ≡ with_walk (step_of c) s next us)
-      × ((after_walk (after b t) next us).computed ≡ count_after c.computed (cond b 0 1 + missing (step_of c) s next us))
+      × ((after_walk (after b t) next us).computed
+      ≡ count_after c.computed (cond b 0 1 + missing (step_of c) s next us))
 
   room-same : IsTable (step_of c) c.table → is_cached c.table v u ≡ true → HasRoom c next us
   room-same is e = subst (λ xs. length (with_values xs (future c.nfa c.kind next us)) ≤ c.limit)

@@ -8,9 +8,10 @@ use Rattle.determinize_lazy.specs.Private.Rows.{StoredTable, table_of}
 use Rattle.determinize_lazy.specs.Private.Starts.{AreStarts}
 use Rattle.determinize_lazy.specs.Table.{IsTable}
 
--- an NFA that has passed every check, a table of its steps with at most `limit` states, a count of 64 bits, and the
--- start states
-pub record IsLazy (nfa : Nfa) (kind : MatchKind) (limit computed : ℕ) (stored : StoredTable) : Type 0 where
+-- an NFA that has passed every check, a table of its steps with at most `limit` states, a count of
+-- 64 bits, and the start states
+pub record IsLazy (nfa : Nfa) (kind : MatchKind) (limit computed : ℕ)
+    (stored : StoredTable) : Type 0 where
   pub accepted : IsAccepted nfa
   pub table : IsTable (step nfa kind) (table_of stored)
   pub small : computed ≤ 18446744073709551615

@@ -8,20 +8,25 @@ use Rattle.determinize_lazy.specs.Stored.{entry_at, table_in, target_in}
 use Rattle.determinize_lazy.specs.Table.{EachApart, Table, same, with_value}
 use Rattle.determinize_lazy.specs.Private.Tags.{tag_in, tag_of}
 
--- an entry leads to the state of which it is the offset of the row, or nowhere: 1 is the offset of no row
+-- an entry leads to the state of which it is the offset of the row, or nowhere: 1 is the offset of
+-- no row
 abbrev pub Leads : List Value → ℕ → Option Value → Type 0
 Leads states entry None = entry ≡ 1
 Leads states entry (Some w) = (p : ℕ) × (entry ≡ p * 258) × (slice_get states p ≡ Some w)
 
--- a row for each of the states, of which no two are equal: in the column of a unit it leads to the target of the
--- transition, and in the last one is the tag of the state; there are no other transitions
-pub record AreRows (states : List Value) (rows : List ℕ) (target : Value → Option ℕ → Option Value) : Type 0 where
+-- a row for each of the states, of which no two are equal: in the column of a unit it leads to the
+-- target of the transition, and in the last one is the tag of the state; there are no other
+-- transitions
+pub record AreRows (states : List Value) (rows : List ℕ)
+    (target : Value → Option ℕ → Option Value) : Type 0 where
   pub size : length rows ≡ length states * 258
   pub apart : EachApart states
   pub entries : (p : ℕ) (v : Value) (u : Option ℕ) → slice_get states p ≡ Some v → IsUnit u
       → Leads states (entry_at rows p u) (target v u)
-  pub others : (v : Value) (u : Option ℕ) → ((p : ℕ) → slice_get states p ≡ Some v → IsUnit u → ⊥) → target v u ≡ None
-  pub tags : (p : ℕ) (v : Value) → slice_get states p ≡ Some v → tag_in (slice_index rows (p * 258 + 257)) ≡ tag_of v
+  pub others : (v : Value) (u : Option ℕ) → ((p : ℕ) → slice_get states p ≡ Some v → IsUnit u → ⊥)
+      → target v u ≡ None
+  pub tags : (p : ℕ) (v : Value) → slice_get states p ≡ Some v
+      → tag_in (slice_index rows (p * 258 + 257)) ≡ tag_of v
 
 -- the same of the table that they store
 abbrev pub IsStored : List Value → List ℕ → Type 0
@@ -41,20 +46,22 @@ abbrev pub IsIndex : List Value → Value → Option ℕ → Type 0
 IsIndex states v index =
     MatchOption index (list_any (same v) states ≡ false) (λ p. slice_get states p ≡ Some v)
 
--- the index of the target of a transition whose source is there; `None` if it is none of the states, or the source
--- itself
+-- the index of the target of a transition whose source is there; `None` if it is none of the
+-- states, or the source itself
 abbrev pub IsTargetIndex : List Value → ℕ → Value → Option ℕ → Type 0
 IsTargetIndex states source w None =
     (v : Value) → slice_get states source ≡ Some v → list_any (same w) states ≡ same v w
 IsTargetIndex states source w (Some p) = slice_get states p ≡ Some w
 
--- states of which no two are equal, at most as many as rows have offsets of 32 bits, and a map to their indices
+-- states of which no two are equal, at most as many as rows have offsets of 32 bits, and a map to
+-- their indices
 pub record AreInterned (states : List Value) (index : Value → Option ℕ) : Type 0 where
   pub mapped : (v : Value) → IsIndex states v (index v)
   pub apart : EachApart states
   pub few : length states ≤ 16647160
 
--- what the program's table is seen as: states, their rows, and for each kind of start the index of the start state
+-- what the program's table is seen as: states, their rows, and for each kind of start the index of
+-- the start state
 pub record StoredTable : Type 0 where
   pub states : List Value
   pub rows : List ℕ

@@ -12,13 +12,15 @@ use Rattle.determinize_lazy.specs.Cache.{Cache, IsCutOff, after_walk, step_of}
 use Rattle.determinize_lazy.specs.Searches.{start_for, text_of, units_read}
 
 -- a walk from a value over units, of which it has read some: the value where it is, and the cache
-pub record IsReached (old : Cache) (first : Value) (us : List (Option ℕ)) (read : ℕ) (v : Value) (new : Cache) : Type 0
+pub record IsReached (old : Cache) (first : Value) (us : List (Option ℕ)) (read : ℕ) (v : Value)
+    (new : Cache) : Type 0
   where
     pub end : v ≡ value_after old.nfa old.kind first (take read us)
     pub after : new ≡ after_walk old first (take read us)
 
 -- a search that has come so far: also the last match of the values before that one
-pub record IsSearched (earliest : Bool) (old : Cache) (first : Value) (us : List (Option ℕ)) (read : ℕ) (v : Value)
+pub record IsSearched (earliest : Bool) (old : Cache) (first : Value) (us : List (Option ℕ))
+    (read : ℕ) (v : Value)
     (last : Option HalfMatch) (new : Cache) : Type 0 where
   pub reached : IsReached old first us read v new
   pub found : option_or (ended_at (read - 1) v.patterns) last
@@ -26,9 +28,10 @@ pub record IsSearched (earliest : Bool) (old : Cache) (first : Value) (us : List
   pub rest : units_read (step_of old) earliest first us
       ≡ take read us ++ units_read (step_of old) earliest v (drop read us)
 
--- a search that is over: the last match over the units, or whether there is one; and the cache after those that
--- it reads
-pub record IsOver (earliest : Bool) (old : Cache) (first : Value) (us : List (Option ℕ)) (found : Option HalfMatch)
+-- a search that is over: the last match over the units, or whether there is one; and the cache
+-- after those that it reads
+pub record IsOver (earliest : Bool) (old : Cache) (first : Value) (us : List (Option ℕ))
+    (found : Option HalfMatch)
     (new : Cache) : Type 0 where
   pub last : earliest ≡ false → found ≡ last_match (future old.nfa old.kind first us)
   pub some : is_some found ≡ is_some (last_match (future old.nfa old.kind first us))
@@ -38,8 +41,10 @@ pub record IsOver (earliest : Bool) (old : Cache) (first : Value) (us : List (Op
 abbrev pub IsOverIn : Bool → Cache → Asked → Option HalfMatch → Cache → Type 0
 IsOverIn earliest old asked found new =
     let text : Text = text_of old.nfa.reverse asked in
-    IsOver earliest old (start_value old.nfa (start_for old.nfa asked.anchored) text.behind) (units text) found new
+    IsOver earliest old (start_value old.nfa (start_for old.nfa asked.anchored) text.behind)
+    (units text) found new
 
 -- what a search leaves if it fails: what the walk over the units that it reads leaves
 abbrev pub IsCutOffSearch : Bool → Cache → Value → List (Option ℕ) → Cache → Type 0
-IsCutOffSearch earliest old first us new = IsCutOff old first (units_read (step_of old) earliest first us) new
+IsCutOffSearch earliest old first us new =
+    IsCutOff old first (units_read (step_of old) earliest first us) new

@@ -5,13 +5,16 @@ use Rattle.determinize_core.specs.Step.{start_value}
 use Rattle.determinize_lazy.specs.Private.Rows.{StoredTable}
 use Rattle.determinize_start.specs.StartKinds.{number_of, start_kind_of}
 
--- where a start is kept: the anchored start by its kind, the unanchored one behind these; no other is
+-- where a start is kept: the anchored start by its kind, the unanchored one behind these; no other
+-- is
 abbrev pub start_index : Nfa → ℕ → Option ℕ → Option ℕ
 start_index nfa start p =
     cond (nat_eq start nfa.start_anchored) (Some (number_of (start_kind_of nfa.terminator p)))
-    (cond (nat_eq start nfa.start_unanchored) (Some (6 + number_of (start_kind_of nfa.terminator p))) None)
+    (cond (nat_eq start nfa.start_unanchored)
+    (Some (6 + number_of (start_kind_of nfa.terminator p))) None)
 
 -- each kept start is the index of the start state, whatever byte of its kind is behind it
 abbrev pub AreStarts : Nfa → StoredTable → Type 0
 AreStarts nfa stored = (start : ℕ) (p : Option ℕ) (i index : ℕ) → start_index nfa start p ≡ Some i
-    → slice_get stored.starts i ≡ Some (Some index) → slice_get stored.states index ≡ Some (start_value nfa start p)
+    → slice_get stored.starts i ≡ Some (Some index)
+    → slice_get stored.states index ≡ Some (start_value nfa start p)

@@ -30,6 +30,7 @@ is_last_tag earliest tag = (earliest && is_some tag.pattern) || tag.is_dead
 abbrev pub match_at : ℕ → Option ℕ → Option HalfMatch
 match_at offset pattern = option_map (λ p. record { pattern = p; offset = offset }) pattern
 
--- the match that a search has found: a state that is entered by a unit reports matches that end before the unit
+-- the match that a search has found: a state that is entered by a unit reports matches that end
+-- before the unit
 abbrev pub match_of : LastMatch → Option HalfMatch
 match_of l = match_at (l.read - 1) (tag_in l.tag.bits).pattern

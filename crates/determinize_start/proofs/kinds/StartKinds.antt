@@ -2,9 +2,10 @@
 -- Main statements: has-have_at_start, start_have-known, from_word-same.
 -- Used by: `set_lookbehind_from_start`, `start_law`.
 -- Idea: the bytes of one start kind satisfy the same assertions of the NFA.
-use Rattle.determinize_start.proofs.Common.{and_parts, arith, behind_test, Bool, cr, CustomLineTerminator, eqb-true, false, has, is_known, lf, LineCR, LineLF, Look, NonWordByte, not, Option, refl, Some, start_kind, sym, Tables, true, WordByte, ℕ, ◌&&◌, ◌∙◌, ◌≡◌}
+use mathlib.Core.Bool.{and-true, and-false}
+use Rattle.determinize_start.proofs.Common.{and_parts, arith, behind_test, Bool, crlf_1, CustomLineTerminator, eqb-true, false, has, is_known, crlf_2, LineCR, LineLF, Look, NonWordByte, not, Option, refl, Some, start_kind, sym, Tables, true, WordByte, ℕ, ◌&&◌, ◌∙◌, ◌≡◌}
 use Rattle.std.proofs.Common.{None, nat_eq, subst}
-use Rattle.std.proofs.lemmas.Bool.{eq-eqb, and_right}
+use Rattle.std.proofs.lemmas.Bool.{eq-eqb}
 use Rattle.determinize_below.specs.Semantics.{is_word_byte}
 use Rattle.determinize_below.proofs.looks.LookBehindTable.{known_is}
 use Rattle.ordered_reach.proofs.Cases.{by_test}
@@ -13,20 +14,14 @@ use Rattle.determinize_start.specs.StartKinds.{start_kind_of}
 use Rattle.determinize_start.proofs.tables.KnownSet.{under, has-known_set, known-agree, known-within}
 use Rattle.determinize_start.specs.declared.start.Start.{Start as Kind}
 
-and_true : (a : Bool) → (a && true) ≡ a
-and_true a = grind arith
-
-and_false : (a : Bool) → (a && false) ≡ false
-and_false a = and_right a false refl
-
 swap_eq : (a b : ℕ) → nat_eq a b ≡ nat_eq b a
 swap_eq a b = grind arith
 
-not_second : (reverse : Bool) (b : ℕ) → nat_eq b 10 ≡ false → nat_eq b 13 ≡ false → nat_eq b (lf reverse) ≡ false
+not_second : (reverse : Bool) (b : ℕ) → nat_eq b 10 ≡ false → nat_eq b 13 ≡ false → nat_eq b (crlf_2 reverse) ≡ false
 not_second true b e k = k
 not_second false b e k = e
 
-not_first : (reverse : Bool) (b : ℕ) → nat_eq b 10 ≡ false → nat_eq b 13 ≡ false → nat_eq b (cr reverse) ≡ false
+not_first : (reverse : Bool) (b : ℕ) → nat_eq b 10 ≡ false → nat_eq b 13 ≡ false → nat_eq b (crlf_1 reverse) ≡ false
 not_first true b e k = e
 not_first false b e k = k
 
@@ -51,21 +46,21 @@ by_kind t P lf cr custom word other b =
     (λ w. rw (e, k, m, w) (word b e k m w))
     (λ w. rw (e, k, m, w) (other b e k m w)))))
 
-lf_crlf : (reverse c : Bool) → c ≡ true → (c && not reverse) ≡ nat_eq 10 (lf reverse)
-lf_crlf true c h = and_false c
-lf_crlf false c h = and_true c ∙ h
+lf_crlf : (reverse c : Bool) → c ≡ true → (c && not reverse) ≡ nat_eq 10 (crlf_2 reverse)
+lf_crlf true c h = and-false c
+lf_crlf false c h = and-true c ∙ h
 
-cr_crlf : (reverse c : Bool) → c ≡ true → (c && reverse) ≡ nat_eq 13 (lf reverse)
-cr_crlf true c h = and_true c ∙ h
-cr_crlf false c h = and_false c
+cr_crlf : (reverse c : Bool) → c ≡ true → (c && reverse) ≡ nat_eq 13 (crlf_2 reverse)
+cr_crlf true c h = and-true c ∙ h
+cr_crlf false c h = and-false c
 
-lf_crlf_within : (reverse c : Bool) → (c && not reverse) ≡ true → nat_eq 10 (lf reverse) ≡ true
-lf_crlf_within true c h = sym (and_false c) ∙ h
+lf_crlf_within : (reverse c : Bool) → (c && not reverse) ≡ true → nat_eq 10 (crlf_2 reverse) ≡ true
+lf_crlf_within true c h = sym (and-false c) ∙ h
 lf_crlf_within false c h = refl
 
-cr_crlf_within : (reverse c : Bool) → (c && reverse) ≡ true → nat_eq 13 (lf reverse) ≡ true
+cr_crlf_within : (reverse c : Bool) → (c && reverse) ≡ true → nat_eq 13 (crlf_2 reverse) ≡ true
 cr_crlf_within true c h = refl
-cr_crlf_within false c h = sym (and_false c) ∙ h
+cr_crlf_within false c h = sym (and-false c) ∙ h
 
 absent : {P : Type 0} → false ≡ true → P
 absent h = absurd (cc)
@@ -73,7 +68,7 @@ absent h = absurd (cc)
 module _ (t : Tables) where
   -- the assertions satisfied after a byte, as a table
   abbrev after : ℕ → Look → Bool
-  after b = behind_test false (nat_eq b t.terminator) (nat_eq b (lf t.reverse)) (not (is_word_byte b))
+  after b = behind_test false (nat_eq b t.terminator) (nat_eq b (crlf_2 t.reverse)) (not (is_word_byte b))
 
   -- the look-have of the kind is complete, for the assertions of the NFA
   abbrev IsRight : Look → ℕ → Kind → Type 0
@@ -138,30 +133,30 @@ module _ (t : Tables) where
   -- a start kind sets the flags that a step over the byte behind the start would set
   pub from_word-same : (p : Option ℕ) → from_word_at_start t p ≡ from_word_after t p
   unfolding is_word_byte from_word_at_start from_word_after start_from_word
-  from_word-same None = sym (and_false _)
+  from_word-same None = sym (and-false _)
   from_word-same (Some b) = by_kind t.terminator (λ b kind. start_from_word t kind ≡ from_word_after t (Some b))
-      (sym (and_false _))
-      (sym (and_false _))
+      (sym (and-false _))
+      (sym (and-false _))
       (λ e k. refl)
-      (λ b e k m w. rw w (sym (and_true _)))
-      (λ b e k m w. rw w (sym (and_false _)))
+      (λ b e k m w. rw w (sym (and-true _)))
+      (λ b e k m w. rw w (sym (and-false _)))
       b
 
   pub half_crlf-same : (p : Option ℕ) → half_crlf_at_start t p ≡ half_crlf_after t p
   unfolding half_crlf_at_start half_crlf_after start_half_crlf
-  half_crlf-same None = sym (and_false _)
+  half_crlf-same None = sym (and-false _)
   half_crlf-same (Some b) = by_kind t.terminator (λ b kind. start_half_crlf t kind ≡ half_crlf_after t (Some b))
       (line_feed t.reverse _)
       (carriage_return t.reverse _)
-      (λ e k. rw (not_first t.reverse t.terminator e k) (sym (and_false _)))
-      (λ b e k m w. rw (not_first t.reverse b e k) (sym (and_false _)))
-      (λ b e k m w. rw (not_first t.reverse b e k) (sym (and_false _)))
+      (λ e k. rw (not_first t.reverse t.terminator e k) (sym (and-false _)))
+      (λ b e k m w. rw (not_first t.reverse b e k) (sym (and-false _)))
+      (λ b e k m w. rw (not_first t.reverse b e k) (sym (and-false _)))
       b
     where
-      line_feed : (reverse c : Bool) → (c && reverse) ≡ (c && nat_eq 10 (cr reverse))
+      line_feed : (reverse c : Bool) → (c && reverse) ≡ (c && nat_eq 10 (crlf_1 reverse))
       line_feed true c = refl
       line_feed false c = refl
 
-      carriage_return : (reverse c : Bool) → (c && not reverse) ≡ (c && nat_eq 13 (cr reverse))
+      carriage_return : (reverse c : Bool) → (c && not reverse) ≡ (c && nat_eq 13 (crlf_1 reverse))
       carriage_return true c = refl
       carriage_return false c = refl

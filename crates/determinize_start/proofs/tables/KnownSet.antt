@@ -2,6 +2,7 @@
 -- Main statements: has-known_set, known-agree, known-within.
 -- Used by: StartKinds, StepTables.
 -- Idea: the set is built class by class, and each class has few members.
+use mathlib.Core.Bool.{or-false}
 use Rattle.determinize_start.proofs.Common.{arith, behind_test, Bool, false, Look, refl, Start, StartCRLF, StartLF, true, WordStartHalfAscii, WordStartHalfUnicode, ℕ, ◌&&◌, ◌||◌, ◌∙◌, ◌≡◌}
 use Rattle.determinize_below.specs.Look.{has, has_haystack, has_line, has_crlf, has_word}
 use Rattle.determinize_below.proofs.looks.LookSets.{has-insert, has-empty, same, index_of}
@@ -38,9 +39,6 @@ crlf_class any l k h = meets-from any 0x30 l h k
 pub haystack_class : (any : ℕ) (l : Look) → has 0x3 l ≡ true → has any l ≡ true → has_haystack any ≡ true
 haystack_class any l k h = meets-from any 0x3 l h k
 
-pub or_none : (a : Bool) → (a || false) ≡ a
-or_none a = grind arith
-
 -- the members, the last inserted first
 known_each : (start line crlf word : Bool) (l : Look)
     → ((same Start l && start) ||
@@ -49,11 +47,11 @@ known_each : (start line crlf word : Bool) (l : Look)
     ((same WordStartHalfUnicode l && word) || ((same WordStartHalfAscii l && word) || false)))))
     ≡ behind_test start line crlf word l
 unfolding same index_of
-known_each a b c d Start = or_none a
-known_each a b c d StartLF = or_none b
-known_each a b c d StartCRLF = or_none c
-known_each a b c d WordStartHalfAscii = or_none d
-known_each a b c d WordStartHalfUnicode = or_none d
+known_each a b c d Start = or-false a
+known_each a b c d StartLF = or-false b
+known_each a b c d StartCRLF = or-false c
+known_each a b c d WordStartHalfAscii = or-false d
+known_each a b c d WordStartHalfUnicode = or-false d
 known_each a b c d l = refl
 
 -- the members of such a set

@@ -2,13 +2,13 @@
 -- Main statements: has-opened.
 -- Used by: `LookTables::opened`.
 -- Idea: as KnownSet, for word and for line assertions.
-use Rattle.determinize_start.proofs.Common.{Bool, cr, End, EndCRLF, EndLF, false, has, is, is_none, is_word, lf, Look, not, Option, refl, StartCRLF, Tables, WordAscii, WordAsciiNegate, WordEndAscii, WordEndHalfAscii, WordEndHalfUnicode, WordEndUnicode, WordStartAscii, WordStartUnicode, WordUnicode, WordUnicodeNegate, ℕ, ◌&&◌, ◌||◌, ◌≡◌}
+use mathlib.Core.Bool.{or-false}
+use Rattle.determinize_start.proofs.Common.{beq, Bool, crlf_1, End, EndCRLF, EndLF, false, has, is, is_none, is_word, crlf_2, Look, not, Option, refl, StartCRLF, Tables, WordAscii, WordAsciiNegate, WordEndAscii, WordEndHalfAscii, WordEndHalfUnicode, WordEndUnicode, WordStartAscii, WordStartUnicode, WordUnicode, WordUnicodeNegate, ℕ, ◌&&◌, ◌||◌, ◌≡◌}
 use Rattle.std.proofs.Common.{bit_or}
-use Rattle.determinize_below.specs.Semantics.{exactly_one}
 use Rattle.determinize_below.proofs.looks.LookSets.{has-empty, has-union, same, index_of}
 use Rattle.determinize_start.specs.LookTables.{word_opened, line_opened, opened}
 use Rattle.determinize_start.specs.Private.LookSets.{word_set, line_set}
-use Rattle.determinize_start.proofs.tables.KnownSet.{has-insert_where, or_none}
+use Rattle.determinize_start.proofs.tables.KnownSet.{has-insert_where}
 
 -- the members of the word set, the last inserted first
 word_each : (f w : Bool) (k : Look)
@@ -18,21 +18,21 @@ word_each : (f w : Bool) (k : Look)
     || ((same WordEndAscii k && (f && not w))
     || ((same WordStartUnicode k && (not f && w))
     || ((same WordStartAscii k && (not f && w))
-    || ((same WordUnicodeNegate k && not (exactly_one f w))
-    || ((same WordAsciiNegate k && not (exactly_one f w))
-    || ((same WordUnicode k && exactly_one f w)
-    || ((same WordAscii k && exactly_one f w) || false)))))))))) ≡ word_opened f w k
+    || ((same WordUnicodeNegate k && beq f w)
+    || ((same WordAsciiNegate k && beq f w)
+    || ((same WordUnicode k && not (beq f w))
+    || ((same WordAscii k && not (beq f w)) || false)))))))))) ≡ word_opened f w k
 unfolding same index_of word_opened
-word_each f w WordAscii = or_none _
-word_each f w WordAsciiNegate = or_none _
-word_each f w WordUnicode = or_none _
-word_each f w WordUnicodeNegate = or_none _
-word_each f w WordStartAscii = or_none _
-word_each f w WordEndAscii = or_none _
-word_each f w WordStartUnicode = or_none _
-word_each f w WordEndUnicode = or_none _
-word_each f w WordEndHalfAscii = or_none _
-word_each f w WordEndHalfUnicode = or_none _
+word_each f w WordAscii = or-false _
+word_each f w WordAsciiNegate = or-false _
+word_each f w WordUnicode = or-false _
+word_each f w WordUnicodeNegate = or-false _
+word_each f w WordStartAscii = or-false _
+word_each f w WordEndAscii = or-false _
+word_each f w WordStartUnicode = or-false _
+word_each f w WordEndUnicode = or-false _
+word_each f w WordEndHalfAscii = or-false _
+word_each f w WordEndHalfUnicode = or-false _
 word_each f w k = refl
 
 pub has-word_set : (f w : Bool) (k : Look) → has (word_set f w) k ≡ word_opened f w k
@@ -40,15 +40,15 @@ has-word_set f w k = simp (has-insert_where, has-empty) (word_each f w k)
 
 -- the members of the haystack and line set
 line_each : (t : Tables) (half : Bool) (u : Option ℕ) (k : Look)
-    → ((same StartCRLF k && (half && not (is u (lf t.reverse))))
-    || ((same EndCRLF k && (is_none u || is u (cr t.reverse) || (is u (lf t.reverse) && not half)))
+    → ((same StartCRLF k && (half && not (is u (crlf_2 t.reverse))))
+    || ((same EndCRLF k && (is_none u || is u (crlf_1 t.reverse) || (is u (crlf_2 t.reverse) && not half)))
     || ((same EndLF k && (is_none u || is u t.terminator)) || ((same End k && is_none u) || false))))
     ≡ line_opened t half u k
 unfolding same index_of line_opened
-line_each t half u End = or_none _
-line_each t half u EndLF = or_none _
-line_each t half u StartCRLF = or_none _
-line_each t half u EndCRLF = or_none _
+line_each t half u End = or-false _
+line_each t half u EndLF = or-false _
+line_each t half u StartCRLF = or-false _
+line_each t half u EndCRLF = or-false _
 line_each t half u k = refl
 
 pub has-line_set : (t : Tables) (half : Bool) (u : Option ℕ) (k : Look)

@@ -5,7 +5,8 @@
 use Rattle.determinize_start.proofs.Common.{has, Option, Some, true, ℕ, ◌≡◌}
 use Rattle.std.proofs.Common.{◌||◌}
 use Rattle.determinize_below.specs.Edges.{IsTested}
-use Rattle.determinize_below.specs.Semantics.{Nfa, truth}
+use Rattle.determinize_below.specs.Semantics.{Nfa}
+use Rattle.determinize_below.specs.Positions.{truth}
 use Rattle.determinize_below.specs.Nfa.{IsAccepted}
 use Rattle.determinize_below.specs.Reached.{known}
 use Rattle.determinize_below.specs.declared.look.Look.{Look as Assertion}
@@ -17,7 +18,7 @@ use Rattle.determinize_start.proofs.tables.StepTables.{has-have_after, IsFlagged
 
 -- an assertion satisfied by the look-behind holds before any unit
 pub known_truth : (nfa : Nfa) (p q : Option ℕ) (look : Assertion) → known nfa p look ≡ true → truth nfa p q look ≡ true
-unfolding known truth
+unfolding known
 known_truth nfa p q look h = known-holds nfa.reverse nfa.terminator p q look h
 
 module _ (nfa : Nfa) (accepted : IsAccepted nfa) where
@@ -29,7 +30,7 @@ module _ (nfa : Nfa) (accepted : IsAccepted nfa) where
   pub opened_truth : (p q : Option ℕ) (look : Assertion) → IsTested nfa look
       → (known nfa p look || opened (tables_of nfa) (from_word_after (tables_of nfa) p)
       (half_crlf_after (tables_of nfa) p) q look) ≡ truth nfa p q look
-  unfolding known truth
+  unfolding known
   opened_truth p q look tested =
       known_or_opened_any (tables_of nfa) p _ _ q look (IsFlagged-after (tables_of nfa) p) (tested_in look tested)
 

@@ -1,7 +1,7 @@
 -- The sets of assertions that a unit satisfies, built one by one.
 use Rattle.std.specs.Prelude.{ℕ, Bool, not, Option}
-use mathlib.Core.Bool.{◌&&◌, ◌||◌}
-use Rattle.determinize_below.specs.Semantics.{cr, lf, exactly_one, is}
+use mathlib.Core.Bool.{◌&&◌, ◌||◌, beq}
+use Rattle.determinize_below.specs.Semantics.{crlf_1, crlf_2, is}
 use Rattle.std.specs.Option.{is_none}
 use Rattle.determinize_below.specs.declared.look.Look.TheVariants.{End, EndLF, StartCRLF, EndCRLF, WordAscii, WordAsciiNegate, WordUnicode, WordUnicodeNegate, WordStartAscii, WordEndAscii, WordStartUnicode, WordEndUnicode, WordEndHalfAscii, WordEndHalfUnicode}
 use Rattle.determinize_start.specs.LookTables.{Tables, insert_where}
@@ -9,11 +9,12 @@ use Rattle.determinize_start.specs.LookTables.{Tables, insert_where}
 -- the set of `word_opened`
 abbrev pub word_set : Bool → Bool → ℕ
 word_set from_word word =
-    insert_where (insert_where (insert_where (insert_where (insert_where (insert_where (insert_where (insert_where (insert_where (insert_where 0
-    (exactly_one from_word word) WordAscii)
-    (exactly_one from_word word) WordUnicode)
-    (not (exactly_one from_word word)) WordAsciiNegate)
-    (not (exactly_one from_word word)) WordUnicodeNegate)
+    insert_where (insert_where (insert_where (insert_where (insert_where
+    (insert_where (insert_where (insert_where (insert_where (insert_where 0
+    (not (beq from_word word)) WordAscii)
+    (not (beq from_word word)) WordUnicode)
+    (beq from_word word) WordAsciiNegate)
+    (beq from_word word) WordUnicodeNegate)
     (not from_word && word) WordStartAscii)
     (not from_word && word) WordStartUnicode)
     (from_word && not word) WordEndAscii)
@@ -27,5 +28,6 @@ line_set t half_crlf u =
     insert_where (insert_where (insert_where (insert_where 0
     (is_none u) End)
     (is_none u || is u t.terminator) EndLF)
-    (is_none u || is u (cr t.reverse) || (is u (lf t.reverse) && not half_crlf)) EndCRLF)
-    (half_crlf && not (is u (lf t.reverse))) StartCRLF
+    (is_none u || is u (crlf_1 t.reverse)
+    || (is u (crlf_2 t.reverse) && not half_crlf)) EndCRLF)
+    (half_crlf && not (is u (crlf_2 t.reverse))) StartCRLF

@@ -49,11 +49,13 @@ front-first_zero : (v : Value) → v.patterns ≡ [] → front (with_pattern v 0
 unfolding front
 front-first_zero v e = rw (e, or_1 v.from_word v.half_crlf)
 
-front-first : (v : Value) (n : ℕ) → v.patterns ≡ [] → front (with_pattern v (suc n)) ≡ with_bit (front v ++ (word 1 ++ word (suc n))) 3
+front-first : (v : Value) (n : ℕ) → v.patterns ≡ []
+    → front (with_pattern v (suc n)) ≡ with_bit (front v ++ (word 1 ++ word (suc n))) 3
 unfolding front
 front-first v n e = rw (e, or_3 v.from_word v.half_crlf)
 
-front-second : (v : Value) (id : ℕ) → v.patterns ≡ 0 ∷ [] → front (with_pattern v id) ≡ with_bit (front v ++ (word 2 ++ word 0 ++ word id)) 2
+front-second : (v : Value) (id : ℕ) → v.patterns ≡ 0 ∷ []
+    → front (with_pattern v id) ≡ with_bit (front v ++ (word 2 ++ word 0 ++ word id)) 2
 unfolding front
 front-second v id e = rw (e, or_2 v.from_word v.half_crlf)
 
@@ -72,7 +74,8 @@ explicit_push (suc n ∷ []) id e = refl
 explicit_push (zero ∷ m ∷ ids) id e = refl
 explicit_push (suc n ∷ m ∷ ids) id e = refl
 
-front-more : (v : Value) (id : ℕ) → IsValue v → is_explicit v.patterns ≡ true → front (with_pattern v id) ≡ with_word (front v ++ word id) 9 (number_at (front v) 9 + 1)
+front-more : (v : Value) (id : ℕ) → IsValue v → is_explicit v.patterns ≡ true
+    → front (with_pattern v id) ≡ with_word (front v ++ word id) 9 (number_at (front v) 9 + 1)
 unfolding front
 front-more v id h e = rw (
   front_count v h e,
@@ -84,18 +87,24 @@ front-more v id h e = rw (
   length-append v.patterns (id ∷ []),
 )
 
-front-pushed : (v : Value) (id : ℕ) (ids : List ℕ) → IsValue v → v.patterns ≡ ids → front (with_pattern v id) ≡ with_pattern_bytes (front v) id
-front-pushed v zero [] h e = rw (front_explicit v ∙ ap is_explicit e, front_match v ∙ ap is_nonempty e) (front-first_zero v e)
+front-pushed : (v : Value) (id : ℕ) (ids : List ℕ) → IsValue v → v.patterns ≡ ids
+    → front (with_pattern v id) ≡ with_pattern_bytes (front v) id
+front-pushed v zero [] h e =
+    rw (front_explicit v ∙ ap is_explicit e, front_match v ∙ ap is_nonempty e) (front-first_zero v e)
 front-pushed v (suc n) [] h e =
     let not_zero : nat_eq (suc n) 0 ≡ false = grind (arith, nat_tests) in
     rw (front_explicit v ∙ ap is_explicit e, front_match v ∙ ap is_nonempty e, not_zero) (front-first v n e)
-front-pushed v id (zero ∷ []) h e = rw (front_explicit v ∙ ap is_explicit e, front_match v ∙ ap is_nonempty e) (front-second v id e)
+front-pushed v id (zero ∷ []) h e =
+    rw (front_explicit v ∙ ap is_explicit e, front_match v ∙ ap is_nonempty e) (front-second v id e)
 front-pushed v id (suc n ∷ []) h e = rw (front_explicit v ∙ ap is_explicit e) (front-more v id h (ap is_explicit e))
 front-pushed v id (zero ∷ m ∷ ids) h e = rw (front_explicit v ∙ ap is_explicit e) (front-more v id h (ap is_explicit e))
-front-pushed v id (suc n ∷ m ∷ ids) h e = rw (front_explicit v ∙ ap is_explicit e) (front-more v id h (ap is_explicit e))
+front-pushed v id (suc n ∷ m ∷ ids) h e =
+    rw (front_explicit v ∙ ap is_explicit e) (front-more v id h (ap is_explicit e))
 
-pub building_with_pattern : (bytes : List ℕ) (last id : ℕ) → IsBuilding bytes last → (value_of bytes).states ≡ [] → id ≤ 2147483646 → list_any (nat_eq id) (value_of bytes).patterns ≡ false →
-    IsBuilding (with_pattern_bytes bytes id) last × (value_of (with_pattern_bytes bytes id) ≡ with_pattern (value_of bytes) id)
+pub building_with_pattern : (bytes : List ℕ) (last id : ℕ) → IsBuilding bytes last → (value_of bytes).states ≡ []
+    → id ≤ 2147483646 → list_any (nat_eq id) (value_of bytes).patterns ≡ false →
+    IsBuilding (with_pattern_bytes bytes id) last
+    × (value_of (with_pattern_bytes bytes id) ≡ with_pattern (value_of bytes) id)
 building_with_pattern bytes last id h none small new =
     let v : Value = value_of bytes in
     let valid : IsValue (with_pattern v id) = record {
@@ -106,10 +115,12 @@ building_with_pattern bytes last id h none small new =
       state_ids = h.is.valid.state_ids;
     } in
     built _ last (with_pattern v id) valid h.last
-    (sym (front_alone (with_pattern v id) none) ∙ front-pushed v id v.patterns h.is.valid refl ∙ ap (λ (b : List ℕ). with_pattern_bytes b id) (front_alone v none ∙ h.is.spelled))
+    (sym (front_alone (with_pattern v id) none) ∙ front-pushed v id v.patterns h.is.valid refl
+    ∙ ap (λ (b : List ℕ). with_pattern_bytes b id) (front_alone v none ∙ h.is.spelled))
 
 -- the bits of the first byte if there is no pattern
-pub unlisted : (bytes : List ℕ) → IsSpelled bytes → (value_of bytes).patterns ≡ [] → (has_flag bytes 1 ≡ false) × (has_flag bytes 2 ≡ false)
+pub unlisted : (bytes : List ℕ) → IsSpelled bytes → (value_of bytes).patterns ≡ [] → (has_flag bytes 1 ≡ false)
+    × (has_flag bytes 2 ≡ false)
 unlisted bytes h none = (
   match_of bytes h ∙ ap is_nonempty none,
   explicit_of bytes h ∙ ap is_explicit none,

@@ -16,9 +16,11 @@ use Rattle.determinize_state.specs.declared.state.mark.Mark.{Mark}
 use Rattle.determinize_state.proofs.encoding.RoundTrip.{spell_long}
 use Rattle.determinize_state.proofs.building.UnfinishedBytes.{built}
 
-deltas-append : (from : ℕ) (ids more : List ℕ) → deltas from (ids ++ more) ≡ deltas from ids ++ deltas (last_id from ids) more
+deltas-append : (from : ℕ) (ids more : List ℕ)
+    → deltas from (ids ++ more) ≡ deltas from ids ++ deltas (last_id from ids) more
 deltas-append from [] more = refl
-deltas-append from (id ∷ ids) more = rw (deltas-append id ids more) (sym (append_assoc (varint (zigzag from id)) (deltas id ids) (deltas (last_id id ids) more)))
+deltas-append from (id ∷ ids) more = rw (deltas-append id ids more)
+    (sym (append_assoc (varint (zigzag from id)) (deltas id ids) (deltas (last_id id ids) more)))
 
 -- the bytes cut to a length, with other sets
 abbrev pub cut_back : List ℕ → ℕ → ℕ → ℕ → List ℕ
@@ -28,15 +30,23 @@ size_same : (v w : Value) → v.patterns ≡ w.patterns → v.states ≡ w.state
 unfolding spell
 size_same v w patterns states = rw (patterns, states)
 
-spell-grown : (v : Value) (ids more : List ℕ) → v.states ≡ ids ++ more → spell v ≡ spell (record v { states = ids }) ++ deltas (last_id 0 ids) more
+spell-grown : (v : Value) (ids more : List ℕ) → v.states ≡ ids ++ more
+    → spell v ≡ spell (record v { states = ids }) ++ deltas (last_id 0 ids) more
 unfolding spell
 spell-grown v ids more e = rw (e, deltas-append 0 ids more) (simp append_assoc)
 
-spell-sets : (v : Value) (have need : ℕ) → with_word (with_word (spell v) 1 have) 5 need ≡ spell (record v { look_have = have; look_need = need })
+spell-sets : (v : Value) (have need : ℕ) → with_word (with_word (spell v) 1 have) 5 need ≡ spell (record v {
+  look_have = have;
+  look_need = need;
+})
 unfolding spell
 spell-sets v have need = refl
 
-grown_back : (v w : Value) → IsGrown v w → record w { look_have = v.look_have; look_need = v.look_need; states = v.states } ≡ v
+grown_back : (v w : Value) → IsGrown v w → record w {
+  look_have = v.look_have;
+  look_need = v.look_need;
+  states = v.states;
+} ≡ v
 grown_back v w g =
     let from_word : w.from_word ≡ v.from_word = g.from_word in
     let half_crlf : w.half_crlf ≡ v.half_crlf = g.half_crlf in
@@ -53,7 +63,8 @@ grown_valid v w g h have need = record {
   need = need;
   distinct = subst (IsDistinct nat_eq) g.patterns h.distinct;
   pattern_ids = subst (All (λ id. id ≤ 2147483646)) g.patterns h.pattern_ids;
-  state_ids = all_front (λ id. id ≤ 2147483646) v.states g.states.0 (subst (All (λ id. id ≤ 2147483646)) g.states.1 h.state_ids);
+  state_ids = all_front (λ id. id ≤ 2147483646) v.states g.states.0
+      (subst (All (λ id. id ≤ 2147483646)) g.states.1 h.state_ids);
 }
 
 -- the value before the cut
@@ -64,11 +75,13 @@ split_grown : (v : Value) (bytes : List ℕ) → IsSpelled bytes → (g : IsGrow
     bytes ≡ spell (kept v (value_of bytes)) ++ deltas (last_id 0 v.states) g.states.0
 split_grown v bytes h g = sym h.spelled ∙ spell-grown (value_of bytes) v.states g.states.0 g.states.1
 
-mark_size : (v : Value) (bytes : List ℕ) (mark : Mark) → IsMarkOf mark v → IsGrown v (value_of bytes) → mark.bytes ≡ length (spell (kept v (value_of bytes)))
+mark_size : (v : Value) (bytes : List ℕ) (mark : Mark) → IsMarkOf mark v → IsGrown v (value_of bytes)
+    → mark.bytes ≡ length (spell (kept v (value_of bytes)))
 mark_size v bytes mark m g = m.bytes ∙ sym (size_same (kept v (value_of bytes)) v g.patterns refl)
 
 -- a mark is between the header and the end
-pub mark_within : (v : Value) (bytes : List ℕ) (mark : Mark) → IsSpelled bytes → IsMarkOf mark v → IsGrown v (value_of bytes) → (9 ≤ mark.bytes) × (mark.bytes ≤ length bytes)
+pub mark_within : (v : Value) (bytes : List ℕ) (mark : Mark) → IsSpelled bytes → IsMarkOf mark v
+    → IsGrown v (value_of bytes) → (9 ≤ mark.bytes) × (mark.bytes ≤ length bytes)
 mark_within v bytes mark h m g =
     let u : Value = kept v (value_of bytes) in
     let more : List ℕ = deltas (last_id 0 v.states) g.states.0 in
@@ -77,7 +90,8 @@ mark_within v bytes mark h m g =
     (omega (arith, size, spell_long u), omega (arith, size, total, length-append (spell u) more))
 
 -- a builder that is cut back to a mark has the value of the mark
-pub come_back : (v : Value) (bytes : List ℕ) (mark : Mark) → IsSpelled bytes → IsMarkOf mark v → IsGrown v (value_of bytes) →
+pub come_back : (v : Value) (bytes : List ℕ) (mark : Mark) → IsSpelled bytes → IsMarkOf mark v
+    → IsGrown v (value_of bytes) →
     mark.look_have < 262144 → mark.look_need < 262144 →
     IsBuilding (cut_back bytes mark.bytes mark.look_have mark.look_need) mark.last
     × (value_of (cut_back bytes mark.bytes mark.look_have mark.look_need) ≡ v)
@@ -86,10 +100,12 @@ come_back v bytes mark h m g have_small need_small =
     let u : Value = kept v w in
     let more : List ℕ = deltas (last_id 0 v.states) g.states.0 in
     let cut : take mark.bytes bytes ≡ spell u =
-    rw (mark_size v bytes mark m g) (ap (take (length (spell u))) (split_grown v bytes h g) ∙ take-append_seam (spell u) more) in
+    rw (mark_size v bytes mark m g) (ap (take (length (spell u))) (split_grown v bytes h g)
+    ∙ take-append_seam (spell u) more) in
     let spelling : spell v ≡ cut_back bytes mark.bytes mark.look_have mark.look_need =
     sym (ap (λ (b : List ℕ). with_word (with_word b 1 mark.look_have) 5 mark.look_need) cut
     ∙ spell-sets u mark.look_have mark.look_need
     ∙ rw (m.have, m.need) (ap spell (grown_back v w g))) in
-    let valid : IsValue v = grown_valid v w g h.valid (subst (λ (n : ℕ). n < 262144) m.have have_small) (subst (λ (n : ℕ). n < 262144) m.need need_small) in
+    let valid : IsValue v = grown_valid v w g h.valid (subst (λ (n : ℕ). n < 262144) m.have have_small)
+    (subst (λ (n : ℕ). n < 262144) m.need need_small) in
     built _ mark.last v valid m.last spelling

@@ -26,14 +26,16 @@ pub building_with_have : (bytes : List ℕ) (last set : ℕ) → IsBuilding byte
 unfolding spell
 building_with_have bytes last set h small =
     let v : Value = value_of bytes in
-    built _ last (with_have v set) (with_have_valid v set h.is.valid small) h.last (ap (λ (b : List ℕ). with_word b 1 set) h.is.spelled)
+    built _ last (with_have v set) (with_have_valid v set h.is.valid small) h.last
+    (ap (λ (b : List ℕ). with_word b 1 set) h.is.spelled)
 
 pub building_with_need : (bytes : List ℕ) (last set : ℕ) → IsBuilding bytes last → set < 262144 →
     IsBuilding (with_word bytes 5 set) last × (value_of (with_word bytes 5 set) ≡ with_need (value_of bytes) set)
 unfolding spell
 building_with_need bytes last set h small =
     let v : Value = value_of bytes in
-    built _ last (with_need v set) (with_need_valid v set h.is.valid small) h.last (ap (λ (b : List ℕ). with_word b 5 set) h.is.spelled)
+    built _ last (with_need v set) (with_need_valid v set h.is.valid small) h.last
+    (ap (λ (b : List ℕ). with_word b 5 set) h.is.spelled)
 
 spell-pushed : (v : Value) (id : ℕ) → spell (with_state v id) ≡ spell v ++ varint (zigzag (last_id 0 v.states) id)
 unfolding spell
@@ -44,7 +46,8 @@ last-push from [] id = refl
 last-push from (i ∷ ids) id = last-push i ids id
 
 pub building_with_state : (bytes : List ℕ) (from id : ℕ) → IsBuilding bytes from → id ≤ 2147483646 →
-    IsBuilding (bytes ++ varint (zigzag from id)) id × (value_of (bytes ++ varint (zigzag from id)) ≡ with_state (value_of bytes) id)
+    IsBuilding (bytes ++ varint (zigzag from id)) id
+    × (value_of (bytes ++ varint (zigzag from id)) ≡ with_state (value_of bytes) id)
 building_with_state bytes from id h small =
     let v : Value = value_of bytes in
     let valid : IsValue (with_state v id) = record {
@@ -62,8 +65,16 @@ unfolding spell
 building_from_word bytes last h =
     let v : Value = value_of bytes in
     let w : Value = record v { from_word = true } in
-    let valid : IsValue w = record { have = h.is.valid.have; need = h.is.valid.need; distinct = h.is.valid.distinct; pattern_ids = h.is.valid.pattern_ids; state_ids = h.is.valid.state_ids } in
-    let same : spell w ≡ with_bit (spell v) 4 = rw (or_4 (is_nonempty v.patterns) (is_explicit v.patterns) v.from_word v.half_crlf) in
+    let valid : IsValue w = record {
+      have = h.is.valid.have;
+      need = h.is.valid.need;
+      distinct = h.is.valid.distinct;
+      pattern_ids =
+          h.is.valid.pattern_ids;
+      state_ids = h.is.valid.state_ids;
+    } in
+    let same : spell w ≡ with_bit (spell v) 4 =
+    rw (or_4 (is_nonempty v.patterns) (is_explicit v.patterns) v.from_word v.half_crlf) in
     built _ last w valid h.last (same ∙ ap (λ (b : List ℕ). with_bit b 4) h.is.spelled)
 
 pub building_half_crlf : (bytes : List ℕ) (last : ℕ) → IsBuilding bytes last →
@@ -72,14 +83,24 @@ unfolding spell
 building_half_crlf bytes last h =
     let v : Value = value_of bytes in
     let w : Value = record v { half_crlf = true } in
-    let valid : IsValue w = record { have = h.is.valid.have; need = h.is.valid.need; distinct = h.is.valid.distinct; pattern_ids = h.is.valid.pattern_ids; state_ids = h.is.valid.state_ids } in
-    let same : spell w ≡ with_bit (spell v) 8 = rw (or_8 (is_nonempty v.patterns) (is_explicit v.patterns) v.from_word v.half_crlf) in
+    let valid : IsValue w = record {
+      have = h.is.valid.have;
+      need = h.is.valid.need;
+      distinct = h.is.valid.distinct;
+      pattern_ids =
+          h.is.valid.pattern_ids;
+      state_ids = h.is.valid.state_ids;
+    } in
+    let same : spell w ≡ with_bit (spell v) 8 =
+    rw (or_8 (is_nonempty v.patterns) (is_explicit v.patterns) v.from_word v.half_crlf) in
     built _ last w valid h.last (same ∙ ap (λ (b : List ℕ). with_bit b 8) h.is.spelled)
 
 -- nine zero bytes are the encoding of the dead value
-pub built_zeros : IsBuilding (0 ∷ 0 ∷ 0 ∷ 0 ∷ 0 ∷ 0 ∷ 0 ∷ 0 ∷ 0 ∷ []) 0 × (value_of (0 ∷ 0 ∷ 0 ∷ 0 ∷ 0 ∷ 0 ∷ 0 ∷ 0 ∷ 0 ∷ []) ≡ dead)
+pub built_zeros : IsBuilding (0 ∷ 0 ∷ 0 ∷ 0 ∷ 0 ∷ 0 ∷ 0 ∷ 0 ∷ 0 ∷ []) 0
+    × (value_of (0 ∷ 0 ∷ 0 ∷ 0 ∷ 0 ∷ 0 ∷ 0 ∷ 0 ∷ 0 ∷ []) ≡ dead)
 unfolding spell
 built_zeros = built _ 0 dead dead_valid refl refl
 
-pub spelled_zeros : IsSpelled (0 ∷ 0 ∷ 0 ∷ 0 ∷ 0 ∷ 0 ∷ 0 ∷ 0 ∷ 0 ∷ []) × (value_of (0 ∷ 0 ∷ 0 ∷ 0 ∷ 0 ∷ 0 ∷ 0 ∷ 0 ∷ 0 ∷ []) ≡ dead)
+pub spelled_zeros : IsSpelled (0 ∷ 0 ∷ 0 ∷ 0 ∷ 0 ∷ 0 ∷ 0 ∷ 0 ∷ 0 ∷ [])
+    × (value_of (0 ∷ 0 ∷ 0 ∷ 0 ∷ 0 ∷ 0 ∷ 0 ∷ 0 ∷ 0 ∷ []) ≡ dead)
 spelled_zeros = (built_zeros.0.is, built_zeros.1)

@@ -26,9 +26,12 @@ bytes-decide v w xs ys r hv hw ex ey e =
     e ∙ ap (λ l. slice_cmp nat_cmp l ys) ex ∙ ap (λ l. slice_cmp nat_cmp (spell v) l) ey
     ∙ by (slice_cmp nat_cmp (spell v) (spell w)) refl
   where
-    by : (o : Ordering) → slice_cmp nat_cmp (spell v) (spell w) ≡ o → o ≡ ordering_then o (slice_cmp nat_cmp (parts v) (parts w))
+    by : (o : Ordering) → slice_cmp nat_cmp (spell v) (spell w) ≡ o
+        → o ≡ ordering_then o (slice_cmp nat_cmp (parts v) (parts w))
     by Less q = refl
     by Greater q = refl
     by Equal q =
-        let equal = spell_tells v w hv hw ((bytes_decides (spell v) (spell w)).0 (lists_ties nat_cmp unsigned_ties (spell v) (spell w) ∙ ap is_eq q)) in
-        sym ((Equal-is _).0 (sym (lists_ties nat_cmp unsigned_ties (parts v) (parts w)) ∙ (bytes_decides (parts v) (parts w)).1 (ap parts equal)))
+        let equal = spell_tells v w hv hw ((bytes_decides (spell v) (spell w)).0
+        (lists_ties nat_cmp unsigned_ties (spell v) (spell w) ∙ ap is_eq q)) in
+        sym ((Equal-is _).0 (sym (lists_ties nat_cmp unsigned_ties (parts v) (parts w))
+        ∙ (bytes_decides (parts v) (parts w)).1 (ap parts equal)))

@@ -41,22 +41,28 @@ in_each_case P p1 p2 p3 p4 p5 p6 p7 p8 p9 p10 p11 p12 p13 p14 p15 p16 a b c d =
     ]
 
 pub has_1 : (a b c d : Bool) → not (nat_eq (bit_and (packed a b c d) 1) 0) ≡ a
-has_1 = in_each_case (λ a b c d. not (nat_eq (bit_and (packed a b c d) 1) 0) ≡ a) refl refl refl refl refl refl refl refl refl refl refl refl refl refl refl refl
+has_1 = in_each_case (λ a b c d. not (nat_eq (bit_and (packed a b c d) 1) 0) ≡ a) refl refl refl refl refl refl refl
+    refl refl refl refl refl refl refl refl refl
 
 pub has_2 : (a b c d : Bool) → not (nat_eq (bit_and (packed a b c d) 2) 0) ≡ b
-has_2 = in_each_case (λ a b c d. not (nat_eq (bit_and (packed a b c d) 2) 0) ≡ b) refl refl refl refl refl refl refl refl refl refl refl refl refl refl refl refl
+has_2 = in_each_case (λ a b c d. not (nat_eq (bit_and (packed a b c d) 2) 0) ≡ b) refl refl refl refl refl refl refl
+    refl refl refl refl refl refl refl refl refl
 
 pub has_4 : (a b c d : Bool) → not (nat_eq (bit_and (packed a b c d) 4) 0) ≡ c
-has_4 = in_each_case (λ a b c d. not (nat_eq (bit_and (packed a b c d) 4) 0) ≡ c) refl refl refl refl refl refl refl refl refl refl refl refl refl refl refl refl
+has_4 = in_each_case (λ a b c d. not (nat_eq (bit_and (packed a b c d) 4) 0) ≡ c) refl refl refl refl refl refl refl
+    refl refl refl refl refl refl refl refl refl
 
 pub has_8 : (a b c d : Bool) → not (nat_eq (bit_and (packed a b c d) 8) 0) ≡ d
-has_8 = in_each_case (λ a b c d. not (nat_eq (bit_and (packed a b c d) 8) 0) ≡ d) refl refl refl refl refl refl refl refl refl refl refl refl refl refl refl refl
+has_8 = in_each_case (λ a b c d. not (nat_eq (bit_and (packed a b c d) 8) 0) ≡ d) refl refl refl refl refl refl refl
+    refl refl refl refl refl refl refl refl refl
 
 pub or_4 : (a b c d : Bool) → bit_or (packed a b c d) 4 ≡ packed a b true d
-or_4 = in_each_case (λ a b c d. bit_or (packed a b c d) 4 ≡ packed a b true d) refl refl refl refl refl refl refl refl refl refl refl refl refl refl refl refl
+or_4 = in_each_case (λ a b c d. bit_or (packed a b c d) 4 ≡ packed a b true d) refl refl refl refl refl refl refl refl
+    refl refl refl refl refl refl refl refl
 
 pub or_8 : (a b c d : Bool) → bit_or (packed a b c d) 8 ≡ packed a b c true
-or_8 = in_each_case (λ a b c d. bit_or (packed a b c d) 8 ≡ packed a b c true) refl refl refl refl refl refl refl refl refl refl refl refl refl refl refl refl
+or_8 = in_each_case (λ a b c d. bit_or (packed a b c d) 8 ≡ packed a b c true) refl refl refl refl refl refl refl refl
+    refl refl refl refl refl refl refl refl
 
 pub or_1 : (c d : Bool) → bit_or (packed false false c d) 1 ≡ packed true false c d
 or_1 true true = refl

@@ -26,7 +26,8 @@ pub record HasPatterns (bytes : List ℕ) (ids : List ℕ) : Type 0 where
   pub room : 13 + 4 * length ids ≤ length bytes
   pub small : length ids ≤ 2147483647
 
-pub has_patterns : (bytes : List ℕ) → IsSpelled bytes → has_flag bytes 2 ≡ true → HasPatterns bytes (value_of bytes).patterns
+pub has_patterns : (bytes : List ℕ) → IsSpelled bytes → has_flag bytes 2 ≡ true
+    → HasPatterns bytes (value_of bytes).patterns
 has_patterns bytes h e =
     let v : Value = value_of bytes in
     let explicit : is_explicit v.patterns ≡ true = sym (explicit_of bytes h) ∙ e in
@@ -36,11 +37,13 @@ has_patterns bytes h e =
       small = few v.patterns h.valid.distinct h.valid.pattern_ids;
     }
 
-pub explicit_ids : (bytes : List ℕ) → has_flag bytes 2 ≡ true → numbers_in (take (4 * number_at bytes 9) (drop 13 bytes)) ≡ (value_of bytes).patterns
+pub explicit_ids : (bytes : List ℕ) → has_flag bytes 2 ≡ true
+    → numbers_in (take (4 * number_at bytes 9) (drop 13 bytes)) ≡ (value_of bytes).patterns
 unfolding value_of
 explicit_ids bytes e = rw e
 
-pub implicit_ids : (bytes : List ℕ) → has_flag bytes 2 ≡ false → (if has_flag bytes 1 then 0 ∷ [] else []) ≡ (value_of bytes).patterns
+pub implicit_ids : (bytes : List ℕ) → has_flag bytes 2 ≡ false
+    → (if has_flag bytes 1 then 0 ∷ [] else []) ≡ (value_of bytes).patterns
 unfolding value_of
 implicit_ids bytes e = rw e
 
@@ -49,13 +52,15 @@ pub implicit_numbers : (b : Bool) → numbers_in (words (if b then 0 ∷ [] else
 implicit_numbers true = refl
 implicit_numbers false = refl
 
-pub implicit_length : (b : Bool) → length (words (if b then 0 ∷ [] else [])) ≡ 4 * length {A = ℕ} (if b then 0 ∷ [] else [])
+pub implicit_length : (b : Bool) → length (words (if b then 0 ∷ [] else []))
+    ≡ 4 * length {A = ℕ} (if b then 0 ∷ [] else [])
 implicit_length true = refl
 implicit_length false = refl
 
 -- the bytes after the patterns are the differences of the NFA states
 pub rest_deltas : (bytes : List ℕ) → IsSpelled bytes → drop (start_in bytes) bytes ≡ deltas 0 (value_of bytes).states
-rest_deltas bytes h = subst (λ (b : List ℕ). drop (start_in b) b ≡ deltas 0 (value_of bytes).states) h.spelled (drop-start (value_of bytes) h.valid)
+rest_deltas bytes h = subst (λ (b : List ℕ). drop (start_in b) b ≡ deltas 0 (value_of bytes).states) h.spelled
+    (drop-start (value_of bytes) h.valid)
 
 pub rest_ids : (bytes : List ℕ) → ids_from 0 0 1 (drop (start_in bytes) bytes) ≡ (value_of bytes).states
 unfolding value_of
@@ -86,9 +91,11 @@ place_of (a ∷ []) index h = absurd (omega (arith, h))
 place_of (a ∷ b ∷ []) index h = absurd (omega (arith, h))
 place_of (a ∷ b ∷ c ∷ []) index h = absurd (omega (arith, h))
 place_of (a ∷ b ∷ c ∷ d ∷ bytes) zero h = omega arith
-place_of (a ∷ b ∷ c ∷ d ∷ bytes) (suc index) h = let before : 4 * index + 4 ≤ length bytes = place_of bytes index (omega (arith, h)) in omega (arith, before)
+place_of (a ∷ b ∷ c ∷ d ∷ bytes) (suc index) h = let before : 4 * index + 4
+    ≤ length bytes = place_of bytes index (omega (arith, h)) in omega (arith, before)
 
-pub number_of : (bytes : List ℕ) (index : ℕ) → index < length (numbers_in bytes) → number_at bytes (4 * index) ≡ slice_index (numbers_in bytes) index
+pub number_of : (bytes : List ℕ) (index : ℕ) → index < length (numbers_in bytes)
+    → number_at bytes (4 * index) ≡ slice_index (numbers_in bytes) index
 number_of [] index h = absurd (omega (arith, h))
 number_of (a ∷ []) index h = absurd (omega (arith, h))
 number_of (a ∷ b ∷ []) index h = absurd (omega (arith, h))
@@ -106,7 +113,8 @@ first_small [] h all = absurd (omega (arith, h))
 first_small (a ∷ []) h all = absurd (omega (arith, h))
 first_small (a ∷ b ∷ []) h all = absurd (omega (arith, h))
 first_small (a ∷ b ∷ c ∷ []) h all = absurd (omega (arith, h))
-first_small (a ∷ b ∷ c ∷ d ∷ bytes) h all = All-head (λ id. id ≤ 2147483646) (from_le_bytes w32 (a ∷ b ∷ c ∷ d ∷ [])) (numbers_in bytes) all
+first_small (a ∷ b ∷ c ∷ d ∷ bytes) h all =
+    All-head (λ id. id ≤ 2147483646) (from_le_bytes w32 (a ∷ b ∷ c ∷ d ∷ [])) (numbers_in bytes) all
 
 pub others_small : (bytes : List ℕ) → 4 ≤ length bytes → All (λ id. id ≤ 2147483646) (numbers_in bytes) →
     All (λ id. id ≤ 2147483646) (numbers_in (take (length bytes - 4) (drop 4 bytes)))
@@ -116,4 +124,5 @@ others_small (a ∷ b ∷ []) h all = absurd (omega (arith, h))
 others_small (a ∷ b ∷ c ∷ []) h all = absurd (omega (arith, h))
 others_small (a ∷ b ∷ c ∷ d ∷ bytes) h all =
     let e : suc (suc (suc (suc (length bytes)))) - 4 ≡ length bytes = omega arith in
-    rw (e, take-length bytes) (All-tail (λ id. id ≤ 2147483646) (from_le_bytes w32 (a ∷ b ∷ c ∷ d ∷ [])) (numbers_in bytes) all)
+    rw (e, take-length bytes) (All-tail (λ id. id ≤ 2147483646) (from_le_bytes w32 (a ∷ b ∷ c ∷ d ∷ []))
+    (numbers_in bytes) all)

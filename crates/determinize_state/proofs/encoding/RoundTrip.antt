@@ -2,6 +2,7 @@
 -- Main statements: value_of-spell, spelled, decided.
 -- Used by: all that reads or writes the bytes of a state.
 -- Idea: the header has fixed places, and the lengths of the parts are in it.
+use Rattle.std.proofs.lemmas.Bool.{eqb-true}
 use Rattle.std.proofs.Common.{◌≡◌, ◌==◌, ℕ, ◌+◌, ◌*◌, ◌<◌, ◌≤◌, ◌^◌, Bool, true, false, List, [], ◌∷◌, ◌++◌, length, All, nat_eq, suc, zero, refl, arith, sym, ap, ◌∙◌, if◌then◌else◌, take, drop, lit<, subst, zero-add, suc-add, length-append}
 use Rattle.std.specs.Int.{from_le_bytes, w32}
 use Rattle.std.specs.Bool.{Decides}
@@ -21,7 +22,14 @@ use Rattle.determinize_state.proofs.encoding.FlagBits.{has_1, has_2, has_4, has_
 
 pub dead_valid : IsValue dead
 unfolding IsDistinct
-dead_valid = record { have = lit< tt; need = lit< tt; distinct = tt; pattern_ids = λ k d h. absurd (omega (arith, h)); state_ids = λ k d h. absurd (omega (arith, h)) }
+dead_valid = record {
+  have = lit< tt;
+  need = lit< tt;
+  distinct = tt;
+  pattern_ids = λ k d h.
+      absurd (omega (arith, h));
+  state_ids = λ k d h. absurd (omega (arith, h));
+}
 
 pub spell_long : (v : Value) → 9 ≤ length (spell v)
 unfolding spell
@@ -39,7 +47,10 @@ length-words (n ∷ ns) = omega (arith, length-words ns)
 pub numbers_in-words : (ns : List ℕ) → All (λ n. n ≤ 2147483646) ns → numbers_in (words ns) ≡ ns
 numbers_in-words [] all = refl
 numbers_in-words (n ∷ ns) all =
-    rw (word_back n (omega (arith, All-head (λ k. k ≤ 2147483646) n ns all)), numbers_in-words ns (All-tail (λ k. k ≤ 2147483646) n ns all))
+    rw (
+      word_back n (omega (arith, All-head (λ k. k ≤ 2147483646) n ns all)),
+      numbers_in-words ns (All-tail (λ k. k ≤ 2147483646) n ns all),
+    )
 
 take-words : (ns rest : List ℕ) → take (4 * length ns) (words ns ++ rest) ≡ words ns
 take-words [] rest = refl
@@ -55,12 +66,11 @@ drop-words (n ∷ ns) rest =
 
 -- distinct ids are at most as numerous as all ids
 
-same_from_test : (x y : ℕ) → nat_eq x y ≡ true → x ≡ y
-same_from_test x y h = grind (arith, h)
-
 distinct_below : (ids : List ℕ) (n : ℕ) → IsDistinct nat_eq ids → All (λ id. id < n) ids → length ids ≤ n
 distinct_below ids n distinct below =
-    length-le_from_distinct_below ids n distinct (λ id h. let at = Contains-from_any {eq = nat_eq} same_from_test id ids h in subst (λ m. m < n) at.2 (below at.0 id at.1))
+    length-le_from_distinct_below ids n distinct
+    (λ id h. let at = Contains-from_any {eq = nat_eq} eqb-true id ids h in
+    subst (λ m. m < n) at.2 (below at.0 id at.1))
 
 pub few : (ids : List ℕ) → IsDistinct nat_eq ids → All (λ id. id ≤ 2147483646) ids → length ids ≤ 2147483647
 few ids distinct all = distinct_below ids 2147483647 distinct (λ k id h. omega (arith, all k id h))
@@ -101,7 +111,8 @@ after_count v e = rw e
 
 pub length-explicit : (v : Value) → is_explicit v.patterns ≡ true → 13 + 4 * length v.patterns ≤ length (spell v)
 unfolding spell
-length-explicit v e = rw e (omega (arith, length-append (words v.patterns) (deltas 0 v.states), length-words v.patterns))
+length-explicit v e =
+    rw e (omega (arith, length-append (words v.patterns) (deltas 0 v.states), length-words v.patterns))
 
 after_sets : (v : Value) → is_explicit v.patterns ≡ false → drop 9 (spell v) ≡ deltas 0 v.states
 unfolding spell
@@ -128,17 +139,20 @@ implicit (suc n ∷ []) e = (cc)
 implicit (zero ∷ m ∷ ids) e = (cc)
 implicit (suc n ∷ m ∷ ids) e = (cc)
 
-pub explicit_words : (v : Value) → IsValue v → is_explicit v.patterns ≡ true → take (4 * number_at (spell v) 9) (drop 13 (spell v)) ≡ words v.patterns
+pub explicit_words : (v : Value) → IsValue v → is_explicit v.patterns ≡ true
+    → take (4 * number_at (spell v) 9) (drop 13 (spell v)) ≡ words v.patterns
 explicit_words v h e = rw (count_at v h e, after_count v e) (take-words v.patterns (deltas 0 v.states))
 
 patterns_at : (v : Value) → IsValue v → (b : Bool) → is_explicit v.patterns ≡ b →
-    (if b then numbers_in (take (4 * number_at (spell v) 9) (drop 13 (spell v))) else (if is_nonempty v.patterns then 0 ∷ [] else [])) ≡ v.patterns
+    (if b then numbers_in (take (4 * number_at (spell v) 9) (drop 13 (spell v))) else
+    (if is_nonempty v.patterns then 0 ∷ [] else [])) ≡ v.patterns
 patterns_at v h true e = rw (explicit_words v h e) (numbers_in-words v.patterns h.pattern_ids)
 patterns_at v h false e = implicit v.patterns e
 
 deltas_at : (v : Value) → IsValue v → (b : Bool) → is_explicit v.patterns ≡ b →
     (if b then drop (13 + 4 * number_at (spell v) 9) (spell v) else drop 9 (spell v)) ≡ deltas 0 v.states
-deltas_at v h true e = rw (count_at v h e, drop-drop 13 (4 * length v.patterns) (spell v), after_count v e) (drop-words v.patterns (deltas 0 v.states))
+deltas_at v h true e = rw (count_at v h e, drop-drop 13 (4 * length v.patterns) (spell v), after_count v e)
+    (drop-words v.patterns (deltas 0 v.states))
 deltas_at v h false e = after_sets v e
 
 -- the bytes after the patterns are the differences of the NFA states
@@ -172,7 +186,8 @@ pub spelled : (v : Value) → IsValue v → IsSpelled (spell v)
 spelled v h = record { valid = rw (value_of-spell v h) h; spelled = rw (value_of-spell v h) }
 
 -- comparing the bytes decides equality of the values
-pub decided : (v w : Value) (xs ys : List ℕ) (r : Bool) → IsValue v → IsValue w → xs ≡ spell v → ys ≡ spell w → r ≡ pointwise ◌==◌ xs ys → Decides r (v ≡ w)
+pub decided : (v w : Value) (xs ys : List ℕ) (r : Bool) → IsValue v → IsValue w → xs ≡ spell v → ys ≡ spell w
+    → r ≡ pointwise ◌==◌ xs ys → Decides r (v ≡ w)
 decided v w xs ys r hv hw ex ey e =
     let same : Decides r (xs ≡ ys) = slice_eq-Decides Decides-eqb xs ys r e in
     (λ t. spell_tells v w hv hw (sym ex ∙ same.0 t ∙ ey), λ equal. same.1 (ex ∙ ap spell equal ∙ sym ey))

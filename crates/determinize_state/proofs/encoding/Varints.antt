@@ -27,7 +27,8 @@ fits_after more n h = let big : n < 128 * (128 ^ more * 128) = rw (pow-suc 128 m
 
 -- reading the groups of a number gives the number
 pub ids_from-groups : (more n from low weight : ℕ) (rest : List ℕ) → n < 128 * 128 ^ more →
-    ids_from from low weight (groups more n ++ rest) ≡ (unzigzag from (low + weight * n) ∷ ids_from (unzigzag from (low + weight * n)) 0 1 rest)
+    ids_from from low weight (groups more n ++ rest)
+    ≡ (unzigzag from (low + weight * n) ∷ ids_from (unzigzag from (low + weight * n)) 0 1 rest)
 ids_from-groups zero n from low weight rest small =
     let one : nat_lt n 128 ≡ true = grind (arith, nat_tests) in
     rw one
@@ -37,19 +38,22 @@ ids_from-groups (suc more) n from low weight rest small =
       | inr h ↦
           let more_groups : nat_lt (128 + n % 128) 128 ≡ false = grind (arith, nat_tests) in
           rw h.0 (rw more_groups (
-          ids_from-groups more (n / 128) from (low + weight * (128 + n % 128 - 128)) (weight * 128) rest (fits_after more n small)
+          ids_from-groups more (n / 128) from (low + weight * (128 + n % 128 - 128)) (weight * 128) rest
+          (fits_after more n small)
           ∙ ap (λ m. unzigzag from m ∷ ids_from (unzigzag from m) 0 1 rest) (group low weight n)))
     ]
 
 -- decoding the encoding of ids gives the ids
-pub ids_from-deltas : (from : ℕ) (ids : List ℕ) → from ≤ 2147483646 → All (λ i. i ≤ 2147483646) ids → ids_from from 0 1 (deltas from ids) ≡ ids
+pub ids_from-deltas : (from : ℕ) (ids : List ℕ) → from ≤ 2147483646 → All (λ i. i ≤ 2147483646) ids
+    → ids_from from 0 1 (deltas from ids) ≡ ids
 unfolding varint
 ids_from-deltas from [] small all = refl
 ids_from-deltas from (id ∷ ids) small all =
     let here : id ≤ 2147483646 = All-head (λ i. i ≤ 2147483646) id ids all in
     let fits : zigzag from id < 128 * 128 ^ 4 = omega (arith, zigzag_small from id small here) in
     ids_from-groups 4 (zigzag from id) from 0 1 (deltas id ids) fits
-    ∙ rw (zero-add (1 * zigzag from id), one-mul (zigzag from id), unzigzag-zigzag from id) (ap (λ r. id ∷ r) (ids_from-deltas id ids here (All-tail (λ i. i ≤ 2147483646) id ids all)))
+    ∙ rw (zero-add (1 * zigzag from id), one-mul (zigzag from id), unzigzag-zigzag from id)
+    (ap (λ r. id ∷ r) (ids_from-deltas id ids here (All-tail (λ i. i ≤ 2147483646) id ids all)))
 
 power_pos : (k : ℕ) → 1 ≤ 128 ^ k
 power_pos zero = lit≤ tt
@@ -62,7 +66,8 @@ weight_in_time weight more h =
     grind (arith, nat_tests)
 
 weight_after : (weight more : ℕ) → weight * 128 ^ suc more ≤ 268435456 → weight * 128 * 128 ^ more ≤ 268435456
-weight_after weight more h = let big : weight * (128 ^ more * 128) ≤ 268435456 = rw (pow-suc 128 more) at h in let e : weight * 128 * 128 ^ more ≡ weight * (128 ^ more * 128) = grind arith in rw e big
+weight_after weight more h = let big : weight * (128 ^ more * 128) ≤ 268435456 = rw (pow-suc 128 more) at h in
+    let e : weight * 128 * 128 ^ more ≡ weight * (128 ^ more * 128) = grind arith in rw e big
 
 -- the result of `read` on the groups of a number
 pub read-groups : (more n low weight : ℕ) (rest : List ℕ) → n < 128 * 128 ^ more → weight * 128 ^ more ≤ 268435456 →
@@ -78,12 +83,14 @@ read-groups (suc more) n low weight rest small fits =
       | inr h ↦
           let more_groups : nat_lt (128 + n % 128) 128 ≡ false = grind (arith, nat_tests) in
           rw h.0 (rw (in_time, more_groups) (
-          read-groups more (n / 128) (low + weight * (128 + n % 128 - 128)) (weight * 128) rest (fits_after more n small) (weight_after weight more fits)
+          read-groups more (n / 128) (low + weight * (128 + n % 128 - 128)) (weight * 128) rest
+          (fits_after more n small) (weight_after weight more fits)
           ∙ ap (λ m. Some (m, rest)) (group low weight n)))
     ]
 
 -- the first id that `read` finds
-pub read-deltas : (from id : ℕ) (ids : List ℕ) → from ≤ 2147483646 → id ≤ 2147483646 → read 0 1 (deltas from (id ∷ ids)) ≡ Some (zigzag from id, deltas id ids)
+pub read-deltas : (from id : ℕ) (ids : List ℕ) → from ≤ 2147483646 → id ≤ 2147483646
+    → read 0 1 (deltas from (id ∷ ids)) ≡ Some (zigzag from id, deltas id ids)
 unfolding varint
 read-deltas from id ids small here =
     let fits : zigzag from id < 128 * 128 ^ 4 = omega (arith, zigzag_small from id small here) in
@@ -91,7 +98,8 @@ read-deltas from id ids small here =
     ∙ rw (zero-add (1 * zigzag from id), one-mul (zigzag from id))
 
 some_parts : (a c : ℕ) (b d : List ℕ) → ◌≡◌ {A = Option (ℕ × List ℕ)} (Some (a, b)) (Some (c, d)) → (a ≡ c) × (b ≡ d)
-some_parts a c b d e = let pair : ◌≡◌ {A = ℕ × List ℕ} (a, b) (c, d) = (cc) in (ap (λ (p : ℕ × List ℕ). p.0) pair, ap (λ (p : ℕ × List ℕ). p.1) pair)
+some_parts a c b d e = let pair : ◌≡◌ {A = ℕ × List ℕ} (a, b) (c, d) = (cc) in
+    (ap (λ (p : ℕ × List ℕ). p.0) pair, ap (λ (p : ℕ × List ℕ). p.1) pair)
 
 none_differs : (p : ℕ × List ℕ) → ◌≡◌ {A = Option (ℕ × List ℕ)} (Some p) None → ⊥
 none_differs p e = (cc)
@@ -103,7 +111,8 @@ pub record IsFirst (from : ℕ) (bytes : List ℕ) (number : ℕ) (after : List 
   pub ids : ids_from from 0 1 bytes ≡ unzigzag from number ∷ ids_from (unzigzag from number) 0 1 after
   pub rest : IsDeltas (unzigzag from number) after
 
-pub first_none : (from : ℕ) (bytes : List ℕ) → IsDeltas from bytes → read 0 1 bytes ≡ None → ids_from from 0 1 bytes ≡ []
+pub first_none : (from : ℕ) (bytes : List ℕ) → IsDeltas from bytes → read 0 1 bytes ≡ None
+    → ids_from from 0 1 bytes ≡ []
 first_none from bytes h none = go (ids_from from 0 1 bytes) refl
   where
     go : (ids : List ℕ) → ids_from from 0 1 bytes ≡ ids → ids_from from 0 1 bytes ≡ []
@@ -115,7 +124,8 @@ first_none from bytes h none = go (ids_from from 0 1 bytes) refl
         let both = none_differs _ (sym reads ∙ ap (read 0 1) begins ∙ none) in
         absurd both
 
-pub first_some : (from : ℕ) (bytes : List ℕ) (number : ℕ) (after : List ℕ) → IsDeltas from bytes → read 0 1 bytes ≡ Some (number, after) → IsFirst from bytes number after
+pub first_some : (from : ℕ) (bytes : List ℕ) (number : ℕ) (after : List ℕ) → IsDeltas from bytes
+    → read 0 1 bytes ≡ Some (number, after) → IsFirst from bytes number after
 first_some from bytes number after h some = go (ids_from from 0 1 bytes) refl
   where
     go : (ids : List ℕ) → ids_from from 0 1 bytes ≡ ids → IsFirst from bytes number after
@@ -140,9 +150,11 @@ first_some from bytes number after h some = go (ids_from from 0 1 bytes) refl
         }
 
 -- one more id
-pub deltas-push : (from : ℕ) (ids : List ℕ) (id : ℕ) → deltas from (ids ++ id ∷ []) ≡ deltas from ids ++ varint (zigzag (last_id from ids) id)
+pub deltas-push : (from : ℕ) (ids : List ℕ) (id : ℕ)
+    → deltas from (ids ++ id ∷ []) ≡ deltas from ids ++ varint (zigzag (last_id from ids) id)
 deltas-push from [] id = append-nil (varint (zigzag from id))
-deltas-push from (i ∷ ids) id = rw (deltas-push i ids id) (sym (append_assoc (varint (zigzag from i)) (deltas i ids) (varint (zigzag (last_id i ids) id))))
+deltas-push from (i ∷ ids) id = rw (deltas-push i ids id)
+    (sym (append_assoc (varint (zigzag from i)) (deltas i ids) (varint (zigzag (last_id i ids) id))))
 
 -- a number that fits in n groups needs no more if one more is allowed
 groups-one_more : (more n : ℕ) → n < 128 * 128 ^ more → groups (suc more) n ≡ groups more n
@@ -169,11 +181,13 @@ varint-more n big small =
 -- after its low group, the groups of the rest are those of the number
 pub append-varint : (bytes : List ℕ) (n : ℕ) → 128 ≤ n → n < 4294967296 →
     (bytes ++ (128 + n % 128) ∷ []) ++ varint (n / 128) ≡ bytes ++ varint n
-append-varint bytes n big small = rw (varint-more n big small) (append_assoc bytes ((128 + n % 128) ∷ []) (varint (n / 128)))
+append-varint bytes n big small =
+    rw (varint-more n big small) (append_assoc bytes ((128 + n % 128) ∷ []) (varint (n / 128)))
 
 -- a prefix of the bytes is one of the bytes with more added
 pub begins_still : (beginning bytes added : List ℕ) → take (length beginning) bytes ≡ beginning →
     take (length beginning) (bytes ++ added) ≡ beginning
 begins_still beginning bytes added begins =
-    let within : length beginning ≤ length bytes = omega (arith, length-take (length beginning) bytes, ap length begins) in
+    let within : length beginning ≤ length bytes =
+    omega (arith, length-take (length beginning) bytes, ap length begins) in
     rw take-append-le begins

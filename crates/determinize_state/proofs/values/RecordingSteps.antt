@@ -1,5 +1,5 @@
 -- Adding states to a builder one by one.
--- Main statements: added_one-after, added-after, with_fact.
+-- Main statements: added_one-after, added-none, with_fact.
 -- Used by: `add_states`, and the closure that records.
 -- Idea: the value after a list is that after its first states and then one more.
 use Rattle.std.proofs.Common.{◌≡◌, ◌<◌, ℕ, All, subst, true, false, not, List, [], ◌∷◌, ◌++◌, Result, Ok, Err, refl, sym, ap, ◌∙◌, append_assoc}
@@ -28,11 +28,17 @@ module _ (nfa : Nfa) where
       ∙ ap (λ l. added_by v (needs nfa v.look_need (xs ++ ys)) l) (append_assoc v.states xs ys)
 
   -- one more state after those of a list
-  pub added_one-after : (v : Value) (xs : List ℕ) (s : ℕ) → added_one nfa (added nfa v (without (is_capture nfa) xs)) s ≡ added nfa v (without (is_capture nfa) (xs ++ s ∷ []))
+  pub added_one-after : (v : Value) (xs : List ℕ) (s : ℕ)
+      → added_one nfa (added nfa v (without (is_capture nfa) xs)) s
+      ≡ added nfa v (without (is_capture nfa) (xs ++ s ∷ []))
   added_one-after v xs s =
       by_test (is_capture nfa s)
-      (λ e. rw e (ap (λ l. added nfa v l) (sym (append-nil (without (is_capture nfa) xs)) ∙ ap (λ l. without (is_capture nfa) xs ++ l) (sym (dropped e)) ∙ sym (filter-append (λ x. not (is_capture nfa x)) xs (s ∷ [])))))
-      (λ e. rw e (added-append v (without (is_capture nfa) xs) (s ∷ []) ∙ ap (λ l. added nfa v l) (ap (λ l. without (is_capture nfa) xs ++ l) (sym (kept e)) ∙ sym (filter-append (λ x. not (is_capture nfa x)) xs (s ∷ [])))))
+      (λ e. rw e (ap (λ l. added nfa v l) (sym (append-nil (without (is_capture nfa) xs))
+      ∙ ap (λ l. without (is_capture nfa) xs ++ l) (sym (dropped e))
+      ∙ sym (filter-append (λ x. not (is_capture nfa x)) xs (s ∷ [])))))
+      (λ e. rw e (added-append v (without (is_capture nfa) xs) (s ∷ [])
+      ∙ ap (λ l. added nfa v l) (ap (λ l. without (is_capture nfa) xs ++ l) (sym (kept e))
+      ∙ sym (filter-append (λ x. not (is_capture nfa x)) xs (s ∷ [])))))
     where
       dropped : is_capture nfa s ≡ true → without (is_capture nfa) (s ∷ []) ≡ []
       dropped e = rw e refl
@@ -45,22 +51,13 @@ module _ (nfa : Nfa) where
   unfolding added_by
   added-none v = ap (λ l. added_by v v.look_need l) (sym (append-nil v.states))
 
-  -- one more state, unless it is a capture
-  pub added_one-alone : (v : Value) (s : ℕ) → added_one nfa v s ≡ added nfa v (without (is_capture nfa) (s ∷ []))
-  added_one-alone v s = by_test (is_capture nfa s)
-      (λ e. rw e (added-none v))
-      (λ e. rw e refl)
-
-  -- more states after those of a list
-  pub added-after : (v : Value) (xs ys : List ℕ) → added nfa (added nfa v (without (is_capture nfa) xs)) (without (is_capture nfa) ys) ≡ added nfa v (without (is_capture nfa) (xs ++ ys))
-  added-after v xs ys =
-      added-append v (without (is_capture nfa) xs) (without (is_capture nfa) ys) ∙ ap (λ l. added nfa v l) (sym (filter-append (λ x. not (is_capture nfa x)) xs ys))
-
 -- combining two facts of a result
-pub with_fact : {T E : Type 0} (r : Result T E) (P : T → Type 0) (Q R : Type 0) → (Q → R) → IfOk r P → OnOk r Q → IfOk r (λ x. P x × R)
+pub with_fact : {T E : Type 0} (r : Result T E) (P : T → Type 0) (Q R : Type 0) → (Q → R) → IfOk r P → OnOk r Q
+    → IfOk r (λ x. P x × R)
 with_fact (Ok x) P Q R f p q = (p, f q)
 with_fact (Err e) P Q R f p q = tt
 
 -- the rest of a list whose elements are below a bound
-pub rest_below : (bound : ℕ) (xs ys : List ℕ) (x : ℕ) → xs ≡ x ∷ ys → All (λ id. id < bound) xs → All (λ id. id < bound) ys
+pub rest_below : (bound : ℕ) (xs ys : List ℕ) (x : ℕ) → xs ≡ x ∷ ys → All (λ id. id < bound) xs
+    → All (λ id. id < bound) ys
 rest_below bound xs ys x e h = All-tail (λ id. id < bound) x ys (subst (λ l. All (λ id. id < bound) l) e h)

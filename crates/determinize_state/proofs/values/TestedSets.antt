@@ -2,7 +2,8 @@
 -- Main statements: Decides-needs, needs_member, insert-had.
 -- Used by: `need_law`, WorkingLists.
 -- Idea: the set is built state by state.
-use Rattle.std.proofs.Common.{◌≡◌, ℕ, ◌<◌, ◌^◌, Bool, true, false, ◌||◌, ◌⊎◌, inr, arith, List, [], ◌∷◌, refl, sym, ap, ◌∙◌, Option, Some, None, nat_eq}
+use mathlib.Core.Bool.{or-false, or-true, or_assoc}
+use Rattle.std.proofs.Common.{◌≡◌, ℕ, ◌<◌, ◌^◌, true, ◌||◌, ◌⊎◌, inr, List, [], ◌∷◌, refl, sym, ap, ◌∙◌, Option, Some, None, nat_eq}
 use Rattle.std.specs.Bool.{Decides}
 use Rattle.std.specs.List.{Any, Contains, list_any}
 use Rattle.std.proofs.lemmas.Bool.{true≢false, or_left, eq-eqb}
@@ -21,36 +22,37 @@ use Rattle.ordered_reach.proofs.Cases.{by_test}
 use Rattle.determinize_state.specs.Recording.{with_assertion, needs}
 
 -- the set with an optional assertion
-has-with_assertion : (set : ℕ) (o : Option Assertion) (look : Assertion) → has (with_assertion set o) look ≡ (has set look || is_look o look)
-has-with_assertion set None look = kept (has set look)
-  where
-    kept : (a : Bool) → a ≡ (a || false)
-    kept a = grind arith
+has-with_assertion : (set : ℕ) (o : Option Assertion) (look : Assertion)
+    → has (with_assertion set o) look ≡ (has set look || is_look o look)
+has-with_assertion set None look = sym (or-false (has set look))
 has-with_assertion set (Some other) look = has-insert set other look
 
-has-needs : (nfa : Nfa) (set : ℕ) (xs : List ℕ) (look : Assertion) → has (needs nfa set xs) look ≡ (has set look || list_any (λ s. is_look (assertion_of nfa s) look) xs)
+has-needs : (nfa : Nfa) (set : ℕ) (xs : List ℕ) (look : Assertion)
+    → has (needs nfa set xs) look ≡ (has set look || list_any (λ s. is_look (assertion_of nfa s) look) xs)
 has-needs nfa set [] look = has-with_assertion set None look
 has-needs nfa set (s ∷ xs) look =
     has-needs nfa (with_assertion set (assertion_of nfa s)) xs look
-    ∙ ap (λ b. b || list_any (λ s. is_look (assertion_of nfa s) look) xs) (has-with_assertion set (assertion_of nfa s) look)
-    ∙ together (has set look) (is_look (assertion_of nfa s) look) (list_any (λ s. is_look (assertion_of nfa s) look) xs)
-  where
-    together : (a b c : Bool) → ((a || b) || c) ≡ (a || (b || c))
-    together a b c = grind arith
+    ∙ ap (λ b. b || list_any (λ s. is_look (assertion_of nfa s) look) xs)
+    (has-with_assertion set (assertion_of nfa s) look)
+    ∙ or_assoc (has set look) (is_look (assertion_of nfa s) look) (list_any (λ s. is_look (assertion_of nfa s) look) xs)
 
 -- look-need contains an assertion if and only if it did before or some listed state tests it
-pub Decides-needs : (nfa : Nfa) (set : ℕ) (xs : List ℕ) (look : Assertion) → Decides (has (needs nfa set xs) look) ((has set look ≡ true) ⊎ Any (λ s. assertion_of nfa s ≡ Some look) xs)
+pub Decides-needs : (nfa : Nfa) (set : ℕ) (xs : List ℕ) (look : Assertion)
+    → Decides (has (needs nfa set xs) look) ((has set look ≡ true) ⊎ Any (λ s. assertion_of nfa s ≡ Some look) xs)
 Decides-needs nfa set xs look = Decides-at _ _ (has-needs nfa set xs look)
-    (Decides-or (has set look) (list_any (λ s. is_look (assertion_of nfa s) look) xs) (λ h. h, λ h. h) (Decides-list_any_look (assertion_of nfa) xs look))
+    (Decides-or (has set look) (list_any (λ s. is_look (assertion_of nfa s) look) xs) (λ h. h, λ h. h)
+    (Decides-list_any_look (assertion_of nfa) xs look))
 
 -- the assertion of a listed state is in look-need
-pub needs_member : (nfa : Nfa) (set : ℕ) (xs : List ℕ) (s : ℕ) (look : Assertion) → member nat_eq xs s ≡ true → assertion_of nfa s ≡ Some look → has (needs nfa set xs) look ≡ true
+pub needs_member : (nfa : Nfa) (set : ℕ) (xs : List ℕ) (s : ℕ) (look : Assertion) → member nat_eq xs s ≡ true
+    → assertion_of nfa s ≡ Some look → has (needs nfa set xs) look ≡ true
 needs_member nfa set xs s look m a =
     let c : Contains xs s = In_Contains same_decides xs s (member_In same_decides xs s m) in
     (Decides-needs nfa set xs look).1 (inr (c.0, s, c.1, c.2, a))
 
 -- a list with a non-empty look-need has a state
-pub needs_some : {P : Type 0} (nfa : Nfa) (xs : List ℕ) (look : Assertion) → has (needs nfa 0 xs) look ≡ true → ((s : ℕ) → member nat_eq xs s ≡ true → P) → P
+pub needs_some : {P : Type 0} (nfa : Nfa) (xs : List ℕ) (look : Assertion) → has (needs nfa 0 xs) look ≡ true
+    → ((s : ℕ) → member nat_eq xs s ≡ true → P) → P
 needs_some nfa [] look h f = absurd (true≢false (sym h ∙ has-empty look))
 needs_some nfa (s ∷ xs) look h f = f s (or_left (nat_eq s s) (member nat_eq xs s) (eq-eqb s s refl))
 
@@ -60,12 +62,8 @@ insert_small set look small = or_of_18 set (bit_of look) small (bit_small look)
 
 -- inserting an assertion that the set contains
 pub insert-had : (set : ℕ) (look : Assertion) → set < 2 ^ 18 → has set look ≡ true → insert set look ≡ set
-insert-had set look small had = same_sets (insert set look) set (insert_small set look small) small (λ l. by_test (same look l)
-    (λ e. has-insert set look l ∙ ap (λ b. has set l || b) e ∙ or_true (has set l) ∙ sym (ap (λ k. has set k) (sym ((Decides-same look l).0 e)) ∙ had))
-    (λ e. has-insert set look l ∙ ap (λ b. has set l || b) e ∙ or_false_is (has set l)))
-  where
-    or_true : (b : Bool) → (b || true) ≡ true
-    or_true b = grind arith
-
-    or_false_is : (b : Bool) → (b || false) ≡ b
-    or_false_is b = grind arith
+insert-had set look small had =
+    same_sets (insert set look) set (insert_small set look small) small (λ l. by_test (same look l)
+    (λ e. has-insert set look l ∙ ap (λ b. has set l || b) e ∙ or-true (has set l)
+    ∙ sym (ap (λ k. has set k) (sym ((Decides-same look l).0 e)) ∙ had))
+    (λ e. has-insert set look l ∙ ap (λ b. has set l || b) e ∙ or-false (has set l)))

@@ -60,7 +60,8 @@ impl<A: Allocator> PartialOrd for State<A> {
 impl<A: Allocator> Hash for State<A> {
     ghost hash_input = { λ s. fed.usize (length (spell s)) ++ spell s ∷ [] };
 
-    ghost respects_eq = { λ s t e. ap (λ v. fed.usize (length (spell v)) ++ spell v ∷ []) ((Decides-same s t).0 e) };
+    ghost respects_eq = { λ s t e.
+        ap (λ v. fed.usize (length (spell v)) ++ spell v ∷ []) ((Decides-same s t).0 e) };
 
     fn hash<H: Hasher>(&self, state: &mut H) {
         let bytes = self.as_bytes();

@@ -83,7 +83,8 @@ fn more(number: u32) -> u8
 pub(crate) fn first_id(from: u32, bytes: &[u8]) -> Option<(StateID, &[u8])>
     requires { IsDeltas from bytes.now }
     ensures none { IfNone result (ids_from from 0 1 bytes.now ≡ []) }
-    ensures some { IfSome result (λ r. ids_from from 0 1 bytes.now ≡ r.0 ∷ ids_from r.0 0 1 r.1.now) }
+    ensures some { IfSome result (λ r.
+        ids_from from 0 1 bytes.now ≡ r.0 ∷ ids_from r.0 0 1 r.1.now) }
     ensures rest { IfSome result (λ r. IsDeltas r.0 r.1.now) }
 {
     match read_number(bytes) {

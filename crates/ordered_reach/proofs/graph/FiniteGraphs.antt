@@ -2,8 +2,8 @@
 -- Main statements: same_decides, IsEnough-below, length-fresh_below.
 -- Used by: FiniteReach, Automata, and the NFA's closures.
 -- Idea: the numbers below the bound are the nodes, so fuel one above it is enough.
-use Rattle.ordered_reach.proofs.Common.{[], ap, arith, Bool, by_cases, by_test, Decides, eq-eqb, false, fresh, LeadsBelow, length, List, member, nat_eq, none_held, not, or_left, or_right, refl, suc, sym, true, true≢false, with_node, zero, ℕ, ◌&&◌, ◌<◌, ◌∙◌, ◌∷◌, ◌≡◌, ◌≤◌}
-use Rattle.std.proofs.lemmas.Bool.{cases_lt}
+use Rattle.ordered_reach.proofs.Common.{[], ap, arith, by_cases, by_test, Decides, eq-eqb, fresh, LeadsBelow, length, List, member, nat_eq, none_held, or_left, or_right, refl, suc, sym, true, true≢false, with_node, zero, ℕ, ◌<◌, ◌∙◌, ◌∷◌, ◌≡◌, ◌≤◌}
+use Rattle.std.proofs.lemmas.Bool.{cases_lt, and_parts}
 use Rattle.std.proofs.lemmas.Bool.Decides.{Decides-eqb}
 use Rattle.ordered_reach.specs.Reach.{nodes_below}
 use Rattle.ordered_reach.proofs.graph.SearchBound.{weight, weight-fresh}
@@ -56,7 +56,4 @@ length-fresh_below n xs h =
 pub fresh_below : (n : ℕ) (xs : List ℕ) → ((x : ℕ) → member nat_eq xs x ≡ true → x < n) → (x : ℕ)
     → member nat_eq (fresh nat_eq none_held xs) x ≡ true → x < n
 fresh_below n xs h x m =
-    h x (first_part (member nat_eq xs x) (not false) (sym (member-fresh same_decides none_held xs x) ∙ m))
-  where
-    first_part : (a b : Bool) → (a && b) ≡ true → a ≡ true
-    first_part a b e = grind arith
+    h x (and_parts _ _ (sym (member-fresh same_decides none_held xs x) ∙ m)).0

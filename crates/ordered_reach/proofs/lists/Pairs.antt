@@ -17,4 +17,5 @@ pub pairs_at : {A : Type 0} (R : A → A → Type 0) (xs : List A) → AllPairs 
     → (i j : ℕ) (x y : A) → i < j → slice_get xs i ≡ Some x → slice_get xs j ≡ Some y → R x y
 pairs_at R xs h i j x y l u v =
     subst (λ z. R z y) (get_or_from_slice_get xs i x x u)
-    (subst (λ z. R (slice_index_or xs i x) z) (get_or_from_slice_get xs j y x v) (h i j x l (slice_get_within xs j y v)))
+    (subst (λ z. R (slice_index_or xs i x) z) (get_or_from_slice_get xs j y x v)
+    (h i j x l (slice_get_within xs j y v)))

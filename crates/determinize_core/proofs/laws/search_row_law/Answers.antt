@@ -1,5 +1,8 @@
-use Rattle.determinize_core.proofs.examples.WalkRows.{row_22}
+use Rattle.determinize_core.proofs.Common.{refl}
+use Rattle.determinize_below.specs.Edges.{reach_past}
+use Rattle.determinize_below.specs.Look.{has, insert}
 use Rattle.determinize_core.proofs.laws.search_row_law.Goals as goal
 
 pub returns : goal.returns
-returns c = row_22
+unfolding has insert reach_past
+returns c = refl

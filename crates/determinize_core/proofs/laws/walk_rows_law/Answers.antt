@@ -1,15 +1,37 @@
-use Rattle.determinize_core.proofs.examples.WalkRows.{are_accepted, row_3, row_4a, row_4b, row_5, row_8a, row_9a, row_12, row_18}
+use Rattle.determinize_core.proofs.Common.{refl}
+use Rattle.determinize_below.specs.Look.{has, insert, meets}
+use Rattle.determinize_below.specs.Edges.{reach}
+use Rattle.determinize_below.specs.Semantics.{is_word_byte}
+use Rattle.determinize_core.specs.Chain.{chain}
+use Rattle.determinize_core.specs.Step.{step}
+use Rattle.determinize_start.specs.LookTables.{from_word_after, from_word_at_start, half_crlf_after, half_crlf_at_start}
+use Rattle.determinize_start.specs.LookTables.{have_after, have_at_start, insert_where, known_set, line_opened, opened}
+use Rattle.determinize_start.specs.LookTables.{start_from_word, start_half_crlf, start_have, word_opened}
+use Rattle.determinize_state.specs.Spelling.{spell}
+use Rattle.determinize_state.specs.Varint.{varint}
 use Rattle.determinize_core.proofs.laws.walk_rows_law.Goals as goal
 
 pub returns : goal.returns
+unfolding has insert meets reach is_word_byte chain step spell varint
+    from_word_after from_word_at_start half_crlf_after half_crlf_at_start have_after have_at_start
+    insert_where known_set line_opened opened start_from_word start_half_crlf start_have word_opened
 returns c = record {
-  accepted = are_accepted;
-  row_3 = row_3;
-  row_4a = row_4a;
-  row_4b = row_4b;
-  row_5 = row_5;
-  row_8a = row_8a;
-  row_9a = row_9a;
-  row_12 = row_12;
-  row_18 = row_18;
+  accepted = record {
+    n2_accepted = record { passes = refl; looks = refl };
+    n3_accepted = record { passes = refl; looks = refl };
+    n4_accepted = record { passes = refl; looks = refl };
+    n5_accepted = record { passes = refl; looks = refl };
+    n7_accepted = record { passes = refl; looks = refl };
+    n8_accepted = record { passes = refl; looks = refl };
+    n11_accepted = record { passes = refl; looks = refl };
+    n14_accepted = record { passes = refl; looks = refl };
+  };
+  row_4a = (refl, refl);
+  row_4b = (refl, refl);
+  row_5 = (refl, refl);
+  row_8a = (refl, refl);
+  row_9a = (refl, refl);
+  row_11b = (refl, refl);
+  row_18 = (refl, refl);
+  row_31a = (refl, refl);
 }

@@ -10,6 +10,7 @@ one_more p q b = grind (arith, nat_tests)
 
 pub returns : goal.returns
 returns c = λ q.
-    c.in_ok-insert.ensures.updates.0 q ∙ ap (λ b. cond (nat_eq c.args.id q) true b) (c.requires q) ∙ one_more c.args.id q _
+    c.in_ok-insert.ensures.updates.0 q ∙ ap (λ b. cond (nat_eq c.args.id q) true b) (c.requires q)
+    ∙ one_more c.args.id q _
     ∙ sym (ap (λ (v : Value). list_any (nat_eq q) v.patterns) c.in_ok-add_match_pattern_id.ensures.ok
     ∙ list_any-append (nat_eq q) c.args.builder.now.patterns (c.args.id ∷ []))

@@ -1,26 +1,27 @@
-use Rattle.determinize_start.proofs.kinds.StartRows.{forward_rows, reverse_rows, byte_rows, told_rows, class_rows, step_rows, nothing_told, no_custom_cr, no_custom_lf}
+use Rattle.determinize_start.proofs.Common.{arith, NonWordByte, refl}
+use Rattle.determinize_below.specs.Look.{meets, insert}
+use Rattle.determinize_below.specs.Semantics.{is_word_byte}
+use Rattle.determinize_start.specs.LookTables.{known_set, insert_where, start_have, start_from_word, start_half_crlf}
+use Rattle.determinize_start.specs.LookTables.{have_after, from_word_after, half_crlf_after}
+use Rattle.determinize_start.specs.StartRows.{NothingTold}
 use Rattle.determinize_start.proofs.look_laws.start_rows_law.Goals as goal
 
-pub returns-clause-forward : goal.returns-clause-forward
-returns-clause-forward c = forward_rows
+nothing : NothingTold
+unfolding meets known_set insert_where insert start_have start_from_word start_half_crlf
+nothing reverse t NonWordByte = refl
+nothing reverse t s = refl
 
-pub returns-clause-reverse : goal.returns-clause-reverse
-returns-clause-reverse c = reverse_rows
-
-pub returns-clause-bytes : goal.returns-clause-bytes
-returns-clause-bytes c = byte_rows
-
-pub returns-clause-no_custom : goal.returns-clause-no_custom
-returns-clause-no_custom c = (no_custom_lf c.args.byte, no_custom_cr c.args.byte)
-
-pub returns-clause-told : goal.returns-clause-told
-returns-clause-told c = told_rows
-
-pub returns-clause-classes : goal.returns-clause-classes
-returns-clause-classes c = class_rows
-
-pub returns-clause-steps : goal.returns-clause-steps
-returns-clause-steps c = step_rows
-
-pub returns-clause-nothing : goal.returns-clause-nothing
-returns-clause-nothing c = nothing_told
+-- all examples are true by computation
+pub returns : goal.returns
+unfolding is_word_byte meets known_set insert_where insert start_have start_from_word start_half_crlf
+    have_after from_word_after half_crlf_after
+returns c = record {
+  forward = (refl, refl, refl, refl, refl, refl, refl, refl);
+  reverse = (refl, refl, refl, refl, refl, refl, refl);
+  bytes = (refl, refl, refl, refl, refl);
+  no_custom = (λ h. grind (arith, h), λ h. grind (arith, h));
+  told = (refl, refl, refl, refl, refl, refl, refl, refl, refl, refl, refl);
+  classes = (refl, refl, refl, refl, refl, refl, refl, refl);
+  steps = (refl, refl, refl, refl, refl, refl, refl, refl);
+  nothing = nothing;
+}

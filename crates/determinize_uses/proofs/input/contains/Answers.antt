@@ -6,6 +6,7 @@ use Rattle.determinize_uses.proofs.input.contains.Goals as goal
 -- the input is the whole haystack
 pub returns : goal.returns
 returns g c = record {
-  accepts = subst (λ (asked : Asked). IfOk c.is_match.result (λ found. Decides found (HasMatch c.args.lazy.now.nfa asked)))
+  accepts =
+      subst (λ (asked : Asked). IfOk c.is_match.result (λ found. Decides found (HasMatch c.args.lazy.now.nfa asked)))
       c.new.ensures.value (c.is_match.ensures.accepts c.new.ensures.open);
 }

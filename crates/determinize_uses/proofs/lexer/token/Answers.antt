@@ -7,7 +7,12 @@ use Rattle.determinize_uses.proofs.lexer.token.Goals as goal
 -- the search is of the rest of the text
 pub returns-clause-longest : goal.returns-clause-longest
 returns-clause-longest g c =
-    let rest : Asked = record { haystack = c.args.text.now; start = c.args.at; end = length c.args.text.now; anchored = Yes } in
+    let rest : Asked = record {
+      haystack = c.args.text.now;
+      start = c.args.at;
+      end = length c.args.text.now;
+      anchored = Yes;
+    } in
     let asked : c.anchored-rest.result ≡ rest = search rules in
     subst (λ (asked : Asked). IsFarthestIn c.args.lazy.now.nfa asked c.in-Some.last) asked
     (subst (λ o. IfSome o (λ m. IsFarthestIn c.args.lazy.now.nfa c.anchored-rest.result m)) c.in-Some.is

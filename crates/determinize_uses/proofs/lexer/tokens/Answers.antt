@@ -11,7 +11,8 @@ loop-preserved g c =
     let Longest : Match → Type 0 = λ m. IsLongest c.args.lazy.now.nfa c.args.text.now m in
     let next : Longest c.in-Some.next =
     subst (λ (nfa : Nfa). IsLongest nfa c.args.text.now c.in-Some.next) c.loop.invariant.nfa
-    (subst (λ o. IfSome o (λ m. IsLongest c.loop.lazy.nfa c.args.text.now m)) c.in-Some.is c.in_ok-next.ensures.longest) in
+    (subst (λ o. IfSome o (λ m. IsLongest c.loop.lazy.nfa c.args.text.now m)) c.in-Some.is
+    c.in_ok-next.ensures.longest) in
     record {
       nfa = search rules;
       kind = search rules;

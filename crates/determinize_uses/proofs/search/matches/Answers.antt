@@ -11,5 +11,7 @@ pub returns : goal.returns
 returns g c =
     let start : c.start_anchored-start.result ≡ c.args.nfa.now.start_anchored = search rules in
     c.loop-text.invariant.found
-    ∙ ap (λ texts. map (λ text. last_match (chain c.args.nfa.now kinds.LeftmostFirst c.start_anchored-start.result (between None text.now None))) texts) (take_all c.loop-text.text-index c.args.texts.now c.loop-text-test.false)
-    ∙ ap (λ s. map (λ text. last_match (chain c.args.nfa.now kinds.LeftmostFirst s (between None text.now None))) c.args.texts.now) start
+    ∙ ap (λ texts. map (λ text. last_match (chain c.args.nfa.now kinds.LeftmostFirst c.start_anchored-start.result
+    (between None text.now None))) texts) (take_all c.loop-text.text-index c.args.texts.now c.loop-text-test.false)
+    ∙ ap (λ s. map (λ text. last_match (chain c.args.nfa.now kinds.LeftmostFirst s (between None text.now None)))
+    c.args.texts.now) start

@@ -10,5 +10,6 @@ abbrev pub invariant-loop-text : goal.invariant-loop-text
 invariant-loop-text g l = record {
   nfa : l.lazy.nfa ≡ l.nfa;
   kind : l.lazy.kind ≡ kinds.LeftmostFirst;
-  found : l.found.items ≡ map (λ text. last_match (chain l.nfa kinds.LeftmostFirst l.start (between None text.now None))) (take l.text-index l.texts);
+  found : l.found.items ≡ map (λ text. last_match
+      (chain l.nfa kinds.LeftmostFirst l.start (between None text.now None))) (take l.text-index l.texts);
 }

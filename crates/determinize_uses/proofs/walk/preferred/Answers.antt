@@ -6,4 +6,6 @@ use Rattle.determinize_uses.proofs.walk.preferred.Goals as goal
 -- the slice has the states of the walk
 pub returns-clause-none : goal.returns-clause-none
 returns-clause-none g c none =
-    (c.in_ok-states.ensures.leftmost_first refl).none (sym (last_is c.in_ok-states.states.items) ∙ sym (ap last_match c.as_slice.ensures.value) ∙ sym c.last_match-found.ensures ∙ none)
+    (c.in_ok-states.ensures.leftmost_first refl).none
+    (sym (last_is c.in_ok-states.states.items) ∙ sym (ap last_match c.as_slice.ensures.value)
+    ∙ sym c.last_match-found.ensures ∙ none)

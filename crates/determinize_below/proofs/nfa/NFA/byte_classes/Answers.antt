@@ -8,11 +8,15 @@ use Rattle.determinize_below.proofs.nfa.NFA.byte_classes.Goals as goal
 pub loop-byte-preserved : goal.loop-byte-preserved
 loop-byte-preserved g c =
     elim c.if-class-len.branch [
-      | then-class-len w ↦ turn_new c.args.self.now c.loop-byte.byte c.loop-byte.len c.loop-byte.classes c.loop-byte.firsts
-          c.loop-byte.invariant c.loop-byte-test.true c.first_alike-class.result c.if-class-len.len c.if-class-len.firsts
+      | then-class-len w ↦ turn_new c.args.self.now c.loop-byte.byte c.loop-byte.len c.loop-byte.classes
+          c.loop-byte.firsts
+          c.loop-byte.invariant c.loop-byte-test.true c.first_alike-class.result c.if-class-len.len
+          c.if-class-len.firsts
           c.first_alike-class.ensures.before w.if-class-len.true w.len-is w.firsts-is
-      | else-class-len w ↦ turn_held c.args.self.now c.loop-byte.byte c.loop-byte.len c.loop-byte.classes c.loop-byte.firsts
-          c.loop-byte.invariant c.loop-byte-test.true c.first_alike-class.result c.if-class-len.len c.if-class-len.firsts
+      | else-class-len w ↦ turn_held c.args.self.now c.loop-byte.byte c.loop-byte.len c.loop-byte.classes
+          c.loop-byte.firsts
+          c.loop-byte.invariant c.loop-byte-test.true c.first_alike-class.result c.if-class-len.len
+          c.if-class-len.firsts
           c.first_alike-class.ensures.within c.first_alike-class.ensures.alike w.if-class-len.false w.len-is w.firsts-is
     ]
 
@@ -21,4 +25,5 @@ returns g c =
     let all : c.loop-byte.byte ≡ 256 = omega (arith, c.loop-byte-test.false, c.loop-byte.auto.byte-end) in
     subst (λ (p : Classes). AreClassesOf c.args.self.now p) (sym c.from_parts.ensures)
     (sorted_alike c.args.self.now c.loop-byte.len c.loop-byte.classes c.loop-byte.firsts
-    (subst (λ (n : ℕ). AreSorted c.args.self.now n c.loop-byte.len c.loop-byte.classes c.loop-byte.firsts) all c.loop-byte.invariant))
+    (subst
+    (λ (n : ℕ). AreSorted c.args.self.now n c.loop-byte.len c.loop-byte.classes c.loop-byte.firsts) all c.loop-byte.invariant))

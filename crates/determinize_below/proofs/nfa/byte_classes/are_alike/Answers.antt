@@ -11,9 +11,11 @@ use Rattle.determinize_below.proofs.nfa.byte_classes.are_alike.Goals as goal
 
 -- a state that was read, in the NFA
 read_at : (nfa : Nfa) (i j : ℕ) (n : Node) (b c : ℕ) → j ≡ i → slice_get nfa.states j ≡ Some n
-    → target_of (Some b) n ≡ target_of (Some c) n → target_of (Some b) (state_at nfa i) ≡ target_of (Some c) (state_at nfa i)
+    → target_of (Some b) n ≡ target_of (Some c) n
+    → target_of (Some b) (state_at nfa i) ≡ target_of (Some c) (state_at nfa i)
 read_at nfa i j n b c index there same =
-    let at : state_at nfa i ≡ n = ap (λ (k : ℕ). state_at nfa k) (sym index) ∙ get_or_from_slice_get nfa.states j n Fail there in
+    let at : state_at nfa i ≡ n = ap (λ (k : ℕ). state_at nfa k) (sym index)
+    ∙ get_or_from_slice_get nfa.states j n Fail there in
     ap (λ (m : Node). target_of (Some b) m) at ∙ same ∙ sym (ap (λ (m : Node). target_of (Some c) m) at)
 
 pub loop-index-preserved : goal.loop-index-preserved
@@ -31,7 +33,8 @@ returns g c =
       (λ _. refl),
     )
   where
-    each : (s : ℕ) → target_of (Some c.args.b) (state_at c.args.nfa.now s) ≡ target_of (Some c.args.c) (state_at c.args.nfa.now s)
+    each : (s : ℕ) → target_of (Some c.args.b) (state_at c.args.nfa.now s)
+        ≡ target_of (Some c.args.c) (state_at c.args.nfa.now s)
     each s = by_cases (cases_lt s (length c.args.nfa.now.states))
         (λ l. c.loop-index.invariant s (omega (arith, l, c.loop-index-test.false, c.len-index-end.ensures.count)))
         (λ l. ap (λ (n : Node). target_of (Some c.args.b) n) (state_past c.args.nfa.now s l)

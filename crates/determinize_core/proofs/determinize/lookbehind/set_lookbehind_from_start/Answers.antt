@@ -1,5 +1,5 @@
+use Rattle.determinize_core.proofs.Common.{tables_of}
 use Rattle.determinize_below.specs.Reached.{known}
-use Rattle.determinize_start.specs.LookTables.{tables_of}
 use Rattle.determinize_start.proofs.kinds.StartKinds.{start_have-known}
 use Rattle.determinize_core.proofs.determinize.lookbehind.set_lookbehind_from_start.Goals as goal
 

@@ -1,5 +1,4 @@
-use Rattle.std.proofs.Common.{◌≡◌, take}
-use Rattle.determinize_core.specs.LastMatch.{last_ended}
+use Rattle.determinize_core.proofs.Common.{last_ended, take, ◌≡◌}
 use Rattle.determinize_core.proofs.determinize.walks.last_match.Given as goal
 
 abbrev pub invariant-loop-offset : goal.invariant-loop-offset

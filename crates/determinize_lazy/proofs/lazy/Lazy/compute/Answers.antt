@@ -53,7 +53,8 @@ returns-clause-after g c =
     on_ok_weaker c.keep.result (λ table. step-done (cache c.args.self.now)
     (cursor_value c.args.self.now.states c.args.cursor) c.args.unit
     (absent g (goal.at.returns-clause-after g c).After-state-state)
-    (ap (λ (s : StepperValue). s.nfa) c.in_ok-following.ensures.unchanged ∙ ap (λ (x : LazyValue). x.nfa) c.self.view_is)
+    (ap (λ (s : StepperValue). s.nfa) c.in_ok-following.ensures.unchanged
+    ∙ ap (λ (x : LazyValue). x.nfa) c.self.view_is)
     (ap (λ (s : StepperValue). s.kind) c.in_ok-following.ensures.unchanged
     ∙ ap (λ (x : LazyValue). x.kind) c.self.view_is) (ap (λ (x : LazyValue). x.limit) c.self.view_is)
     (table ∙ ap (λ w. keep c.self.inside.limit (table_of c.self.inside.table)

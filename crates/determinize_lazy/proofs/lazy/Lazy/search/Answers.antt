@@ -30,4 +30,5 @@ unfolding after_search
 returns-clause-after g c = on_ok c.search_text.result (λ found o. o.after) (over g c)
 
 pub returns-clause-plenty : goal.returns-clause-plenty
-returns-clause-plenty g c = on_ok c.search_text.result (λ found o. keeps_all c.search_text.ensures.sound o.after) (over g c)
+returns-clause-plenty g c =
+    on_ok c.search_text.result (λ found o. keeps_all c.search_text.ensures.sound o.after) (over g c)

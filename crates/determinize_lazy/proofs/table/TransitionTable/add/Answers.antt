@@ -61,11 +61,13 @@ set_is g c = ap (λ k. slice_set c.self.inside.rows.items k c.entry.result)
     ∙ ap (λ n. slice_set c.self.inside.rows.items (c.in_ok-source.source * 258 + column c.args.unit) n) c.entry.ensures
 
 rows_are : (g : Over) (c : After-column g) → AreRows c.self.inside.states
-    (slice_set c.self.inside.rows.items (c.in_ok-source.source * 258 + column c.args.unit) (c.in_ok-target.target * 258))
+    (slice_set c.self.inside.rows.items (c.in_ok-source.source * 258 + column c.args.unit)
+    (c.in_ok-target.target * 258))
     (with_target (target_in c.self.inside.states c.self.inside.rows.items)
     (cursor_value c.args.self.now.states c.args.source) c.args.unit c.args.following)
 rows_are g c = rows-set c.self.invariant c.in_ok-source.source c.in_ok-target.target
-    (cursor_value c.args.self.now.states c.args.source) c.args.following c.args.unit (at_source g c) (at_target g c) c.column.ensures.unit
+    (cursor_value c.args.self.now.states c.args.source) c.args.following c.args.unit (at_source g c)
+    (at_target g c) c.column.ensures.unit
 
 pub invariant_of-self : goal.invariant_of-self
 invariant_of-self g c =

@@ -8,7 +8,8 @@ returns-in-Ok-clause-at g c = at_id c.add.new.self.states c.in-Ok.id c.args.foll
 
 pub returns-in-Ok-clause-starts : goal.returns-in-Ok-clause-starts
 returns-in-Ok-clause-starts g c =
-    stay-with c.args.self.now c.add.new.self (cursor_value c.args.self.now.states c.args.source) c.args.following c.add.ensures.starts
+    stay-with c.args.self.now c.add.new.self
+    (cursor_value c.args.self.now.states c.args.source) c.args.following c.add.ensures.starts
     (ap (λ (t : Table). t.states) c.in-Ok.ensures.table)
 
 pub returns-in-Err-clause-starts : goal.returns-in-Err-clause-starts

@@ -38,7 +38,8 @@ invariant_of-self-in-Ok g c =
     let d = (goal.at.invariant_of-self-in-Ok g c).In-Ok in
     subst (λ vs. IsStored vs (slice_set c.resize.new.self.items (c.len-len.result + 257) c.of-tag.result.bits))
     (sym c.in-Ok.ensures.states)
-    (subst (λ xs. IsStored (c.self.inside.states ++ c.args.state ∷ []) xs) (sym (row_is g d)) (rows-store (rows_are g d)))
+    (subst (λ xs. IsStored (c.self.inside.states ++ c.args.state ∷ []) xs) (sym (row_is g d))
+    (rows-store (rows_are g d)))
 
 pub returns-in-Ok-clause-id : goal.returns-in-Ok-clause-id
 returns-in-Ok-clause-id g c = ap (λ vs. slice_get vs c.in-Ok.id) c.in-Ok.ensures.states

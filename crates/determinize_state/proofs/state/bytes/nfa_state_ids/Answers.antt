@@ -18,5 +18,6 @@ new-requires c = rw (c.split_at.ensures.back, c.ids_start-start.ensures) (rest_v
 
 pub returns : goal.returns
 returns c =
-    let rest : c.split_at.result.1.now ≡ drop (start_in c.args.bytes.now) c.args.bytes.now = c.split_at.ensures.back ∙ ap (λ (n : ℕ). drop n c.args.bytes.now) c.ids_start-start.ensures in
+    let rest : c.split_at.result.1.now ≡ drop (start_in c.args.bytes.now) c.args.bytes.now =
+    c.split_at.ensures.back ∙ ap (λ (n : ℕ). drop n c.args.bytes.now) c.ids_start-start.ensures in
     c.new.ensures ∙ ap (ids_from 0 0 1) rest ∙ rest_ids _

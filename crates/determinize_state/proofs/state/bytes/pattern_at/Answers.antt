@@ -12,7 +12,8 @@ number_at-requires c = place_of _ _ c.requires.index
 pub unreachable-requires : goal.unreachable-requires
 unreachable-requires c =
     let number : c.number_at.result ≡ number_at c.args.words.now (4 * c.args.index) = c.number_at.ensures in
-    c.in_default.ensures.ok (subst (λ (n : ℕ). n ≤ 2147483646) (sym (number ∙ number_of _ _ c.requires.index)) (c.requires.small c.args.index 0 c.requires.index))
+    c.in_default.ensures.ok (subst (λ (n : ℕ). n ≤ 2147483646) (sym (number ∙ number_of _ _ c.requires.index))
+    (c.requires.small c.args.index 0 c.requires.index))
 
 pub returns : goal.returns
 returns c =

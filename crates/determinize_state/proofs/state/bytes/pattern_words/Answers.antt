@@ -3,13 +3,16 @@ use Rattle.determinize_state.specs.Spelling.{numbers_in, number_at, value_of}
 use Rattle.determinize_state.proofs.encoding.ReadBytes.{long, few_patterns, has_patterns, explicit_ids, implicit_ids, implicit_numbers, implicit_length}
 use Rattle.determinize_state.proofs.state.bytes.pattern_words.Goals as goal
 
-implicit_result : (c : goal.After-implicit_words) → numbers_in c.implicit_words.result.now ≡ (value_of c.args.bytes.now).patterns
-implicit_result c = ap numbers_in c.implicit_words.ensures ∙ implicit_numbers _ ∙ implicit_ids _ (sym c.has_flag.ensures ∙ c.if-not-has_flag.true)
+implicit_result : (c : goal.After-implicit_words)
+    → numbers_in c.implicit_words.result.now ≡ (value_of c.args.bytes.now).patterns
+implicit_result c = ap numbers_in c.implicit_words.ensures ∙ implicit_numbers _
+    ∙ implicit_ids _ (sym c.has_flag.ensures ∙ c.if-not-has_flag.true)
 
 explicit_result : (c : goal.After-ids-1) → numbers_in c.split_at-2.result.0.now ≡ (value_of c.args.bytes.now).patterns
 explicit_result c =
     let place : c.number_at.result ≡ number_at c.args.bytes.now 9 = c.number_at.ensures in
-    let ids : c.split_at-2.result.0.now ≡ take (4 * number_at c.args.bytes.now 9) (drop 13 c.args.bytes.now) = c.split_at-2.ensures.front ∙ rw (place, c.split_at.ensures.back) in
+    let ids : c.split_at-2.result.0.now ≡ take (4 * number_at c.args.bytes.now 9) (drop 13 c.args.bytes.now) =
+    c.split_at-2.ensures.front ∙ rw (place, c.split_at.ensures.back) in
     ap numbers_in ids ∙ explicit_ids _ (sym c.has_flag.ensures ∙ c.if-not-has_flag.false)
 
 pub has_flag-requires : goal.has_flag-requires
@@ -23,16 +26,20 @@ returns-then-not-has_flag-clause-ids c = implicit_result c
 
 pub returns-then-not-has_flag-clause-size : goal.returns-then-not-has_flag-clause-size
 returns-then-not-has_flag-clause-size c =
-    ap length c.implicit_words.ensures ∙ implicit_length _ ∙ ap (λ (ids : List ℕ). 4 * length ids) (implicit_ids _ (sym c.has_flag.ensures ∙ c.if-not-has_flag.true))
+    ap length c.implicit_words.ensures ∙ implicit_length _
+    ∙ ap (λ (ids : List ℕ). 4 * length ids) (implicit_ids _ (sym c.has_flag.ensures ∙ c.if-not-has_flag.true))
 
 pub returns-then-not-has_flag-clause-small : goal.returns-then-not-has_flag-clause-small
-returns-then-not-has_flag-clause-small c = subst (All (λ id. id ≤ 2147483646)) (sym (implicit_result c)) c.requires.valid.pattern_ids
+returns-then-not-has_flag-clause-small c =
+    subst (All (λ id. id ≤ 2147483646)) (sym (implicit_result c)) c.requires.valid.pattern_ids
 
 pub returns-then-not-has_flag-clause-few : goal.returns-then-not-has_flag-clause-few
-returns-then-not-has_flag-clause-few c = subst (λ (ids : List ℕ). length ids ≤ 2147483647) (sym (implicit_result c)) (few_patterns _ c.requires)
+returns-then-not-has_flag-clause-few c =
+    subst (λ (ids : List ℕ). length ids ≤ 2147483647) (sym (implicit_result c)) (few_patterns _ c.requires)
 
 pub number_at-requires : goal.number_at-requires
-number_at-requires c = omega (arith, (has_patterns _ c.requires (sym c.has_flag.ensures ∙ c.if-not-has_flag.false)).room)
+number_at-requires c =
+    omega (arith, (has_patterns _ c.requires (sym c.has_flag.ensures ∙ c.if-not-has_flag.false)).room)
 
 pub split_at-requires : goal.split_at-requires
 split_at-requires c = omega (arith, (has_patterns _ c.requires (sym c.has_flag.ensures ∙ c.if-not-has_flag.false)).room)
@@ -58,4 +65,5 @@ pub returns-clause-small : goal.returns-clause-small
 returns-clause-small c = subst (All (λ id. id ≤ 2147483646)) (sym (explicit_result c)) c.requires.valid.pattern_ids
 
 pub returns-clause-few : goal.returns-clause-few
-returns-clause-few c = subst (λ (ids : List ℕ). length ids ≤ 2147483647) (sym (explicit_result c)) (few_patterns _ c.requires)
+returns-clause-few c =
+    subst (λ (ids : List ℕ). length ids ≤ 2147483647) (sym (explicit_result c)) (few_patterns _ c.requires)

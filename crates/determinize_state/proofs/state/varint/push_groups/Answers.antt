@@ -8,7 +8,8 @@ loop-rest-preserved g c =
     let small : c.loop-rest.rest < 4294967296 = omega arith in
     record {
       same = rw (c.in_ok-push.ensures.items, c.more.ensures)
-          (append-varint c.loop-rest.bytes.items c.loop-rest.rest c.loop-rest-test.true small ∙ c.loop-rest.invariant.same);
+          (append-varint c.loop-rest.bytes.items c.loop-rest.rest c.loop-rest-test.true small
+          ∙ c.loop-rest.invariant.same);
       begins = rw (c.in_ok-push.ensures.items) (begins_still _ _ _ c.loop-rest.invariant.begins);
     }
 
