@@ -2,7 +2,8 @@
 -- Main statements: IsSoFar, turn_held, turn_new, so_far-start, none_left.
 -- Used by: `explore`, `take_turn`, `closure_from`.
 -- Idea: the visited states followed by the search of the pending ones is one list throughout.
-use Rattle.std.proofs.Common.{◌≡◌, ℕ, ◌+◌, ◌<◌, Bool, true, false, not, List, [], ◌∷◌, ◌++◌, length, nat_eq, All, refl, sym, ap, ◌∙◌, arith, subst, append_assoc, ◌≤◌, ◌||◌, ◌⊎◌, inl, inr, if◌then◌else◌}
+use Rattle.std.proofs.Common.{◌≡◌, ℕ, ◌+◌, ◌<◌, Bool, true, false, not, List, [], ◌∷◌, ◌++◌, length, nat_eq, All, refl, sym, ap, ◌∙◌, arith, subst, append_assoc, ◌≤◌, ◌||◌, ◌⊎◌, inl, inr, if◌then◌else◌, IfNone, IfSome, None, Option, Some, reverse}
+use Rattle.std.specs.Option.{option_to_list}
 use Rattle.std.proofs.lemmas.List.{append-nil, append_cancel_left}
 use Rattle.std.proofs.lemmas.List.Elements.{All-tail, All-append, All-cons, All-nil}
 use Rattle.std.proofs.lemmas.Bool.Decides.{nat_tests}
@@ -79,6 +80,20 @@ module _ (nfa : Nfa) (sound : IsSound nfa) (look : Assertion → Bool) where
       let whole : (held ++ grown.0) ++ rest ≡ held ++ reach_past nfa look held roots =
       ap (λ l. l ++ rest) (sym grown.1) ∙ same ∙ search_end-start held roots in
       (rest, sym (append_cancel_left held (grown.0 ++ rest) (reach_past nfa look held roots) (sym (append_assoc held grown.0 rest) ∙ whole)))
+
+-- what is pending once the next state was taken from it
+pub taken : (next : Option ℕ) (pending stack : List ℕ) → IfNone next (pending ≡ []) → IfNone next (stack ≡ []) → IfSome next (λ id. pending ≡ id ∷ reverse stack)
+    → option_to_list next ++ reverse stack ≡ pending
+taken None pending stack none empty some = ap (λ (l : List ℕ). reverse l) empty ∙ sym none
+taken (Some id) pending stack none empty some = sym some
+
+-- what is pending with a next state, and with none
+pub pending_from : (next : Option ℕ) (stack : List ℕ) (id : ℕ) → next ≡ Some id → option_to_list next ++ reverse stack ≡ id ∷ reverse stack
+pending_from next stack id e = ap (λ (o : Option ℕ). option_to_list o ++ reverse stack) e
+
+pub none_pending : (next : Option ℕ) (stack : List ℕ) → next ≡ None → IfNone next (stack ≡ []) → option_to_list next ++ reverse stack ≡ []
+none_pending None stack e empty = ap (λ (l : List ℕ). reverse l) empty
+none_pending (Some id) stack e empty = let k : Some id ≡ None = e in cc
 
 -- a search from roots, after some turns: what was visited, what is pending, and the tries before and after them
 pub record IsSoFar (nfa : Nfa) (look : Assertion → Bool) (held roots met pending : List ℕ) (before now : ℕ) : Type 0 where

@@ -1,5 +1,5 @@
 -- Laws of steps and of walks.
--- Main statements: each_reach_goes_on, each_future_follows, dead_stays, few_in.
+-- Main statements: each_reach_goes_on, each_future_follows, dead_stays, one_pattern.
 -- Used by: `step_law`, and the cache.
 -- Idea: each is a consequence of the definition of a step.
 use Rattle.ordered_reach.proofs.Cases.{or_false}
@@ -18,8 +18,7 @@ use Rattle.determinize_below.proofs.looks.LookSets.{has-empty}
 use Rattle.ordered_reach.proofs.graph.ClosedSets.{IsClosed, IsEnough}
 use Rattle.ordered_reach.proofs.lists.NewNodes.{member-fresh}
 use Rattle.ordered_reach.proofs.graph.FiniteGraphs.{same_decides}
-use Rattle.std.proofs.Common.{drop, Err, Ok, Result}
-use Rattle.std.specs.Result.{IfOk}
+use Rattle.std.proofs.Common.{drop}
 use Rattle.determinize_below.specs.Captures.{HasNoCaptureCycle}
 use Rattle.determinize_below.specs.Edges.{reach}
 use Rattle.determinize_below.specs.Look.{has}
@@ -182,12 +181,6 @@ one_pattern nfa kind v u k next e =
     let same : length next.patterns ≡ length (step nfa LeftmostFirst v u).patterns =
     ap (λ (w : Value). length w.patterns) (e ∙ ap (λ m. step nfa m v u) k) in
     omega arith
-
--- of one result
-pub few_in : {E : Type 0} (nfa : Nfa) (kind : MatchKind) (v : Value) (u : Option ℕ) → kind ≡ LeftmostFirst
-    → (r : Result Value E) → IfOk r (λ next. next ≡ step nfa kind v u) → IfOk r (λ next. length next.patterns ≤ 1)
-few_in nfa kind v u k (Ok next) e = one_pattern nfa kind v u k next e
-few_in nfa kind v u k (Err error) e = tt
 
 pub no_need_no_have : NoNeedNoHave
 no_need_no_have nfa v xs h = ap (λ n. cond (n == 0) 0 v.look_have) h

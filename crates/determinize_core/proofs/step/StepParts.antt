@@ -128,3 +128,7 @@ module _ (nfa : Nfa) (accepted : IsAccepted nfa) (kind : MatchKind) (v : Value) 
 pub is_nonempty-length : (n : ℕ) (xs : List ℕ) → n ≡ length xs → not (n == 0) ≡ is_nonempty xs
 is_nonempty-length n [] e = rw e refl
 is_nonempty-length n (x ∷ xs) e = let k : (n == 0) ≡ false = grind (arith, nat_tests) in ap not k
+
+-- a dead value with its look-have replaced
+pub told_in : (old new : Value) (answer have : ℕ) → old ≡ dead → new ≡ record old { look_have = answer } → answer ≡ have → new ≡ record dead { look_have = have }
+told_in old new answer have e f h = f ∙ ap (λ (v : Value). record v { look_have = answer }) e ∙ ap (λ n. record dead { look_have = n }) h

@@ -1,8 +1,8 @@
 //! Epsilon closure: the NFA states reachable without input, in order of preference.
 //!
-//! One loop, [`explore`], computes all closures by depth-first search. Its next state is the current
-//! one or else the top of the stack, so the first edge of a state is followed to its end before the
-//! second. The set ends the search on cycles. A [`Recorder`] receives each new state.
+//! One loop, [`explore`], computes all closures by depth-first search. It follows the first edge of
+//! a state to its end, while the other edges wait on the stack. The set ends the search on cycles. A
+//! [`Recorder`] receives each new state.
 
 ghost use Rattle.std.specs.Prelude.{◌≡◌, ℕ, ◌+◌, ◌<◌, List, [], ◌∷◌, ◌++◌, None, false, fold, not, length, reverse, IfNone, IfSome, IfOk, OnOk, OnErr, IsOk, if◌then◌else◌};
 ghost use Rattle.std.specs.Option.{option_to_list};
@@ -67,15 +67,15 @@ fn visit<A: Allocator, L: Ledger>(set: &mut SparseSet<A>, id: StateID, steps: &m
     set.insert(id)
 }
 
-/// Returns the state to visit next: the current one, or else the top of the stack.
+/// Returns the state to visit next: this one, or else the top of the stack.
 #[inline(always)]
-fn take_next<A: Allocator>(current: Option<StateID>, stack: &mut Vec<StateID, A>) -> Option<StateID>
-    ensures none { IfNone result (option_to_list current ++ reverse stack.old.items ≡ []) }
+fn take_next<A: Allocator>(next: Option<StateID>, stack: &mut Vec<StateID, A>) -> Option<StateID>
+    ensures none { IfNone result (option_to_list next ++ reverse stack.old.items ≡ []) }
     ensures empty { IfNone result (stack.new.items ≡ []) }
-    ensures some { IfSome result (λ id. option_to_list current ++ reverse stack.old.items
+    ensures some { IfSome result (λ id. option_to_list next ++ reverse stack.old.items
         ≡ id ∷ reverse stack.new.items) }
 {
-    match current {
+    match next {
         Some(id) => Some(id),
         None => stack.pop(),
     }
@@ -99,31 +99,8 @@ fn take_alternates<A: Allocator>(
     Ok(Some(*first))
 }
 
-/// Returns the target of the first epsilon edge of a state, and pushes the targets of the others.
-#[inline(always)]
-fn follow<N: Allocator, A: Allocator>(
-    nfa: &NFA<N>,
-    id: StateID,
-    look_have: LookSet,
-    stack: &mut Vec<StateID, A>,
-) -> Result<Option<StateID>, AllocError>
-    requires { id < length nfa.now.states }
-    ensures { IfOk result (λ next. option_to_list next ++ reverse stack.new.items
-        ≡ edges nfa.now (has look_have) id ++ reverse stack.old.items) }
-{
-    match nfa.state(id) {
-        State::Look { look, next } => Ok(look_have.contains(*look).then_some(*next)),
-        State::Union { alternates } => take_alternates(alternates.as_slice(), stack),
-        State::BinaryUnion { alt1, alt2 } => {
-            stack.push(*alt2)?;
-            Ok(Some(*alt1))
-        }
-        State::Capture { next } => Ok(Some(*next)),
-        _ => Ok(None),
-    }
-}
-
-/// Records a state and follows its epsilon edges. Most states have none, so that is tested first.
+/// Records a state and follows its epsilon edges: returns the target of the first, and pushes those
+/// of the others. Most states have none, so that is tested before their kind is decided.
 #[inline(always)]
 fn record_and_follow<N: Allocator, A: Allocator, W: Recorder>(
     nfa: &NFA<N>,
@@ -141,8 +118,30 @@ fn record_and_follow<N: Allocator, A: Allocator, W: Recorder>(
         recorder.record(nfa, id)?;
         return Ok(None);
     }
-    recorder.record(nfa, id)?;
-    follow(nfa, id, look_have, stack)
+    // Each arm records by itself, and so the kind is decided once.
+    match nfa.state(id) {
+        State::Look { look, next } => {
+            recorder.record(nfa, id)?;
+            Ok(look_have.contains(*look).then_some(*next))
+        }
+        State::Union { alternates } => {
+            recorder.record(nfa, id)?;
+            take_alternates(alternates.as_slice(), stack)
+        }
+        State::BinaryUnion { alt1, alt2 } => {
+            recorder.record(nfa, id)?;
+            stack.push(*alt2)?;
+            Ok(Some(*alt1))
+        }
+        State::Capture { next } => {
+            recorder.record(nfa, id)?;
+            Ok(Some(*next))
+        }
+        _ => {
+            recorder.record(nfa, id)?;
+            Ok(None)
+        }
+    }
 }
 
 /// Visits a state and, if it is new, records it and follows its epsilon edges.
@@ -201,9 +200,10 @@ pub(crate) fn explore<N: Allocator, A: Allocator, W: Recorder, L: Ledger>(
     ensures stack { OnOk result (stack.new.items ≡ []) }
 {
     stack.reverse();
-    let mut current = first;
-    while let Some(id) = take_next(current, stack) {
-        current = take_turn(nfa, id, look_have, stack, set, recorder, steps)?;
+    let mut current = take_next(first, stack);
+    while let Some(id) = current {
+        let next = take_turn(nfa, id, look_have, stack, set, recorder, steps)?;
+        current = take_next(next, stack);
     }
     Ok(())
 }

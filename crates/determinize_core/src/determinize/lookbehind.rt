@@ -16,7 +16,7 @@ use determinize_state::state::StateBuilderMatches;
 use std::alloc::Allocator;
 
 /// Sets the flags of the look-behind.
-pub(crate) fn set_flags<A: Allocator>(told: Told, builder: &mut StateBuilderMatches<A>)
+fn set_flags<A: Allocator>(told: Told, builder: &mut StateBuilderMatches<A>)
     ensures { builder.new ≡ with_flags builder.old told.from_word told.half_crlf }
 {
     if told.from_word {

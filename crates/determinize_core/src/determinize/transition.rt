@@ -14,12 +14,11 @@ ghost use Rattle.determinize_core.specs.Tries.{edges_in_all, tries};
 ghost use Rattle.determinize_state.specs.Value.{dead, with_flags};
 
 use crate::determinize::closure::explore;
-use crate::determinize::lookbehind;
 use crate::determinize::steps::Steps;
 use crate::determinize::working_list::read_working_list;
 use determinize_below::{MatchKind, NFA, SparseSets, StateID, Unit};
 use determinize_start::look_tables::{LookTables, Told};
-use determinize_state::state::{State, StateBuilderEmpty, StateBuilderMatches, StateBuilderNFA};
+use determinize_state::state::{State, StateBuilderEmpty, StateBuilderNFA};
 use std::alloc::{AllocError, Allocator};
 use std::marker::Brand;
 use std::sync::ledger::{Blank, Ledger};
@@ -34,29 +33,31 @@ fn told_after<N: Allocator>(nfa: &NFA<N>, unit: Unit) -> Told
     LookTables::of(nfa).after(unit)
 }
 
-/// Returns a builder with the look-have of the next state, without patterns and flags.
-fn tell<A: Allocator>(
-    told: Told,
-    empty_builder: StateBuilderEmpty<A>,
-) -> Result<StateBuilderMatches<A>, AllocError>
-    ensures { IfOk result (λ builder. builder ≡ record dead { look_have = told.looks }) }
+/// Replaces look-have by that of the look-behind.
+fn tell<A: Allocator>(told: Told, builder: &mut StateBuilderNFA<A>)
+    ensures { builder.new ≡ record builder.old { look_have = told.looks } }
 {
-    let mut builder = empty_builder.into_matches()?;
     builder.set_look_have(|_| told.looks);
-    Ok(builder)
 }
 
 /// Sets the flags of the look-behind if some state has a transition on the unit.
-fn set_flags<A: Allocator>(told: Told, leads_on: bool, builder: &mut StateBuilderMatches<A>)
+fn set_flags<A: Allocator>(told: Told, leads_on: bool, builder: &mut StateBuilderNFA<A>)
     ensures { builder.new
         ≡ with_flags builder.old (leads_on && told.from_word) (leads_on && told.half_crlf) }
 {
-    if leads_on {
-        lookbehind::set_flags(told, builder);
+    if leads_on && told.from_word {
+        builder.set_is_from_word();
+    }
+    if leads_on && told.half_crlf {
+        builder.set_is_half_crlf();
     }
 }
 
-/// Returns the next state in a builder. On error the stack is not cleared.
+/// Builds the next state in an empty builder. On error the stack is not cleared.
+///
+/// All parts of a transition are inlined into this function, and it is not inlined itself, so it is
+/// as fast for each caller. It changes the builder in place: a builder that is moved just after it
+/// was written is copied from memory that is still to be written.
 #[inline(never)]
 fn transition<N: Allocator, A: Allocator, L: Ledger>(
     nfa: &NFA<N>,
@@ -65,14 +66,14 @@ fn transition<N: Allocator, A: Allocator, L: Ledger>(
     stack: &mut Vec<StateID, A>,
     state: &State<A>,
     unit: Unit,
-    empty_builder: StateBuilderEmpty<A>,
+    builder: &mut StateBuilderNFA<A>,
     steps: &mut Steps<L>,
-) -> Result<StateBuilderNFA<A>, AllocError>
+) -> Result<(), AllocError>
     requires scratch { IsScratch nfa.now sparses.old.set1 sparses.old.set2 stack.old.items }
     requires resolve { AllResolve nfa.now state.now.states }
-    ensures ok { IfOk result
-        (λ builder. builder ≡ step nfa.now match_kind state.now (byte_of unit)) }
-    ensures resolve { IfOk result (λ builder. AllResolve nfa.now builder.states) }
+    requires empty { builder.old ≡ dead }
+    ensures ok { OnOk result (builder.new ≡ step nfa.now match_kind state.now (byte_of unit)) }
+    ensures resolve { OnOk result (AllResolve nfa.now builder.new.states) }
     ensures scratch { IsScratch nfa.now sparses.new.set1 sparses.new.set2 [] }
     ensures counted { OnOk result
         (steps.new ≡ steps.old + tries nfa.now match_kind state.now (byte_of unit)) }
@@ -80,25 +81,22 @@ fn transition<N: Allocator, A: Allocator, L: Ledger>(
 {
     let told = told_after(nfa, unit);
     sparses.clear();
-    let mut builder = tell(told, empty_builder)?;
-    read_working_list(
-        nfa,
-        match_kind,
-        state,
-        unit,
-        sparses,
-        stack,
-        &mut builder,
-        steps,
-    )?;
+    tell(told, builder);
+    read_working_list(nfa, match_kind, state, unit, sparses, stack, builder, steps)?;
     // Without targets there is nothing that could use the flags, and setting them would make
     // different states of what is one: the dead state, or the same matches and nothing else.
-    set_flags(told, !stack.is_empty(), &mut builder);
-    let mut builder = builder.into_nfa();
-    let set = &mut sparses.set2;
-    explore(nfa, None, told.looks, stack, set, &mut builder, steps)?;
+    set_flags(told, !stack.is_empty(), builder);
+    explore(
+        nfa,
+        None,
+        told.looks,
+        stack,
+        &mut sparses.set2,
+        builder,
+        steps,
+    )?;
     builder.settle();
-    Ok(builder)
+    Ok(())
 }
 
 /// Returns the same as [`next`], and counts the tries to add a state to a set.
@@ -106,6 +104,7 @@ fn transition<N: Allocator, A: Allocator, L: Ledger>(
 /// `steps` grows by the tries of all closures of the transition. The NFA, the match kind, the state
 /// and the unit determine this number, and it is at most twice the number of states and epsilon
 /// edges of the NFA. On error too, `steps` grows by no more than that.
+#[inline(always)]
 pub fn next_counted<N: Allocator, A: Allocator, L: Ledger>(
     nfa: &NFA<N>,
     match_kind: MatchKind,
@@ -128,6 +127,7 @@ pub fn next_counted<N: Allocator, A: Allocator, L: Ledger>(
         (steps.new ≡ steps.old + tries nfa.now match_kind state.now (byte_of unit)) }
     ensures bounded { steps.new ≤ steps.old + 2 * (length nfa.now.states + edges_in_all nfa.now) }
 {
+    let mut builder = empty_builder.into_matches()?.into_nfa();
     let result = transition(
         nfa,
         match_kind,
@@ -135,14 +135,16 @@ pub fn next_counted<N: Allocator, A: Allocator, L: Ledger>(
         stack,
         state,
         unit,
-        empty_builder,
+        &mut builder,
         steps,
     );
     stack.clear();
-    result
+    result?;
+    Ok(builder)
 }
 
 /// Returns the same as [`next`], with a count of tries that is dropped.
+#[inline(always)]
 fn next_from<N: Allocator, A: Allocator, L: Ledger>(
     nfa: &NFA<N>,
     match_kind: MatchKind,
@@ -190,6 +192,7 @@ fn next_from<N: Allocator, A: Allocator, L: Ledger>(
 /// These are all of them, most preferred first, under `MatchKind::All`, and the first of them under
 /// `MatchKind::LeftmostFirst`. Its NFA states are the closure of the targets of the unit. On error
 /// the builder is dropped.
+#[inline(always)]
 pub fn next<N: Allocator, A: Allocator>(
     nfa: &NFA<N>,
     match_kind: MatchKind,

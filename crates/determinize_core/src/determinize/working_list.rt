@@ -28,7 +28,7 @@ use determinize_below::{
     LookSet, MatchKind, NFA, PatternID, SparseSet, SparseSetIter, SparseSets, StateID, Unit, nfa,
 };
 use determinize_start::look_tables::LookTables;
-use determinize_state::state::{NfaStateIds, State, StateBuilderMatches};
+use determinize_state::state::{NfaStateIds, State, StateBuilderNFA};
 use std::alloc::{AllocError, Allocator};
 use std::sync::ledger::Ledger;
 
@@ -124,10 +124,11 @@ fn read_state<N: Allocator, A: Allocator>(
     unit: Unit,
     kept: &mut SparseSet<A>,
     stack: &mut Vec<StateID, A>,
-    builder: &mut StateBuilderMatches<A>,
+    builder: &mut StateBuilderNFA<A>,
 ) -> Result<bool, AllocError>
     requires resolve { id < length nfa.now.states }
     requires capacity { kept.old.capacity ≡ length nfa.now.states }
+    requires unrecorded { builder.old.states ≡ [] }
     requires new_pattern { (p : ℕ) → pattern_of nfa.now id ≡ Some p → has_id kept.old.ids id ≡ false
         → list_any (nat_eq p) builder.old.patterns ≡ false }
     ensures read { OnOk result (IsStateRead nfa.now (byte_of unit) id kept.old.ids kept.new.ids
@@ -181,7 +182,7 @@ fn read_states<N: Allocator, A: Allocator, I: Ids>(
     unit: Unit,
     kept: &mut SparseSet<A>,
     stack: &mut Vec<StateID, A>,
-    builder: &mut StateBuilderMatches<A>,
+    builder: &mut StateBuilderNFA<A>,
 ) -> Result<(), AllocError>
     requires can { I.can_next ids }
     requires ends { IsFinite (I.remaining ids) }
@@ -191,6 +192,7 @@ fn read_states<N: Allocator, A: Allocator, I: Ids>(
     requires capacity { kept.old.capacity ≡ length nfa.now.states }
     requires stack { stack.old.items ≡ [] }
     requires unread { builder.old.patterns ≡ [] }
+    requires unrecorded { builder.old.states ≡ [] }
     ensures ok { OnOk result (IsListRead nfa.now match_kind (byte_of unit) (distinct (I.left ids))
         builder.old builder.new stack.new.items) }
     ensures capacity { kept.new.capacity ≡ kept.old.capacity }
@@ -213,7 +215,7 @@ pub(crate) fn read_working_list<N: Allocator, A: Allocator, L: Ledger>(
     unit: Unit,
     sparses: &mut SparseSets<A>,
     stack: &mut Vec<StateID, A>,
-    builder: &mut StateBuilderMatches<A>,
+    builder: &mut StateBuilderNFA<A>,
     steps: &mut Steps<L>,
 ) -> Result<(), AllocError>
     requires accepted { IsAccepted nfa.now }
@@ -222,6 +224,7 @@ pub(crate) fn read_working_list<N: Allocator, A: Allocator, L: Ledger>(
     requires second_empty { sparses.old.set2.ids ≡ [] }
     requires resolve { AllResolve nfa.now state.now.states }
     requires unread { builder.old.patterns ≡ [] }
+    requires unrecorded { builder.old.states ≡ [] }
     ensures ok { OnOk result (IsListRead nfa.now match_kind (byte_of unit)
         (working_list nfa.now state.now (byte_of unit)) builder.old builder.new stack.new.items) }
     ensures second { OnOk result (sparses.new.set2.ids ≡ []) }

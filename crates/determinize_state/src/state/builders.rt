@@ -189,23 +189,24 @@ impl<A: Allocator> StateBuilderNFA<A> {
         self.put_look_need(answer);
     }
 
-    /// Sets the flag from-word.
-    pub(crate) fn set_is_from_word(&mut self)
+    /// Sets the flag from-word: the byte before the state is a word byte.
+    pub fn set_is_from_word(&mut self)
         ensures { self.new ≡ record self.old { from_word = true } }
     {
         bytes::set_flag(&mut self.bytes, bytes::FROM_WORD);
     }
 
-    /// Sets the flag half-CRLF.
-    pub(crate) fn set_is_half_crlf(&mut self)
+    /// Sets the flag half-CRLF: the byte before the state may be the first half of a CRLF.
+    pub fn set_is_half_crlf(&mut self)
         ensures { self.new ≡ record self.old { half_crlf = true } }
     {
         bytes::set_flag(&mut self.bytes, bytes::HALF_CRLF);
     }
 
-    /// Adds a pattern, which must be new, after the others, before any NFA state. On error the
-    /// builder is unchanged.
-    pub(crate) fn add_match_pattern_id(&mut self, id: PatternID) -> Result<(), AllocError>
+    /// Adds a pattern, which must be new, after the others. No NFA state may have been added yet.
+    ///
+    /// On error the builder is unchanged. Adding `ZERO` as the first pattern never fails.
+    pub fn add_match_pattern_id(&mut self, id: PatternID) -> Result<(), AllocError>
         requires unrecorded { self.old.states ≡ [] }
         requires new { list_any (nat_eq id) self.old.patterns ≡ false }
         ensures ok { OnOk result (self.new ≡ with_pattern self.old id) }

@@ -6,9 +6,9 @@ use Rattle.determinize_below.specs.Unit.{byte_of}
 use Rattle.determinize_core.specs.Private.Search.{tries_left}
 use Rattle.determinize_state.specs.Recording.{added_one, settled}
 use Rattle.determinize_start.specs.LookTables.{Telling}
-use Rattle.determinize_state.specs.Value.{Value, dead}
+use Rattle.determinize_state.specs.Value.{Value}
 use Rattle.determinize_core.proofs.step.Resolving.{step_resolves}
-use Rattle.determinize_core.proofs.step.StepParts.{IsRead, first_tries, all_tries, is_nonempty-length, row_resolves, stepped, tries_within}
+use Rattle.determinize_core.proofs.step.StepParts.{IsRead, first_tries, all_tries, is_nonempty-length, row_resolves, stepped, told_in, tries_within}
 use Rattle.determinize_core.proofs.determinize.transition.transition.Goals as goal
 
 pub returns-in_err-read_working_list-clause-bounded : goal.returns-in_err-read_working_list-clause-bounded
@@ -19,15 +19,15 @@ pub explore-requires-clause-resolve : goal.explore-requires-clause-resolve
 explore-requires-clause-resolve g c =
     let looks : c.told.inside.looks ≡ c.told_after-told.result.looks = ap (λ (t : Telling). t.looks) c.told.view_is in
     let read : IsRead c.args.nfa.now c.told_after-told.ensures.accepted c.args.match_kind c.args.state.now (byte_of c.args.unit) c.requires.resolve c.told.inside.looks
-    c.told_after-told.result.from_word c.told_after-told.result.half_crlf (not c.is_empty.result) c.in_ok-builder.builder c.read_working_list.new.builder c.into_nfa-builder.result c.read_working_list.new.stack.items =
+    c.told_after-told.result.from_word c.told_after-told.result.half_crlf (not c.is_empty.result) c.tell.new.builder c.read_working_list.new.builder c.set_flags.new.builder c.read_working_list.new.stack.items =
     record {
       have_is = looks ∙ c.told_after-told.ensures.looks;
       word_is = c.told_after-told.ensures.from_word;
       half_is = c.told_after-told.ensures.half_crlf;
-      told_is = c.in_ok-builder.ensures ∙ ap (λ n. record dead { look_have = n }) (sym looks);
+      told_is = told_in _ _ _ _ c.requires.empty c.tell.ensures (sym looks);
       list_is = c.in_ok-read_working_list.ensures.ok;
       some_is = ap not c.is_empty.ensures ∙ is_nonempty-length _ c.read_working_list.new.stack.items c.read_working_list.new.stack.ok.0;
-      flagged_is = c.into_nfa-builder.ensures ∙ c.set_flags.ensures;
+      flagged_is = c.set_flags.ensures;
     } in
     row_resolves c.args.nfa.now c.told_after-told.ensures.accepted c.args.match_kind c.args.state.now (byte_of c.args.unit) c.requires.resolve _ _ _ _ _ _ _ _ read
 
@@ -35,15 +35,15 @@ pub returns-in_err-explore-clause-bounded : goal.returns-in_err-explore-clause-b
 returns-in_err-explore-clause-bounded g c =
     let looks : c.told.inside.looks ≡ c.told_after-told.result.looks = ap (λ (t : Telling). t.looks) c.told.view_is in
     let read : IsRead c.args.nfa.now c.told_after-told.ensures.accepted c.args.match_kind c.args.state.now (byte_of c.args.unit) c.requires.resolve c.told.inside.looks
-    c.told_after-told.result.from_word c.told_after-told.result.half_crlf (not c.is_empty.result) c.in_ok-builder.builder c.read_working_list.new.builder c.into_nfa-builder.result c.read_working_list.new.stack.items =
+    c.told_after-told.result.from_word c.told_after-told.result.half_crlf (not c.is_empty.result) c.tell.new.builder c.read_working_list.new.builder c.set_flags.new.builder c.read_working_list.new.stack.items =
     record {
       have_is = looks ∙ c.told_after-told.ensures.looks;
       word_is = c.told_after-told.ensures.from_word;
       half_is = c.told_after-told.ensures.half_crlf;
-      told_is = c.in_ok-builder.ensures ∙ ap (λ n. record dead { look_have = n }) (sym looks);
+      told_is = told_in _ _ _ _ c.requires.empty c.tell.ensures (sym looks);
       list_is = c.in_ok-read_working_list.ensures.ok;
       some_is = ap not c.is_empty.ensures ∙ is_nonempty-length _ c.read_working_list.new.stack.items c.read_working_list.new.stack.ok.0;
-      flagged_is = c.into_nfa-builder.ensures ∙ c.set_flags.ensures;
+      flagged_is = c.set_flags.ensures;
     } in
     tries_within c.args.nfa.now c.told_after-told.ensures.accepted c.args.match_kind c.args.state.now (byte_of c.args.unit) c.requires.resolve _ _ _ _ _ _ _ _ read
     c.args.steps.now c.read_working_list.new.steps c.explore.new.steps c.in_ok-read_working_list.ensures.counted
@@ -53,34 +53,34 @@ pub returns-clause-ok : goal.returns-clause-ok
 returns-clause-ok g c =
     let looks : c.told.inside.looks ≡ c.told_after-told.result.looks = ap (λ (t : Telling). t.looks) c.told.view_is in
     let read : IsRead c.args.nfa.now c.told_after-told.ensures.accepted c.args.match_kind c.args.state.now (byte_of c.args.unit) c.requires.resolve c.told.inside.looks
-    c.told_after-told.result.from_word c.told_after-told.result.half_crlf (not c.is_empty.result) c.in_ok-builder.builder c.read_working_list.new.builder c.into_nfa-builder.result c.read_working_list.new.stack.items =
+    c.told_after-told.result.from_word c.told_after-told.result.half_crlf (not c.is_empty.result) c.tell.new.builder c.read_working_list.new.builder c.set_flags.new.builder c.read_working_list.new.stack.items =
     record {
       have_is = looks ∙ c.told_after-told.ensures.looks;
       word_is = c.told_after-told.ensures.from_word;
       half_is = c.told_after-told.ensures.half_crlf;
-      told_is = c.in_ok-builder.ensures ∙ ap (λ n. record dead { look_have = n }) (sym looks);
+      told_is = told_in _ _ _ _ c.requires.empty c.tell.ensures (sym looks);
       list_is = c.in_ok-read_working_list.ensures.ok;
       some_is = ap not c.is_empty.ensures ∙ is_nonempty-length _ c.read_working_list.new.stack.items c.read_working_list.new.stack.ok.0;
-      flagged_is = c.into_nfa-builder.ensures ∙ c.set_flags.ensures;
+      flagged_is = c.set_flags.ensures;
     } in
     c.settle.ensures
     ∙ ap settled c.in_ok-explore.ensures.recorded
-    ∙ ap (λ l. settled (fold (added_one c.args.nfa.now) c.into_nfa-builder.result (reach_past c.args.nfa.now (has c.told.inside.looks) l c.read_working_list.new.stack.items))) c.in_ok-read_working_list.ensures.second
+    ∙ ap (λ l. settled (fold (added_one c.args.nfa.now) c.set_flags.new.builder (reach_past c.args.nfa.now (has c.told.inside.looks) l c.read_working_list.new.stack.items))) c.in_ok-read_working_list.ensures.second
     ∙ stepped c.args.nfa.now c.told_after-told.ensures.accepted c.args.match_kind c.args.state.now (byte_of c.args.unit) c.requires.resolve _ _ _ _ _ _ _ _ read
 
 pub returns-clause-counted : goal.returns-clause-counted
 returns-clause-counted g c =
     let looks : c.told.inside.looks ≡ c.told_after-told.result.looks = ap (λ (t : Telling). t.looks) c.told.view_is in
     let read : IsRead c.args.nfa.now c.told_after-told.ensures.accepted c.args.match_kind c.args.state.now (byte_of c.args.unit) c.requires.resolve c.told.inside.looks
-    c.told_after-told.result.from_word c.told_after-told.result.half_crlf (not c.is_empty.result) c.in_ok-builder.builder c.read_working_list.new.builder c.into_nfa-builder.result c.read_working_list.new.stack.items =
+    c.told_after-told.result.from_word c.told_after-told.result.half_crlf (not c.is_empty.result) c.tell.new.builder c.read_working_list.new.builder c.set_flags.new.builder c.read_working_list.new.stack.items =
     record {
       have_is = looks ∙ c.told_after-told.ensures.looks;
       word_is = c.told_after-told.ensures.from_word;
       half_is = c.told_after-told.ensures.half_crlf;
-      told_is = c.in_ok-builder.ensures ∙ ap (λ n. record dead { look_have = n }) (sym looks);
+      told_is = told_in _ _ _ _ c.requires.empty c.tell.ensures (sym looks);
       list_is = c.in_ok-read_working_list.ensures.ok;
       some_is = ap not c.is_empty.ensures ∙ is_nonempty-length _ c.read_working_list.new.stack.items c.read_working_list.new.stack.ok.0;
-      flagged_is = c.into_nfa-builder.ensures ∙ c.set_flags.ensures;
+      flagged_is = c.set_flags.ensures;
     } in
     all_tries c.args.nfa.now c.told_after-told.ensures.accepted c.args.match_kind c.args.state.now (byte_of c.args.unit) c.requires.resolve _ _ _ _ _ _ _ _ read
     c.args.steps.now c.read_working_list.new.steps c.explore.new.steps c.in_ok-read_working_list.ensures.counted
@@ -90,15 +90,15 @@ pub returns-clause-bounded : goal.returns-clause-bounded
 returns-clause-bounded g c =
     let looks : c.told.inside.looks ≡ c.told_after-told.result.looks = ap (λ (t : Telling). t.looks) c.told.view_is in
     let read : IsRead c.args.nfa.now c.told_after-told.ensures.accepted c.args.match_kind c.args.state.now (byte_of c.args.unit) c.requires.resolve c.told.inside.looks
-    c.told_after-told.result.from_word c.told_after-told.result.half_crlf (not c.is_empty.result) c.in_ok-builder.builder c.read_working_list.new.builder c.into_nfa-builder.result c.read_working_list.new.stack.items =
+    c.told_after-told.result.from_word c.told_after-told.result.half_crlf (not c.is_empty.result) c.tell.new.builder c.read_working_list.new.builder c.set_flags.new.builder c.read_working_list.new.stack.items =
     record {
       have_is = looks ∙ c.told_after-told.ensures.looks;
       word_is = c.told_after-told.ensures.from_word;
       half_is = c.told_after-told.ensures.half_crlf;
-      told_is = c.in_ok-builder.ensures ∙ ap (λ n. record dead { look_have = n }) (sym looks);
+      told_is = told_in _ _ _ _ c.requires.empty c.tell.ensures (sym looks);
       list_is = c.in_ok-read_working_list.ensures.ok;
       some_is = ap not c.is_empty.ensures ∙ is_nonempty-length _ c.read_working_list.new.stack.items c.read_working_list.new.stack.ok.0;
-      flagged_is = c.into_nfa-builder.ensures ∙ c.set_flags.ensures;
+      flagged_is = c.set_flags.ensures;
     } in
     tries_within c.args.nfa.now c.told_after-told.ensures.accepted c.args.match_kind c.args.state.now (byte_of c.args.unit) c.requires.resolve _ _ _ _ _ _ _ _ read
     c.args.steps.now c.read_working_list.new.steps c.explore.new.steps c.in_ok-read_working_list.ensures.counted

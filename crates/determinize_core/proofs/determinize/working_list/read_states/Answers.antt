@@ -3,6 +3,7 @@ use Rattle.std.proofs.lemmas.List.{append-nil}
 use Rattle.determinize_below.specs.Unit.{byte_of}
 use Rattle.determinize_below.proofs.nfas.SoundNfa.{accepted_sound}
 use Rattle.determinize_core.specs.Private.Reading.{distinct, IsListRead}
+use Rattle.determinize_state.specs.Value.{Value}
 use Rattle.determinize_state.proofs.values.RecordingSteps.{rest_below}
 use Rattle.determinize_core.proofs.step.Collecting.{rest_behind}
 use Rattle.determinize_core.proofs.step.FirstReading.{first_read-start, first_read-new, first_read-next, first_read-stop, first_read-end}
@@ -21,6 +22,9 @@ loop-id-init g c =
 pub read_state-requires-clause-new_pattern : goal.read_state-requires-clause-new_pattern
 read_state-requires-clause-new_pattern g c = λ p e h.
     first_read-new c.args.nfa.now (accepted_sound c.args.nfa.now c.requires.accepted) c.args.match_kind (byte_of c.args.unit) _ _ _ _ _ c.in-Some.id p c.loop-id.invariant.so_far e h
+
+pub read_state-requires-clause-unrecorded : goal.read_state-requires-clause-unrecorded
+read_state-requires-clause-unrecorded g c = ap (λ (v : Value). v.states) c.loop-id.invariant.so_far.value_is ∙ c.requires.unrecorded
 
 pub loop-id-preserved : goal.loop-id-preserved
 loop-id-preserved g c =
