@@ -1,6 +1,6 @@
-pub mod BuiltNfa
-pub mod LeftmostMatch
-pub mod ListOfMatches
-pub mod ReversedNfa
-pub mod Runs
-pub mod UsualPrefix
+pub mod building
+pub mod leftmost
+pub mod matches
+pub mod prefixes
+pub mod reversing
+pub mod runs

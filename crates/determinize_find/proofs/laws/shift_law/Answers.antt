@@ -1,4 +1,4 @@
-use Rattle.determinize_find.proofs.Runs.Shifts.{each_run_reads_forward, each_run_moves}
+use Rattle.determinize_find.proofs.runs.Shifts.{each_run_reads_forward, each_run_moves}
 use Rattle.determinize_find.proofs.laws.shift_law.Goals as goal
 
 pub returns-clause-moves : goal.returns-clause-moves

@@ -5,7 +5,7 @@ use Rattle.determinize_below.specs.Semantics.{Nfa}
 use Rattle.determinize_below.specs.declared.search.Anchored.{Anchored}
 use Rattle.determinize_find.specs.Private.BestAt.{IsBestIn}
 use Rattle.determinize_below.specs.declared.search.Match.{Match}
-use Rattle.determinize_find.proofs.LeftmostMatch.SearchInTurn.{IsLatest, found_here, found_last, latest_is, more_nothing}
+use Rattle.determinize_find.proofs.leftmost.SearchInTurn.{IsLatest, found_here, found_last, latest_is, more_nothing}
 use Rattle.determinize_find.proofs.plain.find.Goals as goal
 
 pub returns-in-Some-clause-leftmost : goal.returns-in-Some-clause-leftmost

@@ -1,7 +1,7 @@
 use Rattle.std.proofs.Common.{rules, ◌≡◌, ◌≤◌, ◌++◌, ◌∷◌, List, None, Option, Some, [], arith, length, subst, sym}
 use Rattle.determinize_find.specs.Matches.{IsNext, from}
 use Rattle.determinize_below.specs.declared.search.Match.{Match}
-use Rattle.determinize_find.proofs.ListOfMatches.NextMatch.{AreFirst, all_found, fewer, one_more}
+use Rattle.determinize_find.proofs.matches.NextMatch.{AreFirst, all_found, fewer, one_more}
 use Rattle.ordered_reach.proofs.Cases.{some_injective}
 use Rattle.determinize_find.proofs.plain.find_all.Goals as goal
 

@@ -1,6 +1,6 @@
 use Rattle.std.proofs.Common.{◌≡◌, ◌≤◌, ◌+◌, ℕ, Some}
 use Rattle.determinize_find.specs.Private.Left.{left}
-use Rattle.determinize_find.proofs.ListOfMatches.NextMatch.{AreFirst}
+use Rattle.determinize_find.proofs.matches.NextMatch.{AreFirst}
 use Rattle.determinize_find.proofs.plain.find_all.Given as goal
 
 abbrev pub invariant-loop-found : goal.invariant-loop-found

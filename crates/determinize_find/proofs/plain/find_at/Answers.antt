@@ -1,6 +1,6 @@
 use Rattle.std.proofs.Common.{rules, ◌≡◌}
 use Rattle.determinize_below.specs.declared.search.Anchored.TheVariants.{Yes}
-use Rattle.determinize_find.proofs.LeftmostMatch.SearchInTurn.{best_in}
+use Rattle.determinize_find.proofs.leftmost.SearchInTurn.{best_in}
 use Rattle.determinize_find.proofs.plain.find_at.Goals as goal
 
 pub returns-clause-best : goal.returns-clause-best

@@ -4,7 +4,7 @@ use Rattle.std.proofs.lemmas.Bool.{false≢true}
 use Rattle.determinize_below.specs.Semantics.{state_at, BinaryUnion}
 use Rattle.determinize_below.specs.Node.{node_of}
 use Rattle.determinize_find.specs.Prefix.{leads_to}
-use Rattle.determinize_find.proofs.UsualPrefix.Parts.{Decides-alone, any_read, not_any, skip_within, start_is}
+use Rattle.determinize_find.proofs.prefixes.Parts.{Decides-alone, any_read, not_any, skip_within, start_is}
 use Rattle.determinize_find.proofs.prefix.has_prefix.Goals as goal
 
 pub state-requires-2 : goal.state-requires-2

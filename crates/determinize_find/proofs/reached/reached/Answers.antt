@@ -5,7 +5,7 @@ use Rattle.determinize_below.specs.Nfa.{resolves}
 use Rattle.determinize_below.specs.Node.{node_of}
 use Rattle.determinize_below.proofs.nfas.SoundNfa.{each_passes}
 use Rattle.determinize_find.specs.Private.Closed.{IsClosed, all_visited, targets_in, visited}
-use Rattle.determinize_find.proofs.ReversedNfa.FoundStates.{IsFound, found_all, found_index, found_more, found_start}
+use Rattle.determinize_find.proofs.reversing.FoundStates.{IsFound, found_all, found_index, found_more, found_start}
 use Rattle.determinize_find.proofs.reached.reached.Goals as goal
 
 pub loop-id-init : goal.loop-id-init

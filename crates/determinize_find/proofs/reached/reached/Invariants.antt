@@ -1,5 +1,5 @@
 use Rattle.std.proofs.Common.{◌≡◌, ◌-◌, length}
-use Rattle.determinize_find.proofs.ReversedNfa.FoundStates.{IsFound}
+use Rattle.determinize_find.proofs.reversing.FoundStates.{IsFound}
 use Rattle.determinize_find.proofs.reached.reached.Given as goal
 
 abbrev pub invariant-loop-id : goal.invariant-loop-id

@@ -12,9 +12,9 @@ use Rattle.determinize_below.proofs.nfas.SoundNfa.{each_passes}
 use Rattle.determinize_find.specs.Private.Gathered.{states_of}
 use Rattle.determinize_find.specs.Private.Turning.{total, turned_over, with_node}
 use Rattle.determinize_find.specs.Reversal.{IsReverseOf, IsTooLarge, most_states, reads_in}
-use Rattle.determinize_find.proofs.ReversedNfa.MadeNfa.{made_error, made_of_all}
-use Rattle.determinize_find.proofs.ReversedNfa.Counts.{larger, length-states_most, total_most}
-use Rattle.determinize_find.proofs.ReversedNfa.Steps.{over_all, over_more}
+use Rattle.determinize_find.proofs.reversing.MadeNfa.{made_error, made_of_all}
+use Rattle.determinize_find.proofs.reversing.Counts.{larger, length-states_most, total_most}
+use Rattle.determinize_find.proofs.reversing.Steps.{over_all, over_more}
 use Rattle.determinize_find.proofs.reversal.reversed.Goals as goal
 
 pub add_node-requires-clause-resolves : goal.add_node-requires-clause-resolves

@@ -1,5 +1,5 @@
 use Rattle.determinize_find.specs.Private.Turning.{turned_over}
-use Rattle.determinize_find.proofs.ReversedNfa.Steps.{IsOver}
+use Rattle.determinize_find.proofs.reversing.Steps.{IsOver}
 use Rattle.determinize_find.proofs.reversal.reversed.Given as goal
 
 abbrev pub invariant-loop-id : goal.invariant-loop-id

@@ -10,7 +10,7 @@ use Rattle.determinize_below.specs.declared.nfa.BuildError.{BuildError}
 use Rattle.determinize_below.specs.declared.nfa.BuildError.TheVariants.{OutOfMemory}
 use Rattle.determinize_find.specs.Builder.{BuilderValue, IsApart, IsUnfit, built, prefixed}
 use Rattle.determinize_find.specs.Prefix.{HasPrefix}
-use Rattle.determinize_find.proofs.BuiltNfa.Building.{IsMade, has_prefix, is_ahead, made_is, made_of, made_unfit, none_ahead}
+use Rattle.determinize_find.proofs.building.Building.{IsMade, has_prefix, is_ahead, made_is, made_of, made_unfit, none_ahead}
 use Rattle.determinize_find.proofs.builder.Builder.build_with_prefix.Goals as goal
 
 pub returns-in-Some-clause-err : goal.returns-in-Some-clause-err

@@ -3,7 +3,7 @@ use Rattle.std.proofs.lemmas.List.{length-map}
 use Rattle.std.proofs.lemmas.Result.{on_err_weaker, on_ok_weaker}
 use Rattle.determinize_below.specs.Node.{node_of}
 use Rattle.determinize_find.specs.Builder.{BuilderValue, patched}
-use Rattle.determinize_find.proofs.BuiltNfa.Building.{patched_is, patched_none}
+use Rattle.determinize_find.proofs.building.Building.{patched_is, patched_none}
 use Rattle.determinize_find.proofs.builder.Builder.patch.Goals as goal
 
 pub returns-clause-patched : goal.returns-clause-patched

@@ -3,7 +3,7 @@ use Rattle.determinize_below.specs.declared.search.Match.{Match}
 use Rattle.determinize_find.specs.Cursors.{after_match}
 use Rattle.determinize_find.specs.Matches.{IsNext}
 use Rattle.determinize_find.specs.Regexes.{RegexValue}
-use Rattle.determinize_find.proofs.ListOfMatches.NextMatch.{IsAfter, after_all, after_none, after_one}
+use Rattle.determinize_find.proofs.matches.NextMatch.{IsAfter, after_all, after_none, after_one}
 use Rattle.determinize_find.proofs.regex.Regex.find_all.Goals as goal
 
 pub loop-all-init : goal.loop-all-init

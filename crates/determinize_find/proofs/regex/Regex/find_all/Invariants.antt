@@ -1,6 +1,6 @@
 use Rattle.std.proofs.Common.{◌≡◌}
 use Rattle.determinize_find.specs.Private.Left.{left}
-use Rattle.determinize_find.proofs.ListOfMatches.NextMatch.{IsAfter}
+use Rattle.determinize_find.proofs.matches.NextMatch.{IsAfter}
 use Rattle.determinize_find.proofs.regex.Regex.find_all.Given as goal
 
 abbrev pub invariant-loop-all : goal.invariant-loop-all

@@ -3,7 +3,7 @@ use Rattle.determinize_below.specs.Semantics.{Nfa}
 use Rattle.determinize_below.specs.Search.{Asked}
 use Rattle.determinize_find.specs.Private.Begins.{IsEnding, asked_of}
 use Rattle.determinize_find.specs.Regexes.{RegexValue}
-use Rattle.determinize_find.proofs.LeftmostMatch.TwoSearches.{all_bytes, ended_in}
+use Rattle.determinize_find.proofs.leftmost.TwoSearches.{all_bytes, ended_in}
 use Rattle.determinize_find.proofs.regex.Regex.find_end.Goals as goal
 
 pub returns-clause-end : goal.returns-clause-end

@@ -6,7 +6,7 @@ use Rattle.determinize_below.specs.declared.search.HalfMatch.{HalfMatch}
 use Rattle.ordered_reach.proofs.Cases.{some_injective}
 use Rattle.determinize_find.specs.Private.Begins.{IsEnded}
 use Rattle.determinize_find.specs.Regexes.{RegexValue}
-use Rattle.determinize_find.proofs.LeftmostMatch.TwoSearches.{IsAt, begin_found, ended_within}
+use Rattle.determinize_find.proofs.leftmost.TwoSearches.{IsAt, begin_found, ended_within}
 use Rattle.determinize_find.proofs.regex.Regex.find_start.Goals as goal
 
 pub range-requires-clause-in_haystack : goal.range-requires-clause-in_haystack

@@ -5,7 +5,7 @@ use Rattle.determinize_below.specs.Search.{Asked}
 use Rattle.determinize_find.specs.LeftmostIn.{IsLeftmostIn}
 use Rattle.determinize_find.specs.Private.Begins.{asked_of}
 use Rattle.determinize_find.specs.Regexes.{RegexValue}
-use Rattle.determinize_find.proofs.LeftmostMatch.TwoSearches.{all_bytes, found_in}
+use Rattle.determinize_find.proofs.leftmost.TwoSearches.{all_bytes, found_in}
 use Rattle.determinize_find.proofs.regex.Regex.is_match_in.Goals as goal
 
 pub returns-clause-found : goal.returns-clause-found

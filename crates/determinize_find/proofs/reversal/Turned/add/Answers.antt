@@ -2,7 +2,7 @@ use Rattle.std.proofs.Common.{rules, ◌≡◌, ◌<◌, ◌++◌, ◌∙◌, �
 use Rattle.std.proofs.lemmas.List.{length-map}
 use Rattle.determinize_below.specs.Node.{node_of}
 use Rattle.determinize_find.specs.Private.Turning.{Turned, added}
-use Rattle.determinize_find.proofs.ReversedNfa.Steps.{added_is}
+use Rattle.determinize_find.proofs.reversing.Steps.{added_is}
 use Rattle.determinize_find.proofs.reversal.Turned.add.Goals as goal
 
 pub returns : goal.returns

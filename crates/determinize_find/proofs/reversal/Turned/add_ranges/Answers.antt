@@ -4,7 +4,7 @@ use Rattle.std.proofs.lemmas.Result.{IfErr-weaker}
 use Rattle.determinize_below.specs.declared.nfa.BuildError.{BuildError}
 use Rattle.determinize_find.specs.Private.Turning.{total}
 use Rattle.determinize_find.specs.Reversal.{IsTooLarge}
-use Rattle.determinize_find.proofs.ReversedNfa.Counts.{larger, total_ranges}
+use Rattle.determinize_find.proofs.reversing.Counts.{larger, total_ranges}
 use Rattle.determinize_find.proofs.reversal.Turned.add_ranges.Goals as goal
 
 pub returns-in_err-add_range-clause-err : goal.returns-in_err-add_range-clause-err

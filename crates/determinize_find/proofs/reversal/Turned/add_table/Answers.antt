@@ -6,7 +6,7 @@ use Rattle.determinize_below.specs.Semantics.{Dense}
 use Rattle.determinize_below.specs.declared.nfa.BuildError.{BuildError}
 use Rattle.determinize_find.specs.Private.Turning.{total}
 use Rattle.determinize_find.specs.Reversal.{IsTooLarge, reads_in}
-use Rattle.determinize_find.proofs.ReversedNfa.Counts.{larger, total_table}
+use Rattle.determinize_find.proofs.reversing.Counts.{larger, total_table}
 use Rattle.determinize_find.proofs.reversal.Turned.add_table.Goals as goal
 
 pub returns-in_err-add_range-clause-err : goal.returns-in_err-add_range-clause-err

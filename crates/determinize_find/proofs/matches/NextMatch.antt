@@ -13,8 +13,8 @@ use Rattle.determinize_find.specs.Matches.{AreMatches, IsNext, from}
 use Rattle.determinize_find.specs.Private.Touching.{is_touching}
 use Rattle.determinize_below.specs.declared.search.Match.{Match}
 use Rattle.determinize_find.specs.Private.Left.{left}
-use Rattle.determinize_find.proofs.ListOfMatches.OneList.{IsLater, next_lies}
-use Rattle.determinize_find.proofs.LeftmostMatch.SearchInTurn.{found_past}
+use Rattle.determinize_find.proofs.matches.OneList.{IsLater, next_lies}
+use Rattle.determinize_find.proofs.leftmost.SearchInTurn.{found_past}
 
 pub next_plain : (nfa : Nfa) (asked : Asked) (before : Option ℕ) (first : Option Match) → IsLeftmostIn nfa asked first
     → is_touching before first ≡ false → IsNext nfa asked before first

@@ -18,8 +18,8 @@ use Rattle.determinize_below.specs.declared.nfa.transitions.Transition.{Transiti
 use Rattle.ordered_reach.proofs.Cases.{by_cases, by_test}
 use Rattle.determinize_find.specs.Private.Gathered.{gathered, states_of}
 use Rattle.determinize_find.specs.Private.Turning.{Turned, added, none_turned, range_to, total, turned_over, with_frees, with_node, with_nodes, with_ranges, with_state, with_table}
-use Rattle.determinize_find.proofs.UsualPrefix.Parts.{state_is}
-use Rattle.determinize_find.proofs.ReversedNfa.Steps.{IsOver}
+use Rattle.determinize_find.proofs.prefixes.Parts.{state_is}
+use Rattle.determinize_find.proofs.reversing.Steps.{IsOver}
 use Rattle.determinize_find.specs.Reversal.{IsTooLarge, most_states, reads_in}
 
 -- the states for a table from byte b on, and for a state

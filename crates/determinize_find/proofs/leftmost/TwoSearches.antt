@@ -27,12 +27,12 @@ use Rattle.determinize_find.specs.LeftmostIn.{IsLeftmostIn, is_anchored, latest,
 use Rattle.determinize_find.specs.Prefix.{HasPrefix, leads_to}
 use Rattle.determinize_find.specs.Private.Begins.{IsBeginOf, IsEndOf, IsEnded, IsEnding}
 use Rattle.determinize_find.specs.Reversal.{IsReverseOf, turned, upto}
-use Rattle.determinize_find.proofs.ListOfMatches.OneList.{LiesIn, length-range, lies, path_within}
-use Rattle.determinize_find.proofs.LeftmostMatch.Inputs.{IsFoundIn, found_in_text}
-use Rattle.determinize_find.proofs.Runs.Mirrors.{or_some, slice_get-take}
-use Rattle.determinize_find.proofs.LeftmostMatch.PreferredRun.{each_anchored_is_leftmost, each_preferred_is_leftmost}
-use Rattle.determinize_find.proofs.UsualPrefix.AfterPrefix.{IsSkip, shape}
-use Rattle.determinize_find.proofs.Runs.Shifts.{each_run_reads_forward, slice_get-drop}
+use Rattle.determinize_find.proofs.matches.OneList.{LiesIn, length-range, lies, path_within}
+use Rattle.determinize_find.proofs.leftmost.Inputs.{IsFoundIn, found_in_text}
+use Rattle.determinize_find.proofs.runs.Mirrors.{or_some, slice_get-take}
+use Rattle.determinize_find.proofs.leftmost.PreferredRun.{each_anchored_is_leftmost, each_preferred_is_leftmost}
+use Rattle.determinize_find.proofs.prefixes.AfterPrefix.{IsSkip, shape}
+use Rattle.determinize_find.proofs.runs.Shifts.{each_run_reads_forward, slice_get-drop}
 
 -- with the usual prefix the starts are two states
 pub starts_differ : (nfa : Nfa) → HasPrefix nfa → nat_eq nfa.start_unanchored nfa.start_anchored ≡ false

@@ -19,9 +19,9 @@ use Rattle.determinize_find.specs.Leftmost.{IsLeftmost}
 use Rattle.determinize_find.specs.LeftmostIn.{IsLeftmostIn, is_anchored, latest, moved}
 use Rattle.determinize_find.specs.Matches.{AreApart, AreMatches, IsNext, IsTaken, from, touches}
 use Rattle.determinize_below.specs.declared.search.Match.{Match}
-use Rattle.determinize_find.proofs.Runs.Choices.{choice_cases}
-use Rattle.determinize_find.proofs.LeftmostMatch.OnlyOne.{each_leftmost_is_one}
-use Rattle.determinize_find.proofs.Runs.Shifts.{each_run_reads_forward}
+use Rattle.determinize_find.proofs.runs.Choices.{choice_cases}
+use Rattle.determinize_find.proofs.leftmost.OnlyOne.{each_leftmost_is_one}
+use Rattle.determinize_find.proofs.runs.Shifts.{each_run_reads_forward}
 
 pub each_leftmost_in_is_one : EachLeftmostInIsOne
 each_leftmost_in_is_one nfa asked found other a b = by_test (is_done asked)

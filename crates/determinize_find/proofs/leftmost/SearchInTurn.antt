@@ -21,9 +21,9 @@ use Rattle.determinize_find.specs.LeftmostIn.{IsLeftmostIn, is_anchored, latest,
 use Rattle.determinize_find.specs.Private.BestAt.{IsBestAt, IsBestIn, from_index}
 use Rattle.determinize_find.specs.Since.{since}
 use Rattle.determinize_below.specs.declared.search.Match.{Match}
-use Rattle.determinize_find.proofs.LeftmostMatch.Inputs.{IsFoundIn, found_in_text}
-use Rattle.determinize_find.proofs.Runs.Mirrors.{slice_get-take}
-use Rattle.determinize_find.proofs.Runs.Shifts.{each_run_reads_forward, each_run_moves, slice_get-drop}
+use Rattle.determinize_find.proofs.leftmost.Inputs.{IsFoundIn, found_in_text}
+use Rattle.determinize_find.proofs.runs.Mirrors.{slice_get-take}
+use Rattle.determinize_find.proofs.runs.Shifts.{each_run_reads_forward, each_run_moves, slice_get-drop}
 
 drop-nil : {A : Type 0} (m : ℕ) → ◌≡◌ {A = List A} (drop m []) []
 drop-nil zero = refl

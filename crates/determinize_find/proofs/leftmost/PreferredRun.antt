@@ -13,8 +13,8 @@ use Rattle.determinize_find.specs.Laws.{EachAnchoredIsLeftmost, EachPreferredIsL
 use Rattle.determinize_find.specs.Leftmost.{AcceptsFrom, IsLeftmost}
 use Rattle.determinize_find.specs.Prefix.{HasPrefix}
 use Rattle.determinize_below.specs.declared.search.Match.{Match}
-use Rattle.determinize_find.proofs.UsualPrefix.AfterPrefix.{IsSkip, shape, unshape}
-use Rattle.determinize_find.proofs.UsualPrefix.Skips.{skip, skip_before, skip_same}
+use Rattle.determinize_find.proofs.prefixes.AfterPrefix.{IsSkip, shape, unshape}
+use Rattle.determinize_find.proofs.prefixes.Skips.{skip, skip_before, skip_same}
 
 module _ (nfa : Nfa) (text : Text) (has : HasPrefix nfa) (small : All (λ b. b < 256) text.bytes) where
   -- a run from the anchored start at a position is one from the unanchored start

@@ -9,7 +9,7 @@ use Rattle.determinize_below.specs.Semantics.{Nfa, Node, ByteRange, Sparse, Dens
 use Rattle.determinize_below.specs.declared.nfa.transitions.Transition.{Transition}
 use Rattle.ordered_reach.proofs.Cases.{by_test}
 use Rattle.determinize_find.specs.Private.Turning.{Turned, added, range_to, sources, with_frees, with_node, with_nodes, with_ranges, with_state, with_table}
-use Rattle.determinize_find.proofs.UsualPrefix.Parts.{state_is}
+use Rattle.determinize_find.proofs.prefixes.Parts.{state_is}
 
 -- an id goes to the end of one of some lists
 pushed : {V : Type 0} (items : V → List ℕ) (lists : List V) (i : ℕ) (old new : V) (y : ℕ) → i < length lists

@@ -14,12 +14,12 @@ use Rattle.determinize_find.specs.Private.Closed.{IsClosed}
 use Rattle.determinize_find.specs.Private.Turning.{Turned, turned_over}
 use Rattle.determinize_find.specs.Private.Gathered.{states_of}
 use Rattle.determinize_find.specs.Reversal.{IsReverseOf, IsTooLarge, most_states}
-use Rattle.determinize_find.proofs.ReversedNfa.FoundStates.{In_below}
-use Rattle.determinize_find.proofs.ReversedNfa.Recorded.{IsRecorded}
-use Rattle.determinize_find.proofs.ReversedNfa.BothWays.{IsMadeOf, made_reverse}
-use Rattle.determinize_find.proofs.ReversedNfa.Counts.{length-states, length-states_most, rest_over}
-use Rattle.determinize_find.proofs.ReversedNfa.RecordedStates.{all_recorded}
-use Rattle.determinize_find.proofs.ReversedNfa.Validation.{IsPlain, each_plain, only_size}
+use Rattle.determinize_find.proofs.reversing.FoundStates.{In_below}
+use Rattle.determinize_find.proofs.reversing.Recorded.{IsRecorded}
+use Rattle.determinize_find.proofs.reversing.BothWays.{IsMadeOf, made_reverse}
+use Rattle.determinize_find.proofs.reversing.Counts.{length-states, length-states_most, rest_over}
+use Rattle.determinize_find.proofs.reversing.RecordedStates.{all_recorded}
+use Rattle.determinize_find.proofs.reversing.Validation.{IsPlain, each_plain, only_size}
 
 pub made_of_all : (nfa backward : Nfa) (met : List ℕ) (h : Turned) → IsAccepted nfa → IsClosed nfa met
     → All (λ s. s < length nfa.states) met → turned_over nfa met ≡ h → IsMadeOf nfa backward h

@@ -18,9 +18,9 @@ use Rattle.ordered_reach.proofs.lists.Elements.{In, In_append_cases, In_cases, I
 use Rattle.ordered_reach.proofs.Cases.{by_cases, by_test, some_injective}
 use Rattle.determinize_find.specs.Private.Gathered.{gathered, states_of}
 use Rattle.determinize_find.specs.Private.Turning.{Turned, range_to, sources}
-use Rattle.determinize_find.proofs.ReversedNfa.StatesById.{pattern_within}
-use Rattle.determinize_find.proofs.ReversedNfa.Recorded.{IsSound}
-use Rattle.determinize_find.proofs.ReversedNfa.Counts.{length-states, made_by, made_of_each, made_table}
+use Rattle.determinize_find.proofs.reversing.StatesById.{pattern_within}
+use Rattle.determinize_find.proofs.reversing.Recorded.{IsSound}
+use Rattle.determinize_find.proofs.reversing.Counts.{length-states, made_by, made_of_each, made_table}
 
 -- a state without a pattern that passes validation
 pub record IsPlain (count : ℕ) (node : Node) : Type 0 where

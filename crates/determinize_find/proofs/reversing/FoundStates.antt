@@ -18,10 +18,10 @@ use Rattle.determinize_below.proofs.sets.SparseSets.{distinct_none, distinct_pus
 use Rattle.ordered_reach.proofs.Cases.{by_cases, by_test, some_injective}
 use Rattle.determinize_find.specs.Prefix.{leads_to}
 use Rattle.determinize_find.specs.Private.Closed.{IsClosed, all_visited, targets_in, visited}
-use Rattle.determinize_find.proofs.Runs.Choices.{In_any}
-use Rattle.determinize_find.proofs.UsualPrefix.Parts.{state_is}
-use Rattle.determinize_find.proofs.ReversedNfa.Recorded.{slice_get-left}
-use Rattle.determinize_find.proofs.ReversedNfa.RecordedStates.{any_by, resolves_leads}
+use Rattle.determinize_find.proofs.runs.Choices.{In_any}
+use Rattle.determinize_find.proofs.prefixes.Parts.{state_is}
+use Rattle.determinize_find.proofs.reversing.Recorded.{slice_get-left}
+use Rattle.determinize_find.proofs.reversing.RecordedStates.{any_by, resolves_leads}
 
 -- an id that passes a test of some element is an element
 any_In : (t : ℕ) (ids : List ℕ) → list_any (nat_eq t) ids ≡ true → In t ids

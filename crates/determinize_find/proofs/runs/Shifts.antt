@@ -17,8 +17,8 @@ use Rattle.ordered_reach.proofs.graph.FiniteGraphs.{same_decides}
 use Rattle.determinize_find.specs.Laws.{EachRunReadsForward, EachRunMoves}
 use Rattle.determinize_find.specs.Leftmost.{AcceptsFrom}
 use Rattle.determinize_find.specs.Since.{since}
-use Rattle.determinize_find.proofs.Runs.Choices.{choice_later}
-use Rattle.determinize_find.proofs.Runs.PathMaps.{path_map, path_unmap}
+use Rattle.determinize_find.proofs.runs.Choices.{choice_later}
+use Rattle.determinize_find.proofs.runs.PathMaps.{path_map, path_unmap}
 
 pub slice_get-drop : {A : Type 0} (k : ℕ) (xs : List A) (i : ℕ) → slice_get (drop k xs) i ≡ slice_get xs (k + i)
 slice_get-drop zero xs i = let z : 0 + i ≡ i = omega arith in rw z refl

@@ -24,9 +24,9 @@ use Rattle.ordered_reach.proofs.Cases.{by_cases, by_test, some_injective}
 use Rattle.determinize_find.specs.Prefix.{leads_to}
 use Rattle.determinize_find.specs.Private.Closed.{IsClosed}
 use Rattle.determinize_find.specs.Private.Turning.{Turned, added, none_turned, range_to, sources, turned_over, with_frees, with_node, with_nodes, with_ranges, with_state, with_table}
-use Rattle.determinize_find.proofs.ReversedNfa.Arcs.{look_edge_is, none_in, range_target, range_target_is}
-use Rattle.determinize_find.proofs.Runs.Choices.{In_any}
-use Rattle.determinize_find.proofs.ReversedNfa.Recorded.{HasArcs, HasLook, HasRange, IsArc, IsGrown, IsRecorded, IsSource, IsSound, arcs_stay, grown_added, grown_self, grown_state, grown_then, id_of, sound_added, sound_state, there_added, there_state}
+use Rattle.determinize_find.proofs.reversing.Arcs.{look_edge_is, none_in, range_target, range_target_is}
+use Rattle.determinize_find.proofs.runs.Choices.{In_any}
+use Rattle.determinize_find.proofs.reversing.Recorded.{HasArcs, HasLook, HasRange, IsArc, IsGrown, IsRecorded, IsSource, IsSound, arcs_stay, grown_added, grown_self, grown_state, grown_then, id_of, sound_added, sound_state, there_added, there_state}
 
 -- what one record of transitions is to a later one
 pub record IsMore (nfa : Nfa) (old new : Turned) : Type 0 where

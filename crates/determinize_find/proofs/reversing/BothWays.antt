@@ -22,12 +22,12 @@ use Rattle.determinize_find.specs.Leftmost.{AcceptsFrom}
 use Rattle.determinize_find.specs.Private.Gathered.{states_of}
 use Rattle.determinize_find.specs.Private.Turning.{Turned, range_to, sources}
 use Rattle.determinize_find.specs.Reversal.{IsMirrored, IsReverseOf, turned, upto}
-use Rattle.determinize_find.proofs.ReversedNfa.Arcs.{look_edge, look_edge_is, no_end, none_in, range_target, range_target_is}
-use Rattle.determinize_find.proofs.Runs.Choices.{byte_choice, choice_cases, choice_later, choice_leads, free_choice}
-use Rattle.determinize_find.proofs.ReversedNfa.StatesById.{IsLaid, edges-gathered, edge_within, laid_out, pattern-gathered, pattern_within, sources_within, target-gathered, target_within}
-use Rattle.determinize_find.proofs.Runs.Mirrors.{each_reading_is_mirrored}
-use Rattle.determinize_find.proofs.ReversedNfa.Recorded.{IsArc, IsRecorded, IsSource}
-use Rattle.determinize_find.proofs.Runs.LoopFree.{IsWalk, Leads, leads_by, leads_here, leads_then, path_of_walk, walk_of_path}
+use Rattle.determinize_find.proofs.reversing.Arcs.{look_edge, look_edge_is, no_end, none_in, range_target, range_target_is}
+use Rattle.determinize_find.proofs.runs.Choices.{byte_choice, choice_cases, choice_later, choice_leads, free_choice}
+use Rattle.determinize_find.proofs.reversing.StatesById.{IsLaid, edges-gathered, edge_within, laid_out, pattern-gathered, pattern_within, sources_within, target-gathered, target_within}
+use Rattle.determinize_find.proofs.runs.Mirrors.{each_reading_is_mirrored}
+use Rattle.determinize_find.proofs.reversing.Recorded.{IsArc, IsRecorded, IsSource}
+use Rattle.determinize_find.proofs.runs.LoopFree.{IsWalk, Leads, leads_by, leads_here, leads_then, path_of_walk, walk_of_path}
 
 -- the NFA has the states that were recorded
 pub record IsMadeOf (nfa backward : Nfa) (h : Turned) : Type 0 where

@@ -17,9 +17,9 @@ use Rattle.ordered_reach.proofs.runs.ByPosition.{Decides-pair_eq, pair_eq}
 use Rattle.ordered_reach.proofs.graph.FiniteGraphs.{same_decides}
 use Rattle.ordered_reach.proofs.Cases.{by_option, some_injective}
 use Rattle.determinize_find.specs.Prefix.{HasPrefix, leads_to}
-use Rattle.determinize_find.proofs.Runs.Choices.{choice_later, choice_leads}
-use Rattle.determinize_find.proofs.Runs.VisitedPairs.{path_forget, path_remember}
-use Rattle.determinize_find.proofs.UsualPrefix.Skips.{skip}
+use Rattle.determinize_find.proofs.runs.Choices.{choice_later, choice_leads}
+use Rattle.determinize_find.proofs.runs.VisitedPairs.{path_forget, path_remember}
+use Rattle.determinize_find.proofs.prefixes.Skips.{skip}
 
 pairs : (p q : ℕ × ℕ) → Decides (pair_eq nat_eq p q) (p ≡ q)
 pairs = Decides-pair_eq same_decides
