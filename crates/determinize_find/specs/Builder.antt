@@ -34,8 +34,9 @@ redirected to node = node
 
 -- with one state that has another target
 abbrev pub patched : BuilderValue → ℕ → ℕ → BuilderValue
-patched b from to =
-    record b { states = slice_set b.states from (redirected to (slice_index_or b.states from Fail)) }
+patched b from to = record b {
+  states = slice_set b.states from (redirected to (slice_index_or b.states from Fail));
+}
 
 -- the NFA of the states, which reads forward
 abbrev pub built : BuilderValue → ℕ → ℕ → Nfa
@@ -76,4 +77,5 @@ IsAhead b start e =
 -- what is wrong with the states and the prefix, or that an allocation failed
 abbrev pub IsUnfit : BuilderValue → ℕ → BuildError → Type 0
 IsUnfit b start e =
-    (failure (prefixed b start).states start (length b.states) ≡ Some e) ⊎ (IsAhead b start e ⊎ (e ≡ OutOfMemory))
+    (failure (prefixed b start).states start (length b.states) ≡ Some e)
+    ⊎ (IsAhead b start e ⊎ (e ≡ OutOfMemory))

@@ -24,7 +24,8 @@ pub record IsLeftmostMatch (nfa : Nfa) (text : Text) (m : Match) : Type 0 where
   pub choices : List ℕ
   pub accepts : AcceptsFrom nfa text m.start nfa.start_anchored choices m.end m.pattern
   pub preferred : (ds : List ℕ) (j other : ℕ)
-      → AcceptsFrom nfa text m.start nfa.start_anchored ds j other → (choices ≡ ds) ⊎ Before choices ds
+      → AcceptsFrom nfa text m.start nfa.start_anchored ds j other
+      → (choices ≡ ds) ⊎ Before choices ds
 
 -- the leftmost match that begins at position `latest` or before; `None` if no match begins there
 abbrev pub IsLeftmost : Nfa → Text → ℕ → Option Match → Type 0

@@ -14,15 +14,16 @@ turned text = between text.ahead (reverse text.bytes) text.behind
 abbrev pub upto : Text → ℕ → Text
 upto text j = between text.behind (take j text.bytes) (after_at text j)
 
--- position r of one text has before and after it what position j - r of the other has after and before it
+-- position r of one text has before and after it what position j - r of the other has after and
+-- before it
 pub record IsMirrored (text back : Text) (j : ℕ) : Type 0 where
   pub before : (r i : ℕ) → r + i ≡ j → before_at back r ≡ after_at text i
   pub after : (r i : ℕ) → r + i ≡ j → after_at back r ≡ before_at text i
   pub byte : (r i : ℕ) → r + suc i ≡ j → slice_get back.bytes r ≡ slice_get text.bytes i
   pub last : slice_get back.bytes j ≡ None
 
--- read in the other direction from position j, the first NFA accepts at position k exactly where the
--- second has a run from k that accepts at j
+-- read in the other direction from position j, the first NFA accepts at position k exactly where
+-- the second has a run from k that accepts at j
 pub record IsReverseOf (backward nfa : Nfa) : Type 0 where
   pub direction : backward.reverse ≡ not nfa.reverse
   pub begins : (text : Text) (j k : ℕ) → j ≤ length text.bytes → k ≤ j

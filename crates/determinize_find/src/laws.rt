@@ -1,16 +1,15 @@
 //! Laws of the leftmost match, as public functions with empty bodies.
 
-ghost use Rattle.determinize_find.specs.Laws.{EachAnchoredIsLeftmost, EachLeftmostInIsOne, EachLeftmostIsOne, EachMatchesAreApart, EachMatchesAreOne, EachPreferredIsLeftmost, EachReadingIsMirrored, EachRunMoves, EachRunReadsForward};
-ghost use Rattle.determinize_find.specs.Laws.{EachStartIsCovered};
+ghost use Rattle.determinize_find.specs.Laws.{EachAnchoredIsLeftmost, EachLeftmostInIsOne, EachLeftmostIsOne, EachMatchesAreApart, EachMatchesAreOne, EachPreferredIsLeftmost, EachReadingIsMirrored, EachRunMoves, EachRunReadsForward, EachStartIsCovered};
 
 /// A text has at most one leftmost match.
 pub fn leftmost_law()
     ensures { EachLeftmostIsOne }
 {}
 
-/// The preferred match from the unanchored start of an NFA with the usual prefix has the pattern and
-/// the end of the leftmost match; if there is no preferred match, there is no leftmost one. From the
-/// anchored start, the same holds of the leftmost match that begins with the text.
+/// The preferred match from the unanchored start of an NFA with the usual prefix has the pattern
+/// and the end of the leftmost match; if there is no preferred match, there is no leftmost one.
+/// From the anchored start, the same holds of the leftmost match that begins with the text.
 pub fn prefix_law()
     ensures unanchored { EachPreferredIsLeftmost }
     ensures anchored { EachAnchoredIsLeftmost }

@@ -4,7 +4,9 @@
 //! epsilon transitions are turned. The start is a union of the match states, and the anchored start
 //! becomes the one match state.
 
-ghost use Rattle.std.specs.Prelude.{◌≡◌, ◌+◌, ◌<◌, ◌≤◌, All, IfErr, IfOk, OnOk, length, map, true};
+ghost use Rattle.std.specs.Prelude.{◌≡◌, ◌+◌, ◌<◌, ◌≤◌, ◌∷◌, [], All, IfErr, IfOk, OnOk, length, map, true};
+ghost use Rattle.std.specs.List.{filter};
+ghost use Rattle.determinize_below.specs.Edges.{is_match_node};
 ghost use Rattle.determinize_below.specs.Nfa.{is_dense_sound, resolves};
 ghost use Rattle.determinize_below.specs.Semantics as nodes;
 ghost use Rattle.determinize_below.specs.Node.{node_of};
@@ -68,8 +70,8 @@ impl<A: Allocator + Copy> Turned<A> {
         Ok(())
     }
 
-    /// Adds a state of the reversed NFA that reads a byte or tests an assertion, and a transition to
-    /// it.
+    /// Adds a state of the reversed NFA that reads a byte or tests an assertion, and a transition
+    /// to it.
     fn add_state(&mut self, from: StateID, state: State<A>) -> Result<(), BuildError>
         requires from { from < length self.old.into }
         requires small { length self.old.into ≤ 2147483647 }
@@ -149,7 +151,8 @@ impl<A: Allocator + Copy> Turned<A> {
         requires resolves { resolves (length self.old.into) (node_of state.now) ≡ true }
         requires whole { is_dense_sound (node_of state.now) ≡ true }
         requires small { length self.old.into ≤ 2147483647 }
-        ensures turned { OnOk result (self.new ≡ turning.with_node self.old id (node_of state.now)) }
+        ensures turned { OnOk result
+            (self.new ≡ turning.with_node self.old id (node_of state.now)) }
         ensures err { IfErr result (λ e.
             IsTooLarge (turning.total self.old + reads_in (node_of state.now)) e) }
     {
@@ -219,6 +222,10 @@ pub fn reversed<N: Allocator, A: Allocator + Copy>(
     nfa: &NFA<N>,
 ) -> Result<NFA<A>, BuildError>
     ensures reverse { IfOk result (λ backward. IsReverseOf backward nfa.now) }
+    ensures starts { IfOk result
+        (λ backward. backward.start_anchored ≡ backward.start_unanchored) }
+    ensures pattern { IfOk result
+        (λ backward. filter is_match_node backward.states ≡ nodes.Match 0 ∷ []) }
     ensures size { IfOk result (λ backward. length backward.states ≤ most_states nfa.now) }
     ensures err { IfErr result (λ e. IsTooLarge (most_states nfa.now) e) }
 {

@@ -162,7 +162,8 @@ made_of b start items states union skip patterns terminator e u k w =
     let n : union ≡ length b.states = u ∙ ap length i in
     let m : skip ≡ suc (length b.states) = k ∙ ap (λ xs. suc (length xs)) i in
     record {
-      all = w ∙ append_assoc items (BinaryUnion start skip ∷ []) (ByteRange record { start = 0; end = 255; next = union } ∷ [])
+      all = w ∙ append_assoc items (BinaryUnion start skip ∷ [])
+          (ByteRange record { start = 0; end = 255; next = union } ∷ [])
           ∙ ap (λ xs. xs ++ BinaryUnion start skip ∷ ByteRange record { start = 0; end = 255; next = union } ∷ []) i
           ∙ ap (λ x. b.states ++ BinaryUnion start x ∷ ByteRange record { start = 0; end = 255; next = union } ∷ []) m
           ∙ ap (λ x. b.states ++ BinaryUnion start (suc (length b.states))
@@ -194,5 +195,6 @@ module _ (b : BuilderValue) (start : ℕ) (states : List Node) (union terminator
 
   pub made_unfit : (e : BuildError) → (failure states start union ≡ Some e) ⊎ (e ≡ OutOfMemory) → IsUnfit b start e
   made_unfit e d = by_cases d
-      (λ f. inl (ap (λ ys. failure ys start (length b.states)) (sym m.all) ∙ ap (failure states start) (sym m.first) ∙ f))
+      (λ f. inl (ap (λ ys. failure ys start (length b.states)) (sym m.all) ∙ ap (failure states start) (sym m.first)
+      ∙ f))
       (λ f. inr (inr f))

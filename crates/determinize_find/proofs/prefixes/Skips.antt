@@ -1,10 +1,9 @@
 -- The choices of a run that passes over some bytes first, and their order. Main statements: skip_before, skip_same.
 -- AfterPrefix and PreferredRun cite them. The idea: at the first union the choice 0 ends the prefix and the choice 1
 -- passes over a byte, so fewer bytes come first in lexicographic order.
-use Rattle.std.proofs.Common.{◌≡◌, ◌<◌, ◌⊎◌, ◌∷◌, ℕ, List, arith, inl, inr, refl, suc, zero}
+use Rattle.std.proofs.Common.{◌≡◌, ◌<◌, ◌⊎◌, ◌∷◌, ℕ, List, arith, suc, zero}
 use Rattle.ordered_reach.specs.Paths.{Before}
 use Rattle.ordered_reach.proofs.lists.Lexicographic.{same_first, Before-first, Before-rest}
-use Rattle.ordered_reach.proofs.Cases.{by_cases}
 
 -- that number of bytes is skipped, and then these choices are made from the anchored start
 abbrev pub skip : ℕ → List ℕ → List ℕ

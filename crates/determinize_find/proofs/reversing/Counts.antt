@@ -35,12 +35,15 @@ made_by s (Dense ids) = made_table s 0 ids
 made_by s (Look look next) = Look (reversed look) s ∷ []
 made_by s _ = []
 
-pub rest_ranges : (s : ℕ) (rs : List Transition) (h : Turned) → (with_ranges h s rs).rest ≡ h.rest ++ map (range_to s) rs
+pub rest_ranges : (s : ℕ) (rs : List Transition) (h : Turned)
+    → (with_ranges h s rs).rest ≡ h.rest ++ map (range_to s) rs
 rest_ranges s [] h = sym (append-nil h.rest)
 rest_ranges s (r ∷ rs) h =
-    rest_ranges s rs (with_state h r.next (range_to s r)) ∙ append_assoc h.rest (range_to s r ∷ []) (map (range_to s) rs)
+    rest_ranges s rs (with_state h r.next (range_to s r))
+    ∙ append_assoc h.rest (range_to s r ∷ []) (map (range_to s) rs)
 
-pub rest_table : (s : ℕ) (ids : List ℕ) (b : ℕ) (h : Turned) → (with_table h s b ids).rest ≡ h.rest ++ made_table s b ids
+pub rest_table : (s : ℕ) (ids : List ℕ) (b : ℕ) (h : Turned)
+    → (with_table h s b ids).rest ≡ h.rest ++ made_table s b ids
 unfolding made_table
 rest_table s [] b h = sym (append-nil h.rest)
 rest_table s (id ∷ ids) b h = by_test (nat_eq id 0)

@@ -36,10 +36,12 @@ below : (a b : ℕ) → a < b → nat_lt a b ≡ true
 below a b l = grind (arith, nat_tests)
 
 -- the states for a state
-range_plain : (count s start end : ℕ) → s < count → IsPlain count (ByteRange record { start = start; end = end; next = s })
+range_plain : (count s start end : ℕ) → s < count
+    → IsPlain count (ByteRange record { start = start; end = end; next = s })
 range_plain count s start end l = record { resolves = below s count l; ascends = refl; whole = refl; pattern = refl }
 
-table_plain : (count s : ℕ) → s < count → (ids : List ℕ) (b : ℕ) (x : Node) → In x (made_table s b ids) → IsPlain count x
+table_plain : (count s : ℕ) → s < count → (ids : List ℕ) (b : ℕ) (x : Node) → In x (made_table s b ids)
+    → IsPlain count x
 unfolding made_table
 table_plain count s l [] b x k = nothing_in x k
 table_plain count s l (id ∷ ids) b x k = by_test (nat_eq id 0)
@@ -124,7 +126,8 @@ plain_before count others f (x ∷ xs) earlier i p n =
     let q : IsPlain count x = p x (In_head x xs) in
     let m : is_match_of 0 x ≡ false = not_match 0 x q.pattern in
     let l : list_any (is_match_of 0) (earlier ++ x ∷ []) ≡ false
-    = list_any-append (is_match_of 0) earlier (x ∷ []) ∙ none (list_any (is_match_of 0) earlier) (is_match_of 0 x) n m in
+    = list_any-append (is_match_of 0) earlier (x ∷ [])
+    ∙ none (list_any (is_match_of 0) earlier) (is_match_of 0 x) n m in
     ap (λ o. option_or o (states_failure count (earlier ++ x ∷ []) (i + 1) (xs ++ others)))
     (plain_passes count i earlier x q)
     ∙ plain_before count others f xs (earlier ++ x ∷ []) (i + 1) (λ y k. p y (In_tail y x xs k)) l
@@ -194,8 +197,8 @@ module _ (nfa : Nfa) (h : Turned) (sound : IsSound nfa h)
       in cc))
     where
       rest_of : Option BuildError
-      rest_of = cond (not (nat_lt start (length (states_of h)) && nat_lt start (length (states_of h)))) (Some UnresolvedStart)
-          (states_failure (length (states_of h)) [] 0 (states_of h))
+      rest_of = cond (not (nat_lt start (length (states_of h)) && nat_lt start (length (states_of h))))
+          (Some UnresolvedStart) (states_failure (length (states_of h)) [] 0 (states_of h))
 
       within : nat_lt start (length (states_of h)) ≡ true
       within = let c = count_is in below start (length (states_of h)) (omega (arith, c))

@@ -20,7 +20,8 @@ pub record IsEnding (nfa : Nfa) (asked : Asked) (found : Option HalfMatch) : Typ
   pub is : found ≡ option_map end_of match
 
 -- the match is the leftmost one of some range that starts at this index, and has this end
-pub record IsEnded (nfa : Nfa) (haystack : List ℕ) (start end : ℕ) (asked : Asked) (m : Match) : Type 0 where
+pub record IsEnded (nfa : Nfa) (haystack : List ℕ) (start end : ℕ) (asked : Asked) (m : Match)
+    : Type 0 where
   pub same : asked.haystack ≡ haystack
   pub starts : asked.start ≡ start
   pub within : asked.end ≤ length haystack
@@ -29,7 +30,8 @@ pub record IsEnded (nfa : Nfa) (haystack : List ℕ) (start end : ℕ) (asked : 
 
 -- some leftmost match has this end
 abbrev pub IsEndOf : Nfa → List ℕ → ℕ → ℕ → Type 0
-IsEndOf nfa haystack start end = (asked : Asked) × (m : Match) × IsEnded nfa haystack start end asked m
+IsEndOf nfa haystack start end =
+    (asked : Asked) × (m : Match) × IsEnded nfa haystack start end asked m
 
 -- each leftmost match that has this end begins here
 abbrev pub IsBeginOf : Nfa → List ℕ → ℕ → ℕ → ℕ → Type 0

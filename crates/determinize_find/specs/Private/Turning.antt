@@ -47,8 +47,8 @@ with_ranges h s (r ∷ rs) = with_ranges (with_state h r.next (range_to s r)) s 
 -- the transitions from s over each byte from b on, reversed
 abbrev pub with_table : Turned → ℕ → ℕ → List ℕ → Turned
 with_table h s b [] = h
-with_table h s b (id ∷ ids) =
-    with_table (cond (nat_eq id 0) h (with_state h id (ByteRange record { start = b; end = b; next = s })))
+with_table h s b (id ∷ ids) = with_table
+    (cond (nat_eq id 0) h (with_state h id (ByteRange record { start = b; end = b; next = s })))
     s (suc b) ids
 
 -- the transitions from s without input, reversed
@@ -79,5 +79,5 @@ none_turned count = record { into = replicate count []; rest = []; ends = [] }
 
 -- all that the states of a list make of an NFA
 abbrev pub turned_over : Nfa → List ℕ → Turned
-turned_over nfa met =
-    with_nodes nfa (added (none_turned (length nfa.states)) nfa.start_anchored (length nfa.states)) met
+turned_over nfa met = with_nodes nfa
+    (added (none_turned (length nfa.states)) nfa.start_anchored (length nfa.states)) met

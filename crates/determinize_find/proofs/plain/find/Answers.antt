@@ -1,8 +1,6 @@
 use Rattle.std.proofs.Common.{rules, ◌≡◌, ◌<◌, ◌≤◌, Option, Some, None, arith, subst}
 use Rattle.std.proofs.lemmas.Result.{IfOk-weaker}
-use Rattle.determinize_find.specs.LeftmostIn.{IsLeftmostIn, is_anchored}
-use Rattle.determinize_below.specs.Semantics.{Nfa}
-use Rattle.determinize_below.specs.declared.search.Anchored.{Anchored}
+use Rattle.determinize_find.specs.LeftmostIn.{IsLeftmostIn}
 use Rattle.determinize_find.specs.Private.BestAt.{IsBestIn}
 use Rattle.determinize_below.specs.declared.search.Match.{Match}
 use Rattle.determinize_find.proofs.leftmost.SearchInTurn.{IsLatest, found_here, found_last, latest_is, more_nothing}

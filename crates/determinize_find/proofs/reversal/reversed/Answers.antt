@@ -1,9 +1,10 @@
-use Rattle.std.specs.List.{IsDistinct}
+use Rattle.std.specs.List.{IsDistinct, filter}
 use Rattle.std.specs.Prelude.{IfErr, nat_eq}
-use Rattle.std.proofs.Common.{rules, ◌≡◌, ◌+◌, ◌<◌, ◌≤◌, ◌⊎◌, ◌∙◌, ℕ, List, Some, ap, arith, get_or, length, map, not, subst, suc, sym, true}
+use Rattle.std.proofs.Common.{rules, ◌≡◌, ◌+◌, ◌<◌, ◌≤◌, ◌⊎◌, ◌∙◌, ◌∷◌, ℕ, List, Some, [], ap, arith, get_or, length, map, not, subst, suc, sym, true}
 use Rattle.std.proofs.lemmas.Grind.{get_or_default_zero}
 use Rattle.std.proofs.lemmas.Result.{IfErr-weaker, IfOk-weaker}
-use Rattle.determinize_below.specs.Semantics.{Nfa, Node}
+use Rattle.determinize_below.specs.Edges.{is_match_node}
+use Rattle.determinize_below.specs.Semantics.{Nfa, Node, Match}
 use Rattle.determinize_below.specs.Nfa.{failure, looks_of, resolves}
 use Rattle.determinize_below.specs.Node.{node_of}
 use Rattle.determinize_below.specs.declared.nfa.BuildError.{BuildError}
@@ -12,7 +13,8 @@ use Rattle.determinize_below.proofs.nfas.SoundNfa.{each_passes}
 use Rattle.determinize_find.specs.Private.Gathered.{states_of}
 use Rattle.determinize_find.specs.Private.Turning.{total, turned_over, with_node}
 use Rattle.determinize_find.specs.Reversal.{IsReverseOf, IsTooLarge, most_states, reads_in}
-use Rattle.determinize_find.proofs.reversing.MadeNfa.{made_error, made_of_all}
+use Rattle.determinize_find.proofs.reversing.MadeNfa.{made_error, made_match, made_of_all}
+use Rattle.determinize_find.proofs.reversing.BothWays.{IsMadeOf}
 use Rattle.determinize_find.proofs.reversing.Counts.{larger, length-states_most, total_most}
 use Rattle.determinize_find.proofs.reversing.Steps.{over_all, over_more}
 use Rattle.determinize_find.proofs.reversal.reversed.Goals as goal
@@ -65,39 +67,36 @@ returns g c =
     let start : c.in_ok-start.start ≡ suc (length c.args.nfa.now.states) = search rules in
     let matcher : c.in_ok-matcher.matcher ≡ c.args.nfa.now.terminator = search rules in
     let states : map node_of c.in_ok-states.states.items ≡ states_of c.loop-id.turned = search rules in
+    let Built : Nfa → Type 0 = λ b. b ≡ record {
+      states = map node_of c.in_ok-states.states.items;
+      start_anchored = c.in_ok-start.start;
+      start_unanchored = c.in_ok-start.start;
+      reverse = not c.is_reverse.result;
+      terminator = c.in_ok-matcher.matcher;
+      look_set_any = looks_of (map node_of c.in_ok-states.states.items);
+    } in
     let over : turned_over c.args.nfa.now c.in_ok-reached.field-0.items ≡ c.loop-id.turned
     = ap (λ (xs : List ℕ). turned_over c.args.nfa.now xs) items ∙ all in
+    let made : (b : Nfa) → Built b → IsMadeOf c.args.nfa.now b c.loop-id.turned = λ b p. record {
+      direction = ap (λ (x : Nfa). x.reverse) p ∙ ap not c.is_reverse.ensures;
+      terminator = ap (λ (x : Nfa). x.terminator) p ∙ matcher;
+      start = ap (λ (x : Nfa). x.start_anchored) p ∙ start;
+      states = ap (λ (x : Nfa). x.states) p ∙ states;
+    } in
     record {
-      reverse = IfOk-weaker c.from_parts.result
-          (λ (b : Nfa). b ≡ record {
-            states = map node_of c.in_ok-states.states.items;
-            start_anchored = c.in_ok-start.start;
-            start_unanchored = c.in_ok-start.start;
-            reverse = not c.is_reverse.result;
-            terminator = c.in_ok-matcher.matcher;
-            look_set_any = looks_of (map node_of c.in_ok-states.states.items);
-          })
-          (λ (b : Nfa). IsReverseOf b c.args.nfa.now)
+      reverse = IfOk-weaker c.from_parts.result Built (λ (b : Nfa). IsReverseOf b c.args.nfa.now)
           (λ b p. made_of_all c.args.nfa.now b c.in_ok-reached.field-0.items c.loop-id.turned
           c.len-count.ensures.accepted
-          c.in_ok-reached.ensures.closed c.in_ok-reached.ensures.below over
-          record {
-            direction = ap (λ (x : Nfa). x.reverse) p ∙ ap not c.is_reverse.ensures;
-            terminator = ap (λ (x : Nfa). x.terminator) p ∙ matcher;
-            start = ap (λ (x : Nfa). x.start_anchored) p ∙ start;
-            states = ap (λ (x : Nfa). x.states) p ∙ states;
-          })
+          c.in_ok-reached.ensures.closed c.in_ok-reached.ensures.below over (made b p))
           c.from_parts.ensures.ok;
-      size = IfOk-weaker c.from_parts.result
-          (λ (b : Nfa). b ≡ record {
-            states = map node_of c.in_ok-states.states.items;
-            start_anchored = c.in_ok-start.start;
-            start_unanchored = c.in_ok-start.start;
-            reverse = not c.is_reverse.result;
-            terminator = c.in_ok-matcher.matcher;
-            look_set_any = looks_of (map node_of c.in_ok-states.states.items);
-          })
-          (λ (b : Nfa). length b.states ≤ most_states c.args.nfa.now)
+      starts = IfOk-weaker c.from_parts.result Built (λ (b : Nfa). b.start_anchored ≡ b.start_unanchored)
+          (λ b p. ap (λ (x : Nfa). x.start_anchored) p ∙ sym (ap (λ (x : Nfa). x.start_unanchored) p))
+          c.from_parts.ensures.ok;
+      pattern = IfOk-weaker c.from_parts.result Built (λ (b : Nfa). filter is_match_node b.states ≡ Match 0 ∷ [])
+          (λ b p. made_match c.args.nfa.now b c.in_ok-reached.field-0.items c.loop-id.turned
+          c.in_ok-reached.ensures.below over (made b p))
+          c.from_parts.ensures.ok;
+      size = IfOk-weaker c.from_parts.result Built (λ (b : Nfa). length b.states ≤ most_states c.args.nfa.now)
           (λ b p. let n : length b.states ≡ length (states_of c.loop-id.turned)
           = ap (λ (x : Nfa). length x.states) p ∙ ap length states in
           let m = length-states_most c.args.nfa.now c.in_ok-reached.field-0.items c.loop-id.turned

@@ -36,7 +36,8 @@ made g c =
     ≡ (map node_of c.self.inside.states.items ++ BinaryUnion c.args.start_anchored c.in_ok-skip.skip ∷ [])
     ++ ByteRange record { start = 0; end = 255; next = c.in_ok-union.union } ∷ [] = grind (arith, common_steps) in
     made_of c.args.self c.args.start_anchored (map node_of c.self.inside.states.items)
-    (map node_of c.push-2.new.self.items) c.in_ok-union.union c.in_ok-skip.skip c.self.inside.patterns c.self.inside.look_matcher
+    (map node_of c.push-2.new.self.items) c.in_ok-union.union c.in_ok-skip.skip c.self.inside.patterns
+    c.self.inside.look_matcher
     c.self.view_is (union ∙ sym same) (omega (arith, same, skip)) all
 
 pub returns-clause-ok : goal.returns-clause-ok
@@ -49,7 +50,8 @@ returns-clause-ok g c = IfOk-weaker c.from_parts.result
       terminator = c.self.inside.look_matcher;
       look_set_any = looks_of (map node_of c.push-2.new.self.items);
     })
-    (λ (n : Nfa). n ≡ built (prefixed c.args.self c.args.start_anchored) c.args.start_anchored (length c.args.self.states))
+    (λ (n : Nfa). n ≡ built (prefixed c.args.self c.args.start_anchored) c.args.start_anchored
+    (length c.args.self.states))
     (λ n e. made_is c.args.self c.args.start_anchored (map node_of c.push-2.new.self.items) c.in_ok-union.union
     c.self.inside.look_matcher (made g c) n e)
     c.from_parts.ensures.ok
@@ -69,7 +71,8 @@ apart g c =
 
 pub returns-clause-apart : goal.returns-clause-apart
 returns-clause-apart g c = IfOk-weaker c.from_parts.result
-    (λ (n : Nfa). n ≡ built (prefixed c.args.self c.args.start_anchored) c.args.start_anchored (length c.args.self.states))
+    (λ (n : Nfa). n ≡ built (prefixed c.args.self c.args.start_anchored) c.args.start_anchored
+    (length c.args.self.states))
     (λ (n : Nfa). IsApart c.args.self)
     (λ n e. apart g c)
     (returns-clause-ok g c)
@@ -79,7 +82,8 @@ returns-clause-prefix g c =
     let below : c.args.start_anchored < c.in_ok-union.union = search rules in
     let count : c.in_ok-union.union ≡ length c.args.self.states = (made g c).first in
     IfOk-weaker c.from_parts.result
-    (λ (n : Nfa). n ≡ built (prefixed c.args.self c.args.start_anchored) c.args.start_anchored (length c.args.self.states))
+    (λ (n : Nfa). n ≡ built (prefixed c.args.self c.args.start_anchored) c.args.start_anchored
+    (length c.args.self.states))
     (λ (n : Nfa). HasPrefix n)
     (λ n e. subst (λ (m : Nfa). HasPrefix m) (sym e)
     (has_prefix c.args.self c.args.start_anchored (omega arith) (apart g c).union))
@@ -87,14 +91,16 @@ returns-clause-prefix g c =
 
 pub returns-clause-forward : goal.returns-clause-forward
 returns-clause-forward g c = IfOk-weaker c.from_parts.result
-    (λ (n : Nfa). n ≡ built (prefixed c.args.self c.args.start_anchored) c.args.start_anchored (length c.args.self.states))
+    (λ (n : Nfa). n ≡ built (prefixed c.args.self c.args.start_anchored) c.args.start_anchored
+    (length c.args.self.states))
     (λ (n : Nfa). n.reverse ≡ false)
     (λ n e. ap (λ (m : Nfa). m.reverse) e)
     (returns-clause-ok g c)
 
 pub returns-clause-err : goal.returns-clause-err
 returns-clause-err g c = IfErr-weaker c.from_parts.result
-    (λ (e : BuildError). (failure (map node_of c.push-2.new.self.items) c.args.start_anchored c.in_ok-union.union ≡ Some e)
+    (λ (e : BuildError).
+    (failure (map node_of c.push-2.new.self.items) c.args.start_anchored c.in_ok-union.union ≡ Some e)
     ⊎ (e ≡ OutOfMemory))
     (λ (e : BuildError). IsUnfit c.args.self c.args.start_anchored e)
     (made_unfit c.args.self c.args.start_anchored (map node_of c.push-2.new.self.items) c.in_ok-union.union
