@@ -1,9 +1,10 @@
-//! Searches whose results were worked out by hand, or are those of another search.
+//! Searches whose results were worked out by hand, or are those of another search or program.
 
 mod classes;
 mod dfa;
+mod failing;
 mod find;
-mod find_jobs;
+mod stored_walks;
 mod uses;
 
 use determinize_below::{HalfMatch, PatternID};

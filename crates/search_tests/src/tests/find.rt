@@ -14,17 +14,17 @@ use std::process::Abort;
 use std::test::Fail;
 
 /// Pattern, start and end of a match.
-type Ends = (usize, usize, usize);
+pub type Ends = (usize, usize, usize);
 
 /// The states of an NFA with the usual prefix, a haystack, and its matches.
-struct Row {
-    states: &'static str,
-    haystack: &'static [u8],
-    matches: &'static [Ends],
+pub struct Row {
+    pub states: &'static str,
+    pub haystack: &'static [u8],
+    pub matches: &'static [Ends],
 }
 
 /// `a*`, `|b`, `b|`, `(?mR)^a*$` and, as patterns 0 and 1, `b` and `ab`.
-static ROWS: [Row; 6] = [
+pub static ROWS: [Row; 6] = [
     Row {
         states: "BU:2,1 B:00-ff>0 BU:3,4 B:61>2 M:0",
         haystack: b"baac",
@@ -62,7 +62,7 @@ const WORDS: &str =
     "BU:2,1 B:00-ff>0 L:WordAscii>3 S:30-39>4,41-5a>4,5f-5f>4,61-7a>4 BU:3,5 L:WordAscii>6 M:0";
 
 /// Returns an NFA that reads forward, with the usual prefix in its first two states.
-fn nfa<R: Abort + AllocGlobal>(rt: &R, states: &str) -> Result<NFA, Fail>
+pub fn nfa<R: Abort + AllocGlobal>(rt: &R, states: &str) -> Result<NFA, Fail>
     ensures { IfOk result (λ nfa. nfa.reverse ≡ false) }
 {
     let states = nfas::states(rt.alloc(), states)?;
@@ -72,10 +72,17 @@ fn nfa<R: Abort + AllocGlobal>(rt: &R, states: &str) -> Result<NFA, Fail>
     Ok(nfa)
 }
 
-/// Compares a match with its pattern and its ends.
-fn expect_match<R: Abort>(rt: &R, found: Match, wanted: Ends) {
-    let ends = (found.pattern.as_usize(), found.start, found.end);
-    same(rt, ends, wanted);
+/// Returns the pattern and the ends of a match.
+pub fn ends_of(found: Option<Match>) -> Option<Ends> {
+    found.map(|m| (m.pattern.as_usize(), m.start, m.end))
+}
+
+/// Compares matches with their patterns and ends.
+pub fn expect_matches<R: Abort>(rt: &R, found: &[Match], wanted: &[Ends]) {
+    same(rt, found.len(), wanted.len());
+    for (found, wanted) in found.iter().zip(wanted) {
+        same(rt, ends_of(Some(*found)), Some(*wanted));
+    }
 }
 
 /// Finds all matches of a haystack, by an NFA with the usual prefix and by its reverse.
@@ -93,10 +100,7 @@ fn expect_by_regex<R: Abort + AllocGlobal>(
     let input = Input::new(haystack);
     same(rt, regex.is_match(&input)?, !wanted.is_empty());
     let found = regex.find_all(rt.alloc(), &input)?;
-    same(rt, found.len(), wanted.len());
-    for (found, wanted) in found.iter().zip(wanted) {
-        expect_match(rt, *found, *wanted);
-    }
+    expect_matches(rt, found.as_slice(), wanted);
     Ok(())
 }
 
@@ -111,10 +115,7 @@ fn expect_all<R: Abort + AllocGlobal>(
     requires kind { lazy.old.kind ≡ kinds.LeftmostFirst }
 {
     let found = plain::find_all(rt.alloc(), lazy, &Input::new(haystack))?;
-    same(rt, found.len(), wanted.len());
-    for (found, wanted) in found.iter().zip(wanted) {
-        expect_match(rt, *found, *wanted);
-    }
+    expect_matches(rt, found.as_slice(), wanted);
     Ok(())
 }
 
@@ -142,8 +143,7 @@ fn expect_word<R: Abort + AllocGlobal>(
     let nfa = nfa(rt, WORDS)?;
     let mut lazy = Lazy::new(rt.alloc(), &nfa, MatchKind::LeftmostFirst, 100);
     let found = plain::find(&mut lazy, input)?;
-    let ends = found.map(|m| (m.pattern.as_usize(), m.start, m.end));
-    same(rt, ends, wanted);
+    same(rt, ends_of(found), wanted);
     Ok(())
 }
 

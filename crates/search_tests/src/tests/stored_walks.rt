@@ -1,0 +1,196 @@
+//! Matches with both ends over the texts of walks, with the usual prefix before their NFAs: by one
+//! anchored search after another, by an NFA and its reverse, and as the original found them.
+
+ghost use Rattle.std.specs.Prelude.{◌≡◌, IfOk, false, true};
+ghost use Rattle.determinize_find.specs.Prefix.{HasPrefix};
+ghost use Rattle.determinize_lazy.specs.Searches.{has_start};
+
+use crate::tests::{holds, same};
+use determinize_below::nfa::State;
+use determinize_below::{Anchored, HalfMatch, Input, MatchKind, NFA, StateID, Transition};
+use determinize_find::{Match, Regex, plain, prefix, reversed};
+use determinize_lazy::Lazy;
+use determinize_replay::examples::examples;
+use determinize_replay::job::Job;
+use determinize_replay::key::Key;
+use determinize_replay::values::LastMatch;
+use determinize_replay::{nfas, values};
+use std::alloc::Global;
+use std::process::Abort;
+use std::test::Fail;
+
+/// Walks of regex-automata 0.4.18 over NFAs that were made at random: in each line a job, and the
+/// last match of its states.
+static STORED: &str = "\
+walk kind=leftmost-first lb=0d text=7a0d7a5f5f257a0d0d252525 | BU:1,2 B:00-ff>0 L:WordEndAscii>3 M:0 = match 0 7
+walk kind=leftmost-first lb=0d text=25256161 | BU:7,1 B:00-ff>0 B:00-ff>3 B:61-7a>4 M:1 L:EndLF>6 M:3 U:2,5 = match 1 3
+walk kind=leftmost-first lb=0a text=0d0d | S:0d-0d>1 BU:2,3 C:1 L:StartCRLF>4 L:EndCRLF>5 M:1 = match 1 1
+walk kind=leftmost-first lb=0a text=0a0a0a0a after=0d | BU:1,2 B:00-ff>0 L:WordStartHalfUnicode>3 M:95 = match 95 4
+walk kind=leftmost-first lb=0a text=0d0a0a | BU:1,2 B:00-ff>0 B:0a-0a>3 L:End>4 M:0 = match 0 3
+walk kind=leftmost-first term=25 lb=30 text=61ff306161 | BU:2,1 B:00-ff>0 L:WordEndHalfAscii>3 BU:4,2 M:1 = match 1 1
+walk kind=leftmost-first start=2 text=5f0a0a0a | M:1 L:WordAsciiNegate>0 BU:1,3 B:00-ff>2 = match 1 2
+walk kind=leftmost-first start=2 lb=30 text=200a0a7a30410a7a0a200d7a | BU:2,1 B:00-ff>0 B:00-ff>3 BU:2,4 M:1 = match 1 12
+walk kind=leftmost-first start=1 term=0d text=0d0a0a0a0d0d1a0d0d410d0a | M:228 B:00-ff>0 = match 228 1
+walk kind=leftmost-first lb=0a text=0a0a0a0d0d0d0d0d0a0a410d | BU:1,2 B:00-ff>0 B:0a-0a>3 M:0 = match 0 10
+walk kind=leftmost-first term=25 lb=0a text=250a | U:8,5 BU:4,6 M:2 B:5f-5f>4 BU:1,2 BU:1,2 C:3 M:1 B:00-2f>7 = match 1 1
+walk kind=leftmost-first start=4 term=00 lb=0d text=0d0d | BU:2,2 B:0d-0d>0 M:0 B:00-ff>3 B:0d-0d>0 = match 0 1
+walk kind=leftmost-first start=3 term=0d text=0d | B:00-ff>2 M:2147483646 BU:3,0 B:00-ff>1 = match 2147483646 1
+walk kind=leftmost-first start=1 text=ffff61617a | M:1355997592 B:00-ff>0 = match 1355997592 1
+walk kind=leftmost-first term=00 lb=00 text=0a0d000d | BU:2,1 B:00-ff>0 B:00-ff>3 M:2147483646 = match 2147483646 1
+walk kind=leftmost-first start=2 term=5f text=ff0d0a0d30 | M:2 B:30-30>0 BU:1,3 B:00-ff>2 = match 2 5
+walk kind=leftmost-first start=2 lb=7a text=250a after=0a | M:0 B:00-ff>0 BU:1,3 B:00-ff>2 = match 0 1
+walk kind=leftmost-first start=2 text=0d0a0a0d0d0a0a0a0a0d0a0a | B:00-ff>4 M:2 B:0d-0d>3 B:0a-0a>1 BU:2,0 = match 2 2
+walk kind=leftmost-first term=61 lb=0d text=0a000a | BU:2,1 B:00-ff>0 B:0a-0a>3 M:1 = match 1 1
+walk kind=leftmost-first lb=25 text=0a | BU:2,1 B:00-ff>0 B:0a-0a>3 M:0 = match 0 1
+walk kind=leftmost-first term=00 text=00 | S:00-00>1,5f-5f>1 M:0 B:00-ff>0 BU:2,4 B:00-ff>3 = match 0 1
+walk kind=leftmost-first term=00 text=0d0dff | BU:5,1 B:00-ff>0 B:0d-0d>3 BU:2,4 M:1 U:2 = match 1 2
+walk kind=leftmost-first start=1 term=0d lb=20 text=2020 | B:0e-20>2 BU:0,3 M:1 B:00-ff>1 = match 1 1
+walk kind=leftmost-first start=2 term=ff lb=ff text=3020ff | M:32 L:Start>0 B:7a-ff>1 BU:2,4 B:00-ff>3 = none
+walk kind=leftmost-first term=ff lb=0a text=0a | BU:2,1 B:00-ff>0 L:Start>3 B:0a-0a>4 M:2 = none
+walk kind=leftmost-first term=00 lb=0a text=0d0a20 | L:StartCRLF>1 S:0a-0a>0 = none
+walk kind=leftmost-first start=2 term=0d lb=0d text=0d after=0d | BU:2,1 B:00-ff>0 L:End>3 L:End>4 L:Start>5 M:0 = none
+walk kind=leftmost-first start=2 lb=25 text=25 | M:0 L:WordEndAscii>0 BU:1,3 B:00-ff>2 = none
+walk kind=leftmost-first start=2 term=78 lb=ff text=ffff | D:ff-ff>1 C:1 C:1 L:EndLF>3 L:StartCRLF>1 M:0 = none
+walk kind=leftmost-first text=0d0d0d0d | D:0d-0d>1 C:1 C:1 L:StartLF>4 L:EndLF>1 M:166 = none
+walk kind=leftmost-first term=ff lb=41 text=5f415f5f5f5f | BU:1,2 C:2 C:3 L:EndCRLF>4 L:WordAscii>1 M:2147483646 = none
+walk start=7 term=0d text=303061 | S:00-ff>5 B:00-ff>7 B:25-25>0 U:4,2,6 L:StartCRLF>5 M:3 L:EndLF>5 BU:3,1 = match 3 3
+walk term=ff lb=30 text=0000300000300000300d3030 | BU:1,2 B:00-ff>0 L:End>3 BU:4,2 M:0 = match 0 12
+walk start=2 lb=25 text=2525 | BU:2,1 B:00-ff>0 L:WordStartHalfUnicode>3 M:61 = match 61 0
+walk start=2 term=0d text=0d0d0d0d0d0d0d0d | BU:2,1 B:00-ff>0 L:StartLF>3 B:0d-0d>4 L:StartLF>5 M:0 = match 0 1
+walk term=0d lb=0d text=0a | BU:7,1 B:00-ff>0 L:EndCRLF>3 M:0 B:00-ff>5 BU:6,4 M:2147483646 U:2,4 = match 2147483646 1
+walk start=9 term=25 lb=25 text=0d0d | M:0 L:End>0 C:1 D: BU:0,3 M:3 BU:7,5 B:0a-0a>6 U:4,6 BU:8,10 B:00-ff>9 = match 0 2
+walk term=25 text=0a610a | BU:1,2 B:00-ff>0 L:WordEndHalfAscii>3 L:StartCRLF>4 L:StartCRLF>5 BU:2,6 M:223 = match 223 3
+walk lb=5f text=5f0d | BU:2,1 B:00-ff>0 L:EndLF>3 BU:2,4 M:2 = match 2 2
+walk term=0d lb=0d text=610d | BU:1,2 B:00-ff>0 L:Start>3 M:2147483646 = none
+walk lb=0a text=5f0a5f5f0a5f0a5f | U:1,3 C:2 S:0a-0a>1,5f-5f>0 L:End>0 = none
+walk start=1 lb=0a text=5f5f0a5f25 | M:0 L:WordUnicode>4 L:WordAsciiNegate>2 L:WordAscii>4 F U:2 B:0a-0a>0 = none
+";
+
+/// The text of a walk as a range of a haystack, which has the bytes behind and ahead of the text.
+#[derive(Drop)]
+struct Place {
+    haystack: Vec<u8>,
+    start: usize,
+    end: usize,
+}
+
+impl Place {
+    /// Returns the place of the text of a job.
+    fn of(alloc: Global, job: &Job<'_>) -> Result<Place, Fail> {
+        let mut haystack = Vec::new(alloc);
+        if let Some(byte) = values::optional_byte(job.value_or_none(Key::LookBehind))? {
+            haystack.push(byte)?;
+        }
+        let start = haystack.len();
+        haystack.extend_from_slice(values::bytes(alloc, job.value_or_none(Key::Text))?.as_slice())?;
+        let end = haystack.len();
+        if let Some(byte) = values::optional_byte(job.value_or_none(Key::After))? {
+            haystack.push(byte)?;
+        }
+        Ok(Place {
+            haystack,
+            start,
+            end,
+        })
+    }
+
+    /// Returns the input of a search of the text.
+    fn input(&self, anchored: Anchored) -> Result<Input<'_>, Fail>
+        ensures { IfOk result (λ input. input.anchored ≡ anchored) }
+    {
+        if self.start > self.end || self.end > self.haystack.len() {
+            return Err(Fail::new("the text is a range of the haystack"));
+        }
+        Ok(
+            Input::new(self.haystack.as_slice())
+                .range(self.start..self.end)
+                .anchored(anchored),
+        )
+    }
+}
+
+/// Returns the NFA of a job for forward scans, with the usual prefix before its start.
+fn prefixed<R: AllocGlobal>(rt: &R, job: &Job<'_>) -> Result<NFA, Fail>
+    ensures { IfOk result (λ nfa. nfa.reverse ≡ false) }
+{
+    let mut states = nfas::states(rt.alloc(), job.states())?;
+    let start = values::state_id(job.value(Key::Start).unwrap_or("0"))?;
+    let any = StateID::new(states.len())?;
+    let skip = StateID::new(any.as_usize() + 1)?;
+    let (alt1, alt2) = (start, skip);
+    states.push(State::BinaryUnion { alt1, alt2 })?;
+    let trans = Transition {
+        start: 0,
+        end: 255,
+        next: any,
+    };
+    states.push(State::ByteRange { trans })?;
+    let matcher = nfas::matcher(job)?;
+    Ok(NFA::from_parts(rt.alloc(), states, start, any, false, matcher)?)
+}
+
+/// Returns the leftmost match of an input, and asserts that both ways find it, and the same matches
+/// after it.
+fn leftmost<R: Abort + AllocGlobal>(
+    rt: &R,
+    nfa: &NFA,
+    input: &Input<'_>,
+) -> Result<Option<Match>, Fail>
+    requires forward { nfa.now.reverse ≡ false }
+    requires prefix { HasPrefix nfa.now }
+    requires start { has_start input.now.anchored ≡ true }
+{
+    let mut lazy = Lazy::new(rt.alloc(), nfa, MatchKind::LeftmostFirst, 50);
+    let backward = reversed(rt.alloc(), nfa)?;
+    let mut regex = Regex::new(rt.alloc(), nfa, &backward, 50);
+    let found = regex.find(input)?;
+    same(rt, plain::find(&mut lazy, input)?, found);
+    same(rt, regex.is_match(input)?, found.is_some());
+    let all = plain::find_all(rt.alloc(), &mut lazy, input)?;
+    holds(rt, regex.find_all(rt.alloc(), input)? == all);
+    same(rt, all.first().copied(), found);
+    Ok(found)
+}
+
+/// Returns the leftmost match of the text of a job and the one that begins with the text, which is
+/// the leftmost one if there is one.
+fn expect_job<R: Abort + AllocGlobal>(rt: &R, job: &Job<'_>) -> Result<Option<Match>, Fail> {
+    let (nfa, place) = (prefixed(rt, job)?, Place::of(rt.alloc(), job)?);
+    if !prefix::has_prefix(&nfa) {
+        return Err(Fail::new("the NFA has the usual prefix"));
+    }
+    let anywhere = leftmost(rt, &nfa, &place.input(Anchored::No)?)?;
+    let first = leftmost(rt, &nfa, &place.input(Anchored::Yes)?)?;
+    if first.is_some() {
+        same(rt, anywhere, first);
+    }
+    Ok(first)
+}
+
+/// Asserts that the leftmost match that begins with the text is the last match of the walk. Under
+/// `All` that may be another match, so then only that there is one.
+fn expect_stored<R: Abort + AllocGlobal>(rt: &R, job: &Job<'_>, last: &str) -> Result<(), Fail> {
+    let found = expect_job(rt, job)?;
+    if job.match_kind()? == MatchKind::All {
+        same(rt, found.is_none(), last == "none");
+        return Ok(());
+    }
+    let half = found.map(|m| HalfMatch::new(m.pattern, m.end.saturating_sub(m.start)));
+    let found = format!(in rt.alloc(); "{}", LastMatch(half))?;
+    same(rt, found.as_str(), last);
+    Ok(())
+}
+
+#[test]
+fn stored_walks(rt: HostRuntime) -> Result<(), Fail> {
+    for example in examples() {
+        expect_job(&rt, &Job::read(example.job)?)?;
+    }
+    for line in STORED.lines() {
+        let Some((job, last)) = line.split_once(" = ") else {
+            return Err(Fail::new("a line has a job and a match"));
+        };
+        expect_stored(&rt, &Job::read(job)?, last)?;
+    }
+    Ok(())
+}
