@@ -1,6 +1,7 @@
 //! Searches whose results were worked out by hand, or are those of another search or program.
 
 mod classes;
+mod dense;
 mod dfa;
 mod failing;
 mod find;

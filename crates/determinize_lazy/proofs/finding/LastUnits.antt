@@ -30,7 +30,7 @@ step_none nfa kind v u none =
     (flat_map (target nfa u) (part_read kind (is_match nfa) l)))) (working_none nfa v u none
     ∙ sym (working_none nfa dead u refl))
 
-step_over : (nfa : Nfa) (kind : MatchKind) (v : Value) (u : Option ℕ) → v.states ≡ [] → step nfa kind v u ≡ dead
+pub step_over : (nfa : Nfa) (kind : MatchKind) (v : Value) (u : Option ℕ) → v.states ≡ [] → step nfa kind v u ≡ dead
 step_over nfa kind v u none = step_none nfa kind v u none ∙ (dead_stays nfa kind u).0
 
 module _ (nfa : Nfa) (kind : MatchKind) where

@@ -49,7 +49,7 @@ ended_some offset [] last h = absurd (true≢false (sym h))
 ended_some offset (p ∷ ps) last h = refl
 
 -- a match that was found stays found over more units
-longer : (nfa : Nfa) (kind : MatchKind) (v : Value) (us rest : List (Option ℕ))
+pub longer : (nfa : Nfa) (kind : MatchKind) (v : Value) (us rest : List (Option ℕ))
     → is_some (last_match (future nfa kind v us)) ≡ true → is_some (last_match (future nfa kind v (us ++ rest))) ≡ true
 longer nfa kind v us [] h = ap (λ all. is_some (last_match (future nfa kind v all))) (append-nil us) ∙ h
 longer nfa kind v us (u ∷ rest) h =

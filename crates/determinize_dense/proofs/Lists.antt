@@ -1,0 +1,32 @@
+-- Lists of patterns, one for each state.
+use Rattle.determinize_dense.proofs.Common.{[], ap, get_or, length, List, map, None, refl, Some, sym, take, take_more}
+use Rattle.determinize_dense.proofs.Common.{Value, ℕ, ◌++◌, ◌+◌, ◌<◌, ◌∙◌, ◌∷◌, ◌≡◌}
+use Rattle.determinize_core.specs.Value.{listed}
+use Rattle.determinize_lazy.proofs.tables.Values.{not_none, of_some}
+
+-- what is listed
+pub listed-some : (ps xs : List ℕ) → Some xs ≡ listed ps → xs ≡ ps
+listed-some [] xs e = not_none e
+listed-some (p ∷ ps) xs e = of_some e
+
+pub listed-none : (ps : List ℕ) → None ≡ listed ps → [] ≡ ps
+listed-none [] e = refl
+listed-none (p ∷ ps) e = not_none (sym e)
+
+map-push : {A B : Type 0} (f : A → B) (xs : List A) (x : A) → map f (xs ++ x ∷ []) ≡ map f xs ++ f x ∷ []
+map-push f [] x = refl
+map-push f (y ∷ ys) x = ap (λ zs. f y ∷ zs) (map-push f ys x)
+
+-- one list more
+pub lists-push : {L : Type 0} (f : L → List ℕ) (lists more : List L) (list : L) (values : List Value) (i : ℕ)
+    (v : Value)
+    → map f lists ≡ map (λ (x : Value). x.patterns) (take i values) → more ≡ lists ++ list ∷ []
+    → f list ≡ v.patterns → i < length values → get_or values i v ≡ v
+    → map f more ≡ map (λ (x : Value). x.patterns) (take (i + 1) values)
+lists-push f lists more list values i v so_far more_is same inside at =
+    ap (λ xs. map f xs) more_is ∙ map-push f lists list
+    ∙ ap (λ xs. xs ++ f list ∷ []) so_far
+    ∙ ap (λ ps. map (λ (x : Value). x.patterns) (take i values) ++ ps ∷ []) same
+    ∙ sym (map-push (λ (x : Value). x.patterns) (take i values) v)
+    ∙ ap (λ xs. map (λ (x : Value). x.patterns) xs)
+    (sym (take_more values i v inside ∙ ap (λ y. take i values ++ y ∷ []) at))

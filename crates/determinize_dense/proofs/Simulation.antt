@@ -1,0 +1,159 @@
+-- The table that is built: each row follows the steps of its value.
+use Rattle.determinize_dense.proofs.Common.{[], All, ap, AreStarts, arith, Bool, Building, column_of, columns_of, cond}
+use Rattle.determinize_dense.proofs.Common.{Contains, dead, first_of, get_or, get_or_from_slice_get, HasStates}
+use Rattle.determinize_dense.proofs.Common.{IsBuilding}
+use Rattle.determinize_dense.proofs.Common.{IsDfa, IsReachedValue, IsFilled, IsUnit, length, length-map, List}
+use Rattle.determinize_dense.proofs.Common.{map}
+use Rattle.determinize_dense.proofs.Common.{nat_lt, None, Option, option_map, patterns_at, refl, row_after, row_over}
+use Rattle.determinize_dense.proofs.Common.{slice_get, slice_get-get_or, slice_get-map, slice_get_within, slice_index}
+use Rattle.determinize_dense.proofs.Common.{Some}
+use Rattle.determinize_dense.proofs.Common.{start_in, start_kind_of, start_number, start_row, start_value, step, subst}
+use Rattle.determinize_dense.proofs.Common.{sym}
+use Rattle.determinize_dense.proofs.Common.{Table, true, unit_at, Value, value_after, ℕ, ◌*◌, ◌+◌, ◌<◌, ◌∙◌, ◌∷◌, ◌≡◌}
+use Rattle.std.specs.Prelude.{◌%◌, ◌++◌, false, ◌/◌}
+use Rattle.determinize_dense.proofs.Common.{MatchKind, Nfa}
+use Rattle.std.proofs.Math.Nat.{mul_comm}
+use Rattle.std.proofs.lemmas.Nat.{div-mul-add, mod-mul-add, mul-add-lt}
+use Rattle.determinize_core.specs.Alike.{NeedsTested}
+use Rattle.determinize_core.proofs.step.AlikeBytes.{each_class_steps}
+use Rattle.determinize_core.proofs.step.StepLaws.{dead_stays}
+use Rattle.determinize_lazy.proofs.tables.Values.{of_some}
+use Rattle.determinize_dense.proofs.Reached.{head_unit, reached-tested, start-number, tail_units}
+
+-- units after units
+after-more : (nfa : Nfa) (kind : MatchKind) (us rest : List (Option ℕ)) (v : Value)
+    → value_after nfa kind v (us ++ rest) ≡ value_after nfa kind (value_after nfa kind v us) rest
+after-more nfa kind [] rest v = refl
+after-more nfa kind (u ∷ us) rest v = after-more nfa kind us rest (step nfa kind v u)
+
+-- the dead value stays along units
+dead-stays : (nfa : Nfa) (kind : MatchKind) (us : List (Option ℕ)) → value_after nfa kind dead us ≡ dead
+dead-stays nfa kind [] = refl
+dead-stays nfa kind (u ∷ us) = ap (λ v. value_after nfa kind v us) (dead_stays nfa kind u).0 ∙ dead-stays nfa kind us
+
+module _ (b : Building) (is : IsBuilding b) (whole : length b.next ≡ length b.values * columns_of b.classes)
+    (starts : List ℕ) (are : AreStarts b.nfa b.values 12 starts) where
+  abbrev pub table : Table
+  table = record {
+    classes = b.classes.of_bytes;
+    class_count = length b.classes.firsts;
+    next = b.next;
+    starts = starts;
+    patterns = map (λ (v : Value). v.patterns) b.values;
+  }
+
+  column-below : (u : Option ℕ) → IsUnit u → column_of table u < columns_of b.classes
+  column-below None h = omega arith
+  column-below (Some byte) h =
+      let k : slice_index b.classes.of_bytes byte < length b.classes.firsts = is.sound.within byte h in omega (arith, k)
+
+  -- the unit for which a column is computed stands for each unit of the column
+  same-step : (v : Value) (u : Option ℕ) → NeedsTested b.nfa v → IsUnit u
+      → step b.nfa b.kind v (unit_at b.classes (column_of table u)) ≡ step b.nfa b.kind v u
+  same-step v None tested h =
+      let e : nat_lt (length b.classes.firsts) (length b.classes.firsts) ≡ false = grind arith in
+      ap (λ t. step b.nfa b.kind v (cond t (Some (first_of b.classes (length b.classes.firsts))) None)) e
+  same-step v (Some byte) tested h =
+      let c : ℕ = slice_index b.classes.of_bytes byte in
+      let k : c < length b.classes.firsts = is.sound.within byte h in
+      let e : nat_lt c (length b.classes.firsts) ≡ true = grind (arith, k) in
+      ap (λ t. step b.nfa b.kind v (cond t (Some (first_of b.classes c)) None)) e
+      ∙ each_class_steps b.nfa is.accepted b.kind v tested (first_of b.classes c) byte
+      (is.classes.alike (first_of b.classes c) byte (is.sound.bytes c k) h (is.sound.own c k))
+
+  -- a row leads to the row of the next value
+  row_over-step : (r : ℕ) (v : Value) (u : Option ℕ) → slice_get b.values r ≡ Some v → IsUnit u
+      → slice_get b.values (row_over table r u) ≡ Some (step b.nfa b.kind v u)
+  row_over-step r v u at h =
+      entry.2
+      ∙ ap (λ x. Some (step b.nfa b.kind x (unit_at b.classes (place % columns)))) same
+      ∙ ap (λ n. Some (step b.nfa b.kind v (unit_at b.classes n))) (mod-mul-add r columns c below)
+      ∙ ap Some (same-step v u (reached-tested b.nfa b.kind v (is.reached r v at)) h)
+    where
+      columns : ℕ
+      columns = columns_of b.classes
+
+      c : ℕ
+      c = column_of table u
+
+      below : c < columns
+      below = column-below u h
+
+      place : ℕ
+      place = r * columns + c
+
+      inside : place < length b.next
+      inside = subst (λ n. place < n) (mul_comm columns (length b.values) ∙ sym whole)
+          (mul-add-lt r columns c (length b.values) (slice_get_within b.values r v at) below)
+
+      entry : (x : Value) × (slice_get b.values (place / columns) ≡ Some x)
+          × (slice_get b.values (slice_index b.next place)
+          ≡ Some (step b.nfa b.kind x (unit_at b.classes (place % columns))))
+      entry = is.entries place (slice_index b.next place) (slice_get-get_or b.next place 0 inside)
+
+      same : entry.0 ≡ v
+      same = of_some (sym entry.1 ∙ ap (λ n. slice_get b.values n) (div-mul-add r columns c below) ∙ at)
+
+  -- and so along units
+  row_after-steps : (us : List (Option ℕ)) (r : ℕ) (v : Value) → slice_get b.values r ≡ Some v → All IsUnit us
+      → slice_get b.values (row_after table r us) ≡ Some (value_after b.nfa b.kind v us)
+  row_after-steps [] r v at h = at
+  row_after-steps (u ∷ us) r v at h =
+      row_after-steps us (row_over table r u) (step b.nfa b.kind v u) (row_over-step r v u at (head_unit u us h))
+      (tail_units u us h)
+
+  -- the row of a start
+  start-at : (anchored : Bool) (p : Option ℕ) → IsUnit p
+      → slice_get b.values (start_row b.nfa table anchored p) ≡ Some (start_value b.nfa (start_in b.nfa anchored) p)
+  start-at anchored p h = are.rows (start_number b.nfa anchored p)
+      (start-number anchored (start_kind_of b.nfa.terminator p)).2 anchored p h refl
+
+  lists-at : (r : ℕ) (v : Value) → slice_get b.values r ≡ Some v → patterns_at table r ≡ v.patterns
+  lists-at r v at = get_or_from_slice_get (map (λ (x : Value). x.patterns) b.values) r v.patterns []
+      (slice_get-map (λ (x : Value). x.patterns) b.values r ∙ ap (option_map (λ (x : Value). x.patterns)) at)
+
+  count : length table.patterns ≡ length b.values
+  count = length-map b.values (λ (x : Value). x.patterns)
+
+  is_table : IsFilled table
+  is_table = record {
+    size = whole ∙ ap (λ n. n * columns_of b.classes) (sym count);
+    starts = are.count;
+    first = λ i h. subst (λ n. slice_index starts i < n) (sym count) (are.within i h);
+    column = column-below;
+    within = λ r u h unit. subst (λ n. row_over table r u < n) (sym count)
+        (slice_get_within b.values (row_over table r u) _
+        (row_over-step r (get_or b.values r dead) u
+        (slice_get-get_or b.values r dead (subst (λ n. r < n) count h)) unit));
+  }
+
+  pub is_dfa : IsDfa record { nfa = b.nfa; kind = b.kind; table = table }
+  is_dfa = record {
+    accepted = is.accepted;
+    table = is_table;
+    tells = λ anchored p us h all. lists-at (row_after table (start_row b.nfa table anchored p) us) _
+        (row_after-steps us _ _ (start-at anchored p h) all);
+    over = λ anchored p us rest h all end.
+        let first : Value = start_value b.nfa (start_in b.nfa anchored) p in
+        let here : value_after b.nfa b.kind first us ≡ dead =
+        of_some (sym (row_after-steps us _ _ (start-at anchored p h) all) ∙ ap (λ n. slice_get b.values n) end
+        ∙ is.first) in
+        ap (λ (v : Value). v.patterns) (after-more b.nfa b.kind us rest first
+        ∙ ap (λ v. value_after b.nfa b.kind v rest) here ∙ dead-stays b.nfa b.kind rest);
+  }
+
+  -- the values are those that are reached
+  pub has_states : HasStates b.nfa b.kind (length b.values)
+  has_states = (
+    b.values,
+    is.apart,
+    refl,
+    λ v. (
+      λ (h : Contains b.values v). is.reached h.0 v (slice_get-get_or b.values h.0 v h.1 ∙ ap Some h.2),
+      λ (r : IsReachedValue b.nfa b.kind v).
+          let at : slice_get b.values (row_after table (start_row b.nfa table r.0 r.1) r.2) ≡ Some v =
+          row_after-steps r.2 _ _ (start-at r.0 r.1 r.3) r.4 ∙ ap Some (sym r.5) in
+          let i : ℕ = row_after table (start_row b.nfa table r.0 r.1) r.2 in
+          (i, slice_get_within b.values i v at, get_or_from_slice_get b.values i v v at),
+    ),
+  )

@@ -1,0 +1,13 @@
+-- The entries of a table.
+use Rattle.determinize_dense.proofs.Common.{column_of, IsFilled, IsUnit, length, Option, subst, sym, Table, ℕ, ◌*◌, ◌+◌}
+use Rattle.determinize_dense.proofs.Common.{◌<◌}
+use Rattle.determinize_dense.proofs.Common.{◌∙◌}
+use Rattle.std.proofs.Math.Nat.{mul_comm}
+use Rattle.std.proofs.lemmas.Nat.{mul-add-lt}
+
+-- each row has an entry for each unit
+pub entry-there : (d : Table) → IsFilled d → (r : ℕ) (u : Option ℕ) → r < length d.patterns → IsUnit u
+    → r * (d.class_count + 1) + column_of d u < length d.next
+entry-there d is r u h unit = subst (λ n. r * (d.class_count + 1) + column_of d u < n)
+    (mul_comm (d.class_count + 1) (length d.patterns) ∙ sym is.size)
+    (mul-add-lt r (d.class_count + 1) (column_of d u) (length d.patterns) h (is.column u unit))

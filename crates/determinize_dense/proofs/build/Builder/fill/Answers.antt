@@ -1,0 +1,8 @@
+use Rattle.determinize_dense.proofs.Common.{ap, Err, rules, sym, ◌∙◌, ◌≡◌}
+use Rattle.determinize_dense.proofs.Building.{same_err, more-before}
+use Rattle.determinize_dense.proofs.build.Builder.fill.Goals as goal
+
+pub returns-in_err-add_entry-clause-many : goal.returns-in_err-add_entry-clause-many
+returns-in_err-add_entry-clause-many g c = λ same.
+    let e : c.from_residual.result ≡ Err c.in_err-add_entry.field-0.0 = search rules in
+    more-before c.loop-self.invariant.stays (c.in_err-add_entry.ensures.many (ap Err (same_err (sym e ∙ same))))

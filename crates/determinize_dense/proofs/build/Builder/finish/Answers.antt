@@ -1,0 +1,58 @@
+use Rattle.determinize_dense.proofs.Common.{AreStarts, ap, Building, columns_of, HasStates, IsBuilding, IsDfa, length}
+use Rattle.determinize_dense.proofs.Common.{length-map, map, subst, sym, Value, ◌*◌, ◌∙◌, ◌≡◌}
+use Rattle.determinize_dense.proofs.Simulation.{has_states, is_dfa}
+use Rattle.determinize_dense.proofs.build.Builder.finish.Goals as goal
+
+pub invariant_of-result : goal.invariant_of-result
+invariant_of-result g c =
+    let lists : map (λ list. list.items) c.in_ok-patterns.patterns.items
+    ≡ map (λ (v : Value). v.patterns) c.self.inside.states =
+    c.in_ok-patterns.ensures ∙ ap (λ vs. map (λ (v : Value). v.patterns) vs) c.as_slice.ensures in
+    subst (λ n. IsDfa record {
+      nfa = n;
+      kind = c.match_kind.result;
+      table = record {
+        classes = c.self.inside.classes.of_bytes;
+        class_count = length c.self.inside.classes.firsts;
+        next = c.self.inside.next.items;
+        starts = c.args.starts;
+        patterns = map (λ list. list.items) c.in_ok-patterns.patterns.items;
+      };
+    }) (sym c.nfa.ensures)
+    (subst (λ k. IsDfa record {
+      nfa = c.self.inside.stepper.nfa;
+      kind = k;
+      table = record {
+        classes = c.self.inside.classes.of_bytes;
+        class_count = length c.self.inside.classes.firsts;
+        next = c.self.inside.next.items;
+        starts = c.args.starts;
+        patterns = map (λ list. list.items) c.in_ok-patterns.patterns.items;
+      };
+    }) (sym c.match_kind.ensures)
+    (subst (λ ls. IsDfa record {
+      nfa = c.self.inside.stepper.nfa;
+      kind = c.self.inside.stepper.kind;
+      table = record {
+        classes = c.self.inside.classes.of_bytes;
+        class_count = length c.self.inside.classes.firsts;
+        next = c.self.inside.next.items;
+        starts = c.args.starts;
+        patterns = ls;
+      };
+    }) (sym lists)
+    (is_dfa _ c.self.invariant
+    (subst (λ (x : Building). length x.next
+    ≡ length x.values * columns_of x.classes) (sym c.self.view_is) c.requires.whole)
+    c.args.starts
+    (subst (λ (x : Building). AreStarts x.nfa x.values 12 c.args.starts) (sym c.self.view_is) c.requires.starts))))
+
+pub returns-clause-states : goal.returns-clause-states
+returns-clause-states g c =
+    let count : length (map (λ list. list.items) c.in_ok-patterns.patterns.items) ≡ length c.args.self.values =
+    ap length (c.in_ok-patterns.ensures ∙ ap (λ vs. map (λ (v : Value). v.patterns) vs) c.as_slice.ensures)
+    ∙ length-map c.self.inside.states (λ (v : Value). v.patterns)
+    ∙ ap (λ (x : Building). length x.values) c.self.view_is in
+    subst (λ n. HasStates c.args.self.nfa c.args.self.kind n) (sym count)
+    (has_states c.args.self (subst (λ (x : Building). IsBuilding x) c.self.view_is c.self.invariant) c.requires.whole
+    c.args.starts c.requires.starts)

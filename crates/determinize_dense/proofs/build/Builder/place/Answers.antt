@@ -1,0 +1,68 @@
+use Rattle.determinize_dense.proofs.Common.{ap, arith, Building, false, HasMoreStates, IsBuilding, IsReachedValue}
+use Rattle.determinize_dense.proofs.Common.{AllResolve, length, list_any, same, slice_get, Stays, subst, sym, ◌∙◌}
+use Rattle.determinize_dense.proofs.Common.{◌≡◌, ◌≤◌, ◌++◌, ◌∷◌, []}
+use Rattle.determinize_lazy.proofs.tables.Values.{get_last}
+use Rattle.determinize_dense.proofs.Building.{building-value, one_too_many, stays-value}
+use Rattle.determinize_dense.proofs.build.Builder.place.Goals as goal
+
+pub returns-then-len-self-clause-many : goal.returns-then-len-self-clause-many
+returns-then-len-self-clause-many g c = λ _.
+    let fresh : list_any (same c.args.state) c.self.inside.states ≡ false = c.in_default.ensures in
+    subst (λ (x : Building). HasMoreStates x.nfa x.kind x.limit) c.self.view_is
+    (one_too_many _ c.self.invariant c.args.state fresh
+    (subst (λ (x : Building). IsReachedValue x.nfa x.kind c.args.state) (sym c.self.view_is) c.requires.reached)
+    (sym c.len.ensures.value ∙ c.if-len-self.true))
+
+pub invariant_of-self-2 : goal.invariant_of-self-2
+invariant_of-self-2 g c =
+    let fresh : list_any (same c.args.state) c.self.inside.states ≡ false = c.in_default.ensures in
+    let few : length c.self.inside.states ≤ c.self.inside.limit = c.self.invariant.few in
+    let count : c.len.result ≡ length c.self.inside.states = c.len.ensures.value in
+    let apart : c.len.result ≡ c.self.inside.limit → ⊥ = c.if-len-self.false in
+    subst (λ vs. IsBuilding record {
+      nfa = c.self.inside.stepper.nfa;
+      kind = c.self.inside.stepper.kind;
+      classes = c.self.inside.classes;
+      limit = c.self.inside.limit;
+      values = vs;
+      next = c.self.inside.next.items;
+    }) (sym c.in_ok-push.ensures.states)
+    (building-value _ c.self.invariant c.args.state fresh
+    (subst (λ (x : Building). IsReachedValue x.nfa x.kind c.args.state) (sym c.self.view_is) c.requires.reached)
+    (subst (λ (x : Building). AllResolve x.nfa c.args.state.states) (sym c.self.view_is) c.requires.resolve)
+    (grind (arith, few, count, apart)))
+
+pub returns-clause-at : goal.returns-clause-at
+returns-clause-at g c =
+    ap (λ vs. slice_get vs c.in_ok-push.field-0) c.in_ok-push.ensures.states
+    ∙ ap (λ n. slice_get (c.self.inside.states ++ c.args.state ∷ []) n) c.in_ok-push.ensures.index
+    ∙ get_last c.self.inside.states c.args.state
+
+pub returns-clause-stays : goal.returns-clause-stays
+returns-clause-stays g c =
+    let fresh : list_any (same c.args.state) c.self.inside.states ≡ false = c.in_default.ensures in
+    subst (λ (x : Building). Stays x record {
+      nfa = c.self.inside.stepper.nfa;
+      kind = c.self.inside.stepper.kind;
+      classes = c.self.inside.classes;
+      limit = c.self.inside.limit;
+      values = c.push.new.self;
+      next = c.self.inside.next.items;
+    }) c.self.view_is
+    (subst (λ vs. Stays record {
+      nfa = c.self.inside.stepper.nfa;
+      kind = c.self.inside.stepper.kind;
+      classes = c.self.inside.classes;
+      limit = c.self.inside.limit;
+      values = c.self.inside.states;
+      next = c.self.inside.next.items;
+    } record {
+      nfa = c.self.inside.stepper.nfa;
+      kind = c.self.inside.stepper.kind;
+      classes = c.self.inside.classes;
+      limit = c.self.inside.limit;
+      values = vs;
+      next = c.self.inside.next.items;
+    }) (sym c.in_ok-push.ensures.states)
+    (stays-value _ c.self.invariant c.args.state fresh
+    (subst (λ (x : Building). IsReachedValue x.nfa x.kind c.args.state) (sym c.self.view_is) c.requires.reached)))

@@ -1,0 +1,8 @@
+use Rattle.determinize_dense.proofs.Common.{◌≡◌, ◌<◌, cond, nat_lt, None, number_of, Some, start_kind_of, ℕ}
+use Rattle.determinize_dense.proofs.build.look_behind_of.Given as goal
+
+abbrev pub invariant-loop-number : goal.invariant-loop-number
+invariant-loop-number l = record {
+  others : (n : ℕ) → n < l.number → number_of (start_kind_of l.terminator (cond (nat_lt n 256) (Some n) None)) ≡ l.kind
+      → ⊥;
+}

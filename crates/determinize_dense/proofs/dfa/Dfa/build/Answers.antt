@@ -1,0 +1,29 @@
+use Rattle.determinize_dense.proofs.Common.{ap, Err, AreStarts, IfOk-weaker, rules, subst, sym, ◌∙◌, ◌≡◌}
+use Rattle.determinize_dense.proofs.Building.{same_err, more-as, more-before, starts-stay, states-as}
+use Rattle.determinize_dense.proofs.dfa.Dfa.build.Goals as goal
+
+pub returns-in_err-starts-clause-many : goal.returns-in_err-starts-clause-many
+returns-in_err-starts-clause-many g c = λ same.
+    let e : c.from_residual-in_err-starts.result ≡ Err c.in_err-starts.field-0.0 = search rules in
+    more-as c.in_ok-builder.ensures.nfa c.in_ok-builder.ensures.kind c.in_ok-builder.ensures.limit
+    (c.in_err-starts.ensures.many (ap Err (same_err (sym e ∙ same))))
+
+pub returns-in_err-fill-clause-many : goal.returns-in_err-fill-clause-many
+returns-in_err-fill-clause-many g c = λ same.
+    let e : c.from_residual-in_err-fill.result ≡ Err c.in_err-fill.field-0.0 = search rules in
+    more-as c.in_ok-builder.ensures.nfa c.in_ok-builder.ensures.kind c.in_ok-builder.ensures.limit
+    (more-before c.in_ok-starts.ensures.stays (c.in_err-fill.ensures.many (ap Err (same_err (sym e ∙ same)))))
+
+pub finish-requires-clause-starts : goal.finish-requires-clause-starts
+finish-requires-clause-starts g c =
+    subst (λ n. AreStarts n c.fill.new.self.values 12 c.in_ok-starts.starts)
+    (sym (c.in_ok-fill.ensures.stays.nfa ∙ c.in_ok-starts.ensures.stays.nfa))
+    (starts-stay c.in_ok-fill.ensures.stays c.in_ok-starts.ensures.starts)
+
+pub returns-clause-states : goal.returns-clause-states
+returns-clause-states g c =
+    IfOk-weaker c.finish.result _ _
+    (λ dfa h. states-as
+    (c.in_ok-fill.ensures.stays.nfa ∙ c.in_ok-starts.ensures.stays.nfa ∙ c.in_ok-builder.ensures.nfa)
+    (c.in_ok-fill.ensures.stays.kind ∙ c.in_ok-starts.ensures.stays.kind ∙ c.in_ok-builder.ensures.kind) h)
+    c.finish.ensures.states

@@ -1,0 +1,3 @@
+pub mod Dfa
+pub mod Private
+pub mod Table

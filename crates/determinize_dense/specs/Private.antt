@@ -1,0 +1,4 @@
+-- What private functions promise each other: no public contract cites these definitions.
+pub mod Building
+pub mod Rows
+pub mod Searching

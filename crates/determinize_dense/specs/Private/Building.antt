@@ -1,0 +1,73 @@
+-- A table that is being built: the values found so far, and the entries of their rows.
+use Rattle.std.specs.Prelude.{◌≡◌, ◌<◌, ◌≤◌, ◌+◌, ◌*◌, ◌/◌, ◌%◌, ℕ, Bool, cond, Option, Some, None}
+use Rattle.std.specs.Prelude.{List, length, nat_lt}
+use Rattle.std.specs.Prelude.{slice_get, slice_index}
+use Rattle.determinize_below.specs.ByteClasses.{AreClasses, AreClassesOf, Classes, first_of}
+use Rattle.determinize_below.specs.Nfa.{AllResolve, IsAccepted}
+use Rattle.determinize_below.specs.Semantics.{Nfa}
+use Rattle.determinize_below.specs.Truth.{IsUnit}
+use Rattle.determinize_below.specs.declared.search.MatchKind.{MatchKind}
+use Rattle.determinize_core.specs.Step.{start_value, step}
+use Rattle.determinize_core.specs.Value.{Value, dead}
+use Rattle.determinize_dense.specs.Dfa.{IsReachedValue, start_in}
+use Rattle.determinize_dense.specs.Table.{start_number}
+use Rattle.determinize_lazy.specs.Table.{EachApart}
+
+pub record Building : Type 0 where
+  pub nfa : Nfa
+  pub kind : MatchKind
+  pub classes : Classes
+  pub limit : ℕ
+  pub values : List Value
+  pub next : List ℕ
+
+-- the number of columns
+abbrev pub columns_of : Classes → ℕ
+columns_of p = length p.firsts + 1
+
+-- the unit for which a column is computed: the least byte of its class, or the end of input
+abbrev pub unit_at : Classes → ℕ → Option ℕ
+unit_at p c = cond (nat_lt c (length p.firsts)) (Some (first_of p c)) None
+
+-- an entry leads from the value of its row to the next one over the unit of its column
+abbrev pub IsEntry : Building → ℕ → ℕ → Type 0
+IsEntry b e r = (v : Value) × (slice_get b.values (e / columns_of b.classes) ≡ Some v)
+    × (slice_get b.values r ≡ Some (step b.nfa b.kind v
+    (unit_at b.classes (e % columns_of b.classes))))
+
+-- the values are reached and apart, the first of them is the dead one, and the entries so far are
+-- right
+pub record IsBuilding (b : Building) : Type 0 where
+  pub accepted : IsAccepted b.nfa
+  pub classes : AreClassesOf b.nfa b.classes
+  pub sound : AreClasses b.classes
+  pub apart : EachApart b.values
+  pub first : slice_get b.values 0 ≡ Some dead
+  pub reached : (i : ℕ) (v : Value) → slice_get b.values i ≡ Some v → IsReachedValue b.nfa b.kind v
+  pub resolve : (i : ℕ) (v : Value) → slice_get b.values i ≡ Some v → AllResolve b.nfa v.states
+  pub entries : (e r : ℕ) → slice_get b.next e ≡ Some r → IsEntry b e r
+  pub within : length b.next ≤ length b.values * columns_of b.classes
+  pub few : length b.values ≤ b.limit
+  pub limit : b.limit ≤ 16647160
+
+-- what a call leaves: each value that was found stays at its place
+pub record Stays (old new : Building) : Type 0 where
+  pub nfa : new.nfa ≡ old.nfa
+  pub kind : new.kind ≡ old.kind
+  pub classes : new.classes ≡ old.classes
+  pub limit : new.limit ≡ old.limit
+  pub longer : length old.values ≤ length new.values
+  pub values : (i : ℕ) (v : Value) → slice_get old.values i ≡ Some v → slice_get new.values i
+      ≡ Some v
+
+-- this is the row of the start with a number, whatever byte of its kind is behind it
+abbrev pub IsStart : Nfa → List Value → ℕ → ℕ → Type 0
+IsStart nfa values number r = (anchored : Bool) (p : Option ℕ) → IsUnit p
+    → start_number nfa anchored p ≡ number
+    → slice_get values r ≡ Some (start_value nfa (start_in nfa anchored) p)
+
+-- these are the rows of the first n starts
+pub record AreStarts (nfa : Nfa) (values : List Value) (n : ℕ) (starts : List ℕ) : Type 0 where
+  pub count : length starts ≡ 12
+  pub within : (i : ℕ) → i < n → slice_index starts i < length values
+  pub rows : (i : ℕ) → i < n → IsStart nfa values i (slice_index starts i)

@@ -1,0 +1,50 @@
+-- The table of a DFA: a row for each state, in it a column for each class of bytes, and last one
+-- for the end of input.
+use Rattle.std.specs.Prelude.{ℕ, ◌+◌, ◌*◌, Bool, cond, Option, Some, None, List, [], ◌∷◌, get_or}
+use Rattle.std.specs.Prelude.{slice_index}
+use Rattle.determinize_below.specs.Semantics.{Nfa}
+use Rattle.determinize_below.specs.declared.search.MatchKind.{MatchKind}
+use Rattle.determinize_start.specs.StartKinds.{number_of, start_kind_of}
+
+-- the class of each byte, and how many there are; the entries of all rows, one row after the other;
+-- the rows of the
+-- start states; and the patterns that each row lists
+pub record Table : Type 0 where
+  pub classes : List ℕ
+  pub class_count : ℕ
+  pub next : List ℕ
+  pub starts : List ℕ
+  pub patterns : List (List ℕ)
+
+-- what a `Dfa` is seen as: its NFA, its match kind and its table
+pub record DfaValue : Type 0 where
+  pub nfa : Nfa
+  pub kind : MatchKind
+  pub table : Table
+
+-- the column of a unit
+abbrev pub column_of : Table → Option ℕ → ℕ
+column_of d None = d.class_count
+column_of d (Some byte) = slice_index d.classes byte
+
+-- the row after a row over a unit
+abbrev pub row_over : Table → ℕ → Option ℕ → ℕ
+row_over d r u = slice_index d.next (r * (d.class_count + 1) + column_of d u)
+
+-- the row after a row over units
+abbrev pub row_after : Table → ℕ → List (Option ℕ) → ℕ
+row_after d r [] = r
+row_after d r (u ∷ us) = row_after d (row_over d r u) us
+
+-- where the row of a start stands: by the kind of the start, the unanchored ones behind the
+-- anchored ones
+abbrev pub start_number : Nfa → Bool → Option ℕ → ℕ
+start_number nfa anchored p = cond anchored 0 6 + number_of (start_kind_of nfa.terminator p)
+
+-- the row of a start behind a byte
+abbrev pub start_row : Nfa → Table → Bool → Option ℕ → ℕ
+start_row nfa d anchored p = slice_index d.starts (start_number nfa anchored p)
+
+-- the patterns that a row lists
+abbrev pub patterns_at : Table → ℕ → List ℕ
+patterns_at d r = get_or d.patterns r []

@@ -1,0 +1,282 @@
+//! The construction of a DFA: a worklist of states, whose rows are filled entry by entry.
+//!
+//! The states found so far have rows in the order in which they were found: the dead state, the
+//! start states, and then the next states of each row. An entry is computed for one byte of each
+//! class, and for the end of input (EOI).
+
+ghost use Rattle.std.specs.Prelude.{◌≡◌, ◌<◌, ◌≤◌, ◌+◌, ◌*◌, ℕ, Option, [], Err, Some, None, IfOk, IfNone, OnOk, cond, length, map, min, nat_lt, slice_get};
+ghost use Rattle.std.specs.Option.{IfSome};
+ghost use Rattle.determinize_below.specs.Truth.{IsUnit};
+ghost use Rattle.determinize_below.specs.Unit.{byte_of};
+ghost use Rattle.determinize_start.specs.StartKinds.{number_of, start_kind_of};
+ghost use Rattle.determinize_below.specs.Nfa.{AllResolve};
+ghost use Rattle.determinize_core.specs.Value.{Value as StateValue};
+ghost use Rattle.determinize_dense.specs.Dfa.{HasMoreStates, HasStates, IsReachedValue, start_in};
+ghost use Rattle.determinize_dense.specs.Private.Building.{AreStarts, IsStart, Stays, columns_of, unit_at};
+ghost use Rattle.determinize_dense.specs.declared.error.BuildError.TheVariants.{TooManyStates};
+
+use crate::dfa::{Dfa, STARTS};
+use crate::error::BuildError;
+use crate::states::{MAX_STATES, States};
+use determinize_below::alphabet::ByteClasses;
+use determinize_below::{MatchKind, NFA, PatternID, StateID, Unit};
+use determinize_core::determinize::Stepper;
+use determinize_core::start::{Start, start_kind_of};
+use determinize_core::state::State;
+use std::alloc::{AllocError, Allocator};
+use std::marker::Model;
+
+/// A DFA that is being built.
+#[derive(Drop)]
+pub(crate) struct Builder<'n, N: Allocator, A: Allocator> {
+    stepper: Stepper<'n, N, A>,
+    classes: ByteClasses,
+    limit: usize,
+    states: States<A>,
+    next: Vec<u32, A>,
+}
+
+impl<'n, N: Allocator, A: Allocator> Model for Builder<'n, N, A> {
+    ghost use Rattle.determinize_dense.specs.Private.Building.{Building, IsBuilding};
+
+    ghost Value = { Building };
+
+    ghost view = { λ b. record {
+      nfa = b.stepper.nfa;
+      kind = b.stepper.kind;
+      classes = b.classes;
+      limit = b.limit;
+      values = b.states;
+      next = b.next.items;
+    } };
+
+    ghost invariant = { λ b. IsBuilding record {
+      nfa = b.stepper.nfa;
+      kind = b.stepper.kind;
+      classes = b.classes;
+      limit = b.limit;
+      values = b.states;
+      next = b.next.items;
+    } };
+}
+
+/// Returns the byte with this number, or `None` for any number above 255.
+fn unit_of(number: usize) -> Option<u8>
+    ensures { result ≡ cond (nat_lt number 256) (Some number) None }
+{
+    u8::try_from(number).ok()
+}
+
+/// Returns the state of the NFA from which the start with this number begins.
+fn start_id<N: Allocator>(nfa: &NFA<N>, number: usize) -> StateID
+    ensures value { result ≡ start_in nfa.now (nat_lt number 6) }
+    ensures resolve { result < length nfa.now.states }
+{
+    if number < Start::len() {
+        nfa.start_anchored()
+    } else {
+        nfa.start_unanchored()
+    }
+}
+
+/// Returns a byte of the kind of start with this number, or that the kind is of starts behind
+/// nothing. `None` if no start is of this kind.
+fn look_behind_of(terminator: u8, kind: usize) -> Option<Option<u8>>
+    ensures some { IfSome result (λ p. number_of (start_kind_of terminator p) ≡ kind) }
+    ensures unit { IfSome result (λ p. IsUnit p) }
+    ensures none { IfNone result
+        ((p : Option ℕ) → IsUnit p → number_of (start_kind_of terminator p) ≡ kind → ⊥) }
+{
+    for number in 0..257 {
+        let look_behind = unit_of(number);
+        let found = start_kind_of(terminator, look_behind).as_usize();
+        if found == kind {
+            return Some(look_behind);
+        }
+    }
+    None
+}
+
+/// Returns the patterns of a state, in a list that is not allocated if there are none.
+fn patterns_of<A: Allocator + Copy>(
+    alloc: A,
+    state: &State<A>,
+) -> Result<Vec<PatternID, A>, AllocError>
+    ensures { IfOk result (λ list. list.items ≡ state.now.patterns) }
+{
+    match state.match_pattern_ids()? {
+        Some(list) => Ok(list),
+        None => Ok(Vec::new(alloc)),
+    }
+}
+
+/// Returns a list with the patterns of each state.
+fn lists_of<A: Allocator + Copy>(
+    alloc: A,
+    states: &[State<A>],
+) -> Result<Vec<Vec<PatternID, A>, A>, AllocError>
+    ensures { IfOk result (λ lists. map (λ list. list.items) lists.items
+        ≡ map (λ (v : StateValue). v.patterns) states.now) }
+{
+    let mut lists = Vec::with_capacity(alloc, states.len())?;
+    for state in states {
+        lists.push(patterns_of(alloc, state)?)?;
+    }
+    Ok(lists)
+}
+
+impl<'n, N: Allocator, A: Allocator + Copy> Builder<'n, N, A> {
+    /// Returns a builder that has found the dead state only.
+    pub(crate) fn new(
+        alloc: A,
+        nfa: &'n NFA<N>,
+        match_kind: MatchKind,
+        limit: usize,
+    ) -> Result<Builder<'n, N, A>, BuildError>
+        ensures nfa { IfOk result (λ builder. builder.nfa ≡ nfa.now) }
+        ensures kind { IfOk result (λ builder. builder.kind ≡ match_kind) }
+        ensures limit { IfOk result (λ builder. builder.limit ≡ min limit 16647160) }
+        ensures next { IfOk result (λ builder. builder.next ≡ []) }
+        ensures many { result ≡ Err TooManyStates
+            → HasMoreStates nfa.now match_kind (min limit 16647160) }
+    {
+        let limit = limit.min(MAX_STATES);
+        if limit == 0 {
+            return Err(BuildError::TooManyStates);
+        }
+        // For the proof: a call says that the NFA has passed its checks.
+        let _ = nfa.len();
+        let classes = nfa.byte_classes();
+        let next = Vec::with_capacity(alloc, classes.alphabet_len())?;
+        let mut states = States::new(alloc);
+        states.push(State::dead(alloc)?)?;
+        Ok(Builder {
+            stepper: Stepper::new(alloc, nfa, match_kind),
+            classes,
+            limit,
+            states,
+            next,
+        })
+    }
+
+    /// Returns the row of a state, a new one if it was not found before.
+    fn place(&mut self, state: State<A>) -> Result<u32, BuildError>
+        requires reached { IsReachedValue self.old.nfa self.old.kind state }
+        requires resolve { AllResolve self.old.nfa state.states }
+        ensures at { IfOk result (λ row. slice_get self.new.values row ≡ Some state) }
+        ensures stays { OnOk result (Stays self.old self.new) }
+        ensures next { self.new.next ≡ self.old.next }
+        ensures many { result ≡ Err TooManyStates
+            → HasMoreStates self.old.nfa self.old.kind self.old.limit }
+    {
+        if let Some(row) = self.states.find(&state) {
+            return Ok(row);
+        }
+        if self.states.len() == self.limit {
+            return Err(BuildError::TooManyStates);
+        }
+        Ok(self.states.push(state)?)
+    }
+
+    /// Returns the row of the start with this number, or 0 if no start has it.
+    fn start(&mut self, number: usize) -> Result<u32, BuildError>
+        requires { number < 12 }
+        ensures at { IfOk result (λ row. IsStart self.old.nfa self.new.values number row) }
+        ensures within { IfOk result (λ row. row < length self.new.values) }
+        ensures stays { OnOk result (Stays self.old self.new) }
+        ensures next { self.new.next ≡ self.old.next }
+        ensures many { result ≡ Err TooManyStates
+            → HasMoreStates self.old.nfa self.old.kind self.old.limit }
+    {
+        let nfa = self.stepper.nfa();
+        let terminator = nfa.look_matcher().get_line_terminator();
+        let Some(look_behind) = look_behind_of(terminator, number % Start::len()) else {
+            return Ok(0);
+        };
+        let state = self.stepper.start(start_id(nfa, number), look_behind)?;
+        self.place(state)
+    }
+
+    /// Returns the rows of all starts.
+    pub(crate) fn starts(&mut self) -> Result<[u32; STARTS], BuildError>
+        ensures starts { IfOk result (λ starts. AreStarts self.old.nfa self.new.values 12 starts) }
+        ensures stays { OnOk result (Stays self.old self.new) }
+        ensures next { self.new.next ≡ self.old.next }
+        ensures many { result ≡ Err TooManyStates
+            → HasMoreStates self.old.nfa self.old.kind self.old.limit }
+    {
+        let mut starts = [0; STARTS];
+        let mut number = 0;
+        while number < STARTS {
+            starts[number] = self.start(number)?;
+            number += 1;
+        }
+        Ok(starts)
+    }
+
+    /// Returns the unit for which a column is computed.
+    fn unit(&self, column: usize) -> Unit
+        ensures { byte_of result ≡ unit_at self.now.classes column }
+    {
+        match self.classes.representatives().get(column) {
+            Some(byte) => Unit::u8(*byte),
+            None => self.classes.eoi(),
+        }
+    }
+
+    /// Computes the next entry.
+    fn add_entry(&mut self) -> Result<(), BuildError>
+        requires { length self.old.next < length self.old.values * columns_of self.old.classes }
+        ensures next { OnOk result (length self.new.next ≡ length self.old.next + 1) }
+        ensures stays { OnOk result (Stays self.old self.new) }
+        ensures many { result ≡ Err TooManyStates
+            → HasMoreStates self.old.nfa self.old.kind self.old.limit }
+    {
+        let (entry, columns) = (self.next.len(), self.classes.alphabet_len());
+        let unit = self.unit(entry % columns);
+        let state = &self.states.as_slice()[entry / columns];
+        let next = self.stepper.next(state, unit)?;
+        let row = self.place(next)?;
+        self.next.push(row)?;
+        Ok(())
+    }
+
+    /// Computes the entries of all rows, also of those that are found by then.
+    pub(crate) fn fill(&mut self) -> Result<(), BuildError>
+        ensures whole { OnOk result
+            (length self.new.next ≡ length self.new.values * columns_of self.new.classes) }
+        ensures stays { OnOk result (Stays self.old self.new) }
+        ensures many { result ≡ Err TooManyStates
+            → HasMoreStates self.old.nfa self.old.kind self.old.limit }
+    {
+        let columns = self.classes.alphabet_len();
+        while self.next.len() < self.states.len() * columns {
+            self.add_entry()?;
+        }
+        Ok(())
+    }
+
+    /// Returns the DFA, once all entries are computed.
+    ///
+    /// - `starts` are the rows of the starts.
+    pub(crate) fn finish(self, alloc: A, starts: [u32; STARTS]) -> Result<Dfa<'n, N, A>, BuildError>
+        requires whole { length self.next ≡ length self.values * columns_of self.classes }
+        requires starts { AreStarts self.nfa self.values 12 starts }
+        ensures nfa { IfOk result (λ dfa. dfa.nfa ≡ self.entry.nfa) }
+        ensures kind { IfOk result (λ dfa. dfa.kind ≡ self.entry.kind) }
+        ensures states { IfOk result
+            (λ dfa. HasStates self.entry.nfa self.entry.kind (length dfa.table.patterns)) }
+        ensures few { IfOk result (λ dfa. length dfa.table.patterns ≤ self.entry.limit) }
+        ensures room { result ≡ Err TooManyStates → ⊥ }
+    {
+        let patterns = lists_of(alloc, self.states.as_slice())?;
+        Ok(Dfa {
+            nfa: self.stepper.nfa(),
+            match_kind: self.stepper.match_kind(),
+            classes: self.classes,
+            next: self.next,
+            starts,
+            patterns,
+        })
+    }
+}

@@ -1,0 +1,177 @@
+//! Searches by a whole DFA. They allocate nothing.
+//!
+//! Matches are delayed by one unit: a row lists the patterns that match before the unit that led to
+//! it. So a search also reads the unit ahead of its text, and a start state is no match state.
+
+ghost use Rattle.std.specs.Prelude.{Decides, ◌≡◌, ◌≤◌, ◌-◌, false, true, option_map, None};
+ghost use Rattle.std.specs.Option.{IfNone, IfSome};
+ghost use Rattle.determinize_below.specs.Semantics.{between};
+ghost use Rattle.determinize_below.specs.Search.{is_done};
+ghost use Rattle.determinize_below.specs.declared.search.MatchKind.TheVariants as kinds;
+ghost use Rattle.determinize_dense.specs.Dfa as dfas;
+ghost use Rattle.determinize_dense.specs.Private.Searching.{IsFound};
+ghost use Rattle.determinize_lazy.specs.Searches.{HasMatch, IsFarthestIn, IsPreferredIn, IsSearch, has_start, in_haystack, last_in, start_for, text_of};
+
+use crate::dfa::Dfa;
+use crate::text::Text;
+use determinize_below::{Anchored, HalfMatch, Input};
+use std::alloc::Allocator;
+
+/// Returns a match in the range, with its offset in the haystack.
+fn in_haystack(input: &Input<'_>, is_backward: bool, found: Option<HalfMatch>) -> Option<HalfMatch>
+    requires order { input.now.start ≤ input.now.end }
+    requires within { IfSome found (λ m. m.offset ≤ input.now.end - input.now.start) }
+    ensures value { result ≡ option_map (in_haystack is_backward input.now) found }
+    ensures within { IfSome result
+        (λ m. (input.now.start ≤ m.offset) × (m.offset ≤ input.now.end)) }
+{
+    let HalfMatch { pattern, offset } = found?;
+    let (start, end) = (input.start(), input.end());
+    let offset = if is_backward {
+        end - offset
+    } else {
+        start + offset
+    };
+    Some(HalfMatch { pattern, offset })
+}
+
+/// Returns whether a search that is so anchored starts at the anchored start.
+fn is_anchored(anchored: Anchored) -> bool
+    ensures { result ≡ dfas.is_anchored anchored }
+{
+    match anchored {
+        Anchored::No => false,
+        _ => true,
+    }
+}
+
+impl<'n, N: Allocator, A: Allocator + Copy> Dfa<'n, N, A> {
+    /// Searches a text. The search ends at row 0 and, if `is_earliest`, at the first row that lists
+    /// a pattern. Returns the last match of the rows that it enters.
+    #[inline(always)]
+    fn search_text(
+        &self,
+        is_anchored: bool,
+        text: &Text<'_>,
+        is_earliest: bool,
+    ) -> Option<HalfMatch>
+        ensures { IsFound self.now is_earliest is_anchored text.now result }
+    {
+        let mut row = self.start_row(is_anchored, text.behind());
+        let mut last = None;
+        let mut read = 0;
+        while read <= text.len() {
+            row = self.row_over(row, text.unit(read));
+            if let Some(pattern) = self.pattern(row) {
+                last = Some(HalfMatch {
+                    pattern,
+                    offset: read,
+                });
+                if is_earliest {
+                    return last;
+                }
+            } else if row == 0 {
+                return last;
+            }
+            read += 1;
+        }
+        last
+    }
+
+    /// Searches the range of an input in the direction of the NFA. The match is one of the text
+    /// that is read.
+    #[inline(always)]
+    fn search_range(&self, input: &Input<'_>, is_earliest: bool) -> Option<HalfMatch>
+        requires start { has_start input.now.anchored ≡ true }
+        requires more { is_done input.now ≡ false }
+        ensures { IsFound self.now is_earliest (dfas.is_anchored input.now.anchored)
+            (text_of self.now.nfa.reverse input.now) result }
+    {
+        let text = Text::of_input(input, self.nfa.is_reverse());
+        self.search_text(is_anchored(input.get_anchored()), &text, is_earliest)
+    }
+
+    /// Returns the last match of the walk that `walk_between` of `determinize_core` makes over the
+    /// same text, or `None` if it has no match. The offset of a match is the number of bytes before
+    /// its end.
+    ///
+    /// - `anchored` is `Anchored::Yes` for the anchored start of the NFA, or `Anchored::No` for the
+    ///   unanchored one. The caller must not ask for `Anchored::Pattern`.
+    /// - `look_behind` is the byte just before the text, if any.
+    /// - `look_ahead` is the byte just after the text, or `None` if the input ends there.
+    ///
+    /// Under `MatchKind::LeftmostFirst` the match is that of the most preferred accepting run,
+    /// under `MatchKind::All` that of the best run at the last position where any run accepts.
+    /// `None` means that no run accepts.
+    ///
+    /// The text is in the order of reading: for an NFA that reads backward, from the last byte on.
+    /// The search stops at the dead state, since no match can follow it. Does not allocate.
+    pub fn search(
+        &self,
+        anchored: Anchored,
+        look_behind: Option<u8>,
+        text: &[u8],
+        look_ahead: Option<u8>,
+    ) -> Option<HalfMatch>
+        requires { has_start anchored ≡ true }
+        ensures search { IsSearch self.now.nfa self.now.kind (start_for self.now.nfa anchored)
+            (between look_behind text.now look_ahead) result }
+    {
+        let text = Text::new(look_behind, text, look_ahead);
+        self.search_text(is_anchored(anchored), &text, false)
+    }
+
+    /// Returns the last match of a search of an input, or `None` if no run accepts.
+    ///
+    /// The search reads the range in the direction of the NFA: an NFA that reads backward reads it
+    /// from its end to its start. The offset of a match is an index into the haystack: where the
+    /// match ends or, if it was read backward, where it begins. It lies in the range or at its end.
+    /// Which match it is depends on the match kind as for `search`.
+    ///
+    /// The search starts from the anchored or the unanchored start state of the NFA, as the input
+    /// asks. `Anchored::Pattern` has no start state here: the caller must not ask for it.
+    ///
+    /// A match lies within the range. The bytes just before and after it are only looked at by
+    /// assertions. If the range starts past its end, nothing is read and the result is `None`. Does
+    /// not allocate.
+    pub fn search_input(&self, input: &Input<'_>) -> Option<HalfMatch>
+        requires { has_start input.now.anchored ≡ true }
+        ensures last { result ≡ last_in self.now.nfa self.now.kind input.now }
+        ensures preferred { self.now.kind ≡ kinds.LeftmostFirst
+            → IfSome result (λ m. IsPreferredIn self.now.nfa input.now m) }
+        ensures farthest { self.now.kind ≡ kinds.All
+            → IfSome result (λ m. IsFarthestIn self.now.nfa input.now m) }
+        ensures none { is_done input.now ≡ false
+            → IfNone result (HasMatch self.now.nfa input.now → ⊥) }
+        ensures done { is_done input.now ≡ true → result ≡ None }
+        ensures within { IfSome result
+            (λ m. (input.now.start ≤ m.offset) × (m.offset ≤ input.now.end)) }
+    {
+        if input.is_done() {
+            return None;
+        }
+        in_haystack(
+            input,
+            self.nfa.is_reverse(),
+            self.search_range(input, false),
+        )
+    }
+
+    /// Returns whether an input has a match, under both match kinds: whether some run over what
+    /// `search_input` reads accepts.
+    ///
+    /// Stops at the first match state, and at the dead state. If the range starts past its end,
+    /// nothing is read and the result is `false`. The caller must not ask for `Anchored::Pattern`,
+    /// as for `search_input`. Does not allocate.
+    pub fn is_match(&self, input: &Input<'_>) -> bool
+        requires { has_start input.now.anchored ≡ true }
+        ensures accepts { is_done input.now ≡ false
+            → Decides result (HasMatch self.now.nfa input.now) }
+        ensures done { is_done input.now ≡ true → result ≡ false }
+    {
+        if input.is_done() {
+            return false;
+        }
+        self.search_range(input, true).is_some()
+    }
+}

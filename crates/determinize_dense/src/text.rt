@@ -1,0 +1,109 @@
+//! What a search reads: the bytes of a range, forward or backward, and the bytes around it.
+
+ghost use Rattle.std.specs.Prelude.{◌≡◌, ◌<◌, ◌≤◌, ◌^◌, Some, false, length, slice_get, slice_index};
+ghost use Rattle.determinize_below.specs.Semantics.{between};
+ghost use Rattle.determinize_below.specs.Search.{is_done};
+ghost use Rattle.determinize_core.specs.Chain.{units};
+ghost use Rattle.determinize_lazy.specs.Searches.{text_of};
+
+use determinize_below::Input;
+use determinize_core::start::{look_ahead_forward, look_ahead_reverse};
+use std::marker::Model;
+
+/// A text in the order of reading, seen as its bytes with the byte behind and the byte ahead.
+#[derive(Drop)]
+pub(crate) struct Text<'h> {
+    behind: Option<u8>,
+    bytes: &'h [u8],
+    is_backward: bool,
+    ahead: Option<u8>,
+}
+
+impl<'h> Model for Text<'h> {
+    ghost use Rattle.determinize_below.specs.Semantics as semantics;
+    ghost use Rattle.determinize_lazy.specs.Searches.{in_order};
+
+    ghost Value = { semantics.Text };
+
+    ghost view = { λ t. semantics.between t.behind (in_order t.is_backward t.bytes.now) t.ahead };
+}
+
+impl<'h> Text<'h> {
+    /// Returns a text that is read forward.
+    #[inline(always)]
+    pub(crate) fn new(behind: Option<u8>, bytes: &'h [u8], ahead: Option<u8>) -> Text<'h>
+        ensures { result ≡ between behind bytes.now ahead }
+    {
+        Text {
+            behind,
+            bytes,
+            is_backward: false,
+            ahead,
+        }
+    }
+
+    /// Returns the range of an input, with the bytes before and after it in the haystack.
+    #[inline(always)]
+    pub(crate) fn of_input(input: &Input<'h>, is_backward: bool) -> Text<'h>
+        requires { is_done input.now ≡ false }
+        ensures { result ≡ text_of is_backward input.now }
+    {
+        let (before, after) = (look_ahead_reverse(input), look_ahead_forward(input));
+        let bytes = &input.haystack()[input.start()..input.end()];
+        let (behind, ahead) = if is_backward {
+            (after, before)
+        } else {
+            (before, after)
+        };
+        Text {
+            behind,
+            bytes,
+            is_backward,
+            ahead,
+        }
+    }
+
+    /// Returns the byte behind the first.
+    #[inline(always)]
+    pub(crate) fn behind(&self) -> Option<u8>
+        ensures { result ≡ self.now.behind }
+    {
+        self.behind
+    }
+
+    /// Returns the number of bytes.
+    #[inline(always)]
+    pub(crate) fn len(&self) -> usize
+        ensures value { result ≡ length self.now.bytes }
+        ensures limit { result < 2 ^ 63 }
+    {
+        self.bytes.len()
+    }
+
+    /// Returns the byte at an index.
+    #[inline(always)]
+    pub(crate) fn byte(&self, index: usize) -> u8
+        requires { index < length self.now.bytes }
+        ensures { slice_get (units self.now) index ≡ Some (Some result) }
+    {
+        if self.is_backward {
+            self.bytes[self.bytes.len() - 1 - index]
+        } else {
+            self.bytes[index]
+        }
+    }
+
+    /// Returns the unit at an index: a byte of the text; after the last one the byte ahead, or the
+    /// end of input (EOI).
+    #[inline(always)]
+    pub(crate) fn unit(&self, index: usize) -> Option<u8>
+        requires { index ≤ length self.now.bytes }
+        ensures { slice_get (units self.now) index ≡ Some result }
+    {
+        if index == self.len() {
+            self.ahead
+        } else {
+            Some(self.byte(index))
+        }
+    }
+}
