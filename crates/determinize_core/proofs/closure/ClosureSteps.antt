@@ -35,7 +35,8 @@ module _ (nfa : Nfa) (sound : IsSound nfa) (look : Assertion → Bool) where
   -- a search with nothing pending has ended
   pub search_end-done : (met : List ℕ) → search_end nfa look met [] ≡ met
   unfolding search_end
-  search_end-done met = closure-done same_decides (edges nfa look) (length nfa.states + 1) (edges_enough nfa sound look) met
+  search_end-done met =
+      closure-done same_decides (edges nfa look) (length nfa.states + 1) (edges_enough nfa sound look) met
 
   -- and tries nothing more
   pub tries_left-done : (met : List ℕ) → tries_left nfa look met [] ≡ 0
@@ -48,22 +49,29 @@ module _ (nfa : Nfa) (sound : IsSound nfa) (look : Assertion → Bool) where
   turn_held met rest id h =
       let there : member nat_eq met id ≡ true = sym (holds-member met id) ∙ h in
       record {
-        same = sym (closure-held same_decides (edges nfa look) (length nfa.states + 1) (edges_enough nfa sound look) met id rest there);
-        fewer = tries-held same_decides (edges nfa look) (length nfa.states + 1) (edges_enough nfa sound look) met id rest there;
+        same = sym (closure-held same_decides (edges nfa look) (length nfa.states + 1)
+            (edges_enough nfa sound look) met id rest there);
+        fewer = tries-held same_decides (edges nfa look) (length nfa.states + 1)
+            (edges_enough nfa sound look) met id rest there;
         grown = ([], sym (append-nil met));
         below = λ h. h;
       }
 
   -- a new state is met, and its edges are pending before the rest
-  pub turn_new : (met rest : List ℕ) (id : ℕ) → has_id met id ≡ false → IsTurn nfa look met (met ++ id ∷ []) id rest (edges nfa look id ++ rest)
+  pub turn_new : (met rest : List ℕ) (id : ℕ) → has_id met id ≡ false
+      → IsTurn nfa look met (met ++ id ∷ []) id rest (edges nfa look id ++ rest)
   unfolding search_end tries_left
   turn_new met rest id h =
       let free : member nat_eq met id ≡ false = sym (holds-member met id) ∙ h in
       record {
-        same = sym (closure-new same_decides (edges nfa look) (length nfa.states + 1) (edges_enough nfa sound look) met id rest free);
-        fewer = tries-new same_decides (edges nfa look) (length nfa.states + 1) (edges_enough nfa sound look) met id rest free;
+        same = sym (closure-new same_decides (edges nfa look) (length nfa.states + 1)
+            (edges_enough nfa sound look) met id rest free);
+        fewer = tries-new same_decides (edges nfa look) (length nfa.states + 1)
+            (edges_enough nfa sound look) met id rest free;
         grown = (id ∷ [], refl);
-        below = All-append (λ s. s < length nfa.states) (edges nfa look id) rest (All-from_member same_decides (λ s. s < length nfa.states) (edges nfa look id) (λ t m. sound.resolves look id t m));
+        below = All-append (λ s. s < length nfa.states) (edges nfa look id) rest
+            (All-from_member same_decides (λ s. s < length nfa.states) (edges nfa look id)
+            (λ t m. sound.resolves look id t m));
       }
 
   -- the states of a search from roots
@@ -72,38 +80,47 @@ module _ (nfa : Nfa) (sound : IsSound nfa) (look : Assertion → Bool) where
   search_end-start held roots = refl
 
   -- what a search has visited is a prefix of what it ends with
-  pub met_so_far : (held met pending roots : List ℕ) → search_end nfa look met pending ≡ search_end nfa look held roots → (grown : (more : List ℕ) × (met ≡ held ++ more))
+  pub met_so_far : (held met pending roots : List ℕ) → search_end nfa look met pending ≡ search_end nfa look held roots
+      → (grown : (more : List ℕ) × (met ≡ held ++ more))
       → IsBeginning grown.0 (reach_past nfa look held roots)
   unfolding search_end
   met_so_far held met pending roots same grown =
       let rest : List ℕ = ordered nat_eq (edges nfa look) (length nfa.states + 1) (member nat_eq met) pending in
       let whole : (held ++ grown.0) ++ rest ≡ held ++ reach_past nfa look held roots =
-      ap (λ l. l ++ rest) (sym grown.1) ∙ same ∙ search_end-start held roots in
-      (rest, sym (append_cancel_left held (grown.0 ++ rest) (reach_past nfa look held roots) (sym (append_assoc held grown.0 rest) ∙ whole)))
+      ap (λ l. l ++ rest) (sym grown.1) ∙ same ∙ search_end-start held roots in (
+        rest,
+        sym (append_cancel_left held (grown.0 ++ rest) (reach_past nfa look held roots)
+            (sym (append_assoc held grown.0 rest) ∙ whole)),
+      )
 
 -- what is pending once the next state was taken from it
-pub taken : (next : Option ℕ) (pending stack : List ℕ) → IfNone next (pending ≡ []) → IfNone next (stack ≡ []) → IfSome next (λ id. pending ≡ id ∷ reverse stack)
+pub taken : (next : Option ℕ) (pending stack : List ℕ) → IfNone next (pending ≡ []) → IfNone next (stack ≡ [])
+    → IfSome next (λ id. pending ≡ id ∷ reverse stack)
     → option_to_list next ++ reverse stack ≡ pending
 taken None pending stack none empty some = ap (λ (l : List ℕ). reverse l) empty ∙ sym none
 taken (Some id) pending stack none empty some = sym some
 
 -- what is pending with a next state, and with none
-pub pending_from : (next : Option ℕ) (stack : List ℕ) (id : ℕ) → next ≡ Some id → option_to_list next ++ reverse stack ≡ id ∷ reverse stack
+pub pending_from : (next : Option ℕ) (stack : List ℕ) (id : ℕ) → next ≡ Some id
+    → option_to_list next ++ reverse stack ≡ id ∷ reverse stack
 pending_from next stack id e = ap (λ (o : Option ℕ). option_to_list o ++ reverse stack) e
 
-pub none_pending : (next : Option ℕ) (stack : List ℕ) → next ≡ None → IfNone next (stack ≡ []) → option_to_list next ++ reverse stack ≡ []
+pub none_pending : (next : Option ℕ) (stack : List ℕ) → next ≡ None → IfNone next (stack ≡ [])
+    → option_to_list next ++ reverse stack ≡ []
 none_pending None stack e empty = ap (λ (l : List ℕ). reverse l) empty
 none_pending (Some id) stack e empty = let k : Some id ≡ None = e in cc
 
 -- a search from roots, after some turns: what was visited, what is pending, and the tries before and after them
-pub record IsSoFar (nfa : Nfa) (look : Assertion → Bool) (held roots met pending : List ℕ) (before now : ℕ) : Type 0 where
+pub record IsSoFar (nfa : Nfa) (look : Assertion → Bool) (held roots met pending : List ℕ)
+    (before now : ℕ) : Type 0 where
   pub same : search_end nfa look met pending ≡ search_end nfa look held roots
   pub counted : now + tries_left nfa look met pending ≡ before + tries_left nfa look held roots
   pub grown : (more : List ℕ) × (met ≡ held ++ more)
   pub below : All (λ s. s < length nfa.states) pending
 
 module _ (nfa : Nfa) (sound : IsSound nfa) (look : Assertion → Bool) (held roots : List ℕ) where
-  pub so_far-start : (before : ℕ) → All (λ s. s < length nfa.states) roots → IsSoFar nfa look held roots held roots before before
+  pub so_far-start : (before : ℕ) → All (λ s. s < length nfa.states) roots
+      → IsSoFar nfa look held roots held roots before before
   so_far-start before h = record {
     same = refl;
     counted = refl;
@@ -112,14 +129,21 @@ module _ (nfa : Nfa) (sound : IsSound nfa) (look : Assertion → Bool) (held roo
   }
 
   module _ (met pending : List ℕ) (before now : ℕ) (so_far : IsSoFar nfa look held roots met pending before now) where
-    pub so_far-turn : (after next rest : List ℕ) (id : ℕ) → pending ≡ id ∷ rest → IsTurn nfa look met after id rest next → IsSoFar nfa look held roots after next before (now + 1)
+    pub so_far-turn : (after next rest : List ℕ) (id : ℕ) → pending ≡ id ∷ rest → IsTurn nfa look met after id rest next
+        → IsSoFar nfa look held roots after next before (now + 1)
     so_far-turn after next rest id top turn =
-        let at_top : now + tries_left nfa look met (id ∷ rest) ≡ before + tries_left nfa look held roots = subst (λ l. now + tries_left nfa look met l ≡ before + tries_left nfa look held roots) top so_far.counted in
+        let at_top : now + tries_left nfa look met (id ∷ rest) ≡ before + tries_left nfa look held roots =
+        subst (λ l. now + tries_left nfa look met l ≡ before + tries_left nfa look held roots) top so_far.counted in
         record {
           same = turn.same ∙ ap (λ l. search_end nfa look met l) (sym top) ∙ so_far.same;
           counted = omega (arith, turn.fewer, at_top);
-          grown = (so_far.grown.0 ++ turn.grown.0, turn.grown.1 ∙ ap (λ l. l ++ turn.grown.0) so_far.grown.1 ∙ append_assoc held so_far.grown.0 turn.grown.0);
-          below = turn.below (All-tail (λ s. s < length nfa.states) id rest (subst (λ l. All (λ s. s < length nfa.states) l) top so_far.below));
+          grown = (
+            so_far.grown.0 ++ turn.grown.0,
+            turn.grown.1 ∙ ap (λ l. l ++ turn.grown.0) so_far.grown.1
+                ∙ append_assoc held so_far.grown.0 turn.grown.0,
+          );
+          below = turn.below (All-tail (λ s. s < length nfa.states) id rest
+              (subst (λ l. All (λ s. s < length nfa.states) l) top so_far.below));
         }
 
     pub so_far-end : pending ≡ [] → met ≡ held ++ reach_past nfa look held roots
@@ -129,19 +153,26 @@ module _ (nfa : Nfa) (sound : IsSound nfa) (look : Assertion → Bool) (held roo
 
     pub so_far-counted : pending ≡ [] → now ≡ before + tries_left nfa look held roots
     so_far-counted none =
-        let left : tries_left nfa look met pending ≡ 0 = ap (λ l. tries_left nfa look met l) none ∙ tries_left-done nfa sound look met in
+        let left : tries_left nfa look met pending ≡ 0 =
+        ap (λ l. tries_left nfa look met l) none ∙ tries_left-done nfa sound look met in
         omega (arith, so_far.counted, left)
 
     pub so_far-part : (more : List ℕ) × (met ≡ held ++ more) × IsBeginning more (reach_past nfa look held roots)
-    so_far-part = (so_far.grown.0, so_far.grown.1, met_so_far nfa sound look held met pending roots so_far.same so_far.grown)
+    so_far-part = (
+      so_far.grown.0,
+      so_far.grown.1,
+      met_so_far nfa sound look held met pending roots so_far.same so_far.grown,
+    )
 
     -- the tries are no more than all
     pub so_far-bounded : (after : ℕ) → after ≡ now → after ≤ before + tries_left nfa look held roots
     so_far-bounded after e = omega (arith, so_far.counted)
 
 -- where nothing is pending, a search from some root has made a turn
-pub none_left : (nfa : Nfa) (roots met pending : List ℕ) → pending ≡ [] → (pending ≡ roots) ⊎ AllResolve nfa met → (root : ℕ) (others : List ℕ) → roots ≡ root ∷ others → AllResolve nfa met
-none_left nfa roots met pending none (inl same) root others e = absurd (let k : [] ≡ root ∷ others = sym none ∙ same ∙ e in cc)
+pub none_left : (nfa : Nfa) (roots met pending : List ℕ) → pending ≡ [] → (pending ≡ roots) ⊎ AllResolve nfa met
+    → (root : ℕ) (others : List ℕ) → roots ≡ root ∷ others → AllResolve nfa met
+none_left nfa roots met pending none (inl same) root others e =
+    absurd (let k : [] ≡ root ∷ others = sym none ∙ same ∙ e in cc)
 none_left nfa roots met pending none (inr all) root others e = all
 
 -- the list that is chosen by the result of a test
@@ -152,7 +183,8 @@ pub not_inserted : {A : Type 0} (b : Bool) (xs ys : List A) → b ≡ false → 
 not_inserted b xs ys e = rw e refl
 
 -- a set by its two parts
-pub members_same : (set : Members) (ids : List ℕ) (capacity : ℕ) → set.ids ≡ ids → set.capacity ≡ capacity → set ≡ record { ids = ids; capacity = capacity }
+pub members_same : (set : Members) (ids : List ℕ) (capacity : ℕ) → set.ids ≡ ids → set.capacity ≡ capacity
+    → set ≡ record { ids = ids; capacity = capacity }
 members_same set ids capacity i k = ap (λ l. members l set.capacity) i ∙ ap (λ n. members ids n) k
   where
     members : List ℕ → ℕ → Members
@@ -170,19 +202,27 @@ edges_of-leaf look (Capture next) e = absurd (true≢false e)
 edges_of-leaf look Fail e = refl
 edges_of-leaf look (Match pattern) e = refl
 
-module _ (nfa : Nfa) (sound : IsSound nfa) (look : Assertion → Bool) (held : List ℕ) (root : ℕ) (within : root < length nfa.states) (leaf : is_epsilon (state_at nfa root) ≡ false) where
+module _ (nfa : Nfa) (sound : IsSound nfa) (look : Assertion → Bool) (held : List ℕ) (root : ℕ)
+    (within : root < length nfa.states) (leaf : is_epsilon (state_at nfa root) ≡ false) where
   -- the search from such a state ends after one turn
-  one_turn : (new : Bool) → new ≡ not (has_id held root) → (before : ℕ) → IsSoFar nfa look held (root ∷ []) (if new then held ++ root ∷ [] else held) [] before (before + 1)
+  one_turn : (new : Bool) → new ≡ not (has_id held root) → (before : ℕ)
+      → IsSoFar nfa look held (root ∷ []) (if new then held ++ root ∷ [] else held) [] before (before + 1)
   one_turn new h before =
-      let start : IsSoFar nfa look held (root ∷ []) held (root ∷ []) before before = so_far-start nfa sound look held (root ∷ []) before (All-cons (λ s. s < length nfa.states) root [] within (All-nil (λ s. s < length nfa.states))) in
+      let start : IsSoFar nfa look held (root ∷ []) held (root ∷ []) before before =
+      so_far-start nfa sound look held (root ∷ []) before
+      (All-cons (λ s. s < length nfa.states) root [] within (All-nil (λ s. s < length nfa.states))) in
       by_test (has_id held root)
       (λ e. let old : new ≡ false = h ∙ ap not e in
-      rw old (so_far-turn nfa sound look held (root ∷ []) held (root ∷ []) before before start held [] [] root refl (turn_held nfa sound look held [] root e)))
+      rw old (so_far-turn nfa sound look held (root ∷ []) held (root ∷ []) before before start held [] [] root refl
+      (turn_held nfa sound look held [] root e)))
       (λ e. let fresh : new ≡ true = h ∙ ap not e in
       let no_edges : edges nfa look root ++ [] ≡ [] = ap (λ l. l ++ []) (edges_of-leaf look (state_at nfa root) leaf) in
-      rw fresh (so_far-turn nfa sound look held (root ∷ []) held (root ∷ []) before before start (held ++ root ∷ []) [] [] root refl
-      (subst (λ l. IsTurn nfa look held (held ++ root ∷ []) root [] l) no_edges (turn_new nfa sound look held [] root e))))
+      rw fresh (so_far-turn nfa sound look held (root ∷ []) held (root ∷ []) before before start
+      (held ++ root ∷ []) [] [] root refl
+      (subst (λ l. IsTurn nfa look held (held ++ root ∷ []) root [] l) no_edges
+      (turn_new nfa sound look held [] root e))))
 
   -- what it adds
-  pub leaf_set : (new : Bool) → new ≡ not (has_id held root) → (if new then held ++ root ∷ [] else held) ≡ held ++ reach_past nfa look held (root ∷ [])
+  pub leaf_set : (new : Bool) → new ≡ not (has_id held root)
+      → (if new then held ++ root ∷ [] else held) ≡ held ++ reach_past nfa look held (root ∷ [])
   leaf_set new h = so_far-end nfa sound look held (root ∷ []) _ [] 0 1 (one_turn new h 0) refl

@@ -42,7 +42,8 @@ holds-filter p (y ∷ xs) x = by_test (p y)
     (λ k. let q : p x ≡ true = ap p (eqb-true x y k) ∙ e in rw (k, q) refl)
     (λ k. rw k (holds-filter p xs x))))
     (λ e. rw e (by_test (nat_eq x y)
-    (λ k. let q : p x ≡ false = ap p (eqb-true x y k) ∙ e in rw k (holds-filter p xs x ∙ rw q (and-false (has_id xs x))))
+    (λ k. let q : p x ≡ false = ap p (eqb-true x y k) ∙ e in
+    rw k (holds-filter p xs x ∙ rw q (and-false (has_id xs x))))
     (λ k. rw k (holds-filter p xs x))))
 
 module _ (nfa : Nfa) (u : Option ℕ) where

@@ -32,27 +32,33 @@ use Rattle.determinize_core.specs.Private.Changes.{with_patterns}
 use Rattle.determinize_core.proofs.step.StepBound.{tries_are_few}
 
 -- each member of a list is below what all its items are below
-pub member-below : (bound : ℕ) (xs : List ℕ) → Each (λ id. id < bound) xs → (s : ℕ) → member nat_eq xs s ≡ true → s < bound
+pub member-below : (bound : ℕ) (xs : List ℕ) → Each (λ id. id < bound) xs → (s : ℕ) → member nat_eq xs s ≡ true
+    → s < bound
 member-below bound [] all s m = absurd (let k : false ≡ true = m in cc)
 member-below bound (x ∷ xs) all s m = by_test (nat_eq x s)
     (λ e. subst (λ t. t < bound) (eqb-true x s e) (All-head (λ id. id < bound) x xs all))
     (λ e. member-below bound xs (All-tail (λ id. id < bound) x xs all) s (rw e at m))
 
 -- a search reaches a state if and only if it has a root
-is_nonempty-reach : (nfa : Nfa) (holds : Assertion → Bool) (roots : List ℕ) → is_nonempty (reach nfa holds roots) ≡ is_nonempty roots
+is_nonempty-reach : (nfa : Nfa) (holds : Assertion → Bool) (roots : List ℕ)
+    → is_nonempty (reach nfa holds roots) ≡ is_nonempty roots
 unfolding reach
 is_nonempty-reach nfa holds [] = refl
 is_nonempty-reach nfa holds (r ∷ roots) =
     let more : length nfa.states + 1 ≡ suc (length nfa.states) = omega arith in
     ap (λ n. is_nonempty (ordered nat_eq (edges nfa holds) n none_held (r ∷ roots))) more
 
-module _ (nfa : Nfa) (accepted : IsAccepted nfa) (kind : MatchKind) (v : Value) (u : Option ℕ) (inside : Each (λ id. id < length nfa.states) v.states) where
+module _ (nfa : Nfa) (accepted : IsAccepted nfa) (kind : MatchKind) (v : Value) (u : Option ℕ)
+    (inside : Each (λ id. id < length nfa.states) v.states) where
   -- the working list has only states of the NFA
-  pub working_resolves : (working : List ℕ) → working ≡ working_list nfa v u → Each (λ id. id < length nfa.states) working
+  pub working_resolves : (working : List ℕ) → working ≡ working_list nfa v u
+      → Each (λ id. id < length nfa.states) working
   working_resolves working e = All-from_member same_decides (λ id. id < length nfa.states) working (λ x m.
       by_test (is_reopened nfa v u)
-      (λ k. let again : working_list nfa v u ≡ reach nfa (joined (has v.look_have) (opened_by nfa v u)) (distinct_states v) = rw k refl in
-      reach_within nfa (accepted_sound nfa accepted) (joined (has v.look_have) (opened_by nfa v u)) (distinct_states v) distinct_below x (ap (λ l. member nat_eq l x) (sym again ∙ sym e) ∙ m))
+      (λ k. let again : working_list nfa v u ≡ reach nfa (joined (has v.look_have) (opened_by nfa v u))
+      (distinct_states v) = rw k refl in
+      reach_within nfa (accepted_sound nfa accepted) (joined (has v.look_have) (opened_by nfa v u))
+      (distinct_states v) distinct_below x (ap (λ l. member nat_eq l x) (sym again ∙ sym e) ∙ m))
       (λ k. let kept : working_list nfa v u ≡ distinct_states v = rw k refl in
       distinct_below x (ap (λ l. member nat_eq l x) (sym kept ∙ sym e) ∙ m)))
     where
@@ -64,12 +70,14 @@ module _ (nfa : Nfa) (accepted : IsAccepted nfa) (kind : MatchKind) (v : Value) 
   step_tries = tries_are_few nfa accepted kind v u (member-below (length nfa.states) v.states inside)
 
   -- those for the working list are no more
-  pub first_tries : (before now : ℕ) → now ≤ before + tries_again nfa v u → now ≤ before + 2 * (length nfa.states + edges_in_all nfa)
+  pub first_tries : (before now : ℕ) → now ≤ before + tries_again nfa v u
+      → now ≤ before + 2 * (length nfa.states + edges_in_all nfa)
   unfolding tries
   first_tries before now h = omega (arith, step_tries)
 
   -- a builder with the look-behind for the unit, after the working list was read, and the targets on the stack
-  pub record IsRead (have : ℕ) (from_word half_crlf some : Bool) (told read flagged : Value) (row : List ℕ) : Type 0 where
+  pub record IsRead (have : ℕ) (from_word half_crlf some : Bool) (told read flagged : Value)
+      (row : List ℕ) : Type 0 where
     pub have_is : have ≡ have_after (tables_of nfa) u
     pub word_is : from_word ≡ from_word_after (tables_of nfa) u
     pub half_is : half_crlf ≡ half_crlf_after (tables_of nfa) u
@@ -78,30 +86,40 @@ module _ (nfa : Nfa) (accepted : IsAccepted nfa) (kind : MatchKind) (v : Value) 
     pub some_is : some ≡ is_nonempty row
     pub flagged_is : flagged ≡ with_flags read (some && from_word) (some && half_crlf)
 
-  module _ (have : ℕ) (from_word half_crlf some : Bool) (told read flagged : Value) (row : List ℕ) (is : IsRead have from_word half_crlf some told read flagged row) where
+  module _ (have : ℕ) (from_word half_crlf some : Bool) (told read flagged : Value) (row : List ℕ)
+      (is : IsRead have from_word half_crlf some told read flagged row) where
     entered : List ℕ
     entered = reach nfa (has (have_after (tables_of nfa) u)) (targets nfa kind v u)
 
     shape : Bool → Bool → Bool → Value
-    shape b w h = with_flags (with_patterns (record dead { look_have = have_after (tables_of nfa) u }) (patterns_read kind (patterns_of nfa (working_list nfa v u)))) (b && w) (b && h)
+    shape b w h = with_flags (with_patterns (record dead { look_have = have_after (tables_of nfa) u })
+        (patterns_read kind (patterns_of nfa (working_list nfa v u)))) (b && w) (b && h)
 
-    shape_is : flagged ≡ shape (is_nonempty entered) (from_word_after (tables_of nfa) u) (half_crlf_after (tables_of nfa) u)
+    shape_is : flagged ≡ shape (is_nonempty entered) (from_word_after (tables_of nfa) u)
+        (half_crlf_after (tables_of nfa) u)
     unfolding entered shape
     shape_is =
         is.flagged_is
-        ∙ ap (λ r. with_flags r (some && from_word) (some && half_crlf)) (is.list_is.value_is ∙ ap (λ t. with_patterns t (patterns_read kind (patterns_of nfa (working_list nfa v u)))) (is.told_is ∙ ap (λ n. record dead { look_have = n }) is.have_is))
-        ∙ ap (λ b. shape b from_word half_crlf) (is.some_is ∙ ap is_nonempty is.list_is.targets_are ∙ sym (is_nonempty-reach nfa (has (have_after (tables_of nfa) u)) (targets nfa kind v u)))
+        ∙ ap (λ r. with_flags r (some && from_word) (some && half_crlf))
+        (is.list_is.value_is ∙ ap (λ t. with_patterns t
+        (patterns_read kind (patterns_of nfa (working_list nfa v u))))
+        (is.told_is ∙ ap (λ n. record dead { look_have = n }) is.have_is))
+        ∙ ap (λ b. shape b from_word half_crlf)
+        (is.some_is ∙ ap is_nonempty is.list_is.targets_are
+        ∙ sym (is_nonempty-reach nfa (has (have_after (tables_of nfa) u)) (targets nfa kind v u)))
         ∙ ap (λ w. shape (is_nonempty entered) w half_crlf) is.word_is
         ∙ ap (λ h. shape (is_nonempty entered) (from_word_after (tables_of nfa) u) h) is.half_is
 
     reached : reach_past nfa (has have) [] row ≡ entered
     unfolding entered
-    reached = reach_past-empty nfa (has have) row ∙ ap (λ n. reach nfa (has n) row) is.have_is ∙ ap (λ l. reach nfa (has (have_after (tables_of nfa) u)) l) is.list_is.targets_are
+    reached = reach_past-empty nfa (has have) row ∙ ap (λ n. reach nfa (has n) row) is.have_is
+        ∙ ap (λ l. reach nfa (has (have_after (tables_of nfa) u)) l) is.list_is.targets_are
 
     -- the targets are states of the NFA
     pub row_resolves : Each (λ id. id < length nfa.states) row
     row_resolves = subst (λ l. Each (λ id. id < length nfa.states) l) (sym is.list_is.targets_are)
-        (All-from_member same_decides (λ id. id < length nfa.states) (targets nfa kind v u) (λ x m. targets_resolve nfa accepted kind v u x m))
+        (All-from_member same_decides (λ id. id < length nfa.states) (targets nfa kind v u)
+        (λ x m. targets_resolve nfa accepted kind v u x m))
 
     -- what is recorded is the next value
     pub stepped : settled (fold (added_one nfa) flagged (reach_past nfa (has have) [] row)) ≡ step nfa kind v u
@@ -111,8 +129,10 @@ module _ (nfa : Nfa) (accepted : IsAccepted nfa) (kind : MatchKind) (v : Value) 
         ∙ ap (λ l. settled (added nfa flagged (without (is_capture nfa) l))) reached
         ∙ ap (λ (w : Value). settled (added nfa w (without (is_capture nfa) entered))) shape_is
 
-    tries_are : tries_left nfa (has have) [] row ≡ tries_of nfa (has (have_after (tables_of nfa) u)) (targets nfa kind v u)
-    tries_are = tries_left-empty nfa (has have) row ∙ ap (λ n. tries_of nfa (has n) row) is.have_is ∙ ap (λ l. tries_of nfa (has (have_after (tables_of nfa) u)) l) is.list_is.targets_are
+    tries_are : tries_left nfa (has have) [] row
+        ≡ tries_of nfa (has (have_after (tables_of nfa) u)) (targets nfa kind v u)
+    tries_are = tries_left-empty nfa (has have) row ∙ ap (λ n. tries_of nfa (has n) row) is.have_is
+        ∙ ap (λ l. tries_of nfa (has (have_after (tables_of nfa) u)) l) is.list_is.targets_are
 
     pub all_tries : (before filled now : ℕ) → filled ≡ before + tries_again nfa v u
         → now ≡ filled + tries_left nfa (has have) [] row → now ≡ before + tries nfa kind v u
@@ -130,5 +150,7 @@ is_nonempty-length n [] e = rw e refl
 is_nonempty-length n (x ∷ xs) e = let k : (n == 0) ≡ false = grind (arith, nat_tests) in ap not k
 
 -- a dead value with its look-have replaced
-pub told_in : (old new : Value) (answer have : ℕ) → old ≡ dead → new ≡ record old { look_have = answer } → answer ≡ have → new ≡ record dead { look_have = have }
-told_in old new answer have e f h = f ∙ ap (λ (v : Value). record v { look_have = answer }) e ∙ ap (λ n. record dead { look_have = n }) h
+pub told_in : (old new : Value) (answer have : ℕ) → old ≡ dead → new ≡ record old { look_have = answer } → answer ≡ have
+    → new ≡ record dead { look_have = have }
+told_in old new answer have e f h =
+    f ∙ ap (λ (v : Value). record v { look_have = answer }) e ∙ ap (λ n. record dead { look_have = n }) h

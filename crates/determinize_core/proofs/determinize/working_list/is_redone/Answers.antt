@@ -8,4 +8,5 @@ unfolding meets
 returns c =
     let h : c.args.found < 2 ^ 18 = omega arith in
     let k : c.args.have < 2 ^ 18 = omega arith in
-    rw (c.is_empty.ensures, c.intersect.ensures, c.subtract.ensures) (redone_from_found c.args.found c.args.have c.args.need h k)
+    rw (c.is_empty.ensures, c.intersect.ensures, c.subtract.ensures)
+    (redone_from_found c.args.found c.args.have c.args.need h k)

@@ -9,15 +9,22 @@ use Rattle.determinize_core.proofs.determinize.working_list.look_again_over.Goal
 
 pub returns-then-is_empty-clause-whether : goal.returns-then-is_empty-clause-whether
 returns-then-is_empty-clause-whether g c =
-    let none : c.args.state.now.look_need ≡ 0 = sym c.look_need-need.ensures ∙ eqb-true c.look_need-need.result 0 (sym c.is_empty.ensures ∙ c.if-is_empty.true) in
-    sym (ap (λ (n : ℕ). is_redone (opened_by c.args.nfa.now c.args.state.now (byte_of c.args.unit)) c.args.state.now.look_have n) none
+    let none : c.args.state.now.look_need ≡ 0 =
+    sym c.look_need-need.ensures ∙ eqb-true c.look_need-need.result 0
+    (sym c.is_empty.ensures ∙ c.if-is_empty.true) in
+    sym (ap (λ (n : ℕ). is_redone (opened_by c.args.nfa.now c.args.state.now
+    (byte_of c.args.unit)) c.args.state.now.look_have n) none
     ∙ unneeded (opened_by c.args.nfa.now c.args.state.now (byte_of c.args.unit)) c.args.state.now.look_have)
 
 pub returns-clause-set : goal.returns-clause-set
 returns-clause-set g c =
     rw (c.then_some.ensures, c.union.ensures, c.look_have-have.ensures)
-    (IfSome-again c.args.nfa.now c.args.state.now (byte_of c.args.unit) c.opened-found.result c.is_redone.result (λ look.
+    (IfSome-again c.args.nfa.now c.args.state.now (byte_of c.args.unit) c.opened-found.result c.is_redone.result
+    (λ look.
     c.opened-found.ensures look
-    ∙ ap (λ (t : Tables). opened t c.is_from_word.result c.is_half_crlf.result (byte_of c.args.unit) look) c.of-tables.ensures.tables
-    ∙ ap (λ (b : Bool). opened (tables_of c.args.nfa.now) b c.is_half_crlf.result (byte_of c.args.unit) look) c.is_from_word.ensures
-    ∙ ap (λ (b : Bool). opened (tables_of c.args.nfa.now) c.args.state.now.from_word b (byte_of c.args.unit) look) c.is_half_crlf.ensures))
+    ∙ ap (λ (t : Tables). opened t c.is_from_word.result c.is_half_crlf.result
+    (byte_of c.args.unit) look) c.of-tables.ensures.tables
+    ∙ ap (λ (b : Bool). opened (tables_of c.args.nfa.now) b c.is_half_crlf.result
+    (byte_of c.args.unit) look) c.is_from_word.ensures
+    ∙ ap (λ (b : Bool). opened (tables_of c.args.nfa.now) c.args.state.now.from_word b
+    (byte_of c.args.unit) look) c.is_half_crlf.ensures))

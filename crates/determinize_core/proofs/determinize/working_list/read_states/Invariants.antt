@@ -5,7 +5,8 @@ use Rattle.determinize_core.proofs.determinize.working_list.read_states.Given as
 
 abbrev pub invariant-loop-id : goal.invariant-loop-id
 invariant-loop-id g l = record {
-  so_far : IsFirstRead l.nfa l.match_kind (byte_of l.unit) l.yielded l.initial.builder l.builder l.kept.ids l.stack.items;
+  so_far : IsFirstRead l.nfa l.match_kind (byte_of
+      l.unit) l.yielded l.initial.builder l.builder l.kept.ids l.stack.items;
   split : l.yielded ++ g.I.Ids.left l.id-iterator ≡ g.I.Ids.left l.fn.ids;
   capacity : l.kept.capacity ≡ l.initial.kept.capacity;
   left : All (λ id. id < length l.nfa.states) (g.I.Ids.left l.id-iterator);

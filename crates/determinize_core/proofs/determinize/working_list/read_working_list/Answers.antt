@@ -16,30 +16,42 @@ explore-requires-clause-resolve g c =
 pub returns-in_err-explore-clause-bounded : goal.returns-in_err-explore-clause-bounded
 returns-in_err-explore-clause-bounded g c =
     subst (λ n. c.explore.new.steps ≤ c.args.steps.now + n)
-    (tried_again c.args.nfa.now c.args.state.now (byte_of c.args.unit) c.in-Some.look_have (sym c.in-Some.ensures.whether) c.in-Some.ensures.set c.args.sparses.now.set2.ids c.collect_states.new.stack.items c.requires.second_empty c.in_ok-collect_states.ensures.ok)
+    (tried_again c.args.nfa.now c.args.state.now (byte_of c.args.unit) c.in-Some.look_have
+    (sym c.in-Some.ensures.whether) c.in-Some.ensures.set c.args.sparses.now.set2.ids
+    c.collect_states.new.stack.items c.requires.second_empty c.in_ok-collect_states.ensures.ok)
     c.explore.ensures.part.bounded
 
 pub returns-in_err-read_states-clause-bounded : goal.returns-in_err-read_states-clause-bounded
 returns-in_err-read_states-clause-bounded g c =
     subst (λ n. c.explore.new.steps ≤ c.args.steps.now + n)
-    (tried_again c.args.nfa.now c.args.state.now (byte_of c.args.unit) c.in-Some.look_have (sym c.in-Some.ensures.whether) c.in-Some.ensures.set c.args.sparses.now.set2.ids c.collect_states.new.stack.items c.requires.second_empty c.in_ok-collect_states.ensures.ok)
+    (tried_again c.args.nfa.now c.args.state.now (byte_of c.args.unit) c.in-Some.look_have
+    (sym c.in-Some.ensures.whether) c.in-Some.ensures.set c.args.sparses.now.set2.ids
+    c.collect_states.new.stack.items c.requires.second_empty c.in_ok-collect_states.ensures.ok)
     c.explore.ensures.part.bounded
 
 pub returns-clause-ok : goal.returns-clause-ok
 returns-clause-ok g c =
-    let reached = reached_again c.args.nfa.now c.args.state.now (byte_of c.args.unit) c.in-Some.look_have (sym c.in-Some.ensures.whether) c.in-Some.ensures.set c.args.sparses.now.set2.ids c.collect_states.new.stack.items c.requires.second_empty c.in_ok-collect_states.ensures.ok in
-    subst (λ (l : List ℕ). IsListRead c.args.nfa.now c.args.match_kind (byte_of c.args.unit) l c.args.builder.now c.read_states-2.new.builder c.read_states-2.new.stack.items)
-    (ap distinct c.iter.ensures.ids ∙ distinct_same c.explore.new.set.ids c.iter.ensures.members.distinct ∙ ap (λ (m : Members). m.ids) c.in_ok-explore.ensures.ok.set ∙ reached)
+    let reached = reached_again c.args.nfa.now c.args.state.now (byte_of c.args.unit) c.in-Some.look_have
+    (sym c.in-Some.ensures.whether) c.in-Some.ensures.set c.args.sparses.now.set2.ids
+    c.collect_states.new.stack.items c.requires.second_empty c.in_ok-collect_states.ensures.ok in
+    subst (λ (l : List ℕ). IsListRead c.args.nfa.now c.args.match_kind
+    (byte_of c.args.unit) l c.args.builder.now c.read_states-2.new.builder c.read_states-2.new.stack.items)
+    (ap distinct c.iter.ensures.ids ∙ distinct_same c.explore.new.set.ids c.iter.ensures.members.distinct
+    ∙ ap (λ (m : Members). m.ids) c.in_ok-explore.ensures.ok.set ∙ reached)
     c.in_ok-read_states.ensures.ok
 
 pub returns-clause-counted : goal.returns-clause-counted
 returns-clause-counted g c =
     subst (λ n. c.explore.new.steps ≡ c.args.steps.now + n)
-    (tried_again c.args.nfa.now c.args.state.now (byte_of c.args.unit) c.in-Some.look_have (sym c.in-Some.ensures.whether) c.in-Some.ensures.set c.args.sparses.now.set2.ids c.collect_states.new.stack.items c.requires.second_empty c.in_ok-collect_states.ensures.ok)
+    (tried_again c.args.nfa.now c.args.state.now (byte_of c.args.unit) c.in-Some.look_have
+    (sym c.in-Some.ensures.whether) c.in-Some.ensures.set c.args.sparses.now.set2.ids
+    c.collect_states.new.stack.items c.requires.second_empty c.in_ok-collect_states.ensures.ok)
     c.in_ok-explore.ensures.ok.counted
 
 pub returns-clause-bounded : goal.returns-clause-bounded
 returns-clause-bounded g c =
     subst (λ n. c.explore.new.steps ≤ c.args.steps.now + n)
-    (tried_again c.args.nfa.now c.args.state.now (byte_of c.args.unit) c.in-Some.look_have (sym c.in-Some.ensures.whether) c.in-Some.ensures.set c.args.sparses.now.set2.ids c.collect_states.new.stack.items c.requires.second_empty c.in_ok-collect_states.ensures.ok)
+    (tried_again c.args.nfa.now c.args.state.now (byte_of c.args.unit) c.in-Some.look_have
+    (sym c.in-Some.ensures.whether) c.in-Some.ensures.set c.args.sparses.now.set2.ids
+    c.collect_states.new.stack.items c.requires.second_empty c.in_ok-collect_states.ensures.ok)
     c.explore.ensures.part.bounded

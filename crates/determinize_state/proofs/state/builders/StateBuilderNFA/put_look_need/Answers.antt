@@ -11,7 +11,8 @@ put_number-requires g c = omega (arith, c.self.inside.bytes.ok, long _ c.self.in
 
 pub invariant_of-self : goal.invariant_of-self
 invariant_of-self g c =
-    rw (c.put_number.ensures.items, c.as_repr.ensures.value) (building_with_need _ _ c.args.look_need c.self.invariant c.as_repr.ensures.small).0
+    rw (c.put_number.ensures.items, c.as_repr.ensures.value)
+    (building_with_need _ _ c.args.look_need c.self.invariant c.as_repr.ensures.small).0
 
 pub returns : goal.returns
 returns g c =
