@@ -8,9 +8,9 @@
 //! A transition has two parts:
 //!
 //! 1. It reads the NFA states of the DFA state in order, and collects the patterns of `Match`
-//!    states and the targets: the states that other states have a transition to on the unit. Under
-//!    `MatchKind::LeftmostFirst` it stops at the first `Match` state, since every later state
-//!    belongs to a less preferred run.
+//!    states and the targets: the states to which its other states have a transition on the unit.
+//!    Under `MatchKind::LeftmostFirst` it stops at the first `Match` state, since every later
+//!    state belongs to a less preferred run.
 //! 2. It adds the epsilon closure of each target in turn. The states in order of discovery are
 //!    those of the next DFA state.
 //!

@@ -15,12 +15,13 @@ ghost use Rattle.determinize_state.specs.Recording.{needs};
 
 use determinize_below::{Look, LookSet};
 
-/// The walk of an accepted NFA over a text corresponds to its runs over the text. Under
-/// `MatchKind::All`, each value lists the patterns of the runs that accept before its unit, the
-/// most preferred run first. Under `MatchKind::LeftmostFirst`, the last value with a pattern is at
-/// the end of the most preferred accepting run, and if there is none, no run accepts. Except for
-/// captures, the values but the last record the NFA states that runs reach by what is known there,
-/// or a prefix of this list under `MatchKind::LeftmostFirst`.
+/// The walk of an accepted NFA over a text corresponds to its runs over the text. There are two
+/// more values than bytes, and the first lists no pattern. Under `MatchKind::All`, each value lists
+/// the patterns of the runs that accept before its unit, the most preferred run first. Under
+/// `MatchKind::LeftmostFirst`, the last value with a pattern is at the end of the most preferred
+/// accepting run, and if there is none, no run accepts. Except for captures, the values but the
+/// last record the NFA states that runs reach by what is known there, or a prefix of this list
+/// under `MatchKind::LeftmostFirst`.
 pub fn walk_law()
     ensures runs { EachChainIsTrue }
     ensures lists { EachChainHasItsLists }
@@ -33,9 +34,9 @@ pub fn ahead_law()
     ensures { EachByteAheadIsNext }
 {}
 
-/// The runs determine one list of patterns at each position, one most preferred match, and, by what
-/// is known at a position or by what is true, one list of the NFA states that runs reach there,
-/// without captures.
+/// The runs determine one list of patterns at each position, one most preferred match, and, under
+/// the assertions known at a position or under those that hold there, one list of the NFA states
+/// that runs reach there, without captures.
 pub fn answer_law()
     ensures { EachAnswerIsOne }
 {}

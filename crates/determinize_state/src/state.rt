@@ -24,8 +24,8 @@
 //!
 //! A state is built in three phases, and each phase has a type: `StateBuilderEmpty`, then
 //! `StateBuilderMatches` for flags, look-have and pattern ids, then `StateBuilderNFA` for NFA
-//! states and both sets. The types keep the order of the bytes, so each part is appended and never
-//! inserted.
+//! states and both sets. The last also takes flags and, before the first NFA state, pattern ids, so
+//! that a transition needs one builder. So each part is appended and never inserted.
 
 mod builders;
 mod bytes;

@@ -1,4 +1,4 @@
-//! Look-behind: what the builder of a new state is set to for the byte before it.
+//! The look-behind of a start state: its look-have and flags are set in the builder.
 
 ghost use Rattle.std.specs.Prelude.{◌≡◌, ℕ, true, Option};
 ghost use Rattle.determinize_below.specs.Look.{has};

@@ -1,4 +1,4 @@
-//! Steps without scratch to pass: the start state and each next state of one NFA.
+//! The start state and each next state of one NFA, with scratch that is kept between calls.
 
 ghost use Rattle.std.specs.Prelude.{◌≡◌, ◌<◌, ◌≤◌, length, IfOk, OnOk};
 ghost use Rattle.determinize_below.specs.Nfa.{AllResolve, IsAccepted};

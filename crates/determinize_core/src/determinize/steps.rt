@@ -1,4 +1,4 @@
-//! A count of steps that has size 0.
+//! A count of tries, of size 0.
 
 ghost use Rattle.std.specs.Prelude.{◌≡◌, ℕ, ◌+◌, ◌<◌};
 

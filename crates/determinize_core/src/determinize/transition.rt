@@ -56,8 +56,8 @@ fn set_flags<A: Allocator>(told: Told, leads_on: bool, builder: &mut StateBuilde
 /// Builds the next state in an empty builder. On error the stack is not cleared.
 ///
 /// All parts of a transition are inlined into this function, and it is not inlined itself, so it is
-/// as fast for each caller. It changes the builder in place: a builder that is moved just after it
-/// was written is copied from memory that is still to be written.
+/// as fast for each caller. It changes the builder in place, since a move just after a write has to
+/// wait for the write.
 #[inline(never)]
 fn transition<N: Allocator, A: Allocator, L: Ledger>(
     nfa: &NFA<N>,

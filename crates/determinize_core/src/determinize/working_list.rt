@@ -2,7 +2,7 @@
 //!
 //! The working list is the NFA states of a DFA state, each once, or their closure if the unit
 //! satisfies an assertion that they need. The first reading adds the patterns of the `Match` states
-//! to the builder and pushes the targets, the states after the others over the unit, in order.
+//! to the builder and pushes the targets of the others on the unit, in order.
 
 ghost use Rattle.std.specs.Prelude.{◌≡◌, ℕ, ◌+◌, ◌<◌, ◌≤◌, List, [], All, Option, Some, false, length, nat_eq, is_some, not, IfOk, IfSome, OnOk, ◌&&◌, ◌||◌};
 ghost use Rattle.std.specs.Iterator.{IsFinite, YieldsFirst};

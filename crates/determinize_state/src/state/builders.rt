@@ -6,8 +6,8 @@
 //! encode the value of the builder. `to_state` copies them into a state, and `clear` returns an
 //! empty builder with the same buffer, so that a walk needs one buffer for all its states.
 //!
-//! `clear` leaves an empty header, so that for all states but the first nothing is written before
-//! the buffer moves to the next builder: a move just after a write has to wait for it.
+//! `clear` leaves an empty header, so `into_matches` writes one for the first state only: a builder
+//! that is moved just after a write has to wait for the write.
 
 ghost use Rattle.std.specs.Prelude.{◌≡◌, ℕ, [], true, false, nat_eq, IfOk, OnOk, OnErr, IsOk};
 ghost use Rattle.std.specs.List.{list_any};
@@ -135,7 +135,8 @@ impl<A: Allocator> StateBuilderMatches<A> {
     }
 }
 
-/// A builder that takes the NFA states of a state and its sets of assertions.
+/// A builder that takes the NFA states of a state and its sets of assertions, its flags, and before
+/// the first NFA state its patterns.
 #[derive(Drop)]
 pub struct StateBuilderNFA<A: Allocator = Global> {
     pub(crate) bytes: Vec<u8, A>,
