@@ -3,8 +3,8 @@
 use Rattle.std.specs.List.{filter}
 use Rattle.std.proofs.Common.{◌≡◌, ◌++◌, ◌∙◌, ◌∷◌, ℕ, List, None, [], ap, map, refl}
 use Rattle.std.proofs.lemmas.List.Elements.{filter-append}
-use Rattle.determinize_below.specs.Edges.{is_match_node}
-use Rattle.determinize_below.specs.Semantics.{pattern_in, Node, Match, Union}
+use Rattle.determinize_below.specs.Edges.{is_match_node, pattern_in}
+use Rattle.determinize_below.specs.Semantics.{Node, Match, Union}
 use Rattle.ordered_reach.proofs.lists.Elements.{In, In_head, In_tail}
 use Rattle.determinize_find.specs.Private.Gathered.{gathered, states_of}
 use Rattle.determinize_find.specs.Private.Turning.{Turned}
