@@ -39,10 +39,12 @@ pub use Rattle.determinize_lazy.specs.Private.Cursors.{cursor_value, IsAt, IsCur
 pub use Rattle.determinize_lazy.specs.Private.Invariant.{IsLazy}
 pub use Rattle.determinize_lazy.specs.Private.Rows.{AreInterned, AreRows, IsIndex, IsStored, IsTarget, IsTargetIndex}
 pub use Rattle.determinize_lazy.specs.Private.Rows.{Leads, StartsStay, StoredTable, table_of, with_state}
-pub use Rattle.determinize_lazy.specs.Private.Searched.{IsCutOffSearch, IsOver, IsOverIn, IsReached, IsSearched}
+pub use Rattle.determinize_lazy.specs.Private.Searched.{HasStopped, IsCutOffSearch, IsOver, IsOverIn, IsReached}
+pub use Rattle.determinize_lazy.specs.Private.Searched.{IsSearched, reported}
 pub use Rattle.determinize_lazy.specs.Private.Starts.{AreStarts, start_index}
 pub use Rattle.determinize_lazy.specs.Private.Steps.{IsFailedStep, IsSound}
-pub use Rattle.determinize_lazy.specs.Private.Tags.{is_last_tag, match_at, match_of, Tag, tag_in, tag_of}
+pub use Rattle.determinize_lazy.specs.Private.Tags.{is_last_tag, match_at, match_of, match_reported, Tag, tag_in}
+pub use Rattle.determinize_lazy.specs.Private.Tags.{tag_of}
 pub use Rattle.determinize_lazy.specs.Searches.{HasMatch, in_haystack, in_order, is_last, IsFarthestIn}
 pub use Rattle.determinize_lazy.specs.Searches.{IsPreferredIn, IsSearch, start_for, text_of, units_read}
 pub use Rattle.determinize_lazy.specs.Stored.{column, entry_at, is_unit, state_at, table_in, target_from, target_in}

@@ -2,5 +2,6 @@
 pub mod Headline
 pub mod LastUnits
 pub mod Ranges
+pub mod Scanning
 pub mod Searching
 pub mod Texts

@@ -1,4 +1,5 @@
 -- Walks through the cache, and what they leave.
 pub mod CachedWalks
 pub mod Plenty
+pub mod Steps
 pub mod WalkCounts

@@ -1,7 +1,9 @@
 pub mod Cache
 pub mod Plenty
 pub mod Private
+pub mod Scans
 pub mod Searches
 pub mod Stored
 pub mod Table
+pub mod Walkers
 pub mod WorkedRows

@@ -3,6 +3,7 @@
 pub mod Cursors
 pub mod Invariant
 pub mod Rows
+pub mod Scanned
 pub mod Searched
 pub mod Starts
 pub mod Steps

@@ -5,7 +5,7 @@
 //! of such a walk, also in a range of a haystack and in either direction.
 //!
 //! - `lazy`: the type, and walks. `search`: searches. `text`: what they read. `step`: one step of
-//!   either.
+//!   either. `scan`: searches of texts in pieces. `walker`: walks by steps.
 //! - `table`: the transition table and the rule of what is cached, with `state_table` (the cached
 //!   states), `state_id` and `tag`.
 //!
@@ -15,6 +15,7 @@
 mod debug;
 pub mod laws;
 pub mod lazy;
+mod scan;
 mod search;
 mod state_id;
 mod state_table;
@@ -22,5 +23,8 @@ mod step;
 mod table;
 mod tag;
 mod text;
+mod walker;
 
 pub use crate::lazy::Lazy;
+pub use crate::scan::Scan;
+pub use crate::walker::Walker;

@@ -9,7 +9,7 @@
 //! Matches are delayed by one unit: a state lists the patterns that match before the unit that led
 //! to it. So a search also reads the unit ahead of its text, and a start state is no match state.
 
-ghost use Rattle.std.specs.Prelude.{Decides, ◌≡◌, ◌<◌, ◌≤◌, ◌-◌, false, true, [], is_some, length, not, option_map, slice_index_or, IfOk, OnErr, OnOk, Ok, None, Some};
+ghost use Rattle.std.specs.Prelude.{Decides, ◌≡◌, ◌++◌, ◌<◌, ◌≤◌, ◌-◌, ℕ, false, true, List, [], Option, is_some, length, map, not, option_map, slice_index_or, IfOk, OnErr, OnOk, Ok, None, Some};
 ghost use Rattle.std.specs.Option.{IfNone, IfSome};
 ghost use Rattle.determinize_below.specs.Nfa.{AllResolve};
 ghost use Rattle.determinize_below.specs.Semantics.{between};
@@ -20,7 +20,7 @@ ghost use Rattle.determinize_core.specs.Step.{start_value};
 ghost use Rattle.determinize_core.specs.Value.{Value as StateValue, dead};
 ghost use Rattle.determinize_lazy.specs.Cache.{Cache, Grows, IsCutOff, cache};
 ghost use Rattle.determinize_lazy.specs.Private.Cursors.{IsCursor, cursor_value};
-ghost use Rattle.determinize_lazy.specs.Private.Searched.{IsCutOffSearch, IsOver, IsOverIn, IsSearched};
+ghost use Rattle.determinize_lazy.specs.Private.Searched.{HasStopped, IsCutOffSearch, IsOver, IsOverIn, IsSearched};
 ghost use Rattle.determinize_lazy.specs.Private.Steps.{IsSound};
 ghost use Rattle.determinize_lazy.specs.Private.Tags.{match_of};
 ghost use Rattle.determinize_lazy.specs.Searches.{HasMatch, IsCutOffIn, IsFarthestIn, IsPlenty, IsPlentyIn, IsPreferredIn, IsSearch, after_input, after_is_match, after_search, has_start, in_haystack, last_in, start_for, text_of, units_searched};
@@ -36,10 +36,10 @@ use std::alloc::{AllocError, Allocator};
 /// How far a search has come: where it is, how many units it has read, and the last match of the
 /// states before this one.
 #[derive(Drop)]
-struct Position<A: Allocator> {
-    cursor: Cursor<A>,
-    read: usize,
-    last: LastMatch,
+pub(crate) struct Position<A: Allocator> {
+    pub(crate) cursor: Cursor<A>,
+    pub(crate) read: usize,
+    pub(crate) last: LastMatch,
 }
 
 /// A position at a cached state.
@@ -78,10 +78,10 @@ impl<'n, N: Allocator, A: Allocator + Copy> Lazy<'n, N, A> {
         ensures id { result.id < length self.now.states }
         ensures forward { from.read ≤ result.read }
         ensures read { result.read ≤ length text.now.bytes }
-        ensures searched { (old : Cache) (first : StateValue)
-            → IsSearched earliest old first (units text.now) from.read
+        ensures searched { (old : Cache) (first : StateValue) (rest : List (Option ℕ))
+            → IsSearched earliest old first (map Some text.now.bytes ++ rest) from.read
             (slice_index_or self.now.states from.id dead) (match_of from.last) (cache self.now)
-            → IsSearched earliest old first (units text.now) result.read
+            → IsSearched earliest old first (map Some text.now.bytes ++ rest) result.read
             (slice_index_or self.now.states result.id dead) (match_of result.last)
             (cache self.now) }
     {
@@ -112,10 +112,10 @@ impl<'n, N: Allocator, A: Allocator + Copy> Lazy<'n, N, A> {
         ensures cursor { IsCursor self.now.states result.cursor }
         ensures forward { from.read ≤ result.read }
         ensures read { result.read ≤ length text.now.bytes }
-        ensures searched { (old : Cache) (first : StateValue)
-            → IsSearched earliest old first (units text.now) from.read
+        ensures searched { (old : Cache) (first : StateValue) (rest : List (Option ℕ))
+            → IsSearched earliest old first (map Some text.now.bytes ++ rest) from.read
             (cursor_value self.now.states from.cursor) (match_of from.last) (cache self.now)
-            → IsSearched earliest old first (units text.now) result.read
+            → IsSearched earliest old first (map Some text.now.bytes ++ rest) result.read
             (cursor_value self.now.states result.cursor) (match_of result.last) (cache self.now) }
     {
         let Position { cursor, read, last } = from;
@@ -136,17 +136,58 @@ impl<'n, N: Allocator, A: Allocator + Copy> Lazy<'n, N, A> {
         }
     }
 
+    /// Searches the bytes of a text from a cursor, without the unit ahead of them. Returns where
+    /// the search is then: after the last byte, or at the state at which it ends, a dead state or,
+    /// if `earliest`, a match state.
+    #[inline(always)]
+    pub(crate) fn search_bytes(
+        &mut self,
+        start: Cursor<A>,
+        text: &Text<'_>,
+        earliest: bool,
+    ) -> Result<Position<A>, AllocError>
+        requires cursor { IsCursor self.old.states start }
+        requires resolve { AllResolve self.old.nfa
+            (cursor_value self.old.states start).states }
+        requires sound { IsSound (cache self.old) }
+        ensures cursor { IfOk result (λ at. IsCursor self.new.states at.cursor) }
+        ensures searched { IfOk result (λ at. (rest : List (Option ℕ)) → IsSearched earliest
+            (cache self.old) (cursor_value self.old.states start)
+            (map Some text.now.bytes ++ rest) at.read
+            (cursor_value self.new.states at.cursor) (match_of at.last) (cache self.new)) }
+        ensures stopped { IfOk result (λ at. HasStopped earliest (length text.now.bytes) at.read
+            (cursor_value self.new.states at.cursor)) }
+        ensures failed { OnErr result ((rest : List (Option ℕ)) → IsCutOffSearch earliest
+            (cache self.old) (cursor_value self.old.states start)
+            (map Some text.now.bytes ++ rest) (cache self.new)) }
+        ensures grows { Grows (cache self.old) (cache self.new) }
+    {
+        let (mut cursor, mut read, mut last) = (start, 0, LastMatch::NONE);
+        while read < text.len() {
+            let at = self.run(Position { cursor, read, last }, text, earliest);
+            let tag = self.tag_at(&at.cursor);
+            if at.read == text.len() || tag.is_last(earliest) {
+                return Ok(at);
+            }
+            last = at.last.or_match(tag, at.read);
+            cursor = self.step(at.cursor, Some(text.byte(at.read)))?;
+            read = at.read + 1;
+        }
+        Ok(Position { cursor, read, last })
+    }
+
     /// Searches from a cursor. The search ends at a dead state and, if `earliest`, at the first
     /// match state. Returns the last match of the states that it enters.
     #[inline(always)]
-    fn search_from(
+    pub(crate) fn search_from(
         &mut self,
         start: Cursor<A>,
         text: &Text<'_>,
         earliest: bool,
     ) -> Result<Option<HalfMatch>, AllocError>
         requires cursor { IsCursor self.old.states start }
-        requires unmatched { (cursor_value self.old.states start).patterns ≡ [] }
+        requires unmatched { earliest ≡ true
+            → (cursor_value self.old.states start).patterns ≡ [] }
         requires resolve { AllResolve self.old.nfa
             (cursor_value self.old.states start).states }
         requires sound { IsSound (cache self.old) }
@@ -156,20 +197,15 @@ impl<'n, N: Allocator, A: Allocator + Copy> Lazy<'n, N, A> {
             (cursor_value self.old.states start) (units text.now) (cache self.new)) }
         ensures grows { Grows (cache self.old) (cache self.new) }
     {
-        let (mut cursor, mut read, mut last) = (start, 0, LastMatch::NONE);
-        while read <= text.len() {
-            let at = self.run(Position { cursor, read, last }, text, earliest);
-            let tag = self.tag_at(&at.cursor);
-            last = at.last.or_match(tag, at.read);
-            if tag.is_last(earliest) {
-                return Ok(last.get());
-            }
-            let unit = text.unit(at.read);
-            cursor = self.step(at.cursor, unit)?;
-            read = at.read + 1;
+        let at = self.search_bytes(start, text, earliest)?;
+        let tag = self.tag_at(&at.cursor);
+        let last = at.last.or_match(tag, at.read);
+        if tag.is_last(earliest) {
+            return Ok(last.get());
         }
+        let cursor = self.step(at.cursor, text.ahead())?;
         let tag = self.tag_at(&cursor);
-        Ok(last.or_match(tag, read).get())
+        Ok(last.or_match(tag, text.len() + 1).get())
     }
 
     /// Searches a text from the start state of a walk over it.

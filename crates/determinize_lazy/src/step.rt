@@ -118,7 +118,8 @@ impl<'n, N: Allocator, A: Allocator + Copy> Lazy<'n, N, A> {
 
     /// Returns the cursor of a state.
     pub(crate) fn cursor_of(&self, state: &State<A>) -> Result<Cursor<A>, AllocError>
-        ensures { IfOk result (λ cursor. IsAt self.now.states cursor state.now) }
+        ensures at { IfOk result (λ cursor. IsAt self.now.states cursor state.now) }
+        ensures sound { IsSound (cache self.now) }
     {
         match self.table.find(state) {
             Some(id) => Ok(Cursor::Cached(id)),

@@ -41,6 +41,16 @@ pub(crate) enum Cursor<A: Allocator = Global> {
     Uncached(State<A>),
 }
 
+impl<A: Allocator> Cursor<A> {
+    /// Returns the id of the state, if it is cached.
+    pub(crate) fn id(&self) -> Option<LazyStateId> {
+        match self {
+            Cursor::Cached(id) => Some(*id),
+            Cursor::Uncached(_) => None,
+        }
+    }
+}
+
 /// The cached states, the cached transitions between them, and the ids of cached start states.
 #[derive(Drop)]
 pub(crate) struct TransitionTable<A: Allocator = Global> {
@@ -157,6 +167,14 @@ impl<A: Allocator + Copy> TransitionTable<A> {
         ensures { slice_get self.now.states id ≡ Some result.now }
     {
         self.states.get(id)
+    }
+
+    /// Returns whether a state is cached with this id.
+    #[inline(always)]
+    pub(crate) fn has(&self, id: LazyStateId, state: &State<A>) -> bool
+        ensures { result ≡ true → slice_get self.now.states id ≡ Some state.now }
+    {
+        id.index() < self.states.len() && self.get(id) == state
     }
 
     /// Returns the state at a cursor.
@@ -388,7 +406,7 @@ impl<A: Allocator + Copy> TransitionTable<A> {
     }
 
     /// Returns the state at a cursor, as a value that no longer needs the table.
-    fn into_state(&self, cursor: Cursor<A>) -> Result<State<A>, AllocError>
+    pub(crate) fn into_state(&self, cursor: Cursor<A>) -> Result<State<A>, AllocError>
         requires { IsCursor self.now.states cursor }
         ensures { IfOk result (λ state. state ≡ cursor_value self.now.states cursor) }
     {

@@ -1,9 +1,9 @@
 //! What a search asks of a state, in one number: the tag in the last column of the state's row. And
 //! the last match that a search has found.
 
-ghost use Rattle.std.specs.Prelude.{◌≡◌, ◌-◌, is_some};
+ghost use Rattle.std.specs.Prelude.{◌≡◌, None, is_some};
 ghost use Rattle.std.specs.Option.{option_or};
-ghost use Rattle.determinize_lazy.specs.Private.Tags.{is_last_tag, match_at, match_of, tag_in, tag_of};
+ghost use Rattle.determinize_lazy.specs.Private.Tags.{is_last_tag, match_of, match_reported, tag_in, tag_of};
 
 use determinize_below::{HalfMatch, PatternID};
 use determinize_core::state::State;
@@ -64,7 +64,8 @@ pub(crate) struct LastMatch {
     /// The tag of the match state, 0 if there is none.
     pub(crate) tag: StateTag,
     /// How many units were read when the state was entered. Matches are delayed by one unit, so
-    /// the match ends before the last of them.
+    /// the match ends before the last of them. If it is 0, there is no match: the state is where
+    /// the search began.
     pub(crate) read: usize,
 }
 
@@ -76,11 +77,11 @@ impl LastMatch {
     };
 
     /// Returns the match of a state that was entered after `read` units, or this one if the state
-    /// is no match state.
+    /// is no match state. There is no match before the first unit.
     #[inline(always)]
     pub(crate) fn or_match(self, tag: StateTag, read: usize) -> LastMatch
-        ensures { match_of result
-            ≡ option_or (match_at (read - 1) (tag_in tag.bits).pattern) (match_of self) }
+        ensures { (read ≡ 0 → match_of self ≡ None) → match_of result
+            ≡ option_or (match_reported read (tag_in tag.bits).pattern) (match_of self) }
     {
         if tag.is_match() {
             LastMatch { tag, read }
@@ -94,12 +95,12 @@ impl LastMatch {
         ensures { result ≡ match_of self }
     {
         let pattern = (self.tag.bits % DEAD) as usize;
-        if pattern == 0 {
+        if pattern == 0 || self.read == 0 {
             return None;
         }
         Some(HalfMatch {
             pattern: PatternID::must(pattern - 1),
-            offset: self.read.saturating_sub(1),
+            offset: self.read - 1,
         })
     }
 }

@@ -1,6 +1,6 @@
 //! What a search reads: the bytes of a range, forward or backward, and the bytes around it.
 
-ghost use Rattle.std.specs.Prelude.{◌≡◌, ◌<◌, ◌≤◌, ◌^◌, Some, false, length, slice_get, slice_index};
+ghost use Rattle.std.specs.Prelude.{◌≡◌, ◌<◌, ◌≤◌, ◌^◌, Some, false, length, map, slice_get, slice_index};
 ghost use Rattle.determinize_below.specs.Semantics.{between};
 ghost use Rattle.determinize_below.specs.Search.{is_done};
 ghost use Rattle.determinize_core.specs.Chain.{units};
@@ -71,6 +71,14 @@ impl<'h> Text<'h> {
         self.behind
     }
 
+    /// Returns the byte ahead of the last, or `None` for the end of input (EOI).
+    #[inline(always)]
+    pub(crate) fn ahead(&self) -> Option<u8>
+        ensures { result ≡ self.now.ahead }
+    {
+        self.ahead
+    }
+
     /// Returns the number of bytes.
     #[inline(always)]
     pub(crate) fn len(&self) -> usize
@@ -84,7 +92,7 @@ impl<'h> Text<'h> {
     #[inline(always)]
     pub(crate) fn byte(&self, index: usize) -> u8
         requires { index < length self.now.bytes }
-        ensures { slice_get (units self.now) index ≡ Some (Some result) }
+        ensures { slice_get (map Some self.now.bytes) index ≡ Some (Some result) }
     {
         if self.is_backward {
             self.bytes[self.bytes.len() - 1 - index]

@@ -34,7 +34,7 @@ pub step_over : (nfa : Nfa) (kind : MatchKind) (v : Value) (u : Option ℕ) → 
 step_over nfa kind v u none = step_none nfa kind v u none ∙ (dead_stays nfa kind u).0
 
 module _ (nfa : Nfa) (kind : MatchKind) where
-  -- no match is told after the dead value
+  -- no match is reported after the dead value
   none_dead : (n : ℕ) (us : List (Option ℕ)) → last_ended n (future nfa kind dead us) ≡ None
   none_dead n [] = refl
   none_dead n (u ∷ us) = ap (λ v. option_or (last_ended (suc n) (future nfa kind v us)) None) (dead_stays nfa kind u).0

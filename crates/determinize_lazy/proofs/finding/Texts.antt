@@ -6,21 +6,24 @@ use Rattle.determinize_lazy.proofs.Common.{◌<◌, ◌∙◌, ◌∷◌, ◌≡
 use Rattle.determinize_core.proofs.walk.UnitLists.{units_are}
 use Rattle.determinize_lazy.proofs.tables.Values.{get_last, get_more}
 
+-- each byte as a unit
+pub unit-byte : (bytes : List ℕ) (i b : ℕ) → i < length bytes → b ≡ get_or bytes i 0
+    → slice_get (map Some bytes) i ≡ Some (Some b)
+unit-byte bytes i b inside is = slice_get-map Some bytes i
+    ∙ ap (λ o. option_map Some o) (slice_get-get_or bytes i 0 inside ∙ ap Some (sym is))
+
 module _ (text : Text) where
   abbrev listed : List (Option ℕ)
   listed = map Some text.bytes ++ text.ahead ∷ []
 
-  units_listed : units text ≡ listed
+  -- the units are the bytes and what is ahead of them
+  pub units_listed : units text ≡ listed
   units_listed = units_are text.behind text.ahead text.bytes
 
-  -- each byte is a unit
-  pub unit-byte : (i b : ℕ) → i < length text.bytes → b ≡ get_or text.bytes i 0
+  pub unit-here : (i b : ℕ) → slice_get (map Some text.bytes) i ≡ Some (Some b)
       → slice_get (units text) i ≡ Some (Some b)
-  unit-byte i b inside is =
-      ap (λ us. slice_get us i) units_listed
-      ∙ get_more (map Some text.bytes) (text.ahead ∷ []) i (Some b)
-      (slice_get-map Some text.bytes i ∙ ap (λ o. option_map Some o) (slice_get-get_or text.bytes i 0 inside
-      ∙ ap Some (sym is)))
+  unit-here i b at = ap (λ us. slice_get us i) units_listed
+      ∙ get_more (map Some text.bytes) (text.ahead ∷ []) i (Some b) at
 
   -- and so is what is ahead of them
   pub unit-last : (i : ℕ) → i ≡ length text.bytes → slice_get (units text) i ≡ Some text.ahead

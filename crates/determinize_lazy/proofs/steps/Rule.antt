@@ -1,7 +1,10 @@
 -- What the rule keeps, and what is true of a cache after it.
-use Rattle.determinize_lazy.proofs.Common.{after_step, ap, arith, Cache, cond, count_after, empty, Err, false, fits}
-use Rattle.determinize_lazy.proofs.Common.{Grows, IfOk, inl, inr, is_cached, IsAccepted, IsFailedStep, IsLazy, IsTable}
-use Rattle.determinize_lazy.proofs.Common.{keep, length, MatchKind, nat_le, Nfa, Ok, OnErr, OnOk, Option, refl, Result}
+use Rattle.determinize_lazy.proofs.Common.{after_step, ap, arith, Cache, cache, cond, count_after, empty, Err, false}
+use Rattle.determinize_lazy.proofs.Common.{fits}
+use Rattle.determinize_lazy.proofs.Common.{Grows, IfOk, inl, inr, is_cached, IsAccepted, IsFailedStep, IsLazy, IsSound}
+use Rattle.determinize_lazy.proofs.Common.{IsTable}
+use Rattle.determinize_lazy.proofs.Common.{keep, LazyValue, length, MatchKind, nat_le, Nfa, Ok, OnErr, OnOk, Option}
+use Rattle.determinize_lazy.proofs.Common.{refl, Result}
 use Rattle.determinize_lazy.proofs.Common.{same, slice_get, slice_set, Some, start_index, start_value, StartsStay}
 use Rattle.determinize_lazy.proofs.Common.{step_of, StoredTable, subst, sym, Table, table_of, true, Value}
 use Rattle.determinize_lazy.proofs.Common.{with_transition, ℕ, ◌∙◌, ◌≡◌, ◌≤◌, ◌⊎◌}
@@ -69,6 +72,23 @@ lazy-none nfa kind limit t accepted table_is none = record {
   table = subst (λ x. IsTable (step nfa kind) x) (sym table_is) (empty-is (step nfa kind));
   within = subst (λ (x : Table). length x.states ≤ limit) (sym table_is) (let e : 0 ≤ limit = omega arith in e);
   starts = λ start p i index _ kept. absurd (none i index kept);
+}
+
+-- what is true of a `Lazy` is true of its cache
+pub lazy-sound : {nfa : Nfa} {kind : MatchKind} {limit count : ℕ} {t : StoredTable} {x : LazyValue}
+    → IsLazy nfa kind limit count t
+    → record {
+      nfa = nfa;
+      kind = kind;
+      limit = limit;
+      states = t.states;
+      rows = t.rows;
+      computed = count;
+    } ≡ x → IsSound (cache x)
+lazy-sound is view_is = subst (λ (x : LazyValue). IsSound (cache x)) view_is record {
+  accepted = is.accepted;
+  table = is.table;
+  small = is.small;
 }
 
 -- a cache with one more start

@@ -41,6 +41,18 @@ cut_off-none same = record {
   counted = (0, ap (λ (c : Cache). c.computed) same);
 }
 
+-- and what one leaves that fails after its last
+pub cut_off-whole : {old : Cache} {first : Value} {us : List (Option ℕ)} {new : Cache} → new ≡ after_walk old first us
+    → IsCutOff old first us new
+cut_off-whole {old} {first} {us} {new} after = record {
+  table = inr (length us, ap (λ (c : Cache). c.table) whole);
+  counted = (length us, ap (λ (c : Cache). c.computed) whole);
+}
+  where
+    whole : new ≡ after_walk old first (take (length us) us)
+    whole = after ∙ ap (λ all. after_walk old first all)
+        (sym (take_all (length us) us (let n : length us ≤ length us = omega arith in n)))
+
 -- the part of a list up to an index, and from there on
 module _ {K : Type 0} (xs : List K) (i : ℕ) (x : K) (at : slice_get xs i ≡ Some x) where
   pub take-one : take (i + 1) xs ≡ take i xs ++ x ∷ []

@@ -30,7 +30,11 @@ is_last_tag earliest tag = (earliest && is_some tag.pattern) || tag.is_dead
 abbrev pub match_at : ℕ → Option ℕ → Option HalfMatch
 match_at offset pattern = option_map (λ p. record { pattern = p; offset = offset }) pattern
 
--- the match that a search has found: a state that is entered by a unit reports matches that end
--- before the unit
+-- the match that a state reports which is entered after n units: it ends before the last of them,
+-- so a state at the start reports none
+abbrev pub match_reported : ℕ → Option ℕ → Option HalfMatch
+match_reported read pattern = cond (nat_eq read 0) None (match_at (read - 1) pattern)
+
+-- the match that a search has found
 abbrev pub match_of : LastMatch → Option HalfMatch
-match_of l = match_at (l.read - 1) (tag_in l.tag.bits).pattern
+match_of l = match_reported l.read (tag_in l.tag.bits).pattern

@@ -1,8 +1,9 @@
-use Rattle.determinize_lazy.proofs.Common.{ap, arith, cache, dead, IsTable, IsTarget, LazyValue, length}
+use Rattle.determinize_lazy.proofs.Common.{ap, arith, cache, dead, IsTable, IsTarget, LazyValue, length, map}
 use Rattle.determinize_lazy.proofs.Common.{match_of, option_or, rules, slice_get, slice_get-get_or, slice_index_or}
-use Rattle.determinize_lazy.proofs.Common.{Some, step_of, subst, tag_in, tag_of, Value, ◌-◌, ◌<◌, ◌∙◌, ◌≡◌, ◌≤◌}
-use Rattle.determinize_lazy.proofs.finding.Searching.{searched-step, tag-last, tag-match}
+use Rattle.determinize_lazy.proofs.Common.{Some, step_of, subst, tag_in, tag_of, Value, ◌<◌, ◌∙◌, ◌≡◌, ◌≤◌}
+use Rattle.determinize_lazy.proofs.finding.Searching.{none_yet, searched-step, tag-last, tag-match}
 use Rattle.determinize_lazy.proofs.steps.Cursors.{cached_step, cached_target}
+use Rattle.determinize_lazy.proofs.tables.Values.{get_more}
 use Rattle.determinize_lazy.proofs.lazy.Lazy.follow.Goals as goal
 
 pub loop-at-preserved : goal.loop-at-preserved
@@ -24,12 +25,14 @@ loop-at-preserved g c =
       forward = let so_far : c.args.from.read ≤ c.loop-at.at.read = c.loop-at.invariant.forward in
           omega (arith, so_far);
       read = let more : c.loop-at.at.read < length c.args.text.now.bytes = search rules in omega (arith, more);
-      searched = λ old first s.
-          searched-step (c.loop-at.invariant.searched old first s) c.byte-byte.ensures
+      searched = λ old first rest s.
+          searched-step (c.loop-at.invariant.searched old first rest s)
+          (get_more (map Some c.args.text.now.bytes) rest c.loop-at.at.read (Some c.byte-byte.result)
+          c.byte-byte.ensures)
           (tag-last c.tag-tag.result.bits v tag _ c.is_last.ensures c.if-is_last.false)
-          (c.or_match-at.ensures
+          (c.or_match-at.ensures (none_yet (c.loop-at.invariant.searched old first rest s))
           ∙ ap (λ o. option_or o (match_of c.loop-at.at.last)) (tag-match c.tag-tag.result.bits v tag
-          (c.loop-at.at.read - 1)))
+          c.loop-at.at.read))
           next.value
           (cached_step (cache c.args.self.now) v (Some c.byte-byte.result) c.in-Some.id table target);
     }

@@ -1,16 +1,12 @@
-use Rattle.determinize_lazy.proofs.Common.{AllResolve, cache, IsSound, LazyValue, start_value, subst}
+use Rattle.determinize_lazy.proofs.Common.{AllResolve, cache, IsSound, start_value}
 use Rattle.determinize_core.proofs.step.Resolving.{start_resolves}
+use Rattle.determinize_lazy.proofs.steps.Rule.{lazy-sound}
 use Rattle.determinize_lazy.proofs.lazy.Lazy.kept_start.Given.{Over}
 use Rattle.determinize_lazy.proofs.lazy.Lazy.kept_start.Goals.{After-start_index}
 use Rattle.determinize_lazy.proofs.lazy.Lazy.kept_start.Goals as goal
 
 is_sound : (g : Over) (c : After-start_index g) → IsSound (cache c.args.self.now)
-is_sound g c =
-    subst (λ (x : LazyValue). IsSound (cache x)) c.self.view_is record {
-      accepted = c.self.invariant.accepted;
-      table = c.self.invariant.table;
-      small = c.self.invariant.small;
-    }
+is_sound g c = lazy-sound c.self.invariant c.self.view_is
 
 resolves : (g : Over) (c : After-start_index g)
     → AllResolve c.args.self.now.nfa (start_value c.args.self.now.nfa c.args.start c.args.look_behind).states

@@ -1,0 +1,8 @@
+use Rattle.determinize_lazy.proofs.Common.{is_nonempty, not, rules, sym, ◌∙◌, ◌≡◌}
+use Rattle.determinize_lazy.proofs.finding.Scanning.{none_left, settled}
+use Rattle.determinize_lazy.proofs.scan.Scan.is_over.Goals as goal
+
+pub returns-clause-settled : goal.returns-clause-settled
+returns-clause-settled g c over nfa kind start behind bytes is =
+    let value : c.is_none.result ≡ not (is_nonempty c.args.self.now.state.states) = search rules in
+    settled is (none_left c.args.self.now.state.states (sym value ∙ over))

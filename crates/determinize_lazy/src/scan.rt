@@ -1,0 +1,182 @@
+//! Searches of a text that comes in pieces, as from a socket or a file.
+//!
+//! A [`Scan`] owns the state where it is and the last match so far, so that it does not depend on
+//! what the cache is used for between two pieces. Each piece costs one lookup of that state; its
+//! bytes are then read by the loop of `search`.
+
+ghost use Rattle.std.specs.Prelude.{◌≡◌, ◌+◌, ◌++◌, ◌<◌, ◌≤◌, ℕ, [], List, Option, length, map, not, option_map, true, IfOk, OnErr, OnOk, None, Some};
+ghost use Rattle.std.specs.Option.{IfSome, option_or};
+ghost use Rattle.determinize_below.specs.Nfa.{AllResolve};
+ghost use Rattle.determinize_below.specs.Semantics.{Nfa, between};
+ghost use Rattle.determinize_core.specs.Step.{start_value};
+ghost use Rattle.determinize_core.specs.Value.{is_nonempty};
+ghost use Rattle.determinize_lazy.specs.Cache.{Grows, IsCutOff, after_step, after_walk, cache};
+ghost use Rattle.determinize_lazy.specs.Private.Scanned.{later_by};
+ghost use Rattle.determinize_lazy.specs.Scans.{IsScan, IsSettled, units_fed, units_last};
+ghost use Rattle.determinize_lazy.specs.Searches.{IsSearch};
+ghost use Rattle.determinize_below.specs.declared.search.MatchKind.{MatchKind as Kind};
+
+use crate::lazy::Lazy;
+use crate::text::Text;
+use determinize_below::{HalfMatch, StateID};
+use determinize_core::state::State;
+use std::alloc::{AllocError, Allocator, Global};
+use std::marker::Model;
+
+/// A search under way, of a text that comes in pieces: `Lazy::scan` begins it, `Lazy::feed` reads
+/// the next piece, and `Lazy::finish` returns the match.
+///
+/// It may be fed through any cache of the same NFA and match kind, regardless of the other uses of
+/// that cache in between.
+#[derive(Drop)]
+pub struct Scan<A: Allocator = Global> {
+    state: State<A>,
+    last: Option<HalfMatch>,
+    read: usize,
+}
+
+impl<A: Allocator> Model for Scan<A> {
+    ghost use Rattle.determinize_lazy.specs.Scans.{Scanned};
+
+    ghost Value = { Scanned };
+
+    ghost view = { λ s. record { state = s.state; last = s.last; read = s.read } };
+}
+
+impl<A: Allocator> Scan<A> {
+    /// Returns the state where the scan is: that after the bytes so far, or the state without NFA
+    /// states at which the search ended.
+    pub fn state(&self) -> &State<A>
+        ensures { result.now ≡ self.now.state }
+    {
+        &self.state
+    }
+
+    /// Returns the last match that the states so far have reported, or `None`. Matches are delayed by
+    /// one unit, so one that ends where the last piece ends is not among them.
+    pub fn last(&self) -> Option<HalfMatch>
+        ensures { result ≡ self.now.last }
+    {
+        self.last
+    }
+
+    /// Returns how many bytes the scan was fed.
+    pub fn bytes_read(&self) -> usize
+        ensures { result ≡ self.now.read }
+    {
+        self.read
+    }
+
+    /// Returns whether the search has ended: no NFA state is left, so nothing that follows can
+    /// change the match, and `last` is what `finish` will return.
+    pub fn is_over(&self) -> bool
+        ensures value { result ≡ not (is_nonempty self.now.state.states) }
+        ensures settled { result ≡ true → (nfa : Nfa) (kind : Kind) (start : ℕ) (behind : Option ℕ)
+            (bytes : List ℕ) → IsScan nfa kind start behind bytes self.now
+            → IsSettled nfa kind start behind bytes self.now.last }
+    {
+        self.state.iter_nfa_state_ids().next().is_none()
+    }
+}
+
+/// Returns the last match of a text, of which `last` is the last match of the first `read` bytes,
+/// and `found` that of the rest, with its offset counted from there.
+fn or_later(last: Option<HalfMatch>, read: usize, found: Option<HalfMatch>) -> Option<HalfMatch>
+    requires { IfSome found (λ m. read + m.offset ≤ usize.MAX) }
+    ensures { result ≡ option_or (option_map (later_by read) found) last }
+{
+    match found {
+        Some(HalfMatch { pattern, offset }) => Some(HalfMatch {
+            pattern,
+            offset: read + offset,
+        }),
+        None => last,
+    }
+}
+
+impl<'n, N: Allocator, A: Allocator + Copy> Lazy<'n, N, A> {
+    /// Returns a search that has read nothing yet.
+    ///
+    /// - `start` is the id of the NFA state to start from, below the number of states.
+    /// - `look_behind` is the byte just before the text, if any.
+    ///
+    /// Returns `AllocError` if an allocation fails.
+    pub fn scan(&mut self, start: StateID, look_behind: Option<u8>) -> Result<Scan<A>, AllocError>
+        requires { start < length self.old.nfa.states }
+        ensures begun { IfOk result
+            (λ scan. IsScan self.old.nfa self.old.kind start look_behind [] scan) }
+        ensures resolve { IfOk result
+            (λ scan. AllResolve self.new.nfa scan.state.states) }
+        ensures unchanged { self.new ≡ self.old }
+    {
+        let state = self.start_state(start, look_behind)?;
+        Ok(Scan {
+            state,
+            last: None,
+            read: 0,
+        })
+    }
+
+    /// Reads the next piece of the text of a scan, in the order of reading. A piece may be empty.
+    ///
+    /// The scan must be one of the same NFA: the ids of its state are then those of NFA states.
+    ///
+    /// Returns `AllocError` if an allocation fails, if more than 16647160 states would be cached, or
+    /// if the pieces have more than `usize::MAX` bytes together. The scan is unchanged then, and the
+    /// piece may be fed again.
+    pub fn feed(&mut self, scan: &mut Scan<A>, piece: &[u8]) -> Result<(), AllocError>
+        requires { AllResolve self.old.nfa scan.old.state.states }
+        ensures fed { (start : ℕ) (behind : Option ℕ) (bytes : List ℕ)
+            → IsScan self.old.nfa self.old.kind start behind bytes scan.old → OnOk result
+            (IsScan self.old.nfa self.old.kind start behind (bytes ++ piece.now) scan.new) }
+        ensures resolve { AllResolve self.new.nfa scan.new.state.states }
+        ensures same { OnErr result (scan.new ≡ scan.old) }
+        ensures after { OnOk result (cache self.new ≡ after_walk (cache self.old) scan.old.state
+            (units_fed (cache self.old) scan.old.state piece.now)) }
+        ensures failed { OnErr result (IsCutOff (cache self.old) scan.old.state
+            (units_fed (cache self.old) scan.old.state piece.now) (cache self.new)) }
+        ensures grows { Grows (cache self.old) (cache self.new) }
+    {
+        let Some(read) = scan.read.checked_add(piece.len()) else {
+            return Err(AllocError);
+        };
+        let start = self.cursor_of(&scan.state)?;
+        let at = self.search_bytes(start, &Text::new(None, piece, None), false)?;
+        let found = at.last.or_match(self.tag_at(&at.cursor), at.read);
+        let state = self.table.into_state(at.cursor)?;
+        scan.last = or_later(scan.last, scan.read, found.get());
+        scan.state = state;
+        scan.read = read;
+        Ok(())
+    }
+
+    /// Returns the match of a scan whose text ends after the pieces so far: that of `search` over
+    /// all of them as one text. The scan is unchanged, so it may be fed further.
+    ///
+    /// - `look_ahead` is the byte just after the text, or `None` if the input ends there.
+    ///
+    /// The scan must be one of the same NFA.
+    ///
+    /// Returns `AllocError` if an allocation fails, or if more than 16647160 states would be
+    /// cached.
+    pub fn finish(
+        &mut self,
+        scan: &Scan<A>,
+        look_ahead: Option<u8>,
+    ) -> Result<Option<HalfMatch>, AllocError>
+        requires { AllResolve self.old.nfa scan.now.state.states }
+        ensures search { (start : ℕ) (behind : Option ℕ) (bytes : List ℕ)
+            → IsScan self.old.nfa self.old.kind start behind bytes scan.now
+            → IfOk result (λ found. IsSearch self.old.nfa self.old.kind start
+            (between behind bytes look_ahead) found) }
+        ensures after { OnOk result (cache self.new ≡ after_walk (cache self.old) scan.now.state
+            (units_last (cache self.old) scan.now.state look_ahead)) }
+        ensures failed { OnErr result (IsCutOff (cache self.old) scan.now.state
+            (units_last (cache self.old) scan.now.state look_ahead) (cache self.new)) }
+        ensures grows { Grows (cache self.old) (cache self.new) }
+    {
+        let start = self.cursor_of(&scan.state)?;
+        let found = self.search_from(start, &Text::new(None, &[], look_ahead), false)?;
+        Ok(or_later(scan.last, scan.read, found))
+    }
+}

@@ -1,0 +1,115 @@
+//! Walks by steps, for a caller that wants each state of a walk, but no list of them.
+
+ghost use Rattle.std.specs.Prelude.{◌≡◌, ◌+◌, ◌∷◌, ◌<◌, ℕ, [], Option, length, slice_get, IfOk, OnErr, OnOk, Some};
+ghost use Rattle.determinize_below.specs.Nfa.{AllResolve};
+ghost use Rattle.determinize_below.specs.Semantics.{Text as TextValue};
+ghost use Rattle.determinize_core.specs.Chain.{units};
+ghost use Rattle.determinize_core.specs.Step.{start_value, step};
+ghost use Rattle.determinize_lazy.specs.Cache.{Grows, IsCutOff, after_step, cache};
+ghost use Rattle.determinize_lazy.specs.Private.Cursors.{IsAt, IsCursor, cursor_value};
+ghost use Rattle.determinize_lazy.specs.Private.Steps.{IsSound};
+ghost use Rattle.determinize_lazy.specs.Walkers.{IsWalkedTo};
+
+use crate::lazy::Lazy;
+use crate::state_id::LazyStateId;
+use crate::table::Cursor;
+use determinize_below::StateID;
+use determinize_core::state::State;
+use std::alloc::{AllocError, Allocator, Global};
+use std::marker::Model;
+
+/// A walk under way, by steps: `Lazy::walker` begins it, and `Lazy::next` takes a step.
+///
+/// It owns its state, so it may continue through any cache of the same NFA and match kind, regardless
+/// of the other uses of that cache in between.
+#[derive(Drop)]
+pub struct Walker<A: Allocator = Global> {
+    state: State<A>,
+    /// The id of the state when the last step was taken, if it was cached then. The cache may have
+    /// been cleared since.
+    id: Option<LazyStateId>,
+}
+
+impl<A: Allocator> Model for Walker<A> {
+    ghost use Rattle.determinize_core.specs.Value.{Value as StateValue};
+
+    ghost Value = { StateValue };
+
+    ghost view = { λ w. w.state };
+}
+
+impl<A: Allocator> Walker<A> {
+    /// Returns the state where the walk is.
+    pub fn state(&self) -> &State<A>
+        ensures { result.now ≡ self.now }
+    {
+        &self.state
+    }
+}
+
+impl<'n, N: Allocator, A: Allocator + Copy> Lazy<'n, N, A> {
+    /// Returns a walker at the start state of a walk.
+    ///
+    /// - `start` is the id of the NFA state to start from, below the number of states.
+    /// - `look_behind` is the byte just before the text, if any.
+    ///
+    /// Returns `AllocError` if an allocation fails.
+    pub fn walker(
+        &mut self,
+        start: StateID,
+        look_behind: Option<u8>,
+    ) -> Result<Walker<A>, AllocError>
+        requires { start < length self.old.nfa.states }
+        ensures value { IfOk result
+            (λ walker. walker ≡ start_value self.old.nfa start look_behind) }
+        ensures begun { IfOk result (λ walker. (text : TextValue) → text.behind ≡ look_behind
+            → IsWalkedTo self.old.nfa self.old.kind start text 0 walker) }
+        ensures resolve { IfOk result (λ walker. AllResolve self.new.nfa walker.states) }
+        ensures unchanged { self.new ≡ self.old }
+    {
+        let state = self.start_state(start, look_behind)?;
+        Ok(Walker { state, id: None })
+    }
+
+    /// Takes a step of a walk over a byte, or over the end of input (EOI) for `None`: the walker is
+    /// then at the next state of the walk.
+    ///
+    /// The walker must be one of the same NFA: the ids of its state are then those of NFA states.
+    ///
+    /// Returns `AllocError` if an allocation fails, or if more than 16647160 states would be cached.
+    /// The walker is unchanged then, and may take the same step again.
+    pub fn next(&mut self, walker: &mut Walker<A>, unit: Option<u8>) -> Result<(), AllocError>
+        requires { AllResolve self.old.nfa walker.old.states }
+        ensures value { OnOk result
+            (walker.new ≡ step self.old.nfa self.old.kind walker.old unit) }
+        ensures walked { (start index : ℕ) (text : TextValue)
+            → IsWalkedTo self.old.nfa self.old.kind start text index walker.old
+            → slice_get (units text) index ≡ Some unit → OnOk result
+            (IsWalkedTo self.old.nfa self.old.kind start text (index + 1) walker.new) }
+        ensures resolve { AllResolve self.new.nfa walker.new.states }
+        ensures same { OnErr result (walker.new ≡ walker.old) }
+        ensures after { OnOk result
+            (cache self.new ≡ after_step (cache self.old) walker.old unit) }
+        ensures failed { OnErr result
+            (IsCutOff (cache self.old) walker.old (unit ∷ []) (cache self.new)) }
+        ensures grows { Grows (cache self.old) (cache self.new) }
+    {
+        let cursor = self.cursor_at(&walker.state, walker.id)?;
+        let next = self.step(cursor, unit)?;
+        let id = next.id();
+        walker.state = self.table.into_state(next)?;
+        walker.id = id;
+        Ok(())
+    }
+
+    /// Returns the cursor of a state, of which `id` may be the id.
+    fn cursor_at(&self, state: &State<A>, id: Option<LazyStateId>) -> Result<Cursor<A>, AllocError>
+        ensures at { IfOk result (λ cursor. IsAt self.now.states cursor state.now) }
+        ensures sound { IsSound (cache self.now) }
+    {
+        match id {
+            Some(id) if self.table.has(id, state) => Ok(Cursor::Cached(id)),
+            _ => self.cursor_of(state),
+        }
+    }
+}
