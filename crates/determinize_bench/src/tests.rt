@@ -14,6 +14,7 @@ mod map_text;
 mod parts;
 mod rows;
 mod runs;
+mod scans;
 mod searches;
 mod sizes;
 mod starts;
