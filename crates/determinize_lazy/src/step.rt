@@ -64,6 +64,7 @@ impl<'n, N: Allocator, A: Allocator + Copy> Lazy<'n, N, A> {
 
     /// Returns where a search begins. If the start state is cached, its id is kept, so that the
     /// next search from it computes and looks up nothing.
+    #[inline(always)]
     pub(crate) fn start(
         &mut self,
         start: StateID,
@@ -79,11 +80,28 @@ impl<'n, N: Allocator, A: Allocator + Copy> Lazy<'n, N, A> {
     {
         match self.kept_start(start, look_behind) {
             Some(id) => Ok(Cursor::Cached(id)),
-            None => {
-                let state = self.start_state(start, look_behind)?;
-                Ok(self.keep_start(start, look_behind, state))
-            }
+            None => self.find_start(start, look_behind),
         }
+    }
+
+    /// Returns where a search begins whose start is not kept, and keeps it if it is cached.
+    #[cold]
+    #[inline(never)]
+    fn find_start(
+        &mut self,
+        start: StateID,
+        look_behind: Option<u8>,
+    ) -> Result<Cursor<A>, AllocError>
+        requires { start < length self.old.nfa.states }
+        ensures at { IfOk result (λ cursor. IsAt self.old.states cursor
+            (start_value self.old.nfa start look_behind)) }
+        ensures resolve { OnOk result
+            (AllResolve self.old.nfa (start_value self.old.nfa start look_behind).states) }
+        ensures sound { IsSound (cache self.old) }
+        ensures unchanged { self.new ≡ self.old }
+    {
+        let state = self.start_state(start, look_behind)?;
+        Ok(self.keep_start(start, look_behind, state))
     }
 
     /// Returns the id of a start state, if it is kept.
