@@ -10,8 +10,8 @@ use Rattle.determinize_core.specs.Value.{Value}
 use Rattle.determinize_lazy.specs.Cache.{Cache, step_of}
 use Rattle.determinize_lazy.specs.Searches.{units_read}
 
--- what a `Scan` is seen as: the value of the state where it is, the last match of the states so far,
--- and how many bytes it was fed
+-- what a `Scan` is seen as: the value of the state where it is, the last match of the states so
+-- far, and how many bytes it was fed
 pub record Scanned : Type 0 where
   pub state : Value
   pub last : Option HalfMatch
@@ -20,12 +20,11 @@ pub record Scanned : Type 0 where
 -- the search of a text that begins with these bytes: its value is that after the bytes that a search
 -- reads, and its match is the last one of the walk over the bytes
 pub record IsScan (nfa : Nfa) (kind : MatchKind) (start : ℕ) (behind : Option ℕ) (bytes : List ℕ)
-    (s : Scanned) : Type 0
-  where
-    pub state : s.state ≡ value_after nfa kind (start_value nfa start behind)
-        (units_read (step nfa kind) false (start_value nfa start behind) (map Some bytes))
-    pub last : s.last ≡ last_match (future nfa kind (start_value nfa start behind) (map Some bytes))
-    pub read : s.read ≡ length bytes
+    (s : Scanned) : Type 0 where
+  pub state : s.state ≡ value_after nfa kind (start_value nfa start behind)
+      (units_read (step nfa kind) false (start_value nfa start behind) (map Some bytes))
+  pub last : s.last ≡ last_match (future nfa kind (start_value nfa start behind) (map Some bytes))
+  pub read : s.read ≡ length bytes
 
 -- the units that a scan reads of a piece, from its value on
 abbrev pub units_fed : Cache → Value → List ℕ → List (Option ℕ)

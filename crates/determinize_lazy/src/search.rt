@@ -1,10 +1,10 @@
 //! Searches over the cache: the last match of a walk, without a list of its states.
 //!
-//! For each byte of cached transitions a search reads two numbers in the row of the state where it
-//! is: the entry of the byte, which is the offset of the next row, and the tag. The loop that does
-//! so, `follow`, neither allocates nor hashes. It is left for a transition that is not cached, for
-//! the last unit, and at a state at which the search ends. A search whose start is kept as well
-//! (`step`) computes no state and searches no map.
+//! For each byte over which the transition is cached, a search reads two numbers in the row of its
+//! current state: the entry of the byte, which is the offset of the next row, and the tag. The loop
+//! that does so, `follow`, neither allocates nor hashes. It is left for a transition that is not
+//! cached, for the last unit, and at a state at which the search ends. If the id of the start state
+//! is kept as well (`step`), a search computes no state and searches no map.
 //!
 //! Matches are delayed by one unit: a state lists the patterns that match before the unit that led
 //! to it. So a search also reads the unit ahead of its text, and a start state is no match state.
@@ -364,7 +364,7 @@ impl<'n, N: Allocator, A: Allocator + Copy> Lazy<'n, N, A> {
         Ok(self.search_range(input, true)?.is_some())
     }
 
-    /// Returns the start state of a search that is so anchored.
+    /// Returns the start state for an anchored mode.
     fn start_for(&self, anchored: Anchored) -> StateID
         requires { has_start anchored ≡ true }
         ensures value { result ≡ start_for self.now.nfa anchored }

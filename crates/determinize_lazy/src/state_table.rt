@@ -1,4 +1,4 @@
-//! The cached states, each once, with an index of them.
+//! The cached states, each once, with a map from a state to its id.
 //!
 //! A new state is hashed twice, by `find` and by `intern`. An entry of the map could save that, but
 //! it takes a copy of the state before it is known to be new, and borrows the map while the source

@@ -1,9 +1,9 @@
 //! The transition table: the cached states, and a row of targets for each.
 //!
-//! A row has 258 numbers. In the column of a unit (a byte, or 256 for EOI) is the row of the next
-//! state, as an index into `rows`, or `UNKNOWN` if the transition is not cached. In the last column
+//! A row has 258 numbers. In the column of a unit (a byte, or 256 for EOI) is the offset in `rows`
+//! of the row of the next state, or `UNKNOWN` if the transition is not cached. In the last column
 //! is the tag of the state. So a search over cached transitions reads two numbers a byte, and no
-//! state. The table also has the rule of what is cached (`keep`), and the rows of the start states
+//! state. The table also has the rule of what is cached (`keep`), and the ids of the start states
 //! that searches have used.
 
 ghost use Rattle.std.specs.Prelude.{◌≡◌, ◌*◌, ◌<◌, ◌≤◌, ◌⊎◌, ℕ, false, true, length, nat_le, slice_get, slice_set, IfOk, OnErr, OnOk, Some};

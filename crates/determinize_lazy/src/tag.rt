@@ -1,4 +1,4 @@
-//! What a search asks of a state, in one number: the tag in the last column of the state's row. And
+//! What a search reads of a state, in one number: the tag in the last column of the state's row. And
 //! the last match that a search has found.
 
 ghost use Rattle.std.specs.Prelude.{◌≡◌, None, is_some};
@@ -16,7 +16,8 @@ const DEAD: u32 = 1 << 31;
 /// match follows it.
 #[derive(Clone, Copy)]
 pub(crate) struct StateTag {
-    /// The highest bit for a dead state. In the others one more than the pattern, or 0 for none.
+    /// The highest bit is set if the state is dead. The others are one more than the pattern, or 0
+    /// for none.
     pub(crate) bits: u32,
 }
 
