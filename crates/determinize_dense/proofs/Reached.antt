@@ -87,13 +87,13 @@ abbrev of_kind : Nfa → ℕ → Kind → Value
 of_kind nfa s k = recorded nfa (begun (start_from_word (tables_of nfa) k) (start_half_crlf (tables_of nfa) k)
     (start_have (tables_of nfa) k) []) (reach nfa (has (start_have (tables_of nfa) k)) (s ∷ []))
 
--- a start value depends on the kind of start alone
+-- a start value depends only on the kind of start
 pub same_start : (nfa : Nfa) (s : ℕ) (p q : Option ℕ) → start_kind_of nfa.terminator p ≡ start_kind_of nfa.terminator q
     → start_value nfa s p ≡ start_value nfa s q
 unfolding have_at_start from_word_at_start half_crlf_at_start
 same_start nfa s p q e = ap (λ k. of_kind nfa s k) e
 
--- the number of a start tells its kind, and whether it is anchored
+-- the number of a start determines its kind, and whether it is anchored
 pub start-number : (anchored : Bool) (k : Kind)
     → ((cond anchored 0 6 + number_of k) % 6 ≡ number_of k)
     × (nat_lt (cond anchored 0 6 + number_of k) 6 ≡ anchored)

@@ -38,7 +38,7 @@ module _ (d : DfaValue) (is : IsDfa d) (anchored : Bool) (text : Text) (behind :
       ∙ ap (λ ps. option_or (ended_at (length us) ps) (last_of us))
       (sym (is.tells anchored text.behind (us ++ u ∷ []) behind (All-append IsUnit us (u ∷ []) all (one_unit u unit))))
 
-  -- the last match stays where none follows
+  -- the last match is the same if none follows
   over : (us rest : List (Option ℕ))
       → ((more : List (Option ℕ)) → (value_after d.nfa d.kind first (us ++ more)).patterns ≡ [])
       → last_of (us ++ rest) ≡ last_of us

@@ -47,7 +47,7 @@ module _ (b : Building) (is : IsBuilding b) (whole : length b.next ≡ length b.
   column-below (Some byte) h =
       let k : slice_index b.classes.of_bytes byte < length b.classes.firsts = is.sound.within byte h in omega (arith, k)
 
-  -- the unit for which a column is computed stands for each unit of the column
+  -- the unit for which a column is computed is alike to each unit of the column
   same-step : (v : Value) (u : Option ℕ) → NeedsTested b.nfa v → IsUnit u
       → step b.nfa b.kind v (unit_at b.classes (column_of table u)) ≡ step b.nfa b.kind v u
   same-step v None tested h =
@@ -61,7 +61,7 @@ module _ (b : Building) (is : IsBuilding b) (whole : length b.next ≡ length b.
       ∙ each_class_steps b.nfa is.accepted b.kind v tested (first_of b.classes c) byte
       (is.classes.alike (first_of b.classes c) byte (is.sound.bytes c k) h (is.sound.own c k))
 
-  -- a row leads to the row of the next value
+  -- the entry of a row is the row of the next value
   row_over-step : (r : ℕ) (v : Value) (u : Option ℕ) → slice_get b.values r ≡ Some v → IsUnit u
       → slice_get b.values (row_over table r u) ≡ Some (step b.nfa b.kind v u)
   row_over-step r v u at h =

@@ -16,7 +16,7 @@ use Rattle.determinize_lazy.specs.Table.{EachApart}
 abbrev pub start_in : Nfa → Bool → ℕ
 start_in nfa anchored = cond anchored nfa.start_anchored nfa.start_unanchored
 
--- whether a search that is so anchored starts from the anchored one
+-- whether a search in this anchored mode starts from the anchored start
 abbrev pub is_anchored : Anchored → Bool
 is_anchored No = false
 is_anchored _ = true
@@ -33,17 +33,17 @@ IsDfaOf nfa kind d = (anchored : Bool) (p : Option ℕ) (us : List (Option ℕ))
     → patterns_at d (row_after d (start_row nfa d anchored p) us)
     ≡ (value_from nfa kind anchored p us).patterns
 
--- some units lead to the value from a start
+-- the value is that after some units from a start
 abbrev pub IsReachedValue : Nfa → MatchKind → Value → Type 0
 IsReachedValue nfa kind v = (anchored : Bool) × (p : Option ℕ) × (us : List (Option ℕ))
     × IsUnit p × All IsUnit us × (v ≡ value_from nfa kind anchored p us)
 
--- exactly so many values are reached
+-- exactly n values are reached
 abbrev pub HasStates : Nfa → MatchKind → ℕ → Type 0
 HasStates nfa kind n = (vs : List Value) × EachApart vs × (length vs ≡ n)
     × ((v : Value) → Contains vs v ↔ IsReachedValue nfa kind v)
 
--- more values are reached than so many
+-- more than n values are reached
 abbrev pub HasMoreStates : Nfa → MatchKind → ℕ → Type 0
 HasMoreStates nfa kind n = (vs : List Value) × EachApart vs × (n < length vs)
     × ((v : Value) → Contains vs v → IsReachedValue nfa kind v)

@@ -6,9 +6,8 @@ use Rattle.determinize_below.specs.Semantics.{Nfa}
 use Rattle.determinize_below.specs.declared.search.MatchKind.{MatchKind}
 use Rattle.determinize_start.specs.StartKinds.{number_of, start_kind_of}
 
--- the class of each byte, and how many there are; the entries of all rows, one row after the other;
--- the rows of the
--- start states; and the patterns that each row lists
+-- the class of each byte, and the number of classes; the entries of all rows, one row after the
+-- other; the rows of the start states; and the patterns that each row lists
 pub record Table : Type 0 where
   pub classes : List ℕ
   pub class_count : ℕ
@@ -36,8 +35,7 @@ abbrev pub row_after : Table → ℕ → List (Option ℕ) → ℕ
 row_after d r [] = r
 row_after d r (u ∷ us) = row_after d (row_over d r u) us
 
--- where the row of a start stands: by the kind of the start, the unanchored ones behind the
--- anchored ones
+-- the index of a start: by the kind of the start, the unanchored ones after the anchored ones
 abbrev pub start_number : Nfa → Bool → Option ℕ → ℕ
 start_number nfa anchored p = cond anchored 0 6 + number_of (start_kind_of nfa.terminator p)
 

@@ -35,7 +35,7 @@ fn in_haystack(input: &Input<'_>, is_backward: bool, found: Option<HalfMatch>) -
     Some(HalfMatch { pattern, offset })
 }
 
-/// Returns whether a search that is so anchored starts at the anchored start.
+/// Returns whether a search in this anchored mode starts at the anchored start.
 fn is_anchored(anchored: Anchored) -> bool
     ensures { result ≡ dfas.is_anchored anchored }
 {
@@ -96,7 +96,7 @@ impl<'n, N: Allocator, A: Allocator + Copy> Dfa<'n, N, A> {
     /// its end.
     ///
     /// - `anchored` is `Anchored::Yes` for the anchored start of the NFA, or `Anchored::No` for the
-    ///   unanchored one. The caller must not ask for `Anchored::Pattern`.
+    ///   unanchored one. `Anchored::Pattern` is not accepted.
     /// - `look_behind` is the byte just before the text, if any.
     /// - `look_ahead` is the byte just after the text, or `None` if the input ends there.
     ///
@@ -104,8 +104,7 @@ impl<'n, N: Allocator, A: Allocator + Copy> Dfa<'n, N, A> {
     /// under `MatchKind::All` that of the best run at the last position where any run accepts.
     /// `None` means that no run accepts.
     ///
-    /// The text is in the order of reading: for an NFA that reads backward, from the last byte on.
-    /// The search stops at the dead state, since no match can follow it. Does not allocate.
+    /// The text is in reading order: for a reverse NFA from the last byte on. The search stops at the dead state, since no match can follow it. Does not allocate.
     pub fn search(
         &self,
         anchored: Anchored,
@@ -123,15 +122,15 @@ impl<'n, N: Allocator, A: Allocator + Copy> Dfa<'n, N, A> {
 
     /// Returns the last match of a search of an input, or `None` if no run accepts.
     ///
-    /// The search reads the range in the direction of the NFA: an NFA that reads backward reads it
-    /// from its end to its start. The offset of a match is an index into the haystack: where the
-    /// match ends or, if it was read backward, where it begins. It lies in the range or at its end.
-    /// Which match it is depends on the match kind as for `search`.
+    /// The range is read in the direction of the NFA: a reverse NFA reads it from its end to its
+    /// start. The offset of a match is an index into the haystack: where the match ends or, for a
+    /// reverse NFA, where it begins. It is in the range or at its end. Which match it is depends on
+    /// the match kind as for `search`.
     ///
-    /// The search starts from the anchored or the unanchored start state of the NFA, as the input
-    /// asks. `Anchored::Pattern` has no start state here: the caller must not ask for it.
+    /// The search starts from the anchored or the unanchored start state of the NFA, by the anchored
+    /// mode of the input. `Anchored::Pattern` has no start state and is not accepted.
     ///
-    /// A match lies within the range. The bytes just before and after it are only looked at by
+    /// A match is within the range. The bytes just before and after the range are only peeked at, by
     /// assertions. If the range starts past its end, nothing is read and the result is `None`. Does
     /// not allocate.
     pub fn search_input(&self, input: &Input<'_>) -> Option<HalfMatch>
@@ -161,8 +160,8 @@ impl<'n, N: Allocator, A: Allocator + Copy> Dfa<'n, N, A> {
     /// `search_input` reads accepts.
     ///
     /// Stops at the first match state, and at the dead state. If the range starts past its end,
-    /// nothing is read and the result is `false`. The caller must not ask for `Anchored::Pattern`,
-    /// as for `search_input`. Does not allocate.
+    /// nothing is read and the result is `false`. `Anchored::Pattern` is not accepted. Does not
+    /// allocate.
     pub fn is_match(&self, input: &Input<'_>) -> bool
         requires { has_start input.now.anchored ≡ true }
         ensures accepts { is_done input.now ≡ false

@@ -263,8 +263,7 @@ impl<'n, N: Allocator, A: Allocator + Copy> Lazy<'n, N, A> {
     /// under `MatchKind::All` that of the best run at the last position where any run accepts.
     /// `None` means that no run accepts.
     ///
-    /// The text is in the order of reading: for an NFA that reads backward, from the last byte on.
-    /// The search stops at a state that records no NFA states, since no match can follow it.
+    /// The text is in reading order: for a reverse NFA from the last byte on. The search stops at a state that records no NFA states, since no match can follow it.
     ///
     /// Returns `AllocError` if an allocation fails, or if more than 16647160 states would be
     /// cached.
@@ -294,17 +293,17 @@ impl<'n, N: Allocator, A: Allocator + Copy> Lazy<'n, N, A> {
 
     /// Returns the last match of a search of an input, or `None` if no run accepts.
     ///
-    /// The search reads the range in the direction of the NFA: an NFA that reads backward reads it
-    /// from its end to its start. The offset of a match is an index into the haystack: where the
-    /// match ends or, if it was read backward, where it begins. It lies in the range or at its end.
-    /// Which match it is depends on the match kind as for `search`.
+    /// The range is read in the direction of the NFA: a reverse NFA reads it from its end to its
+    /// start. The offset of a match is an index into the haystack: where the match ends or, for a
+    /// reverse NFA, where it begins. It is in the range or at its end. Which match it is depends on
+    /// the match kind as for `search`.
     ///
-    /// The search starts from the anchored or the unanchored start state of the NFA, as the input
-    /// asks. `Anchored::Pattern` has no start state here: the caller must not ask for it. To search
-    /// for one pattern only, give the pattern a start state in the NFA, and call `search` with the
-    /// id of that state.
+    /// The search starts from the anchored or the unanchored start state of the NFA, by the anchored
+    /// mode of the input. `Anchored::Pattern` has no start state and is not accepted. To search for one
+    /// pattern only, give the pattern a start state in the NFA, and call `search` with the id of
+    /// that state.
     ///
-    /// A match lies within the range. The bytes just before and after it are only looked at by
+    /// A match is within the range. The bytes just before and after the range are only peeked at, by
     /// assertions, but the byte ahead is a unit that may be computed and cached as any other. If
     /// the range starts past its end, nothing is read and the result is `Ok(None)`.
     ///
@@ -342,8 +341,7 @@ impl<'n, N: Allocator, A: Allocator + Copy> Lazy<'n, N, A> {
     ///
     /// Stops at the first match state, and at a state that records no NFA states. Over cached
     /// transitions the cache is only read. If the range starts past its end, nothing is read and
-    /// the result is `Ok(false)`. The caller must not ask for `Anchored::Pattern`, as for
-    /// `search_input`.
+    /// the result is `Ok(false)`. `Anchored::Pattern` is not accepted.
     ///
     /// Returns `AllocError` if an allocation fails, or if more than 16647160 states would be
     /// cached.

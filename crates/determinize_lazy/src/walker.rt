@@ -1,4 +1,4 @@
-//! Walks by steps, for a caller that wants each state of a walk, but no list of them.
+//! Walks by steps, for a caller that needs each state of a walk, but no list of them.
 
 ghost use Rattle.std.specs.Prelude.{◌≡◌, ◌+◌, ◌∷◌, ◌<◌, ℕ, [], Option, length, slice_get, IfOk, OnErr, OnOk, Some};
 ghost use Rattle.determinize_below.specs.Nfa.{AllResolve};

@@ -60,7 +60,7 @@ pub record Stays (old new : Building) : Type 0 where
   pub values : (i : ℕ) (v : Value) → slice_get old.values i ≡ Some v → slice_get new.values i
       ≡ Some v
 
--- this is the row of the start with a number, whatever byte of its kind is behind it
+-- this is the row of the start with a number, for any byte of its kind behind it
 abbrev pub IsStart : Nfa → List Value → ℕ → ℕ → Type 0
 IsStart nfa values number r = (anchored : Bool) (p : Option ℕ) → IsUnit p
     → start_number nfa anchored p ≡ number

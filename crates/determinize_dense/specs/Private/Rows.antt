@@ -7,7 +7,7 @@ use Rattle.determinize_dense.specs.Dfa.{IsDfaOf, value_from}
 use Rattle.determinize_dense.specs.Table.{DfaValue, Table, column_of, row_after, row_over}
 use Rattle.determinize_dense.specs.Table.{start_row}
 
--- each entry is in place and leads to a row
+-- each entry is in place and is the number of a row
 pub record IsFilled (d : Table) : Type 0 where
   pub size : length d.next ≡ length d.patterns * (d.class_count + 1)
   pub starts : length d.starts ≡ 12

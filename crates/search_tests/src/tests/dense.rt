@@ -55,7 +55,7 @@ fn nfa(alloc: Global, states: &str, start_anchored: StateID) -> Result<NFA, JobE
     Ok(nfa)
 }
 
-/// Asserts that a DFA has so many states: it is built with this limit, and not with one less.
+/// Asserts that a DFA has this number of states: it is built with this limit, not with one less.
 fn expect_count<R: Abort + AllocGlobal>(rt: &R, nfa: &NFA, kind: MatchKind, count: usize) {
     let fewer = Dfa::build(rt.alloc(), nfa, kind, count.saturating_sub(1));
     same(rt, fewer.err(), Some(BuildError::TooManyStates));

@@ -12,7 +12,7 @@ use Rattle.determinize_dense.proofs.build.Builder.add_entry.Given.{Over}
 use Rattle.determinize_dense.proofs.build.Builder.add_entry.Goals.{After-as_slice}
 use Rattle.determinize_dense.proofs.build.Builder.add_entry.Goals as goal
 
--- where the next entry stands
+-- the index of the next entry
 room : (g : Over) (c : After-as_slice g)
     → length c.self.inside.next.items < length c.self.inside.states * columns_of c.self.inside.classes
 room g c = subst (λ (x : Building). length x.next
