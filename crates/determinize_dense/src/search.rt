@@ -104,7 +104,8 @@ impl<'n, N: Allocator, A: Allocator + Copy> Dfa<'n, N, A> {
     /// under `MatchKind::All` that of the best run at the last position where any run accepts.
     /// `None` means that no run accepts.
     ///
-    /// The text is in reading order: for a reverse NFA from the last byte on. The search stops at the dead state, since no match can follow it. Does not allocate.
+    /// The text is in reading order: for a reverse NFA from the last byte on. The search stops at
+    /// the dead state, since no match can follow it. Does not allocate.
     pub fn search(
         &self,
         anchored: Anchored,
@@ -127,12 +128,12 @@ impl<'n, N: Allocator, A: Allocator + Copy> Dfa<'n, N, A> {
     /// reverse NFA, where it begins. It is in the range or at its end. Which match it is depends on
     /// the match kind as for `search`.
     ///
-    /// The search starts from the anchored or the unanchored start state of the NFA, by the anchored
-    /// mode of the input. `Anchored::Pattern` has no start state and is not accepted.
+    /// The search starts from the anchored or the unanchored start state of the NFA, by the
+    /// anchored mode of the input. `Anchored::Pattern` has no start state and is not accepted.
     ///
-    /// A match is within the range. The bytes just before and after the range are only peeked at, by
-    /// assertions. If the range starts past its end, nothing is read and the result is `None`. Does
-    /// not allocate.
+    /// A match is within the range. The bytes just before and after the range are only peeked at,
+    /// by assertions. If the range starts past its end, nothing is read and the result is `None`.
+    /// Does not allocate.
     pub fn search_input(&self, input: &Input<'_>) -> Option<HalfMatch>
         requires { has_start input.now.anchored ≡ true }
         ensures last { result ≡ last_in self.now.nfa self.now.kind input.now }

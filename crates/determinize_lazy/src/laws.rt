@@ -4,8 +4,9 @@ ghost use Rattle.determinize_lazy.specs.Cache.{EachWalkComputesFew};
 ghost use Rattle.determinize_lazy.specs.WorkedRows.{AreWorkedRows};
 
 /// Walks and searches over one cache by the definitions: how many transitions are computed and how
-/// many states are cached after each series of walks, with room for all, for two states, for one and
-/// for none, and after searches; and the last match in ranges of a haystack, in both directions.
+/// many states are cached after each series of walks, with room for all, for two states, for one
+/// and for none, and after searches; and the last match in ranges of a haystack, in both
+/// directions.
 pub fn cache_rows_law()
     ensures { AreWorkedRows }
 {}

@@ -52,8 +52,8 @@ impl<A: Allocator> Scan<A> {
         &self.state
     }
 
-    /// Returns the last match that the states so far have reported, or `None`. Matches are delayed by
-    /// one unit, so one that ends where the last piece ends is not among them.
+    /// Returns the last match that the states so far have reported, or `None`. Matches are delayed
+    /// by one unit, so one that ends where the last piece ends is not among them.
     pub fn last(&self) -> Option<HalfMatch>
         ensures { result ≡ self.now.last }
     {
@@ -121,9 +121,9 @@ impl<'n, N: Allocator, A: Allocator + Copy> Lazy<'n, N, A> {
     ///
     /// The scan must be one of the same NFA: the ids of its state are then those of NFA states.
     ///
-    /// Returns `AllocError` if an allocation fails, if more than 16647160 states would be cached, or
-    /// if the pieces have more than `usize::MAX` bytes together. The scan is unchanged then, and the
-    /// piece may be fed again.
+    /// Returns `AllocError` if an allocation fails, if more than 16647160 states would be cached,
+    /// or if the pieces have more than `usize::MAX` bytes together. The scan is unchanged then, and
+    /// the piece may be fed again.
     pub fn feed(&mut self, scan: &mut Scan<A>, piece: &[u8]) -> Result<(), AllocError>
         requires { AllResolve self.old.nfa scan.old.state.states }
         ensures fed { (start : ℕ) (behind : Option ℕ) (bytes : List ℕ)

@@ -230,8 +230,8 @@ impl<'n, N: Allocator, A: Allocator + Copy> Lazy<'n, N, A> {
         self.search_from(cursor, text, earliest)
     }
 
-    /// Searches the range of an input in the direction of the NFA. The match is one of the text that
-    /// is read.
+    /// Searches the range of an input in the direction of the NFA. The match is one of the text
+    /// that is read.
     #[inline(always)]
     fn search_range(
         &mut self,
@@ -263,7 +263,8 @@ impl<'n, N: Allocator, A: Allocator + Copy> Lazy<'n, N, A> {
     /// under `MatchKind::All` that of the best run at the last position where any run accepts.
     /// `None` means that no run accepts.
     ///
-    /// The text is in reading order: for a reverse NFA from the last byte on. The search stops at a state that records no NFA states, since no match can follow it.
+    /// The text is in reading order: for a reverse NFA from the last byte on. The search stops at a
+    /// state that records no NFA states, since no match can follow it.
     ///
     /// Returns `AllocError` if an allocation fails, or if more than 16647160 states would be
     /// cached.
@@ -298,13 +299,13 @@ impl<'n, N: Allocator, A: Allocator + Copy> Lazy<'n, N, A> {
     /// reverse NFA, where it begins. It is in the range or at its end. Which match it is depends on
     /// the match kind as for `search`.
     ///
-    /// The search starts from the anchored or the unanchored start state of the NFA, by the anchored
-    /// mode of the input. `Anchored::Pattern` has no start state and is not accepted. To search for one
-    /// pattern only, give the pattern a start state in the NFA, and call `search` with the id of
-    /// that state.
+    /// The search starts from the anchored or the unanchored start state of the NFA, by the
+    /// anchored mode of the input. `Anchored::Pattern` has no start state and is not accepted. To
+    /// search for one pattern only, give the pattern a start state in the NFA, and call `search`
+    /// with the id of that state.
     ///
-    /// A match is within the range. The bytes just before and after the range are only peeked at, by
-    /// assertions, but the byte ahead is a unit that may be computed and cached as any other. If
+    /// A match is within the range. The bytes just before and after the range are only peeked at,
+    /// by assertions, but the byte ahead is a unit that may be computed and cached as any other. If
     /// the range starts past its end, nothing is read and the result is `Ok(None)`.
     ///
     /// Returns `AllocError` if an allocation fails, or if more than 16647160 states would be

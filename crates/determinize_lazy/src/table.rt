@@ -357,8 +357,8 @@ impl<A: Allocator + Copy> TransitionTable<A> {
         }
     }
 
-    /// Caches a computed transition if it fits within `limit` states, after clearing the table if it
-    /// does not fit with the rest. Returns the cursor of its target.
+    /// Caches a computed transition if it fits within `limit` states, after clearing the table if
+    /// it does not fit with the rest. Returns the cursor of its target.
     ///
     /// If an allocation fails, the table is unchanged or empty.
     pub(crate) fn keep(

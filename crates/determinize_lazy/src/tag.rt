@@ -1,5 +1,5 @@
-//! What a search reads of a state, in one number: the tag in the last column of the state's row. And
-//! the last match that a search has found.
+//! What a search reads of a state, in one number: the tag in the last column of the state's row.
+//! And the last match that a search has found.
 
 ghost use Rattle.std.specs.Prelude.{◌≡◌, None, is_some};
 ghost use Rattle.std.specs.Option.{option_or};

@@ -20,8 +20,8 @@ use std::marker::Model;
 
 /// A walk under way, by steps: `Lazy::walker` begins it, and `Lazy::next` takes a step.
 ///
-/// It owns its state, so it may continue through any cache of the same NFA and match kind, regardless
-/// of the other uses of that cache in between.
+/// It owns its state, so it may continue through any cache of the same NFA and match kind,
+/// regardless of the other uses of that cache in between.
 #[derive(Drop)]
 pub struct Walker<A: Allocator = Global> {
     state: State<A>,
@@ -76,8 +76,8 @@ impl<'n, N: Allocator, A: Allocator + Copy> Lazy<'n, N, A> {
     ///
     /// The walker must be one of the same NFA: the ids of its state are then those of NFA states.
     ///
-    /// Returns `AllocError` if an allocation fails, or if more than 16647160 states would be cached.
-    /// The walker is unchanged then, and may take the same step again.
+    /// Returns `AllocError` if an allocation fails, or if more than 16647160 states would be
+    /// cached. The walker is unchanged then, and may take the same step again.
     pub fn next(&mut self, walker: &mut Walker<A>, unit: Option<u8>) -> Result<(), AllocError>
         requires { AllResolve self.old.nfa walker.old.states }
         ensures value { OnOk result
