@@ -2,7 +2,7 @@
 //! proved. `search_tests` runs all but [`counted`].
 //!
 //! - [`values`] makes one value of each small type: sets, start kinds, closures, states.
-//! - [`nfa`] makes an NFA by hand, and [`readme`] is that of the README's program.
+//! - [`nfa`] makes an NFA by hand, and [`built`] one by a `Builder`.
 //! - [`scanner`] finds all matches of a haystack, and [`lexer`] the longest token at each position.
 //! - [`input`] finds whether a haystack has a match, and both ends of the preferred one.
 //! - [`search`] and [`cache`] search and walk many texts through one cache.
@@ -10,13 +10,13 @@
 //! - [`dfa`] builds a whole DFA, and runs it.
 #![tactic(auto)]
 
+pub mod built;
 pub mod cache;
 pub mod counted;
 pub mod dfa;
 pub mod input;
 pub mod lexer;
 pub mod nfa;
-pub mod readme;
 pub mod scanner;
 pub mod search;
 pub mod values;

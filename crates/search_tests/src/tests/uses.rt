@@ -10,7 +10,7 @@ use determinize_below::{
 use determinize_core::start::Start;
 use determinize_find::Builder;
 use determinize_lazy::Lazy;
-use determinize_uses::{cache, input, lexer, nfa, readme, scanner, search, values, walk};
+use determinize_uses::{built, cache, input, lexer, nfa, scanner, search, values, walk};
 use std::alloc::Allocator;
 use std::process::Abort;
 use std::test::Fail;
@@ -64,7 +64,7 @@ fn closures(rt: HostRuntime) -> Result<(), Fail> {
 
 #[test]
 fn first_search(rt: HostRuntime) -> Result<(), Fail> {
-    let (nfa, text) = (readme::digits(rt.alloc())?, b"a12");
+    let (nfa, text) = (built::digits(rt.alloc())?, b"a12");
     let mut first = Lazy::new(rt.alloc(), &nfa, MatchKind::LeftmostFirst, 100);
     same(&rt, first.search_input(&Input::new(text))?, ended(3));
     let mut all = Lazy::new(rt.alloc(), &nfa, MatchKind::All, 100);

@@ -1,4 +1,7 @@
-//! The NFA of the README's program.
+//! An NFA made by a `Builder`.
+
+ghost use Rattle.std.specs.Prelude.{◌≡◌, false, IfOk};
+ghost use Rattle.determinize_find.specs.Prefix.{HasPrefix};
 
 use determinize_below::nfa::BuildError;
 use determinize_below::{NFA, StateID, Transition};
@@ -6,7 +9,10 @@ use determinize_find::Builder;
 use std::alloc::Allocator;
 
 /// Returns the NFA of `[0-9]+` after the prefix that passes over any bytes.
-pub fn digits<A: Allocator + Copy>(alloc: A) -> Result<NFA<A>, BuildError> {
+pub fn digits<A: Allocator + Copy>(alloc: A) -> Result<NFA<A>, BuildError>
+    ensures prefix { IfOk result (λ nfa. HasPrefix nfa) }
+    ensures forward { IfOk result (λ nfa. nfa.reverse ≡ false) }
+{
     let (start, end, next) = (b'0', b'9', StateID::ZERO);
     let mut builder = Builder::new(alloc);
     let digit = builder.add_range(Transition { start, end, next })?;
