@@ -1,7 +1,7 @@
 //! The NFA that reads in the other direction.
 //!
-//! Each range of bytes and each assertion becomes a state of its own between target and source, and
-//! epsilon transitions are turned. The start is a union of the match states, and the anchored start
+//! Each range of bytes and each assertion becomes a state between target and source, and epsilon
+//! transitions are reversed. The start is a union of the match states, and the anchored start
 //! becomes the one match state.
 
 ghost use Rattle.std.specs.Prelude.{◌≡◌, ◌+◌, ◌<◌, ◌≤◌, ◌∷◌, [], All, IfErr, IfOk, OnOk, length, map, true};

@@ -1,4 +1,4 @@
--- Searches: their text, the last match, and the answer in a haystack.
+-- Searches: their text, the last match, and searches of haystacks.
 pub mod Headline
 pub mod LastUnits
 pub mod Ranges

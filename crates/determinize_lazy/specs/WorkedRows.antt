@@ -1,4 +1,4 @@
--- Worked walks and searches over one cache of the NFA `\b\w+\b`, the preferred match wanted: how
+-- Example walks and searches over one cache of the NFA `\b\w+\b`, the preferred match wanted: how
 -- many transitions are computed, and how many states are cached then.
 use Rattle.std.specs.Prelude.{◌≡◌, ℕ, true, Option, Some, None, List, [], ◌∷◌, length}
 use Rattle.determinize_below.specs.declared.search.MatchKind.TheVariants.{LeftmostFirst}

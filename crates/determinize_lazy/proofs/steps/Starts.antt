@@ -1,4 +1,4 @@
--- The kept starts: which are kept, and that a start state depends on the kind of start alone.
+-- The cached starts: which are cached, and that a start state depends only on the kind of start.
 use Rattle.determinize_lazy.proofs.Common.{[], ap, AreStarts, arith, begun, Bool, cond, false, List, nat_eq, nat_lt}
 use Rattle.determinize_lazy.proofs.Common.{Nfa, None, Option, option_map, refl, replicate, slice_get, slice_set}
 use Rattle.determinize_lazy.proofs.Common.{Some, start_index, start_value, StartsStay, StoredTable, suc, sym}
@@ -39,7 +39,7 @@ kind_at : (nfa : Nfa) (k : Kind) → (kept_at nfa (number_of k) ≡ Some (of_kin
 kind_at nfa NonWordByte = (refl, refl)
 kind_at nfa s = (refl, refl)
 
--- the start state of a start is that of its index: it depends on the kind of start alone
+-- the start state of a start is that of its index: it depends only on the kind of start
 at_its_index : (nfa : Nfa) (s : ℕ) (p : Option ℕ) (i : ℕ) → start_index nfa s p ≡ Some i
     → kept_at nfa i ≡ Some (start_value nfa s p)
 unfolding have_at_start from_word_at_start half_crlf_at_start

@@ -84,7 +84,7 @@ module _ (c : Cache) (v : Value) (u : Option ℕ) (us : List (Option ℕ)) (room
         | false ↦ λ absent. not_both e (ap is_some (not_source (step_of c) c.table v u is absent))
       ] refl) room
 
-  -- the target is there by then
+  -- the target is cached before the next step
   room-added : HasRoom (after false added) next us
   room-added = subst (λ xs. length xs ≤ c.limit)
       (ap (λ vs. with_values (with_value c.table.states v) vs) (future_is c.nfa c.kind next us)

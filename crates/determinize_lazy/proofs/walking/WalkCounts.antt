@@ -1,7 +1,7 @@
 -- How many transitions a walk computes.
 -- Main statements: each_walk_computes_few.
 -- Used by: `walk_count_law`.
--- Idea: a step computes one transition, or none.
+-- Idea: a step computes at most one transition.
 use Rattle.determinize_lazy.proofs.Common.{[], arith, Cache, count_after, is_cached, Option, suc, Value, ℕ, ◌∷◌, ◌≤◌}
 use Rattle.std.proofs.Common.{min}
 use Rattle.ordered_reach.proofs.Cases.{by_test}

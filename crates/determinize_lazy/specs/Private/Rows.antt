@@ -8,14 +8,14 @@ use Rattle.determinize_lazy.specs.Stored.{entry_at, table_in, target_in}
 use Rattle.determinize_lazy.specs.Table.{EachApart, Table, same, with_value}
 use Rattle.determinize_lazy.specs.Private.Tags.{tag_in, tag_of}
 
--- an entry leads to the state of which it is the offset of the row, or nowhere: 1 is the offset of
--- no row
+-- an entry is the offset of the row of the target, or 1 if the target is unknown: 1 is the offset
+-- of no row
 abbrev pub Leads : List Value → ℕ → Option Value → Type 0
 Leads states entry None = entry ≡ 1
 Leads states entry (Some w) = (p : ℕ) × (entry ≡ p * 258) × (slice_get states p ≡ Some w)
 
--- a row for each of the states, of which no two are equal: in the column of a unit it leads to the
--- target of the transition, and in the last one is the tag of the state; there are no other
+-- a row for each of the states, of which no two are equal: in the column of a unit it has the
+-- target of the transition, and in the last one the tag of the state; there are no other
 -- transitions
 pub record AreRows (states : List Value) (rows : List ℕ)
     (target : Value → Option ℕ → Option Value) : Type 0 where
@@ -53,8 +53,8 @@ IsTargetIndex states source w None =
     (v : Value) → slice_get states source ≡ Some v → list_any (same w) states ≡ same v w
 IsTargetIndex states source w (Some p) = slice_get states p ≡ Some w
 
--- states of which no two are equal, at most as many as rows have offsets of 32 bits, and a map to
--- their indices
+-- states of which no two are equal, at most 16647160, whose rows have offsets of 32 bits, and a
+-- map to their indices
 pub record AreInterned (states : List Value) (index : Value → Option ℕ) : Type 0 where
   pub mapped : (v : Value) → IsIndex states v (index v)
   pub apart : EachApart states

@@ -17,7 +17,7 @@ here : (g : Over) (c : After-or_match-last g) (rest : List (Option ℕ))
     (cache c.loop-read.self)
 here g c rest = c.run-at.ensures.searched _ _ rest (c.loop-read.invariant.searched rest)
 
--- the search goes on there
+-- the search does not stop there
 more : (g : Over) (c : After-or_match-last g)
     → is_last c.args.earliest (cursor_value c.loop-read.self.states c.run-at.result.cursor) ≡ false
 more g c = tag-last c.tag_at-tag.result.bits (cursor_value c.loop-read.self.states c.run-at.result.cursor)

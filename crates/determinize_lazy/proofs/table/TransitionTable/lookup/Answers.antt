@@ -7,7 +7,7 @@ use Rattle.determinize_lazy.proofs.table.TransitionTable.lookup.Given.{Over}
 use Rattle.determinize_lazy.proofs.table.TransitionTable.lookup.Goals.{After-row}
 use Rattle.determinize_lazy.proofs.table.TransitionTable.lookup.Goals as goal
 
--- what is read is the entry of the unit in the row of the state, which leads to its target
+-- the entry of the unit in the row of the state is that of the target
 leads : (g : Over) (c : After-row g) (v : Value) → slice_get c.self.inside.states c.args.id ≡ Some v
     → Leads c.self.inside.states
     (slice_index (take (length c.deref.result.now - c.column.result) (drop c.column.result c.deref.result.now))
