@@ -1,4 +1,5 @@
 pub mod building
+pub mod idling
 pub mod leftmost
 pub mod matches
 pub mod prefixes

@@ -1,15 +1,19 @@
 -- Laws of the leftmost match.
-use Rattle.std.specs.Prelude.{◌≡◌, ◌<◌, ◌≤◌, ◌+◌, ◌↔◌, ℕ, All, List, None, Option, false, length, option_map}
+use Rattle.std.specs.Prelude.{◌≡◌, ◌<◌, ◌≤◌, ◌+◌, ◌++◌, ◌↔◌, ℕ, All, List, None, Option, Some, false, length, option_map, slice_get}
 use Rattle.std.specs.List.{Contains}
-use Rattle.determinize_below.specs.Semantics.{Nfa, Text}
+use Rattle.determinize_below.specs.Nfa.{IsAccepted}
+use Rattle.determinize_below.specs.Semantics.{Nfa, Text, between}
 use Rattle.determinize_below.specs.Search.{Asked}
 use Rattle.determinize_below.specs.declared.search.HalfMatch.{HalfMatch}
 use Rattle.determinize_below.specs.declared.search.Match.{Match}
+use Rattle.determinize_below.specs.declared.search.MatchKind.TheVariants.{LeftmostFirst}
 use Rattle.determinize_core.specs.LastMatch.{IsPreferredMatch}
+use Rattle.determinize_lazy.specs.Scans.{IsScan, Scanned}
+use Rattle.determinize_find.specs.Idle.{HasBegun, IsIdle, NothingBefore}
 use Rattle.determinize_find.specs.Leftmost.{AcceptsFrom, IsLeftmost}
 use Rattle.determinize_find.specs.LeftmostIn.{IsLeftmostIn, is_anchored}
 use Rattle.determinize_find.specs.Matches.{AreApart, AreMatches, BeginsAt, Covers}
-use Rattle.determinize_find.specs.Prefix.{HasPrefix}
+use Rattle.determinize_find.specs.Prefix.{HasPrefix, HasPrefixApart}
 use Rattle.determinize_find.specs.Reversal.{IsMirrored, turned, upto}
 use Rattle.determinize_find.specs.Since.{since}
 
@@ -73,3 +77,20 @@ EachStartIsCovered = (nfa : Nfa) (asked : Asked) (ms : List Match) (at : ℕ)
     → is_anchored nfa asked.anchored ≡ false → asked.end ≤ length asked.haystack
     → AreMatches nfa asked None ms → at ≤ asked.end → BeginsAt nfa asked at
     → (m : Match) × Contains ms m × Covers nfa asked at m
+
+-- at an idle place of a scan no run that began before accepts, for any bytes that follow
+abbrev pub EachIdleIsFresh : Type 0
+EachIdleIsFresh = (nfa : Nfa) → IsAccepted nfa → HasPrefixApart nfa
+    → (behind : Option ℕ) (bytes : List ℕ) → All (λ b. b < 256) bytes
+    → (s : Scanned) → IsScan nfa LeftmostFirst nfa.start_unanchored behind bytes s → IsIdle nfa s
+    → (more : List ℕ) (ahead : Option ℕ)
+    → NothingBefore nfa (between behind (bytes ++ more) ahead) (length bytes)
+
+-- and where another NFA state is first, some run that began before is in it
+abbrev pub EachBusyHasBegun : Type 0
+EachBusyHasBegun = (nfa : Nfa) → IsAccepted nfa → HasPrefix nfa
+    → (behind : Option ℕ) (bytes : List ℕ) → All (λ b. b < 256) bytes
+    → (s : Scanned) → IsScan nfa LeftmostFirst nfa.start_unanchored behind bytes s
+    → (state : ℕ) → slice_get s.state.states 0 ≡ Some state → ¬ (state ≡ nfa.start_unanchored)
+    → (more : List ℕ) (ahead : Option ℕ)
+    → HasBegun nfa (between behind (bytes ++ more) ahead) (length bytes) state

@@ -1,5 +1,6 @@
 pub mod Builder
 pub mod Cursors
+pub mod Idle
 pub mod Laws
 pub mod Leftmost
 pub mod LeftmostIn

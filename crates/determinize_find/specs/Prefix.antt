@@ -23,3 +23,8 @@ pub record HasPrefix (nfa : Nfa) : Type 0 where
   pub any : state_at nfa skip
       ≡ ByteRange record { start = 0; end = 255; next = nfa.start_unanchored }
   pub alone : (s : ℕ) → leads_to nfa.start_unanchored (state_at nfa s) ≡ true → s ≡ skip
+
+-- the usual prefix, and no state but the unanchored start goes to the one that reads any byte
+pub record HasPrefixApart (nfa : Nfa) : Type 0 where
+  pub prefix : HasPrefix nfa
+  pub apart : (s : ℕ) → leads_to prefix.skip (state_at nfa s) ≡ true → s ≡ nfa.start_unanchored

@@ -11,7 +11,7 @@ ghost use Rattle.determinize_below.specs.Node.{node_of};
 ghost use Rattle.determinize_find.specs.Builder as builders;
 ghost use Rattle.determinize_find.specs.Builder.{IsApart, IsUnfit, built, has_transition_to, patched, prefixed, with_match, with_node};
 ghost use Rattle.determinize_find.specs.Prefix as prefixes;
-ghost use Rattle.determinize_find.specs.Prefix.{HasPrefix};
+ghost use Rattle.determinize_find.specs.Prefix.{HasPrefix, HasPrefixApart};
 ghost use Rattle.determinize_find.specs.Reversal.{IsTooLarge};
 
 use crate::prefix::leads_to;
@@ -216,6 +216,7 @@ impl<A: Allocator + Copy> Builder<A> {
     /// have a transition.
     pub fn build_with_prefix(self, start_anchored: StateID) -> Result<NFA<A>, BuildError>
         ensures prefix { IfOk result (λ nfa. HasPrefix nfa) }
+        ensures separate { IfOk result (λ nfa. HasPrefixApart nfa) }
         ensures forward { IfOk result (λ nfa. nfa.reverse ≡ false) }
         ensures ok { IfOk result (λ nfa.
             nfa ≡ built (prefixed self start_anchored) start_anchored (length self.states)) }

@@ -1,6 +1,6 @@
 //! Laws of the leftmost match, as public functions with empty bodies.
 
-ghost use Rattle.determinize_find.specs.Laws.{EachAnchoredIsLeftmost, EachLeftmostInIsOne, EachLeftmostIsOne, EachMatchesAreApart, EachMatchesAreOne, EachPreferredIsLeftmost, EachReadingIsMirrored, EachRunMoves, EachRunReadsForward, EachStartIsCovered};
+ghost use Rattle.determinize_find.specs.Laws.{EachAnchoredIsLeftmost, EachBusyHasBegun, EachIdleIsFresh, EachLeftmostInIsOne, EachLeftmostIsOne, EachMatchesAreApart, EachMatchesAreOne, EachPreferredIsLeftmost, EachReadingIsMirrored, EachRunMoves, EachRunReadsForward, EachStartIsCovered};
 
 /// A text has at most one leftmost match.
 pub fn leftmost_law()
@@ -37,4 +37,13 @@ pub fn matches_law()
     ensures one { EachMatchesAreOne }
     ensures apart { EachMatchesAreApart }
     ensures covered { EachStartIsCovered }
+{}
+
+/// Where a scan is idle, no run that began before accepts, for any bytes that follow: a match
+/// begins there or later. Where its first NFA state is not the unanchored start, some run that
+/// began before is in that state. This holds of a scan for the preferred match from the unanchored
+/// start.
+pub fn idle_law()
+    ensures fresh { EachIdleIsFresh }
+    ensures busy { EachBusyHasBegun }
 {}

@@ -5,6 +5,7 @@
 #![tactic(auto)]
 
 pub mod builder;
+pub mod idle;
 pub mod iter;
 pub mod laws;
 pub mod plain;
@@ -15,7 +16,8 @@ pub mod reversal;
 
 pub use builder::Builder;
 pub use determinize_below::search::Match;
+pub use idle::is_idle;
 pub use iter::Searcher;
-pub use prefix::has_prefix;
+pub use prefix::{has_prefix, has_prefix_apart};
 pub use regex::Regex;
 pub use reversal::reversed;

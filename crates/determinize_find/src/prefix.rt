@@ -6,8 +6,8 @@ ghost use Rattle.std.specs.Bool.{Decides};
 ghost use Rattle.determinize_below.specs.Semantics.{state_at};
 ghost use Rattle.determinize_below.specs.Node.{node_of};
 ghost use Rattle.determinize_find.specs.Prefix as prefixes;
-ghost use Rattle.determinize_find.specs.Prefix.{HasPrefix};
-ghost use Rattle.determinize_find.specs.Private.AnyByte.{passes_any};
+ghost use Rattle.determinize_find.specs.Prefix.{HasPrefix, HasPrefixApart};
+ghost use Rattle.determinize_find.specs.Private.AnyByte.{passes_any, second_or};
 
 use determinize_below::nfa::{State, Transition};
 use determinize_below::{NFA, StateID};
@@ -84,4 +84,24 @@ pub fn has_prefix<N: Allocator>(nfa: &NFA<N>) -> bool
         return false;
     }
     leads_alone(nfa, start, skip)
+}
+
+/// Returns the second alternate of a `BinaryUnion`, or `other` for any other state.
+fn second_alternate<A: Allocator>(state: &State<A>, other: StateID) -> StateID
+    ensures { result ≡ second_or (node_of state.now) other }
+{
+    match state {
+        State::BinaryUnion { alt2, .. } => *alt2,
+        _ => other,
+    }
+}
+
+/// Returns whether the NFA has the usual prefix (`has_prefix`), and no state but the union has a
+/// transition to the state that reads any byte. So a run that has left the prefix does not return.
+pub fn has_prefix_apart<N: Allocator>(nfa: &NFA<N>) -> bool
+    ensures { Decides result (HasPrefixApart nfa.now) }
+{
+    let start = nfa.start_unanchored();
+    let skip = second_alternate(nfa.state(start), start);
+    has_prefix(nfa) && leads_alone(nfa, skip, start)
 }

@@ -16,7 +16,7 @@ use Rattle.determinize_below.specs.declared.nfa.BuildError.{BuildError}
 use Rattle.determinize_below.specs.declared.nfa.BuildError.TheVariants.{OutOfMemory, UnresolvedId}
 use Rattle.ordered_reach.proofs.Cases.{by_cases, by_test}
 use Rattle.determinize_find.specs.Builder.{BuilderValue, IsApart, IsUnfit, has_transition_to, built, patched, prefixed, redirected}
-use Rattle.determinize_find.specs.Prefix.{HasPrefix, leads_to}
+use Rattle.determinize_find.specs.Prefix.{HasPrefix, HasPrefixApart, leads_to}
 
 -- one state of a list is changed
 module _ {V : Type 0} (f : V → Node) (xs : List V) (i : ℕ) (old new : V) (patterns terminator : ℕ) where
@@ -81,7 +81,7 @@ module _ (b : BuilderValue) (start : ℕ) where
   at : (k s : ℕ) → s ≡ length b.states + k → get_or (b.states ++ last_two) s Fail ≡ get_or last_two k Fail
   at k s e = ap (λ w. get_or (b.states ++ last_two) w Fail) e ∙ get_or-append-add b.states last_two k Fail
 
-  pub has_prefix : start < length b.states
+  has_prefix : start < length b.states
       → ((s : ℕ) → s < length b.states → leads_to (length b.states) (get_or b.states s Fail) ≡ false)
       → HasPrefix (built (prefixed b start) start (length b.states))
   has_prefix l none = record {
@@ -103,6 +103,28 @@ module _ (b : BuilderValue) (start : ℕ) where
           → s ≡ suc (length b.states)
       last s zero e h = absurd (false≢true (sym (other (length b.states) l) ∙ h))
       last s (suc zero) e h = omega arith
+      last s (suc (suc k)) e h = absurd (false≢true h)
+
+  pub has_prefix_apart : start < length b.states → IsApart b
+      → HasPrefixApart (built (prefixed b start) start (length b.states))
+  unfolding has_prefix
+  has_prefix_apart l is = record {
+    prefix = has_prefix l is.union;
+    apart = λ s h. by_cases (cases_lt s (length b.states))
+        (λ k. absurd (false≢true (sym (is.skip s k)
+        ∙ ap (leads_to (suc (length b.states))) (sym (get_or_append_left b.states last_two Fail s k)) ∙ h)))
+        (λ k. let z : s ≡ length b.states + (s - length b.states) = omega arith in
+        last s (s - length b.states) z
+        (ap (leads_to (suc (length b.states))) (sym (at (s - length b.states) s z)) ∙ h));
+  }
+    where
+      other : (n : ℕ) → nat_eq (suc n) n ≡ false
+      other n = grind (arith, nat_tests)
+
+      last : (s k : ℕ) → s ≡ length b.states + k → leads_to (suc (length b.states)) (get_or last_two k Fail) ≡ true
+          → s ≡ length b.states
+      last s zero e h = omega arith
+      last s (suc zero) e h = absurd (false≢true (sym (other (length b.states)) ∙ h))
       last s (suc (suc k)) e h = absurd (false≢true h)
 
 -- neither of two tests

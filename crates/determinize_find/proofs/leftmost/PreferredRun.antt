@@ -2,7 +2,7 @@
 -- each_preferred_is_leftmost, each_anchored_is_leftmost, for `laws::prefix_law`. The search forward rests on it. The
 -- idea: after the prefix a run that skips fewer bytes is preferred, so the preferred run begins leftmost.
 use Rattle.std.specs.Prelude.{All, option_map}
-use Rattle.std.proofs.Common.{◌≡◌, ◌<◌, ◌≤◌, ◌+◌, ◌⊎◌, ℕ, List, None, Option, Some, [], ap, arith, length, refl, subst, sym}
+use Rattle.std.proofs.Common.{◌≡◌, ◌<◌, ◌≤◌, ◌+◌, ◌⊎◌, ◌∷◌, ℕ, List, None, Option, Some, [], ap, arith, length, refl, subst, sym}
 use Rattle.determinize_below.specs.Edges.{pattern_in}
 use Rattle.determinize_below.specs.Semantics.{Nfa, Accepts, IsPreferredRun, Text, choices}
 use Rattle.ordered_reach.specs.Paths.{Before, IsPath}
@@ -13,18 +13,19 @@ use Rattle.determinize_find.specs.Laws.{EachAnchoredIsLeftmost, EachPreferredIsL
 use Rattle.determinize_find.specs.Leftmost.{AcceptsFrom, IsLeftmost}
 use Rattle.determinize_find.specs.Prefix.{HasPrefix}
 use Rattle.determinize_below.specs.declared.search.Match.{Match}
+use Rattle.determinize_find.proofs.runs.Choices.{true_at}
 use Rattle.determinize_find.proofs.prefixes.AfterPrefix.{IsSkip, shape, unshape}
 use Rattle.determinize_find.proofs.prefixes.Skips.{skip, skip_before, skip_same}
 
 module _ (nfa : Nfa) (text : Text) (has : HasPrefix nfa) (small : All (λ b. b < 256) text.bytes) where
   -- a run from the anchored start at a position is one from the unanchored start
-  from_start : (k : ℕ) (cs : List ℕ) (i pattern : ℕ) → k ≤ length text.bytes
+  pub from_start : (k : ℕ) (cs : List ℕ) (i pattern : ℕ) → k ≤ length text.bytes
       → AcceptsFrom nfa text k nfa.start_anchored cs i pattern
       → Accepts nfa text nfa.start_unanchored (skip k cs) i pattern
   from_start k cs i y l p =
       let z : k ≡ 0 + k = omega arith in (
         p.0,
-        unshape nfa text has small k 0 cs (i, p.0) (omega arith)
+        unshape nfa text (true_at nfa text) has small k 0 cs (i, p.0) (omega arith)
             (subst (λ w. IsPath (choices nfa text) [] (w, nfa.start_anchored) cs (i, p.0)) z p.1),
         p.2,
       )
@@ -32,8 +33,9 @@ module _ (nfa : Nfa) (text : Text) (has : HasPrefix nfa) (small : All (λ b. b <
   preferred_one : (h : HalfMatch) (cs : List ℕ) → IsPreferredRun nfa text nfa.start_unanchored cs h.offset h.pattern
       → (m : Option Match) × IsLeftmost nfa text (length text.bytes) m × (Some h ≡ option_map end_of m)
   preferred_one h cs r =
-      let s : IsSkip nfa text has small 0 cs (h.offset, r.accepts.0)
-      = shape nfa text has small cs 0 (h.offset, r.accepts.0) h.pattern (omega arith) (ap pattern_in r.accepts.2) r.accepts.1 in
+      let s : IsSkip nfa text (true_at nfa text) has small 0 cs (h.offset, r.accepts.0)
+      = shape nfa text (true_at nfa text) has small cs 0 (h.offset, r.accepts.0) h.pattern (omega arith)
+      (ap pattern_in r.accepts.2) r.accepts.1 in
       let d : ℕ = s.over in
       let z : 0 + s.over ≡ s.over = omega arith in
       let l : s.over ≤ length text.bytes = (let w : 0 + s.over ≤ length text.bytes = s.within in omega arith) in (
@@ -45,7 +47,7 @@ module _ (nfa : Nfa) (text : Text) (has : HasPrefix nfa) (small : All (λ b. b <
                 let run : Accepts nfa text nfa.start_unanchored (skip k es) i other
                 = from_start k es i other (omega arith) acc in
                 let first : Before (skip k es) cs
-                = subst (λ w. Before (skip k es) w) (sym s.is) (skip_before k s.over es s.choices_then j) in
+                = subst (λ w. Before (skip k es) w) (sym s.is) (skip_before k s.over es (0 ∷ s.choices_then) j) in
                 by_cases (r.preferred (skip k es) i other run)
                 (λ e. let b : Before cs cs = subst (λ w. Before w cs) (sym e) first in Before-asym cs cs b b)
                 (λ b. Before-asym cs (skip k es) b first);

@@ -29,6 +29,7 @@ use Rattle.determinize_find.specs.Private.Begins.{IsBeginOf, IsEndOf, IsEnded, I
 use Rattle.determinize_find.specs.Reversal.{IsReverseOf, turned, upto}
 use Rattle.determinize_find.proofs.matches.OneList.{LiesIn, length-range, lies, path_within}
 use Rattle.determinize_find.proofs.leftmost.Inputs.{IsFoundIn, found_in_text}
+use Rattle.determinize_find.proofs.runs.Choices.{true_at}
 use Rattle.determinize_find.proofs.runs.Mirrors.{or_some, slice_get-take}
 use Rattle.determinize_find.proofs.leftmost.PreferredRun.{each_anchored_is_leftmost, each_preferred_is_leftmost}
 use Rattle.determinize_find.proofs.prefixes.AfterPrefix.{IsSkip, shape}
@@ -350,8 +351,9 @@ found_or_none nfa asked found forward has s within small d done = by_test (is_do
             → ((k : ℕ) → k ≤ last → NothingFrom nfa (text_of false asked) k)
             → (cs : List ℕ) (i y : ℕ) → Accepts nfa (text_of false asked) (start_for nfa mode) cs i y → ⊥
         nothing No t last b q cs i y acc =
-            let k : IsSkip nfa (text_of false asked) has bytes 0 cs (i, acc.0)
-            = shape nfa (text_of false asked) has bytes cs 0 (i, acc.0) y (omega arith) (ap pattern_in acc.2) acc.1 in
+            let k : IsSkip nfa (text_of false asked) (true_at nfa (text_of false asked)) has bytes 0 cs (i, acc.0)
+            = shape nfa (text_of false asked) (true_at nfa (text_of false asked)) has bytes cs 0 (i, acc.0) y
+            (omega arith) (ap pattern_in acc.2) acc.1 in
             let w : 0 + k.over ≤ length (text_of false asked).bytes = k.within in
             let m : length (text_of false asked).bytes ≤ last = b (starts_differ nfa has) in
             q (0 + k.over) (omega arith) k.choices_then i y (acc.0, k.run, acc.2)

@@ -1,17 +1,17 @@
--- An NFA has the usual prefix exactly where its parts are in place. Main statements: state_is, start_is, any_read and
--- the two directions. `has_prefix` rests on them. The idea: each part of `HasPrefix` is an equation of states, which
--- the code decides by comparing their targets and bytes.
+-- An NFA has the usual prefix exactly where its parts are in place. Main statements: state_is, start_is, any_read, the
+-- two directions, and Decides-apart. `has_prefix` and `has_prefix_apart` rest on them. The idea: each part of
+-- `HasPrefix` is an equation of states, which the code decides by comparing their targets and bytes.
 use Rattle.std.specs.Bool.{Decides}
 use Rattle.std.specs.Prelude.{nat_eq, slice_get}
 use Rattle.std.proofs.Common.{◌≡◌, ◌<◌, ◌&&◌, ◌∙◌, ◌||◌, ℕ, Bool, Some, ap, false, length, refl, subst, sym, true}
 use Rattle.std.proofs.lemmas.Bool.{and_parts, eq-eqb, eqb-true, false≢true, or_left, or_right}
 use Rattle.std.proofs.lemmas.Option.{get_or_from_slice_get}
-use Rattle.determinize_below.specs.Semantics.{state_at, Nfa, Node, ByteRange, Sparse, Dense, Look, Union, BinaryUnion, Capture, Fail, Match}
+use Rattle.determinize_below.specs.Semantics.{state_at, Nfa, Node, ByteRange, BinaryUnion, Fail}
 use Rattle.determinize_below.specs.Nfa.{IsAccepted}
 use Rattle.determinize_below.specs.declared.nfa.transitions.Transition.{Transition}
 use Rattle.determinize_below.proofs.nfas.SoundNfa.{accepted_sound}
-use Rattle.determinize_find.specs.Prefix.{HasPrefix, leads_to}
-use Rattle.determinize_find.specs.Private.AnyByte.{passes_any}
+use Rattle.determinize_find.specs.Prefix.{HasPrefix, HasPrefixApart, leads_to}
+use Rattle.determinize_find.specs.Private.AnyByte.{passes_any, second_or}
 
 pub state_is : (nfa : Nfa) (id : ℕ) (node : Node) → slice_get nfa.states id ≡ Some node → state_at nfa id ≡ node
 state_is nfa id node e = get_or_from_slice_get nfa.states id node Fail e
@@ -89,3 +89,25 @@ module _ (nfa : Nfa) (f s : ℕ) (e : state_at nfa nfa.start_unanchored ≡ Bina
     },
     λ h. d.1 (λ t l. h.alone t l ∙ same_skip h),
   )
+
+-- the prefix is apart if no state but the start has a transition to the second alternate of the start
+pub Decides-apart : (nfa : Nfa) (id s : ℕ) (node : Node) (b : Bool) → HasPrefix nfa → id ≡ nfa.start_unanchored
+    → slice_get nfa.states id ≡ Some node → s ≡ second_or node id
+    → Decides b ((t : ℕ) → leads_to s (state_at nfa t) ≡ true → t ≡ id) → Decides b (HasPrefixApart nfa)
+Decides-apart nfa id s node b has z e n d = (
+  λ y. record {
+    prefix = has;
+    apart = subst (λ w. Alone w nfa.start_unanchored) (skip_is has) (subst (λ w. Alone s w) z (d.0 y));
+  },
+  λ h. d.1 (subst (λ w. Alone s w) (sym z)
+      (subst (λ w. Alone w nfa.start_unanchored) (sym (skip_is h.prefix)) h.apart)),
+)
+  where
+    Alone : ℕ → ℕ → Type 0
+    Alone w i = (t : ℕ) → leads_to w (state_at nfa t) ≡ true → t ≡ i
+
+    skip_is : (h : HasPrefix nfa) → s ≡ h.skip
+    skip_is h =
+        let same : node ≡ BinaryUnion nfa.start_anchored h.skip
+        = sym (state_is nfa id node e) ∙ ap (λ w. state_at nfa w) z ∙ h.first in
+        n ∙ ap (λ w. second_or w id) same

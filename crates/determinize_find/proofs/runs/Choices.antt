@@ -1,15 +1,17 @@
 -- Where a choice of a run leads: over a byte to the next position, without input to the same one, and always to a state
--- that the state has a transition to. Main statements: choice_cases, choice_later, choice_leads. All that follows a run
--- step by step cites it. The idea: the choices at a pair are the byte transitions, then the epsilon ones (`run_edges`).
+-- that the state has a transition to. Main statements: choice_cases, choice_later, choice_leads, and the same under any
+-- assertions (choices_under). All that follows a run step by step cites it. The idea: the choices at a pair are the
+-- byte transitions, then the epsilon ones (`run_edges`).
 use Rattle.std.specs.List.{find, list_any}
 use Rattle.std.specs.Option.{option_to_list}
 use Rattle.std.specs.Prelude.{nat_eq, option_map, slice_get}
 use Rattle.std.proofs.Common.{◌≡◌, ◌≤◌, ◌∙◌, ◌∷◌, ◌&&◌, ℕ, Bool, List, None, Option, Some, [], ap, arith, cond, false, get_or, map, not, refl, subst, suc, sym, true, zero}
 use Rattle.std.proofs.lemmas.Bool.{eq-eqb, false≢true, or_left, or_right}
-use Rattle.determinize_below.specs.Semantics.{edges_of, state_at, target_of, Nfa, Node, ByteRange, Sparse, Dense, Look, Union, BinaryUnion, Capture, Fail, Match, Text, choices}
+use Rattle.determinize_below.specs.Semantics.{edges_of, state_at, target_of, Nfa, Node, ByteRange, Sparse, Dense, Look, Union, BinaryUnion, Capture, Text, after_at, before_at, choices}
 use Rattle.determinize_below.specs.Transition.{sparse_target}
-use Rattle.determinize_below.specs.Positions.{byte_edges, true_edges}
-use Rattle.ordered_reach.specs.Runs.{placed}
+use Rattle.determinize_below.specs.Edges.{edges}
+use Rattle.determinize_below.specs.Positions.{byte_edges, true_edges, truth}
+use Rattle.ordered_reach.specs.Runs.{placed, run_edges}
 use Rattle.determinize_below.specs.Transition.{dense_target, matches, matches_unit}
 use Rattle.determinize_below.specs.declared.look.Look.{Look as Assertion}
 use Rattle.determinize_below.specs.declared.nfa.transitions.Transition.{Transition}
@@ -21,19 +23,33 @@ In_option : {A : Type 0} (o : Option A) (x : A) → In x (option_to_list o) → 
 In_option None x h = absurd (let k : Some x ≡ None = sym h.1 in cc)
 In_option (Some y) x h = In_cases x y [] h (λ e. ap Some (sym e)) (λ k. absurd (let z : Some x ≡ None = sym k.1 in cc))
 
+-- the choices of a run, where h has the assertions that hold at each position
+abbrev pub choices_under : Nfa → Text → (ℕ → Assertion → Bool) → ℕ × ℕ → List (ℕ × ℕ)
+choices_under nfa text h = run_edges (λ i. edges nfa (h i)) (byte_edges nfa text)
+
+-- the assertions that are true at a position
+abbrev pub true_at : Nfa → Text → ℕ → Assertion → Bool
+true_at nfa text i = truth nfa (before_at text i) (after_at text i)
+
 -- a choice is over the next byte, or stays
+pub under_cases : {P : Type 0} (nfa : Nfa) (text : Text) (h : ℕ → Assertion → Bool) (p q : ℕ × ℕ) (c : ℕ)
+    → slice_get (choices_under nfa text h p) c ≡ Some q
+    → (q.0 ≡ suc p.0 → target_of (slice_get text.bytes p.0) (state_at nfa p.1) ≡ Some q.1 → P)
+    → (q.0 ≡ p.0 → In q.1 (edges nfa (h p.0) p.1) → P) → P
+under_cases nfa text h p q c e f g =
+    In_append_cases q (map (placed (suc p.0)) (byte_edges nfa text p.0 p.1))
+    (map (placed p.0) (edges nfa (h p.0) p.1)) (c, e)
+    (λ k. In_map_from (placed (suc p.0)) q (byte_edges nfa text p.0 p.1) k
+    (λ t m z. f (ap (λ x. x.0) z) (In_option (target_of (slice_get text.bytes p.0) (state_at nfa p.1)) q.1
+    (subst (λ y. In y (byte_edges nfa text p.0 p.1)) (sym (ap (λ x. x.1) z)) m))))
+    (λ k. In_map_from (placed p.0) q (edges nfa (h p.0) p.1) k
+    (λ t m z. g (ap (λ x. x.0) z) (subst (λ y. In y (edges nfa (h p.0) p.1)) (sym (ap (λ x. x.1) z)) m)))
+
 pub choice_cases : {P : Type 0} (nfa : Nfa) (text : Text) (p q : ℕ × ℕ) (c : ℕ)
     → slice_get (choices nfa text p) c ≡ Some q
     → (q.0 ≡ suc p.0 → target_of (slice_get text.bytes p.0) (state_at nfa p.1) ≡ Some q.1 → P)
     → (q.0 ≡ p.0 → In q.1 (true_edges nfa text p.0 p.1) → P) → P
-choice_cases nfa text p q c e f g =
-    In_append_cases q (map (placed (suc p.0)) (byte_edges nfa text p.0 p.1))
-    (map (placed p.0) (true_edges nfa text p.0 p.1)) (c, e)
-    (λ h. In_map_from (placed (suc p.0)) q (byte_edges nfa text p.0 p.1) h
-    (λ t m z. f (ap (λ x. x.0) z) (In_option (target_of (slice_get text.bytes p.0) (state_at nfa p.1)) q.1
-    (subst (λ y. In y (byte_edges nfa text p.0 p.1)) (sym (ap (λ x. x.1) z)) m))))
-    (λ h. In_map_from (placed p.0) q (true_edges nfa text p.0 p.1) h
-    (λ t m z. g (ap (λ x. x.0) z) (subst (λ y. In y (true_edges nfa text p.0 p.1)) (sym (ap (λ x. x.1) z)) m)))
+choice_cases nfa text = under_cases nfa text (true_at nfa text)
 
 In_some : {A : Type 0} (o : Option A) (x : A) → o ≡ Some x → In x (option_to_list o)
 In_some o x e = rw e (0, refl)
@@ -55,9 +71,13 @@ free_choice nfa text i s t h =
     (In_map (placed i) t (true_edges nfa text i s) h)
 
 -- a choice does not lead back
+pub under_later : (nfa : Nfa) (text : Text) (h : ℕ → Assertion → Bool) (p q : ℕ × ℕ) (c : ℕ)
+    → slice_get (choices_under nfa text h p) c ≡ Some q → p.0 ≤ q.0
+under_later nfa text h p q c e = under_cases nfa text h p q c e (λ z m. omega arith) (λ z m. omega arith)
+
 pub choice_later : (nfa : Nfa) (text : Text) (p q : ℕ × ℕ) (c : ℕ) → slice_get (choices nfa text p) c ≡ Some q
     → p.0 ≤ q.0
-choice_later nfa text p q c e = choice_cases nfa text p q c e (λ z m. omega arith) (λ z m. omega arith)
+choice_later nfa text = under_later nfa text (true_at nfa text)
 
 pub In_any : (id : ℕ) (ids : List ℕ) → In id ids → list_any (nat_eq id) ids ≡ true
 In_any id [] h = absurd (let k : Some id ≡ None = sym h.1 in cc)
@@ -68,7 +88,7 @@ In_any id (x ∷ ids) h = In_cases id x ids h
 In_one : (x y : ℕ) → In x (y ∷ []) → nat_eq x y ≡ true
 In_one x y h = In_cases x y [] h (λ e. eq-eqb x y e) (λ k. absurd (let z : Some x ≡ None = sym k.1 in cc))
 
-no_In : {P : Type 0} (x : ℕ) → In x [] → P
+pub no_In : {P : Type 0} (x : ℕ) → In x [] → P
 no_In x h = absurd (let k : Some x ≡ None = sym h.1 in cc)
 
 -- an edge without input leads where the state leads
@@ -124,8 +144,12 @@ target_leads (Some b) (Dense ids) t e = dense_leads ids b t e
 target_leads u s t e = absurd (let k : None ≡ Some t = e in cc)
 
 -- a choice leads where the state leads
-pub choice_leads : (nfa : Nfa) (text : Text) (p q : ℕ × ℕ) (c : ℕ) → slice_get (choices nfa text p) c ≡ Some q
-    → leads_to q.1 (state_at nfa p.1) ≡ true
-choice_leads nfa text p q c e = choice_cases nfa text p q c e
+pub under_leads : (nfa : Nfa) (text : Text) (h : ℕ → Assertion → Bool) (p q : ℕ × ℕ) (c : ℕ)
+    → slice_get (choices_under nfa text h p) c ≡ Some q → leads_to q.1 (state_at nfa p.1) ≡ true
+under_leads nfa text h p q c e = under_cases nfa text h p q c e
     (λ z m. target_leads (slice_get text.bytes p.0) (state_at nfa p.1) q.1 m)
     (λ z m. edge_leads _ (state_at nfa p.1) q.1 m)
+
+pub choice_leads : (nfa : Nfa) (text : Text) (p q : ℕ × ℕ) (c : ℕ) → slice_get (choices nfa text p) c ≡ Some q
+    → leads_to q.1 (state_at nfa p.1) ≡ true
+choice_leads nfa text = under_leads nfa text (true_at nfa text)

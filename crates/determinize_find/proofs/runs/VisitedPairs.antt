@@ -1,11 +1,19 @@
 -- Visited nodes that a path cannot come to are irrelevant to it: it is a path with them and without. Main statements:
--- path_forget, path_remember. Runs after the usual prefix (AfterPrefix) cite them. The idea: induction on the choices,
--- with the nodes that the path itself has visited in front.
+-- path_forget, path_remember, path_stays. Runs after the usual prefix (AfterPrefix) cite them. The idea: induction on
+-- the choices, with the nodes that the path itself has visited in front.
 use Rattle.std.specs.Bool.{Decides}
 use Rattle.std.specs.Prelude.{slice_get}
-use Rattle.std.proofs.Common.{◌≡◌, ◌++◌, ◌∷◌, ℕ, Bool, List, Some, []}
+use Rattle.std.proofs.Common.{◌≡◌, ◌++◌, ◌∷◌, ℕ, Bool, List, Some, [], subst, sym}
 use Rattle.ordered_reach.specs.Paths.{IsPath}
 use Rattle.ordered_reach.proofs.lists.Elements.{Contains_In, In, In_Contains, In_append_cases, In_append_left}
+
+-- a path from a node of a closed set ends in the set
+pub path_stays : {N : Type 0} (edges : N → List N) (Q : N → Type 0)
+    → ((p q : N) (c : ℕ) → Q p → slice_get (edges p) c ≡ Some q → Q q) → (cs : List ℕ) (held : List N) (r q : N)
+    → Q r → IsPath edges held r cs q → Q q
+path_stays edges Q closed [] held r q k p = subst Q (sym p.1) k
+path_stays edges Q closed (c ∷ cs) held r q k p =
+    path_stays edges Q closed cs (r ∷ held) p.1.0 q (closed r p.1.0 c k p.1.1) p.1.2
 
 -- a closed set of nodes that has none of the further ones
 module _ {N : Type 0} {eq : N → N → Bool} (dec : (a b : N) → Decides (eq a b) (a ≡ b)) (edges : N → List N)

@@ -9,8 +9,8 @@ use Rattle.determinize_below.specs.Node.{node_of}
 use Rattle.determinize_below.specs.declared.nfa.BuildError.{BuildError}
 use Rattle.determinize_below.specs.declared.nfa.BuildError.TheVariants.{OutOfMemory}
 use Rattle.determinize_find.specs.Builder.{BuilderValue, IsApart, IsUnfit, built, prefixed}
-use Rattle.determinize_find.specs.Prefix.{HasPrefix}
-use Rattle.determinize_find.proofs.building.Building.{IsMade, has_prefix, is_ahead, made_is, made_of, made_unfit, none_ahead}
+use Rattle.determinize_find.specs.Prefix.{HasPrefix, HasPrefixApart}
+use Rattle.determinize_find.proofs.building.Building.{IsMade, has_prefix_apart, is_ahead, made_is, made_of, made_unfit, none_ahead}
 use Rattle.determinize_find.proofs.builder.Builder.build_with_prefix.Goals as goal
 
 pub returns-in-Some-clause-err : goal.returns-in-Some-clause-err
@@ -77,17 +77,21 @@ returns-clause-apart g c = IfOk-weaker c.from_parts.result
     (λ n e. apart g c)
     (returns-clause-ok g c)
 
-pub returns-clause-prefix : goal.returns-clause-prefix
-returns-clause-prefix g c =
+pub returns-clause-separate : goal.returns-clause-separate
+returns-clause-separate g c =
     let below : c.args.start_anchored < c.in_ok-union.union = search rules in
     let count : c.in_ok-union.union ≡ length c.args.self.states = (made g c).first in
     IfOk-weaker c.from_parts.result
     (λ (n : Nfa). n ≡ built (prefixed c.args.self c.args.start_anchored) c.args.start_anchored
     (length c.args.self.states))
-    (λ (n : Nfa). HasPrefix n)
-    (λ n e. subst (λ (m : Nfa). HasPrefix m) (sym e)
-    (has_prefix c.args.self c.args.start_anchored (omega arith) (apart g c).union))
+    (λ (n : Nfa). HasPrefixApart n)
+    (λ n e. subst (λ (m : Nfa). HasPrefixApart m) (sym e)
+    (has_prefix_apart c.args.self c.args.start_anchored (omega arith) (apart g c)))
     (returns-clause-ok g c)
+
+pub returns-clause-prefix : goal.returns-clause-prefix
+returns-clause-prefix g c = IfOk-weaker c.from_parts.result (λ (n : Nfa). HasPrefixApart n) (λ (n : Nfa). HasPrefix n)
+    (λ n a. a.prefix) (returns-clause-separate g c)
 
 pub returns-clause-forward : goal.returns-clause-forward
 returns-clause-forward g c = IfOk-weaker c.from_parts.result

@@ -1,0 +1,3 @@
+pub mod Busy
+pub mod Fresh
+pub mod Recorded

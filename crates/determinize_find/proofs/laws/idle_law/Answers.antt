@@ -1,0 +1,9 @@
+use Rattle.determinize_find.proofs.idling.Busy.{each_busy_has_begun}
+use Rattle.determinize_find.proofs.idling.Fresh.{each_idle_is_fresh}
+use Rattle.determinize_find.proofs.laws.idle_law.Goals as goal
+
+pub returns-clause-fresh : goal.returns-clause-fresh
+returns-clause-fresh c = each_idle_is_fresh
+
+pub returns-clause-busy : goal.returns-clause-busy
+returns-clause-busy c = each_busy_has_begun
