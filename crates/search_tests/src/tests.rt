@@ -5,6 +5,7 @@ mod dense;
 mod dfa;
 mod failing;
 mod find;
+mod idle;
 mod stored_walks;
 mod uses;
 

@@ -58,7 +58,7 @@ pub static ROWS: [Row; 6] = [
 ];
 
 /// `\b\w+\b`.
-const WORDS: &str =
+pub const WORDS: &str =
     "BU:2,1 B:00-ff>0 L:WordAscii>3 S:30-39>4,41-5a>4,5f-5f>4,61-7a>4 BU:3,5 L:WordAscii>6 M:0";
 
 /// Returns an NFA that reads forward, with the usual prefix in its first two states.
