@@ -2,7 +2,7 @@
 -- none_in, no_end. BothWays and RecordedStates cite them. The idea: each is the definition of `edges_of` or of
 -- `target_of` at one kind of state.
 use Rattle.std.proofs.Common.{◌≡◌, ◌∷◌, ℕ, Bool, None, Option, Some, [], cond, refl, subst, sym, true}
-use Rattle.determinize_below.specs.Semantics.{edges_of, target_of, Node, ByteRange, Sparse, Dense, Look, Union, BinaryUnion, Capture, Fail, Match}
+use Rattle.determinize_below.specs.Semantics.{edges_of, target_of, Node, ByteRange, Look}
 use Rattle.determinize_below.specs.Transition.{matches}
 use Rattle.determinize_below.specs.declared.look.Look.{Look as Assertion}
 use Rattle.determinize_below.specs.declared.nfa.transitions.Transition.{Transition}

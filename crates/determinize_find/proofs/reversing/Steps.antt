@@ -5,7 +5,7 @@ use Rattle.std.specs.Prelude.{nat_eq, slice_get}
 use Rattle.std.proofs.Common.{◌≡◌, ◌<◌, ◌≤◌, ◌+◌, ◌++◌, ◌∙◌, ◌∷◌, ℕ, Bool, List, Some, [], ap, arith, cond, drop, get_or, length, map, refl, set, suc, sym, zero}
 use Rattle.std.proofs.Math.Seq.{drop-cons}
 use Rattle.std.proofs.lemmas.List.{get_or-map, length-set, map-set}
-use Rattle.determinize_below.specs.Semantics.{Nfa, Node, ByteRange, Sparse, Dense, Look, Union, BinaryUnion, Capture, Fail, Match}
+use Rattle.determinize_below.specs.Semantics.{Nfa, Node, ByteRange, Sparse, Dense, Look, Union, BinaryUnion, Capture}
 use Rattle.determinize_below.specs.declared.nfa.transitions.Transition.{Transition}
 use Rattle.ordered_reach.proofs.Cases.{by_test}
 use Rattle.determinize_find.specs.Private.Turning.{Turned, added, range_to, sources, with_frees, with_node, with_nodes, with_ranges, with_state, with_table}

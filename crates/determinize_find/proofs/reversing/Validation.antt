@@ -9,7 +9,7 @@ use Rattle.std.proofs.lemmas.Bool.{and_from}
 use Rattle.std.proofs.lemmas.Bool.Decides.{nat_tests}
 use Rattle.std.proofs.lemmas.List.Folds.{list_any-append}
 use Rattle.std.proofs.lemmas.Option.{get_or_from_slice_get, slice_get_within}
-use Rattle.determinize_below.specs.Semantics.{state_at, Nfa, Node, ByteRange, Sparse, Dense, Look, Union, BinaryUnion, Capture, Fail, Match}
+use Rattle.determinize_below.specs.Semantics.{state_at, Nfa, Node, ByteRange, Sparse, Dense, Look, Union, Match}
 use Rattle.determinize_below.specs.Edges.{pattern_in}
 use Rattle.determinize_below.specs.Nfa.{failure, is_dense_sound, is_match_of, is_repeated, is_sparse_sound, resolves, state_failure, states_failure}
 use Rattle.determinize_below.specs.declared.nfa.BuildError.{BuildError}
