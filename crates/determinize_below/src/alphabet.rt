@@ -9,18 +9,21 @@ ghost use Rattle.std.specs.Option.{is_none};
 ghost use Rattle.determinize_below.specs.Semantics as semantics;
 ghost use Rattle.determinize_below.specs.Unit as units;
 
+use crate::sparse_set::is_bit_set;
 use std::marker::Model;
 
 pub mod classes;
 
 pub use classes::ByteClasses;
 
+/// A bit for each byte: 1 for digits and letters of ASCII and for the underscore.
+const WORD_BYTES: [u64; 4] = [0x03FF_0000_0000_0000, 0x07FF_FFFE_87FF_FFFE, 0, 0];
+
 /// Returns whether the byte is an ASCII digit, an ASCII letter or an underscore.
-#[tactic(auto, unfolding(crate::specs::Semantics::is_word_byte))]
 pub fn is_word_byte(byte: u8) -> bool
     ensures { result ≡ semantics.is_word_byte byte }
 {
-    byte.is_ascii_alphanumeric() || byte == b'_'
+    is_bit_set(&WORD_BYTES, byte as usize)
 }
 
 /// A byte or EOI.

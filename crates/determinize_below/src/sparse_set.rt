@@ -87,7 +87,7 @@ impl<A: Allocator> SparseSet<A> {
         requires { id < self.now.capacity }
         ensures { result ≡ has_id self.now.ids id }
     {
-        is_bit_set(&self.bits, id)
+        is_bit_set(&self.bits, id.as_usize())
     }
 
     /// Adds the id, which must be below the capacity, and returns whether it was new. A set that
@@ -101,7 +101,7 @@ impl<A: Allocator> SparseSet<A> {
         } }
         ensures members { AreMembers self.new }
     {
-        if is_bit_set(&self.bits, id) {
+        if is_bit_set(&self.bits, id.as_usize()) {
             return false;
         }
         set_bit(&mut self.bits, id);
@@ -130,13 +130,13 @@ impl<A: Allocator> SparseSet<A> {
     }
 }
 
-/// Returns whether the bit of the id is set in these words.
+/// Returns whether the bit with this index is set in these words.
 #[tactic(auto, using(crate::proofs::sets::Bits::one_bit))]
-fn is_bit_set(words: &[u64], id: StateID) -> bool
-    requires { id < 64 * length words.now }
-    ensures { result ≡ has_bit words.now id }
+#[inline(always)]
+pub(crate) fn is_bit_set(words: &[u64], index: usize) -> bool
+    requires { index < 64 * length words.now }
+    ensures { result ≡ has_bit words.now index }
 {
-    let index = id.as_usize();
     (words[index / 64] >> (index % 64)) & 1 == 1
 }
 
@@ -152,14 +152,36 @@ fn set_bit(words: &mut [u64], id: StateID)
 
 /// Clears the bits of these ids, and maybe other bits, and sets none. For a short list it clears
 /// the word of each id, for a long one it is faster to fill all words.
+#[inline(always)]
 fn clear_bits(words: &mut [u64], ids: &[StateID])
     requires { All (λ id. id < 64 * length words.old) ids.now }
     ensures { IsCleared words.old words.new ids.now }
 {
-    if ids.len() > 16 && ids.len() >= words.len() / 8 {
-        words.fill(0);
-        return;
+    if ids.len() > 16 {
+        return clear_many(words, ids);
     }
+    clear_words(words, ids);
+}
+
+/// Clears the bits of many ids, and maybe other bits.
+#[inline(never)]
+fn clear_many(words: &mut [u64], ids: &[StateID])
+    requires { All (λ id. id < 64 * length words.old) ids.now }
+    ensures { IsCleared words.old words.new ids.now }
+{
+    if ids.len() >= words.len() / 8 {
+        words.fill(0);
+    } else {
+        clear_words(words, ids);
+    }
+}
+
+/// Clears the word of each id.
+#[inline(always)]
+fn clear_words(words: &mut [u64], ids: &[StateID])
+    requires { All (λ id. id < 64 * length words.old) ids.now }
+    ensures { IsCleared words.old words.new ids.now }
+{
     for id in ids {
         // The other bits of the word are those of other ids in the list.
         words[id.as_usize() / 64] = 0;

@@ -1,10 +1,7 @@
 use Rattle.determinize_below.proofs.Common.{arith, get_or, length, ◌*◌, ◌<◌, ◌∙◌, ◌≡◌}
 use Rattle.std.proofs.lemmas.Grind.{get_or_default_zero}
-use Rattle.determinize_below.proofs.sets.SparseSets.{cleared_all, cleared_more}
-use Rattle.determinize_below.proofs.sparse_set.clear_bits.Goals as goal
-
-pub returns-then-ids-words : goal.returns-then-ids-words
-returns-then-ids-words c = rw (c.fill.ensures.after (λ y e. e)) (cleared_all _ _ _)
+use Rattle.determinize_below.proofs.sets.SparseSets.{cleared_more}
+use Rattle.determinize_below.proofs.sparse_set.clear_words.Goals as goal
 
 pub loop-id-preserved : goal.loop-id-preserved
 loop-id-preserved c =
