@@ -11,10 +11,11 @@
 //! have assertions that the NFA does not test. They have no effect on matches, but they are part of
 //! the bytes of a state.
 
-ghost use Rattle.std.specs.Prelude.{◌≡◌, true, false, not, ◌&&◌};
+ghost use Rattle.std.specs.Prelude.{◌≡◌, true, false, not, ◌&&◌, ◌||◌};
+ghost use Rattle.std.specs.Option.{is_none};
 ghost use Rattle.determinize_below.specs.Look.{has, has_word};
 ghost use Rattle.determinize_below.specs.Nfa.{IsAccepted};
-ghost use Rattle.determinize_below.specs.Semantics.{crlf_1, crlf_2};
+ghost use Rattle.determinize_below.specs.Semantics.{crlf_1, crlf_2, is};
 ghost use Rattle.determinize_below.specs.Unit.{byte_of};
 ghost use Rattle.determinize_below.specs.declared.look.Look.{Look as Assertion};
 ghost use Rattle.determinize_start.specs.LookTables as tables;
@@ -229,11 +230,28 @@ impl LookTables {
         }
     }
 
+    /// Returns whether the unit satisfies no haystack or line assertion, as most units do.
+    fn is_inside_line(self, half_crlf: bool, unit: Unit) -> bool
+        ensures { result ≡ not (half_crlf || is_none (byte_of unit)
+            || is (byte_of unit) self.terminator || is (byte_of unit) (crlf_1 self.reverse)
+            || is (byte_of unit) (crlf_2 self.reverse)) }
+    {
+        !(half_crlf
+            || unit.is_eoi()
+            || unit.is_byte(self.terminator)
+            || unit.is_byte(self.crlf_first())
+            || unit.is_byte(self.crlf_second()))
+    }
+
     /// Returns the haystack and line assertions that the unit satisfies, given whether the byte
     /// behind is the first half of a CRLF.
     fn line_set(self, half_crlf: bool, unit: Unit) -> LookSet
         ensures { result ≡ sets.line_set self half_crlf (byte_of unit) }
     {
+        // Only for speed: for most units the code below returns the same.
+        if self.is_inside_line(half_crlf, unit) {
+            return LookSet::empty();
+        }
         let end = unit.is_eoi();
         let first = unit.is_byte(self.crlf_first());
         let second = unit.is_byte(self.crlf_second());
