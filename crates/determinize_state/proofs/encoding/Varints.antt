@@ -2,9 +2,10 @@
 -- Main statements: ids_from-deltas, varint-one, append-varint, begins_still.
 -- Used by: RoundTrip, the loops that read and write a varint.
 -- Idea: seven bits at a time; a zigzag number is even or odd with its sign.
-use Rattle.std.proofs.Common.{◌≡◌, inl, inr, ℕ, ◌+◌, ◌-◌, ◌*◌, ◌/◌, ◌%◌, ◌^◌, ◌<◌, ◌≤◌, true, false, Option, Some, None, List, [], ◌∷◌, ◌++◌, All, nat_lt, suc, zero, refl, arith, sym, ap, ◌∙◌, append_assoc, zero-add, lit≤, subst, append-nil, length, take}
+use Rattle.std.proofs.Common.{◌≡◌, inl, inr, ℕ, ◌+◌, ◌-◌, ◌*◌, ◌/◌, ◌%◌, ◌^◌, ◌<◌, ◌≤◌, true, false, Option, Some, None, List, [], ◌∷◌, ◌++◌, All, nat_lt, suc, zero, refl, arith, sym, ap, ◌∙◌, append_assoc, zero-add, lit≤, subst, append-nil, length, take, drop, IfNone, IfSome}
+use Rattle.std.proofs.Math.Seq.{drop-append_seam}
 use Rattle.determinize_state.specs.Varint.{IsDeltas, zigzag, unzigzag, groups, varint, deltas, ids_from, last_id}
-use Rattle.std.proofs.lemmas.List.{length-take, take-append-le}
+use Rattle.std.proofs.lemmas.List.{length-append, length-take, take-append-le}
 use Rattle.std.proofs.Math.Nat.{pow-suc, one-mul, mul-le-mul_left}
 use Rattle.std.proofs.lemmas.List.Elements.{All-head, All-tail}
 use Rattle.std.proofs.lemmas.Bool.Decides.{leb_tells, nat_tests}
@@ -103,6 +104,61 @@ some_parts a c b d e = let pair : ◌≡◌ {A = ℕ × List ℕ} (a, b) (c, d) 
 
 none_differs : (p : ℕ × List ℕ) → ◌≡◌ {A = Option (ℕ × List ℕ)} (Some p) None → ⊥
 none_differs p e = (cc)
+
+-- what is read, and what is left after it, are the bytes
+read-splits : (low weight : ℕ) (bytes : List ℕ) (number : ℕ) (rest : List ℕ) → read low weight bytes ≡ Some (number, rest)
+    → (first : List ℕ) × (bytes ≡ first ++ rest) × (0 < length first)
+read-splits low weight [] number rest e = absurd (none_differs (number, rest) (sym e))
+read-splits low weight (byte ∷ bytes) number rest e =
+    elim (leb_tells (suc 268435456) weight) [
+      | inl h ↦ absurd (none_differs (number, rest) (sym (rw h.0 at e)))
+      | inr h ↦
+          let e1 = rw h.0 at e in
+          elim (leb_tells (suc byte) 128) [
+            | inl k ↦
+                let parts = some_parts (low + weight * byte) number bytes rest (rw k.0 at e1) in
+                (byte ∷ [], ap (λ (l : List ℕ). byte ∷ l) parts.1, omega arith)
+            | inr k ↦
+                let more = read-splits (low + weight * (byte - 128)) (weight * 128) bytes number rest (rw k.0 at e1) in
+                (byte ∷ more.0, ap (λ (l : List ℕ). byte ∷ l) more.1, omega arith)
+          ]
+    ]
+
+-- what is left is no longer than the bytes
+pub left_within : (bytes : List ℕ) (number : ℕ) (rest : List ℕ) → read 0 1 bytes ≡ Some (number, rest)
+    → length rest ≤ length bytes
+left_within bytes number rest e =
+    let split = read-splits 0 1 bytes number rest e in
+    let whole : length bytes ≡ length split.0 + length rest =
+    ap (λ (l : List ℕ). length l) split.1 ∙ length-append split.0 rest in
+    omega (arith, whole)
+
+-- what is left after the first varint, by its size
+pub left_after : (bytes : List ℕ) (number : ℕ) (rest : List ℕ) → read 0 1 bytes ≡ Some (number, rest)
+    → (0 < length bytes - length rest) × (rest ≡ drop (length bytes - length rest) bytes)
+left_after bytes number rest e =
+    let split = read-splits 0 1 bytes number rest e in
+    let whole : length bytes ≡ length split.0 + length rest =
+    ap (λ (l : List ℕ). length l) split.1 ∙ length-append split.0 rest in
+    let size : length bytes - length rest ≡ length split.0 = omega (arith, whole) in
+    (
+      subst (λ n. 0 < n) (sym size) split.2,
+      subst (λ n. rest ≡ drop n bytes) (sym size)
+          (sym (ap (λ (l : List ℕ). drop (length split.0) l) split.1 ∙ drop-append_seam split.0 rest)),
+    )
+
+-- a number and what is left after it, decoded apart
+pub read_apart : (found : Option (ℕ × List ℕ)) (number size : ℕ) (bytes after : List ℕ) → IfNone found (size ≡ 0)
+    → IfSome found (λ r. (0 < size) × (r.1 ≡ drop size bytes)) → IfSome found (λ r. number ≡ r.0)
+    → (size ≡ 0 → ⊥) → after ≡ drop size bytes → Some (number, after) ≡ found
+read_apart None number size bytes after none some first more left = absurd (more none)
+read_apart (Some (n, rest)) number size bytes after none some first more left =
+    ap (λ (m : ℕ). Some (m, after)) first ∙ ap (λ (l : List ℕ). Some (n, l)) (left ∙ sym some.1)
+
+pub read_nothing : (found : Option (ℕ × List ℕ)) (size : ℕ) (bytes : List ℕ)
+    → IfSome found (λ r. (0 < size) × (r.1 ≡ drop size bytes)) → size ≡ 0 → None ≡ found
+read_nothing None size bytes some none = refl
+read_nothing (Some r) size bytes some none = absurd (omega (arith, none, some.0))
 
 -- the bytes begin with an id whose difference is this number
 pub record IsFirst (from : ℕ) (bytes : List ℕ) (number : ℕ) (after : List ℕ) : Type 0 where

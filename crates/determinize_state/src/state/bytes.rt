@@ -184,6 +184,7 @@ pub(crate) fn put_number<A: Allocator>(bytes: &mut Vec<u8, A>, at: usize, number
     ensures len { vec_len bytes.new ≡ vec_len bytes.old }
 {
     let [first, second, third, fourth] = number.to_le_bytes();
+    let bytes = bytes.as_mut_slice();
     bytes[at] = first;
     bytes[at + 1] = second;
     bytes[at + 2] = third;

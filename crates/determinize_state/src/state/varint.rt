@@ -5,7 +5,7 @@
 //! that another follows. A number below 128 is the common case and has a separate path, which is
 //! inlined.
 
-ghost use Rattle.std.specs.Prelude.{◌≡◌, ◌+◌, ◌%◌, ◌≤◌, [], ◌∷◌, ◌++◌, length, take, option_map, IfNone, IfSome, OnErr, OnOk};
+ghost use Rattle.std.specs.Prelude.{◌≡◌, ◌+◌, ◌%◌, ◌≤◌, ◌<◌, [], ◌∷◌, ◌++◌, drop, length, take, option_map, IfNone, IfSome, OnErr, OnOk};
 ghost use Rattle.determinize_state.specs.Varint as format;
 ghost use Rattle.determinize_state.specs.Private.Groups.{read};
 ghost use Rattle.determinize_state.specs.Varint.{unzigzag, ids_from, IsDeltas};
@@ -102,7 +102,40 @@ fn read_number(bytes: &[u8]) -> Option<(u64, &[u8])>
     if *byte < 128 {
         return Some((*byte as u64, after));
     }
-    read_groups(bytes)
+    // Two calls, since a number and a slice at once are returned through memory, which makes short
+    // varints slower too.
+    let size = groups_size(bytes);
+    if size == 0 {
+        return None;
+    }
+    let (_, after) = bytes.split_at(size);
+    Some((groups_number(bytes), after))
+}
+
+/// Returns the number of bytes of the first varint, or 0 if there is none.
+#[cold]
+#[inline(never)]
+fn groups_size(bytes: &[u8]) -> usize
+    ensures within { result ≤ length bytes.now }
+    ensures none { IfNone (read 0 1 bytes.now) (result ≡ 0) }
+    ensures some { IfSome (read 0 1 bytes.now) (λ r. (0 < result) × (r.1 ≡ drop result bytes.now)) }
+{
+    match read_groups(bytes) {
+        None => 0,
+        Some((_number, after)) => bytes.len() - after.len(),
+    }
+}
+
+/// Returns the first varint, or 0 if there is none.
+#[cold]
+#[inline(never)]
+fn groups_number(bytes: &[u8]) -> u64
+    ensures { IfSome (read 0 1 bytes.now) (λ r. result ≡ r.0) }
+{
+    match read_groups(bytes) {
+        None => 0,
+        Some((number, _)) => number,
+    }
 }
 
 /// Decodes one varint of any size. Returns `None` if the bytes end within it or it has more than
