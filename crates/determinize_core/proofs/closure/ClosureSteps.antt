@@ -2,9 +2,8 @@
 -- Main statements: IsSoFar, turn_held, turn_new, so_far-start, none_left.
 -- Used by: `explore`, `take_turn`, `closure_from`.
 -- Idea: the visited states followed by the search of the pending ones is one list throughout.
-use Rattle.std.proofs.Common.{◌≡◌, ℕ, ◌+◌, ◌<◌, Bool, true, false, not, List, [], ◌∷◌, ◌++◌, length, nat_eq, All, refl, sym, ap, ◌∙◌, arith, subst, append_assoc, ◌≤◌, ◌||◌, ◌⊎◌, inl, inr, if◌then◌else◌, IfNone, IfSome, None, Option, Some, reverse}
-use Rattle.std.specs.Option.{option_to_list}
-use Rattle.std.proofs.lemmas.List.{append-nil, append_cancel_left}
+use Rattle.std.proofs.Common.{◌≡◌, ℕ, ◌+◌, ◌<◌, Bool, true, false, not, List, [], ◌∷◌, ◌++◌, length, nat_eq, All, refl, sym, ap, ◌∙◌, arith, subst, append_assoc, ◌≤◌, ◌||◌, ◌⊎◌, inl, inr, if◌then◌else◌, IfNone, None, Option, reverse}
+use Rattle.std.proofs.lemmas.List.{append-nil, append_cancel_left, reverse-append}
 use Rattle.std.proofs.lemmas.List.Elements.{All-tail, All-append, All-cons, All-nil}
 use Rattle.std.proofs.lemmas.Bool.Decides.{nat_tests}
 use Rattle.determinize_below.specs.declared.look.Look.{Look as Assertion}
@@ -93,22 +92,26 @@ module _ (nfa : Nfa) (sound : IsSound nfa) (look : Assertion → Bool) where
             (sym (append_assoc held grown.0 rest) ∙ whole)),
       )
 
--- what is pending once the next state was taken from it
-pub taken : (next : Option ℕ) (pending stack : List ℕ) → IfNone next (pending ≡ []) → IfNone next (stack ≡ [])
-    → IfSome next (λ id. pending ≡ id ∷ reverse stack)
-    → option_to_list next ++ reverse stack ≡ pending
-taken None pending stack none empty some = ap (λ (l : List ℕ). reverse l) empty ∙ sym none
-taken (Some id) pending stack none empty some = sym some
+-- what is pending, by the current list and the stack
+pub pending_by : (edges current stack rest : List ℕ) → current ≡ edges → stack ≡ rest → current ++ stack ≡ edges ++ rest
+pending_by edges current stack rest list below = ap (λ l. l ++ stack) list ∙ ap (λ l. edges ++ l) below
 
--- what is pending with a next state, and with none
-pub pending_from : (next : Option ℕ) (stack : List ℕ) (id : ℕ) → next ≡ Some id
-    → option_to_list next ++ reverse stack ≡ id ∷ reverse stack
-pending_from next stack id e = ap (λ (o : Option ℕ). option_to_list o ++ reverse stack) e
+-- the same where the second of two edges was pushed
+pub pending_by-two : (first second : ℕ) (current before after rest : List ℕ) → current ≡ first ∷ []
+    → after ≡ before ++ second ∷ [] → reverse before ≡ rest → current ++ reverse after ≡ (first ∷ second ∷ []) ++ rest
+pending_by-two first second current before after rest list pushed below =
+    pending_by (first ∷ []) current (reverse after) (second ∷ rest) list
+    (ap (λ (l : List ℕ). reverse l) pushed ∙ reverse-append before (second ∷ [])
+    ∙ ap (λ (l : List ℕ). second ∷ l) below)
 
-pub none_pending : (next : Option ℕ) (stack : List ℕ) → next ≡ None → IfNone next (stack ≡ [])
-    → option_to_list next ++ reverse stack ≡ []
-none_pending None stack e empty = ap (λ (l : List ℕ). reverse l) empty
-none_pending (Some id) stack e empty = let k : Some id ≡ None = e in cc
+-- what is pending by its first state, by the rest of the list it was taken from
+pub first_pending : (id : ℕ) (pending rest others below : List ℕ) → pending ≡ id ∷ (rest ++ below) → others ≡ rest
+    → pending ≡ id ∷ (others ++ below)
+first_pending id pending rest others below e same = e ∙ ap (λ (l : List ℕ). id ∷ (l ++ below)) (sym same)
+
+-- what the absence of a result says
+pub at_none : {A : Type 0} (result : Option A) (P : Type 0) → result ≡ None → IfNone result P → P
+at_none {A = A} result P none h = subst (λ (r : Option A). IfNone r P) none h
 
 -- a search from roots, after some turns: what was visited, what is pending, and the tries before and after them
 pub record IsSoFar (nfa : Nfa) (look : Assertion → Bool) (held roots met pending : List ℕ)

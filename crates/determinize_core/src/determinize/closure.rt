@@ -1,11 +1,10 @@
 //! Epsilon closure: the NFA states reachable without input, in order of preference.
 //!
-//! One loop, [`explore`], computes all closures by depth-first search. It follows the first edge of
-//! a state to its end, while the other edges wait on the stack. The set ends the search on cycles. A
-//! [`Recorder`] receives each new state.
+//! One loop, [`explore`], computes all closures by depth-first search. The current list has the edges
+//! of the last state with some, and those of earlier states wait on the stack. The set ends the
+//! search on cycles. A [`Recorder`] receives each new state.
 
-ghost use Rattle.std.specs.Prelude.{◌≡◌, ℕ, ◌+◌, ◌<◌, List, [], ◌∷◌, ◌++◌, None, false, fold, not, length, reverse, IfNone, IfSome, IfOk, OnOk, OnErr, IsOk, if◌then◌else◌};
-ghost use Rattle.std.specs.Option.{option_to_list};
+ghost use Rattle.std.specs.Prelude.{◌≡◌, ℕ, ◌+◌, ◌<◌, List, [], ◌∷◌, ◌++◌, None, drop, false, fold, not, length, reverse, IfNone, IfSome, IfOk, OnOk, OnErr, IsOk, if◌then◌else◌};
 ghost use Rattle.determinize_below.specs.Edges.{edges, reach_past};
 ghost use Rattle.determinize_below.specs.Semantics.{state_at, Nfa};
 ghost use Rattle.determinize_below.specs.Look.{has};
@@ -23,6 +22,7 @@ use determinize_state::recording::add_state;
 use determinize_state::state::StateBuilderNFA;
 use std::alloc::{AllocError, Allocator};
 use std::marker::Brand;
+use std::slice;
 use std::sync::ledger::{Blank, Ledger};
 
 /// Receives the states that a search finds: a builder, or `()`, which ignores them.
@@ -67,120 +67,138 @@ fn visit<A: Allocator, L: Ledger>(set: &mut SparseSet<A>, id: StateID, steps: &m
     set.insert(id)
 }
 
-/// Returns the state to visit next: this one, or else the top of the stack.
+/// Returns the state to visit next: the first of the current list, or else the top of the stack.
 #[inline(always)]
-fn take_next<A: Allocator>(next: Option<StateID>, stack: &mut Vec<StateID, A>) -> Option<StateID>
-    ensures none { IfNone result (option_to_list next ++ reverse stack.old.items ≡ []) }
+fn take_next<A: Allocator>(current: &[StateID], stack: &mut Vec<StateID, A>) -> Option<StateID>
+    ensures none { IfNone result (current.now ++ reverse stack.old.items ≡ []) }
     ensures empty { IfNone result (stack.new.items ≡ []) }
-    ensures some { IfSome result (λ id. option_to_list next ++ reverse stack.old.items
-        ≡ id ∷ reverse stack.new.items) }
+    ensures some { IfSome result (λ id. current.now ++ reverse stack.old.items
+        ≡ id ∷ (drop 1 current.now ++ reverse stack.new.items)) }
 {
-    match next {
-        Some(id) => Some(id),
+    match current.split_first() {
+        Some((first, _)) => Some(*first),
         None => stack.pop(),
     }
 }
 
-/// Returns the first alternate, if there is one, and pushes the others, the last of them first.
+/// Returns all but the first of a list.
 #[inline(always)]
-fn take_alternates<A: Allocator>(
-    alternates: &[StateID],
-    stack: &mut Vec<StateID, A>,
-) -> Result<Option<StateID>, AllocError>
-    ensures { IfOk result (λ next. option_to_list next ++ reverse stack.new.items
-        ≡ alternates.now ++ reverse stack.old.items) }
+fn rest_of(list: &[StateID]) -> &[StateID]
+    ensures { result.now ≡ drop 1 list.now }
 {
-    let Some((first, others)) = alternates.split_first() else {
-        return Ok(None);
-    };
-    for id in others.iter().rev().copied() {
-        stack.push(id)?;
+    match list.split_first() {
+        Some((_, rest)) => rest,
+        None => list,
     }
-    Ok(Some(*first))
 }
 
-/// Records a state and follows its epsilon edges: returns the target of the first, and pushes those
-/// of the others. Most states have none, so that is tested before their kind is decided.
+/// Pushes states, the last of them first.
 #[inline(always)]
-fn record_and_follow<N: Allocator, A: Allocator, W: Recorder>(
-    nfa: &NFA<N>,
+fn push_reversed<A: Allocator>(
+    ids: &[StateID],
+    stack: &mut Vec<StateID, A>,
+) -> Result<(), AllocError>
+    ensures { OnOk result (reverse stack.new.items ≡ ids.now ++ reverse stack.old.items) }
+{
+    for id in ids.iter().rev().copied() {
+        stack.push(id)?;
+    }
+    Ok(())
+}
+
+/// Records a state and follows its epsilon edges: they become the current list, and the others of
+/// the list are pushed. Without such edges the others stay the list. Most states have none, so that
+/// is tested before their kind is decided.
+#[inline(always)]
+fn record_and_follow<'a, N: Allocator, A: Allocator, W: Recorder>(
+    nfa: &'a NFA<N>,
     id: StateID,
+    others: &'a [StateID],
     look_have: LookSet,
     stack: &mut Vec<StateID, A>,
     recorder: &mut W,
-) -> Result<Option<StateID>, AllocError>
+) -> Result<&'a [StateID], AllocError>
     requires { id < length nfa.now.states }
-    ensures pending { IfOk result (λ next. option_to_list next ++ reverse stack.new.items
-        ≡ edges nfa.now (has look_have) id ++ reverse stack.old.items) }
+    ensures pending { IfOk result (λ current. current.now ++ reverse stack.new.items
+        ≡ edges nfa.now (has look_have) id ++ (others.now ++ reverse stack.old.items)) }
     ensures recorded { OnOk result (recorder.new ≡ W.with_one nfa.now recorder.old id) }
 {
     if !nfa.state(id).is_epsilon() {
         recorder.record(nfa, id)?;
-        return Ok(None);
+        return Ok(others);
     }
     // Each arm records by itself, and so the kind is decided once.
     match nfa.state(id) {
         State::Look { look, next } => {
             recorder.record(nfa, id)?;
-            Ok(look_have.contains(*look).then_some(*next))
+            if !look_have.contains(*look) {
+                return Ok(others);
+            }
+            push_reversed(others, stack)?;
+            Ok(slice::from_ref(next))
         }
         State::Union { alternates } => {
             recorder.record(nfa, id)?;
-            take_alternates(alternates.as_slice(), stack)
+            push_reversed(others, stack)?;
+            Ok(alternates.as_slice())
         }
         State::BinaryUnion { alt1, alt2 } => {
             recorder.record(nfa, id)?;
+            push_reversed(others, stack)?;
             stack.push(*alt2)?;
-            Ok(Some(*alt1))
+            Ok(slice::from_ref(alt1))
         }
         State::Capture { next } => {
             recorder.record(nfa, id)?;
-            Ok(Some(*next))
+            push_reversed(others, stack)?;
+            Ok(slice::from_ref(next))
         }
         _ => {
             recorder.record(nfa, id)?;
-            Ok(None)
+            Ok(others)
         }
     }
 }
 
-/// Visits a state and, if it is new, records it and follows its epsilon edges.
+/// Visits a state and, if it is new, records it and follows its epsilon edges. Returns the current
+/// list.
 #[inline(always)]
-fn take_turn<N: Allocator, A: Allocator, W: Recorder, L: Ledger>(
-    nfa: &NFA<N>,
+fn take_turn<'a, N: Allocator, A: Allocator, W: Recorder, L: Ledger>(
+    nfa: &'a NFA<N>,
     id: StateID,
+    others: &'a [StateID],
     look_have: LookSet,
     stack: &mut Vec<StateID, A>,
     set: &mut SparseSet<A>,
     recorder: &mut W,
     steps: &mut Steps<L>,
-) -> Result<Option<StateID>, AllocError>
+) -> Result<&'a [StateID], AllocError>
     requires accepted { IsAccepted nfa.now }
     requires resolve { id < length nfa.now.states }
     requires capacity { set.old.capacity ≡ length nfa.now.states }
     ensures turn { (pending : List ℕ) × (gained : List ℕ)
-        × IsTurn nfa.now (has look_have) set.old.ids set.new.ids id (reverse stack.old.items)
-        pending
+        × IsTurn nfa.now (has look_have) set.old.ids set.new.ids id
+        (others.now ++ reverse stack.old.items) pending
         × (set.new.ids ≡ set.old.ids ++ gained)
-        × IfOk result (λ next. (option_to_list next ++ reverse stack.new.items ≡ pending)
+        × IfOk result (λ current. (current.now ++ reverse stack.new.items ≡ pending)
         × (recorder.new ≡ fold (W.with_one nfa.now) recorder.old gained)) }
     ensures capacity { set.new.capacity ≡ set.old.capacity }
     ensures resolve { AllResolve nfa.now set.new.ids }
     ensures counted { steps.new ≡ steps.old + 1 }
 {
     if visit(set, id, steps) {
-        record_and_follow(nfa, id, look_have, stack, recorder)
+        record_and_follow(nfa, id, others, look_have, stack, recorder)
     } else {
-        Ok(None)
+        Ok(others)
     }
 }
 
-/// Searches from the state `first`, if there is one, and then from the states on the stack, the
-/// first of them first. On error the stack is not cleared.
+/// Searches from these states, and then from those on the stack, the first of them first. On error
+/// the stack is not cleared.
 #[inline(always)]
 pub(crate) fn explore<N: Allocator, A: Allocator, W: Recorder, L: Ledger>(
     nfa: &NFA<N>,
-    first: Option<StateID>,
+    first: &[StateID],
     look_have: LookSet,
     stack: &mut Vec<StateID, A>,
     set: &mut SparseSet<A>,
@@ -188,22 +206,21 @@ pub(crate) fn explore<N: Allocator, A: Allocator, W: Recorder, L: Ledger>(
     steps: &mut Steps<L>,
 ) -> Result<(), AllocError>
     requires accepted { IsAccepted nfa.now }
-    requires resolve { AllResolve nfa.now (option_to_list first ++ stack.old.items) }
+    requires resolve { AllResolve nfa.now (first.now ++ stack.old.items) }
     requires capacity { set.old.capacity ≡ length nfa.now.states }
     ensures ok { OnOk result (IsSearched nfa.now (has look_have)
-        (option_to_list first ++ stack.old.items) set.old set.new steps.old steps.new) }
+        (first.now ++ stack.old.items) set.old set.new steps.old steps.new) }
     ensures recorded { OnOk result (recorder.new ≡ fold (W.with_one nfa.now) recorder.old
-        (reach_past nfa.now (has look_have) set.old.ids
-        (option_to_list first ++ stack.old.items))) }
+        (reach_past nfa.now (has look_have) set.old.ids (first.now ++ stack.old.items))) }
     ensures part { IsPartSearched nfa.now (has look_have)
-        (option_to_list first ++ stack.old.items) set.old set.new steps.old steps.new }
+        (first.now ++ stack.old.items) set.old set.new steps.old steps.new }
     ensures stack { OnOk result (stack.new.items ≡ []) }
 {
     stack.reverse();
-    let mut current = take_next(first, stack);
-    while let Some(id) = current {
-        let next = take_turn(nfa, id, look_have, stack, set, recorder, steps)?;
-        current = take_next(next, stack);
+    let mut current = first;
+    while let Some(id) = take_next(current, stack) {
+        let others = rest_of(current);
+        current = take_turn(nfa, id, others, look_have, stack, set, recorder, steps)?;
     }
     Ok(())
 }
@@ -236,7 +253,7 @@ fn closure_from<N: Allocator, A: Allocator, L: Ledger>(
         visit(set, start, &mut steps);
         return Ok(());
     }
-    let result = explore(nfa, Some(start), look_have, stack, set, &mut (), &mut steps);
+    let result = explore(nfa, slice::from_ref(&start), look_have, stack, set, &mut (), &mut steps);
     stack.clear();
     result
 }

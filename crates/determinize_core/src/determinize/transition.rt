@@ -88,7 +88,7 @@ fn transition<N: Allocator, A: Allocator, L: Ledger>(
     set_flags(told, !stack.is_empty(), builder);
     explore(
         nfa,
-        None,
+        &[],
         told.looks,
         stack,
         &mut sparses.set2,

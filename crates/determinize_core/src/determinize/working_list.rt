@@ -239,7 +239,7 @@ pub(crate) fn read_working_list<N: Allocator, A: Allocator, L: Ledger>(
         return read_states(nfa, match_kind, ids, unit, set1, stack, builder);
     };
     collect_states(state, set1, stack)?;
-    explore(nfa, None, look_have, stack, set2, &mut (), steps)?;
+    explore(nfa, &[], look_have, stack, set2, &mut (), steps)?;
     set1.clear();
     read_states(nfa, match_kind, set2.iter(), unit, set1, stack, builder)?;
     set2.clear();

@@ -1,5 +1,4 @@
-use Rattle.std.proofs.Common.{◌≡◌, ◌∙◌, ◌++◌, ◌∷◌, [], ℕ, List, Option, ap, fold, refl, reverse, subst, sym}
-use Rattle.std.specs.Option.{option_to_list}
+use Rattle.std.proofs.Common.{◌≡◌, ◌∙◌, ◌++◌, ◌∷◌, [], ℕ, List, ap, fold, refl, reverse, subst, sym}
 use Rattle.std.proofs.lemmas.Bool.{not-false, not-true}
 use Rattle.std.proofs.lemmas.List.{append-nil}
 use Rattle.determinize_below.specs.Edges.{edges}
@@ -15,17 +14,18 @@ pub returns-then-visit-clause-turn : goal.returns-then-visit-clause-turn
 returns-then-visit-clause-turn g c =
     let new = not-true _ (sym c.visit.ensures.new ∙ c.if-visit.true) in
     let turn = turn_new c.args.nfa.now (accepted_sound c.args.nfa.now c.requires.accepted)
-    (has c.args.look_have) c.args.set.now.ids (reverse c.args.stack.now.items) c.args.id new in
+    (has c.args.look_have) c.args.set.now.ids (c.args.others.now ++ reverse c.args.stack.now.items) c.args.id new in
     let after : c.visit.new.set.ids ≡ c.args.set.now.ids ++ c.args.id ∷ [] =
     ap (λ (m : Members). m.ids) c.visit.ensures.after ∙ inserted c.visit.result _ _ c.if-visit.true in
-    let pending : List ℕ = edges c.args.nfa.now (has c.args.look_have) c.args.id ++ reverse c.args.stack.now.items in (
+    let rest : List ℕ = c.args.others.now ++ reverse c.args.stack.now.items in
+    let pending : List ℕ = edges c.args.nfa.now (has c.args.look_have) c.args.id ++ rest in (
       pending,
       c.args.id ∷ [],
       subst (λ (l : List ℕ). IsTurn c.args.nfa.now (has c.args.look_have) c.args.set.now.ids l c.args.id
-          (reverse c.args.stack.now.items) pending) (sym after) turn,
+          rest pending) (sym after) turn,
       after,
       with_fact c.record_and_follow.result
-          (λ (next : Option ℕ). option_to_list next ++ reverse c.record_and_follow.new.stack.items ≡ pending)
+          (λ current. current.now ++ reverse c.record_and_follow.new.stack.items ≡ pending)
           (c.record_and_follow.new.recorder ≡ g.W.Recorder.with_one c.args.nfa.now c.args.recorder.now c.args.id)
           (c.record_and_follow.new.recorder ≡ fold (g.W.Recorder.with_one c.args.nfa.now) c.args.recorder.now
           (c.args.id ∷ []))
@@ -38,13 +38,14 @@ pub returns-else-visit-clause-turn : goal.returns-else-visit-clause-turn
 returns-else-visit-clause-turn g c =
     let met = not-false _ (sym c.visit.ensures.new ∙ c.if-visit.false) in
     let turn = turn_held c.args.nfa.now (accepted_sound c.args.nfa.now c.requires.accepted)
-    (has c.args.look_have) c.args.set.now.ids (reverse c.args.stack.now.items) c.args.id met in
+    (has c.args.look_have) c.args.set.now.ids (c.args.others.now ++ reverse c.args.stack.now.items) c.args.id met in
     let after : c.visit.new.set.ids ≡ c.args.set.now.ids =
-    ap (λ (m : Members). m.ids) c.visit.ensures.after ∙ not_inserted c.visit.result _ _ c.if-visit.false in (
-      reverse c.args.stack.now.items,
+    ap (λ (m : Members). m.ids) c.visit.ensures.after ∙ not_inserted c.visit.result _ _ c.if-visit.false in
+    let rest : List ℕ = c.args.others.now ++ reverse c.args.stack.now.items in (
+      rest,
       [],
       subst (λ (l : List ℕ). IsTurn c.args.nfa.now (has c.args.look_have) c.args.set.now.ids l c.args.id
-          (reverse c.args.stack.now.items) (reverse c.args.stack.now.items)) (sym after) turn,
+          rest rest) (sym after) turn,
       after ∙ sym (append-nil c.args.set.now.ids),
       (refl, refl),
     )
