@@ -1,22 +1,17 @@
 -- A table that is being built: one value more, and one entry more.
-use Rattle.determinize_dense.proofs.Common.{[], ap, AreStarts, arith, Building, columns_of, false}
-use Rattle.determinize_dense.proofs.Common.{get_or}
-use Rattle.determinize_dense.proofs.Common.{HasMoreStates, IsBuilding, IsReachedValue, IsStart}
-use Rattle.determinize_dense.proofs.Common.{AllResolve, length, length_push, List, list_any, MatchKind, Nfa}
-use Rattle.determinize_dense.proofs.Common.{refl, same}
-use Rattle.determinize_dense.proofs.Common.{slice_get, slice_get-get_or, Some}
+use Rattle.determinize_lazy.proofs.Common.{AllResolve, ap, arith, cond, dead, Err, false, get_or, inl, inr}
+use Rattle.determinize_lazy.proofs.Common.{IsAccepted, length, length_push, List, list_any, MatchKind, nat_eq, nat_lt}
+use Rattle.determinize_lazy.proofs.Common.{Nfa, None, Ok, refl, Result, same, slice_get, slice_index, slice_set, Some}
+use Rattle.determinize_lazy.proofs.Common.{subst, sym, true, Value, ℕ, [], get_or-set_other, get_or-set_same}
+use Rattle.determinize_lazy.proofs.Common.{length-set, slice_get-get_or, ◌*◌, ◌++◌, ◌+◌, ◌<◌, ◌∙◌, ◌∷◌, ◌≡◌, ◌≤◌}
+use Rattle.determinize_dense.proofs.Common.{AreClasses, AreClassesOf, AreStarts, Building, Classes, columns_of}
+use Rattle.determinize_dense.proofs.Common.{first_of, HasMoreStates, HasStates, IsBuilding, IsReachedValue, IsStart}
+use Rattle.determinize_dense.proofs.Common.{IsUnit, Stays, unit_at}
 use Rattle.determinize_core.specs.Step.{step}
-use Rattle.determinize_dense.proofs.Common.{Stays, subst, sym, unit_at, Value, ℕ, ◌*◌, ◌++◌, ◌+◌, ◌<◌, ◌∙◌, ◌∷◌, ◌≡◌}
-use Rattle.determinize_dense.proofs.Common.{◌≤◌}
-use Rattle.determinize_dense.proofs.Common.{Err, HasStates, inl, inr, Ok, Result}
 use Rattle.std.specs.Prelude.{◌%◌, ◌/◌}
 use Rattle.std.proofs.Math.Nat.{mul-le-mul_right, mul_comm}
 use Rattle.std.proofs.lemmas.Nat.{row-Below}
 use Rattle.std.proofs.lemmas.Option.{slice_get_read}
-use Rattle.determinize_dense.proofs.Common.{AreClasses, AreClassesOf, Classes, cond, dead, first_of, get_or-set_other}
-use Rattle.determinize_dense.proofs.Common.{get_or-set_same}
-use Rattle.determinize_dense.proofs.Common.{IsAccepted, IsUnit, length-set, nat_eq, nat_lt, None, slice_index}
-use Rattle.determinize_dense.proofs.Common.{slice_set, true}
 use Rattle.determinize_dense.proofs.Reached.{reached-dead}
 use Rattle.determinize_lazy.proofs.tables.Values.{apart-push, get_more, get_push, not_both, not_none}
 

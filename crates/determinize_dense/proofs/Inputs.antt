@@ -1,9 +1,8 @@
 -- A search of an input, in words of runs.
-use Rattle.determinize_dense.proofs.Common.{ap, Asked, Bool, Decides, DfaValue, false, HalfMatch, HasMatch}
-use Rattle.determinize_dense.proofs.Common.{is_anchored, is_some, IsFound, IsSearch, last_match}
-use Rattle.determinize_dense.proofs.Common.{Nfa}
-use Rattle.determinize_dense.proofs.Common.{None, Option, refl, Some, start_for, start_in, subst, sym, Text, text_of}
-use Rattle.determinize_dense.proofs.Common.{true≢false, ℕ, ◌∙◌, ◌≡◌}
+use Rattle.determinize_lazy.proofs.Common.{ap, Asked, Bool, Decides, false, HalfMatch, HasMatch, is_some, IsSearch}
+use Rattle.determinize_lazy.proofs.Common.{last_match, Nfa, None, Option, refl, Some, start_for, subst, sym, Text}
+use Rattle.determinize_lazy.proofs.Common.{text_of, ℕ, true≢false, ◌∙◌, ◌≡◌}
+use Rattle.determinize_dense.proofs.Common.{DfaValue, is_anchored, IsFound, start_in}
 use Rattle.determinize_below.specs.declared.search.Anchored.{Anchored}
 use Rattle.determinize_below.specs.declared.search.Anchored.TheVariants.{No, Pattern, Yes}
 use Rattle.determinize_core.specs.Chain.{chain}

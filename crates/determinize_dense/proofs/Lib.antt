@@ -1,6 +1,7 @@
 mod Building
 mod Common
 mod Inputs
+mod Listing
 mod Lists
 mod Reached
 mod Searching

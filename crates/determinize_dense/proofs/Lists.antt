@@ -1,6 +1,6 @@
 -- Lists of patterns, one for each state.
-use Rattle.determinize_dense.proofs.Common.{[], ap, get_or, length, List, map, None, refl, Some, sym, take, take_more}
-use Rattle.determinize_dense.proofs.Common.{Value, ℕ, ◌++◌, ◌+◌, ◌<◌, ◌∙◌, ◌∷◌, ◌≡◌}
+use Rattle.determinize_lazy.proofs.Common.{ap, get_or, length, List, map, None, refl, Some, sym, take, take_more}
+use Rattle.determinize_lazy.proofs.Common.{Value, ℕ, [], ◌++◌, ◌+◌, ◌<◌, ◌∙◌, ◌∷◌, ◌≡◌}
 use Rattle.determinize_core.specs.Value.{listed}
 use Rattle.determinize_lazy.proofs.tables.Values.{not_none, of_some}
 
@@ -13,7 +13,7 @@ pub listed-none : (ps : List ℕ) → None ≡ listed ps → [] ≡ ps
 listed-none [] e = refl
 listed-none (p ∷ ps) e = not_none (sym e)
 
-map-push : {A B : Type 0} (f : A → B) (xs : List A) (x : A) → map f (xs ++ x ∷ []) ≡ map f xs ++ f x ∷ []
+pub map-push : {A B : Type 0} (f : A → B) (xs : List A) (x : A) → map f (xs ++ x ∷ []) ≡ map f xs ++ f x ∷ []
 map-push f [] x = refl
 map-push f (y ∷ ys) x = ap (λ zs. f y ∷ zs) (map-push f ys x)
 

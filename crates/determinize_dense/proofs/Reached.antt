@@ -1,8 +1,9 @@
 -- The values that are reached, and how a start value depends on its kind.
-use Rattle.determinize_dense.proofs.Common.{[], All, ap, arith, begun, Bool, cond, dead, false, IsReachedValue, IsUnit}
-use Rattle.determinize_dense.proofs.Common.{List, MatchKind, Nfa, nat_lt, None, number_of, Option, refl, Some}
-use Rattle.determinize_dense.proofs.Common.{start_in, start_kind_of, start_of_number, start_value, subst, suc, sym}
-use Rattle.determinize_dense.proofs.Common.{tables_of, true, Value, value_after, zero, ℕ, ◌++◌, ◌+◌, ◌<◌, ◌∙◌, ◌∷◌, ◌≡◌}
+use Rattle.determinize_lazy.proofs.Common.{ap, arith, begun, Bool, cond, dead, false, List, MatchKind, nat_lt, Nfa}
+use Rattle.determinize_lazy.proofs.Common.{None, Option, refl, Some, start_value, subst, suc, sym, tables_of, true}
+use Rattle.determinize_lazy.proofs.Common.{Value, value_after, zero, ℕ, [], ◌++◌, ◌+◌, ◌<◌, ◌∙◌, ◌∷◌, ◌≡◌}
+use Rattle.determinize_dense.proofs.Common.{All, IsReachedValue, IsUnit, number_of, start_in, start_kind_of}
+use Rattle.determinize_dense.proofs.Common.{start_of_number}
 use Rattle.std.specs.Prelude.{◌%◌}
 use Rattle.std.proofs.lemmas.List.Elements.{All-append}
 use Rattle.ordered_reach.proofs.lists.Pieces.{flat_map_none}
@@ -34,7 +35,8 @@ head_unit u us h = h 0 None (omega arith)
 pub tail_units : (u : Option ℕ) (us : List (Option ℕ)) → All IsUnit (u ∷ us) → All IsUnit us
 tail_units u us h k d l = h (suc k) d (omega (arith, l))
 
-no_units : All IsUnit []
+-- and none
+pub no_units : All IsUnit []
 no_units k d l = absurd (let no : ⊥ = omega (arith, l) in no)
 
 module _ (nfa : Nfa) (kind : MatchKind) where

@@ -1,18 +1,18 @@
 -- A search by a table, one unit more at a time, and what it finds.
-use Rattle.determinize_dense.proofs.Common.{[], All, ap, append-nil, append_assoc, arith, Bool, DfaValue, ended_at}
-use Rattle.determinize_dense.proofs.Common.{future, get_or_from_slice_get, HalfMatch, is_some, IsDfa, IsFound}
-use Rattle.determinize_dense.proofs.Common.{IsSearched, IsUnit, last_match, last_match-push, length, length-take-le}
-use Rattle.determinize_dense.proofs.Common.{List}
-use Rattle.determinize_dense.proofs.Common.{Option, option_map, option_or, patterns_at, refl, row_after, row_over}
-use Rattle.determinize_dense.proofs.Common.{slice_get, slice_get_within, Some, start_in, start_row, start_value, subst}
-use Rattle.determinize_dense.proofs.Common.{sym}
-use Rattle.determinize_dense.proofs.Common.{take, take-append-drop, take_all, take_more, Text, true, true≢false, units}
-use Rattle.determinize_dense.proofs.Common.{Value}
-use Rattle.determinize_dense.proofs.Common.{value_after, ℕ, drop, ◌++◌, ◌+◌, ◌<◌, ◌∙◌, ◌∷◌, ◌≡◌, ◌≤◌}
+use Rattle.determinize_lazy.proofs.Common.{ap, append_assoc, arith, Bool, drop, ended_at, future}
+use Rattle.determinize_lazy.proofs.Common.{get_or_from_slice_get, HalfMatch, is_some, last_match, length, List}
+use Rattle.determinize_lazy.proofs.Common.{Option, option_map, option_or, refl, slice_get, slice_get_within, Some}
+use Rattle.determinize_lazy.proofs.Common.{start_value, subst, sym, take, take_all, take_more, Text, true, units}
+use Rattle.determinize_lazy.proofs.Common.{Value, value_after, ℕ, [], append-nil, last_match-push, length-take-le}
+use Rattle.determinize_lazy.proofs.Common.{take-append-drop, true≢false, ◌++◌, ◌+◌, ◌<◌, ◌∙◌, ◌∷◌, ◌≡◌, ◌≤◌}
+use Rattle.determinize_lazy.proofs.Common.{get_or, map}
+use Rattle.determinize_dense.proofs.Common.{DfaValue, IsDfa, IsFound, IsRowFrom, IsSearched, IsUnit, patterns_at}
+use Rattle.determinize_dense.proofs.Common.{row_after, row_over, start_in, start_row, value_from}
+use Rattle.determinize_dense.proofs.Lists.{map-push}
 use Rattle.determinize_core.specs.Chain.{chain}
 use Rattle.std.proofs.lemmas.List.Elements.{All-append}
 use Rattle.determinize_lazy.proofs.finding.Searching.{longer}
-use Rattle.determinize_dense.proofs.Reached.{one_unit}
+use Rattle.determinize_dense.proofs.Reached.{no_units, one_unit}
 
 -- the rows along units, one more
 row_after-push : (d : DfaValue) (r : ℕ) (us : List (Option ℕ)) (u : Option ℕ)
@@ -20,23 +20,45 @@ row_after-push : (d : DfaValue) (r : ℕ) (us : List (Option ℕ)) (u : Option �
 row_after-push d r [] u = refl
 row_after-push d r (w ∷ us) u = row_after-push d (row_over d.table r w) us u
 
-module _ (d : DfaValue) (is : IsDfa d) (anchored : Bool) (text : Text) (behind : IsUnit text.behind) where
+module _ {d : DfaValue} {anchored : Bool} {p : Option ℕ} where
+  -- the row of a start
+  pub row-start : IsUnit p → {row : ℕ} → row ≡ start_row d.nfa d.table anchored p → row < length d.table.patterns
+      → IsRowFrom d anchored p [] row
+  row-start behind is below = record { behind = behind; units = no_units; reached = is; below = below }
+
+  module _ {us : List (Option ℕ)} {row : ℕ} (at : IsRowFrom d anchored p us row) where
+    -- a unit more
+    pub row-push : (u : Option ℕ) {next : ℕ} → IsUnit u → next ≡ row_over d.table row u
+        → next < length d.table.patterns → IsRowFrom d anchored p (us ++ u ∷ []) next
+    row-push u {next} unit is below = record {
+      behind = at.behind;
+      units = All-append IsUnit us (u ∷ []) at.units (one_unit u unit);
+      reached = is ∙ ap (λ r. row_over d.table r u) at.reached
+          ∙ sym (row_after-push d (start_row d.nfa d.table anchored p) us u);
+      below = below;
+    }
+
+    -- a byte more of a text
+    pub row-byte : (bytes : List ℕ) (i : ℕ) {u : Option ℕ} {next : ℕ} → us ≡ map Some (take i bytes)
+        → i < length bytes → u ≡ Some (get_or bytes i 0) → IsUnit u → next ≡ row_over d.table row u
+        → next < length d.table.patterns → IsRowFrom d anchored p (map Some (take (i + 1) bytes)) next
+    row-byte bytes i {u} {next} so_far inside u_is unit is below =
+        subst (λ all. IsRowFrom d anchored p all next)
+        (ap (λ all. all ++ u ∷ []) so_far ∙ ap (λ w. map Some (take i bytes) ++ w ∷ []) u_is
+        ∙ sym (map-push Some (take i bytes) (get_or bytes i 0))
+        ∙ ap (λ all. map Some all) (sym (take_more bytes i 0 inside)))
+        (row-push u unit is below)
+
+    -- the row lists what the value lists
+    pub patterns-are : IsDfa d → patterns_at d.table row ≡ (value_from d.nfa d.kind anchored p us).patterns
+    patterns-are is = ap (λ r. patterns_at d.table r) at.reached ∙ is.tells anchored p us at.behind at.units
+
+module _ (d : DfaValue) (anchored : Bool) (text : Text) where
   abbrev first : Value
   first = start_value d.nfa (start_in d.nfa anchored) text.behind
 
-  abbrev start : ℕ
-  start = start_row d.nfa d.table anchored text.behind
-
   abbrev last_of : List (Option ℕ) → Option HalfMatch
   last_of us = last_match (future d.nfa d.kind first us)
-
-  -- a unit more: the match of the row, if it lists a pattern
-  last-push : (us : List (Option ℕ)) (u : Option ℕ) → All IsUnit us → IsUnit u
-      → last_of (us ++ u ∷ []) ≡ option_or (ended_at (length us)
-      (patterns_at d.table (row_after d.table start (us ++ u ∷ [])))) (last_of us)
-  last-push us u all unit = last_match-push d.nfa d.kind first us u
-      ∙ ap (λ ps. option_or (ended_at (length us) ps) (last_of us))
-      (sym (is.tells anchored text.behind (us ++ u ∷ []) behind (All-append IsUnit us (u ∷ []) all (one_unit u unit))))
 
   -- the last match is the same if none follows
   over : (us rest : List (Option ℕ))
@@ -57,7 +79,7 @@ module _ {d : DfaValue} {anchored : Bool} {text : Text} {read row : ℕ} {last :
   unfolding chain
   found-all all earliest =
       let e : last ≡ last_match (chain d.nfa d.kind (start_in d.nfa anchored) text) =
-      s.so_far ∙ ap (λ us. last_of d is anchored text s.behind us) (take_all read (units text) all) in
+      s.so_far ∙ ap (λ us. last_of d anchored text us) (take_all read (units text) all) in
       record { accepted = is.accepted; last = λ _. e; some = ap is_some e }
 
   -- or is in row 0
@@ -66,9 +88,10 @@ module _ {d : DfaValue} {anchored : Bool} {text : Text} {read row : ℕ} {last :
   found-dead dead earliest =
       let e : last ≡ last_match (chain d.nfa d.kind (start_in d.nfa anchored) text) =
       s.so_far
-      ∙ sym (over d is anchored text s.behind (take read (units text)) (drop read (units text))
-      (λ more. is.over anchored text.behind (take read (units text)) more s.behind s.bytes (sym s.reached ∙ dead)))
-      ∙ ap (λ us. last_of d is anchored text s.behind us) (take-append-drop read (units text)) in
+      ∙ sym (over d anchored text (take read (units text)) (drop read (units text))
+      (λ more. is.over anchored text.behind (take read (units text)) more s.at.behind s.at.units
+      (sym s.at.reached ∙ dead)))
+      ∙ ap (λ us. last_of d anchored text us) (take-append-drop read (units text)) in
       record { accepted = is.accepted; last = λ _. e; some = ap is_some e }
 
   -- or has a match, where any will do
@@ -79,12 +102,12 @@ module _ {d : DfaValue} {anchored : Bool} {text : Text} {read row : ℕ} {last :
     accepted = is.accepted;
     last = λ late. absurd (true≢false (sym early ∙ late));
     some =
-        let one : is_some (last_of d is anchored text s.behind (take read (units text))) ≡ true =
+        let one : is_some (last_of d anchored text (take read (units text))) ≡ true =
         ap is_some (sym s.so_far ∙ some) in
         ap is_some some
-        ∙ sym (longer d.nfa d.kind (first d is anchored text s.behind) (take read (units text))
+        ∙ sym (longer d.nfa d.kind (first d anchored text) (take read (units text))
         (drop read (units text)) one)
-        ∙ ap (λ us. is_some (last_of d is anchored text s.behind us)) (take-append-drop read (units text));
+        ∙ ap (λ us. is_some (last_of d anchored text us)) (take-append-drop read (units text));
   }
 
   -- a unit more
@@ -95,26 +118,21 @@ module _ {d : DfaValue} {anchored : Bool} {text : Text} {read row : ℕ} {last :
       → after ≡ option_or (option_map (λ pattern. record { pattern = pattern; offset = read }) o) last
       → IsSearched d anchored text (read + 1) next after
   searched-step {u} {next} {o} {after} at unit next_is below o_is after_is = record {
-    behind = s.behind;
-    bytes = subst (λ us. All IsUnit us) (sym taken)
-        (All-append IsUnit (take read (units text)) (u ∷ []) s.bytes (one_unit u unit));
-    reached = row_is ∙ sym (ap (λ us. row_after d.table (start d is anchored text s.behind) us) taken);
-    below = below;
+    at = subst (λ us. IsRowFrom d anchored text.behind us next) (sym taken) there;
     so_far = after_is
-        ∙ ap (λ p. option_or (option_map (λ pattern. record { pattern = pattern; offset = read }) p) last)
-        (o_is ∙ ap (λ r. slice_get (patterns_at d.table r) 0) row_is)
-        ∙ ap (λ n. option_or (ended_at n (patterns_at d.table pushed)) last) (sym count)
-        ∙ ap (λ l. option_or (ended_at (length (take read (units text))) (patterns_at d.table pushed)) l) s.so_far
-        ∙ sym (last-push d is anchored text s.behind (take read (units text)) u s.bytes unit)
-        ∙ ap (λ us. last_of d is anchored text s.behind us) (sym taken);
+        ∙ ap (λ q. option_or (option_map (λ pattern. record { pattern = pattern; offset = read }) q) last)
+        (o_is ∙ ap (λ ps. slice_get ps 0) (patterns-are there is))
+        ∙ ap (λ n. option_or (ended_at n listed) last) (sym count)
+        ∙ ap (λ l. option_or (ended_at (length (take read (units text))) listed) l) s.so_far
+        ∙ sym (last_match-push d.nfa d.kind (first d anchored text) (take read (units text)) u)
+        ∙ ap (λ us. last_of d anchored text us) (sym taken);
   }
     where
-      pushed : ℕ
-      pushed = row_after d.table (start d is anchored text s.behind) (take read (units text) ++ u ∷ [])
+      there : IsRowFrom d anchored text.behind (take read (units text) ++ u ∷ []) next
+      there = row-push s.at u unit next_is below
 
-      row_is : next ≡ pushed
-      row_is = next_is ∙ ap (λ r. row_over d.table r u) s.reached
-          ∙ sym (row_after-push d (start d is anchored text s.behind) (take read (units text)) u)
+      listed : List ℕ
+      listed = (value_from d.nfa d.kind anchored text.behind (take read (units text) ++ u ∷ [])).patterns
 
       taken : take (read + 1) (units text) ≡ take read (units text) ++ u ∷ []
       taken = take_more (units text) read u (slice_get_within (units text) read u at)

@@ -1,17 +1,14 @@
 -- The table that is built: each row follows the steps of its value.
-use Rattle.determinize_dense.proofs.Common.{[], All, ap, AreStarts, arith, Bool, Building, column_of, columns_of, cond}
-use Rattle.determinize_dense.proofs.Common.{Contains, dead, first_of, get_or, get_or_from_slice_get, HasStates}
-use Rattle.determinize_dense.proofs.Common.{IsBuilding}
-use Rattle.determinize_dense.proofs.Common.{IsDfa, IsReachedValue, IsFilled, IsUnit, length, length-map, List}
-use Rattle.determinize_dense.proofs.Common.{map}
-use Rattle.determinize_dense.proofs.Common.{nat_lt, None, Option, option_map, patterns_at, refl, row_after, row_over}
-use Rattle.determinize_dense.proofs.Common.{slice_get, slice_get-get_or, slice_get-map, slice_get_within, slice_index}
-use Rattle.determinize_dense.proofs.Common.{Some}
-use Rattle.determinize_dense.proofs.Common.{start_in, start_kind_of, start_number, start_row, start_value, step, subst}
-use Rattle.determinize_dense.proofs.Common.{sym}
-use Rattle.determinize_dense.proofs.Common.{Table, true, unit_at, Value, value_after, ℕ, ◌*◌, ◌+◌, ◌<◌, ◌∙◌, ◌∷◌, ◌≡◌}
+use Rattle.determinize_lazy.proofs.Common.{ap, arith, Bool, cond, Contains, dead, get_or, get_or_from_slice_get}
+use Rattle.determinize_lazy.proofs.Common.{length, List, map, MatchKind, nat_lt, Nfa, None, Option, option_map, refl}
+use Rattle.determinize_lazy.proofs.Common.{slice_get, slice_get_within, slice_index, Some, start_value, subst, sym}
+use Rattle.determinize_lazy.proofs.Common.{true, Value, value_after, ℕ, [], length-map, slice_get-get_or}
+use Rattle.determinize_lazy.proofs.Common.{slice_get-map, ◌*◌, ◌+◌, ◌<◌, ◌∙◌, ◌∷◌, ◌≡◌}
+use Rattle.determinize_dense.proofs.Common.{All, AreStarts, Building, column_of, columns_of, first_of, HasStates}
+use Rattle.determinize_dense.proofs.Common.{IsBuilding, IsDfa, IsFilled, IsReachedValue, IsUnit, patterns_at}
+use Rattle.determinize_dense.proofs.Common.{row_after, row_over, start_in, start_kind_of, start_number, start_row}
+use Rattle.determinize_dense.proofs.Common.{step, Table, unit_at}
 use Rattle.std.specs.Prelude.{◌%◌, ◌++◌, false, ◌/◌}
-use Rattle.determinize_dense.proofs.Common.{MatchKind, Nfa}
 use Rattle.std.proofs.Math.Nat.{mul_comm}
 use Rattle.std.proofs.lemmas.Nat.{div-mul-add, mod-mul-add, mul-add-lt}
 use Rattle.determinize_core.specs.Alike.{NeedsTested}

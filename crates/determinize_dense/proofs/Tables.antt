@@ -1,7 +1,6 @@
 -- The entries of a table.
-use Rattle.determinize_dense.proofs.Common.{column_of, IsFilled, IsUnit, length, Option, subst, sym, Table, ℕ, ◌*◌, ◌+◌}
-use Rattle.determinize_dense.proofs.Common.{◌<◌}
-use Rattle.determinize_dense.proofs.Common.{◌∙◌}
+use Rattle.determinize_lazy.proofs.Common.{length, Option, subst, sym, ℕ, ◌*◌, ◌+◌, ◌<◌, ◌∙◌}
+use Rattle.determinize_dense.proofs.Common.{column_of, IsFilled, IsUnit, Table}
 use Rattle.std.proofs.Math.Nat.{mul_comm}
 use Rattle.std.proofs.lemmas.Nat.{mul-add-lt}
 

@@ -17,12 +17,13 @@ ghost use Rattle.determinize_dense.specs.declared.error.BuildError.TheVariants.{
 
 use crate::dfa::{Dfa, STARTS};
 use crate::error::BuildError;
-use crate::states::{MAX_STATES, States};
 use determinize_below::alphabet::ByteClasses;
 use determinize_below::{MatchKind, NFA, PatternID, StateID, Unit};
 use determinize_core::determinize::Stepper;
 use determinize_core::start::{Start, start_kind_of};
 use determinize_core::state::State;
+use determinize_lazy::state_id::LazyStateId;
+use determinize_lazy::state_table::StateTable;
 use std::alloc::{AllocError, Allocator};
 use std::marker::Model;
 
@@ -32,7 +33,7 @@ pub(crate) struct Builder<'n, N: Allocator, A: Allocator> {
     stepper: Stepper<'n, N, A>,
     classes: ByteClasses,
     limit: usize,
-    states: States<A>,
+    states: StateTable<A>,
     next: Vec<u32, A>,
 }
 
@@ -58,6 +59,16 @@ impl<'n, N: Allocator, A: Allocator> Model for Builder<'n, N, A> {
       values = b.states;
       next = b.next.items;
     } };
+}
+
+/// The greatest number of states: that of the ids.
+const MAX_STATES: usize = 16647160;
+
+/// Returns the number of the row of a state.
+fn row_of(id: LazyStateId) -> u32
+    ensures { result ≡ id }
+{
+    id.index() as u32
 }
 
 /// Returns the byte with this number, or `None` for any number above 255.
@@ -148,8 +159,8 @@ impl<'n, N: Allocator, A: Allocator + Copy> Builder<'n, N, A> {
         let _ = nfa.len();
         let classes = nfa.byte_classes();
         let next = Vec::with_capacity(alloc, classes.alphabet_len())?;
-        let mut states = States::new(alloc);
-        states.push(State::dead(alloc)?)?;
+        let mut states = StateTable::new(alloc);
+        states.intern(State::dead(alloc)?)?;
         Ok(Builder {
             stepper: Stepper::new(alloc, nfa, match_kind),
             classes,
@@ -169,13 +180,13 @@ impl<'n, N: Allocator, A: Allocator + Copy> Builder<'n, N, A> {
         ensures many { result ≡ Err TooManyStates
             → HasMoreStates self.old.nfa self.old.kind self.old.limit }
     {
-        if let Some(row) = self.states.find(&state) {
-            return Ok(row);
+        if let Some(id) = self.states.find(&state) {
+            return Ok(row_of(id));
         }
         if self.states.len() == self.limit {
             return Err(BuildError::TooManyStates);
         }
-        Ok(self.states.push(state)?)
+        Ok(row_of(self.states.intern(state)?))
     }
 
     /// Returns the row of the start with this number, or 0 if no start has it.

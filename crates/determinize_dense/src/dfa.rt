@@ -193,7 +193,16 @@ impl<'n, N: Allocator, A: Allocator + Copy> Dfa<'n, N, A> {
         requires { row < length self.now.table.patterns }
         ensures { result ≡ slice_get (patterns_at self.now.table row) 0 }
     {
-        self.patterns[row as usize].first().copied()
+        self.patterns(row).first().copied()
+    }
+
+    /// Returns the patterns that a row lists.
+    #[inline(always)]
+    pub(crate) fn patterns(&self, row: u32) -> &[PatternID]
+        requires { row < length self.now.table.patterns }
+        ensures { result.now ≡ patterns_at self.now.table row }
+    {
+        self.patterns[row as usize].as_slice()
     }
 }
 

@@ -4,16 +4,13 @@
 //! search then follows the table: it allocates nothing, cannot fail, and takes `&self`, so one DFA
 //! serves any number of searches. The matches are those of `determinize_lazy::Lazy`.
 //!
-//! - `dfa`: the type and its table. `build`: its construction, with `states` (the states found so
-//!   far, each once) and `error`. `search`: searches, and `text`: what they read.
+//! - `dfa`: the type and its table. `build`: its construction, with `error`. `search`: searches.
 #![tactic(auto)]
 
 mod build;
 pub mod dfa;
 pub mod error;
 mod search;
-mod states;
-mod text;
 
 pub use crate::dfa::Dfa;
 pub use crate::error::BuildError;

@@ -3,37 +3,22 @@
 //! Matches are delayed by one unit: a row lists the patterns that match before the unit that led to
 //! it. So a search also reads the unit ahead of its text, and a start state is no match state.
 
-ghost use Rattle.std.specs.Prelude.{Decides, ◌≡◌, ◌≤◌, ◌-◌, false, true, option_map, None};
+ghost use Rattle.std.specs.Prelude.{Decides, ◌≡◌, ◌≤◌, ℕ, List, Contains, false, length, true, None};
 ghost use Rattle.std.specs.Option.{IfNone, IfSome};
-ghost use Rattle.determinize_below.specs.Semantics.{between};
+ghost use Rattle.determinize_below.specs.Semantics.{Accepts, between};
 ghost use Rattle.determinize_below.specs.Search.{is_done};
 ghost use Rattle.determinize_below.specs.declared.search.MatchKind.TheVariants as kinds;
+ghost use Rattle.determinize_core.specs.Chain.{units};
+ghost use Rattle.determinize_core.specs.Walk.{ListsAccepted};
 ghost use Rattle.determinize_dense.specs.Dfa as dfas;
+ghost use Rattle.determinize_dense.specs.Dfa.{value_from};
 ghost use Rattle.determinize_dense.specs.Private.Searching.{IsFound};
-ghost use Rattle.determinize_lazy.specs.Searches.{HasMatch, IsFarthestIn, IsPreferredIn, IsSearch, has_start, in_haystack, last_in, start_for, text_of};
+ghost use Rattle.determinize_lazy.specs.Searches.{HasMatch, IsFarthestIn, IsPreferredIn, IsSearch, has_start, last_in, start_for, text_of};
 
 use crate::dfa::Dfa;
-use crate::text::Text;
-use determinize_below::{Anchored, HalfMatch, Input};
+use determinize_below::{Anchored, HalfMatch, Input, PatternID};
+use determinize_lazy::text::{Text, in_haystack};
 use std::alloc::Allocator;
-
-/// Returns a match in the range, with its offset in the haystack.
-fn in_haystack(input: &Input<'_>, is_backward: bool, found: Option<HalfMatch>) -> Option<HalfMatch>
-    requires order { input.now.start ≤ input.now.end }
-    requires within { IfSome found (λ m. m.offset ≤ input.now.end - input.now.start) }
-    ensures value { result ≡ option_map (in_haystack is_backward input.now) found }
-    ensures within { IfSome result
-        (λ m. (input.now.start ≤ m.offset) × (m.offset ≤ input.now.end)) }
-{
-    let HalfMatch { pattern, offset } = found?;
-    let (start, end) = (input.start(), input.end());
-    let offset = if is_backward {
-        end - offset
-    } else {
-        start + offset
-    };
-    Some(HalfMatch { pattern, offset })
-}
 
 /// Returns whether a search in this anchored mode starts at the anchored start.
 fn is_anchored(anchored: Anchored) -> bool
@@ -46,6 +31,38 @@ fn is_anchored(anchored: Anchored) -> bool
 }
 
 impl<'n, N: Allocator, A: Allocator + Copy> Dfa<'n, N, A> {
+    /// Returns the patterns that match where a text ends, most preferred first: the list of the
+    /// last state of the walk that `walk_between` of `determinize_core` makes over the same text.
+    ///
+    /// The parameters are those of `search`. For the patterns at an offset of a longer text, take
+    /// its bytes up to there, and ahead of them its next byte. Under `MatchKind::All` the list
+    /// has each pattern with a match that ends there, under `MatchKind::LeftmostFirst` none whose
+    /// run is less preferred than a match. Does not allocate.
+    pub fn patterns_after(
+        &self,
+        anchored: Anchored,
+        look_behind: Option<u8>,
+        text: &[u8],
+        look_ahead: Option<u8>,
+    ) -> &[PatternID]
+        requires { has_start anchored ≡ true }
+        ensures patterns { result.now ≡ (value_from self.now.nfa self.now.kind
+            (dfas.is_anchored anchored) look_behind
+            (units (between look_behind text.now look_ahead))).patterns }
+        ensures all { self.now.kind ≡ kinds.All → ListsAccepted self.now.nfa
+            (between look_behind text.now look_ahead) (start_for self.now.nfa anchored)
+            (length text.now) result.now }
+        ensures accepted { (pattern : ℕ) → Contains result.now pattern → (cs : List ℕ)
+            × Accepts self.now.nfa (between look_behind text.now look_ahead)
+            (start_for self.now.nfa anchored) cs (length text.now) pattern }
+    {
+        let mut row = self.start_row(is_anchored(anchored), look_behind);
+        for byte in text {
+            row = self.row_over(row, Some(*byte));
+        }
+        self.patterns(self.row_over(row, look_ahead))
+    }
+
     /// Searches a text. The search ends at row 0 and, if `is_earliest`, at the first row that lists
     /// a pattern. Returns the last match of the rows that it enters.
     #[inline(always)]

@@ -37,7 +37,7 @@ pub use Rattle.determinize_lazy.specs.Cache.{keep, LazyValue, step_of}
 pub use Rattle.determinize_lazy.specs.Plenty.{HasRoom, KeepsAll, missing, with_step, with_walk}
 pub use Rattle.determinize_lazy.specs.Private.Cursors.{cursor_value, IsAt, IsCursor}
 pub use Rattle.determinize_lazy.specs.Private.Invariant.{IsLazy}
-pub use Rattle.determinize_lazy.specs.Private.Rows.{AreInterned, AreRows, IsIndex, IsStored, IsTarget, IsTargetIndex}
+pub use Rattle.determinize_lazy.specs.Private.Rows.{AreInterned, AreRows, IsStored, IsTarget, IsTargetIndex}
 pub use Rattle.determinize_lazy.specs.Private.Rows.{Leads, StartsStay, StoredTable, table_of, with_state}
 pub use Rattle.determinize_lazy.specs.Private.Searched.{HasStopped, IsCutOffSearch, IsOver, IsOverIn, IsReached}
 pub use Rattle.determinize_lazy.specs.Private.Searched.{IsSearched, reported}
@@ -48,5 +48,5 @@ pub use Rattle.determinize_lazy.specs.Private.Tags.{tag_of}
 pub use Rattle.determinize_lazy.specs.Searches.{HasMatch, in_haystack, in_order, is_last, IsFarthestIn}
 pub use Rattle.determinize_lazy.specs.Searches.{IsPreferredIn, IsSearch, start_for, text_of, units_read}
 pub use Rattle.determinize_lazy.specs.Stored.{column, entry_at, is_unit, state_at, table_in, target_from, target_in}
-pub use Rattle.determinize_lazy.specs.Table.{EachApart, empty, index_in, is_cached, IsTable, same, same_unit, Table}
-pub use Rattle.determinize_lazy.specs.Table.{with_target, with_transition, with_value, with_values}
+pub use Rattle.determinize_lazy.specs.Table.{EachApart, empty, index_in, is_cached, IsIndex, IsTable, same}
+pub use Rattle.determinize_lazy.specs.Table.{same_unit, Table, with_target, with_transition, with_value, with_values}

@@ -1,6 +1,6 @@
 -- A transition table: the cached states, and the cached transitions between them.
 use Rattle.std.specs.Prelude.{◌≡◌, ℕ, Bool, cond, ◌&&◌, Option, Some, None, List, [], ◌∷◌, ◌++◌, ◌⊎◌, is_some, nat_eq}
-use Rattle.std.specs.Prelude.{slice_get, Contains}
+use Rattle.std.specs.Prelude.{false, slice_get, Contains, MatchOption}
 use Rattle.std.specs.List.{list_any, position_from}
 use Rattle.std.specs.Option.{option_eq}
 pub use Rattle.determinize_core.specs.Equality.{same}
@@ -48,6 +48,11 @@ with_transition t v u w = record {
 -- the index of the first value that is equal
 abbrev pub index_in : List Value → Value → Option ℕ
 index_in values v = position_from (same v) 0 values
+
+-- the index of a value; `None` if it is not among the states
+abbrev pub IsIndex : List Value → Value → Option ℕ → Type 0
+IsIndex states v index =
+    MatchOption index (list_any (same v) states ≡ false) (λ p. slice_get states p ≡ Some v)
 
 -- no two of the values are equal
 abbrev pub EachApart : List Value → Type 0

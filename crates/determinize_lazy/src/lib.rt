@@ -9,6 +9,8 @@
 //! - `table`: the transition table and the rule of what is cached, with `state_table` (the cached
 //!   states), `state_id` and `tag`.
 //!
+//! `text`, `state_table` and `state_id` are public for `determinize_dense`.
+//!
 //! A `Result` is `Err` only if an allocation fails or more than 16647160 states would be cached.
 #![tactic(auto)]
 
@@ -17,12 +19,15 @@ pub mod laws;
 pub mod lazy;
 mod scan;
 mod search;
-mod state_id;
-mod state_table;
+#[doc(hidden)]
+pub mod state_id;
+#[doc(hidden)]
+pub mod state_table;
 mod step;
 mod table;
 mod tag;
-mod text;
+#[doc(hidden)]
+pub mod text;
 mod walker;
 
 pub use crate::lazy::Lazy;

@@ -9,7 +9,7 @@
 //! Matches are delayed by one unit: a state lists the patterns that match before the unit that led
 //! to it. So a search also reads the unit ahead of its text, and a start state is no match state.
 
-ghost use Rattle.std.specs.Prelude.{Decides, ◌≡◌, ◌++◌, ◌<◌, ◌≤◌, ◌-◌, ℕ, false, true, List, [], Option, is_some, length, map, not, option_map, slice_index_or, IfOk, OnErr, OnOk, Ok, None, Some};
+ghost use Rattle.std.specs.Prelude.{Decides, ◌≡◌, ◌++◌, ◌<◌, ◌≤◌, ℕ, false, true, List, [], Option, is_some, length, map, not, slice_index_or, IfOk, OnErr, OnOk, Ok, None, Some};
 ghost use Rattle.std.specs.Option.{IfNone, IfSome};
 ghost use Rattle.determinize_below.specs.Nfa.{AllResolve};
 ghost use Rattle.determinize_below.specs.Semantics.{between};
@@ -23,13 +23,13 @@ ghost use Rattle.determinize_lazy.specs.Private.Cursors.{IsCursor, cursor_value}
 ghost use Rattle.determinize_lazy.specs.Private.Searched.{HasStopped, IsCutOffSearch, IsOver, IsOverIn, IsSearched};
 ghost use Rattle.determinize_lazy.specs.Private.Steps.{IsSound};
 ghost use Rattle.determinize_lazy.specs.Private.Tags.{match_of};
-ghost use Rattle.determinize_lazy.specs.Searches.{HasMatch, IsCutOffIn, IsFarthestIn, IsPlenty, IsPlentyIn, IsPreferredIn, IsSearch, after_input, after_is_match, after_search, has_start, in_haystack, last_in, start_for, text_of, units_searched};
+ghost use Rattle.determinize_lazy.specs.Searches.{HasMatch, IsCutOffIn, IsFarthestIn, IsPlenty, IsPlentyIn, IsPreferredIn, IsSearch, after_input, after_is_match, after_search, has_start, last_in, start_for, text_of, units_searched};
 
 use crate::lazy::Lazy;
 use crate::state_id::LazyStateId;
 use crate::table::Cursor;
 use crate::tag::LastMatch;
-use crate::text::Text;
+use crate::text::{Text, in_haystack};
 use determinize_below::{Anchored, HalfMatch, Input, StateID};
 use std::alloc::{AllocError, Allocator};
 
@@ -48,24 +48,6 @@ struct Progress {
     id: LazyStateId,
     read: usize,
     last: LastMatch,
-}
-
-/// Returns a match in the range, with its offset in the haystack.
-fn in_haystack(input: &Input<'_>, is_backward: bool, found: Option<HalfMatch>) -> Option<HalfMatch>
-    requires order { input.now.start ≤ input.now.end }
-    requires within { IfSome found (λ m. m.offset ≤ input.now.end - input.now.start) }
-    ensures value { result ≡ option_map (in_haystack is_backward input.now) found }
-    ensures within { IfSome result
-        (λ m. (input.now.start ≤ m.offset) × (m.offset ≤ input.now.end)) }
-{
-    let HalfMatch { pattern, offset } = found?;
-    let (start, end) = (input.start(), input.end());
-    let offset = if is_backward {
-        end - offset
-    } else {
-        start + offset
-    };
-    Some(HalfMatch { pattern, offset })
 }
 
 impl<'n, N: Allocator, A: Allocator + Copy> Lazy<'n, N, A> {

@@ -1,6 +1,6 @@
 //! The id of a cached state: the offset of its row in the transition table.
 
-ghost use Rattle.std.specs.Prelude.{◌≡◌, ◌*◌, ◌/◌, is_some, nat_lt};
+ghost use Rattle.std.specs.Prelude.{◌≡◌, ◌≤◌, ◌*◌, ◌/◌, is_some, nat_lt};
 ghost use Rattle.std.specs.Option.{IfSome};
 
 use std::marker::Model;
@@ -19,7 +19,7 @@ const MAX_STATES: usize = u32::MAX as usize / COLUMNS;
 /// It is premultiplied: stored is the offset of the state's row, so that a search only adds the
 /// column of a unit to it to find the next id.
 #[derive(Clone, Copy)]
-pub(crate) struct LazyStateId {
+pub struct LazyStateId {
     row: usize,
 }
 
@@ -37,7 +37,7 @@ impl Model for LazyStateId {
 
 impl LazyStateId {
     /// Returns the id of the state at an index, or `None` if the offset of its row does not fit.
-    pub(crate) fn new(index: usize) -> Option<LazyStateId>
+    pub fn new(index: usize) -> Option<LazyStateId>
         ensures value { IfSome result (λ id. id ≡ index) }
         ensures some { is_some result ≡ nat_lt index 16647160 }
     {
@@ -61,8 +61,9 @@ impl LazyStateId {
 
     /// Returns the index of the state.
     #[inline(always)]
-    pub(crate) fn index(self) -> usize
-        ensures { result ≡ self }
+    pub fn index(self) -> usize
+        ensures value { result ≡ self }
+        ensures limit { result ≤ 16647160 }
     {
         self.row / COLUMNS
     }

@@ -1,4 +1,4 @@
-//! The cached states, each once, with a map from a state to its id.
+//! States that are kept, each once, with a map from a state to its id.
 //!
 //! A new state is hashed twice, by `find` and by `intern`. An entry of the map could save that, but
 //! it takes a copy of the state before it is known to be new, and borrows the map while the source
@@ -6,8 +6,7 @@
 
 ghost use Rattle.std.specs.Prelude.{◌≡◌, ◌++◌, ◌∷◌, ◌<◌, ◌≤◌, [], Some, false, length, slice_get, IfOk, OnErr, OnOk};
 ghost use Rattle.std.specs.List.{list_any};
-ghost use Rattle.determinize_lazy.specs.Table.{EachApart, same};
-ghost use Rattle.determinize_lazy.specs.Private.Rows.{IsIndex};
+ghost use Rattle.determinize_lazy.specs.Table.{EachApart, IsIndex, same};
 
 use crate::state_id::LazyStateId;
 use determinize_core::state::State;
@@ -22,7 +21,7 @@ const SHORT: usize = 30;
 
 /// States of which no two are equal, with a map from a state to its id.
 #[derive(Drop)]
-pub(crate) struct StateTable<A: Allocator = Global> {
+pub struct StateTable<A: Allocator = Global> {
     states: Vec<State<A>, A>,
     ids: HashMap<State<A>, LazyStateId, BuildHasherDefault<FoldHasher>, A>,
 }
@@ -43,7 +42,7 @@ impl<A: Allocator> Model for StateTable<A> {
 
 impl<A: Allocator + Copy> StateTable<A> {
     /// Returns a table without states. Does not allocate.
-    pub(crate) fn new(alloc: A) -> StateTable<A>
+    pub fn new(alloc: A) -> StateTable<A>
         ensures { result ≡ [] }
     {
         StateTable {
@@ -54,7 +53,7 @@ impl<A: Allocator + Copy> StateTable<A> {
 
     /// Returns the number of states, at most 16647160.
     #[inline(always)]
-    pub(crate) fn len(&self) -> usize
+    pub fn len(&self) -> usize
         ensures value { result ≡ length self.now }
         ensures limit { result ≤ 16647160 }
         ensures apart { EachApart self.now }
@@ -63,7 +62,7 @@ impl<A: Allocator + Copy> StateTable<A> {
     }
 
     /// Returns the id of a state, or `None` if it is not in the table.
-    pub(crate) fn find(&self, state: &State<A>) -> Option<LazyStateId>
+    pub fn find(&self, state: &State<A>) -> Option<LazyStateId>
         ensures { IsIndex self.now state.now result }
     {
         self.ids.get(state).copied()
@@ -71,15 +70,22 @@ impl<A: Allocator + Copy> StateTable<A> {
 
     /// Returns the state with this id.
     #[inline(always)]
-    pub(crate) fn get(&self, id: LazyStateId) -> &State<A>
+    pub fn get(&self, id: LazyStateId) -> &State<A>
         requires { id < length self.now }
         ensures { slice_get self.now id ≡ Some result.now }
     {
         &self.states[id.index()]
     }
 
+    /// Returns the states in the order of their indices.
+    pub fn as_slice(&self) -> &[State<A>]
+        ensures { result.now ≡ self.now }
+    {
+        self.states.as_slice()
+    }
+
     /// Returns the heap memory that the states and the keys of the map use, in bytes.
-    pub(crate) fn memory_usage(&self) -> usize {
+    pub fn memory_usage(&self) -> usize {
         let states = size_of_val(self.states.as_slice());
         let ids = self.states.len().saturating_mul(size_of::<LazyStateId>());
         let mut bytes = states.saturating_mul(2).saturating_add(ids);
@@ -93,7 +99,7 @@ impl<A: Allocator + Copy> StateTable<A> {
     }
 
     /// Removes all states.
-    pub(crate) fn clear(&mut self)
+    pub fn clear(&mut self)
         ensures { self.new ≡ [] }
     {
         self.states.clear();
@@ -104,7 +110,7 @@ impl<A: Allocator + Copy> StateTable<A> {
     ///
     /// Returns `AllocError` if an allocation fails or the table has 16647160 states. The table is
     /// unchanged then.
-    pub(crate) fn intern(&mut self, state: State<A>) -> Result<LazyStateId, AllocError>
+    pub fn intern(&mut self, state: State<A>) -> Result<LazyStateId, AllocError>
         requires { list_any (same state) self.old ≡ false }
         ensures id { IfOk result (λ id. id ≡ length self.old) }
         ensures states { OnOk result (self.new ≡ self.old ++ state ∷ []) }

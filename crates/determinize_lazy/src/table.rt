@@ -12,10 +12,10 @@ ghost use Rattle.determinize_below.specs.Truth.{IsUnit};
 ghost use Rattle.determinize_core.specs.Value.{Value as StateValue};
 ghost use Rattle.determinize_lazy.specs.Cache.{keep};
 ghost use Rattle.determinize_lazy.specs.Private.Cursors.{IsAt, IsCursor, cursor_value};
-ghost use Rattle.determinize_lazy.specs.Private.Rows.{IsIndex, IsTarget, IsTargetIndex, StartsStay, table_of, with_state};
+ghost use Rattle.determinize_lazy.specs.Private.Rows.{IsTarget, IsTargetIndex, StartsStay, table_of, with_state};
 ghost use Rattle.determinize_lazy.specs.Private.Tags.{tag_in, tag_of};
 ghost use Rattle.determinize_lazy.specs.Stored.{column, is_unit};
-ghost use Rattle.determinize_lazy.specs.Table.{empty, same, with_transition, with_value};
+ghost use Rattle.determinize_lazy.specs.Table.{IsIndex, empty, same, with_transition, with_value};
 
 use crate::state_id::{COLUMNS, LazyStateId, UNITS};
 use crate::state_table::StateTable;

@@ -1,18 +1,19 @@
 //! What a search reads: the bytes of a range, forward or backward, and the bytes around it.
 
-ghost use Rattle.std.specs.Prelude.{◌≡◌, ◌<◌, ◌≤◌, ◌^◌, Some, false, length, map, slice_get, slice_index};
+ghost use Rattle.std.specs.Prelude.{◌≡◌, ◌<◌, ◌≤◌, ◌-◌, ◌^◌, Some, false, length, map, option_map, slice_get, slice_index};
+ghost use Rattle.std.specs.Option.{IfSome};
 ghost use Rattle.determinize_below.specs.Semantics.{between};
 ghost use Rattle.determinize_below.specs.Search.{is_done};
 ghost use Rattle.determinize_core.specs.Chain.{units};
-ghost use Rattle.determinize_lazy.specs.Searches.{text_of};
+ghost use Rattle.determinize_lazy.specs.Searches.{in_haystack, text_of};
 
-use determinize_below::Input;
+use determinize_below::{HalfMatch, Input};
 use determinize_core::start::{look_ahead_forward, look_ahead_reverse};
 use std::marker::Model;
 
 /// A text in the order of reading, seen as its bytes with the byte behind and the byte ahead.
 #[derive(Drop)]
-pub(crate) struct Text<'h> {
+pub struct Text<'h> {
     behind: Option<u8>,
     bytes: &'h [u8],
     is_backward: bool,
@@ -31,7 +32,7 @@ impl<'h> Model for Text<'h> {
 impl<'h> Text<'h> {
     /// Returns a text that is read forward.
     #[inline(always)]
-    pub(crate) fn new(behind: Option<u8>, bytes: &'h [u8], ahead: Option<u8>) -> Text<'h>
+    pub fn new(behind: Option<u8>, bytes: &'h [u8], ahead: Option<u8>) -> Text<'h>
         ensures { result ≡ between behind bytes.now ahead }
     {
         Text {
@@ -44,7 +45,7 @@ impl<'h> Text<'h> {
 
     /// Returns the range of an input, with the bytes before and after it in the haystack.
     #[inline(always)]
-    pub(crate) fn of_input(input: &Input<'h>, is_backward: bool) -> Text<'h>
+    pub fn of_input(input: &Input<'h>, is_backward: bool) -> Text<'h>
         requires { is_done input.now ≡ false }
         ensures { result ≡ text_of is_backward input.now }
     {
@@ -65,7 +66,7 @@ impl<'h> Text<'h> {
 
     /// Returns the byte behind the first.
     #[inline(always)]
-    pub(crate) fn behind(&self) -> Option<u8>
+    pub fn behind(&self) -> Option<u8>
         ensures { result ≡ self.now.behind }
     {
         self.behind
@@ -73,7 +74,7 @@ impl<'h> Text<'h> {
 
     /// Returns the byte ahead of the last, or `None` for the end of input (EOI).
     #[inline(always)]
-    pub(crate) fn ahead(&self) -> Option<u8>
+    pub fn ahead(&self) -> Option<u8>
         ensures { result ≡ self.now.ahead }
     {
         self.ahead
@@ -81,7 +82,7 @@ impl<'h> Text<'h> {
 
     /// Returns the number of bytes.
     #[inline(always)]
-    pub(crate) fn len(&self) -> usize
+    pub fn len(&self) -> usize
         ensures value { result ≡ length self.now.bytes }
         ensures limit { result < 2 ^ 63 }
     {
@@ -90,7 +91,7 @@ impl<'h> Text<'h> {
 
     /// Returns the byte at an index.
     #[inline(always)]
-    pub(crate) fn byte(&self, index: usize) -> u8
+    pub fn byte(&self, index: usize) -> u8
         requires { index < length self.now.bytes }
         ensures { slice_get (map Some self.now.bytes) index ≡ Some (Some result) }
     {
@@ -104,7 +105,7 @@ impl<'h> Text<'h> {
     /// Returns the unit at an index: a byte of the text; after the last one the byte ahead, or the
     /// end of input (EOI).
     #[inline(always)]
-    pub(crate) fn unit(&self, index: usize) -> Option<u8>
+    pub fn unit(&self, index: usize) -> Option<u8>
         requires { index ≤ length self.now.bytes }
         ensures { slice_get (units self.now) index ≡ Some result }
     {
@@ -114,4 +115,26 @@ impl<'h> Text<'h> {
             Some(self.byte(index))
         }
     }
+}
+
+/// Returns a match in the range, with its offset in the haystack.
+pub fn in_haystack(
+    input: &Input<'_>,
+    is_backward: bool,
+    found: Option<HalfMatch>,
+) -> Option<HalfMatch>
+    requires order { input.now.start ≤ input.now.end }
+    requires within { IfSome found (λ m. m.offset ≤ input.now.end - input.now.start) }
+    ensures value { result ≡ option_map (in_haystack is_backward input.now) found }
+    ensures within { IfSome result
+        (λ m. (input.now.start ≤ m.offset) × (m.offset ≤ input.now.end)) }
+{
+    let HalfMatch { pattern, offset } = found?;
+    let (start, end) = (input.start(), input.end());
+    let offset = if is_backward {
+        end - offset
+    } else {
+        start + offset
+    };
+    Some(HalfMatch { pattern, offset })
 }

@@ -1,5 +1,5 @@
 -- How far a search of a text has come, and what it finds.
-use Rattle.std.specs.Prelude.{◌≡◌, ◌<◌, ℕ, All, Bool, false, Option, is_some, length, take}
+use Rattle.std.specs.Prelude.{◌≡◌, ◌<◌, ℕ, All, Bool, false, List, Option, is_some, length, take}
 use Rattle.determinize_below.specs.Semantics.{Text}
 use Rattle.determinize_below.specs.declared.search.HalfMatch.{HalfMatch}
 use Rattle.determinize_below.specs.Truth.{IsUnit}
@@ -19,15 +19,20 @@ pub record IsFound (dfa : DfaValue) (earliest anchored : Bool) (text : Text)
   pub some : is_some found ≡ is_some
       (last_match (chain dfa.nfa dfa.kind (start_in dfa.nfa anchored) text))
 
+-- the row after a start behind a byte or behind nothing, and units
+pub record IsRowFrom (dfa : DfaValue) (anchored : Bool) (p : Option ℕ) (us : List (Option ℕ))
+    (row : ℕ) : Type 0
+  where
+    pub behind : IsUnit p
+    pub units : All IsUnit us
+    pub reached : row ≡ row_after dfa.table (start_row dfa.nfa dfa.table anchored p) us
+    pub below : row < length dfa.table.patterns
+
 -- a search that has read some units: the row where it is, and the last match of the values so far
 pub record IsSearched (dfa : DfaValue) (anchored : Bool) (text : Text) (read row : ℕ)
     (last : Option HalfMatch) : Type 0
   where
-    pub behind : IsUnit text.behind
-    pub bytes : All IsUnit (take read (units text))
-    pub reached : row ≡ row_after dfa.table (start_row dfa.nfa dfa.table anchored text.behind)
-        (take read (units text))
-    pub below : row < length dfa.table.patterns
+    pub at : IsRowFrom dfa anchored text.behind (take read (units text)) row
     pub so_far : last ≡ last_match (future dfa.nfa dfa.kind
         (start_value dfa.nfa (start_in dfa.nfa anchored) text.behind)
         (take read (units text)))

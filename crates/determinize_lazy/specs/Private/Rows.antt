@@ -1,11 +1,11 @@
 -- What is true of the rows of a transition table, and what lookups in it return.
-use Rattle.std.specs.Prelude.{◌≡◌, ℕ, ◌+◌, ◌*◌, ◌<◌, ◌≤◌, false, Option, Some, None, List, length, slice_get}
-use Rattle.std.specs.Prelude.{slice_index, MatchOption}
+use Rattle.std.specs.Prelude.{◌≡◌, ℕ, ◌+◌, ◌*◌, ◌<◌, ◌≤◌, Option, Some, None, List, length, slice_get}
+use Rattle.std.specs.Prelude.{slice_index}
 use Rattle.std.specs.List.{list_any}
 use Rattle.determinize_below.specs.Truth.{IsUnit}
 use Rattle.determinize_core.specs.Value.{Value}
 use Rattle.determinize_lazy.specs.Stored.{entry_at, table_in, target_in}
-use Rattle.determinize_lazy.specs.Table.{EachApart, Table, same, with_value}
+use Rattle.determinize_lazy.specs.Table.{EachApart, IsIndex, Table, same, with_value}
 use Rattle.determinize_lazy.specs.Private.Tags.{tag_in, tag_of}
 
 -- an entry is the offset of the row of the target, or 1 if the target is unknown: 1 is the offset
@@ -40,11 +40,6 @@ IsTarget t v u (Some id) = (t.target v u ≡ slice_get t.states id) × (id < len
 -- the table with one more state
 abbrev pub with_state : Table → Value → Table
 with_state t v = record { states = with_value t.states v; target = t.target }
-
--- the index of a value; `None` if it is not among the states
-abbrev pub IsIndex : List Value → Value → Option ℕ → Type 0
-IsIndex states v index =
-    MatchOption index (list_any (same v) states ≡ false) (λ p. slice_get states p ≡ Some v)
 
 -- the index of the target of a transition whose source is there; `None` if it is none of the
 -- states, or the source itself

@@ -1,6 +1,6 @@
-use Rattle.determinize_dense.proofs.Common.{ap, arith, cond, false, IsUnit, nat_eq, nat_lt, None, number_of, Option}
-use Rattle.determinize_dense.proofs.Common.{refl, rules, Some, start_kind_of, subst, true, ℕ, ◌∙◌, ◌≡◌}
-use Rattle.determinize_dense.proofs.Common.{◌≤◌}
+use Rattle.determinize_lazy.proofs.Common.{ap, arith, cond, false, nat_eq, nat_lt, None, Option, refl, rules, Some}
+use Rattle.determinize_lazy.proofs.Common.{subst, true, ℕ, ◌∙◌, ◌≡◌, ◌≤◌}
+use Rattle.determinize_dense.proofs.Common.{IsUnit, number_of, start_kind_of}
 use Rattle.determinize_dense.proofs.build.look_behind_of.Goals as goal
 
 pub loop-number-preserved : goal.loop-number-preserved

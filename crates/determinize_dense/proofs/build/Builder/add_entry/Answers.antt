@@ -1,6 +1,6 @@
-use Rattle.determinize_dense.proofs.Common.{AllResolve, ap, arith, Building, columns_of, Err, IsBuilding}
-use Rattle.determinize_dense.proofs.Common.{IsReachedValue, length, rules, Stays, subst, sym, unit_at}
-use Rattle.determinize_dense.proofs.Common.{◌*◌, ◌++◌, ◌<◌, ◌∙◌, ◌∷◌, ◌≡◌, []}
+use Rattle.determinize_lazy.proofs.Common.{AllResolve, ap, arith, Err, length, rules, subst, sym, [], ◌*◌, ◌++◌, ◌<◌}
+use Rattle.determinize_lazy.proofs.Common.{◌∙◌, ◌∷◌, ◌≡◌}
+use Rattle.determinize_dense.proofs.Common.{Building, columns_of, IsBuilding, IsReachedValue, Stays, unit_at}
 use Rattle.std.specs.Prelude.{◌%◌, ◌/◌}
 use Rattle.determinize_below.specs.Unit.{byte_of}
 use Rattle.determinize_core.specs.Step.{step}

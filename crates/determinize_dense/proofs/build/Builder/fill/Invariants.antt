@@ -1,4 +1,5 @@
-use Rattle.determinize_dense.proofs.Common.{◌≡◌, ◌*◌, ◌-◌, columns_of, length, Stays}
+use Rattle.determinize_lazy.proofs.Common.{length, ◌*◌, ◌-◌, ◌≡◌}
+use Rattle.determinize_dense.proofs.Common.{columns_of, Stays}
 use Rattle.determinize_dense.proofs.build.Builder.fill.Given as goal
 
 abbrev pub invariant-loop-self : goal.invariant-loop-self

@@ -1,5 +1,5 @@
-use Rattle.determinize_dense.proofs.Common.{AreStarts, ap, Building, columns_of, HasStates, IsBuilding, IsDfa, length}
-use Rattle.determinize_dense.proofs.Common.{length-map, map, subst, sym, Value, ◌*◌, ◌∙◌, ◌≡◌}
+use Rattle.determinize_lazy.proofs.Common.{ap, length, map, subst, sym, Value, length-map, ◌*◌, ◌∙◌, ◌≡◌}
+use Rattle.determinize_dense.proofs.Common.{AreStarts, Building, columns_of, HasStates, IsBuilding, IsDfa}
 use Rattle.determinize_dense.proofs.Simulation.{has_states, is_dfa}
 use Rattle.determinize_dense.proofs.build.Builder.finish.Goals as goal
 

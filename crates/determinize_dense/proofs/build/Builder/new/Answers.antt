@@ -1,5 +1,5 @@
-use Rattle.determinize_dense.proofs.Common.{[], ap, arith, dead, IsBuilding, min, subst, sym, ◌++◌}
-use Rattle.determinize_dense.proofs.Common.{◌∙◌, ◌∷◌, ◌≡◌}
+use Rattle.determinize_lazy.proofs.Common.{ap, arith, dead, min, subst, sym, [], ◌++◌, ◌∙◌, ◌∷◌, ◌≡◌}
+use Rattle.determinize_dense.proofs.Common.{IsBuilding}
 use Rattle.determinize_core.specs.Stepper.{StepperValue}
 use Rattle.determinize_dense.proofs.Building.{building-first, more-than-none}
 use Rattle.determinize_dense.proofs.build.Builder.new.Goals as goal
@@ -10,8 +10,8 @@ returns-then-limit-eq0-clause-many g c = λ _.
 
 pub invariant_of-result : goal.invariant_of-result
 invariant_of-result g c =
-    let values : c.push.new.self ≡ dead ∷ [] =
-    c.in_ok-push.ensures.states ∙ ap (λ vs. vs ++ c.in_ok-dead.field-0 ∷ []) c.new-states.ensures
+    let values : c.intern.new.self ≡ dead ∷ [] =
+    c.in_ok-intern.ensures.states ∙ ap (λ vs. vs ++ c.in_ok-dead.field-0 ∷ []) c.new-states.ensures
     ∙ ap (λ v. v ∷ []) c.in_ok-dead.ensures.value in
     let apart : c.min-limit.result ≡ 0 → ⊥ = c.if-limit-eq0.false in
     let least : c.min-limit.result ≡ min c.args.limit 16647160 = c.min-limit.ensures in
@@ -20,7 +20,7 @@ invariant_of-result g c =
       kind = s.kind;
       classes = c.byte_classes-classes.result;
       limit = c.min-limit.result;
-      values = c.push.new.self;
+      values = c.intern.new.self;
       next = c.in_ok-next.next.items;
     }) (sym c.new.ensures)
     (subst (λ ns. IsBuilding record {
@@ -28,7 +28,7 @@ invariant_of-result g c =
       kind = c.args.match_kind;
       classes = c.byte_classes-classes.result;
       limit = c.min-limit.result;
-      values = c.push.new.self;
+      values = c.intern.new.self;
       next = ns;
     }) (sym c.in_ok-next.ensures.items)
     (subst (λ vs. IsBuilding record {

@@ -1,6 +1,6 @@
-use Rattle.determinize_dense.proofs.Common.{ap, arith, Building, false, HasMoreStates, IsBuilding, IsReachedValue}
-use Rattle.determinize_dense.proofs.Common.{AllResolve, length, list_any, same, slice_get, Stays, subst, sym, ◌∙◌}
-use Rattle.determinize_dense.proofs.Common.{◌≡◌, ◌≤◌, ◌++◌, ◌∷◌, []}
+use Rattle.determinize_lazy.proofs.Common.{AllResolve, ap, arith, false, length, list_any, same, slice_get, subst}
+use Rattle.determinize_lazy.proofs.Common.{sym, [], ◌++◌, ◌∙◌, ◌∷◌, ◌≡◌, ◌≤◌}
+use Rattle.determinize_dense.proofs.Common.{Building, HasMoreStates, IsBuilding, IsReachedValue, Stays}
 use Rattle.determinize_lazy.proofs.tables.Values.{get_last}
 use Rattle.determinize_dense.proofs.Building.{building-value, one_too_many, stays-value}
 use Rattle.determinize_dense.proofs.build.Builder.place.Goals as goal
@@ -26,7 +26,7 @@ invariant_of-self-2 g c =
       limit = c.self.inside.limit;
       values = vs;
       next = c.self.inside.next.items;
-    }) (sym c.in_ok-push.ensures.states)
+    }) (sym c.in_ok-intern.ensures.states)
     (building-value _ c.self.invariant c.args.state fresh
     (subst (λ (x : Building). IsReachedValue x.nfa x.kind c.args.state) (sym c.self.view_is) c.requires.reached)
     (subst (λ (x : Building). AllResolve x.nfa c.args.state.states) (sym c.self.view_is) c.requires.resolve)
@@ -34,8 +34,9 @@ invariant_of-self-2 g c =
 
 pub returns-clause-at : goal.returns-clause-at
 returns-clause-at g c =
-    ap (λ vs. slice_get vs c.in_ok-push.field-0) c.in_ok-push.ensures.states
-    ∙ ap (λ n. slice_get (c.self.inside.states ++ c.args.state ∷ []) n) c.in_ok-push.ensures.index
+    ap (λ vs. slice_get vs c.row_of-2.result) c.in_ok-intern.ensures.states
+    ∙ ap (λ n. slice_get (c.self.inside.states ++ c.args.state ∷ []) n)
+    (c.row_of-2.ensures ∙ c.in_ok-intern.ensures.id)
     ∙ get_last c.self.inside.states c.args.state
 
 pub returns-clause-stays : goal.returns-clause-stays
@@ -46,7 +47,7 @@ returns-clause-stays g c =
       kind = c.self.inside.stepper.kind;
       classes = c.self.inside.classes;
       limit = c.self.inside.limit;
-      values = c.push.new.self;
+      values = c.intern.new.self;
       next = c.self.inside.next.items;
     }) c.self.view_is
     (subst (λ vs. Stays record {
@@ -63,6 +64,6 @@ returns-clause-stays g c =
       limit = c.self.inside.limit;
       values = vs;
       next = c.self.inside.next.items;
-    }) (sym c.in_ok-push.ensures.states)
+    }) (sym c.in_ok-intern.ensures.states)
     (stays-value _ c.self.invariant c.args.state fresh
     (subst (λ (x : Building). IsReachedValue x.nfa x.kind c.args.state) (sym c.self.view_is) c.requires.reached)))

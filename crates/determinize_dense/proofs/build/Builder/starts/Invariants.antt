@@ -1,4 +1,5 @@
-use Rattle.determinize_dense.proofs.Common.{◌≡◌, ◌≤◌, ◌-◌, AreStarts, Stays}
+use Rattle.determinize_lazy.proofs.Common.{◌-◌, ◌≡◌, ◌≤◌}
+use Rattle.determinize_dense.proofs.Common.{AreStarts, Stays}
 use Rattle.determinize_dense.proofs.build.Builder.starts.Given as goal
 
 abbrev pub invariant-loop-number : goal.invariant-loop-number

@@ -1,4 +1,5 @@
-use Rattle.determinize_dense.proofs.Common.{ap, Err, AreStarts, IfOk-weaker, rules, subst, sym, ◌∙◌, ◌≡◌}
+use Rattle.determinize_lazy.proofs.Common.{ap, Err, rules, subst, sym, IfOk-weaker, ◌∙◌, ◌≡◌}
+use Rattle.determinize_dense.proofs.Common.{AreStarts}
 use Rattle.determinize_dense.proofs.Building.{same_err, more-as, more-before, starts-stay, states-as}
 use Rattle.determinize_dense.proofs.dfa.Dfa.build.Goals as goal
 

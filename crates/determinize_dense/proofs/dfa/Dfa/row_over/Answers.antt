@@ -1,5 +1,5 @@
-use Rattle.determinize_dense.proofs.Common.{ap, column_of, DfaValue, get_or, length, map, row_over, subst, sym, Table}
-use Rattle.determinize_dense.proofs.Common.{◌*◌, ◌+◌, ◌<◌, ◌∙◌, ◌≡◌}
+use Rattle.determinize_lazy.proofs.Common.{ap, get_or, length, map, subst, sym, ◌*◌, ◌+◌, ◌<◌, ◌∙◌, ◌≡◌}
+use Rattle.determinize_dense.proofs.Common.{column_of, DfaValue, row_over, Table}
 use Rattle.std.proofs.lemmas.Grind.{get_or_default_zero}
 use Rattle.determinize_dense.proofs.Tables.{entry-there}
 use Rattle.determinize_dense.proofs.dfa.Dfa.row_over.Goals as goal

@@ -1,4 +1,5 @@
-use Rattle.determinize_dense.proofs.Common.{between, false, is_anchored, IsFound, subst}
+use Rattle.determinize_lazy.proofs.Common.{between, false, subst}
+use Rattle.determinize_dense.proofs.Common.{is_anchored, IsFound}
 use Rattle.determinize_dense.proofs.Inputs.{found-search}
 use Rattle.determinize_dense.proofs.dfa.Dfa.search.Goals as goal
 

@@ -1,4 +1,5 @@
-use Rattle.determinize_dense.proofs.Common.{◌+◌, ◌-◌, IsSearched, length}
+use Rattle.determinize_lazy.proofs.Common.{length, ◌+◌, ◌-◌}
+use Rattle.determinize_dense.proofs.Common.{IsSearched}
 use Rattle.determinize_dense.proofs.dfa.Dfa.search_text.Given as goal
 
 abbrev pub invariant-loop-read : goal.invariant-loop-read
