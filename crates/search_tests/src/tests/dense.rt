@@ -1,5 +1,5 @@
 //! Whole DFAs of `determinize_dense`: their numbers of states, their searches over the texts of the
-//! example walks, and failing allocations.
+//! example walks, the patterns where a text ends, and failing allocations.
 
 use crate::tests::{holds, same};
 use determinize_below::{Anchored, HalfMatch, LookMatcher, MatchKind, NFA, StateID};
@@ -24,15 +24,9 @@ struct Row {
     leftmost_first: usize,
 }
 
-/// `foo[0-9]+|bar` after the prefix, `\b\w+\b`, and `(?:\b|%)+` after the prefix. A program that
-/// shares no code with this one has counted the states.
-static ROWS: [Row; 3] = [
-    Row {
-        states: "BU:2,1 B:00-ff>0 BU:3,8 B:66>4 B:6f>5 B:6f>6 B:30-39>7 BU:6,11 B:62>9 B:61>10 B:72>11 M:0",
-        start_anchored: 2,
-        all: 23,
-        leftmost_first: 19,
-    },
+/// `\b\w+\b`, and after the prefix `foo[0-9]+|bar`, `(?:\b|%)+`, `[a-z]+` with `[0-9]+`, and
+/// `(?mR)$`. A program that shares no code with this one has counted the states.
+static ROWS: [Row; 5] = [
     Row {
         states: "L:WordAscii>1 S:30-39>2,41-5a>2,5f-5f>2,61-7a>2 BU:1,3 L:WordAscii>4 M:0",
         start_anchored: 0,
@@ -40,10 +34,28 @@ static ROWS: [Row; 3] = [
         leftmost_first: 5,
     },
     Row {
+        states: "BU:2,1 B:00-ff>0 BU:3,8 B:66>4 B:6f>5 B:6f>6 B:30-39>7 BU:6,11 B:62>9 B:61>10 B:72>11 M:0",
+        start_anchored: 2,
+        all: 23,
+        leftmost_first: 19,
+    },
+    Row {
         states: "BU:4,1 B:00-ff>0 L:WordAscii>5 B:25>5 BU:2,3 BU:4,6 M:0",
         start_anchored: 4,
         all: 12,
         leftmost_first: 9,
+    },
+    Row {
+        states: "BU:2,1 B:00-ff>0 U:3,6 B:61-7a>4 BU:3,5 M:0 B:30-39>7 BU:6,8 M:1",
+        start_anchored: 2,
+        all: 17,
+        leftmost_first: 11,
+    },
+    Row {
+        states: "BU:2,1 B:00-ff>0 L:EndCRLF>3 M:0",
+        start_anchored: 2,
+        all: 10,
+        leftmost_first: 8,
     },
 ];
 
@@ -55,12 +67,15 @@ fn nfa(alloc: Global, states: &str, start_anchored: StateID) -> Result<NFA, JobE
     Ok(nfa)
 }
 
-/// Asserts that a DFA has this number of states: it is built with this limit, not with one less.
+/// Asserts that a DFA has this number of states: it is built with this limit and with one more,
+/// but not with one less.
 fn expect_count<R: Abort + AllocGlobal>(rt: &R, nfa: &NFA, kind: MatchKind, count: usize) {
     let fewer = Dfa::build(rt.alloc(), nfa, kind, count.saturating_sub(1));
     same(rt, fewer.err(), Some(BuildError::TooManyStates));
-    let built = Dfa::build(rt.alloc(), nfa, kind, count);
-    same(rt, built.ok().map(|dfa| dfa.len()), Some(count));
+    for limit in [count, count.saturating_add(1)] {
+        let built = Dfa::build(rt.alloc(), nfa, kind, limit);
+        same(rt, built.ok().map(|dfa| dfa.len()), Some(count));
+    }
 }
 
 #[test]
@@ -110,26 +125,60 @@ fn dense_examples(rt: HostRuntime) -> Result<(), Fail> {
     Ok(())
 }
 
-/// Builds the DFA of a loop over the byte `a`, which has two states.
-fn build_loop<R: Abort + AllocGlobal>(
+/// Asserts that these patterns match where a text ends, most preferred first.
+fn expect_patterns<R: Abort>(
+    rt: &R,
+    dfa: &Dfa<'_>,
+    text: &[u8],
+    look_ahead: Option<u8>,
+    wanted: &[usize],
+) {
+    let listed = dfa.patterns_after(Anchored::Yes, None, text, look_ahead);
+    holds(
+        rt,
+        listed
+            .iter()
+            .map(|id| id.as_usize())
+            .eq(wanted.iter().copied()),
+    );
+}
+
+/// Another program has written down the lists.
+#[test]
+fn dense_patterns(rt: HostRuntime) -> Result<(), Fail> {
+    let three = nfa(rt.alloc(), "U:1,2,3 M:2 M:0 M:1", StateID::ZERO)?;
+    let all = Dfa::build(rt.alloc(), &three, MatchKind::All, 100)?;
+    expect_patterns(&rt, &all, b"", None, &[2, 0, 1]);
+    let first = Dfa::build(rt.alloc(), &three, MatchKind::LeftmostFirst, 100)?;
+    expect_patterns(&rt, &first, b"", None, &[2]);
+    let words = nfa(rt.alloc(), ROWS[3].states, StateID::ZERO)?;
+    let first = Dfa::build(rt.alloc(), &words, MatchKind::LeftmostFirst, 100)?;
+    expect_patterns(&rt, &first, b"12", Some(b'3'), &[1]);
+    expect_patterns(&rt, &first, b"123", Some(b' '), &[1]);
+    expect_patterns(&rt, &first, b"123 foobar", Some(b' '), &[]);
+    Ok(())
+}
+
+/// Builds the DFA of `\b\w+\b`, which has five states.
+fn build_word<R: Abort + AllocGlobal>(
     rt: &R,
     heap: &FailingAllocator<Global>,
 ) -> Result<bool, Fail> {
-    let nfa = nfa(rt.alloc(), "B:61>0", StateID::ZERO)?;
+    let nfa = nfa(rt.alloc(), ROWS[0].states, StateID::ZERO)?;
     heap.begin();
-    let built = Dfa::build(heap, &nfa, MatchKind::All, 2).map(|dfa| dfa.len());
+    let built = Dfa::build(heap, &nfa, MatchKind::All, 5).map(|dfa| dfa.len());
     heap.end();
     if built.is_err() {
         same(rt, built, Err(BuildError::OutOfMemory));
         return Ok(false);
     }
-    same(rt, built, Ok(2));
+    same(rt, built, Ok(5));
     Ok(true)
 }
 
 #[test]
 fn dense_under_refusals(rt: HostRuntime) -> Result<(), Fail> {
-    let outcome = fail_each_allocation(rt.alloc(), |heap| build_loop(&rt, heap))?;
+    let outcome = fail_each_allocation(rt.alloc(), |heap| build_word(&rt, heap))?;
     same(&rt, outcome, Outcome::Sound);
     Ok(())
 }
