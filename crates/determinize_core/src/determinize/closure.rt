@@ -253,7 +253,15 @@ fn closure_from<N: Allocator, A: Allocator, L: Ledger>(
         visit(set, start, &mut steps);
         return Ok(());
     }
-    let result = explore(nfa, slice::from_ref(&start), look_have, stack, set, &mut (), &mut steps);
+    let result = explore(
+        nfa,
+        slice::from_ref(&start),
+        look_have,
+        stack,
+        set,
+        &mut (),
+        &mut steps,
+    );
     stack.clear();
     result
 }

@@ -140,8 +140,7 @@ left_after bytes number rest e =
     let split = read-splits 0 1 bytes number rest e in
     let whole : length bytes ≡ length split.0 + length rest =
     ap (λ (l : List ℕ). length l) split.1 ∙ length-append split.0 rest in
-    let size : length bytes - length rest ≡ length split.0 = omega (arith, whole) in
-    (
+    let size : length bytes - length rest ≡ length split.0 = omega (arith, whole) in (
       subst (λ n. 0 < n) (sym size) split.2,
       subst (λ n. rest ≡ drop n bytes) (sym size)
           (sym (ap (λ (l : List ℕ). drop (length split.0) l) split.1 ∙ drop-append_seam split.0 rest)),

@@ -14,6 +14,7 @@ use std::test::Fail;
 
 /// `ab` and `a*`, with the usual prefix.
 const AB: &str = "BU:2,1 B:00-ff>0 B:61>3 B:62>4 M:0";
+
 const MANY: &str = "BU:2,1 B:00-ff>0 BU:3,4 B:61>2 M:0";
 
 /// Returns an NFA that reads forward, whose unanchored start is state 0.
