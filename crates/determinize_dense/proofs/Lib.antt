@@ -1,9 +1,15 @@
 mod Building
+mod Collecting
 mod Common
 mod Inputs
+mod Least
 mod Listing
 mod Lists
+mod Merging
+mod Pigeonhole
 mod Reached
+mod Refining
 mod Searching
 mod Simulation
+mod Splitting
 mod Tables

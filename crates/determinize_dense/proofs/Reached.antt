@@ -22,12 +22,8 @@ use Rattle.determinize_core.proofs.closure.EmptySearch.{reach-none}
 use Rattle.determinize_core.proofs.step.AlikeBytes.{each_need_is_tested}
 use Rattle.determinize_core.proofs.walk.WalkLoops.{value_after-push}
 use Rattle.determinize_lazy.proofs.finding.LastUnits.{step_over}
+pub use Rattle.determinize_lazy.proofs.finding.TextUnits.{one_unit}
 use Rattle.determinize_lazy.proofs.tables.Values.{of_some}
-
--- a list of one unit
-pub one_unit : (u : Option ℕ) → IsUnit u → All IsUnit (u ∷ [])
-one_unit u h zero d l = h
-one_unit u h (suc k) d l = absurd (let no : ⊥ = omega (arith, l) in no)
 
 pub head_unit : (u : Option ℕ) (us : List (Option ℕ)) → All IsUnit (u ∷ us) → IsUnit u
 head_unit u us h = h 0 None (omega arith)

@@ -6,13 +6,13 @@ use Rattle.determinize_lazy.proofs.Common.{start_value, subst, sym, take, take_a
 use Rattle.determinize_lazy.proofs.Common.{Value, value_after, ℕ, [], append-nil, last_match-push, length-take-le}
 use Rattle.determinize_lazy.proofs.Common.{take-append-drop, true≢false, ◌++◌, ◌+◌, ◌<◌, ◌∙◌, ◌∷◌, ◌≡◌, ◌≤◌}
 use Rattle.determinize_lazy.proofs.Common.{get_or, map}
-use Rattle.determinize_dense.proofs.Common.{DfaValue, IsDfa, IsFound, IsRowFrom, IsSearched, IsUnit, patterns_at}
+use Rattle.determinize_dense.proofs.Common.{All, DfaValue, IsDfa, IsFound, IsRowFrom, IsSearched, IsUnit, patterns_at}
 use Rattle.determinize_dense.proofs.Common.{row_after, row_over, start_in, start_row, value_from}
 use Rattle.determinize_dense.proofs.Lists.{map-push}
 use Rattle.determinize_core.specs.Chain.{chain}
-use Rattle.std.proofs.lemmas.List.Elements.{All-append}
+use Rattle.std.proofs.lemmas.List.Elements.{All-append, All-drop}
 use Rattle.determinize_lazy.proofs.finding.Searching.{longer}
-use Rattle.determinize_dense.proofs.Reached.{no_units, one_unit}
+use Rattle.determinize_dense.proofs.Reached.{head_unit, no_units, one_unit, tail_units}
 
 -- the rows along units, one more
 row_after-push : (d : DfaValue) (r : ℕ) (us : List (Option ℕ)) (u : Option ℕ)
@@ -61,16 +61,17 @@ module _ (d : DfaValue) (anchored : Bool) (text : Text) where
   last_of us = last_match (future d.nfa d.kind first us)
 
   -- the last match is the same if none follows
-  over : (us rest : List (Option ℕ))
-      → ((more : List (Option ℕ)) → (value_after d.nfa d.kind first (us ++ more)).patterns ≡ [])
+  over : (us rest : List (Option ℕ)) → All IsUnit rest
+      → ((more : List (Option ℕ)) → All IsUnit more → (value_after d.nfa d.kind first (us ++ more)).patterns ≡ [])
       → last_of (us ++ rest) ≡ last_of us
-  over us [] none = ap last_of (append-nil us)
-  over us (u ∷ rest) none =
+  over us [] all none = ap last_of (append-nil us)
+  over us (u ∷ rest) all none =
       ap last_of (sym (append_assoc us (u ∷ []) rest))
-      ∙ over (us ++ u ∷ []) rest (λ more. ap (λ all. (value_after d.nfa d.kind first all).patterns)
-      (append_assoc us (u ∷ []) more) ∙ none (u ∷ more))
+      ∙ over (us ++ u ∷ []) rest (tail_units u rest all)
+      (λ more after. ap (λ us. (value_after d.nfa d.kind first us).patterns) (append_assoc us (u ∷ []) more)
+      ∙ none (u ∷ more) (All-append IsUnit (u ∷ []) more (one_unit u (head_unit u rest all)) after))
       ∙ last_match-push d.nfa d.kind first us u
-      ∙ ap (λ ps. option_or (ended_at (length us) ps) (last_of us)) (none (u ∷ []))
+      ∙ ap (λ ps. option_or (ended_at (length us) ps) (last_of us)) (none (u ∷ []) (one_unit u (head_unit u rest all)))
 
 module _ {d : DfaValue} {anchored : Bool} {text : Text} {read row : ℕ} {last : Option HalfMatch}
     (is : IsDfa d) (s : IsSearched d anchored text read row last) where
@@ -83,13 +84,14 @@ module _ {d : DfaValue} {anchored : Bool} {text : Text} {read row : ℕ} {last :
       record { accepted = is.accepted; last = λ _. e; some = ap is_some e }
 
   -- or is in row 0
-  pub found-dead : row ≡ 0 → (earliest : Bool) → IsFound d earliest anchored text last
+  pub found-dead : All IsUnit (units text) → row ≡ 0 → (earliest : Bool) → IsFound d earliest anchored text last
   unfolding chain
-  found-dead dead earliest =
+  found-dead all dead earliest =
       let e : last ≡ last_match (chain d.nfa d.kind (start_in d.nfa anchored) text) =
       s.so_far
       ∙ sym (over d anchored text (take read (units text)) (drop read (units text))
-      (λ more. is.over anchored text.behind (take read (units text)) more s.at.behind s.at.units
+      (All-drop IsUnit read (units text) all)
+      (λ more after. is.over anchored text.behind (take read (units text)) more s.at.behind s.at.units after
       (sym s.at.reached ∙ dead)))
       ∙ ap (λ us. last_of d anchored text us) (take-append-drop read (units text)) in
       record { accepted = is.accepted; last = λ _. e; some = ap is_some e }

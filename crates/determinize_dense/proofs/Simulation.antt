@@ -8,7 +8,8 @@ use Rattle.determinize_dense.proofs.Common.{All, AreStarts, Building, column_of,
 use Rattle.determinize_dense.proofs.Common.{IsBuilding, IsDfa, IsFilled, IsReachedValue, IsUnit, patterns_at}
 use Rattle.determinize_dense.proofs.Common.{row_after, row_over, start_in, start_kind_of, start_number, start_row}
 use Rattle.determinize_dense.proofs.Common.{step, Table, unit_at}
-use Rattle.std.specs.Prelude.{◌%◌, ◌++◌, false, ◌/◌}
+use Rattle.std.specs.Prelude.{◌%◌, ◌++◌, ◌≤◌, false, ◌/◌}
+use Rattle.determinize_dense.specs.Least.{IsReachedRow}
 use Rattle.std.proofs.Math.Nat.{mul_comm}
 use Rattle.std.proofs.lemmas.Nat.{div-mul-add, mod-mul-add, mul-add-lt}
 use Rattle.determinize_core.specs.Alike.{NeedsTested}
@@ -112,12 +113,43 @@ module _ (b : Building) (is : IsBuilding b) (whole : length b.next ≡ length b.
   count : length table.patterns ≡ length b.values
   count = length-map b.values (λ (x : Value). x.patterns)
 
+  -- each column has a unit
+  unit-there : (c : ℕ) → c < columns_of b.classes → (u : Option ℕ) × IsUnit u × (column_of table u ≡ c)
+  unit-there c h = elim (nat_lt c (length b.classes.firsts)) as (λ t. nat_lt c (length b.classes.firsts) ≡ t
+      → (u : Option ℕ) × IsUnit u × (column_of table u ≡ c)) [
+        | true ↦ λ e. let k : c < length b.classes.firsts = grind (arith, e) in
+            (Some (first_of b.classes c), is.sound.bytes c k, is.sound.own c k)
+        | false ↦ λ e. (None, tt, let k : length b.classes.firsts ≡ c = grind (arith, e, h) in k)
+      ] refl
+
+  few : length table.patterns ≤ 16647160
+  few = let n : length b.values ≤ b.limit = is.few in
+      let m : b.limit ≤ 16647160 = is.limit in omega (arith, n, m, count)
+
+  -- each row is reached
+  row-reached : (r : ℕ) → r < length table.patterns → IsReachedRow b.nfa table r
+  row-reached r h =
+      let v : Value = get_or b.values r dead in
+      let at : slice_get b.values r ≡ Some v =
+      slice_get-get_or b.values r dead (subst (λ n. r < n) count h) in
+      let k : IsReachedValue b.nfa b.kind v = is.reached r v at in (
+        k.0,
+        k.1,
+        k.2,
+        k.3,
+        k.4,
+        is.apart r (row_after table (start_row b.nfa table k.0 k.1) k.2) v at
+            (row_after-steps k.2 _ _ (start-at k.0 k.1 k.3) k.4 ∙ ap Some (sym k.5)),
+      )
+
   is_table : IsFilled table
   is_table = record {
     size = whole ∙ ap (λ n. n * columns_of b.classes) (sym count);
     starts = are.count;
     first = λ i h. subst (λ n. slice_index starts i < n) (sym count) (are.within i h);
     column = column-below;
+    units = unit-there;
+    few = few;
     within = λ r u h unit. subst (λ n. row_over table r u < n) (sym count)
         (slice_get_within b.values (row_over table r u) _
         (row_over-step r (get_or b.values r dead) u
@@ -130,7 +162,8 @@ module _ (b : Building) (is : IsBuilding b) (whole : length b.next ≡ length b.
     table = is_table;
     tells = λ anchored p us h all. lists-at (row_after table (start_row b.nfa table anchored p) us) _
         (row_after-steps us _ _ (start-at anchored p h) all);
-    over = λ anchored p us rest h all end.
+    reached = row-reached;
+    over = λ anchored p us rest h all _ end.
         let first : Value = start_value b.nfa (start_in b.nfa anchored) p in
         let here : value_after b.nfa b.kind first us ≡ dead =
         of_some (sym (row_after-steps us _ _ (start-at anchored p h) all) ∙ ap (λ n. slice_get b.values n) end

@@ -1,3 +1,4 @@
 pub mod Dfa
+pub mod Least
 pub mod Private
 pub mod Table

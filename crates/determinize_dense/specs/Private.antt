@@ -1,4 +1,6 @@
 -- What private functions promise each other: no public contract cites these definitions.
 pub mod Building
+pub mod Minimizing
+pub mod Partition
 pub mod Rows
 pub mod Searching

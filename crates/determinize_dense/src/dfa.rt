@@ -4,6 +4,7 @@ ghost use Rattle.std.specs.Prelude.{◌≡◌, ◌+◌, ◌<◌, ◌≤◌, Err,
 ghost use Rattle.determinize_below.specs.Nfa.{IsAccepted};
 ghost use Rattle.determinize_below.specs.Truth.{IsUnit};
 ghost use Rattle.determinize_dense.specs.Dfa.{HasMoreStates, HasStates, IsDfaOf};
+ghost use Rattle.determinize_dense.specs.Least.{HasRows};
 ghost use Rattle.determinize_dense.specs.Private.Rows.{IsDfa};
 ghost use Rattle.determinize_dense.specs.Table.{column_of, patterns_at, row_over, start_row};
 ghost use Rattle.determinize_dense.specs.declared.error.BuildError.TheVariants.{TooManyStates};
@@ -129,6 +130,7 @@ impl<'n, N: Allocator, A: Allocator + Copy> Dfa<'n, N, A> {
     pub fn len(&self) -> usize
         ensures value { result ≡ length self.now.table.patterns }
         ensures means { IsDfaOf self.now.nfa self.now.kind self.now.table }
+        ensures rows { HasRows self.now.nfa self.now.table }
     {
         self.patterns.len()
     }

@@ -5,11 +5,15 @@
 //! serves any number of searches. The matches are those of `determinize_lazy::Lazy`.
 //!
 //! - `dfa`: the type and its table. `build`: its construction, with `error`. `search`: searches.
+//!   `minimize`: the DFA with the fewest states, by `partition`. `laws`: that none has fewer.
 #![tactic(auto)]
 
 mod build;
 pub mod dfa;
 pub mod error;
+pub mod laws;
+mod minimize;
+mod partition;
 mod search;
 
 pub use crate::dfa::Dfa;

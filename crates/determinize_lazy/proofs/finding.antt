@@ -4,4 +4,5 @@ pub mod LastUnits
 pub mod Ranges
 pub mod Scanning
 pub mod Searching
+pub mod TextUnits
 pub mod Texts

@@ -1,11 +1,12 @@
 //! What a search reads: the bytes of a range, forward or backward, and the bytes around it.
 
-ghost use Rattle.std.specs.Prelude.{◌≡◌, ◌<◌, ◌≤◌, ◌-◌, ◌^◌, Some, false, length, map, option_map, slice_get, slice_index};
+ghost use Rattle.std.specs.Prelude.{◌≡◌, ◌<◌, ◌≤◌, ◌-◌, ◌^◌, All, Some, false, length, map, option_map, slice_get, slice_index};
 ghost use Rattle.std.specs.Option.{IfSome};
 ghost use Rattle.determinize_below.specs.Semantics.{between};
 ghost use Rattle.determinize_below.specs.Search.{is_done};
+ghost use Rattle.determinize_below.specs.Truth.{IsUnit};
 ghost use Rattle.determinize_core.specs.Chain.{units};
-ghost use Rattle.determinize_lazy.specs.Searches.{in_haystack, text_of};
+ghost use Rattle.determinize_lazy.specs.Searches.{in_haystack, in_order, text_of};
 
 use determinize_below::{HalfMatch, Input};
 use determinize_core::start::{look_ahead_forward, look_ahead_reverse};
@@ -21,26 +22,45 @@ pub struct Text<'h> {
 }
 
 impl<'h> Model for Text<'h> {
+    ghost use Rattle.std.specs.Prelude.{All};
     ghost use Rattle.determinize_below.specs.Semantics as semantics;
+    ghost use Rattle.determinize_below.specs.Truth.{IsUnit};
+    ghost use Rattle.determinize_core.specs.Chain.{units};
     ghost use Rattle.determinize_lazy.specs.Searches.{in_order};
 
     ghost Value = { semantics.Text };
 
     ghost view = { λ t. semantics.between t.behind (in_order t.is_backward t.bytes.now) t.ahead };
+
+    ghost invariant = { λ t. All IsUnit
+        (units (semantics.between t.behind (in_order t.is_backward t.bytes.now) t.ahead)) };
 }
 
 impl<'h> Text<'h> {
+    /// Returns a text of these bytes in either order.
+    #[inline(always)]
+    fn with_order(
+        behind: Option<u8>,
+        bytes: &'h [u8],
+        is_backward: bool,
+        ahead: Option<u8>,
+    ) -> Text<'h>
+        ensures { result ≡ between behind (in_order is_backward bytes.now) ahead }
+    {
+        Text {
+            behind,
+            bytes,
+            is_backward,
+            ahead,
+        }
+    }
+
     /// Returns a text that is read forward.
     #[inline(always)]
     pub fn new(behind: Option<u8>, bytes: &'h [u8], ahead: Option<u8>) -> Text<'h>
         ensures { result ≡ between behind bytes.now ahead }
     {
-        Text {
-            behind,
-            bytes,
-            is_backward: false,
-            ahead,
-        }
+        Text::with_order(behind, bytes, false, ahead)
     }
 
     /// Returns the range of an input, with the bytes before and after it in the haystack.
@@ -56,12 +76,7 @@ impl<'h> Text<'h> {
         } else {
             (before, after)
         };
-        Text {
-            behind,
-            bytes,
-            is_backward,
-            ahead,
-        }
+        Text::with_order(behind, bytes, is_backward, ahead)
     }
 
     /// Returns the byte behind the first.
@@ -85,6 +100,7 @@ impl<'h> Text<'h> {
     pub fn len(&self) -> usize
         ensures value { result ≡ length self.now.bytes }
         ensures limit { result < 2 ^ 63 }
+        ensures units { All IsUnit (units self.now) }
     {
         self.bytes.len()
     }

@@ -16,12 +16,14 @@ use std::process::Abort;
 use std::test::Fail;
 
 /// The states of an NFA, its anchored start, and how many states its DFAs have under both match
-/// kinds, with all starts.
+/// kinds, with all starts, and the smallest of them.
 struct Row {
     states: &'static str,
     start_anchored: u32,
     all: usize,
     leftmost_first: usize,
+    smallest_all: usize,
+    smallest_first: usize,
 }
 
 /// `\b\w+\b`, and after the prefix `foo[0-9]+|bar`, `(?:\b|%)+`, `[a-z]+` with `[0-9]+`, and
@@ -32,30 +34,40 @@ static ROWS: [Row; 5] = [
         start_anchored: 0,
         all: 5,
         leftmost_first: 5,
+        smallest_all: 4,
+        smallest_first: 4,
     },
     Row {
         states: "BU:2,1 B:00-ff>0 BU:3,8 B:66>4 B:6f>5 B:6f>6 B:30-39>7 BU:6,11 B:62>9 B:61>10 B:72>11 M:0",
         start_anchored: 2,
         all: 23,
         leftmost_first: 19,
+        smallest_all: 23,
+        smallest_first: 17,
     },
     Row {
         states: "BU:4,1 B:00-ff>0 L:WordAscii>5 B:25>5 BU:2,3 BU:4,6 M:0",
         start_anchored: 4,
         all: 12,
         leftmost_first: 9,
+        smallest_all: 12,
+        smallest_first: 8,
     },
     Row {
         states: "BU:2,1 B:00-ff>0 U:3,6 B:61-7a>4 BU:3,5 M:0 B:30-39>7 BU:6,8 M:1",
         start_anchored: 2,
         all: 17,
         leftmost_first: 11,
+        smallest_all: 17,
+        smallest_first: 9,
     },
     Row {
         states: "BU:2,1 B:00-ff>0 L:EndCRLF>3 M:0",
         start_anchored: 2,
         all: 10,
         leftmost_first: 8,
+        smallest_all: 8,
+        smallest_first: 6,
     },
 ];
 
@@ -85,6 +97,30 @@ fn dense_counts(rt: HostRuntime) -> Result<(), Fail> {
         let nfa = nfa(rt.alloc(), row.states, start)?;
         expect_count(&rt, &nfa, MatchKind::All, row.all);
         expect_count(&rt, &nfa, MatchKind::LeftmostFirst, row.leftmost_first);
+    }
+    Ok(())
+}
+
+/// Asserts that the smallest DFA has this number of states.
+fn expect_smallest<R: Abort + AllocGlobal>(
+    rt: &R,
+    nfa: &NFA,
+    kind: MatchKind,
+    count: usize,
+) -> Result<(), Fail> {
+    let dfa = Dfa::build(rt.alloc(), nfa, kind, 100)?;
+    let smallest = dfa.minimize(rt.alloc())?;
+    same(rt, smallest.len(), count);
+    Ok(())
+}
+
+#[test]
+fn dense_smallest_counts(rt: HostRuntime) -> Result<(), Fail> {
+    for row in &ROWS {
+        let start = StateID::new(row.start_anchored as usize)?;
+        let nfa = nfa(rt.alloc(), row.states, start)?;
+        expect_smallest(&rt, &nfa, MatchKind::All, row.smallest_all)?;
+        expect_smallest(&rt, &nfa, MatchKind::LeftmostFirst, row.smallest_first)?;
     }
     Ok(())
 }
@@ -179,6 +215,30 @@ fn build_word<R: Abort + AllocGlobal>(
 #[test]
 fn dense_under_refusals(rt: HostRuntime) -> Result<(), Fail> {
     let outcome = fail_each_allocation(rt.alloc(), |heap| build_word(&rt, heap))?;
+    same(&rt, outcome, Outcome::Sound);
+    Ok(())
+}
+
+/// Minimizes the DFA of `\b\w+\b`, of whose states four are left.
+fn minimize_word<R: Abort + AllocGlobal>(
+    rt: &R,
+    heap: &FailingAllocator<Global>,
+) -> Result<bool, Fail> {
+    let nfa = nfa(rt.alloc(), ROWS[0].states, StateID::ZERO)?;
+    let dfa = Dfa::build(heap, &nfa, MatchKind::All, 5)?;
+    heap.begin();
+    let smallest = dfa.minimize(heap).map(|dfa| dfa.len());
+    heap.end();
+    if smallest.is_err() {
+        return Ok(false);
+    }
+    same(rt, smallest.ok(), Some(4));
+    Ok(true)
+}
+
+#[test]
+fn minimize_under_refusals(rt: HostRuntime) -> Result<(), Fail> {
+    let outcome = fail_each_allocation(rt.alloc(), |heap| minimize_word(&rt, heap))?;
     same(&rt, outcome, Outcome::Sound);
     Ok(())
 }

@@ -29,7 +29,7 @@ returns-then-row-eq0 g c =
     found-dead c.start_row-row.ensures.sound
     (searched-step c.start_row-row.ensures.sound c.loop-read.invariant.searched c.unit.ensures
     c.row_over-row.ensures.unit c.row_over-row.ensures.value c.row_over-row.ensures.limit
-    (sym c.in_default.is ∙ c.pattern.ensures) refl) c.if-row-eq0.true c.args.is_earliest
+    (sym c.in_default.is ∙ c.pattern.ensures) refl) c.len.ensures.units c.if-row-eq0.true c.args.is_earliest
 
 pub loop-read-preserved : goal.loop-read-preserved
 loop-read-preserved g c = record {

@@ -1,0 +1,80 @@
+-- Blocks of rows of a table, and the table of the blocks.
+use Rattle.std.specs.Prelude.{◌≡◌, ◌<◌, ◌≤◌, ◌+◌, ◌*◌, ◌/◌, ◌%◌, ℕ, List, [], get_or, length}
+use Rattle.std.specs.Prelude.{slice_index}
+use Rattle.determinize_dense.specs.Least.{AreApart}
+use Rattle.determinize_dense.specs.Private.Partition.{AreBlocks, AreTogether, Blocks}
+use Rattle.determinize_dense.specs.Table.{Table, patterns_at}
+
+-- the row after a row in a column
+abbrev pub entry : Table → ℕ → ℕ → ℕ
+entry d r c = slice_index d.next (r * (d.class_count + 1) + c)
+
+-- the rows of one block list the same patterns, and those of two blocks are apart
+pub record IsPartition (d : Table) (p : Blocks) : Type 0 where
+  pub blocks : AreBlocks p
+  pub count : length p.numbers ≡ length d.patterns
+  pub patterns : (r s : ℕ) → r < length d.patterns → s < length d.patterns → AreTogether p r s
+      → patterns_at d r ≡ patterns_at d s
+  pub apart : (r s : ℕ) → r < length d.patterns → s < length d.patterns
+      → (AreTogether p r s → ⊥) → AreApart d r s
+
+-- the first row that lists the same patterns
+pub record IsFirstAlike (d : Table) (row first : ℕ) : Type 0 where
+  pub same : patterns_at d first ≡ patterns_at d row
+  pub least : (r : ℕ) → r < first → patterns_at d r ≡ patterns_at d row → ⊥
+
+-- the same for each row
+pub record AreFirstAlike (d : Table) (values : List ℕ) : Type 0 where
+  pub count : length values ≡ length d.patterns
+  pub firsts : (r : ℕ) → r < length values → IsFirstAlike d r (slice_index values r)
+
+-- the block of the entry of each row in a column
+pub record AreTargets (d : Table) (p : Blocks) (c : ℕ) (values : List ℕ) : Type 0 where
+  pub count : length values ≡ length d.patterns
+  pub blocks : (r : ℕ) → r < length values
+      → slice_index values r ≡ slice_index p.numbers (entry d r c)
+
+-- in this column, the entries of the rows of one block are in one block
+abbrev pub IsSettled : Table → Blocks → ℕ → Type 0
+IsSettled d p c = (r s : ℕ) → r < length d.patterns → s < length d.patterns → AreTogether p r s
+    → AreTogether p (entry d r c) (entry d s c)
+
+-- the same in each column
+abbrev pub IsStable : Table → Blocks → Type 0
+IsStable d p = (c : ℕ) → c < d.class_count + 1 → IsSettled d p c
+
+-- blocks that were split by their entries in a column; without more blocks they are settled there
+pub record IsSplitBy (d : Table) (c : ℕ) (p q : Blocks) : Type 0 where
+  pub partition : IsPartition d q
+  pub more : length p.members ≤ length q.members
+  pub stays : length q.members ≡ length p.members → (q ≡ p) × IsSettled d p c
+
+-- blocks that were split by their entries in the first n columns
+pub record IsRefined (d : Table) (n : ℕ) (p q : Blocks) : Type 0 where
+  pub partition : IsPartition d q
+  pub more : length p.members ≤ length q.members
+  pub stays : length q.members ≡ length p.members
+      → (q ≡ p) × ((c : ℕ) → c < n → IsSettled d p c)
+
+-- entries of the table of the blocks: the block of the entry of the member, in the same column
+abbrev pub AreMergedEntries : Table → Blocks → List ℕ → Type 0
+AreMergedEntries d p next = (e : ℕ) → e < length next → slice_index next e
+    ≡ slice_index p.numbers (entry d (slice_index p.members (e / (d.class_count + 1)))
+    (e % (d.class_count + 1)))
+
+-- a row for each block
+pub record AreMergedRows (d : Table) (p : Blocks) (next : List ℕ) : Type 0 where
+  pub size : length next ≡ length p.members * (d.class_count + 1)
+  pub entries : AreMergedEntries d p next
+
+-- the blocks of the starts
+pub record AreMergedStarts (d : Table) (p : Blocks) (starts : List ℕ) : Type 0 where
+  pub count : length starts ≡ 12
+  pub blocks : (i : ℕ) → i < 12
+      → slice_index starts i ≡ slice_index p.numbers (slice_index d.starts i)
+
+-- the patterns that the members list
+pub record AreMergedLists (d : Table) (p : Blocks) (lists : List (List ℕ)) : Type 0 where
+  pub count : length lists ≡ length p.members
+  pub rows : (b : ℕ) → b < length lists
+      → get_or lists b [] ≡ patterns_at d (slice_index p.members b)

@@ -1,0 +1,186 @@
+//! The DFA with the fewest states, by partition refinement.
+//!
+//! The blocks are first the rows that list the same patterns. A pass over a column splits each
+//! block by the blocks of its entries in the column. When a cycle of passes over all columns splits
+//! no block, each block becomes one row.
+
+ghost use Rattle.std.specs.Prelude.{◌≡◌, ◌<◌, ◌≤◌, ◌+◌, IfOk, length, map};
+ghost use Rattle.determinize_dense.specs.Least.{IsLeast};
+ghost use Rattle.determinize_dense.specs.Private.Minimizing.{AreFirstAlike, AreMergedLists, AreMergedRows, AreMergedStarts, AreTargets, IsFirstAlike, IsPartition, IsRefined, IsSplitBy, IsStable, entry};
+ghost use Rattle.determinize_dense.specs.Private.Rows.{IsFilled};
+
+use crate::dfa::{Dfa, STARTS};
+use crate::partition::Partition;
+use determinize_below::PatternID;
+use std::alloc::{AllocError, Allocator};
+
+impl<'n, N: Allocator, A: Allocator + Copy> Dfa<'n, N, A> {
+    /// Returns the DFA with the fewest states among those that mean the same.
+    ///
+    /// States are merged if they match the same patterns along all units, the end of input (EOI)
+    /// among them. The time is at most quadratic in the number of states, for a chain of states;
+    /// mostly a few passes over the table suffice.
+    pub fn minimize(&self, alloc: A) -> Result<Dfa<'n, N, A>, AllocError>
+        ensures nfa { IfOk result (λ dfa. dfa.nfa ≡ self.now.nfa) }
+        ensures kind { IfOk result (λ dfa. dfa.kind ≡ self.now.kind) }
+        ensures least { IfOk result (λ dfa. IsLeast dfa.nfa dfa.table) }
+        ensures fewer { IfOk result
+            (λ dfa. length dfa.table.patterns ≤ length self.now.table.patterns) }
+    {
+        let parts = self.partition(alloc)?;
+        Ok(Dfa {
+            nfa: self.nfa,
+            match_kind: self.match_kind,
+            classes: self.classes.clone()?,
+            next: self.merged_rows(alloc, &parts)?,
+            starts: self.merged_starts(&parts),
+            patterns: self.merged_lists(alloc, &parts)?,
+        })
+    }
+
+    /// Returns the row after a row, in a column.
+    fn entry(&self, row: usize, column: usize) -> usize
+        requires row { row < length self.now.table.patterns }
+        requires column { column < self.now.table.class_count + 1 }
+        ensures value { result ≡ entry self.now.table row column }
+        ensures limit { result < length self.now.table.patterns }
+    {
+        self.next[row * self.classes.alphabet_len() + column] as usize
+    }
+
+    /// Returns the first row that lists the same patterns as this row.
+    fn first_alike(&self, row: usize) -> usize
+        requires { row < length self.now.table.patterns }
+        ensures first { IsFirstAlike self.now.table row result }
+        ensures limit { result ≤ row }
+    {
+        for first in 0..row {
+            if self.patterns[first] == self.patterns[row] {
+                return first;
+            }
+        }
+        row
+    }
+
+    /// Returns for each row the first row that lists the same patterns.
+    fn first_rows(&self, alloc: A) -> Result<Vec<usize, A>, AllocError>
+        ensures { IfOk result (λ values. AreFirstAlike self.now.table values.items) }
+    {
+        let mut values = Vec::with_capacity(alloc, self.len())?;
+        for row in 0..self.len() {
+            values.push(self.first_alike(row))?;
+        }
+        Ok(values)
+    }
+
+    /// Returns the block of the entry of each row in a column.
+    fn targets(
+        &self,
+        alloc: A,
+        parts: &Partition<A>,
+        column: usize,
+    ) -> Result<Vec<usize, A>, AllocError>
+        requires parts { length parts.now.numbers ≡ length self.now.table.patterns }
+        requires column { column < self.now.table.class_count + 1 }
+        ensures targets { IfOk result
+            (λ values. AreTargets self.now.table parts.now column values.items) }
+        ensures filled { IsFilled self.now.table }
+    {
+        let mut values = Vec::with_capacity(alloc, self.patterns.len())?;
+        for row in 0..self.patterns.len() {
+            values.push(parts.block(self.entry(row, column)))?;
+        }
+        Ok(values)
+    }
+
+    /// Splits the blocks by their entries in a column.
+    fn split_by(
+        &self,
+        alloc: A,
+        parts: &Partition<A>,
+        column: usize,
+    ) -> Result<Partition<A>, AllocError>
+        requires parts { IsPartition self.now.table parts.now }
+        requires column { column < self.now.table.class_count + 1 }
+        ensures { IfOk result (λ p. IsSplitBy self.now.table column parts.now p) }
+    {
+        let values = self.targets(alloc, parts, column)?;
+        parts.split(alloc, values.as_slice())
+    }
+
+    /// Splits the blocks by their entries in each column.
+    fn refine(&self, alloc: A, parts: &Partition<A>) -> Result<Partition<A>, AllocError>
+        requires { IsPartition self.now.table parts.now }
+        ensures { IfOk result
+            (λ p. IsRefined self.now.table (self.now.table.class_count + 1) parts.now p) }
+    {
+        let mut refined = self.split_by(alloc, parts, 0)?;
+        for column in 1..self.classes.alphabet_len() {
+            refined = self.split_by(alloc, &refined, column)?;
+        }
+        Ok(refined)
+    }
+
+    /// Returns the blocks of rows that list the same patterns along all units.
+    fn partition(&self, alloc: A) -> Result<Partition<A>, AllocError>
+        ensures partition { IfOk result (λ p. IsPartition self.now.table p) }
+        ensures stable { IfOk result (λ p. IsStable self.now.table p) }
+    {
+        let whole = Partition::whole(alloc, self.len())?;
+        let first_rows = self.first_rows(alloc)?;
+        let mut parts = whole.split(alloc, first_rows.as_slice())?;
+        loop {
+            let refined = self.refine(alloc, &parts)?;
+            if refined.len() == parts.len() {
+                return Ok(refined);
+            }
+            parts = refined;
+        }
+    }
+
+    /// Returns the rows of the blocks.
+    fn merged_rows(&self, alloc: A, parts: &Partition<A>) -> Result<Vec<u32, A>, AllocError>
+        requires { IsPartition self.now.table parts.now }
+        ensures { IfOk result (λ next. AreMergedRows self.now.table parts.now next.items) }
+    {
+        let columns = self.classes.alphabet_len();
+        let mut next = Vec::new(alloc);
+        for row in parts.members() {
+            for column in 0..columns {
+                next.push(parts.block(self.entry(*row, column)) as u32)?;
+            }
+        }
+        Ok(next)
+    }
+
+    /// Returns the blocks of the starts.
+    fn merged_starts(&self, parts: &Partition<A>) -> [u32; STARTS]
+        requires { IsPartition self.now.table parts.now }
+        ensures { AreMergedStarts self.now.table parts.now result }
+    {
+        let mut starts = self.starts;
+        let mut number = 0;
+        while number < STARTS {
+            starts[number] = parts.block(self.starts[number] as usize) as u32;
+            number += 1;
+        }
+        starts
+    }
+
+    /// Returns the patterns of the blocks.
+    fn merged_lists(
+        &self,
+        alloc: A,
+        parts: &Partition<A>,
+    ) -> Result<Vec<Vec<PatternID, A>, A>, AllocError>
+        requires { IsPartition self.now.table parts.now }
+        ensures { IfOk result (λ lists. AreMergedLists self.now.table parts.now
+            (map (λ list. list.items) lists.items)) }
+    {
+        let mut lists = Vec::with_capacity(alloc, parts.len())?;
+        for row in parts.members() {
+            lists.push(self.patterns[*row].clone()?)?;
+        }
+        Ok(lists)
+    }
+}
