@@ -5,3 +5,4 @@ pub mod matches
 pub mod prefixes
 pub mod reversing
 pub mod runs
+pub mod streams

@@ -10,3 +10,4 @@ pub mod Private
 pub mod Regexes
 pub mod Reversal
 pub mod Since
+pub mod Streams

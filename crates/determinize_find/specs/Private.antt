@@ -8,3 +8,4 @@ pub mod Pairs
 pub mod Places
 pub mod Touching
 pub mod Turning
+pub mod Windows

@@ -44,6 +44,18 @@ impl<'h> Searcher<'h> {
         }
     }
 
+    /// Returns a cursor behind a match that ended where the input starts, if there was one.
+    pub(crate) fn after(input: Input<'h>, last_match_end: Option<usize>) -> Searcher<'h>
+        requires start { has_start input.anchored ≡ true }
+        requires last { IfSome last_match_end (λ end. end ≡ input.start) }
+        ensures { result ≡ record { asked = input.entry; before = last_match_end } }
+    {
+        Searcher {
+            input,
+            last_match_end,
+        }
+    }
+
     /// Returns the leftmost match of the rest of the input without its first byte.
     fn find_further<N: Allocator, B: Allocator, A: Allocator + Copy>(
         &self,
@@ -96,7 +108,7 @@ impl<'h> Searcher<'h> {
 }
 
 /// Returns whether the match is empty and begins where the match before it ended.
-fn touches(before: Option<usize>, found: &Match) -> bool
+pub(crate) fn touches(before: Option<usize>, found: &Match) -> bool
     ensures { result ≡ matches.touches before found.now }
 {
     match before {

@@ -1,18 +1,24 @@
 //! The leftmost match by two searches: one forward for its end, and one backward for its start.
 
-ghost use Rattle.std.specs.Prelude.{◌≡◌, ◌+◌, ◌≤◌, None, false, length, true, IfOk};
+ghost use Rattle.std.specs.Prelude.{◌≡◌, ◌+◌, ◌++◌, ◌≤◌, ℕ, List, None, Option, [], drop, false, length, true, IfOk, OnErr, OnOk};
 ghost use Rattle.std.specs.Bool.{Decides};
 ghost use Rattle.std.specs.Option.{IfSome};
+ghost use Rattle.determinize_below.specs.Nfa.{AllResolve};
+ghost use Rattle.determinize_start.specs.StartKinds.{byte_before};
 ghost use Rattle.determinize_lazy.specs.Searches.{has_start};
 ghost use Rattle.determinize_find.specs.LeftmostIn.{IsLeftmostIn};
 ghost use Rattle.determinize_find.specs.Matches.{AreMatches};
 ghost use Rattle.determinize_find.specs.Prefix.{HasPrefix};
-ghost use Rattle.determinize_find.specs.Private.Begins.{IsBeginOf, IsEndOf, IsEnding, asked_of};
+ghost use Rattle.determinize_find.specs.Private.Begins.{HasReverse, IsBeginOf, IsEndOf, IsEnding, asked_of};
+ghost use Rattle.determinize_find.specs.Private.Windows.{IsCertain, IsFresh};
 ghost use Rattle.determinize_find.specs.Reversal.{IsReverseOf};
+ghost use Rattle.determinize_find.specs.Streams.{IsEndScan};
 
+use crate::idle::is_idle;
 use crate::iter::Searcher;
+use crate::prefix::has_prefix_apart;
 use determinize_below::{Anchored, HalfMatch, Input, Match, MatchKind, NFA};
-use determinize_lazy::Lazy;
+use determinize_lazy::{Lazy, Scan};
 use std::alloc::{AllocError, Allocator, Global};
 use std::marker::Model;
 use std::ops::Range;
@@ -23,6 +29,7 @@ use std::ops::Range;
 pub struct Regex<'n, N: Allocator = Global, B: Allocator = Global, A: Allocator = Global> {
     forward: Lazy<'n, N, A>,
     backward: Lazy<'n, B, A>,
+    is_apart: bool,
 }
 
 impl<'n, N: Allocator, B: Allocator, A: Allocator> Model for Regex<'n, N, B, A> {
@@ -33,7 +40,17 @@ impl<'n, N: Allocator, B: Allocator, A: Allocator> Model for Regex<'n, N, B, A> 
 
     ghost view = { λ r. record { nfa = r.forward.nfa; limit = r.forward.limit } };
 
-    ghost invariant = { λ r. IsPair r.forward r.backward };
+    ghost invariant = { λ r. IsPair r.forward r.backward r.is_apart };
+}
+
+/// Returns the byte before an index, if any.
+fn look_behind(haystack: &[u8], index: usize) -> Option<u8>
+    ensures { result ≡ byte_before haystack.now index }
+{
+    match index {
+        0 => None,
+        index => haystack.get(index - 1).copied(),
+    }
 }
 
 impl<'n, N: Allocator, B: Allocator, A: Allocator + Copy> Regex<'n, N, B, A> {
@@ -51,6 +68,7 @@ impl<'n, N: Allocator, B: Allocator, A: Allocator + Copy> Regex<'n, N, B, A> {
         Regex {
             forward: Lazy::new(alloc, nfa, MatchKind::LeftmostFirst, limit),
             backward: Lazy::new(alloc, backward, MatchKind::All, limit),
+            is_apart: has_prefix_apart(nfa),
         }
     }
 
@@ -77,6 +95,7 @@ impl<'n, N: Allocator, B: Allocator, A: Allocator + Copy> Regex<'n, N, B, A> {
         requires { IsEndOf self.old.nfa haystack.now start end }
         ensures start { IfOk result
             (λ begin. IsBeginOf self.old.nfa haystack.now start end begin) }
+        ensures reverse { HasReverse self.old.nfa }
         ensures same { self.new ≡ self.old }
     {
         let before = Input::new(haystack)
@@ -86,6 +105,80 @@ impl<'n, N: Allocator, B: Allocator, A: Allocator + Copy> Regex<'n, N, B, A> {
             Some(begin) => Ok(begin.offset),
             None => unreachable!(),
         }
+    }
+
+    /// Returns the search for the end of the leftmost match of a haystack from an index on, after
+    /// all of its bytes. More pieces of the text may follow.
+    pub(crate) fn scan(&mut self, haystack: &[u8], start: usize) -> Result<Scan<A>, AllocError>
+        requires { start ≤ length haystack.now }
+        ensures scan { IfOk result (λ scan. IsEndScan self.old.nfa
+            (byte_before haystack.now start) (drop start haystack.now) scan) }
+        ensures same { self.new ≡ self.old }
+    {
+        let unanchored = self.forward.nfa().start_unanchored();
+        let mut scan = self.forward.scan(unanchored, look_behind(haystack, start))?;
+        self.forward.feed(&mut scan, &haystack[start..])?;
+        Ok(scan)
+    }
+
+    /// Reads the next piece of the text of such a search. If the result is an error, the search is
+    /// unchanged.
+    pub(crate) fn feed(&mut self, scan: &mut Scan<A>, piece: &[u8]) -> Result<(), AllocError>
+        requires { AllResolve self.old.nfa scan.old.state.states }
+        ensures fed { (behind : Option ℕ) (bytes : List ℕ)
+            → IsEndScan self.old.nfa behind bytes scan.old
+            → OnOk result (IsEndScan self.old.nfa behind (bytes ++ piece.now) scan.new) }
+        ensures failed { OnErr result (scan.new ≡ scan.old) }
+        ensures same { self.new ≡ self.old }
+    {
+        self.forward.feed(scan, piece)
+    }
+
+    /// Returns the leftmost match of a haystack from an index on, if nothing that follows the
+    /// haystack can change it. `scan` is the search of those bytes.
+    pub(crate) fn certain(
+        &mut self,
+        haystack: &[u8],
+        start: usize,
+        scan: &Scan<A>,
+    ) -> Result<Option<Match>, AllocError>
+        requires within { start ≤ length haystack.now }
+        requires scan { IsEndScan self.old.nfa (byte_before haystack.now start)
+            (drop start haystack.now) scan.now }
+        ensures certain { IfOk result (λ found. IfSome found
+            (λ m. IsCertain self.old.nfa haystack.now start m)) }
+        ensures same { self.new ≡ self.old }
+    {
+        if !scan.is_over() {
+            return Ok(None);
+        }
+        let Some(half) = scan.last() else {
+            return Ok(None);
+        };
+        let end = start + half.offset;
+        let begin = self.find_start(haystack, start, end)?;
+        Ok(Some(Match {
+            pattern: half.pattern,
+            start: begin,
+            end,
+        }))
+    }
+
+    /// Returns whether the search of the bytes of a haystack from an index on has read some of
+    /// them, and no match begins in them, regardless of what follows.
+    pub(crate) fn is_idle(&self, haystack: &[u8], start: usize, scan: &Scan<A>) -> bool
+        requires within { start ≤ length haystack.now }
+        requires scan { IsEndScan self.now.nfa (byte_before haystack.now start)
+            (drop start haystack.now) scan.now }
+        ensures { result ≡ true → IsFresh self.now.nfa haystack.now start }
+    {
+        if !self.is_apart {
+            return false;
+        }
+        if start == haystack.len() {
+            return false;
+        }
+        is_idle(self.forward.nfa(), scan)
     }
 
     /// Returns the leftmost match of an input, if any: no match begins before it, and of those that

@@ -6,6 +6,7 @@ mod dfa;
 mod failing;
 mod find;
 mod idle;
+mod pieces;
 mod stored_walks;
 mod uses;
 

@@ -2,7 +2,8 @@
 -- statements: next_plain, next_further, next_none, after_one, after_all. `next_match`, `Searcher::advance` and both
 -- `find_all` rest on them. The idea: a list of all matches from the cursor on, after what was found, is the list of all
 -- matches.
-use Rattle.std.proofs.Common.{◌≡◌, ◌<◌, ◌≤◌, ◌+◌, ◌++◌, ◌∙◌, ◌∷◌, ℕ, List, None, Option, Some, [], append-nil, ap, append_assoc, arith, false, length, refl, subst, sym, true}
+use Rattle.std.proofs.Common.{◌≡◌, ◌<◌, ◌≤◌, ◌+◌, ◌++◌, ◌∙◌, ◌∷◌, ℕ, List, None, Option, Some, [], append-nil, ap}
+use Rattle.std.proofs.Common.{append_assoc, arith, false, length, refl, subst, sym, true}
 use Rattle.std.proofs.lemmas.Bool.{false≢true, true≢false}
 use Rattle.determinize_below.specs.Semantics.{Nfa}
 use Rattle.determinize_below.specs.Search.{Asked}
@@ -58,60 +59,61 @@ fewer nfa now asked rest start before m e r l starts n =
         let b : last ≡ start = f last refl in
         let c : m.end ≤ asked.end = y.high in omega arith
 
--- what was found so far, before all that is left
-abbrev pub AreFirst : Nfa → Asked → ℕ → Option ℕ → List Match → Type 0
-AreFirst nfa asked start before ms =
-    (rest : List Match) → AreMatches nfa (from asked start) before rest → AreMatches nfa asked None (ms ++ rest)
+-- what was found so far, before all that is left; `initial` is the end of a match before all of them
+abbrev pub AreFirst : Nfa → Asked → Option ℕ → ℕ → Option ℕ → List Match → Type 0
+AreFirst nfa asked initial start before ms =
+    (rest : List Match) → AreMatches nfa (from asked start) before rest → AreMatches nfa asked initial (ms ++ rest)
 
-pub one_more : (nfa now : Nfa) (asked rest : Asked) (start : ℕ) (before : Option ℕ) (ms : List Match) (m : Match)
-    → now ≡ nfa → rest ≡ from asked start
-    → AreFirst nfa asked start before ms → IsNext now rest before (Some m)
-    → AreFirst nfa asked m.end (Some m.end) (ms ++ m ∷ [])
-one_more nfa now asked rest start before ms m e r h n others o =
+pub one_more : (initial : Option ℕ) (nfa now : Nfa) (asked rest : Asked) (start : ℕ) (before : Option ℕ)
+    (ms : List Match) (m : Match) → now ≡ nfa → rest ≡ from asked start
+    → AreFirst nfa asked initial start before ms → IsNext now rest before (Some m)
+    → AreFirst nfa asked initial m.end (Some m.end) (ms ++ m ∷ [])
+one_more initial nfa now asked rest start before ms m e r h n others o =
     let k : IsNext nfa (from asked start) before (Some m)
     = subst (λ w. IsNext w (from asked start) before (Some m)) e (subst (λ w. IsNext now w before (Some m)) r n) in
     rw append_assoc (h (m ∷ others) (k, o))
 
-pub all_found : (nfa now : Nfa) (asked rest : Asked) (start : ℕ) (before : Option ℕ) (ms : List Match) → now ≡ nfa
-    → rest ≡ from asked start
-    → AreFirst nfa asked start before ms → IsNext now rest before None → AreMatches nfa asked None ms
-all_found nfa now asked rest start before ms e r h n =
+pub all_found : (initial : Option ℕ) (nfa now : Nfa) (asked rest : Asked) (start : ℕ) (before : Option ℕ)
+    (ms : List Match) → now ≡ nfa → rest ≡ from asked start
+    → AreFirst nfa asked initial start before ms → IsNext now rest before None → AreMatches nfa asked initial ms
+all_found initial nfa now asked rest start before ms e r h n =
     let k : IsNext nfa (from asked start) before None
     = subst (λ w. IsNext w (from asked start) before None) e (subst (λ w. IsNext now w before None) r n) in
-    subst (λ w. AreMatches nfa asked None w) (append-nil ms) (h [] k)
-
-pub none_first : (nfa : Nfa) (asked : Asked) → AreFirst nfa asked asked.start None []
-none_first nfa asked rest h = h
+    subst (λ w. AreMatches nfa asked initial w) (append-nil ms) (h [] k)
 
 -- a cursor behind the first matches of an input
-pub record IsAfter (nfa : Nfa) (asked : Asked) (s : SearcherValue) (ms : List Match) : Type 0 where
+pub record IsAfter (nfa : Nfa) (asked : Asked) (initial : Option ℕ) (s : SearcherValue) (ms : List Match)
+    : Type 0 where
   pub rest : s.asked ≡ from asked s.asked.start
   pub last : (end : ℕ) → s.before ≡ Some end → end ≡ s.asked.start
-  pub first : AreFirst nfa asked s.asked.start s.before ms
+  pub first : AreFirst nfa asked initial s.asked.start s.before ms
 
-pub after_none : (nfa : Nfa) (asked : Asked) (s : SearcherValue) (ms : List Match)
-    → s ≡ record { asked = asked; before = None } → ms ≡ [] → IsAfter nfa asked s ms
-after_none nfa asked s ms e n =
-    subst (λ w. IsAfter nfa asked w ms) (sym e)
-    (subst (λ w. IsAfter nfa asked record { asked = asked; before = None } w) (sym n)
-    record { rest = refl; last = λ end z. absurd (let y : None ≡ Some end = z in cc); first = none_first nfa asked })
+pub after_none : (nfa : Nfa) (asked : Asked) (initial : Option ℕ) (s : SearcherValue) (ms : List Match)
+    → s ≡ record { asked = asked; before = initial } → ms ≡ []
+    → ((end : ℕ) → initial ≡ Some end → end ≡ asked.start) → IsAfter nfa asked initial s ms
+after_none nfa asked initial s ms e n last =
+    subst (λ w. IsAfter nfa asked initial w ms) (sym e)
+    (subst (λ w. IsAfter nfa asked initial record { asked = asked; before = initial } w) (sym n)
+    record { rest = refl; last = last; first = λ rest h. h })
 
 -- one match more, and a cursor with fewer indices before it
-pub after_one : (nfa now : Nfa) (asked : Asked) (s new : SearcherValue) (ms : List Match) (m : Match) → now ≡ nfa
-    → asked.end ≤ length asked.haystack → IsAfter nfa asked s ms → IsNext now s.asked s.before (Some m)
-    → new ≡ after_match s (Some m)
-    → IsAfter nfa asked new (ms ++ m ∷ [])
+pub after_one : {initial : Option ℕ} (nfa now : Nfa) (asked : Asked) (s new : SearcherValue) (ms : List Match)
+    (m : Match) → now ≡ nfa → asked.end ≤ length asked.haystack → IsAfter nfa asked initial s ms
+    → IsNext now s.asked s.before (Some m) → new ≡ after_match s (Some m)
+    → IsAfter nfa asked initial new (ms ++ m ∷ [])
     × (left asked.end new.asked.start new.before < left asked.end s.asked.start s.before)
-after_one nfa now asked s new ms m e l a n z = (
-  subst (λ w. IsAfter nfa asked w (ms ++ m ∷ [])) (sym z) record {
+after_one {initial} nfa now asked s new ms m e l a n z = (
+  subst (λ w. IsAfter nfa asked initial w (ms ++ m ∷ [])) (sym z) record {
     rest = ap (λ w. from w m.end) a.rest;
     last = λ end y. sym (some_injective m.end end y);
-    first = one_more nfa now asked s.asked s.asked.start s.before ms m e a.rest a.first n;
+    first = one_more initial nfa now asked s.asked s.asked.start s.before ms m e a.rest a.first n;
   },
   subst (λ (w : SearcherValue). left asked.end w.asked.start w.before < left asked.end s.asked.start s.before) (sym z)
       (fewer nfa now asked s.asked s.asked.start s.before m e a.rest l a.last n).0,
 )
 
-pub after_all : (nfa now : Nfa) (asked : Asked) (s : SearcherValue) (ms : List Match) → now ≡ nfa
-    → IsAfter nfa asked s ms → IsNext now s.asked s.before None → AreMatches nfa asked None ms
-after_all nfa now asked s ms e a n = all_found nfa now asked s.asked s.asked.start s.before ms e a.rest a.first n
+pub after_all : {initial : Option ℕ} (nfa now : Nfa) (asked : Asked) (s : SearcherValue) (ms : List Match)
+    → now ≡ nfa → IsAfter nfa asked initial s ms → IsNext now s.asked s.before None
+    → AreMatches nfa asked initial ms
+after_all {initial} nfa now asked s ms e a n =
+    all_found initial nfa now asked s.asked s.asked.start s.before ms e a.rest a.first n

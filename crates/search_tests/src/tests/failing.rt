@@ -10,7 +10,7 @@ use crate::tests::find::{Ends, ROWS, Row, ends_of, expect_matches, nfa};
 use crate::tests::{ended, holds, same};
 use determinize_below::nfa::{BuildError, Transition};
 use determinize_below::{Input, Look, MatchKind, NFA, StateID};
-use determinize_find::{Builder, Match, Regex, Searcher, has_prefix, plain, reversed};
+use determinize_find::{Builder, Match, Pieces, Regex, Searcher, has_prefix, plain, reversed};
 use determinize_lazy::Lazy;
 use failing_alloc::{FailingAllocator, Outcome, fail_each_allocation};
 use std::alloc::{AllocError, Global};
@@ -302,6 +302,47 @@ fn advance_over(
     Ok(advance(rt, heap, &mut searcher, search, None)? && are_found)
 }
 
+/// Returns the part of a piece that was not read, after an error.
+fn unread<'h>(piece: &'h [u8], begin: usize, read: usize) -> Result<&'h [u8], Fail> {
+    match piece.get(read.saturating_sub(begin)..) {
+        Some(rest) => Ok(rest),
+        None => Err(Fail::new("more bytes were read than there are")),
+    }
+}
+
+/// Feeds a haystack in two pieces, and where a call fails, makes it again with enough memory, for
+/// the bytes that it did not read: no match is lost, and none is found twice. Returns whether no
+/// call failed.
+fn feed<'a>(
+    rt: &impl Abort,
+    heap: &'a Heap,
+    search: &mut Search<'_, 'a>,
+    row: &Row,
+    cut: usize,
+) -> Result<bool, Fail> {
+    let (first, second) = row.haystack.split_at(cut.min(row.haystack.len()));
+    let mut stream = Pieces::new(heap);
+    let mut found = Vec::new(heap);
+    heap.begin();
+    let is_first_read = stream.feed(search, first, &mut found).is_ok();
+    heap.end();
+    let rest = unread(first, 0, stream.bytes_read())?;
+    stream.feed(search, rest, &mut found)?;
+    heap.begin();
+    let is_second_read = stream.feed(search, second, &mut found).is_ok();
+    heap.end();
+    let rest = unread(second, first.len(), stream.bytes_read())?;
+    stream.feed(search, rest, &mut found)?;
+    heap.begin();
+    let is_finished = stream.finish(search, &mut found).is_ok();
+    heap.end();
+    if !is_finished {
+        stream.finish(search, &mut found)?;
+    }
+    expect_matches(rt, found.as_slice(), row.matches);
+    Ok(is_first_read && is_second_read && is_finished)
+}
+
 /// Makes each call of a `Regex` with new caches.
 fn search<'a>(
     rt: &impl Abort,
@@ -321,7 +362,10 @@ fn search<'a>(
     let mut first = Regex::new(heap, nfa, backward, limit);
     let are_listed = find_all(rt, heap, &mut first, row)?;
     let mut first = Regex::new(heap, nfa, backward, limit);
-    Ok(advance_over(rt, heap, &mut first, row)? && is_found && are_listed)
+    let are_passed = advance_over(rt, heap, &mut first, row)?;
+    let mut first = Regex::new(heap, nfa, backward, limit);
+    let are_fed = feed(rt, heap, &mut first, row, 2)?;
+    Ok(are_fed && are_passed && is_found && are_listed)
 }
 
 /// Finds the matches of a row by `plain`, and by an NFA and its reverse.

@@ -9,7 +9,7 @@ pub returns-in_default-clause-all : goal.returns-in_default-clause-all
 returns-in_default-clause-all g c =
     let rest : c.anchored-rest.result ≡ from c.args.input.now c.loop-found.start = search rules in
     let is : c.in_ok-next.field-0 ≡ None = search rules in
-    all_found c.args.lazy.now.nfa c.loop-found.lazy.nfa c.args.input.now c.anchored-rest.result c.loop-found.start
+    all_found None c.args.lazy.now.nfa c.loop-found.lazy.nfa c.args.input.now c.anchored-rest.result c.loop-found.start
     c.loop-found.before c.loop-found.found.items c.loop-found.invariant.nfa rest c.loop-found.invariant.first
     (subst (λ (o : Option Match). IsNext c.loop-found.lazy.nfa c.anchored-rest.result c.loop-found.before o) is
     c.in_ok-next.ensures.next)
@@ -47,9 +47,9 @@ loop-found-preserved g c =
       last = λ e k. sym (some_injective c.in-Some.next.end e k);
       first =
           subst
-          (λ (ms : List Match). AreFirst c.args.lazy.now.nfa c.args.input.now c.in-Some.next.end
+          (λ (ms : List Match). AreFirst c.args.lazy.now.nfa c.args.input.now None c.in-Some.next.end
           (Some c.in-Some.next.end) ms) (sym items)
-          (one_more c.args.lazy.now.nfa c.loop-found.lazy.nfa c.args.input.now c.anchored-rest.result
+          (one_more None c.args.lazy.now.nfa c.loop-found.lazy.nfa c.args.input.now c.anchored-rest.result
           c.loop-found.start c.loop-found.before c.loop-found.found.items c.in-Some.next
           c.loop-found.invariant.nfa rest c.loop-found.invariant.first next);
     }

@@ -1,4 +1,4 @@
-use Rattle.std.proofs.Common.{◌≡◌, ◌≤◌, ◌+◌, ℕ, Some}
+use Rattle.std.proofs.Common.{◌≡◌, ◌≤◌, ◌+◌, ℕ, None, Some}
 use Rattle.determinize_find.specs.Private.Left.{left}
 use Rattle.determinize_find.proofs.matches.NextMatch.{AreFirst}
 use Rattle.determinize_find.proofs.plain.find_all.Given as goal
@@ -10,7 +10,7 @@ invariant-loop-found g l = record {
   limit : l.lazy.limit ≡ l.fn.lazy.limit;
   near : l.start ≤ l.input.end + 1;
   last : (e : ℕ) → l.before ≡ Some e → e ≡ l.start;
-  first : AreFirst l.fn.lazy.nfa l.input l.start l.before l.found.items;
+  first : AreFirst l.fn.lazy.nfa l.input None l.start l.before l.found.items;
 }
 
 abbrev pub decreases-loop-found : goal.decreases-loop-found

@@ -1,4 +1,5 @@
-use Rattle.std.proofs.Common.{rules, ◌≡◌, ◌≤◌, ◌++◌, ◌∙◌, ◌∷◌, List, None, Option, [], ap, arith, length, subst, sym}
+use Rattle.std.proofs.Common.{rules, ◌≡◌, ◌≤◌, ◌++◌, ◌∙◌, ◌∷◌, List, None, Option, Some, [], ap, arith, length, subst}
+use Rattle.std.proofs.Common.{sym}
 use Rattle.determinize_below.specs.declared.search.Match.{Match}
 use Rattle.determinize_find.specs.Cursors.{after_match}
 use Rattle.determinize_find.specs.Matches.{IsNext}
@@ -9,8 +10,8 @@ use Rattle.determinize_find.proofs.regex.Regex.find_all.Goals as goal
 pub loop-all-init : goal.loop-all-init
 loop-all-init g c = record {
   same = search rules;
-  after = after_none c.args.self.now.nfa c.args.input.now c.new-searcher.result c.new-all.result.items (search rules)
-      (search rules);
+  after = after_none c.args.self.now.nfa c.args.input.now None c.new-searcher.result c.new-all.result.items
+      (search rules) (search rules) (λ end e. absurd (let z : None ≡ Some end = e in cc));
 }
 
 pub loop-all-smaller : goal.loop-all-smaller
@@ -33,7 +34,8 @@ loop-all-preserved g c =
     record {
       same = c.in_ok-found.ensures.same ∙ c.loop-all.invariant.same;
       after =
-          subst (λ (ms : List Match). IsAfter c.args.self.now.nfa c.args.input.now c.advance.new.self ms) (sym items)
+          subst (λ (ms : List Match). IsAfter c.args.self.now.nfa c.args.input.now None c.advance.new.self ms)
+          (sym items)
           (after_one c.args.self.now.nfa c.loop-all.self.nfa c.args.input.now c.loop-all.searcher c.advance.new.self
           c.loop-all.all.items c.in-Some.found (ap (λ (v : RegexValue). v.nfa) c.loop-all.invariant.same) inside
           c.loop-all.invariant.after

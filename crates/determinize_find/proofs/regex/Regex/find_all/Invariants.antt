@@ -1,4 +1,4 @@
-use Rattle.std.proofs.Common.{◌≡◌}
+use Rattle.std.proofs.Common.{◌≡◌, None}
 use Rattle.determinize_find.specs.Private.Left.{left}
 use Rattle.determinize_find.proofs.matches.NextMatch.{IsAfter}
 use Rattle.determinize_find.proofs.regex.Regex.find_all.Given as goal
@@ -6,7 +6,7 @@ use Rattle.determinize_find.proofs.regex.Regex.find_all.Given as goal
 abbrev pub invariant-loop-all : goal.invariant-loop-all
 invariant-loop-all g l = record {
   same : l.self ≡ l.fn.self;
-  after : IsAfter l.fn.self.nfa l.fn.input l.searcher l.all.items;
+  after : IsAfter l.fn.self.nfa l.fn.input None l.searcher l.all.items;
 }
 
 abbrev pub decreases-loop-all : goal.decreases-loop-all

@@ -1,0 +1,108 @@
+use Rattle.std.specs.Option.{IfSome}
+use Rattle.std.proofs.Common.{◌≡◌, ◌≤◌, ◌-◌, ◌∙◌, Option, Some, [], ap, drop, length, subst, sym}
+use Rattle.determinize_below.specs.declared.search.Match.{Match}
+use Rattle.determinize_start.specs.StartKinds.{byte_before}
+use Rattle.determinize_lazy.proofs.steps.Rule.{of_err}
+use Rattle.determinize_find.specs.Private.Windows.{IsCertain, without_first}
+use Rattle.determinize_find.specs.Regexes.{RegexValue}
+use Rattle.determinize_find.specs.Streams.{IsEndScan, IsFed, Streamed}
+use Rattle.determinize_find.proofs.leftmost.TwoSearches.{all_bytes}
+use Rattle.determinize_find.proofs.streams.Steps.{all_fed, certain_at, ended_fed, ended_searching, joined_none}
+use Rattle.determinize_find.proofs.streams.Steps.{keep_failed, kept_fed, scan_at, with_scan}
+use Rattle.determinize_find.proofs.pieces.Pieces.read_block.Goals as goal
+
+pub returns-in_err-scan-clause-failed : goal.returns-in_err-scan-clause-failed
+returns-in_err-scan-clause-failed g c =
+    of_err _ (keep_failed c.args.regex.now.nfa c.args.self.now c.keep.new.self c.args.block.now c.args.found.now.items
+    (all_bytes c.args.block.now c.type_inv.block) c.in_err-scan.ensures.failed)
+
+pub loop-scan-init : goal.loop-scan-init
+loop-scan-init g c = record {
+  same = c.in_ok-scan.ensures.same;
+  fed = kept_fed c.args.regex.now.nfa c.args.self.now c.keep.new.self c.args.block.now c.args.found.now.items
+      (all_bytes c.args.block.now c.type_inv.block) c.in_ok-scan.ensures.kept;
+  none = ap (λ (s : Streamed). s.scan) c.in_ok-scan.ensures.kept;
+  scan = c.in_ok-scan.ensures.scan;
+}
+
+pub returns-in_err-next-clause-failed : goal.returns-in_err-next-clause-failed
+returns-in_err-next-clause-failed g c = of_err _ (all_fed c.loop-scan.invariant.fed)
+
+pub returns-in_err-add-clause-failed : goal.returns-in_err-add-clause-failed
+returns-in_err-add-clause-failed g c =
+    of_err _ (all_fed (joined_none c.loop-scan.invariant.fed (c.in_err-add.ensures.fed c.args.regex.now.nfa
+    (certain_at c.args.regex.now.nfa c.loop-scan.regex.nfa c.as_slice.result.now c.loop-scan.self.kept
+    c.self.inside.start c.loop-scan.self.start c.in-Some.next
+    (ap (λ (v : RegexValue). v.nfa) c.loop-scan.invariant.same)
+    (c.as_slice.ensures.value ∙ ap (λ (s : Streamed). s.kept) c.self.view_is)
+    (ap (λ (s : Streamed). s.start) c.self.view_is)
+    (subst (λ (o : Option Match). IfSome o (λ m. IsCertain c.loop-scan.regex.nfa c.as_slice.result.now
+    c.self.inside.start m)) c.in-Some.is c.in_ok-next.ensures.certain)))))
+
+pub returns-in_err-scan-2-clause-failed : goal.returns-in_err-scan-2-clause-failed
+returns-in_err-scan-2-clause-failed g c =
+    of_err _ (all_fed (joined_none c.loop-scan.invariant.fed (c.in_ok-add.ensures.fed c.args.regex.now.nfa
+    (certain_at c.args.regex.now.nfa c.loop-scan.regex.nfa c.as_slice.result.now c.loop-scan.self.kept
+    c.self.inside.start c.loop-scan.self.start c.in-Some.next
+    (ap (λ (v : RegexValue). v.nfa) c.loop-scan.invariant.same)
+    (c.as_slice.ensures.value ∙ ap (λ (s : Streamed). s.kept) c.self.view_is)
+    (ap (λ (s : Streamed). s.start) c.self.view_is)
+    (subst (λ (o : Option Match). IfSome o (λ m. IsCertain c.loop-scan.regex.nfa c.as_slice.result.now
+    c.self.inside.start m)) c.in-Some.is c.in_ok-next.ensures.certain)))))
+
+pub loop-scan-preserved : goal.loop-scan-preserved
+loop-scan-preserved g c = record {
+  same = c.in_ok-scan-2.ensures.same ∙ c.in_ok-next.ensures.same ∙ c.loop-scan.invariant.same;
+  fed = joined_none c.loop-scan.invariant.fed (c.in_ok-add.ensures.fed c.args.regex.now.nfa
+      (certain_at c.args.regex.now.nfa c.loop-scan.regex.nfa c.as_slice.result.now c.loop-scan.self.kept
+      c.self.inside.start c.loop-scan.self.start c.in-Some.next
+      (ap (λ (v : RegexValue). v.nfa) c.loop-scan.invariant.same)
+      (c.as_slice.ensures.value ∙ ap (λ (s : Streamed). s.kept) c.self.view_is)
+      (ap (λ (s : Streamed). s.start) c.self.view_is)
+      (subst (λ (o : Option Match). IfSome o (λ m. IsCertain c.loop-scan.regex.nfa c.as_slice.result.now
+      c.self.inside.start m)) c.in-Some.is c.in_ok-next.ensures.certain)));
+  none = c.in_ok-add.ensures.scan ∙ c.loop-scan.invariant.none;
+  scan = scan_at c.args.regex.now.nfa c.certain.new.self.nfa c.as_slice-in-Some.result.now c.add.new.self.kept
+      c.self-in-Some.inside.start c.add.new.self.start c.in_ok-scan-2.scan
+      (ap (λ (v : RegexValue). v.nfa) (c.in_ok-next.ensures.same ∙ c.loop-scan.invariant.same))
+      (c.as_slice-in-Some.ensures.value ∙ ap (λ (s : Streamed). s.kept) c.self-in-Some.view_is)
+      (ap (λ (s : Streamed). s.start) c.self-in-Some.view_is) c.in_ok-scan-2.ensures.scan;
+}
+
+pub skip_idle-requires : goal.skip_idle-requires
+skip_idle-requires g c =
+    subst (λ (v : RegexValue). IsEndScan v.nfa (byte_before c.loop-scan.self.kept c.loop-scan.self.start)
+    (drop c.loop-scan.self.start c.loop-scan.self.kept) c.loop-scan.scan)
+    (sym (c.in_ok-next.ensures.same ∙ c.loop-scan.invariant.same)) c.loop-scan.invariant.scan
+
+pub returns-in_err-rest-clause-failed : goal.returns-in_err-rest-clause-failed
+returns-in_err-rest-clause-failed g c =
+    of_err _ (all_fed (joined_none c.loop-scan.invariant.fed
+    (subst (λ (v : RegexValue). IsFed v.nfa c.loop-scan.self c.skip_idle.new.self [] c.loop-scan.found.items
+    c.loop-scan.found.items) (c.in_ok-next.ensures.same ∙ c.loop-scan.invariant.same)
+    (c.in_err-rest.ensures.fed c.loop-scan.found.items))))
+
+pub returns-clause-fed : goal.returns-clause-fed
+returns-clause-fed g c =
+    let e : c.drop_passed.new.self
+    ≡ without_first (c.skip_idle.new.self.start - 1) (with_scan (Some c.in_ok-rest.rest) c.skip_idle.new.self)
+    = c.drop_passed.ensures ∙ ap (λ (s : Streamed). without_first (s.start - 1) (with_scan (Some c.in_ok-rest.rest) s))
+    c.self-2.view_is in
+    ended_fed c.args.regex.now.nfa c.args.self.now c.skip_idle.new.self c.drop_passed.new.self c.in_ok-rest.rest
+    c.args.block.now c.args.found.now.items c.loop-scan.found.items
+    (joined_none c.loop-scan.invariant.fed
+    (subst (λ (v : RegexValue). IsFed v.nfa c.loop-scan.self c.skip_idle.new.self [] c.loop-scan.found.items
+    c.loop-scan.found.items) (c.in_ok-next.ensures.same ∙ c.loop-scan.invariant.same)
+    (c.in_ok-rest.ensures.fed c.loop-scan.found.items)))
+    (subst (λ (s : Streamed). s.start ≤ length s.kept) c.self-2.view_is c.self-2.invariant.within) e
+
+pub returns-clause-searching : goal.returns-clause-searching
+returns-clause-searching g c =
+    let e : c.drop_passed.new.self
+    ≡ without_first (c.skip_idle.new.self.start - 1) (with_scan (Some c.in_ok-rest.rest) c.skip_idle.new.self)
+    = c.drop_passed.ensures ∙ ap (λ (s : Streamed). without_first (s.start - 1) (with_scan (Some c.in_ok-rest.rest) s))
+    c.self-2.view_is in
+    ended_searching c.args.regex.now.nfa c.skip_idle.new.self c.drop_passed.new.self c.in_ok-rest.rest
+    (subst (λ (v : RegexValue). IsEndScan v.nfa (byte_before c.skip_idle.new.self.kept c.skip_idle.new.self.start)
+    (drop c.skip_idle.new.self.start c.skip_idle.new.self.kept) c.in_ok-rest.rest)
+    (c.in_ok-next.ensures.same ∙ c.loop-scan.invariant.same) c.in_ok-rest.ensures.scan) e

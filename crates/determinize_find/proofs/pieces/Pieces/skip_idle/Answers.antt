@@ -1,0 +1,23 @@
+use Rattle.std.proofs.Common.{rules, ◌≡◌, ◌∙◌, ℕ, List, [], ap, false, length, subst, sym}
+use Rattle.determinize_find.specs.Private.Windows.{IsFresh}
+use Rattle.determinize_find.specs.Streams.{IsFed, Streamed}
+use Rattle.determinize_find.proofs.streams.Steps.{fed_later, to_end}
+use Rattle.determinize_find.proofs.pieces.Pieces.skip_idle.Goals as goal
+
+pub returns-clause-fed : goal.returns-clause-fed
+returns-clause-fed g c list =
+    let count : length c.self.inside.kept.items ≡ c.len-self-inside.result = search rules in
+    let fresh : IsFresh c.args.regex.now.nfa c.args.self.now.kept c.args.self.now.start
+    = subst (λ (s : Streamed). IsFresh c.args.regex.now.nfa s.kept s.start) c.self.view_is
+    (subst (λ (xs : List ℕ). IsFresh c.args.regex.now.nfa xs c.self.inside.start) c.as_slice.ensures.value
+    (c.is_idle.ensures c.if-not-is_idle.false)) in
+    subst (λ (s : Streamed). IsFed c.args.regex.now.nfa c.args.self.now s [] list list)
+    (ap to_end (sym c.self.view_is) ∙ (λ i. record {
+      kept = c.self.inside.kept.items;
+      dropped = c.self.inside.dropped;
+      start = count i;
+      is_after = false;
+      scan = c.self.inside.scan;
+    }))
+    (fed_later c.args.regex.now.nfa c.args.self.now list
+    (subst (λ (s : Streamed). s.start ≡ 0 → s.dropped ≡ 0) c.self.view_is c.self.invariant.behind) fresh)

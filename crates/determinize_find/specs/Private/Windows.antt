@@ -1,0 +1,54 @@
+-- What is true of every `Pieces`, and of the match that it is sure of.
+use Rattle.std.specs.Prelude.{◌≡◌, ◌*◌, ◌+◌, ◌++◌, ◌-◌, ◌<◌, ◌≤◌, ℕ, All, List, None, Some, cond}
+use Rattle.std.specs.Prelude.{drop, length}
+use Rattle.determinize_below.specs.Semantics.{Nfa, between}
+use Rattle.determinize_below.specs.declared.search.Match.{Match}
+use Rattle.determinize_start.specs.StartKinds.{byte_before}
+use Rattle.determinize_find.specs.Idle.{NothingBefore}
+use Rattle.determinize_find.specs.LeftmostIn.{IsLeftmostIn}
+use Rattle.determinize_find.specs.Matches.{from}
+use Rattle.determinize_find.specs.Prefix.{HasPrefix}
+use Rattle.determinize_find.specs.Streams.{Streamed, whole}
+
+-- the search begins in the kept bytes, the byte before it is kept, and what was read has a count
+pub record IsWindow (kept : List ℕ) (dropped start : ℕ) : Type 0 where
+  pub within : start ≤ length kept
+  pub behind : start ≡ 0 → dropped ≡ 0
+  pub count : dropped + length kept ≤ 18446744073709551615
+
+-- the leftmost match from an index on, regardless of what follows the haystack
+pub record IsCertain (nfa : Nfa) (haystack : List ℕ) (start : ℕ) (m : Match) : Type 0 where
+  pub low : start ≤ m.start
+  pub order : m.start ≤ m.end
+  pub high : m.end < length haystack
+  pub leftmost : (more : List ℕ) → All (λ b. b < 256) more
+      → IsLeftmostIn nfa (from (whole (haystack ++ more)) start) (Some m)
+
+-- no match begins in the haystack from an index on, regardless of what follows it
+pub record IsFresh (nfa : Nfa) (haystack : List ℕ) (start : ℕ) : Type 0 where
+  pub prefix : HasPrefix nfa
+  pub some : start < length haystack
+  pub nothing : (more : List ℕ) → All (λ b. b < 256) more
+      → NothingBefore nfa (between (byte_before haystack start) (drop start haystack ++ more) None)
+      (length haystack - start)
+
+-- how many more matches may be certain: two for each byte after the start, since an empty match may
+-- be followed by another, which is skipped
+abbrev pub left_in : Streamed → ℕ
+left_in s = 2 * (length s.kept - s.start) + cond s.is_after 0 1
+
+-- no search is under way
+abbrev pub unsearched : Streamed → Streamed
+unsearched s = record s { scan = None }
+
+-- more bytes are kept, and no search is under way
+abbrev pub with_bytes : List ℕ → Streamed → Streamed
+with_bytes more s = record s { kept = s.kept ++ more; scan = None }
+
+-- the first bytes are dropped
+abbrev pub without_first : ℕ → Streamed → Streamed
+without_first count s = record s {
+  kept = drop count s.kept;
+  dropped = s.dropped + count;
+  start = s.start - count;
+}

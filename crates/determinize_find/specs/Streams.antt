@@ -1,0 +1,83 @@
+-- All matches of a text that comes in pieces.
+use Rattle.std.specs.Prelude.{◌≡◌, ◌+◌, ◌<◌, ◌≤◌, ◌++◌, ℕ, All, Bool, List, None, Option, Some}
+use Rattle.std.specs.Prelude.{cond, drop, length, take}
+use Rattle.std.specs.Option.{IfSome}
+use Rattle.determinize_below.specs.Nfa.{AllResolve, IsAccepted}
+use Rattle.determinize_below.specs.Semantics.{Nfa}
+use Rattle.determinize_below.specs.Search.{Asked}
+use Rattle.determinize_below.specs.declared.search.Anchored.TheVariants.{No}
+use Rattle.determinize_below.specs.declared.search.Match.{Match}
+use Rattle.determinize_below.specs.declared.search.MatchKind.TheVariants.{LeftmostFirst}
+use Rattle.determinize_start.specs.StartKinds.{byte_before}
+use Rattle.determinize_lazy.specs.Scans.{IsScan, Scanned}
+use Rattle.determinize_find.specs.Matches.{AreMatches, from}
+use Rattle.determinize_find.specs.Prefix.{HasPrefix}
+
+-- what a `Pieces` is seen as: the bytes that it keeps, how many it dropped before them, the index
+-- in the kept bytes where the search for the next match begins, whether a match ended there, and
+-- that search
+pub record Streamed : Type 0 where
+  pub kept : List ℕ
+  pub dropped : ℕ
+  pub start : ℕ
+  pub is_after : Bool
+  pub scan : Option Scanned
+
+-- how many bytes were read
+abbrev pub count_read : Streamed → ℕ
+count_read s = s.dropped + length s.kept
+
+-- where the search for the next match begins in the text
+abbrev pub place : Streamed → ℕ
+place s = s.dropped + s.start
+
+-- where the match before it ended, if that is where the search begins
+abbrev pub before : Streamed → Option ℕ
+before s = cond s.is_after (Some (place s)) None
+
+-- the whole of a haystack
+abbrev pub whole : List ℕ → Asked
+whole bytes = record { haystack = bytes; start = 0; end = length bytes; anchored = No }
+
+-- the search for the end of the leftmost match of a text that begins with these bytes
+pub record IsEndScan (nfa : Nfa) (behind : Option ℕ) (bytes : List ℕ) (s : Scanned) : Type 0 where
+  pub accepted : IsAccepted nfa
+  pub prefix : HasPrefix nfa
+  pub resolve : AllResolve nfa s.state.states
+  pub scan : IsScan nfa LeftmostFirst nfa.start_unanchored behind bytes s
+
+-- the search has read the kept bytes from its start on
+abbrev pub IsSearching : Nfa → Streamed → Type 0
+IsSearching nfa s = IfSome s.scan
+    (λ scan. IsEndScan nfa (byte_before s.kept s.start) (drop s.start s.kept) scan)
+
+-- these bytes were read and these matches were found: all matches of each text that begins with the
+-- bytes are these matches, and then those from the place on
+pub record IsStream (nfa : Nfa) (bytes : List ℕ) (given : List Match) (s : Streamed)
+    : Type 0 where
+  pub read : count_read s ≡ length bytes
+  pub kept : s.kept ≡ drop s.dropped bytes
+  pub matches : (more : List ℕ) → All (λ b. b < 256) more → (ms : List Match)
+      → AreMatches nfa (from (whole (bytes ++ more)) (place s)) (before s) ms
+      → AreMatches nfa (whole (bytes ++ more)) None (given ++ ms)
+
+-- some more bytes were read, and some more matches were added to a list
+pub record IsFed (nfa : Nfa) (old new : Streamed) (more : List ℕ) (list after : List Match)
+    : Type 0 where
+  pub found : List Match
+  pub added : after ≡ list ++ found
+  pub read : count_read new ≡ count_read old + length more
+  pub stream : (bytes : List ℕ) (given : List Match) → IsStream nfa bytes given old
+      → IsStream nfa (bytes ++ more) (given ++ found) new
+
+-- the same of the first bytes of a piece
+abbrev pub IsPartFed : Nfa → Streamed → Streamed → List ℕ → List Match → List Match → Type 0
+IsPartFed nfa old new piece list after =
+    (count : ℕ) × (count ≤ length piece) × IsFed nfa old new (take count piece) list after
+
+-- the matches that are left, where the text ends, were added to a list
+pub record IsFinished (nfa : Nfa) (s : Streamed) (list after : List Match) : Type 0 where
+  pub found : List Match
+  pub added : after ≡ list ++ found
+  pub all : (bytes : List ℕ) (given : List Match) → IsStream nfa bytes given s
+      → AreMatches nfa (whole bytes) None (given ++ found)

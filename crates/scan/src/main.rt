@@ -1,0 +1,60 @@
+//! Prints where each string in double quotes in standard input begins and ends, one on a line. The
+//! input is read in pieces of 64 KB, and a string may lie in several.
+#![tactic(auto)]
+
+ghost use Rattle.std.specs.Prelude.{◌≡◌, false, IfOk};
+ghost use Rattle.determinize_find.specs.Prefix.{HasPrefix};
+
+use determinize_below::nfa::BuildError;
+use determinize_below::{NFA, StateID, Transition};
+use determinize_find::{Builder, Match, Pieces, Regex, reversed};
+use std::alloc::Allocator;
+use std::io::{Print, Read};
+
+/// Returns the transition to `next` on each byte from `start` to `end`.
+fn range(start: u8, end: u8, next: StateID) -> Transition {
+    Transition { start, end, next }
+}
+
+/// Returns the NFA of `"[^"]*"` after the prefix that passes over any bytes.
+fn strings<A: Allocator + Copy>(alloc: A) -> Result<NFA<A>, BuildError>
+    ensures prefix { IfOk result (λ nfa. HasPrefix nfa) }
+    ensures forward { IfOk result (λ nfa. nfa.reverse ≡ false) }
+{
+    let mut builder = Builder::new(alloc);
+    let done = builder.add_match()?;
+    let close = builder.add_range(range(b'"', b'"', done))?;
+    let inner = builder.add_union(&[close])?;
+    let other = builder.add_sparse(&[range(0, b'!', inner), range(b'#', 255, inner)])?;
+    builder.patch(inner, other)?;
+    let open = builder.add_range(range(b'"', b'"', inner))?;
+    builder.build_with_prefix(open)
+}
+
+/// Prints the ends of each match.
+fn print(rt: &impl Print, found: &[Match]) -> anyhow::Result<()> {
+    for found in found {
+        println!(rt; "{}..{}", found.start, found.end)?;
+    }
+    Ok(())
+}
+
+fn main(rt: HostRuntime) -> anyhow::Result<()> {
+    let nfa = strings(rt.alloc())?;
+    let backward = reversed(rt.alloc(), &nfa)?;
+    let mut regex = Regex::new(rt.alloc(), &nfa, &backward, 1000);
+    let mut pieces = Pieces::new(rt.alloc());
+    let mut found = Vec::new(rt.alloc());
+    let mut buffer = Vec::from_elem(rt.alloc(), 0u8, 65536)?;
+    for _ in 0..u64::MAX {
+        let count = rt.reader().read(buffer.as_mut_slice())?;
+        if count == 0 {
+            break;
+        }
+        pieces.feed(&mut regex, &buffer[..count], &mut found)?;
+        print(&rt, found.as_slice())?;
+        found.clear();
+    }
+    pieces.finish(&mut regex, &mut found)?;
+    print(&rt, found.as_slice())
+}
