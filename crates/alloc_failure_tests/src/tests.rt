@@ -7,7 +7,6 @@ mod builders;
 mod large;
 mod lazy;
 mod printing;
-mod scans;
 mod sets;
 mod states;
 mod steps;
