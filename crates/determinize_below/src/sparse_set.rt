@@ -101,10 +101,9 @@ impl<A: Allocator> SparseSet<A> {
         } }
         ensures members { AreMembers self.new }
     {
-        if is_bit_set(&self.bits, id.as_usize()) {
+        if set_bit(&mut self.bits, id) {
             return false;
         }
-        set_bit(&mut self.bits, id);
         // `new` has reserved room for every id below the capacity.
         self.ids.push_reserved(id);
         true
@@ -140,23 +139,33 @@ pub(crate) fn is_bit_set(words: &[u64], index: usize) -> bool
     (words[index / 64] >> (index % 64)) & 1 == 1
 }
 
-/// Sets the bit of the id.
+/// Sets the bit of the id and returns whether it was set before. It writes the word in any case,
+/// since compilers need three instructions fewer if no branch comes between reading and writing it.
 #[tactic(auto, using(crate::proofs::sets::Bits::one_bit))]
-fn set_bit(words: &mut [u64], id: StateID)
+#[inline(always)]
+fn set_bit(words: &mut [u64], id: StateID) -> bool
     requires { id < 64 * length words.old }
-    ensures { (other : ℕ) → has_bit words.new other ≡ (nat_eq other id || has_bit words.old other) }
+    ensures before { result ≡ has_bit words.old id }
+    ensures after { (other : ℕ)
+        → has_bit words.new other ≡ (nat_eq other id || has_bit words.old other) }
 {
     let index = id.as_usize();
+    let was_set = is_bit_set(words, index);
     words[index / 64] |= 1 << (index % 64);
+    was_set
 }
 
 /// Clears the bits of these ids, and maybe other bits, and sets none. For a short list it clears
-/// the word of each id, for a long one it is faster to fill all words.
+/// the word of each id, for a long one, or if there is only one word, it is faster to fill all.
 #[inline(always)]
 fn clear_bits(words: &mut [u64], ids: &[StateID])
     requires { All (λ id. id < 64 * length words.old) ids.now }
     ensures { IsCleared words.old words.new ids.now }
 {
+    if words.len() == 1 {
+        words.fill(0);
+        return;
+    }
     if ids.len() > 16 {
         return clear_many(words, ids);
     }

@@ -2,9 +2,9 @@
 -- Main statements: distinct_push, room_for_one, cleared_all, the rulesets emptying and pushing.
 -- Used by: the calls of `SparseSet`.
 -- Idea: a bit is set exactly if its id is in the list.
-use Rattle.std.proofs.lemmas.Bool.{eqb-true}
+use Rattle.std.proofs.lemmas.Bool.{cases_eq, eqb-true}
 use Rattle.determinize_below.proofs.Common.{[], arith, Bool, by_cases, cases_lt, false, false≢true, get_or, has_bit, inl, inr, IsCleared, length, List, list_any-append, nat_eq, not, replicate, set, subst, sym, take, true, ℕ, ◌*◌, ◌++◌, ◌+◌, ◌/◌, ◌<◌, ◌||◌, ◌∙◌, ◌∷◌, ◌≡◌, ◌≤◌, ◌⊎◌}
-use Rattle.std.proofs.Common.{All, length-append}
+use Rattle.std.proofs.Common.{All, eq-eqb, length-append, ne_eqb, refl}
 use Rattle.std.specs.Cmp.{nat_eq_equiv}
 use Rattle.std.specs.List.{IsDistinct}
 use Rattle.std.proofs.Math.ListN.{get_or-append}
@@ -34,6 +34,13 @@ holds-push ids id other = list_any-append (nat_eq other) ids (id ∷ []) ∙ tur
   where
     turned : (a b : Bool) → (a || (b || false)) ≡ (b || a)
     turned a b = grind arith
+
+pub holds-again : (ids : List ℕ) (id other : ℕ) → has_id ids id ≡ true
+    → (nat_eq other id || has_id ids other) ≡ has_id ids other
+holds-again ids id other h =
+    by_cases (cases_eq other id)
+    (λ e. rw (e, eq-eqb id id refl, h) refl)
+    (λ ne. rw (ne_eqb other id ne) refl)
 
 pub get_or-push : (ids : List ℕ) (id k d : ℕ) → k < length (ids ++ id ∷ [])
     → (get_or (ids ++ id ∷ []) k d ≡ id) ⊎ ((k < length ids) × (get_or (ids ++ id ∷ []) k d ≡ get_or ids k d))
@@ -88,4 +95,4 @@ cleared_more words fewer ids i h within so_far = record {
 -- the rules for the invariant of an empty set, and of a set with a new id
 pub ruleset emptying = (distinct_none, has_bit-zeros, length-replicate, words_back)
 
-pub ruleset pushing = (distinct_push, get_or-push, holds-push, words_back)
+pub ruleset pushing = (distinct_push, get_or-push, holds-again, holds-push, words_back)
