@@ -55,6 +55,7 @@ pub enum Look {
 
 impl Look {
     /// Returns the bit of the assertion, one of the lowest 18.
+    #[inline(always)]
     pub fn as_repr(self) -> u32
         ensures { result ≡ bit_of self }
     {
@@ -134,6 +135,7 @@ impl LookSet {
     }
 
     /// Returns whether the set contains the assertion.
+    #[inline(always)]
     pub fn contains(self, look: Look) -> bool
         ensures { result ≡ has self look }
     {
@@ -141,6 +143,7 @@ impl LookSet {
     }
 
     /// Returns the set with the assertion added.
+    #[inline(always)]
     pub fn insert(self, look: Look) -> LookSet
         ensures { result ≡ looks.insert self look }
     {
