@@ -15,7 +15,7 @@ ghost use Rattle.std.specs.Prelude.{◌≡◌, true, false, not, ◌&&◌, ◌||
 ghost use Rattle.std.specs.Option.{is_none};
 ghost use Rattle.determinize_below.specs.Look.{has, has_word};
 ghost use Rattle.determinize_below.specs.Nfa.{IsAccepted};
-ghost use Rattle.determinize_below.specs.Semantics.{crlf_1, crlf_2, is};
+ghost use Rattle.determinize_below.specs.Semantics.{crlf_1, crlf_2, is, is_word};
 ghost use Rattle.determinize_below.specs.Unit.{byte_of};
 ghost use Rattle.determinize_below.specs.declared.look.Look.{Look as Assertion};
 ghost use Rattle.determinize_start.specs.LookTables as tables;
@@ -84,22 +84,46 @@ fn insert_where(set: LookSet, test: bool, look: Look) -> LookSet
     if test { set.insert(look) } else { set }
 }
 
+/// The assertions that hold at a word boundary.
+const BOUNDARY: u32 = Look::WordAscii as u32 | Look::WordUnicode as u32;
+
+/// The assertions that hold where there is no word boundary.
+const NO_BOUNDARY: u32 = Look::WordAsciiNegate as u32 | Look::WordUnicodeNegate as u32;
+
+/// The assertions that hold at a word start.
+const WORD_START: u32 = Look::WordStartAscii as u32 | Look::WordStartUnicode as u32;
+
+/// The assertions that hold at a word end.
+const WORD_END: u32 = Look::WordEndAscii as u32 | Look::WordEndUnicode as u32;
+
+/// The assertions that hold where no word byte follows.
+const HALF_END: u32 = Look::WordEndHalfAscii as u32 | Look::WordEndHalfUnicode as u32;
+
+/// The word assertions that hold between two bytes, by whether the first is a word byte, and for
+/// each by whether the second is.
+const WORD_SETS: [u32; 4] = [
+    NO_BOUNDARY | HALF_END,
+    BOUNDARY | WORD_START,
+    BOUNDARY | WORD_END | HALF_END,
+    NO_BOUNDARY,
+];
+
 /// Returns the word assertions that hold between two bytes, given whether each is a word byte,
 /// except `WordStartHalfAscii` and `WordStartHalfUnicode`, which the look-behind satisfies.
 fn word_set(from_word: bool, word: bool) -> LookSet
     ensures { result ≡ sets.word_set from_word word }
 {
-    let set = LookSet::empty();
-    let set = insert_where(set, from_word != word, Look::WordAscii);
-    let set = insert_where(set, from_word != word, Look::WordUnicode);
-    let set = insert_where(set, from_word == word, Look::WordAsciiNegate);
-    let set = insert_where(set, from_word == word, Look::WordUnicodeNegate);
-    let set = insert_where(set, !from_word && word, Look::WordStartAscii);
-    let set = insert_where(set, !from_word && word, Look::WordStartUnicode);
-    let set = insert_where(set, from_word && !word, Look::WordEndAscii);
-    let set = insert_where(set, from_word && !word, Look::WordEndUnicode);
-    let set = insert_where(set, !word, Look::WordEndHalfAscii);
-    insert_where(set, !word, Look::WordEndHalfUnicode)
+    LookSet::from_repr(WORD_SETS[2 * from_word as usize + word as usize])
+}
+
+/// Returns the word assertions that the unit satisfies, given whether the byte behind is a word
+/// byte, in addition to those that the look-behind satisfies.
+#[inline(always)]
+pub fn words_opened(from_word: bool, unit: Unit) -> LookSet
+    ensures { (look : Assertion)
+        → has result look ≡ tables.word_opened from_word (is_word (byte_of unit)) look }
+{
+    word_set(from_word, unit.is_word_byte())
 }
 
 /// The configuration of an NFA that look-behind depends on.
@@ -268,7 +292,6 @@ impl LookTables {
         ensures { (look : Assertion)
             → has result look ≡ tables.opened self from_word half_crlf (byte_of unit) look }
     {
-        let words = word_set(from_word, unit.is_word_byte());
-        words.union(self.line_set(half_crlf, unit))
+        words_opened(from_word, unit).union(self.line_set(half_crlf, unit))
     }
 }

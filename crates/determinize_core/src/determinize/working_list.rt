@@ -4,14 +4,15 @@
 //! satisfies an assertion that they need. The first reading adds the patterns of the `Match` states
 //! to the builder and pushes the targets of the others on the unit, in order.
 
-ghost use Rattle.std.specs.Prelude.{◌≡◌, ℕ, ◌+◌, ◌<◌, ◌≤◌, List, [], All, Option, Some, false, length, nat_eq, is_some, not, IfOk, IfSome, OnOk, ◌&&◌, ◌||◌};
+ghost use Rattle.std.specs.Prelude.{◌≡◌, ℕ, Bool, IsTrue, ◌+◌, ◌<◌, ◌≤◌, List, [], All, Option, Some, false, length, nat_eq, is_some, not, IfOk, IfSome, OnOk, ◌&&◌, ◌||◌};
 ghost use Rattle.std.specs.Iterator.{IsFinite, YieldsFirst};
 ghost use Rattle.std.specs.List.{flat_map, list_any};
 ghost use Rattle.determinize_below.specs.Edges.{is_match, pattern_of, patterns_of, target};
 ghost use Rattle.determinize_below.specs.Semantics.{state_at, target_of};
-ghost use Rattle.determinize_below.specs.Look.{has};
+ghost use Rattle.determinize_below.specs.Look.{has, has_haystack, has_line};
 ghost use Rattle.determinize_below.specs.Members.{has_id};
 ghost use Rattle.determinize_below.specs.Nfa.{AllResolve, IsAccepted};
+ghost use Rattle.determinize_start.specs.LookTables.{Tables, opened};
 ghost use Rattle.ordered_reach.specs.Reach.{joined};
 ghost use Rattle.determinize_below.specs.Search.{continues};
 ghost use Rattle.determinize_below.specs.Unit.{byte_of};
@@ -27,7 +28,7 @@ use crate::determinize::steps::Steps;
 use determinize_below::{
     LookSet, MatchKind, NFA, PatternID, SparseSet, SparseSetIter, SparseSets, StateID, Unit, nfa,
 };
-use determinize_start::look_tables::LookTables;
+use determinize_start::look_tables::{LookTables, words_opened};
 use determinize_state::state::{NfaStateIds, State, StateBuilderNFA};
 use std::alloc::{AllocError, Allocator};
 use std::sync::ledger::Ledger;
@@ -92,6 +93,25 @@ fn is_redone(found: LookSet, have: LookSet, need: LookSet) -> bool
     !found.subtract(have).intersect(need).is_empty()
 }
 
+/// Returns whether the set contains a haystack or a line assertion.
+fn tests_lines(set: LookSet) -> bool
+    ensures { result ≡ (has_haystack set || has_line set) }
+{
+    set.contains_anchor_haystack() || set.contains_anchor_line()
+}
+
+/// Returns true only if the unit satisfies no assertion of look-need that is not in look-have. The
+/// word assertions decide, and so it returns false if look-need has others.
+fn stays_closed(from_word: bool, unit: Unit, have: LookSet, need: LookSet) -> bool
+    ensures { (tables : Tables) (half_crlf : Bool) → IsTrue result → specs_of_steps.is_redone
+        (opened tables from_word half_crlf (byte_of unit)) have need ≡ false }
+{
+    if tests_lines(need) {
+        return false;
+    }
+    !is_redone(words_opened(from_word, unit), have, need)
+}
+
 /// Returns the assertions for a new closure of the working list: look-have and those that the unit
 /// satisfies. `None` if the unit satisfies no further assertion of look-need, so that the recorded
 /// states are closed already.
@@ -108,9 +128,14 @@ fn look_again_over<N: Allocator, A: Allocator>(
     if need.is_empty() {
         return None;
     }
-    let tables = LookTables::of(nfa);
-    let found = tables.opened(state.is_from_word(), state.is_half_crlf(), unit);
     let have = state.look_have();
+    let from_word = state.is_from_word();
+    // Only for speed: the code below returns the same.
+    if stays_closed(from_word, unit, have, need) {
+        return None;
+    }
+    let tables = LookTables::of(nfa);
+    let found = tables.opened(from_word, state.is_half_crlf(), unit);
     is_redone(found, have, need).then_some(have.union(found))
 }
 

@@ -1,6 +1,6 @@
 -- The members of the sets that a unit satisfies.
--- Main statements: has-opened.
--- Used by: `LookTables::opened`.
+-- Main statements: has-word_set, has-opened.
+-- Used by: `words_opened`, `LookTables::opened`.
 -- Idea: as KnownSet, for word and for line assertions.
 use mathlib.Core.Bool.{or-false}
 use Rattle.determinize_start.proofs.Common.{beq, Bool, crlf_1, End, EndCRLF, EndLF, false, has, is, is_none, is_word, crlf_2, Look, not, Option, refl, StartCRLF, Tables, WordAscii, WordAsciiNegate, WordEndAscii, WordEndHalfAscii, WordEndHalfUnicode, WordEndUnicode, WordStartAscii, WordStartUnicode, WordUnicode, WordUnicodeNegate, ℕ, ◌&&◌, ◌||◌, ◌≡◌}
@@ -56,9 +56,9 @@ pub has-line_set : (t : Tables) (half : Bool) (u : Option ℕ) (k : Look)
 has-line_set t half u k = simp (has-insert_where, has-empty) (line_each t half u k)
 
 -- the members of both
-pub has-opened : (t : Tables) (f half : Bool) (u : Option ℕ) (k : Look)
-    → has (bit_or (word_set f (is_word u)) (line_set t half u)) k ≡ opened t f half u k
+pub has-opened : (t : Tables) (f half : Bool) (u : Option ℕ) (words : ℕ) (k : Look)
+    → has words k ≡ word_opened f (is_word u) k
+    → has (bit_or words (line_set t half u)) k ≡ opened t f half u k
 unfolding opened
-has-opened t f half u k =
-    rw (has-union (word_set f (is_word u)) (line_set t half u) k, has-word_set f (is_word u) k, has-line_set t half u k)
-    refl
+has-opened t f half u words k h =
+    rw (has-union words (line_set t half u) k, h, has-line_set t half u k) refl
