@@ -55,7 +55,8 @@ impl<A: Allocator> StateBuilderEmpty<A> {
     pub fn into_matches(self) -> Result<StateBuilderMatches<A>, AllocError>
         ensures { IfOk result (λ builder. builder ≡ dead) }
     {
-        let bytes = bytes::with_header(self.bytes)?;
+        let mut bytes = self.bytes;
+        bytes::begin(&mut bytes)?;
         let last = StateID::ZERO;
         let builder = StateBuilderNFA { bytes, last };
         Ok(StateBuilderMatches { builder })

@@ -40,17 +40,16 @@ pub(crate) const PATTERNS: usize = 13;
 /// The bytes of the pattern `ZERO`, for a state that has it implicitly.
 const ZERO_WORD: [u8; 4] = [0; 4];
 
-/// Returns the bytes of an empty header, given these or none.
+/// Writes an empty header, unless the bytes are one.
 #[inline(always)]
-pub(crate) fn with_header<A: Allocator>(bytes: Vec<u8, A>) -> Result<Vec<u8, A>, AllocError>
-    requires { IsClear bytes.items }
-    ensures { IfOk result (λ bytes. bytes.items ≡ header) }
+pub(crate) fn begin<A: Allocator>(bytes: &mut Vec<u8, A>) -> Result<(), AllocError>
+    requires { IsClear bytes.old.items }
+    ensures { OnOk result (bytes.new.items ≡ header) }
 {
-    let mut bytes = bytes;
     if bytes.is_empty() {
         bytes.extend_from_slice(&[0; COUNT])?;
     }
-    Ok(bytes)
+    Ok(())
 }
 
 /// Removes all but the header, and empties that.
