@@ -7,11 +7,12 @@ use Rattle.std.specs.Prelude.{◌%◌, ◌/◌}
 use Rattle.std.proofs.lemmas.Nat.{div-mul-add, mod-mul-add}
 use Rattle.determinize_dense.proofs.Common.{Table}
 use Rattle.determinize_lazy.proofs.tables.Values.{not_both}
-use Rattle.determinize_dense.specs.Private.Minimizing.{AreMergedEntries, entry}
+use Rattle.determinize_dense.specs.Private.Minimizing.{AreMergedEntries, entry, merged_entry}
 use Rattle.determinize_dense.specs.Private.Partition.{Blocks}
+use Rattle.determinize_dense.specs.Private.Rows.{offset_of}
 use Rattle.determinize_dense.proofs.Splitting.{below_or}
 
-get_end : {X : Type 0} (d : X) (xs : List X) (x : X) → get_or (xs ++ x ∷ []) (length xs) d ≡ x
+pub get_end : {X : Type 0} (d : X) (xs : List X) (x : X) → get_or (xs ++ x ∷ []) (length xs) d ≡ x
 get_end d [] x = refl
 get_end d (y ∷ ys) x = get_end d ys x
 
@@ -43,14 +44,13 @@ each-set P xs n x room each new i h = elim (nat_eq i n) as (λ b. nat_eq i n ≡
 -- one entry more of the table of the blocks
 pub merged-push : (d : Table) (p : Blocks) (next : List ℕ) (to row column : ℕ) → AreMergedEntries d p next
     → length next ≡ row * (d.class_count + 1) + column → column < d.class_count + 1
-    → to ≡ slice_index p.numbers (entry d (slice_index p.members row) column)
+    → to ≡ offset_of d (slice_index p.numbers (entry d (slice_index p.members row) column))
     → AreMergedEntries d p (next ++ to ∷ [])
 merged-push d p next to row column entries size inside to_is =
     let columns : ℕ = d.class_count + 1 in
-    each-push 0 (λ e v. v ≡ slice_index p.numbers (entry d (slice_index p.members (e / columns)) (e % columns)))
-    next to entries
+    each-push 0 (λ e v. v ≡ offset_of d (merged_entry d p e)) next to entries
     (to_is
-    ∙ ap (λ r. slice_index p.numbers (entry d (slice_index p.members r) column))
+    ∙ ap (λ r. offset_of d (slice_index p.numbers (entry d (slice_index p.members r) column)))
     (sym (ap (λ n. n / columns) size ∙ div-mul-add row columns column inside))
-    ∙ ap (λ c. slice_index p.numbers (entry d (slice_index p.members (length next / columns)) c))
+    ∙ ap (λ c. offset_of d (slice_index p.numbers (entry d (slice_index p.members (length next / columns)) c)))
     (sym (ap (λ n. n % columns) size ∙ mod-mul-add row columns column inside)))

@@ -1,3 +1,4 @@
+mod Arranging
 mod Building
 mod Collecting
 mod Common
@@ -6,6 +7,8 @@ mod Least
 mod Listing
 mod Lists
 mod Merging
+mod Offsets
+mod Ordering
 mod Pigeonhole
 mod Reached
 mod Refining

@@ -17,6 +17,14 @@ pub map-push : {A B : Type 0} (f : A → B) (xs : List A) (x : A) → map f (xs 
 map-push f [] x = refl
 map-push f (y ∷ ys) x = ap (λ zs. f y ∷ zs) (map-push f ys x)
 
+-- one element more of a list that is mapped
+pub mapped-push : {A B : Type 0} (f : A → B) (done more : List B) (xs : List A) (i : ℕ) (d : A)
+    → done ≡ map f (take i xs) → more ≡ done ++ f (get_or xs i d) ∷ [] → i < length xs
+    → more ≡ map f (take (i + 1) xs)
+mapped-push f done more xs i d so_far more_is inside =
+    more_is ∙ ap (λ ys. ys ++ f (get_or xs i d) ∷ []) so_far ∙ sym (map-push f (take i xs) (get_or xs i d))
+    ∙ ap (λ ys. map f ys) (sym (take_more xs i d inside))
+
 -- one list more
 pub lists-push : {L : Type 0} (f : L → List ℕ) (lists more : List L) (list : L) (values : List Value) (i : ℕ)
     (v : Value)

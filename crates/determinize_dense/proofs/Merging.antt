@@ -1,6 +1,6 @@
 -- The table of the blocks of a stable partition.
-use Rattle.determinize_lazy.proofs.Common.{Bool, List, MatchKind, Nfa, None, Option, Some, [], ap, arith, get_or}
-use Rattle.determinize_lazy.proofs.Common.{length, refl, slice_index, subst, sym, ℕ, ◌*◌, ◌++◌, ◌+◌, ◌<◌, ◌∙◌, ◌∷◌}
+use Rattle.determinize_lazy.proofs.Common.{Bool, List, None, Option, Some, [], ap, arith}
+use Rattle.determinize_lazy.proofs.Common.{length, length-map, refl, slice_index, subst, sym, ℕ, ◌*◌, ◌++◌, ◌+◌, ◌<◌, ◌∙◌, ◌∷◌}
 use Rattle.determinize_lazy.proofs.Common.{◌≡◌, ◌≤◌}
 use Rattle.determinize_dense.specs.Dfa.{IsDfaOf}
 use Rattle.determinize_dense.proofs.Common.{All, DfaValue, IsDfa, IsFilled, IsUnit, Table, column_of, patterns_at}
@@ -12,10 +12,12 @@ use Rattle.std.proofs.lemmas.List.Elements.{All-append}
 use Rattle.determinize_dense.proofs.Least.{has_rows, row_after-below, row_after-more}
 use Rattle.determinize_dense.proofs.Reached.{head_unit, start-number, tail_units}
 use Rattle.determinize_dense.proofs.Splitting.{few_blocks}
-use Rattle.determinize_dense.specs.Least.{AreApart, HasRows, IsLeast, IsReachedRow}
-use Rattle.determinize_dense.specs.Private.Minimizing.{AreMergedLists, AreMergedRows, AreMergedStarts, entry, IsPartition}
-use Rattle.determinize_dense.specs.Private.Minimizing.{IsStable}
-use Rattle.determinize_dense.specs.Private.Partition.{AreBlocks, Blocks}
+use Rattle.determinize_dense.specs.Least.{IsLeast, IsReachedRow}
+use Rattle.determinize_dense.specs.Private.Minimizing.{AreMergedLists, AreMergedRows, AreMergedStarts, entry, IsGrouping}
+use Rattle.determinize_dense.specs.Private.Minimizing.{IsMerged, IsPartition, merged_entry}
+use Rattle.determinize_dense.specs.Private.Partition.{Blocks}
+use Rattle.determinize_dense.specs.Private.Rows.{IsStored, offset_of, rows_at}
+use Rattle.determinize_dense.proofs.Offsets.{row-divided, rows_at-index}
 
 -- a DFA with other rows
 abbrev pub with_rows : DfaValue → List ℕ → List ℕ → List (List ℕ) → DfaValue
@@ -31,11 +33,14 @@ with_rows v next starts lists = record {
   };
 }
 
-module _ (v : DfaValue) (is : IsDfa v) (p : Blocks) (part : IsPartition v.table p) (stable : IsStable v.table p)
-    (next starts : List ℕ) (lists : List (List ℕ)) (rows : AreMergedRows v.table p next)
+module _ (v : DfaValue) (is : IsDfa v) (p : Blocks) (part : IsGrouping v.table p) (offsets starts : List ℕ)
+    (lists : List (List ℕ)) (rows : AreMergedRows v.table p offsets)
     (firsts : AreMergedStarts v.table p starts) (listed : AreMergedLists v.table p lists) where
   abbrev d : Table
   d = v.table
+
+  abbrev next : List ℕ
+  next = rows_at (v.table.class_count + 1) offsets
 
   abbrev merged : DfaValue
   merged = with_rows v next starts lists
@@ -72,12 +77,17 @@ module _ (v : DfaValue) (is : IsDfa v) (p : Blocks) (part : IsPartition v.table 
   block-lists r h = listed.rows (block r) (subst (λ n. block r < n) (sym count) (block-below r h))
       ∙ part.patterns (member (block r)) r (member-below (block r) (block-below r h)) h (member-block r h)
 
+  -- an entry of the table of the blocks
+  entry-is : (e : ℕ) → e < length offsets → slice_index next e ≡ merged_entry v.table p e
+  entry-is e h = rows_at-index (v.table.class_count + 1) offsets e h
+      ∙ ap (λ n. n / (v.table.class_count + 1)) (rows.entries e h) ∙ row-divided v.table (merged_entry v.table p e)
+
   -- an entry of the row of a block
   entry-merged : (b c : ℕ) → b < length p.members → c < v.table.class_count + 1
       → entry e b c ≡ block (entry d (member b) c)
   entry-merged b c h l =
       let columns : ℕ = v.table.class_count + 1 in
-      rows.entries (b * columns + c) (subst (λ n. b * columns + c < n)
+      entry-is (b * columns + c) (subst (λ n. b * columns + c < n)
       (mul_comm columns (length p.members) ∙ sym rows.size) (mul-add-lt b columns c (length p.members) h l))
       ∙ ap (λ n. block (entry d (member n) ((b * columns + c) % columns))) (div-mul-add b columns c l)
       ∙ ap (λ n. block (entry d (member b) n)) (mod-mul-add b columns c l)
@@ -90,7 +100,7 @@ module _ (v : DfaValue) (is : IsDfa v) (p : Blocks) (part : IsPartition v.table 
   block-over : (r : ℕ) (u : Option ℕ) → r < length d.patterns → IsUnit u
       → row_over e (block r) u ≡ block (row_over d r u)
   block-over r u h unit = over-block (block r) u (block-below r h) unit
-      ∙ stable (column_of d u) (is.table.column u unit) (member (block r)) r
+      ∙ part.stable (column_of d u) (is.table.column u unit) (member (block r)) r
       (member-below (block r) (block-below r h)) h (member-block r h)
 
   -- the row after units of a block
@@ -169,7 +179,7 @@ module _ (v : DfaValue) (is : IsDfa v) (p : Blocks) (part : IsPartition v.table 
         sym (part.blocks.own b l) ∙ ap (λ n. block n) k.5 ∙ sym (block-from k.0 k.1 k.2 k.3 k.4),
       )
 
-  pub merged-fewer : length lists ≤ length d.patterns
+  merged-fewer : length lists ≤ length d.patterns
   merged-fewer =
       let few : length p.members ≤ length p.numbers = few_blocks part.blocks in
       let rows_are : length p.numbers ≡ length d.patterns = part.count in
@@ -177,7 +187,8 @@ module _ (v : DfaValue) (is : IsDfa v) (p : Blocks) (part : IsPartition v.table 
 
   filled : IsFilled e
   filled = record {
-    size = rows.size ∙ ap (λ n. n * (v.table.class_count + 1)) (sym count);
+    size = length-map offsets (λ offset. offset / (v.table.class_count + 1)) ∙ rows.size
+        ∙ ap (λ n. n * (v.table.class_count + 1)) (sym count);
     starts = firsts.count;
     first = λ i h. subst (λ n. n < length lists) (sym (firsts.blocks i h))
         (subst (λ n. block (slice_index d.starts i) < n) (sym count)
@@ -193,7 +204,7 @@ module _ (v : DfaValue) (is : IsDfa v) (p : Blocks) (part : IsPartition v.table 
         let n : length d.patterns ≤ 16647160 = is.table.few in omega (arith, k, n);
   }
 
-  pub merged-dfa : IsDfa merged
+  merged-dfa : IsDfa merged
   merged-dfa = record {
     accepted = is.accepted;
     table = filled;
@@ -202,16 +213,46 @@ module _ (v : DfaValue) (is : IsDfa v) (p : Blocks) (part : IsPartition v.table 
     over = over;
   }
 
-  pub merged-least : IsLeast v.nfa e
-  merged-least = record {
-    reached = reached;
-    apart = λ b c h l other.
-        let i : b < length p.members = subst (λ n. b < n) count h in
-        let j : c < length p.members = subst (λ n. c < n) count l in
-        let a : AreApart d (member b) (member c) = part.apart (member b) (member c) (member-below b i) (member-below c j)
-        (λ same. other (sym (part.blocks.own b i) ∙ same ∙ part.blocks.own c j)) in (
-          a.0,
-          a.1,
-          λ same. a.2 (sym (lists-after b a.0 i a.1) ∙ same ∙ lists-after c a.0 j a.1),
-        );
+  pub merged-stored : IsStored merged offsets
+  merged-stored = record {
+    dfa = merged-dfa;
+    count = sym (length-map offsets (λ offset. offset / (v.table.class_count + 1)));
+    entries = λ e h. rows.entries e h ∙ ap (λ n. offset_of d n) (sym (entry-is e h));
   }
+
+  pub merged-is : IsMerged v p merged
+  merged-is = record {
+    nfa = refl;
+    kind = refl;
+    count = count;
+    columns = refl;
+    patterns = λ b h. listed.rows b (subst (λ n. b < n) (sym count) h);
+    apart = λ b c h l a. (
+      a.0,
+      a.1,
+      λ same. a.2 (sym (lists-after b a.0 h a.1) ∙ same ∙ lists-after c a.0 l a.1),
+    );
+    reached = reached;
+  }
+
+-- the blocks of a partition are the fewest rows
+pub merged-least : (v w : DfaValue) (p : Blocks) → IsPartition v.table p → IsMerged v p w → IsLeast w.nfa w.table
+merged-least v w p part is = record {
+  reached = is.reached;
+  apart = λ b c h l other.
+      let i : b < length p.members = subst (λ n. b < n) is.count h in
+      let j : c < length p.members = subst (λ n. c < n) is.count l in
+      let below : (k : ℕ) → k < length p.members → slice_index p.members k < length v.table.patterns =
+      λ k m. subst (λ n. slice_index p.members k < n) part.count (part.blocks.rows k m) in
+      is.apart b c i j (part.apart (slice_index p.members b) (slice_index p.members c) (below b i) (below c j)
+      (λ same. other (sym (part.blocks.own b i) ∙ same ∙ part.blocks.own c j)));
+}
+
+-- and no more than there were
+pub merged-fewest : (v w : DfaValue) (p : Blocks) → IsPartition v.table p → IsMerged v p w
+    → length w.table.patterns ≤ length v.table.patterns
+merged-fewest v w p part is =
+    let few : length p.members ≤ length p.numbers = few_blocks part.blocks in
+    let rows_are : length p.numbers ≡ length v.table.patterns = part.count in
+    let count : length w.table.patterns ≡ length p.members = is.count in
+    omega (arith, few, rows_are, count)

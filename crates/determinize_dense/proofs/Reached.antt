@@ -1,7 +1,7 @@
 -- The values that are reached, and how a start value depends on its kind.
 use Rattle.determinize_lazy.proofs.Common.{ap, arith, begun, Bool, cond, dead, false, List, MatchKind, nat_lt, Nfa}
 use Rattle.determinize_lazy.proofs.Common.{None, Option, refl, Some, start_value, subst, suc, sym, tables_of, true}
-use Rattle.determinize_lazy.proofs.Common.{Value, value_after, zero, ℕ, [], ◌++◌, ◌+◌, ◌<◌, ◌∙◌, ◌∷◌, ◌≡◌}
+use Rattle.determinize_lazy.proofs.Common.{Value, value_after, ℕ, [], ◌++◌, ◌+◌, ◌<◌, ◌∙◌, ◌∷◌, ◌≡◌}
 use Rattle.determinize_dense.proofs.Common.{All, IsReachedValue, IsUnit, number_of, start_in, start_kind_of}
 use Rattle.determinize_dense.proofs.Common.{start_of_number}
 use Rattle.std.specs.Prelude.{◌%◌}

@@ -1,5 +1,5 @@
 -- Partitions of the rows of a table, which are split until each column is settled.
-use Rattle.determinize_lazy.proofs.Common.{List, None, Option, [], ap, arith, false, get_or-replicate, length, nat_eq}
+use Rattle.determinize_lazy.proofs.Common.{List, Option, [], ap, arith, false, get_or-replicate, length, nat_eq}
 use Rattle.determinize_lazy.proofs.Common.{inl, inr, refl, replicate, slice_index, subst, sym, true, ℕ, ◌+◌, ◌-◌, ◌<◌, ◌∙◌, ◌∷◌}
 use Rattle.determinize_lazy.proofs.Common.{◌≡◌, ◌≤◌}
 use Rattle.determinize_dense.proofs.Common.{All, IsFilled, IsUnit, Table, column_of, patterns_at, row_after, row_over}

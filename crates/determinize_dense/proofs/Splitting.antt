@@ -1,13 +1,12 @@
 -- How the blocks of a partition are split, one row at a time.
-use Rattle.std.proofs.Common.{[], ◌&&◌, ◌++◌, ◌+◌, ◌<◌, ◌∙◌, ◌∷◌, ◌≡◌, ◌≤◌, ◌⊎◌, ap, arith, Bool, cond, false, get_or}
+use Rattle.std.proofs.Common.{[], ◌++◌, ◌+◌, ◌<◌, ◌∙◌, ◌∷◌, ◌≡◌, ◌≤◌, ◌⊎◌, ap, arith, cond, false}
 use Rattle.std.proofs.Common.{inl, inr, length, List, None, Option, refl, Some, subst, sym, true, ℕ}
-use Rattle.std.proofs.lemmas.List.{get_or-append_right, get_or_append_left, length_push}
+use Rattle.std.proofs.lemmas.List.{get_or_append_left, length_push}
 use Rattle.std.proofs.lemmas.Grind.{same_number_lists}
 use Rattle.std.specs.Prelude.{Decides, nat_eq, nat_lt, slice_index, unwrap_or}
-use mathlib.Core.Bool.{true≢false}
 use Rattle.std.proofs.lemmas.Bool.Decides.{Decides-and}
 use Rattle.determinize_dense.proofs.Pigeonhole.{pigeonhole}
-use Rattle.determinize_dense.specs.Private.Partition.{AreBlocks, AreEqual, AreTogether, Blocks, IsNumbered, IsSplit, IsSplitting}
+use Rattle.determinize_dense.specs.Private.Partition.{AreBlocks, AreEqual, Blocks, IsNumbered, IsSplit, IsSplitting}
 use Rattle.determinize_dense.specs.Private.Partition.{pair_of, same_pair}
 
 pub below_or : (a b : ℕ) → (a < b) ⊎ (b ≤ a)

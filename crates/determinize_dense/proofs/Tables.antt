@@ -1,6 +1,8 @@
 -- The entries of a table.
-use Rattle.determinize_lazy.proofs.Common.{length, Option, subst, sym, ℕ, ◌*◌, ◌+◌, ◌<◌, ◌∙◌}
-use Rattle.determinize_dense.proofs.Common.{column_of, IsFilled, IsUnit, Table}
+use Rattle.determinize_lazy.proofs.Common.{length, List, Option, slice_index, subst, sym, ℕ, ◌*◌, ◌+◌, ◌<◌, ◌∙◌, ◌≡◌}
+use Rattle.determinize_dense.specs.Private.Minimizing.{entry}
+use Rattle.determinize_dense.specs.Private.Rows.{IsStored, offset_of}
+use Rattle.determinize_dense.proofs.Common.{column_of, DfaValue, IsFilled, IsUnit, row_over, Table}
 use Rattle.std.proofs.Math.Nat.{mul_comm}
 use Rattle.std.proofs.lemmas.Nat.{mul-add-lt}
 
@@ -15,3 +17,22 @@ entry-at d is r c h l = subst (λ n. r * (d.class_count + 1) + c < n)
 pub entry-there : (d : Table) → IsFilled d → (r : ℕ) (u : Option ℕ) → r < length d.patterns → IsUnit u
     → r * (d.class_count + 1) + column_of d u < length d.next
 entry-there d is r u h unit = entry-at d is r (column_of d u) h (is.column u unit)
+
+-- as an offset, in a column
+pub entry-stored : (v : DfaValue) (offsets : List ℕ) → IsStored v offsets → (r c : ℕ) → r < length v.table.patterns
+    → c < v.table.class_count + 1
+    → (r * (v.table.class_count + 1) + c < length offsets)
+    × (slice_index offsets (r * (v.table.class_count + 1) + c) ≡ offset_of v.table (entry v.table r c))
+entry-stored v offsets is r c h l =
+    let below : r * (v.table.class_count + 1) + c < length offsets =
+    subst (λ n. r * (v.table.class_count + 1) + c < n) (sym is.count) (entry-at v.table is.dfa.table r c h l) in
+    (below, is.entries (r * (v.table.class_count + 1) + c) below)
+
+-- and over a unit
+pub over-stored : (v : DfaValue) (offsets : List ℕ) → IsStored v offsets → (r : ℕ) (u : Option ℕ)
+    → r < length v.table.patterns → IsUnit u
+    → (r * (v.table.class_count + 1) + column_of v.table u < length offsets)
+    × (slice_index offsets (r * (v.table.class_count + 1) + column_of v.table u)
+    ≡ offset_of v.table (row_over v.table r u))
+over-stored v offsets is r u h unit =
+    entry-stored v offsets is r (column_of v.table u) h (is.dfa.table.column u unit)

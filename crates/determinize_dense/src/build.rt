@@ -4,7 +4,7 @@
 //! start states, and then the next states of each row. An entry is computed for one byte of each
 //! class, and for the end of input (EOI).
 
-ghost use Rattle.std.specs.Prelude.{◌≡◌, ◌<◌, ◌≤◌, ◌+◌, ◌*◌, ℕ, Option, [], Err, Some, None, IfOk, IfNone, OnOk, cond, length, map, min, nat_lt, slice_get};
+ghost use Rattle.std.specs.Prelude.{◌≡◌, ◌<◌, ◌≤◌, ◌+◌, ◌*◌, ℕ, All, Option, [], Err, Some, None, IfOk, IfNone, OnOk, cond, length, map, min, nat_lt, slice_get};
 ghost use Rattle.std.specs.Option.{IfSome};
 ghost use Rattle.determinize_below.specs.Truth.{IsUnit};
 ghost use Rattle.determinize_below.specs.Unit.{byte_of};
@@ -15,8 +15,8 @@ ghost use Rattle.determinize_dense.specs.Dfa.{HasMoreStates, HasStates, IsReache
 ghost use Rattle.determinize_dense.specs.Private.Building.{AreStarts, IsStart, Stays, columns_of, unit_at};
 ghost use Rattle.determinize_dense.specs.declared.error.BuildError.TheVariants.{TooManyStates};
 
-use crate::dfa::{Dfa, STARTS};
 use crate::error::BuildError;
+use crate::rows::{Rows, STARTS};
 use determinize_below::alphabet::ByteClasses;
 use determinize_below::{MatchKind, NFA, PatternID, StateID, Unit};
 use determinize_core::determinize::Stepper;
@@ -134,6 +134,23 @@ fn lists_of<A: Allocator + Copy>(
         lists.push(patterns_of(alloc, state)?)?;
     }
     Ok(lists)
+}
+
+/// Returns the offsets of rows.
+fn offsets_of<A: Allocator + Copy>(
+    alloc: A,
+    rows: &[u32],
+    columns: usize,
+) -> Result<Vec<u32, A>, AllocError>
+    requires rows { All (λ row. row < 16647160) rows.now }
+    requires columns { columns ≤ 257 }
+    ensures { IfOk result (λ offsets. offsets.items ≡ map (λ row. row * columns) rows.now) }
+{
+    let mut offsets = Vec::with_capacity(alloc, rows.len())?;
+    for row in rows {
+        offsets.push((*row as usize * columns) as u32)?;
+    }
+    Ok(offsets)
 }
 
 impl<'n, N: Allocator, A: Allocator + Copy> Builder<'n, N, A> {
@@ -267,25 +284,29 @@ impl<'n, N: Allocator, A: Allocator + Copy> Builder<'n, N, A> {
         Ok(())
     }
 
-    /// Returns the DFA, once all entries are computed.
+    /// Returns the rows, once all entries are computed.
     ///
     /// - `starts` are the rows of the starts.
-    pub(crate) fn finish(self, alloc: A, starts: [u32; STARTS]) -> Result<Dfa<'n, N, A>, BuildError>
+    pub(crate) fn finish(
+        self,
+        alloc: A,
+        starts: [u32; STARTS],
+    ) -> Result<Rows<'n, N, A>, AllocError>
         requires whole { length self.next ≡ length self.values * columns_of self.classes }
         requires starts { AreStarts self.nfa self.values 12 starts }
-        ensures nfa { IfOk result (λ dfa. dfa.nfa ≡ self.entry.nfa) }
-        ensures kind { IfOk result (λ dfa. dfa.kind ≡ self.entry.kind) }
+        ensures nfa { IfOk result (λ rows. rows.nfa ≡ self.entry.nfa) }
+        ensures kind { IfOk result (λ rows. rows.kind ≡ self.entry.kind) }
         ensures states { IfOk result
-            (λ dfa. HasStates self.entry.nfa self.entry.kind (length dfa.table.patterns)) }
-        ensures few { IfOk result (λ dfa. length dfa.table.patterns ≤ self.entry.limit) }
-        ensures room { result ≡ Err TooManyStates → ⊥ }
+            (λ rows. HasStates self.entry.nfa self.entry.kind (length rows.table.patterns)) }
+        ensures few { IfOk result (λ rows. length rows.table.patterns ≤ self.entry.limit) }
     {
         let patterns = lists_of(alloc, self.states.as_slice())?;
-        Ok(Dfa {
+        let next = offsets_of(alloc, self.next.as_slice(), self.classes.alphabet_len())?;
+        Ok(Rows {
             nfa: self.stepper.nfa(),
             match_kind: self.stepper.match_kind(),
             classes: self.classes,
-            next: self.next,
+            next,
             starts,
             patterns,
         })

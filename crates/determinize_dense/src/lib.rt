@@ -4,8 +4,9 @@
 //! search then follows the table: it allocates nothing, cannot fail, and takes `&self`, so one DFA
 //! serves any number of searches. The matches are those of `determinize_lazy::Lazy`.
 //!
-//! - `dfa`: the type and its table. `build`: its construction, with `error`. `search`: searches.
-//!   `minimize`: the DFA with the fewest states, by `partition`. `laws`: that none has fewer.
+//! - `dfa`: the type. `rows`: its table. `build`: its construction, with `error`. `search`: searches.
+//!   `minimize`: the fewest rows, by `partition`. `order`: the order of rows. `laws`: that no DFA has
+//!   fewer states.
 #![tactic(auto)]
 
 mod build;
@@ -13,7 +14,9 @@ pub mod dfa;
 pub mod error;
 pub mod laws;
 mod minimize;
+mod order;
 mod partition;
+mod rows;
 mod search;
 
 pub use crate::dfa::Dfa;

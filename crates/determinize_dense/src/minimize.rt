@@ -1,51 +1,51 @@
-//! The DFA with the fewest states, by partition refinement.
+//! The fewest rows, by partition refinement.
 //!
 //! The blocks are first the rows that list the same patterns. A pass over a column splits each
 //! block by the blocks of its entries in the column. When a cycle of passes over all columns splits
 //! no block, each block becomes one row.
 
 ghost use Rattle.std.specs.Prelude.{◌≡◌, ◌<◌, ◌≤◌, ◌+◌, IfOk, length, map};
-ghost use Rattle.determinize_dense.specs.Least.{IsLeast};
-ghost use Rattle.determinize_dense.specs.Private.Minimizing.{AreFirstAlike, AreMergedLists, AreMergedRows, AreMergedStarts, AreTargets, IsFirstAlike, IsPartition, IsRefined, IsSplitBy, IsStable, entry};
+ghost use Rattle.determinize_dense.specs.Dfa.{IsDfaOf};
+ghost use Rattle.determinize_dense.specs.Least.{HasRows, IsLeast};
+ghost use Rattle.determinize_dense.specs.Private.Minimizing.{AreFirstAlike, AreMergedLists, AreMergedRows, AreMergedStarts, AreTargets, IsFirstAlike, IsGrouping, IsMerged, IsPartition, IsRefined, IsSplitBy, IsStable, entry};
 ghost use Rattle.determinize_dense.specs.Private.Rows.{IsFilled};
 
-use crate::dfa::{Dfa, STARTS};
 use crate::partition::Partition;
+use crate::rows::{Rows, STARTS};
 use determinize_below::PatternID;
 use std::alloc::{AllocError, Allocator};
 
-impl<'n, N: Allocator, A: Allocator + Copy> Dfa<'n, N, A> {
-    /// Returns the DFA with the fewest states among those that mean the same.
-    ///
-    /// States are merged if they match the same patterns along all units, the end of input (EOI)
-    /// among them. The time is at most quadratic in the number of states, for a chain of states;
-    /// mostly a few passes over the table suffice.
-    pub fn minimize(&self, alloc: A) -> Result<Dfa<'n, N, A>, AllocError>
-        ensures nfa { IfOk result (λ dfa. dfa.nfa ≡ self.now.nfa) }
-        ensures kind { IfOk result (λ dfa. dfa.kind ≡ self.now.kind) }
-        ensures least { IfOk result (λ dfa. IsLeast dfa.nfa dfa.table) }
+impl<'n, N: Allocator, A: Allocator + Copy> Rows<'n, N, A> {
+    /// Returns the fewest rows with the same meaning.
+    pub(crate) fn minimized(&self, alloc: A) -> Result<Rows<'n, N, A>, AllocError>
+        ensures nfa { IfOk result (λ rows. rows.nfa ≡ self.now.nfa) }
+        ensures kind { IfOk result (λ rows. rows.kind ≡ self.now.kind) }
+        ensures least { IfOk result (λ rows. IsLeast rows.nfa rows.table) }
         ensures fewer { IfOk result
-            (λ dfa. length dfa.table.patterns ≤ length self.now.table.patterns) }
+            (λ rows. length rows.table.patterns ≤ length self.now.table.patterns) }
     {
         let parts = self.partition(alloc)?;
-        Ok(Dfa {
-            nfa: self.nfa,
-            match_kind: self.match_kind,
-            classes: self.classes.clone()?,
-            next: self.merged_rows(alloc, &parts)?,
-            starts: self.merged_starts(&parts),
-            patterns: self.merged_lists(alloc, &parts)?,
-        })
+        self.merged(alloc, &parts)
+    }
+
+    /// Returns the number of rows.
+    pub(crate) fn len(&self) -> usize
+        ensures value { result ≡ length self.now.table.patterns }
+        ensures means { IsDfaOf self.now.nfa self.now.kind self.now.table }
+        ensures rows { HasRows self.now.nfa self.now.table }
+    {
+        self.patterns.len()
     }
 
     /// Returns the row after a row, in a column.
-    fn entry(&self, row: usize, column: usize) -> usize
+    pub(crate) fn entry(&self, row: usize, column: usize) -> usize
         requires row { row < length self.now.table.patterns }
         requires column { column < self.now.table.class_count + 1 }
         ensures value { result ≡ entry self.now.table row column }
         ensures limit { result < length self.now.table.patterns }
     {
-        self.next[row * self.classes.alphabet_len() + column] as usize
+        let columns = self.classes.alphabet_len();
+        self.next[row * columns + column] as usize / columns
     }
 
     /// Returns the first row that lists the same patterns as this row.
@@ -138,16 +138,36 @@ impl<'n, N: Allocator, A: Allocator + Copy> Dfa<'n, N, A> {
         }
     }
 
-    /// Returns the rows of the blocks.
+    /// Returns a row for each block.
+    pub(crate) fn merged(
+        &self,
+        alloc: A,
+        parts: &Partition<A>,
+    ) -> Result<Rows<'n, N, A>, AllocError>
+        requires { IsGrouping self.now.table parts.now }
+        ensures { IfOk result (λ rows. IsMerged self.now parts.now rows) }
+    {
+        Ok(Rows {
+            nfa: self.nfa,
+            match_kind: self.match_kind,
+            classes: self.classes.clone()?,
+            next: self.merged_rows(alloc, parts)?,
+            starts: self.merged_starts(parts),
+            patterns: self.merged_lists(alloc, parts)?,
+        })
+    }
+
+    /// Returns the entries of the rows of the blocks.
     fn merged_rows(&self, alloc: A, parts: &Partition<A>) -> Result<Vec<u32, A>, AllocError>
-        requires { IsPartition self.now.table parts.now }
+        requires { IsGrouping self.now.table parts.now }
         ensures { IfOk result (λ next. AreMergedRows self.now.table parts.now next.items) }
     {
         let columns = self.classes.alphabet_len();
         let mut next = Vec::new(alloc);
         for row in parts.members() {
             for column in 0..columns {
-                next.push(parts.block(self.entry(*row, column)) as u32)?;
+                let block = parts.block(self.entry(*row, column));
+                next.push((block * columns) as u32)?;
             }
         }
         Ok(next)
@@ -155,7 +175,7 @@ impl<'n, N: Allocator, A: Allocator + Copy> Dfa<'n, N, A> {
 
     /// Returns the blocks of the starts.
     fn merged_starts(&self, parts: &Partition<A>) -> [u32; STARTS]
-        requires { IsPartition self.now.table parts.now }
+        requires { IsGrouping self.now.table parts.now }
         ensures { AreMergedStarts self.now.table parts.now result }
     {
         let mut starts = self.starts;
@@ -173,7 +193,7 @@ impl<'n, N: Allocator, A: Allocator + Copy> Dfa<'n, N, A> {
         alloc: A,
         parts: &Partition<A>,
     ) -> Result<Vec<Vec<PatternID, A>, A>, AllocError>
-        requires { IsPartition self.now.table parts.now }
+        requires { IsGrouping self.now.table parts.now }
         ensures { IfOk result (λ lists. AreMergedLists self.now.table parts.now
             (map (λ list. list.items) lists.items)) }
     {

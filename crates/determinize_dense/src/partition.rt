@@ -1,8 +1,8 @@
 //! Partitions of the rows of a table into blocks, which are split by values of the rows.
 
-ghost use Rattle.std.specs.Prelude.{◌≡◌, ◌∷◌, ◌<◌, ◌≤◌, ℕ, [], IfOk, OnOk, length, replicate, slice_index};
+ghost use Rattle.std.specs.Prelude.{◌≡◌, ◌∷◌, ◌<◌, ◌≤◌, ℕ, All, [], IfOk, OnOk, length, replicate, slice_index};
 ghost use Rattle.std.specs.HashMap.{get};
-ghost use Rattle.determinize_dense.specs.Private.Partition.{IsNumbered, IsSplit, same_pair};
+ghost use Rattle.determinize_dense.specs.Private.Partition.{IsByRank, IsLastUpto, IsNumbered, IsSplit, same_pair};
 
 use std::alloc::{AllocError, Allocator, Global};
 use std::collections::HashMap;
@@ -28,6 +28,9 @@ impl<A: Allocator> Model for Partition<A> {
       members = p.members.items;
     } };
 }
+
+/// The number of ranks of rows.
+const RANKS: usize = 4;
 
 /// The numbers of blocks by pairs: a block of rows, and the value by which it is split.
 type Numbers<A> = HashMap<(usize, usize), usize, BuildHasherDefault<FoldHasher>, A>;
@@ -62,6 +65,40 @@ impl<A: Allocator + Copy> Partition<A> {
             blocks: vec![in alloc; 0; rows]?,
             members: vec![in alloc; 0]?,
         })
+    }
+
+    /// Returns a block for each row, in the order of their ranks.
+    pub(crate) fn by_rank(alloc: A, ranks: &[usize]) -> Result<Partition<A>, AllocError>
+        requires some { 0 < length ranks.now }
+        requires first { slice_index ranks.now 0 ≡ 0 }
+        requires few { All (λ rank. rank < 4) ranks.now }
+        ensures { IfOk result (λ p. IsByRank ranks.now p) }
+    {
+        let rows = ranks.len();
+        let mut blocks = vec![in alloc; 0; rows]?;
+        let mut members = Vec::with_capacity(alloc, rows)?;
+        for rank in 0..RANKS {
+            for row in 0..rows {
+                if ranks[row] == rank {
+                    blocks[row] = members.len();
+                    members.push(row)?;
+                }
+            }
+        }
+        Ok(Partition { blocks, members })
+    }
+
+    /// Returns the last block whose member has at most this rank.
+    pub(crate) fn last_upto(&self, ranks: &[usize], rank: usize) -> usize
+        requires ranks { IsByRank ranks.now self.now }
+        requires first { slice_index ranks.now 0 ≤ rank }
+        ensures last { IsLastUpto ranks.now self.now rank result }
+    {
+        let mut last = 0;
+        while last + 1 < self.members.len() && ranks[self.members[last + 1]] <= rank {
+            last += 1;
+        }
+        last
     }
 
     /// Returns the number of blocks.

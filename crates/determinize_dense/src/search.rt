@@ -12,7 +12,8 @@ ghost use Rattle.determinize_core.specs.Chain.{units};
 ghost use Rattle.determinize_core.specs.Walk.{ListsAccepted};
 ghost use Rattle.determinize_dense.specs.Dfa as dfas;
 ghost use Rattle.determinize_dense.specs.Dfa.{value_from};
-ghost use Rattle.determinize_dense.specs.Private.Searching.{IsFound};
+ghost use Rattle.determinize_dense.specs.Private.Rows.{IsOffset};
+ghost use Rattle.determinize_dense.specs.Private.Searching.{IsFound, IsMatch, StaysOver};
 ghost use Rattle.determinize_lazy.specs.Searches.{HasMatch, IsFarthestIn, IsPreferredIn, IsSearch, has_start, last_in, start_for, text_of};
 
 use crate::dfa::Dfa;
@@ -56,15 +57,28 @@ impl<'n, N: Allocator, A: Allocator + Copy> Dfa<'n, N, A> {
             × Accepts self.now.nfa (between look_behind text.now look_ahead)
             (start_for self.now.nfa anchored) cs (length text.now) pattern }
     {
-        let mut row = self.start_row(is_anchored(anchored), look_behind);
+        let mut row = self.rows.start_row(is_anchored(anchored), look_behind);
         for byte in text {
-            row = self.row_over(row, Some(*byte));
+            row = self.rows.row_over(row, Some(*byte));
         }
-        self.patterns(self.row_over(row, look_ahead))
+        self.rows.patterns(self.rows.row_over(row, look_ahead))
+    }
+
+    /// Returns the match of a row, or `None` if it lists no patterns.
+    ///
+    /// - `row` is the offset of the row, and `offset` that of the match.
+    fn match_of(&self, row: u32, offset: usize) -> Option<HalfMatch>
+        requires { IsOffset self.now.table row }
+        ensures { IsMatch self.now.table row offset result }
+    {
+        let pattern = *self.rows.patterns(row).first()?;
+        Some(HalfMatch { pattern, offset })
     }
 
     /// Searches a text. The search ends at row 0 and, if `is_earliest`, at the first row that lists
     /// a pattern. Returns the last match of the rows that it enters.
+    ///
+    /// A row is known by its offset. Of the last row that lists patterns the match is looked up once.
     #[inline(always)]
     fn search_text(
         &self,
@@ -74,25 +88,49 @@ impl<'n, N: Allocator, A: Allocator + Copy> Dfa<'n, N, A> {
     ) -> Option<HalfMatch>
         ensures { IsFound self.now is_earliest is_anchored text.now result }
     {
-        let mut row = self.start_row(is_anchored, text.behind());
-        let mut last = None;
+        let mut row = self.rows.start_row(is_anchored, text.behind());
+        let (mut matched, mut offset) = (0, 0);
         let mut read = 0;
-        while read <= text.len() {
-            row = self.row_over(row, text.unit(read));
-            if let Some(pattern) = self.pattern(row) {
-                last = Some(HalfMatch {
-                    pattern,
-                    offset: read,
-                });
-                if is_earliest {
-                    return last;
+        while read < text.len() {
+            row = self.rows.row_over(row, Some(text.byte(read)));
+            read += 1;
+            if row <= self.last_special {
+                if row > self.last_match {
+                    read = self.scan(row, text, read);
+                } else if row == 0 {
+                    return self.match_of(matched, offset);
+                } else {
+                    matched = row;
+                    offset = read - 1;
+                    if is_earliest {
+                        return self.match_of(matched, offset);
+                    }
                 }
-            } else if row == 0 {
-                return last;
             }
+        }
+        let end = self.rows.row_over(row, text.ahead());
+        if end == 0 || end > self.last_match {
+            return self.match_of(matched, offset);
+        }
+        self.match_of(end, text.len())
+    }
+
+    /// Returns the number of bytes that are read when a search leaves a row.
+    ///
+    /// - `row` is the offset of the row, and `read` the number of bytes read before.
+    #[inline(always)]
+    fn scan(&self, row: u32, text: &Text<'_>, read: usize) -> usize
+        requires row { IsOffset self.now.table row }
+        requires read { read ≤ length text.now.bytes }
+        ensures stays { StaysOver self.now.table row text.now read result }
+        ensures more { read ≤ result }
+        ensures within { result ≤ length text.now.bytes }
+    {
+        let mut read = read;
+        while read < text.len() && self.rows.row_over(row, Some(text.byte(read))) == row {
             read += 1;
         }
-        last
+        read
     }
 
     /// Searches the range of an input in the direction of the NFA. The match is one of the text
@@ -104,7 +142,7 @@ impl<'n, N: Allocator, A: Allocator + Copy> Dfa<'n, N, A> {
         ensures { IsFound self.now is_earliest (dfas.is_anchored input.now.anchored)
             (text_of self.now.nfa.reverse input.now) result }
     {
-        let text = Text::of_input(input, self.nfa.is_reverse());
+        let text = Text::of_input(input, self.rows.nfa.is_reverse());
         self.search_text(is_anchored(input.get_anchored()), &text, is_earliest)
     }
 
@@ -169,7 +207,7 @@ impl<'n, N: Allocator, A: Allocator + Copy> Dfa<'n, N, A> {
         }
         in_haystack(
             input,
-            self.nfa.is_reverse(),
+            self.rows.nfa.is_reverse(),
             self.search_range(input, false),
         )
     }

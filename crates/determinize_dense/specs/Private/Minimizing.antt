@@ -1,9 +1,10 @@
 -- Blocks of rows of a table, and the table of the blocks.
 use Rattle.std.specs.Prelude.{◌≡◌, ◌<◌, ◌≤◌, ◌+◌, ◌*◌, ◌/◌, ◌%◌, ℕ, List, [], get_or, length}
 use Rattle.std.specs.Prelude.{slice_index}
-use Rattle.determinize_dense.specs.Least.{AreApart}
+use Rattle.determinize_dense.specs.Least.{AreApart, IsReachedRow}
 use Rattle.determinize_dense.specs.Private.Partition.{AreBlocks, AreTogether, Blocks}
-use Rattle.determinize_dense.specs.Table.{Table, patterns_at}
+use Rattle.determinize_dense.specs.Private.Rows.{offset_of}
+use Rattle.determinize_dense.specs.Table.{DfaValue, Table, patterns_at}
 
 -- the row after a row in a column
 abbrev pub entry : Table → ℕ → ℕ → ℕ
@@ -56,11 +57,23 @@ pub record IsRefined (d : Table) (n : ℕ) (p q : Blocks) : Type 0 where
   pub stays : length q.members ≡ length p.members
       → (q ≡ p) × ((c : ℕ) → c < n → IsSettled d p c)
 
--- entries of the table of the blocks: the block of the entry of the member, in the same column
+-- the rows of one block list the same patterns, and their entries are in one block
+pub record IsGrouping (d : Table) (p : Blocks) : Type 0 where
+  pub blocks : AreBlocks p
+  pub count : length p.numbers ≡ length d.patterns
+  pub patterns : (r s : ℕ) → r < length d.patterns → s < length d.patterns → AreTogether p r s
+      → patterns_at d r ≡ patterns_at d s
+  pub stable : IsStable d p
+
+-- the block of the entry of the member, for an entry of the table of the blocks
+abbrev pub merged_entry : Table → Blocks → ℕ → ℕ
+merged_entry d p e = slice_index p.numbers
+    (entry d (slice_index p.members (e / (d.class_count + 1))) (e % (d.class_count + 1)))
+
+-- entries of the table of the blocks, as offsets
 abbrev pub AreMergedEntries : Table → Blocks → List ℕ → Type 0
-AreMergedEntries d p next = (e : ℕ) → e < length next → slice_index next e
-    ≡ slice_index p.numbers (entry d (slice_index p.members (e / (d.class_count + 1)))
-    (e % (d.class_count + 1)))
+AreMergedEntries d p next = (e : ℕ) → e < length next
+    → slice_index next e ≡ offset_of d (merged_entry d p e)
 
 -- a row for each block
 pub record AreMergedRows (d : Table) (p : Blocks) (next : List ℕ) : Type 0 where
@@ -78,3 +91,17 @@ pub record AreMergedLists (d : Table) (p : Blocks) (lists : List (List ℕ)) : T
   pub count : length lists ≡ length p.members
   pub rows : (b : ℕ) → b < length lists
       → get_or lists b [] ≡ patterns_at d (slice_index p.members b)
+
+-- the rows of the blocks
+pub record IsMerged (v : DfaValue) (p : Blocks) (merged : DfaValue) : Type 0 where
+  pub nfa : merged.nfa ≡ v.nfa
+  pub kind : merged.kind ≡ v.kind
+  pub count : length merged.table.patterns ≡ length p.members
+  pub patterns : (b : ℕ) → b < length p.members
+      → patterns_at merged.table b ≡ patterns_at v.table (slice_index p.members b)
+  pub columns : merged.table.class_count ≡ v.table.class_count
+  pub apart : (b c : ℕ) → b < length p.members → c < length p.members
+      → AreApart v.table (slice_index p.members b) (slice_index p.members c)
+      → AreApart merged.table b c
+  pub reached : (b : ℕ) → b < length merged.table.patterns
+      → IsReachedRow merged.nfa merged.table b

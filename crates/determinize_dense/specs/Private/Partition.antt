@@ -1,6 +1,6 @@
 -- Partitions of rows into blocks, and how their blocks are split.
-use Rattle.std.specs.Prelude.{◌≡◌, ◌↔◌, ◌<◌, ◌≤◌, ◌++◌, ℕ, Bool, cond, ◌&&◌, Option, Some, None, List}
-use Rattle.std.specs.Prelude.{[], ◌⊎◌, ◌∷◌, length, nat_eq, slice_index}
+use Rattle.std.specs.Prelude.{◌≡◌, ◌↔◌, ◌<◌, ◌≤◌, ◌+◌, ◌*◌, ◌++◌, ℕ, Bool, cond, ◌&&◌, Option, Some}
+use Rattle.std.specs.Prelude.{None, List, [], ◌⊎◌, ◌∷◌, length, nat_eq, slice_index}
 
 -- the number of the block of each row, and a row of each block
 pub record Blocks : Type 0 where
@@ -64,3 +64,35 @@ pub record IsSplitting (p : Blocks) (values numbers members : List ℕ) (find : 
   pub apart : (b : ℕ) → length p.members ≤ b → b < length members
       → AreEqual values (slice_index members b)
       (slice_index p.members (slice_index p.numbers (slice_index members b))) → ⊥
+
+-- the turn of a row: by its rank, and by its number within the rank
+abbrev pub turn_of : List ℕ → ℕ → ℕ
+turn_of ranks r = slice_index ranks r * length ranks + r
+
+-- the rows whose turn came before this one have their blocks, in the order of their turns
+pub record IsOrdering (ranks : List ℕ) (turn : ℕ) (numbers members : List ℕ) : Type 0 where
+  pub count : length numbers ≡ length ranks
+  pub rows : (b : ℕ) → b < length members → slice_index members b < length ranks
+  pub before : (b : ℕ) → b < length members → turn_of ranks (slice_index members b) < turn
+  pub own : (b : ℕ) → b < length members → slice_index numbers (slice_index members b) ≡ b
+  pub back : (r : ℕ) → r < length ranks → turn_of ranks r < turn
+      → (slice_index numbers r < length members)
+      × (slice_index members (slice_index numbers r) ≡ r)
+  pub ascend : (b c : ℕ) → b < c → c < length members
+      → turn_of ranks (slice_index members b) < turn_of ranks (slice_index members c)
+
+-- each row has its own block, and the ranks of the blocks ascend
+pub record IsByRank (ranks : List ℕ) (p : Blocks) : Type 0 where
+  pub blocks : AreBlocks p
+  pub count : length p.numbers ≡ length ranks
+  pub rows : length p.members ≡ length ranks
+  pub back : (r : ℕ) → r < length ranks → slice_index p.members (slice_index p.numbers r) ≡ r
+  pub ascend : (b c : ℕ) → b < c → c < length p.members
+      → slice_index ranks (slice_index p.members b) ≤ slice_index ranks (slice_index p.members c)
+
+-- the blocks up to this one, and only they, have at most this rank
+pub record IsLastUpto (ranks : List ℕ) (p : Blocks) (rank last : ℕ) : Type 0 where
+  pub there : last < length p.members
+  pub upto : (b : ℕ) → b ≤ last → slice_index ranks (slice_index p.members b) ≤ rank
+  pub past : (b : ℕ) → last < b → b < length p.members
+      → rank < slice_index ranks (slice_index p.members b)

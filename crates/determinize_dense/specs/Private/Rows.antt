@@ -1,12 +1,12 @@
 -- What is true of every DFA.
-use Rattle.std.specs.Prelude.{◌≡◌, ◌<◌, ◌≤◌, ◌+◌, ◌*◌, ◌++◌, ℕ, All, Bool, Option, List, [], length}
-use Rattle.std.specs.Prelude.{slice_index}
+use Rattle.std.specs.Prelude.{◌≡◌, ◌<◌, ◌≤◌, ◌+◌, ◌*◌, ◌/◌, ◌++◌, ℕ, All, Bool, Option, List, []}
+use Rattle.std.specs.Prelude.{length, map, slice_index}
 use Rattle.determinize_below.specs.Nfa.{IsAccepted}
 use Rattle.determinize_below.specs.Truth.{IsUnit}
 use Rattle.determinize_dense.specs.Dfa.{IsDfaOf, value_from}
 use Rattle.determinize_dense.specs.Least.{IsReachedRow}
-use Rattle.determinize_dense.specs.Table.{DfaValue, Table, column_of, row_after, row_over}
-use Rattle.determinize_dense.specs.Table.{start_row}
+use Rattle.determinize_dense.specs.Table.{DfaValue, Table, column_of, patterns_at, row_after}
+use Rattle.determinize_dense.specs.Table.{row_over, start_row}
 
 -- each entry is in place and is the number of a row, and each column is that of a unit
 pub record IsFilled (d : Table) : Type 0 where
@@ -30,3 +30,32 @@ pub record IsDfa (v : DfaValue) : Type 0 where
       → All IsUnit rest
       → row_after v.table (start_row v.nfa v.table anchored p) us ≡ 0
       → (value_from v.nfa v.kind anchored p (us ++ rest)).patterns ≡ []
+
+-- the offset of a row: the number of entries before it
+abbrev pub offset_of : Table → ℕ → ℕ
+offset_of d r = r * (d.class_count + 1)
+
+-- the rows at these offsets, where a row has so many entries
+abbrev pub rows_at : ℕ → List ℕ → List ℕ
+rows_at columns offsets = map (λ offset. offset / columns) offsets
+
+-- this is the offset of a row
+abbrev pub IsOffset : Table → ℕ → Type 0
+IsOffset d offset = (r : ℕ) × (r < length d.patterns) × (offset ≡ offset_of d r)
+
+-- from the row at an offset, a unit leads to the row at the next offset
+abbrev pub IsNext : Table → ℕ → Option ℕ → ℕ → Type 0
+IsNext d offset u next = (r : ℕ) → r < length d.patterns → offset ≡ offset_of d r
+    → (row_over d r u < length d.patterns) × (next ≡ offset_of d (row_over d r u))
+
+-- the row at an offset lists these patterns
+abbrev pub HasPatterns : Table → ℕ → List ℕ → Type 0
+HasPatterns d offset patterns = (r : ℕ) → r < length d.patterns → offset ≡ offset_of d r
+    → patterns ≡ patterns_at d r
+
+-- the entries are stored as offsets
+pub record IsStored (v : DfaValue) (offsets : List ℕ) : Type 0 where
+  pub dfa : IsDfa v
+  pub count : length offsets ≡ length v.table.next
+  pub entries : (e : ℕ) → e < length offsets
+      → slice_index offsets e ≡ offset_of v.table (slice_index v.table.next e)

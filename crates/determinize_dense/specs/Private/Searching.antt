@@ -1,13 +1,15 @@
 -- How far a search of a text has come, and what it finds.
-use Rattle.std.specs.Prelude.{◌≡◌, ◌<◌, ℕ, All, Bool, false, List, Option, is_some, length, take}
+use Rattle.std.specs.Prelude.{◌≡◌, ◌<◌, ◌≤◌, ℕ, All, Bool, false, List, Option, Some, is_some}
+use Rattle.std.specs.Prelude.{length, slice_get, take}
 use Rattle.determinize_below.specs.Semantics.{Text}
 use Rattle.determinize_below.specs.declared.search.HalfMatch.{HalfMatch}
 use Rattle.determinize_below.specs.Truth.{IsUnit}
 use Rattle.determinize_core.specs.Chain.{chain, future, units}
-use Rattle.determinize_core.specs.LastMatch.{last_match}
+use Rattle.determinize_core.specs.LastMatch.{ended_at, last_match}
 use Rattle.determinize_core.specs.Step.{start_value}
 use Rattle.determinize_dense.specs.Dfa.{start_in}
-use Rattle.determinize_dense.specs.Table.{DfaValue, row_after, start_row}
+use Rattle.determinize_dense.specs.Private.Rows.{IsNext, IsOffset, offset_of}
+use Rattle.determinize_dense.specs.Table.{DfaValue, Table, patterns_at, row_after, start_row}
 use Rattle.determinize_below.specs.Nfa.{IsAccepted}
 
 -- the last match of the walk over the text; if any match will do, whether there is one
@@ -19,20 +21,34 @@ pub record IsFound (dfa : DfaValue) (earliest anchored : Bool) (text : Text)
   pub some : is_some found ≡ is_some
       (last_match (chain dfa.nfa dfa.kind (start_in dfa.nfa anchored) text))
 
--- the row after a start behind a byte or behind nothing, and units
+-- this is the offset of the row after a start behind a byte or behind nothing, and units
 pub record IsRowFrom (dfa : DfaValue) (anchored : Bool) (p : Option ℕ) (us : List (Option ℕ))
     (row : ℕ) : Type 0
   where
     pub behind : IsUnit p
     pub units : All IsUnit us
-    pub reached : row ≡ row_after dfa.table (start_row dfa.nfa dfa.table anchored p) us
-    pub below : row < length dfa.table.patterns
+    pub reached : row
+        ≡ offset_of dfa.table (row_after dfa.table (start_row dfa.nfa dfa.table anchored p) us)
+    pub below : row_after dfa.table (start_row dfa.nfa dfa.table anchored p) us
+        < length dfa.table.patterns
 
--- a search that has read some units: the row where it is, and the last match of the values so far
-pub record IsSearched (dfa : DfaValue) (anchored : Bool) (text : Text) (read row : ℕ)
-    (last : Option HalfMatch) : Type 0
+-- the match of the row at an offset, for a match that ends here
+abbrev pub IsMatch : Table → ℕ → ℕ → Option HalfMatch → Type 0
+IsMatch d row end found = (r : ℕ) → r < length d.patterns → row ≡ offset_of d r
+    → found ≡ ended_at end (patterns_at d r)
+
+-- the row at an offset leads to itself over each byte of a text from one index up to another
+abbrev pub StaysOver : Table → ℕ → Text → ℕ → ℕ → Type 0
+StaysOver d row text from to = (i : ℕ) → from ≤ i → i < to → (u : Option ℕ)
+    → slice_get (units text) i ≡ Some u → IsNext d row u row
+
+-- a search that has read some units: the offset of the row where it is, and that of the row that
+-- lists the last match of the values so far, which ends here
+pub record IsSearched (dfa : DfaValue) (anchored : Bool) (text : Text) (read row matched end : ℕ)
+    : Type 0
   where
     pub at : IsRowFrom dfa anchored text.behind (take read (units text)) row
-    pub so_far : last ≡ last_match (future dfa.nfa dfa.kind
+    pub listing : IsOffset dfa.table matched
+    pub so_far : IsMatch dfa.table matched end (last_match (future dfa.nfa dfa.kind
         (start_value dfa.nfa (start_in dfa.nfa anchored) text.behind)
-        (take read (units text)))
+        (take read (units text))))

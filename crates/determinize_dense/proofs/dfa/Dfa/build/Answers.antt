@@ -1,5 +1,5 @@
-use Rattle.determinize_lazy.proofs.Common.{ap, Err, rules, subst, sym, IfOk-weaker, ◌∙◌, ◌≡◌}
-use Rattle.determinize_dense.proofs.Common.{AreStarts}
+use Rattle.determinize_lazy.proofs.Common.{ap, Err, rules, subst, sym, ◌∙◌, ◌≡◌}
+use Rattle.determinize_dense.proofs.Common.{AreStarts, HasStates}
 use Rattle.determinize_dense.proofs.Building.{same_err, more-as, more-before, starts-stay, states-as}
 use Rattle.determinize_dense.proofs.dfa.Dfa.build.Goals as goal
 
@@ -23,8 +23,7 @@ finish-requires-clause-starts g c =
 
 pub returns-clause-states : goal.returns-clause-states
 returns-clause-states g c =
-    IfOk-weaker c.finish.result _ _
-    (λ dfa h. states-as
-    (c.in_ok-fill.ensures.stays.nfa ∙ c.in_ok-starts.ensures.stays.nfa ∙ c.in_ok-builder.ensures.nfa)
-    (c.in_ok-fill.ensures.stays.kind ∙ c.in_ok-starts.ensures.stays.kind ∙ c.in_ok-builder.ensures.kind) h)
-    c.finish.ensures.states
+    subst (λ n. HasStates c.args.nfa.now c.args.match_kind n) (sym c.in_ok-arranged.ensures.rows)
+    (states-as (c.in_ok-fill.ensures.stays.nfa ∙ c.in_ok-starts.ensures.stays.nfa ∙ c.in_ok-builder.ensures.nfa)
+    (c.in_ok-fill.ensures.stays.kind ∙ c.in_ok-starts.ensures.stays.kind ∙ c.in_ok-builder.ensures.kind)
+    c.in_ok-rows.ensures.states)

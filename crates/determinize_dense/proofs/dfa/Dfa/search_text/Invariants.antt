@@ -1,11 +1,12 @@
-use Rattle.determinize_lazy.proofs.Common.{length, ◌+◌, ◌-◌}
+use Rattle.determinize_lazy.proofs.Common.{length, ◌-◌, ◌≤◌}
 use Rattle.determinize_dense.proofs.Common.{IsSearched}
 use Rattle.determinize_dense.proofs.dfa.Dfa.search_text.Given as goal
 
 abbrev pub invariant-loop-read : goal.invariant-loop-read
 invariant-loop-read g l = record {
-  searched : IsSearched l.self l.is_anchored l.text l.read l.row l.last;
+  within : l.read ≤ length l.text.bytes;
+  searched : IsSearched l.self l.is_anchored l.text l.read l.row l.matched l.offset;
 }
 
 abbrev pub decreases-loop-read : goal.decreases-loop-read
-decreases-loop-read g l = length l.text.bytes + 1 - l.read
+decreases-loop-read g l = length l.text.bytes - l.read

@@ -1,0 +1,13 @@
+use Rattle.determinize_lazy.proofs.Common.{ap, map, rules, take_all, ◌*◌, ◌∙◌}
+use Rattle.determinize_dense.proofs.Lists.{mapped-push}
+use Rattle.determinize_dense.proofs.build.offsets_of.Goals as goal
+
+pub loop-row-preserved : goal.loop-row-preserved
+loop-row-preserved g c = record {
+  offsets = mapped-push (λ row. row * c.args.columns) c.loop-row.offsets.items c.push.new.self.items c.args.rows.now
+      c.loop-row.row-index 0 c.loop-row.invariant.offsets c.in_ok-push.ensures.items (search rules);
+}
+
+pub returns : goal.returns
+returns g c = c.loop-row.invariant.offsets
+    ∙ ap (λ rs. map (λ row. row * c.args.columns) rs) (take_all c.loop-row.row-index c.args.rows.now (search rules))

@@ -1,0 +1,7 @@
+use Rattle.determinize_lazy.proofs.Common.{map, take, ◌*◌, ◌≡◌}
+use Rattle.determinize_dense.proofs.build.offsets_of.Given as goal
+
+abbrev pub invariant-loop-row : goal.invariant-loop-row
+invariant-loop-row g l = record {
+  offsets : l.offsets.items ≡ map (λ row. row * l.columns) (take l.row-index l.rows);
+}

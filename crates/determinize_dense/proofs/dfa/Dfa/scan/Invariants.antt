@@ -1,0 +1,13 @@
+use Rattle.determinize_lazy.proofs.Common.{length, ◌-◌, ◌≤◌}
+use Rattle.determinize_dense.specs.Private.Searching.{StaysOver}
+use Rattle.determinize_dense.proofs.dfa.Dfa.scan.Given as goal
+
+abbrev pub invariant-loop-read : goal.invariant-loop-read
+invariant-loop-read g l = record {
+  more : l.fn.read ≤ l.read;
+  within : l.read ≤ length l.text.bytes;
+  stays : StaysOver l.self.table l.row l.text l.fn.read l.read;
+}
+
+abbrev pub decreases-loop-read : goal.decreases-loop-read
+decreases-loop-read g l = length l.text.bytes - l.read

@@ -1,0 +1,15 @@
+use Rattle.std.proofs.Common.{length, ◌*◌, ◌+◌, ◌≤◌}
+use Rattle.determinize_dense.specs.Private.Partition.{IsOrdering}
+use Rattle.determinize_dense.proofs.partition.Partition.by_rank.Given as goal
+
+abbrev pub invariant-loop-rank : goal.invariant-loop-rank
+invariant-loop-rank g l = record {
+  below : l.rank ≤ 4;
+  ordering : IsOrdering l.ranks (l.rank * length l.ranks) l.blocks.items l.members.items;
+}
+
+abbrev pub invariant-loop-row : goal.invariant-loop-row
+invariant-loop-row g l = record {
+  below : l.row ≤ length l.ranks;
+  ordering : IsOrdering l.ranks (l.rank * length l.ranks + l.row) l.blocks.items l.members.items;
+}

@@ -1,0 +1,40 @@
+use Rattle.determinize_lazy.proofs.Common.{ap, length, subst, sym, ◌*◌, ◌+◌, ◌<◌}
+use Rattle.determinize_lazy.proofs.Common.{◌∙◌, ◌≡◌}
+use Rattle.determinize_dense.proofs.Common.{DfaValue}
+use Rattle.determinize_dense.proofs.Arranging.{arranged-least, arranged-ordered, grouping-by_rank}
+use Rattle.determinize_dense.specs.Private.Partition.{IsByRank, IsLastUpto}
+use Rattle.determinize_dense.proofs.rows.Rows.arranged.Given.{Over}
+use Rattle.determinize_dense.proofs.rows.Rows.arranged.Goals.{After-alphabet_len-columns, In_ok-order, In_ok-ranks}
+use Rattle.determinize_dense.proofs.rows.Rows.arranged.Goals as goal
+
+-- the rows by their ranks
+by-rank : (g : Over) (c : In_ok-order g) → IsByRank c.in_ok-ranks.ranks.items c.in_ok-order.order
+by-rank g c = subst (λ rs. IsByRank rs c.in_ok-order.order) c.as_slice.ensures.value c.in_ok-order.ensures
+
+columns-are : (g : Over) (c : After-alphabet_len-columns g)
+    → c.alphabet_len-columns.result ≡ c.args.self.now.table.class_count + 1
+columns-are g c = c.alphabet_len-columns.ensures.count ∙ ap (λ (x : DfaValue). x.table.class_count + 1) c.self.view_is
+
+pub by_rank-requires-clause-some : goal.by_rank-requires-clause-some
+by_rank-requires-clause-some g c =
+    subst (λ rs. 0 < length rs) (sym c.as_slice.ensures.value) c.in_ok-ranks.ensures.some
+
+pub merged-requires : goal.merged-requires
+merged-requires g c = grouping-by_rank c.args.self.now c.in_ok-ranks.ensures
+    (by-rank g (goal.at.merged-requires g c).In_ok-order)
+
+pub invariant_of-result : goal.invariant_of-result
+invariant_of-result g c =
+    let columns : c.alphabet_len-columns.result ≡ c.args.self.now.table.class_count + 1 =
+    columns-are g (goal.at.invariant_of-result g c).After-alphabet_len-columns in
+    arranged-ordered c.args.self.now c.in_ok-ranks.ensures (by-rank g (goal.at.invariant_of-result g c).In_ok-order)
+    c.in_ok-merged.ensures
+    (subst (λ rs. IsLastUpto rs c.in_ok-order.order 1 c.last_upto.result) c.as_slice-2.ensures.value
+    c.last_upto.ensures.last)
+    (subst (λ rs. IsLastUpto rs c.in_ok-order.order 2 c.last_upto-2.result) c.as_slice-3.ensures.value
+    c.last_upto-2.ensures.last)
+    (ap (λ n. c.last_upto.result * n) columns) (ap (λ n. c.last_upto-2.result * n) columns)
+
+pub returns-clause-least : goal.returns-clause-least
+returns-clause-least g c = arranged-least c.args.self.now c.in_ok-ranks.ensures
+    (by-rank g (goal.at.returns-clause-least g c).In_ok-order) c.in_ok-merged.ensures

@@ -1,0 +1,11 @@
+use Rattle.determinize_lazy.proofs.Common.{IfOk-weaker}
+use Rattle.determinize_dense.proofs.Merging.{merged-fewest, merged-least}
+use Rattle.determinize_dense.proofs.rows.Rows.minimized.Goals as goal
+
+pub returns-clause-least : goal.returns-clause-least
+returns-clause-least g c = IfOk-weaker c.merged.result _ _
+    (λ w m. merged-least c.args.self.now w c.in_ok-parts.parts c.in_ok-parts.ensures.partition m) c.merged.ensures
+
+pub returns-clause-fewer : goal.returns-clause-fewer
+returns-clause-fewer g c = IfOk-weaker c.merged.result _ _
+    (λ w m. merged-fewest c.args.self.now w c.in_ok-parts.parts c.in_ok-parts.ensures.partition m) c.merged.ensures

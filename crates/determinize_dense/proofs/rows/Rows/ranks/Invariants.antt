@@ -1,0 +1,10 @@
+use Rattle.determinize_lazy.proofs.Common.{length, slice_index, ℕ, ◌<◌, ◌≡◌, ◌≤◌}
+use Rattle.determinize_dense.specs.Private.Order.{IsRank}
+use Rattle.determinize_dense.proofs.rows.Rows.ranks.Given as goal
+
+abbrev pub invariant-loop-row : goal.invariant-loop-row
+invariant-loop-row g l = record {
+  count : length l.ranks.items ≡ l.row;
+  below : l.row ≤ length l.fn.self.table.patterns;
+  each : (r : ℕ) → r < length l.ranks.items → IsRank l.fn.self.table r (slice_index l.ranks.items r);
+}

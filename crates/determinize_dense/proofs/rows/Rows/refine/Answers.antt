@@ -1,0 +1,19 @@
+use Rattle.determinize_lazy.proofs.Common.{ap, arith, rules, ◌+◌, ◌∙◌, ◌≡◌, ◌≤◌}
+use Rattle.determinize_dense.proofs.Common.{DfaValue}
+use Rattle.determinize_dense.proofs.Refining.{refined-fewer, refined-first, refined-more}
+use Rattle.determinize_dense.proofs.rows.Rows.refine.Goals as goal
+
+pub loop-column-init : goal.loop-column-init
+loop-column-init g c = record { refined = refined-first c.in_ok-refined.ensures }
+
+pub loop-column-preserved : goal.loop-column-preserved
+loop-column-preserved g c = record {
+  refined = refined-more c.loop-column.invariant.refined c.in_ok-refined-2.ensures;
+}
+
+pub returns : goal.returns
+returns g c =
+    let columns : c.alphabet_len-column-end.result ≡ c.args.self.now.table.class_count + 1 =
+    c.alphabet_len-column-end.ensures.count ∙ ap (λ (x : DfaValue). x.table.class_count + 1) c.self.view_is in
+    let all : c.alphabet_len-column-end.result ≤ c.loop-column.column = search rules in
+    refined-fewer (omega (arith, columns, all)) c.loop-column.invariant.refined

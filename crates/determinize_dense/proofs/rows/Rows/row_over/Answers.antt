@@ -1,0 +1,46 @@
+use Rattle.determinize_lazy.proofs.Common.{ap, length, rules, slice_index, subst, sym, ℕ, ◌*◌, ◌+◌, ◌<◌, ◌∙◌, ◌≡◌}
+use Rattle.determinize_dense.proofs.Common.{column_of, DfaValue, row_over}
+use Rattle.std.proofs.lemmas.Grind.{get_or_default_zero}
+use Rattle.std.specs.Vec.{vec_len}
+use Rattle.determinize_dense.proofs.Tables.{over-stored}
+use Rattle.determinize_dense.specs.Private.Rows.{offset_of}
+use Rattle.determinize_dense.proofs.rows.Rows.row_over.Given.{Over}
+use Rattle.determinize_dense.proofs.rows.Rows.row_over.Goals.{After-column}
+use Rattle.determinize_dense.proofs.rows.Rows.row_over.Goals as goal
+
+-- the entry that is read
+entry-is : (g : Over) (c : After-column g) (r : ℕ) → r < length c.args.self.now.table.patterns
+    → c.args.row ≡ offset_of c.args.self.now.table r
+    → (c.args.row + c.column.result < length c.self.inside.next.items)
+    × (slice_index c.self.inside.next.items (c.args.row + c.column.result)
+    ≡ offset_of c.args.self.now.table (row_over c.args.self.now.table r c.args.unit))
+entry-is g c r h e =
+    let stored = subst (λ (x : DfaValue). (r * (x.table.class_count + 1) + column_of x.table c.args.unit
+    < length c.self.inside.next.items)
+    × (slice_index c.self.inside.next.items (r * (x.table.class_count + 1) + column_of x.table c.args.unit)
+    ≡ offset_of x.table (row_over x.table r c.args.unit))) c.self.view_is
+    (over-stored _ c.self.inside.next.items c.self.invariant r c.args.unit
+    (subst (λ (x : DfaValue). r < length x.table.patterns) (sym c.self.view_is) h) c.column.ensures.unit) in
+    let place : r * (c.args.self.now.table.class_count + 1) + column_of c.args.self.now.table c.args.unit
+    ≡ c.args.row + c.column.result =
+    sym (ap (λ n. n + c.column.result) e
+    ∙ ap (λ n. r * (c.args.self.now.table.class_count + 1) + n) c.column.ensures.value) in (
+      subst (λ n. n < length c.self.inside.next.items) place stored.0,
+      ap (λ n. slice_index c.self.inside.next.items n) (sym place) ∙ stored.1,
+    )
+
+pub index-requires : goal.index-requires
+index-requires g c =
+    let len : vec_len c.self.inside.next ≡ length c.self.inside.next.items = search rules in
+    subst (λ n. c.args.row + c.column.result < n) (sym len)
+    (entry-is g (goal.at.index-requires g c).After-column c.requires.0 c.requires.1 c.requires.2).0
+
+pub returns-clause-value : goal.returns-clause-value
+returns-clause-value g c = λ r h e.
+    let entry = entry-is g (goal.at.returns-clause-value g c).After-column r h e in (
+      subst (λ (x : DfaValue). row_over x.table r c.args.unit < length x.table.patterns) c.self.view_is
+          (c.self.invariant.dfa.table.within r c.args.unit
+          (subst (λ (x : DfaValue). r < length x.table.patterns) (sym c.self.view_is) h) c.column.ensures.unit),
+      c.index.ensures ∙ get_or_default_zero c.self.inside.next.items (c.args.row + c.column.result) c.index.result.now entry.0
+          ∙ entry.1,
+    )

@@ -1,0 +1,25 @@
+-- The order of rows: row 0, the rows that list patterns, those that are scanned, and the others.
+use Rattle.std.specs.Prelude.{◌≡◌, ◌<◌, ◌≤◌, ℕ, List, [], length, slice_index, true}
+use Rattle.determinize_state.specs.Value.{is_nonempty}
+use Rattle.determinize_dense.specs.Private.Rows.{offset_of}
+use Rattle.determinize_dense.specs.Table.{Table, patterns_at}
+
+-- behind row 0 and up to the last match, and only there, the rows list patterns
+pub record IsOrdered (d : Table) (last_match last_special : ℕ) : Type 0 where
+  pub some : (r : ℕ) → 0 < r → r < length d.patterns → offset_of d r ≤ last_match
+      → is_nonempty (patterns_at d r) ≡ true
+  pub none : (r : ℕ) → r < length d.patterns → last_match < offset_of d r → patterns_at d r ≡ []
+  pub more : last_match ≤ last_special
+
+-- the rank of a row: 0 is that of row 0, and 1 that of rows that list patterns
+pub record IsRank (d : Table) (r rank : ℕ) : Type 0 where
+  pub first : r ≡ 0 → rank ≡ 0
+  pub some : 0 < r → rank ≤ 1 → is_nonempty (patterns_at d r) ≡ true
+  pub none : 1 < rank → patterns_at d r ≡ []
+  pub few : rank < 4
+
+-- the rank of each row
+pub record AreRanks (d : Table) (ranks : List ℕ) : Type 0 where
+  pub count : length ranks ≡ length d.patterns
+  pub some : 0 < length ranks
+  pub each : (r : ℕ) → r < length ranks → IsRank d r (slice_index ranks r)

@@ -1,0 +1,72 @@
+//! The order of rows: row 0, then the rows that list patterns, then those that a search scans out
+//! of, and then the others.
+
+ghost use Rattle.std.specs.Prelude.{◌≡◌, ◌<◌, IfOk, length};
+ghost use Rattle.determinize_dense.specs.Least.{IsLeast};
+ghost use Rattle.determinize_dense.specs.Private.Order.{AreRanks, IsRank};
+
+use crate::dfa::Dfa;
+use crate::partition::Partition;
+use crate::rows::Rows;
+use std::alloc::{AllocError, Allocator};
+
+impl<'n, N: Allocator, A: Allocator + Copy> Rows<'n, N, A> {
+    /// Returns whether a search scans out of a row: it leads to itself over the commonest bytes of
+    /// an English text. This is a guess at what is fast, and no search depends on it.
+    fn is_scanned(&self, row: usize) -> bool
+        requires { row < length self.now.table.patterns }
+    {
+        for byte in b" etaoinsrh" {
+            if self.entry(row, usize::from(self.classes.get(*byte))) != row {
+                return false;
+            }
+        }
+        true
+    }
+
+    /// Returns the rank of a row in the order.
+    fn rank(&self, row: usize) -> usize
+        requires { row < length self.now.table.patterns }
+        ensures { IsRank self.now.table row result }
+    {
+        if row == 0 {
+            0
+        } else if !self.patterns[row].is_empty() {
+            1
+        } else if self.is_scanned(row) {
+            2
+        } else {
+            3
+        }
+    }
+
+    /// Returns the rank of each row.
+    fn ranks(&self, alloc: A) -> Result<Vec<usize, A>, AllocError>
+        ensures { IfOk result (λ ranks. AreRanks self.now.table ranks.items) }
+    {
+        let mut ranks = Vec::with_capacity(alloc, self.len())?;
+        for row in 0..self.len() {
+            ranks.push(self.rank(row))?;
+        }
+        Ok(ranks)
+    }
+
+    /// Returns the DFA with these rows, in order.
+    pub(crate) fn arranged(&self, alloc: A) -> Result<Dfa<'n, N, A>, AllocError>
+        ensures nfa { IfOk result (λ dfa. dfa.nfa ≡ self.now.nfa) }
+        ensures kind { IfOk result (λ dfa. dfa.kind ≡ self.now.kind) }
+        ensures rows { IfOk result
+            (λ dfa. length dfa.table.patterns ≡ length self.now.table.patterns) }
+        ensures least { IsLeast self.now.nfa self.now.table
+            → IfOk result (λ dfa. IsLeast dfa.nfa dfa.table) }
+    {
+        let ranks = self.ranks(alloc)?;
+        let order = Partition::by_rank(alloc, ranks.as_slice())?;
+        let columns = self.classes.alphabet_len();
+        Ok(Dfa {
+            rows: self.merged(alloc, &order)?,
+            last_match: (order.last_upto(ranks.as_slice(), 1) * columns) as u32,
+            last_special: (order.last_upto(ranks.as_slice(), 2) * columns) as u32,
+        })
+    }
+}

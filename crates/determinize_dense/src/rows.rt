@@ -1,0 +1,128 @@
+//! The rows of a DFA: its table, and how its entries are read.
+
+ghost use Rattle.std.specs.Prelude.{◌≡◌, ◌+◌, ◌<◌, length};
+ghost use Rattle.determinize_below.specs.Truth.{IsUnit};
+ghost use Rattle.determinize_dense.specs.Private.Rows.{HasPatterns, IsDfa, IsNext, IsOffset, offset_of};
+ghost use Rattle.determinize_dense.specs.Table.{column_of, start_row};
+
+use determinize_below::alphabet::ByteClasses;
+use determinize_below::{MatchKind, NFA, PatternID};
+use determinize_core::start::{Start, start_kind_of};
+use std::alloc::{Allocator, Global};
+use std::marker::Model;
+
+/// The number of start states: one for each kind of start, anchored and unanchored.
+pub(crate) const STARTS: usize = 12;
+
+/// The rows of a DFA, in any order but that row 0 is that of the dead state.
+///
+/// A row has an entry for each class of bytes and, last, one for the end of input (EOI): the offset
+/// of the next row, which is its number times the length of a row.
+pub(crate) struct Rows<'n, N: Allocator = Global, A: Allocator = Global> {
+    pub(crate) nfa: &'n NFA<N>,
+    pub(crate) match_kind: MatchKind,
+    pub(crate) classes: ByteClasses,
+    pub(crate) next: Vec<u32, A>,
+    pub(crate) starts: [u32; STARTS],
+    pub(crate) patterns: Vec<Vec<PatternID, A>, A>,
+}
+
+// Takes the fields apart in one call, so that a function that owns rows drops them in one step.
+impl<'n, N: Allocator, A: Allocator> Drop for Rows<'n, N, A> {
+    fn drop(self) {
+        let Rows {
+            nfa: _,
+            match_kind: _,
+            classes: _,
+            next: _,
+            starts: _,
+            patterns: _,
+        } = self;
+    }
+}
+
+impl<'n, N: Allocator, A: Allocator> Model for Rows<'n, N, A> {
+    ghost use Rattle.std.specs.Prelude.{◌+◌, length, map};
+    ghost use Rattle.determinize_dense.specs.Table.{DfaValue};
+    ghost use Rattle.determinize_dense.specs.Private.Rows.{IsStored, rows_at};
+
+    ghost Value = { DfaValue };
+
+    ghost view = { λ d. record {
+      nfa = d.nfa.now;
+      kind = d.match_kind;
+      table = record {
+        classes = d.classes.of_bytes;
+        class_count = length d.classes.firsts;
+        next = rows_at (length d.classes.firsts + 1) d.next.items;
+        starts = d.starts;
+        patterns = map (λ list. list.items) d.patterns.items;
+      };
+    } };
+
+    ghost invariant = { λ d. IsStored record {
+      nfa = d.nfa.now;
+      kind = d.match_kind;
+      table = record {
+        classes = d.classes.of_bytes;
+        class_count = length d.classes.firsts;
+        next = rows_at (length d.classes.firsts + 1) d.next.items;
+        starts = d.starts;
+        patterns = map (λ list. list.items) d.patterns.items;
+      };
+    } d.next.items };
+}
+
+impl<'n, N: Allocator, A: Allocator + Copy> Rows<'n, N, A> {
+    /// Returns the offset of the row of a start behind a byte, or behind nothing.
+    pub(crate) fn start_row(&self, is_anchored: bool, look_behind: Option<u8>) -> u32
+        ensures value { result ≡ offset_of self.now.table
+            (start_row self.now.nfa self.now.table is_anchored look_behind) }
+        ensures limit { start_row self.now.nfa self.now.table is_anchored look_behind
+            < length self.now.table.patterns }
+        ensures unit { IsUnit look_behind }
+        ensures sound { IsDfa self.now }
+    {
+        let terminator = self.nfa.look_matcher().get_line_terminator();
+        let kind = start_kind_of(terminator, look_behind).as_usize();
+        let first = if is_anchored { 0 } else { Start::len() };
+        self.starts[first + kind] * self.classes.alphabet_len() as u32
+    }
+
+    /// Returns the offset of the row after a row over a unit.
+    ///
+    /// - `row` is the offset of the row.
+    #[inline(always)]
+    pub(crate) fn row_over(&self, row: u32, unit: Option<u8>) -> u32
+        requires { IsOffset self.now.table row }
+        ensures value { IsNext self.now.table row unit result }
+        ensures unit { IsUnit unit }
+    {
+        self.next[row as usize + self.column(unit)]
+    }
+
+    /// Returns the column of a unit.
+    #[inline(always)]
+    fn column(&self, unit: Option<u8>) -> usize
+        ensures value { result ≡ column_of self.now.table unit }
+        ensures limit { result < self.now.table.class_count + 1 }
+        ensures unit { IsUnit unit }
+    {
+        match unit {
+            Some(byte) => usize::from(self.classes.get(byte)),
+            None => self.classes.alphabet_len() - 1,
+        }
+    }
+
+    /// Returns the patterns that a row lists.
+    ///
+    /// - `row` is the offset of the row.
+    #[inline(always)]
+    pub(crate) fn patterns(&self, row: u32) -> &[PatternID]
+        requires { IsOffset self.now.table row }
+        ensures { HasPatterns self.now.table row result.now }
+    {
+        let number = row / self.classes.alphabet_len() as u32;
+        self.patterns[number as usize].as_slice()
+    }
+}
