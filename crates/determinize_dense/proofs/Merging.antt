@@ -213,9 +213,10 @@ module _ (v : DfaValue) (is : IsDfa v) (p : Blocks) (part : IsGrouping v.table p
     over = over;
   }
 
-  pub merged-stored : IsStored merged offsets
-  merged-stored = record {
+  pub merged-stored : v.table.class_count + 1 ≤ 257 → IsStored merged offsets
+  merged-stored narrow = record {
     dfa = merged-dfa;
+    narrow = narrow;
     count = sym (length-map offsets (λ offset. offset / (v.table.class_count + 1)));
     entries = λ e h. rows.entries e h ∙ ap (λ n. offset_of d n) (sym (entry-is e h));
   }

@@ -176,7 +176,8 @@ module _ (b : Building) (is : IsBuilding b) (whole : length b.next ≡ length b.
   }
 
   -- the entries as offsets
-  pub is_stored : (offsets : List ℕ) → offsets ≡ map (λ row. row * columns_of b.classes) b.next
+  pub is_stored : columns_of b.classes ≤ 257 → (offsets : List ℕ)
+      → offsets ≡ map (λ row. row * columns_of b.classes) b.next
       → IsStored (record {
         nfa = b.nfa;
         kind = b.kind;
@@ -188,7 +189,8 @@ module _ (b : Building) (is : IsBuilding b) (whole : length b.next ≡ length b.
           patterns = map (λ (v : Value). v.patterns) b.values;
         };
       }) offsets
-  is_stored offsets are = record {
+  is_stored narrow offsets are = record {
+    narrow = narrow;
     dfa = subst (λ ns. IsDfa record {
       nfa = b.nfa;
       kind = b.kind;

@@ -98,7 +98,7 @@ impl<'n, N: Allocator, A: Allocator + Copy> Rows<'n, N, A> {
         ensures value { IsNext self.now.table row unit result }
         ensures unit { IsUnit unit }
     {
-        self.next[row as usize + self.column(unit)]
+        self.next[(row + self.column(unit) as u32) as usize]
     }
 
     /// Returns the column of a unit.

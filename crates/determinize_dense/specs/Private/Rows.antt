@@ -57,5 +57,6 @@ HasPatterns d offset patterns = (r : ℕ) → r < length d.patterns → offset �
 pub record IsStored (v : DfaValue) (offsets : List ℕ) : Type 0 where
   pub dfa : IsDfa v
   pub count : length offsets ≡ length v.table.next
+  pub narrow : v.table.class_count + 1 ≤ 257
   pub entries : (e : ℕ) → e < length offsets
       → slice_index offsets e ≡ offset_of v.table (slice_index v.table.next e)

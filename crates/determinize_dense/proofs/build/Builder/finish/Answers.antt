@@ -1,4 +1,4 @@
-use Rattle.determinize_lazy.proofs.Common.{ap, length, map, subst, sym, Value, length-map, ◌*◌, ◌+◌, ◌<◌, ◌∙◌, ◌≡◌}
+use Rattle.determinize_lazy.proofs.Common.{ap, length, map, subst, sym, Value, length-map, ◌*◌, ◌+◌, ◌<◌, ◌∙◌, ◌≡◌, ◌≤◌}
 use Rattle.determinize_dense.proofs.Common.{All, AreStarts, Building, columns_of, HasStates, IsBuilding}
 use Rattle.determinize_dense.proofs.Simulation.{has_states, is_stored, rows-few}
 use Rattle.determinize_dense.specs.Private.Rows.{IsStored, rows_at}
@@ -52,7 +52,7 @@ invariant_of-result g c =
     ≡ length x.values * columns_of x.classes) (sym c.self.view_is) c.requires.whole)
     c.args.starts
     (subst (λ (x : Building). AreStarts x.nfa x.values 12 c.args.starts) (sym c.self.view_is) c.requires.starts)
-    c.in_ok-next.next.items offsets)))
+    (subst (λ n. n ≤ 257) c.alphabet_len.ensures.count c.alphabet_len.ensures.limit) c.in_ok-next.next.items offsets)))
 
 pub offsets_of-requires-clause-rows : goal.offsets_of-requires-clause-rows
 offsets_of-requires-clause-rows g c =

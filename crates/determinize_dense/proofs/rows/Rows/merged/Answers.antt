@@ -1,4 +1,4 @@
-use Rattle.determinize_lazy.proofs.Common.{ap, length, map, rules, subst, sym, ◌+◌, ◌∙◌, ◌≡◌}
+use Rattle.determinize_lazy.proofs.Common.{ap, length, map, rules, subst, sym, ◌+◌, ◌∙◌, ◌≡◌, ◌≤◌}
 use Rattle.determinize_dense.proofs.Common.{DfaValue, IsDfa}
 use Rattle.determinize_below.specs.ByteClasses.{Classes}
 use Rattle.determinize_dense.proofs.Merging.{merged-is, merged-stored, with_rows}
@@ -45,7 +45,8 @@ invariant_of-result g c = subst (λ (x : DfaValue). IsStored x c.in_ok-merged_ro
     (merged-stored c.args.self.now (subst (λ (x : DfaValue). IsDfa x) c.self.view_is c.self.invariant.dfa)
     c.args.parts.now c.requires c.in_ok-merged_rows.field-0.items c.merged_starts.result
     (map (λ list. list.items) c.in_ok-merged_lists.field-0.items) c.in_ok-merged_rows.ensures c.merged_starts.ensures
-    c.in_ok-merged_lists.ensures)
+    c.in_ok-merged_lists.ensures
+    (subst (λ (x : DfaValue). x.table.class_count + 1 ≤ 257) c.self.view_is c.self.invariant.narrow))
 
 pub returns : goal.returns
 returns g c = subst (λ (x : DfaValue). IsMerged c.args.self.now c.args.parts.now x)
