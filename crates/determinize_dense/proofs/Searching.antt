@@ -5,7 +5,8 @@ use Rattle.determinize_lazy.proofs.Common.{Option, option_or, refl, slice_get, s
 use Rattle.determinize_lazy.proofs.Common.{start_value, subst, sym, take, take_all, take_more, Text, true, units}
 use Rattle.determinize_lazy.proofs.Common.{Value, value_after, ℕ, [], append-nil, last_match-push, length-take-le}
 use Rattle.determinize_lazy.proofs.Common.{take-append-drop, true≢false, ◌++◌, ◌+◌, ◌<◌, ◌∙◌, ◌∷◌, ◌≡◌, ◌≤◌}
-use Rattle.determinize_lazy.proofs.Common.{get_or, inl, inr, is_nonempty, map, None, length-append, length-map, slice_get-get_or, suc, zero, ◌*◌, ◌-◌}
+use Rattle.determinize_lazy.proofs.Common.{get_or, inl, inr, is_nonempty, map, None}
+use Rattle.determinize_lazy.proofs.Common.{length-append, length-map, slice_get-get_or, suc, zero, ◌*◌, ◌-◌}
 use Rattle.determinize_dense.proofs.Common.{All, DfaValue, IsDfa, IsFound, IsRowFrom, IsSearched, IsUnit, patterns_at}
 use Rattle.determinize_dense.proofs.Common.{row_after, row_over, start_in, start_row, value_from}
 use Rattle.determinize_dense.proofs.Lists.{map-push}

@@ -78,7 +78,8 @@ impl<'n, N: Allocator, A: Allocator + Copy> Dfa<'n, N, A> {
     /// Searches a text. The search ends at row 0 and, if `is_earliest`, at the first row that lists
     /// a pattern. Returns the last match of the rows that it enters.
     ///
-    /// A row is known by its offset. Of the last row that lists patterns the match is looked up once.
+    /// A row is known by its offset. The match of the last row that lists patterns is looked up at
+    /// the end.
     #[inline(always)]
     fn search_text(
         &self,

@@ -1,4 +1,5 @@
-use Rattle.determinize_lazy.proofs.Common.{ap, between, get_or, IsAccepted, length, map, refl, rules, Some, subst, sym, take_all, units, [], ◌++◌, ◌∙◌}
+use Rattle.determinize_lazy.proofs.Common.{ap, between, get_or, IsAccepted, length, map, refl, rules}
+use Rattle.determinize_lazy.proofs.Common.{Some, subst, sym, take_all, units, [], ◌++◌, ◌∙◌}
 use Rattle.determinize_lazy.proofs.Common.{◌<◌, ◌∷◌, ◌≡◌}
 use Rattle.determinize_dense.proofs.Common.{DfaValue, is_anchored, IsDfa, IsRowFrom, start_row, value_from}
 use Rattle.determinize_core.proofs.walk.UnitLists.{units_are}
@@ -51,10 +52,12 @@ returns-clause-patterns g c = listed g (goal.at.returns-clause-patterns g c).Aft
 
 pub returns-clause-all : goal.returns-clause-all
 returns-clause-all g c = λ all. list-all c.args.self.now.nfa c.args.self.now.kind _ _
-    (between c.args.look_behind c.args.text.now c.args.look_ahead) (subst (λ (x : DfaValue). IsAccepted x.nfa) c.self.view_is c.start_row-row.ensures.sound.accepted) all
+    (between c.args.look_behind c.args.text.now c.args.look_ahead)
+    (subst (λ (x : DfaValue). IsAccepted x.nfa) c.self.view_is c.start_row-row.ensures.sound.accepted) all
     (start_is c.args.self.now.nfa c.args.anchored) (listed g (goal.at.returns-clause-all g c).After-patterns)
 
 pub returns-clause-accepted : goal.returns-clause-accepted
 returns-clause-accepted g c = each-accepted c.args.self.now.nfa c.args.self.now.kind _ _
-    (between c.args.look_behind c.args.text.now c.args.look_ahead) (subst (λ (x : DfaValue). IsAccepted x.nfa) c.self.view_is c.start_row-row.ensures.sound.accepted)
+    (between c.args.look_behind c.args.text.now c.args.look_ahead)
+    (subst (λ (x : DfaValue). IsAccepted x.nfa) c.self.view_is c.start_row-row.ensures.sound.accepted)
     (start_is c.args.self.now.nfa c.args.anchored) (listed g (goal.at.returns-clause-accepted g c).After-patterns)

@@ -28,9 +28,11 @@ loop-row-preserved g c = record {
   below = omega (arith, c.loop-row-test.true);
   ordering = elim c.if-ranks-row.branch [
     | then-ranks-row+in_ok-push w ↦ rw w.members-is (rw w.blocks-is (rw w.in_ok-push.ensures.items
-        (rw (let e : w.len.result ≡ length c.loop-row.members.items = search rules in e) (ordering-push c.loop-rank.rank c.loop-row.row c.loop-row.invariant.ordering c.loop-row-test.true w.if-ranks-row.true))))
+        (rw (let e : w.len.result ≡ length c.loop-row.members.items = search rules in e) (ordering-push c.loop-rank.rank c.loop-row.row c.loop-row.invariant.ordering
+        c.loop-row-test.true w.if-ranks-row.true))))
     | else-ranks-row w ↦ rw w.members-is (rw w.blocks-is
-        (ordering-skip c.loop-rank.rank c.loop-row.row c.loop-row.invariant.ordering c.loop-row-test.true w.if-ranks-row.false))
+        (ordering-skip c.loop-rank.rank c.loop-row.row c.loop-row.invariant.ordering
+        c.loop-row-test.true w.if-ranks-row.false))
   ];
 }
 
