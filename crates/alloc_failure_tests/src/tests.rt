@@ -3,6 +3,17 @@
 ghost use Rattle.std.specs.Prelude.{◌<◌, All, length, IfOk};
 ghost use Rattle.determinize_below.specs.Nfa.{AllResolve};
 
+/// Makes a call while the allocator may fail, and then again with enough memory. Gives the value of
+/// the first call, if it succeeded, and that of the second.
+macro_rules! call_twice {
+    ($heap:expr, $call:expr) => {{
+        $heap.begin();
+        let first: Result<_, _> = $call;
+        $heap.end();
+        (first.ok(), $call?)
+    }};
+}
+
 mod builders;
 mod large;
 mod lazy;
@@ -10,8 +21,10 @@ mod printing;
 mod sets;
 mod states;
 mod steps;
+mod trial;
 mod without;
 
+use crate::tests::trial::{OfWalk, Trial};
 use determinize_below::{MatchKind, NFA, StateID, Unit};
 use determinize_core::determinize;
 use determinize_core::state::State;
@@ -39,30 +52,13 @@ pub fn holds<R: Abort>(rt: &R, is_so: bool) {
 /// The allocator of a run.
 pub type Heap = FailingAllocator<Global>;
 
-/// Repeats a run with its first allocation failing, then its second, and so on, until a run has no
-/// failure. The run returns whether all of its calls succeeded, which must be so unless an
-/// allocation failed. After each run all memory must have been freed.
-pub fn fail_each_in_turn<R: Abort + AllocGlobal, F: FnMut(&Heap) -> Result<bool, Fail>>(
-    rt: &R,
-    run: F,
-) -> Result<(), Fail>
-    requires { F.IsAlwaysCallable run }
-{
-    same(rt, fail_each_allocation(rt.alloc(), run)?, Outcome::Sound);
+/// Repeats a trial with its first allocation failing, then its second, and so on, until there is no
+/// failure. The trial returns whether all of its calls succeeded, which must be so unless an
+/// allocation failed. After each repetition all memory must have been freed.
+pub fn fail_each_in_turn<R: Abort + AllocGlobal>(rt: &R, trial: &Trial<'_>) -> Result<(), Fail> {
+    let outcome = fail_each_allocation(rt.alloc(), |heap| trial.run(rt, heap))?;
+    same(rt, outcome, Outcome::Sound);
     Ok(())
-}
-
-/// Makes a call while the allocator may fail, and then again with enough memory.
-pub fn call_twice<T: Drop, F: FnMut() -> Result<T, AllocError>>(
-    heap: &Heap,
-    mut call: F,
-) -> Result<(Option<T>, T), Fail>
-    requires { F.IsAlwaysCallable call }
-{
-    heap.begin();
-    let first = call();
-    heap.end();
-    Ok((first.ok(), call()?))
 }
 
 /// Parses the states of the lines of an output, whose last line is the match.
@@ -174,15 +170,12 @@ fn rows(alloc: Global) -> Result<Vec<Row>, Fail> {
     Ok(rows)
 }
 
-/// Makes the runs of [`fail_each_in_turn`] with each example walk.
-pub fn fail_each_over_walks<R: Abort + AllocGlobal, F: Fn(&Heap, &Row) -> Result<bool, Fail>>(
-    rt: &R,
-    run: F,
-) -> Result<(), Fail>
-    requires { F.IsAlwaysCallable run }
-{
+/// Makes these trials with each example walk, as [`fail_each_in_turn`] does.
+pub fn fail_each_over_walks<R: Abort + AllocGlobal>(rt: &R, trials: &[OfWalk]) -> Result<(), Fail> {
     for row in rows(rt.alloc())?.iter() {
-        fail_each_in_turn(rt, |heap| run(heap, row))?;
+        for trial in trials {
+            fail_each_in_turn(rt, &Trial::OfWalk(*trial, row))?;
+        }
     }
     Ok(())
 }

@@ -2,7 +2,8 @@
 
 ghost use Rattle.std.specs.Prelude.{◌≡◌, [], OnOk};
 
-use crate::tests::{Heap, Row, call_twice, fail_each_over_walks, same};
+use crate::tests::trial::OfWalk;
+use crate::tests::{Heap, Row, fail_each_over_walks, same};
 use determinize_below::{PatternID, StateID};
 use determinize_core::state::{State, StateBuilderEmpty, StateBuilderMatches, StateBuilderNFA};
 use std::alloc::AllocError;
@@ -114,14 +115,14 @@ pub fn are_spelled<'a>(
 
 /// Clones an empty builder.
 fn clone_empty(rt: &impl Abort, heap: &Heap) -> Result<bool, Fail> {
-    let (first, second) = call_twice(heap, || StateBuilderEmpty::new(heap).clone())?;
+    let (first, second) = call_twice!(heap, StateBuilderEmpty::new(heap).clone());
     same(rt, second.capacity(), 0);
     Ok(first.is_some())
 }
 
 /// Begins a builder.
 fn begin(rt: &impl Abort, heap: &Heap) -> Result<bool, Fail> {
-    let (first, second) = call_twice(heap, || StateBuilderEmpty::new(heap).into_matches())?;
+    let (first, second) = call_twice!(heap, StateBuilderEmpty::new(heap).into_matches());
     same(rt, second.into_nfa().as_bytes(), [0; 9].as_slice());
     Ok(first.is_some())
 }
@@ -172,7 +173,7 @@ pub fn make_state(
     builder: &StateBuilderNFA<&Heap>,
     bytes: &[u8],
 ) -> Result<bool, Fail> {
-    let states = call_twice(heap, || builder.to_state())?;
+    let states = call_twice!(heap, builder.to_state());
     Ok(are_states(rt, &states, bytes))
 }
 
@@ -184,7 +185,7 @@ fn finish(
     builder: &StateBuilderNFA<&Heap>,
     bytes: &[u8],
 ) -> Result<bool, Fail> {
-    let clones = call_twice(heap, || builder.clone())?;
+    let clones = call_twice!(heap, builder.clone());
     let is_cloned = are_spelled(rt, &clones, bytes);
     let is_made = make_state(rt, heap, builder, bytes)?;
     same(rt, builder.as_bytes(), bytes);
@@ -197,10 +198,14 @@ fn close_patterns<'a>(
     heap: &'a Heap,
     matches: StateBuilderMatches<&'a Heap>,
 ) -> Result<(bool, StateBuilderNFA<&'a Heap>), Fail> {
-    let (first, second) = call_twice(heap, || matches.clone())?;
-    let clones = (first.map(|builder| builder.into_nfa()), second.into_nfa());
+    let (first, second) = call_twice!(heap, matches.clone());
     let builder = matches.into_nfa();
-    Ok((are_spelled(rt, &clones, builder.as_bytes()), builder))
+    same(rt, second.into_nfa().as_bytes(), builder.as_bytes());
+    let Some(first) = first else {
+        return Ok((false, builder));
+    };
+    same(rt, first.into_nfa().as_bytes(), builder.as_bytes());
+    Ok((true, builder))
 }
 
 /// Adds the look-need and the NFA states of a state to a builder.
@@ -234,7 +239,7 @@ fn build<'a, R: Abort + AllocGlobal>(
 }
 
 /// Builds a copy of each state of a walk.
-fn build_states<R: Abort + AllocGlobal>(rt: &R, heap: &Heap, row: &Row) -> Result<bool, Fail> {
+pub fn build_states<R: Abort + AllocGlobal>(rt: &R, heap: &Heap, row: &Row) -> Result<bool, Fail> {
     let start = row.start()?;
     let states = row.walk(heap, start)?;
     let mut is_answered = true;
@@ -246,5 +251,5 @@ fn build_states<R: Abort + AllocGlobal>(rt: &R, heap: &Heap, row: &Row) -> Resul
 
 #[test]
 fn states_of_walks(rt: HostRuntime) -> Result<(), Fail> {
-    fail_each_over_walks(&rt, |heap, row| build_states(&rt, heap, row))
+    fail_each_over_walks(&rt, &[OfWalk::BuildStates])
 }

@@ -194,35 +194,42 @@ fn started_last(alloc: Global, states: Vec<nfa::State>) -> Result<NFA, Fail> {
     Ok(NFA::from_parts(alloc, states, last, last, false, LookMatcher::new())?)
 }
 
+/// Returns the states of a walk over nothing.
+fn walk_nothing(alloc: Global, nfa: &NFA) -> Result<Vec<State>, AllocError> {
+    walk(alloc, nfa, MatchKind::All, nfa.start_anchored(), None, b"")
+}
+
+/// Asserts that the first state lists the union behind the dead ends and then the three matches,
+/// and the second one these patterns.
+fn expect_great<R: Abort + AllocGlobal>(
+    rt: &R,
+    states: &[State],
+    patterns: &[PatternID],
+) -> Result<(), AllocError> {
+    let [first, second] = states else {
+        panic!(rt; "a walk over nothing has two states");
+    };
+    let ids: Vec<StateID> = first.iter_nfa_state_ids().collect(rt.alloc())?;
+    let great = [
+        StateID::must(300_003),
+        StateID::must(300_000),
+        StateID::must(300_001),
+        StateID::must(300_002),
+    ];
+    same(rt, ids.as_slice(), great.as_slice());
+    let Some(found) = second.match_pattern_ids()? else {
+        panic!(rt; "the second state matches");
+    };
+    same(rt, found.as_slice(), patterns);
+    Ok(())
+}
+
 /// A walk lists large state ids and then large pattern ids, in order.
 #[test]
 fn great_ids(rt: HostRuntime) -> Result<(), Fail> {
     let patterns = [PatternID::ZERO, PatternID::new(WIDE)?, PatternID::MAX];
-    let states = behind_dead_ends(rt.alloc(), patterns.as_slice())?;
-    let nfa = started_last(rt.alloc(), states)?;
-    let states = walk(
-        rt.alloc(),
-        &nfa,
-        MatchKind::All,
-        nfa.start_anchored(),
-        None,
-        b"",
-    )?;
-    let [first, second] = states.as_slice() else {
-        panic!(rt; "a walk over nothing has two states");
-    };
-    let ids: Vec<usize> = first
-        .iter_nfa_state_ids()
-        .map(|id| id.as_usize())
-        .collect(rt.alloc())?;
-    same(
-        &rt,
-        ids.as_slice(),
-        [300_003, 300_000, 300_001, 300_002].as_slice(),
-    );
-    let Some(found) = second.match_pattern_ids()? else {
-        panic!(rt; "the second state matches");
-    };
-    same(&rt, found.as_slice(), patterns.as_slice());
+    let nfa = started_last(rt.alloc(), behind_dead_ends(rt.alloc(), &patterns)?)?;
+    let states = walk_nothing(rt.alloc(), &nfa)?;
+    expect_great(&rt, states.as_slice(), &patterns)?;
     Ok(())
 }

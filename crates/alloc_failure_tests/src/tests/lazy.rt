@@ -2,6 +2,7 @@
 
 ghost use Rattle.std.specs.Prelude.{◌≡◌, ◌<◌, length};
 
+use crate::tests::trial::OfWalk;
 use crate::tests::{Heap, Row, fail_each_over_walks, holds, same};
 use determinize_below::{Anchored, HalfMatch, Input, LookMatcher, MatchKind, NFA, StateID};
 use determinize_core::determinize::last_match;
@@ -31,7 +32,7 @@ fn walk_from<'a>(
 
 /// Walks through a new cache. After a failed allocation the same walk through the same cache, with
 /// enough memory, must return what the walk without a cache does.
-fn walk(rt: &impl Abort, heap: &Heap, row: &Row, limit: usize) -> Result<bool, Fail> {
+pub fn walk(rt: &impl Abort, heap: &Heap, row: &Row, limit: usize) -> Result<bool, Fail> {
     let start = row.start()?;
     let mut lazy = Lazy::new(heap, &row.nfa, row.kind, limit);
     heap.begin();
@@ -54,7 +55,7 @@ fn last_walked(heap: &Heap, row: &Row, start: StateID) -> Result<Option<HalfMatc
 
 /// Searches the text of a walk through a new cache, and then again with enough memory. Each search
 /// that succeeds must find the last match of the walk.
-fn search(rt: &impl Abort, heap: &Heap, row: &Row, limit: usize) -> Result<bool, Fail> {
+pub fn search(rt: &impl Abort, heap: &Heap, row: &Row, limit: usize) -> Result<bool, Fail> {
     let start = row.start()?;
     let (behind, text, ahead) = (row.look_behind, row.text.as_slice(), row.look_ahead);
     let mut lazy = Lazy::new(heap, &row.nfa, row.kind, limit);
@@ -68,7 +69,7 @@ fn search(rt: &impl Abort, heap: &Heap, row: &Row, limit: usize) -> Result<bool,
 }
 
 /// Searches the text of a walk as a haystack, in the same way.
-fn search_input(rt: &impl Abort, heap: &Heap, row: &Row, limit: usize) -> Result<bool, Fail> {
+pub fn search_input(rt: &impl Abort, heap: &Heap, row: &Row, limit: usize) -> Result<bool, Fail> {
     let input = Input::new(row.text.as_slice()).anchored(Anchored::Yes);
     let mut lazy = Lazy::new(heap, &row.nfa, row.kind, limit);
     heap.begin();
@@ -84,7 +85,7 @@ fn search_input(rt: &impl Abort, heap: &Heap, row: &Row, limit: usize) -> Result
 
 /// Tests whether the text of a walk as a haystack has a match. If the call succeeds, the result
 /// must be that of a search with enough memory.
-fn is_match(rt: &impl Abort, heap: &Heap, row: &Row, limit: usize) -> Result<bool, Fail> {
+pub fn is_match(rt: &impl Abort, heap: &Heap, row: &Row, limit: usize) -> Result<bool, Fail> {
     let input = Input::new(row.text.as_slice()).anchored(Anchored::Yes);
     let mut lazy = Lazy::new(heap, &row.nfa, row.kind, limit);
     heap.begin();
@@ -101,11 +102,13 @@ fn is_match(rt: &impl Abort, heap: &Heap, row: &Row, limit: usize) -> Result<boo
 #[test]
 fn walks_and_searches(rt: HostRuntime) -> Result<(), Fail> {
     for limit in [0, 1, 2, 64] {
-        fail_each_over_walks(&rt, |heap, row| {
-            let is_found = search(&rt, heap, row, limit)? && search_input(&rt, heap, row, limit)?;
-            let is_asked = is_found && is_match(&rt, heap, row, limit)?;
-            Ok(is_asked && walk(&rt, heap, row, limit)?)
-        })?;
+        let searches = [
+            OfWalk::Search(limit),
+            OfWalk::SearchInput(limit),
+            OfWalk::IsMatch(limit),
+        ];
+        fail_each_over_walks(&rt, &searches)?;
+        fail_each_over_walks(&rt, &[OfWalk::WalkCached(limit)])?;
     }
     Ok(())
 }

@@ -1,5 +1,6 @@
 //! The program `rows` with each name, with each allocation failing in turn.
 
+use crate::tests::trial::Trial;
 use crate::tests::{Heap, fail_each_in_turn, holds, same};
 use determinize_replay::examples::examples;
 use determinize_replay::rows::run_rows;
@@ -7,7 +8,7 @@ use std::process::Abort;
 use std::test::Fail;
 
 /// Prints a walk, or reports a failed allocation after a prefix of it.
-fn print<R: Abort + AllocGlobal>(
+pub fn print<R: Abort + AllocGlobal>(
     rt: &R,
     heap: &Heap,
     words: &[String],
@@ -34,10 +35,7 @@ fn print<R: Abort + AllocGlobal>(
 fn prints_each_walk_or_fails_to_allocate(rt: HostRuntime) -> Result<(), Fail> {
     for example in examples() {
         let words = vec![in rt.alloc(); String::from_str(rt.alloc(), example.name)?]?;
-        fail_each_in_turn(
-            &rt,
-            |heap| print(&rt, heap, words.as_slice(), example.output),
-        )?;
+        fail_each_in_turn(&rt, &Trial::Print(words.as_slice(), example.output))?;
     }
     Ok(())
 }

@@ -2,7 +2,8 @@
 
 ghost use Rattle.std.specs.Prelude.{◌≤◌};
 
-use crate::tests::{Heap, Row, call_twice, fail_each_in_turn, fail_each_over_walks, holds, same};
+use crate::tests::trial::{OfWalk, Trial};
+use crate::tests::{Heap, Row, fail_each_in_turn, fail_each_over_walks, holds, same};
 use determinize_below::{BuildError, NFA, SparseSet, SparseSets, StateID};
 use determinize_replay::error::JobError;
 use determinize_replay::examples::{Example, examples};
@@ -22,7 +23,7 @@ fn expect_empty(rt: &impl Abort, set: &SparseSet<&Heap>, capacity: usize) {
 fn make_one(rt: &impl Abort, heap: &Heap, capacity: usize) -> Result<bool, Fail>
     requires { capacity ≤ 2147483647 }
 {
-    let (first, second) = call_twice(heap, || SparseSet::new(heap, capacity))?;
+    let (first, second) = call_twice!(heap, SparseSet::new(heap, capacity));
     for set in first.iter().chain(Some(&second)) {
         expect_empty(rt, set, capacity);
     }
@@ -48,23 +49,21 @@ fn are_empty<'a>(
 fn make_two(rt: &impl Abort, heap: &Heap, capacity: usize) -> Result<bool, Fail>
     requires { capacity ≤ 2147483647 }
 {
-    let answers = call_twice(heap, || SparseSets::new(heap, capacity))?;
+    let answers = call_twice!(heap, SparseSets::new(heap, capacity));
     Ok(are_empty(rt, &answers, capacity))
 }
 
-/// Makes a set, and then two at once.
-fn make_sets(rt: &impl Abort, heap: &Heap, capacity: usize) -> Result<bool, Fail>
-    requires { capacity ≤ 2147483647 }
-{
+/// Makes a set, and then two at once, of the capacity of the NFA of a walk.
+pub fn make_sets(rt: &impl Abort, heap: &Heap, row: &Row) -> Result<bool, Fail> {
+    let capacity = row.nfa.len();
     let is_made = make_one(rt, heap, capacity)?;
     let are_made = make_two(rt, heap, capacity)?;
     Ok(is_made && are_made)
 }
 
-/// The capacity of the sets is that of the NFAs of the example walks.
 #[test]
 fn sets(rt: HostRuntime) -> Result<(), Fail> {
-    fail_each_over_walks(&rt, |heap, row| make_sets(&rt, heap, row.nfa.len()))
+    fail_each_over_walks(&rt, &[OfWalk::Sets])
 }
 
 /// Returns the NFA of a job, built while the allocator may fail.
@@ -90,7 +89,11 @@ fn walk(rt: &impl Abort, heap: &Heap, row: &Row) -> Result<(), Fail> {
 }
 
 /// Builds an NFA, and walks over it with enough memory.
-fn make_nfa<R: Abort + AllocGlobal>(rt: &R, heap: &Heap, example: &Example) -> Result<bool, Fail> {
+pub fn make_nfa<R: Abort + AllocGlobal>(
+    rt: &R,
+    heap: &Heap,
+    example: &Example,
+) -> Result<bool, Fail> {
     let mut row = Row::read(rt.alloc(), example)?;
     match from_job(rt.alloc(), heap, &Job::read(example.job)?)? {
         Ok(nfa) => row.nfa = nfa,
@@ -106,7 +109,7 @@ fn make_nfa<R: Abort + AllocGlobal>(rt: &R, heap: &Heap, example: &Example) -> R
 #[test]
 fn nfa(rt: HostRuntime) -> Result<(), Fail> {
     for example in examples() {
-        fail_each_in_turn(&rt, |heap| make_nfa(&rt, heap, example))?;
+        fail_each_in_turn(&rt, &Trial::Nfa(example))?;
     }
     Ok(())
 }

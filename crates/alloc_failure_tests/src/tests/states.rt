@@ -1,7 +1,8 @@
 //! States and their readers.
 
 use crate::tests::builders::{are_states, make_state};
-use crate::tests::{Heap, Row, call_twice, fail_each_in_turn, fail_each_over_walks, holds, same};
+use crate::tests::trial::{OfWalk, Trial};
+use crate::tests::{Heap, Row, fail_each_in_turn, fail_each_over_walks, holds, same};
 use determinize_below::{PatternID, StateID};
 use determinize_core::state::{State, StateBuilderEmpty, StateBuilderNFA};
 use std::process::Abort;
@@ -18,7 +19,7 @@ fn builder_of<'a>(heap: &'a Heap, len: usize) -> Result<StateBuilderNFA<&'a Heap
 
 /// Makes a state of `len` bytes and clones it. Up to 30 bytes nothing is allocated, and from 31 on
 /// something is.
-fn make_and_clone(rt: &impl Abort, heap: &Heap, len: usize) -> Result<bool, Fail> {
+pub fn make_and_clone(rt: &impl Abort, heap: &Heap, len: usize) -> Result<bool, Fail> {
     let builder = builder_of(heap, len)?;
     let bytes = builder.as_bytes();
     same(rt, bytes.len(), len);
@@ -46,7 +47,7 @@ fn clone_state(
     state: &State<&Heap>,
     bytes: &[u8],
 ) -> Result<bool, Fail> {
-    let clones = call_twice(heap, || state.clone())?;
+    let clones = call_twice!(heap, state.clone());
     same(rt, state.as_bytes(), bytes);
     Ok(are_states(rt, &clones, bytes))
 }
@@ -82,12 +83,12 @@ fn are_patterns<'a>(
 
 /// Reads the patterns of a state.
 fn read_patterns(rt: &impl Abort, heap: &Heap, state: &State<&Heap>) -> Result<bool, Fail> {
-    let answers = call_twice(heap, || state.match_pattern_ids())?;
+    let answers = call_twice!(heap, state.match_pattern_ids());
     Ok(are_patterns(rt, state, &answers))
 }
 
 /// Clones and reads each state of a walk.
-fn read_states(rt: &impl Abort, heap: &Heap, row: &Row) -> Result<bool, Fail> {
+pub fn read_states(rt: &impl Abort, heap: &Heap, row: &Row) -> Result<bool, Fail> {
     let start = row.start()?;
     let states = row.walk(heap, start)?;
     let mut is_answered = true;
@@ -101,12 +102,12 @@ fn read_states(rt: &impl Abort, heap: &Heap, row: &Row) -> Result<bool, Fail> {
 #[test]
 fn short_and_long(rt: HostRuntime) -> Result<(), Fail> {
     for len in 9..=70 {
-        fail_each_in_turn(&rt, |heap| make_and_clone(&rt, heap, len))?;
+        fail_each_in_turn(&rt, &Trial::StateOfLen(len))?;
     }
     Ok(())
 }
 
 #[test]
 fn states(rt: HostRuntime) -> Result<(), Fail> {
-    fail_each_over_walks(&rt, |heap, row| read_states(&rt, heap, row))
+    fail_each_over_walks(&rt, &[OfWalk::ReadStates])
 }

@@ -5,7 +5,8 @@ ghost use Rattle.determinize_below.specs.Nfa.{AllResolve};
 ghost use Rattle.determinize_core.specs.Scratch.{IsScratch};
 
 use crate::tests::builders::are_spelled;
-use crate::tests::{Heap, Row, call_twice, fail_each_in_turn, fail_each_over_walks, holds, same};
+use crate::tests::trial::{OfWalk, Trial};
+use crate::tests::{Heap, Row, fail_each_in_turn, fail_each_over_walks, holds, same};
 use determinize_below::{Look, LookSet, NFA, SparseSet, SparseSets, StateID, Unit};
 use determinize_core::determinize::{
     Steps, add_nfa_states, epsilon_closure, next, next_counted, set_lookbehind_from_start,
@@ -48,7 +49,7 @@ static CLOSURES: [(&str, &str); 5] = [
 
 /// A closure to compute: its NFA, start state, assertions, and states visited before.
 #[derive(Drop)]
-struct Closing {
+pub struct Closing {
     nfa: NFA,
     start: StateID,
     have: LookSet,
@@ -79,7 +80,7 @@ impl Closing {
 
 /// Adds a closure to a set. If an allocation fails, the set must have what it had and a prefix of
 /// the rest.
-fn close<R: Abort + AllocGlobal>(
+pub fn close<R: Abort + AllocGlobal>(
     rt: &R,
     heap: &Heap,
     closing: &Closing,
@@ -116,7 +117,7 @@ fn closures(rt: HostRuntime) -> Result<(), Fail> {
     for (line, wanted) in &CLOSURES {
         let closing = Closing::of(rt.alloc(), &Job::read(line)?)?;
         let wanted = values::state_ids(rt.alloc(), wanted)?;
-        fail_each_in_turn(&rt, |heap| close(&rt, heap, &closing, wanted.as_slice()))?;
+        fail_each_in_turn(&rt, &Trial::Close(&closing, wanted.as_slice()))?;
     }
     Ok(())
 }
@@ -131,7 +132,7 @@ pub fn start_kind(row: &Row) -> Start {
 
 /// Records the first closure of a walk. If an allocation fails, the builder must be unchanged, and
 /// the states are added with enough memory.
-fn record(rt: &impl Abort, heap: &Heap, row: &Row) -> Result<bool, Fail> {
+pub fn record(rt: &impl Abort, heap: &Heap, row: &Row) -> Result<bool, Fail> {
     let start = row.start()?;
     let mut matches = StateBuilderEmpty::new(heap).into_matches()?;
     set_lookbehind_from_start(&row.nfa, &start_kind(row), &mut matches);
@@ -153,7 +154,7 @@ fn record(rt: &impl Abort, heap: &Heap, row: &Row) -> Result<bool, Fail> {
 
 /// Records only the start state of a walk. If an allocation fails, the state is added with enough
 /// memory. The builder must then be as if a set of this one state had been recorded.
-fn record_one(rt: &impl Abort, heap: &Heap, row: &Row) -> Result<bool, Fail> {
+pub fn record_one(rt: &impl Abort, heap: &Heap, row: &Row) -> Result<bool, Fail> {
     let id = row.start()?;
     let mut set = SparseSet::new(heap, row.nfa.len())?;
     set.insert(id);
@@ -221,7 +222,7 @@ fn start_twice<'a>(
 }
 
 /// Starts a walk.
-fn start(rt: &impl Abort, heap: &Heap, row: &Row) -> Result<bool, Fail> {
+pub fn start(rt: &impl Abort, heap: &Heap, row: &Row) -> Result<bool, Fail> {
     let id = row.start()?;
     let mut sparses = SparseSets::new(heap, row.nfa.len())?;
     let mut stack = Vec::new(heap);
@@ -230,10 +231,7 @@ fn start(rt: &impl Abort, heap: &Heap, row: &Row) -> Result<bool, Fail> {
 
 #[test]
 fn starts(rt: HostRuntime) -> Result<(), Fail> {
-    fail_each_over_walks(&rt, |heap, row| {
-        let is_recorded = record(&rt, heap, row)? && record_one(&rt, heap, row)?;
-        Ok(is_recorded && start(&rt, heap, row)?)
-    })
+    fail_each_over_walks(&rt, &[OfWalk::Record, OfWalk::RecordOne, OfWalk::Start])
 }
 
 /// Computes the transition from a state, with a count that is dropped.
@@ -323,7 +321,12 @@ fn leave<'a>(
 }
 
 /// Computes the transition from each state of a walk.
-fn leave_states(rt: &impl Abort, heap: &Heap, row: &Row, is_counted: bool) -> Result<bool, Fail> {
+pub fn leave_states(
+    rt: &impl Abort,
+    heap: &Heap,
+    row: &Row,
+    is_counted: bool,
+) -> Result<bool, Fail> {
     let start = row.start()?;
     let states = row.walk(heap, start)?;
     let mut is_answered = true;
@@ -338,15 +341,13 @@ fn leave_states(rt: &impl Abort, heap: &Heap, row: &Row, is_counted: bool) -> Re
 
 #[test]
 fn transitions(rt: HostRuntime) -> Result<(), Fail> {
-    fail_each_over_walks(&rt, |heap, row| {
-        Ok(leave_states(&rt, heap, row, false)? && leave_states(&rt, heap, row, true)?)
-    })
+    fail_each_over_walks(&rt, &[OfWalk::Leave, OfWalk::LeaveCounted])
 }
 
 /// Makes a whole walk.
-fn walk(rt: &impl Abort, heap: &Heap, row: &Row) -> Result<bool, Fail> {
+pub fn walk(rt: &impl Abort, heap: &Heap, row: &Row) -> Result<bool, Fail> {
     let start = row.start()?;
-    let (first, second) = call_twice(heap, || row.walk(heap, start))?;
+    let (first, second) = call_twice!(heap, row.walk(heap, start));
     for states in first.iter().chain(Some(&second)) {
         row.expect(rt, states.as_slice());
     }
@@ -355,5 +356,5 @@ fn walk(rt: &impl Abort, heap: &Heap, row: &Row) -> Result<bool, Fail> {
 
 #[test]
 fn walks(rt: HostRuntime) -> Result<(), Fail> {
-    fail_each_over_walks(&rt, |heap, row| walk(&rt, heap, row))
+    fail_each_over_walks(&rt, &[OfWalk::Walk])
 }

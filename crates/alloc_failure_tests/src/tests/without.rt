@@ -2,6 +2,7 @@
 //! none.
 
 use crate::tests::steps::start_kind;
+use crate::tests::trial::{OfWalk, Trial};
 use crate::tests::{Heap, Row, fail_each_in_turn, fail_each_over_walks, holds, same};
 use determinize_below::{
     Anchored, HalfMatch, Input, Look, LookSet, MatchKind, PatternID, SparseSet, SparseSets, StateID,
@@ -168,7 +169,12 @@ fn search_each(
 
 /// Searches three times through one cache. The first searches cache each transition, and the second
 /// find the start states in the cache, so that the third only read it.
-fn search_cached(rt: &impl Abort, heap: &Heap, row: &Row, kind: MatchKind) -> Result<bool, Fail> {
+pub fn search_cached(
+    rt: &impl Abort,
+    heap: &Heap,
+    row: &Row,
+    kind: MatchKind,
+) -> Result<bool, Fail> {
     let mut lazy = Lazy::new(heap, &row.nfa, kind, 100);
     search_each(&mut lazy, row)?;
     let wanted = search_each(&mut lazy, row)?;
@@ -211,28 +217,33 @@ fn read_states(rt: &impl Abort, heap: &Heap, row: &Row) -> Result<bool, Fail> {
     Ok(has_asked_none(rt, heap))
 }
 
+/// Fills two sets, and makes builders.
+pub fn make_each(rt: &impl Abort, heap: &Heap) -> Result<bool, Fail> {
+    Ok(fill_sets(rt, heap)? && build(rt, heap)? && close_patterns(rt, heap)?)
+}
+
 #[test]
 fn sets_and_builders(rt: HostRuntime) -> Result<(), Fail> {
-    fail_each_in_turn(&rt, |heap| {
-        Ok(fill_sets(&rt, heap)? && build(&rt, heap)? && close_patterns(&rt, heap)?)
-    })
+    fail_each_in_turn(&rt, &Trial::WithoutAllocation)
 }
 
 #[test]
 fn cached_searches(rt: HostRuntime) -> Result<(), Fail> {
-    fail_each_over_walks(&rt, |heap, row| {
-        Ok(
-            search_cached(&rt, heap, row, MatchKind::All)?
-                && search_cached(&rt, heap, row, MatchKind::LeftmostFirst)?,
-        )
-    })
+    let (all, first) = (MatchKind::All, MatchKind::LeftmostFirst);
+    fail_each_over_walks(
+        &rt,
+        &[OfWalk::SearchCached(all), OfWalk::SearchCached(first)],
+    )
+}
+
+/// Makes the calls for a walk that do not allocate.
+pub fn walk(rt: &impl Abort, heap: &Heap, row: &Row) -> Result<bool, Fail> {
+    begin_walk(rt, heap, row)?;
+    make_cache(rt, heap, row)?;
+    Ok(close_states(rt, heap, row)? && read_states(rt, heap, row)?)
 }
 
 #[test]
 fn walks(rt: HostRuntime) -> Result<(), Fail> {
-    fail_each_over_walks(&rt, |heap, row| {
-        begin_walk(&rt, heap, row)?;
-        make_cache(&rt, heap, row)?;
-        Ok(close_states(&rt, heap, row)? && read_states(&rt, heap, row)?)
-    })
+    fail_each_over_walks(&rt, &[OfWalk::WithoutAllocation])
 }
