@@ -1,17 +1,21 @@
-//! Whole DFAs of `determinize_dense`: their numbers of states, their searches over the texts of the
-//! example walks, the patterns where a text ends, and failing allocations.
+//! Whole DFAs of `determinize_dense`: their numbers of states, their searches over the texts of
+//! walks, the patterns where a text ends, and failing allocations.
 
-use crate::tests::{holds, same};
-use determinize_below::{Anchored, HalfMatch, LookMatcher, MatchKind, NFA, StateID};
+ghost use Rattle.std.specs.Prelude.{◌≡◌, IfOk, false};
+
+use crate::tests::same;
+use crate::tests::stored_walks::STORED;
+use determinize_below::{Anchored, LookMatcher, MatchKind, NFA, PatternID, StateID};
+use determinize_core::state::State;
 use determinize_dense::{BuildError, Dfa};
 use determinize_replay::error::JobError;
-use determinize_replay::examples::{Example, examples};
+use determinize_replay::examples::examples;
 use determinize_replay::job::Job;
 use determinize_replay::key::Key;
 use determinize_replay::values::LastMatch;
-use determinize_replay::{nfas, values};
+use determinize_replay::{nfas, values, verbs};
 use failing_alloc::{FailingAllocator, Outcome, fail_each_allocation};
-use std::alloc::Global;
+use std::alloc::{Allocator, Global};
 use std::process::Abort;
 use std::test::Fail;
 
@@ -71,23 +75,43 @@ static ROWS: [Row; 5] = [
     },
 ];
 
-/// Returns the NFA of these states, whose unanchored start is 0.
-fn nfa(alloc: Global, states: &str, start_anchored: StateID) -> Result<NFA, JobError> {
+/// Returns the NFA of these states, which reads forward and whose unanchored start is 0.
+pub fn nfa(alloc: Global, states: &str, start_anchored: StateID) -> Result<NFA, JobError>
+    ensures { IfOk result (λ nfa. nfa.reverse ≡ false) }
+{
     let states = nfas::states(alloc, states)?;
     let matcher = LookMatcher::new();
     let nfa = NFA::from_parts(alloc, states, start_anchored, StateID::ZERO, false, matcher)?;
     Ok(nfa)
 }
 
+/// Returns the number of states of a DFA that was built.
+fn count<A: Allocator + Copy>(
+    built: Result<Dfa<'_, Global, A>, BuildError>,
+) -> Result<usize, BuildError> {
+    Ok(built?.len())
+}
+
 /// Asserts that a DFA has this number of states: it is built with this limit and with one more,
-/// but not with one less.
-fn expect_count<R: Abort + AllocGlobal>(rt: &R, nfa: &NFA, kind: MatchKind, count: usize) {
-    let fewer = Dfa::build(rt.alloc(), nfa, kind, count.saturating_sub(1));
-    same(rt, fewer.err(), Some(BuildError::TooManyStates));
-    for limit in [count, count.saturating_add(1)] {
-        let built = Dfa::build(rt.alloc(), nfa, kind, limit);
-        same(rt, built.ok().map(|dfa| dfa.len()), Some(count));
+/// but not with one less. Asserts that the smallest one has the other number.
+fn expect_counts<R: Abort + AllocGlobal>(
+    rt: &R,
+    nfa: &NFA,
+    kind: MatchKind,
+    wanted: usize,
+    smallest: usize,
+) -> Result<(), Fail> {
+    let fewer = wanted.saturating_sub(1);
+    for (limit, wanted) in [
+        (fewer, Err(BuildError::TooManyStates)),
+        (wanted, Ok(wanted)),
+        (wanted.saturating_add(1), Ok(wanted)),
+    ] {
+        same(rt, count(Dfa::build(rt.alloc(), nfa, kind, limit)), wanted);
     }
+    let dfa = Dfa::build(rt.alloc(), nfa, kind, wanted)?;
+    same(rt, dfa.minimize(rt.alloc())?.len(), smallest);
+    Ok(())
 }
 
 #[test]
@@ -95,32 +119,9 @@ fn dense_counts(rt: HostRuntime) -> Result<(), Fail> {
     for row in &ROWS {
         let start = StateID::new(row.start_anchored as usize)?;
         let nfa = nfa(rt.alloc(), row.states, start)?;
-        expect_count(&rt, &nfa, MatchKind::All, row.all);
-        expect_count(&rt, &nfa, MatchKind::LeftmostFirst, row.leftmost_first);
-    }
-    Ok(())
-}
-
-/// Asserts that the smallest DFA has this number of states.
-fn expect_smallest<R: Abort + AllocGlobal>(
-    rt: &R,
-    nfa: &NFA,
-    kind: MatchKind,
-    count: usize,
-) -> Result<(), Fail> {
-    let dfa = Dfa::build(rt.alloc(), nfa, kind, 100)?;
-    let smallest = dfa.minimize(rt.alloc())?;
-    same(rt, smallest.len(), count);
-    Ok(())
-}
-
-#[test]
-fn dense_smallest_counts(rt: HostRuntime) -> Result<(), Fail> {
-    for row in &ROWS {
-        let start = StateID::new(row.start_anchored as usize)?;
-        let nfa = nfa(rt.alloc(), row.states, start)?;
-        expect_smallest(&rt, &nfa, MatchKind::All, row.smallest_all)?;
-        expect_smallest(&rt, &nfa, MatchKind::LeftmostFirst, row.smallest_first)?;
+        let (all, first) = (MatchKind::All, MatchKind::LeftmostFirst);
+        expect_counts(&rt, &nfa, all, row.all, row.smallest_all)?;
+        expect_counts(&rt, &nfa, first, row.leftmost_first, row.smallest_first)?;
     }
     Ok(())
 }
@@ -134,30 +135,103 @@ fn nfa_of_job(alloc: Global, job: &Job<'_>) -> Result<NFA, JobError> {
     Ok(nfa)
 }
 
-/// Returns the match of a search of the text of a job.
-fn found(alloc: Global, job: &Job<'_>, dfa: &Dfa<'_>) -> Result<Option<HalfMatch>, JobError> {
-    let look_behind = values::optional_byte(job.value_or_none(Key::LookBehind))?;
-    let look_ahead = values::optional_byte(job.value_or_none(Key::After))?;
-    let text = values::bytes(alloc, job.value_or_none(Key::Text))?;
-    Ok(dfa.search(Anchored::Yes, look_behind, text.as_slice(), look_ahead))
+/// The text of a walk, and the bytes around it.
+#[derive(Clone, Copy)]
+struct Around<'t> {
+    look_behind: Option<u8>,
+    text: &'t [u8],
+    look_ahead: Option<u8>,
 }
 
-/// Asserts that a search of the text of an example has its last match.
-fn expect_example<R: Abort + AllocGlobal>(rt: &R, example: &Example) -> Result<(), Fail> {
-    let job = Job::read(example.job)?;
-    let nfa = nfa_of_job(rt.alloc(), &job)?;
-    let dfa = Dfa::build(rt.alloc(), &nfa, job.match_kind()?, 1000)?;
-    let last = LastMatch(found(rt.alloc(), &job, &dfa)?);
-    let text = format!(in rt.alloc(); "\n{last}\n")?;
-    holds(rt, example.output.ends_with(text.as_str()));
+/// Asserts that a search of a text has this match, and that these patterns match where it ends.
+fn expect_found<R: Abort + AllocGlobal>(
+    rt: &R,
+    dfa: &Dfa<'_>,
+    around: &Around<'_>,
+    last: &str,
+    patterns: &[PatternID],
+) -> Result<(), Fail> {
+    let (behind, text, ahead) = (around.look_behind, around.text, around.look_ahead);
+    let found = LastMatch(dfa.search(Anchored::Yes, behind, text, ahead));
+    let found = format!(in rt.alloc(); "{found}")?;
+    same(rt, found.as_str(), last);
+    same(
+        rt,
+        dfa.patterns_after(Anchored::Yes, behind, text, ahead),
+        patterns,
+    );
     Ok(())
 }
 
-#[test]
-fn dense_examples(rt: HostRuntime) -> Result<(), Fail> {
-    for example in examples() {
-        expect_example(&rt, example)?;
+/// Asserts it of a DFA and of the smallest one.
+fn expect_both<R: Abort + AllocGlobal>(
+    rt: &R,
+    dfa: &Dfa<'_>,
+    around: &Around<'_>,
+    last: &str,
+    patterns: &[PatternID],
+) -> Result<(), Fail> {
+    expect_found(rt, dfa, around, last, patterns)?;
+    expect_found(rt, &dfa.minimize(rt.alloc())?, around, last, patterns)
+}
+
+/// Returns the patterns of the last of these states.
+fn last_patterns(alloc: Global, states: &[State]) -> Result<Vec<PatternID>, JobError> {
+    let Some(last) = states.last() else {
+        return Ok(Vec::new(alloc));
+    };
+    Ok(last.match_pattern_ids()?.unwrap_or(Vec::new(alloc)))
+}
+
+/// Asserts that searches of the text of a walk by a DFA and by the smallest one have its last match,
+/// and that the patterns where the text ends are those of its last state.
+fn expect_walk<R: Abort + AllocGlobal>(
+    rt: &R,
+    job: &Job<'_>,
+    dfa: &Dfa<'_>,
+    last: &str,
+) -> Result<(), Fail> {
+    let text = values::bytes(rt.alloc(), job.value_or_none(Key::Text))?;
+    let around = Around {
+        look_behind: values::optional_byte(job.value_or_none(Key::LookBehind))?,
+        text: text.as_slice(),
+        look_ahead: values::optional_byte(job.value_or_none(Key::After))?,
+    };
+    let states = verbs::walk_states(rt.alloc(), job)?;
+    let patterns = last_patterns(rt.alloc(), states.as_slice())?;
+    expect_both(rt, dfa, &around, last, patterns.as_slice())
+}
+
+/// Builds the DFA of a walk, of at most 1000 states, and asserts it of both. Returns whether there
+/// are so few.
+fn expect_job<R: Abort + AllocGlobal>(rt: &R, line: &str, last: &str) -> Result<bool, Fail> {
+    let job = Job::read(line)?;
+    let nfa = nfa_of_job(rt.alloc(), &job)?;
+    match Dfa::build(rt.alloc(), &nfa, job.match_kind()?, 1000) {
+        Ok(dfa) => expect_walk(rt, &job, &dfa, last)?,
+        Err(error) => {
+            same(rt, error, BuildError::TooManyStates);
+            return Ok(false);
+        }
     }
+    Ok(true)
+}
+
+/// Each of the 45 examples and 42 stored walks has a DFA of at most 1000 states.
+#[test]
+fn dense_walks(rt: HostRuntime) -> Result<(), Fail> {
+    let mut count = 0u32;
+    for example in examples() {
+        let last = example.output.lines().last().unwrap_or("");
+        same(&rt, expect_job(&rt, example.job, last)?, true);
+        count = count.saturating_add(1);
+    }
+    for line in STORED.lines() {
+        let (job, last) = line.split_once(" = ").unwrap_or((line, ""));
+        same(&rt, expect_job(&rt, job, last)?, true);
+        count = count.saturating_add(1);
+    }
+    same(&rt, count, 87);
     Ok(())
 }
 
@@ -167,30 +241,28 @@ fn expect_patterns<R: Abort>(
     dfa: &Dfa<'_>,
     text: &[u8],
     look_ahead: Option<u8>,
-    wanted: &[usize],
+    wanted: &[PatternID],
 ) {
-    let listed = dfa.patterns_after(Anchored::Yes, None, text, look_ahead);
-    holds(
+    same(
         rt,
-        listed
-            .iter()
-            .map(|id| id.as_usize())
-            .eq(wanted.iter().copied()),
+        dfa.patterns_after(Anchored::Yes, None, text, look_ahead),
+        wanted,
     );
 }
 
 /// Another program has written down the lists.
 #[test]
 fn dense_patterns(rt: HostRuntime) -> Result<(), Fail> {
+    let (zero, one, two) = (PatternID::ZERO, PatternID::must(1), PatternID::must(2));
     let three = nfa(rt.alloc(), "U:1,2,3 M:2 M:0 M:1", StateID::ZERO)?;
     let all = Dfa::build(rt.alloc(), &three, MatchKind::All, 100)?;
-    expect_patterns(&rt, &all, b"", None, &[2, 0, 1]);
+    expect_patterns(&rt, &all, b"", None, &[two, zero, one]);
     let first = Dfa::build(rt.alloc(), &three, MatchKind::LeftmostFirst, 100)?;
-    expect_patterns(&rt, &first, b"", None, &[2]);
+    expect_patterns(&rt, &first, b"", None, &[two]);
     let words = nfa(rt.alloc(), ROWS[3].states, StateID::ZERO)?;
     let first = Dfa::build(rt.alloc(), &words, MatchKind::LeftmostFirst, 100)?;
-    expect_patterns(&rt, &first, b"12", Some(b'3'), &[1]);
-    expect_patterns(&rt, &first, b"123", Some(b' '), &[1]);
+    expect_patterns(&rt, &first, b"12", Some(b'3'), &[one]);
+    expect_patterns(&rt, &first, b"123", Some(b' '), &[one]);
     expect_patterns(&rt, &first, b"123 foobar", Some(b' '), &[]);
     Ok(())
 }
@@ -202,7 +274,7 @@ fn build_word<R: Abort + AllocGlobal>(
 ) -> Result<bool, Fail> {
     let nfa = nfa(rt.alloc(), ROWS[0].states, StateID::ZERO)?;
     heap.begin();
-    let built = Dfa::build(heap, &nfa, MatchKind::All, 5).map(|dfa| dfa.len());
+    let built = count(Dfa::build(heap, &nfa, MatchKind::All, 5));
     heap.end();
     if built.is_err() {
         same(rt, built, Err(BuildError::OutOfMemory));
@@ -210,13 +282,6 @@ fn build_word<R: Abort + AllocGlobal>(
     }
     same(rt, built, Ok(5));
     Ok(true)
-}
-
-#[test]
-fn dense_under_refusals(rt: HostRuntime) -> Result<(), Fail> {
-    let outcome = fail_each_allocation(rt.alloc(), |heap| build_word(&rt, heap))?;
-    same(&rt, outcome, Outcome::Sound);
-    Ok(())
 }
 
 /// Minimizes the DFA of `\b\w+\b`, of whose states four are left.
@@ -227,18 +292,26 @@ fn minimize_word<R: Abort + AllocGlobal>(
     let nfa = nfa(rt.alloc(), ROWS[0].states, StateID::ZERO)?;
     let dfa = Dfa::build(heap, &nfa, MatchKind::All, 5)?;
     heap.begin();
-    let smallest = dfa.minimize(heap).map(|dfa| dfa.len());
+    let smallest = dfa.minimize(heap);
     heap.end();
-    if smallest.is_err() {
+    let Ok(smallest) = smallest else {
         return Ok(false);
-    }
-    same(rt, smallest.ok(), Some(4));
+    };
+    same(rt, smallest.len(), 4);
     Ok(true)
 }
 
+/// Builds a DFA, and minimizes one.
+fn build_and_minimize<R: Abort + AllocGlobal>(
+    rt: &R,
+    heap: &FailingAllocator<Global>,
+) -> Result<bool, Fail> {
+    Ok(build_word(rt, heap)? && minimize_word(rt, heap)?)
+}
+
 #[test]
-fn minimize_under_refusals(rt: HostRuntime) -> Result<(), Fail> {
-    let outcome = fail_each_allocation(rt.alloc(), |heap| minimize_word(&rt, heap))?;
+fn dense_under_refusals(rt: HostRuntime) -> Result<(), Fail> {
+    let outcome = fail_each_allocation(rt.alloc(), |heap| build_and_minimize(&rt, heap))?;
     same(&rt, outcome, Outcome::Sound);
     Ok(())
 }

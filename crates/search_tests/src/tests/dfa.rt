@@ -1,9 +1,8 @@
 //! A whole DFA, built and run by `determinize_uses::dfa`.
 
-use crate::tests::{holds, same};
-use determinize_below::{HalfMatch, LookMatcher, MatchKind, NFA, PatternID, StateID};
-use determinize_replay::error::JobError;
-use determinize_replay::nfas;
+use crate::tests::dense::nfa;
+use crate::tests::{ended, holds, same};
+use determinize_below::{MatchKind, NFA, StateID};
 use determinize_uses::dfa::{Dfa, build};
 use failing_alloc::{FailingAllocator, Outcome, fail_each_allocation};
 use std::alloc::Global;
@@ -16,21 +15,16 @@ use std::test::Fail;
 const FOO_OR_BAR: &str = "\
 BU:2,1 B:00-ff>0 BU:3,8 B:66>4 B:6f>5 B:6f>6 B:30-39>7 BU:6,11 B:62>9 B:61>10 B:72>11 M:0";
 
-/// Returns the NFA of these states, with the anchored start `anchored` and the unanchored start 0.
-fn nfa(alloc: Global, states: &str, anchored: StateID) -> Result<NFA, JobError> {
-    let states = nfas::states(alloc, states)?;
-    let matcher = LookMatcher::new();
-    let nfa = NFA::from_parts(alloc, states, anchored, StateID::ZERO, false, matcher)?;
-    Ok(nfa)
-}
-
 /// The texts that each DFA is run over.
 static TEXTS: [&str; 6] = ["foo12", "xfoo9y", "bar", "ba", "", "barfoo1"];
 
 /// Runs a DFA and compares the ends of its matches.
 fn run(rt: &impl Abort, dfa: &Dfa, ends: [Option<usize>; 6]) {
     for (text, end) in TEXTS.iter().zip(ends) {
-        let wanted = end.map(|end| HalfMatch::new(PatternID::ZERO, end));
+        let wanted = match end {
+            Some(end) => ended(end),
+            None => None,
+        };
         same(rt, dfa.last_match(text.as_bytes()), wanted);
     }
 }
@@ -94,7 +88,10 @@ fn build_loop<R: Abort + AllocGlobal>(
     let Ok(dfa) = built else {
         return Ok(false);
     };
-    same(rt, dfa.map(|dfa| dfa.states.len()), Some(2));
+    match dfa {
+        Some(dfa) => same(rt, dfa.states.len(), 2),
+        None => holds(rt, false),
+    }
     Ok(true)
 }
 

@@ -21,7 +21,7 @@ use std::test::Fail;
 
 /// Walks of regex-automata 0.4.18 over NFAs that were made at random: in each line a job, and the
 /// last match of its states.
-static STORED: &str = "\
+pub static STORED: &str = "\
 walk kind=leftmost-first lb=0d text=7a0d7a5f5f257a0d0d252525 | BU:1,2 B:00-ff>0 L:WordEndAscii>3 M:0 = match 0 7
 walk kind=leftmost-first lb=0d text=25256161 | BU:7,1 B:00-ff>0 B:00-ff>3 B:61-7a>4 M:1 L:EndLF>6 M:3 U:2,5 = match 1 3
 walk kind=leftmost-first lb=0a text=0d0d | S:0d-0d>1 BU:2,3 C:1 L:StartCRLF>4 L:EndCRLF>5 M:1 = match 1 1
