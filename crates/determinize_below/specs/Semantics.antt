@@ -75,12 +75,12 @@ abbrev pub is : Option ℕ → ℕ → Bool
 is p b = option_eq nat_eq p (Some b)
 
 -- the byte of a CRLF that is read first: `\r` (13) forward, `\n` (10) in reverse
-abbrev pub crlf_1 : Bool → ℕ
-crlf_1 reverse = cond reverse 10 13
+abbrev pub crlf_first : Bool → ℕ
+crlf_first reverse = cond reverse 10 13
 
 -- the byte of a CRLF that is read second: `\n` (10) forward, `\r` (13) in reverse
-abbrev pub crlf_2 : Bool → ℕ
-crlf_2 reverse = cond reverse 13 10
+abbrev pub crlf_second : Bool → ℕ
+crlf_second reverse = cond reverse 13 10
 
 -- whether the assertion holds between the byte p behind and the unit q ahead, both in reading
 -- order, where r says whether the NFA is a reverse one, and t is the line terminator
@@ -89,8 +89,8 @@ holds r t p q Start = is_none p
 holds r t p q End = is_none q
 holds r t p q StartLF = is_none p || is p t
 holds r t p q EndLF = is_none q || is q t
-holds r t p q StartCRLF = is_none p || is p (crlf_2 r) || (is p (crlf_1 r) && not (is q (crlf_2 r)))
-holds r t p q EndCRLF = is_none q || is q (crlf_1 r) || (is q (crlf_2 r) && not (is p (crlf_1 r)))
+holds r t p q StartCRLF = is_none p || is p (crlf_second r) || (is p (crlf_first r) && not (is q (crlf_second r)))
+holds r t p q EndCRLF = is_none q || is q (crlf_first r) || (is q (crlf_second r) && not (is p (crlf_first r)))
 holds r t p q WordAscii = not (beq (is_word p) (is_word q))
 holds r t p q WordAsciiNegate = beq (is_word p) (is_word q)
 holds r t p q WordUnicode = not (beq (is_word p) (is_word q))

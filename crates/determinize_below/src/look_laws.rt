@@ -13,7 +13,7 @@ ghost use Rattle.determinize_below.specs.Edges.{assertion_in, IsTested};
 ghost use Rattle.determinize_below.specs.Look as looks;
 ghost use Rattle.determinize_below.specs.Look.{has};
 ghost use Rattle.determinize_below.specs.Nfa.{looks_of, IsAccepted};
-ghost use Rattle.determinize_below.specs.Semantics.{Nfa, Node, holds, is, is_word, crlf_2};
+ghost use Rattle.determinize_below.specs.Semantics.{Nfa, Node, holds, is, is_word, crlf_second};
 ghost use Rattle.determinize_below.specs.Truth as truth;
 ghost use Rattle.determinize_below.specs.declared.look.Look.{Look as Assertion};
 
@@ -62,7 +62,7 @@ pub fn known_law(reverse: bool, terminator: u8, before: Option<u8>, look: Look)
     ensures table { truth.is_known reverse terminator before look ≡ truth.behind_test
         (is_none before)
         (is_none before || is before terminator)
-        (is_none before || is before (crlf_2 reverse))
+        (is_none before || is before (crlf_second reverse))
         (not (is_word before)) look }
 {}
 

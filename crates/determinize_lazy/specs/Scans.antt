@@ -17,8 +17,8 @@ pub record Scanned : Type 0 where
   pub last : Option HalfMatch
   pub read : ℕ
 
--- the search of a text that begins with these bytes: its value is that after the bytes that a search
--- reads, and its match is the last one of the walk over the bytes
+-- the search of a text that begins with these bytes: its value is that after the bytes that a
+-- search reads, and its match is the last one of the walk over the bytes
 pub record IsScan (nfa : Nfa) (kind : MatchKind) (start : ℕ) (behind : Option ℕ) (bytes : List ℕ)
     (s : Scanned) : Type 0 where
   pub state : s.state ≡ value_after nfa kind (start_value nfa start behind)

@@ -4,7 +4,7 @@ pub use Rattle.std.proofs.lemmas.Bool.{and_parts, eqb-true}
 pub use Rattle.std.specs.Option.{is_none}
 pub use mathlib.Core.Bool.{◌&&◌, ◌||◌, beq}
 pub use Rattle.determinize_below.specs.Look.{has}
-pub use Rattle.determinize_below.specs.Semantics.{crlf_1, is, is_word, crlf_2}
+pub use Rattle.determinize_below.specs.Semantics.{crlf_first, is, is_word, crlf_second}
 pub use Rattle.determinize_below.specs.Truth.{behind_test, is_known}
 pub use Rattle.determinize_below.specs.declared.look.Look.{Look}
 pub use Rattle.determinize_below.specs.declared.look.Look.TheVariants.{End, EndCRLF, EndLF, Start, StartCRLF, StartLF}

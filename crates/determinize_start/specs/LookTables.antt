@@ -3,7 +3,7 @@
 use Rattle.std.specs.Prelude.{◌≡◌, ℕ, Bool, true, false, not, cond, Option, nat_eq}
 use mathlib.Core.Bool.{◌&&◌, ◌||◌, beq}
 use Rattle.determinize_below.specs.Look.{insert, has_haystack, has_line, has_crlf, has_word}
-use Rattle.determinize_below.specs.Semantics.{Nfa, crlf_1, crlf_2, is, is_word, is_word_byte}
+use Rattle.determinize_below.specs.Semantics.{Nfa, crlf_first, crlf_second, is, is_word, is_word_byte}
 use Rattle.std.specs.Option.{is_none}
 use Rattle.determinize_below.specs.declared.look.Look.{Look}
 use Rattle.determinize_below.specs.declared.look.Look.TheVariants.{Start, End, StartLF, EndLF, StartCRLF, EndCRLF, WordAscii, WordAsciiNegate, WordUnicode, WordUnicodeNegate, WordStartAscii, WordEndAscii, WordStartUnicode, WordEndUnicode, WordStartHalfAscii, WordEndHalfAscii, WordStartHalfUnicode, WordEndHalfUnicode}
@@ -27,7 +27,7 @@ abbrev pub tables_of : Nfa → Tables
 tables_of nfa = tables nfa.reverse nfa.terminator nfa.look_set_any
 
 -- the look-behind of a new state: assertions that hold for every next unit, and the two flags
-pub record Telling : Type 0 where
+pub record LookBehindValue : Type 0 where
   pub looks : ℕ
   pub from_word : Bool
   pub half_crlf : Bool
@@ -90,7 +90,7 @@ half_crlf_at_start t p = start_half_crlf t (start_kind_of t.terminator p)
 -- the look-have after a step over u
 unfoldable pub have_after : Tables → Option ℕ → ℕ
 have_after t u = known_set false (has_line t.any && is u t.terminator)
-    (has_crlf t.any && is u (crlf_2 t.reverse)) (has_word t.any && not (is_word u))
+    (has_crlf t.any && is u (crlf_second t.reverse)) (has_word t.any && not (is_word u))
 
 -- the flag from-word after a step over u, set if some state has a transition on u
 unfoldable pub from_word_after : Tables → Option ℕ → Bool
@@ -98,12 +98,12 @@ from_word_after t u = has_word t.any && is_word u
 
 -- the flag half-CRLF after a step over u, set if some state has a transition on u
 unfoldable pub half_crlf_after : Tables → Option ℕ → Bool
-half_crlf_after t u = has_crlf t.any && is u (crlf_1 t.reverse)
+half_crlf_after t u = has_crlf t.any && is u (crlf_first t.reverse)
 
 -- the flags of a state describe p, the byte behind it, if the NFA has the class that needs them
 pub record IsFlagged (t : Tables) (p : Option ℕ) (from_word half_crlf : Bool) : Type 0 where
   pub word : has_word t.any ≡ true → from_word ≡ is_word p
-  pub crlf : has_crlf t.any ≡ true → half_crlf ≡ is p (crlf_1 t.reverse)
+  pub crlf : has_crlf t.any ≡ true → half_crlf ≡ is p (crlf_first t.reverse)
 
 -- the word assertions that the next unit satisfies, given whether the byte behind and the next one
 -- are word bytes
@@ -125,9 +125,9 @@ word_opened from_word word _ = false
 unfoldable pub line_opened : Tables → Bool → Option ℕ → Look → Bool
 line_opened t half_crlf u End = is_none u
 line_opened t half_crlf u EndLF = is_none u || is u t.terminator
-line_opened t half_crlf u StartCRLF = half_crlf && not (is u (crlf_2 t.reverse))
+line_opened t half_crlf u StartCRLF = half_crlf && not (is u (crlf_second t.reverse))
 line_opened t half_crlf u EndCRLF =
-    is_none u || is u (crlf_1 t.reverse) || (is u (crlf_2 t.reverse) && not half_crlf)
+    is_none u || is u (crlf_first t.reverse) || (is u (crlf_second t.reverse) && not half_crlf)
 line_opened t half_crlf u _ = false
 
 -- the assertions that the next unit u satisfies for a state with these flags, in addition to those

@@ -49,65 +49,65 @@ ByteRows =
     × (start_kind 13 10 ≡ LineLF)
 
 -- the look-behind of a start kind: look-have, from-word and half-CRLF
-abbrev told : Tables → Kind → ℕ × Bool × Bool
-told t kind = (start_have t kind, start_from_word t kind, start_half_crlf t kind)
+abbrev look_behind : Tables → Kind → ℕ × Bool × Bool
+look_behind t kind = (start_have t kind, start_from_word t kind, start_half_crlf t kind)
 
 -- it is this for an NFA with these assertions
-abbrev IsTold : ℕ → Bool → ℕ → Kind → ℕ → Bool → Bool → Type 0
-IsTold any reverse terminator kind have from_word half =
-    told (tables reverse terminator any) kind ≡ (have, from_word, half)
+abbrev IsLookBehind : ℕ → Bool → ℕ → Kind → ℕ → Bool → Bool → Type 0
+IsLookBehind any reverse terminator kind have from_word half =
+    look_behind (tables reverse terminator any) kind ≡ (have, from_word, half)
 
 -- for an NFA with Start, StartLF, StartCRLF and WordAscii; the line terminators are a line feed, a
 -- carriage return, x, a and a semicolon
-abbrev pub ToldRows : Type 0
-ToldRows =
-    IsTold 0x55 false 10 NonWordByte 0x14000 false false
-    × IsTold 0x55 false 10 WordByte 0 true false
-    × IsTold 0x55 false 10 Text 0x14015 false false
-    × IsTold 0x55 false 10 LineLF 0x14014 false false
-    × IsTold 0x55 true 10 LineLF 0x14004 false true
-    × IsTold 0x55 true 120 LineLF 0x14000 false true
-    × IsTold 0x55 false 10 LineCR 0x14000 false true
-    × IsTold 0x55 true 10 LineCR 0x14010 false false
-    × IsTold 0x55 false 13 LineCR 0x14004 false true
-    × IsTold 0x55 false 97 CustomLineTerminator 0x4 true false
-    × IsTold 0x55 false 59 CustomLineTerminator 0x14004 false false
+abbrev pub LookBehindRows : Type 0
+LookBehindRows =
+    IsLookBehind 0x55 false 10 NonWordByte 0x14000 false false
+    × IsLookBehind 0x55 false 10 WordByte 0 true false
+    × IsLookBehind 0x55 false 10 Text 0x14015 false false
+    × IsLookBehind 0x55 false 10 LineLF 0x14014 false false
+    × IsLookBehind 0x55 true 10 LineLF 0x14004 false true
+    × IsLookBehind 0x55 true 120 LineLF 0x14000 false true
+    × IsLookBehind 0x55 false 10 LineCR 0x14000 false true
+    × IsLookBehind 0x55 true 10 LineCR 0x14010 false false
+    × IsLookBehind 0x55 false 13 LineCR 0x14004 false true
+    × IsLookBehind 0x55 false 97 CustomLineTerminator 0x4 true false
+    × IsLookBehind 0x55 false 59 CustomLineTerminator 0x14004 false false
 
 -- for NFAs with only StartLF, only Start and only WordAscii
 abbrev pub ClassRows : Type 0
 ClassRows =
-    IsTold 0x4 false 10 Text 0x14 false false
-    × IsTold 0x4 false 10 LineLF 0x14 false false
-    × IsTold 0x4 false 10 LineCR 0 false false
-    × IsTold 0x4 true 10 LineLF 0x4 false false
-    × IsTold 0x4 true 10 LineCR 0 false false
-    × IsTold 0x1 false 10 Text 0x1 false false
-    × IsTold 0x1 false 10 WordByte 0 false false
-    × IsTold 0x40 false 10 LineLF 0x14000 false false
+    IsLookBehind 0x4 false 10 Text 0x14 false false
+    × IsLookBehind 0x4 false 10 LineLF 0x14 false false
+    × IsLookBehind 0x4 false 10 LineCR 0 false false
+    × IsLookBehind 0x4 true 10 LineLF 0x4 false false
+    × IsLookBehind 0x4 true 10 LineCR 0 false false
+    × IsLookBehind 0x1 false 10 Text 0x1 false false
+    × IsLookBehind 0x1 false 10 WordByte 0 false false
+    × IsLookBehind 0x40 false 10 LineLF 0x14000 false false
 
 -- the look-behind after a step over a unit
-abbrev told_after : Tables → Option ℕ → ℕ × Bool × Bool
-told_after t u = (have_after t u, from_word_after t u, half_crlf_after t u)
+abbrev look_behind_after : Tables → Option ℕ → ℕ × Bool × Bool
+look_behind_after t u = (have_after t u, from_word_after t u, half_crlf_after t u)
 
 -- it is this after a forward step, for an NFA with these assertions and the line terminator `\n`
-abbrev IsToldAfter : ℕ → Option ℕ → ℕ → Bool → Bool → Type 0
-IsToldAfter any unit have from_word half =
-    told_after (tables false 10 any) unit ≡ (have, from_word, half)
+abbrev IsLookBehindAfter : ℕ → Option ℕ → ℕ → Bool → Bool → Type 0
+IsLookBehindAfter any unit have from_word half =
+    look_behind_after (tables false 10 any) unit ≡ (have, from_word, half)
 
 -- for NFAs with only StartLF, only StartCRLF and only WordAscii, over a line feed, a carriage
 -- return, a and EOI
 abbrev pub StepRows : Type 0
 StepRows =
-    IsToldAfter 0x4 (Some 10) 0x4 false false
-    × IsToldAfter 0x4 (Some 13) 0 false false
-    × IsToldAfter 0x4 (Some 97) 0 false false
-    × IsToldAfter 0x4 None 0 false false
-    × IsToldAfter 0x10 (Some 10) 0x14 false false
-    × IsToldAfter 0x10 (Some 13) 0 false true
-    × IsToldAfter 0x40 (Some 97) 0 true false
-    × IsToldAfter 0x40 None 0x14000 false false
+    IsLookBehindAfter 0x4 (Some 10) 0x4 false false
+    × IsLookBehindAfter 0x4 (Some 13) 0 false false
+    × IsLookBehindAfter 0x4 (Some 97) 0 false false
+    × IsLookBehindAfter 0x4 None 0 false false
+    × IsLookBehindAfter 0x10 (Some 10) 0x14 false false
+    × IsLookBehindAfter 0x10 (Some 13) 0 false true
+    × IsLookBehindAfter 0x40 (Some 97) 0 true false
+    × IsLookBehindAfter 0x40 None 0x14000 false false
 
 -- an NFA without assertions has an empty look-behind at the start
-abbrev pub NothingTold : Type 0
-NothingTold =
-    (reverse : Bool) (t : ℕ) (kind : Kind) → IsTold 0 reverse t kind 0 false false
+abbrev pub NoLookBehind : Type 0
+NoLookBehind =
+    (reverse : Bool) (t : ℕ) (kind : Kind) → IsLookBehind 0 reverse t kind 0 false false

@@ -41,10 +41,10 @@ pub fn start_rows_law(byte: u8)
     ensures bytes { rows.ByteRows }
     ensures no_custom { (¬ (kinds.start_kind 10 byte ≡ Start.CustomLineTerminator))
         × (¬ (kinds.start_kind 13 byte ≡ Start.CustomLineTerminator)) }
-    ensures told { rows.ToldRows }
+    ensures look_behind { rows.LookBehindRows }
     ensures classes { rows.ClassRows }
     ensures steps { rows.StepRows }
-    ensures nothing { rows.NothingTold }
+    ensures nothing { rows.NoLookBehind }
 {}
 
 /// States that the look-have of a start kind is sound, since each of its assertions holds for every
@@ -64,7 +64,7 @@ pub fn start_law(reverse: bool, terminator: u8, any: LookSet, before: Option<u8>
 
 /// States that the look-have after a step over a byte is sound, since each of its assertions holds
 /// for every next unit, and complete for the assertions of the NFA.
-pub fn told_law(reverse: bool, terminator: u8, any: LookSet, byte: u8, look: Look)
+pub fn look_behind_law(reverse: bool, terminator: u8, any: LookSet, byte: u8, look: Look)
     ensures known { has (have_after (tables reverse terminator any) (Some byte)) look ≡ true
         → truth.is_known reverse terminator (Some byte) look ≡ true }
     ensures all { has any look ≡ true

@@ -15,7 +15,7 @@ ghost use Rattle.std.specs.Prelude.{◌≡◌, true, false, not, ◌&&◌, ◌||
 ghost use Rattle.std.specs.Option.{is_none};
 ghost use Rattle.determinize_below.specs.Look.{has, has_word};
 ghost use Rattle.determinize_below.specs.Nfa.{IsAccepted};
-ghost use Rattle.determinize_below.specs.Semantics.{crlf_1, crlf_2, is, is_word};
+ghost use Rattle.determinize_below.specs.Semantics.{crlf_first, crlf_second, is, is_word};
 ghost use Rattle.determinize_below.specs.Unit.{byte_of};
 ghost use Rattle.determinize_below.specs.declared.look.Look.{Look as Assertion};
 ghost use Rattle.determinize_start.specs.LookTables as tables;
@@ -30,7 +30,7 @@ use std::marker::Model;
 
 /// The look-behind of a new state: look-have and flags.
 #[derive(Clone, Copy, Debug)]
-pub struct Told {
+pub struct LookBehind {
     /// The assertions that hold for every next unit.
     pub looks: LookSet,
     /// Whether the byte behind is a word byte and the NFA has word assertions.
@@ -39,10 +39,10 @@ pub struct Told {
     pub half_crlf: bool,
 }
 
-impl Model for Told {
-    ghost use Rattle.determinize_start.specs.LookTables.{Telling};
+impl Model for LookBehind {
+    ghost use Rattle.determinize_start.specs.LookTables.{LookBehindValue};
 
-    ghost Value = { Telling };
+    ghost Value = { LookBehindValue };
 
     ghost view = { λ t.
         record { looks = t.looks; from_word = t.from_word; half_crlf = t.half_crlf } };
@@ -51,14 +51,14 @@ impl Model for Told {
         record { looks = t.looks; from_word = t.from_word; half_crlf = t.half_crlf } };
 }
 
-impl Told {
+impl LookBehind {
     /// Returns the empty look-behind.
-    fn nothing() -> Told
+    fn nothing() -> LookBehind
         ensures looks { result.looks ≡ 0 }
         ensures from_word { result.from_word ≡ false }
         ensures half_crlf { result.half_crlf ≡ false }
     {
-        Told {
+        LookBehind {
             looks: LookSet::empty(),
             from_word: false,
             half_crlf: false,
@@ -66,10 +66,10 @@ impl Told {
     }
 
     /// Returns the look-behind with the assertion added if `test` is true.
-    fn with(self, test: bool, look: Look) -> Told
+    fn with(self, test: bool, look: Look) -> LookBehind
         ensures { result ≡ record self { looks = tables.insert_where self.looks test look } }
     {
-        Told {
+        LookBehind {
             looks: insert_where(self.looks, test, look),
             ..self
         }
@@ -162,21 +162,21 @@ impl LookTables {
 
     /// Returns the byte of a CRLF that is read first.
     fn crlf_first(self) -> u8
-        ensures { result ≡ crlf_1 self.reverse }
+        ensures { result ≡ crlf_first self.reverse }
     {
         if self.reverse { b'\n' } else { b'\r' }
     }
 
     /// Returns the byte of a CRLF that is read second.
     fn crlf_second(self) -> u8
-        ensures { result ≡ crlf_2 self.reverse }
+        ensures { result ≡ crlf_second self.reverse }
     {
         if self.reverse { b'\r' } else { b'\n' }
     }
 
     /// Returns the look-behind of word assertions, given whether the byte behind is a word byte.
     #[tactic(auto, unfolding(crate::specs::LookTables::known_set, crate::specs::LookTables::insert_where))]
-    fn words(self, word_byte: bool) -> Told
+    fn words(self, word_byte: bool) -> LookBehind
         ensures looks { result.looks
             ≡ known_set false false false (has_word self.any && not word_byte) }
         ensures from_word { result.from_word ≡ (has_word self.any && word_byte) }
@@ -185,7 +185,7 @@ impl LookTables {
         let word = self.any.contains_word();
         let no_word_byte = word && !word_byte;
         let looks = insert_where(LookSet::empty(), no_word_byte, Look::WordStartHalfAscii);
-        Told {
+        LookBehind {
             looks: insert_where(looks, no_word_byte, Look::WordStartHalfUnicode),
             from_word: word && word_byte,
             half_crlf: false,
@@ -194,7 +194,7 @@ impl LookTables {
 
     /// Returns the look-behind of the first state for a start kind.
     #[tactic(auto, unfolding(crate::specs::LookTables::known_set, crate::specs::LookTables::insert_where, crate::specs::LookTables::start_have, crate::specs::LookTables::start_from_word, crate::specs::LookTables::start_half_crlf))]
-    pub fn at_start(self, kind: Start) -> Told
+    pub fn at_start(self, kind: Start) -> LookBehind
         ensures looks { result.looks ≡ tables.start_have self kind }
         ensures from_word { result.from_word ≡ tables.start_from_word self kind }
         ensures half_crlf { result.half_crlf ≡ tables.start_half_crlf self kind }
@@ -211,14 +211,14 @@ impl LookTables {
                 .with(line, Look::StartLF)
                 .with(line, Look::StartCRLF)
                 .with(self.any.contains_anchor_haystack(), Look::Start),
-            Start::LineLF => Told {
+            Start::LineLF => LookBehind {
                 half_crlf: crlf && self.reverse,
                 ..self
                     .words(false)
                     .with(line && self.terminator == b'\n', Look::StartLF)
                     .with(line && !self.reverse, Look::StartCRLF)
             },
-            Start::LineCR => Told {
+            Start::LineCR => LookBehind {
                 half_crlf: crlf && !self.reverse,
                 ..self
                     .words(false)
@@ -234,18 +234,18 @@ impl LookTables {
     /// Returns the look-behind after a step over the unit, which is empty if the NFA has no
     /// assertions. The flags are to be set only if some state has a transition on the unit.
     #[tactic(auto, unfolding(crate::specs::LookTables::known_set, crate::specs::LookTables::insert_where, crate::specs::LookTables::have_after, crate::specs::LookTables::from_word_after, crate::specs::LookTables::half_crlf_after))]
-    pub fn after(self, unit: Unit) -> Told
+    pub fn after(self, unit: Unit) -> LookBehind
         ensures looks { result.looks ≡ tables.have_after self (byte_of unit) }
         ensures from_word { result.from_word ≡ tables.from_word_after self (byte_of unit) }
         ensures half_crlf { result.half_crlf ≡ tables.half_crlf_after self (byte_of unit) }
     {
         // Only for speed: without assertions the code below returns the same.
         if self.any.is_empty() {
-            return Told::nothing();
+            return LookBehind::nothing();
         }
         let line = self.any.contains_anchor_line();
         let crlf = self.any.contains_anchor_crlf();
-        Told {
+        LookBehind {
             half_crlf: crlf && unit.is_byte(self.crlf_first()),
             ..self
                 .words(unit.is_word_byte())
@@ -257,8 +257,8 @@ impl LookTables {
     /// Returns whether the unit satisfies no haystack or line assertion, as most units do.
     fn is_inside_line(self, half_crlf: bool, unit: Unit) -> bool
         ensures { result ≡ not (half_crlf || is_none (byte_of unit)
-            || is (byte_of unit) self.terminator || is (byte_of unit) (crlf_1 self.reverse)
-            || is (byte_of unit) (crlf_2 self.reverse)) }
+            || is (byte_of unit) self.terminator || is (byte_of unit) (crlf_first self.reverse)
+            || is (byte_of unit) (crlf_second self.reverse)) }
     {
         !(half_crlf
             || unit.is_eoi()

@@ -5,7 +5,7 @@
 use Rattle.determinize_below.proofs.Common.{and_right, arith, beq, Bool, by_test, Decides, End, EndCRLF, EndLF, eq-eqb, false, holds, is_word, IsUnit, lit<, Look, nat_eq, None, not, Option, or_left, refl, Some, Start, StartCRLF, StartLF, sym, true, WordAsciiNegate, WordEndAscii, WordEndHalfAscii, WordEndHalfUnicode, WordEndUnicode, WordStartAscii, WordStartHalfAscii, WordStartHalfUnicode, WordStartUnicode, WordUnicodeNegate, ℕ, ◌&&◌, ◌<◌, ◌∙◌, ◌≡◌}
 use mathlib.Core.Bool.{◌||◌}
 use Rattle.determinize_below.specs.Truth.{all_units, behind_test, is_known}
-use Rattle.determinize_below.specs.Semantics.{crlf_1, crlf_2, is_word_byte, is}
+use Rattle.determinize_below.specs.Semantics.{crlf_first, crlf_second, is_word_byte, is}
 use Rattle.std.specs.Option.{is_none}
 use Rattle.determinize_below.proofs.looks.EveryUnit.{all_units_at, all_units_from, all_units_fails, all_units_constant}
 
@@ -20,7 +20,7 @@ letter_word : is_word letter ≡ true
 unfolding is_word_byte
 letter_word = refl
 
-crlf_unit : (reverse : Bool) → IsUnit (Some (crlf_2 reverse))
+crlf_unit : (reverse : Bool) → IsUnit (Some (crlf_second reverse))
 crlf_unit true = lit< tt
 crlf_unit false = lit< tt
 
@@ -33,7 +33,7 @@ end_lf t = by_test (nat_eq 0 t)
     other t e = grind arith
 
 end_crlf : (reverse first : Bool)
-    → all_units (λ q. is_none q || is q (crlf_1 reverse) || (is q (crlf_2 reverse) && not first)) ≡ false
+    → all_units (λ q. is_none q || is q (crlf_first reverse) || (is q (crlf_second reverse) && not first)) ≡ false
 end_crlf true first = all_units_fails (λ q. is_none q || is q 10 || (is q 13 && not first)) (Some 0) (lit< tt) refl
 end_crlf false first = all_units_fails (λ q. is_none q || is q 13 || (is q 10 && not first)) (Some 0) (lit< tt) refl
 
@@ -62,15 +62,15 @@ word_end_half = all_units_fails (λ q. not (is_word q)) letter letter_unit (rw l
 -- the look-behind satisfies Start, StartLF, StartCRLF or a half word start if the byte before does,
 -- and no other assertion
 pub known_is : (reverse : Bool) (t : ℕ) (p : Option ℕ) (l : Look)
-    → is_known reverse t p l ≡ behind_test (is_none p) (is_none p || is p t) (is_none p || is p (crlf_2 reverse))
+    → is_known reverse t p l ≡ behind_test (is_none p) (is_none p || is p t) (is_none p || is p (crlf_second reverse))
     (not (is_word p)) l
 known_is reverse t p Start = all_units_constant (is_none p)
 known_is reverse t p End = all_units_fails is_none (Some 0) (lit< tt) refl
 known_is reverse t p StartLF = all_units_constant (is_none p || is p t)
 known_is reverse t p EndLF = end_lf t
 known_is reverse t p StartCRLF =
-    start_crlf (is_none p || is p (crlf_2 reverse)) (is p (crlf_1 reverse)) (crlf_2 reverse) (crlf_unit reverse)
-known_is reverse t p EndCRLF = end_crlf reverse (is p (crlf_1 reverse))
+    start_crlf (is_none p || is p (crlf_second reverse)) (is p (crlf_first reverse)) (crlf_second reverse) (crlf_unit reverse)
+known_is reverse t p EndCRLF = end_crlf reverse (is p (crlf_first reverse))
 known_is reverse t p WordAsciiNegate = word_negate (is_word p)
 known_is reverse t p WordUnicodeNegate = word_negate (is_word p)
 known_is reverse t p WordStartAscii = word_start (is_word p)
@@ -89,7 +89,7 @@ pub known-holds : (reverse : Bool) (t : ℕ) (p q : Option ℕ) (l : Look) → i
 known-holds reverse t p q l h = from_table reverse t p q l (sym (known_is reverse t p l) ∙ h)
   where
     from_table : (reverse : Bool) (t : ℕ) (p q : Option ℕ) (l : Look)
-        → behind_test (is_none p) (is_none p || is p t) (is_none p || is p (crlf_2 reverse)) (not (is_word p)) l ≡ true
+        → behind_test (is_none p) (is_none p || is p t) (is_none p || is p (crlf_second reverse)) (not (is_word p)) l ≡ true
         → holds reverse t p q l ≡ true
     from_table reverse t p q Start h = h
     from_table reverse t p q StartLF h = h

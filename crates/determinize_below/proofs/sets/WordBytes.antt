@@ -10,4 +10,5 @@ use Rattle.determinize_below.specs.Semantics.{is_word_byte}
 -- the bit of a byte is set if and only if it is a word byte
 pub word_bits : (b : ℕ) → b < 256 → has_bit (0x03FF000000000000 ∷ 0x07FFFFFE87FFFFFE ∷ 0 ∷ 0 ∷ []) b ≡ is_word_byte b
 unfolding has_bit is_word_byte
-word_bits b h = agree_below_at (has_bit (0x03FF000000000000 ∷ 0x07FFFFFE87FFFFFE ∷ 0 ∷ 0 ∷ [])) is_word_byte 256 b refl h
+word_bits b h =
+    agree_below_at (has_bit (0x03FF000000000000 ∷ 0x07FFFFFE87FFFFFE ∷ 0 ∷ 0 ∷ [])) is_word_byte 256 b refl h

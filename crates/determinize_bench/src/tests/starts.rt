@@ -30,7 +30,7 @@ fn expect_tables<R: Abort + AllocGlobal>(rt: &R, tables: LookTables) -> Result<(
     let opened = tables.opened(after.from_word, after.half_crlf, Unit::eoi(256));
     holds(rt, opened.contains(Look::WordAscii));
     let text = format!(in rt.alloc(); "{after:?}")?;
-    let wanted = "Told { looks: LookSet { bits: 0 }, from_word: true, half_crlf: false }";
+    let wanted = "LookBehind { looks: LookSet { bits: 0 }, from_word: true, half_crlf: false }";
     same(rt, text.as_str(), wanted);
     let text = format!(in rt.alloc(); "{tables:?}")?;
     let wanted = "LookTables { reverse: false, terminator: 10, any: LookSet { bits: 68 } }";

@@ -13,7 +13,7 @@ use Rattle.std.proofs.lemmas.Bool.{both_ways}
 use Rattle.determinize_below.specs.ByteClasses.{AreTestedAlike}
 use Rattle.determinize_below.specs.Edges.{reach}
 use Rattle.determinize_below.specs.Look.{has, has_crlf, has_line, has_word}
-use Rattle.determinize_below.specs.Semantics.{crlf_1, crlf_2, is_word}
+use Rattle.determinize_below.specs.Semantics.{crlf_first, crlf_second, is_word}
 use Rattle.determinize_below.specs.declared.look.Look.{Look}
 use Rattle.determinize_below.specs.declared.look.Look.TheVariants.{EndCRLF, EndLF, StartCRLF, WordAscii}
 use Rattle.determinize_below.specs.declared.look.Look.TheVariants.{WordAsciiNegate, WordEndAscii, WordEndHalfAscii}
@@ -34,12 +34,12 @@ under_test false x y h = refl
 module _ (nfa : Nfa) (b c : ℕ) (same : AreTestedAlike nfa b c) where
   -- the two bytes of a CRLF
   first_alike : (reverse : Bool) → has_crlf nfa.look_set_any ≡ true
-      → nat_eq b (crlf_1 reverse) ≡ nat_eq c (crlf_1 reverse)
+      → nat_eq b (crlf_first reverse) ≡ nat_eq c (crlf_first reverse)
   first_alike true h = same.feed h
   first_alike false h = same.carriage h
 
   second_alike : (reverse : Bool) → has_crlf nfa.look_set_any ≡ true
-      → nat_eq b (crlf_2 reverse) ≡ nat_eq c (crlf_2 reverse)
+      → nat_eq b (crlf_second reverse) ≡ nat_eq c (crlf_second reverse)
   second_alike true h = same.carriage h
   second_alike false h = same.feed h
 
@@ -51,9 +51,9 @@ module _ (nfa : Nfa) (b c : ℕ) (same : AreTestedAlike nfa b c) where
   opened-alike w f StartCRLF h =
       ap (λ (x : Bool). f && not x) (second_alike nfa.reverse (crlf_class nfa.look_set_any StartCRLF refl h))
   opened-alike w f EndCRLF h =
-      ap (λ (x : Bool). x || (nat_eq b (crlf_2 nfa.reverse) && not f))
+      ap (λ (x : Bool). x || (nat_eq b (crlf_second nfa.reverse) && not f))
       (first_alike nfa.reverse (crlf_class nfa.look_set_any EndCRLF refl h))
-      ∙ ap (λ (x : Bool). nat_eq c (crlf_1 nfa.reverse) || (x && not f))
+      ∙ ap (λ (x : Bool). nat_eq c (crlf_first nfa.reverse) || (x && not f))
       (second_alike nfa.reverse (crlf_class nfa.look_set_any EndCRLF refl h))
   opened-alike w f WordAscii h =
       ap (λ (x : Bool). word_opened w x WordAscii || false) (same.word (word_class nfa.look_set_any WordAscii refl h))
@@ -81,14 +81,14 @@ module _ (nfa : Nfa) (b c : ℕ) (same : AreTestedAlike nfa b c) where
   have_after-alike : have_after (tables_of nfa) (Some b) ≡ have_after (tables_of nfa) (Some c)
   unfolding have_after
   have_after-alike =
-      ap (λ (x : Bool). known_set false x (has_crlf nfa.look_set_any && nat_eq b (crlf_2 nfa.reverse))
+      ap (λ (x : Bool). known_set false x (has_crlf nfa.look_set_any && nat_eq b (crlf_second nfa.reverse))
       (has_word nfa.look_set_any && not (is_word (Some b))))
       (under_test (has_line nfa.look_set_any) _ _ same.line)
       ∙ ap (λ (x : Bool). known_set false (has_line nfa.look_set_any && nat_eq c nfa.terminator) x
       (has_word nfa.look_set_any && not (is_word (Some b))))
       (under_test (has_crlf nfa.look_set_any) _ _ (second_alike nfa.reverse))
       ∙ ap (λ (x : Bool). known_set false (has_line nfa.look_set_any && nat_eq c nfa.terminator)
-      (has_crlf nfa.look_set_any && nat_eq c (crlf_2 nfa.reverse)) x)
+      (has_crlf nfa.look_set_any && nat_eq c (crlf_second nfa.reverse)) x)
       (under_test (has_word nfa.look_set_any) _ _ (λ h. ap not (same.word h)))
 
   from_word_after-alike : from_word_after (tables_of nfa) (Some b) ≡ from_word_after (tables_of nfa) (Some c)

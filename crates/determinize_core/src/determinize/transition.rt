@@ -17,14 +17,14 @@ use crate::determinize::closure::explore;
 use crate::determinize::steps::Steps;
 use crate::determinize::working_list::read_working_list;
 use determinize_below::{MatchKind, NFA, SparseSets, StateID, Unit};
-use determinize_start::look_tables::{LookTables, Told};
+use determinize_start::look_tables::{LookBehind, LookTables};
 use determinize_state::state::{State, StateBuilderEmpty, StateBuilderNFA};
 use std::alloc::{AllocError, Allocator};
 use std::marker::Brand;
 use std::sync::ledger::{Blank, Ledger};
 
 /// Returns the look-behind of the next state, for the unit that is read.
-fn told_after<N: Allocator>(nfa: &NFA<N>, unit: Unit) -> Told
+fn look_behind_after<N: Allocator>(nfa: &NFA<N>, unit: Unit) -> LookBehind
     ensures looks { result.looks ≡ have_after (tables_of nfa.now) (byte_of unit) }
     ensures from_word { result.from_word ≡ from_word_after (tables_of nfa.now) (byte_of unit) }
     ensures half_crlf { result.half_crlf ≡ half_crlf_after (tables_of nfa.now) (byte_of unit) }
@@ -34,21 +34,25 @@ fn told_after<N: Allocator>(nfa: &NFA<N>, unit: Unit) -> Told
 }
 
 /// Replaces look-have by that of the look-behind.
-fn tell<A: Allocator>(told: Told, builder: &mut StateBuilderNFA<A>)
-    ensures { builder.new ≡ record builder.old { look_have = told.looks } }
+fn set_look_have<A: Allocator>(look_behind: LookBehind, builder: &mut StateBuilderNFA<A>)
+    ensures { builder.new ≡ record builder.old { look_have = look_behind.looks } }
 {
-    builder.set_look_have(|_| told.looks);
+    builder.set_look_have(|_| look_behind.looks);
 }
 
 /// Sets the flags of the look-behind if some state has a transition on the unit.
-fn set_flags<A: Allocator>(told: Told, leads_on: bool, builder: &mut StateBuilderNFA<A>)
+fn set_flags<A: Allocator>(
+    look_behind: LookBehind,
+    has_targets: bool,
+    builder: &mut StateBuilderNFA<A>,
+)
     ensures { builder.new
-        ≡ with_flags builder.old (leads_on && told.from_word) (leads_on && told.half_crlf) }
+        ≡ with_flags builder.old (has_targets && look_behind.from_word) (has_targets && look_behind.half_crlf) }
 {
-    if leads_on && told.from_word {
+    if has_targets && look_behind.from_word {
         builder.set_is_from_word();
     }
-    if leads_on && told.half_crlf {
+    if has_targets && look_behind.half_crlf {
         builder.set_is_half_crlf();
     }
 }
@@ -79,17 +83,17 @@ fn transition<N: Allocator, A: Allocator, L: Ledger>(
         (steps.new ≡ steps.old + tries nfa.now match_kind state.now (byte_of unit)) }
     ensures bounded { steps.new ≤ steps.old + 2 * (length nfa.now.states + edges_in_all nfa.now) }
 {
-    let told = told_after(nfa, unit);
+    let look_behind = look_behind_after(nfa, unit);
     sparses.clear();
-    tell(told, builder);
+    set_look_have(look_behind, builder);
     read_working_list(nfa, match_kind, state, unit, sparses, stack, builder, steps)?;
     // Without targets there is nothing that could use the flags, and setting them would make
     // different states of what is one: the dead state, or the same matches and nothing else.
-    set_flags(told, !stack.is_empty(), builder);
+    set_flags(look_behind, !stack.is_empty(), builder);
     explore(
         nfa,
         &[],
-        told.looks,
+        look_behind.looks,
         stack,
         &mut sparses.set2,
         builder,

@@ -51,7 +51,8 @@ module _ {nfa : Nfa} {kind : MatchKind} {limit count counted : ℕ} {t t' : Stor
         starts = starts-stay nfa t t' is.starts stay;
       }
     where
-      of : {s : Table} → table_of t' ≡ s → IsWithin (step nfa kind) limit s → IsWithin (step nfa kind) limit (table_of t')
+      of : {s : Table} → table_of t' ≡ s → IsWithin (step nfa kind) limit s
+          → IsWithin (step nfa kind) limit (table_of t')
       of e h = subst (λ s. IsWithin (step nfa kind) limit s) (sym e) h
 
       by : (r : Result T E) → OnOk r (table_of t' ≡ keep limit (table_of t) v u w)
@@ -105,7 +106,8 @@ lazy-start {nfa} {t = t} {i} {v} start id p is at here v_is = record {
 }
 
 -- what a step leaves that is not cached
-pub step-done : {new : Cache} (old : Cache) (v : Value) (u : Option ℕ) → is_cached old.table v u ≡ false → new.nfa ≡ old.nfa
+pub step-done : {new : Cache} (old : Cache) (v : Value) (u : Option ℕ) → is_cached old.table v u ≡ false
+    → new.nfa ≡ old.nfa
     → new.kind ≡ old.kind → new.limit ≡ old.limit → new.table ≡ keep old.limit old.table v u (step_of old v u)
     → new.computed ≡ count_after old.computed 1 → new ≡ after_step old v u
 step-done old v u absent nfa kind limit table counted =

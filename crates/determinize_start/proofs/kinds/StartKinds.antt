@@ -3,7 +3,7 @@
 -- Used by: `set_lookbehind_from_start`, `start_law`.
 -- Idea: the bytes of one start kind satisfy the same assertions of the NFA.
 use mathlib.Core.Bool.{and-true, and-false}
-use Rattle.determinize_start.proofs.Common.{and_parts, arith, behind_test, Bool, crlf_1, CustomLineTerminator, eqb-true, false, has, is_known, crlf_2, LineCR, LineLF, Look, NonWordByte, not, Option, refl, Some, start_kind, sym, Tables, true, WordByte, ℕ, ◌&&◌, ◌∙◌, ◌≡◌}
+use Rattle.determinize_start.proofs.Common.{and_parts, arith, behind_test, Bool, crlf_first, CustomLineTerminator, eqb-true, false, has, is_known, crlf_second, LineCR, LineLF, Look, NonWordByte, not, Option, refl, Some, start_kind, sym, Tables, true, WordByte, ℕ, ◌&&◌, ◌∙◌, ◌≡◌}
 use Rattle.std.proofs.Common.{None, nat_eq, subst}
 use Rattle.std.proofs.lemmas.Bool.{eq-eqb}
 use Rattle.determinize_below.specs.Semantics.{is_word_byte}
@@ -17,11 +17,11 @@ use Rattle.determinize_start.specs.declared.start.Start.{Start as Kind}
 swap_eq : (a b : ℕ) → nat_eq a b ≡ nat_eq b a
 swap_eq a b = grind arith
 
-not_second : (reverse : Bool) (b : ℕ) → nat_eq b 10 ≡ false → nat_eq b 13 ≡ false → nat_eq b (crlf_2 reverse) ≡ false
+not_second : (reverse : Bool) (b : ℕ) → nat_eq b 10 ≡ false → nat_eq b 13 ≡ false → nat_eq b (crlf_second reverse) ≡ false
 not_second true b e k = k
 not_second false b e k = e
 
-not_first : (reverse : Bool) (b : ℕ) → nat_eq b 10 ≡ false → nat_eq b 13 ≡ false → nat_eq b (crlf_1 reverse) ≡ false
+not_first : (reverse : Bool) (b : ℕ) → nat_eq b 10 ≡ false → nat_eq b 13 ≡ false → nat_eq b (crlf_first reverse) ≡ false
 not_first true b e k = e
 not_first false b e k = k
 
@@ -46,19 +46,19 @@ by_kind t P lf cr custom word other b =
     (λ w. rw (e, k, m, w) (word b e k m w))
     (λ w. rw (e, k, m, w) (other b e k m w)))))
 
-lf_crlf : (reverse c : Bool) → c ≡ true → (c && not reverse) ≡ nat_eq 10 (crlf_2 reverse)
+lf_crlf : (reverse c : Bool) → c ≡ true → (c && not reverse) ≡ nat_eq 10 (crlf_second reverse)
 lf_crlf true c h = and-false c
 lf_crlf false c h = and-true c ∙ h
 
-cr_crlf : (reverse c : Bool) → c ≡ true → (c && reverse) ≡ nat_eq 13 (crlf_2 reverse)
+cr_crlf : (reverse c : Bool) → c ≡ true → (c && reverse) ≡ nat_eq 13 (crlf_second reverse)
 cr_crlf true c h = and-true c ∙ h
 cr_crlf false c h = and-false c
 
-lf_crlf_within : (reverse c : Bool) → (c && not reverse) ≡ true → nat_eq 10 (crlf_2 reverse) ≡ true
+lf_crlf_within : (reverse c : Bool) → (c && not reverse) ≡ true → nat_eq 10 (crlf_second reverse) ≡ true
 lf_crlf_within true c h = sym (and-false c) ∙ h
 lf_crlf_within false c h = refl
 
-cr_crlf_within : (reverse c : Bool) → (c && reverse) ≡ true → nat_eq 13 (crlf_2 reverse) ≡ true
+cr_crlf_within : (reverse c : Bool) → (c && reverse) ≡ true → nat_eq 13 (crlf_second reverse) ≡ true
 cr_crlf_within true c h = refl
 cr_crlf_within false c h = sym (and-false c) ∙ h
 
@@ -68,7 +68,7 @@ absent h = absurd (cc)
 module _ (t : Tables) where
   -- the assertions satisfied after a byte, as a table
   abbrev after : ℕ → Look → Bool
-  after b = behind_test false (nat_eq b t.terminator) (nat_eq b (crlf_2 t.reverse)) (not (is_word_byte b))
+  after b = behind_test false (nat_eq b t.terminator) (nat_eq b (crlf_second t.reverse)) (not (is_word_byte b))
 
   -- the look-have of the kind is complete, for the assertions of the NFA
   abbrev IsRight : Look → ℕ → Kind → Type 0
@@ -153,10 +153,10 @@ module _ (t : Tables) where
       (λ b e k m w. rw (not_first t.reverse b e k) (sym (and-false _)))
       b
     where
-      line_feed : (reverse c : Bool) → (c && reverse) ≡ (c && nat_eq 10 (crlf_1 reverse))
+      line_feed : (reverse c : Bool) → (c && reverse) ≡ (c && nat_eq 10 (crlf_first reverse))
       line_feed true c = refl
       line_feed false c = refl
 
-      carriage_return : (reverse c : Bool) → (c && not reverse) ≡ (c && nat_eq 13 (crlf_1 reverse))
+      carriage_return : (reverse c : Bool) → (c && not reverse) ≡ (c && nat_eq 13 (crlf_first reverse))
       carriage_return true c = refl
       carriage_return false c = refl

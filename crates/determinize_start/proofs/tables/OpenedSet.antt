@@ -3,7 +3,7 @@
 -- Used by: `words_opened`, `LookTables::opened`.
 -- Idea: as KnownSet, for word and for line assertions.
 use mathlib.Core.Bool.{or-false}
-use Rattle.determinize_start.proofs.Common.{beq, Bool, crlf_1, End, EndCRLF, EndLF, false, has, is, is_none, is_word, crlf_2, Look, not, Option, refl, StartCRLF, Tables, WordAscii, WordAsciiNegate, WordEndAscii, WordEndHalfAscii, WordEndHalfUnicode, WordEndUnicode, WordStartAscii, WordStartUnicode, WordUnicode, WordUnicodeNegate, ℕ, ◌&&◌, ◌||◌, ◌≡◌}
+use Rattle.determinize_start.proofs.Common.{beq, Bool, crlf_first, End, EndCRLF, EndLF, false, has, is, is_none, is_word, crlf_second, Look, not, Option, refl, StartCRLF, Tables, WordAscii, WordAsciiNegate, WordEndAscii, WordEndHalfAscii, WordEndHalfUnicode, WordEndUnicode, WordStartAscii, WordStartUnicode, WordUnicode, WordUnicodeNegate, ℕ, ◌&&◌, ◌||◌, ◌≡◌}
 use Rattle.std.proofs.Common.{bit_or}
 use Rattle.determinize_below.proofs.looks.LookSets.{has-empty, has-union, same, index_of}
 use Rattle.determinize_start.specs.LookTables.{word_opened, line_opened, opened}
@@ -40,8 +40,8 @@ has-word_set f w k = simp (has-insert_where, has-empty) (word_each f w k)
 
 -- the members of the haystack and line set
 line_each : (t : Tables) (half : Bool) (u : Option ℕ) (k : Look)
-    → ((same StartCRLF k && (half && not (is u (crlf_2 t.reverse))))
-    || ((same EndCRLF k && (is_none u || is u (crlf_1 t.reverse) || (is u (crlf_2 t.reverse) && not half)))
+    → ((same StartCRLF k && (half && not (is u (crlf_second t.reverse))))
+    || ((same EndCRLF k && (is_none u || is u (crlf_first t.reverse) || (is u (crlf_second t.reverse) && not half)))
     || ((same EndLF k && (is_none u || is u t.terminator)) || ((same End k && is_none u) || false))))
     ≡ line_opened t half u k
 unfolding same index_of line_opened

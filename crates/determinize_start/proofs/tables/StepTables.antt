@@ -3,7 +3,7 @@
 -- Used by: TrueTables, and the laws of look-behind.
 -- Idea: by cases on the assertion and on a few tests of the byte behind and of the unit.
 use mathlib.Core.Bool.{or-false}
-use Rattle.determinize_start.proofs.Common.{and_parts, ap, behind_test, Bool, crlf_1, End, EndCRLF, EndLF, false, is, is_known, is_none, is_word, crlf_2, Look, not, Option, refl, Some, StartCRLF, sym, Tables, true, WordAscii, WordAsciiNegate, WordEndAscii, WordEndUnicode, WordStartAscii, WordStartUnicode, WordUnicode, WordUnicodeNegate, ℕ, ◌||◌, ◌∙◌, ◌≡◌}
+use Rattle.determinize_start.proofs.Common.{and_parts, ap, behind_test, Bool, crlf_first, End, EndCRLF, EndLF, false, is, is_known, is_none, is_word, crlf_second, Look, not, Option, refl, Some, StartCRLF, sym, Tables, true, WordAscii, WordAsciiNegate, WordEndAscii, WordEndUnicode, WordStartAscii, WordStartUnicode, WordUnicode, WordUnicodeNegate, ℕ, ◌||◌, ◌∙◌, ◌≡◌}
 use Rattle.determinize_below.specs.Look.{has}
 use Rattle.determinize_below.specs.Semantics.{holds}
 use Rattle.determinize_below.proofs.looks.LookBehindTable.{known_is}
@@ -37,8 +37,8 @@ module _ (t : Tables) where
   -- with right flags, an assertion holds if and only if the look-behind or the unit satisfies it:
   -- as tables, and as sets
   known_or_opened_each : (p u : Option ℕ) (l : Look)
-      → (behind_test (is_none p) (is_none p || is p t.terminator) (is_none p || is p (crlf_2 t.reverse))
-      (not (is_word p)) l || opened t (is_word p) (is p (crlf_1 t.reverse)) u l) ≡ holds t.reverse t.terminator p u l
+      → (behind_test (is_none p) (is_none p || is p t.terminator) (is_none p || is p (crlf_second t.reverse))
+      (not (is_word p)) l || opened t (is_word p) (is p (crlf_first t.reverse)) u l) ≡ holds t.reverse t.terminator p u l
   unfolding opened word_opened line_opened
   known_or_opened_each p u End = refl
   known_or_opened_each p u EndLF = refl
@@ -47,14 +47,14 @@ module _ (t : Tables) where
   known_or_opened_each p u s = or-false _
 
   known_or_opened : (p u : Option ℕ) (l : Look)
-      → (is_known t.reverse t.terminator p l || opened t (is_word p) (is p (crlf_1 t.reverse)) u l)
+      → (is_known t.reverse t.terminator p l || opened t (is_word p) (is p (crlf_first t.reverse)) u l)
       ≡ holds t.reverse t.terminator p u l
   known_or_opened p u l = rw (known_is t.reverse t.terminator p l) (known_or_opened_each p u l)
 
   -- wrong flags of a class that the NFA lacks change nothing for the assertions of the NFA
   opened-flags : (p : Option ℕ) (from_word half : Bool) (u : Option ℕ) (l : Look) → IsFlagged t p from_word half
       → has t.any l ≡ true
-      → opened t from_word half u l ≡ opened t (is_word p) (is p (crlf_1 t.reverse)) u l
+      → opened t from_word half u l ≡ opened t (is_word p) (is p (crlf_first t.reverse)) u l
   unfolding has opened word_opened line_opened
   opened-flags p from_word half u StartCRLF f h =
       ap (λ x. line_opened t x u StartCRLF) (f.crlf (crlf_class t.any StartCRLF refl h))

@@ -1,7 +1,7 @@
 -- The sets of assertions that a unit satisfies, built one by one.
 use Rattle.std.specs.Prelude.{ℕ, Bool, not, Option}
 use mathlib.Core.Bool.{◌&&◌, ◌||◌, beq}
-use Rattle.determinize_below.specs.Semantics.{crlf_1, crlf_2, is}
+use Rattle.determinize_below.specs.Semantics.{crlf_first, crlf_second, is}
 use Rattle.std.specs.Option.{is_none}
 use Rattle.determinize_below.specs.declared.look.Look.TheVariants.{End, EndLF, StartCRLF, EndCRLF, WordAscii, WordAsciiNegate, WordUnicode, WordUnicodeNegate, WordStartAscii, WordEndAscii, WordStartUnicode, WordEndUnicode, WordEndHalfAscii, WordEndHalfUnicode}
 use Rattle.determinize_start.specs.LookTables.{Tables, insert_where}
@@ -28,6 +28,6 @@ line_set t half_crlf u =
     insert_where (insert_where (insert_where (insert_where 0
     (is_none u) End)
     (is_none u || is u t.terminator) EndLF)
-    (is_none u || is u (crlf_1 t.reverse)
-    || (is u (crlf_2 t.reverse) && not half_crlf)) EndCRLF)
-    (half_crlf && not (is u (crlf_2 t.reverse))) StartCRLF
+    (is_none u || is u (crlf_first t.reverse)
+    || (is u (crlf_second t.reverse) && not half_crlf)) EndCRLF)
+    (half_crlf && not (is u (crlf_second t.reverse))) StartCRLF

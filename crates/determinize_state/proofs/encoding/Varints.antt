@@ -106,7 +106,8 @@ none_differs : (p : ℕ × List ℕ) → ◌≡◌ {A = Option (ℕ × List ℕ)
 none_differs p e = (cc)
 
 -- what is read, and what is left after it, are the bytes
-read-splits : (low weight : ℕ) (bytes : List ℕ) (number : ℕ) (rest : List ℕ) → read low weight bytes ≡ Some (number, rest)
+read-splits : (low weight : ℕ) (bytes : List ℕ) (number : ℕ) (rest : List ℕ)
+    → read low weight bytes ≡ Some (number, rest)
     → (first : List ℕ) × (bytes ≡ first ++ rest) × (0 < length first)
 read-splits low weight [] number rest e = absurd (none_differs (number, rest) (sym e))
 read-splits low weight (byte ∷ bytes) number rest e =

@@ -26,4 +26,5 @@ returns g c =
     subst (λ (p : Classes). AreClassesOf c.args.self.now p) (sym c.from_parts.ensures)
     (sorted_alike c.args.self.now c.loop-byte.len c.loop-byte.classes c.loop-byte.firsts
     (subst
-    (λ (n : ℕ). AreSorted c.args.self.now n c.loop-byte.len c.loop-byte.classes c.loop-byte.firsts) all c.loop-byte.invariant))
+    (λ (n : ℕ). AreSorted c.args.self.now n c.loop-byte.len c.loop-byte.classes c.loop-byte.firsts) all
+    c.loop-byte.invariant))

@@ -5,7 +5,7 @@ use Rattle.determinize_below.specs.Nfa.{AllResolve}
 use Rattle.determinize_below.specs.Unit.{byte_of}
 use Rattle.determinize_core.specs.Private.Search.{tries_left}
 use Rattle.determinize_state.specs.Recording.{added_one, settled}
-use Rattle.determinize_start.specs.LookTables.{Telling}
+use Rattle.determinize_start.specs.LookTables.{LookBehindValue}
 use Rattle.determinize_state.specs.Value.{Value}
 use Rattle.determinize_core.proofs.step.Resolving.{step_resolves}
 use Rattle.determinize_core.proofs.step.StepParts.{IsRead, first_tries, all_tries, is_nonempty-length, row_resolves, stepped, told_in, tries_within}
@@ -15,22 +15,22 @@ use Rattle.determinize_core.proofs.determinize.transition.transition.Goals as go
 
 pub returns-in_err-read_working_list-clause-bounded : goal.returns-in_err-read_working_list-clause-bounded
 returns-in_err-read_working_list-clause-bounded g c =
-    first_tries c.args.nfa.now c.told_after-told.ensures.accepted c.args.match_kind c.args.state.now
+    first_tries c.args.nfa.now c.look_behind_after-look_behind.ensures.accepted c.args.match_kind c.args.state.now
     (byte_of c.args.unit) c.requires.resolve c.args.steps.now c.read_working_list.new.steps
     c.read_working_list.ensures.bounded
 
 -- the builder after the working list was read, and the targets on the stack
-read : (g : Over) (c : After-set_flags g) (looks : ℕ) → looks ≡ c.told_after-told.result.looks
-    → IsRead c.args.nfa.now c.told_after-told.ensures.accepted c.args.match_kind c.args.state.now
+read : (g : Over) (c : After-set_flags g) (looks : ℕ) → looks ≡ c.look_behind_after-look_behind.result.looks
+    → IsRead c.args.nfa.now c.look_behind_after-look_behind.ensures.accepted c.args.match_kind c.args.state.now
     (byte_of c.args.unit) c.requires.resolve looks
-    c.told_after-told.result.from_word c.told_after-told.result.half_crlf
-    (not c.is_empty.result) c.tell.new.builder c.read_working_list.new.builder c.set_flags.new.builder
+    c.look_behind_after-look_behind.result.from_word c.look_behind_after-look_behind.result.half_crlf
+    (not c.is_empty.result) c.set_look_have.new.builder c.read_working_list.new.builder c.set_flags.new.builder
     c.read_working_list.new.stack.items
 read g c looks e = record {
-  have_is = e ∙ c.told_after-told.ensures.looks;
-  word_is = c.told_after-told.ensures.from_word;
-  half_is = c.told_after-told.ensures.half_crlf;
-  told_is = told_in _ _ _ _ c.requires.empty c.tell.ensures (sym e);
+  have_is = e ∙ c.look_behind_after-look_behind.ensures.looks;
+  word_is = c.look_behind_after-look_behind.ensures.from_word;
+  half_is = c.look_behind_after-look_behind.ensures.half_crlf;
+  told_is = told_in _ _ _ _ c.requires.empty c.set_look_have.ensures (sym e);
   list_is = c.in_ok-read_working_list.ensures.ok;
   some_is = ap not c.is_empty.ensures ∙ is_nonempty-length _ c.read_working_list.new.stack.items
       c.read_working_list.new.stack.ok.0;
@@ -39,20 +39,20 @@ read g c looks e = record {
 
 pub explore-requires-clause-resolve : goal.explore-requires-clause-resolve
 explore-requires-clause-resolve g c =
-    row_resolves c.args.nfa.now c.told_after-told.ensures.accepted c.args.match_kind c.args.state.now
+    row_resolves c.args.nfa.now c.look_behind_after-look_behind.ensures.accepted c.args.match_kind c.args.state.now
     (byte_of c.args.unit) c.requires.resolve _ _ _ _ _ _ _ _
     (read g (goal.at.explore-requires-clause-resolve g c).After-set_flags _
-    (ap (λ (t : Telling). t.looks) c.told.view_is))
+    (ap (λ (t : LookBehindValue). t.looks) c.look_behind.view_is))
 
 pub returns-in_err-explore-clause-bounded : goal.returns-in_err-explore-clause-bounded
 returns-in_err-explore-clause-bounded g c =
-    tries_within c.args.nfa.now c.told_after-told.ensures.accepted c.args.match_kind c.args.state.now
+    tries_within c.args.nfa.now c.look_behind_after-look_behind.ensures.accepted c.args.match_kind c.args.state.now
     (byte_of c.args.unit) c.requires.resolve _ _ _ _ _ _ _ _
     (read g (goal.at.returns-in_err-explore-clause-bounded g c).After-set_flags _
-    (ap (λ (t : Telling). t.looks) c.told.view_is))
+    (ap (λ (t : LookBehindValue). t.looks) c.look_behind.view_is))
     c.args.steps.now c.read_working_list.new.steps c.explore.new.steps c.in_ok-read_working_list.ensures.counted
     (subst (λ l. c.explore.new.steps ≤ c.read_working_list.new.steps + tries_left c.args.nfa.now
-    (has c.told.inside.looks) l c.read_working_list.new.stack.items) c.in_ok-read_working_list.ensures.second
+    (has c.look_behind.inside.looks) l c.read_working_list.new.stack.items) c.in_ok-read_working_list.ensures.second
     c.explore.ensures.part.bounded)
 
 pub returns-clause-ok : goal.returns-clause-ok
@@ -60,34 +60,34 @@ returns-clause-ok g c =
     c.settle.ensures
     ∙ ap settled c.in_ok-explore.ensures.recorded
     ∙ ap (λ l. settled (fold (added_one c.args.nfa.now) c.set_flags.new.builder
-    (reach_past c.args.nfa.now (has c.told.inside.looks) l c.read_working_list.new.stack.items)))
+    (reach_past c.args.nfa.now (has c.look_behind.inside.looks) l c.read_working_list.new.stack.items)))
     c.in_ok-read_working_list.ensures.second
-    ∙ stepped c.args.nfa.now c.told_after-told.ensures.accepted c.args.match_kind c.args.state.now
+    ∙ stepped c.args.nfa.now c.look_behind_after-look_behind.ensures.accepted c.args.match_kind c.args.state.now
     (byte_of c.args.unit) c.requires.resolve _ _ _ _ _ _ _ _
-    (read g (goal.at.returns-clause-ok g c).After-set_flags _ (ap (λ (t : Telling). t.looks) c.told.view_is))
+    (read g (goal.at.returns-clause-ok g c).After-set_flags _ (ap (λ (t : LookBehindValue). t.looks) c.look_behind.view_is))
 
 pub returns-clause-counted : goal.returns-clause-counted
 returns-clause-counted g c =
-    all_tries c.args.nfa.now c.told_after-told.ensures.accepted c.args.match_kind c.args.state.now
+    all_tries c.args.nfa.now c.look_behind_after-look_behind.ensures.accepted c.args.match_kind c.args.state.now
     (byte_of c.args.unit) c.requires.resolve _ _ _ _ _ _ _ _
-    (read g (goal.at.returns-clause-counted g c).After-set_flags _ (ap (λ (t : Telling). t.looks) c.told.view_is))
+    (read g (goal.at.returns-clause-counted g c).After-set_flags _ (ap (λ (t : LookBehindValue). t.looks) c.look_behind.view_is))
     c.args.steps.now c.read_working_list.new.steps c.explore.new.steps c.in_ok-read_working_list.ensures.counted
     (subst (λ l. c.explore.new.steps ≡ c.read_working_list.new.steps + tries_left c.args.nfa.now
-    (has c.told.inside.looks) l c.read_working_list.new.stack.items) c.in_ok-read_working_list.ensures.second
+    (has c.look_behind.inside.looks) l c.read_working_list.new.stack.items) c.in_ok-read_working_list.ensures.second
     c.in_ok-explore.ensures.ok.counted)
 
 pub returns-clause-bounded : goal.returns-clause-bounded
 returns-clause-bounded g c =
-    tries_within c.args.nfa.now c.told_after-told.ensures.accepted c.args.match_kind c.args.state.now
+    tries_within c.args.nfa.now c.look_behind_after-look_behind.ensures.accepted c.args.match_kind c.args.state.now
     (byte_of c.args.unit) c.requires.resolve _ _ _ _ _ _ _ _
-    (read g (goal.at.returns-clause-bounded g c).After-set_flags _ (ap (λ (t : Telling). t.looks) c.told.view_is))
+    (read g (goal.at.returns-clause-bounded g c).After-set_flags _ (ap (λ (t : LookBehindValue). t.looks) c.look_behind.view_is))
     c.args.steps.now c.read_working_list.new.steps c.explore.new.steps c.in_ok-read_working_list.ensures.counted
     (subst (λ l. c.explore.new.steps ≤ c.read_working_list.new.steps + tries_left c.args.nfa.now
-    (has c.told.inside.looks) l c.read_working_list.new.stack.items) c.in_ok-read_working_list.ensures.second
+    (has c.look_behind.inside.looks) l c.read_working_list.new.stack.items) c.in_ok-read_working_list.ensures.second
     c.explore.ensures.part.bounded)
 
 pub returns-clause-resolve : goal.returns-clause-resolve
 returns-clause-resolve g c =
     subst (λ (v : Value). AllResolve c.args.nfa.now v.states) (sym (returns-clause-ok g c))
-    (step_resolves c.args.nfa.now c.told_after-told.ensures.accepted c.args.match_kind c.args.state.now
+    (step_resolves c.args.nfa.now c.look_behind_after-look_behind.ensures.accepted c.args.match_kind c.args.state.now
     (byte_of c.args.unit))

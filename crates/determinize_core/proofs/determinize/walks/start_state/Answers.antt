@@ -12,7 +12,7 @@ returns-clause-ok g c =
     (c.start_kind_of.ensures ∙ ap (λ t. start_kind_of t c.args.look_behind)
     (c.get_line_terminator-terminator.ensures ∙ c.look_matcher.ensures.value))
     c.in_ok-builder.ensures
-    c.set_lookbehind_from_start.ensures.told
+    c.set_lookbehind_from_start.ensures.look_behind
     c.look_have.ensures
     cleared
     (ap (λ (m : Members). m.ids) c.in_ok-epsilon_closure.ensures.ok)
