@@ -11,8 +11,8 @@ use crate::rows::Rows;
 use std::alloc::{AllocError, Allocator};
 
 impl<'n, N: Allocator, A: Allocator + Copy> Rows<'n, N, A> {
-    /// Returns whether a search scans out of a row: it leads to itself over the commonest bytes of
-    /// an English text. This is a guess at what is fast, and no search depends on it.
+    /// Returns whether a search scans out of a row: whether the commonest bytes of an English text
+    /// do not leave it. This is a guess at what is fast, and no search depends on it.
     fn is_scanned(&self, row: usize) -> bool
         requires { row < length self.now.table.patterns }
     {

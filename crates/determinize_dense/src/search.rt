@@ -18,8 +18,10 @@ ghost use Rattle.determinize_lazy.specs.Searches.{HasMatch, IsFarthestIn, IsPref
 
 use crate::dfa::Dfa;
 use determinize_below::{Anchored, HalfMatch, Input, PatternID};
+use determinize_lazy::Engine;
 use determinize_lazy::text::{Text, in_haystack};
 use std::alloc::Allocator;
+use std::convert::Infallible;
 
 /// Returns whether a search in this anchored mode starts at the anchored start.
 fn is_anchored(anchored: Anchored) -> bool
@@ -229,5 +231,23 @@ impl<'n, N: Allocator, A: Allocator + Copy> Dfa<'n, N, A> {
             return false;
         }
         self.search_range(input, true).is_some()
+    }
+}
+
+impl<'d, 'n, N: Allocator, A: Allocator + Copy> Engine for &'d Dfa<'n, N, A> {
+    type Error = Infallible;
+
+    ghost engine = { λ d. record {
+      nfa = d.now.nfa;
+      kind = d.now.kind;
+      limit = length d.now.table.patterns;
+    } };
+
+    fn search_input(&mut self, input: &Input<'_>) -> Result<Option<HalfMatch>, Infallible> {
+        Ok((**self).search_input(input))
+    }
+
+    fn is_match(&mut self, input: &Input<'_>) -> Result<bool, Infallible> {
+        Ok((**self).is_match(input))
     }
 }

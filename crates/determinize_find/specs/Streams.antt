@@ -1,6 +1,6 @@
 -- All matches of a text that comes in pieces.
-use Rattle.std.specs.Prelude.{◌≡◌, ◌+◌, ◌<◌, ◌≤◌, ◌++◌, ℕ, All, Bool, List, None, Option, Some}
-use Rattle.std.specs.Prelude.{cond, drop, length, take}
+use Rattle.std.specs.Prelude.{◌≡◌, ◌*◌, ◌+◌, ◌<◌, ◌≤◌, ◌++◌, ◌⊎◌, ℕ, All, Bool, List, None, OnErr}
+use Rattle.std.specs.Prelude.{OnOk, Option, Result, Some, cond, drop, length, take}
 use Rattle.std.specs.Option.{IfSome}
 use Rattle.determinize_below.specs.Nfa.{AllResolve, IsAccepted}
 use Rattle.determinize_below.specs.Semantics.{Nfa}
@@ -10,8 +10,9 @@ use Rattle.determinize_below.specs.declared.search.Match.{Match}
 use Rattle.determinize_below.specs.declared.search.MatchKind.TheVariants.{LeftmostFirst}
 use Rattle.determinize_start.specs.StartKinds.{byte_before}
 use Rattle.determinize_lazy.specs.Scans.{IsScan, Scanned}
+use Rattle.determinize_find.specs.Idle.{IsIdle}
 use Rattle.determinize_find.specs.Matches.{AreMatches, from}
-use Rattle.determinize_find.specs.Prefix.{HasPrefix}
+use Rattle.determinize_find.specs.Prefix.{HasPrefix, HasPrefixApart}
 
 -- what a `Pieces` is seen as: the bytes that it keeps, how many it dropped before them, the index
 -- in the kept bytes where the search for the next match begins, whether a match ended there, and
@@ -26,6 +27,10 @@ pub record Streamed : Type 0 where
 -- how many bytes were read
 abbrev pub count_read : Streamed → ℕ
 count_read s = s.dropped + length s.kept
+
+-- how many bytes are kept
+abbrev pub count_kept : Streamed → ℕ
+count_kept s = length s.kept
 
 -- where the search for the next match begins in the text
 abbrev pub place : Streamed → ℕ
@@ -61,12 +66,14 @@ pub record IsStream (nfa : Nfa) (bytes : List ℕ) (given : List Match) (s : Str
       → AreMatches nfa (from (whole (bytes ++ more)) (place s)) (before s) ms
       → AreMatches nfa (whole (bytes ++ more)) None (given ++ ms)
 
--- some more bytes were read, and some more matches were added to a list
+-- some more bytes were read, and some more matches were added to a list; no more bytes are kept
+-- than before and those
 pub record IsFed (nfa : Nfa) (old new : Streamed) (more : List ℕ) (list after : List Match)
     : Type 0 where
   pub found : List Match
   pub added : after ≡ list ++ found
   pub read : count_read new ≡ count_read old + length more
+  pub keeps : count_kept new ≤ count_kept old + length more
   pub stream : (bytes : List ℕ) (given : List Match) → IsStream nfa bytes given old
       → IsStream nfa (bytes ++ more) (given ++ found) new
 
@@ -74,6 +81,39 @@ pub record IsFed (nfa : Nfa) (old new : Streamed) (more : List ℕ) (list after 
 abbrev pub IsPartFed : Nfa → Streamed → Streamed → List ℕ → List Match → List Match → Type 0
 IsPartFed nfa old new piece list after =
     (count : ℕ) × (count ≤ length piece) × IsFed nfa old new (take count piece) list after
+
+-- a piece was read, or its first bytes, where the result is an error
+pub record IsFeeding {T E : Type 0} (nfa : Nfa) (old new : Streamed) (piece : List ℕ)
+    (list after : List Match) (result : Result T E) : Type 0 where
+  pub fed : OnOk result (IsFed nfa old new piece list after)
+  pub failed : OnErr result (IsPartFed nfa old new piece list after)
+  pub searching : IsSearching nfa new
+
+-- at most one byte before the start of the search is kept, and no other where the search is idle
+pub record KeepsFew (nfa : Nfa) (s : Streamed) : Type 0 where
+  pub scan : Scanned
+  pub search : s.scan ≡ Some scan
+  pub behind : s.start ≤ 1
+  pub idle : HasPrefixApart nfa → IsIdle nfa scan → count_kept s ≤ 1
+
+-- the end of a piece, or of a block of 4096 bytes of it
+abbrev pub IsBlockEnd : List ℕ → ℕ → Type 0
+IsBlockEnd piece i = (0 < i) × (i ≤ length piece)
+    × ((i ≡ length piece) ⊎ ((count : ℕ) × (i ≡ count * 4096)))
+
+-- after the first bytes of a piece few bytes were kept, and then the rest of it was read
+pub record KeptFewAt (nfa : Nfa) (old new : Streamed) (piece : List ℕ) (list after : List Match)
+    (i : ℕ) : Type 0 where
+  pub now : Streamed
+  pub found : List Match
+  pub first : IsFed nfa old now (take i piece) list found
+  pub few : KeepsFew nfa now
+  pub rest : IsFed nfa now new (drop i piece) found after
+
+-- the same at the end of each block
+abbrev pub KeptFewInBlocks : Nfa → Streamed → Streamed → List ℕ → List Match → List Match → Type 0
+KeptFewInBlocks nfa old new piece list after =
+    (i : ℕ) → IsBlockEnd piece i → KeptFewAt nfa old new piece list after i
 
 -- the matches that are left, where the text ends, were added to a list
 pub record IsFinished (nfa : Nfa) (s : Streamed) (list after : List Match) : Type 0 where

@@ -11,7 +11,7 @@ ghost use Rattle.determinize_find.specs.Private.Touching as touching;
 
 use crate::regex::Regex;
 use determinize_below::{Input, Match};
-use std::alloc::{AllocError, Allocator};
+use determinize_lazy::Engine;
 use std::marker::Model;
 
 /// A cursor over the matches of an input, in their order.
@@ -57,10 +57,10 @@ impl<'h> Searcher<'h> {
     }
 
     /// Returns the leftmost match of the rest of the input without its first byte.
-    fn find_further<N: Allocator, B: Allocator, A: Allocator + Copy>(
+    fn find_further<F: Engine, B: Engine<Error = F::Error>>(
         &self,
-        regex: &mut Regex<'_, N, B, A>,
-    ) -> Result<Option<Match>, AllocError>
+        regex: &mut Regex<F, B>,
+    ) -> Result<Option<Match>, F::Error>
         ensures leftmost { IfOk result (λ found. IsLeftmostIn regex.old.nfa
             (matches.from self.now.asked (self.now.asked.start + 1)) found) }
         ensures within { IfOk result (λ found. IfSome found
@@ -83,10 +83,10 @@ impl<'h> Searcher<'h> {
     /// The next match is the leftmost one from the end of the match before. But if it is empty and
     /// begins where the one before ended, it is skipped: the next match is then the leftmost one
     /// from one byte further on.
-    pub fn advance<N: Allocator, B: Allocator, A: Allocator + Copy>(
+    pub fn advance<F: Engine, B: Engine<Error = F::Error>>(
         &mut self,
-        regex: &mut Regex<'_, N, B, A>,
-    ) -> Result<Option<Match>, AllocError>
+        regex: &mut Regex<F, B>,
+    ) -> Result<Option<Match>, F::Error>
         ensures next { IfOk result
             (λ found. IsNext regex.old.nfa self.old.asked self.old.before found) }
         ensures after { IfOk result (λ found. self.new ≡ after_match self.old found) }

@@ -21,5 +21,5 @@ pub use idle::is_idle;
 pub use iter::Searcher;
 pub use pieces::Pieces;
 pub use prefix::{has_prefix, has_prefix_apart};
-pub use regex::Regex;
+pub use regex::{LazyRegex, Regex};
 pub use reversal::reversed;

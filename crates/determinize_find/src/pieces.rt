@@ -5,14 +5,17 @@ ghost use Rattle.std.specs.Prelude.{length, take, IfOk, OnErr, OnOk};
 ghost use Rattle.determinize_below.specs.Semantics.{Nfa};
 ghost use Rattle.determinize_below.specs.declared.search.Match.{Match as Found};
 ghost use Rattle.determinize_start.specs.StartKinds.{byte_before};
+ghost use Rattle.determinize_find.specs.Idle.{IsIdle};
 ghost use Rattle.determinize_find.specs.LeftmostIn.{moved};
+ghost use Rattle.determinize_find.specs.Prefix.{HasPrefixApart};
 ghost use Rattle.determinize_find.specs.Private.Windows.{IsCertain, left_in, unsearched};
 ghost use Rattle.determinize_find.specs.Private.Windows.{with_bytes, without_first};
-ghost use Rattle.determinize_find.specs.Streams.{IsEndScan, IsFed, IsFinished, IsPartFed};
-ghost use Rattle.determinize_find.specs.Streams.{IsSearching, IsStream, count_read};
+ghost use Rattle.determinize_find.specs.Streams.{IsEndScan, IsFed, IsFeeding, IsFinished};
+ghost use Rattle.determinize_find.specs.Streams.{IsSearching, IsStream, KeepsFew, KeptFewInBlocks};
+ghost use Rattle.determinize_find.specs.Streams.{count_kept, count_read};
 
 use crate::iter::{Searcher, touches};
-use crate::regex::Regex;
+use crate::regex::LazyRegex;
 use determinize_below::{Input, Match};
 use determinize_lazy::Scan;
 use std::alloc::{AllocError, Allocator, Global};
@@ -90,6 +93,13 @@ impl<A: Allocator + Copy> Pieces<A> {
         self.dropped + self.kept.len()
     }
 
+    /// Returns how many bytes of the text are kept.
+    pub fn bytes_kept(&self) -> usize
+        ensures { result ≡ count_kept self.now }
+    {
+        self.kept.len()
+    }
+
     /// Returns the index where the last match ended, if the search begins there.
     fn last_match_end(&self) -> Option<usize>
         ensures { result ≡ cond self.now.is_after (Some self.now.start) None }
@@ -100,7 +110,7 @@ impl<A: Allocator + Copy> Pieces<A> {
     /// Keeps the next bytes, and returns the search of all kept bytes from the start on.
     fn keep<N: Allocator, B: Allocator>(
         &mut self,
-        regex: &mut Regex<'_, N, B, A>,
+        regex: &mut LazyRegex<'_, N, B, A>,
         block: &[u8],
     ) -> Result<Scan<A>, AllocError>
         requires { IsSearching regex.old.nfa self.old }
@@ -176,7 +186,7 @@ impl<A: Allocator + Copy> Pieces<A> {
     /// from the start on.
     fn skip_idle<N: Allocator, B: Allocator>(
         &mut self,
-        regex: &mut Regex<'_, N, B, A>,
+        regex: &mut LazyRegex<'_, N, B, A>,
         scan: Scan<A>,
     ) -> Result<Scan<A>, AllocError>
         requires { IsEndScan regex.old.nfa (byte_before self.old.kept self.old.start)
@@ -184,6 +194,8 @@ impl<A: Allocator + Copy> Pieces<A> {
         ensures fed { (list : List Found) → IsFed regex.old.nfa self.old self.new [] list list }
         ensures scan { IfOk result (λ scan. IsEndScan regex.old.nfa
             (byte_before self.new.kept self.new.start) (drop self.new.start self.new.kept) scan) }
+        ensures idle { IfOk result (λ scan. HasPrefixApart regex.old.nfa
+            → IsIdle regex.old.nfa scan → self.new.start ≡ count_kept self.new) }
         ensures taken { self.new.scan ≡ self.old.scan }
         ensures same { regex.new ≡ regex.old }
     {
@@ -198,16 +210,14 @@ impl<A: Allocator + Copy> Pieces<A> {
     /// Reads the next bytes, and adds each match that is then certain.
     fn read_block<N: Allocator, B: Allocator, C: Allocator>(
         &mut self,
-        regex: &mut Regex<'_, N, B, A>,
+        regex: &mut LazyRegex<'_, N, B, A>,
         block: &[u8],
         found: &mut Vec<Match, C>,
     ) -> Result<(), AllocError>
         requires { IsSearching regex.old.nfa self.old }
-        ensures fed { OnOk result (IsFed regex.old.nfa self.old self.new block.now
-            found.old.items found.new.items) }
-        ensures failed { OnErr result (IsPartFed regex.old.nfa self.old self.new block.now
-            found.old.items found.new.items) }
-        ensures searching { IsSearching regex.old.nfa self.new }
+        ensures read { IsFeeding regex.old.nfa self.old self.new block.now
+            found.old.items found.new.items result }
+        ensures few { OnOk result (KeepsFew regex.old.nfa self.new) }
         ensures same { regex.new ≡ regex.old }
     {
         let mut scan = self.keep(regex, block)?;
@@ -224,21 +234,24 @@ impl<A: Allocator + Copy> Pieces<A> {
     /// Reads the next piece of the text, and adds each match that is then certain, in order. A
     /// piece may be empty. Each must be fed through a `Regex` of the same NFA.
     ///
+    /// At the end of each block of 4096 bytes, and at the end of the piece, at most one byte before
+    /// the search is kept, and no other if the search is idle there. `bytes_kept` never grows by
+    /// more than the bytes that are read.
+    ///
     /// Returns `AllocError` if an allocation fails, if a cache would need more than 16647160
     /// states, or if the pieces have more than `usize::MAX` bytes together. A part of the piece may
     /// have been read (`bytes_read`), and its matches added. To continue, feed the rest.
     pub fn feed<N: Allocator, B: Allocator, C: Allocator>(
         &mut self,
-        regex: &mut Regex<'_, N, B, A>,
+        regex: &mut LazyRegex<'_, N, B, A>,
         piece: &[u8],
         found: &mut Vec<Match, C>,
     ) -> Result<(), AllocError>
         requires { IsSearching regex.old.nfa self.old }
-        ensures fed { OnOk result (IsFed regex.old.nfa self.old self.new piece.now
+        ensures read { IsFeeding regex.old.nfa self.old self.new piece.now
+            found.old.items found.new.items result }
+        ensures few { OnOk result (KeptFewInBlocks regex.old.nfa self.old self.new piece.now
             found.old.items found.new.items) }
-        ensures failed { OnErr result (IsPartFed regex.old.nfa self.old self.new piece.now
-            found.old.items found.new.items) }
-        ensures searching { IsSearching regex.old.nfa self.new }
         ensures same { regex.new ≡ regex.old }
     {
         for block in piece.chunks(BLOCK) {
@@ -250,7 +263,7 @@ impl<A: Allocator + Copy> Pieces<A> {
     /// Adds the matches that are left, if the text ends here.
     fn add_rest<N: Allocator, B: Allocator, C: Allocator>(
         &self,
-        regex: &mut Regex<'_, N, B, A>,
+        regex: &mut LazyRegex<'_, N, B, A>,
         found: &mut Vec<Match, C>,
     ) -> Result<(), AllocError>
         ensures finished { OnOk result (IsFinished regex.old.nfa self.now
@@ -272,7 +285,7 @@ impl<A: Allocator + Copy> Pieces<A> {
     /// Returns `AllocError` as `feed` does. Then nothing is added, and it may be called again.
     pub fn finish<N: Allocator, B: Allocator, C: Allocator>(
         &self,
-        regex: &mut Regex<'_, N, B, A>,
+        regex: &mut LazyRegex<'_, N, B, A>,
         found: &mut Vec<Match, C>,
     ) -> Result<(), AllocError>
         ensures finished { OnOk result (IsFinished regex.old.nfa self.now

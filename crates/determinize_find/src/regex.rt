@@ -1,14 +1,18 @@
 //! The leftmost match by two searches: one forward for its end, and one backward for its start.
 
-ghost use Rattle.std.specs.Prelude.{◌≡◌, ◌+◌, ◌++◌, ◌≤◌, ℕ, List, None, Option, [], drop, false, length, true, IfOk, OnErr, OnOk};
+ghost use Rattle.std.specs.Prelude.{◌≡◌, ◌+◌, ◌++◌, ◌<◌, ◌≤◌, ℕ, List, None, Option, [], drop, false};
+ghost use Rattle.std.specs.Prelude.{length, max, true, IfOk, OnErr, OnOk};
 ghost use Rattle.std.specs.Bool.{Decides};
 ghost use Rattle.std.specs.Option.{IfSome};
 ghost use Rattle.determinize_below.specs.Nfa.{AllResolve};
+ghost use Rattle.determinize_below.specs.declared.search.MatchKind.TheVariants as kinds;
 ghost use Rattle.determinize_start.specs.StartKinds.{byte_before};
 ghost use Rattle.determinize_lazy.specs.Searches.{has_start};
+ghost use Rattle.determinize_find.specs.Idle.{IsIdle};
 ghost use Rattle.determinize_find.specs.LeftmostIn.{IsLeftmostIn};
-ghost use Rattle.determinize_find.specs.Matches.{AreMatches};
-ghost use Rattle.determinize_find.specs.Prefix.{HasPrefix};
+ghost use Rattle.determinize_find.specs.Cursors.{after_match};
+ghost use Rattle.determinize_find.specs.Matches.{AreMatches, IsNext};
+ghost use Rattle.determinize_find.specs.Prefix.{HasPrefix, HasPrefixApart};
 ghost use Rattle.determinize_find.specs.Private.Begins.{HasReverse, IsBeginOf, IsEndOf, IsEnding, asked_of};
 ghost use Rattle.determinize_find.specs.Private.Windows.{IsCertain, IsFresh};
 ghost use Rattle.determinize_find.specs.Reversal.{IsReverseOf};
@@ -18,29 +22,37 @@ use crate::idle::is_idle;
 use crate::iter::Searcher;
 use crate::prefix::has_prefix_apart;
 use determinize_below::{Anchored, HalfMatch, Input, Match, MatchKind, NFA};
-use determinize_lazy::{Lazy, Scan};
+use determinize_lazy::{Engine, Lazy, Scan};
 use std::alloc::{AllocError, Allocator, Global};
 use std::marker::Model;
 use std::ops::Range;
 
-/// A search for the leftmost match: a lazy DFA that finds its end, and one that reads backward and
-/// finds its start.
+/// A search for the leftmost match: a DFA that finds its end, and one that reads backward and finds
+/// its start. Either may be lazy, or built in advance (`determinize_dense`).
 #[derive(Drop)]
-pub struct Regex<'n, N: Allocator = Global, B: Allocator = Global, A: Allocator = Global> {
-    forward: Lazy<'n, N, A>,
-    backward: Lazy<'n, B, A>,
-    is_apart: bool,
+pub struct Regex<F: Engine, B: Engine<Error = F::Error>> {
+    forward: F,
+    backward: B,
+    // Whether the prefix of the NFA is apart (`has_prefix_apart`), if that is known.
+    is_apart: Option<bool>,
 }
 
-impl<'n, N: Allocator, B: Allocator, A: Allocator> Model for Regex<'n, N, B, A> {
+/// A search for the leftmost match by two lazy DFAs.
+pub type LazyRegex<'n, N = Global, B = Global, A = Global> = Regex<Lazy<'n, N, A>, Lazy<'n, B, A>>;
+
+impl<F: Engine, B: Engine<Error = F::Error>> Model for Regex<F, B> {
+    ghost use Rattle.std.specs.Prelude.{max};
     ghost use Rattle.determinize_find.specs.Regexes.{RegexValue};
     ghost use Rattle.determinize_find.specs.Private.Pairs.{IsPair};
 
     ghost Value = { RegexValue };
 
-    ghost view = { λ r. record { nfa = r.forward.nfa; limit = r.forward.limit } };
+    ghost view = { λ r. record {
+      nfa = (F.engine r.forward).nfa;
+      limit = max (F.engine r.forward).limit (B.engine r.backward).limit;
+    } };
 
-    ghost invariant = { λ r. IsPair r.forward r.backward r.is_apart };
+    ghost invariant = { λ r. IsPair (F.engine r.forward) (B.engine r.backward) r.is_apart };
 }
 
 /// Returns the byte before an index, if any.
@@ -53,22 +65,27 @@ fn look_behind(haystack: &[u8], index: usize) -> Option<u8>
     }
 }
 
-impl<'n, N: Allocator, B: Allocator, A: Allocator + Copy> Regex<'n, N, B, A> {
-    /// Returns a search with two empty caches of at most `limit` states each. Does not allocate.
-    /// Searches allocate from `alloc`.
+impl<F: Engine, B: Engine<Error = F::Error>> Regex<F, B> {
+    /// Returns a search by two DFAs: `forward` finds the ends of matches, and `backward` their
+    /// starts. Does not allocate, and no search does if neither DFA does.
     ///
-    /// The NFA must read forward and have the usual prefix (`has_prefix`), and `backward` must be
-    /// its reverse, as `reversed` returns it.
-    pub fn new(alloc: A, nfa: &'n NFA<N>, backward: &'n NFA<B>, limit: usize) -> Regex<'n, N, B, A>
-        requires forward { nfa.now.reverse ≡ false }
-        requires prefix { HasPrefix nfa.now }
-        requires reverse { IsReverseOf backward.now nfa.now }
-        ensures { result ≡ record { nfa = nfa.now; limit = limit } }
+    /// The NFA of `forward` must read forward and have the usual prefix (`has_prefix`), and that of
+    /// `backward` must be its reverse, as `reversed` returns it.
+    pub fn from_engines(forward: F, backward: B) -> Regex<F, B>
+        requires kind { (F.engine forward).kind ≡ kinds.LeftmostFirst }
+        requires kind_backward { (B.engine backward).kind ≡ kinds.All }
+        requires forward { (F.engine forward).nfa.reverse ≡ false }
+        requires prefix { HasPrefix (F.engine forward).nfa }
+        requires reverse { IsReverseOf (B.engine backward).nfa (F.engine forward).nfa }
+        ensures { result ≡ record {
+          nfa = (F.engine forward).nfa;
+          limit = max (F.engine forward).limit (B.engine backward).limit;
+        } }
     {
         Regex {
-            forward: Lazy::new(alloc, nfa, MatchKind::LeftmostFirst, limit),
-            backward: Lazy::new(alloc, backward, MatchKind::All, limit),
-            is_apart: has_prefix_apart(nfa),
+            forward,
+            backward,
+            is_apart: None,
         }
     }
 
@@ -78,7 +95,7 @@ impl<'n, N: Allocator, B: Allocator, A: Allocator + Copy> Regex<'n, N, B, A> {
         haystack: &[u8],
         range: Range<usize>,
         anchored: Anchored,
-    ) -> Result<Option<HalfMatch>, AllocError>
+    ) -> Result<Option<HalfMatch>, F::Error>
         requires in_haystack { range.end ≤ length haystack.now }
         requires near { range.start ≤ range.end + 1 }
         requires start { has_start anchored ≡ true }
@@ -91,7 +108,7 @@ impl<'n, N: Allocator, B: Allocator, A: Allocator + Copy> Regex<'n, N, B, A> {
     }
 
     /// Returns the start of the leftmost match of a haystack from an index on that has this end.
-    fn find_start(&mut self, haystack: &[u8], start: usize, end: usize) -> Result<usize, AllocError>
+    fn find_start(&mut self, haystack: &[u8], start: usize, end: usize) -> Result<usize, F::Error>
         requires { IsEndOf self.old.nfa haystack.now start end }
         ensures start { IfOk result
             (λ begin. IsBeginOf self.old.nfa haystack.now start end begin) }
@@ -104,6 +121,124 @@ impl<'n, N: Allocator, B: Allocator, A: Allocator + Copy> Regex<'n, N, B, A> {
         match self.backward.search_input(&before)? {
             Some(begin) => Ok(begin.offset),
             None => unreachable!(),
+        }
+    }
+
+    /// Returns the leftmost match of an input, if any: no match begins before it, and of those that
+    /// begin at the same index it is the most preferred. Its ends are indices into the haystack.
+    ///
+    /// The bytes next to the range are seen by assertions. If the range starts past its end, the
+    /// result is `Ok(None)`. An input that is anchored needs no search backward.
+    pub fn find(&mut self, input: &Input<'_>) -> Result<Option<Match>, F::Error>
+        requires start { has_start input.now.anchored ≡ true }
+        ensures leftmost { IfOk result (λ found. IsLeftmostIn self.old.nfa input.now found) }
+        ensures within { IfOk result (λ found. IfSome found (λ m.
+            (input.now.start ≤ m.start) × (m.start ≤ m.end) × (m.end ≤ input.now.end))) }
+        ensures same { self.new ≡ self.old }
+    {
+        let (haystack, first) = (input.haystack(), input.start());
+        let range = first..input.end();
+        let Some(found) = self.find_end(haystack, range, input.get_anchored())? else {
+            return Ok(None);
+        };
+        let start = match input.get_anchored() {
+            Anchored::No => self.find_start(haystack, first, found.offset)?,
+            Anchored::Yes | Anchored::Pattern(_) => first,
+        };
+        Ok(Some(Match {
+            pattern: found.pattern,
+            start,
+            end: found.offset,
+        }))
+    }
+
+    /// Returns whether a range of a haystack has a match.
+    fn is_match_in(
+        &mut self,
+        haystack: &[u8],
+        range: Range<usize>,
+        anchored: Anchored,
+    ) -> Result<bool, F::Error>
+        requires in_haystack { range.end ≤ length haystack.now }
+        requires near { range.start ≤ range.end + 1 }
+        requires start { has_start anchored ≡ true }
+        ensures found { IfOk result (λ found. Decides found
+            (IsLeftmostIn self.old.nfa (asked_of haystack.now range.start range.end anchored) None
+            → ⊥)) }
+        ensures same { self.new ≡ self.old }
+    {
+        let input = Input::new(haystack).range(range).anchored(anchored);
+        self.forward.is_match(&input)
+    }
+
+    /// Returns whether an input has a match. Stops where the end of one is found.
+    pub fn is_match(&mut self, input: &Input<'_>) -> Result<bool, F::Error>
+        requires start { has_start input.now.anchored ≡ true }
+        ensures found { IfOk result
+            (λ found. Decides found (IsLeftmostIn self.old.nfa input.now None → ⊥)) }
+        ensures same { self.new ≡ self.old }
+    {
+        let range = input.start()..input.end();
+        self.is_match_in(input.haystack(), range, input.get_anchored())
+    }
+
+    /// Moves a cursor behind the next match, and returns it. Returns any error as `AllocError`.
+    fn advance(&mut self, searcher: &mut Searcher<'_>) -> Result<Option<Match>, AllocError>
+        ensures next { IfOk result
+            (λ found. IsNext self.old.nfa searcher.old.asked searcher.old.before found) }
+        ensures after { IfOk result (λ found. searcher.new ≡ after_match searcher.old found) }
+        ensures same { self.new ≡ self.old }
+    {
+        let Ok(found) = searcher.advance(self) else {
+            return Err(AllocError);
+        };
+        Ok(found)
+    }
+
+    /// Returns all matches of an input, in their order. Only the list is allocated from `alloc`.
+    /// Returns `AllocError` if that fails, or if a search does.
+    pub fn find_all<C: Allocator>(
+        &mut self,
+        alloc: C,
+        input: &Input<'_>,
+    ) -> Result<Vec<Match, C>, AllocError>
+        requires start { has_start input.now.anchored ≡ true }
+        ensures all { IfOk result (λ found. AreMatches self.old.nfa input.now None found.items) }
+        ensures same { self.new ≡ self.old }
+    {
+        let whole = Input::new(input.haystack())
+            .range(input.start()..input.end())
+            .anchored(input.get_anchored());
+        let mut searcher = Searcher::new(whole);
+        let mut all = Vec::new(alloc);
+        while let Some(found) = self.advance(&mut searcher)? {
+            all.push(found)?;
+        }
+        Ok(all)
+    }
+}
+
+impl<'n, N: Allocator, B: Allocator, A: Allocator + Copy> LazyRegex<'n, N, B, A> {
+    /// Returns a search with two empty caches of at most `limit` states each. Does not allocate.
+    /// Searches allocate from `alloc`.
+    ///
+    /// The NFA must read forward and have the usual prefix (`has_prefix`), and `backward` must be
+    /// its reverse, as `reversed` returns it.
+    pub fn new(
+        alloc: A,
+        nfa: &'n NFA<N>,
+        backward: &'n NFA<B>,
+        limit: usize,
+    ) -> LazyRegex<'n, N, B, A>
+        requires forward { nfa.now.reverse ≡ false }
+        requires prefix { HasPrefix nfa.now }
+        requires reverse { IsReverseOf backward.now nfa.now }
+        ensures { result ≡ record { nfa = nfa.now; limit = limit } }
+    {
+        Regex {
+            forward: Lazy::new(alloc, nfa, MatchKind::LeftmostFirst, limit),
+            backward: Lazy::new(alloc, backward, MatchKind::All, limit),
+            is_apart: Some(has_prefix_apart(nfa)),
         }
     }
 
@@ -164,99 +299,33 @@ impl<'n, N: Allocator, B: Allocator, A: Allocator + Copy> Regex<'n, N, B, A> {
         }))
     }
 
+    /// Returns whether the prefix of the NFA is apart (`has_prefix_apart`).
+    fn is_apart(&self) -> bool
+        ensures { Decides result (HasPrefixApart self.now.nfa) }
+    {
+        match self.is_apart {
+            Some(is_apart) => is_apart,
+            None => has_prefix_apart(self.forward.nfa()),
+        }
+    }
+
     /// Returns whether the search of the bytes of a haystack from an index on has read some of
-    /// them, and no match begins in them, regardless of what follows.
+    /// them and is idle (`is_idle`), if the prefix of the NFA is apart. Then no match begins in
+    /// them, regardless of what follows.
     pub(crate) fn is_idle(&self, haystack: &[u8], start: usize, scan: &Scan<A>) -> bool
         requires within { start ≤ length haystack.now }
         requires scan { IsEndScan self.now.nfa (byte_before haystack.now start)
             (drop start haystack.now) scan.now }
-        ensures { result ≡ true → IsFresh self.now.nfa haystack.now start }
+        ensures fresh { result ≡ true → IsFresh self.now.nfa haystack.now start }
+        ensures idle { HasPrefixApart self.now.nfa → IsIdle self.now.nfa scan.now
+            → start < length haystack.now → result ≡ true }
     {
-        if !self.is_apart {
+        if !self.is_apart() {
             return false;
         }
         if start == haystack.len() {
             return false;
         }
         is_idle(self.forward.nfa(), scan)
-    }
-
-    /// Returns the leftmost match of an input, if any: no match begins before it, and of those that
-    /// begin at the same index it is the most preferred. Its ends are indices into the haystack.
-    ///
-    /// The bytes next to the range are seen by assertions. If the range starts past its end, the
-    /// result is `Ok(None)`. An input that is anchored needs no search backward.
-    pub fn find(&mut self, input: &Input<'_>) -> Result<Option<Match>, AllocError>
-        requires start { has_start input.now.anchored ≡ true }
-        ensures leftmost { IfOk result (λ found. IsLeftmostIn self.old.nfa input.now found) }
-        ensures within { IfOk result (λ found. IfSome found (λ m.
-            (input.now.start ≤ m.start) × (m.start ≤ m.end) × (m.end ≤ input.now.end))) }
-        ensures same { self.new ≡ self.old }
-    {
-        let (haystack, first) = (input.haystack(), input.start());
-        let range = first..input.end();
-        let Some(found) = self.find_end(haystack, range, input.get_anchored())? else {
-            return Ok(None);
-        };
-        let start = match input.get_anchored() {
-            Anchored::No => self.find_start(haystack, first, found.offset)?,
-            Anchored::Yes | Anchored::Pattern(_) => first,
-        };
-        Ok(Some(Match {
-            pattern: found.pattern,
-            start,
-            end: found.offset,
-        }))
-    }
-
-    /// Returns whether a range of a haystack has a match.
-    fn is_match_in(
-        &mut self,
-        haystack: &[u8],
-        range: Range<usize>,
-        anchored: Anchored,
-    ) -> Result<bool, AllocError>
-        requires in_haystack { range.end ≤ length haystack.now }
-        requires near { range.start ≤ range.end + 1 }
-        requires start { has_start anchored ≡ true }
-        ensures found { IfOk result (λ found. Decides found
-            (IsLeftmostIn self.old.nfa (asked_of haystack.now range.start range.end anchored) None
-            → ⊥)) }
-        ensures same { self.new ≡ self.old }
-    {
-        let input = Input::new(haystack).range(range).anchored(anchored);
-        self.forward.is_match(&input)
-    }
-
-    /// Returns whether an input has a match. Stops where the end of one is found.
-    pub fn is_match(&mut self, input: &Input<'_>) -> Result<bool, AllocError>
-        requires start { has_start input.now.anchored ≡ true }
-        ensures found { IfOk result
-            (λ found. Decides found (IsLeftmostIn self.old.nfa input.now None → ⊥)) }
-        ensures same { self.new ≡ self.old }
-    {
-        let range = input.start()..input.end();
-        self.is_match_in(input.haystack(), range, input.get_anchored())
-    }
-
-    /// Returns all matches of an input, in their order.
-    pub fn find_all<C: Allocator>(
-        &mut self,
-        alloc: C,
-        input: &Input<'_>,
-    ) -> Result<Vec<Match, C>, AllocError>
-        requires start { has_start input.now.anchored ≡ true }
-        ensures all { IfOk result (λ found. AreMatches self.old.nfa input.now None found.items) }
-        ensures same { self.new ≡ self.old }
-    {
-        let whole = Input::new(input.haystack())
-            .range(input.start()..input.end())
-            .anchored(input.get_anchored());
-        let mut searcher = Searcher::new(whole);
-        let mut all = Vec::new(alloc);
-        while let Some(found) = searcher.advance(self)? {
-            all.push(found)?;
-        }
-        Ok(all)
     }
 }

@@ -1,4 +1,5 @@
 pub mod Cache
+pub mod Engines
 pub mod Plenty
 pub mod Private
 pub mod Scans

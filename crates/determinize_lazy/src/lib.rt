@@ -6,6 +6,7 @@
 //!
 //! - `lazy`: the type, and walks. `search`: searches. `text`: what they read. `step`: one step of
 //!   either. `scan`: searches of texts in pieces. `walker`: walks by steps.
+//! - `engine`: what a lazy DFA and a whole one (`determinize_dense`) have in common.
 //! - `table`: the transition table and the rule of what is cached, with `state_table` (the cached
 //!   states), `state_id` and `tag`.
 //!
@@ -15,6 +16,7 @@
 #![tactic(auto)]
 
 mod debug;
+pub mod engine;
 pub mod laws;
 pub mod lazy;
 mod scan;
@@ -30,6 +32,7 @@ mod tag;
 pub mod text;
 mod walker;
 
+pub use crate::engine::Engine;
 pub use crate::lazy::Lazy;
 pub use crate::scan::Scan;
 pub use crate::walker::Walker;

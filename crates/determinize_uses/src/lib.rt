@@ -4,6 +4,7 @@
 //! - [`values`] makes one value of each small type: sets, start kinds, closures, states.
 //! - [`nfa`] makes an NFA by hand, and [`built`] one by a `Builder`.
 //! - [`scanner`] finds all matches of a haystack, and [`lexer`] the longest token at each position.
+//!   [`steady`] finds all matches and never allocates while it runs.
 //! - [`input`] finds whether a haystack has a match, and both ends of the preferred one.
 //! - [`search`] and [`cache`] search and walk many texts through one cache.
 //! - [`walk`] finds the preferred match without a cache, and [`counted`] makes one counted step.
@@ -19,5 +20,6 @@ pub mod lexer;
 pub mod nfa;
 pub mod scanner;
 pub mod search;
+pub mod steady;
 pub mod values;
 pub mod walk;

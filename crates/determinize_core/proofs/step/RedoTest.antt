@@ -63,7 +63,7 @@ unlined t half u need StartCRLF n m h = absurd (true≢false (sym (line_class ne
 unlined t half u need EndCRLF n m h = absurd (true≢false (sym (line_class need EndCRLF refl h) ∙ m))
 unlined t half u need l n m h = refl
 
--- where word assertions alone are needed, they decide
+-- if only word assertions are needed, they decide
 pub words_decide : (t : Tables) (f half : Bool) (u : Option ℕ) (found have need : ℕ)
     → (has_haystack need || has_line need) ≡ false
     → ((l : Look) → has found l ≡ word_opened f (is_word u) l)

@@ -35,7 +35,7 @@ pub record IsDfa (v : DfaValue) : Type 0 where
 abbrev pub offset_of : Table → ℕ → ℕ
 offset_of d r = r * (d.class_count + 1)
 
--- the rows at these offsets, where a row has so many entries
+-- the rows at these offsets, if a row has this number of entries
 abbrev pub rows_at : ℕ → List ℕ → List ℕ
 rows_at columns offsets = map (λ offset. offset / columns) offsets
 
@@ -43,7 +43,7 @@ rows_at columns offsets = map (λ offset. offset / columns) offsets
 abbrev pub IsOffset : Table → ℕ → Type 0
 IsOffset d offset = (r : ℕ) × (r < length d.patterns) × (offset ≡ offset_of d r)
 
--- from the row at an offset, a unit leads to the row at the next offset
+-- the row over a unit from the row at an offset is at the next offset
 abbrev pub IsNext : Table → ℕ → Option ℕ → ℕ → Type 0
 IsNext d offset u next = (r : ℕ) → r < length d.patterns → offset ≡ offset_of d r
     → (row_over d r u < length d.patterns) × (next ≡ offset_of d (row_over d r u))

@@ -37,7 +37,7 @@ abbrev pub IsMatch : Table → ℕ → ℕ → Option HalfMatch → Type 0
 IsMatch d row end found = (r : ℕ) → r < length d.patterns → row ≡ offset_of d r
     → found ≡ ended_at end (patterns_at d r)
 
--- the row at an offset leads to itself over each byte of a text from one index up to another
+-- the row at an offset does not change over the bytes of a text from one index up to another
 abbrev pub StaysOver : Table → ℕ → Text → ℕ → ℕ → Type 0
 StaysOver d row text from to = (i : ℕ) → from ≤ i → i < to → (u : Option ℕ)
     → slice_get (units text) i ≡ Some u → IsNext d row u row

@@ -99,6 +99,11 @@ finished nfa s list after ms behind within h e = record {
       (sym (append-nil bytes)) o));
 }
 
+-- the next match of a cursor, where it is known
+pub next_is : (nfa : Nfa) (s : SearcherValue) {found other : Option Match} → found ≡ other
+    → IsNext nfa s.asked s.before found → IsNext nfa s.asked s.before other
+next_is nfa s e h = subst (λ o. IsNext nfa s.asked s.before o) e h
+
 -- the next match of a cursor over the kept bytes lies in them
 pub next_within : (nfa now : Nfa) (kept : List ℕ) (start : ℕ) (initial : Option ℕ) (s : SearcherValue) (ms : List Match)
     (m : Match) → now ≡ nfa → IsAfter nfa (from (whole kept) start) initial s ms

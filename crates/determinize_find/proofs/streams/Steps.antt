@@ -36,6 +36,10 @@ joined {nfa} {old} {now} {new} {more} {others} {list} {mid} {after} a b = record
       ∙ (let z : length (more ++ others) ≡ length more + length others = length-append more others in
       let y : count_read old + length more + length others ≡ count_read old + length (more ++ others)
       = omega arith in y);
+  keeps = (let z : length (more ++ others) ≡ length more + length others = length-append more others in
+      let y : length now.kept ≤ length old.kept + length more = a.keeps in
+      let x : length new.kept ≤ length now.kept + length others = b.keeps in
+      let w : length new.kept ≤ length old.kept + length (more ++ others) = omega arith in w);
   stream = λ bytes given is.
       subst (λ w. IsStream nfa w (given ++ (a.found ++ b.found)) new) (append_assoc bytes more others)
       (subst (λ w. IsStream nfa (bytes ++ more ++ others) w new) (append_assoc given a.found b.found)
@@ -50,19 +54,23 @@ joined_none {nfa} {old} {now} {new} {more} {list} {mid} {after} a b =
 
 -- a step that reads no bytes and adds nothing
 nothing : {nfa : Nfa} {old new : Streamed} → count_read new ≡ count_read old
-    → ((bytes : List ℕ) (given : List Match) → IsStream nfa bytes given old → IsStream nfa bytes given new)
+    → length new.kept ≤ length old.kept → ((bytes : List ℕ) (given : List Match) → IsStream nfa bytes given old → IsStream nfa bytes given new)
     → (list : List Match) → IsFed nfa old new [] list list
-nothing {nfa} {old} {new} r h list = record {
+nothing {nfa} {old} {new} r k h list = record {
   found = [];
   added = sym (append-nil list);
   read = r ∙ (let z : count_read old ≡ count_read old + 0 = omega arith in z);
+  keeps = (let z : length new.kept ≤ length old.kept + 0 = omega arith in z);
   stream = λ bytes given is.
       subst (λ w. IsStream nfa w (given ++ []) new) (sym (append-nil bytes))
       (subst (λ w. IsStream nfa bytes w new) (sym (append-nil given)) (h bytes given is));
 }
 
+no_more : (s : Streamed) → length s.kept ≤ length s.kept
+no_more s = omega arith
+
 pub fed_nothing : (nfa : Nfa) (s : Streamed) (list : List Match) → IsFed nfa s s [] list list
-fed_nothing nfa s list = nothing refl (λ bytes given is. is) list
+fed_nothing nfa s list = nothing refl (no_more s) (λ bytes given is. is) list
 
 -- another search, if any
 abbrev pub with_scan : Option Scanned → Streamed → Streamed
@@ -71,7 +79,8 @@ with_scan scan s = record s { scan = scan }
 pub fed_scan : (nfa : Nfa) (s : Streamed) (scan : Option Scanned) (list : List Match)
     → IsFed nfa s (with_scan scan s) [] list list
 fed_scan nfa s scan list =
-    nothing refl (λ bytes given is. record { read = is.read; kept = is.kept; matches = is.matches }) list
+    nothing refl (no_more s) (λ bytes given is. record { read = is.read; kept = is.kept; matches = is.matches })
+    list
 
 -- nothing was read, and nothing found
 pub none_read : (nfa : Nfa)
@@ -90,6 +99,8 @@ fed_kept nfa s more list small = record {
   added = sym (append-nil list);
   read = (let z : length (s.kept ++ more) ≡ length s.kept + length more = length-append s.kept more in
       let y : s.dropped + length (s.kept ++ more) ≡ s.dropped + length s.kept + length more = omega arith in y);
+  keeps = (let z : length (s.kept ++ more) ≡ length s.kept + length more = length-append s.kept more in
+      let y : length (s.kept ++ more) ≤ length s.kept + length more = omega arith in y);
   stream = λ bytes given is.
       let l : s.dropped ≤ length bytes = dropped_within is in
       subst (λ w. IsStream nfa (bytes ++ more) w (record s { kept = s.kept ++ more })) (sym (append-nil given)) record {
@@ -157,6 +168,7 @@ fed_match nfa s m list behind within certain apart = record {
   found = moved s.dropped m ∷ [];
   added = refl;
   read = (let z : count_read s ≡ count_read s + 0 = omega arith in z);
+  keeps = (let z : length s.kept ≤ length s.kept + 0 = omega arith in z);
   stream = λ bytes given is.
       subst (λ w. IsStream nfa w (given ++ moved s.dropped m ∷ []) (after_match m s)) (sym (append-nil bytes)) record {
         read = is.read;
@@ -202,7 +214,7 @@ pub fed_skipped : (nfa : Nfa) (s : Streamed) (m : Match) (list : List Match)
     → (s.start ≡ 0 → s.dropped ≡ 0) → s.start ≤ length s.kept → IsCertain nfa s.kept s.start m
     → touches (end_before s) m ≡ true
     → IsFed nfa s (after_byte s) [] list list
-fed_skipped nfa s m list behind within certain touching = nothing refl (λ bytes given is. record {
+fed_skipped nfa s m list behind within certain touching = nothing refl (no_more s) (λ bytes given is. record {
   read = is.read;
   kept = is.kept;
   matches = λ more small ms h.
@@ -234,7 +246,7 @@ not_touching true at m l = grind arith
 
 pub fed_later : (nfa : Nfa) (s : Streamed) (list : List Match) → (s.start ≡ 0 → s.dropped ≡ 0)
     → IsFresh nfa s.kept s.start → IsFed nfa s (to_end s) [] list list
-fed_later nfa s list behind fresh = nothing refl (λ bytes given is. record {
+fed_later nfa s list behind fresh = nothing refl (no_more s) (λ bytes given is. record {
   read = is.read;
   kept = is.kept;
   matches = λ more small ms h.
@@ -278,7 +290,8 @@ fed_dropped nfa s count list low within =
     let size : length (drop count s.kept) ≡ length s.kept - count = length-drop count s.kept in
     let same : s.dropped + count + (s.start - count) ≡ s.dropped + s.start = omega arith in
     let all : s.dropped + count + length (drop count s.kept) ≡ s.dropped + length s.kept = omega arith in
-    nothing all (λ bytes given is. record {
+    let fewer : length (drop count s.kept) ≤ length s.kept = omega arith in
+    nothing all fewer (λ bytes given is. record {
       read = all ∙ is.read;
       kept = ap (λ w. drop count w) is.kept ∙ drop-drop count s.dropped bytes;
       matches = λ more small ms h.
@@ -375,11 +388,12 @@ scan_more nfa s block scan xs i e z within h =
     subst (λ w. IsEndScan nfa w.behind w.bytes scan) t h
 
 -- the same of equal values
-pub certain_at : (nfa own : Nfa) (xs kept : List ℕ) (i start : ℕ) (m : Match) → own ≡ nfa → xs ≡ kept → i ≡ start
-    → IsCertain own xs i m → IsCertain nfa kept start m
-certain_at nfa own xs kept i start m e k z h =
-    subst (λ n. IsCertain n kept start m) e (subst (λ ys. IsCertain own ys start m) k
-    (subst (λ j. IsCertain own xs j m) z h))
+pub certain_at : {nfa own : Nfa} {xs : List ℕ} {i : ℕ} {m : Match} {found : Option Match} (s : Streamed)
+    → own ≡ nfa → xs ≡ s.kept → i ≡ s.start → found ≡ Some m → IfSome found (λ n. IsCertain own xs i n)
+    → IsCertain nfa s.kept s.start m
+certain_at {nfa} {own} {xs} {i} {m} {found} s e k z is h =
+    subst (λ n. IsCertain n s.kept s.start m) e (subst (λ ys. IsCertain own ys s.start m) k
+    (subst (λ j. IsCertain own xs j m) z (subst (λ o. IfSome o (λ n. IsCertain own xs i n)) is h)))
 
 pub scan_at : (nfa own : Nfa) (xs kept : List ℕ) (i start : ℕ) (s : Scanned) → own ≡ nfa → xs ≡ kept → i ≡ start
     → IsEndScan own (byte_before xs i) (drop i xs) s → IsEndScan nfa (byte_before kept start) (drop start kept) s

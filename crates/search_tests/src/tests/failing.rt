@@ -10,7 +10,9 @@ use crate::tests::find::{Ends, ROWS, Row, ends_of, expect_matches, nfa};
 use crate::tests::{ended, holds, same};
 use determinize_below::nfa::{BuildError, Transition};
 use determinize_below::{Input, Look, MatchKind, NFA, StateID};
-use determinize_find::{Builder, Match, Pieces, Regex, Searcher, has_prefix, plain, reversed};
+use determinize_find::{
+    Builder, LazyRegex, Match, Pieces, Regex, Searcher, has_prefix, plain, reversed,
+};
 use determinize_lazy::Lazy;
 use failing_alloc::{FailingAllocator, Outcome, fail_each_allocation};
 use std::alloc::{AllocError, Global};
@@ -21,7 +23,7 @@ use std::test::Fail;
 type Heap = FailingAllocator<Global>;
 
 /// A search over an NFA whose reverse, like the two caches, is in the memory of a run.
-type Search<'n, 'a> = Regex<'n, Global, &'a Heap, &'a Heap>;
+type Search<'n, 'a> = LazyRegex<'n, Global, &'a Heap, &'a Heap>;
 
 /// A call that adds a state to a builder.
 #[derive(Clone, Copy)]

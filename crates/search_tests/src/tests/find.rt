@@ -7,9 +7,11 @@ ghost use Rattle.determinize_lazy.specs.Searches.{has_start};
 
 use crate::tests::{ended, same};
 use determinize_below::{Input, LookMatcher, MatchKind, NFA, StateID};
-use determinize_find::{Match, Regex, plain, prefix, reversed};
+use determinize_dense::Dfa;
+use determinize_find::{Match, Regex, Searcher, plain, prefix, reversed};
 use determinize_lazy::Lazy;
 use determinize_replay::nfas;
+use determinize_uses::steady;
 use std::process::Abort;
 use std::test::Fail;
 
@@ -104,6 +106,31 @@ fn expect_by_regex<R: Abort + AllocGlobal>(
     Ok(())
 }
 
+/// Finds all matches of a haystack, by whole DFAs of such an NFA and of its reverse.
+fn expect_by_whole<R: Abort + AllocGlobal>(
+    rt: &R,
+    nfa: &NFA,
+    haystack: &[u8],
+    wanted: &[Ends],
+) -> Result<(), Fail>
+    requires forward { nfa.now.reverse ≡ false }
+    requires prefix { HasPrefix nfa.now }
+{
+    let backward = reversed(rt.alloc(), nfa)?;
+    let ends = Dfa::build(rt.alloc(), nfa, MatchKind::LeftmostFirst, 100)?;
+    let starts = Dfa::build(rt.alloc(), &backward, MatchKind::All, 100)?;
+    let found = steady::matches(rt.alloc(), &ends, &starts, haystack)?;
+    expect_matches(rt, found.as_slice(), wanted);
+    let mut scanner = Regex::from_engines(&ends, &starts);
+    let mut searcher = Searcher::new(Input::new(haystack));
+    for wanted in wanted {
+        let found = steady::next(&mut scanner, &mut searcher);
+        same(rt, ends_of(found), Some(*wanted));
+    }
+    same(rt, ends_of(steady::next(&mut scanner, &mut searcher)), None);
+    Ok(())
+}
+
 /// Finds all matches of a haystack, by `plain`.
 fn expect_all<R: Abort + AllocGlobal>(
     rt: &R,
@@ -128,6 +155,24 @@ fn all_matches(rt: HostRuntime) -> Result<(), Fail> {
         if prefix::has_prefix(&nfa) {
             expect_by_regex(&rt, &nfa, row.haystack, row.matches)?;
         }
+    }
+    Ok(())
+}
+
+/// Whole DFAs find the same matches as lazy ones.
+#[test]
+fn words_by_whole_dfas(rt: HostRuntime) -> Result<(), Fail> {
+    let nfa = nfa(&rt, WORDS)?;
+    if !prefix::has_prefix(&nfa) {
+        return Ok(());
+    }
+    let rows: [(&[u8], &[Ends]); 2] = [
+        (b"abcd e", &[(0, 0, 4), (0, 5, 6)]),
+        (b"-x1- _", &[(0, 1, 3), (0, 5, 6)]),
+    ];
+    for (haystack, wanted) in rows {
+        expect_by_regex(&rt, &nfa, haystack, wanted)?;
+        expect_by_whole(&rt, &nfa, haystack, wanted)?;
     }
     Ok(())
 }

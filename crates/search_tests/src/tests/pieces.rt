@@ -5,7 +5,7 @@ ghost use Rattle.determinize_find.specs.Prefix.{HasPrefix};
 
 use crate::tests::find::{Ends, ROWS, expect_matches, nfa};
 use determinize_below::NFA;
-use determinize_find::{Match, Pieces, Regex, has_prefix, reversed};
+use determinize_find::{LazyRegex, Match, Pieces, Regex, has_prefix, reversed};
 use std::alloc::Global;
 use std::process::Abort;
 use std::test::Fail;
@@ -16,7 +16,7 @@ const LONGER: &str = "BU:2,1 B:00-ff>0 BU:3,7 B:61>4 BU:3,5 B:62>6 M:0 B:61>6";
 /// Feeds a haystack in three pieces, of which some may be empty.
 fn expect_cut<R: Abort + AllocGlobal>(
     rt: &R,
-    regex: &mut Regex<'_>,
+    regex: &mut LazyRegex<'_>,
     haystack: &[u8],
     cuts: (usize, usize),
     wanted: &[Ends],
@@ -37,7 +37,7 @@ fn expect_cut<R: Abort + AllocGlobal>(
 /// Feeds a haystack in pieces of some size, and takes the matches out after each.
 fn expect_pieces<R: Abort + AllocGlobal>(
     rt: &R,
-    regex: &mut Regex<'_>,
+    regex: &mut LazyRegex<'_>,
     haystack: &[u8],
     size: usize,
     wanted: &[Ends],

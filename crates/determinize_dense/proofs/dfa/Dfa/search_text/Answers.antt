@@ -21,7 +21,7 @@ order : (g : Over) (c : After-start_row-row g)
 order g c = subst (λ (x : DfaValue). IsOrdered x.table c.self.inside.last_match c.self.inside.last_special)
     c.self.view_is c.self.invariant
 
--- a byte leads to the next row
+-- the next row has the offset that is read
 goes : (g : Over) (c : After-row_over-row g)
     → IsNext c.args.self.now.table c.loop-read.row (Some c.byte.result) c.row_over-row.result
 goes g c = subst (λ (x : DfaValue). IsNext x.table c.loop-read.row (Some c.byte.result) c.row_over-row.result)
@@ -31,7 +31,7 @@ here : (g : Over) (c : After-row_over-row g)
     → slice_get (units c.args.text.now) c.loop-read.read ≡ Some (Some c.byte.result)
 here g c = unit-here c.args.text.now c.loop-read.read c.byte.result c.byte.ensures
 
--- the unit ahead leads to the last row
+-- the last row is that over the unit ahead
 ahead-goes : (g : Over) (c : After-row_over-end g)
     → IsNext c.args.self.now.table c.loop-read.row c.ahead.result c.row_over-end.result
 ahead-goes g c = subst (λ (x : DfaValue). IsNext x.table c.loop-read.row c.ahead.result c.row_over-end.result)

@@ -3,7 +3,7 @@ use Rattle.determinize_below.specs.declared.search.Match.{Match}
 use Rattle.determinize_find.specs.LeftmostIn.{moved}
 use Rattle.determinize_find.specs.Matches.{touches}
 use Rattle.determinize_find.specs.Streams.{IsFed, Streamed}
-use Rattle.determinize_find.proofs.streams.Steps.{after_byte, after_match, end_before, fed_match, fed_skipped}
+use Rattle.determinize_find.proofs.streams.Steps.{after_byte, after_match, end_before, fed_match, fed_nothing, fed_skipped}
 use Rattle.determinize_find.proofs.pieces.Pieces.add.Goals as goal
 
 pub returns-then-touches-clause-fed : goal.returns-then-touches-clause-fed
@@ -14,6 +14,12 @@ returns-then-touches-clause-fed g c nfa certain =
     (fed_skipped nfa c.args.self.now c.args.next c.args.found.now.items
     (subst (λ (s : Streamed). s.start ≡ 0 → s.dropped ≡ 0) c.self.view_is c.self.invariant.behind)
     (subst (λ (s : Streamed). s.start ≤ length s.kept) c.self.view_is c.self.invariant.within) certain t)
+
+pub returns-in_err-push-clause-fed : goal.returns-in_err-push-clause-fed
+returns-in_err-push-clause-fed g c nfa certain =
+    let items : c.push.new.self.items ≡ c.args.found.now.items = search rules in
+    subst (λ (ms : List Match). IsFed nfa c.args.self.now c.args.self.now [] c.args.found.now.items ms) (sym items)
+    (fed_nothing nfa c.args.self.now c.args.found.now.items)
 
 pub returns-clause-fed : goal.returns-clause-fed
 returns-clause-fed g c nfa certain =

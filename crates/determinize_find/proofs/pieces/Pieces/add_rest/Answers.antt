@@ -5,29 +5,21 @@ use Rattle.determinize_below.specs.Search.{Asked}
 use Rattle.determinize_below.specs.declared.search.Match.{Match}
 use Rattle.determinize_find.specs.Cursors.{after_match}
 use Rattle.determinize_find.specs.LeftmostIn.{moved}
-use Rattle.determinize_find.specs.Matches.{IsNext, from}
+use Rattle.determinize_find.specs.Matches.{from}
 use Rattle.determinize_find.specs.Regexes.{RegexValue}
 use Rattle.determinize_find.specs.Streams.{Streamed, whole}
 use Rattle.determinize_find.proofs.matches.NextMatch.{after_all, after_none, after_one}
-use Rattle.determinize_find.proofs.streams.Finish.{end_is, finished, next_within, one_moved}
+use Rattle.determinize_find.proofs.streams.Finish.{end_is, finished, next_is, next_within, one_moved}
 use Rattle.determinize_find.proofs.streams.Steps.{end_before}
 use Rattle.determinize_find.proofs.pieces.Pieces.add_rest.Goals as goal
 
-pub in_text-requires-clause-order : goal.in_text-requires-clause-order
-in_text-requires-clause-order g c =
-    (next_within c.args.regex.now.nfa c.loop-next.regex.nfa c.args.self.now.kept c.args.self.now.start
+pub in_text-requires : goal.in_text-requires
+in_text-requires g c =
+    let within = next_within c.args.regex.now.nfa c.loop-next.regex.nfa c.args.self.now.kept c.args.self.now.start
     (end_before c.args.self.now) c.loop-next.searcher c.loop-next.invariant.found.0 c.in-Some.next
     (ap (λ (v : RegexValue). v.nfa) c.loop-next.invariant.same) c.loop-next.invariant.found.2
-    (subst (λ (o : Option Match). IsNext c.loop-next.regex.nfa c.loop-next.searcher.asked c.loop-next.searcher.before o)
-    c.in-Some.is c.in_ok-next.ensures.next)).0
-
-pub in_text-requires-clause-end : goal.in_text-requires-clause-end
-in_text-requires-clause-end g c =
-    (next_within c.args.regex.now.nfa c.loop-next.regex.nfa c.args.self.now.kept c.args.self.now.start
-    (end_before c.args.self.now) c.loop-next.searcher c.loop-next.invariant.found.0 c.in-Some.next
-    (ap (λ (v : RegexValue). v.nfa) c.loop-next.invariant.same) c.loop-next.invariant.found.2
-    (subst (λ (o : Option Match). IsNext c.loop-next.regex.nfa c.loop-next.searcher.asked c.loop-next.searcher.before o)
-    c.in-Some.is c.in_ok-next.ensures.next)).1
+    (next_is c.loop-next.regex.nfa c.loop-next.searcher c.in-Some.is c.in_ok-next.ensures.next) in
+    record { order = within.0; end = within.1 }
 
 pub loop-next-init : goal.loop-next-init
 loop-next-init g c =
@@ -53,8 +45,7 @@ loop-next-smaller g c =
     (after_one c.args.regex.now.nfa c.loop-next.regex.nfa asked c.loop-next.searcher c.advance.new.self
     c.loop-next.invariant.found.0 c.in-Some.next (ap (λ (v : RegexValue). v.nfa) c.loop-next.invariant.same) inside
     c.loop-next.invariant.found.2
-    (subst (λ (o : Option Match). IsNext c.loop-next.regex.nfa c.loop-next.searcher.asked c.loop-next.searcher.before o)
-    c.in-Some.is c.in_ok-next.ensures.next)
+    (next_is c.loop-next.regex.nfa c.loop-next.searcher c.in-Some.is c.in_ok-next.ensures.next)
     (c.in_ok-next.ensures.after ∙ ap (λ (o : Option Match). after_match c.loop-next.searcher o) c.in-Some.is)).1
 
 pub loop-next-preserved : goal.loop-next-preserved
@@ -70,10 +61,9 @@ loop-next-preserved g c =
         one_moved c.args.self.now.dropped c.args.found.now.items c.loop-next.found.items c.push.new.self.items
             c.loop-next.invariant.found.0 c.in-Some.next c.loop-next.invariant.found.1 items,
         (after_one c.args.regex.now.nfa c.loop-next.regex.nfa asked c.loop-next.searcher c.advance.new.self
-            c.loop-next.invariant.found.0 c.in-Some.next (ap (λ (v : RegexValue). v.nfa) c.loop-next.invariant.same) inside
-            c.loop-next.invariant.found.2
-            (subst (λ (o : Option Match). IsNext c.loop-next.regex.nfa c.loop-next.searcher.asked c.loop-next.searcher.before o)
-            c.in-Some.is c.in_ok-next.ensures.next)
+            c.loop-next.invariant.found.0 c.in-Some.next
+            (ap (λ (v : RegexValue). v.nfa) c.loop-next.invariant.same) inside c.loop-next.invariant.found.2
+            (next_is c.loop-next.regex.nfa c.loop-next.searcher c.in-Some.is c.in_ok-next.ensures.next)
             (c.in_ok-next.ensures.after ∙ ap (λ (o : Option Match). after_match c.loop-next.searcher o) c.in-Some.is)).0,
       );
     }
@@ -88,8 +78,7 @@ returns-clause-finished g c =
     (after_all c.args.regex.now.nfa c.loop-next.regex.nfa
     (from (whole c.args.self.now.kept) c.args.self.now.start) c.loop-next.searcher c.loop-next.invariant.found.0
     (ap (λ (v : RegexValue). v.nfa) c.loop-next.invariant.same) c.loop-next.invariant.found.2
-    (subst (λ (o : Option Match). IsNext c.loop-next.regex.nfa c.loop-next.searcher.asked c.loop-next.searcher.before o)
-    is c.in_ok-next.ensures.next)) c.loop-next.invariant.found.1
+    (next_is c.loop-next.regex.nfa c.loop-next.searcher is c.in_ok-next.ensures.next)) c.loop-next.invariant.found.1
 
 pub returns-clause-begins : goal.returns-clause-begins
 returns-clause-begins g c =

@@ -1,6 +1,7 @@
-use Rattle.std.proofs.Common.{◌≡◌, ◌++◌, ℕ, List}
-use Rattle.std.specs.Slice.Iter.{chunks_rest}
-use Rattle.determinize_find.specs.Streams.{IsFed, IsSearching}
+use Rattle.std.proofs.Common.{◌≡◌}
+use Rattle.std.specs.Slice.Iter.{chunks_rest, chunks_size}
+use Rattle.determinize_find.specs.Streams.{IsSearching}
+use Rattle.determinize_find.proofs.streams.Kept.{HasRead}
 use Rattle.determinize_find.proofs.pieces.Pieces.feed.Given as goal
 
 abbrev pub invariant-loop-block : goal.invariant-loop-block
@@ -8,5 +9,5 @@ invariant-loop-block g l =
     (goal.iterator-loop-block g).can_next l.block-iterator
     × (goal.iterator-loop-block g).is_finite l.block-iterator
     × (l.regex ≡ l.fn.regex) × IsSearching l.regex.nfa l.self
-    × ((done : List ℕ) × (done ++ chunks_rest l.block-iterator ≡ l.fn.piece)
-    × IsFed l.fn.regex.nfa l.fn.self l.self done l.fn.found.items l.found.items)
+    × HasRead l.fn.regex.nfa l.fn.self l.self l.fn.piece (chunks_rest l.block-iterator) (chunks_size l.block-iterator)
+    l.fn.found.items l.found.items

@@ -1,20 +1,25 @@
-use Rattle.std.specs.Option.{IfSome}
-use Rattle.std.proofs.Common.{◌≡◌, ◌≤◌, ◌-◌, ◌∙◌, Option, Some, [], ap, drop, length, subst, sym}
-use Rattle.determinize_below.specs.declared.search.Match.{Match}
+use Rattle.std.proofs.Common.{rules, ◌≡◌, ◌≤◌, ◌-◌, ◌∙◌, Some, [], ap, drop, length, subst, sym}
 use Rattle.determinize_start.specs.StartKinds.{byte_before}
 use Rattle.determinize_lazy.proofs.steps.Rule.{of_err}
-use Rattle.determinize_find.specs.Private.Windows.{IsCertain, without_first}
+use Rattle.determinize_find.specs.Idle.{IsIdle}
+use Rattle.determinize_find.specs.Prefix.{HasPrefixApart}
+use Rattle.determinize_find.specs.Private.Windows.{without_first}
 use Rattle.determinize_find.specs.Regexes.{RegexValue}
 use Rattle.determinize_find.specs.Streams.{IsEndScan, IsFed, Streamed}
 use Rattle.determinize_find.proofs.leftmost.TwoSearches.{all_bytes}
+use Rattle.determinize_find.proofs.streams.Kept.{failed_searching, few_kept, none_searching}
 use Rattle.determinize_find.proofs.streams.Steps.{all_fed, certain_at, ended_fed, ended_searching, joined_none}
 use Rattle.determinize_find.proofs.streams.Steps.{keep_failed, kept_fed, scan_at, with_scan}
 use Rattle.determinize_find.proofs.pieces.Pieces.read_block.Goals as goal
 
-pub returns-in_err-scan-clause-failed : goal.returns-in_err-scan-clause-failed
-returns-in_err-scan-clause-failed g c =
-    of_err _ (keep_failed c.args.regex.now.nfa c.args.self.now c.keep.new.self c.args.block.now c.args.found.now.items
-    (all_bytes c.args.block.now c.type_inv.block) c.in_err-scan.ensures.failed)
+pub returns-in_err-scan-clause-read : goal.returns-in_err-scan-clause-read
+returns-in_err-scan-clause-read g c = record {
+  fed = search rules;
+  failed = of_err _ (keep_failed c.args.regex.now.nfa c.args.self.now c.keep.new.self c.args.block.now
+      c.args.found.now.items (all_bytes c.args.block.now c.type_inv.block) c.in_err-scan.ensures.failed);
+  searching = failed_searching c.args.regex.now.nfa c.args.self.now c.keep.new.self c.args.block.now
+      c.in_err-scan.ensures.failed;
+}
 
 pub loop-scan-init : goal.loop-scan-init
 loop-scan-init g c = record {
@@ -25,42 +30,42 @@ loop-scan-init g c = record {
   scan = c.in_ok-scan.ensures.scan;
 }
 
-pub returns-in_err-next-clause-failed : goal.returns-in_err-next-clause-failed
-returns-in_err-next-clause-failed g c = of_err _ (all_fed c.loop-scan.invariant.fed)
+pub returns-in_err-next-clause-read : goal.returns-in_err-next-clause-read
+returns-in_err-next-clause-read g c = record {
+  fed = search rules;
+  failed = of_err _ (all_fed c.loop-scan.invariant.fed);
+  searching = none_searching c.args.regex.now.nfa c.loop-scan.self c.loop-scan.invariant.none;
+}
 
-pub returns-in_err-add-clause-failed : goal.returns-in_err-add-clause-failed
-returns-in_err-add-clause-failed g c =
-    of_err _ (all_fed (joined_none c.loop-scan.invariant.fed (c.in_err-add.ensures.fed c.args.regex.now.nfa
-    (certain_at c.args.regex.now.nfa c.loop-scan.regex.nfa c.as_slice.result.now c.loop-scan.self.kept
-    c.self.inside.start c.loop-scan.self.start c.in-Some.next
-    (ap (λ (v : RegexValue). v.nfa) c.loop-scan.invariant.same)
-    (c.as_slice.ensures.value ∙ ap (λ (s : Streamed). s.kept) c.self.view_is)
-    (ap (λ (s : Streamed). s.start) c.self.view_is)
-    (subst (λ (o : Option Match). IfSome o (λ m. IsCertain c.loop-scan.regex.nfa c.as_slice.result.now
-    c.self.inside.start m)) c.in-Some.is c.in_ok-next.ensures.certain)))))
+pub returns-in_err-add-clause-read : goal.returns-in_err-add-clause-read
+returns-in_err-add-clause-read g c = record {
+  fed = search rules;
+  failed = of_err _ (all_fed (joined_none c.loop-scan.invariant.fed (c.in_err-add.ensures.fed c.args.regex.now.nfa
+      (certain_at c.loop-scan.self (ap (λ (v : RegexValue). v.nfa) c.loop-scan.invariant.same)
+      (c.as_slice.ensures.value ∙ ap (λ (s : Streamed). s.kept) c.self.view_is)
+      (ap (λ (s : Streamed). s.start) c.self.view_is) c.in-Some.is c.in_ok-next.ensures.certain))));
+  searching = none_searching c.args.regex.now.nfa c.add.new.self
+      (c.in_err-add.ensures.scan ∙ c.loop-scan.invariant.none);
+}
 
-pub returns-in_err-scan-2-clause-failed : goal.returns-in_err-scan-2-clause-failed
-returns-in_err-scan-2-clause-failed g c =
-    of_err _ (all_fed (joined_none c.loop-scan.invariant.fed (c.in_ok-add.ensures.fed c.args.regex.now.nfa
-    (certain_at c.args.regex.now.nfa c.loop-scan.regex.nfa c.as_slice.result.now c.loop-scan.self.kept
-    c.self.inside.start c.loop-scan.self.start c.in-Some.next
-    (ap (λ (v : RegexValue). v.nfa) c.loop-scan.invariant.same)
-    (c.as_slice.ensures.value ∙ ap (λ (s : Streamed). s.kept) c.self.view_is)
-    (ap (λ (s : Streamed). s.start) c.self.view_is)
-    (subst (λ (o : Option Match). IfSome o (λ m. IsCertain c.loop-scan.regex.nfa c.as_slice.result.now
-    c.self.inside.start m)) c.in-Some.is c.in_ok-next.ensures.certain)))))
+pub returns-in_err-scan-2-clause-read : goal.returns-in_err-scan-2-clause-read
+returns-in_err-scan-2-clause-read g c = record {
+  fed = search rules;
+  failed = of_err _ (all_fed (joined_none c.loop-scan.invariant.fed (c.in_ok-add.ensures.fed c.args.regex.now.nfa
+      (certain_at c.loop-scan.self (ap (λ (v : RegexValue). v.nfa) c.loop-scan.invariant.same)
+      (c.as_slice.ensures.value ∙ ap (λ (s : Streamed). s.kept) c.self.view_is)
+      (ap (λ (s : Streamed). s.start) c.self.view_is) c.in-Some.is c.in_ok-next.ensures.certain))));
+  searching = none_searching c.args.regex.now.nfa c.add.new.self
+      (c.in_ok-add.ensures.scan ∙ c.loop-scan.invariant.none);
+}
 
 pub loop-scan-preserved : goal.loop-scan-preserved
 loop-scan-preserved g c = record {
   same = c.in_ok-scan-2.ensures.same ∙ c.in_ok-next.ensures.same ∙ c.loop-scan.invariant.same;
   fed = joined_none c.loop-scan.invariant.fed (c.in_ok-add.ensures.fed c.args.regex.now.nfa
-      (certain_at c.args.regex.now.nfa c.loop-scan.regex.nfa c.as_slice.result.now c.loop-scan.self.kept
-      c.self.inside.start c.loop-scan.self.start c.in-Some.next
-      (ap (λ (v : RegexValue). v.nfa) c.loop-scan.invariant.same)
+      (certain_at c.loop-scan.self (ap (λ (v : RegexValue). v.nfa) c.loop-scan.invariant.same)
       (c.as_slice.ensures.value ∙ ap (λ (s : Streamed). s.kept) c.self.view_is)
-      (ap (λ (s : Streamed). s.start) c.self.view_is)
-      (subst (λ (o : Option Match). IfSome o (λ m. IsCertain c.loop-scan.regex.nfa c.as_slice.result.now
-      c.self.inside.start m)) c.in-Some.is c.in_ok-next.ensures.certain)));
+      (ap (λ (s : Streamed). s.start) c.self.view_is) c.in-Some.is c.in_ok-next.ensures.certain));
   none = c.in_ok-add.ensures.scan ∙ c.loop-scan.invariant.none;
   scan = scan_at c.args.regex.now.nfa c.certain.new.self.nfa c.as_slice-in-Some.result.now c.add.new.self.kept
       c.self-in-Some.inside.start c.add.new.self.start c.in_ok-scan-2.scan
@@ -75,34 +80,44 @@ skip_idle-requires g c =
     (drop c.loop-scan.self.start c.loop-scan.self.kept) c.loop-scan.scan)
     (sym (c.in_ok-next.ensures.same ∙ c.loop-scan.invariant.same)) c.loop-scan.invariant.scan
 
-pub returns-in_err-rest-clause-failed : goal.returns-in_err-rest-clause-failed
-returns-in_err-rest-clause-failed g c =
-    of_err _ (all_fed (joined_none c.loop-scan.invariant.fed
-    (subst (λ (v : RegexValue). IsFed v.nfa c.loop-scan.self c.skip_idle.new.self [] c.loop-scan.found.items
-    c.loop-scan.found.items) (c.in_ok-next.ensures.same ∙ c.loop-scan.invariant.same)
-    (c.in_err-rest.ensures.fed c.loop-scan.found.items))))
+pub returns-in_err-rest-clause-read : goal.returns-in_err-rest-clause-read
+returns-in_err-rest-clause-read g c = record {
+  fed = search rules;
+  failed = of_err _ (all_fed (joined_none c.loop-scan.invariant.fed
+      (subst (λ (v : RegexValue). IsFed v.nfa c.loop-scan.self c.skip_idle.new.self [] c.loop-scan.found.items
+      c.loop-scan.found.items) (c.in_ok-next.ensures.same ∙ c.loop-scan.invariant.same)
+      (c.in_err-rest.ensures.fed c.loop-scan.found.items))));
+  searching = none_searching c.args.regex.now.nfa c.skip_idle.new.self
+      (c.in_err-rest.ensures.taken ∙ c.loop-scan.invariant.none);
+}
 
-pub returns-clause-fed : goal.returns-clause-fed
-returns-clause-fed g c =
+pub returns-clause-read : goal.returns-clause-read
+returns-clause-read g c =
     let e : c.drop_passed.new.self
     ≡ without_first (c.skip_idle.new.self.start - 1) (with_scan (Some c.in_ok-rest.rest) c.skip_idle.new.self)
     = c.drop_passed.ensures ∙ ap (λ (s : Streamed). without_first (s.start - 1) (with_scan (Some c.in_ok-rest.rest) s))
     c.self-2.view_is in
-    ended_fed c.args.regex.now.nfa c.args.self.now c.skip_idle.new.self c.drop_passed.new.self c.in_ok-rest.rest
-    c.args.block.now c.args.found.now.items c.loop-scan.found.items
-    (joined_none c.loop-scan.invariant.fed
-    (subst (λ (v : RegexValue). IsFed v.nfa c.loop-scan.self c.skip_idle.new.self [] c.loop-scan.found.items
-    c.loop-scan.found.items) (c.in_ok-next.ensures.same ∙ c.loop-scan.invariant.same)
-    (c.in_ok-rest.ensures.fed c.loop-scan.found.items)))
-    (subst (λ (s : Streamed). s.start ≤ length s.kept) c.self-2.view_is c.self-2.invariant.within) e
+    record {
+      fed = ended_fed c.args.regex.now.nfa c.args.self.now c.skip_idle.new.self c.drop_passed.new.self c.in_ok-rest.rest
+          c.args.block.now c.args.found.now.items c.loop-scan.found.items
+          (joined_none c.loop-scan.invariant.fed
+          (subst (λ (v : RegexValue). IsFed v.nfa c.loop-scan.self c.skip_idle.new.self [] c.loop-scan.found.items
+          c.loop-scan.found.items) (c.in_ok-next.ensures.same ∙ c.loop-scan.invariant.same)
+          (c.in_ok-rest.ensures.fed c.loop-scan.found.items)))
+          (subst (λ (s : Streamed). s.start ≤ length s.kept) c.self-2.view_is c.self-2.invariant.within) e;
+      failed = tt;
+      searching = ended_searching c.args.regex.now.nfa c.skip_idle.new.self c.drop_passed.new.self c.in_ok-rest.rest
+          (subst (λ (v : RegexValue). IsEndScan v.nfa (byte_before c.skip_idle.new.self.kept c.skip_idle.new.self.start)
+          (drop c.skip_idle.new.self.start c.skip_idle.new.self.kept) c.in_ok-rest.rest)
+          (c.in_ok-next.ensures.same ∙ c.loop-scan.invariant.same) c.in_ok-rest.ensures.scan) e;
+    }
 
-pub returns-clause-searching : goal.returns-clause-searching
-returns-clause-searching g c =
-    let e : c.drop_passed.new.self
-    ≡ without_first (c.skip_idle.new.self.start - 1) (with_scan (Some c.in_ok-rest.rest) c.skip_idle.new.self)
-    = c.drop_passed.ensures ∙ ap (λ (s : Streamed). without_first (s.start - 1) (with_scan (Some c.in_ok-rest.rest) s))
-    c.self-2.view_is in
-    ended_searching c.args.regex.now.nfa c.skip_idle.new.self c.drop_passed.new.self c.in_ok-rest.rest
-    (subst (λ (v : RegexValue). IsEndScan v.nfa (byte_before c.skip_idle.new.self.kept c.skip_idle.new.self.start)
-    (drop c.skip_idle.new.self.start c.skip_idle.new.self.kept) c.in_ok-rest.rest)
-    (c.in_ok-next.ensures.same ∙ c.loop-scan.invariant.same) c.in_ok-rest.ensures.scan) e
+pub returns-clause-few : goal.returns-clause-few
+returns-clause-few g c =
+    few_kept c.args.regex.now.nfa c.skip_idle.new.self c.drop_passed.new.self c.in_ok-rest.rest
+    (subst (λ (s : Streamed). s.start ≤ length s.kept) c.self-2.view_is c.self-2.invariant.within)
+    (subst (λ (v : RegexValue). HasPrefixApart v.nfa → IsIdle v.nfa c.in_ok-rest.rest
+    → c.skip_idle.new.self.start ≡ length c.skip_idle.new.self.kept)
+    (c.in_ok-next.ensures.same ∙ c.loop-scan.invariant.same) c.in_ok-rest.ensures.idle)
+    (c.drop_passed.ensures
+    ∙ ap (λ (s : Streamed). without_first (s.start - 1) (with_scan (Some c.in_ok-rest.rest) s)) c.self-2.view_is)

@@ -10,7 +10,7 @@ returns-clause-fed g c list =
     let fresh : IsFresh c.args.regex.now.nfa c.args.self.now.kept c.args.self.now.start
     = subst (λ (s : Streamed). IsFresh c.args.regex.now.nfa s.kept s.start) c.self.view_is
     (subst (λ (xs : List ℕ). IsFresh c.args.regex.now.nfa xs c.self.inside.start) c.as_slice.ensures.value
-    (c.is_idle.ensures c.if-not-is_idle.false)) in
+    (c.is_idle.ensures.fresh c.if-not-is_idle.false)) in
     subst (λ (s : Streamed). IsFed c.args.regex.now.nfa c.args.self.now s [] list list)
     (ap to_end (sym c.self.view_is) ∙ (λ i. record {
       kept = c.self.inside.kept.items;

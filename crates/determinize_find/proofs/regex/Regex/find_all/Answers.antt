@@ -18,7 +18,7 @@ pub loop-all-smaller : goal.loop-all-smaller
 loop-all-smaller g c =
     let inside : c.args.input.now.end ≤ length c.args.input.now.haystack
     = omega (arith, c.end.ensures.value, c.end.ensures.in_haystack) in
-    (after_one c.args.self.now.nfa c.loop-all.self.nfa c.args.input.now c.loop-all.searcher c.advance.new.self
+    (after_one c.args.self.now.nfa c.loop-all.self.nfa c.args.input.now c.loop-all.searcher c.advance.new.searcher
     c.loop-all.all.items c.in-Some.found (ap (λ (v : RegexValue). v.nfa) c.loop-all.invariant.same) inside
     c.loop-all.invariant.after
     (subst (λ (o : Option Match). IsNext c.loop-all.self.nfa c.loop-all.searcher.asked c.loop-all.searcher.before o)
@@ -34,9 +34,9 @@ loop-all-preserved g c =
     record {
       same = c.in_ok-found.ensures.same ∙ c.loop-all.invariant.same;
       after =
-          subst (λ (ms : List Match). IsAfter c.args.self.now.nfa c.args.input.now None c.advance.new.self ms)
+          subst (λ (ms : List Match). IsAfter c.args.self.now.nfa c.args.input.now None c.advance.new.searcher ms)
           (sym items)
-          (after_one c.args.self.now.nfa c.loop-all.self.nfa c.args.input.now c.loop-all.searcher c.advance.new.self
+          (after_one c.args.self.now.nfa c.loop-all.self.nfa c.args.input.now c.loop-all.searcher c.advance.new.searcher
           c.loop-all.all.items c.in-Some.found (ap (λ (v : RegexValue). v.nfa) c.loop-all.invariant.same) inside
           c.loop-all.invariant.after
           (subst (λ (o : Option Match). IsNext c.loop-all.self.nfa c.loop-all.searcher.asked

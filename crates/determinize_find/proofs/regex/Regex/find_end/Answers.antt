@@ -12,7 +12,7 @@ returns-clause-end g c =
     let own : c.anchored-input.result ≡ asked = search rules in
     subst (λ (n : Nfa). IfOk c.search_input.result (λ found. IsEnding n asked found))
     (ap (λ (v : RegexValue). v.nfa) c.self.view_is)
-    (ended_in c.search_input.result c.self.inside.forward.nfa asked c.anchored-input.result own
+    (ended_in c.search_input.result (g.F.Engine.engine c.self.inside.forward).nfa asked c.anchored-input.result own
     c.self.invariant.reads_forward c.self.invariant.prefix c.requires.start c.requires.in_haystack
     (all_bytes c.args.haystack.now c.type_inv.haystack)
     (c.search_input.ensures.preferred c.self.invariant.kind) c.search_input.ensures.none c.search_input.ensures.done)

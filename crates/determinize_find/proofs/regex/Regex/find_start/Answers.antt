@@ -28,7 +28,7 @@ unreachable-requires g c =
     = record { haystack = c.args.haystack.now; start = c.args.start; end = c.args.end; anchored = Yes } in
     let own : c.anchored-before.result ≡ back = search rules in
     let at : IsAt c.in_ok-begin.field-0 c.requires.1.start
-    = begin_found c.self.inside.forward.nfa c.self.inside.backward.nfa c.args.haystack.now c.args.start c.args.end
+    = begin_found (g.F.Engine.engine c.self.inside.forward).nfa (g.B.Engine.engine c.self.inside.backward).nfa c.args.haystack.now c.args.start c.args.end
     c.requires.0
     c.anchored-before.result c.requires.1 c.in_ok-begin.field-0 c.self.invariant.reverse c.self.invariant.reads_forward
     (subst (λ (n : Nfa). IsEnded n c.args.haystack.now c.args.start c.args.end c.requires.0 c.requires.1)
@@ -42,7 +42,7 @@ returns-clause-start g c asked m e =
     = record { haystack = c.args.haystack.now; start = c.args.start; end = c.args.end; anchored = Yes } in
     let own : c.anchored-before.result ≡ back = search rules in
     let at : IsAt c.in_ok-begin.field-0 m.start
-    = begin_found c.self.inside.forward.nfa c.self.inside.backward.nfa c.args.haystack.now c.args.start c.args.end asked
+    = begin_found (g.F.Engine.engine c.self.inside.forward).nfa (g.B.Engine.engine c.self.inside.backward).nfa c.args.haystack.now c.args.start c.args.end asked
     c.anchored-before.result m c.in_ok-begin.field-0 c.self.invariant.reverse c.self.invariant.reads_forward
     (subst (λ (n : Nfa). IsEnded n c.args.haystack.now c.args.start c.args.end asked m)
     (sym (ap (λ (v : RegexValue). v.nfa) c.self.view_is)) e)

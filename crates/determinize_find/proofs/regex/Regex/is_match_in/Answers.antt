@@ -14,6 +14,6 @@ returns-clause-found g c =
     let own : c.anchored-input.result ≡ asked = search rules in
     subst (λ (n : Nfa). IfOk c.is_match.result (λ found. Decides found (IsLeftmostIn n asked None → ⊥)))
     (ap (λ (v : RegexValue). v.nfa) c.self.view_is)
-    (found_in c.is_match.result c.self.inside.forward.nfa asked c.anchored-input.result own
+    (found_in c.is_match.result (g.F.Engine.engine c.self.inside.forward).nfa asked c.anchored-input.result own
     c.self.invariant.reads_forward c.self.invariant.prefix c.requires.start c.requires.in_haystack
     (all_bytes c.args.haystack.now c.type_inv.haystack) c.is_match.ensures.accepts c.is_match.ensures.done)

@@ -1,7 +1,7 @@
 use Rattle.std.proofs.Common.{rules, ◌+◌, ◌<◌, length}
 use Rattle.determinize_find.proofs.leftmost.TwoSearches.{all_bytes}
 use Rattle.determinize_find.proofs.streams.Certain.{certain_match, ends_before, is_ended, over_with}
-use Rattle.determinize_find.proofs.regex.Regex.certain.Goals as goal
+use Rattle.determinize_find.proofs.regex.LazyRegex+N+B+A.certain.Goals as goal
 
 pub overflow_add-end : goal.overflow_add-end
 overflow_add-end g c =

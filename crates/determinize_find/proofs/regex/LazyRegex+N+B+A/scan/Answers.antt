@@ -7,7 +7,7 @@ use Rattle.determinize_lazy.specs.Cache.{LazyValue}
 use Rattle.determinize_lazy.specs.Scans.{IsScan}
 use Rattle.determinize_find.specs.Regexes.{RegexValue}
 use Rattle.determinize_find.proofs.streams.Certain.{end_scan}
-use Rattle.determinize_find.proofs.regex.Regex.scan.Goals as goal
+use Rattle.determinize_find.proofs.regex.LazyRegex+N+B+A.scan.Goals as goal
 
 pub returns-clause-scan : goal.returns-clause-scan
 returns-clause-scan g c =
