@@ -18,6 +18,7 @@ mod builders;
 mod large;
 mod lazy;
 mod printing;
+mod scans;
 mod sets;
 mod states;
 mod steps;

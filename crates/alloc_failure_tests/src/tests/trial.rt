@@ -1,6 +1,6 @@
 //! What is done while each allocation fails in turn.
 
-use crate::tests::{Heap, Row, builders, lazy, printing, sets, states, steps, without};
+use crate::tests::{Heap, Row, builders, lazy, printing, scans, sets, states, steps, without};
 use determinize_below::{MatchKind, StateID};
 use determinize_replay::examples::Example;
 use std::process::Abort;
@@ -53,6 +53,10 @@ pub enum OfWalk {
     SearchInput(usize),
     /// Tests through a cache of this limit whether its text has a match.
     IsMatch(usize),
+    /// Scans its text in pieces through a cache of this limit.
+    Scan(usize),
+    /// Makes it by steps through a cache of this limit.
+    WalkBySteps(usize),
     /// Searches its text three times through one cache, the last time without an allocation.
     SearchCached(MatchKind),
     /// Makes the calls that do not allocate.
@@ -90,6 +94,8 @@ impl OfWalk {
             OfWalk::Search(limit) => lazy::search(rt, heap, row, limit),
             OfWalk::SearchInput(limit) => lazy::search_input(rt, heap, row, limit),
             OfWalk::IsMatch(limit) => lazy::is_match(rt, heap, row, limit),
+            OfWalk::Scan(limit) => scans::scan(rt, heap, row, limit),
+            OfWalk::WalkBySteps(limit) => scans::walk(rt, heap, row, limit),
             OfWalk::SearchCached(kind) => without::search_cached(rt, heap, row, kind),
             OfWalk::WithoutAllocation => without::walk(rt, heap, row),
         }
