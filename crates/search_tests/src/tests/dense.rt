@@ -183,8 +183,8 @@ fn last_patterns(alloc: Global, states: &[State]) -> Result<Vec<PatternID>, JobE
     Ok(last.match_pattern_ids()?.unwrap_or(Vec::new(alloc)))
 }
 
-/// Asserts that searches of the text of a walk by a DFA and by the smallest one have its last match,
-/// and that the patterns where the text ends are those of its last state.
+/// Asserts that searches of the text of a walk by a DFA and by the smallest one have its last
+/// match, and that the patterns where the text ends are those of its last state.
 fn expect_walk<R: Abort + AllocGlobal>(
     rt: &R,
     job: &Job<'_>,
