@@ -1,4 +1,5 @@
--- The names that the proofs of this crate have in common: of std, of the definitions, and of the crates below.
+-- The names that the proofs of this crate and of `determinize_dense` have in common: of std, of the definitions, and of
+-- the crates below.
 pub use Rattle.determinize_below.specs.Captures.{capture_next, followed}
 pub use Rattle.determinize_below.specs.Edges.{edges, is_capture, is_match, IsTested, pattern_in, pattern_of}
 pub use Rattle.determinize_below.specs.Edges.{patterns_of, target}
@@ -7,6 +8,7 @@ pub use Rattle.determinize_below.specs.Members.{has_id, Members}
 pub use Rattle.determinize_below.specs.Nfa.{AllResolve, IsAccepted}
 pub use Rattle.determinize_below.specs.Positions.{byte_edges, IsRun, true_edges, truth}
 pub use Rattle.determinize_below.specs.Reached.{IsReached, known_edges}
+pub use Rattle.determinize_below.specs.Search.{Asked, is_done}
 pub use Rattle.determinize_below.specs.Semantics.{Accepts, after_at, before_at, between, BinaryUnion, ByteRange}
 pub use Rattle.determinize_below.specs.Semantics.{Capture, choices, Dense, Fail, IsBestRun, IsPreferredRun, Look, Match}
 pub use Rattle.determinize_below.specs.Semantics.{Nfa, Node, Sparse, state_at, Text, Union}
@@ -14,32 +16,47 @@ pub use Rattle.determinize_below.specs.declared.search.HalfMatch.{HalfMatch}
 pub use Rattle.determinize_below.specs.declared.search.MatchKind.{MatchKind}
 pub use Rattle.determinize_below.specs.declared.search.MatchKind.TheVariants.{All, LeftmostFirst}
 pub use Rattle.determinize_core.specs.Chain.{future, units, value_after}
-pub use Rattle.determinize_core.specs.LastMatch.{ended_at, last_ended, last_match, lists_of}
+pub use Rattle.determinize_core.specs.LastMatch.{ended_at, IsFarthestMatch, IsPreferredMatch, last_ended, last_match}
+pub use Rattle.determinize_core.specs.LastMatch.{lists_of}
 pub use Rattle.determinize_core.specs.Private.Changes.{with_patterns}
+pub use Rattle.determinize_core.specs.Private.Interned.{AreInterned}
 pub use Rattle.determinize_core.specs.Private.Reading.{IsListRead}
+pub use Rattle.determinize_core.specs.Searches.{HasMatch, in_haystack, in_order, IsFarthestIn, IsPreferredIn, IsSearch}
+pub use Rattle.determinize_core.specs.Searches.{start_for, text_of}
+pub use Rattle.determinize_core.specs.States.{EachApart, IsIndex}
 pub use Rattle.determinize_core.specs.Step.{begun, distinct_states, is_reopened, left_by, opened_by, part_read}
 pub use Rattle.determinize_core.specs.Step.{patterns_read, start_value, targets, working_list}
 pub use Rattle.determinize_core.specs.Stepper.{StepperValue}
 pub use Rattle.determinize_core.specs.Tries.{edges_in_all, tries_again, tries_of}
 pub use Rattle.determinize_core.specs.Walk.{IsLeftmostWalk, IsWalkOfAll, ListsAccepted}
 pub use Rattle.determinize_start.specs.LookTables.{tables_of}
+pub use Rattle.determinize_state.specs.Equality.{same}
 pub use Rattle.determinize_state.specs.Recording.{added, added_one, needs, recorded}
 pub use Rattle.determinize_state.specs.Value.{dead, is_nonempty, Value}
 pub use Rattle.ordered_reach.proofs.Cases.{by_cases, by_option, by_test, or_false_left, or_false_right, some_injective}
 pub use Rattle.ordered_reach.specs.Paths.{Before, IsPath}
 pub use Rattle.ordered_reach.specs.Reach.{edge_count, ends, fresh, joined, member, none_held, ordered, with_node}
 pub use Rattle.ordered_reach.specs.Runs.{IsBeginning, IsLeastRun, placed, without}
-pub use Rattle.std.proofs.Common.{[], ap, append_assoc, arith, Bool, false, fold, get_or, if◌then◌else◌, length, List}
-pub use Rattle.std.proofs.Common.{map, nat_eq, None, not, Option, refl, Some, subst, suc, sym, take, true, zero, ℕ}
-pub use Rattle.std.proofs.Common.{◌&&◌, ◌*◌, ◌++◌, ◌+◌, ◌<◌, ◌||◌, ◌∙◌, ◌∷◌, ◌≡◌, ◌≤◌}
+pub use Rattle.std.proofs.Common.{[], ap, append_assoc, arith, Bool, drop, false, fold, get_or, get_or-set_other}
+pub use Rattle.std.proofs.Common.{get_or-set_same, if◌then◌else◌, inl, inr, length, length-append, List, map, nat_eq}
+pub use Rattle.std.proofs.Common.{None, not, Option, refl, replicate, rules, Some, subst, suc, sym, take, true, zero, ℕ}
+pub use Rattle.std.proofs.Common.{◌&&◌, ◌*◌, ◌++◌, ◌+◌, ◌-◌, ◌<◌, ◌||◌, ◌∙◌, ◌∷◌, ◌≡◌, ◌≤◌, ◌⊎◌}
 pub use Rattle.std.proofs.Math.Seq.{take-suc}
 pub use Rattle.std.proofs.lemmas.Bool.{eq-eqb, eqb-true, false≢true, or_left, true≢false}
 pub use Rattle.std.proofs.lemmas.Bool.Decides.{nat_tests}
-pub use Rattle.std.proofs.lemmas.List.{append-nil, map-append, take_all}
+pub use Rattle.std.proofs.lemmas.List.{append-nil, get_or-replicate, get_or-reverse, get_or_append_left, length-map}
+pub use Rattle.std.proofs.lemmas.List.{length-replicate, length-reverse, length-set, length-take, length-take-le}
+pub use Rattle.std.proofs.lemmas.List.{length_push, map-append, take-append-drop, take_all, take_at, take_more}
 pub use Rattle.std.proofs.lemmas.List.Concat.{flat_map-append}
 pub use Rattle.std.proofs.lemmas.List.Elements.{All-cons, All-head, All-nil, All-tail}
-pub use Rattle.std.proofs.lemmas.Option.{slice_get_past, slice_get_within}
-pub use Rattle.std.specs.List.{flat_map, list_any, range_with_len}
-pub use Rattle.std.specs.Option.{is_some, option_or, option_to_list}
-pub use Rattle.std.specs.Prelude.{cond, Contains, slice_get, ◌==◌}
+pub use Rattle.std.proofs.lemmas.Option.{get_or_from_slice_get, slice_get-get_or, slice_get-map, slice_get_past}
+pub use Rattle.std.proofs.lemmas.Option.{slice_get_within}
+pub use Rattle.std.proofs.lemmas.Result.{IfOk-weaker}
+pub use Rattle.std.specs.Cmp.{IsEquivalence, on_equiv}
+pub use Rattle.std.specs.HashMap.{get}
+pub use Rattle.std.specs.List.{flat_map, list_any, range_with_len, slice_range}
+pub use Rattle.std.specs.Map.{lookup}
+pub use Rattle.std.specs.Option.{IfSome, is_some, option_or, option_to_list}
+pub use Rattle.std.specs.Prelude.{cond, Contains, Decides, Err, IfNone, min, nat_lt, Ok, option_map, Result, slice_get}
+pub use Rattle.std.specs.Prelude.{slice_index, slice_set, unwrap_or, ◌==◌}
 pub use mathlib.Core.Path.{fun_ext}

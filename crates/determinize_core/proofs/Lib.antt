@@ -1,4 +1,6 @@
-mod Common
+pub mod Common
 pub mod closure
+pub mod finding
+pub mod states
 pub mod step
 pub mod walk

@@ -1,4 +1,5 @@
 -- What private functions promise each other: no public contract cites these definitions.
 pub mod Changes
+pub mod Interned
 pub mod Reading
 pub mod Search

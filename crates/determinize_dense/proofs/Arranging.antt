@@ -1,6 +1,6 @@
 -- The rows in the order of their ranks.
-use Rattle.determinize_lazy.proofs.Common.{List, ap, arith, inl, inr, is_nonempty, length, slice_index, subst, sym}
-use Rattle.determinize_lazy.proofs.Common.{ℕ, ◌*◌, ◌+◌, ◌<◌, ◌∙◌, ◌≡◌, ◌≤◌}
+use Rattle.determinize_core.proofs.Common.{List, ap, arith, inl, inr, is_nonempty, length, slice_index, subst, sym}
+use Rattle.determinize_core.proofs.Common.{ℕ, ◌*◌, ◌+◌, ◌<◌, ◌∙◌, ◌≡◌, ◌≤◌}
 use Rattle.determinize_dense.proofs.Common.{DfaValue, patterns_at}
 use Rattle.std.proofs.Math.Nat.{mul-le-mul_right}
 use Rattle.determinize_dense.proofs.Offsets.{offset-less}

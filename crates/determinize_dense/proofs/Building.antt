@@ -1,9 +1,9 @@
 -- A table that is being built: one value more, and one entry more.
-use Rattle.determinize_lazy.proofs.Common.{AllResolve, ap, arith, cond, dead, Err, false, get_or, inl, inr}
-use Rattle.determinize_lazy.proofs.Common.{IsAccepted, length, length_push, List, list_any, MatchKind, nat_eq, nat_lt}
-use Rattle.determinize_lazy.proofs.Common.{Nfa, None, Ok, refl, Result, same, slice_get, slice_index, slice_set, Some}
-use Rattle.determinize_lazy.proofs.Common.{subst, sym, true, Value, ℕ, [], get_or-set_other, get_or-set_same}
-use Rattle.determinize_lazy.proofs.Common.{length-set, slice_get-get_or, ◌*◌, ◌++◌, ◌+◌, ◌<◌, ◌∙◌, ◌∷◌, ◌≡◌, ◌≤◌}
+use Rattle.determinize_core.proofs.Common.{AllResolve, ap, arith, cond, dead, Err, false, get_or, inl, inr}
+use Rattle.determinize_core.proofs.Common.{IsAccepted, length, length_push, List, list_any, MatchKind, nat_eq, nat_lt}
+use Rattle.determinize_core.proofs.Common.{Nfa, None, Ok, refl, Result, same, slice_get, slice_index, slice_set, Some}
+use Rattle.determinize_core.proofs.Common.{subst, sym, true, Value, ℕ, [], get_or-set_other, get_or-set_same}
+use Rattle.determinize_core.proofs.Common.{length-set, slice_get-get_or, ◌*◌, ◌++◌, ◌+◌, ◌<◌, ◌∙◌, ◌∷◌, ◌≡◌, ◌≤◌}
 use Rattle.determinize_dense.proofs.Common.{AreClasses, AreClassesOf, AreStarts, Building, Classes, columns_of}
 use Rattle.determinize_dense.proofs.Common.{first_of, HasMoreStates, HasStates, IsBuilding, IsReachedValue, IsStart}
 use Rattle.determinize_dense.proofs.Common.{IsUnit, Stays, unit_at}
@@ -13,7 +13,7 @@ use Rattle.std.proofs.Math.Nat.{mul-le-mul_right, mul_comm}
 use Rattle.std.proofs.lemmas.Nat.{row-Below}
 use Rattle.std.proofs.lemmas.Option.{slice_get_read}
 use Rattle.determinize_dense.proofs.Reached.{reached-dead}
-use Rattle.determinize_lazy.proofs.tables.Values.{apart-push, get_more, get_push, not_both, not_none}
+use Rattle.determinize_core.proofs.states.Places.{apart-push, get_more, get_push, not_both, not_none}
 
 -- nothing changes
 pub stays-same : (b : Building) → Stays b b

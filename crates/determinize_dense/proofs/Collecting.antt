@@ -1,12 +1,12 @@
 -- Lists to which elements are added that satisfy a relation with their index.
-use Rattle.determinize_lazy.proofs.Common.{[], ap, arith, false, get_or, get_or-set_other, get_or-set_same}
-use Rattle.determinize_lazy.proofs.Common.{get_or_append_left, inl, inr, length, length_push, List, nat_eq, refl}
-use Rattle.determinize_lazy.proofs.Common.{slice_index, slice_set, subst, sym, true, ℕ, ◌*◌, ◌++◌, ◌+◌, ◌<◌, ◌∙◌, ◌∷◌}
-use Rattle.determinize_lazy.proofs.Common.{◌≡◌}
+use Rattle.determinize_core.proofs.Common.{[], ap, arith, false, get_or, get_or-set_other, get_or-set_same}
+use Rattle.determinize_core.proofs.Common.{get_or_append_left, inl, inr, length, length_push, List, nat_eq, refl}
+use Rattle.determinize_core.proofs.Common.{slice_index, slice_set, subst, sym, true, ℕ, ◌*◌, ◌++◌, ◌+◌, ◌<◌, ◌∙◌, ◌∷◌}
+use Rattle.determinize_core.proofs.Common.{◌≡◌}
 use Rattle.std.specs.Prelude.{◌%◌, ◌/◌}
 use Rattle.std.proofs.lemmas.Nat.{div-mul-add, mod-mul-add}
 use Rattle.determinize_dense.proofs.Common.{Table}
-use Rattle.determinize_lazy.proofs.tables.Values.{not_both}
+use Rattle.determinize_core.proofs.states.Places.{not_both}
 use Rattle.determinize_dense.specs.Private.Minimizing.{AreMergedEntries, entry, merged_entry}
 use Rattle.determinize_dense.specs.Private.Partition.{Blocks}
 use Rattle.determinize_dense.specs.Private.Rows.{offset_of}

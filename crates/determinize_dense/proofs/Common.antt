@@ -1,4 +1,4 @@
--- The names that the proofs of this crate have in common, besides those of `determinize_lazy`.
+-- The names that the proofs of this crate have in common, besides those of `determinize_core`.
 pub use Rattle.std.specs.Prelude.{All}
 pub use Rattle.determinize_core.specs.Step.{step}
 pub use Rattle.determinize_below.specs.ByteClasses.{AreClasses, AreClassesOf, Classes, first_of}

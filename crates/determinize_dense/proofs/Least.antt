@@ -1,6 +1,6 @@
 -- Tables with one meaning, of which one has the fewest rows.
-use Rattle.determinize_lazy.proofs.Common.{Bool, List, MatchKind, Nfa, Option, [], ap, arith, false, length, nat_eq}
-use Rattle.determinize_lazy.proofs.Common.{nat_lt, refl, subst, sym, true, ℕ, ◌++◌, ◌<◌, ◌∙◌, ◌∷◌, ◌≡◌, ◌≤◌}
+use Rattle.determinize_core.proofs.Common.{Bool, List, MatchKind, Nfa, Option, [], ap, arith, false, length, nat_eq}
+use Rattle.determinize_core.proofs.Common.{nat_lt, refl, subst, sym, true, ℕ, ◌++◌, ◌<◌, ◌∙◌, ◌∷◌, ◌≡◌, ◌≤◌}
 use Rattle.determinize_dense.specs.Dfa.{IsDfaOf}
 use Rattle.determinize_dense.proofs.Common.{All, DfaValue, IsDfa, IsUnit, Table, patterns_at, row_after, row_over}
 use Rattle.determinize_dense.proofs.Common.{start_kind_of, start_number, start_row}

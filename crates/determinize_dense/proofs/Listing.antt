@@ -1,7 +1,7 @@
 -- The patterns that match where a text ends, in words of runs.
-use Rattle.determinize_lazy.proofs.Common.{Accepts, after_at, ap, Contains, future, IsAccepted, length, LeftmostFirst}
-use Rattle.determinize_lazy.proofs.Common.{List, MatchKind, Nfa, Option, refl, slice_get, Some, start_value, subst}
-use Rattle.determinize_lazy.proofs.Common.{suc, sym, Text, units, Value, value_after, ℕ, [], ◌∙◌, ◌∷◌, ◌≡◌}
+use Rattle.determinize_core.proofs.Common.{Accepts, after_at, ap, Contains, future, IsAccepted, length, LeftmostFirst}
+use Rattle.determinize_core.proofs.Common.{List, MatchKind, Nfa, Option, refl, slice_get, Some, start_value, subst}
+use Rattle.determinize_core.proofs.Common.{suc, sym, Text, units, Value, value_after, ℕ, [], ◌∙◌, ◌∷◌, ◌≡◌}
 use Rattle.determinize_core.specs.Step.{step}
 use Rattle.determinize_below.specs.declared.search.MatchKind.TheVariants.{All}
 use Rattle.determinize_core.specs.Chain.{chain}

@@ -1,8 +1,8 @@
 -- Lists of patterns, one for each state.
-use Rattle.determinize_lazy.proofs.Common.{ap, get_or, length, List, map, None, refl, Some, sym, take, take_more}
-use Rattle.determinize_lazy.proofs.Common.{Value, ℕ, [], ◌++◌, ◌+◌, ◌<◌, ◌∙◌, ◌∷◌, ◌≡◌}
+use Rattle.determinize_core.proofs.Common.{ap, get_or, length, List, map, None, refl, Some, sym, take, take_more}
+use Rattle.determinize_core.proofs.Common.{Value, ℕ, [], ◌++◌, ◌+◌, ◌<◌, ◌∙◌, ◌∷◌, ◌≡◌}
 use Rattle.determinize_core.specs.Value.{listed}
-use Rattle.determinize_lazy.proofs.tables.Values.{not_none, of_some}
+use Rattle.determinize_core.proofs.states.Places.{not_none, of_some}
 
 -- what is listed
 pub listed-some : (ps xs : List ℕ) → Some xs ≡ listed ps → xs ≡ ps

@@ -1,7 +1,8 @@
 -- The table of the blocks of a stable partition.
-use Rattle.determinize_lazy.proofs.Common.{Bool, List, None, Option, Some, [], ap, arith}
-use Rattle.determinize_lazy.proofs.Common.{length, length-map, refl, slice_index, subst, sym, ℕ, ◌*◌, ◌++◌, ◌+◌, ◌<◌, ◌∙◌, ◌∷◌}
-use Rattle.determinize_lazy.proofs.Common.{◌≡◌, ◌≤◌}
+use Rattle.determinize_core.proofs.Common.{Bool, List, None, Option, Some, [], ap, arith}
+use Rattle.determinize_core.proofs.Common.{length, length-map, refl, slice_index, subst, sym, ℕ, ◌*◌, ◌++◌, ◌+◌, ◌<◌}
+use Rattle.determinize_core.proofs.Common.{◌∙◌, ◌∷◌}
+use Rattle.determinize_core.proofs.Common.{◌≡◌, ◌≤◌}
 use Rattle.determinize_dense.specs.Dfa.{IsDfaOf}
 use Rattle.determinize_dense.proofs.Common.{All, DfaValue, IsDfa, IsFilled, IsUnit, Table, column_of, patterns_at}
 use Rattle.determinize_dense.proofs.Common.{row_after, row_over, start_kind_of, start_number, start_row, value_from}

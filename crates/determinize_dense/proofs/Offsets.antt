@@ -1,6 +1,6 @@
 -- Offsets of rows.
-use Rattle.determinize_lazy.proofs.Common.{[], ap, arith, length, List, map, refl, slice_index, suc, sym, zero, ℕ, ◌*◌}
-use Rattle.determinize_lazy.proofs.Common.{◌+◌, ◌<◌, ◌∙◌, ◌∷◌, ◌≡◌, ◌≤◌}
+use Rattle.determinize_core.proofs.Common.{[], ap, arith, length, List, map, refl, slice_index, suc, sym, zero, ℕ, ◌*◌}
+use Rattle.determinize_core.proofs.Common.{◌+◌, ◌<◌, ◌∙◌, ◌∷◌, ◌≡◌, ◌≤◌}
 use Rattle.determinize_dense.proofs.Common.{Table}
 use Rattle.std.specs.Prelude.{◌/◌}
 use Rattle.std.proofs.Math.Nat.{mul-le-mul_right}

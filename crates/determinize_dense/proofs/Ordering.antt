@@ -1,8 +1,9 @@
 -- Rows in the order of their ranks, one row more at a time.
-use Rattle.determinize_lazy.proofs.Common.{List, [], ap, arith, false, get_or_append_left, get_or-set_other}
-use Rattle.determinize_lazy.proofs.Common.{get_or-set_same, inl, inr, length, length-replicate, length-set, length_push}
-use Rattle.determinize_lazy.proofs.Common.{nat_eq, refl, replicate, slice_index, slice_set, subst, sym, true, ℕ, ◌*◌, ◌++◌}
-use Rattle.determinize_lazy.proofs.Common.{◌+◌, ◌<◌, ◌∙◌, ◌∷◌, ◌≡◌, ◌≤◌}
+use Rattle.determinize_core.proofs.Common.{List, [], ap, arith, false, get_or_append_left, get_or-set_other}
+use Rattle.determinize_core.proofs.Common.{get_or-set_same, inl, inr, length, length-replicate, length-set, length_push}
+use Rattle.determinize_core.proofs.Common.{nat_eq, refl, replicate, slice_index, slice_set, subst, sym, true, ℕ, ◌*◌}
+use Rattle.determinize_core.proofs.Common.{◌++◌}
+use Rattle.determinize_core.proofs.Common.{◌+◌, ◌<◌, ◌∙◌, ◌∷◌, ◌≡◌, ◌≤◌}
 use Rattle.determinize_dense.proofs.Common.{All}
 use Rattle.std.specs.Prelude.{◌%◌, ◌/◌}
 use Rattle.std.proofs.Math.Nat.{mul-le-mul_right, mul_comm}

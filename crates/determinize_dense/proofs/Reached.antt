@@ -1,7 +1,7 @@
 -- The values that are reached, and how a start value depends on its kind.
-use Rattle.determinize_lazy.proofs.Common.{ap, arith, begun, Bool, cond, dead, false, List, MatchKind, nat_lt, Nfa}
-use Rattle.determinize_lazy.proofs.Common.{None, Option, refl, Some, start_value, subst, suc, sym, tables_of, true}
-use Rattle.determinize_lazy.proofs.Common.{Value, value_after, ℕ, [], ◌++◌, ◌+◌, ◌<◌, ◌∙◌, ◌∷◌, ◌≡◌}
+use Rattle.determinize_core.proofs.Common.{ap, arith, begun, Bool, cond, dead, false, List, MatchKind, nat_lt, Nfa}
+use Rattle.determinize_core.proofs.Common.{None, Option, refl, Some, start_value, subst, suc, sym, tables_of, true}
+use Rattle.determinize_core.proofs.Common.{Value, value_after, ℕ, [], ◌++◌, ◌+◌, ◌<◌, ◌∙◌, ◌∷◌, ◌≡◌}
 use Rattle.determinize_dense.proofs.Common.{All, IsReachedValue, IsUnit, number_of, start_in, start_kind_of}
 use Rattle.determinize_dense.proofs.Common.{start_of_number}
 use Rattle.std.specs.Prelude.{◌%◌}
@@ -21,9 +21,9 @@ use Rattle.determinize_core.specs.Alike.{NeedsTested}
 use Rattle.determinize_core.proofs.closure.EmptySearch.{reach-none}
 use Rattle.determinize_core.proofs.step.AlikeBytes.{each_need_is_tested}
 use Rattle.determinize_core.proofs.walk.WalkLoops.{value_after-push}
-use Rattle.determinize_lazy.proofs.finding.LastUnits.{step_over}
-pub use Rattle.determinize_lazy.proofs.finding.TextUnits.{one_unit}
-use Rattle.determinize_lazy.proofs.tables.Values.{of_some}
+use Rattle.determinize_core.proofs.finding.LastUnits.{step_over}
+pub use Rattle.determinize_core.proofs.finding.TextUnits.{one_unit}
+use Rattle.determinize_core.proofs.states.Places.{of_some}
 
 pub head_unit : (u : Option ℕ) (us : List (Option ℕ)) → All IsUnit (u ∷ us) → IsUnit u
 head_unit u us h = h 0 None (omega arith)

@@ -1,7 +1,8 @@
 -- Partitions of the rows of a table, which are split until each column is settled.
-use Rattle.determinize_lazy.proofs.Common.{List, Option, [], ap, arith, false, get_or-replicate, length, nat_eq}
-use Rattle.determinize_lazy.proofs.Common.{inl, inr, refl, replicate, slice_index, subst, sym, true, ℕ, ◌+◌, ◌-◌, ◌<◌, ◌∙◌, ◌∷◌}
-use Rattle.determinize_lazy.proofs.Common.{◌≡◌, ◌≤◌}
+use Rattle.determinize_core.proofs.Common.{List, Option, [], ap, arith, false, get_or-replicate, length, nat_eq}
+use Rattle.determinize_core.proofs.Common.{inl, inr, refl, replicate, slice_index, subst, sym, true, ℕ, ◌+◌, ◌-◌, ◌<◌}
+use Rattle.determinize_core.proofs.Common.{◌∙◌, ◌∷◌}
+use Rattle.determinize_core.proofs.Common.{◌≡◌, ◌≤◌}
 use Rattle.determinize_dense.proofs.Common.{All, IsFilled, IsUnit, Table, column_of, patterns_at, row_after, row_over}
 use Rattle.std.specs.Prelude.{suc, zero}
 use Rattle.determinize_dense.proofs.Reached.{no_units}

@@ -1,25 +1,25 @@
 -- A search by a table, one unit more at a time, and what it finds.
-use Rattle.determinize_lazy.proofs.Common.{ap, append_assoc, arith, Bool, drop, ended_at, future}
-use Rattle.determinize_lazy.proofs.Common.{get_or_from_slice_get, HalfMatch, is_some, last_match, length, List}
-use Rattle.determinize_lazy.proofs.Common.{Option, option_or, refl, slice_get, slice_get_within, Some}
-use Rattle.determinize_lazy.proofs.Common.{start_value, subst, sym, take, take_all, take_more, Text, true, units}
-use Rattle.determinize_lazy.proofs.Common.{Value, value_after, ℕ, [], append-nil, last_match-push, length-take-le}
-use Rattle.determinize_lazy.proofs.Common.{take-append-drop, true≢false, ◌++◌, ◌+◌, ◌<◌, ◌∙◌, ◌∷◌, ◌≡◌, ◌≤◌}
-use Rattle.determinize_lazy.proofs.Common.{get_or, inl, inr, is_nonempty, map, None}
-use Rattle.determinize_lazy.proofs.Common.{length-append, length-map, slice_get-get_or, suc, zero, ◌*◌, ◌-◌}
+use Rattle.determinize_core.proofs.Common.{[], ap, append-nil, append_assoc, arith, Bool, drop, ended_at, future}
+use Rattle.determinize_core.proofs.Common.{get_or, get_or_from_slice_get, HalfMatch, inl, inr, is_nonempty, is_some}
+use Rattle.determinize_core.proofs.Common.{last_match, length, length-append, length-map, length-take-le, List, map}
+use Rattle.determinize_core.proofs.Common.{None, Option, option_or, refl, slice_get, slice_get-get_or, slice_get_within}
+use Rattle.determinize_core.proofs.Common.{Some, start_value, subst, suc, sym, take, take-append-drop, take_all}
+use Rattle.determinize_core.proofs.Common.{take_more, Text, true, true≢false, units, Value, value_after, zero, ℕ, ◌*◌}
+use Rattle.determinize_core.proofs.Common.{◌++◌, ◌+◌, ◌-◌, ◌<◌, ◌∙◌, ◌∷◌, ◌≡◌, ◌≤◌}
 use Rattle.determinize_dense.proofs.Common.{All, DfaValue, IsDfa, IsFound, IsRowFrom, IsSearched, IsUnit, patterns_at}
 use Rattle.determinize_dense.proofs.Common.{row_after, row_over, start_in, start_row, value_from}
 use Rattle.determinize_dense.proofs.Lists.{map-push}
 use Rattle.determinize_core.specs.Chain.{chain}
 use Rattle.std.proofs.lemmas.List.Elements.{All-append, All-drop}
-use Rattle.determinize_lazy.proofs.finding.Searching.{longer}
-use Rattle.determinize_lazy.proofs.finding.Texts.{units_listed}
+use Rattle.determinize_core.proofs.finding.LastUnits.{longer}
+use Rattle.determinize_core.proofs.finding.Texts.{units_listed}
 use Rattle.determinize_dense.proofs.Offsets.{offset-zero, same-offset}
 use Rattle.determinize_dense.proofs.Reached.{head_unit, no_units, one_unit, tail_units}
 use Rattle.determinize_dense.proofs.Splitting.{below_or}
 use Rattle.determinize_dense.specs.Private.Order.{IsOrdered}
 use Rattle.determinize_dense.specs.Private.Rows.{HasPatterns, IsNext, IsOffset, offset_of}
 use Rattle.determinize_dense.specs.Private.Searching.{IsMatch, StaysOver}
+use Rattle.determinize_core.proofs.walk.LastMatches.{last_match-push}
 
 -- the rows along units, one more
 row_after-push : (d : DfaValue) (r : ℕ) (us : List (Option ℕ)) (u : Option ℕ)

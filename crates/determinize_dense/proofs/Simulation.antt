@@ -1,9 +1,9 @@
 -- The table that is built: each row follows the steps of its value.
-use Rattle.determinize_lazy.proofs.Common.{ap, arith, Bool, cond, Contains, dead, get_or, get_or_from_slice_get}
-use Rattle.determinize_lazy.proofs.Common.{length, List, map, MatchKind, nat_lt, Nfa, None, Option, option_map, refl}
-use Rattle.determinize_lazy.proofs.Common.{slice_get, slice_get_within, slice_index, Some, start_value, subst, sym}
-use Rattle.determinize_lazy.proofs.Common.{true, Value, value_after, ℕ, [], length-map, slice_get-get_or}
-use Rattle.determinize_lazy.proofs.Common.{slice_get-map, ◌*◌, ◌+◌, ◌<◌, ◌∙◌, ◌∷◌, ◌≡◌}
+use Rattle.determinize_core.proofs.Common.{ap, arith, Bool, cond, Contains, dead, get_or, get_or_from_slice_get}
+use Rattle.determinize_core.proofs.Common.{length, List, map, MatchKind, nat_lt, Nfa, None, Option, option_map, refl}
+use Rattle.determinize_core.proofs.Common.{slice_get, slice_get_within, slice_index, Some, start_value, subst, sym}
+use Rattle.determinize_core.proofs.Common.{true, Value, value_after, ℕ, [], length-map, slice_get-get_or}
+use Rattle.determinize_core.proofs.Common.{slice_get-map, ◌*◌, ◌+◌, ◌<◌, ◌∙◌, ◌∷◌, ◌≡◌}
 use Rattle.determinize_dense.proofs.Common.{All, AreStarts, Building, column_of, columns_of, first_of, HasStates}
 use Rattle.determinize_dense.proofs.Common.{IsBuilding, IsDfa, IsFilled, IsReachedValue, IsUnit, patterns_at}
 use Rattle.determinize_dense.proofs.Common.{row_after, row_over, start_in, start_kind_of, start_number, start_row}
@@ -18,7 +18,7 @@ use Rattle.std.proofs.lemmas.Nat.{div-mul-add, mod-mul-add, mul-add-lt}
 use Rattle.determinize_core.specs.Alike.{NeedsTested}
 use Rattle.determinize_core.proofs.step.AlikeBytes.{each_class_steps}
 use Rattle.determinize_core.proofs.step.StepLaws.{dead_stays}
-use Rattle.determinize_lazy.proofs.tables.Values.{of_some}
+use Rattle.determinize_core.proofs.states.Places.{of_some}
 use Rattle.determinize_dense.proofs.Reached.{head_unit, reached-tested, start-number, tail_units}
 
 -- units after units

@@ -1,5 +1,5 @@
 -- The entries of a table.
-use Rattle.determinize_lazy.proofs.Common.{length, List, Option, slice_index, subst, sym, ℕ, ◌*◌, ◌+◌, ◌<◌, ◌∙◌, ◌≡◌}
+use Rattle.determinize_core.proofs.Common.{length, List, Option, slice_index, subst, sym, ℕ, ◌*◌, ◌+◌, ◌<◌, ◌∙◌, ◌≡◌}
 use Rattle.determinize_dense.specs.Private.Minimizing.{entry}
 use Rattle.determinize_dense.specs.Private.Rows.{IsStored, offset_of}
 use Rattle.determinize_dense.proofs.Common.{column_of, DfaValue, IsFilled, IsUnit, row_over, Table}

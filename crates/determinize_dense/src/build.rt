@@ -22,8 +22,7 @@ use determinize_below::{MatchKind, NFA, PatternID, StateID, Unit};
 use determinize_core::determinize::Stepper;
 use determinize_core::start::{Start, start_kind_of};
 use determinize_core::state::State;
-use determinize_lazy::state_id::LazyStateId;
-use determinize_lazy::state_table::StateTable;
+use determinize_core::state_table::{MAX_STATES, StateTable};
 use std::alloc::{AllocError, Allocator};
 use std::marker::Model;
 
@@ -61,14 +60,12 @@ impl<'n, N: Allocator, A: Allocator> Model for Builder<'n, N, A> {
     } };
 }
 
-/// The greatest number of states: that of the ids.
-const MAX_STATES: usize = 16647160;
-
-/// Returns the number of the row of a state.
-fn row_of(id: LazyStateId) -> u32
-    ensures { result ≡ id }
+/// Returns the number of the row of the state at an index.
+fn row_of(index: usize) -> u32
+    requires { index < MAX_STATES }
+    ensures { result ≡ index }
 {
-    id.index() as u32
+    index as u32
 }
 
 /// Returns the byte with this number, or `None` for any number above 255.
@@ -197,8 +194,8 @@ impl<'n, N: Allocator, A: Allocator + Copy> Builder<'n, N, A> {
         ensures many { result ≡ Err TooManyStates
             → HasMoreStates self.old.nfa self.old.kind self.old.limit }
     {
-        if let Some(id) = self.states.find(&state) {
-            return Ok(row_of(id));
+        if let Some(index) = self.states.find(&state) {
+            return Ok(row_of(index));
         }
         if self.states.len() == self.limit {
             return Err(BuildError::TooManyStates);

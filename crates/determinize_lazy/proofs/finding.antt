@@ -1,8 +1,4 @@
--- Searches: their text, the last match, and searches of haystacks.
-pub mod Headline
-pub mod LastUnits
-pub mod Ranges
+-- Searches over the cache: what they find and leave, in a haystack and in pieces.
+pub mod CachedRanges
 pub mod Scanning
 pub mod Searching
-pub mod TextUnits
-pub mod Texts

@@ -1,5 +1,4 @@
 -- The transition table: its states, its rows, and one transition more.
-pub mod Interning
 pub mod TableRows
 pub mod Transitions
 pub mod Values

@@ -1,9 +1,10 @@
+pub use Rattle.determinize_core.specs.Engines
+pub use Rattle.determinize_core.specs.Searches
 pub mod Cache
-pub mod Engines
+pub mod CachedSearches
 pub mod Plenty
 pub mod Private
 pub mod Scans
-pub mod Searches
 pub mod Stored
 pub mod Table
 pub mod Walkers

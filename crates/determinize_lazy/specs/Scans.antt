@@ -8,7 +8,7 @@ use Rattle.determinize_core.specs.LastMatch.{last_match}
 use Rattle.determinize_core.specs.Step.{start_value, step}
 use Rattle.determinize_core.specs.Value.{Value}
 use Rattle.determinize_lazy.specs.Cache.{Cache, step_of}
-use Rattle.determinize_lazy.specs.Searches.{units_read}
+use Rattle.determinize_lazy.specs.CachedSearches.{units_read}
 
 -- what a `Scan` is seen as: the value of the state where it is, the last match of the states so
 -- far, and how many bytes it was fed

@@ -1,9 +1,10 @@
 -- A transition table: the cached states, and the cached transitions between them.
 use Rattle.std.specs.Prelude.{◌≡◌, ℕ, Bool, cond, ◌&&◌, Option, Some, None, List, [], ◌∷◌, ◌++◌, ◌⊎◌, is_some, nat_eq}
-use Rattle.std.specs.Prelude.{false, slice_get, Contains, MatchOption}
+use Rattle.std.specs.Prelude.{Contains}
 use Rattle.std.specs.List.{list_any, position_from}
 use Rattle.std.specs.Option.{option_eq}
-pub use Rattle.determinize_core.specs.Equality.{same}
+use Rattle.determinize_core.specs.Equality.{same}
+use Rattle.determinize_core.specs.States.{EachApart}
 use Rattle.determinize_core.specs.Value.{Value}
 
 -- the cached states, and for each cached transition, from a state over a byte or over EOI, its
@@ -48,16 +49,6 @@ with_transition t v u w = record {
 -- the index of the first value that is equal
 abbrev pub index_in : List Value → Value → Option ℕ
 index_in values v = position_from (same v) 0 values
-
--- the index of a value; `None` if it is not among the states
-abbrev pub IsIndex : List Value → Value → Option ℕ → Type 0
-IsIndex states v index =
-    MatchOption index (list_any (same v) states ≡ false) (λ p. slice_get states p ≡ Some v)
-
--- no two of the values are equal
-abbrev pub EachApart : List Value → Type 0
-EachApart values = (p q : ℕ) (v : Value) → slice_get values p ≡ Some v → slice_get values q ≡ Some v
-    → p ≡ q
 
 -- each state is there once, and it is the source or the target of a cached transition; each cached
 -- transition is a step of the DFA, and its source and its target are there

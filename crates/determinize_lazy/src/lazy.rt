@@ -16,10 +16,10 @@ ghost use Rattle.determinize_lazy.specs.Private.Steps.{IsSound};
 ghost use Rattle.determinize_lazy.specs.Table.{IsTable, empty};
 
 use crate::table::TransitionTable;
-use crate::text::Text;
 use determinize_below::{MatchKind, NFA, StateID};
 use determinize_core::determinize::Stepper;
 use determinize_core::state::State;
+use determinize_core::text::Text;
 use std::alloc::{AllocError, Allocator, Global};
 use std::marker::Model;
 

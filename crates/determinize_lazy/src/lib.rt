@@ -4,35 +4,26 @@
 //! the states that `determinize_core::determinize::walk` returns. A search returns the last match
 //! of such a walk, also in a range of a haystack and in either direction.
 //!
-//! - `lazy`: the type, and walks. `search`: searches. `text`: what they read. `step`: one step of
-//!   either. `scan`: searches of texts in pieces. `walker`: walks by steps.
-//! - `engine`: what a lazy DFA and a whole one (`determinize_dense`) have in common.
-//! - `table`: the transition table and the rule of what is cached, with `state_table` (the cached
-//!   states), `state_id` and `tag`.
-//!
-//! `text`, `state_table` and `state_id` are public for `determinize_dense`.
+//! - `lazy`: the type, and walks. `search`: searches. `step`: one step of either. `scan`: searches
+//!   of texts in pieces. `walker`: walks by steps. `engine`: a lazy DFA as an `Engine`.
+//! - `table`: the transition table and the rule of what is cached, with `state_id` and `tag`.
 //!
 //! A `Result` is `Err` only if an allocation fails or more than 16647160 states would be cached.
 #![tactic(auto)]
 
 mod debug;
-pub mod engine;
+mod engine;
 pub mod laws;
 pub mod lazy;
 mod scan;
 mod search;
-#[doc(hidden)]
-pub mod state_id;
-#[doc(hidden)]
-pub mod state_table;
+mod state_id;
 mod step;
 mod table;
 mod tag;
-#[doc(hidden)]
-pub mod text;
 mod walker;
 
-pub use crate::engine::Engine;
 pub use crate::lazy::Lazy;
 pub use crate::scan::Scan;
 pub use crate::walker::Walker;
+pub use determinize_core::engine::Engine;

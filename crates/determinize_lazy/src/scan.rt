@@ -13,13 +13,13 @@ ghost use Rattle.determinize_core.specs.Value.{is_nonempty};
 ghost use Rattle.determinize_lazy.specs.Cache.{Grows, IsCutOff, after_step, after_walk, cache};
 ghost use Rattle.determinize_lazy.specs.Private.Scanned.{later_by};
 ghost use Rattle.determinize_lazy.specs.Scans.{IsScan, IsSettled, units_fed, units_last};
-ghost use Rattle.determinize_lazy.specs.Searches.{IsSearch};
+ghost use Rattle.determinize_core.specs.Searches.{IsSearch};
 ghost use Rattle.determinize_below.specs.declared.search.MatchKind.{MatchKind as Kind};
 
 use crate::lazy::Lazy;
-use crate::text::Text;
 use determinize_below::{HalfMatch, StateID};
 use determinize_core::state::State;
+use determinize_core::text::Text;
 use std::alloc::{AllocError, Allocator, Global};
 use std::marker::Model;
 

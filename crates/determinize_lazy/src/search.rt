@@ -23,14 +23,15 @@ ghost use Rattle.determinize_lazy.specs.Private.Cursors.{IsCursor, cursor_value}
 ghost use Rattle.determinize_lazy.specs.Private.Searched.{HasStopped, IsCutOffSearch, IsOver, IsOverIn, IsSearched};
 ghost use Rattle.determinize_lazy.specs.Private.Steps.{IsSound};
 ghost use Rattle.determinize_lazy.specs.Private.Tags.{match_of};
-ghost use Rattle.determinize_lazy.specs.Searches.{HasMatch, IsCutOffIn, IsFarthestIn, IsPlenty, IsPlentyIn, IsPreferredIn, IsSearch, after_input, after_is_match, after_search, has_start, last_in, start_for, text_of, units_searched};
+ghost use Rattle.determinize_core.specs.Searches.{HasMatch, IsFarthestIn, IsPreferredIn, IsSearch, has_start, last_in, start_for, text_of};
+ghost use Rattle.determinize_lazy.specs.CachedSearches.{IsCutOffIn, IsPlenty, IsPlentyIn, after_input, after_is_match, after_search, units_searched};
 
 use crate::lazy::Lazy;
 use crate::state_id::LazyStateId;
 use crate::table::Cursor;
 use crate::tag::LastMatch;
-use crate::text::{Text, in_haystack};
 use determinize_below::{Anchored, HalfMatch, Input, StateID};
+use determinize_core::text::{Text, in_haystack};
 use std::alloc::{AllocError, Allocator};
 
 /// How far a search has come: where it is, how many units it has read, and the last match of the

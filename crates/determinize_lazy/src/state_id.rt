@@ -1,8 +1,8 @@
 //! The id of a cached state: the offset of its row in the transition table.
 
-ghost use Rattle.std.specs.Prelude.{◌≡◌, ◌≤◌, ◌*◌, ◌/◌, is_some, nat_lt};
-ghost use Rattle.std.specs.Option.{IfSome};
+ghost use Rattle.std.specs.Prelude.{◌≡◌, ◌<◌, ◌≤◌, ◌*◌, ◌/◌};
 
+use determinize_core::state_table::MAX_STATES;
 use std::marker::Model;
 
 /// The number of units: the bytes, and the end of input (EOI).
@@ -11,15 +11,12 @@ pub(crate) const UNITS: usize = 257;
 /// The number of columns of a row: a target for each unit, and the tag of the state.
 pub(crate) const COLUMNS: usize = UNITS + 1;
 
-/// The greatest number of cached states, 16647160: the offset of each row has 32 bits.
-const MAX_STATES: usize = u32::MAX as usize / COLUMNS;
-
 /// The id of a cached state, seen as the state's index.
 ///
 /// It is premultiplied: stored is the offset of the state's row, so that a search only adds the
 /// column of a unit to it to find the next id.
 #[derive(Clone, Copy)]
-pub struct LazyStateId {
+pub(crate) struct LazyStateId {
     row: usize,
 }
 
@@ -36,17 +33,13 @@ impl Model for LazyStateId {
 }
 
 impl LazyStateId {
-    /// Returns the id of the state at an index, or `None` if the offset of its row does not fit.
-    pub fn new(index: usize) -> Option<LazyStateId>
-        ensures value { IfSome result (λ id. id ≡ index) }
-        ensures some { is_some result ≡ nat_lt index 16647160 }
+    /// Returns the id of the state at an index.
+    pub(crate) fn from_index(index: usize) -> LazyStateId
+        requires { index < MAX_STATES }
+        ensures { result ≡ index }
     {
-        if index < MAX_STATES {
-            Some(LazyStateId {
-                row: index * COLUMNS,
-            })
-        } else {
-            None
+        LazyStateId {
+            row: index * COLUMNS,
         }
     }
 
@@ -61,9 +54,9 @@ impl LazyStateId {
 
     /// Returns the index of the state.
     #[inline(always)]
-    pub fn index(self) -> usize
+    pub(crate) fn index(self) -> usize
         ensures value { result ≡ self }
-        ensures limit { result ≤ 16647160 }
+        ensures limit { result ≤ MAX_STATES }
     {
         self.row / COLUMNS
     }

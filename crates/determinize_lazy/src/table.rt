@@ -15,12 +15,14 @@ ghost use Rattle.determinize_lazy.specs.Private.Cursors.{IsAt, IsCursor, cursor_
 ghost use Rattle.determinize_lazy.specs.Private.Rows.{IsTarget, IsTargetIndex, StartsStay, table_of, with_state};
 ghost use Rattle.determinize_lazy.specs.Private.Tags.{tag_in, tag_of};
 ghost use Rattle.determinize_lazy.specs.Stored.{column, is_unit};
-ghost use Rattle.determinize_lazy.specs.Table.{IsIndex, empty, same, with_transition, with_value};
+ghost use Rattle.determinize_core.specs.States.{IsIndex};
+ghost use Rattle.determinize_lazy.specs.Table.{empty, with_transition, with_value};
+ghost use Rattle.determinize_core.specs.Equality.{same};
 
 use crate::state_id::{COLUMNS, LazyStateId, UNITS};
-use crate::state_table::StateTable;
 use crate::tag::StateTag;
 use determinize_core::state::State;
+use determinize_core::state_table::{MAX_STATES, StateTable};
 use std::alloc::{AllocError, Allocator, Global};
 use std::marker::Model;
 use std::mem::size_of;
@@ -116,7 +118,7 @@ impl<A: Allocator + Copy> TransitionTable<A> {
     #[inline(always)]
     pub(crate) fn len(&self) -> usize
         ensures value { result ≡ length self.now.states }
-        ensures limit { result ≤ 16647160 }
+        ensures limit { result ≤ MAX_STATES }
     {
         self.states.len()
     }
@@ -157,7 +159,8 @@ impl<A: Allocator + Copy> TransitionTable<A> {
     pub(crate) fn find(&self, state: &State<A>) -> Option<LazyStateId>
         ensures { IsIndex self.now.states state.now result }
     {
-        self.states.find(state)
+        let index = self.states.find(state)?;
+        Some(LazyStateId::from_index(index))
     }
 
     /// Returns the cached state with this id.
@@ -166,7 +169,7 @@ impl<A: Allocator + Copy> TransitionTable<A> {
         requires { id < length self.now.states }
         ensures { slice_get self.now.states id ≡ Some result.now }
     {
-        self.states.get(id)
+        self.states.get(id.index())
     }
 
     /// Returns whether a state is cached with this id.
@@ -251,7 +254,7 @@ impl<A: Allocator + Copy> TransitionTable<A> {
         self.rows.resize(len + COLUMNS, UNKNOWN)?;
         self.rows[len + UNITS] = tag.bits;
         match self.states.intern(state) {
-            Ok(id) => Ok(id),
+            Ok(index) => Ok(LazyStateId::from_index(index)),
             Err(failed) => {
                 self.rows.truncate(len);
                 Err(failed)

@@ -1,7 +1,7 @@
 //! Searches through a cache: their matches, and how far they read.
 
 ghost use Rattle.std.specs.Prelude.{◌≡◌, true};
-ghost use Rattle.determinize_lazy.specs.Searches.{has_start};
+ghost use Rattle.determinize_core.specs.Searches.{has_start};
 
 use crate::tests::lazy::{WORDS, nfa};
 use crate::tests::{ended, same};

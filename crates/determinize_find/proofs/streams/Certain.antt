@@ -18,8 +18,8 @@ use Rattle.ordered_reach.proofs.Cases.{by_cases, some_injective}
 use Rattle.determinize_start.specs.StartKinds.{byte_before}
 use Rattle.determinize_core.specs.Step.{start_value}
 use Rattle.determinize_lazy.specs.Scans.{IsScan, IsSettled, Scanned}
-use Rattle.determinize_lazy.proofs.finding.Headline.{preferred}
-use Rattle.determinize_lazy.proofs.finding.LastUnits.{last_match-within}
+use Rattle.determinize_core.proofs.finding.Headline.{preferred}
+use Rattle.determinize_core.proofs.finding.LastUnits.{last_match-within}
 use Rattle.determinize_find.specs.Laws.{end_of}
 use Rattle.determinize_find.specs.Leftmost.{AcceptsFrom, IsLeftmost, IsLeftmostMatch}
 use Rattle.determinize_find.specs.LeftmostIn.{IsLeftmostIn, moved}

@@ -17,7 +17,7 @@ use Rattle.determinize_core.specs.Laws.{one_later}
 use Rattle.determinize_core.specs.Step.{step}
 use Rattle.determinize_lazy.specs.Private.Scanned.{later_by}
 use Rattle.determinize_lazy.specs.Scans.{IsScan, IsSettled, Scanned}
-use Rattle.determinize_lazy.proofs.finding.LastUnits.{last_match-over, step_over}
+use Rattle.determinize_core.proofs.finding.LastUnits.{last_match-over, step_over}
 use Rattle.determinize_lazy.proofs.finding.Searching.{finished, read_none, stopped}
 
 -- a match of the rest, further on

@@ -1,14 +1,13 @@
 -- A search, one unit more at a time, and what it leaves.
-use Rattle.determinize_lazy.proofs.Common.{[], after_step, after_walk, ap, append-nil, append_assoc, arith, Bool}
-use Rattle.determinize_lazy.proofs.Common.{Cache, cond, drop, drop_all, ended_at, false, future, HalfMatch, is_last}
+use Rattle.determinize_lazy.proofs.Common.{[], after_step, after_walk, ap, append-nil, append_assoc, arith, Bool, Cache}
+use Rattle.determinize_lazy.proofs.Common.{cond, drop, drop_all, ended_at, false, future, HalfMatch, is_last}
 use Rattle.determinize_lazy.proofs.Common.{is_last_tag, is_nonempty, is_some, IsCutOffSearch, IsFailedStep, IsOver}
 use Rattle.determinize_lazy.proofs.Common.{IsReached, IsSearched, last_match, last_match-push, length, List, match_at}
-use Rattle.determinize_lazy.proofs.Common.{match_reported, nat_eq, reported}
-use Rattle.determinize_lazy.proofs.Common.{MatchKind, Nfa, None, not, Option, option_or, refl, slice_get, Some}
-use Rattle.determinize_lazy.proofs.Common.{step_of, sym, Tag, tag_in, tag_of, take, take-append-drop, take_all, true}
-use Rattle.determinize_lazy.proofs.Common.{true≢false, units_read, Value, value_after, ℕ, ◌&&◌, ◌++◌, ◌+◌, ◌-◌, ◌||◌}
-use Rattle.determinize_lazy.proofs.Common.{◌∙◌, ◌∷◌, ◌≡◌, ◌≤◌}
-use Rattle.determinize_lazy.proofs.finding.LastUnits.{last_match-over}
+use Rattle.determinize_lazy.proofs.Common.{match_reported, nat_eq, None, not, Option, option_or, refl, reported}
+use Rattle.determinize_lazy.proofs.Common.{slice_get, Some, step_of, sym, Tag, tag_in, tag_of, take, take-append-drop}
+use Rattle.determinize_lazy.proofs.Common.{take_all, true, true≢false, units_read, Value, value_after, ℕ, ◌&&◌, ◌++◌}
+use Rattle.determinize_lazy.proofs.Common.{◌+◌, ◌-◌, ◌||◌, ◌∙◌, ◌∷◌, ◌≡◌, ◌≤◌}
+use Rattle.determinize_core.proofs.finding.LastUnits.{last_match-over, longer}
 use Rattle.determinize_lazy.proofs.walking.CachedWalks.{cut_off-step, drop-one, follows, get-after, reached-push}
 use Rattle.determinize_lazy.proofs.walking.CachedWalks.{take-before, take-length, take-one}
 
@@ -55,18 +54,6 @@ ended_some : (offset : ℕ) (patterns : List ℕ) (last : Option HalfMatch) → 
     → is_some (option_or (ended_at offset patterns) last) ≡ true
 ended_some offset [] last h = absurd (true≢false (sym h))
 ended_some offset (p ∷ ps) last h = refl
-
--- a match that was found stays found over more units
-pub longer : (nfa : Nfa) (kind : MatchKind) (v : Value) (us rest : List (Option ℕ))
-    → is_some (last_match (future nfa kind v us)) ≡ true → is_some (last_match (future nfa kind v (us ++ rest))) ≡ true
-longer nfa kind v us [] h = ap (λ all. is_some (last_match (future nfa kind v all))) (append-nil us) ∙ h
-longer nfa kind v us (u ∷ rest) h =
-    ap (λ all. is_some (last_match (future nfa kind v all))) (sym (append_assoc us (u ∷ []) rest))
-    ∙ longer nfa kind v (us ++ u ∷ []) rest (ap is_some (last_match-push nfa kind v us u) ∙ either _ _ h)
-  where
-    either : (o p : Option HalfMatch) → is_some p ≡ true → is_some (option_or o p) ≡ true
-    either None p k = k
-    either (Some m) p k = refl
 
 module _ {earliest : Bool} {old : Cache} {first : Value} {us : List (Option ℕ)} {read : ℕ} {v : Value}
     {last : Option HalfMatch} {now : Cache} (s : IsSearched earliest old first us read v last now) where

@@ -13,7 +13,8 @@ use Rattle.determinize_start.specs.declared.start.Start.{Start as Kind}
 use Rattle.determinize_start.specs.declared.start.Start.TheVariants.{CustomLineTerminator, LineCR, LineLF, NonWordByte}
 use Rattle.determinize_start.specs.declared.start.Start.TheVariants.{Text, WordByte}
 use Rattle.determinize_state.specs.Recording.{recorded}
-use Rattle.determinize_lazy.proofs.tables.Values.{get_with, not_both, not_none, of_some}
+use Rattle.determinize_lazy.proofs.tables.Values.{get_with}
+use Rattle.determinize_core.proofs.states.Places.{not_both, not_none, of_some}
 
 -- none is kept
 pub none_kept : (i index : ℕ) → slice_get (replicate {A = Option ℕ} 12 None) i ≡ Some (Some index) → ⊥

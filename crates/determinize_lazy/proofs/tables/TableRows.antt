@@ -9,8 +9,10 @@ use Rattle.determinize_lazy.proofs.Common.{slice_index, slice_set, Some, state_a
 use Rattle.determinize_lazy.proofs.Common.{tag_of, take, target_from, target_in, true, Value, with_target, ℕ, ◌&&◌}
 use Rattle.determinize_lazy.proofs.Common.{◌*◌, ◌++◌, ◌+◌, ◌-◌, ◌/◌, ◌<◌, ◌∙◌, ◌∷◌, ◌≡◌, ◌≢◌, ◌≤◌}
 use Rattle.determinize_below.specs.Truth.{IsUnit}
-use Rattle.determinize_lazy.proofs.tables.Values.{apart-push, Decides-transition, get_more, get_push, index_is}
-use Rattle.determinize_lazy.proofs.tables.Values.{none_passes, not_both, of_some, there}
+use Rattle.determinize_core.proofs.states.Places.{apart-push, get_more, get_push}
+use Rattle.determinize_lazy.proofs.tables.Values.{Decides-transition, index_is}
+use Rattle.determinize_lazy.proofs.tables.Values.{none_passes}
+use Rattle.determinize_core.proofs.states.Places.{not_both, of_some, there}
 
 column-lt : (u : Option ℕ) → IsUnit u → column u < 257
 column-lt (Some b) h = omega (arith, h)

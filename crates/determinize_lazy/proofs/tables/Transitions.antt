@@ -6,8 +6,10 @@ use Rattle.determinize_lazy.proofs.Common.{list_any_congr, None, Option, refl, s
 use Rattle.determinize_lazy.proofs.Common.{sym, Table, true, Value, with_state, with_target, with_transition}
 use Rattle.determinize_lazy.proofs.Common.{with_value, ℕ, ◌&&◌, ◌+◌, ◌<◌, ◌||◌, ◌∙◌, ◌≡◌}
 use Rattle.determinize_lazy.proofs.tables.Values.{any_with, apart-with, Decides-transition, get_with, has_more}
-use Rattle.determinize_lazy.proofs.tables.Values.{has_new, length_with, not_both, not_none, of_some, of_with}
-use Rattle.determinize_lazy.proofs.tables.Values.{same_laws, there, with_value-there}
+use Rattle.determinize_lazy.proofs.tables.Values.{has_new, length_with, of_with}
+use Rattle.determinize_core.proofs.states.Places.{not_both, not_none, of_some}
+use Rattle.determinize_core.proofs.states.Places.{same_laws, there}
+use Rattle.determinize_lazy.proofs.tables.Values.{with_value-there}
 
 pub with_target-by : (target : Value → Option ℕ → Option Value) (v : Value) (u : Option ℕ) (w x : Value) (y : Option ℕ)
     (P : Option Value → Type 0) → ((x ≡ v) × (y ≡ u) → P (Some w)) → P (target x y) → P (with_target target v u w x y)

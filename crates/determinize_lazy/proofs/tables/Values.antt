@@ -1,31 +1,14 @@
 -- Cached values: their indices, and the values with one more.
 use Rattle.determinize_lazy.proofs.Common.{[], add-zero, ap, arith, Bool, cond, Contains, Decides, EachApart, false}
-use Rattle.determinize_lazy.proofs.Common.{index_in, inl, inr, IsEquivalence, length, length_push, List, list_any}
-use Rattle.determinize_lazy.proofs.Common.{list_any_congr, nat_eq, None, on_equiv, Option, position_from, refl, same}
-use Rattle.determinize_lazy.proofs.Common.{same_unit, slice_get, Some, suc, sym, true, true≢false, unwrap_or, Value}
-use Rattle.determinize_lazy.proofs.Common.{with_value, zero, ℕ, ◌&&◌, ◌++◌, ◌+◌, ◌||◌, ◌∙◌, ◌∷◌, ◌≡◌, ◌⊎◌}
+use Rattle.determinize_lazy.proofs.Common.{index_in, inl, length, length_push, List, list_any, list_any_congr, nat_eq}
+use Rattle.determinize_lazy.proofs.Common.{None, Option, position_from, refl, same, same_unit, slice_get, Some, suc}
+use Rattle.determinize_lazy.proofs.Common.{sym, true, Value, with_value, ℕ, ◌&&◌, ◌++◌, ◌+◌, ◌||◌, ◌∙◌, ◌∷◌, ◌≡◌, ◌⊎◌}
 use Rattle.std.proofs.lemmas.Bool.Decides.{Decides-and}
 use Rattle.std.proofs.lemmas.List.Elements.{Contains-append_left, Contains-push, Contains-push_cases}
 use Rattle.std.proofs.lemmas.List.Folds.{list_any-append}
-use Rattle.std.proofs.lemmas.Map.Keys.{any_passes_from_place}
 use Rattle.std.proofs.lemmas.Map.Views.{Contains-from_any}
-use Rattle.std.specs.Cmp.Lexicographic.{nat_list_eq_equiv}
-use Rattle.determinize_state.specs.Equality.{Decides-same, parts}
-
-pub of_some : {A : Type 0} {x y : A} → Some x ≡ Some y → x ≡ y
-of_some {A} {x} e = ap (λ (o : Option A). unwrap_or o x) e
-
-pub not_none : {A X : Type 0} {x : A} → Some x ≡ None → X
-not_none e = absurd (let no : ⊥ = (cc) in no)
-
-pub not_both : {X : Type 0} {b : Bool} → b ≡ true → b ≡ false → X
-not_both t f = absurd (true≢false (sym t ∙ f))
-
-pub same_laws : IsEquivalence same
-same_laws = on_equiv parts nat_list_eq_equiv
-
-pub same_is : (v w : Value) → same v w ≡ true → v ≡ w
-same_is v w = (Decides-same v w).0
+use Rattle.determinize_state.specs.Equality.{Decides-same}
+use Rattle.determinize_core.proofs.states.Places.{apart-push, get_more, not_both, not_none, of_some, same_is, same_laws}
 
 Decides-unit : (u w : Option ℕ) → Decides (same_unit u w) (u ≡ w)
 Decides-unit (Some a) (Some b) = (
@@ -62,24 +45,6 @@ module _ {K : Type 0} (t : K → Bool) where
       elim (t x) as (λ b. cond b (Some i) (position_from t (i + 1) xs) ≡ None → (b || list_any t xs) ≡ false)
       [ true ↦ λ no. not_none no | false ↦ λ rest. none_passes xs (i + 1) rest ] e
 
-module _ {K : Type 0} where
-  pub get_push : (xs : List K) (x : K) (p : ℕ) (q : K) → slice_get (xs ++ x ∷ []) p ≡ Some q
-      → (slice_get xs p ≡ Some q) ⊎ ((p ≡ length xs) × (q ≡ x))
-  get_push [] x zero q e = inr (refl, sym (of_some e))
-  get_push [] x (suc p) q e = not_none (sym e)
-  get_push (y ∷ ys) x zero q e = inl e
-  get_push (y ∷ ys) x (suc p) q e = elim (get_push ys x p q e) [ inl h ↦ inl h | inr h ↦ inr (ap suc h.0, h.1) ]
-
-  -- the last element
-  pub get_last : (xs : List K) (x : K) → slice_get (xs ++ x ∷ []) (length xs) ≡ Some x
-  get_last [] x = refl
-  get_last (y ∷ ys) x = get_last ys x
-
-  pub get_more : (xs ys : List K) (p : ℕ) (q : K) → slice_get xs p ≡ Some q → slice_get (xs ++ ys) p ≡ Some q
-  get_more [] ys p q e = not_none (sym e)
-  get_more (x ∷ xs) ys zero q e = e
-  get_more (x ∷ xs) ys (suc p) q e = get_more xs ys p q e
-
 -- the index that is found of a value is one of it
 pub index_is : (values : List Value) (v : Value) (p : ℕ) → index_in values v ≡ Some p → slice_get values p ≡ Some v
 index_is values v p here =
@@ -89,9 +54,6 @@ index_is values v p here =
     ap (λ k. slice_get values k) p_is ∙ f.3 ∙ ap Some (sym (same_is v (f.1) f.4))
 
 module _ (values : List Value) where
-  pub there : (v : Value) (p : ℕ) → slice_get values p ≡ Some v → list_any (same v) values ≡ true
-  there v p at = any_passes_from_place (same v) values p v at (same_laws.refl v)
-
   -- with one more
   module _ (w : Value) where
     pub with_value-there : list_any (same w) values ≡ true → with_value values w ≡ values
@@ -141,15 +103,6 @@ module _ (values : List Value) where
         or_nothing true = refl
         or_nothing false = refl
 
-    -- no two of them are equal
-    pub apart-push : EachApart values → list_any (same w) values ≡ false → EachApart (values ++ w ∷ [])
-    apart-push apart new p q v at_p at_q = elim (get_push values w p v at_p) [
-      | inl a ↦ elim (get_push values w q v at_q)
-          [ inl b ↦ apart p q v a b | inr b ↦ not_both (there w p (a ∙ ap Some b.1)) new ]
-      | inr a ↦ elim (get_push values w q v at_q)
-          [ inl b ↦ not_both (there w q (b ∙ ap Some a.1)) new | inr b ↦ a.0 ∙ sym b.0 ]
-    ]
-
     pub apart-with : EachApart values → EachApart (with_value values w)
     apart-with h = elim (list_any (same w) values) as (λ b. list_any (same w) values ≡ b
-        → EachApart (cond b values (values ++ w ∷ []))) [ true ↦ λ _. h | false ↦ λ e. apart-push h e ] refl
+        → EachApart (cond b values (values ++ w ∷ []))) [ true ↦ λ _. h | false ↦ λ e. apart-push values w h e ] refl

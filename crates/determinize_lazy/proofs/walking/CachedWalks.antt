@@ -9,7 +9,7 @@ use Rattle.std.proofs.Math.Seq.{take-append_seam}
 use Rattle.determinize_core.specs.Step.{step}
 use Rattle.determinize_core.proofs.walk.WalkLoops.{future-push, value_after-push}
 use Rattle.determinize_core.proofs.step.Resolving.{step_resolves}
-use Rattle.determinize_lazy.proofs.tables.Values.{get_last, get_more}
+use Rattle.determinize_core.proofs.states.Places.{get_last, get_more}
 
 -- a step more
 pub after_walk-push : (us : List (Option ℕ)) (c : Cache) (v : Value) (u : Option ℕ)

@@ -6,7 +6,8 @@ use Rattle.determinize_lazy.proofs.Common.{missing, nat_le, Option, refl, same, 
 use Rattle.determinize_lazy.proofs.Common.{Value, with_step, with_transition, with_value, with_values, with_walk, ℕ, ⊤}
 use Rattle.determinize_lazy.proofs.Common.{◌+◌, ◌∙◌, ◌∷◌, ◌≡◌, ◌≤◌}
 use Rattle.determinize_lazy.proofs.tables.Transitions.{not_source, with_target-by, with_target-new, with_transition-is}
-use Rattle.determinize_lazy.proofs.tables.Values.{has_new, length_with, not_both, same_laws, with_value-there}
+use Rattle.determinize_lazy.proofs.tables.Values.{has_new, length_with, with_value-there}
+use Rattle.determinize_core.proofs.states.Places.{not_both, same_laws}
 use Rattle.determinize_lazy.proofs.walking.CachedWalks.{same_steps}
 
 module _ (f : Value → Option ℕ → Value) where

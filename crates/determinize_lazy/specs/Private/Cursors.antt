@@ -1,8 +1,8 @@
 -- Where a walk or a search is: at a cached state, or at one that is not cached.
 use Rattle.std.specs.Prelude.{◌≡◌, ◌<◌, false, List, length, slice_index_or}
 use Rattle.std.specs.List.{list_any}
+use Rattle.determinize_core.specs.Equality.{same}
 use Rattle.determinize_core.specs.Value.{Value, dead}
-use Rattle.determinize_lazy.specs.Table.{same}
 use Rattle.determinize_lazy.specs.declared.table.Cursor.{Cursor}
 use Rattle.determinize_lazy.specs.declared.table.Cursor.TheVariants.{Cached, Uncached}
 

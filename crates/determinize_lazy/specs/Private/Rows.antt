@@ -1,11 +1,13 @@
 -- What is true of the rows of a transition table, and what lookups in it return.
-use Rattle.std.specs.Prelude.{◌≡◌, ℕ, ◌+◌, ◌*◌, ◌<◌, ◌≤◌, Option, Some, None, List, length, slice_get}
+use Rattle.std.specs.Prelude.{◌≡◌, ℕ, ◌+◌, ◌*◌, ◌<◌, Option, Some, None, List, length, slice_get}
 use Rattle.std.specs.Prelude.{slice_index}
 use Rattle.std.specs.List.{list_any}
 use Rattle.determinize_below.specs.Truth.{IsUnit}
+use Rattle.determinize_core.specs.Equality.{same}
+use Rattle.determinize_core.specs.States.{EachApart}
 use Rattle.determinize_core.specs.Value.{Value}
 use Rattle.determinize_lazy.specs.Stored.{entry_at, table_in, target_in}
-use Rattle.determinize_lazy.specs.Table.{EachApart, IsIndex, Table, same, with_value}
+use Rattle.determinize_lazy.specs.Table.{Table, with_value}
 use Rattle.determinize_lazy.specs.Private.Tags.{tag_in, tag_of}
 
 -- an entry is the offset of the row of the target, or 1 if the target is unknown: 1 is the offset
@@ -47,13 +49,6 @@ abbrev pub IsTargetIndex : List Value → ℕ → Value → Option ℕ → Type 
 IsTargetIndex states source w None =
     (v : Value) → slice_get states source ≡ Some v → list_any (same w) states ≡ same v w
 IsTargetIndex states source w (Some p) = slice_get states p ≡ Some w
-
--- states of which no two are equal, at most 16647160, whose rows have offsets of 32 bits, and a
--- map to their indices
-pub record AreInterned (states : List Value) (index : Value → Option ℕ) : Type 0 where
-  pub mapped : (v : Value) → IsIndex states v (index v)
-  pub apart : EachApart states
-  pub few : length states ≤ 16647160
 
 -- what the program's table is seen as: states, their rows, and for each kind of start the index of
 -- the start state

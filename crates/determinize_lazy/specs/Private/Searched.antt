@@ -10,7 +10,8 @@ use Rattle.determinize_core.specs.Step.{start_value}
 use Rattle.determinize_core.specs.Value.{Value}
 use Rattle.determinize_core.specs.LastMatch.{ended_at, last_match}
 use Rattle.determinize_lazy.specs.Cache.{Cache, IsCutOff, after_walk, step_of}
-use Rattle.determinize_lazy.specs.Searches.{is_last, start_for, text_of, units_read}
+use Rattle.determinize_lazy.specs.CachedSearches.{is_last, units_read}
+use Rattle.determinize_core.specs.Searches.{start_for, text_of}
 
 -- a walk from a value over units, of which it has read some: the value where it is, and the cache
 pub record IsReached (old : Cache) (first : Value) (us : List (Option ℕ)) (read : ℕ) (v : Value)

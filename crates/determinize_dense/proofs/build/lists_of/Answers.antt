@@ -1,4 +1,4 @@
-use Rattle.determinize_lazy.proofs.Common.{ap, map, rules, sym, take_all, Value, ◌∙◌}
+use Rattle.determinize_core.proofs.Common.{ap, map, rules, sym, take_all, Value, ◌∙◌}
 use Rattle.determinize_dense.proofs.Lists.{lists-push}
 use Rattle.determinize_dense.proofs.build.lists_of.Goals as goal
 

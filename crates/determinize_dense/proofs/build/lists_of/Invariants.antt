@@ -1,4 +1,4 @@
-use Rattle.determinize_lazy.proofs.Common.{map, take, Value, ◌≡◌}
+use Rattle.determinize_core.proofs.Common.{map, take, Value, ◌≡◌}
 use Rattle.determinize_dense.proofs.build.lists_of.Given as goal
 
 abbrev pub invariant-loop-state : goal.invariant-loop-state

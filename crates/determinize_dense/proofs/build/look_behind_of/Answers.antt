@@ -1,5 +1,5 @@
-use Rattle.determinize_lazy.proofs.Common.{ap, arith, cond, false, nat_eq, nat_lt, None, Option, refl, rules, Some}
-use Rattle.determinize_lazy.proofs.Common.{subst, true, ℕ, ◌∙◌, ◌≡◌, ◌≤◌}
+use Rattle.determinize_core.proofs.Common.{ap, arith, cond, false, nat_eq, nat_lt, None, Option, refl, rules, Some}
+use Rattle.determinize_core.proofs.Common.{subst, true, ℕ, ◌∙◌, ◌≡◌, ◌≤◌}
 use Rattle.determinize_dense.proofs.Common.{IsUnit, number_of, start_kind_of}
 use Rattle.determinize_dense.proofs.build.look_behind_of.Goals as goal
 

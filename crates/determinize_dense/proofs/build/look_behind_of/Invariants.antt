@@ -1,4 +1,4 @@
-use Rattle.determinize_lazy.proofs.Common.{cond, nat_lt, None, Some, ℕ, ◌<◌, ◌≡◌}
+use Rattle.determinize_core.proofs.Common.{cond, nat_lt, None, Some, ℕ, ◌<◌, ◌≡◌}
 use Rattle.determinize_dense.proofs.Common.{number_of, start_kind_of}
 use Rattle.determinize_dense.proofs.build.look_behind_of.Given as goal
 

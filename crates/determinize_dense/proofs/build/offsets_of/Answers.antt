@@ -1,4 +1,4 @@
-use Rattle.determinize_lazy.proofs.Common.{ap, map, rules, take_all, ◌*◌, ◌∙◌}
+use Rattle.determinize_core.proofs.Common.{ap, map, rules, take_all, ◌*◌, ◌∙◌}
 use Rattle.determinize_dense.proofs.Lists.{mapped-push}
 use Rattle.determinize_dense.proofs.build.offsets_of.Goals as goal
 

@@ -1,4 +1,4 @@
-use Rattle.determinize_lazy.proofs.Common.{map, take, ◌*◌, ◌≡◌}
+use Rattle.determinize_core.proofs.Common.{map, take, ◌*◌, ◌≡◌}
 use Rattle.determinize_dense.proofs.build.offsets_of.Given as goal
 
 abbrev pub invariant-loop-row : goal.invariant-loop-row

@@ -1,5 +1,5 @@
-use Rattle.determinize_lazy.proofs.Common.{AllResolve, ap, arith, Err, length, rules, subst, sym, [], ◌*◌, ◌++◌, ◌<◌}
-use Rattle.determinize_lazy.proofs.Common.{◌∙◌, ◌∷◌, ◌≡◌}
+use Rattle.determinize_core.proofs.Common.{AllResolve, ap, arith, Err, length, rules, subst, sym, [], ◌*◌, ◌++◌, ◌<◌}
+use Rattle.determinize_core.proofs.Common.{◌∙◌, ◌∷◌, ◌≡◌}
 use Rattle.determinize_dense.proofs.Common.{Building, columns_of, IsBuilding, IsReachedValue, Stays, unit_at}
 use Rattle.std.specs.Prelude.{◌%◌, ◌/◌}
 use Rattle.determinize_below.specs.Unit.{byte_of}

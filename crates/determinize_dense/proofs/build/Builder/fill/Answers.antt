@@ -1,4 +1,4 @@
-use Rattle.determinize_lazy.proofs.Common.{ap, Err, rules, sym, ◌∙◌, ◌≡◌}
+use Rattle.determinize_core.proofs.Common.{ap, Err, rules, sym, ◌∙◌, ◌≡◌}
 use Rattle.determinize_dense.proofs.Building.{same_err, more-before}
 use Rattle.determinize_dense.proofs.build.Builder.fill.Goals as goal
 

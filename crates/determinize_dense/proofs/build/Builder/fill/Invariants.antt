@@ -1,4 +1,4 @@
-use Rattle.determinize_lazy.proofs.Common.{length, ◌*◌, ◌-◌, ◌≡◌}
+use Rattle.determinize_core.proofs.Common.{length, ◌*◌, ◌-◌, ◌≡◌}
 use Rattle.determinize_dense.proofs.Common.{columns_of, Stays}
 use Rattle.determinize_dense.proofs.build.Builder.fill.Given as goal
 

@@ -1,4 +1,4 @@
-use Rattle.determinize_lazy.proofs.Common.{ap, length, map, subst, sym, Value, length-map, ◌*◌, ◌+◌, ◌<◌, ◌∙◌, ◌≡◌, ◌≤◌}
+use Rattle.determinize_core.proofs.Common.{ap, length, map, subst, sym, Value, length-map, ◌*◌, ◌+◌, ◌<◌, ◌∙◌, ◌≡◌, ◌≤◌}
 use Rattle.determinize_dense.proofs.Common.{All, AreStarts, Building, columns_of, HasStates, IsBuilding}
 use Rattle.determinize_dense.proofs.Simulation.{has_states, is_stored, rows-few}
 use Rattle.determinize_dense.specs.Private.Rows.{IsStored, rows_at}

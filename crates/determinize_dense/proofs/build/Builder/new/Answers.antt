@@ -1,4 +1,4 @@
-use Rattle.determinize_lazy.proofs.Common.{ap, arith, dead, min, subst, sym, [], ◌++◌, ◌∙◌, ◌∷◌, ◌≡◌}
+use Rattle.determinize_core.proofs.Common.{ap, arith, dead, min, subst, sym, [], ◌++◌, ◌∙◌, ◌∷◌, ◌≡◌}
 use Rattle.determinize_dense.proofs.Common.{IsBuilding}
 use Rattle.determinize_core.specs.Stepper.{StepperValue}
 use Rattle.determinize_dense.proofs.Building.{building-first, more-than-none}

@@ -1,13 +1,13 @@
-use Rattle.determinize_lazy.proofs.Common.{AllResolve, ap, arith, false, length, list_any, same, slice_get, subst}
-use Rattle.determinize_lazy.proofs.Common.{sym, [], ◌++◌, ◌∙◌, ◌∷◌, ◌≡◌, ◌≤◌}
+use Rattle.determinize_core.proofs.Common.{AllResolve, ap, arith, false, length, list_any, same, slice_get, subst}
+use Rattle.determinize_core.proofs.Common.{sym, [], ◌++◌, ◌∙◌, ◌∷◌, ◌≡◌, ◌≤◌}
 use Rattle.determinize_dense.proofs.Common.{Building, HasMoreStates, IsBuilding, IsReachedValue, Stays}
-use Rattle.determinize_lazy.proofs.tables.Values.{get_last}
+use Rattle.determinize_core.proofs.states.Places.{get_last}
 use Rattle.determinize_dense.proofs.Building.{building-value, one_too_many, stays-value}
 use Rattle.determinize_dense.proofs.build.Builder.place.Goals as goal
 
 pub returns-then-len-self-clause-many : goal.returns-then-len-self-clause-many
 returns-then-len-self-clause-many g c = λ _.
-    let fresh : list_any (same c.args.state) c.self.inside.states ≡ false = c.in_default.ensures in
+    let fresh : list_any (same c.args.state) c.self.inside.states ≡ false = c.in_default.ensures.index in
     subst (λ (x : Building). HasMoreStates x.nfa x.kind x.limit) c.self.view_is
     (one_too_many _ c.self.invariant c.args.state fresh
     (subst (λ (x : Building). IsReachedValue x.nfa x.kind c.args.state) (sym c.self.view_is) c.requires.reached)
@@ -15,7 +15,7 @@ returns-then-len-self-clause-many g c = λ _.
 
 pub invariant_of-self-2 : goal.invariant_of-self-2
 invariant_of-self-2 g c =
-    let fresh : list_any (same c.args.state) c.self.inside.states ≡ false = c.in_default.ensures in
+    let fresh : list_any (same c.args.state) c.self.inside.states ≡ false = c.in_default.ensures.index in
     let few : length c.self.inside.states ≤ c.self.inside.limit = c.self.invariant.few in
     let count : c.len.result ≡ length c.self.inside.states = c.len.ensures.value in
     let apart : c.len.result ≡ c.self.inside.limit → ⊥ = c.if-len-self.false in
@@ -36,12 +36,12 @@ pub returns-clause-at : goal.returns-clause-at
 returns-clause-at g c =
     ap (λ vs. slice_get vs c.row_of-2.result) c.in_ok-intern.ensures.states
     ∙ ap (λ n. slice_get (c.self.inside.states ++ c.args.state ∷ []) n)
-    (c.row_of-2.ensures ∙ c.in_ok-intern.ensures.id)
+    (c.row_of-2.ensures ∙ c.in_ok-intern.ensures.index)
     ∙ get_last c.self.inside.states c.args.state
 
 pub returns-clause-stays : goal.returns-clause-stays
 returns-clause-stays g c =
-    let fresh : list_any (same c.args.state) c.self.inside.states ≡ false = c.in_default.ensures in
+    let fresh : list_any (same c.args.state) c.self.inside.states ≡ false = c.in_default.ensures.index in
     subst (λ (x : Building). Stays x record {
       nfa = c.self.inside.stepper.nfa;
       kind = c.self.inside.stepper.kind;

@@ -1,5 +1,5 @@
-use Rattle.determinize_lazy.proofs.Common.{ap, Bool, nat_lt, Option, slice_get_within, Some, start_value, sym, ℕ}
-use Rattle.determinize_lazy.proofs.Common.{IfOk-weaker, ◌∙◌, ◌≡◌}
+use Rattle.determinize_core.proofs.Common.{ap, Bool, nat_lt, Option, slice_get_within, Some, start_value, sym, ℕ}
+use Rattle.determinize_core.proofs.Common.{IfOk-weaker, ◌∙◌, ◌≡◌}
 use Rattle.determinize_dense.proofs.Common.{Building, number_of, start_in, start_kind_of, start_number}
 use Rattle.std.specs.Prelude.{◌%◌}
 use Rattle.determinize_below.specs.Semantics.{Nfa}

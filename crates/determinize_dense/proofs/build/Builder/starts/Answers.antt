@@ -1,4 +1,4 @@
-use Rattle.determinize_lazy.proofs.Common.{ap, arith, Err, refl, rules, subst, sym, ◌<◌, ◌∙◌, ◌≡◌}
+use Rattle.determinize_core.proofs.Common.{ap, arith, Err, refl, rules, subst, sym, ◌<◌, ◌∙◌, ◌≡◌}
 use Rattle.determinize_dense.proofs.Common.{IsStart}
 use Rattle.determinize_dense.proofs.Building.{same_err, more-before, starts-push, starts-stay, stays-more, stays-same}
 use Rattle.determinize_dense.proofs.build.Builder.starts.Goals as goal

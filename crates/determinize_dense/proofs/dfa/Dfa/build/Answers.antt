@@ -1,4 +1,4 @@
-use Rattle.determinize_lazy.proofs.Common.{ap, Err, rules, subst, sym, ◌∙◌, ◌≡◌}
+use Rattle.determinize_core.proofs.Common.{ap, Err, rules, subst, sym, ◌∙◌, ◌≡◌}
 use Rattle.determinize_dense.proofs.Common.{AreStarts, HasStates}
 use Rattle.determinize_dense.proofs.Building.{same_err, more-as, more-before, starts-stay, states-as}
 use Rattle.determinize_dense.proofs.dfa.Dfa.build.Goals as goal

@@ -1,4 +1,4 @@
-use Rattle.determinize_lazy.proofs.Common.{Decides, HasMatch, subst, sym}
+use Rattle.determinize_core.proofs.Common.{Decides, HasMatch, subst, sym}
 use Rattle.determinize_dense.proofs.Inputs.{found-decides}
 use Rattle.determinize_dense.proofs.dfa.Dfa.is_match.Goals as goal
 

@@ -1,6 +1,6 @@
-use Rattle.determinize_lazy.proofs.Common.{ap, between, get_or, IsAccepted, length, map, refl, rules}
-use Rattle.determinize_lazy.proofs.Common.{Some, subst, sym, take_all, units, [], ◌++◌, ◌∙◌}
-use Rattle.determinize_lazy.proofs.Common.{◌<◌, ◌∷◌, ◌≡◌}
+use Rattle.determinize_core.proofs.Common.{ap, between, get_or, IsAccepted, length, map, refl, rules}
+use Rattle.determinize_core.proofs.Common.{Some, subst, sym, take_all, units, [], ◌++◌, ◌∙◌}
+use Rattle.determinize_core.proofs.Common.{◌<◌, ◌∷◌, ◌≡◌}
 use Rattle.determinize_dense.proofs.Common.{DfaValue, is_anchored, IsDfa, IsRowFrom, start_row, value_from}
 use Rattle.determinize_core.proofs.walk.UnitLists.{units_are}
 use Rattle.determinize_dense.proofs.Inputs.{start_is}

@@ -1,4 +1,4 @@
-use Rattle.determinize_lazy.proofs.Common.{map, Some, take}
+use Rattle.determinize_core.proofs.Common.{map, Some, take}
 use Rattle.determinize_dense.proofs.Common.{is_anchored, IsRowFrom}
 use Rattle.determinize_dense.proofs.dfa.Dfa.patterns_after.Given as goal
 

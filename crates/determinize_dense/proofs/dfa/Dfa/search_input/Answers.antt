@@ -1,5 +1,5 @@
-use Rattle.determinize_lazy.proofs.Common.{false, is_done, rules, sym, text_of, ◌∙◌, ◌≡◌}
-use Rattle.determinize_lazy.proofs.finding.Ranges.{is-answer, IsAnswer, last-done, offset-within}
+use Rattle.determinize_core.proofs.Common.{false, is_done, rules, sym, text_of, ◌∙◌, ◌≡◌}
+use Rattle.determinize_core.proofs.finding.Ranges.{is-answer, IsAnswer, last-done, offset-within}
 use Rattle.determinize_dense.proofs.Inputs.{found-search}
 use Rattle.determinize_dense.proofs.dfa.Dfa.search_input.Given.{Over}
 use Rattle.determinize_dense.proofs.dfa.Dfa.search_input.Goals.{After-in_haystack}

@@ -1,4 +1,4 @@
-use Rattle.determinize_lazy.proofs.Common.{length, ◌-◌, ◌≤◌}
+use Rattle.determinize_core.proofs.Common.{length, ◌-◌, ◌≤◌}
 use Rattle.determinize_dense.proofs.Common.{IsSearched}
 use Rattle.determinize_dense.proofs.dfa.Dfa.search_text.Given as goal
 

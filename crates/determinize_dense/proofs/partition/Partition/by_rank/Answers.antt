@@ -1,4 +1,4 @@
-use Rattle.determinize_lazy.proofs.Common.{ap, arith, length, rules, subst, sym, ℕ, ◌*◌, ◌+◌, ◌≡◌, ◌≤◌}
+use Rattle.determinize_core.proofs.Common.{ap, arith, length, rules, subst, sym, ℕ, ◌*◌, ◌+◌, ◌≡◌, ◌≤◌}
 use Rattle.determinize_dense.specs.Private.Partition.{IsOrdering}
 use Rattle.determinize_dense.proofs.Ordering.{ordering-as, ordering-blocks, ordering-by_rank, ordering-first, ordering-push}
 use Rattle.determinize_dense.proofs.Ordering.{ordering-skip}

@@ -1,5 +1,5 @@
-use Rattle.determinize_lazy.proofs.Common.{ap, length, subst, sym, ◌*◌, ◌+◌, ◌<◌}
-use Rattle.determinize_lazy.proofs.Common.{◌∙◌, ◌≡◌}
+use Rattle.determinize_core.proofs.Common.{ap, length, subst, sym, ◌*◌, ◌+◌, ◌<◌}
+use Rattle.determinize_core.proofs.Common.{◌∙◌, ◌≡◌}
 use Rattle.determinize_dense.proofs.Common.{DfaValue}
 use Rattle.determinize_dense.proofs.Arranging.{arranged-least, arranged-ordered, grouping-by_rank}
 use Rattle.determinize_dense.specs.Private.Partition.{IsByRank, IsLastUpto}

@@ -1,5 +1,5 @@
-use Rattle.determinize_lazy.proofs.Common.{[], ap, arith, Decides, false, length, length-map, nat_eq}
-use Rattle.determinize_lazy.proofs.Common.{refl, subst, sym, true, true≢false, ◌<◌, ◌∙◌, ◌≡◌}
+use Rattle.determinize_core.proofs.Common.{[], ap, arith, Decides, false, length, length-map, nat_eq}
+use Rattle.determinize_core.proofs.Common.{refl, subst, sym, true, true≢false, ◌<◌, ◌∙◌, ◌≡◌}
 use Rattle.determinize_dense.proofs.Common.{DfaValue, patterns_at}
 use Rattle.std.proofs.lemmas.List.{get_or-map}
 use Rattle.std.proofs.lemmas.Slice.Eq.{slice_eq-Decides}

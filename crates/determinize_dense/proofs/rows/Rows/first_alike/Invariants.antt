@@ -1,4 +1,4 @@
-use Rattle.determinize_lazy.proofs.Common.{ℕ, ◌<◌, ◌≡◌}
+use Rattle.determinize_core.proofs.Common.{ℕ, ◌<◌, ◌≡◌}
 use Rattle.determinize_dense.proofs.Common.{patterns_at}
 use Rattle.determinize_dense.proofs.rows.Rows.first_alike.Given as goal
 

@@ -1,5 +1,5 @@
-use Rattle.determinize_lazy.proofs.Common.{ap, arith, length, length_push, rules, slice_index, subst, sym, ℕ, ◌+◌, ◌<◌}
-use Rattle.determinize_lazy.proofs.Common.{◌∙◌, ◌≡◌, ◌≤◌}
+use Rattle.determinize_core.proofs.Common.{ap, arith, length, length_push, rules, slice_index, subst, sym, ℕ, ◌+◌, ◌<◌}
+use Rattle.determinize_core.proofs.Common.{◌∙◌, ◌≡◌, ◌≤◌}
 use Rattle.determinize_dense.proofs.Collecting.{each-push}
 use Rattle.determinize_dense.specs.Private.Minimizing.{IsFirstAlike}
 use Rattle.determinize_dense.proofs.rows.Rows.first_rows.Goals as goal

@@ -1,4 +1,4 @@
-use Rattle.determinize_lazy.proofs.Common.{ap, length, map, rules, subst, sym, ◌+◌, ◌∙◌, ◌≡◌, ◌≤◌}
+use Rattle.determinize_core.proofs.Common.{ap, length, map, rules, subst, sym, ◌+◌, ◌∙◌, ◌≡◌, ◌≤◌}
 use Rattle.determinize_dense.proofs.Common.{DfaValue, IsDfa}
 use Rattle.determinize_below.specs.ByteClasses.{Classes}
 use Rattle.determinize_dense.proofs.Merging.{merged-is, merged-stored, with_rows}

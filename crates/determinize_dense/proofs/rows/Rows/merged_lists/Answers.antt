@@ -1,5 +1,5 @@
-use Rattle.determinize_lazy.proofs.Common.{[], ap, arith, get_or, length, length-map, length_push, map, rules}
-use Rattle.determinize_lazy.proofs.Common.{slice_index, subst, sym, ℕ, ◌++◌, ◌+◌, ◌<◌, ◌∙◌, ◌∷◌, ◌≡◌}
+use Rattle.determinize_core.proofs.Common.{[], ap, arith, get_or, length, length-map, length_push, map, rules}
+use Rattle.determinize_core.proofs.Common.{slice_index, subst, sym, ℕ, ◌++◌, ◌+◌, ◌<◌, ◌∙◌, ◌∷◌, ◌≡◌}
 use Rattle.determinize_dense.proofs.Common.{DfaValue, patterns_at}
 use Rattle.std.proofs.lemmas.List.{get_or-map}
 use Rattle.std.proofs.lemmas.List.Elements.{same_from_all_zip}

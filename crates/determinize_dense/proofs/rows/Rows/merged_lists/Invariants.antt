@@ -1,4 +1,4 @@
-use Rattle.determinize_lazy.proofs.Common.{[], get_or, length, map, slice_index, ℕ, ◌<◌, ◌≡◌, ◌≤◌}
+use Rattle.determinize_core.proofs.Common.{[], get_or, length, map, slice_index, ℕ, ◌<◌, ◌≡◌, ◌≤◌}
 use Rattle.determinize_dense.proofs.Common.{patterns_at}
 use Rattle.determinize_dense.proofs.rows.Rows.merged_lists.Given as goal
 

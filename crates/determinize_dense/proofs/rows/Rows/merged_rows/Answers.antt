@@ -1,5 +1,5 @@
-use Rattle.determinize_lazy.proofs.Common.{ap, arith, length, length_push, slice_index, subst, sym, ℕ, ◌*◌, ◌+◌}
-use Rattle.determinize_lazy.proofs.Common.{◌<◌, ◌∙◌, ◌≡◌, ◌≤◌}
+use Rattle.determinize_core.proofs.Common.{ap, arith, length, length_push, slice_index, subst, sym, ℕ, ◌*◌, ◌+◌}
+use Rattle.determinize_core.proofs.Common.{◌<◌, ◌∙◌, ◌≡◌, ◌≤◌}
 use Rattle.std.specs.Prelude.{◌^◌}
 use Rattle.determinize_dense.proofs.Common.{DfaValue}
 use Rattle.std.proofs.Math.Nat.{mul-le-mul_right}

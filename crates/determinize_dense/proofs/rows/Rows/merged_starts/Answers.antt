@@ -1,4 +1,4 @@
-use Rattle.determinize_lazy.proofs.Common.{ap, arith, length, length-set, slice_index, subst, sym, ◌<◌, ◌∙◌, ◌≡◌, ◌≤◌}
+use Rattle.determinize_core.proofs.Common.{ap, arith, length, length-set, slice_index, subst, sym, ◌<◌, ◌∙◌, ◌≡◌, ◌≤◌}
 use Rattle.determinize_dense.proofs.Common.{DfaValue}
 use Rattle.determinize_dense.proofs.Collecting.{each-set}
 use Rattle.determinize_dense.proofs.Splitting.{few_blocks}

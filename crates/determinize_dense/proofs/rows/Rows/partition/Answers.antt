@@ -1,5 +1,5 @@
-use Rattle.determinize_lazy.proofs.Common.{ap, arith, length, length-replicate, None, replicate, subst, sym, true, ◌<◌}
-use Rattle.determinize_lazy.proofs.Common.{◌∙◌, ◌≡◌}
+use Rattle.determinize_core.proofs.Common.{ap, arith, length, length-replicate, None, replicate, subst, sym, true, ◌<◌}
+use Rattle.determinize_core.proofs.Common.{◌∙◌, ◌≡◌}
 use Rattle.determinize_dense.proofs.Common.{start_row}
 use Rattle.determinize_dense.proofs.Refining.{partition-first, refined-less, refined-stable}
 use Rattle.determinize_dense.specs.Private.Partition.{IsSplit}

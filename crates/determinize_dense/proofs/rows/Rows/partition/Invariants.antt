@@ -1,4 +1,4 @@
-use Rattle.determinize_lazy.proofs.Common.{length, ◌-◌}
+use Rattle.determinize_core.proofs.Common.{length, ◌-◌}
 use Rattle.determinize_dense.specs.Private.Minimizing.{IsPartition}
 use Rattle.determinize_dense.proofs.rows.Rows.partition.Given as goal
 

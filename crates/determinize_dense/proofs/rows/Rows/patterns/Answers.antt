@@ -1,5 +1,5 @@
-use Rattle.determinize_lazy.proofs.Common.{[], ap, get_or, length, length-map, rules, subst, sym, ℕ, ◌+◌, ◌<◌, ◌∙◌}
-use Rattle.determinize_lazy.proofs.Common.{◌≡◌}
+use Rattle.determinize_core.proofs.Common.{[], ap, get_or, length, length-map, rules, subst, sym, ℕ, ◌+◌, ◌<◌, ◌∙◌}
+use Rattle.determinize_core.proofs.Common.{◌≡◌}
 use Rattle.determinize_dense.proofs.Common.{DfaValue, patterns_at}
 use Rattle.std.proofs.lemmas.List.{get_or-map}
 use Rattle.std.specs.Prelude.{◌/◌}

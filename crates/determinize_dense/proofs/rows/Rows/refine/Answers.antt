@@ -1,4 +1,4 @@
-use Rattle.determinize_lazy.proofs.Common.{ap, arith, rules, ◌+◌, ◌∙◌, ◌≡◌, ◌≤◌}
+use Rattle.determinize_core.proofs.Common.{ap, arith, rules, ◌+◌, ◌∙◌, ◌≡◌, ◌≤◌}
 use Rattle.determinize_dense.proofs.Common.{DfaValue}
 use Rattle.determinize_dense.proofs.Refining.{refined-fewer, refined-first, refined-more}
 use Rattle.determinize_dense.proofs.rows.Rows.refine.Goals as goal

@@ -1,4 +1,4 @@
-use Rattle.determinize_lazy.proofs.Common.{ap, length, rules, slice_index, subst, sym, ℕ, ◌*◌, ◌+◌, ◌<◌, ◌∙◌, ◌≡◌}
+use Rattle.determinize_core.proofs.Common.{ap, length, rules, slice_index, subst, sym, ℕ, ◌*◌, ◌+◌, ◌<◌, ◌∙◌, ◌≡◌}
 use Rattle.determinize_dense.proofs.Common.{column_of, DfaValue, row_over}
 use Rattle.std.proofs.lemmas.Grind.{get_or_default_zero}
 use Rattle.std.specs.Vec.{vec_len}

@@ -1,4 +1,4 @@
-use Rattle.determinize_lazy.proofs.Common.{IfOk-weaker, subst}
+use Rattle.determinize_core.proofs.Common.{IfOk-weaker, subst}
 use Rattle.determinize_dense.proofs.Refining.{partition-split}
 use Rattle.determinize_dense.specs.Private.Partition.{IsSplit}
 use Rattle.determinize_dense.proofs.rows.Rows.split_by.Goals as goal

@@ -1,5 +1,5 @@
-use Rattle.determinize_lazy.proofs.Common.{ap, arith, length, length-map, length_push, rules, slice_index, subst, sym}
-use Rattle.determinize_lazy.proofs.Common.{ℕ, ◌+◌, ◌<◌, ◌∙◌, ◌≡◌, ◌≤◌}
+use Rattle.determinize_core.proofs.Common.{ap, arith, length, length-map, length_push, rules, slice_index, subst, sym}
+use Rattle.determinize_core.proofs.Common.{ℕ, ◌+◌, ◌<◌, ◌∙◌, ◌≡◌, ◌≤◌}
 use Rattle.determinize_dense.proofs.Common.{DfaValue, IsFilled}
 use Rattle.determinize_dense.proofs.Collecting.{each-push}
 use Rattle.determinize_dense.specs.Private.Minimizing.{entry}

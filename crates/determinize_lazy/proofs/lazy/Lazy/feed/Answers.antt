@@ -5,7 +5,7 @@ use Rattle.determinize_lazy.proofs.Common.{option_map, option_or, refl, Some, st
 use Rattle.determinize_lazy.proofs.Common.{Value, value_after, append-nil, Nfa, ℕ, ◌+◌, ◌<◌, ◌∙◌, ◌≡◌, ◌≤◌}
 use Rattle.determinize_lazy.specs.Private.Scanned.{later_by}
 use Rattle.determinize_lazy.specs.Scans.{Scanned}
-use Rattle.determinize_lazy.proofs.finding.LastUnits.{last_match-within}
+use Rattle.determinize_core.proofs.finding.LastUnits.{last_match-within}
 use Rattle.determinize_lazy.proofs.finding.Scanning.{later-within, piece-over, piece-value, scan-piece}
 use Rattle.determinize_lazy.proofs.finding.Searching.{none_yet, tag-match}
 use Rattle.determinize_lazy.proofs.steps.Rule.{along, of_err}

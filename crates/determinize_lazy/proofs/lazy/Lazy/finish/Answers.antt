@@ -3,7 +3,7 @@ use Rattle.determinize_lazy.proofs.Common.{option_or, refl, Text, units, ◌∙�
 use Rattle.determinize_core.specs.Chain.{chain}
 use Rattle.determinize_lazy.specs.Private.Scanned.{later_by}
 use Rattle.determinize_lazy.specs.Scans.{Scanned}
-use Rattle.determinize_lazy.proofs.finding.Headline.{is-search}
+use Rattle.determinize_core.proofs.finding.Headline.{is-search}
 use Rattle.determinize_lazy.proofs.finding.Scanning.{last-whole}
 use Rattle.determinize_lazy.proofs.lazy.Lazy.finish.Goals as goal
 

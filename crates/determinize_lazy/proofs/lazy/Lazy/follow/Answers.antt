@@ -3,7 +3,7 @@ use Rattle.determinize_lazy.proofs.Common.{match_of, option_or, rules, slice_get
 use Rattle.determinize_lazy.proofs.Common.{Some, step_of, subst, tag_in, tag_of, Value, ◌<◌, ◌∙◌, ◌≡◌, ◌≤◌}
 use Rattle.determinize_lazy.proofs.finding.Searching.{none_yet, searched-step, tag-last, tag-match}
 use Rattle.determinize_lazy.proofs.steps.Cursors.{cached_step, cached_target}
-use Rattle.determinize_lazy.proofs.tables.Values.{get_more}
+use Rattle.determinize_core.proofs.states.Places.{get_more}
 use Rattle.determinize_lazy.proofs.lazy.Lazy.follow.Goals as goal
 
 pub loop-at-preserved : goal.loop-at-preserved

@@ -1,5 +1,5 @@
 use Rattle.determinize_lazy.proofs.Common.{cache, Decides, HasMatch, refl, subst, sym, ◌∙◌}
-use Rattle.determinize_lazy.proofs.finding.Ranges.{decides, first-done, first-found}
+use Rattle.determinize_lazy.proofs.finding.CachedRanges.{decides, first-done, first-found}
 use Rattle.determinize_lazy.proofs.lazy.Lazy.is_match.Goals as goal
 
 pub returns-then-is_done-clause-after : goal.returns-then-is_done-clause-after

@@ -1,8 +1,8 @@
 use Rattle.determinize_lazy.proofs.Common.{between, cache, false, IfOk, IfOk-weaker, IsOver, refl, start_value, subst}
 use Rattle.determinize_lazy.proofs.Common.{Text, units}
 use Rattle.determinize_core.specs.Chain.{chain}
-use Rattle.determinize_lazy.specs.Searches.{after_search}
-use Rattle.determinize_lazy.proofs.finding.Headline.{is-search}
+use Rattle.determinize_lazy.specs.CachedSearches.{after_search}
+use Rattle.determinize_core.proofs.finding.Headline.{is-search}
 use Rattle.determinize_lazy.proofs.steps.Rule.{on_ok}
 use Rattle.determinize_lazy.proofs.walking.Plenty.{keeps_all}
 use Rattle.determinize_lazy.proofs.lazy.Lazy.search.Given.{Over}

@@ -3,7 +3,7 @@ use Rattle.determinize_lazy.proofs.Common.{List, map}
 use Rattle.determinize_lazy.proofs.Common.{match_of, Option, option_or, rules, Some, ℕ, ◌++◌, ◌∙◌, ◌≡◌}
 use Rattle.determinize_lazy.proofs.finding.Searching.{none_yet, searched-fails, searched-step, tag-last, tag-match}
 use Rattle.determinize_lazy.proofs.steps.Rule.{grows-more, of_err}
-use Rattle.determinize_lazy.proofs.tables.Values.{get_more}
+use Rattle.determinize_core.proofs.states.Places.{get_more}
 use Rattle.determinize_lazy.proofs.walking.CachedWalks.{reached-resolves}
 use Rattle.determinize_lazy.proofs.lazy.Lazy.search_bytes.Given.{Over}
 use Rattle.determinize_lazy.proofs.lazy.Lazy.search_bytes.Goals.{After-or_match-last}

@@ -4,7 +4,7 @@ use Rattle.determinize_lazy.proofs.Common.{option_or, Some, subst, sym, reported
 use Rattle.determinize_lazy.proofs.Common.{◌∷◌, ◌≡◌}
 use Rattle.determinize_lazy.proofs.finding.Searching.{finished, none_yet, searched-fails, searched-step, stopped}
 use Rattle.determinize_lazy.proofs.finding.Searching.{tag-last, tag-match}
-use Rattle.determinize_lazy.proofs.finding.Texts.{all_read, unit-last, units_listed}
+use Rattle.determinize_core.proofs.finding.Texts.{all_read, unit-last, units_listed}
 use Rattle.determinize_lazy.proofs.steps.Rule.{of_err}
 use Rattle.determinize_lazy.proofs.walking.CachedWalks.{reached-resolves}
 use Rattle.determinize_lazy.proofs.lazy.Lazy.search_from.Given.{Over}

@@ -1,6 +1,8 @@
 use Rattle.determinize_lazy.proofs.Common.{cache, false, is_done, refl, rules, sym, ◌∙◌, ◌≡◌}
-use Rattle.determinize_lazy.proofs.finding.Ranges.{after-done, after-found, is-answer, IsAnswer, last-done}
-use Rattle.determinize_lazy.proofs.finding.Ranges.{offset-within, search-is}
+use Rattle.determinize_lazy.proofs.finding.CachedRanges.{after-done, after-found}
+use Rattle.determinize_core.proofs.finding.Ranges.{is-answer, IsAnswer, last-done}
+use Rattle.determinize_core.proofs.finding.Ranges.{offset-within}
+use Rattle.determinize_lazy.proofs.finding.CachedRanges.{search-is}
 use Rattle.determinize_lazy.proofs.walking.Plenty.{keeps_all}
 use Rattle.determinize_lazy.proofs.lazy.Lazy.search_input.Given.{Over}
 use Rattle.determinize_lazy.proofs.lazy.Lazy.search_input.Goals.{After-in_haystack}

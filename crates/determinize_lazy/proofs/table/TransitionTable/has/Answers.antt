@@ -1,5 +1,5 @@
 use Rattle.determinize_lazy.proofs.Common.{ap, Some, sym, ◌∙◌}
-use Rattle.determinize_lazy.proofs.tables.Values.{same_is}
+use Rattle.determinize_core.proofs.states.Places.{same_is}
 use Rattle.determinize_lazy.proofs.table.TransitionTable.has.Goals as goal
 
 pub returns-then-index-len : goal.returns-then-index-len

@@ -3,7 +3,8 @@ use Rattle.determinize_lazy.proofs.Common.{replicate, rules, same, slice_get, sl
 use Rattle.determinize_lazy.proofs.Common.{table_in, table_of, take, take_all, target_in, Value, with_state, ◌++◌, ◌+◌}
 use Rattle.determinize_lazy.proofs.Common.{◌-◌, ◌∙◌, ◌∷◌, ◌≡◌, ◌≤◌}
 use Rattle.determinize_lazy.proofs.tables.TableRows.{rows-push, rows-store, table-is}
-use Rattle.determinize_lazy.proofs.tables.Values.{get_last, with_value-new}
+use Rattle.determinize_core.proofs.states.Places.{get_last}
+use Rattle.determinize_lazy.proofs.tables.Values.{with_value-new}
 use Rattle.determinize_lazy.proofs.table.TransitionTable.intern.Given.{Over}
 use Rattle.determinize_lazy.proofs.table.TransitionTable.intern.Goals.{In-Ok}
 use Rattle.determinize_lazy.proofs.table.TransitionTable.intern.Goals as goal
@@ -42,8 +43,8 @@ invariant_of-self-in-Ok g c =
     (rows-store (rows_are g d)))
 
 pub returns-in-Ok-clause-id : goal.returns-in-Ok-clause-id
-returns-in-Ok-clause-id g c = ap (λ vs. slice_get vs c.in-Ok.id) c.in-Ok.ensures.states
-    ∙ ap (λ i. slice_get (c.self.inside.states ++ c.args.state ∷ []) i) c.in-Ok.ensures.id
+returns-in-Ok-clause-id g c = ap (λ vs. slice_get vs c.from_index.result) c.in-Ok.ensures.states
+    ∙ ap (λ i. slice_get (c.self.inside.states ++ c.args.state ∷ []) i) (c.from_index.ensures ∙ c.in-Ok.ensures.index)
     ∙ get_last c.self.inside.states c.args.state
 
 pub returns-in-Ok-clause-table : goal.returns-in-Ok-clause-table

@@ -1,7 +1,7 @@
 use Rattle.determinize_lazy.proofs.Common.{ap, IsTargetIndex, rules, same, slice_get, Some, subst, table_of, true, ◌∙◌}
 use Rattle.determinize_lazy.proofs.Common.{◌≡◌}
 use Rattle.determinize_lazy.proofs.tables.Transitions.{state-there}
-use Rattle.determinize_lazy.proofs.tables.Values.{same_is}
+use Rattle.determinize_core.proofs.states.Places.{same_is}
 use Rattle.determinize_lazy.proofs.table.TransitionTable.intern_target.Given.{Over}
 use Rattle.determinize_lazy.proofs.table.TransitionTable.intern_target.Goals.{Then-eq}
 use Rattle.determinize_lazy.proofs.table.TransitionTable.intern_target.Goals as goal

@@ -2,7 +2,7 @@ use Rattle.determinize_lazy.proofs.Common.{ap, arith, cursor_value, false, lengt
 use Rattle.determinize_lazy.proofs.Common.{same, StoredTable, sym, true, ◌∙◌, ◌≡◌}
 use Rattle.determinize_lazy.proofs.steps.Cursors.{state_is, state_of, uncached}
 use Rattle.determinize_lazy.proofs.tables.Transitions.{apart_of, count_two}
-use Rattle.determinize_lazy.proofs.tables.Values.{there}
+use Rattle.determinize_core.proofs.states.Places.{there}
 use Rattle.determinize_lazy.proofs.table.TransitionTable.len_with.Given.{Over}
 use Rattle.determinize_lazy.proofs.table.TransitionTable.len_with.Goals.{After-len-len, In-Cached}
 use Rattle.determinize_lazy.proofs.table.TransitionTable.len_with.Goals as goal

@@ -1,13 +1,13 @@
 -- The last match of a walk, in words of runs.
-use Rattle.determinize_lazy.proofs.Common.{Accepts, after_at, All, arith, future, HalfMatch, IfSome, IsAccepted}
-use Rattle.determinize_lazy.proofs.Common.{IsFarthestMatch, IsPreferredMatch, IsSearch, last_match, LeftmostFirst}
-use Rattle.determinize_lazy.proofs.Common.{length, List, MatchKind, Nfa, None, Option, refl, Some, start_value, subst}
-use Rattle.determinize_lazy.proofs.Common.{suc, sym, Text, units, ℕ, ◌<◌, ◌≡◌, ◌≤◌}
+use Rattle.determinize_core.proofs.Common.{Accepts, after_at, All, arith, future, HalfMatch, IfSome, IsAccepted}
+use Rattle.determinize_core.proofs.Common.{IsFarthestMatch, IsPreferredMatch, IsSearch, last_match, LeftmostFirst}
+use Rattle.determinize_core.proofs.Common.{length, List, MatchKind, Nfa, None, Option, refl, Some, start_value, subst}
+use Rattle.determinize_core.proofs.Common.{suc, sym, Text, units, ℕ, ◌<◌, ◌≡◌, ◌≤◌}
 use Rattle.std.proofs.lemmas.List.FromFn.{length-map-range_with_len}
 use Rattle.determinize_core.specs.Chain.{chain}
 use Rattle.determinize_core.proofs.walk.Farthest.{each_last_is_farthest}
 use Rattle.determinize_core.proofs.walk.WalkOfRuns.{leftmost_walk}
-use Rattle.determinize_lazy.proofs.finding.LastUnits.{last_match-within}
+use Rattle.determinize_core.proofs.finding.LastUnits.{last_match-within}
 
 -- the last match of a chain for the preferred match is that match
 pub preferred : (nfa : Nfa) (kind : MatchKind) (start : ℕ) (text : Text) (found : Option HalfMatch) → IsAccepted nfa

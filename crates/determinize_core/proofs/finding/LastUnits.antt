@@ -1,10 +1,10 @@
 -- The last match of a walk where no NFA state is left; it ends within what is read.
-use Rattle.determinize_lazy.proofs.Common.{[], ap, arith, cond, dead, distinct_states, ended_at, false, flat_map}
-use Rattle.determinize_lazy.proofs.Common.{future, future_is, HalfMatch, IfSome, is_reopened, last_ended, last_match}
-use Rattle.determinize_lazy.proofs.Common.{last_match-tail, left_by, length, List, MatchKind, Nfa, None, opened_by}
-use Rattle.determinize_lazy.proofs.Common.{Option, option_or, part_read, patterns_read, refl, Some, subst, suc, sym}
-use Rattle.determinize_lazy.proofs.Common.{tables_of, tail, true, Value, value_after, working_list, ℕ, ◌++◌, ◌+◌, ◌<◌}
-use Rattle.determinize_lazy.proofs.Common.{◌∙◌, ◌∷◌, ◌≡◌}
+use Rattle.determinize_core.proofs.Common.{[], ap, append-nil, append_assoc, arith, cond, dead, distinct_states}
+use Rattle.determinize_core.proofs.Common.{ended_at, false, flat_map, future, HalfMatch, IfSome, is_reopened, is_some}
+use Rattle.determinize_core.proofs.Common.{last_ended, last_match, left_by, length, List, MatchKind, Nfa, None}
+use Rattle.determinize_core.proofs.Common.{opened_by, Option, option_or, part_read, patterns_read, refl, Some, subst}
+use Rattle.determinize_core.proofs.Common.{suc, sym, tables_of, true, Value, value_after, working_list, ℕ, ◌++◌, ◌+◌}
+use Rattle.determinize_core.proofs.Common.{◌<◌, ◌∙◌, ◌∷◌, ◌≡◌}
 use Rattle.determinize_core.proofs.closure.EmptySearch.{reach-none}
 use Rattle.determinize_core.proofs.step.StepLaws.{dead_stays}
 use Rattle.determinize_core.specs.Step.{step}
@@ -12,6 +12,7 @@ use Rattle.determinize_start.specs.LookTables.{have_after}
 use Rattle.determinize_below.specs.Edges.{is_match, patterns_of, reach, target}
 use Rattle.determinize_below.specs.Look.{has}
 use Rattle.ordered_reach.specs.Reach.{joined}
+use Rattle.determinize_core.proofs.walk.LastMatches.{future_is, last_match-push, last_match-tail, tail}
 
 -- a value that records no NFA states
 
@@ -86,3 +87,15 @@ module _ (nfa : Nfa) (kind : MatchKind) where
     where
       none_added : (n : ℕ) → 0 + n ≡ n
       none_added n = omega arith
+
+-- a match that was found stays found over more units
+pub longer : (nfa : Nfa) (kind : MatchKind) (v : Value) (us rest : List (Option ℕ))
+    → is_some (last_match (future nfa kind v us)) ≡ true → is_some (last_match (future nfa kind v (us ++ rest))) ≡ true
+longer nfa kind v us [] h = ap (λ all. is_some (last_match (future nfa kind v all))) (append-nil us) ∙ h
+longer nfa kind v us (u ∷ rest) h =
+    ap (λ all. is_some (last_match (future nfa kind v all))) (sym (append_assoc us (u ∷ []) rest))
+    ∙ longer nfa kind v (us ++ u ∷ []) rest (ap is_some (last_match-push nfa kind v us u) ∙ either _ _ h)
+  where
+    either : (o p : Option HalfMatch) → is_some p ≡ true → is_some (option_or o p) ≡ true
+    either None p k = k
+    either (Some m) p k = refl

@@ -1,16 +1,14 @@
 -- What an input asks for, and the answer in its haystack.
-use Rattle.determinize_lazy.proofs.Common.{after_walk, All, ap, arith, Asked, Bool, Cache, cond, Decides, drop, false}
-use Rattle.determinize_lazy.proofs.Common.{HalfMatch, HasMatch, IfNone, IfSome, in_haystack, is_done, is_some}
-use Rattle.determinize_lazy.proofs.Common.{IsAccepted, IsFarthestIn, IsFarthestMatch, IsOverIn, IsPreferredIn}
-use Rattle.determinize_lazy.proofs.Common.{IsPreferredMatch, IsSearch, last_match, LeftmostFirst, length, length-take}
-use Rattle.determinize_lazy.proofs.Common.{List, MatchKind, min, Nfa, None, Option, option_map, refl, slice_range}
-use Rattle.determinize_lazy.proofs.Common.{Some, start_for, start_value, step_of, subst, sym, Text, text_of, true}
-use Rattle.determinize_lazy.proofs.Common.{true≢false, units, units_read, ℕ, ◌-◌, ◌∙◌, ◌≡◌, ◌≤◌}
+use Rattle.determinize_core.proofs.Common.{All, ap, arith, Asked, Bool, cond, Decides, drop, false, HalfMatch, HasMatch}
+use Rattle.determinize_core.proofs.Common.{IfNone, IfSome, in_haystack, is_done, is_some, IsAccepted, IsFarthestIn}
+use Rattle.determinize_core.proofs.Common.{IsFarthestMatch, IsPreferredIn, IsPreferredMatch, IsSearch, last_match}
+use Rattle.determinize_core.proofs.Common.{LeftmostFirst, length, length-take, List, MatchKind, min, Nfa, None, Option}
+use Rattle.determinize_core.proofs.Common.{option_map, refl, slice_range, Some, start_for, subst, sym, Text, text_of}
+use Rattle.determinize_core.proofs.Common.{true, true≢false, ℕ, ◌-◌, ◌∙◌, ◌≡◌, ◌≤◌}
 use Rattle.determinize_core.specs.Chain.{chain}
-use Rattle.determinize_lazy.specs.Searches.{after_first_match, after_input, after_is_match, after_search}
-use Rattle.determinize_lazy.specs.Searches.{last_in}
-use Rattle.determinize_lazy.proofs.finding.Headline.{is-search, none_accepts, some_accepts}
-use Rattle.determinize_lazy.proofs.finding.Texts.{length-in_order}
+use Rattle.determinize_core.specs.Searches.{last_in}
+use Rattle.determinize_core.proofs.finding.Headline.{none_accepts, some_accepts}
+use Rattle.determinize_core.proofs.finding.Texts.{length-in_order}
 
 -- where nothing is left to search
 module _ (asked : Asked) (done : is_done asked ≡ true) where
@@ -19,58 +17,29 @@ module _ (asked : Asked) (done : is_done asked ≡ true) where
   last-done nfa kind = sym (ap (λ b. cond b None (option_map (in_haystack nfa.reverse asked)
       (last_match (chain nfa kind (start_for nfa asked.anchored) (text_of nfa.reverse asked))))) done)
 
-  pub after-done : (c : Cache) → c ≡ after_input c asked
-  unfolding after_input
-  after-done c = sym (ap (λ b. cond b c (after_search c (start_for c.nfa asked.anchored) (text_of c.nfa.reverse asked)))
-      done)
+-- a walk has a last match exactly where some run accepts
+pub match-decides : (nfa : Nfa) (kind : MatchKind) (asked : Asked) {found : Bool} → IsAccepted nfa
+    → found ≡ is_some (last_match (chain nfa kind (start_for nfa asked.anchored) (text_of nfa.reverse asked)))
+    → Decides found (HasMatch nfa asked)
+match-decides nfa kind asked accepted found_is =
+    subst (λ b. Decides b (HasMatch nfa asked)) (sym found_is) (each (last_match (chain nfa kind start text)) refl)
+  where
+    start : ℕ
+    start = start_for nfa asked.anchored
 
-  pub first-done : (c : Cache) → c ≡ after_is_match c asked
-  unfolding after_is_match
-  first-done c =
-      sym (ap (λ b. cond b c (after_first_match c (start_for c.nfa asked.anchored) (text_of c.nfa.reverse asked))) done)
+    text : Text
+    text = text_of nfa.reverse asked
 
--- a search of an input that is over
-module _ {earliest : Bool} {old : Cache} (asked : Asked) {found : Option HalfMatch} {new : Cache}
-    (accepted : IsAccepted old.nfa) (more : is_done asked ≡ false) (o : IsOverIn earliest old asked found new) where
-  abbrev start : ℕ
-  start = start_for old.nfa asked.anchored
-
-  abbrev text : Text
-  text = text_of old.nfa.reverse asked
-
-  pub search-is : earliest ≡ false → IsSearch old.nfa old.kind start text found
-  unfolding chain
-  search-is late = is-search old.nfa old.kind start text found accepted (o.last late)
-
-  pub after-found : earliest ≡ false → new ≡ after_input old asked
-  unfolding after_input after_search
-  after-found late = o.after ∙ ap (λ e. after_walk old (start_value old.nfa start text.behind)
-      (units_read (step_of old) e (start_value old.nfa start text.behind) (units text))) late
-      ∙ sym (ap (λ b. cond b old (after_search old start text)) more)
-
-  pub first-found : earliest ≡ true → new ≡ after_is_match old asked
-  unfolding after_is_match after_first_match
-  first-found early = o.after ∙ ap (λ e. after_walk old (start_value old.nfa start text.behind)
-      (units_read (step_of old) e (start_value old.nfa start text.behind) (units text))) early
-      ∙ sym (ap (λ b. cond b old (after_first_match old start text)) more)
-
-  -- a walk has a last match exactly where some run accepts
-  pub decides : Decides (is_some found) (HasMatch old.nfa asked)
-  unfolding chain
-  decides = subst (λ b. Decides b (HasMatch old.nfa asked)) (sym o.some)
-      (each (last_match (chain old.nfa old.kind start text)) refl)
-    where
-      each : (m : Option HalfMatch) → m ≡ last_match (chain old.nfa old.kind start text)
-          → Decides (is_some m) (HasMatch old.nfa asked)
-      each None e = (
-        λ h. absurd (true≢false (sym h)),
-        λ h. absurd (none_accepts old.nfa old.kind start text accepted e h.0 h.1 h.2 h.3),
-      )
-      each (Some m) e = (
-        λ _. let a = some_accepts old.nfa old.kind start text m accepted e in
-            (a.0, m.offset, m.pattern, a.1),
-        λ _. refl,
-      )
+    each : (m : Option HalfMatch) → m ≡ last_match (chain nfa kind start text)
+        → Decides (is_some m) (HasMatch nfa asked)
+    each None e = (
+      λ h. absurd (true≢false (sym h)),
+      λ h. absurd (none_accepts nfa kind start text accepted e h.0 h.1 h.2 h.3),
+    )
+    each (Some m) e = (
+      λ _. let a = some_accepts nfa kind start text m accepted e in (a.0, m.offset, m.pattern, a.1),
+      λ _. refl,
+    )
 
 -- what a search returns, in the haystack
 pub record IsAnswer (nfa : Nfa) (kind : MatchKind) (asked : Asked) (answer : Option HalfMatch) : Type 0 where

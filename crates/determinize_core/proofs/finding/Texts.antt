@@ -1,10 +1,10 @@
 -- The units of a text, and the text that an input asks for.
-use Rattle.determinize_lazy.proofs.Common.{[], ap, arith, Bool, false, get_or, in_order, length, length-append}
-use Rattle.determinize_lazy.proofs.Common.{length-map, length-reverse, List, map, Option, option_map, refl, slice_get}
-use Rattle.determinize_lazy.proofs.Common.{slice_get-get_or, slice_get-map, Some, sym, Text, true, units, ℕ, ◌++◌, ◌+◌}
-use Rattle.determinize_lazy.proofs.Common.{◌<◌, ◌∙◌, ◌∷◌, ◌≡◌, ◌≤◌}
+use Rattle.determinize_core.proofs.Common.{[], ap, arith, Bool, false, get_or, in_order, length, length-append}
+use Rattle.determinize_core.proofs.Common.{length-map, length-reverse, List, map, Option, option_map, refl, slice_get}
+use Rattle.determinize_core.proofs.Common.{slice_get-get_or, slice_get-map, Some, sym, Text, true, units, ℕ, ◌++◌, ◌+◌}
+use Rattle.determinize_core.proofs.Common.{◌<◌, ◌∙◌, ◌∷◌, ◌≡◌, ◌≤◌}
 use Rattle.determinize_core.proofs.walk.UnitLists.{units_are}
-use Rattle.determinize_lazy.proofs.tables.Values.{get_last, get_more}
+use Rattle.determinize_core.proofs.states.Places.{get_last, get_more}
 
 -- each byte as a unit
 pub unit-byte : (bytes : List ℕ) (i b : ℕ) → i < length bytes → b ≡ get_or bytes i 0

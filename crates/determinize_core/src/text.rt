@@ -6,10 +6,10 @@ ghost use Rattle.determinize_below.specs.Semantics.{between};
 ghost use Rattle.determinize_below.specs.Search.{is_done};
 ghost use Rattle.determinize_below.specs.Truth.{IsUnit};
 ghost use Rattle.determinize_core.specs.Chain.{units};
-ghost use Rattle.determinize_lazy.specs.Searches.{in_haystack, in_order, text_of};
+ghost use Rattle.determinize_core.specs.Searches.{in_haystack, in_order, text_of};
 
 use determinize_below::{HalfMatch, Input};
-use determinize_core::start::{look_ahead_forward, look_ahead_reverse};
+use determinize_start::start::{look_ahead_forward, look_ahead_reverse};
 use std::marker::Model;
 
 /// A text in the order of reading, seen as its bytes with the byte behind and the byte ahead.
@@ -26,7 +26,7 @@ impl<'h> Model for Text<'h> {
     ghost use Rattle.determinize_below.specs.Semantics as semantics;
     ghost use Rattle.determinize_below.specs.Truth.{IsUnit};
     ghost use Rattle.determinize_core.specs.Chain.{units};
-    ghost use Rattle.determinize_lazy.specs.Searches.{in_order};
+    ghost use Rattle.determinize_core.specs.Searches.{in_order};
 
     ghost Value = { semantics.Text };
 

@@ -1,27 +1,28 @@
 -- States of which no two are equal, with a map to their indices.
-use Rattle.determinize_lazy.proofs.Common.{[], ap, AreInterned, arith, Bool, cond, false, IsIndex, length}
-use Rattle.determinize_lazy.proofs.Common.{length-append, length_push, List, list_any, None, Option, refl, same}
-use Rattle.determinize_lazy.proofs.Common.{slice_get, Some, subst, sym, take, take_at, true, Value, ℕ, ◌++◌, ◌+◌, ◌-◌}
-use Rattle.determinize_lazy.proofs.Common.{◌<◌, ◌||◌, ◌∙◌, ◌∷◌, ◌≡◌, ◌≤◌}
+use Rattle.determinize_core.proofs.Common.{[], ap, AreInterned, arith, Bool, cond, false, IsIndex, length}
+use Rattle.determinize_core.proofs.Common.{length-append, length_push, List, list_any, None, Option, refl, same}
+use Rattle.determinize_core.proofs.Common.{slice_get, Some, subst, sym, take, take_at, true, Value, ℕ, ◌++◌, ◌+◌, ◌-◌}
+use Rattle.determinize_core.proofs.Common.{◌<◌, ◌||◌, ◌∙◌, ◌∷◌, ◌≡◌, ◌≤◌}
 use Rattle.std.proofs.lemmas.List.Folds.{list_any-append}
-use Rattle.determinize_lazy.proofs.tables.Values.{apart-push, get_last, get_more, not_none, same_is, same_laws}
+use Rattle.determinize_core.proofs.states.Places.{apart-push, get_last, get_more, not_none, same_is, same_laws}
+use Rattle.determinize_core.specs.declared.state_table.TheConstants.{MAX_STATES}
 
 -- no values
 pub interned-none : (at : Value → Option ℕ) → ((q : Value) → at q ≡ None) → AreInterned [] at
 interned-none at none = record {
   mapped = λ q. subst (λ o. IsIndex [] q o) (sym (none q)) refl;
   apart = λ p q v here. not_none (sym here);
-  few = let e : 0 ≤ 16647160 = omega arith in e;
+  few = let e : 0 ≤ MAX_STATES = omega arith in e;
 }
 
 module _ {values : List Value} {at at' : Value → Option ℕ} {n : ℕ} (v : Value) (placed : AreInterned values at) where
   -- one more
-  pub interned-push : list_any (same v) values ≡ false → n ≡ length values → n < 16647160
+  pub interned-push : list_any (same v) values ≡ false → n ≡ length values → n < MAX_STATES
       → ((q : Value) → at' q ≡ cond (same v q) (Some n) (at q)) → AreInterned (values ++ v ∷ []) at'
   interned-push none len few new = record {
     mapped = λ q. subst (λ o. IsIndex (values ++ v ∷ []) q o) (sym (new q)) (index q (same v q) refl);
     apart = apart-push values v placed.apart none;
-    few = rw length-append (let e : length values + 1 ≤ 16647160 = omega (arith, len, few) in e);
+    few = rw length-append (let e : length values + 1 ≤ MAX_STATES = omega (arith, len, few) in e);
   }
     where
       index : (q : Value) (b : Bool) → same v q ≡ b → IsIndex (values ++ v ∷ []) q (cond b (Some n) (at q))

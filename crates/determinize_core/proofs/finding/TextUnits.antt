@@ -1,11 +1,12 @@
 -- The units of a text are bytes, or the end of input.
-use Rattle.determinize_lazy.proofs.Common.{[], arith, between, Bool, false, get_or, get_or-reverse, get_or_from_slice_get}
-use Rattle.determinize_lazy.proofs.Common.{in_order, length, length-map, length-reverse, List, map, Option, refl}
-use Rattle.determinize_lazy.proofs.Common.{Some, subst, suc, sym, true, units, zero, ℕ, ◌-◌, ◌<◌, ◌∷◌}
+use Rattle.determinize_core.proofs.Common.{[], arith, between, Bool, false, get_or, get_or-reverse}
+use Rattle.determinize_core.proofs.Common.{get_or_from_slice_get}
+use Rattle.determinize_core.proofs.Common.{in_order, length, length-map, length-reverse, List, map, Option, refl}
+use Rattle.determinize_core.proofs.Common.{Some, subst, suc, sym, true, units, zero, ℕ, ◌-◌, ◌<◌, ◌∷◌}
 use Rattle.std.specs.Prelude.{All}
 use Rattle.std.proofs.lemmas.List.Elements.{All-append}
 use Rattle.determinize_below.specs.Truth.{IsUnit}
-use Rattle.determinize_lazy.proofs.finding.Texts.{unit-byte, units_listed}
+use Rattle.determinize_core.proofs.finding.Texts.{unit-byte, units_listed}
 
 -- a list of one unit
 pub one_unit : (u : Option ℕ) → IsUnit u → All IsUnit (u ∷ [])

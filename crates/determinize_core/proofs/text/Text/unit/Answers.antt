@@ -1,6 +1,6 @@
-use Rattle.determinize_lazy.proofs.Common.{◌∙◌, ap, Some, sym, Text}
-use Rattle.determinize_lazy.proofs.finding.Texts.{unit-here, unit-last}
-use Rattle.determinize_lazy.proofs.text.Text.unit.Goals as goal
+use Rattle.determinize_core.proofs.Common.{◌∙◌, ap, Some, sym, Text}
+use Rattle.determinize_core.proofs.finding.Texts.{unit-here, unit-last}
+use Rattle.determinize_core.proofs.text.Text.unit.Goals as goal
 
 pub returns-then-index-len : goal.returns-then-index-len
 returns-then-index-len c =

@@ -1,6 +1,6 @@
-use Rattle.determinize_lazy.proofs.Common.{◌<◌, ◌∙◌, ◌≡◌, ap, get_or-reverse, length, subst, sym, Text}
-use Rattle.determinize_lazy.proofs.finding.Texts.{length-in_order, unit-byte}
-use Rattle.determinize_lazy.proofs.text.Text.byte.Goals as goal
+use Rattle.determinize_core.proofs.Common.{◌<◌, ◌∙◌, ◌≡◌, ap, get_or-reverse, length, subst, sym, Text}
+use Rattle.determinize_core.proofs.finding.Texts.{length-in_order, unit-byte}
+use Rattle.determinize_core.proofs.text.Text.byte.Goals as goal
 
 pub returns-then-self : goal.returns-then-self
 returns-then-self c =

@@ -1,7 +1,7 @@
-use Rattle.determinize_lazy.proofs.Common.{rules, ◌<◌}
+use Rattle.determinize_core.proofs.Common.{rules, ◌<◌}
 use Rattle.std.proofs.lemmas.List.Elements.{All-from_get_or}
-use Rattle.determinize_lazy.proofs.finding.TextUnits.{text_units}
-use Rattle.determinize_lazy.proofs.text.Text.with_order.Goals as goal
+use Rattle.determinize_core.proofs.finding.TextUnits.{text_units}
+use Rattle.determinize_core.proofs.text.Text.with_order.Goals as goal
 
 pub invariant_of-result : goal.invariant_of-result
 invariant_of-result c = text_units c.args.behind c.args.is_backward c.args.bytes.now c.args.ahead

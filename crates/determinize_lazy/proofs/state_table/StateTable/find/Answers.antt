@@ -1,8 +1,0 @@
-use Rattle.determinize_lazy.proofs.Common.{get, IsIndex, rules, same, subst, sym, ◌≡◌}
-use Rattle.determinize_lazy.proofs.state_table.StateTable.find.Goals as goal
-
-pub returns : goal.returns
-returns g c =
-    let e : c.copied.result ≡ get same c.self.inside.ids c.args.state.now = search rules in
-    rw (← c.self.view_is) (subst (λ o. IsIndex c.self.inside.states.items c.args.state.now o) (sym e)
-    (c.self.invariant.mapped c.args.state.now))
