@@ -80,11 +80,13 @@ pub record Grows (old new : Cache) : Type 0 where
   pub limit : new.limit ≡ old.limit
   pub computed : old.computed ≤ new.computed
 
--- what a walk leaves if it fails: the table of a prefix of the walk, or nothing is cached; and the
--- count of a prefix of the walk
+-- what a walk leaves that fails after some of its first units: the table after these, or nothing is
+-- cached; and the count after these, or after one more
 pub record IsCutOff (old : Cache) (v : Value) (us : List (Option ℕ)) (new : Cache) : Type 0 where
-  pub table : (new.table ≡ empty) ⊎ ((k : ℕ) × (new.table ≡ (after_walk old v (take k us)).table))
-  pub counted : (k : ℕ) × (new.computed ≡ (after_walk old v (take k us)).computed)
+  pub steps : ℕ
+  pub table : (new.table ≡ empty) ⊎ (new.table ≡ (after_walk old v (take steps us)).table)
+  pub counted : (new.computed ≡ (after_walk old v (take steps us)).computed)
+      ⊎ (new.computed ≡ (after_walk old v (take (steps + 1) us)).computed)
 
 -- the same of the walk from an NFA state over a text
 abbrev pub IsCutOffText : Cache → ℕ → Text → Cache → Type 0

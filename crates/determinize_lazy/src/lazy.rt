@@ -31,9 +31,9 @@ use std::marker::Model;
 /// states alone are at most `limit`. If they are not, nothing is cached.
 ///
 /// A walk or a search returns `AllocError` if an allocation fails, or if more than 16647160 states
-/// would be cached, since the ids of states have 32 bits. After an error the cache is empty or
-/// holds what the same call would have cached by some point, and `computed` is what it would have
-/// been by some point; the NFA, the match kind and the limit are unchanged.
+/// would be cached, since the ids of states have 32 bits. After an error the cache is empty or as
+/// it was after some of the steps of the call, and `computed` is as it was after these steps or
+/// after one more; the NFA, the match kind and the limit are unchanged.
 pub struct Lazy<'n, N: Allocator = Global, A: Allocator = Global> {
     pub(crate) alloc: A,
     pub(crate) stepper: Stepper<'n, N, A>,

@@ -8,7 +8,7 @@
 //!   of texts in pieces. `walker`: walks by steps. `engine`: a lazy DFA as an `Engine`.
 //! - `table`: the transition table and the rule of what is cached, with `state_id` and `tag`.
 //!
-//! A `Result` is `Err` only if an allocation fails or more than 16647160 states would be cached.
+//! A `Result` is `Err` if an allocation fails or more than 16647160 states would be cached.
 #![tactic(auto)]
 
 mod debug;

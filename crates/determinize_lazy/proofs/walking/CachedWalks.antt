@@ -37,16 +37,18 @@ after_resolves nfa kind accepted v (u ∷ us) h =
 pub cut_off-none : {old : Cache} {first : Value} {us : List (Option ℕ)} {new : Cache} → new ≡ old
     → IsCutOff old first us new
 cut_off-none same = record {
-  table = inr (0, ap (λ (c : Cache). c.table) same);
-  counted = (0, ap (λ (c : Cache). c.computed) same);
+  steps = 0;
+  table = inr (ap (λ (c : Cache). c.table) same);
+  counted = inl (ap (λ (c : Cache). c.computed) same);
 }
 
 -- and what one leaves that fails after its last
 pub cut_off-whole : {old : Cache} {first : Value} {us : List (Option ℕ)} {new : Cache} → new ≡ after_walk old first us
     → IsCutOff old first us new
 cut_off-whole {old} {first} {us} {new} after = record {
-  table = inr (length us, ap (λ (c : Cache). c.table) whole);
-  counted = (length us, ap (λ (c : Cache). c.computed) whole);
+  steps = length us;
+  table = inr (ap (λ (c : Cache). c.table) whole);
+  counted = inl (ap (λ (c : Cache). c.computed) whole);
 }
   where
     whole : new ≡ after_walk old first (take (length us) us)
@@ -126,24 +128,23 @@ module _ {old : Cache} {first : Value} {us : List (Option ℕ)} {read : ℕ} {v 
   -- what is left if the walk fails here
   pub cut_off-here : IsCutOff old first us now
   cut_off-here = record {
-    table = inr (read, ap (λ (c : Cache). c.table) r.after);
-    counted = (read, ap (λ (c : Cache). c.computed) r.after);
+    steps = read;
+    table = inr (ap (λ (c : Cache). c.table) r.after);
+    counted = inl (ap (λ (c : Cache). c.computed) r.after);
   }
 
   -- and if it fails in the next step
   pub cut_off-step : {new : Cache} {u : Option ℕ} → slice_get us read ≡ Some u → IsFailedStep now v u new
       → IsCutOff old first us new
   cut_off-step {new} {u} at failed = record {
+    steps = read;
     table = elim failed.table [
       | inl none ↦ inl none
-      | inr stays ↦ inr (read, stays ∙ ap (λ (c : Cache). c.table) r.after)
+      | inr stays ↦ inr (stays ∙ ap (λ (c : Cache). c.table) r.after)
     ];
     counted = elim failed.counted [
-      | inl same ↦ (read, same ∙ ap (λ (c : Cache). c.computed) r.after)
-      | inr one ↦ (
-        read + 1,
-        one ∙ ap (λ (c : Cache). c.computed)
-            (reached-push {u = u} {w = step_of now v u} {new = after_step now v u} at refl refl).after,
-      )
+      | inl same ↦ inl (same ∙ ap (λ (c : Cache). c.computed) r.after)
+      | inr one ↦ inr (one ∙ ap (λ (c : Cache). c.computed)
+          (reached-push {u = u} {w = step_of now v u} {new = after_step now v u} at refl refl).after)
     ];
   }
