@@ -1,6 +1,6 @@
 -- All matches of a text that comes in pieces.
 use Rattle.std.specs.Prelude.{◌≡◌, ◌*◌, ◌+◌, ◌<◌, ◌≤◌, ◌++◌, ◌⊎◌, ℕ, All, Bool, List, None, OnErr}
-use Rattle.std.specs.Prelude.{OnOk, Option, Result, Some, cond, drop, length, take}
+use Rattle.std.specs.Prelude.{OnOk, Option, Result, Some, cond, drop, length, take, true}
 use Rattle.std.specs.Option.{IfSome}
 use Rattle.determinize_below.specs.Nfa.{AllResolve, IsAccepted}
 use Rattle.determinize_below.specs.Semantics.{Nfa}
@@ -9,6 +9,7 @@ use Rattle.determinize_below.specs.declared.search.Anchored.TheVariants.{No}
 use Rattle.determinize_below.specs.declared.search.Match.{Match}
 use Rattle.determinize_below.specs.declared.search.MatchKind.TheVariants.{LeftmostFirst}
 use Rattle.determinize_start.specs.StartKinds.{byte_before}
+use Rattle.determinize_core.specs.Value.{is_nonempty}
 use Rattle.determinize_lazy.specs.Scans.{IsScan, Scanned}
 use Rattle.determinize_find.specs.Idle.{IsIdle}
 use Rattle.determinize_find.specs.Matches.{AreMatches, from}
@@ -56,6 +57,10 @@ abbrev pub IsSearching : Nfa → Streamed → Type 0
 IsSearching nfa s = IfSome s.scan
     (λ scan. IsEndScan nfa (byte_before s.kept s.start) (drop s.start s.kept) scan)
 
+-- the search has not ended with a match: where it knows one, an NFA state is left
+abbrev pub IsUnsettled : Scanned → Type 0
+IsUnsettled s = IfSome s.last (λ m. is_nonempty s.state.states ≡ true)
+
 -- these bytes were read and these matches were found: all matches of each text that begins with the
 -- bytes are these matches, and then those from the place on
 pub record IsStream (nfa : Nfa) (bytes : List ℕ) (given : List Match) (s : Streamed)
@@ -89,10 +94,13 @@ pub record IsFeeding {T E : Type 0} (nfa : Nfa) (old new : Streamed) (piece : Li
   pub failed : OnErr result (IsPartFed nfa old new piece list after)
   pub searching : IsSearching nfa new
 
--- at most one byte before the start of the search is kept, and no other where the search is idle
+-- the search of the kept bytes from the start on is under way, and has not ended with a match; at
+-- most one byte before its start is kept, and no other where it is idle
 pub record KeepsFew (nfa : Nfa) (s : Streamed) : Type 0 where
   pub scan : Scanned
   pub search : s.scan ≡ Some scan
+  pub searching : IsSearching nfa s
+  pub unsettled : IsUnsettled scan
   pub behind : s.start ≤ 1
   pub idle : HasPrefixApart nfa → IsIdle nfa scan → count_kept s ≤ 1
 
@@ -101,7 +109,8 @@ abbrev pub IsBlockEnd : List ℕ → ℕ → Type 0
 IsBlockEnd piece i = (0 < i) × (i ≤ length piece)
     × ((i ≡ length piece) ⊎ ((count : ℕ) × (i ≡ count * 4096)))
 
--- after the first bytes of a piece few bytes were kept, and then the rest of it was read
+-- after the first bytes of a piece few bytes were kept, and then the rest of it was read; after the
+-- whole piece nothing changed any more
 pub record KeptFewAt (nfa : Nfa) (old new : Streamed) (piece : List ℕ) (list after : List Match)
     (i : ℕ) : Type 0 where
   pub now : Streamed
@@ -109,6 +118,7 @@ pub record KeptFewAt (nfa : Nfa) (old new : Streamed) (piece : List ℕ) (list a
   pub first : IsFed nfa old now (take i piece) list found
   pub few : KeepsFew nfa now
   pub rest : IsFed nfa now new (drop i piece) found after
+  pub end : i ≡ length piece → now ≡ new
 
 -- the same at the end of each block
 abbrev pub KeptFewInBlocks : Nfa → Streamed → Streamed → List ℕ → List Match → List Match → Type 0

@@ -11,8 +11,8 @@ ghost use Rattle.determinize_find.specs.Prefix.{HasPrefixApart};
 ghost use Rattle.determinize_find.specs.Private.Windows.{IsCertain, left_in, unsearched};
 ghost use Rattle.determinize_find.specs.Private.Windows.{with_bytes, without_first};
 ghost use Rattle.determinize_find.specs.Streams.{IsEndScan, IsFed, IsFeeding, IsFinished};
-ghost use Rattle.determinize_find.specs.Streams.{IsSearching, IsStream, KeepsFew, KeptFewInBlocks};
-ghost use Rattle.determinize_find.specs.Streams.{count_kept, count_read};
+ghost use Rattle.determinize_find.specs.Streams.{IsSearching, IsStream, IsUnsettled, KeepsFew};
+ghost use Rattle.determinize_find.specs.Streams.{KeptFewInBlocks, count_kept, count_read};
 
 use crate::iter::{Searcher, touches};
 use crate::regex::LazyRegex;
@@ -27,13 +27,13 @@ const BLOCK: usize = 4096;
 /// A search for all matches of a text that comes in pieces: `feed` reads the next piece, and
 /// `finish` says that the text ends.
 ///
-/// Each match is found as soon as no byte that follows can change it. The positions of a match
+/// A piece is read in blocks of 4096 bytes. At the end of a block each match is added whose search
+/// has ended: no NFA state is left, so no byte that follows can change it. The positions of a match
 /// count from the beginning of the text.
 ///
-/// A piece is read in blocks of 4096 bytes. If the search is idle at the end of a block
-/// (`is_idle`), a new one begins there. The bytes before a search are dropped, but for the last
-/// one. So the bytes since the last such end or the last match are kept, whichever is later. If
-/// the prefix of the NFA is not apart (`has_prefix_apart`), the search is never idle.
+/// If the search is idle at the end of a block (`is_idle`), and the prefix of the NFA is apart
+/// (`has_prefix_apart`), a new one begins there. The bytes before a search are dropped, but for the
+/// last one. So the bytes since the last such end or the last match are kept, whichever is later.
 #[derive(Drop)]
 pub struct Pieces<A: Allocator = Global> {
     kept: Vec<u8, A>,
@@ -183,17 +183,19 @@ impl<A: Allocator + Copy> Pieces<A> {
     }
 
     /// Moves the start to the end of the kept bytes, if no match begins before. Returns the search
-    /// from the start on.
+    /// from the start on, which has not ended with a match.
     fn skip_idle<N: Allocator, B: Allocator>(
         &mut self,
         regex: &mut LazyRegex<'_, N, B, A>,
         scan: Scan<A>,
     ) -> Result<Scan<A>, AllocError>
-        requires { IsEndScan regex.old.nfa (byte_before self.old.kept self.old.start)
+        requires scan { IsEndScan regex.old.nfa (byte_before self.old.kept self.old.start)
             (drop self.old.start self.old.kept) scan }
+        requires unsettled { IsUnsettled scan }
         ensures fed { (list : List Found) → IsFed regex.old.nfa self.old self.new [] list list }
         ensures scan { IfOk result (λ scan. IsEndScan regex.old.nfa
             (byte_before self.new.kept self.new.start) (drop self.new.start self.new.kept) scan) }
+        ensures unsettled { IfOk result (λ scan. IsUnsettled scan) }
         ensures idle { IfOk result (λ scan. HasPrefixApart regex.old.nfa
             → IsIdle regex.old.nfa scan → self.new.start ≡ count_kept self.new) }
         ensures taken { self.new.scan ≡ self.old.scan }
@@ -207,7 +209,7 @@ impl<A: Allocator + Copy> Pieces<A> {
         regex.scan(self.kept.as_slice(), self.start)
     }
 
-    /// Reads the next bytes, and adds each match that is then certain.
+    /// Reads the next bytes, and adds each match whose search has ended.
     fn read_block<N: Allocator, B: Allocator, C: Allocator>(
         &mut self,
         regex: &mut LazyRegex<'_, N, B, A>,
@@ -231,16 +233,17 @@ impl<A: Allocator + Copy> Pieces<A> {
         Ok(())
     }
 
-    /// Reads the next piece of the text, and adds each match that is then certain, in order. A
-    /// piece may be empty. Each must be fed through a `Regex` of the same NFA.
+    /// Reads the next piece of the text, and adds matches, in order. A piece may be empty. Each
+    /// must be fed through a `Regex` of the same NFA.
     ///
-    /// At the end of each block of 4096 bytes, and at the end of the piece, at most one byte before
-    /// the search is kept, and no other if the search is idle there. `bytes_kept` never grows by
+    /// At the end of each block of 4096 bytes, and at the end of the piece, no match is left whose
+    /// search has ended. At most one byte before the search that is then under way is kept, and no
+    /// other if that search is idle and the prefix of the NFA is apart. `bytes_kept` never grows by
     /// more than the bytes that are read.
     ///
     /// Returns `AllocError` if an allocation fails, if a cache would need more than 16647160
-    /// states, or if the pieces have more than `usize::MAX` bytes together. A part of the piece may
-    /// have been read (`bytes_read`), and its matches added. To continue, feed the rest.
+    /// states, or if the pieces have more than `usize::MAX` bytes together. The first bytes of the
+    /// piece may have been read (`bytes_read`), and matches added. To continue, feed the rest.
     pub fn feed<N: Allocator, B: Allocator, C: Allocator>(
         &mut self,
         regex: &mut LazyRegex<'_, N, B, A>,

@@ -3,7 +3,7 @@
 ghost use Rattle.std.specs.Prelude.{◌≡◌, ◌+◌, ◌++◌, ◌<◌, ◌≤◌, ℕ, List, None, Option, [], drop, false};
 ghost use Rattle.std.specs.Prelude.{length, max, true, IfOk, OnErr, OnOk};
 ghost use Rattle.std.specs.Bool.{Decides};
-ghost use Rattle.std.specs.Option.{IfSome};
+ghost use Rattle.std.specs.Option.{IfNone, IfSome};
 ghost use Rattle.determinize_below.specs.Nfa.{AllResolve};
 ghost use Rattle.determinize_below.specs.declared.search.MatchKind.TheVariants as kinds;
 ghost use Rattle.determinize_start.specs.StartKinds.{byte_before};
@@ -16,7 +16,7 @@ ghost use Rattle.determinize_find.specs.Prefix.{HasPrefix, HasPrefixApart};
 ghost use Rattle.determinize_find.specs.Private.Begins.{HasReverse, IsBeginOf, IsEndOf, IsEnding, asked_of};
 ghost use Rattle.determinize_find.specs.Private.Windows.{IsCertain, IsFresh};
 ghost use Rattle.determinize_find.specs.Reversal.{IsReverseOf};
-ghost use Rattle.determinize_find.specs.Streams.{IsEndScan};
+ghost use Rattle.determinize_find.specs.Streams.{IsEndScan, IsUnsettled};
 
 use crate::idle::is_idle;
 use crate::iter::Searcher;
@@ -269,8 +269,8 @@ impl<'n, N: Allocator, B: Allocator, A: Allocator + Copy> LazyRegex<'n, N, B, A>
         self.forward.feed(scan, piece)
     }
 
-    /// Returns the leftmost match of a haystack from an index on, if nothing that follows the
-    /// haystack can change it. `scan` is the search of those bytes.
+    /// Returns the leftmost match of a haystack from an index on, if `scan`, the search of those
+    /// bytes, has ended: then nothing that follows the haystack can change it.
     pub(crate) fn certain(
         &mut self,
         haystack: &[u8],
@@ -282,6 +282,7 @@ impl<'n, N: Allocator, B: Allocator, A: Allocator + Copy> LazyRegex<'n, N, B, A>
             (drop start haystack.now) scan.now }
         ensures certain { IfOk result (λ found. IfSome found
             (λ m. IsCertain self.old.nfa haystack.now start m)) }
+        ensures unsettled { IfOk result (λ found. IfNone found (IsUnsettled scan.now)) }
         ensures same { self.new ≡ self.old }
     {
         if !scan.is_over() {

@@ -1,7 +1,8 @@
--- How many bytes a search of pieces keeps. Main statements: few_kept, read_more, all_few. `Pieces::read_block` and
--- `Pieces::feed` rest on them. The idea: what was so at the end of a block stays so, as more blocks are read.
+-- What `Pieces` keeps: few bytes, and a search that has not ended with a match. Main statements: unread_unsettled,
+-- few_kept, read_more, all_few. `Pieces::read_block` and `Pieces::feed` rest on them. The idea: what was so at the end
+-- of a block stays so, as more blocks are read.
 use Rattle.std.specs.Option.{IfSome}
-use Rattle.std.specs.Prelude.{min}
+use Rattle.std.specs.Prelude.{map, min}
 use Rattle.std.proofs.Common.{◌≡◌, ◌*◌, ◌<◌, ◌≤◌, ◌+◌, ◌++◌, ◌-◌, ◌⊎◌, ◌∙◌, ℕ, Bool, List, None, Option, Some, [], ap}
 use Rattle.std.proofs.Common.{append-nil, append_assoc, arith, drop, false, inl, inr, length, refl, subst, sym}
 use Rattle.std.proofs.Common.{true}
@@ -11,14 +12,19 @@ use Rattle.std.proofs.lemmas.List.{drop-append-le, drop_all, length-append, leng
 use Rattle.std.proofs.lemmas.List.{take-append-le, take_all}
 use Rattle.determinize_below.specs.Semantics.{Nfa}
 use Rattle.determinize_below.specs.declared.search.Match.{Match}
+use Rattle.determinize_below.specs.declared.search.MatchKind.TheVariants.{LeftmostFirst}
 use Rattle.ordered_reach.proofs.Cases.{by_cases}
 use Rattle.determinize_start.specs.StartKinds.{byte_before}
+use Rattle.determinize_core.specs.Chain.{future}
+use Rattle.determinize_core.specs.LastMatch.{last_match}
+use Rattle.determinize_core.specs.Step.{start_value}
+use Rattle.determinize_core.specs.Value.{is_nonempty}
 use Rattle.determinize_lazy.specs.Scans.{Scanned}
 use Rattle.determinize_find.specs.Idle.{IsIdle}
 use Rattle.determinize_find.specs.Prefix.{HasPrefixApart}
 use Rattle.determinize_find.specs.Private.Windows.{unsearched, with_bytes, without_first}
-use Rattle.determinize_find.specs.Streams.{IsEndScan, IsFed, IsPartFed, IsSearching, KeepsFew, KeptFewAt}
-use Rattle.determinize_find.specs.Streams.{KeptFewInBlocks, Streamed}
+use Rattle.determinize_find.specs.Streams.{IsEndScan, IsFed, IsPartFed, IsSearching, IsUnsettled, KeepsFew}
+use Rattle.determinize_find.specs.Streams.{KeptFewAt, KeptFewInBlocks, Streamed}
 use Rattle.determinize_find.proofs.streams.Steps.{fed_nothing, joined, part_fed, with_scan}
 
 -- without a search under way there is nothing to say of it
@@ -35,6 +41,16 @@ pub failed_searching : (nfa : Nfa) (old new : Streamed) (block : List ℕ)
 failed_searching nfa old new block (inl e) = subst (λ s. IsSearching nfa s) (sym e) tt
 failed_searching nfa old new block (inr e) = subst (λ s. IsSearching nfa s) (sym e) tt
 
+-- a search that has read nothing has not ended with a match
+pub unread_unsettled : {nfa : Nfa} {behind : Option ℕ} {bytes : List ℕ} {s : Scanned} → bytes ≡ []
+    → IsEndScan nfa behind bytes s → IsUnsettled s
+unread_unsettled {nfa} {behind} {bytes} {s} unread is =
+    subst (λ o. IfSome o (λ m. is_nonempty s.state.states ≡ true)) (sym none) tt
+  where
+    none : s.last ≡ None
+    none = is.scan.last ∙ ap (λ bs. last_match (future nfa LeftmostFirst (start_value nfa nfa.start_unanchored behind)
+        (map Some bs))) unread
+
 -- a search that would have been reported as idle, and was not, begins at the end
 pub at_end : {A B : Type 0} {told : Bool} (start end : ℕ) → start ≤ end → (A → B → start < end → told ≡ true)
     → told ≡ false → A → B → start ≡ end
@@ -44,11 +60,13 @@ at_end start end within h e a b = by_cases (cases_lt start end)
 
 -- after the bytes before the search were dropped, but for the last
 pub few_kept : (nfa : Nfa) (now new : Streamed) (scan : Scanned) → now.start ≤ length now.kept
-    → (HasPrefixApart nfa → IsIdle nfa scan → now.start ≡ length now.kept)
-    → new ≡ without_first (now.start - 1) (with_scan (Some scan) now) → KeepsFew nfa new
-few_kept nfa now new scan within idle e = subst (λ s. KeepsFew nfa s) (sym e) record {
+    → IsUnsettled scan → (HasPrefixApart nfa → IsIdle nfa scan → now.start ≡ length now.kept)
+    → new ≡ without_first (now.start - 1) (with_scan (Some scan) now) → IsSearching nfa new → KeepsFew nfa new
+few_kept nfa now new scan within unsettled idle e searching = subst (λ s. KeepsFew nfa s) (sym e) record {
   scan = scan;
   search = refl;
+  searching = subst (λ s. IsSearching nfa s) e searching;
+  unsettled = unsettled;
   behind = (let l : now.start - (now.start - 1) ≤ 1 = omega arith in l);
   idle = λ apart is.
       let z : now.start ≡ length now.kept = idle apart is in
@@ -69,23 +87,27 @@ module _ {nfa : Nfa} {old now new : Streamed} {done block : List ℕ} {list mid 
         few = few;
         rest = subst (λ w. IsFed nfa new new w after after) (sym (drop_all i (done ++ block) l))
             (fed_nothing nfa new after);
+        end = λ _. refl;
       }
 
   -- and at an earlier place
-  earlier : (i : ℕ) → i ≤ length done → KeptFewAt nfa old now done list mid i
+  earlier : (i : ℕ) → i ≤ length done → 0 < length block → KeptFewAt nfa old now done list mid i
       → KeptFewAt nfa old new (done ++ block) list after i
-  earlier i l at = record {
+  earlier i l some at = record {
     now = at.now;
     found = at.found;
     first = subst (λ w. IsFed nfa old at.now w list at.found) (sym (take-append-le i done block l)) at.first;
     few = at.few;
     rest = subst (λ w. IsFed nfa at.now new w at.found after) (sym (drop-append-le i done block l))
         (joined at.rest more);
+    end = λ e.
+        let n : length (done ++ block) ≡ length done + length block = length-append done block in
+        absurd (omega arith);
   }
 
-  pub more_blocks : (count : ℕ) → length done ≡ count * 4096 → length block ≤ 4096
+  pub more_blocks : (count : ℕ) → length done ≡ count * 4096 → 0 < length block → length block ≤ 4096
       → KeptFewInBlocks nfa old now done list mid → KeptFewInBlocks nfa old new (done ++ block) list after
-  more_blocks count full small blocks i end =
+  more_blocks count full some small blocks i end =
       let n : length (done ++ block) ≡ length done + length block = length-append done block in
       let top : i ≤ length (done ++ block) = end.1 in
       by_cases (cases_lt (length done) i)
@@ -94,7 +116,7 @@ module _ {nfa : Nfa} {old now new : Streamed} {done block : List ℕ} {list mid 
       (λ e.
       let z : i ≡ e.0 * 4096 = e.1 in
       let y : i ≡ length (done ++ block) = omega arith in here i y))
-      (λ l. earlier i l (blocks i (
+      (λ l. earlier i l some (blocks i (
         end.0,
         l,
         by_cases end.2
@@ -144,6 +166,9 @@ module _ {nfa : Nfa} {old now : Streamed} {piece rest : List ℕ} {size : ℕ} {
       let f : length is.done ≡ is.count * 4096 = by_cases is.full
       (λ z. let y : length rest ≡ 0 = ap length z in absurd (omega arith))
       (λ z. z) in
+      let sized : (0 < length block) × (length block ≤ 4096) = by_cases (cases_lt (length rest) size)
+      (λ l. let y : length block ≡ length rest = short l in (omega arith, omega arith))
+      (λ l. let y : length block ≡ size = m ∙ min-eq_left l in (omega arith, omega arith)) in
       record {
         done = is.done ++ block;
         cut = append_assoc is.done block others ∙ ap (λ w. is.done ++ w) (sym e) ∙ is.cut;
@@ -156,12 +181,7 @@ module _ {nfa : Nfa} {old now : Streamed} {piece rest : List ℕ} {size : ℕ} {
             (λ l. let y : length block ≡ size = m ∙ min-eq_left l in
             let z : length (is.done ++ block) ≡ (is.count + 1) * 4096 = omega arith in inr z);
         fed = joined is.fed more;
-        few = more_blocks is.fed more few is.count f
-            (by_cases (cases_lt (length rest) size)
-            (λ l. let y : length block ≡ length rest = short l in let z : length block ≤ 4096 = omega arith in z)
-            (λ l. let y : length block ≡ size = m ∙ min-eq_left l in
-            let z : length block ≤ 4096 = omega arith in z))
-            is.few;
+        few = more_blocks is.fed more few is.count f sized.0 sized.1 is.few;
       }
     where
       short : length rest < size → length block ≡ length rest

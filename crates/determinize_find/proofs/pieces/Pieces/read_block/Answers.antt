@@ -5,11 +5,13 @@ use Rattle.determinize_find.specs.Idle.{IsIdle}
 use Rattle.determinize_find.specs.Prefix.{HasPrefixApart}
 use Rattle.determinize_find.specs.Private.Windows.{without_first}
 use Rattle.determinize_find.specs.Regexes.{RegexValue}
-use Rattle.determinize_find.specs.Streams.{IsEndScan, IsFed, Streamed}
+use Rattle.determinize_find.specs.Streams.{IsEndScan, IsFed, IsSearching, Streamed}
 use Rattle.determinize_find.proofs.leftmost.TwoSearches.{all_bytes}
 use Rattle.determinize_find.proofs.streams.Kept.{failed_searching, few_kept, none_searching}
 use Rattle.determinize_find.proofs.streams.Steps.{all_fed, certain_at, ended_fed, ended_searching, joined_none}
 use Rattle.determinize_find.proofs.streams.Steps.{keep_failed, kept_fed, scan_at, with_scan}
+use Rattle.determinize_find.proofs.pieces.Pieces.read_block.Given.{Over}
+use Rattle.determinize_find.proofs.pieces.Pieces.read_block.Goals.{After-drop_passed}
 use Rattle.determinize_find.proofs.pieces.Pieces.read_block.Goals as goal
 
 pub returns-in_err-scan-clause-read : goal.returns-in_err-scan-clause-read
@@ -74,8 +76,8 @@ loop-scan-preserved g c = record {
       (ap (λ (s : Streamed). s.start) c.self-in-Some.view_is) c.in_ok-scan-2.ensures.scan;
 }
 
-pub skip_idle-requires : goal.skip_idle-requires
-skip_idle-requires g c =
+pub skip_idle-requires-clause-scan : goal.skip_idle-requires-clause-scan
+skip_idle-requires-clause-scan g c =
     subst (λ (v : RegexValue). IsEndScan v.nfa (byte_before c.loop-scan.self.kept c.loop-scan.self.start)
     (drop c.loop-scan.self.start c.loop-scan.self.kept) c.loop-scan.scan)
     (sym (c.in_ok-next.ensures.same ∙ c.loop-scan.invariant.same)) c.loop-scan.invariant.scan
@@ -91,12 +93,23 @@ returns-in_err-rest-clause-read g c = record {
       (c.in_err-rest.ensures.taken ∙ c.loop-scan.invariant.none);
 }
 
+-- the value at the end, and its search
+rest_is : (g : Over) (c : After-drop_passed g) → c.drop_passed.new.self
+    ≡ without_first (c.skip_idle.new.self.start - 1) (with_scan (Some c.in_ok-rest.rest) c.skip_idle.new.self)
+rest_is g c =
+    c.drop_passed.ensures ∙ ap (λ (s : Streamed). without_first (s.start - 1) (with_scan (Some c.in_ok-rest.rest) s))
+    c.self-2.view_is
+
+rest_searching : (g : Over) (c : After-drop_passed g) → IsSearching c.args.regex.now.nfa c.drop_passed.new.self
+rest_searching g c =
+    ended_searching c.args.regex.now.nfa c.skip_idle.new.self c.drop_passed.new.self c.in_ok-rest.rest
+    (subst (λ (v : RegexValue). IsEndScan v.nfa (byte_before c.skip_idle.new.self.kept c.skip_idle.new.self.start)
+    (drop c.skip_idle.new.self.start c.skip_idle.new.self.kept) c.in_ok-rest.rest)
+    (c.in_ok-next.ensures.same ∙ c.loop-scan.invariant.same) c.in_ok-rest.ensures.scan) (rest_is g c)
+
 pub returns-clause-read : goal.returns-clause-read
 returns-clause-read g c =
-    let e : c.drop_passed.new.self
-    ≡ without_first (c.skip_idle.new.self.start - 1) (with_scan (Some c.in_ok-rest.rest) c.skip_idle.new.self)
-    = c.drop_passed.ensures ∙ ap (λ (s : Streamed). without_first (s.start - 1) (with_scan (Some c.in_ok-rest.rest) s))
-    c.self-2.view_is in
+    let d = (goal.at.returns-clause-read g c).After-drop_passed in
     record {
       fed = ended_fed c.args.regex.now.nfa c.args.self.now c.skip_idle.new.self c.drop_passed.new.self c.in_ok-rest.rest
           c.args.block.now c.args.found.now.items c.loop-scan.found.items
@@ -104,20 +117,18 @@ returns-clause-read g c =
           (subst (λ (v : RegexValue). IsFed v.nfa c.loop-scan.self c.skip_idle.new.self [] c.loop-scan.found.items
           c.loop-scan.found.items) (c.in_ok-next.ensures.same ∙ c.loop-scan.invariant.same)
           (c.in_ok-rest.ensures.fed c.loop-scan.found.items)))
-          (subst (λ (s : Streamed). s.start ≤ length s.kept) c.self-2.view_is c.self-2.invariant.within) e;
+          (subst (λ (s : Streamed). s.start ≤ length s.kept) c.self-2.view_is c.self-2.invariant.within) (rest_is g d);
       failed = tt;
-      searching = ended_searching c.args.regex.now.nfa c.skip_idle.new.self c.drop_passed.new.self c.in_ok-rest.rest
-          (subst (λ (v : RegexValue). IsEndScan v.nfa (byte_before c.skip_idle.new.self.kept c.skip_idle.new.self.start)
-          (drop c.skip_idle.new.self.start c.skip_idle.new.self.kept) c.in_ok-rest.rest)
-          (c.in_ok-next.ensures.same ∙ c.loop-scan.invariant.same) c.in_ok-rest.ensures.scan) e;
+      searching = rest_searching g d;
     }
 
 pub returns-clause-few : goal.returns-clause-few
 returns-clause-few g c =
+    let d = (goal.at.returns-clause-few g c).After-drop_passed in
     few_kept c.args.regex.now.nfa c.skip_idle.new.self c.drop_passed.new.self c.in_ok-rest.rest
     (subst (λ (s : Streamed). s.start ≤ length s.kept) c.self-2.view_is c.self-2.invariant.within)
+    c.in_ok-rest.ensures.unsettled
     (subst (λ (v : RegexValue). HasPrefixApart v.nfa → IsIdle v.nfa c.in_ok-rest.rest
     → c.skip_idle.new.self.start ≡ length c.skip_idle.new.self.kept)
     (c.in_ok-next.ensures.same ∙ c.loop-scan.invariant.same) c.in_ok-rest.ensures.idle)
-    (c.drop_passed.ensures
-    ∙ ap (λ (s : Streamed). without_first (s.start - 1) (with_scan (Some c.in_ok-rest.rest) s)) c.self-2.view_is)
+    (rest_is g d) (rest_searching g d)

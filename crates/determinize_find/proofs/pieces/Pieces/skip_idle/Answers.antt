@@ -1,6 +1,9 @@
-use Rattle.std.proofs.Common.{rules, ◌≡◌, ◌∙◌, ℕ, List, [], ap, false, length, subst, sym}
+use Rattle.std.proofs.Common.{rules, ◌≡◌, ◌∙◌, ℕ, List, [], ap, drop, false, length, subst, sym}
+use Rattle.std.proofs.lemmas.List.{drop_all}
+use Rattle.std.proofs.lemmas.Result.{IfOk-weaker}
 use Rattle.determinize_find.specs.Private.Windows.{IsFresh}
 use Rattle.determinize_find.specs.Streams.{IsFed, Streamed}
+use Rattle.determinize_find.proofs.streams.Kept.{unread_unsettled}
 use Rattle.determinize_find.proofs.streams.Steps.{fed_later, to_end}
 use Rattle.determinize_find.proofs.pieces.Pieces.skip_idle.Goals as goal
 
@@ -21,3 +24,9 @@ returns-clause-fed g c list =
     }))
     (fed_later c.args.regex.now.nfa c.args.self.now list
     (subst (λ (s : Streamed). s.start ≡ 0 → s.dropped ≡ 0) c.self.view_is c.self.invariant.behind) fresh)
+
+pub returns-clause-unsettled : goal.returns-clause-unsettled
+returns-clause-unsettled g c =
+    let unread : drop c.len-self-inside.result c.as_slice-2.result.now ≡ []
+    = drop_all c.len-self-inside.result c.as_slice-2.result.now (search rules) in
+    IfOk-weaker c.scan-2.result _ _ (λ scan is. unread_unsettled unread is) c.scan-2.ensures.scan
