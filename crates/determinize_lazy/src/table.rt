@@ -311,7 +311,8 @@ impl<A: Allocator + Copy> TransitionTable<A> {
     ///
     /// - `target` is the id of `following` if it is cached.
     ///
-    /// If an allocation fails, no transition is added, but the source may be cached.
+    /// If an allocation fails, one of the states may be cached without the transition: the caller
+    /// clears the table.
     fn add(
         &mut self,
         source: Cursor<A>,
