@@ -30,6 +30,10 @@ pub record IsScan (nfa : Nfa) (kind : MatchKind) (start : ℕ) (behind : Option 
 abbrev pub units_fed : Cache → Value → List ℕ → List (Option ℕ)
 units_fed c v piece = units_read (step_of c) false v (map Some piece)
 
+-- the same of the first piece, from an NFA state on
+abbrev pub units_begun : Cache → ℕ → Option ℕ → List ℕ → List (Option ℕ)
+units_begun c start behind piece = units_fed c (start_value c.nfa start behind) piece
+
 -- and at the end of the text: the unit ahead, unless the search has ended
 abbrev pub units_last : Cache → Value → Option ℕ → List (Option ℕ)
 units_last c v ahead = units_read (step_of c) false v (ahead ∷ [])

@@ -1,8 +1,9 @@
 //! Searches of a text that comes in pieces, as from a socket or a file.
 //!
 //! A [`Scan`] owns the state where it is and the last match so far, so that it does not depend on
-//! what the cache is used for between two pieces. Each piece costs one lookup of that state; its
-//! bytes are then read by the loop of `search`.
+//! what the cache is used for between two pieces. Each piece costs one lookup of that state, but
+//! the first one of `scan_text`, which begins as a search does. Its bytes are then read by the loop
+//! of `search`.
 
 ghost use Rattle.std.specs.Prelude.{◌≡◌, ◌+◌, ◌++◌, ◌<◌, ◌≤◌, ℕ, [], List, Option, length, map, not, option_map, true, IfOk, OnErr, OnOk, None, Some};
 ghost use Rattle.std.specs.Option.{IfSome, option_or};
@@ -11,12 +12,15 @@ ghost use Rattle.determinize_below.specs.Semantics.{Nfa, between};
 ghost use Rattle.determinize_core.specs.Step.{start_value};
 ghost use Rattle.determinize_core.specs.Value.{is_nonempty};
 ghost use Rattle.determinize_lazy.specs.Cache.{Grows, IsCutOff, after_step, after_walk, cache};
-ghost use Rattle.determinize_lazy.specs.Private.Scanned.{later_by};
-ghost use Rattle.determinize_lazy.specs.Scans.{IsScan, IsSettled, units_fed, units_last};
+ghost use Rattle.determinize_lazy.specs.Private.Cursors.{IsCursor, cursor_value};
+ghost use Rattle.determinize_lazy.specs.Private.Scanned.{IsPieceRead, later_by};
+ghost use Rattle.determinize_lazy.specs.Private.Steps.{IsSound};
+ghost use Rattle.determinize_lazy.specs.Scans.{IsScan, IsSettled, units_begun, units_fed, units_last};
 ghost use Rattle.determinize_core.specs.Searches.{IsSearch};
 ghost use Rattle.determinize_below.specs.declared.search.MatchKind.{MatchKind as Kind};
 
 use crate::lazy::Lazy;
+use crate::table::Cursor;
 use determinize_below::{HalfMatch, StateID};
 use determinize_core::state::State;
 use determinize_core::text::Text;
@@ -117,6 +121,66 @@ impl<'n, N: Allocator, A: Allocator + Copy> Lazy<'n, N, A> {
         })
     }
 
+    /// Returns a search that has read the first piece of its text, as `scan` and then `feed` would.
+    /// If the id of its start state is kept, as for `search`, nothing is computed to begin it.
+    ///
+    /// - `start` is the id of the NFA state to start from, below the number of states.
+    /// - `look_behind` is the byte just before the text, if any.
+    ///
+    /// Returns `AllocError` if an allocation fails, or if more than 16647160 states would be
+    /// cached.
+    pub fn scan_text(
+        &mut self,
+        start: StateID,
+        look_behind: Option<u8>,
+        piece: &[u8],
+    ) -> Result<Scan<A>, AllocError>
+        requires { start < length self.old.nfa.states }
+        ensures begun { IfOk result
+            (λ scan. IsScan self.old.nfa self.old.kind start look_behind piece.now scan) }
+        ensures resolve { IfOk result
+            (λ scan. AllResolve self.new.nfa scan.state.states) }
+        ensures after { OnOk result (cache self.new ≡ after_walk (cache self.old)
+            (start_value self.old.nfa start look_behind)
+            (units_begun (cache self.old) start look_behind piece.now)) }
+        ensures failed { OnErr result (IsCutOff (cache self.old)
+            (start_value self.old.nfa start look_behind)
+            (units_begun (cache self.old) start look_behind piece.now) (cache self.new)) }
+        ensures grows { Grows (cache self.old) (cache self.new) }
+    {
+        let cursor = self.start(start, look_behind)?;
+        self.read_piece(cursor, piece)
+    }
+
+    /// Returns the search of a piece from a cursor, as if its text began there.
+    ///
+    /// Not inlined, so that the loop over cached transitions is compiled once for all callers.
+    #[inline(never)]
+    fn read_piece(&mut self, start: Cursor<A>, piece: &[u8]) -> Result<Scan<A>, AllocError>
+        requires cursor { IsCursor self.old.states start }
+        requires resolve { AllResolve self.old.nfa
+            (cursor_value self.old.states start).states }
+        requires sound { IsSound (cache self.old) }
+        ensures read { IfOk result (λ scan. IsPieceRead (cache self.old)
+            (cursor_value self.old.states start) piece.now scan (cache self.new)) }
+        ensures resolve { IfOk result
+            (λ scan. AllResolve self.new.nfa scan.state.states) }
+        ensures failed { OnErr result (IsCutOff (cache self.old)
+            (cursor_value self.old.states start)
+            (units_fed (cache self.old) (cursor_value self.old.states start) piece.now)
+            (cache self.new)) }
+        ensures grows { Grows (cache self.old) (cache self.new) }
+    {
+        let at = self.search_bytes(start, &Text::new(None, piece, None), false)?;
+        let found = at.last.or_match(self.tag_at(&at.cursor), at.read);
+        let state = self.table.into_state(at.cursor)?;
+        Ok(Scan {
+            state,
+            last: found.get(),
+            read: piece.len(),
+        })
+    }
+
     /// Reads the next piece of the text of a scan, in the order of reading. A piece may be empty.
     ///
     /// The scan must be one of the same NFA: the ids of its state are then those of NFA states.
@@ -141,11 +205,9 @@ impl<'n, N: Allocator, A: Allocator + Copy> Lazy<'n, N, A> {
             return Err(AllocError);
         };
         let start = self.cursor_of(&scan.state)?;
-        let at = self.search_bytes(start, &Text::new(None, piece, None), false)?;
-        let found = at.last.or_match(self.tag_at(&at.cursor), at.read);
-        let state = self.table.into_state(at.cursor)?;
-        scan.last = or_later(scan.last, scan.read, found.get());
-        scan.state = state;
+        let rest = self.read_piece(start, piece)?;
+        scan.last = or_later(scan.last, scan.read, rest.last);
+        scan.state = rest.state;
         scan.read = read;
         Ok(())
     }
