@@ -251,9 +251,9 @@ impl<'n, N: Allocator, B: Allocator, A: Allocator + Copy> LazyRegex<'n, N, B, A>
         ensures same { self.new ≡ self.old }
     {
         let unanchored = self.forward.nfa().start_unanchored();
-        let mut scan = self.forward.scan(unanchored, look_behind(haystack, start))?;
-        self.forward.feed(&mut scan, &haystack[start..])?;
-        Ok(scan)
+        let behind = look_behind(haystack, start);
+        self.forward
+            .scan_text(unanchored, behind, &haystack[start..])
     }
 
     /// Reads the next piece of the text of such a search. If the result is an error, the search is

@@ -2,7 +2,7 @@
 -- certain_match, end_scan. `Regex::certain` rests on them. The idea: the last match of the walk stays the same, so its
 -- pattern and end do; and where it begins is seen in reverse from its end, before anything that follows.
 use Rattle.std.specs.Option.{IfSome, option_or}
-use Rattle.std.specs.Prelude.{All, option_map, slice_get}
+use Rattle.std.specs.Prelude.{All, Err, IfOk, Ok, Result, option_map, slice_get}
 use Rattle.std.proofs.Common.{◌≡◌, ◌<◌, ◌≤◌, ◌+◌, ◌++◌, ◌-◌, ◌∙◌, ℕ, List, None, Option, Some, [], ap, append-nil}
 use Rattle.std.proofs.Common.{arith, drop, length, map, refl, subst, sym, take}
 use Rattle.std.proofs.lemmas.Bool.{cases_lt}
@@ -71,11 +71,13 @@ module _ (nfa backward : Nfa) (is : IsReverseOf backward nfa) (j : ℕ) where
           let r = seen_in t u m.start e a b o left.choices m.pattern acc in
           other.leftmost m.start k r.0 j r.1 r.2
 
--- what the calls of a lazy DFA say of such a search
-pub end_scan : (nfa own : Nfa) (kind : MatchKind) (start : ℕ) (byte behind : Option ℕ) (bytes : List ℕ) (s : Scanned)
-    → own ≡ nfa → kind ≡ LeftmostFirst → start ≡ nfa.start_unanchored → byte ≡ behind → IsAccepted own → HasPrefix own
-    → AllResolve own s.state.states → IsScan own kind start byte bytes s → IsEndScan nfa behind bytes s
-end_scan nfa own kind start byte behind bytes s e k z b accepted prefix resolve is = record {
+-- what a lazy DFA says of such a search
+pub end_scan : (nfa own : Nfa) (kind : MatchKind) (start : ℕ) (byte behind : Option ℕ) (bytes : List ℕ) {E : Type 0}
+    (r : Result Scanned E) → own ≡ nfa → kind ≡ LeftmostFirst → start ≡ nfa.start_unanchored → byte ≡ behind
+    → IsAccepted own → HasPrefix own → IfOk r (λ s. AllResolve own s.state.states)
+    → IfOk r (λ s. IsScan own kind start byte bytes s) → IfOk r (λ s. IsEndScan nfa behind bytes s)
+end_scan nfa own kind start byte behind bytes (Err _) e k z b accepted prefix resolve is = tt
+end_scan nfa own kind start byte behind bytes (Ok s) e k z b accepted prefix resolve is = record {
   accepted = subst (λ n. IsAccepted n) e accepted;
   prefix = subst (λ n. HasPrefix n) e prefix;
   resolve = subst (λ n. AllResolve n s.state.states) e resolve;
