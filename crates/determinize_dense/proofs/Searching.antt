@@ -71,7 +71,7 @@ module _ {d : DfaValue} {anchored : Bool} {p : Option ℕ} where
     patterns-are is has = has here at.below at.reached ∙ is.tells anchored p us at.behind at.units
 
 -- no pattern is listed by row 0
-none-zero : (d : DfaValue) → IsDfa d → 0 < length d.table.patterns → patterns_at d.table 0 ≡ []
+pub none-zero : (d : DfaValue) → IsDfa d → 0 < length d.table.patterns → patterns_at d.table 0 ≡ []
 none-zero d is some =
     let k = is.reached 0 some in
     ap (λ r. patterns_at d.table r) k.5 ∙ is.tells k.0 k.1 k.2 k.3 k.4

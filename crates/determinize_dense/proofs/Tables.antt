@@ -1,9 +1,11 @@
 -- The entries of a table.
-use Rattle.determinize_core.proofs.Common.{length, List, Option, slice_index, subst, sym, ℕ, ◌*◌, ◌+◌, ◌<◌, ◌∙◌, ◌≡◌}
+use Rattle.determinize_core.proofs.Common.{ap, arith, drop, get_or, length, List, Option, slice_index, subst, sym, take}
+use Rattle.determinize_core.proofs.Common.{take_all, ℕ, ◌*◌, ◌+◌, ◌-◌, ◌<◌, ◌∙◌, ◌≡◌}
 use Rattle.determinize_dense.specs.Private.Minimizing.{entry}
 use Rattle.determinize_dense.specs.Private.Rows.{IsStored, offset_of}
 use Rattle.determinize_dense.proofs.Common.{column_of, DfaValue, IsFilled, IsUnit, row_over, Table}
 use Rattle.std.proofs.Math.Nat.{mul_comm}
+use Rattle.std.proofs.lemmas.List.{get_or-drop, length-drop}
 use Rattle.std.proofs.lemmas.Nat.{mul-add-lt}
 
 -- each row has an entry in each column
@@ -36,3 +38,17 @@ pub over-stored : (v : DfaValue) (offsets : List ℕ) → IsStored v offsets →
     ≡ offset_of v.table (row_over v.table r u))
 over-stored v offsets is r u h unit =
     entry-stored v offsets is r (column_of v.table u) h (is.dfa.table.column u unit)
+
+-- the end of a list, from an index on
+abbrev pub rest_of : List ℕ → ℕ → List ℕ
+rest_of xs k = take (length xs - k) (drop k xs)
+
+rest-is : (xs : List ℕ) (k : ℕ) → rest_of xs k ≡ drop k xs
+rest-is xs k = take_all (length xs - k) (drop k xs) (omega (arith, length-drop k xs))
+
+pub rest-length : (xs : List ℕ) (k : ℕ) → length (rest_of xs k) ≡ length xs - k
+rest-length xs k = ap length (rest-is xs k) ∙ length-drop k xs
+
+-- and an element of it
+pub rest-index : (xs : List ℕ) (k i : ℕ) → slice_index (rest_of xs k) i ≡ slice_index xs (k + i)
+rest-index xs k i = ap (λ ys. get_or ys i 0) (rest-is xs k) ∙ get_or-drop k xs i 0

@@ -25,9 +25,9 @@ use std::mem::{size_of, size_of_val};
 pub struct Dfa<'n, N: Allocator = Global, A: Allocator = Global> {
     pub(crate) rows: Rows<'n, N, A>,
     /// The offset of the last row that lists patterns, or 0.
-    pub(crate) last_match: u32,
+    pub(crate) last_match: usize,
     /// The offset of the last row that is scanned out of, or that of `last_match`.
-    pub(crate) last_special: u32,
+    pub(crate) last_special: usize,
 }
 
 impl<'n, N: Allocator, A: Allocator> Model for Dfa<'n, N, A> {

@@ -65,8 +65,8 @@ impl<'n, N: Allocator, A: Allocator + Copy> Rows<'n, N, A> {
         let columns = self.classes.alphabet_len();
         Ok(Dfa {
             rows: self.merged(alloc, &order)?,
-            last_match: (order.last_upto(ranks.as_slice(), 1) * columns) as u32,
-            last_special: (order.last_upto(ranks.as_slice(), 2) * columns) as u32,
+            last_match: order.last_upto(ranks.as_slice(), 1) * columns,
+            last_special: order.last_upto(ranks.as_slice(), 2) * columns,
         })
     }
 }

@@ -75,7 +75,7 @@ impl<'n, N: Allocator, A: Allocator> Model for Rows<'n, N, A> {
 
 impl<'n, N: Allocator, A: Allocator + Copy> Rows<'n, N, A> {
     /// Returns the offset of the row of a start behind a byte, or behind nothing.
-    pub(crate) fn start_row(&self, is_anchored: bool, look_behind: Option<u8>) -> u32
+    pub(crate) fn start_row(&self, is_anchored: bool, look_behind: Option<u8>) -> usize
         ensures value { result ≡ offset_of self.now.table
             (start_row self.now.nfa self.now.table is_anchored look_behind) }
         ensures limit { start_row self.now.nfa self.now.table is_anchored look_behind
@@ -86,19 +86,22 @@ impl<'n, N: Allocator, A: Allocator + Copy> Rows<'n, N, A> {
         let terminator = self.nfa.look_matcher().get_line_terminator();
         let kind = start_kind_of(terminator, look_behind).as_usize();
         let first = if is_anchored { 0 } else { Start::len() };
-        self.starts[first + kind] * self.classes.alphabet_len() as u32
+        self.starts[first + kind] as usize * self.classes.alphabet_len()
     }
 
     /// Returns the offset of the row after a row over a unit.
     ///
     /// - `row` is the offset of the row.
+    ///
+    /// The first entry of the column is found without the row, so a step waits for one load only.
     #[inline(always)]
-    pub(crate) fn row_over(&self, row: u32, unit: Option<u8>) -> u32
+    pub(crate) fn row_over(&self, row: usize, unit: Option<u8>) -> usize
         requires { IsOffset self.now.table row }
         ensures value { IsNext self.now.table row unit result }
         ensures unit { IsUnit unit }
     {
-        self.next[(row + self.column(unit) as u32) as usize]
+        let column = &self.next[self.column(unit)..];
+        column[row] as usize
     }
 
     /// Returns the column of a unit.
@@ -118,11 +121,14 @@ impl<'n, N: Allocator, A: Allocator + Copy> Rows<'n, N, A> {
     ///
     /// - `row` is the offset of the row.
     #[inline(always)]
-    pub(crate) fn patterns(&self, row: u32) -> &[PatternID]
+    pub(crate) fn patterns(&self, row: usize) -> &[PatternID]
         requires { IsOffset self.now.table row }
         ensures { HasPatterns self.now.table row result.now }
     {
-        let number = row / self.classes.alphabet_len() as u32;
-        self.patterns[number as usize].as_slice()
+        let columns = self.classes.alphabet_len();
+        if row == 0 {
+            return &[];
+        }
+        self.patterns[row / columns].as_slice()
     }
 }

@@ -69,7 +69,7 @@ impl<'n, N: Allocator, A: Allocator + Copy> Dfa<'n, N, A> {
     /// Returns the match of a row, or `None` if it lists no patterns.
     ///
     /// - `row` is the offset of the row, and `offset` that of the match.
-    fn match_of(&self, row: u32, offset: usize) -> Option<HalfMatch>
+    fn match_of(&self, row: usize, offset: usize) -> Option<HalfMatch>
         requires { IsOffset self.now.table row }
         ensures { IsMatch self.now.table row offset result }
     {
@@ -122,7 +122,7 @@ impl<'n, N: Allocator, A: Allocator + Copy> Dfa<'n, N, A> {
     ///
     /// - `row` is the offset of the row, and `read` the number of bytes read before.
     #[inline(always)]
-    fn scan(&self, row: u32, text: &Text<'_>, read: usize) -> usize
+    fn scan(&self, row: usize, text: &Text<'_>, read: usize) -> usize
         requires row { IsOffset self.now.table row }
         requires read { read ≤ length text.now.bytes }
         ensures stays { StaysOver self.now.table row text.now read result }

@@ -1,8 +1,6 @@
-use Rattle.determinize_core.proofs.Common.{ap, length, rules, slice_index, subst, sym, ℕ, ◌*◌, ◌+◌, ◌<◌, ◌∙◌, ◌≡◌}
+use Rattle.determinize_core.proofs.Common.{ap, arith, length, slice_index, subst, sym, ℕ, ◌*◌, ◌+◌, ◌<◌, ◌∙◌, ◌≡◌}
 use Rattle.determinize_dense.proofs.Common.{column_of, DfaValue, row_over}
-use Rattle.std.proofs.lemmas.Grind.{get_or_default_zero}
-use Rattle.std.specs.Vec.{vec_len}
-use Rattle.determinize_dense.proofs.Tables.{over-stored}
+use Rattle.determinize_dense.proofs.Tables.{over-stored, rest-index, rest-length}
 use Rattle.determinize_dense.specs.Private.Rows.{offset_of}
 use Rattle.determinize_dense.proofs.rows.Rows.row_over.Given.{Over}
 use Rattle.determinize_dense.proofs.rows.Rows.row_over.Goals.{After-column}
@@ -29,11 +27,14 @@ entry-is g c r h e =
       ap (λ n. slice_index c.self.inside.next.items n) (sym place) ∙ stored.1,
     )
 
-pub index-requires : goal.index-requires
-index-requires g c =
-    let len : vec_len c.self.inside.next ≡ length c.self.inside.next.items = search rules in
-    subst (λ n. c.args.row + c.column.result < n) (sym len)
-    (entry-is g (goal.at.index-requires g c).After-column c.requires.0 c.requires.1 c.requires.2).0
+swapped : (m n : ℕ) → m + n ≡ n + m
+swapped m n = omega arith
+
+pub bounds-column-row : goal.bounds-column-row
+bounds-column-row g c =
+    let there = (entry-is g (goal.at.bounds-column-row g c).After-column c.requires.0 c.requires.1 c.requires.2).0 in
+    let same : length c.deref.result.now ≡ length c.self.inside.next.items = ap length c.deref.ensures.value in
+    let rest = rest-length c.deref.result.now c.column.result in omega (arith, there, same, rest)
 
 pub returns-clause-value : goal.returns-clause-value
 returns-clause-value g c = λ r h e.
@@ -41,6 +42,7 @@ returns-clause-value g c = λ r h e.
       subst (λ (x : DfaValue). row_over x.table r c.args.unit < length x.table.patterns) c.self.view_is
           (c.self.invariant.dfa.table.within r c.args.unit
           (subst (λ (x : DfaValue). r < length x.table.patterns) (sym c.self.view_is) h) c.column.ensures.unit),
-      c.index.ensures ∙ get_or_default_zero c.self.inside.next.items (c.args.row + c.column.result) c.index.result.now entry.0
-          ∙ entry.1,
+      rest-index c.deref.result.now c.column.result c.args.row
+          ∙ ap (λ xs. slice_index xs (c.column.result + c.args.row)) c.deref.ensures.value
+          ∙ ap (λ n. slice_index c.self.inside.next.items n) (swapped c.column.result c.args.row) ∙ entry.1,
     )
