@@ -208,6 +208,7 @@ module _ (v : DfaValue) (is : IsDfa v) (p : Blocks) (part : IsGrouping v.table p
   merged-dfa : IsDfa merged
   merged-dfa = record {
     accepted = is.accepted;
+    classes = is.classes;
     table = filled;
     tells = tells;
     reached = reached;
@@ -226,6 +227,7 @@ module _ (v : DfaValue) (is : IsDfa v) (p : Blocks) (part : IsGrouping v.table p
   merged-is = record {
     nfa = refl;
     kind = refl;
+    means = tells;
     count = count;
     columns = refl;
     patterns = λ b h. listed.rows b (subst (λ n. b < n) (sym count) h);

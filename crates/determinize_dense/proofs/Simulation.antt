@@ -4,7 +4,8 @@ use Rattle.determinize_core.proofs.Common.{length, List, map, MatchKind, nat_lt,
 use Rattle.determinize_core.proofs.Common.{slice_get, slice_get_within, slice_index, Some, start_value, subst, sym}
 use Rattle.determinize_core.proofs.Common.{true, Value, value_after, ℕ, [], length-map, slice_get-get_or}
 use Rattle.determinize_core.proofs.Common.{slice_get-map, ◌*◌, ◌+◌, ◌<◌, ◌∙◌, ◌∷◌, ◌≡◌}
-use Rattle.determinize_dense.proofs.Common.{All, AreStarts, Building, column_of, columns_of, first_of, HasStates}
+use Rattle.determinize_dense.proofs.Common.{All, AreClassesOf, AreStarts, Building, Classes, column_of, columns_of}
+use Rattle.determinize_dense.proofs.Common.{first_of, HasStates}
 use Rattle.determinize_dense.proofs.Common.{IsBuilding, IsDfa, IsFilled, IsReachedValue, IsUnit, patterns_at}
 use Rattle.determinize_dense.proofs.Common.{row_after, row_over, start_in, start_kind_of, start_number, start_row}
 use Rattle.determinize_dense.proofs.Common.{step, Table, unit_at}
@@ -31,6 +32,14 @@ after-more nfa kind (u ∷ us) rest v = after-more nfa kind us rest (step nfa ki
 dead-stays : (nfa : Nfa) (kind : MatchKind) (us : List (Option ℕ)) → value_after nfa kind dead us ≡ dead
 dead-stays nfa kind [] = refl
 dead-stays nfa kind (u ∷ us) = ap (λ v. value_after nfa kind v us) (dead_stays nfa kind u).0 ∙ dead-stays nfa kind us
+
+-- other classes of the same bytes
+classes-as : {nfa : Nfa} {p q : Classes} → q.of_bytes ≡ p.of_bytes → AreClassesOf nfa p → AreClassesOf nfa q
+classes-as e are = record {
+  alike = λ b c h l same. are.alike b c h l (ap (λ bs. slice_index bs b) (sym e) ∙ same ∙ ap (λ bs. slice_index bs c) e);
+  coarsest = λ b c h l alike. ap (λ bs. slice_index bs b) e ∙ are.coarsest b c h l alike
+      ∙ ap (λ bs. slice_index bs c) (sym e);
+}
 
 module _ (b : Building) (is : IsBuilding b) (whole : length b.next ≡ length b.values * columns_of b.classes)
     (starts : List ℕ) (are : AreStarts b.nfa b.values 12 starts) where
@@ -162,6 +171,7 @@ module _ (b : Building) (is : IsBuilding b) (whole : length b.next ≡ length b.
   pub is_dfa : IsDfa record { nfa = b.nfa; kind = b.kind; table = table }
   is_dfa = record {
     accepted = is.accepted;
+    classes = λ p same. classes-as same is.classes;
     table = is_table;
     tells = λ anchored p us h all. lists-at (row_after table (start_row b.nfa table anchored p) us) _
         (row_after-steps us _ _ (start-at anchored p h) all);

@@ -1,6 +1,7 @@
 //! A whole DFA, and what can be asked of it besides searches.
 
-ghost use Rattle.std.specs.Prelude.{◌≡◌, ◌<◌, ◌≤◌, Err, IfOk, length, min};
+ghost use Rattle.std.specs.Prelude.{◌≡◌, ◌+◌, ◌*◌, ◌<◌, ◌≤◌, Err, IfOk, length, min};
+ghost use Rattle.determinize_below.specs.ByteClasses.{AreClassesOf};
 ghost use Rattle.determinize_below.specs.Nfa.{IsAccepted};
 ghost use Rattle.determinize_dense.specs.Dfa.{HasMoreStates, HasStates, IsDfaOf};
 ghost use Rattle.determinize_dense.specs.Least.{HasRows, IsLeast};
@@ -10,11 +11,10 @@ use crate::build::Builder;
 use crate::error::BuildError;
 use crate::rows::Rows;
 use determinize_below::alphabet::ByteClasses;
-use determinize_below::{MatchKind, NFA, PatternID};
+use determinize_below::{MatchKind, NFA};
 use std::alloc::{AllocError, Allocator, Global};
 use std::fmt;
 use std::marker::Model;
-use std::mem::{size_of, size_of_val};
 
 /// A whole DFA of an NFA: a row for each state that a search can reach, from every start and over
 /// any units.
@@ -58,6 +58,7 @@ impl<'n, N: Allocator, A: Allocator + Copy> Dfa<'n, N, A> {
     ) -> Result<Dfa<'n, N, A>, BuildError>
         ensures nfa { IfOk result (λ dfa. dfa.nfa ≡ nfa.now) }
         ensures kind { IfOk result (λ dfa. dfa.kind ≡ match_kind) }
+        ensures means { IfOk result (λ dfa. IsDfaOf dfa.nfa dfa.kind dfa.table) }
         ensures states { IfOk result
             (λ dfa. HasStates nfa.now match_kind (length dfa.table.patterns)) }
         ensures few { IfOk result (λ dfa. length dfa.table.patterns ≤ min limit 16647160) }
@@ -79,6 +80,7 @@ impl<'n, N: Allocator, A: Allocator + Copy> Dfa<'n, N, A> {
     pub fn minimize(&self, alloc: A) -> Result<Dfa<'n, N, A>, AllocError>
         ensures nfa { IfOk result (λ dfa. dfa.nfa ≡ self.now.nfa) }
         ensures kind { IfOk result (λ dfa. dfa.kind ≡ self.now.kind) }
+        ensures means { IfOk result (λ dfa. IsDfaOf dfa.nfa dfa.kind dfa.table) }
         ensures least { IfOk result (λ dfa. IsLeast dfa.nfa dfa.table) }
         ensures fewer { IfOk result
             (λ dfa. length dfa.table.patterns ≤ length self.now.table.patterns) }
@@ -112,19 +114,19 @@ impl<'n, N: Allocator, A: Allocator + Copy> Dfa<'n, N, A> {
 
     /// Returns the classes of bytes. A row has a column for each, and one for EOI.
     pub fn byte_classes(&self) -> &ByteClasses
-        ensures { result.now.of_bytes ≡ self.now.table.classes }
+        ensures value { result.now.of_bytes ≡ self.now.table.classes }
+        ensures count { length result.now.firsts ≡ self.now.table.class_count }
+        ensures classes { AreClassesOf self.now.nfa result.now }
     {
-        &self.rows.classes
+        self.rows.byte_classes()
     }
 
     /// Returns the heap memory of the DFA in bytes, without spare capacity.
-    pub fn memory_usage(&self) -> usize {
-        let rows = size_of_val(self.rows.next.as_slice());
-        let mut bytes = rows.saturating_add(size_of_val(self.rows.patterns.as_slice()));
-        for list in &self.rows.patterns {
-            bytes = bytes.saturating_add(list.len().saturating_mul(size_of::<PatternID>()));
-        }
-        bytes
+    pub fn memory_usage(&self) -> usize
+        ensures entries { length self.now.table.patterns * (self.now.table.class_count + 1) * 4
+            ≤ result }
+    {
+        self.rows.memory_usage()
     }
 }
 

@@ -2,6 +2,7 @@
 //! of, and then the others.
 
 ghost use Rattle.std.specs.Prelude.{◌≡◌, ◌<◌, IfOk, length};
+ghost use Rattle.determinize_dense.specs.Dfa.{IsDfaOf};
 ghost use Rattle.determinize_dense.specs.Least.{IsLeast};
 ghost use Rattle.determinize_dense.specs.Private.Order.{AreRanks, IsRank};
 
@@ -55,6 +56,7 @@ impl<'n, N: Allocator, A: Allocator + Copy> Rows<'n, N, A> {
     pub(crate) fn arranged(&self, alloc: A) -> Result<Dfa<'n, N, A>, AllocError>
         ensures nfa { IfOk result (λ dfa. dfa.nfa ≡ self.now.nfa) }
         ensures kind { IfOk result (λ dfa. dfa.kind ≡ self.now.kind) }
+        ensures means { IfOk result (λ dfa. IsDfaOf dfa.nfa dfa.kind dfa.table) }
         ensures rows { IfOk result
             (λ dfa. length dfa.table.patterns ≡ length self.now.table.patterns) }
         ensures least { IsLeast self.now.nfa self.now.table

@@ -1,6 +1,7 @@
 //! The rows of a DFA: its table, and how its entries are read.
 
-ghost use Rattle.std.specs.Prelude.{◌≡◌, ◌+◌, ◌<◌, length};
+ghost use Rattle.std.specs.Prelude.{◌≡◌, ◌+◌, ◌*◌, ◌<◌, ◌≤◌, length};
+ghost use Rattle.determinize_below.specs.ByteClasses.{AreClassesOf};
 ghost use Rattle.determinize_below.specs.Truth.{IsUnit};
 ghost use Rattle.determinize_dense.specs.Private.Rows.{HasPatterns, IsDfa, IsNext, IsOffset, offset_of};
 ghost use Rattle.determinize_dense.specs.Table.{column_of, start_row};
@@ -10,6 +11,7 @@ use determinize_below::{MatchKind, NFA, PatternID};
 use determinize_core::start::{Start, start_kind_of};
 use std::alloc::{Allocator, Global};
 use std::marker::Model;
+use std::mem::{size_of, size_of_val};
 
 /// The number of start states: one for each kind of start, anchored and unanchored.
 pub(crate) const STARTS: usize = 12;
@@ -130,5 +132,27 @@ impl<'n, N: Allocator, A: Allocator + Copy> Rows<'n, N, A> {
             return &[];
         }
         self.patterns[row / columns].as_slice()
+    }
+
+    /// Returns the classes of bytes.
+    pub(crate) fn byte_classes(&self) -> &ByteClasses
+        ensures value { result.now.of_bytes ≡ self.now.table.classes }
+        ensures count { length result.now.firsts ≡ self.now.table.class_count }
+        ensures classes { AreClassesOf self.now.nfa result.now }
+    {
+        &self.classes
+    }
+
+    /// Returns the heap memory of the rows in bytes, without spare capacity.
+    pub(crate) fn memory_usage(&self) -> usize
+        ensures entries { length self.now.table.patterns * (self.now.table.class_count + 1) * 4
+            ≤ result }
+    {
+        let entries = size_of_val(self.next.as_slice());
+        let mut bytes = entries.saturating_add(size_of_val(self.patterns.as_slice()));
+        for list in &self.patterns {
+            bytes = bytes.saturating_add(list.len().saturating_mul(size_of::<PatternID>()));
+        }
+        bytes
     }
 }

@@ -1,6 +1,7 @@
 -- Blocks of rows of a table, and the table of the blocks.
 use Rattle.std.specs.Prelude.{◌≡◌, ◌<◌, ◌≤◌, ◌+◌, ◌*◌, ◌/◌, ◌%◌, ℕ, List, [], get_or, length}
 use Rattle.std.specs.Prelude.{slice_index}
+use Rattle.determinize_dense.specs.Dfa.{IsDfaOf}
 use Rattle.determinize_dense.specs.Least.{AreApart, IsReachedRow}
 use Rattle.determinize_dense.specs.Private.Partition.{AreBlocks, AreTogether, Blocks}
 use Rattle.determinize_dense.specs.Private.Rows.{offset_of}
@@ -96,6 +97,7 @@ pub record AreMergedLists (d : Table) (p : Blocks) (lists : List (List ℕ)) : T
 pub record IsMerged (v : DfaValue) (p : Blocks) (merged : DfaValue) : Type 0 where
   pub nfa : merged.nfa ≡ v.nfa
   pub kind : merged.kind ≡ v.kind
+  pub means : IsDfaOf merged.nfa merged.kind merged.table
   pub count : length merged.table.patterns ≡ length p.members
   pub patterns : (b : ℕ) → b < length p.members
       → patterns_at merged.table b ≡ patterns_at v.table (slice_index p.members b)

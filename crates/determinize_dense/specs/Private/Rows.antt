@@ -1,6 +1,7 @@
 -- What is true of every DFA.
 use Rattle.std.specs.Prelude.{◌≡◌, ◌<◌, ◌≤◌, ◌+◌, ◌*◌, ◌/◌, ◌++◌, ℕ, All, Bool, Option, List, []}
 use Rattle.std.specs.Prelude.{length, map, slice_index}
+use Rattle.determinize_below.specs.ByteClasses.{AreClassesOf, Classes}
 use Rattle.determinize_below.specs.Nfa.{IsAccepted}
 use Rattle.determinize_below.specs.Truth.{IsUnit}
 use Rattle.determinize_dense.specs.Dfa.{IsDfaOf, value_from}
@@ -19,10 +20,11 @@ pub record IsFilled (d : Table) : Type 0 where
       < length d.patterns
   pub few : length d.patterns ≤ 16647160
 
--- a table of this NFA, which is valid, and of this match kind; each row is reached, and no match
--- follows row 0
+-- a table of this NFA, which is valid, and of this match kind; the classes of bytes are those of the
+-- NFA, each row is reached, and no match follows row 0
 pub record IsDfa (v : DfaValue) : Type 0 where
   pub accepted : IsAccepted v.nfa
+  pub classes : (p : Classes) → p.of_bytes ≡ v.table.classes → AreClassesOf v.nfa p
   pub table : IsFilled v.table
   pub tells : IsDfaOf v.nfa v.kind v.table
   pub reached : (r : ℕ) → r < length v.table.patterns → IsReachedRow v.nfa v.table r
