@@ -1,3 +1,4 @@
+pub mod Boundaries
 pub mod ClosureLaws
 pub mod Edges
 pub mod SortedBytes

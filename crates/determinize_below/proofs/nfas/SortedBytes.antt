@@ -1,11 +1,12 @@
 -- Bytes that are sorted into classes one after another.
-use Rattle.std.proofs.Common.{◌≡◌, ℕ, ◌+◌, ◌<◌, ◌≤◌, ◌≢◌, List, length, get_or, take, refl, sym, ap, ◌∙◌, subst, arith}
+use Rattle.std.proofs.Common.{◌≡◌, ℕ, ◌+◌, ◌<◌, ◌≤◌, ◌≢◌, Bool, false, List, length, get_or, take, refl, sym, ap, ◌∙◌, subst, arith}
 use Rattle.std.proofs.Math.ListN.{set}
 use Rattle.std.proofs.lemmas.Bool.{cases_lt}
 use Rattle.std.proofs.lemmas.List.{get_or-set_other, get_or-set_same, get_or-take, length-set, length-take-le}
 use borrow.Author.Count.{below_more}
 use Rattle.determinize_below.specs.ByteClasses.{AreAlike, AreClassesOf}
 use Rattle.determinize_below.specs.Semantics.{Nfa}
+use Rattle.determinize_below.specs.Private.Boundaries.{AreBoundaries, is_marked}
 use Rattle.determinize_below.specs.Private.Sorting.{AreSorted}
 use Rattle.ordered_reach.proofs.Cases.{by_cases}
 
@@ -168,6 +169,15 @@ module _ (nfa : Nfa) where
           subst (λ (x : ℕ). AreSorted nfa (n + 1) more (set B n x) firsts) (sym last)
           (subst (λ (x : ℕ). AreSorted nfa (n + 1) x (set B n len) firsts) (sym more_is)
           (subst (λ (xs : List ℕ). AreSorted nfa (n + 1) (len + 1) (set B n len) xs) (sym firsts_is) new))
+
+    -- a turn at a byte without a mark
+    pub turn_before : (marks : List Bool) (b : ℕ) → AreBoundaries nfa marks → is_marked marks n ≡ false
+        → b + 1 ≡ n → AreSorted nfa (n + 1) len (set B n (get_or B b 0)) F
+    turn_before marks b boundaries unmarked before =
+        let l : b < n = omega arith in
+        let same : AreAlike nfa b n = subst (λ (x : ℕ). AreAlike nfa b x) before
+        (boundaries b (omega arith) (ap (is_marked marks) before ∙ unmarked)) in
+        sorted_held (get_or B b 0) (s.within b l) (alike-chain (get_or F (get_or B b 0) 0) b n (s.alike b l) same)
 
   -- all bytes are sorted
   module _ (len : ℕ) (B F : List ℕ) (s : AreSorted nfa 256 len B F) where

@@ -1,7 +1,11 @@
 //! The classes of bytes that an NFA does not distinguish.
 //!
-//! Each byte is compared with the least byte of each class so far. Two bytes are alike if every
-//! state has the same target on both, and if no assertion of the NFA distinguishes them.
+//! Two bytes are alike if every state has the same target on both, and if no assertion of the NFA
+//! distinguishes them. First, one pass over the states marks each byte that may differ from the
+//! byte before it: the first byte of a range, the byte after its last one, a byte with another
+//! target in a dense state, and a byte that an assertion distinguishes. A byte without a mark is in
+//! the class of the byte before it. A marked byte is compared with the least byte of each class so
+//! far, since it may be alike to an earlier byte. So a mark too many costs only time.
 
 ghost use Rattle.std.specs.Prelude.{◌≡◌, ℕ, ◌<◌, ◌≤◌, Some, length, slice_index, true};
 ghost use Rattle.std.specs.Bool.{Decides};
@@ -9,9 +13,11 @@ ghost use Rattle.determinize_below.specs.ByteClasses.{AreAlike, AreClassesOf, Ar
 ghost use Rattle.determinize_below.specs.Semantics.{target_of};
 ghost use Rattle.determinize_below.specs.Nfa.{is_dense_sound, is_sparse_sound};
 ghost use Rattle.determinize_below.specs.Node.{node_of};
+ghost use Rattle.determinize_below.specs.Private.Boundaries.{AreBoundaries, MarksChanges};
+ghost use Rattle.determinize_below.specs.Transition.{dense_target, matches, sparse_target};
 
 use crate::alphabet::{ByteClasses, is_word_byte};
-use crate::nfa::{NFA, State};
+use crate::nfa::{NFA, State, Transition};
 use crate::primitives::StateID;
 use std::alloc::Allocator;
 
@@ -72,6 +78,64 @@ fn are_alike<A: Allocator>(nfa: &NFA<A>, b: u8, c: u8) -> bool
     true
 }
 
+/// Marks the first byte of the range, and the byte after its last.
+fn mark_range(trans: &Transition, marks: &mut [bool; 256])
+    ensures { MarksChanges (matches trans.now) marks.old marks.new }
+{
+    marks[usize::from(trans.start)] = true;
+    if trans.end < u8::MAX {
+        marks[usize::from(trans.end) + 1] = true;
+    }
+}
+
+/// Marks the first byte of each range, and the byte after its last.
+fn mark_ranges(transitions: &[Transition], marks: &mut [bool; 256])
+    ensures { MarksChanges (sparse_target transitions.now) marks.old marks.new }
+{
+    for trans in transitions {
+        mark_range(trans, marks);
+    }
+}
+
+/// Marks the bytes whose target is not that of the byte before.
+fn mark_targets(targets: &[StateID], marks: &mut [bool; 256])
+    requires { length targets.now ≡ 256 }
+    ensures { MarksChanges (dense_target targets.now) marks.old marks.new }
+{
+    for byte in 1..256 {
+        if targets[byte] != targets[byte - 1] {
+            marks[byte] = true;
+        }
+    }
+}
+
+/// Marks the bytes on which the state may have another target than on the byte before.
+fn mark_state<A: Allocator>(state: &State<A>, marks: &mut [bool; 256])
+    requires { is_dense_sound (node_of state.now) ≡ true }
+    ensures { MarksChanges (λ b. target_of (Some b) (node_of state.now)) marks.old marks.new }
+{
+    match state {
+        State::ByteRange { trans } => mark_range(trans, marks),
+        State::Sparse(sparse) => mark_ranges(sparse.transitions.as_slice(), marks),
+        State::Dense(dense) => mark_targets(dense.transitions.as_slice(), marks),
+        _ => {}
+    }
+}
+
+/// Returns marks at all bytes that a transition may distinguish from the byte before.
+fn boundaries_of<A: Allocator>(nfa: &NFA<A>) -> [bool; 256]
+    ensures { AreBoundaries nfa.now result }
+{
+    let mut marks = [false; 256];
+    for byte in 0..255u8 {
+        marks[usize::from(byte) + 1] = !are_tested_alike(nfa, byte, byte + 1);
+    }
+    for index in 0..nfa.len() {
+        mark_state(nfa.state(StateID::must(index)), &mut marks);
+    }
+    marks
+}
+
 /// Returns the index of the first of these bytes that is alike to a byte, or their number if none
 /// is.
 fn first_alike<A: Allocator>(nfa: &NFA<A>, firsts: &[u8], byte: u8) -> usize
@@ -94,15 +158,21 @@ impl<A: Allocator> NFA<A> {
     /// alike: by word bytes if the NFA has an assertion on words, by the line terminator if it has
     /// one on lines or CRLF, and by `\r` and `\n` if it has one on CRLF.
     ///
-    /// The classes are computed anew by each call. Each byte is compared with the least byte of
-    /// each class so far, and a comparison reads each state at most once. Does not allocate.
+    /// The classes are computed anew by each call. One pass over the states finds the bytes that
+    /// may differ from the byte before. Only these are compared with the least byte of each class
+    /// so far, and a comparison reads each state at most once. Does not allocate.
     pub fn byte_classes(&self) -> ByteClasses
         ensures { AreClassesOf self.now result }
     {
+        let boundaries = boundaries_of(self);
         let mut classes = [0; 256];
         let mut firsts = [0; 256];
         let mut len = 0;
         for byte in 0..256 {
+            if byte > 0 && !boundaries[byte] {
+                classes[byte] = classes[byte - 1];
+                continue;
+            }
             let class = first_alike(self, &firsts[..len], byte as u8);
             classes[byte] = class as u8;
             if class == len {

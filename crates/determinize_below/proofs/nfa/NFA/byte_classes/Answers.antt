@@ -1,9 +1,15 @@
-use Rattle.std.proofs.Common.{◌≡◌, ℕ, arith, sym, subst}
+use Rattle.std.proofs.Common.{◌≡◌, ℕ, ◌-◌, arith, sym, subst}
 use Rattle.determinize_below.specs.ByteClasses.{AreClassesOf, Classes}
 use Rattle.determinize_below.specs.Private.Sorting.{AreSorted}
-use Rattle.determinize_below.proofs.nfas.SortedBytes.{sorted_alike, turn_held, turn_new}
+use Rattle.determinize_below.proofs.nfas.SortedBytes.{sorted_alike, turn_before, turn_held, turn_new}
 use Rattle.determinize_below.proofs.nfa.NFA.byte_classes.Goals.{then-class-len, else-class-len}
 use Rattle.determinize_below.proofs.nfa.NFA.byte_classes.Goals as goal
+
+pub loop-byte-preserved-then-not-boundaries-byte : goal.loop-byte-preserved-then-not-boundaries-byte
+loop-byte-preserved-then-not-boundaries-byte g c =
+    turn_before c.args.self.now c.loop-byte.byte c.loop-byte.len c.loop-byte.classes c.loop-byte.firsts
+    c.loop-byte.invariant c.loop-byte-test.true c.boundaries_of-boundaries.result (c.loop-byte.byte - 1)
+    c.boundaries_of-boundaries.ensures c.if-not-boundaries-byte.true (omega arith)
 
 pub loop-byte-preserved : goal.loop-byte-preserved
 loop-byte-preserved g c =
