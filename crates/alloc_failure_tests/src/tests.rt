@@ -1,41 +1,32 @@
 //! Tests of failing allocations, of calls that do not allocate, and of large NFAs.
+//!
+//! A trial is generic in its allocator, and makes its calls one after another. So each of their
+//! allocations fails in turn, and the proof of a trial does not depend on the failing allocator,
+//! which would take most of its time.
 
-ghost use Rattle.std.specs.Prelude.{◌<◌, All, length, IfOk};
+ghost use Rattle.std.specs.Prelude.{◌≡◌, All, true, IfOk};
 ghost use Rattle.determinize_below.specs.Nfa.{AllResolve};
+ghost use Rattle.determinize_core.specs.Searches.{has_start};
 
-/// Makes a call while the allocator may fail, and then again with enough memory. Gives the value of
-/// the first call, if it succeeded, and that of the second.
-macro_rules! call_twice {
-    ($heap:expr, $call:expr) => {{
-        $heap.begin();
-        let first: Result<_, _> = $call;
-        $heap.end();
-        (first.ok(), $call?)
-    }};
-}
-
-mod builders;
+mod caches;
 mod large;
-mod lazy;
-mod printing;
-mod scans;
-mod sets;
-mod states;
 mod steps;
 mod trial;
+mod values;
 mod without;
 
 use crate::tests::trial::{OfWalk, Trial};
-use determinize_below::{MatchKind, NFA, StateID, Unit};
+use determinize_below::{Anchored, HalfMatch, Input, MatchKind, NFA, StateID};
 use determinize_core::determinize;
 use determinize_core::state::State;
+use determinize_lazy::Lazy;
 use determinize_replay::error::JobError;
-use determinize_replay::examples::{Example, examples};
+use determinize_replay::examples::examples;
 use determinize_replay::job::Job;
 use determinize_replay::key::Key;
-use determinize_replay::{nfas, values};
+use determinize_replay::{nfas, values as read};
 use failing_alloc::{FailingAllocator, Outcome, fail_each_allocation};
-use std::alloc::{AllocError, Global};
+use std::alloc::{AllocError, Allocator, Global};
 use std::fmt::Debug;
 use std::process::Abort;
 use std::test::Fail;
@@ -53,91 +44,106 @@ pub fn holds<R: Abort>(rt: &R, is_so: bool) {
 /// The allocator of a run.
 pub type Heap = FailingAllocator<Global>;
 
+/// Makes a trial while the allocator may fail, and returns whether no allocation failed.
+fn has_run<R: Abort + AllocGlobal>(
+    rt: &R,
+    heap: &Heap,
+    trial: &Trial<'_>,
+) -> Result<bool, JobError> {
+    heap.begin();
+    let outcome = trial.run(rt, heap);
+    heap.end();
+    match outcome {
+        Ok(()) => Ok(true),
+        Err(JobError::OutOfMemory) => Ok(false),
+        Err(error) => Err(error),
+    }
+}
+
 /// Repeats a trial with its first allocation failing, then its second, and so on, until there is no
-/// failure. The trial returns whether all of its calls succeeded, which must be so unless an
-/// allocation failed. After each repetition all memory must have been freed.
+/// failure. Each time it must find what it wants or report the failed allocation, and all memory
+/// must have been freed.
 pub fn fail_each_in_turn<R: Abort + AllocGlobal>(rt: &R, trial: &Trial<'_>) -> Result<(), Fail> {
-    let outcome = fail_each_allocation(rt.alloc(), |heap| trial.run(rt, heap))?;
+    let outcome = fail_each_allocation(rt.alloc(), |heap| has_run(rt, heap, trial))?;
     same(rt, outcome, Outcome::Sound);
     Ok(())
 }
 
+/// Returns the NFA of a job with this start state, anchored and unanchored.
+pub fn nfa_from(alloc: Global, job: &Job<'_>, start: StateID) -> Result<NFA, JobError> {
+    let states = nfas::states(alloc, job.states())?;
+    let (is_reverse, matcher) = (job.is_reverse()?, nfas::matcher(job)?);
+    Ok(NFA::from_parts(alloc, states, start, start, is_reverse, matcher)?)
+}
+
 /// Parses the states of the lines of an output, whose last line is the match.
-fn read_states(alloc: Global, answer: &str) -> Result<Vec<Vec<u8>>, JobError> {
+fn read_states(alloc: Global, output: &str) -> Result<Vec<Vec<u8>>, JobError> {
     let mut states = Vec::new(alloc);
-    if let Some((lines, _)) = answer.trim_end().rsplit_once('\n') {
+    if let Some((lines, _)) = output.trim_end().rsplit_once('\n') {
         for line in lines.lines() {
-            let bytes = values::bytes(alloc, line)?;
+            let bytes = read::bytes(alloc, line)?;
             states.push(bytes)?;
         }
     }
     Ok(states)
 }
 
-/// An example walk, and the bytes of its states.
+/// An example walk, and the bytes of its states. Its NFA starts where the walk does.
 #[derive(Drop)]
 pub struct Row {
     nfa: NFA,
     kind: MatchKind,
-    start: StateID,
     look_behind: Option<u8>,
     text: Vec<u8>,
     look_ahead: Option<u8>,
     states: Vec<Vec<u8>>,
+    /// The match of a search of the text as a haystack.
+    found: Option<HalfMatch>,
 }
 
 impl Row {
-    /// Returns the walk of an example.
-    fn read(alloc: Global, example: &Example) -> Result<Row, Fail> {
-        Ok(Row::of(alloc, &Job::read(example.job)?, example.output)?)
-    }
-
     /// Returns the walk of a job, given the lines of its output, whose last line is the match.
-    fn of(alloc: Global, job: &Job<'_>, answer: &str) -> Result<Row, JobError> {
+    fn of(alloc: Global, job: &Job<'_>, output: &str) -> Result<Row, JobError> {
         let kind = job.match_kind()?;
-        let start = values::state_id(job.value(Key::Start).unwrap_or("0"))?;
-        let look_behind = values::optional_byte(job.value_or_none(Key::LookBehind))?;
-        let look_ahead = values::optional_byte(job.value_or_none(Key::After))?;
-        let text = values::bytes(alloc, job.value_or_none(Key::Text))?;
-        let states = read_states(alloc, answer)?;
+        let start = read::state_id(job.value(Key::Start).unwrap_or("0"))?;
+        let look_behind = read::optional_byte(job.value_or_none(Key::LookBehind))?;
+        let look_ahead = read::optional_byte(job.value_or_none(Key::After))?;
+        let text = read::bytes(alloc, job.value_or_none(Key::Text))?;
+        let states = read_states(alloc, output)?;
         Ok(Row {
-            nfa: nfas::nfa(alloc, job)?,
+            nfa: nfa_from(alloc, job, start)?,
             kind,
-            start,
             look_behind,
             text,
             look_ahead,
             states,
+            found: None,
         })
     }
 
-    /// Returns the NFA state that the walk starts from.
-    fn start(&self) -> Result<StateID, Fail>
-        ensures { IfOk result (λ id. id < length self.now.nfa.states) }
-    {
-        if self.start.as_usize() < self.nfa.len() {
-            Ok(self.start)
-        } else {
-            Err(Fail::new("no state of the NFA has the start id"))
-        }
+    /// Returns the match of a search of the text as a haystack.
+    fn search(&self, alloc: Global) -> Result<Option<HalfMatch>, AllocError> {
+        Lazy::new(alloc, &self.nfa, self.kind, 64).search_input(&self.input())
     }
 
-    /// Returns the states of the walk from this NFA state.
-    fn walk<'a>(
-        &self,
-        heap: &'a Heap,
-        start: StateID,
-    ) -> Result<Vec<State<&'a Heap>, &'a Heap>, AllocError>
-        requires { start < length self.now.nfa.states }
+    /// Returns the states of the walk.
+    fn walk<A: Allocator + Copy>(&self, alloc: A) -> Result<Vec<State<A>, A>, AllocError>
         ensures { IfOk result (λ states.
             All (λ state. AllResolve self.now.nfa state.states) states.items) }
     {
         let (nfa, kind, behind) = (&self.nfa, self.kind, self.look_behind);
-        let text = self.text.as_slice();
+        let (start, text) = (nfa.start_anchored(), self.text.as_slice());
         match self.look_ahead {
-            None => determinize::walk(heap, nfa, kind, start, behind, text),
-            ahead => determinize::walk_between(heap, nfa, kind, start, behind, text, ahead),
+            None => determinize::walk(alloc, nfa, kind, start, behind, text),
+            ahead => determinize::walk_between(alloc, nfa, kind, start, behind, text, ahead),
         }
+    }
+
+    /// Returns the text of the walk as a haystack.
+    fn input(&self) -> Input<'_>
+        ensures { has_start result.anchored ≡ true }
+    {
+        Input::new(self.text.as_slice()).anchored(Anchored::Yes)
     }
 
     /// Returns the bytes of the state at this index, or no bytes if the index is out of range.
@@ -149,24 +155,26 @@ impl Row {
     }
 
     /// Asserts that these are the states of the walk.
-    fn expect(&self, rt: &impl Abort, states: &[State<&Heap>]) {
+    fn expect<A: Allocator>(&self, rt: &impl Abort, states: &[State<A>]) {
         same(rt, states.len(), self.states.len());
         for (index, state) in states.iter().enumerate() {
             same(rt, state.as_bytes(), self.bytes(index));
         }
     }
 
-    /// Returns the unit after the state at this index.
-    fn unit(&self, index: usize) -> Unit {
-        Unit::from(self.text.get(index).copied().or(self.look_ahead))
+    /// Returns the byte after the state at this index, or `None` for EOI.
+    fn unit(&self, index: usize) -> Option<u8> {
+        self.text.get(index).copied().or(self.look_ahead)
     }
 }
 
 /// Returns all example walks.
-fn rows(alloc: Global) -> Result<Vec<Row>, Fail> {
+pub fn rows(alloc: Global) -> Result<Vec<Row>, Fail> {
     let mut rows = Vec::new(alloc);
     for example in examples() {
-        rows.push(Row::read(alloc, example)?)?;
+        let mut row = Row::of(alloc, &Job::read(example.job)?, example.output)?;
+        row.found = row.search(alloc)?;
+        rows.push(row)?;
     }
     Ok(rows)
 }

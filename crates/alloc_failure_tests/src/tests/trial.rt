@@ -1,103 +1,84 @@
 //! What is done while each allocation fails in turn.
 
-use crate::tests::{Heap, Row, builders, lazy, printing, scans, sets, states, steps, without};
-use determinize_below::{MatchKind, StateID};
-use determinize_replay::examples::Example;
+use crate::tests::{Row, caches, steps, values};
+use determinize_below::StateID;
+use determinize_replay::error::JobError;
+use std::alloc::Allocator;
 use std::process::Abort;
-use std::test::Fail;
 
-/// A trial: it runs with an allocator that may fail, and returns whether all of its calls
-/// succeeded.
+/// A trial: it runs with an allocator that may fail, and compares what it finds.
 #[derive(Clone, Copy)]
 pub enum Trial<'r> {
     /// Does this with an example walk.
     OfWalk(OfWalk, &'r Row),
-    /// Builds the NFA of an example walk.
-    Nfa(&'r Example),
     /// Makes and clones a state of this number of bytes.
-    StateOfLen(usize),
-    /// Adds a closure to a set, which then has these states.
+    StateOfLen(u8),
+    /// Computes a closure, which has these states.
     Close(&'r steps::Closing, &'r [StateID]),
     /// Prints the example walk that the words name, in these lines.
     Print(&'r [String], &'r str),
-    /// Fills sets and builders without an allocation.
-    WithoutAllocation,
 }
 
 /// A trial with an example walk.
 #[derive(Clone, Copy)]
 pub enum OfWalk {
-    /// Makes sets of the capacity of its NFA.
-    Sets,
-    /// Builds a copy of each state.
-    BuildStates,
-    /// Clones and reads each state.
-    ReadStates,
+    /// Copies each state through builders.
+    CopyStates,
     /// Records its first closure.
     Record,
     /// Records its start state.
     RecordOne,
-    /// Starts it.
-    Start,
-    /// Computes the transition from each state.
-    Leave,
-    /// Computes the transition from each state, with a count.
-    LeaveCounted,
+    /// Makes it by single steps, with or without a count.
+    Steps(bool),
     /// Makes it.
     Walk,
     /// Makes it through a cache of this limit.
     WalkCached(usize),
     /// Searches its text through a cache of this limit.
     Search(usize),
-    /// Searches its text as a haystack through a cache of this limit.
+    /// Searches its text as a haystack through caches of this limit, for its match and for any.
     SearchInput(usize),
-    /// Tests through a cache of this limit whether its text has a match.
-    IsMatch(usize),
     /// Scans its text in pieces through a cache of this limit.
     Scan(usize),
     /// Makes it by steps through a cache of this limit.
     WalkBySteps(usize),
-    /// Searches its text three times through one cache, the last time without an allocation.
-    SearchCached(MatchKind),
-    /// Makes the calls that do not allocate.
-    WithoutAllocation,
 }
 
 impl Trial<'_> {
     /// Makes the trial.
-    pub fn run<R: Abort + AllocGlobal>(&self, rt: &R, heap: &Heap) -> Result<bool, Fail> {
+    pub fn run<R: Abort + AllocGlobal, A: Allocator + Copy>(
+        &self,
+        rt: &R,
+        alloc: A,
+    ) -> Result<(), JobError> {
         match *self {
-            Trial::OfWalk(trial, row) => trial.run(rt, heap, row),
-            Trial::Nfa(example) => sets::make_nfa(rt, heap, example),
-            Trial::StateOfLen(len) => states::make_and_clone(rt, heap, len),
-            Trial::Close(closing, wanted) => steps::close(rt, heap, closing, wanted),
-            Trial::Print(words, lines) => printing::print(rt, heap, words, lines),
-            Trial::WithoutAllocation => without::make_each(rt, heap),
+            Trial::OfWalk(trial, row) => trial.run(rt, alloc, row),
+            Trial::StateOfLen(len) => values::make_and_clone(rt, alloc, len),
+            Trial::Close(closing, wanted) => steps::close(rt, alloc, closing, wanted),
+            Trial::Print(words, lines) => steps::print(rt, alloc, words, lines),
         }
     }
 }
 
 impl OfWalk {
     /// Makes the trial with a walk.
-    fn run<R: Abort + AllocGlobal>(self, rt: &R, heap: &Heap, row: &Row) -> Result<bool, Fail> {
+    fn run<R: Abort, A: Allocator + Copy>(
+        self,
+        rt: &R,
+        alloc: A,
+        row: &Row,
+    ) -> Result<(), JobError> {
         match self {
-            OfWalk::Sets => sets::make_sets(rt, heap, row),
-            OfWalk::BuildStates => builders::build_states(rt, heap, row),
-            OfWalk::ReadStates => states::read_states(rt, heap, row),
-            OfWalk::Record => steps::record(rt, heap, row),
-            OfWalk::RecordOne => steps::record_one(rt, heap, row),
-            OfWalk::Start => steps::start(rt, heap, row),
-            OfWalk::Leave => steps::leave_states(rt, heap, row, false),
-            OfWalk::LeaveCounted => steps::leave_states(rt, heap, row, true),
-            OfWalk::Walk => steps::walk(rt, heap, row),
-            OfWalk::WalkCached(limit) => lazy::walk(rt, heap, row, limit),
-            OfWalk::Search(limit) => lazy::search(rt, heap, row, limit),
-            OfWalk::SearchInput(limit) => lazy::search_input(rt, heap, row, limit),
-            OfWalk::IsMatch(limit) => lazy::is_match(rt, heap, row, limit),
-            OfWalk::Scan(limit) => scans::scan(rt, heap, row, limit),
-            OfWalk::WalkBySteps(limit) => scans::walk(rt, heap, row, limit),
-            OfWalk::SearchCached(kind) => without::search_cached(rt, heap, row, kind),
-            OfWalk::WithoutAllocation => without::walk(rt, heap, row),
+            OfWalk::CopyStates => values::copy_states(rt, alloc, row),
+            OfWalk::Record => steps::record(rt, alloc, row),
+            OfWalk::RecordOne => steps::record_one(rt, alloc, row),
+            OfWalk::Steps(is_counted) => steps::walk(rt, alloc, row, is_counted),
+            OfWalk::Walk => steps::walk_at_once(rt, alloc, row),
+            OfWalk::WalkCached(limit) => caches::walk(rt, alloc, row, limit),
+            OfWalk::Search(limit) => caches::search(rt, alloc, row, limit),
+            OfWalk::SearchInput(limit) => caches::search_input(rt, alloc, row, limit),
+            OfWalk::Scan(limit) => caches::scan(rt, alloc, row, limit),
+            OfWalk::WalkBySteps(limit) => caches::walk_by_steps(rt, alloc, row, limit),
         }
     }
 }

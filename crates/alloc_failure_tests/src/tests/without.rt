@@ -2,28 +2,22 @@
 //! none.
 
 use crate::tests::steps::start_kind;
-use crate::tests::trial::{OfWalk, Trial};
-use crate::tests::{Heap, Row, fail_each_in_turn, fail_each_over_walks, holds, same};
+use crate::tests::values::{builder_of, clone_of};
+use crate::tests::{Heap, Row, holds, rows, same};
 use determinize_below::{
-    Anchored, HalfMatch, Input, Look, LookSet, MatchKind, PatternID, SparseSet, SparseSets, StateID,
+    HalfMatch, Input, Look, LookSet, MatchKind, PatternID, SparseSet, SparseSets, StateID,
 };
 use determinize_core::determinize::{epsilon_closure, set_lookbehind_from_start};
 use determinize_core::start::Config;
 use determinize_core::state::{State, StateBuilderEmpty};
 use determinize_lazy::Lazy;
-use std::alloc::{AllocError, Global};
+use failing_alloc::FailingAllocator;
+use std::alloc::{AllocError, Allocator, Global};
 use std::process::Abort;
 use std::test::Fail;
 
-/// Asserts that no allocation was requested.
-fn has_asked_none(rt: &impl Abort, heap: &Heap) -> bool {
-    heap.end();
-    same(rt, heap.asked(), 0);
-    true
-}
-
 /// Inserts an id, and finds it.
-fn insert(rt: &impl Abort, set: &mut SparseSet<&Heap>, id: StateID) {
+fn insert<R: Abort, A: Allocator>(rt: &R, set: &mut SparseSet<A>, id: StateID) {
     assert!(rt; id.as_usize() < set.capacity());
     holds(rt, set.insert(id));
     assert!(rt; id.as_usize() < set.capacity());
@@ -31,9 +25,9 @@ fn insert(rt: &impl Abort, set: &mut SparseSet<&Heap>, id: StateID) {
 }
 
 /// Inserts, finds and removes ids.
-fn fill(rt: &impl Abort, sparses: &mut SparseSets<&Heap>) -> Result<(), Fail> {
-    for number in [5usize, 69, 0] {
-        insert(rt, &mut sparses.set1, StateID::new(number)?);
+fn fill<R: Abort, A: Allocator>(rt: &R, sparses: &mut SparseSets<A>) {
+    for number in [5, 69, 0] {
+        insert(rt, &mut sparses.set1, StateID::must(number));
     }
     same(rt, sparses.set1.iter().count(), 3);
     sparses.swap();
@@ -41,28 +35,16 @@ fn fill(rt: &impl Abort, sparses: &mut SparseSets<&Heap>) -> Result<(), Fail> {
     sparses.clear();
     sparses.set1.clear();
     holds(rt, sparses.set1.is_empty() && sparses.set2.is_empty());
-    Ok(())
-}
-
-/// Fills two sets.
-fn fill_sets(rt: &impl Abort, heap: &Heap) -> Result<bool, Fail> {
-    let mut sparses = SparseSets::new(heap, 70)?;
-    heap.begin();
-    fill(rt, &mut sparses)?;
-    Ok(has_asked_none(rt, heap))
 }
 
 /// Makes the dead state. Sets flags, assertions and the pattern `ZERO` in a builder, converts it to
 /// a builder of NFA states, and clears it.
-fn build(rt: &impl Abort, heap: &Heap) -> Result<bool, Fail> {
+fn build<R: Abort, A: Allocator + Copy>(rt: &R, heap: &Heap, alloc: A) -> Result<(), AllocError> {
+    let mut matches = StateBuilderEmpty::new(alloc).into_matches()?;
     heap.begin();
-    let dead = State::dead(heap)?;
+    let dead = State::dead(alloc)?;
     same(rt, dead.as_bytes(), [0; 9].as_slice());
-    let empty = StateBuilderEmpty::new(heap);
-    same(rt, empty.capacity(), 0);
-    heap.end();
-    let mut matches = empty.into_matches()?;
-    heap.begin();
+    same(rt, StateBuilderEmpty::new(alloc).capacity(), 0);
     matches.set_is_from_word();
     matches.set_is_half_crlf();
     matches.set_look_have(|have| have.insert(Look::Start));
@@ -73,120 +55,139 @@ fn build(rt: &impl Abort, heap: &Heap) -> Result<bool, Fail> {
     builder.set_look_need(|need| need.insert(Look::End));
     holds(rt, builder.look_have().is_empty());
     holds(rt, builder.look_need().contains(Look::End));
-    same(
-        rt,
-        builder.as_bytes(),
-        [13, 0, 0, 0, 0, 2, 0, 0, 0].as_slice(),
-    );
-    let empty = builder.clear();
-    holds(rt, empty.capacity() > 0);
-    Ok(has_asked_none(rt, heap))
+    let bytes = [13, 0, 0, 0, 0, 2, 0, 0, 0];
+    same(rt, builder.as_bytes(), bytes.as_slice());
+    holds(rt, builder.clear().capacity() > 0);
+    heap.end();
+    Ok(())
 }
 
 /// Converts a builder with explicit patterns to a builder of NFA states.
-fn close_patterns(rt: &impl Abort, heap: &Heap) -> Result<bool, Fail> {
-    let mut matches = StateBuilderEmpty::new(heap).into_matches()?;
+fn close_patterns<R: Abort, A: Allocator>(rt: &R, heap: &Heap, alloc: A) -> Result<(), AllocError> {
+    let mut matches = StateBuilderEmpty::new(alloc).into_matches()?;
     matches.add_match_pattern_id(PatternID::must(1))?;
     heap.begin();
     let builder = matches.into_nfa();
     let bytes = [3, 0, 0, 0, 0, 0, 0, 0, 0, 1, 0, 0, 0, 1, 0, 0, 0];
     same(rt, builder.as_bytes(), bytes.as_slice());
-    Ok(has_asked_none(rt, heap))
+    heap.end();
+    Ok(())
+}
+
+/// Fills two sets, and makes builders.
+fn make_each<R: Abort, A: Allocator + Copy>(
+    rt: &R,
+    heap: &Heap,
+    alloc: A,
+) -> Result<(), AllocError> {
+    let mut sparses = SparseSets::new(alloc, 70)?;
+    heap.begin();
+    fill(rt, &mut sparses);
+    heap.end();
+    build(rt, heap, alloc)?;
+    close_patterns(rt, heap, alloc)
 }
 
 /// Reads the bytes around the text of a walk, and sets the look-behind of its start in a builder.
-fn begin_walk(rt: &impl Abort, heap: &Heap, row: &Row) -> Result<bool, Fail> {
-    let mut matches = StateBuilderEmpty::new(heap).into_matches()?;
+fn begin_walk<R: Abort, A: Allocator>(
+    rt: &R,
+    heap: &Heap,
+    alloc: A,
+    row: &Row,
+) -> Result<(), AllocError> {
+    let mut matches = StateBuilderEmpty::new(alloc).into_matches()?;
     heap.begin();
     let input = Input::new(row.text.as_slice());
     let forward = Config::from_input_forward(&input).get_look_behind();
     let reverse = Config::from_input_reverse(&input).get_look_behind();
     same(rt, (forward, reverse), (None, None));
     set_lookbehind_from_start(&row.nfa, &start_kind(row), &mut matches);
-    Ok(has_asked_none(rt, heap))
-}
-
-/// Computes the closures of all epsilon states, or of all others, each into an empty set.
-fn close_each<'a>(
-    rt: &impl Abort,
-    heap: &'a Heap,
-    row: &Row,
-    is_epsilon: bool,
-    mut stack: Vec<StateID, &'a Heap>,
-) -> Result<(), Fail> {
-    let mut set = SparseSet::new(heap, row.nfa.len())?;
-    heap.begin();
-    for number in 0..row.nfa.len() {
-        let id = StateID::must(number);
-        assert!(rt; stack.is_empty());
-        assert_eq!(rt; set.capacity(), row.nfa.len());
-        if row.nfa.state(id).is_epsilon() == is_epsilon {
-            let added = epsilon_closure(&row.nfa, id, LookSet::empty(), &mut stack, &mut set);
-            holds(rt, added.is_ok());
-            set.clear();
-        }
-    }
     heap.end();
     Ok(())
 }
 
-/// Computes the closures of the states without epsilon transitions with a stack of no capacity, and
-/// of the epsilon states with a stack of more capacity than any example walk needs.
-fn close_states(rt: &impl Abort, heap: &Heap, row: &Row) -> Result<bool, Fail> {
-    close_each(rt, heap, row, false, Vec::new(heap))?;
-    close_each(rt, heap, row, true, Vec::with_capacity(heap, 100)?)?;
-    Ok(has_asked_none(rt, heap))
+/// Computes the closures of all epsilon states with a stack of more capacity than any example walk
+/// needs, and of all others with one of no capacity, each into an empty set.
+fn close_each<R: Abort, A: Allocator + Copy>(
+    rt: &R,
+    heap: &Heap,
+    alloc: A,
+    row: &Row,
+) -> Result<(), AllocError> {
+    let mut set = SparseSet::new(alloc, row.nfa.len())?;
+    for number in 0..row.nfa.len() {
+        let id = StateID::must(number);
+        let is_epsilon = row.nfa.state(id).is_epsilon();
+        let mut stack = Vec::with_capacity(alloc, if is_epsilon { 100 } else { 0 })?;
+        assert_eq!(rt; set.capacity(), row.nfa.len());
+        heap.begin();
+        epsilon_closure(&row.nfa, id, LookSet::empty(), &mut stack, &mut set)?;
+        set.clear();
+        heap.end();
+    }
+    same(rt, set.len(), 0);
+    Ok(())
 }
 
 /// Makes a cache and clears it.
-fn make_cache(rt: &impl Abort, heap: &Heap, row: &Row) -> Result<bool, Fail> {
-    let start = row.start()?;
+fn make_cache<R: Abort, A: Allocator + Copy>(
+    rt: &R,
+    heap: &Heap,
+    alloc: A,
+    row: &Row,
+) -> Result<(), AllocError> {
     heap.begin();
-    let mut lazy = Lazy::new(heap, &row.nfa, row.kind, 100);
+    let mut lazy = Lazy::new(alloc, &row.nfa, row.kind, 100);
     same(rt, (lazy.states_kept(), lazy.computed()), (0, 0));
     lazy.clear();
     heap.end();
-    lazy.walk(start, row.look_behind, row.text.as_slice())?;
+    lazy.walk(
+        row.nfa.start_anchored(),
+        row.look_behind,
+        row.text.as_slice(),
+    )?;
     heap.begin();
     holds(rt, lazy.states_kept() > 0 && lazy.computed() > 0);
     lazy.clear();
     same(rt, lazy.states_kept(), 0);
-    Ok(has_asked_none(rt, heap))
+    heap.end();
+    Ok(())
 }
 
 /// Searches the text of a walk through a cache: for its last match, as a haystack, and for any
 /// match.
-fn search_each(
-    lazy: &mut Lazy<'_, Global, &Heap>,
+fn search_each<A: Allocator + Copy>(
+    lazy: &mut Lazy<'_, Global, A>,
     row: &Row,
 ) -> Result<(Option<HalfMatch>, Option<HalfMatch>, bool), AllocError> {
-    let start = lazy.nfa().start_anchored();
-    let input = Input::new(row.text.as_slice()).anchored(Anchored::Yes);
-    let last = lazy.search(start, row.look_behind, row.text.as_slice(), row.look_ahead)?;
-    let found = lazy.search_input(&input)?;
-    Ok((last, found, lazy.is_match(&input)?))
+    let (start, text) = (lazy.nfa().start_anchored(), row.text.as_slice());
+    let last = lazy.search(start, row.look_behind, text, row.look_ahead)?;
+    let found = lazy.search_input(&row.input())?;
+    Ok((last, found, lazy.is_match(&row.input())?))
 }
 
 /// Searches three times through one cache. The first searches cache each transition, and the second
 /// find the start states in the cache, so that the third only read it.
-pub fn search_cached(
-    rt: &impl Abort,
+fn search_cached<R: Abort, A: Allocator + Copy>(
+    rt: &R,
     heap: &Heap,
+    alloc: A,
     row: &Row,
     kind: MatchKind,
-) -> Result<bool, Fail> {
-    let mut lazy = Lazy::new(heap, &row.nfa, kind, 100);
+) -> Result<(), AllocError> {
+    let mut lazy = Lazy::new(alloc, &row.nfa, kind, 100);
     search_each(&mut lazy, row)?;
     let wanted = search_each(&mut lazy, row)?;
     let computed = lazy.computed();
     heap.begin();
     let found = search_each(&mut lazy, row)?;
+    heap.end();
     holds(rt, found == wanted && lazy.computed() == computed);
-    Ok(has_asked_none(rt, heap))
+    Ok(())
 }
 
 /// Calls all readers of a state.
-fn read_state(rt: &impl Abort, state: &State<&Heap>, bytes: &[u8]) {
+fn read_state<R: Abort, A: Allocator + Copy>(rt: &R, state: &State<A>, bytes: &[u8]) {
     same(rt, state.as_bytes(), bytes);
     same(rt, state.memory_usage(), bytes.len());
     holds(rt, state == state && state <= state);
@@ -207,43 +208,63 @@ fn read_state(rt: &impl Abort, state: &State<&Heap>, bytes: &[u8]) {
 }
 
 /// Calls all readers of each state of a walk.
-fn read_states(rt: &impl Abort, heap: &Heap, row: &Row) -> Result<bool, Fail> {
-    let start = row.start()?;
-    let states = row.walk(heap, start)?;
+fn read_states<R: Abort, A: Allocator + Copy>(
+    rt: &R,
+    heap: &Heap,
+    alloc: A,
+    row: &Row,
+) -> Result<(), AllocError> {
+    let states = row.walk(alloc)?;
     heap.begin();
     for (state, bytes) in states.iter().zip(row.states.iter()) {
         read_state(rt, state, bytes.as_slice());
     }
-    Ok(has_asked_none(rt, heap))
-}
-
-/// Fills two sets, and makes builders.
-pub fn make_each(rt: &impl Abort, heap: &Heap) -> Result<bool, Fail> {
-    Ok(fill_sets(rt, heap)? && build(rt, heap)? && close_patterns(rt, heap)?)
-}
-
-#[test]
-fn sets_and_builders(rt: HostRuntime) -> Result<(), Fail> {
-    fail_each_in_turn(&rt, &Trial::WithoutAllocation)
-}
-
-#[test]
-fn cached_searches(rt: HostRuntime) -> Result<(), Fail> {
-    let (all, first) = (MatchKind::All, MatchKind::LeftmostFirst);
-    fail_each_over_walks(
-        &rt,
-        &[OfWalk::SearchCached(all), OfWalk::SearchCached(first)],
-    )
+    heap.end();
+    Ok(())
 }
 
 /// Makes the calls for a walk that do not allocate.
-pub fn walk(rt: &impl Abort, heap: &Heap, row: &Row) -> Result<bool, Fail> {
-    begin_walk(rt, heap, row)?;
-    make_cache(rt, heap, row)?;
-    Ok(close_states(rt, heap, row)? && read_states(rt, heap, row)?)
+fn walk<R: Abort, A: Allocator + Copy>(
+    rt: &R,
+    heap: &Heap,
+    alloc: A,
+    row: &Row,
+) -> Result<(), AllocError> {
+    begin_walk(rt, heap, alloc, row)?;
+    make_cache(rt, heap, alloc, row)?;
+    close_each(rt, heap, alloc, row)?;
+    read_states(rt, heap, alloc, row)?;
+    search_cached(rt, heap, alloc, row, MatchKind::All)?;
+    search_cached(rt, heap, alloc, row, MatchKind::LeftmostFirst)
 }
 
 #[test]
-fn walks(rt: HostRuntime) -> Result<(), Fail> {
-    fail_each_over_walks(&rt, &[OfWalk::WithoutAllocation])
+fn calls_that_do_not_allocate(rt: HostRuntime) -> Result<(), Fail> {
+    let heap = FailingAllocator::after(rt.alloc(), 0);
+    make_each(&rt, &heap, &heap)?;
+    for row in rows(rt.alloc())?.iter() {
+        walk(&rt, &heap, &heap, row)?;
+    }
+    same(&rt, heap.asked(), 0);
+    Ok(())
+}
+
+/// Makes a state of `len` bytes and clones it. Up to 30 bytes nothing is allocated, and from 31 on
+/// something is.
+fn count_requests<A: Allocator + Copy>(heap: &Heap, alloc: A, len: u8) -> Result<u64, AllocError> {
+    let builder = builder_of(alloc, len)?;
+    heap.begin();
+    clone_of(&builder)?;
+    heap.end();
+    Ok(heap.asked())
+}
+
+#[test]
+fn short_states(rt: HostRuntime) -> Result<(), Fail> {
+    for len in 9..=70 {
+        let heap = FailingAllocator::after(rt.alloc(), u64::MAX);
+        let asked = count_requests(&heap, &heap, len)?;
+        holds(&rt, (asked == 0) == (len <= 30));
+    }
+    Ok(())
 }

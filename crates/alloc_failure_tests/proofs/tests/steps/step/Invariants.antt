@@ -1,4 +1,4 @@
 use Rattle.alloc_failure_tests.proofs.tests.steps.step.Given as goal
 
 abbrev pub ghosts-count : goal.ghosts-count
-ghosts-count a = record { name = a.blank.name; parts = a.blank.parts }
+ghosts-count g a = record { name = a.blank.name; parts = a.blank.parts }

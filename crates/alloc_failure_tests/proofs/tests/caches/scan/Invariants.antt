@@ -1,5 +1,5 @@
 use Rattle.determinize_below.specs.Nfa.{AllResolve}
-use Rattle.alloc_failure_tests.proofs.tests.scans.scan.Given as goal
+use Rattle.alloc_failure_tests.proofs.tests.caches.scan.Given as goal
 
 -- the state of the scan is one of this NFA
 abbrev pub invariant-loop-piece : goal.invariant-loop-piece
