@@ -60,6 +60,15 @@ fn has_run<R: Abort + AllocGlobal>(
     }
 }
 
+/// Returns the error of a failed allocation, if a call of a trial failed and was made again.
+pub fn succeed_if(is_sound: bool) -> Result<(), JobError> {
+    if is_sound {
+        Ok(())
+    } else {
+        Err(JobError::OutOfMemory)
+    }
+}
+
 /// Repeats a trial with its first allocation failing, then its second, and so on, until there is no
 /// failure. Each time it must find what it wants or report the failed allocation, and all memory
 /// must have been freed.

@@ -1,11 +1,14 @@
 //! Walks, searches and scans through a cache.
 
+ghost use Rattle.std.specs.Prelude.{◌≡◌};
+ghost use Rattle.determinize_below.specs.Nfa.{AllResolve};
+
 use crate::tests::trial::OfWalk;
-use crate::tests::{Row, fail_each_over_walks, holds, same};
+use crate::tests::{Row, fail_each_over_walks, holds, same, succeed_if};
 use determinize_below::{LookMatcher, MatchKind, NFA, StateID};
 use determinize_core::determinize::last_match;
 use determinize_core::state::State;
-use determinize_lazy::Lazy;
+use determinize_lazy::{Lazy, Scan, Walker};
 use determinize_replay::error::JobError;
 use determinize_replay::nfas;
 use failing_alloc::FailingAllocator;
@@ -13,13 +16,13 @@ use std::alloc::{AllocError, Allocator, Global};
 use std::process::Abort;
 use std::test::Fail;
 
-/// Returns the states of a walk through a new cache.
+/// Returns the states of a walk through a cache.
 fn walked<A: Allocator + Copy>(
-    alloc: A,
+    lazy: &mut Lazy<'_, Global, A>,
     row: &Row,
-    limit: usize,
-) -> Result<Vec<State<A>, A>, AllocError> {
-    let mut lazy = Lazy::new(alloc, &row.nfa, row.kind, limit);
+) -> Result<Vec<State<A>, A>, AllocError>
+    requires { lazy.old.nfa ≡ row.now.nfa }
+{
     let (start, text) = (row.nfa.start_anchored(), row.text.as_slice());
     match row.look_ahead {
         None => lazy.walk(start, row.look_behind, text),
@@ -27,19 +30,23 @@ fn walked<A: Allocator + Copy>(
     }
 }
 
-/// Makes a walk through a new cache.
+/// Makes a walk twice through one cache, also if the first walk fails.
 pub fn walk<R: Abort, A: Allocator + Copy>(
     rt: &R,
     alloc: A,
     row: &Row,
     limit: usize,
 ) -> Result<(), JobError> {
-    let states = walked(alloc, row, limit)?;
-    row.expect(rt, states.as_slice());
+    let mut lazy = Lazy::new(alloc, &row.nfa, row.kind, limit);
+    let first = walked(&mut lazy, row);
+    let second = walked(&mut lazy, row)?;
+    row.expect(rt, second.as_slice());
+    row.expect(rt, first?.as_slice());
     Ok(())
 }
 
-/// Searches the text of a walk through a new cache. The match must be the last one of the walk.
+/// Searches the text of a walk twice through one cache, also if the first search fails. The match
+/// must be the last one of the walk.
 pub fn search<R: Abort, A: Allocator + Copy>(
     rt: &R,
     alloc: A,
@@ -48,25 +55,54 @@ pub fn search<R: Abort, A: Allocator + Copy>(
 ) -> Result<(), JobError> {
     let mut lazy = Lazy::new(alloc, &row.nfa, row.kind, limit);
     let (start, text) = (row.nfa.start_anchored(), row.text.as_slice());
-    let found = lazy.search(start, row.look_behind, text, row.look_ahead)?;
-    same(rt, found, last_match(row.walk(alloc)?.as_slice()));
+    let first = lazy.search(start, row.look_behind, text, row.look_ahead);
+    let second = lazy.search(start, row.look_behind, text, row.look_ahead)?;
+    let wanted = last_match(row.walk(alloc)?.as_slice());
+    same(rt, (first?, second), (wanted, wanted));
     Ok(())
 }
 
-/// Searches the text of a walk as a haystack, and tests whether it has a match, through new caches.
+/// Searches the text of a walk as a haystack twice through one cache, and tests whether it has a
+/// match through another one, also if a call before fails.
 pub fn search_input<R: Abort, A: Allocator + Copy>(
     rt: &R,
     alloc: A,
     row: &Row,
     limit: usize,
 ) -> Result<(), JobError> {
-    let found = Lazy::new(alloc, &row.nfa, row.kind, limit).search_input(&row.input())?;
-    let is_found = Lazy::new(alloc, &row.nfa, row.kind, limit).is_match(&row.input())?;
-    same(rt, (found, is_found), (row.found, row.found.is_some()));
+    let mut lazy = Lazy::new(alloc, &row.nfa, row.kind, limit);
+    let first = lazy.search_input(&row.input());
+    let second = lazy.search_input(&row.input())?;
+    let mut lazy = Lazy::new(alloc, &row.nfa, row.kind, limit);
+    let is_first = lazy.is_match(&row.input());
+    let is_second = lazy.is_match(&row.input())?;
+    same(rt, (first?, second), (row.found, row.found));
+    same(
+        rt,
+        (is_first?, is_second),
+        (row.found.is_some(), row.found.is_some()),
+    );
     Ok(())
 }
 
-/// Scans the text of a walk in pieces of two bytes. The match must be the last one of the walk.
+/// Feeds a piece, and the same piece again if that fails. Returns whether the first call succeeded.
+fn feed<A: Allocator + Copy>(
+    lazy: &mut Lazy<'_, Global, A>,
+    scan: &mut Scan<A>,
+    piece: &[u8],
+) -> Result<bool, AllocError>
+    requires { AllResolve lazy.old.nfa scan.old.state.states }
+    ensures { AllResolve lazy.new.nfa scan.new.state.states }
+{
+    let is_fed = lazy.feed(scan, piece).is_ok();
+    if !is_fed {
+        lazy.feed(scan, piece)?;
+    }
+    Ok(is_fed)
+}
+
+/// Scans the text of a walk in pieces of two bytes. A piece that was refused is fed again. The match
+/// must be the last one of the walk.
 pub fn scan<R: Abort, A: Allocator + Copy>(
     rt: &R,
     alloc: A,
@@ -75,15 +111,34 @@ pub fn scan<R: Abort, A: Allocator + Copy>(
 ) -> Result<(), JobError> {
     let mut lazy = Lazy::new(alloc, &row.nfa, row.kind, limit);
     let mut scan = lazy.scan(row.nfa.start_anchored(), row.look_behind)?;
+    let mut is_sound = true;
     for piece in row.text.as_slice().chunks(2) {
-        lazy.feed(&mut scan, piece)?;
+        let is_fed = feed(&mut lazy, &mut scan, piece)?;
+        is_sound = is_sound && is_fed;
     }
     let found = lazy.finish(&scan, row.look_ahead)?;
     same(rt, found, last_match(row.walk(alloc)?.as_slice()));
-    Ok(())
+    succeed_if(is_sound)
 }
 
-/// Walks over the text of a walk by steps. Each state must be that of the walk.
+/// Takes a step, and the same step again if that fails. Returns whether the first call succeeded.
+fn step<A: Allocator + Copy>(
+    lazy: &mut Lazy<'_, Global, A>,
+    walker: &mut Walker<A>,
+    unit: Option<u8>,
+) -> Result<bool, AllocError>
+    requires { AllResolve lazy.old.nfa walker.old.states }
+    ensures { AllResolve lazy.new.nfa walker.new.states }
+{
+    let is_taken = lazy.next(walker, unit).is_ok();
+    if !is_taken {
+        lazy.next(walker, unit)?;
+    }
+    Ok(is_taken)
+}
+
+/// Walks over the text of a walk by steps. A step that failed is taken again. Each state must be that
+/// of the walk.
 pub fn walk_by_steps<R: Abort, A: Allocator + Copy>(
     rt: &R,
     alloc: A,
@@ -92,11 +147,13 @@ pub fn walk_by_steps<R: Abort, A: Allocator + Copy>(
 ) -> Result<(), JobError> {
     let mut lazy = Lazy::new(alloc, &row.nfa, row.kind, limit);
     let mut walker = lazy.walker(row.nfa.start_anchored(), row.look_behind)?;
+    let mut is_sound = true;
     for (index, bytes) in row.states.iter().enumerate() {
         same(rt, walker.state().as_bytes(), bytes.as_slice());
-        lazy.next(&mut walker, row.unit(index))?;
+        let is_taken = step(&mut lazy, &mut walker, row.unit(index))?;
+        is_sound = is_sound && is_taken;
     }
-    Ok(())
+    succeed_if(is_sound)
 }
 
 #[test]
