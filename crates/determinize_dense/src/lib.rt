@@ -5,8 +5,8 @@
 //! serves any number of searches. The matches are those of `determinize_lazy::Lazy`.
 //!
 //! - `dfa`: the type. `rows`: its table. `build`: its construction, with `error`. `search`:
-//!   searches. `minimize`: the fewest rows, by `partition`. `order`: the order of rows. `laws`:
-//!   that no DFA has fewer states.
+//!   searches, with `pauses`. `minimize`: the fewest rows, by `partition`. `order`: the order of
+//!   rows. `laws`: that no DFA has fewer states.
 #![tactic(auto)]
 
 mod build;
@@ -16,6 +16,7 @@ pub mod laws;
 mod minimize;
 mod order;
 mod partition;
+mod pauses;
 mod rows;
 mod search;
 

@@ -11,18 +11,23 @@ use crate::partition::Partition;
 use crate::rows::Rows;
 use std::alloc::{AllocError, Allocator};
 
+/// The least number of bytes that do not leave a row that is scanned out of.
+const STAYING: usize = 64;
+
 impl<'n, N: Allocator, A: Allocator + Copy> Rows<'n, N, A> {
-    /// Returns whether a search scans out of a row: whether the commonest bytes of an English text
-    /// do not leave it. This is a guess at what is fast, and no search depends on it.
+    /// Returns whether a search scans out of a row: whether at least `STAYING` bytes do not leave
+    /// it. This is a guess at what is fast, and no match depends on it.
     fn is_scanned(&self, row: usize) -> bool
         requires { row < length self.now.table.patterns }
     {
-        for byte in b" etaoinsrh" {
-            if self.entry(row, usize::from(self.classes.get(*byte))) != row {
-                return false;
+        let offset = row * self.classes.alphabet_len();
+        let mut staying = 0;
+        for byte in 0..=u8::MAX {
+            if self.row_over(offset, Some(byte)) == offset {
+                staying += 1;
             }
         }
-        true
+        staying >= STAYING
     }
 
     /// Returns the rank of a row in the order.

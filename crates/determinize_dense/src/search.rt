@@ -14,9 +14,10 @@ ghost use Rattle.determinize_core.specs.Walk.{ListsAccepted};
 ghost use Rattle.determinize_dense.specs.Dfa as dfas;
 ghost use Rattle.determinize_dense.specs.Dfa.{value_from};
 ghost use Rattle.determinize_dense.specs.Private.Rows.{IsOffset};
-ghost use Rattle.determinize_dense.specs.Private.Searching.{IsFound, IsMatch, StaysOver};
+ghost use Rattle.determinize_dense.specs.Private.Searching.{FindsLast, IsFound, IsMatch, StaysOver};
 
 use crate::dfa::Dfa;
+use crate::pauses::Pauses;
 use determinize_below::{Anchored, HalfMatch, Input, PatternID};
 use determinize_core::engine::Engine;
 use determinize_core::text::{Text, in_haystack};
@@ -81,7 +82,8 @@ impl<'n, N: Allocator, A: Allocator + Copy> Dfa<'n, N, A> {
     /// a pattern. Returns the last match of the rows that it enters.
     ///
     /// A row is known by its offset. The match of the last row that lists patterns is looked up at
-    /// the end.
+    /// the end. Up to `until` bytes are read with one test of the row for each, which stops at
+    /// `last_match` in a pause between scans and else at `last_special`.
     #[inline(always)]
     fn search_text(
         &self,
@@ -92,25 +94,56 @@ impl<'n, N: Allocator, A: Allocator + Copy> Dfa<'n, N, A> {
         ensures { IsFound self.now is_earliest is_anchored text.now result }
     {
         let mut row = self.rows.start_row(is_anchored, text.behind());
-        let (mut matched, mut offset) = (0, 0);
-        let mut read = 0;
+        let (mut matched, mut offset, mut read) = (0, 0, 0);
+        let mut pauses = Pauses::new();
         while read < text.len() {
-            row = self.rows.row_over(row, Some(text.byte(read)));
-            read += 1;
-            if row <= self.last_special {
-                if row > self.last_match {
-                    read = self.scan(row, text, read);
-                } else if row == 0 {
-                    return self.match_of(matched, offset);
-                } else {
-                    matched = row;
-                    offset = read - 1;
-                    if is_earliest {
+            let (stop, until) = if read < pauses.end {
+                (self.last_match, text.len().min(pauses.end))
+            } else {
+                (self.last_special, text.len())
+            };
+            while read < until {
+                row = self.rows.row_over(row, Some(text.byte(read)));
+                read += 1;
+                if row <= stop {
+                    if row > self.last_match {
+                        let from = read;
+                        read = self.scan(row, text, from);
+                        if pauses.record(from, read) {
+                            break;
+                        }
+                    } else if row == 0 {
                         return self.match_of(matched, offset);
+                    } else {
+                        matched = row;
+                        offset = read - 1;
+                        if is_earliest {
+                            return self.match_of(matched, offset);
+                        }
                     }
                 }
             }
         }
+        self.last_of(row, text, matched, offset)
+    }
+
+    /// Returns the last match of a search that has read all bytes: that of the row over the unit
+    /// ahead, if it lists patterns, and else the match so far.
+    ///
+    /// - `row` is the offset of the row, `matched` that of the last row that listed patterns, and
+    ///   `offset` that of its match.
+    #[inline(always)]
+    fn last_of(
+        &self,
+        row: usize,
+        text: &Text<'_>,
+        matched: usize,
+        offset: usize,
+    ) -> Option<HalfMatch>
+        requires row { IsOffset self.now.table row }
+        requires matched { IsOffset self.now.table matched }
+        ensures { FindsLast self.now text.now row matched offset result }
+    {
         let end = self.rows.row_over(row, text.ahead());
         if end == 0 || end > self.last_match {
             return self.match_of(matched, offset);

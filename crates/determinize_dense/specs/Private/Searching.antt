@@ -8,7 +8,7 @@ use Rattle.determinize_core.specs.Chain.{chain, future, units}
 use Rattle.determinize_core.specs.LastMatch.{ended_at, last_match}
 use Rattle.determinize_core.specs.Step.{start_value}
 use Rattle.determinize_dense.specs.Dfa.{start_in}
-use Rattle.determinize_dense.specs.Private.Rows.{IsNext, IsOffset, offset_of}
+use Rattle.determinize_dense.specs.Private.Rows.{IsDfa, IsNext, IsOffset, offset_of}
 use Rattle.determinize_dense.specs.Table.{DfaValue, Table, patterns_at, row_after, start_row}
 use Rattle.determinize_below.specs.Nfa.{IsAccepted}
 
@@ -52,3 +52,9 @@ pub record IsSearched (dfa : DfaValue) (anchored : Bool) (text : Text) (read row
     pub so_far : IsMatch dfa.table matched end (last_match (future dfa.nfa dfa.kind
         (start_value dfa.nfa (start_in dfa.nfa anchored) text.behind)
         (take read (units text))))
+
+-- what a search finds that has read all bytes, and before the unit ahead is here
+abbrev pub FindsLast : DfaValue → Text → ℕ → ℕ → ℕ → Option HalfMatch → Type 0
+FindsLast dfa text row matched end found = (earliest anchored : Bool) → IsDfa dfa
+    → IsSearched dfa anchored text (length text.bytes) row matched end
+    → IsFound dfa earliest anchored text found

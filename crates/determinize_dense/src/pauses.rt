@@ -1,0 +1,51 @@
+//! When a search scans out of rows. No match depends on it.
+
+ghost use Rattle.std.specs.Prelude.{◌≤◌};
+
+/// The number of bytes that a search reads before it scans.
+const FIRST: usize = 64;
+
+/// A scan that reads fewer bytes costs more time than it saves.
+const WORTHWHILE: usize = 8;
+
+/// The fewest and the most bytes of a pause.
+const SHORTEST: usize = 32;
+
+const LONGEST: usize = 1024;
+
+/// The pauses between scans: one after each scan that was not worthwhile, twice as long as the one
+/// before it, if no scan was worthwhile in between.
+#[derive(Clone, Copy)]
+pub(crate) struct Pauses {
+    /// The number of bytes that are read when the pause is over.
+    pub(crate) end: usize,
+    /// The length of the next pause.
+    next: usize,
+}
+
+impl Pauses {
+    /// Returns the pause at the start of a search.
+    #[inline(always)]
+    pub(crate) fn new() -> Pauses {
+        Pauses {
+            end: FIRST,
+            next: SHORTEST,
+        }
+    }
+
+    /// Records a scan. Returns whether a pause follows it.
+    ///
+    /// - `from` and `to` are the numbers of bytes that are read before and after the scan.
+    #[inline(always)]
+    pub(crate) fn record(&mut self, from: usize, to: usize) -> bool
+        requires { from ≤ to }
+    {
+        if to - from >= WORTHWHILE {
+            self.next = SHORTEST;
+            return false;
+        }
+        self.end = to.saturating_add(self.next);
+        self.next = self.next.saturating_mul(2).min(LONGEST);
+        true
+    }
+}
