@@ -3,11 +3,10 @@
 mod classes;
 mod dense;
 mod dfa;
-mod failing;
 mod find;
 mod idle;
-mod pieces;
 mod stored_walks;
+mod trial;
 mod uses;
 
 use determinize_below::{HalfMatch, PatternID};

@@ -14,7 +14,6 @@ use determinize_replay::job::Job;
 use determinize_replay::key::Key;
 use determinize_replay::values::LastMatch;
 use determinize_replay::{nfas, values, verbs};
-use failing_alloc::{FailingAllocator, Outcome, fail_each_allocation};
 use std::alloc::{Allocator, Global};
 use std::process::Abort;
 use std::test::Fail;
@@ -267,51 +266,20 @@ fn dense_patterns(rt: HostRuntime) -> Result<(), Fail> {
     Ok(())
 }
 
-/// Builds the DFA of `\b\w+\b`, which has five states.
-fn build_word<R: Abort + AllocGlobal>(
+/// Builds the DFA of `\b\w+\b`, which has five states, and minimizes it, which leaves four.
+pub fn build_and_minimize<R: Abort + AllocGlobal, A: Allocator + Copy>(
     rt: &R,
-    heap: &FailingAllocator<Global>,
-) -> Result<bool, Fail> {
+    alloc: A,
+) -> Result<(), JobError> {
     let nfa = nfa(rt.alloc(), ROWS[0].states, StateID::ZERO)?;
-    heap.begin();
-    let built = count(Dfa::build(heap, &nfa, MatchKind::All, 5));
-    heap.end();
-    if built.is_err() {
-        same(rt, built, Err(BuildError::OutOfMemory));
-        return Ok(false);
-    }
-    same(rt, built, Ok(5));
-    Ok(true)
-}
-
-/// Minimizes the DFA of `\b\w+\b`, of whose states four are left.
-fn minimize_word<R: Abort + AllocGlobal>(
-    rt: &R,
-    heap: &FailingAllocator<Global>,
-) -> Result<bool, Fail> {
-    let nfa = nfa(rt.alloc(), ROWS[0].states, StateID::ZERO)?;
-    let dfa = Dfa::build(heap, &nfa, MatchKind::All, 5)?;
-    heap.begin();
-    let smallest = dfa.minimize(heap);
-    heap.end();
-    let Ok(smallest) = smallest else {
-        return Ok(false);
+    let dfa = match Dfa::build(alloc, &nfa, MatchKind::All, 5) {
+        Ok(dfa) => dfa,
+        Err(error) => {
+            same(rt, error, BuildError::OutOfMemory);
+            return Err(JobError::OutOfMemory);
+        }
     };
-    same(rt, smallest.len(), 4);
-    Ok(true)
-}
-
-/// Builds a DFA, and minimizes one.
-fn build_and_minimize<R: Abort + AllocGlobal>(
-    rt: &R,
-    heap: &FailingAllocator<Global>,
-) -> Result<bool, Fail> {
-    Ok(build_word(rt, heap)? && minimize_word(rt, heap)?)
-}
-
-#[test]
-fn dense_under_refusals(rt: HostRuntime) -> Result<(), Fail> {
-    let outcome = fail_each_allocation(rt.alloc(), |heap| build_and_minimize(&rt, heap))?;
-    same(&rt, outcome, Outcome::Sound);
+    let smallest = dfa.minimize(alloc)?;
+    same(rt, (dfa.len(), smallest.len()), (5, 4));
     Ok(())
 }

@@ -3,9 +3,9 @@
 use crate::tests::dense::nfa;
 use crate::tests::{ended, holds, same};
 use determinize_below::{MatchKind, NFA, StateID};
+use determinize_replay::error::JobError;
 use determinize_uses::dfa::{Dfa, build};
-use failing_alloc::{FailingAllocator, Outcome, fail_each_allocation};
-use std::alloc::Global;
+use std::alloc::Allocator;
 use std::process::Abort;
 use std::test::Fail;
 
@@ -77,27 +77,14 @@ fn dfas(rt: HostRuntime) -> Result<(), Fail> {
 }
 
 /// Builds the DFA of a loop over the byte `a`, which has two states.
-fn build_loop<R: Abort + AllocGlobal>(
+pub fn build_loop<R: Abort + AllocGlobal, A: Allocator + Copy>(
     rt: &R,
-    heap: &FailingAllocator<Global>,
-) -> Result<bool, Fail> {
+    alloc: A,
+) -> Result<(), JobError> {
     let nfa = nfa(rt.alloc(), "B:61>0", StateID::ZERO)?;
-    heap.begin();
-    let built = build(heap, &nfa, MatchKind::All, nfa.start_anchored(), 2);
-    heap.end();
-    let Ok(dfa) = built else {
-        return Ok(false);
+    let Some(dfa) = build(alloc, &nfa, MatchKind::All, nfa.start_anchored(), 2)? else {
+        panic!(rt; "more than two states");
     };
-    match dfa {
-        Some(dfa) => same(rt, dfa.states.len(), 2),
-        None => holds(rt, false),
-    }
-    Ok(true)
-}
-
-#[test]
-fn failing_allocations(rt: HostRuntime) -> Result<(), Fail> {
-    let outcome = fail_each_allocation(rt.alloc(), |heap| build_loop(&rt, heap))?;
-    same(&rt, outcome, Outcome::Sound);
+    same(rt, dfa.states.len(), 2);
     Ok(())
 }

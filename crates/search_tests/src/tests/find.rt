@@ -1,17 +1,22 @@
-//! The leftmost match and all matches, with both ends.
+//! The leftmost match and all matches, with both ends: by `plain`, by a `Regex` over two caches or
+//! over two whole DFAs, and of a text in pieces.
 
 ghost use Rattle.std.specs.Prelude.{◌≡◌, IfOk, false, true};
-ghost use Rattle.determinize_below.specs.declared.search.MatchKind.TheVariants as kinds;
 ghost use Rattle.determinize_find.specs.Prefix.{HasPrefix};
+ghost use Rattle.determinize_find.specs.Reversal.{IsReverseOf};
+ghost use Rattle.determinize_find.specs.Streams.{IsSearching};
 ghost use Rattle.determinize_core.specs.Searches.{has_start};
 
+use crate::tests::trial::{Trial, fail_each_in_turn};
 use crate::tests::{ended, same};
 use determinize_below::{Input, LookMatcher, MatchKind, NFA, StateID};
 use determinize_dense::Dfa;
-use determinize_find::{Match, Regex, Searcher, plain, prefix, reversed};
+use determinize_find::{LazyRegex, Match, Pieces, Regex, Searcher, has_prefix, plain, reversed};
 use determinize_lazy::Lazy;
+use determinize_replay::error::JobError;
 use determinize_replay::nfas;
 use determinize_uses::steady;
+use std::alloc::{AllocError, Allocator, Global};
 use std::process::Abort;
 use std::test::Fail;
 
@@ -25,8 +30,13 @@ pub struct Row {
     pub matches: &'static [Ends],
 }
 
-/// `a*`, `|b`, `b|`, `(?mR)^a*$` and, as patterns 0 and 1, `b` and `ab`.
-pub static ROWS: [Row; 6] = [
+/// `\b\w+\b`.
+pub const WORDS: &str =
+    "BU:2,1 B:00-ff>0 L:WordAscii>3 S:30-39>4,41-5a>4,5f-5f>4,61-7a>4 BU:3,5 L:WordAscii>6 M:0";
+
+/// `a*`, `|b`, `b|`, `(?mR)^a*$` and, as patterns 0 and 1, `b` and `ab`; `a+b|a`, where after an `a`
+/// a match is only certain when the run of `a` ends; and words.
+static ROWS: [Row; 9] = [
     Row {
         states: "BU:2,1 B:00-ff>0 BU:3,4 B:61>2 M:0",
         haystack: b"baac",
@@ -57,73 +67,189 @@ pub static ROWS: [Row; 6] = [
         haystack: b"bab",
         matches: &[(0, 0, 1), (1, 1, 3)],
     },
+    Row {
+        states: "BU:2,1 B:00-ff>0 BU:3,7 B:61>4 BU:3,5 B:62>6 M:0 B:61>6",
+        haystack: b"baa-aaba",
+        matches: &[(0, 1, 2), (0, 2, 3), (0, 4, 7), (0, 7, 8)],
+    },
+    Row {
+        states: WORDS,
+        haystack: b"abcd e",
+        matches: &[(0, 0, 4), (0, 5, 6)],
+    },
+    Row {
+        states: WORDS,
+        haystack: b"-x1- _",
+        matches: &[(0, 1, 3), (0, 5, 6)],
+    },
 ];
 
-/// `\b\w+\b`.
-pub const WORDS: &str =
-    "BU:2,1 B:00-ff>0 L:WordAscii>3 S:30-39>4,41-5a>4,5f-5f>4,61-7a>4 BU:3,5 L:WordAscii>6 M:0";
-
 /// Returns an NFA that reads forward, with the usual prefix in its first two states.
-pub fn nfa<R: Abort + AllocGlobal>(rt: &R, states: &str) -> Result<NFA, Fail>
-    ensures { IfOk result (λ nfa. nfa.reverse ≡ false) }
+fn nfa(alloc: Global, states: &str) -> Result<NFA, JobError>
+    ensures forward { IfOk result (λ nfa. nfa.reverse ≡ false) }
+    ensures prefix { IfOk result (λ nfa. HasPrefix nfa) }
 {
-    let states = nfas::states(rt.alloc(), states)?;
+    let states = nfas::states(alloc, states)?;
     let (anchored, matcher) = (StateID::must(2), LookMatcher::new());
-    let nfa = NFA::from_parts(rt.alloc(), states, anchored, StateID::ZERO, false, matcher)?;
-    same(rt, prefix::has_prefix(&nfa), true);
-    Ok(nfa)
+    let nfa = NFA::from_parts(alloc, states, anchored, StateID::ZERO, false, matcher)?;
+    if has_prefix(&nfa) {
+        Ok(nfa)
+    } else {
+        Err(JobError::NoStates)
+    }
 }
 
 /// Returns the pattern and the ends of a match.
-pub fn ends_of(found: Option<Match>) -> Option<Ends> {
+fn ends_of(found: Option<Match>) -> Option<Ends> {
     found.map(|m| (m.pattern.as_usize(), m.start, m.end))
 }
 
 /// Compares matches with their patterns and ends.
-pub fn expect_matches<R: Abort>(rt: &R, found: &[Match], wanted: &[Ends]) {
+fn expect_matches<R: Abort>(rt: &R, found: &[Match], wanted: &[Ends]) {
     same(rt, found.len(), wanted.len());
     for (found, wanted) in found.iter().zip(wanted) {
         same(rt, ends_of(Some(*found)), Some(*wanted));
     }
 }
 
-/// Finds all matches of a haystack, by an NFA with the usual prefix and by its reverse.
-fn expect_by_regex<R: Abort + AllocGlobal>(
+/// Finds the first match by `plain`, the next one after none, and all matches, each through a new
+/// cache.
+fn find_plain<R: Abort, A: Allocator + Copy>(
     rt: &R,
+    alloc: A,
     nfa: &NFA,
-    haystack: &[u8],
-    wanted: &[Ends],
-) -> Result<(), Fail>
-    requires forward { nfa.now.reverse ≡ false }
-    requires prefix { HasPrefix nfa.now }
+    row: &Row,
+    limit: usize,
+) -> Result<(), AllocError>
+    requires { nfa.now.reverse ≡ false }
 {
-    let backward = reversed(rt.alloc(), nfa)?;
-    let mut regex = Regex::new(rt.alloc(), nfa, &backward, 100);
-    let input = Input::new(haystack);
-    same(rt, regex.is_match(&input)?, !wanted.is_empty());
-    let found = regex.find_all(rt.alloc(), &input)?;
+    let (input, kind) = (Input::new(row.haystack), MatchKind::LeftmostFirst);
+    let wanted = row.matches.first().copied();
+    let found = plain::find(&mut Lazy::new(alloc, nfa, kind, limit), &input)?;
+    same(rt, ends_of(found), wanted);
+    let found = plain::next_match(&mut Lazy::new(alloc, nfa, kind, limit), &input, None)?;
+    same(rt, ends_of(found), wanted);
+    let found = plain::find_all(alloc, &mut Lazy::new(alloc, nfa, kind, limit), &input)?;
+    expect_matches(rt, found.as_slice(), row.matches);
+    Ok(())
+}
+
+/// Moves a cursor over all matches and past the last one.
+fn advance_over<R: Abort, A: Allocator + Copy>(
+    rt: &R,
+    regex: &mut LazyRegex<'_, Global, A, A>,
+    row: &Row,
+) -> Result<(), AllocError> {
+    let mut searcher = Searcher::new(Input::new(row.haystack));
+    for wanted in row.matches {
+        same(rt, ends_of(searcher.advance(regex)?), Some(*wanted));
+    }
+    same(rt, ends_of(searcher.advance(regex)?), None);
+    Ok(())
+}
+
+/// Feeds a text in pieces.
+fn feed<R: Abort, B: Allocator, A: Allocator + Copy>(
+    rt: &R,
+    alloc: A,
+    regex: &mut LazyRegex<'_, Global, B, A>,
+    pieces: &[&[u8]],
+    wanted: &[Ends],
+) -> Result<(), AllocError> {
+    let mut stream = Pieces::new(alloc);
+    let mut found = Vec::new(alloc);
+    for piece in pieces {
+        stream.feed(regex, piece, &mut found)?;
+    }
+    stream.finish(regex, &mut found)?;
     expect_matches(rt, found.as_slice(), wanted);
     Ok(())
 }
 
-/// Finds all matches of a haystack, by whole DFAs of such an NFA and of its reverse.
-fn expect_by_whole<R: Abort + AllocGlobal>(
+/// Makes each call of a `Regex` with new caches.
+fn find_by_regex<R: Abort, A: Allocator + Copy>(
     rt: &R,
+    alloc: A,
     nfa: &NFA,
-    haystack: &[u8],
-    wanted: &[Ends],
-) -> Result<(), Fail>
+    backward: &NFA<A>,
+    row: &Row,
+    limit: usize,
+) -> Result<(), AllocError>
+    requires forward { nfa.now.reverse ≡ false }
+    requires prefix { HasPrefix nfa.now }
+    requires reverse { IsReverseOf backward.now nfa.now }
+{
+    let (input, wanted) = (Input::new(row.haystack), row.matches.first().copied());
+    let found = Regex::new(alloc, nfa, backward, limit).find(&input)?;
+    same(rt, ends_of(found), wanted);
+    let is_found = Regex::new(alloc, nfa, backward, limit).is_match(&input)?;
+    same(rt, is_found, wanted.is_some());
+    let found = Regex::new(alloc, nfa, backward, limit).find_all(alloc, &input)?;
+    expect_matches(rt, found.as_slice(), row.matches);
+    Ok(())
+}
+
+/// Finds the matches of a row by an NFA and its reverse.
+fn find_both_ways<R: Abort, A: Allocator + Copy>(
+    rt: &R,
+    alloc: A,
+    nfa: &NFA,
+    row: &Row,
+    limit: usize,
+) -> Result<(), JobError>
     requires forward { nfa.now.reverse ≡ false }
     requires prefix { HasPrefix nfa.now }
 {
-    let backward = reversed(rt.alloc(), nfa)?;
+    let backward = reversed(alloc, nfa)?;
+    find_by_regex(rt, alloc, nfa, &backward, row, limit)?;
+    let mut regex = Regex::new(alloc, nfa, &backward, limit);
+    advance_over(rt, &mut regex, row)?;
+    let (first, second) = row.haystack.split_at(row.haystack.len().min(2));
+    let mut regex = Regex::new(alloc, nfa, &backward, limit);
+    feed(rt, alloc, &mut regex, &[first, second], row.matches)?;
+    Ok(())
+}
+
+/// Finds the matches of a row by `plain`, and by an NFA and its reverse.
+pub fn search<R: Abort + AllocGlobal, A: Allocator + Copy>(
+    rt: &R,
+    alloc: A,
+    row: &Row,
+    limit: usize,
+) -> Result<(), JobError> {
+    let nfa = nfa(rt.alloc(), row.states)?;
+    find_plain(rt, alloc, &nfa, row, limit)?;
+    find_both_ways(rt, alloc, &nfa, row, limit)
+}
+
+#[test]
+fn all_matches(rt: HostRuntime) -> Result<(), Fail> {
+    for row in &ROWS {
+        for limit in [0, 64] {
+            fail_each_in_turn(&rt, &Trial::Search(row, limit))?;
+        }
+    }
+    Ok(())
+}
+
+/// Finds all matches of a haystack by whole DFAs of an NFA and of its reverse.
+fn expect_by_whole<R: Abort + AllocGlobal>(
+    rt: &R,
+    nfa: &NFA,
+    backward: &NFA,
+    row: &Row,
+) -> Result<(), Fail>
+    requires forward { nfa.now.reverse ≡ false }
+    requires prefix { HasPrefix nfa.now }
+    requires reverse { IsReverseOf backward.now nfa.now }
+{
     let ends = Dfa::build(rt.alloc(), nfa, MatchKind::LeftmostFirst, 100)?;
-    let starts = Dfa::build(rt.alloc(), &backward, MatchKind::All, 100)?;
-    let found = steady::matches(rt.alloc(), &ends, &starts, haystack)?;
-    expect_matches(rt, found.as_slice(), wanted);
+    let starts = Dfa::build(rt.alloc(), backward, MatchKind::All, 100)?;
+    let found = steady::matches(rt.alloc(), &ends, &starts, row.haystack)?;
+    expect_matches(rt, found.as_slice(), row.matches);
     let mut scanner = Regex::from_engines(&ends, &starts);
-    let mut searcher = Searcher::new(Input::new(haystack));
-    for wanted in wanted {
+    let mut searcher = Searcher::new(Input::new(row.haystack));
+    for wanted in row.matches {
         let found = steady::next(&mut scanner, &mut searcher);
         same(rt, ends_of(found), Some(*wanted));
     }
@@ -131,48 +257,37 @@ fn expect_by_whole<R: Abort + AllocGlobal>(
     Ok(())
 }
 
-/// Finds all matches of a haystack, by `plain`.
-fn expect_all<R: Abort + AllocGlobal>(
+/// Feeds a haystack in all ways in up to three pieces, and in pieces of 1, 2 and 3 bytes.
+fn expect_all_cuts<R: Abort + AllocGlobal>(
     rt: &R,
-    lazy: &mut Lazy<'_>,
-    haystack: &[u8],
-    wanted: &[Ends],
-) -> Result<(), Fail>
-    requires forward { lazy.old.nfa.reverse ≡ false }
-    requires kind { lazy.old.kind ≡ kinds.LeftmostFirst }
-{
-    let found = plain::find_all(rt.alloc(), lazy, &Input::new(haystack))?;
-    expect_matches(rt, found.as_slice(), wanted);
-    Ok(())
-}
-
-#[test]
-fn all_matches(rt: HostRuntime) -> Result<(), Fail> {
-    for row in &ROWS {
-        let nfa = nfa(&rt, row.states)?;
-        let mut lazy = Lazy::new(rt.alloc(), &nfa, MatchKind::LeftmostFirst, 100);
-        expect_all(&rt, &mut lazy, row.haystack, row.matches)?;
-        if prefix::has_prefix(&nfa) {
-            expect_by_regex(&rt, &nfa, row.haystack, row.matches)?;
+    regex: &mut LazyRegex<'_>,
+    row: &Row,
+) -> Result<(), AllocError> {
+    let (alloc, haystack) = (rt.alloc(), row.haystack);
+    for second in 0..haystack.len() + 1 {
+        for first in 0..second + 1 {
+            let (one, two) = (&haystack[..first], &haystack[first..second]);
+            let pieces = [one, two, &haystack[second..]];
+            feed(rt, alloc, regex, &pieces, row.matches)?;
         }
     }
+    for size in 1..4 {
+        let pieces: Vec<&[u8]> = haystack.chunks(size).collect(alloc)?;
+        feed(rt, alloc, regex, pieces.as_slice(), row.matches)?;
+    }
     Ok(())
 }
 
-/// Whole DFAs find the same matches as lazy ones.
+/// Whole DFAs find the same matches as lazy ones, and so do scans of a text in pieces, however it is
+/// cut.
 #[test]
-fn words_by_whole_dfas(rt: HostRuntime) -> Result<(), Fail> {
-    let nfa = nfa(&rt, WORDS)?;
-    if !prefix::has_prefix(&nfa) {
-        return Ok(());
-    }
-    let rows: [(&[u8], &[Ends]); 2] = [
-        (b"abcd e", &[(0, 0, 4), (0, 5, 6)]),
-        (b"-x1- _", &[(0, 1, 3), (0, 5, 6)]),
-    ];
-    for (haystack, wanted) in rows {
-        expect_by_regex(&rt, &nfa, haystack, wanted)?;
-        expect_by_whole(&rt, &nfa, haystack, wanted)?;
+fn whole_dfas_and_pieces(rt: HostRuntime) -> Result<(), Fail> {
+    for row in &ROWS {
+        let nfa = nfa(rt.alloc(), row.states)?;
+        let backward = reversed(rt.alloc(), &nfa)?;
+        expect_by_whole(&rt, &nfa, &backward, row)?;
+        let mut regex = Regex::new(rt.alloc(), &nfa, &backward, 100);
+        expect_all_cuts(&rt, &mut regex, row)?;
     }
     Ok(())
 }
@@ -185,7 +300,7 @@ fn expect_word<R: Abort + AllocGlobal>(
 ) -> Result<(), Fail>
     requires { has_start input.now.anchored ≡ true }
 {
-    let nfa = nfa(rt, WORDS)?;
+    let nfa = nfa(rt.alloc(), WORDS)?;
     let mut lazy = Lazy::new(rt.alloc(), &nfa, MatchKind::LeftmostFirst, 100);
     let found = plain::find(&mut lazy, input)?;
     same(rt, ends_of(found), wanted);
@@ -200,7 +315,7 @@ fn expect_begin<R: Abort + AllocGlobal>(
 ) -> Result<(), Fail>
     requires { has_start input.now.anchored ≡ true }
 {
-    let nfa = reversed(rt.alloc(), &nfa(rt, WORDS)?)?;
+    let nfa = reversed(rt.alloc(), &nfa(rt.alloc(), WORDS)?)?;
     let mut lazy = Lazy::new(rt.alloc(), &nfa, MatchKind::All, 100);
     same(rt, lazy.search_input(input)?, ended(wanted));
     Ok(())

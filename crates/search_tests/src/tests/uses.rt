@@ -10,6 +10,7 @@ use determinize_below::{
 use determinize_core::start::Start;
 use determinize_find::Builder;
 use determinize_lazy::Lazy;
+use determinize_replay::error::JobError;
 use determinize_uses::{built, cache, input, lexer, nfa, scanner, search, values, walk};
 use std::alloc::Allocator;
 use std::process::Abort;
@@ -75,35 +76,62 @@ fn first_search(rt: HostRuntime) -> Result<(), Fail> {
     Ok(())
 }
 
-/// Returns the NFA of `(?m)^[a-cx]$`, where `;` ends a line.
-fn lines<A: Allocator + Copy>(alloc: A) -> Result<NFA<A>, BuildError> {
-    let mut builder = Builder::new(alloc);
-    let mut matcher = LookMatcher::new();
-    matcher.set_line_terminator(b';');
-    builder.set_look_matcher(matcher);
-    let done = builder.add_match()?;
-    let end = builder.add_look(done, Look::EndLF)?;
-    let letters = builder.add_sparse(&[over(b'a', b'c', end), over(b'x', b'x', end)])?;
-    let joint = builder.add_empty()?;
-    builder.patch(joint, letters)?;
-    let start = builder.add_look(joint, Look::StartLF)?;
-    let fail = builder.add_fail()?;
-    let either = builder.add_union(&[fail, start])?;
-    builder.build_with_prefix(either)
-}
-
 /// Returns the transition to `next` on each byte from `start` to `end`.
 fn over(start: u8, end: u8, next: StateID) -> Transition {
     Transition { start, end, next }
 }
 
-#[test]
-fn builds(rt: HostRuntime) -> Result<(), Fail> {
-    let nfa = lines(rt.alloc())?;
-    same(&rt, (nfa.len(), nfa.pattern_len()), (9, 1));
-    let mut lazy = Lazy::new(rt.alloc(), &nfa, MatchKind::LeftmostFirst, 100);
-    let found = lazy.search_input(&Input::new(b"ab;d;x;c"))?;
-    same(&rt, found, ended(6));
+/// Adds the states of `(?m)^[a-cx]!$|`, and returns the first one.
+fn add_lines<A: Allocator + Copy>(builder: &mut Builder<A>) -> Result<StateID, BuildError> {
+    let done = builder.add_match()?;
+    let end = builder.add_look(done, Look::EndLF)?;
+    let mark = builder.add_range(over(b'!', b'!', end))?;
+    let letters = builder.add_sparse(&[over(b'a', b'c', mark), over(b'x', b'x', mark)])?;
+    let joint = builder.add_empty()?;
+    builder.patch(joint, letters)?;
+    let start = builder.add_look(joint, Look::StartLF)?;
+    let fail = builder.add_fail()?;
+    let either = builder.add_union(&[fail, start])?;
+    builder.patch(either, done)?;
+    Ok(either)
+}
+
+/// Returns the NFA of these states, where `;` ends a line, with the usual prefix or without one.
+fn lines<A: Allocator + Copy>(alloc: A, has_prefix: bool) -> Result<NFA<A>, BuildError> {
+    let mut builder = Builder::new(alloc);
+    let mut matcher = LookMatcher::new();
+    matcher.set_line_terminator(b';');
+    builder.set_look_matcher(matcher);
+    let start = add_lines(&mut builder)?;
+    if has_prefix {
+        builder.build_with_prefix(start)
+    } else {
+        builder.build(start, start)
+    }
+}
+
+/// Builds an NFA and searches with it. The prefix has two states.
+fn expect_lines<R: Abort + AllocGlobal, A: Allocator + Copy>(
+    rt: &R,
+    alloc: A,
+    has_prefix: bool,
+) -> Result<(), BuildError> {
+    let nfa = lines(alloc, has_prefix)?;
+    let count = if has_prefix { 10 } else { 8 };
+    same(rt, (nfa.len(), nfa.pattern_len()), (count, 1));
+    let mut lazy = Lazy::new(rt.alloc(), &nfa, MatchKind::LeftmostFirst, 50);
+    same(rt, lazy.search_input(&Input::new(b"b!;a"))?, ended(2));
+    same(rt, lazy.search_input(&Input::new(b"b!b"))?, ended(0));
+    Ok(())
+}
+
+/// Builds an NFA with the usual prefix, and one without.
+pub fn build<R: Abort + AllocGlobal, A: Allocator + Copy>(
+    rt: &R,
+    alloc: A,
+) -> Result<(), JobError> {
+    expect_lines(rt, alloc, true)?;
+    expect_lines(rt, alloc, false)?;
     Ok(())
 }
 

@@ -1,0 +1,70 @@
+//! What is done while each allocation fails in turn.
+
+use crate::tests::{dense, dfa, find, same, uses};
+use determinize_replay::error::JobError;
+use failing_alloc::{FailingAllocator, Outcome, fail_each_allocation};
+use std::alloc::{Allocator, Global};
+use std::process::Abort;
+use std::test::Fail;
+
+/// A trial: it runs with an allocator that may fail, and compares what it finds.
+#[derive(Clone, Copy)]
+pub enum Trial<'r> {
+    /// Builds NFAs.
+    Build,
+    /// Finds the matches of a row through caches of this limit.
+    Search(&'r find::Row, usize),
+    /// Builds a whole DFA, and minimizes it.
+    Minimize,
+    /// Builds a whole DFA by a worklist.
+    Worklist,
+}
+
+impl Trial<'_> {
+    /// Makes the trial.
+    fn run<R: Abort + AllocGlobal, A: Allocator + Copy>(
+        &self,
+        rt: &R,
+        alloc: A,
+    ) -> Result<(), JobError> {
+        match *self {
+            Trial::Build => uses::build(rt, alloc),
+            Trial::Search(row, limit) => find::search(rt, alloc, row, limit),
+            Trial::Minimize => dense::build_and_minimize(rt, alloc),
+            Trial::Worklist => dfa::build_loop(rt, alloc),
+        }
+    }
+}
+
+/// Makes a trial while the allocator may fail, and returns whether no allocation failed.
+fn has_run<R: Abort + AllocGlobal>(
+    rt: &R,
+    heap: &FailingAllocator<Global>,
+    trial: &Trial<'_>,
+) -> Result<bool, JobError> {
+    heap.begin();
+    let outcome = trial.run(rt, heap);
+    heap.end();
+    match outcome {
+        Ok(()) => Ok(true),
+        Err(JobError::OutOfMemory) => Ok(false),
+        Err(error) => Err(error),
+    }
+}
+
+/// Repeats a trial with its first allocation failing, then its second, and so on, until there is no
+/// failure. Each time it must find what it wants or report the failed allocation, and all memory
+/// must have been freed.
+pub fn fail_each_in_turn<R: Abort + AllocGlobal>(rt: &R, trial: &Trial<'_>) -> Result<(), Fail> {
+    let outcome = fail_each_allocation(rt.alloc(), |heap| has_run(rt, heap, trial))?;
+    same(rt, outcome, Outcome::Sound);
+    Ok(())
+}
+
+#[test]
+fn builds(rt: HostRuntime) -> Result<(), Fail> {
+    for trial in [Trial::Build, Trial::Minimize, Trial::Worklist] {
+        fail_each_in_turn(&rt, &trial)?;
+    }
+    Ok(())
+}
