@@ -5,6 +5,7 @@ mod dense;
 mod dfa;
 mod find;
 mod idle;
+mod pieces;
 mod stored_walks;
 mod trial;
 mod uses;

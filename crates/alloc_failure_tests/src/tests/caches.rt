@@ -22,6 +22,7 @@ fn walked<A: Allocator + Copy>(
     row: &Row,
 ) -> Result<Vec<State<A>, A>, AllocError>
     requires { lazy.old.nfa ≡ row.now.nfa }
+    ensures { lazy.new.nfa ≡ lazy.old.nfa }
 {
     let (start, text) = (row.nfa.start_anchored(), row.text.as_slice());
     match row.look_ahead {

@@ -7,7 +7,7 @@ ghost use Rattle.determinize_find.specs.Reversal.{IsReverseOf};
 ghost use Rattle.determinize_find.specs.Streams.{IsSearching};
 ghost use Rattle.determinize_core.specs.Searches.{has_start};
 
-use crate::tests::trial::{Trial, fail_each_in_turn};
+use crate::tests::trial::{Trial, fail_each_in_turn, succeed_if};
 use crate::tests::{ended, same};
 use determinize_below::{Input, LookMatcher, MatchKind, NFA, StateID};
 use determinize_dense::Dfa;
@@ -85,7 +85,7 @@ static ROWS: [Row; 9] = [
 ];
 
 /// Returns an NFA that reads forward, with the usual prefix in its first two states.
-fn nfa(alloc: Global, states: &str) -> Result<NFA, JobError>
+pub fn nfa(alloc: Global, states: &str) -> Result<NFA, JobError>
     ensures forward { IfOk result (λ nfa. nfa.reverse ≡ false) }
     ensures prefix { IfOk result (λ nfa. HasPrefix nfa) }
 {
@@ -134,6 +134,22 @@ fn find_plain<R: Abort, A: Allocator + Copy>(
     Ok(())
 }
 
+/// Moves a cursor to the next match, and again if that fails. Returns whether the first call
+/// succeeded.
+fn advance<R: Abort, A: Allocator + Copy>(
+    rt: &R,
+    searcher: &mut Searcher<'_>,
+    regex: &mut LazyRegex<'_, Global, A, A>,
+    wanted: Option<Ends>,
+) -> Result<bool, AllocError> {
+    if let Ok(found) = searcher.advance(regex) {
+        same(rt, ends_of(found), wanted);
+        return Ok(true);
+    }
+    same(rt, ends_of(searcher.advance(regex)?), wanted);
+    Ok(false)
+}
+
 /// Moves a cursor over all matches and past the last one.
 fn advance_over<R: Abort, A: Allocator + Copy>(
     rt: &R,
@@ -141,14 +157,40 @@ fn advance_over<R: Abort, A: Allocator + Copy>(
     row: &Row,
 ) -> Result<(), AllocError> {
     let mut searcher = Searcher::new(Input::new(row.haystack));
+    let mut is_sound = true;
     for wanted in row.matches {
-        same(rt, ends_of(searcher.advance(regex)?), Some(*wanted));
+        let is_next = advance(rt, &mut searcher, regex, Some(*wanted))?;
+        is_sound = is_sound && is_next;
     }
-    same(rt, ends_of(searcher.advance(regex)?), None);
-    Ok(())
+    let is_end = advance(rt, &mut searcher, regex, None)?;
+    succeed_if(is_sound && is_end)
 }
 
-/// Feeds a text in pieces.
+/// Feeds a piece, and if that fails, the part of it that was not read. Returns whether the first
+/// call succeeded.
+fn feed_piece<B: Allocator, A: Allocator + Copy>(
+    stream: &mut Pieces<A>,
+    regex: &mut LazyRegex<'_, Global, B, A>,
+    piece: &[u8],
+    found: &mut Vec<Match, A>,
+) -> Result<bool, AllocError>
+    requires { IsSearching regex.old.nfa stream.old }
+    ensures { IsSearching regex.new.nfa stream.new }
+{
+    let begin = stream.bytes_read();
+    if stream.feed(regex, piece, found).is_ok() {
+        return Ok(true);
+    }
+    let read = stream.bytes_read().saturating_sub(begin);
+    let Some(rest) = piece.get(read..) else {
+        return Err(AllocError);
+    };
+    stream.feed(regex, rest, found)?;
+    Ok(false)
+}
+
+/// Feeds a text in pieces, and makes each call that fails again, for the bytes that it did not
+/// read: no match is lost, and none is found twice.
 fn feed<R: Abort, B: Allocator, A: Allocator + Copy>(
     rt: &R,
     alloc: A,
@@ -158,12 +200,17 @@ fn feed<R: Abort, B: Allocator, A: Allocator + Copy>(
 ) -> Result<(), AllocError> {
     let mut stream = Pieces::new(alloc);
     let mut found = Vec::new(alloc);
+    let mut is_sound = true;
     for piece in pieces {
-        stream.feed(regex, piece, &mut found)?;
+        let is_fed = feed_piece(&mut stream, regex, piece, &mut found)?;
+        is_sound = is_sound && is_fed;
     }
-    stream.finish(regex, &mut found)?;
+    let is_ended = stream.finish(regex, &mut found).is_ok();
+    if !is_ended {
+        stream.finish(regex, &mut found)?;
+    }
     expect_matches(rt, found.as_slice(), wanted);
-    Ok(())
+    succeed_if(is_sound && is_ended)
 }
 
 /// Makes each call of a `Regex` with new caches.

@@ -34,8 +34,7 @@ static PLACES: [(&str, &[u8], bool); 9] = [
 /// Returns whether a scan of the bytes is idle after them.
 fn is_idle_after(lazy: &mut Lazy<'_>, bytes: &[u8]) -> Result<bool, AllocError> {
     let start = lazy.nfa().start_unanchored();
-    let mut scan = lazy.scan(start, None)?;
-    lazy.feed(&mut scan, bytes)?;
+    let scan = lazy.scan_text(start, None, bytes)?;
     Ok(is_idle(lazy.nfa(), &scan))
 }
 

@@ -3,7 +3,7 @@
 use crate::tests::{dense, dfa, find, same, uses};
 use determinize_replay::error::JobError;
 use failing_alloc::{FailingAllocator, Outcome, fail_each_allocation};
-use std::alloc::{Allocator, Global};
+use std::alloc::{AllocError, Allocator, Global};
 use std::process::Abort;
 use std::test::Fail;
 
@@ -50,6 +50,11 @@ fn has_run<R: Abort + AllocGlobal>(
         Err(JobError::OutOfMemory) => Ok(false),
         Err(error) => Err(error),
     }
+}
+
+/// Returns the error of a failed allocation, if a call of a trial failed and was made again.
+pub fn succeed_if(is_sound: bool) -> Result<(), AllocError> {
+    if is_sound { Ok(()) } else { Err(AllocError) }
 }
 
 /// Repeats a trial with its first allocation failing, then its second, and so on, until there is no
