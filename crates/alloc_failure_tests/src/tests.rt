@@ -70,7 +70,7 @@ pub fn succeed_if(is_sound: bool) -> Result<(), JobError> {
 }
 
 /// Repeats a trial with its first allocation failing, then its second, and so on, until there is no
-/// failure. Each time it must find what it wants or report the failed allocation, and all memory
+/// failure. Each time it must find the known result or report the failed allocation, and all memory
 /// must have been freed.
 pub fn fail_each_in_turn<R: Abort + AllocGlobal>(rt: &R, trial: &Trial<'_>) -> Result<(), Fail> {
     let outcome = fail_each_allocation(rt.alloc(), |heap| has_run(rt, heap, trial))?;

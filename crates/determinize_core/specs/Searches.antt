@@ -1,6 +1,6 @@
 -- Searches: what they read of an input, and what they find.
-use Rattle.std.specs.Prelude.{◌≡◌, ◌≤◌, ℕ, ◌+◌, ◌-◌, Bool, true, false, cond, Option, Some, None, List}
-use Rattle.std.specs.Prelude.{length, option_map, reverse, slice_get}
+use Rattle.std.specs.Prelude.{◌≡◌, ◌≤◌, ℕ, ◌+◌, ◌-◌, Bool, true, false, cond, Option, Some, None}
+use Rattle.std.specs.Prelude.{List, length, option_map, reverse, slice_get}
 use Rattle.std.specs.List.{slice_range}
 use Rattle.std.specs.Option.{IfSome}
 use Rattle.determinize_below.specs.Semantics.{Nfa, Accepts, IsPreferredRun, Text, between}

@@ -19,7 +19,7 @@ use std::mem::{size_of, size_of_val};
 /// The most bytes of a state that lie in the `State` itself and not on the heap.
 const SHORT: usize = 30;
 
-/// The most states of a table, 16647160: so many rows of 258 numbers have offsets of 32 bits.
+/// The greatest number of states, 16647160: rows of 258 numbers then have offsets of 32 bits.
 pub const MAX_STATES: usize = u32::MAX as usize / 258;
 
 /// States of which no two are equal, with a map from a state to its index.

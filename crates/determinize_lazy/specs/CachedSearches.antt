@@ -1,5 +1,6 @@
 -- Searches over a cache: what they read, and what they leave.
-use Rattle.std.specs.Prelude.{◌≡◌, ℕ, Bool, true, false, cond, not, ◌&&◌, ◌||◌, Option, List, [], ◌∷◌}
+use Rattle.std.specs.Prelude.{◌≡◌, ℕ, Bool, true, false, cond, not, ◌&&◌, ◌||◌, Option, List, []}
+use Rattle.std.specs.Prelude.{◌∷◌}
 use Rattle.determinize_below.specs.Semantics.{Text}
 use Rattle.determinize_below.specs.Search.{Asked, is_done}
 use Rattle.determinize_core.specs.Chain.{units}

@@ -102,7 +102,7 @@ fn feed<A: Allocator + Copy>(
     Ok(is_fed)
 }
 
-/// Scans the text of a walk in pieces of two bytes. A piece that was refused is fed again. The match
+/// Scans the text of a walk in pieces of two bytes. A piece that failed is fed again. The match
 /// must be the last one of the walk.
 pub fn scan<R: Abort, A: Allocator + Copy>(
     rt: &R,

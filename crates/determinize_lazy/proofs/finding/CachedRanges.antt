@@ -1,4 +1,4 @@
--- What an input asks for, and the cache after it.
+-- A search of an input through the cache: what it finds, and what it leaves.
 use Rattle.determinize_lazy.proofs.Common.{after_walk, ap, Asked, Bool, Cache, cond, Decides, false, HalfMatch}
 use Rattle.determinize_lazy.proofs.Common.{HasMatch, is_done, is_some, IsAccepted, IsOverIn, IsSearch, Option}
 use Rattle.determinize_lazy.proofs.Common.{start_for, start_value, step_of, sym, Text, text_of, true, units, units_read}

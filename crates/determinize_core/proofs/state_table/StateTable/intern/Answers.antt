@@ -13,8 +13,8 @@ invariant_of-self-in-Ok g c =
     let more : c.push.new.self.items ≡ c.self.inside.states.items ++ c.args.state ∷ [] = search rules in
     subst (λ xs. AreInterned xs (get same c.insert.new.self)) (sym more)
     (interned-push c.args.state c.self.invariant none len few
-    (λ q. c.in-Ok.ensures.updates.0 q ∙ ap (λ k. cond (same k q) (Some c.len-index.result) (get same c.self.inside.indices q))
-    key))
+    (λ q. c.in-Ok.ensures.updates.0 q
+    ∙ ap (λ k. cond (same k q) (Some c.len-index.result) (get same c.self.inside.indices q)) key))
 
 pub invariant_of-self-in-Err : goal.invariant_of-self-in-Err
 invariant_of-self-in-Err g c =
