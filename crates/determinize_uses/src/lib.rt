@@ -8,7 +8,7 @@
 //! - [`input`] finds whether a haystack has a match, and both ends of the preferred one.
 //! - [`search`] and [`cache`] search and walk many texts through one cache.
 //! - [`walk`] finds the preferred match without a cache, and [`counted`] makes one counted step.
-//! - [`dfa`] builds a whole DFA, and runs it.
+//! - [`dfa`] builds the smallest whole DFA, and lists the patterns that match at a position.
 #![tactic(auto)]
 
 pub mod built;

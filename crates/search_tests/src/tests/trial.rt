@@ -1,6 +1,6 @@
 //! What is done while each allocation fails in turn.
 
-use crate::tests::{dense, dfa, find, same, uses};
+use crate::tests::{dense, find, same, uses};
 use determinize_replay::error::JobError;
 use failing_alloc::{FailingAllocator, Outcome, fail_each_allocation};
 use std::alloc::{AllocError, Allocator, Global};
@@ -16,8 +16,6 @@ pub enum Trial<'r> {
     Search(&'r find::Row, usize),
     /// Builds a whole DFA, and minimizes it.
     Minimize,
-    /// Builds a whole DFA by a worklist.
-    Worklist,
 }
 
 impl Trial<'_> {
@@ -31,7 +29,6 @@ impl Trial<'_> {
             Trial::Build => uses::build(rt, alloc),
             Trial::Search(row, limit) => find::search(rt, alloc, row, limit),
             Trial::Minimize => dense::build_and_minimize(rt, alloc),
-            Trial::Worklist => dfa::build_loop(rt, alloc),
         }
     }
 }
@@ -68,7 +65,7 @@ pub fn fail_each_in_turn<R: Abort + AllocGlobal>(rt: &R, trial: &Trial<'_>) -> R
 
 #[test]
 fn builds(rt: HostRuntime) -> Result<(), Fail> {
-    for trial in [Trial::Build, Trial::Minimize, Trial::Worklist] {
+    for trial in [Trial::Build, Trial::Minimize] {
         fail_each_in_turn(&rt, &trial)?;
     }
     Ok(())
