@@ -1,11 +1,11 @@
 //! Whole DFAs of `determinize_dense`: their numbers of states, their searches over the texts of
-//! walks, the patterns where a text ends, and failing allocations.
+//! walks, the patterns where a text ends, and allocations.
 
 ghost use Rattle.std.specs.Prelude.{◌≡◌, IfOk, false};
 
-use crate::tests::same;
 use crate::tests::stored_walks::STORED;
-use determinize_below::{Anchored, LookMatcher, MatchKind, NFA, PatternID, StateID};
+use crate::tests::{ended, same};
+use determinize_below::{Anchored, Input, LookMatcher, MatchKind, NFA, PatternID, StateID};
 use determinize_core::state::State;
 use determinize_dense::{BuildError, Dfa};
 use determinize_replay::error::JobError;
@@ -14,6 +14,7 @@ use determinize_replay::job::Job;
 use determinize_replay::key::Key;
 use determinize_replay::values::LastMatch;
 use determinize_replay::{nfas, values, verbs};
+use failing_alloc::FailingAllocator;
 use std::alloc::{Allocator, Global};
 use std::process::Abort;
 use std::test::Fail;
@@ -281,5 +282,23 @@ pub fn build_and_minimize<R: Abort + AllocGlobal, A: Allocator + Copy>(
     };
     let smallest = dfa.minimize(alloc)?;
     same(rt, (dfa.len(), smallest.len()), (5, 4));
+    Ok(())
+}
+
+/// Searches of a whole DFA make no request for memory.
+#[test]
+fn searches_that_do_not_allocate(rt: HostRuntime) -> Result<(), Fail> {
+    let heap = FailingAllocator::after(rt.alloc(), 0);
+    let nfa = nfa(rt.alloc(), ROWS[0].states, StateID::ZERO)?;
+    let dfa = Dfa::build(&heap, &nfa, MatchKind::All, 5)?;
+    let input = Input::new(b"ab c").anchored(Anchored::Yes);
+    heap.begin();
+    let found = dfa.search(Anchored::Yes, None, b"ab", Some(b' '));
+    same(&rt, (found, dfa.search_input(&input)), (ended(2), ended(2)));
+    same(&rt, dfa.is_match(&input), true);
+    let patterns = dfa.patterns_after(Anchored::Yes, None, b"ab", Some(b' '));
+    same(&rt, patterns, [PatternID::ZERO].as_slice());
+    heap.end();
+    same(&rt, heap.asked(), 0);
     Ok(())
 }
