@@ -16,8 +16,8 @@ use std::alloc::{AllocError, Allocator, Global};
 use std::fmt;
 use std::marker::Model;
 
-/// A whole DFA of an NFA: a row for each state that a search can reach, from every start and over
-/// any units.
+/// A whole DFA of an NFA. As built, it has a row for each state that a search can reach, from every
+/// start and over any units; as minimized, one row for all states that match alike.
 ///
 /// First is the row of the dead state, then come the rows that list patterns, then those that a
 /// search scans out of, and then the others. So a search compares once for each byte.
@@ -47,8 +47,8 @@ impl<'n, N: Allocator, A: Allocator + Copy> Dfa<'n, N, A> {
     ///
     /// - `limit` is the greatest number of states, and there are never more than 16647160.
     ///
-    /// Returns `TooManyStates` exactly if more states are reached than that, and `OutOfMemory` if
-    /// an allocation fails. Under `MatchKind::All` the number of states may be exponential in the
+    /// Returns `TooManyStates` only if more states are reached than that, and then never a DFA.
+    /// Returns `OutOfMemory` if an allocation fails. Under `MatchKind::All` the number of states may be exponential in the
     /// size of the NFA.
     pub fn build(
         alloc: A,
@@ -75,8 +75,8 @@ impl<'n, N: Allocator, A: Allocator + Copy> Dfa<'n, N, A> {
     /// Returns the DFA with the fewest states among those that mean the same.
     ///
     /// States are merged if they match the same patterns along all units, the end of input (EOI)
-    /// among them. The time is at most quadratic in the number of states, for a chain of states;
-    /// mostly a few passes over the table suffice.
+    /// among them. A few passes over the table suffice mostly; for a chain of states the time is
+    /// quadratic in their number, and it is never more.
     pub fn minimize(&self, alloc: A) -> Result<Dfa<'n, N, A>, AllocError>
         ensures nfa { IfOk result (λ dfa. dfa.nfa ≡ self.now.nfa) }
         ensures kind { IfOk result (λ dfa. dfa.kind ≡ self.now.kind) }

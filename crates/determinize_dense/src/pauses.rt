@@ -13,8 +13,8 @@ const SHORTEST: usize = 32;
 
 const LONGEST: usize = 1024;
 
-/// The pauses between scans: one after each scan that was not worthwhile, twice as long as the one
-/// before it, if no scan was worthwhile in between.
+/// The pauses between scans. After each scan of fewer than 8 bytes comes a pause: of 32 bytes, and
+/// twice as long each time, up to 1024. A longer scan sets it back to 32.
 #[derive(Clone, Copy)]
 pub(crate) struct Pauses {
     /// The number of bytes that are read when the pause is over.

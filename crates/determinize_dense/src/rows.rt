@@ -95,7 +95,8 @@ impl<'n, N: Allocator, A: Allocator + Copy> Rows<'n, N, A> {
     ///
     /// - `row` is the offset of the row.
     ///
-    /// The first entry of the column is found without the row, so a step waits for one load only.
+    /// The slice at the column does not depend on the row, so from one row to the next there is one
+    /// load.
     #[inline(always)]
     pub(crate) fn row_over(&self, row: usize, unit: Option<u8>) -> usize
         requires { IsOffset self.now.table row }

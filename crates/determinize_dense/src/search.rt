@@ -39,9 +39,9 @@ impl<'n, N: Allocator, A: Allocator + Copy> Dfa<'n, N, A> {
     /// last state of the walk that `walk_between` of `determinize_core` makes over the same text.
     ///
     /// The parameters are those of `search`. For the patterns at an offset of a longer text, take
-    /// its bytes up to there, and ahead of them its next byte. Under `MatchKind::All` the list
-    /// has each pattern with a match that ends there, under `MatchKind::LeftmostFirst` none whose
-    /// run is less preferred than a match. Does not allocate.
+    /// its bytes up to there, and ahead of them its next byte. Each pattern of the list has a match
+    /// that ends there. Under `MatchKind::All` the list has all of these, and under
+    /// `MatchKind::LeftmostFirst` at most one. Does not allocate.
     pub fn patterns_after(
         &self,
         anchored: Anchored,
@@ -82,8 +82,8 @@ impl<'n, N: Allocator, A: Allocator + Copy> Dfa<'n, N, A> {
     /// a pattern. Returns the last match of the rows that it enters.
     ///
     /// A row is known by its offset. The match of the last row that lists patterns is looked up at
-    /// the end. Up to `until` bytes are read with one test of the row for each, which stops at
-    /// `last_match` in a pause between scans and else at `last_special`.
+    /// the end. The inner loop compares each row with `stop` once. In a pause between scans this is
+    /// `last_match`, so that no row is scanned out of, and else `last_special`.
     #[inline(always)]
     fn search_text(
         &self,
