@@ -2,6 +2,7 @@ mod Arranging
 mod Building
 mod Collecting
 mod Common
+mod Counting
 mod Inputs
 mod Least
 mod Listing

@@ -47,3 +47,8 @@ HasStates nfa kind n = (vs : List Value) × EachApart vs × (length vs ≡ n)
 abbrev pub HasMoreStates : Nfa → MatchKind → ℕ → Type 0
 HasMoreStates nfa kind n = (vs : List Value) × EachApart vs × (n < length vs)
     × ((v : Value) → Contains vs v → IsReachedValue nfa kind v)
+
+-- the number of states is one number, and more than m are reached only if m is below it
+abbrev pub EachCountIsOne : Type 0
+EachCountIsOne = (nfa : Nfa) (kind : MatchKind) (n m : ℕ) → HasStates nfa kind n
+    → (HasStates nfa kind m → n ≡ m) × (HasMoreStates nfa kind m → m < n)

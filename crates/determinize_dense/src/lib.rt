@@ -6,7 +6,7 @@
 //!
 //! - `dfa`: the type. `rows`: its table. `build`: its construction, with `error`. `search`:
 //!   searches, with `pauses`. `minimize`: the fewest rows, by `partition`. `order`: the order of
-//!   rows. `laws`: that no DFA has fewer states.
+//!   rows. `laws`: that no DFA has fewer states, and that the number of states is one.
 #![tactic(auto)]
 
 mod build;

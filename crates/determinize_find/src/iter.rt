@@ -77,7 +77,7 @@ impl<'h> Searcher<'h> {
         regex.find(&further)
     }
 
-    /// Returns the next match, and moves the cursor behind it. At the last match the result is
+    /// Returns the next match, and moves the cursor behind it. After the last match the result is
     /// `Ok(None)`. If the result is `Ok(None)` or an error, the cursor does not move.
     ///
     /// The next match is the leftmost one from the end of the match before. But if it is empty and
