@@ -3,17 +3,16 @@ use Rattle.std.specs.Prelude.{◌≡◌, ℕ, ◌<◌, ◌≤◌, true, Some, Li
 use Rattle.determinize_below.specs.Semantics.{state_at, target_of, Nfa, is_word_byte}
 use Rattle.determinize_below.specs.Look.{has_crlf, has_line, has_word}
 
--- bytes that a transition tests alike: an NFA with an assertion on lines or CRLF tests for the line
--- terminator, one with an assertion on CRLF for `\r` (13) and `\n` (10), one on words for word
--- bytes
+-- bytes that no assertion of the NFA distinguishes: those on lines and CRLF test for the line
+-- terminator, those on CRLF for `\r` (13) and `\n` (10), those on words for word bytes
 pub record AreTestedAlike (nfa : Nfa) (b c : ℕ) : Type 0 where
   pub line : has_line nfa.look_set_any ≡ true → nat_eq b nfa.terminator ≡ nat_eq c nfa.terminator
   pub carriage : has_crlf nfa.look_set_any ≡ true → nat_eq b 13 ≡ nat_eq c 13
   pub feed : has_crlf nfa.look_set_any ≡ true → nat_eq b 10 ≡ nat_eq c 10
   pub word : has_word nfa.look_set_any ≡ true → is_word_byte b ≡ is_word_byte c
 
--- bytes that a transition does not distinguish: each state has the same target on both, and both
--- are tested alike
+-- bytes that a step does not distinguish: each state has the same target on both, and no assertion
+-- distinguishes them
 pub record AreAlike (nfa : Nfa) (b c : ℕ) : Type 0 where
   pub targets : (s : ℕ) → target_of (Some b) (state_at nfa s) ≡ target_of (Some c) (state_at nfa s)
   pub tests : AreTestedAlike nfa b c
@@ -41,7 +40,7 @@ pub record AreClasses (p : Classes) : Type 0 where
   pub ascend : (j k : ℕ) → j < k → k < length p.firsts → first_of p j < first_of p k
   pub few : length p.firsts ≤ 256
 
--- two bytes have one class exactly if a transition does not distinguish them
+-- two bytes have one class exactly if a step does not distinguish them
 pub record AreClassesOf (nfa : Nfa) (p : Classes) : Type 0 where
   pub alike : (b c : ℕ) → b < 256 → c < 256 → class_of p b ≡ class_of p c → AreAlike nfa b c
   pub coarsest : (b c : ℕ) → b < 256 → c < 256 → AreAlike nfa b c → class_of p b ≡ class_of p c

@@ -1,7 +1,7 @@
 //! Classes of bytes: a DFA needs one column for each class, where it would need 256 for all bytes.
 //!
 //! `NFA::byte_classes` puts bytes into one class exactly if every state has the same target on them
-//! and a transition tests them alike. Classes are numbered from 0 in the order of their least
+//! and no assertion distinguishes them. Classes are numbered from 0 in the order of their least
 //! bytes. EOI is in none of them: its number is that of a class after the last.
 
 ghost use Rattle.std.specs.Prelude.{◌≡◌, ◌+◌, ◌<◌, ◌≤◌, length, take};

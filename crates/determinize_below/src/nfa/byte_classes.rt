@@ -122,7 +122,7 @@ fn mark_state<A: Allocator>(state: &State<A>, marks: &mut [bool; 256])
     }
 }
 
-/// Returns marks at all bytes that a transition may distinguish from the byte before.
+/// Returns marks at all bytes that a step may distinguish from the byte before.
 fn boundaries_of<A: Allocator>(nfa: &NFA<A>) -> [bool; 256]
     ensures { AreBoundaries nfa.now result }
 {
