@@ -1,6 +1,14 @@
--- At most n values below n are apart.
-use Rattle.std.proofs.Common.{◌<◌, ◌∙◌, ◌≡◌, ◌≤◌, ◌⊎◌, arith, cond, false, inl, inr, refl, suc, sym, true, zero, ℕ}
-use Rattle.std.specs.Prelude.{nat_eq}
+-- At most m numbers are the values of a function into the numbers below m that are all distinct.
+-- Main statement: pigeonhole. On it stand the fewest rows, and that groups and ranks are few.
+-- The idea: a list of distinct numbers below m has at most m elements.
+use Rattle.std.proofs.Common.{◌<◌, ◌∙◌, ◌≡◌, ◌≤◌, arith, length, List, map, subst, sym, ℕ}
+use Rattle.std.proofs.lemmas.Bool.{eq-eqb, eqb-true}
+use Rattle.std.proofs.lemmas.List.FromFn.{get_or-map-range_with_len, length-map-range_with_len}
+use Rattle.std.proofs.lemmas.Map.Made.{IsDistinct-from_AllPairs}
+use Rattle.std.proofs.lemmas.Map.Steps.{length-le_from_distinct_below}
+use Rattle.std.proofs.lemmas.Map.Views.{Contains-from_any}
+use Rattle.std.specs.List.{range_with_len}
+use Rattle.std.specs.Prelude.{slice_index_or}
 
 abbrev pub Into : (ℕ → ℕ) → ℕ → ℕ → Type 0
 Into f n m = (i : ℕ) → i < n → f i < m
@@ -8,48 +16,23 @@ Into f n m = (i : ℕ) → i < n → f i < m
 abbrev pub IsOneToOne : (ℕ → ℕ) → ℕ → Type 0
 IsOneToOne f n = (i j : ℕ) → i < n → j < n → f i ≡ f j → i ≡ j
 
--- the value m gives way to the last one
-abbrev avoiding : (ℕ → ℕ) → ℕ → ℕ → ℕ → ℕ
-avoiding f m last i = cond (nat_eq (f i) m) (f last) (f i)
+module _ (n m : ℕ) (f : ℕ → ℕ) where
+  abbrev values : List ℕ
+  values = map f (range_with_len 0 n)
 
-avoids : (x m y : ℕ) → ((x ≡ m) × (cond (nat_eq x m) y x ≡ y)) ⊎ ((x ≡ m → ⊥) × (cond (nat_eq x m) y x ≡ x))
-avoids x m y = elim (nat_eq x m) as (λ t. nat_eq x m ≡ t
-    → ((x ≡ m) × (cond t y x ≡ y)) ⊎ ((x ≡ m → ⊥) × (cond t y x ≡ x))) [
-      | true ↦ λ e. inl (let same : x ≡ m = grind (arith, e) in same, refl)
-      | false ↦ λ e. inr (λ same. let no : ⊥ = grind (arith, e, same) in no, refl)
-    ] refl
+  size : length values ≡ n
+  size = length-map-range_with_len f 0 n
 
-into_less : (f : ℕ → ℕ) (n m : ℕ) → Into f (suc n) (suc m) → IsOneToOne f (suc n) → Into (avoiding f m n) n m
-into_less f n m into one i h =
-    let a : f i < suc m = into i (omega (arith, h)) in
-    let b : f n < suc m = into n (omega arith) in
-    let apart : f i ≡ f n → ⊥ = λ e.
-    let same : i ≡ n = one i n (omega (arith, h)) (omega arith) e in let no : ⊥ = omega (arith, h, same) in no in
-    elim (avoids (f i) m (f n)) [
-      | inl w ↦ let k = w.0 in let l = w.1 in let goes : avoiding f m n i < m = grind (arith, a, b, apart, k, l) in goes
-      | inr w ↦ let k = w.0 in let l = w.1 in let goes : avoiding f m n i < m = grind (arith, a, k, l) in goes
-    ]
+  value : (i d : ℕ) → i < n → slice_index_or values i d ≡ f i
+  value i d l = get_or-map-range_with_len f 0 n i i d l (omega arith)
 
-one_less : (f : ℕ → ℕ) (n m : ℕ) → IsOneToOne f (suc n) → IsOneToOne (avoiding f m n) n
-one_less f n m one i j h k e = elim (avoids (f i) m (f n)) [
-  | inl v ↦ elim (avoids (f j) m (f n)) [
-    | inl w ↦ one i j (omega (arith, h)) (omega (arith, k)) (v.0 ∙ sym w.0)
-    | inr w ↦
-        let same : n ≡ j = one n j (omega arith) (omega (arith, k)) (sym v.1 ∙ e ∙ w.1) in
-        absurd (let no : ⊥ = omega (arith, k, same) in no)
-  ]
-  | inr v ↦ elim (avoids (f j) m (f n)) [
-    | inl w ↦
-        let same : n ≡ i = one n i (omega arith) (omega (arith, h)) (sym w.1 ∙ sym e ∙ v.1) in
-        absurd (let no : ⊥ = omega (arith, h, same) in no)
-    | inr w ↦ one i j (omega (arith, h)) (omega (arith, k)) (sym v.1 ∙ e ∙ w.1)
-  ]
-]
-
-pub pigeonhole : (n m : ℕ) (f : ℕ → ℕ) → Into f n m → IsOneToOne f n → n ≤ m
-pigeonhole zero m f into one = omega arith
-pigeonhole (suc n) zero f into one =
-    let none : f n < 0 = into n (omega arith) in absurd (let no : ⊥ = omega (arith, none) in no)
-pigeonhole (suc n) (suc m) f into one =
-    let less : n ≤ m = pigeonhole n m (avoiding f m n) (into_less f n m into one) (one_less f n m one) in
-    omega (arith, less)
+  pub pigeonhole : Into f n m → IsOneToOne f n → n ≤ m
+  pigeonhole into one =
+      subst (λ k. k ≤ m) size (length-le_from_distinct_below values m
+      (IsDistinct-from_AllPairs (λ a b. (eqb-true a b, eq-eqb a b)) values (λ i j d l k e.
+      let b : j < n = subst (λ s. j < s) size k in let a : i < n = omega (arith, l, b) in
+      let same : i ≡ j = one i j a b (sym (value i d a) ∙ e ∙ value j d b) in
+      let no : ⊥ = omega (arith, l, same) in no))
+      (λ q t.
+      let c = Contains-from_any eqb-true q values t in let l : c.0 < n = subst (λ s. c.0 < s) size c.1 in
+      subst (λ v. v < m) (sym (value c.0 q l) ∙ c.2) (into c.0 l)))
