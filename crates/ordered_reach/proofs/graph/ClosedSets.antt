@@ -77,7 +77,8 @@ module _ {N : Type 0} {eq : N → N → Bool} (dec : (a b : N) → Decides (eq a
       → IsClosed eq edges (member eq (ends eq edges n held r)) held
   ends_closed zero held r a x y m k = absurd (false≢true m)
   ends_closed (suc n) held r a x y m k = ends_cases n held r x m
-      (λ e q. let l : member eq (edges r) y ≡ true = rw q k in found e y l (ends_self n (with_node eq held r) y (a e y l)))
+      (λ e q. let l : member eq (edges r) y ≡ true = rw q k in
+      found e y l (ends_self n (with_node eq held r) y (a e y l)))
       (λ e t l z. found e t l (ends_closed n (with_node eq held r) t (a e t l) x y z k))
     where
       found : held r ≡ false → (t : N) → member eq (edges r) t ≡ true

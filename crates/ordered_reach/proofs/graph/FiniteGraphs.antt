@@ -28,7 +28,12 @@ pub IsEnough-below : (edges : ℕ → List ℕ) (count : ℕ) → LeadsBelow edg
 IsEnough-below edges count h x = λ e t k.
     let held : ℕ → Bool = with_node nat_eq none_held x in
     IsEnough-from_count same_decides edges (nodes_below count) (λ a b p q. below_member count b (h a b q)) count held t
-    (omega (arith, weight_held_le (λ x. 1) held (nodes_below count), weight_ones (nodes_below count), length_below count))
+    (omega (
+      arith,
+      weight_held_le (λ x. 1) held (nodes_below count),
+      weight_ones (nodes_below count),
+      length_below count,
+    ))
     (below_member count t (h x t k))
 
 -- distinct numbers below n are at most n

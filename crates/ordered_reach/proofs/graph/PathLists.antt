@@ -93,7 +93,8 @@ module _ {N : Type 0} {eq : N → N → Bool} (dec : (a b : N) → Decides (eq a
 
   module _ (edges : N → List N) where
     -- the ends of the paths
-    pub ends-paths : (n : ℕ) (held : N → Bool) (r : N) → map (λ p. p.1) (paths eq edges n held r) ≡ ends eq edges n held r
+    pub ends-paths : (n : ℕ) (held : N → Bool) (r : N)
+        → map (λ p. p.1) (paths eq edges n held r) ≡ ends eq edges n held r
     ends-paths zero held r = refl
     ends-paths (suc n) held r = by_test (held r)
         (λ e. rw e refl)

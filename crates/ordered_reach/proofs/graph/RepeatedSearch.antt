@@ -35,7 +35,7 @@ module _ {N : Type 0} {eq : N → N → Bool} (dec : (a b : N) → Decides (eq a
       λ x y p l. let z : r ≡ x = (dec r x).0 p in grind (arith, (rw (one r c) at (rw (← z) at l))) in
       let inner : filter (λ x. not (eq r x)) (ends_behind eq more k none_held t) ≡ ends_behind eq more k h t =
       filter-flat_map (λ x. not (eq r x)) (ends eq more k g) (more t)
-      ∙ flat_map-same (λ x. filter (λ y. not (eq r y)) (ends eq more k g x)) (ends eq more k (with_node eq h t)) (more t)
+      ∙ flat_map-same _ (ends eq more k (with_node eq h t)) (more t)
       (λ x. ends-closed_set dec more k (eq r) g x closed
       ∙ ap (λ f. ends eq more k f x) (fun_ext (λ y. or_swap (eq r y) (eq t y) false))) in
       let alone : filter (λ x. not (eq r x)) (ends eq more (suc k) none_held t) ≡ ends eq more (suc k) h t =
@@ -86,8 +86,8 @@ module _ {N : Type 0} {eq : N → N → Bool} (dec : (a b : N) → Decides (eq a
           ∙ sym (fresh_none dec seen (f r)
           (λ x l. s x (caps x (ends_within dec more m h none_held none_held r x (loop q caps z)
           (λ y w. w) (or_left (h r) false (or_left (eq r r) (held r) (eq-self dec r))) l)))))
-          (λ z. ends_redone_without k h (next r) (a e (next r) (rw (one r q) (or_left _ false (eq-self dec (next r))))) z b
-          caps (λ x l. grind (arith, dec r x, d x, eq-self dec (next x))) seen s
+          (λ z. ends_redone_without k h (next r) (a e (next r) (rw (one r q) (or_left _ false (eq-self dec (next r))))) z
+          b caps (λ x l. grind (arith, dec r x, d x, eq-self dec (next x))) seen s
           ∙ ends_skipped more cap next one_more m r q (or_false_left (eq r (next r)) (held (next r)) z) (b r) seen s))
           (λ q. let listed : without cap (ends eq edges (suc k) held r) ≡ r ∷ without cap X = rw (e, q) refl in
           ap (λ l. fresh eq seen (flat_map f l)) listed

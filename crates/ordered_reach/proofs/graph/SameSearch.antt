@@ -14,7 +14,7 @@ module _ {N : Type 0} {eq : N → N → Bool} (dec : (a b : N) → Decides (eq a
   roots_closed edges n roots a x y m k =
       let f : N → List N = ends eq edges n none_held in
       flat_map-member dec f roots x m (λ r l z. or_left (member eq (flat_map f roots) y) false
-      (member-flat_map dec f roots r y l (or_false (member eq (f r) y) (ends_closed dec edges n none_held r (a r) x y z k))))
+      (member-flat_map dec f roots r y l (or_false _ (ends_closed dec edges n none_held r (a r) x y z k))))
 
   -- the same edges at all listed nodes: the same list
   ordered-same_edges : (edges more : N → List N) (n : ℕ) (roots : List N) → ((x : N) → IsEnough eq edges n none_held x)

@@ -2,10 +2,10 @@
 -- Main statements: In, Earlier, same_by_order, In_Contains, Contains_In.
 -- Used by: PathLists, LeastPaths, UniqueOrder, the folder runs, and the crates above.
 -- Idea: two lists with the same elements in the same strict order are equal (same_by_order).
-use Rattle.ordered_reach.proofs.Common.{[], ap, arith, Bool, by_cases, by_test, cases_order, Contains, Decides, false, false≢true, List, map, member, None, or_left, or_right, refl, slice_get, Some, suc, sym, true, without, zero, ℕ, ◌++◌, ◌<◌, ◌∙◌, ◌∷◌, ◌≡◌}
+use Rattle.ordered_reach.proofs.Common.{[], option_map, ap, arith, Bool, by_cases, by_test, cases_order, Contains, Decides, false, false≢true, List, map, member, None, or_left, or_right, refl, slice_get, Some, suc, sym, true, without, zero, ℕ, ◌++◌, ◌<◌, ◌∙◌, ◌∷◌, ◌≡◌}
 use Rattle.std.specs.Prelude.{All}
 use Rattle.std.proofs.Common.{take}
-use Rattle.std.proofs.lemmas.Option.{get_or_from_slice_get, slice_get-get_or, slice_get_within}
+use Rattle.std.proofs.lemmas.Option.{get_or_from_slice_get, slice_get-get_or, slice_get-map, slice_get_within}
 use Rattle.std.proofs.lemmas.List.Elements.{All-cons, All-nil}
 use Rattle.ordered_reach.proofs.lists.NewNodes.{eq-self}
 
@@ -45,9 +45,7 @@ In_append_cases x (y ∷ xs) ys h f g = In_cases x y (xs ++ ys) h
     (λ k. In_append_cases x xs ys k (λ l. f (In_tail x y xs l)) g)
 
 pub In_map : {A B : Type 0} (g : A → B) (x : A) (xs : List A) → In x xs → In (g x) (map g xs)
-In_map g x [] h = In_none x h
-In_map g x (y ∷ xs) h =
-    In_cases x y xs h (λ e. rw e (In_head (g y) (map g xs))) (λ k. In_tail (g x) (g y) (map g xs) (In_map g x xs k))
+In_map g x xs h = (h.0, slice_get-map g xs h.0 ∙ ap (λ o. option_map g o) h.1)
 
 pub In_map_from : {A B P : Type 0} (g : A → B) (z : B) (xs : List A) → In z (map g xs)
     → ((x : A) → In x xs → z ≡ g x → P) → P

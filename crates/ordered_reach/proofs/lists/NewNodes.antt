@@ -44,7 +44,12 @@ module _ {N : Type 0} {eq : N → N → Bool} (dec : (a b : N) → Decides (eq a
       → fresh eq seen (filter (λ x. not (v x)) xs) ≡ fresh eq seen xs
   fresh-filter v seen [] h = refl
   fresh-filter v seen (x ∷ xs) h =
-      grind (arith, h x, fresh-filter v seen xs h, fresh-filter v (with_node eq seen x) xs (λ y m. or_right _ _ (h y m)))
+      grind (
+        arith,
+        h x,
+        fresh-filter v seen xs h,
+        fresh-filter v (with_node eq seen x) xs (λ y m. or_right _ _ (h y m)),
+      )
 
   -- more seen nodes are dropped from the new ones
   pub fresh-joined : (v seen : N → Bool) (xs : List N)
@@ -71,7 +76,8 @@ module _ {N : Type 0} {eq : N → N → Bool} (dec : (a b : N) → Decides (eq a
       ∙ fresh-same _ _ (flat_map f xs) (λ y. grind (arith, h x y e)))))
       (λ e. rw e (fresh-append seen (f x) (flat_map f (fresh eq (with_node eq t x) xs))
       ∙ ap (λ l. fresh eq seen (f x) ++ l)
-      (fresh-flat_map_fresh f (joined (member eq (f x)) seen) (with_node eq t x) xs (λ z y m k. grind (arith, dec x z, h z y)))
+      (fresh-flat_map_fresh f (joined (member eq (f x)) seen) (with_node eq t x) xs
+      (λ z y m k. grind (arith, dec x z, h z y)))
       ∙ sym (fresh-append seen (f x) (flat_map f xs))))
 
   pub fresh-flat_map : (f : N → List N) (seen : N → Bool) (xs : List N)
@@ -125,7 +131,8 @@ module _ {N : Type 0} {eq : N → N → Bool} (dec : (a b : N) → Decides (eq a
   flat_map-member f [] y m k = absurd (false≢true m)
   flat_map-member f (z ∷ xs) y m k = by_test (member eq (f z) y)
       (λ q. k z (or_left _ _ (eq-self z)) q)
-      (λ q. flat_map-member f xs y (grind (arith, member-append (f z) (flat_map f xs) y)) (λ x n l. k x (or_right _ _ n) l))
+      (λ q. flat_map-member f xs y (grind (arith, member-append (f z) (flat_map f xs) y))
+      (λ x n l. k x (or_right _ _ n) l))
 
   pub filter_none : (v : N → Bool) (xs : List N) → ((x : N) → member eq xs x ≡ true → v x ≡ true)
       → filter (λ x. not (v x)) xs ≡ []

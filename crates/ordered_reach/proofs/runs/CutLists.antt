@@ -65,8 +65,8 @@ pub record IsRepeatable {N : Type 0} (eq : N → N → Bool) (known eps bytes : 
   pub enough : (i : ℕ) (x : N) → IsEnough eq (eps i) n none_held x
   pub enough_known : (i : ℕ) (x : N) → IsEnough eq (known i) n none_held x
 
-module _ {N : Type 0} {eq : N → N → Bool} (dec : (a b : N) → Decides (eq a b) (a ≡ b)) (known eps bytes : ℕ → N → List N)
-    (n : ℕ) (start : N) where
+module _ {N : Type 0} {eq : N → N → Bool} (dec : (a b : N) → Decides (eq a b) (a ≡ b))
+    (known eps bytes : ℕ → N → List N) (n : ℕ) (start : N) where
   -- the states at a position are those that whole runs reach there, in their order
   pub level_is : (enough : (p : ℕ × N) → IsEnoughForRuns eq eps bytes n none_held p) → (k : ℕ)
       → states_at k (ordered (pair_eq eq) (run_edges eps bytes) n none_held ((0, start) ∷ []))
@@ -79,8 +79,8 @@ module _ {N : Type 0} {eq : N → N → Bool} (dec : (a b : N) → Decides (eq a
     redone : (i : ℕ) (roots : List N)
         → without cap (ordered eq (eps i) n none_held (without cap (ordered eq (known i) n none_held roots)))
         ≡ without cap (ordered eq (eps i) n none_held roots)
-    redone i roots = ordered_redone_without dec (known i) (eps i) (is.fewer i) n cap next (is.one i) (is.one_more i) n roots
-        (is.enough_known i) (is.enough i)
+    redone i roots = ordered_redone_without dec (known i) (eps i) (is.fewer i) n cap next (is.one i) (is.one_more i) n
+        roots (is.enough_known i) (is.enough i)
 
     -- the recorded list is the search under the look-behind, and the search repeated from it is
     -- the search under the true assertions

@@ -2,9 +2,8 @@
 -- Main statements: best, best_step.
 -- Used by: CutLists, RunLists.
 -- Idea: what accepts later before the cut is preferred to what accepts at the cut.
-use Rattle.ordered_reach.proofs.Common.{[], ap, arith, before, Bool, by_test, cond, Decides, ends, eq-eqb, eqb, false, false≢true, find, flat_map, flat_map-append, flat_map-map, fresh, fun_ext, List, map, map-append, member, ne_eqb, None, none_held, Option, option_map, option_or, or_left, or_right, ordered, placed, refl, run_edges, Some, suc, sym, true, with_node, zero, ℕ, ◌&&◌, ◌++◌, ◌<◌, ◌||◌, ◌∙◌, ◌∷◌, ◌≡◌}
+use Rattle.ordered_reach.proofs.Common.{[], ap, arith, before, Bool, by_test, cond, Decides, ends, eq-eqb, false, false≢true, find, flat_map, flat_map-append, flat_map-map, fresh, fun_ext, List, map, map-append, member, None, none_held, Option, option_map, option_or, or_left, or_right, ordered, placed, refl, Some, suc, sym, true, with_node, zero, ℕ, ◌++◌, ◌<◌, ◌∙◌, ◌∷◌, ◌≡◌}
 use Rattle.std.proofs.lemmas.List.Folds.{find-append}
-use Rattle.ordered_reach.proofs.graph.ClosedSets.{IsEnough}
 use Rattle.ordered_reach.proofs.runs.ByPosition.{IsEnoughForRuns, byte_in, ends_forget, eps_in, flat_map-run_edges, none_later, pair_eq, run_ends}
 use Rattle.ordered_reach.proofs.lists.Pieces.{flat_map-flat_map, option_or-assoc}
 use Rattle.ordered_reach.proofs.lists.NewNodes.{eq-self, flat_map-agree}
@@ -50,9 +49,15 @@ module _ {N : Type 0} {eq : N → N → Bool} (dec : (a b : N) → Decides (eq a
       → ((x : N) → seen x ≡ true → find p (f x) ≡ None)
       → find p (flat_map f (fresh eq seen xs)) ≡ find p (flat_map f xs)
   find-flat_map_fresh p f seen [] h = refl
-  find-flat_map_fresh p f seen (x ∷ xs) h = grind (arith, h, dec, find-append p (f x) (flat_map f xs),
-      find-append p (f x) (flat_map f (fresh eq (with_node eq seen x) xs)), find-flat_map_fresh p f seen xs h,
-      find-flat_map_fresh p f (with_node eq seen x) xs)
+  find-flat_map_fresh p f seen (x ∷ xs) h = grind (
+    arith,
+    h,
+    dec,
+    find-append p (f x) (flat_map f xs),
+    find-append p (f x) (flat_map f (fresh eq (with_node eq seen x) xs)),
+    find-flat_map_fresh p f seen xs h,
+    find-flat_map_fresh p f (with_node eq seen x) xs,
+  )
 
   -- cutting at the first that passes and leaving out repeats commute
   before-fresh : (p seen : N → Bool) (xs : List N) → ((x : N) → seen x ≡ true → p x ≡ false)
@@ -112,7 +117,7 @@ module _ {N : Type 0} {eq : N → N → Bool} (dec : (a b : N) → Decides (eq a
         (λ e. rw e refl)
         (λ e. let rest : List N = flat_map (bytes i) (before acc l) in
         rw e (ap (λ o. option_or (best_behind i s) o) (scan_cut i l)
-        ∙ sym (option_or-assoc (best_behind i s) (best eq eps bytes acc m (suc i) rest) (option_map (placed i) (find acc l)))
+        ∙ sym (option_or-assoc (best_behind i s) (best eq eps bytes acc m (suc i) rest) _)
         ∙ ap (λ o. option_or o (option_map (placed i) (find acc l))) (sym (best-append (suc i) (bytes i s) rest))))
 
     -- repeats among the start states change nothing
