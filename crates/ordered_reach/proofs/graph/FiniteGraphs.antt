@@ -2,10 +2,8 @@
 -- Main statements: same_decides, IsEnough-below, length-fresh_below.
 -- Used by: FiniteReach, Automata, and the NFA's closures.
 -- Idea: the numbers below the bound are the nodes, so fuel one above it is enough.
-use Rattle.ordered_reach.proofs.Common.{ap, Bool, arith, Decides, fresh, LeadsBelow, length, List, member, nat_eq, none_held, refl, suc, sym, true, with_node, zero, ℕ, ◌<◌, ◌∙◌, ◌≡◌, ◌≤◌}
-use Rattle.std.proofs.lemmas.Bool.{and_parts}
+use Rattle.ordered_reach.proofs.Common.{ap, Bool, arith, Decides, fresh, LeadsBelow, length, List, member, nat_eq, none_held, refl, suc, sym, true, with_node, zero, ℕ, ◌<◌, ◌∙◌, ◌≡◌, ◌≤◌, and_parts, nodes_below}
 use Rattle.std.proofs.lemmas.Bool.Decides.{Decides-eqb}
-use Rattle.ordered_reach.specs.Reach.{nodes_below}
 use Rattle.ordered_reach.proofs.graph.SearchBound.{weight-fresh, weight_held_le, weight_ones}
 use Rattle.ordered_reach.proofs.graph.ClosedSets.{IsEnough}
 use Rattle.ordered_reach.proofs.graph.Fuel.{IsEnough-from_count}

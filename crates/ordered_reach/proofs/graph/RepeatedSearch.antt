@@ -2,12 +2,11 @@
 -- Main statements: ends-same_edges, ordered_redone_without.
 -- Used by: SameSearch, CutLists.
 -- Idea: what is new from a listed node is reached from its root, too, and the root comes first.
-use Rattle.ordered_reach.proofs.Common.{[], without, or_swap, ap, append-nil, arith, Bool, by_test, cond, Decides, ends, false, false≢true, filter, flat_map, fresh, fun_ext, joined, List, member, none_held, not, or_false, or_left, or_right, ordered, refl, suc, sym, true, with_node, zero, ℕ, ◌||◌, ◌∙◌, ◌∷◌, ◌≡◌}
+use Rattle.ordered_reach.proofs.Common.{[], without, or_swap, ap, append-nil, arith, Bool, by_test, cond, Decides, ends, false, false≢true, filter, flat_map, fresh, fun_ext, joined, List, member, none_held, not, or_false, or_left, or_right, ordered, refl, suc, sym, true, with_node, zero, ℕ, ◌||◌, ◌∙◌, ◌∷◌, ◌≡◌, or_false_left}
 use Rattle.ordered_reach.proofs.lists.SameNewNodes.{Alike, Alike-flat_map, Alike-front}
 use Rattle.ordered_reach.proofs.graph.ClosedSets.{ends_behind, IsClosed, IsEnough, IsEnough-more_fuel, ends-closed_set, ends-enough, ends-held, ends_closed, ends_self, ends_within}
 use Rattle.ordered_reach.proofs.lists.Pieces.{filter-flat_map, flat_map-flat_map, flat_map-same}
 use Rattle.ordered_reach.proofs.lists.NewNodes.{eq-self, filter-fresh, flat_map-agree, flat_map-member, fresh-filter, fresh-flat_map, fresh-joined, fresh_none, member-filter}
-use Rattle.ordered_reach.proofs.Cases.{or_false_left}
 
 module _ {N : Type 0} {eq : N → N → Bool} (dec : (a b : N) → Decides (eq a b) (a ≡ b)) where
   -- the same edges at each node of a closed set

@@ -2,9 +2,8 @@
 -- Main statements: ordered_in_turn.
 -- Used by: FiniteReach.
 -- Idea: what one root reaches counts as visited for the next.
-use Rattle.ordered_reach.proofs.Common.{[], ap, arith, Bool, Decides, false≢true, fun_ext, joined, List, member, none_held, ordered, refl, sym, ℕ, ◌++◌, ◌||◌, ◌∙◌, ◌∷◌, ◌≡◌}
+use Rattle.ordered_reach.proofs.Common.{[], ap, arith, Bool, Decides, false≢true, fun_ext, joined, List, member, none_held, ordered, refl, sym, ℕ, ◌++◌, ◌||◌, ◌∙◌, ◌∷◌, ◌≡◌, IsListedInTurn}
 use Rattle.std.proofs.Math.Bool.{or_comm}
-use Rattle.ordered_reach.specs.Paths.{IsListedInTurn}
 use Rattle.ordered_reach.proofs.graph.ClosedSets.{IsEnough, IsEnough-more_held}
 use Rattle.ordered_reach.proofs.graph.LeastPaths.{ordered_in_order}
 use Rattle.ordered_reach.proofs.graph.StackSearch.{ordered-append}

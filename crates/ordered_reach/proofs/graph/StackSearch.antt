@@ -2,8 +2,7 @@
 -- Main statements: ordered-append, closure-held, closure-new.
 -- Used by: RootByRoot, and the loop of an epsilon closure.
 -- Idea: a visited node is skipped; a new one is listed, and its edges go before the other pending nodes.
-use Rattle.ordered_reach.proofs.Common.{[], ap, append-nil, append_assoc, arith, Bool, Decides, edge_count, ends, false, false≢true, flat_map, flat_map-append, fresh, fun_ext, joined, length-append, List, member, none_held, or_left, ordered, search_tries, suc, sym, true, with_node, ℕ, ◌++◌, ◌∙◌, ◌∷◌, ◌≡◌}
-use Rattle.ordered_reach.specs.StackSearch.{closure}
+use Rattle.ordered_reach.proofs.Common.{[], ap, append-nil, append_assoc, arith, Bool, Decides, edge_count, ends, false, false≢true, flat_map, flat_map-append, fresh, fun_ext, joined, length-append, List, member, none_held, or_left, ordered, search_tries, suc, sym, true, with_node, ℕ, ◌++◌, ◌∙◌, ◌∷◌, ◌≡◌, closure}
 use Rattle.ordered_reach.proofs.graph.ClosedSets.{IsClosed, IsEnough, IsEnough-more_held, ends_closed, fresh-ends_held, fresh-ends_new, fresh-held}
 use Rattle.ordered_reach.proofs.lists.NewNodes.{flat_map-member, fresh-append, member-append, member-flat_map, member-fresh}
 

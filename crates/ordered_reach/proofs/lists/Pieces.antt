@@ -2,8 +2,7 @@
 -- Main statements: flat_map-flat_map, flat_map-without, before-without, find-without.
 -- Used by: the folders graph and runs, and the crates above.
 -- Idea: induction on the list, by cases on the test of its first element.
-use Rattle.ordered_reach.proofs.Common.{◌∙◌, [], ap, arith, before, Bool, by_test, false, false≢true, filter, filter-append, find, flat_map, flat_map-append, fun_ext, length, length-append, List, None, Option, option_map, option_or, refl, Some, true, without, ◌∷◌, ◌≡◌, ◌≤◌}
-use Rattle.std.specs.List.{list_any}
+use Rattle.ordered_reach.proofs.Common.{◌∙◌, [], ap, arith, before, Bool, by_test, false, false≢true, filter, filter-append, find, flat_map, flat_map-append, fun_ext, length, length-append, List, None, Option, option_map, option_or, refl, Some, true, without, ◌∷◌, ◌≡◌, ◌≤◌, list_any}
 
 pub flat_map-same : {A B : Type 0} (f g : A → List B) (xs : List A) → ((x : A) → f x ≡ g x)
     → flat_map f xs ≡ flat_map g xs

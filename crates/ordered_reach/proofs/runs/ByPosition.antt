@@ -2,10 +2,7 @@
 -- Main statements: pair_eq, states_at, states_at-ordered_first, states_at-ordered_next.
 -- Used by: CutLists, LastAccepting, RunFuel, RunLists.
 -- Idea: the nodes at a position are found from the targets of those at the previous one.
-use Rattle.ordered_reach.proofs.Common.{[], ap, arith, Bool, by_test, cond, Decides, ends, eq-eqb, eqb, eqb-true, false, false≢true, flat_map, flat_map-append, flat_map-map, fresh, fun_ext, List, map, member, ne_eqb, none_held, or_left, or_right, ordered, placed, refl, run_edges, suc, sym, true, with_node, zero, ℕ, ◌&&◌, ◌++◌, ◌+◌, ◌<◌, ◌==◌, ◌||◌, ◌∙◌, ◌∷◌, ◌≡◌, ◌≤◌}
-use Rattle.std.specs.Prelude.{nat_lt}
-use Rattle.std.proofs.Common.{◌-◌}
-use Rattle.std.proofs.lemmas.Bool.{and_from, and_parts, lt-ltb, ltb-true}
+use Rattle.ordered_reach.proofs.Common.{[], ap, arith, Bool, by_test, cond, Decides, ends, eq-eqb, eqb, eqb-true, false, false≢true, flat_map, flat_map-append, flat_map-map, fresh, fun_ext, List, map, member, ne_eqb, none_held, or_left, or_right, ordered, placed, refl, run_edges, suc, sym, true, with_node, zero, ℕ, ◌&&◌, ◌++◌, ◌+◌, ◌<◌, ◌==◌, ◌||◌, ◌∙◌, ◌∷◌, ◌≡◌, ◌≤◌, nat_lt, ◌-◌, and_from, and_parts, lt-ltb, ltb-true}
 use Rattle.ordered_reach.proofs.graph.ClosedSets.{IsClosed, IsEnough, IsEnough-more_held, ends-enough, ends_agree}
 use Rattle.ordered_reach.proofs.lists.Pieces.{flat_map-flat_map, flat_map-same, flat_map-thrice, flat_map_none}
 use Rattle.ordered_reach.proofs.lists.NewNodes.{flat_map-agree, fresh-flat_map, fresh-same, member-append}

@@ -2,8 +2,7 @@
 -- Main statements: best, best_step.
 -- Used by: CutLists, RunLists.
 -- Idea: what accepts later before the cut is preferred to what accepts at the cut.
-use Rattle.ordered_reach.proofs.Common.{[], ap, arith, before, Bool, by_test, cond, Decides, ends, eq-eqb, false, false≢true, find, flat_map, flat_map-append, flat_map-map, fresh, fun_ext, List, map, map-append, member, None, none_held, Option, option_map, option_or, or_left, or_right, ordered, placed, refl, Some, suc, sym, true, with_node, zero, ℕ, ◌++◌, ◌<◌, ◌∙◌, ◌∷◌, ◌≡◌}
-use Rattle.std.proofs.lemmas.List.Folds.{find-append}
+use Rattle.ordered_reach.proofs.Common.{[], ap, arith, before, Bool, by_test, cond, Decides, ends, eq-eqb, false, false≢true, find, flat_map, flat_map-append, flat_map-map, fresh, fun_ext, List, map, map-append, member, None, none_held, Option, option_map, option_or, or_left, or_right, ordered, placed, refl, Some, suc, sym, true, with_node, zero, ℕ, ◌++◌, ◌<◌, ◌∙◌, ◌∷◌, ◌≡◌, find-append}
 use Rattle.ordered_reach.proofs.runs.ByPosition.{IsEnoughForRuns, byte_in, ends_forget, eps_in, flat_map-run_edges, none_later, pair_eq, run_ends}
 use Rattle.ordered_reach.proofs.lists.Pieces.{flat_map-flat_map, option_or-assoc}
 use Rattle.ordered_reach.proofs.lists.NewNodes.{eq-self, flat_map-agree}
