@@ -2,7 +2,7 @@
 -- Main statements: IsClosed, ends-closed_set, fresh-held, fresh-ends_new.
 -- Used by: everything that a search with a visited set is compared with.
 -- Idea: an edge from a closed set goes to it or to a visited node, so nothing in it need be searched again.
-use Rattle.ordered_reach.proofs.Common.{[], ap, arith, Bool, by_test, cond, Decides, ends, false, false≢true, filter, flat_map, flat_map-append, fresh, fun_ext, joined, List, member, not, or_false, or_left, or_more, or_right, or_swap, refl, suc, sym, true, true≢false, with_node, zero, ℕ, ◌++◌, ◌||◌, ◌∙◌, ◌∷◌, ◌≡◌}
+use Rattle.ordered_reach.proofs.Common.{none_held, [], ap, arith, Bool, by_test, cond, Decides, ends, false, false≢true, filter, flat_map, flat_map-append, fresh, fun_ext, joined, List, member, not, or_false, or_left, or_more, or_right, or_swap, refl, suc, sym, true, true≢false, with_node, zero, ℕ, ◌++◌, ◌||◌, ◌∙◌, ◌∷◌, ◌≡◌}
 use Rattle.ordered_reach.proofs.lists.Pieces.{filter-flat_map, flat_map-same}
 use Rattle.ordered_reach.proofs.lists.NewNodes.{eq-self, filter_none, flat_map-agree, flat_map-member, fresh-append, fresh-filter, member-flat_map}
 
@@ -41,6 +41,10 @@ module _ {N : Type 0} {eq : N → N → Bool} (dec : (a b : N) → Decides (eq a
   IsEnough-more_held (suc n) held more r s a = λ e t k.
       IsEnough-more_held n (with_node eq held r) (with_node eq more r) t
       (λ x m. or_more (eq r x) (held x) (more x) (s x) m) (a (grind (arith, s r)) t k)
+
+  pub IsEnough-from_none : (n : ℕ) (held : N → Bool) (r : N) → IsEnough eq edges n none_held r
+      → IsEnough eq edges n held r
+  IsEnough-from_none n held r = IsEnough-more_held n none_held held r (λ x m. absurd (false≢true m))
 
   pub IsEnough-more_fuel : (n : ℕ) (held : N → Bool) (r : N) → IsEnough eq edges n held r
       → IsEnough eq edges (suc n) held r

@@ -85,7 +85,8 @@ module _ {N : Type 0} {eq : N → N → Bool} (dec : (a b : N) → Decides (eq a
           ∙ sym (fresh_none dec seen (f r)
           (λ x l. s x (caps x (ends_within dec more m h none_held none_held r x (loop q caps z)
           (λ y w. w) (or_left (h r) false (or_left (eq r r) (held r) (eq-self dec r))) l)))))
-          (λ z. ends_redone_without k h (next r) (a e (next r) (rw (one r q) (or_left _ false (eq-self dec (next r))))) z
+          (λ z. ends_redone_without k h (next r)
+          (a e (next r) (rw (one r q) (or_left _ false (eq-self dec (next r))))) z
           b caps (λ x l. grind (arith, dec r x, d x, eq-self dec (next x))) seen s
           ∙ ends_skipped more cap next one_more m r q (or_false_left (eq r (next r)) (held (next r)) z) (b r) seen s))
           (λ q. let listed : without cap (ends eq edges (suc k) held r) ≡ r ∷ without cap X = rw (e, q) refl in

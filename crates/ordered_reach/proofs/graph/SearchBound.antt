@@ -2,7 +2,7 @@
 -- Main statements: weight, weight-fresh, tries_bound.
 -- Used by: Fuel, FiniteGraphs, and the bound of a step.
 -- Idea: a search with a stack pops each node and each edge at most once.
-use Rattle.ordered_reach.proofs.Common.{[], ap, arith, Bool, by_test, cond, Decides, edge_count, ends, false, false≢true, flat_map, fresh, length, List, member, none_held, or_false_right, or_left, or_right, refl, search_tries, true, with_node, zero, ℕ, ◌+◌, ◌∷◌, ◌≡◌, ◌≤◌}
+use Rattle.ordered_reach.proofs.Common.{[], ap, arith, Bool, cond, Decides, edge_count, ends, false, false≢true, flat_map, fresh, length, List, member, none_held, or_false_right, or_right, refl, search_tries, true, with_node, zero, ℕ, ◌+◌, ◌∷◌, ◌≡◌, ◌≤◌}
 use Rattle.ordered_reach.proofs.lists.NewNodes.{eq-self}
 
 -- the sum of a measure over the nodes of the list that are not visited
@@ -41,15 +41,15 @@ module _ {N : Type 0} {eq : N → N → Bool} (dec : (a b : N) → Decides (eq a
       → ((x : N) → member eq xs x ≡ true → held x ≡ false → member eq nodes x ≡ true)
       → weight f none_held (fresh eq held xs) ≤ weight f held nodes
   weight-fresh nodes held [] h = omega arith
-  weight-fresh nodes held (x ∷ xs) h = by_test (held x)
-      (λ e. rw e (weight-fresh nodes held xs (λ y m k. h y (or_right (eq x y) (member eq xs y) m) k)))
-      (λ e.
-      let a : f x + weight f (with_node eq held x) nodes ≤ weight f held nodes =
-      weight_one held x nodes e (h x (or_left (eq x x) (member eq xs x) (eq-self dec x)) e) in
-      let b : weight f none_held (fresh eq (with_node eq held x) xs) ≤ weight f (with_node eq held x) nodes =
-      weight-fresh nodes (with_node eq held x) xs
-      (λ y m k. h y (or_right (eq x y) (member eq xs y) m) (or_false_right (eq x y) (held y) k)) in
-      rw e (omega arith))
+  weight-fresh nodes held (x ∷ xs) h = grind (
+    arith,
+    eq-self dec x,
+    h x,
+    weight_one held x nodes,
+    weight-fresh nodes held xs (λ y m k. h y (or_right _ _ m) k),
+    weight-fresh nodes (with_node eq held x) xs
+        (λ y m k. h y (or_right _ _ m) (or_false_right (eq x y) (held y) k)),
+  )
 
 module _ {N : Type 0} {eq : N → N → Bool} (dec : (a b : N) → Decides (eq a b) (a ≡ b)) (edges : N → List N)
     (nodes : List N) where

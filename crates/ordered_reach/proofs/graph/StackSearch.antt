@@ -2,8 +2,8 @@
 -- Main statements: ordered-append, closure-held, closure-new.
 -- Used by: RootByRoot, and the loop of an epsilon closure.
 -- Idea: a visited node is skipped; a new one is listed, and its edges go before the other pending nodes.
-use Rattle.ordered_reach.proofs.Common.{[], ap, append-nil, append_assoc, arith, Bool, Decides, edge_count, ends, false, false≢true, flat_map, flat_map-append, fresh, fun_ext, joined, length-append, List, member, none_held, or_left, ordered, search_tries, suc, sym, true, with_node, ℕ, ◌++◌, ◌∙◌, ◌∷◌, ◌≡◌, closure}
-use Rattle.ordered_reach.proofs.graph.ClosedSets.{IsClosed, IsEnough, IsEnough-more_held, ends_closed, fresh-ends_held, fresh-ends_new, fresh-held}
+use Rattle.ordered_reach.proofs.Common.{[], ap, append-nil, append_assoc, arith, Bool, Decides, edge_count, ends, false, flat_map, flat_map-append, fresh, fun_ext, joined, length-append, List, member, none_held, or_left, ordered, search_tries, suc, sym, true, with_node, ℕ, ◌++◌, ◌∙◌, ◌∷◌, ◌≡◌, closure}
+use Rattle.ordered_reach.proofs.graph.ClosedSets.{IsClosed, IsEnough, IsEnough-from_none, ends_closed, fresh-ends_held, fresh-ends_new, fresh-held}
 use Rattle.ordered_reach.proofs.lists.NewNodes.{flat_map-member, fresh-append, member-append, member-flat_map, member-fresh}
 
 module _ {N : Type 0} {eq : N → N → Bool} (dec : (a b : N) → Decides (eq a b) (a ≡ b)) where
@@ -12,7 +12,7 @@ module _ {N : Type 0} {eq : N → N → Bool} (dec : (a b : N) → Decides (eq a
 
   module _ (edges : N → List N) (n : ℕ) (enough : (x : N) → IsEnough eq edges n none_held x) where
     enough_at : (held : N → Bool) (r : N) → IsEnough eq edges n held r
-    enough_at held r = IsEnough-more_held dec edges n none_held held r (λ x z. absurd (false≢true z)) (enough r)
+    enough_at held r = IsEnough-from_none dec edges n held r (enough r)
 
     ordered-held : (met : List N) (r : N) (rs : List N) → member eq met r ≡ true
         → ordered eq edges n (member eq met) (r ∷ rs) ≡ ordered eq edges n (member eq met) rs

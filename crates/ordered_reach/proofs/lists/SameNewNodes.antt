@@ -2,7 +2,7 @@
 -- Main statements: Alike, Alike-flat_map, Alike-front.
 -- Used by: RepeatedSearch.
 -- Idea: the relation is kept by concatenation, so it can be shown root by root.
-use Rattle.ordered_reach.proofs.Common.{[], ap, append-nil, arith, Bool, by_test, Decides, false, flat_map, fresh, joined, List, member, not, or_left, or_more, or_right, refl, sym, true, ◌&&◌, ◌++◌, ◌||◌, ◌∙◌, ◌∷◌, ◌≡◌}
+use Rattle.ordered_reach.proofs.Common.{[], ap, append-nil, arith, Bool, Decides, false, flat_map, fresh, joined, List, member, not, or_left, or_more, or_right, refl, sym, true, ◌&&◌, ◌++◌, ◌||◌, ◌∙◌, ◌∷◌, ◌≡◌}
 use Rattle.ordered_reach.proofs.lists.NewNodes.{eq-self, fresh-append, fresh-same, fresh_none, member-fresh}
 
 -- the lists have the same new nodes in the same order, for every seen set that contains c

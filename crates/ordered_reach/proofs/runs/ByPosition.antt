@@ -3,7 +3,7 @@
 -- Used by: CutLists, LastAccepting, RunFuel, RunLists.
 -- Idea: the nodes at a position are found from the targets of those at the previous one.
 use Rattle.ordered_reach.proofs.Common.{[], ap, arith, Bool, by_test, cond, Decides, ends, eq-eqb, eqb, eqb-true, false, false≢true, flat_map, flat_map-append, flat_map-map, fresh, fun_ext, List, map, member, ne_eqb, none_held, or_left, or_right, ordered, placed, refl, run_edges, suc, sym, true, with_node, zero, ℕ, ◌&&◌, ◌++◌, ◌+◌, ◌<◌, ◌==◌, ◌||◌, ◌∙◌, ◌∷◌, ◌≡◌, ◌≤◌, nat_lt, ◌-◌, and_from, and_parts, lt-ltb, ltb-true}
-use Rattle.ordered_reach.proofs.graph.ClosedSets.{IsClosed, IsEnough, IsEnough-more_held, ends-enough, ends_agree}
+use Rattle.ordered_reach.proofs.graph.ClosedSets.{IsClosed, IsEnough, IsEnough-from_none, ends-enough, ends_agree}
 use Rattle.ordered_reach.proofs.lists.Pieces.{flat_map-flat_map, flat_map-same, flat_map-thrice, flat_map_none}
 use Rattle.ordered_reach.proofs.lists.NewNodes.{flat_map-agree, fresh-flat_map, fresh-same, member-append}
 
@@ -18,17 +18,13 @@ states_at k (p ∷ ps) = cond (p.0 == k) (p.1 ∷ states_at k ps) (states_at k p
 
 pub Decides-pair_eq : {N : Type 0} {eq : N → N → Bool} → ((a b : N) → Decides (eq a b) (a ≡ b)) → (p q : ℕ × N)
     → Decides (pair_eq eq p q) (p ≡ q)
-Decides-pair_eq {N} {eq} dec p q = (there, back)
-  where
-    there : pair_eq eq p q ≡ true → p ≡ q
-    there h =
-        let both : (eqb p.0 q.0 ≡ true) × (eq p.1 q.1 ≡ true) = and_parts (eqb p.0 q.0) (eq p.1 q.1) h in
-        let e : p.0 ≡ q.0 = eqb-true p.0 q.0 both.0 in
-        let k : p.1 ≡ q.1 = (dec p.1 q.1).0 both.1 in
-        λ i. (e i, k i)
-
-    back : p ≡ q → pair_eq eq p q ≡ true
-    back e = and_from (eqb p.0 q.0) (eq p.1 q.1) (eq-eqb p.0 q.0 (ap (λ x. x.0) e)) ((dec p.1 q.1).1 (ap (λ x. x.1) e))
+Decides-pair_eq {N} {eq} dec p q = (
+  (λ h. let both : (eqb p.0 q.0 ≡ true) × (eq p.1 q.1 ≡ true) = and_parts (eqb p.0 q.0) (eq p.1 q.1) h in
+      let e : p.0 ≡ q.0 = eqb-true p.0 q.0 both.0 in
+      let k : p.1 ≡ q.1 = (dec p.1 q.1).0 both.1 in
+      λ i. (e i, k i)),
+  (λ e. and_from (eqb p.0 q.0) (eq p.1 q.1) (eq-eqb p.0 q.0 (ap (λ x. x.0) e)) ((dec p.1 q.1).1 (ap (λ x. x.1) e))),
+)
 
 -- the nodes that runs from a pair end in, and fuel for these runs
 abbrev pub run_ends : {N : Type 0} → (N → N → Bool) → (ℕ → N → List N) → (ℕ → N → List N) → ℕ → (ℕ × N → Bool) → ℕ × N
@@ -142,8 +138,7 @@ module _ {N : Type 0} {eq : N → N → Bool} (dec : (a b : N) → Decides (eq a
         → run_ends eq eps bytes n held p ≡ run_ends eq eps bytes m none_held p
     ends_forget n m held i p a b h l =
         ends-enough (Decides-pair_eq dec) (run_edges eps bytes) n m held p a
-        (IsEnough-more_held (Decides-pair_eq dec) (run_edges eps bytes) m none_held held p
-        (λ x z. absurd (false≢true z)) b)
+        (IsEnough-from_none (Decides-pair_eq dec) (run_edges eps bytes) m held p b)
         ∙ ends_agree (Decides-pair_eq dec) (run_edges eps bytes) m (λ q. nat_lt i q.0) held none_held p (later_closed i)
         (λ q z. h q.0 q.1 (ltb-true i q.0 z)) (lt-ltb i p.0 l)
 

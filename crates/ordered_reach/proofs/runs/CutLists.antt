@@ -143,9 +143,7 @@ level-agree : {N : Type 0} (eq : N → N → Bool) (eps more bytes : ℕ → N �
     → ((j : ℕ) → j ≤ k → eps j ≡ more j) → level eq eps bytes n start k ≡ level eq more bytes n start k
 level-agree eq eps more bytes n start zero h = ap (λ e. ordered eq e n none_held (start ∷ [])) (h 0 (omega arith))
 level-agree eq eps more bytes n start (suc k) h =
-    ap (λ e. ordered eq e n none_held (flat_map (bytes k) (level eq eps bytes n start k))) (h (suc k) (omega arith))
-    ∙ ap (λ l. ordered eq (more (suc k)) n none_held (flat_map (bytes k) l))
-    (level-agree eq eps more bytes n start k (λ j l. h j (omega arith)))
+    rw (h (suc k) (omega arith), level-agree eq eps more bytes n start k (λ j l. h j (omega arith))) refl
 
 pub known_level_is : {N : Type 0} (eq : N → N → Bool) (known eps bytes : ℕ → N → List N) (n : ℕ) (start : N) (k : ℕ)
     → known_level eq known eps bytes n start k ≡ level eq (known_at k known eps) bytes n start k

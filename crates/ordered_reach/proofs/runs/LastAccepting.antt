@@ -2,7 +2,7 @@
 -- Main statements: best, best_step.
 -- Used by: CutLists, RunLists.
 -- Idea: what accepts later before the cut is preferred to what accepts at the cut.
-use Rattle.ordered_reach.proofs.Common.{[], ap, arith, before, Bool, by_test, cond, Decides, ends, eq-eqb, false, false≢true, find, flat_map, flat_map-append, flat_map-map, fresh, fun_ext, List, map, map-append, member, None, none_held, Option, option_map, option_or, or_left, or_right, ordered, placed, refl, Some, suc, sym, true, with_node, zero, ℕ, ◌++◌, ◌<◌, ◌∙◌, ◌∷◌, ◌≡◌, find-append}
+use Rattle.ordered_reach.proofs.Common.{[], ap, arith, before, Bool, by_test, cond, Decides, ends, eq-eqb, false, false≢true, find, flat_map, flat_map-append, flat_map-map, fresh, fun_ext, List, map, map-append, member, None, none_held, Option, option_map, option_or, or_right, ordered, placed, refl, Some, suc, sym, true, with_node, zero, ℕ, ◌++◌, ◌<◌, ◌∙◌, ◌∷◌, ◌≡◌, find-append}
 use Rattle.ordered_reach.proofs.runs.ByPosition.{IsEnoughForRuns, byte_in, ends_forget, eps_in, flat_map-run_edges, none_later, pair_eq, run_ends}
 use Rattle.ordered_reach.proofs.lists.Pieces.{flat_map-flat_map, option_or-assoc}
 use Rattle.ordered_reach.proofs.lists.NewNodes.{eq-self, flat_map-agree}
@@ -30,12 +30,14 @@ module _ {N : Type 0} {eq : N → N → Bool} (dec : (a b : N) → Decides (eq a
       → ((x : N) → member eq xs x ≡ true → find p (f x) ≡ scan acc go i (g x))
       → find p (flat_map f xs) ≡ scan acc go i (flat_map g xs)
   find-flat_map acc go i p f g [] h = refl
-  find-flat_map acc go i p f g (x ∷ xs) h =
-      find-append p (f x) (flat_map f xs)
-      ∙ ap (λ o. option_or o (find p (flat_map f xs))) (h x (or_left (eq x x) (member eq xs x) (eq-self dec x)))
-      ∙ ap (λ o. option_or (scan acc go i (g x)) o)
-      (find-flat_map acc go i p f g xs (λ y m. h y (or_right (eq x y) (member eq xs y) m)))
-      ∙ sym (scan-append acc go i (g x) (flat_map g xs))
+  find-flat_map acc go i p f g (x ∷ xs) h = grind (
+    arith,
+    eq-self dec x,
+    h x,
+    find-append p (f x) (flat_map f xs),
+    scan-append acc go i (g x) (flat_map g xs),
+    find-flat_map acc go i p f g xs (λ y m. h y (or_right _ _ m)),
+  )
 
   -- the first node that passes is new
   find-fresh : (p seen : N → Bool) (xs : List N) → ((x : N) → seen x ≡ true → p x ≡ false)

@@ -65,10 +65,8 @@ module _ {N : Type 0} {eq : N → N → Bool} (dec : (a b : N) → Decides (eq a
       → In (l, t) ps → acc t ≡ false
   first_none acc [] e l t h = In_none (l, t) h
   first_none acc (p ∷ ps) e l t h = by_test (acc p.1)
-      (λ q. let w : Some p.1 ≡ None = rw q at e in absurd (cc))
-      (λ q. In_cases (l, t) p ps h
-      (λ d. let u : t ≡ p.1 = ap (λ x. x.1) d in rw u q)
-      (λ m. first_none acc ps (rw q at e) l t m))
+      (λ q. absurd (let w : Some p.1 ≡ None = rw q at e in cc))
+      (λ q. In_cases (l, t) p ps h (λ d. ap acc (ap (λ x. x.1) d) ∙ q) (λ m. first_none acc ps (rw q at e) l t m))
 
   module _ (edges : N → List N) (n : ℕ) (start : N) (a : (r : N) → IsEnough eq edges n none_held r)
       (acc : N → Bool) where

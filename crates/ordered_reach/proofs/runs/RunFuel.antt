@@ -3,7 +3,7 @@
 -- Used by: Automata.
 -- Idea: a run is at each position for at most the fuel there.
 use Rattle.ordered_reach.proofs.Common.{[], arith, Bool, by_test, Decides, eq-eqb, false≢true, fun_ext, List, map, member, none_held, placed, refl, run_edges, subst, suc, sym, true, with_node, zero, ℕ, ◌+◌, ◌∙◌, ◌∷◌, ◌≡◌, ◌≤◌}
-use Rattle.ordered_reach.proofs.graph.ClosedSets.{IsEnough, IsEnough-more_held}
+use Rattle.ordered_reach.proofs.graph.ClosedSets.{IsEnough, IsEnough-from_none}
 use Rattle.ordered_reach.proofs.graph.Fuel.{IsEnough-held, IsEnough-plus}
 use Rattle.ordered_reach.proofs.runs.ByPosition.{Decides-pair_eq, IsEnoughForRuns, eps_in, member-run_edges, pair_eq, placed_at}
 
@@ -52,8 +52,7 @@ module _ {N : Type 0} {eq : N → N → Bool} (dec : (a b : N) → Decides (eq a
         let more : ℕ × N → Bool = with_node (pair_eq eq) held (i, s) in
         subst (λ j. IsEnoughForRuns eq eps bytes j held (i, s)) (sym z) (λ e q m. run_edge_cases i s q m
         (λ t k w. rw w (IsEnough-plus (Decides-pair_eq dec) (run_edges eps bytes) a b more (suc i, t)
-        (IsEnough-more_held (Decides-pair_eq dec) (run_edges eps bytes) b none_held more (suc i, t)
-        (λ y w. absurd (false≢true w)) (f t))))
+        (IsEnough-from_none (Decides-pair_eq dec) (run_edges eps bytes) b more (suc i, t) (f t))))
         (λ t k w. rw w (IsEnough-next a b more i t (rw (with_node-at held i s) (h e t k)) f)))
 
     -- where there is no step over a byte, the fuel at the position is enough
