@@ -25,26 +25,16 @@ pub IsEnough-below : (edges : ℕ → List ℕ) (count : ℕ) → LeadsBelow edg
     → IsEnough nat_eq edges (suc count) none_held x
 IsEnough-below edges count h x = λ e t k.
     let held : ℕ → Bool = with_node nat_eq none_held x in
+    let less = weight_held_le (λ x. 1) held (nodes_below count) in
     IsEnough-from_count same_decides edges (nodes_below count) (λ a b p q. below_member count b (h a b q)) count held t
-    (omega (
-      arith,
-      weight_held_le (λ x. 1) held (nodes_below count),
-      weight_ones (nodes_below count),
-      length_below count,
-    ))
-    (below_member count t (h x t k))
+    (omega (arith, less, weight_ones (nodes_below count), length_below count)) (below_member count t (h x t k))
 
 -- distinct numbers below n are at most n
 pub length-fresh_below : (n : ℕ) (xs : List ℕ) → ((x : ℕ) → member nat_eq xs x ≡ true → x < n)
     → length (fresh nat_eq none_held xs) ≤ n
 length-fresh_below n xs h =
-    omega (
-      arith,
-      weight-fresh same_decides (λ x. 1) (nodes_below n) none_held xs (λ x m e. below_member n x (h x m)),
-      weight_ones (fresh nat_eq none_held xs),
-      weight_ones (nodes_below n),
-      length_below n,
-    )
+    let a = weight-fresh same_decides (λ x. 1) (nodes_below n) none_held xs (λ x m e. below_member n x (h x m)) in
+    omega (arith, a, weight_ones (fresh nat_eq none_held xs), weight_ones (nodes_below n), length_below n)
 
 pub fresh_below : (n : ℕ) (xs : List ℕ) → ((x : ℕ) → member nat_eq xs x ≡ true → x < n) → (x : ℕ)
     → member nat_eq (fresh nat_eq none_held xs) x ≡ true → x < n

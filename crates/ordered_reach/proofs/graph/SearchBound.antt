@@ -41,15 +41,11 @@ module _ {N : Type 0} {eq : N → N → Bool} (dec : (a b : N) → Decides (eq a
       → ((x : N) → member eq xs x ≡ true → held x ≡ false → member eq nodes x ≡ true)
       → weight f none_held (fresh eq held xs) ≤ weight f held nodes
   weight-fresh nodes held [] h = omega arith
-  weight-fresh nodes held (x ∷ xs) h = grind (
-    arith,
-    eq-self dec x,
-    h x,
-    weight_one held x nodes,
-    weight-fresh nodes held xs (λ y m k. h y (or_right _ _ m) k),
-    weight-fresh nodes (with_node eq held x) xs
-        (λ y m k. h y (or_right _ _ m) (or_false_right (eq x y) (held y) k)),
-  )
+  weight-fresh nodes held (x ∷ xs) h =
+      let old = weight-fresh nodes held xs (λ y m k. h y (or_right _ _ m) k) in
+      let new = weight-fresh nodes (with_node eq held x) xs
+      (λ y m k. h y (or_right _ _ m) (or_false_right (eq x y) (held y) k)) in
+      grind (arith, eq-self dec x, h x, weight_one held x nodes, old, new)
 
 module _ {N : Type 0} {eq : N → N → Bool} (dec : (a b : N) → Decides (eq a b) (a ≡ b)) (edges : N → List N)
     (nodes : List N) where
@@ -62,10 +58,5 @@ module _ {N : Type 0} {eq : N → N → Bool} (dec : (a b : N) → Decides (eq a
       let all : List N = flat_map (ends eq edges n (member eq met)) pending in
       let a : weight degree none_held (fresh eq (member eq met) all) ≤ weight degree (member eq met) nodes =
       weight-fresh dec degree nodes (member eq met) all (λ x m k. h x m) in
-      omega (
-        arith,
-        a,
-        edge_count_is edges (fresh eq (member eq met) all),
-        weight_held_le degree (member eq met) nodes,
-        edge_count_is edges nodes,
-      )
+      let b = edge_count_is edges (fresh eq (member eq met) all) in
+      omega (arith, a, b, weight_held_le degree (member eq met) nodes, edge_count_is edges nodes)

@@ -64,8 +64,6 @@ module _ {N : Type 0} {eq : N → N → Bool} (dec : (a b : N) → Decides (eq a
         ∙ ap (λ h. ordered eq edges n h ss) same)
       where
         closed : IsClosed eq edges (member eq (flat_map (ends eq edges n held) rs)) held
-        closed x y m k = flat_map-member dec (ends eq edges n held) rs x m (λ r l z. grind (
-          arith,
-          ends_closed dec edges n held r (enough_at held r) x y z k,
-          member-flat_map dec (ends eq edges n held) rs r y l,
-        ))
+        closed x y m k = flat_map-member dec (ends eq edges n held) rs x m (λ r l z.
+            let c = ends_closed dec edges n held r (enough_at held r) x y z k in
+            grind (arith, c, member-flat_map dec (ends eq edges n held) rs r y l))

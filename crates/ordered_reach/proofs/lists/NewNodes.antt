@@ -44,12 +44,8 @@ module _ {N : Type 0} {eq : N → N → Bool} (dec : (a b : N) → Decides (eq a
       → fresh eq seen (filter (λ x. not (v x)) xs) ≡ fresh eq seen xs
   fresh-filter v seen [] h = refl
   fresh-filter v seen (x ∷ xs) h =
-      grind (
-        arith,
-        h x,
-        fresh-filter v seen xs h,
-        fresh-filter v (with_node eq seen x) xs (λ y m. or_right _ _ (h y m)),
-      )
+      let new = fresh-filter v (with_node eq seen x) xs (λ y m. or_right _ _ (h y m)) in
+      grind (arith, h x, fresh-filter v seen xs h, new)
 
   -- more seen nodes are dropped from the new ones
   pub fresh-joined : (v seen : N → Bool) (xs : List N)
@@ -104,12 +100,9 @@ module _ {N : Type 0} {eq : N → N → Bool} (dec : (a b : N) → Decides (eq a
   pub fresh-fresh : (seen more : N → Bool) (xs : List N) → ((x : N) → more x ≡ true → seen x ≡ true)
       → fresh eq more (fresh eq seen xs) ≡ fresh eq seen xs
   fresh-fresh seen more [] h = refl
-  fresh-fresh seen more (x ∷ xs) h = grind (
-    arith,
-    h x,
-    fresh-fresh seen more xs h,
-    fresh-fresh (with_node eq seen x) (with_node eq more x) xs (λ y z. or_more _ _ _ (h y) z),
-  )
+  fresh-fresh seen more (x ∷ xs) h =
+      let new = fresh-fresh (with_node eq seen x) (with_node eq more x) xs (λ y z. or_more _ _ _ (h y) z) in
+      grind (arith, h x, fresh-fresh seen more xs h, new)
 
   -- two functions that agree at each element
   pub flat_map-agree : {B : Type 0} (f g : N → List B) (xs : List N) → ((x : N) → member eq xs x ≡ true → f x ≡ g x)

@@ -127,10 +127,8 @@ module _ {N : Type 0} {eq : N → N → Bool} (dec : (a b : N) → Decides (eq a
         let a : i < p.0 = ltb-true i p.0 l in
         or_left (nat_lt i q.0) false (by_test (member (pair_eq eq) (map (placed (suc p.0)) (bytes p.0 p.1)) q)
         (λ z. lt-ltb i q.0 (omega (arith, placed_at (suc p.0) (bytes p.0 p.1) q z)))
-        (λ z. lt-ltb i q.0 (omega (
-          arith,
-          placed_at p.0 (eps p.0 p.1) q (rw z at (sym (member-run_edges p.0 p.1 q) ∙ m)),
-        ))))
+        (λ z. let k = placed_at p.0 (eps p.0 p.1) q (rw z at (sym (member-run_edges p.0 p.1 q) ∙ m)) in
+        lt-ltb i q.0 (omega (arith, k))))
 
     -- a run that starts at a later position is independent of the nodes visited before
     pub ends_forget : (n m : ℕ) (held : ℕ × N → Bool) (i : ℕ) (p : ℕ × N) → IsEnoughForRuns eq eps bytes n held p

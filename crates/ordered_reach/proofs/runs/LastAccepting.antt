@@ -30,14 +30,10 @@ module _ {N : Type 0} {eq : N → N → Bool} (dec : (a b : N) → Decides (eq a
       → ((x : N) → member eq xs x ≡ true → find p (f x) ≡ scan acc go i (g x))
       → find p (flat_map f xs) ≡ scan acc go i (flat_map g xs)
   find-flat_map acc go i p f g [] h = refl
-  find-flat_map acc go i p f g (x ∷ xs) h = grind (
-    arith,
-    eq-self dec x,
-    h x,
-    find-append p (f x) (flat_map f xs),
-    scan-append acc go i (g x) (flat_map g xs),
-    find-flat_map acc go i p f g xs (λ y m. h y (or_right _ _ m)),
-  )
+  find-flat_map acc go i p f g (x ∷ xs) h =
+      let rest = find-flat_map acc go i p f g xs (λ y m. h y (or_right _ _ m)) in
+      let left = find-append p (f x) (flat_map f xs) in
+      grind (arith, eq-self dec x, h x, left, scan-append acc go i (g x) (flat_map g xs), rest)
 
   -- the first node that passes is new
   find-fresh : (p seen : N → Bool) (xs : List N) → ((x : N) → seen x ≡ true → p x ≡ false)
@@ -50,15 +46,11 @@ module _ {N : Type 0} {eq : N → N → Bool} (dec : (a b : N) → Decides (eq a
       → ((x : N) → seen x ≡ true → find p (f x) ≡ None)
       → find p (flat_map f (fresh eq seen xs)) ≡ find p (flat_map f xs)
   find-flat_map_fresh p f seen [] h = refl
-  find-flat_map_fresh p f seen (x ∷ xs) h = grind (
-    arith,
-    h,
-    dec,
-    find-append p (f x) (flat_map f xs),
-    find-append p (f x) (flat_map f (fresh eq (with_node eq seen x) xs)),
-    find-flat_map_fresh p f seen xs h,
-    find-flat_map_fresh p f (with_node eq seen x) xs,
-  )
+  find-flat_map_fresh p f seen (x ∷ xs) h =
+      let left = find-append p (f x) (flat_map f (fresh eq (with_node eq seen x) xs)) in
+      let right = find-append p (f x) (flat_map f xs) in
+      let new = find-flat_map_fresh p f (with_node eq seen x) xs in
+      grind (arith, h, dec, left, right, find-flat_map_fresh p f seen xs h, new)
 
   -- cutting at the first that passes and leaving out repeats commute
   before-fresh : (p seen : N → Bool) (xs : List N) → ((x : N) → seen x ≡ true → p x ≡ false)
