@@ -2,8 +2,7 @@
 -- Main statements: all_units_at, all_units_from, all_units_fails.
 -- Used by: LookBehindTable.
 -- Idea: a test of all bytes below 256 and of EOI.
-use Rattle.determinize_below.proofs.Common.{and_from, arith, Bool, both_ways, by_test, false, inl, inr, IsUnit, None, Option, refl, Some, subst, suc, sym, true, zero, ℕ, ◌<◌, ◌≡◌, ◌⊎◌}
-use Rattle.std.proofs.lemmas.Bool.{and_parts}
+use Rattle.determinize_below.proofs.Common.{and_from, arith, Bool, both_ways, by_test, false, IsUnit, None, Option, refl, Some, subst, suc, true, zero, ℕ, ◌<◌, ◌≡◌, and_parts, by_cases, cases_lt}
 use Rattle.determinize_below.specs.Truth.{all_below, all_units}
 
 all_below_from : (n : ℕ) (test : ℕ → Bool) → ((b : ℕ) → b < n → test b ≡ true) → all_below n test ≡ true
@@ -12,14 +11,9 @@ all_below_from zero test h = refl
 all_below_from (suc n) test h = and_from _ _ (h n (omega arith)) (all_below_from n test (λ b k. h b (omega arith)))
 
 below_last : (n b : ℕ) (P : ℕ → Type 0) → b < suc n → P n → (b < n → P b) → P b
-below_last n b P h last before = by_cases (compare_last n b h)
-  where
-    compare_last : (n b : ℕ) → b < suc n → (b ≡ n) ⊎ (b < n)
-    compare_last n b h = grind arith
-
-    by_cases : (b ≡ n) ⊎ (b < n) → P b
-    by_cases (inl e) = subst P (sym e) last
-    by_cases (inr k) = before k
+below_last n b P h last before = by_cases (cases_lt b n)
+    before
+    (λ l. let e : n ≡ b = omega arith in subst P e last)
 
 all_below_at : (n : ℕ) (test : ℕ → Bool) → all_below n test ≡ true → (b : ℕ) → b < n → test b ≡ true
 unfolding all_below

@@ -2,11 +2,9 @@
 -- Main statements: known_is, known-holds, known-every.
 -- Used by: `known_law`, StartKinds, StepTables.
 -- Idea: each assertion has a unit that decides it, or depends on no unit.
-use Rattle.determinize_below.proofs.Common.{and_right, arith, beq, Bool, by_test, Decides, End, EndCRLF, EndLF, eq-eqb, false, holds, is_word, IsUnit, lit<, Look, nat_eq, None, not, Option, or_left, refl, Some, Start, StartCRLF, StartLF, sym, true, WordAsciiNegate, WordEndAscii, WordEndHalfAscii, WordEndHalfUnicode, WordEndUnicode, WordStartAscii, WordStartHalfAscii, WordStartHalfUnicode, WordStartUnicode, WordUnicodeNegate, ℕ, ◌&&◌, ◌<◌, ◌∙◌, ◌≡◌}
+use Rattle.determinize_below.proofs.Common.{and_right, arith, beq, Bool, by_test, Decides, End, EndCRLF, EndLF, eq-eqb, false, holds, is_word, IsUnit, lit<, Look, nat_eq, None, not, Option, or_left, refl, Some, Start, StartCRLF, StartLF, sym, true, WordAsciiNegate, WordEndAscii, WordEndHalfAscii, WordEndHalfUnicode, WordEndUnicode, WordStartAscii, WordStartHalfAscii, WordStartHalfUnicode, WordStartUnicode, WordUnicodeNegate, ℕ, ◌&&◌, ◌<◌, ◌∙◌, ◌≡◌, all_units, behind_test, is_known, crlf_first, crlf_second, is, is_none}
 use mathlib.Core.Bool.{◌||◌}
-use Rattle.determinize_below.specs.Truth.{all_units, behind_test, is_known}
-use Rattle.determinize_below.specs.Semantics.{crlf_first, crlf_second, is_word_byte, is}
-use Rattle.std.specs.Option.{is_none}
+use Rattle.determinize_below.specs.Semantics.{is_word_byte}
 use Rattle.determinize_below.proofs.looks.EveryUnit.{all_units_at, all_units_from, all_units_fails, all_units_constant}
 
 -- the unit of a word byte
@@ -26,11 +24,8 @@ crlf_unit false = lit< tt
 
 end_lf : (t : ℕ) → all_units (λ q. is_none q || is q t) ≡ false
 end_lf t = by_test (nat_eq 0 t)
-    (λ e. all_units_fails (λ q. is_none q || is q t) (Some 1) (lit< tt) (other t e))
+    (λ e. all_units_fails (λ q. is_none q || is q t) (Some 1) (lit< tt) (grind arith))
     (λ e. all_units_fails (λ q. is_none q || is q t) (Some 0) (lit< tt) e)
-  where
-    other : (t : ℕ) → nat_eq 0 t ≡ true → nat_eq 1 t ≡ false
-    other t e = grind arith
 
 end_crlf : (reverse first : Bool)
     → all_units (λ q. is_none q || is q (crlf_first reverse) || (is q (crlf_second reverse) && not first)) ≡ false

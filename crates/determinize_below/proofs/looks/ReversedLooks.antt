@@ -2,9 +2,7 @@
 -- Main statements: reversed_holds, reversed_twice.
 -- Used by: `reversed_law`, and the reversed NFA.
 -- Idea: by the 18 assertions.
-use mathlib.Core.Bool.{and_comm}
-use Rattle.determinize_below.proofs.Common.{ap, arith, beq, Bool, EndCRLF, false, holds, is_word, not, Option, refl, Start, StartCRLF, true, WordAscii, WordAsciiNegate, WordEndAscii, WordEndUnicode, WordStartAscii, WordStartUnicode, WordUnicode, WordUnicodeNegate, ℕ, ◌≡◌}
-use Rattle.determinize_below.specs.Look.{reversed}
+use Rattle.determinize_below.proofs.Common.{ap, arith, beq, Bool, EndCRLF, false, holds, is_word, not, Option, refl, Start, StartCRLF, true, WordAscii, WordAsciiNegate, WordEndAscii, WordEndUnicode, WordStartAscii, WordStartUnicode, WordUnicode, WordUnicodeNegate, ℕ, ◌≡◌, and_comm, reversed}
 use Rattle.determinize_below.specs.declared.look.Look.{Look as Assertion}
 
 one-swap : (a b : Bool) → beq a b ≡ beq b a

@@ -2,13 +2,8 @@
 -- Main statements: has_bit-set, words_back, the ruleset one_bit.
 -- Used by: SparseSets.
 -- Idea: an id is a word and a bit of it, and two ids differ in one of these.
-use Rattle.determinize_below.proofs.Common.{ap, arith, bit_and, bit_at, bit_at-zero, bit_or, by_cases, false, false≢true, get_or, length, List, nat_eq, refl, replicate, set, suc, sym, take, true, zero, ℕ, ◌*◌, ◌++◌, ◌/◌, ◌<◌, ◌^◌, ◌||◌, ◌∙◌, ◌≡◌}
-use Rattle.std.specs.Int.{w64}
-use Rattle.std.proofs.Common.{eq-eqb, ne_eqb, ◌%◌, ◌≢◌}
-use Rattle.std.proofs.Math.Seq.{take-append_seam}
-use Rattle.std.proofs.lemmas.Bool.{cases_eq}
-use Rattle.std.proofs.lemmas.List.{get_or-set_other, get_or-set_same}
-use Rattle.std.proofs.lemmas.Nat.Bits.{bit_at_set_other, bit_at_set_same, shr_and_one}
+use Rattle.determinize_below.proofs.Common.{ap, arith, bit_and, bit_at, bit_at-zero, bit_or, by_cases, false, false≢true, get_or, length, List, nat_eq, refl, replicate, set, suc, sym, take, true, zero, ℕ, ◌*◌, ◌++◌, ◌/◌, ◌<◌, ◌^◌, ◌||◌, ◌∙◌, ◌≡◌, w64, ne_eqb, ◌%◌, ◌≢◌, take-append_seam, cases_eq, get_or-set_other, get_or-set_same, bit_at_set_other, bit_at_set_same, shr_and_one}
+use Rattle.std.proofs.Common.{eq-eqb}
 use Rattle.determinize_below.specs.Private.Sparse.{has_bit}
 
 -- reading a bit

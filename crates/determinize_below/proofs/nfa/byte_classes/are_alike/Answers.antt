@@ -1,6 +1,4 @@
-use Rattle.std.proofs.Common.{rules, ◌≡◌, arith, refl, true}
-use borrow.Author.Count.{below_more}
-use Rattle.determinize_below.specs.Node.{node_of}
+use Rattle.determinize_below.proofs.Common.{rules, ◌≡◌, arith, refl, true, below_more, node_of}
 use Rattle.determinize_below.proofs.nfas.Boundaries.{all_states, read_at}
 use Rattle.determinize_below.proofs.nfa.byte_classes.are_alike.Goals as goal
 

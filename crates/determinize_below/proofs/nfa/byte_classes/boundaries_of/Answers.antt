@@ -1,5 +1,4 @@
-use Rattle.determinize_below.proofs.Common.{node_of, ◌+◌}
-use borrow.Author.Count.{below_more}
+use Rattle.determinize_below.proofs.Common.{node_of, ◌+◌, below_more}
 use Rattle.determinize_below.proofs.nfas.Boundaries.{read_at}
 use Rattle.determinize_below.proofs.nfa.byte_classes.boundaries_of.Goals as goal
 
