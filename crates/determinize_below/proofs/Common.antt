@@ -1,10 +1,9 @@
 -- The names that the proofs of this crate have in common: of std, of the definitions, and of the crates below.
-pub use borrow.Author.Count.{below_more, below_none}
+pub use borrow.Author.Count.{below_more}
 pub use Rattle.std.proofs.Common.{◌%◌, ◌*◌, ◌+◌, ◌++◌, ◌-◌, ◌/◌, ◌<◌, [], ◌^◌, All, ap, append_assoc, ap₂, arith}
 pub use Rattle.std.proofs.Common.{bit_and, bit_or, Bool, cond, drop, false, get_or, inl, inr, length, length-append}
-pub use Rattle.std.proofs.Common.{List, lit<, map, max, min, nat_eq, nat_le, ne_eqb, None, not, Option, refl, replicate}
-pub use Rattle.std.proofs.Common.{rules, set, Some, subst, suc, sym, take, true, zero, ◌||◌, ℕ, ◌∙◌, ◌∷◌, ◌≡◌, ◌≢◌, ◌≤◌}
-pub use Rattle.std.proofs.Common.{◌⊎◌}
+pub use Rattle.std.proofs.Common.{List, lit<, map, nat_eq, nat_le, ne_eqb, None, not, Option, refl, replicate, rules}
+pub use Rattle.std.proofs.Common.{set, Some, subst, suc, sym, take, true, zero, ◌||◌, ℕ, ◌∙◌, ◌∷◌, ◌≡◌, ◌≢◌, ◌≤◌, ◌⊎◌}
 pub use Rattle.std.proofs.Math.ListN.{get_or-append}
 pub use Rattle.std.proofs.Math.Seq.{drop-cons, get_or-append_seam, take-append_seam}
 pub use Rattle.std.proofs.lemmas.Bool.{agree_below_at, and_from, and_parts, and_right, both_ways, cases_eq, cases_lt}
@@ -27,9 +26,9 @@ pub use Rattle.std.specs.Int.{bit_at, bit_not, w32, w64}
 pub use Rattle.std.specs.List.{Any, find, flat_map, list_all, list_any}
 pub use Rattle.std.specs.Option.{is_none, is_some, option_map, option_or, option_to_list}
 pub use Rattle.std.specs.Prelude.{nat_lt, slice_get, slice_index}
-pub use mathlib.Core.Bool.{◌&&◌, and-false, and-true, and_comm, beq, or-false, or_assoc}
+pub use mathlib.Core.Bool.{◌&&◌, and-false, and-true, beq, or-false}
 pub use mathlib.Core.Path.{fun_ext}
-pub use Rattle.determinize_below.specs.ByteClasses.{AreAlike, AreClassesOf, AreTestedAlike, Classes}
+pub use Rattle.determinize_below.specs.ByteClasses.{AreAlike, AreClassesOf, AreTestedAlike}
 pub use Rattle.determinize_below.specs.Edges.{assertion_in, assertion_of, edges, is_capture, is_match, IsTested}
 pub use Rattle.determinize_below.specs.Edges.{pattern_in, pattern_of, patterns_of, target, tests_capture}
 pub use Rattle.determinize_below.specs.Look.{bit_of, each_look, has, has_crlf, has_haystack, has_line, has_word}

@@ -10,16 +10,13 @@ unfolding all_below
 all_below_from zero test h = refl
 all_below_from (suc n) test h = and_from _ _ (h n (omega arith)) (all_below_from n test (λ b k. h b (omega arith)))
 
-below_last : (n b : ℕ) (P : ℕ → Type 0) → b < suc n → P n → (b < n → P b) → P b
-below_last n b P h last before = by_cases (cases_lt b n)
-    before
-    (λ l. let e : n ≡ b = omega arith in subst P e last)
-
 all_below_at : (n : ℕ) (test : ℕ → Bool) → all_below n test ≡ true → (b : ℕ) → b < n → test b ≡ true
 unfolding all_below
 all_below_at zero test h b k = absurd (omega arith)
 all_below_at (suc n) test h b k =
-    below_last n b (λ i. test i ≡ true) k (and_parts _ _ h).0 (all_below_at n test (and_parts _ _ h).1 b)
+    by_cases (cases_lt b n)
+    (λ l. all_below_at n test (and_parts _ _ h).1 b l)
+    (λ l. let e : n ≡ b = omega arith in subst (λ i. test i ≡ true) e (and_parts _ _ h).0)
 
 -- each unit passes
 pub all_units_at : (test : Option ℕ → Bool) → all_units test ≡ true → (q : Option ℕ) → IsUnit q → test q ≡ true

@@ -2,7 +2,7 @@
 -- Main statements: has-union, has-insert, same_sets, Decides-empty.
 -- Used by: all that computes with sets of assertions.
 -- Idea: a set is the bits of its members, and the bits of two assertions are distinct.
-use Rattle.determinize_below.proofs.Common.{ap, arith, bit_and, bit_at, bit_at-zero, bit_of, bit_or, Bool, Decides, each_look, End, EndCRLF, EndLF, eqb-true, false, get_or, inl, inr, list_any, list_any_at, lit<, Look, nat_eq, not, refl, Start, StartCRLF, StartLF, sym, true, WordAscii, WordAsciiNegate, WordEndAscii, WordEndHalfAscii, WordEndHalfUnicode, WordEndUnicode, WordStartAscii, WordStartHalfAscii, WordStartHalfUnicode, WordStartUnicode, WordUnicode, WordUnicodeNegate, ℕ, ◌&&◌, ◌<◌, ◌^◌, ◌∙◌, ◌≡◌, bit_not, w32, or-false, and-true, pow_pos, bit_at_or, bit_at_and, bit_at_not, bit_at-lt, and_pow, bit_at-pow_same, bit_at-pow_other, same_from_bits_below, eqb_tells, or_right, false_from_ne_true, below_none, below_more}
+use Rattle.determinize_below.proofs.Common.{ap, arith, bit_and, bit_at, bit_at-zero, bit_of, bit_or, Bool, Decides, each_look, End, EndCRLF, EndLF, eqb-true, false, get_or, inl, inr, list_any, list_any_at, lit<, Look, nat_eq, not, refl, Start, StartCRLF, StartLF, sym, true, WordAscii, WordAsciiNegate, WordEndAscii, WordEndHalfAscii, WordEndHalfUnicode, WordEndUnicode, WordStartAscii, WordStartHalfAscii, WordStartHalfUnicode, WordStartUnicode, WordUnicode, WordUnicodeNegate, ℕ, ◌&&◌, ◌<◌, ◌^◌, ◌∙◌, ◌≡◌, bit_not, w32, or-false, and-true, pow_pos, bit_at_or, bit_at_and, bit_at_not, bit_at-lt, and_pow, bit_at-pow_same, bit_at-pow_other, same_from_bits_below, eqb_tells, or_right, false_from_ne_true, agree_below_at, subst}
 use Rattle.std.proofs.Common.{eq-eqb}
 use mathlib.Core.Bool.{◌||◌}
 use Rattle.determinize_below.proofs.looks.LookBounds.{bit_small}
@@ -39,20 +39,10 @@ numbered s = (refl, lit< tt, refl)
 -- a property of the index of each assertion is one of each number below 18
 at_indices : (P : ℕ → Type 0) → ((l : Look) → P (index_of l)) → (i : ℕ) → i < 18 → P i
 unfolding index_of
-at_indices P h = (below_more P 17
-    (below_more P 16 (below_more P 15
-    (below_more P 14 (below_more P 13
-    (below_more P 12 (below_more P 11
-    (below_more P 10 (below_more P 9
-    (below_more P 8 (below_more P 7
-    (below_more P 6 (below_more P 5
-    (below_more P 4 (below_more P 3
-    (below_more P 2 (below_more P 1 (below_more P 0 (below_none P) (h Start)) (h End))
-    (h StartLF)) (h EndLF)) (h StartCRLF)) (h EndCRLF)) (h WordAscii))
-    (h WordAsciiNegate)) (h WordUnicode)) (h WordUnicodeNegate)) (h WordStartAscii))
-    (h WordEndAscii)) (h WordStartUnicode)) (h WordEndUnicode))
-    (h WordStartHalfAscii)) (h WordEndHalfAscii)) (h WordStartHalfUnicode))
-    (h WordEndHalfUnicode))
+at_indices P h i l =
+    let e : index_of (get_or each_look i Start) ≡ i = eqb-true _ _
+    (agree_below_at (λ k. nat_eq (index_of (get_or each_look k Start)) k) (λ k. true) 18 i refl l) in
+    subst P e (h (get_or each_look i Start))
 
 pub has-bit : (s : ℕ) (l : Look) → has s l ≡ nat_eq (bit_at s (index_of l)) 1
 unfolding has

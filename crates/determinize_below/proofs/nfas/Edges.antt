@@ -53,10 +53,8 @@ edges_of-capture holds (Capture next) e = refl
 edges_of-capture holds s e = absurd (false≢true e)
 
 target_of-capture : (u : Option ℕ) (s : Node) → tests_capture s ≡ true → target_of u s ≡ None
-target_of-capture u (ByteRange t) e = absurd (false≢true e)
-target_of-capture u (Sparse ts) e = absurd (false≢true e)
-target_of-capture u (Dense ids) e = absurd (false≢true e)
-target_of-capture u s e = refl
+target_of-capture u (Capture next) e = refl
+target_of-capture u s e = cc
 
 match_no_capture : (s : Node) → is_some (pattern_in s) ≡ true → tests_capture s ≡ false
 match_no_capture (Capture next) e = absurd (false≢true e)

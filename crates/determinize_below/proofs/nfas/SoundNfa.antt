@@ -143,7 +143,7 @@ module _ (nfa : Nfa) (a : IsAccepted nfa) where
   pub accepted_sound : IsSound nfa
   accepted_sound = record {
     resolves = λ holds s t m. ltb-true t (length nfa.states)
-        (edges_resolve (length nfa.states) holds (state_at nfa s) t (state_resolves s (edges_within nfa holds s t m)) m);
+        (edges_resolve _ holds (state_at nfa s) t (state_resolves s (edges_within nfa holds s t m)) m);
     one_match = λ i j p x y. by_cases (cases_order i j) (λ e. e)
         (λ h. by_cases h (λ l. absurd (not_earlier i j p l x y)) (λ l. absurd (not_earlier j i p l y x)));
   }

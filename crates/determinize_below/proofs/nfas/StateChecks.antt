@@ -42,13 +42,8 @@ module _ {S : Type 0} (f : S → Node) (states : List S) (i : ℕ) (x : S) (with
       → ((q : ℕ) → new q ≡ (is_match_of q (f x) || old q))
       → (q : ℕ) → new q ≡ list_any (is_match_of q) (map f (take (i + 1) states))
   seen-turn old new h k q =
-      grind (
-        arith,
-        k q,
-        h q,
-        ap (λ l. list_any (is_match_of q) l) nodes_more,
-        list_any-append (is_match_of q) (map f (take i states)) (f x ∷ []),
-      )
+      let turned = ap (λ l. list_any (is_match_of q) l) nodes_more in
+      grind (arith, k q, h q, turned, list_any-append (is_match_of q) (map f (take i states)) (f x ∷ []))
 
   -- the error of the current state, by the patterns seen
   pub state_failure-seen : (seen : ℕ → Bool) (count : ℕ)
