@@ -48,6 +48,7 @@ pub use Rattle.determinize_below.specs.Semantics.{state_at, target_of, Union}
 pub use Rattle.determinize_below.specs.Transition.{ascends_from, dense_target, is_ascending, matches, sparse_target}
 pub use Rattle.determinize_below.specs.Truth.{all_units, behind_test, is_known, IsUnit}
 pub use Rattle.determinize_below.specs.declared.look.Look.{Look}
+pub use Rattle.determinize_below.specs.declared.look.Look.{Look as Assertion}
 pub use Rattle.determinize_below.specs.declared.look.Look.TheVariants.{End, EndCRLF, EndLF, Start, StartCRLF, StartLF}
 pub use Rattle.determinize_below.specs.declared.look.Look.TheVariants.{WordAscii, WordAsciiNegate, WordEndAscii}
 pub use Rattle.determinize_below.specs.declared.look.Look.TheVariants.{WordEndHalfAscii, WordEndHalfUnicode}

@@ -2,8 +2,7 @@
 -- Main statements: known_is, known-holds, known-every.
 -- Used by: `known_law`, StartKinds, StepTables.
 -- Idea: each assertion has a unit that decides it, or depends on no unit.
-use Rattle.determinize_below.proofs.Common.{and_right, arith, beq, Bool, by_test, Decides, End, EndCRLF, EndLF, eq-eqb, false, holds, is_word, IsUnit, lit<, Look, nat_eq, None, not, Option, or_left, refl, Some, Start, StartCRLF, StartLF, sym, true, WordStartHalfAscii, WordStartHalfUnicode, ℕ, ◌&&◌, ◌<◌, ◌∙◌, ◌≡◌, all_units, behind_test, is_known, crlf_first, crlf_second, is, is_none}
-use mathlib.Core.Bool.{◌||◌}
+use Rattle.determinize_below.proofs.Common.{and_right, arith, beq, Bool, by_test, Decides, End, EndCRLF, EndLF, eq-eqb, false, holds, is_word, IsUnit, lit<, Look, nat_eq, None, not, Option, or_left, refl, Some, Start, StartCRLF, StartLF, sym, true, WordStartHalfAscii, WordStartHalfUnicode, ℕ, ◌&&◌, ◌<◌, ◌∙◌, ◌≡◌, all_units, behind_test, is_known, crlf_first, crlf_second, is, is_none, ◌||◌}
 use Rattle.determinize_below.specs.Semantics.{is_word_byte}
 use Rattle.determinize_below.proofs.looks.EveryUnit.{all_units_at, all_units_from, all_units_fails, all_units_constant}
 

@@ -2,9 +2,7 @@
 -- Main statements: has-union, has-insert, same_sets, Decides-empty.
 -- Used by: all that computes with sets of assertions.
 -- Idea: a set is the bits of its members, and the bits of two assertions are distinct.
-use Rattle.determinize_below.proofs.Common.{ap, arith, bit_and, bit_at, bit_at-zero, bit_of, bit_or, Bool, Decides, each_look, End, EndCRLF, EndLF, eqb-true, false, get_or, inl, inr, list_any, list_any_at, lit<, Look, nat_eq, not, refl, Start, StartCRLF, StartLF, sym, true, WordAscii, WordAsciiNegate, WordEndAscii, WordEndHalfAscii, WordEndHalfUnicode, WordEndUnicode, WordStartAscii, WordStartHalfAscii, WordStartHalfUnicode, WordStartUnicode, WordUnicode, WordUnicodeNegate, ℕ, ◌&&◌, ◌<◌, ◌^◌, ◌∙◌, ◌≡◌, bit_not, w32, or-false, and-true, pow_pos, bit_at_or, bit_at_and, bit_at_not, bit_at-lt, and_pow, bit_at-pow_same, bit_at-pow_other, same_from_bits_below, eqb_tells, or_right, false_from_ne_true, agree_below_at, subst}
-use Rattle.std.proofs.Common.{eq-eqb}
-use mathlib.Core.Bool.{◌||◌}
+use Rattle.determinize_below.proofs.Common.{ap, arith, bit_and, bit_at, bit_at-zero, bit_of, bit_or, Bool, Decides, each_look, End, EndCRLF, EndLF, eqb-true, false, get_or, inl, inr, list_any, list_any_at, lit<, Look, nat_eq, not, refl, Start, StartCRLF, StartLF, sym, true, WordAscii, WordAsciiNegate, WordEndAscii, WordEndHalfAscii, WordEndHalfUnicode, WordEndUnicode, WordStartAscii, WordStartHalfAscii, WordStartHalfUnicode, WordStartUnicode, WordUnicode, WordUnicodeNegate, ℕ, ◌&&◌, ◌<◌, ◌^◌, ◌∙◌, ◌≡◌, bit_not, w32, or-false, and-true, pow_pos, bit_at_or, bit_at_and, bit_at_not, bit_at-lt, and_pow, bit_at-pow_same, bit_at-pow_other, same_from_bits_below, eqb_tells, or_right, false_from_ne_true, agree_below_at, subst, eq-eqb, ◌||◌}
 use Rattle.determinize_below.proofs.looks.LookBounds.{bit_small}
 use Rattle.determinize_below.specs.Look.{has, insert, remove, subtract}
 
@@ -122,16 +120,12 @@ has-remove_others s l k n = has-remove s l k ∙ ap (λ b. has s k && not b) (sa
 pub each_look-any : (test : Look → Bool) (l : Look) → test l ≡ true → list_any test each_look ≡ true
 each_look-any test l h = list_any_at test each_look (index_of l) Start (numbered l).1 (ap test ((numbered l).2) ∙ h)
 
-test_tells : (x y : ℕ) → x < 2 → y < 2 → nat_eq x 1 ≡ nat_eq y 1 → x ≡ y
-test_tells x y h k e = grind arith
-
 -- two sets with the same members are the same number
 pub same_sets : (a b : ℕ) → a < 2 ^ 18 → b < 2 ^ 18 → ((l : Look) → has a l ≡ has b l) → a ≡ b
 same_sets a b h k same_members =
     same_from_bits_below 18 a b h k
     (at_indices (λ i. bit_at a i ≡ bit_at b i)
-    (λ l. test_tells _ _ (bit_at-lt a (index_of l)) (bit_at-lt b (index_of l))
-    (sym (has-bit a l) ∙ same_members l ∙ has-bit b l)))
+    (λ l. grind (arith, bit_at-lt a (index_of l), bit_at-lt b (index_of l), has-bit a l, has-bit b l, same_members l)))
 
 -- a set is empty if and only if it has no member
 pub Decides-empty : (s : ℕ) → s < 2 ^ 18 → Decides (nat_eq s 0) ((l : Look) → has s l ≡ false)

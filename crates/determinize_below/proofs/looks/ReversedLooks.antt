@@ -2,8 +2,7 @@
 -- Main statements: reversed_holds, reversed_twice.
 -- Used by: `reversed_law`, and the reversed NFA.
 -- Idea: by the 18 assertions.
-use Rattle.determinize_below.proofs.Common.{arith, Bool, EndCRLF, false, holds, not, Option, refl, Start, StartCRLF, true, ℕ, ◌≡◌, reversed}
-use Rattle.determinize_below.specs.declared.look.Look.{Look as Assertion}
+use Rattle.determinize_below.proofs.Common.{arith, Bool, EndCRLF, false, holds, not, Option, refl, Start, StartCRLF, true, ℕ, ◌≡◌, reversed, Assertion}
 
 start_crlf : (reverse : Bool) (t : ℕ) (p q : Option ℕ)
     → holds (not reverse) t q p EndCRLF ≡ holds reverse t p q StartCRLF

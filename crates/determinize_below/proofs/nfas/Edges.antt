@@ -2,11 +2,10 @@
 -- Main statements: edges-agree, edges-more, edges-capture, edges-or-target.
 -- Used by: SoundNfa, and the steps of a walk.
 -- Idea: by the kinds of states; only a `Look` state depends on the set.
-use Rattle.determinize_below.proofs.Common.{[], ap, arith, assertion_in, Bool, by_cases, ByteRange, Capture, cases_lt, Dense, edges, edges_of, Fail, false, false≢true, fun_ext, inl, inr, IsTested, length, List, Match, member, nat_eq, Nfa, Node, None, Option, option_to_list, pattern_in, pattern_of, refl, Some, Sparse, state_at, target, target_of, true, ℕ, ◌<◌, ◌∷◌, ◌≡◌, ◌≤◌, ◌⊎◌, is_some, tests_capture, is_capture, patterns_of, is_match, assertion_of, get_or_past}
+use Rattle.determinize_below.proofs.Common.{[], ap, arith, assertion_in, Bool, by_cases, ByteRange, Capture, cases_lt, Dense, edges, edges_of, Fail, false, false≢true, fun_ext, inl, inr, IsTested, length, List, Match, member, nat_eq, Nfa, Node, None, Option, option_to_list, pattern_in, pattern_of, refl, Some, Sparse, state_at, target, target_of, true, ℕ, ◌<◌, ◌∷◌, ◌≡◌, ◌≤◌, ◌⊎◌, is_some, tests_capture, is_capture, patterns_of, is_match, assertion_of, get_or_past, Assertion}
 use Rattle.determinize_below.specs.Captures.{capture_next}
 use Rattle.determinize_below.specs.Semantics.{Look}
 use Rattle.ordered_reach.specs.Runs.{without}
-use Rattle.determinize_below.specs.declared.look.Look.{Look as Assertion}
 use Rattle.ordered_reach.proofs.lists.Pieces.{flat_map-without}
 
 -- sets that agree on the assertion of a state give it the same edges

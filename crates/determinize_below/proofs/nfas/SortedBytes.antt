@@ -1,6 +1,5 @@
 -- Bytes that are sorted into classes one after another.
-use Rattle.determinize_below.proofs.Common.{◌≡◌, ℕ, ◌+◌, ◌<◌, ◌≤◌, ◌≢◌, Bool, false, List, length, get_or, take, refl, sym, ap, ◌∙◌, arith, get_or-set_other, get_or-set_same, get_or-take, length-set, length-take-le, below_more, AreAlike, AreClassesOf, Nfa, AreBoundaries, is_marked, AreSorted, by_cases, cases_order}
-use Rattle.std.proofs.Math.ListN.{set}
+use Rattle.determinize_below.proofs.Common.{◌≡◌, ℕ, ◌+◌, ◌<◌, ◌≤◌, ◌≢◌, Bool, false, List, length, get_or, take, refl, sym, ap, ◌∙◌, arith, get_or-set_other, get_or-set_same, get_or-take, length-set, length-take-le, below_more, AreAlike, AreClassesOf, Nfa, AreBoundaries, is_marked, AreSorted, by_cases, cases_order, set}
 
 module _ (nfa : Nfa) where
   pub alike-self : (b : ℕ) → AreAlike nfa b b

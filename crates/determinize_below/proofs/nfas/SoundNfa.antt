@@ -2,13 +2,10 @@
 -- Main statements: IsSound, accepted_sound, edges_enough, reach_within.
 -- Used by: nearly all proofs about closures and steps.
 -- Idea: each edge goes to a state, a pattern has one `Match`, and fuel one above the number of states is enough.
-use Rattle.determinize_below.proofs.Common.{[], ap, arith, BinaryUnion, Bool, by_cases, by_test, ByteRange, Capture, cases_lt, cond, Dense, edges, edges_of, eq-eqb, Fail, false, false≢true, fun_ext, get_or, is_match_of, IsAccepted, length, List, list_any_at, Match, member, nat_eq, Nfa, Node, None, not, Option, option_to_list, or_left, pattern_in, pattern_of, refl, slice_get, Some, Sparse, state_at, state_failure, states_failure, subst, suc, sym, take, target, target_of, Transition, true, Union, zero, ℕ, ◌++◌, ◌+◌, ◌<◌, ◌∙◌, ◌∷◌, ◌≡◌, ◌≤◌, or-false, append_assoc, slice_index, nat_lt, flat_map, list_all, true≢false, not-false, cases_order, and_parts, ltb-true, lt-ltb, append-nil, get_or-take, slice_get-get_or, resolves, is_repeated, is_sparse_sound, is_dense_sound, ends, none_held, ordered, by_option, length-take}
-use Rattle.std.proofs.Common.{◌&&◌}
-use Rattle.std.specs.Prelude.{find, option_map}
+use Rattle.determinize_below.proofs.Common.{[], ap, arith, BinaryUnion, Bool, by_cases, by_test, ByteRange, Capture, cases_lt, cond, Dense, edges, edges_of, eq-eqb, Fail, false, false≢true, fun_ext, get_or, is_match_of, IsAccepted, length, List, list_any_at, Match, member, nat_eq, Nfa, Node, None, not, Option, option_to_list, or_left, pattern_in, pattern_of, refl, slice_get, Some, Sparse, state_at, state_failure, states_failure, subst, suc, sym, take, target, target_of, Transition, true, Union, zero, ℕ, ◌++◌, ◌+◌, ◌<◌, ◌∙◌, ◌∷◌, ◌≡◌, ◌≤◌, or-false, append_assoc, slice_index, nat_lt, flat_map, list_all, true≢false, not-false, cases_order, and_parts, ltb-true, lt-ltb, append-nil, get_or-take, slice_get-get_or, resolves, is_repeated, is_sparse_sound, is_dense_sound, ends, none_held, ordered, by_option, length-take, ◌&&◌, find, option_map, Assertion}
 use Rattle.determinize_below.specs.Semantics.{Look}
 use Rattle.determinize_below.specs.Edges.{reach, reach_past}
 use Rattle.determinize_below.specs.Transition as transitions
-use Rattle.determinize_below.specs.declared.look.Look.{Look as Assertion}
 use Rattle.determinize_below.proofs.nfas.Edges.{state_past, edges_within, target-end}
 use Rattle.ordered_reach.proofs.graph.ClosedSets.{IsEnough, ends_within}
 use Rattle.ordered_reach.proofs.graph.FiniteGraphs.{IsEnough-below, fresh_below, length-fresh_below, same_decides}
@@ -61,8 +58,7 @@ all_pass count earlier i (x ∷ xs) e j s h = by_option (state_failure count ear
     go : (j : ℕ) → slice_get (x ∷ xs) j ≡ Some s → HasPassed count earlier x
         → ((j : ℕ) (s : Node) → slice_get xs j ≡ Some s → HasPassed count ((earlier ++ x ∷ []) ++ take j xs) s)
         → HasPassed count (earlier ++ take j (x ∷ xs)) s
-    go zero h p ih = let q : x ≡ s = cc in
-        subst (λ y. HasPassed count (earlier ++ []) y) q (subst (λ l. HasPassed count l x) (sym (append-nil earlier)) p)
+    go zero h p ih = let q : x ≡ s = cc in rw (append-nil earlier, ← q) p
     go (suc j) h p ih = subst (λ l. HasPassed count l s) (append_assoc earlier (x ∷ []) (take j xs)) (ih j s h)
 
 list_all_member : (p : ℕ → Bool) (xs : List ℕ) (t : ℕ) → list_all p xs ≡ true → member nat_eq xs t ≡ true → p t ≡ true

@@ -2,9 +2,8 @@
 -- Main statements: Decides-looks_of, Decides-look_set_any.
 -- Used by: `look_state_law`, and the truth of look-behind.
 -- Idea: the set is built state by state, and each state adds what it tests.
-use Rattle.determinize_below.proofs.Common.{[], ap, assertion_in, Bool, by_cases, cases_lt, Decides, Fail, false, false≢true, IsAccepted, IsTested, length, List, list_any, looks_of, Nfa, Node, None, Option, Some, state_at, sym, true, with_looks_of, ℕ, ◌||◌, ◌∙◌, ◌∷◌, ◌≡◌, or-false, Any, Decides-at, Decides-like, get_or_default, Any-from_list_any, list_any-from_Any, has, with_look, some_injective, arith}
+use Rattle.determinize_below.proofs.Common.{[], ap, assertion_in, Bool, by_cases, cases_lt, Decides, Fail, false, false≢true, IsAccepted, IsTested, length, List, list_any, looks_of, Nfa, Node, None, Option, Some, state_at, sym, true, with_looks_of, ℕ, ◌||◌, ◌∙◌, ◌∷◌, ◌≡◌, or-false, Any, Decides-at, Decides-like, get_or_default, Any-from_list_any, list_any-from_Any, has, with_look, some_injective, arith, Assertion}
 use Rattle.determinize_below.specs.Semantics.{Look}
-use Rattle.determinize_below.specs.declared.look.Look.{Look as Assertion}
 use Rattle.determinize_below.proofs.nfas.Edges.{state_past}
 use Rattle.determinize_below.proofs.looks.LookSets.{Decides-same, has-empty, has-insert, same}
 

@@ -2,8 +2,7 @@
 -- Main statements: distinct_push, room_for_one, cleared_all, the rulesets emptying and pushing.
 -- Used by: the calls of `SparseSet`.
 -- Idea: a bit is set exactly if its id is in the list.
-use Rattle.determinize_below.proofs.Common.{[], arith, by_cases, cases_lt, false, false≢true, get_or, has_bit, inl, inr, IsCleared, length, List, list_any-append, nat_eq, replicate, set, subst, sym, take, true, ℕ, ◌*◌, ◌++◌, ◌+◌, ◌/◌, ◌<◌, ◌||◌, ◌∙◌, ◌∷◌, ◌≡◌, ◌≤◌, ◌⊎◌, cases_eq, eqb-true, All, length-append, ne_eqb, refl, get_or-append, get_or-append_seam, list_any_more, has_id, IsSparse}
-use Rattle.std.proofs.Common.{eq-eqb}
+use Rattle.determinize_below.proofs.Common.{[], arith, by_cases, cases_lt, false, false≢true, get_or, has_bit, inl, inr, IsCleared, length, List, list_any-append, nat_eq, replicate, set, subst, sym, take, true, ℕ, ◌*◌, ◌++◌, ◌+◌, ◌/◌, ◌<◌, ◌||◌, ◌∙◌, ◌∷◌, ◌≡◌, ◌≤◌, ◌⊎◌, cases_eq, eqb-true, All, length-append, ne_eqb, refl, get_or-append, get_or-append_seam, list_any_more, has_id, IsSparse, eq-eqb}
 use Rattle.std.specs.Cmp.{nat_eq_equiv}
 use Rattle.std.specs.List.{IsDistinct}
 pub use Rattle.std.proofs.lemmas.List.{length-replicate}
