@@ -2,17 +2,10 @@
 -- Main statements: building_with_pattern, unlisted.
 -- Used by: `add_match_pattern_id`.
 -- Idea: the one pattern 0 takes no bytes until another comes.
-use Rattle.std.proofs.Common.{◌≡◌, ℕ, ◌+◌, ◌≤◌, true, false, List, [], ◌∷◌, ◌++◌, length, nat_eq, suc, zero, refl, arith, sym, ap, ◌∙◌, append-nil, length-append}
-use Rattle.std.specs.List.{list_any}
-use Rattle.std.specs.Cmp.{nat_eq_equiv}
-use Rattle.std.proofs.lemmas.Bool.Decides.{nat_tests}
-use Rattle.std.proofs.lemmas.List.Elements.{All-push}
+use Rattle.determinize_state.proofs.Common.{◌≡◌, ℕ, ◌+◌, ◌≤◌, true, false, List, [], ◌∷◌, ◌++◌, length, nat_eq, suc, zero, refl, arith, sym, ap, ◌∙◌, length-append, list_any, nat_eq_equiv, nat_tests, All-push, IsBuilding, Value, IsValue, with_pattern, is_nonempty, deltas, is_explicit, words, word, with_word, has_flag, value_of, number_at, flags, pattern_bytes, IsSpelled, with_bit, with_pattern_bytes}
+use Rattle.std.proofs.Common.{append-nil}
 use Rattle.std.proofs.lemmas.Map.Keys.{IsDistinct-push}
-use Rattle.determinize_state.specs.Building.{IsBuilding}
-use Rattle.determinize_state.specs.Value.{Value, IsValue, with_pattern, is_nonempty}
-use Rattle.determinize_state.specs.Varint.{deltas}
-use Rattle.determinize_state.specs.Spelling.{is_explicit, words, word, spell, with_word, has_flag, value_of, number_at, flags, pattern_bytes, IsSpelled}
-use Rattle.determinize_state.specs.Private.PatternBytes.{with_bit, with_pattern_bytes}
+use Rattle.determinize_state.specs.Spelling.{spell}
 use Rattle.determinize_state.proofs.building.UnfinishedBytes.{built}
 use Rattle.determinize_state.proofs.encoding.FlagBits.{has_1, has_2, or_1, or_2, or_3}
 use Rattle.determinize_state.proofs.encoding.ReadBytes.{explicit_of, match_of}

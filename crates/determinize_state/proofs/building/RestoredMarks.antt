@@ -2,16 +2,9 @@
 -- Main statements: mark_within, come_back.
 -- Used by: `restore`.
 -- Idea: bytes only grow, so cutting them and writing the sets is enough.
-use Rattle.std.proofs.Common.{◌≡◌, ℕ, ◌<◌, ◌≤◌, List, [], ◌∷◌, ◌++◌, length, All, nat_eq, refl, arith, sym, ap, ◌∙◌, take, append_assoc, subst, length-append}
-use Rattle.std.specs.List.{IsDistinct}
-use Rattle.std.proofs.Math.Seq.{take-append_seam}
-use Rattle.std.proofs.lemmas.List.Elements.{All-cons, All-head, All-tail}
-use Rattle.determinize_state.specs.Value.{Value, IsValue}
-use Rattle.determinize_state.specs.Varint.{deltas, varint, zigzag, last_id}
-use Rattle.determinize_state.specs.Spelling.{spell, with_word, value_of, IsSpelled}
-use Rattle.determinize_state.specs.Building.{IsBuilding}
+use Rattle.determinize_state.proofs.Common.{◌≡◌, ℕ, ◌<◌, ◌≤◌, List, [], ◌∷◌, ◌++◌, length, All, nat_eq, refl, arith, sym, ap, ◌∙◌, take, append_assoc, subst, length-append, IsDistinct, take-append_seam, All-cons, All-head, All-tail, Value, IsValue, deltas, varint, zigzag, last_id, with_word, value_of, IsSpelled, IsBuilding, IsGrown}
+use Rattle.determinize_state.specs.Spelling.{spell}
 use Rattle.determinize_state.specs.Private.Marking.{IsMarkOf}
-use Rattle.determinize_state.specs.Recording.{IsGrown}
 use Rattle.determinize_state.specs.declared.state.mark.Mark.{Mark}
 use Rattle.determinize_state.proofs.encoding.RoundTrip.{spell_long}
 use Rattle.determinize_state.proofs.building.UnfinishedBytes.{built}

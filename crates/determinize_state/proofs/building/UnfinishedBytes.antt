@@ -2,13 +2,8 @@
 -- Main statements: built, building_with_have, building_with_state, built_zeros.
 -- Used by: the calls of the builders.
 -- Idea: the bytes are a header and a list that grows at its end.
-use Rattle.std.proofs.Common.{◌≡◌, ℕ, true, ◌<◌, ◌≤◌, List, [], ◌∷◌, ◌++◌, refl, sym, ap, ◌∙◌, append_assoc, subst}
-use Rattle.std.proofs.lemmas.List.Elements.{All-push}
-use Rattle.determinize_state.specs.Value.{Value, IsValue, dead, is_nonempty, with_state}
-use Rattle.determinize_state.specs.Varint.{varint, zigzag, last_id}
-use Rattle.determinize_state.specs.Spelling.{is_explicit, spell, with_word, value_of, IsSpelled}
-use Rattle.determinize_state.specs.Private.PatternBytes.{with_bit}
-use Rattle.determinize_state.specs.Building.{IsBuilding}
+use Rattle.determinize_state.proofs.Common.{◌≡◌, ℕ, true, ◌<◌, ◌≤◌, List, [], ◌∷◌, ◌++◌, refl, sym, ap, ◌∙◌, append_assoc, subst, All-push, Value, IsValue, dead, is_nonempty, with_state, varint, zigzag, last_id, is_explicit, with_word, value_of, IsSpelled, with_bit, IsBuilding}
+use Rattle.determinize_state.specs.Spelling.{spell}
 use Rattle.determinize_state.proofs.encoding.Varints.{deltas-push}
 use Rattle.determinize_state.proofs.encoding.RoundTrip.{dead_valid, value_of-spell, spelled}
 use Rattle.determinize_state.proofs.values.ReplacedParts.{with_have, with_need, with_have_valid, with_need_valid}

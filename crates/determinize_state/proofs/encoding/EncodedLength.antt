@@ -2,11 +2,9 @@
 -- Main statements: spell_short.
 -- Used by: `State::memory_usage`.
 -- Idea: each part has at most five bytes for each number.
-use Rattle.std.proofs.Common.{◌≡◌, ℕ, ◌+◌, ◌*◌, ◌/◌, ◌≤◌, Bool, true, false, List, [], ◌∷◌, length, suc, zero, inl, inr, refl, arith, lit≤, length-append}
-use Rattle.std.proofs.lemmas.Bool.Decides.{leb_tells}
-use Rattle.determinize_state.specs.Value.{Value}
-use Rattle.determinize_state.specs.Varint.{groups, varint, zigzag, deltas}
-use Rattle.determinize_state.specs.Spelling.{spell, words, is_explicit}
+use Rattle.determinize_state.proofs.Common.{◌≡◌, ℕ, ◌+◌, ◌*◌, ◌/◌, ◌≤◌, Bool, true, false, List, [], ◌∷◌, length, suc, zero, inl, inr, refl, arith, lit≤, length-append, leb_tells, Value, groups, zigzag, deltas, words, is_explicit}
+use Rattle.determinize_state.specs.Varint.{varint}
+use Rattle.determinize_state.specs.Spelling.{spell}
 use Rattle.determinize_state.proofs.encoding.RoundTrip.{length-words}
 
 groups_short : (more n : ℕ) → length (groups more n) ≤ suc more

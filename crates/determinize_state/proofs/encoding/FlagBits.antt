@@ -2,8 +2,7 @@
 -- Main statements: has_1, has_2, or_4, or_8.
 -- Used by: RoundTrip, UnfinishedBytes.
 -- Idea: a flag is a bit, and setting one leaves the others.
-use Rattle.std.proofs.Common.{◌≡◌, ℕ, ◌+◌, Bool, true, false, not, nat_eq, bit_and, bit_or, refl}
-use Rattle.determinize_state.specs.Spelling.{bit}
+use Rattle.determinize_state.proofs.Common.{◌≡◌, ℕ, ◌+◌, Bool, true, false, not, nat_eq, bit_and, bit_or, refl, bit}
 
 -- the first byte with these four flags
 abbrev pub packed : Bool → Bool → Bool → Bool → ℕ

@@ -2,13 +2,8 @@
 -- Main statements: match_of, explicit_ids, implicit_ids, place_of.
 -- Used by: the calls that read a state.
 -- Idea: the bytes are those of a value, so each place has that part of the value.
-use Rattle.std.proofs.Common.{◌≡◌, ℕ, ◌+◌, ◌-◌, ◌*◌, ◌<◌, ◌≤◌, Bool, true, false, List, [], ◌∷◌, length, All, suc, zero, refl, arith, sym, ap, ◌∙◌, if◌then◌else◌, take, drop, lit≤, subst, slice_index, get_or}
-use Rattle.std.proofs.Math.Seq.{take-length}
-use Rattle.std.proofs.lemmas.List.Elements.{All-head, All-tail}
-use Rattle.std.specs.Int.{from_le_bytes, w32}
-use Rattle.determinize_state.specs.Value.{Value, is_nonempty}
-use Rattle.determinize_state.specs.Varint.{deltas, ids_from, IsDeltas}
-use Rattle.determinize_state.specs.Spelling.{is_explicit, words, number_at, numbers_in, has_flag, start_in, value_of, IsSpelled}
+use Rattle.determinize_state.proofs.Common.{◌≡◌, ℕ, ◌+◌, ◌-◌, ◌*◌, ◌<◌, ◌≤◌, Bool, true, false, List, [], ◌∷◌, length, All, suc, zero, refl, arith, sym, ap, ◌∙◌, if◌then◌else◌, take, drop, lit≤, subst, slice_index, get_or, take-length, All-head, All-tail, from_le_bytes, w32, Value, is_nonempty, deltas, ids_from, IsDeltas, is_explicit, words, number_at, numbers_in, has_flag, start_in, IsSpelled}
+use Rattle.determinize_state.specs.Spelling.{value_of}
 use Rattle.determinize_state.proofs.encoding.RoundTrip.{spell_long, match_bit, explicit_bit, count_at, drop-start, length-explicit, few}
 
 pub long : (bytes : List ℕ) → IsSpelled bytes → 9 ≤ length bytes

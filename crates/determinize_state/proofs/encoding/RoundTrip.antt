@@ -2,21 +2,13 @@
 -- Main statements: value_of-spell, spelled, decided.
 -- Used by: all that reads or writes the bytes of a state.
 -- Idea: the header has fixed places, and the lengths of the parts are in it.
-use Rattle.std.proofs.lemmas.Bool.{eqb-true}
-use Rattle.std.proofs.Common.{◌≡◌, ◌==◌, ℕ, ◌+◌, ◌*◌, ◌<◌, ◌≤◌, ◌^◌, Bool, true, false, List, [], ◌∷◌, ◌++◌, length, All, nat_eq, suc, zero, refl, arith, sym, ap, ◌∙◌, if◌then◌else◌, take, drop, lit<, subst, zero-add, suc-add, length-append}
-use Rattle.std.specs.Int.{from_le_bytes, w32}
-use Rattle.std.specs.Bool.{Decides}
-use Rattle.std.specs.Cmp.Lexicographic.{pointwise}
-use Rattle.std.proofs.lemmas.Bool.Decides.{Decides-eqb}
+use Rattle.determinize_state.proofs.Common.{eqb-true, ◌≡◌, ◌==◌, ℕ, ◌+◌, ◌*◌, ◌<◌, ◌≤◌, ◌^◌, Bool, true, false, List, [], ◌∷◌, ◌++◌, length, All, nat_eq, suc, zero, refl, arith, sym, ap, ◌∙◌, if◌then◌else◌, take, drop, lit<, subst, zero-add, suc-add, length-append, from_le_bytes, w32, Decides, pointwise, Decides-eqb, All-head, All-tail, Value, IsValue, dead, is_nonempty, deltas, is_explicit, word, words, number_at, numbers_in, has_flag, start_in, patterns_in, IsSpelled}
 use Rattle.std.proofs.lemmas.Slice.Eq.{slice_eq-Decides}
 use Rattle.std.specs.List.{IsDistinct}
 use Rattle.std.proofs.lemmas.Nat.{from_le_bytes-to_le_bytes_4}
-use Rattle.std.proofs.lemmas.List.Elements.{All-head, All-tail}
 use Rattle.std.proofs.lemmas.Map.Steps.{length-le_from_distinct_below}
 use Rattle.std.proofs.lemmas.Map.Views.{Contains-from_any}
-use Rattle.determinize_state.specs.Value.{Value, IsValue, dead, is_nonempty}
-use Rattle.determinize_state.specs.Varint.{deltas}
-use Rattle.determinize_state.specs.Spelling.{is_explicit, word, words, spell, number_at, numbers_in, has_flag, start_in, patterns_in, value_of, IsSpelled}
+use Rattle.determinize_state.specs.Spelling.{spell, value_of}
 use Rattle.determinize_state.proofs.encoding.Varints.{ids_from-deltas}
 use Rattle.determinize_state.proofs.encoding.FlagBits.{has_1, has_2, has_4, has_8}
 

@@ -2,14 +2,11 @@
 -- Main statements: ids_from-deltas, varint-one, append-varint, begins_still.
 -- Used by: RoundTrip, the loops that read and write a varint.
 -- Idea: seven bits at a time; a zigzag number is even or odd with its sign.
-use Rattle.std.proofs.Common.{◌≡◌, inl, inr, ℕ, ◌+◌, ◌-◌, ◌*◌, ◌/◌, ◌%◌, ◌^◌, ◌<◌, ◌≤◌, true, false, Option, Some, None, List, [], ◌∷◌, ◌++◌, All, nat_lt, suc, zero, refl, arith, sym, ap, ◌∙◌, append_assoc, zero-add, lit≤, subst, append-nil, length, take, drop, IfNone, IfSome}
-use Rattle.std.proofs.Math.Seq.{drop-append_seam}
-use Rattle.determinize_state.specs.Varint.{IsDeltas, zigzag, unzigzag, groups, varint, deltas, ids_from, last_id}
-use Rattle.std.proofs.lemmas.List.{length-append, length-take, take-append-le}
+use Rattle.determinize_state.proofs.Common.{◌≡◌, inl, inr, ℕ, ◌+◌, ◌-◌, ◌*◌, ◌/◌, ◌%◌, ◌^◌, ◌<◌, ◌≤◌, true, false, Option, Some, None, List, [], ◌∷◌, ◌++◌, All, nat_lt, suc, zero, refl, arith, sym, ap, ◌∙◌, append_assoc, zero-add, lit≤, subst, length, take, drop, IfNone, IfSome, drop-append_seam, IsDeltas, zigzag, unzigzag, groups, deltas, ids_from, last_id, length-take, take-append-le, All-head, All-tail, leb_tells, nat_tests, read}
+use Rattle.std.proofs.Common.{append-nil}
+use Rattle.determinize_state.specs.Varint.{varint}
+use Rattle.std.proofs.lemmas.List.{length-append}
 use Rattle.std.proofs.Math.Nat.{pow-suc, one-mul, mul-le-mul_left}
-use Rattle.std.proofs.lemmas.List.Elements.{All-head, All-tail}
-use Rattle.std.proofs.lemmas.Bool.Decides.{leb_tells, nat_tests}
-use Rattle.determinize_state.specs.Private.Groups.{read}
 
 pub unzigzag-zigzag : (from to : ℕ) → unzigzag from (zigzag from to) ≡ to
 unzigzag-zigzag from to = grind (arith, nat_tests)

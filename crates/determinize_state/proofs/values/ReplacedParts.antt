@@ -2,8 +2,7 @@
 -- Main statements: with_have, with_need.
 -- Used by: UnfinishedBytes.
 -- Idea: a record is equal if its parts are.
-use Rattle.std.proofs.Common.{ℕ, ◌<◌}
-use Rattle.determinize_state.specs.Value.{Value, IsValue}
+use Rattle.determinize_state.proofs.Common.{ℕ, ◌<◌, Value, IsValue}
 
 -- the value with another look-have
 abbrev pub with_have : Value → ℕ → Value

@@ -3,14 +3,8 @@
 -- Used by: `need_law`, WorkingLists.
 -- Idea: the set is built state by state.
 use mathlib.Core.Bool.{or-false, or-true, or_assoc}
-use Rattle.std.proofs.Common.{◌≡◌, ℕ, ◌<◌, ◌^◌, true, ◌||◌, ◌⊎◌, inr, List, [], ◌∷◌, refl, sym, ap, ◌∙◌, Option, Some, None, nat_eq}
-use Rattle.std.specs.Bool.{Decides}
-use Rattle.std.specs.List.{Any, Contains, list_any}
-use Rattle.std.proofs.lemmas.Bool.{true≢false, or_left, eq-eqb}
-use Rattle.std.proofs.lemmas.Bool.Decides.{Decides-at, Decides-or}
-use Rattle.determinize_below.specs.Edges.{assertion_of}
-use Rattle.determinize_below.specs.Look.{bit_of, has, insert}
-use Rattle.determinize_below.specs.Semantics.{Nfa}
+use Rattle.determinize_state.proofs.Common.{◌≡◌, ℕ, ◌<◌, ◌^◌, true, ◌||◌, ◌⊎◌, inr, List, [], ◌∷◌, refl, sym, ap, ◌∙◌, Option, Some, None, nat_eq, Decides, Any, Contains, list_any, true≢false, or_left, eq-eqb, Decides-at, Decides-or, assertion_of, bit_of, has, Nfa, by_test, with_assertion, needs}
+use Rattle.determinize_below.specs.Look.{insert}
 use Rattle.ordered_reach.specs.Reach.{member}
 use Rattle.determinize_below.specs.declared.look.Look.{Look as Assertion}
 use Rattle.ordered_reach.proofs.lists.Elements.{In_Contains, member_In}
@@ -18,8 +12,6 @@ use Rattle.determinize_below.proofs.looks.LookBounds.{bit_small, or_of_18}
 use Rattle.determinize_below.proofs.looks.LookSets.{Decides-same, has-insert, has-empty, same, same_sets}
 use Rattle.ordered_reach.proofs.graph.FiniteGraphs.{same_decides}
 use Rattle.determinize_below.proofs.nfas.TestedLooks.{is_look, Decides-list_any_look}
-use Rattle.ordered_reach.proofs.Cases.{by_test}
-use Rattle.determinize_state.specs.Recording.{with_assertion, needs}
 
 -- the set with an optional assertion
 has-with_assertion : (set : ℕ) (o : Option Assertion) (look : Assertion)

@@ -1,5 +1,4 @@
-use Rattle.std.proofs.Common.{ap}
-use Rattle.determinize_state.specs.Spelling.{spell}
+use Rattle.determinize_state.proofs.Common.{ap, spell}
 use Rattle.determinize_state.proofs.encoding.RoundTrip.{spell_tells, decided}
 use Rattle.determinize_state.proofs.state_laws.same_bytes.Goals as goal
 

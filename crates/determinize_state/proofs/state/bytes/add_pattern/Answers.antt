@@ -1,5 +1,4 @@
-use Rattle.std.proofs.Common.{◌≡◌, ◌∙◌, ap, arith, false, length, List, sym, true, ℕ}
-use Rattle.determinize_state.specs.Spelling.{has_flag, number_at}
+use Rattle.determinize_state.proofs.Common.{◌≡◌, ◌∙◌, ap, arith, false, length, List, sym, true, ℕ, has_flag, number_at}
 use Rattle.determinize_state.proofs.encoding.ReadBytes.{has_patterns, long}
 use Rattle.determinize_state.proofs.state.bytes.add_pattern.Goals as goal
 

@@ -1,6 +1,4 @@
-use Rattle.std.proofs.Common.{arith, ◌≡◌, ◌∙◌, ap, ℕ, drop}
-use Rattle.determinize_state.specs.Spelling.{start_in}
-use Rattle.determinize_state.specs.Varint.{ids_from}
+use Rattle.determinize_state.proofs.Common.{arith, ◌≡◌, ◌∙◌, ap, ℕ, drop, start_in, ids_from}
 use Rattle.determinize_state.proofs.encoding.ReadBytes.{long, has_patterns, start_of, rest_valid, rest_ids}
 use Rattle.determinize_state.proofs.state.bytes.nfa_state_ids.Goals as goal
 

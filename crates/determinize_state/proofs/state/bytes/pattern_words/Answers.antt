@@ -1,5 +1,4 @@
-use Rattle.std.proofs.Common.{arith, ◌≡◌, ◌≤◌, ◌*◌, ◌∙◌, sym, ap, List, ℕ, All, subst, length, take, drop}
-use Rattle.determinize_state.specs.Spelling.{numbers_in, number_at, value_of}
+use Rattle.determinize_state.proofs.Common.{arith, ◌≡◌, ◌≤◌, ◌*◌, ◌∙◌, sym, ap, List, ℕ, All, subst, length, take, drop, numbers_in, number_at, value_of}
 use Rattle.determinize_state.proofs.encoding.ReadBytes.{long, few_patterns, has_patterns, explicit_ids, implicit_ids, implicit_numbers, implicit_length}
 use Rattle.determinize_state.proofs.state.bytes.pattern_words.Goals as goal
 

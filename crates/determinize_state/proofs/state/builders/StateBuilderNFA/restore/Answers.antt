@@ -1,6 +1,4 @@
-use Rattle.std.proofs.Common.{sym, arith, subst}
-use Rattle.determinize_state.specs.Value.{Value}
-use Rattle.determinize_state.specs.Recording.{IsGrown}
+use Rattle.determinize_state.proofs.Common.{sym, arith, subst, Value, IsGrown}
 use Rattle.determinize_state.proofs.building.RestoredMarks.{mark_within, come_back}
 use Rattle.determinize_state.proofs.state.builders.StateBuilderNFA.restore.Goals as goal
 
