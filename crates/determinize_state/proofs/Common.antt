@@ -2,12 +2,12 @@
 pub use Rattle.std.proofs.Common.{◌%◌, ◌*◌, ◌+◌, ◌++◌, ◌-◌, ◌/◌, ◌<◌, ◌==◌, [], ◌^◌, All, ap, append_assoc, arith}
 pub use Rattle.std.proofs.Common.{bit_and, bit_or, Bool, drop, Err, false, get_or, IfNone, IfSome, if◌then◌else◌, inl}
 pub use Rattle.std.proofs.Common.{inr, length, length-append, List, lit<, lit≤, nat_eq, nat_lt, None, not, Ok, Option}
-pub use Rattle.std.proofs.Common.{refl, Result, slice_index, Some, subst, suc, suc-add, sym, take, true, zero, zero-add}
-pub use Rattle.std.proofs.Common.{◌||◌, ℕ, ◌∙◌, ◌∷◌, ◌≡◌, ◌≤◌, ◌⊎◌}
+pub use Rattle.std.proofs.Common.{refl, Result, slice_index, Some, subst, suc, sym, take, true, zero, zero-add, ◌||◌, ℕ}
+pub use Rattle.std.proofs.Common.{◌∙◌, ◌∷◌, ◌≡◌, ◌≤◌, ◌⊎◌}
 pub use Rattle.std.proofs.Math.Seq.{drop-append_seam, take-append_seam, take-length}
 pub use Rattle.std.proofs.lemmas.Bool.{eq-eqb, eqb-true, or_left, true≢false}
 pub use Rattle.std.proofs.lemmas.Bool.Decides.{Decides-at, Decides-eqb, Decides-or, leb_tells, nat_tests}
-pub use Rattle.std.proofs.lemmas.List.{append-nil, length-take, take-append-le}
+pub use Rattle.std.proofs.lemmas.List.{append-nil, drop-drop, length-take, take-append-le}
 pub use Rattle.std.proofs.lemmas.List.Elements.{All-cons, All-head, All-push, All-tail, filter-append}
 pub use Rattle.std.specs.Bool.{Decides, one_answer}
 pub use Rattle.std.specs.Cmp.{Equal-is, nat_eq_equiv, unsigned_ties}

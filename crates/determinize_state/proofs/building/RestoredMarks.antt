@@ -41,10 +41,8 @@ grown_back : (v w : Value) → IsGrown v w → record w {
   states = v.states;
 } ≡ v
 grown_back v w g =
-    let from_word : w.from_word ≡ v.from_word = g.from_word in
-    let half_crlf : w.half_crlf ≡ v.half_crlf = g.half_crlf in
-    let patterns : w.patterns ≡ v.patterns = g.patterns in
-    rw (from_word, half_crlf, patterns)
+    let e : (w.from_word ≡ v.from_word) × (w.half_crlf ≡ v.half_crlf) × (w.patterns ≡ v.patterns) =
+    (g.from_word, g.half_crlf, g.patterns) in rw (e.0, e.1, e.2)
 
 all_front : (P : ℕ → Type 0) (xs ys : List ℕ) → All P (xs ++ ys) → All P xs
 all_front P [] ys h = λ k d e. absurd (omega (arith, e))

@@ -45,13 +45,8 @@ pub building_with_state : (bytes : List ℕ) (from id : ℕ) → IsBuilding byte
     × (value_of (bytes ++ varint (zigzag from id)) ≡ with_state (value_of bytes) id)
 building_with_state bytes from id h small =
     let v : Value = value_of bytes in
-    let valid : IsValue (with_state v id) = record {
-      have = h.is.valid.have;
-      need = h.is.valid.need;
-      distinct = h.is.valid.distinct;
-      pattern_ids = h.is.valid.pattern_ids;
-      state_ids = All-push (λ k. k ≤ 2147483646) v.states id h.is.valid.state_ids small;
-    } in
+    let all = All-push (λ k. k ≤ 2147483646) v.states id h.is.valid.state_ids small in
+    let valid : IsValue (with_state v id) = assumption (all, h.is.valid) in
     built _ id (with_state v id) valid (sym (last-push 0 v.states id)) (spell-pushed v id ∙ rw (h.is.spelled, h.last))
 
 pub building_from_word : (bytes : List ℕ) (last : ℕ) → IsBuilding bytes last →
@@ -60,14 +55,7 @@ unfolding spell
 building_from_word bytes last h =
     let v : Value = value_of bytes in
     let w : Value = record v { from_word = true } in
-    let valid : IsValue w = record {
-      have = h.is.valid.have;
-      need = h.is.valid.need;
-      distinct = h.is.valid.distinct;
-      pattern_ids =
-          h.is.valid.pattern_ids;
-      state_ids = h.is.valid.state_ids;
-    } in
+    let valid : IsValue w = assumption h.is.valid in
     let same : spell w ≡ with_bit (spell v) 4 =
     rw (or_4 (is_nonempty v.patterns) (is_explicit v.patterns) v.from_word v.half_crlf) in
     built _ last w valid h.last (same ∙ ap (λ (b : List ℕ). with_bit b 4) h.is.spelled)
@@ -78,14 +66,7 @@ unfolding spell
 building_half_crlf bytes last h =
     let v : Value = value_of bytes in
     let w : Value = record v { half_crlf = true } in
-    let valid : IsValue w = record {
-      have = h.is.valid.have;
-      need = h.is.valid.need;
-      distinct = h.is.valid.distinct;
-      pattern_ids =
-          h.is.valid.pattern_ids;
-      state_ids = h.is.valid.state_ids;
-    } in
+    let valid : IsValue w = assumption h.is.valid in
     let same : spell w ≡ with_bit (spell v) 8 =
     rw (or_8 (is_nonempty v.patterns) (is_explicit v.patterns) v.from_word v.half_crlf) in
     built _ last w valid h.last (same ∙ ap (λ (b : List ℕ). with_bit b 8) h.is.spelled)

@@ -21,12 +21,9 @@ varint_short n = groups_short 4 n
 
 deltas_short : (from : ℕ) (ids : List ℕ) → length (deltas from ids) ≤ 5 * length ids
 deltas_short from [] = lit≤ tt
-deltas_short from (id ∷ ids) = omega (
-  arith,
-  length-append (varint (zigzag from id)) (deltas id ids),
-  varint_short (zigzag from id),
-  deltas_short id ids,
-)
+deltas_short from (id ∷ ids) =
+    let size = length-append (varint (zigzag from id)) (deltas id ids) in
+    omega (arith, size, varint_short (zigzag from id), deltas_short id ids)
 
 -- nine bytes, at most four plus four per pattern, and at most five per NFA state
 pub spell_short : (v : Value) → length (spell v) ≤ 13 + 4 * length v.patterns + 5 * length v.states
@@ -35,10 +32,7 @@ spell_short v = in_each_case (is_explicit v.patterns) refl
   where
     in_each_case : (b : Bool) → is_explicit v.patterns ≡ b
         → length (spell v) ≤ 13 + 4 * length v.patterns + 5 * length v.states
-    in_each_case true e = rw e (omega (
-      arith,
-      length-append (words v.patterns) (deltas 0 v.states),
-      length-words v.patterns,
-      deltas_short 0 v.states,
-    ))
+    in_each_case true e =
+        let size = length-append (words v.patterns) (deltas 0 v.states) in
+        rw e (omega (arith, size, length-words v.patterns, deltas_short 0 v.states))
     in_each_case false e = rw e (omega (arith, deltas_short 0 v.states))

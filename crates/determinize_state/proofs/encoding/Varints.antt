@@ -96,8 +96,8 @@ read-deltas from id ids small here =
     ∙ rw (zero-add (1 * zigzag from id), one-mul (zigzag from id))
 
 some_parts : (a c : ℕ) (b d : List ℕ) → ◌≡◌ {A = Option (ℕ × List ℕ)} (Some (a, b)) (Some (c, d)) → (a ≡ c) × (b ≡ d)
-some_parts a c b d e = let pair : ◌≡◌ {A = ℕ × List ℕ} (a, b) (c, d) = (cc) in
-    (ap (λ (p : ℕ × List ℕ). p.0) pair, ap (λ (p : ℕ × List ℕ). p.1) pair)
+some_parts a c b d e =
+    let pair : ◌≡◌ {A = ℕ × List ℕ} (a, b) (c, d) = (cc) in (ap (λ p. p.0) pair, ap (λ p. p.1) pair)
 
 none_differs : (p : ℕ × List ℕ) → ◌≡◌ {A = Option (ℕ × List ℕ)} (Some p) None → ⊥
 none_differs p e = (cc)

@@ -13,19 +13,7 @@ abbrev pub with_need : Value → ℕ → Value
 with_need v set = record v { look_need = set }
 
 pub with_have_valid : (v : Value) (set : ℕ) → IsValue v → set < 262144 → IsValue (with_have v set)
-with_have_valid v set h small = record {
-  have = small;
-  need = h.need;
-  distinct = h.distinct;
-  pattern_ids = h.pattern_ids;
-  state_ids = h.state_ids;
-}
+with_have_valid v set h small = assumption (small, h)
 
 pub with_need_valid : (v : Value) (set : ℕ) → IsValue v → set < 262144 → IsValue (with_need v set)
-with_need_valid v set h small = record {
-  have = h.have;
-  need = small;
-  distinct = h.distinct;
-  pattern_ids = h.pattern_ids;
-  state_ids = h.state_ids;
-}
+with_need_valid v set h small = assumption (small, h)
