@@ -9,11 +9,7 @@ use Rattle.determinize_state.proofs.encoding.RoundTrip.{length-words}
 
 groups_short : (more n : ℕ) → length (groups more n) ≤ suc more
 groups_short zero n = lit≤ tt
-groups_short (suc more) n =
-    elim (leb_tells (suc n) 128) [
-      | inl h ↦ rw h.0 (omega arith)
-      | inr h ↦ rw h.0 (omega (arith, groups_short more (n / 128)))
-    ]
+groups_short (suc more) n = grind (arith, groups_short more (n / 128))
 
 varint_short : (n : ℕ) → length (varint n) ≤ 5
 unfolding varint

@@ -18,8 +18,7 @@ dead_valid = record {
   have = lit< tt;
   need = lit< tt;
   distinct = tt;
-  pattern_ids = λ k d h.
-      absurd (omega (arith, h));
+  pattern_ids = λ k d h. absurd (omega (arith, h));
   state_ids = λ k d h. absurd (omega (arith, h));
 }
 

@@ -213,10 +213,7 @@ deltas-push from (i ∷ ids) id = rw (deltas-push i ids id)
 groups-one_more : (more n : ℕ) → n < 128 * 128 ^ more → groups (suc more) n ≡ groups more n
 groups-one_more zero n small = let one : nat_lt n 128 ≡ true = grind (arith, nat_tests) in rw one
 groups-one_more (suc more) n small =
-    elim (leb_tells (suc n) 128) [
-      | inl h ↦ rw h.0
-      | inr h ↦ rw (h.0, groups-one_more more (n / 128) (fits_after more n small))
-    ]
+    let rest = groups-one_more more (n / 128) (fits_after more n small) in grind (arith, nat_tests, rest)
 
 -- a number of one group
 pub varint-one : (n : ℕ) → n < 128 → varint n ≡ n ∷ []

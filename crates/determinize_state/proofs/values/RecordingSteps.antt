@@ -27,7 +27,8 @@ module _ (nfa : Nfa) where
       let both = filter-append (λ x. not (is_capture nfa x)) xs (s ∷ []) in
       by_test (is_capture nfa s)
       (λ e. rw e (ap (λ l. added nfa v l) (sym (both ∙ rw e (append-nil (without (is_capture nfa) xs))))))
-      (λ e. rw e (added-append v (without (is_capture nfa) xs) (s ∷ []) ∙ ap (λ l. added nfa v l) (sym (both ∙ rw e refl))))
+      (λ e. rw e (added-append v (without (is_capture nfa) xs) (s ∷ [])
+      ∙ ap (λ l. added nfa v l) (sym (both ∙ rw e refl))))
 
   -- no more state
   pub added-none : (v : Value) → v ≡ added nfa v []

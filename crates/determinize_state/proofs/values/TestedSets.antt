@@ -22,11 +22,9 @@ has-with_assertion set (Some other) look = has-insert set other look
 has-needs : (nfa : Nfa) (set : ℕ) (xs : List ℕ) (look : Assertion)
     → has (needs nfa set xs) look ≡ (has set look || list_any (λ s. is_look (assertion_of nfa s) look) xs)
 has-needs nfa set [] look = has-with_assertion set None look
-has-needs nfa set (s ∷ xs) look = grind (
-  arith,
-  has-needs nfa (with_assertion set (assertion_of nfa s)) xs look,
-  has-with_assertion set (assertion_of nfa s) look,
-)
+has-needs nfa set (s ∷ xs) look =
+    let rest = has-needs nfa (with_assertion set (assertion_of nfa s)) xs look in
+    grind (arith, rest, has-with_assertion set (assertion_of nfa s) look)
 
 -- look-need contains an assertion if and only if it did before or some listed state tests it
 pub Decides-needs : (nfa : Nfa) (set : ℕ) (xs : List ℕ) (look : Assertion)
