@@ -2,7 +2,7 @@
 -- Main statements: spell_short.
 -- Used by: `State::memory_usage`.
 -- Idea: each part has at most five bytes for each number.
-use Rattle.determinize_state.proofs.Common.{◌≡◌, ℕ, ◌+◌, ◌*◌, ◌/◌, ◌≤◌, Bool, true, false, List, [], ◌∷◌, length, suc, zero, inl, inr, refl, arith, lit≤, length-append, leb_tells, Value, groups, zigzag, deltas, words, is_explicit}
+use Rattle.determinize_state.proofs.Common.{◌≡◌, ℕ, ◌+◌, ◌*◌, ◌/◌, ◌≤◌, Bool, true, false, List, [], ◌∷◌, length, suc, zero, refl, arith, lit≤, length-append, Value, groups, zigzag, deltas, words, is_explicit}
 use Rattle.determinize_state.specs.Varint.{varint}
 use Rattle.determinize_state.specs.Spelling.{spell}
 use Rattle.determinize_state.proofs.encoding.RoundTrip.{length-words}

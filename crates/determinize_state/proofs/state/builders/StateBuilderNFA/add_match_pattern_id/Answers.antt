@@ -1,4 +1,4 @@
-use Rattle.determinize_state.proofs.Common.{◌≡◌, ap, ◌∙◌, [], false, true, nat_eq, list_any, Value, with_pattern, value_of, with_pattern_bytes}
+use Rattle.determinize_state.proofs.Common.{◌≡◌, ap, ◌∙◌, false, true, nat_eq, list_any, Value, with_pattern, value_of, with_pattern_bytes}
 use Rattle.determinize_state.proofs.building.AddedPatterns.{building_with_pattern, unlisted}
 use Rattle.determinize_state.proofs.state.builders.StateBuilderNFA.add_match_pattern_id.Goals as goal
 
