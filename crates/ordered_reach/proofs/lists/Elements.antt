@@ -95,7 +95,7 @@ Earlier-without {A} cap (x ∷ xs) i j s t l a b = by_test (cap x)
     go zero (suc j) l a b ih = let q : x ≡ s = cc in rw (← q) (Earlier_head xs x t (In-without cap xs t (j, b)).0)
     go (suc i) (suc j) l a b ih = Earlier_tail xs s t x (ih i j (omega arith) a b)
 
--- where no element stands at two indices in order, its index is one
+-- where no element is at two indices in order, each has one index
 pub once_by_order : {A : Type 0} (xs : List A)
     → ((i j : ℕ) (s : A) → i < j → slice_get xs i ≡ Some s → slice_get xs j ≡ Some s → ⊥)
     → (i j : ℕ) (s : A) → slice_get xs i ≡ Some s → slice_get xs j ≡ Some s → i ≡ j
