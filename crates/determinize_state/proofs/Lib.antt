@@ -1,3 +1,4 @@
+pub mod Common
 pub mod building
 pub mod encoding
 pub mod values

@@ -1,3 +1,2 @@
 pub mod RecordingSteps
-pub mod ReplacedParts
 pub mod TestedSets

@@ -2,20 +2,16 @@
 -- Main statements: meets-from, meets-some, has-word.
 -- Used by: the four classes, and whether a closure is repeated.
 -- Idea: a bit that is in both numbers is that of an assertion.
-use mathlib.Core.Bool.{and-true, and-false}
-use Rattle.determinize_below.proofs.Common.{and_from, ap, arith, bit_and, Bool, both_ways, by_test, each_look, false, fun_ext, list_any, lit<, Look, nat_eq, not, sym, true, ℕ, ◌&&◌, ◌<◌, ◌^◌, ◌∙◌, ◌≡◌}
-use Rattle.std.proofs.lemmas.Nat.{and_le_r}
+use Rattle.determinize_below.proofs.Common.{and_from, ap, arith, bit_and, Bool, both_ways, by_test, each_look, false, fun_ext, list_any, lit<, Look, sym, true, ℕ, ◌&&◌, ◌<◌, ◌^◌, ◌∙◌, ◌≡◌, and-true, and-false, and_le_r, has_haystack, has_line, has_crlf, has_word}
 use Rattle.determinize_below.specs.Classes.{haystack_looks, line_looks, crlf_looks, word_looks}
-use Rattle.determinize_below.specs.Look.{has, meets, has_haystack, has_line, has_crlf, has_word}
+use Rattle.determinize_below.specs.Look.{has, meets}
 use Rattle.determinize_below.proofs.looks.LookSets.{has-intersect, has-empty, same_sets, each_look-any}
 
 -- two sets that do not meet have no common member
 pub meets-none : (a b : ℕ) (l : Look) → meets a b ≡ false → (has a l && has b l) ≡ false
 unfolding meets
-meets-none a b l h = sym (has-intersect a b l) ∙ ap (λ s. has s l) (empty _ h) ∙ has-empty l
-  where
-    empty : (n : ℕ) → not (nat_eq n 0) ≡ false → n ≡ 0
-    empty n h = grind arith
+meets-none a b l h =
+    let empty : bit_and a b ≡ 0 = grind arith in sym (has-intersect a b l) ∙ ap (λ s. has s l) empty ∙ has-empty l
 
 -- a common member
 pub meets-from : (a b : ℕ) (l : Look) → has a l ≡ true → has b l ≡ true → meets a b ≡ true

@@ -2,8 +2,7 @@
 -- Main statements: all_units_at, all_units_from, all_units_fails.
 -- Used by: LookBehindTable.
 -- Idea: a test of all bytes below 256 and of EOI.
-use Rattle.determinize_below.proofs.Common.{and_from, arith, Bool, both_ways, by_test, false, inl, inr, IsUnit, None, Option, refl, Some, subst, suc, sym, true, zero, ℕ, ◌<◌, ◌≡◌, ◌⊎◌}
-use Rattle.std.proofs.lemmas.Bool.{and_parts}
+use Rattle.determinize_below.proofs.Common.{and_from, arith, Bool, both_ways, by_test, false, IsUnit, None, Option, refl, Some, subst, suc, true, zero, ℕ, ◌<◌, ◌≡◌, and_parts, by_cases, cases_lt}
 use Rattle.determinize_below.specs.Truth.{all_below, all_units}
 
 all_below_from : (n : ℕ) (test : ℕ → Bool) → ((b : ℕ) → b < n → test b ≡ true) → all_below n test ≡ true
@@ -11,21 +10,13 @@ unfolding all_below
 all_below_from zero test h = refl
 all_below_from (suc n) test h = and_from _ _ (h n (omega arith)) (all_below_from n test (λ b k. h b (omega arith)))
 
-below_last : (n b : ℕ) (P : ℕ → Type 0) → b < suc n → P n → (b < n → P b) → P b
-below_last n b P h last before = by_cases (compare_last n b h)
-  where
-    compare_last : (n b : ℕ) → b < suc n → (b ≡ n) ⊎ (b < n)
-    compare_last n b h = grind arith
-
-    by_cases : (b ≡ n) ⊎ (b < n) → P b
-    by_cases (inl e) = subst P (sym e) last
-    by_cases (inr k) = before k
-
 all_below_at : (n : ℕ) (test : ℕ → Bool) → all_below n test ≡ true → (b : ℕ) → b < n → test b ≡ true
 unfolding all_below
 all_below_at zero test h b k = absurd (omega arith)
 all_below_at (suc n) test h b k =
-    below_last n b (λ i. test i ≡ true) k (and_parts _ _ h).0 (all_below_at n test (and_parts _ _ h).1 b)
+    by_cases (cases_lt b n)
+    (λ l. all_below_at n test (and_parts _ _ h).1 b l)
+    (λ l. let e : n ≡ b = omega arith in subst (λ i. test i ≡ true) e (and_parts _ _ h).0)
 
 -- each unit passes
 pub all_units_at : (test : Option ℕ → Bool) → all_units test ≡ true → (q : Option ℕ) → IsUnit q → test q ≡ true

@@ -2,11 +2,8 @@
 -- Main statements: known_is, known-holds, known-every.
 -- Used by: `known_law`, StartKinds, StepTables.
 -- Idea: each assertion has a unit that decides it, or depends on no unit.
-use Rattle.determinize_below.proofs.Common.{and_right, arith, beq, Bool, by_test, Decides, End, EndCRLF, EndLF, eq-eqb, false, holds, is_word, IsUnit, lit<, Look, nat_eq, None, not, Option, or_left, refl, Some, Start, StartCRLF, StartLF, sym, true, WordAsciiNegate, WordEndAscii, WordEndHalfAscii, WordEndHalfUnicode, WordEndUnicode, WordStartAscii, WordStartHalfAscii, WordStartHalfUnicode, WordStartUnicode, WordUnicodeNegate, ℕ, ◌&&◌, ◌<◌, ◌∙◌, ◌≡◌}
-use mathlib.Core.Bool.{◌||◌}
-use Rattle.determinize_below.specs.Truth.{all_units, behind_test, is_known}
-use Rattle.determinize_below.specs.Semantics.{crlf_first, crlf_second, is_word_byte, is}
-use Rattle.std.specs.Option.{is_none}
+use Rattle.determinize_below.proofs.Common.{and_right, arith, beq, Bool, by_test, Decides, End, EndCRLF, EndLF, eq-eqb, false, holds, is_word, IsUnit, lit<, Look, nat_eq, None, not, Option, or_left, refl, Some, Start, StartCRLF, StartLF, sym, true, WordStartHalfAscii, WordStartHalfUnicode, ℕ, ◌&&◌, ◌<◌, ◌∙◌, ◌≡◌, all_units, behind_test, is_known, crlf_first, crlf_second, is, is_none, ◌||◌}
+use Rattle.determinize_below.specs.Semantics.{is_word_byte}
 use Rattle.determinize_below.proofs.looks.EveryUnit.{all_units_at, all_units_from, all_units_fails, all_units_constant}
 
 -- the unit of a word byte
@@ -26,11 +23,8 @@ crlf_unit false = lit< tt
 
 end_lf : (t : ℕ) → all_units (λ q. is_none q || is q t) ≡ false
 end_lf t = by_test (nat_eq 0 t)
-    (λ e. all_units_fails (λ q. is_none q || is q t) (Some 1) (lit< tt) (other t e))
+    (λ e. all_units_fails (λ q. is_none q || is q t) (Some 1) (lit< tt) (grind arith))
     (λ e. all_units_fails (λ q. is_none q || is q t) (Some 0) (lit< tt) e)
-  where
-    other : (t : ℕ) → nat_eq 0 t ≡ true → nat_eq 1 t ≡ false
-    other t e = grind arith
 
 end_crlf : (reverse first : Bool)
     → all_units (λ q. is_none q || is q (crlf_first reverse) || (is q (crlf_second reverse) && not first)) ≡ false
@@ -69,19 +63,9 @@ known_is reverse t p End = all_units_fails is_none (Some 0) (lit< tt) refl
 known_is reverse t p StartLF = all_units_constant (is_none p || is p t)
 known_is reverse t p EndLF = end_lf t
 known_is reverse t p StartCRLF =
-    start_crlf (is_none p || is p (crlf_second reverse)) (is p (crlf_first reverse)) (crlf_second reverse) (crlf_unit reverse)
+    start_crlf (is_none p || is p (crlf_second reverse)) (is p (crlf_first reverse)) _ (crlf_unit reverse)
 known_is reverse t p EndCRLF = end_crlf reverse (is p (crlf_first reverse))
-known_is reverse t p WordAsciiNegate = word_negate (is_word p)
-known_is reverse t p WordUnicodeNegate = word_negate (is_word p)
-known_is reverse t p WordStartAscii = word_start (is_word p)
-known_is reverse t p WordEndAscii = word_end (is_word p)
-known_is reverse t p WordStartUnicode = word_start (is_word p)
-known_is reverse t p WordEndUnicode = word_end (is_word p)
-known_is reverse t p WordStartHalfAscii = all_units_constant (not (is_word p))
-known_is reverse t p WordEndHalfAscii = word_end_half
-known_is reverse t p WordStartHalfUnicode = all_units_constant (not (is_word p))
-known_is reverse t p WordEndHalfUnicode = word_end_half
-known_is reverse t p s = word (is_word p)
+known_is reverse t p s = search (word, word_negate, word_start, word_end, word_end_half, all_units_constant)
 
 -- an assertion satisfied by the look-behind holds for every next unit
 pub known-holds : (reverse : Bool) (t : ℕ) (p q : Option ℕ) (l : Look) → is_known reverse t p l ≡ true
@@ -89,8 +73,8 @@ pub known-holds : (reverse : Bool) (t : ℕ) (p q : Option ℕ) (l : Look) → i
 known-holds reverse t p q l h = from_table reverse t p q l (sym (known_is reverse t p l) ∙ h)
   where
     from_table : (reverse : Bool) (t : ℕ) (p q : Option ℕ) (l : Look)
-        → behind_test (is_none p) (is_none p || is p t) (is_none p || is p (crlf_second reverse)) (not (is_word p)) l ≡ true
-        → holds reverse t p q l ≡ true
+        → behind_test (is_none p) (is_none p || is p t) (is_none p || is p (crlf_second reverse)) (not (is_word p)) l
+        ≡ true → holds reverse t p q l ≡ true
     from_table reverse t p q Start h = h
     from_table reverse t p q StartLF h = h
     from_table reverse t p q StartCRLF h = or_left _ _ h

@@ -2,8 +2,7 @@
 -- Main statements: bit_small, or_of_18.
 -- Used by: LookSets.
 -- Idea: by the 18 assertions.
-use Rattle.determinize_below.proofs.Common.{bit_of, bit_or, lit<, Look, Start, ℕ, ◌<◌, ◌^◌}
-use Rattle.std.proofs.lemmas.Nat.{or_lt}
+use Rattle.determinize_below.proofs.Common.{bit_of, bit_or, lit<, Look, Start, ℕ, ◌<◌, ◌^◌, or_lt}
 
 -- each bit is below the 18th
 pub bit_small : (l : Look) → bit_of l < 2 ^ 18

@@ -2,16 +2,8 @@
 -- Main statements: has-union, has-insert, same_sets, Decides-empty.
 -- Used by: all that computes with sets of assertions.
 -- Idea: a set is the bits of its members, and the bits of two assertions are distinct.
-use Rattle.determinize_below.proofs.Common.{and_right, ap, arith, bit_and, bit_at, bit_at-zero, bit_of, bit_or, Bool, Decides, each_look, End, EndCRLF, EndLF, eqb-true, false, get_or, inl, inr, list_any, list_any_at, lit<, Look, nat_eq, not, refl, Start, StartCRLF, StartLF, sym, true, WordAscii, WordAsciiNegate, WordEndAscii, WordEndHalfAscii, WordEndHalfUnicode, WordEndUnicode, WordStartAscii, WordStartHalfAscii, WordStartHalfUnicode, WordStartUnicode, WordUnicode, WordUnicodeNegate, ℕ, ◌&&◌, ◌*◌, ◌<◌, ◌^◌, ◌∙◌, ◌≡◌}
-use Rattle.std.proofs.Common.{◌-◌, max, min, eq-eqb}
-use Rattle.std.specs.Int.{bit_not, w32}
-use mathlib.Core.Bool.{◌||◌, or-false, and-true}
-use Rattle.std.proofs.lemmas.Nat.{pow_pos}
-use Rattle.std.proofs.lemmas.Nat.Bits.{bit_at_or, bit_at_and, bit_at_not, bit_at-lt, and_pow, bit_at-pow_same, bit_at-pow_other, same_from_bits_below}
-use Rattle.std.proofs.lemmas.Bool.Decides.{eqb_tells}
-use Rattle.std.proofs.lemmas.Bool.{or_right, false_from_ne_true}
+use Rattle.determinize_below.proofs.Common.{ap, arith, bit_and, bit_at, bit_at-zero, bit_of, bit_or, Bool, Decides, each_look, End, EndCRLF, EndLF, eqb-true, false, get_or, inl, inr, list_any, list_any_at, lit<, Look, nat_eq, not, refl, Start, StartCRLF, StartLF, sym, true, WordAscii, WordAsciiNegate, WordEndAscii, WordEndHalfAscii, WordEndHalfUnicode, WordEndUnicode, WordStartAscii, WordStartHalfAscii, WordStartHalfUnicode, WordStartUnicode, WordUnicode, WordUnicodeNegate, ℕ, ◌&&◌, ◌<◌, ◌^◌, ◌∙◌, ◌≡◌, bit_not, w32, or-false, and-true, pow_pos, bit_at_or, bit_at_and, bit_at_not, bit_at-lt, and_pow, bit_at-pow_same, bit_at-pow_other, same_from_bits_below, eqb_tells, or_right, false_from_ne_true, agree_below_at, subst, eq-eqb, ◌||◌}
 use Rattle.determinize_below.proofs.looks.LookBounds.{bit_small}
-use borrow.Author.Count.{below_none, below_more}
 use Rattle.determinize_below.specs.Look.{has, insert, remove, subtract}
 
 -- the number of the assertion, from 0
@@ -45,60 +37,33 @@ numbered s = (refl, lit< tt, refl)
 -- a property of the index of each assertion is one of each number below 18
 at_indices : (P : ℕ → Type 0) → ((l : Look) → P (index_of l)) → (i : ℕ) → i < 18 → P i
 unfolding index_of
-at_indices P h = (below_more P 17
-    (below_more P 16 (below_more P 15
-    (below_more P 14 (below_more P 13
-    (below_more P 12 (below_more P 11
-    (below_more P 10 (below_more P 9
-    (below_more P 8 (below_more P 7
-    (below_more P 6 (below_more P 5
-    (below_more P 4 (below_more P 3
-    (below_more P 2 (below_more P 1 (below_more P 0 (below_none P) (h Start)) (h End))
-    (h StartLF)) (h EndLF)) (h StartCRLF)) (h EndCRLF)) (h WordAscii))
-    (h WordAsciiNegate)) (h WordUnicode)) (h WordUnicodeNegate)) (h WordStartAscii))
-    (h WordEndAscii)) (h WordStartUnicode)) (h WordEndUnicode))
-    (h WordStartHalfAscii)) (h WordEndHalfAscii)) (h WordStartHalfUnicode))
-    (h WordEndHalfUnicode))
-
--- a bit as a test
-test_of_bit : (x p : ℕ) → x < 2 → 0 < p → not (nat_eq (x * p) 0) ≡ nat_eq x 1
-test_of_bit x p h q = grind arith
+at_indices P h i l =
+    let e : index_of (get_or each_look i Start) ≡ i = eqb-true _ _
+    (agree_below_at (λ k. nat_eq (index_of (get_or each_look k Start)) k) (λ k. true) 18 i refl l) in
+    subst P e (h (get_or each_look i Start))
 
 pub has-bit : (s : ℕ) (l : Look) → has s l ≡ nat_eq (bit_at s (index_of l)) 1
 unfolding has
 has-bit s l =
-    rw ((numbered l).0, and_pow s (index_of l)) (test_of_bit _ _ (bit_at-lt s (index_of l)) (pow_pos (index_of l)))
-
-or_test : (x y : ℕ) → x < 2 → y < 2 → nat_eq (max x y) 1 ≡ (nat_eq x 1 || nat_eq y 1)
-or_test x y h k = grind arith
-
-and_test : (x y : ℕ) → x < 2 → y < 2 → nat_eq (min x y) 1 ≡ (nat_eq x 1 && nat_eq y 1)
-and_test x y h k = grind arith
-
-not_test : (x : ℕ) → x < 2 → nat_eq (1 - x) 1 ≡ not (nat_eq x 1)
-not_test x h = grind arith
+    rw ((numbered l).0, and_pow s (index_of l)) (grind (arith, bit_at-lt s (index_of l), pow_pos (index_of l)))
 
 pub has-union : (a b : ℕ) (l : Look) → has (bit_or a b) l ≡ (has a l || has b l)
 has-union a b l =
     rw (has-bit (bit_or a b) l, has-bit a l, has-bit b l, bit_at_or a b (index_of l))
-    (or_test _ _ (bit_at-lt a (index_of l)) (bit_at-lt b (index_of l)))
+    (grind (arith, bit_at-lt a (index_of l), bit_at-lt b (index_of l)))
 
 pub has-intersect : (a b : ℕ) (l : Look) → has (bit_and a b) l ≡ (has a l && has b l)
 has-intersect a b l =
     rw (has-bit (bit_and a b) l, has-bit a l, has-bit b l, bit_at_and a b (index_of l))
-    (and_test _ _ (bit_at-lt a (index_of l)) (bit_at-lt b (index_of l)))
+    (grind (arith, bit_at-lt a (index_of l), bit_at-lt b (index_of l)))
 
 pub has-subtract : (a b : ℕ) (l : Look) → b < 2 ^ 32 → has (subtract a b) l ≡ (has a l && not (has b l))
 unfolding subtract
 has-subtract a b l h =
-    rw (
-      has-intersect a (bit_not w32 b) l,
-      has-bit (bit_not w32 b) l,
-      has-bit b l,
-      bit_at_not w32 b (index_of l) h
-          (let k : index_of l < 18 = (numbered l).1 in omega arith),
-      not_test _ (bit_at-lt b (index_of l)),
-    )
+    let k : index_of l < 18 = (numbered l).1 in
+    let n = bit_at_not w32 b (index_of l) h (omega arith) in
+    rw (has-intersect a (bit_not w32 b) l, has-bit (bit_not w32 b) l, has-bit b l, n)
+    (grind (arith, bit_at-lt b (index_of l)))
 
 pub has-empty : (l : Look) → has 0 l ≡ false
 has-empty l = rw (has-bit 0 l, bit_at-zero (index_of l))
@@ -146,8 +111,7 @@ pub has-insert_others : (s : ℕ) (l k : Look) → ¬ (k ≡ l) → has (insert 
 has-insert_others s l k n = has-insert s l k ∙ ap (λ b. has s k || b) (same_other l k n) ∙ or-false (has s k)
 
 pub has-remove_own : (s : ℕ) (l : Look) → has (remove s l) l ≡ false
-has-remove_own s l = has-remove s l l ∙ ap (λ b. has s l && not b) ((Decides-same l l).1 refl) ∙ and_right
-    (has s l) false refl
+has-remove_own s l = grind (arith, has-remove s l l, (Decides-same l l).1 refl)
 
 pub has-remove_others : (s : ℕ) (l k : Look) → ¬ (k ≡ l) → has (remove s l) k ≡ has s k
 has-remove_others s l k n = has-remove s l k ∙ ap (λ b. has s k && not b) (same_other l k n) ∙ and-true (has s k)
@@ -156,16 +120,12 @@ has-remove_others s l k n = has-remove s l k ∙ ap (λ b. has s k && not b) (sa
 pub each_look-any : (test : Look → Bool) (l : Look) → test l ≡ true → list_any test each_look ≡ true
 each_look-any test l h = list_any_at test each_look (index_of l) Start (numbered l).1 (ap test ((numbered l).2) ∙ h)
 
-test_tells : (x y : ℕ) → x < 2 → y < 2 → nat_eq x 1 ≡ nat_eq y 1 → x ≡ y
-test_tells x y h k e = grind arith
-
 -- two sets with the same members are the same number
 pub same_sets : (a b : ℕ) → a < 2 ^ 18 → b < 2 ^ 18 → ((l : Look) → has a l ≡ has b l) → a ≡ b
 same_sets a b h k same_members =
     same_from_bits_below 18 a b h k
     (at_indices (λ i. bit_at a i ≡ bit_at b i)
-    (λ l. test_tells _ _ (bit_at-lt a (index_of l)) (bit_at-lt b (index_of l))
-    (sym (has-bit a l) ∙ same_members l ∙ has-bit b l)))
+    (λ l. grind (arith, bit_at-lt a (index_of l), bit_at-lt b (index_of l), has-bit a l, has-bit b l, same_members l)))
 
 -- a set is empty if and only if it has no member
 pub Decides-empty : (s : ℕ) → s < 2 ^ 18 → Decides (nat_eq s 0) ((l : Look) → has s l ≡ false)

@@ -2,13 +2,7 @@
 -- Main statements: ranges_more, read_at, all_states.
 -- Used by: `mark_ranges`, `boundaries_of`, `are_alike`.
 -- Idea: the first range that contains a byte is among the ranges so far, or it is the next one.
-use Rattle.std.proofs.Common.{ap₂, cond}
-use Rattle.determinize_below.proofs.Common.{[], ap, Bool, by_cases, by_test, cases_lt, Fail, get_or, length, List, Nfa, Node, None, Option, refl, slice_get, Some, state_at, sym, take, target_of, Transition, ℕ, ◌++◌, ◌+◌, ◌<◌, ◌∙◌, ◌∷◌, ◌≡◌}
-use Rattle.std.specs.Option.{option_or}
-use Rattle.std.proofs.lemmas.List.{take_more}
-use Rattle.std.proofs.lemmas.Option.{get_or_from_slice_get}
-use Rattle.determinize_below.specs.Private.Boundaries.{MarksChanges}
-use Rattle.determinize_below.specs.Transition.{matches, sparse_target}
+use Rattle.determinize_below.proofs.Common.{[], ap, Bool, by_cases, by_test, cases_lt, Fail, get_or, length, List, Nfa, Node, None, Option, refl, slice_get, Some, state_at, sym, take, target_of, Transition, ℕ, ◌++◌, ◌+◌, ◌<◌, ◌∙◌, ◌∷◌, ◌≡◌, ap₂, cond, option_or, take_more, get_or_from_slice_get, MarksChanges, matches, sparse_target}
 use Rattle.determinize_below.proofs.nfas.Edges.{state_past}
 
 -- the target of some ranges and one more

@@ -2,13 +2,10 @@
 -- Main statements: edges-agree, edges-more, edges-capture, edges-or-target.
 -- Used by: SoundNfa, and the steps of a walk.
 -- Idea: by the kinds of states; only a `Look` state depends on the set.
-use Rattle.determinize_below.proofs.Common.{[], ap, arith, assertion_in, Bool, by_cases, by_test, ByteRange, Capture, cases_lt, Dense, edges, edges_of, Fail, false, false≢true, fun_ext, get_or, inl, inr, IsTested, length, List, Match, member, nat_eq, Nfa, Node, None, Option, option_to_list, pattern_in, pattern_of, refl, Some, Sparse, state_at, suc, target, target_of, true, zero, ℕ, ◌<◌, ◌∷◌, ◌≡◌, ◌≤◌, ◌⊎◌}
-use Rattle.std.specs.Option.{is_some}
+use Rattle.determinize_below.proofs.Common.{[], ap, arith, assertion_in, Bool, by_cases, ByteRange, Capture, cases_lt, Dense, edges, edges_of, Fail, false, false≢true, fun_ext, inl, inr, IsTested, length, List, Match, member, nat_eq, Nfa, Node, None, Option, option_to_list, pattern_in, pattern_of, refl, Some, Sparse, state_at, target, target_of, true, ℕ, ◌<◌, ◌∷◌, ◌≡◌, ◌≤◌, ◌⊎◌, is_some, tests_capture, is_capture, patterns_of, is_match, assertion_of, get_or_past, Assertion}
 use Rattle.determinize_below.specs.Captures.{capture_next}
 use Rattle.determinize_below.specs.Semantics.{Look}
-use Rattle.determinize_below.specs.Edges.{tests_capture, is_capture, patterns_of, is_match, assertion_of}
 use Rattle.ordered_reach.specs.Runs.{without}
-use Rattle.determinize_below.specs.declared.look.Look.{Look as Assertion}
 use Rattle.ordered_reach.proofs.lists.Pieces.{flat_map-without}
 
 -- sets that agree on the assertion of a state give it the same edges
@@ -32,9 +29,7 @@ edges-same nfa holds others h = fun_ext (λ s. edges-agree nfa holds others s (�
 edges_of-more : (holds others : Assertion → Bool) (s : Node) (y : ℕ)
     → ((look : Assertion) → holds look ≡ true → others look ≡ true) → member nat_eq (edges_of holds s) y ≡ true
     → member nat_eq (edges_of others s) y ≡ true
-edges_of-more holds others (Look look next) y h m = by_test (holds look)
-    (λ e. rw (h look e) (rw e at m))
-    (λ e. absurd (false≢true (rw e at m)))
+edges_of-more holds others (Look look next) y h m = grind (arith, h look)
 edges_of-more holds others s y h m = m
 
 pub edges-more : (nfa : Nfa) (holds others : Assertion → Bool) (s y : ℕ)
@@ -44,7 +39,7 @@ edges-more nfa holds others s y h m = edges_of-more holds others (state_at nfa s
 
 -- the set of all assertions gives the most edges
 length-edges_of : (holds : Assertion → Bool) (s : Node) → length (edges_of holds s) ≤ length (edges_of (λ look. true) s)
-length-edges_of holds (Look look next) = by_test (holds look) (λ e. rw e (omega arith)) (λ e. rw e (omega arith))
+length-edges_of holds (Look look next) = grind arith
 length-edges_of holds s = omega arith
 
 pub length-edges : (nfa : Nfa) (holds : Assertion → Bool) (s : ℕ)
@@ -57,10 +52,8 @@ edges_of-capture holds (Capture next) e = refl
 edges_of-capture holds s e = absurd (false≢true e)
 
 target_of-capture : (u : Option ℕ) (s : Node) → tests_capture s ≡ true → target_of u s ≡ None
-target_of-capture u (ByteRange t) e = absurd (false≢true e)
-target_of-capture u (Sparse ts) e = absurd (false≢true e)
-target_of-capture u (Dense ids) e = absurd (false≢true e)
-target_of-capture u s e = refl
+target_of-capture u (Capture next) e = refl
+target_of-capture u s e = cc
 
 match_no_capture : (s : Node) → is_some (pattern_in s) ≡ true → tests_capture s ≡ false
 match_no_capture (Capture next) e = absurd (false≢true e)
@@ -124,12 +117,7 @@ edges-or-target nfa holds u s =
 
 -- an id out of range
 pub state_past : (nfa : Nfa) (s : ℕ) → length nfa.states ≤ s → state_at nfa s ≡ Fail
-state_past nfa s l = past nfa.states s l
-  where
-    past : (xs : List Node) (i : ℕ) → length xs ≤ i → get_or xs i Fail ≡ Fail
-    past [] i l = refl
-    past (x ∷ xs) zero l = absurd (omega arith)
-    past (x ∷ xs) (suc i) l = past xs i (omega arith)
+state_past nfa s l = get_or_past nfa.states s Fail l
 
 pub edges_within : (nfa : Nfa) (holds : Assertion → Bool) (s t : ℕ) → member nat_eq (edges nfa holds s) t ≡ true
     → s < length nfa.states

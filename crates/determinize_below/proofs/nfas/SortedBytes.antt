@@ -1,14 +1,5 @@
 -- Bytes that are sorted into classes one after another.
-use Rattle.std.proofs.Common.{◌≡◌, ℕ, ◌+◌, ◌<◌, ◌≤◌, ◌≢◌, Bool, false, List, length, get_or, take, refl, sym, ap, ◌∙◌, subst, arith}
-use Rattle.std.proofs.Math.ListN.{set}
-use Rattle.std.proofs.lemmas.Bool.{cases_lt}
-use Rattle.std.proofs.lemmas.List.{get_or-set_other, get_or-set_same, get_or-take, length-set, length-take-le}
-use borrow.Author.Count.{below_more}
-use Rattle.determinize_below.specs.ByteClasses.{AreAlike, AreClassesOf}
-use Rattle.determinize_below.specs.Semantics.{Nfa}
-use Rattle.determinize_below.specs.Private.Boundaries.{AreBoundaries, is_marked}
-use Rattle.determinize_below.specs.Private.Sorting.{AreSorted}
-use Rattle.ordered_reach.proofs.Cases.{by_cases}
+use Rattle.determinize_below.proofs.Common.{◌≡◌, ℕ, ◌+◌, ◌<◌, ◌≤◌, ◌≢◌, Bool, false, List, length, get_or, take, refl, sym, ap, ◌∙◌, arith, get_or-set_other, get_or-set_same, get_or-take, length-set, length-take-le, below_more, AreAlike, AreClassesOf, Nfa, AreBoundaries, is_marked, AreSorted, by_cases, cases_order, set}
 
 module _ (nfa : Nfa) where
   pub alike-self : (b : ℕ) → AreAlike nfa b b
@@ -60,18 +51,14 @@ module _ (nfa : Nfa) where
       count = length-set B n k ∙ s.count;
       room = s.room;
       within = below_more (λ b. get_or (set B n k) b 0 < len) n
-          (λ b h. subst (λ (x : ℕ). x < len) (sym (other_class k b h)) (s.within b h))
-          (subst (λ (x : ℕ). x < len) (sym (own_class k)) l);
-      bytes = λ j h. let less : get_or F j 0 < n = s.bytes j h in omega arith;
+          (λ b h. rw (other_class k b h) (s.within b h)) (rw (own_class k) l);
+      bytes = λ j h. omega (arith, s.bytes j h);
       own = λ j h. other_class k (get_or F j 0) (s.bytes j h) ∙ s.own j h;
       least = below_more (λ b. get_or F (get_or (set B n k) b 0) 0 ≤ b) n
-          (λ b h. subst (λ (x : ℕ). get_or F x 0 ≤ b) (sym (other_class k b h)) (s.least b h))
-          (subst (λ (x : ℕ). get_or F x 0 ≤ n) (sym (own_class k))
-          (let less : get_or F k 0 < n = s.bytes k l in omega arith));
+          (λ b h. rw (other_class k b h) (s.least b h)) (rw (own_class k) (omega (arith, s.bytes k l)));
       ascend = s.ascend;
       alike = below_more (λ b. AreAlike nfa (get_or F (get_or (set B n k) b 0) 0) b) n
-          (λ b h. subst (λ (x : ℕ). AreAlike nfa (get_or F x 0) b) (sym (other_class k b h)) (s.alike b h))
-          (subst (λ (x : ℕ). AreAlike nfa (get_or F x 0) n) (sym (own_class k)) a);
+          (λ b h. rw (other_class k b h) (s.alike b h)) (rw (own_class k) a);
       apart = s.apart;
     }
 
@@ -98,53 +85,31 @@ module _ (nfa : Nfa) where
       count = length-set B n len ∙ s.count;
       room = length-set F len n ∙ s.room;
       within = below_more (λ b. get_or (set B n len) b 0 < len + 1) n
-          (λ b h. subst (λ (x : ℕ). x < len + 1) (sym (other_class len b h))
-          (let less : get_or B b 0 < len = s.within b h in omega arith))
-          (subst (λ (x : ℕ). x < len + 1) (sym (own_class len)) (omega arith));
+          (λ b h. rw (other_class len b h) (omega (arith, s.within b h))) (rw (own_class len) (omega arith));
       bytes = below_more (λ k. get_or (set F len n) k 0 < n + 1) len
-          (λ k h. subst (λ (x : ℕ). x < n + 1) (sym (other_first k h))
-          (let less : get_or F k 0 < n = s.bytes k h in omega arith))
-          (subst (λ (x : ℕ). x < n + 1) (sym own_first) (omega arith));
+          (λ k h. rw (other_first k h) (omega (arith, s.bytes k h))) (rw own_first (omega arith));
       own = below_more (λ k. get_or (set B n len) (get_or (set F len n) k 0) 0 ≡ k) len
-          (λ k h. ap (λ (x : ℕ). get_or (set B n len) x 0) (other_first k h)
-          ∙ other_class len (get_or F k 0) (s.bytes k h) ∙ s.own k h)
-          (ap (λ (x : ℕ). get_or (set B n len) x 0) own_first ∙ own_class len);
+          (λ k h. rw (other_first k h) (other_class len (get_or F k 0) (s.bytes k h) ∙ s.own k h))
+          (rw own_first (own_class len));
       least = below_more (λ b. get_or (set F len n) (get_or (set B n len) b 0) 0 ≤ b) n
-          (λ b h. subst (λ (x : ℕ). x ≤ b) (sym (first_same b h)) (s.least b h))
-          (subst (λ (x : ℕ). x ≤ n) (sym first_new) (omega arith));
+          (λ b h. rw (first_same b h) (s.least b h)) (rw first_new (omega arith));
       ascend = λ j k l h. ascends k h j l;
       alike = below_more (λ b. AreAlike nfa (get_or (set F len n) (get_or (set B n len) b 0) 0) b) n
-          (λ b h. subst (λ (x : ℕ). AreAlike nfa x b) (sym (first_same b h)) (s.alike b h))
-          (subst (λ (x : ℕ). AreAlike nfa x n) (sym first_new) (alike-self n));
+          (λ b h. rw (first_same b h) (s.alike b h)) (rw first_new (alike-self n));
       apart = λ j k l h. are_apart k h j l;
     }
       where
         ascends : (k : ℕ) → k < len + 1 → (j : ℕ) → j < k → get_or (set F len n) j 0 < get_or (set F len n) k 0
         ascends = below_more (λ k. (j : ℕ) → j < k → get_or (set F len n) j 0 < get_or (set F len n) k 0) len
-            (λ k h j l.
-            let low : j < len = omega arith in
-            let a : get_or (set F len n) j 0 ≡ get_or F j 0 = other_first j low in
-            let b : get_or (set F len n) k 0 ≡ get_or F k 0 = other_first k h in
-            let less : get_or F j 0 < get_or F k 0 = s.ascend j k l h in
-            omega arith)
-            (λ j l.
-            let a : get_or (set F len n) j 0 ≡ get_or F j 0 = other_first j l in
-            let b : get_or (set F len n) len 0 ≡ n = own_first in
-            let less : get_or F j 0 < n = s.bytes j l in
-            omega arith)
+            (λ k h j l. rw (other_first j (omega arith), other_first k h) (s.ascend j k l h))
+            (λ j l. rw (other_first j l, own_first) (s.bytes j l))
 
         are_apart : (k : ℕ) → k < len + 1 → (j : ℕ) → j < k
             → AreAlike nfa (get_or (set F len n) j 0) (get_or (set F len n) k 0) → ⊥
         are_apart = below_more (λ k. (j : ℕ) → j < k
             → AreAlike nfa (get_or (set F len n) j 0) (get_or (set F len n) k 0) → ⊥) len
-            (λ k h j l a.
-            let low : j < len = omega arith in
-            s.apart j k l h
-            (subst (λ (x : ℕ). AreAlike nfa x (get_or F k 0)) (other_first j low)
-            (subst (λ (x : ℕ). AreAlike nfa (get_or (set F len n) j 0) x) (other_first k h) a)))
-            (λ j l a. apart j l
-            (subst (λ (x : ℕ). AreAlike nfa x n) (other_first j l)
-            (subst (λ (x : ℕ). AreAlike nfa (get_or (set F len n) j 0) x) own_first a)))
+            (λ k h j l a. s.apart j k l h (rw (other_first j (omega arith), other_first k h) at a))
+            (λ j l a. apart j l (rw (other_first j l, own_first) at a))
 
     -- a turn of the loop, where `k` is the index of the first of these bytes that is alike
     module _ (k more : ℕ) (firsts : List ℕ) where
@@ -155,28 +120,20 @@ module _ (nfa : Nfa) where
           → (k ≡ len → ⊥) → more ≡ len → firsts ≡ F → AreSorted nfa (n + 1) more (set B n k) firsts
       turn_held within alike other more_is firsts_is =
           let l : k < len = omega (arith, size) in
-          let a : AreAlike nfa (get_or F k 0) n =
-          subst (λ (x : ℕ). AreAlike nfa x n) (get_or-take len F k 0 l) (alike (omega (arith, size))) in
-          subst (λ (x : ℕ). AreSorted nfa (n + 1) x (set B n k) firsts) (sym more_is)
-          (subst (λ (xs : List ℕ). AreSorted nfa (n + 1) len (set B n k) xs) (sym firsts_is) (sorted_held k l a))
+          rw (more_is, firsts_is) (sorted_held k l (rw (get_or-take len F k 0 l) at (alike (omega (arith, size)))))
 
       pub turn_new : ((j : ℕ) → j < k → AreAlike nfa (get_or (take len F) j 0) n → ⊥)
           → k ≡ len → more ≡ len + 1 → firsts ≡ set F len n → AreSorted nfa (n + 1) more (set B n k) firsts
       turn_new before last more_is firsts_is =
-          let new : AreSorted nfa (n + 1) (len + 1) (set B n len) (set F len n) =
-          sorted_new (λ j h a. before j (omega arith)
-          (subst (λ (x : ℕ). AreAlike nfa x n) (sym (get_or-take len F j 0 h)) a)) in
-          subst (λ (x : ℕ). AreSorted nfa (n + 1) more (set B n x) firsts) (sym last)
-          (subst (λ (x : ℕ). AreSorted nfa (n + 1) x (set B n len) firsts) (sym more_is)
-          (subst (λ (xs : List ℕ). AreSorted nfa (n + 1) (len + 1) (set B n len) xs) (sym firsts_is) new))
+          rw (last, more_is, firsts_is) (sorted_new (λ j h a. before j (omega arith) (rw (get_or-take len F j 0 h) a)))
 
     -- a turn at a byte without a mark
     pub turn_before : (marks : List Bool) (b : ℕ) → AreBoundaries nfa marks → is_marked marks n ≡ false
         → b + 1 ≡ n → AreSorted nfa (n + 1) len (set B n (get_or B b 0)) F
     turn_before marks b boundaries unmarked before =
         let l : b < n = omega arith in
-        let same : AreAlike nfa b n = subst (λ (x : ℕ). AreAlike nfa b x) before
-        (boundaries b (omega arith) (ap (is_marked marks) before ∙ unmarked)) in
+        let same : AreAlike nfa b n =
+        rw before at (boundaries b (omega arith) (ap (is_marked marks) before ∙ unmarked)) in
         sorted_held (get_or B b 0) (s.within b l) (alike-chain (get_or F (get_or B b 0) 0) b n (s.alike b l) same)
 
   -- all bytes are sorted
@@ -187,7 +144,7 @@ module _ (nfa : Nfa) where
         one_class : (b c : ℕ) → b < 256 → c < 256 → get_or B b 0 ≡ get_or B c 0 → AreAlike nfa b c
         one_class b c hb hc e = alike-chain b (get_or F (get_or B b 0) 0) c
             (alike-swap (get_or F (get_or B b 0) 0) b (s.alike b hb))
-            (subst (λ (x : ℕ). AreAlike nfa (get_or F x 0) c) (sym e) (s.alike c hc))
+            (rw e (s.alike c hc))
 
         no_more : (b c : ℕ) → b < 256 → c < 256 → AreAlike nfa b c → get_or B b 0 ≡ get_or B c 0
         no_more b c hb hc a =
@@ -195,9 +152,7 @@ module _ (nfa : Nfa) where
             alike-chain (get_or F (get_or B b 0) 0) c (get_or F (get_or B c 0) 0)
             (alike-chain (get_or F (get_or B b 0) 0) b c (s.alike b hb) a)
             (alike-swap (get_or F (get_or B c 0) 0) c (s.alike c hc)) in
-            by_cases (cases_lt (get_or B b 0) (get_or B c 0))
+            by_cases (cases_order (get_or B b 0) (get_or B c 0)) (λ e. e) (λ o. by_cases o
             (λ l. absurd (s.apart (get_or B b 0) (get_or B c 0) l (s.within c hc) firsts))
-            (λ g. by_cases (cases_lt (get_or B c 0) (get_or B b 0))
             (λ l. absurd (s.apart (get_or B c 0) (get_or B b 0) l (s.within b hb)
-            (alike-swap (get_or F (get_or B b 0) 0) (get_or F (get_or B c 0) 0) firsts)))
-            (λ m. omega arith))
+            (alike-swap (get_or F (get_or B b 0) 0) (get_or F (get_or B c 0) 0) firsts))))

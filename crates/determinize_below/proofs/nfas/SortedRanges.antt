@@ -2,63 +2,33 @@
 -- Main statements: from_found, answers_for.
 -- Used by: `SparseTransitions::matches_byte`.
 -- Idea: each later range begins above the end of this one.
-use Rattle.determinize_below.proofs.Common.{[], ap, arith, ascends_from, Bool, by_test, false, find, List, nat_tests, None, Option, option_map, refl, Some, suc, sym, Transition, true, ℕ, ◌&&◌, ◌<◌, ◌∙◌, ◌∷◌, ◌≡◌, ◌≤◌}
-use Rattle.std.proofs.Common.{nat_le}
-use Rattle.std.specs.Bool.{then_some}
-use Rattle.determinize_below.specs.Transition.{matches}
-use Rattle.determinize_below.specs.Transition.{sparse_target}
+use Rattle.determinize_below.proofs.Common.{[], ap, arith, ascends_from, by_test, false, find, List, nat_tests, None, Option, option_map, refl, Some, suc, Transition, true, ℕ, ◌<◌, ◌∙◌, ◌∷◌, ◌≡◌, ◌≤◌, nat_le, then_some, matches, sparse_target}
 
 -- the target of a range, if it does not begin above the byte
 abbrev pub from_first : ℕ → Option Transition → Option ℕ
 from_first byte None = None
 from_first byte (Some t) = then_some (nat_le t.start byte) t.next
 
--- the tests of a sorted range, taken apart
-begins-test : (a b c : Bool) → (a && b && c) ≡ true → a ≡ true
-begins-test a b c h = grind arith
-
-ordered-test : (a b c : Bool) → (a && b && c) ≡ true → b ≡ true
-ordered-test a b c h = grind arith
-
-rest-test : (a b c : Bool) → (a && b && c) ≡ true → c ≡ true
-rest-test a b c h = grind arith
-
--- a range that begins above the byte does not contain it
-above : (byte low start end : ℕ) → nat_le low start ≡ true → byte < low → nat_le start byte ≡ false
-above byte low start end h k = grind (arith, nat_tests)
-
--- the next one begins above it, too
-further : (byte low start end : ℕ) → nat_le low start ≡ true → nat_le start end ≡ true → byte < low → byte < suc end
-further byte low start end h o k = grind (arith, nat_tests)
-
-at_end : (byte end : ℕ) → nat_le byte end ≡ true → byte < suc end
-at_end byte end h = grind (arith, nat_tests)
-
 -- no range of a list that is sorted from above the byte on contains it
 none_above : (byte low : ℕ) (ts : List Transition) → ascends_from low ts ≡ true → byte < low
     → find (λ t. matches t byte) ts ≡ None
 none_above byte low [] h k = refl
 none_above byte low (t ∷ ts) h k =
-    let begins = begins-test (nat_le low t.start) (nat_le t.start t.end) (ascends_from (suc t.end) ts) h in
-    let ordered = ordered-test (nat_le low t.start) (nat_le t.start t.end) (ascends_from (suc t.end) ts) h in
-    let rest = rest-test (nat_le low t.start) (nat_le t.start t.end) (ascends_from (suc t.end) ts) h in
-    let misses = above byte low t.start t.end begins k in
-    rw misses (none_above byte (suc t.end) ts rest (further byte low t.start t.end begins ordered k))
+    let misses : nat_le t.start byte ≡ false = grind (arith, nat_tests) in
+    let next : byte < suc t.end = grind (arith, nat_tests) in
+    let rest : ascends_from (suc t.end) ts ≡ true = grind arith in
+    rw misses (none_above byte (suc t.end) ts rest next)
 
 -- so the scan may stop there
 pub stops_early : (byte low : ℕ) (ts : List Transition) → ascends_from low ts ≡ true
     → from_first byte (find (λ t. nat_le byte t.end) ts) ≡ sparse_target ts byte
 stops_early byte low [] h = refl
 stops_early byte low (t ∷ ts) h =
-    let rest = rest-test (nat_le low t.start) (nat_le t.start t.end) (ascends_from (suc t.end) ts) h in
+    let rest : ascends_from (suc t.end) ts ≡ true = grind arith in
     by_test (nat_le byte t.end)
-    (λ e. by_test (nat_le t.start byte)
-    (λ f. rw (e, f) refl)
-    (λ f. rw (e, f) (sym (ap (λ (o : Option Transition). option_map (λ (x : Transition). x.next) o)
-    (none_above byte (suc t.end) ts rest (at_end byte t.end e))))))
-    (λ e. by_test (nat_le t.start byte)
-    (λ f. rw (e, f) (stops_early byte (suc t.end) ts rest))
-    (λ f. rw (e, f) (stops_early byte (suc t.end) ts rest)))
+    (λ e. let next : byte < suc t.end = grind (arith, nat_tests) in
+    grind (arith, none_above byte (suc t.end) ts rest next))
+    (λ e. grind (arith, stops_early byte (suc t.end) ts rest))
 
 -- the start and the target of a range
 abbrev pub begins_and_leads : Transition → ℕ × ℕ

@@ -2,26 +2,15 @@
 -- Main statements: IsSound, accepted_sound, edges_enough, reach_within.
 -- Used by: nearly all proofs about closures and steps.
 -- Idea: each edge goes to a state, a pattern has one `Match`, and fuel one above the number of states is enough.
-use mathlib.Core.Bool.{or-false}
-use Rattle.determinize_below.proofs.Common.{[], ap, arith, BinaryUnion, Bool, by_cases, by_test, ByteRange, Capture, cases_lt, cond, Dense, edges, edges_of, eq-eqb, eqb-true, Fail, false, false≢true, fun_ext, get_or, is_match_of, IsAccepted, length, List, list_any_at, Match, member, nat_eq, Nfa, Node, None, not, Option, option_to_list, or_left, pattern_in, pattern_of, refl, slice_get, Some, Sparse, state_at, state_failure, states_failure, subst, suc, sym, take, target, target_of, Transition, true, Union, zero, ℕ, ◌++◌, ◌+◌, ◌<◌, ◌∙◌, ◌∷◌, ◌≡◌, ◌≤◌}
-use Rattle.std.proofs.Common.{◌&&◌, append_assoc}
-use Rattle.std.specs.Prelude.{slice_index, nat_lt, find, option_map}
-use Rattle.std.specs.List.{flat_map, list_all}
-use Rattle.std.proofs.lemmas.Bool.{true≢false, not-false, cases_order, and_parts, ltb-true, lt-ltb}
-use Rattle.std.proofs.lemmas.List.{append-nil, get_or-take}
-use Rattle.std.proofs.lemmas.Option.{slice_get-get_or}
+use Rattle.determinize_below.proofs.Common.{[], ap, arith, BinaryUnion, Bool, by_cases, by_test, ByteRange, Capture, cases_lt, cond, Dense, edges, edges_of, eq-eqb, Fail, false, false≢true, fun_ext, get_or, is_match_of, IsAccepted, length, List, list_any_at, Match, member, nat_eq, Nfa, Node, None, not, Option, option_to_list, or_left, pattern_in, pattern_of, refl, slice_get, Some, Sparse, state_at, state_failure, states_failure, subst, suc, sym, take, target, target_of, Transition, true, Union, zero, ℕ, ◌++◌, ◌+◌, ◌<◌, ◌∙◌, ◌∷◌, ◌≡◌, ◌≤◌, or-false, append_assoc, slice_index, nat_lt, flat_map, list_all, true≢false, not-false, cases_order, and_parts, ltb-true, lt-ltb, append-nil, get_or-take, slice_get-get_or, resolves, is_repeated, is_sparse_sound, is_dense_sound, ends, none_held, ordered, by_option, length-take, ◌&&◌, find, option_map, Assertion}
 use Rattle.determinize_below.specs.Semantics.{Look}
 use Rattle.determinize_below.specs.Edges.{reach, reach_past}
-use Rattle.determinize_below.specs.Nfa.{resolves, is_repeated, is_sparse_sound, is_dense_sound}
-use Rattle.ordered_reach.specs.Reach.{ends, none_held, ordered}
 use Rattle.determinize_below.specs.Transition as transitions
-use Rattle.determinize_below.specs.declared.look.Look.{Look as Assertion}
 use Rattle.determinize_below.proofs.nfas.Edges.{state_past, edges_within, target-end}
 use Rattle.ordered_reach.proofs.graph.ClosedSets.{IsEnough, ends_within}
 use Rattle.ordered_reach.proofs.graph.FiniteGraphs.{IsEnough-below, fresh_below, length-fresh_below, same_decides}
 use Rattle.ordered_reach.proofs.graph.StackSearch.{ordered-append}
 use Rattle.ordered_reach.proofs.lists.NewNodes.{flat_map-member}
-use Rattle.ordered_reach.proofs.Cases.{by_option}
 
 -- what validation gives: an edge goes to a state, and a pattern has one `Match`
 pub record IsSound (nfa : Nfa) : Type 0 where
@@ -69,31 +58,22 @@ all_pass count earlier i (x ∷ xs) e j s h = by_option (state_failure count ear
     go : (j : ℕ) → slice_get (x ∷ xs) j ≡ Some s → HasPassed count earlier x
         → ((j : ℕ) (s : Node) → slice_get xs j ≡ Some s → HasPassed count ((earlier ++ x ∷ []) ++ take j xs) s)
         → HasPassed count (earlier ++ take j (x ∷ xs)) s
-    go zero h p ih = let q : x ≡ s = cc in
-        subst (λ y. HasPassed count (earlier ++ []) y) q (subst (λ l. HasPassed count l x) (sym (append-nil earlier)) p)
+    go zero h p ih = let q : x ≡ s = cc in rw (append-nil earlier, ← q) p
     go (suc j) h p ih = subst (λ l. HasPassed count l s) (append_assoc earlier (x ∷ []) (take j xs)) (ih j s h)
 
 list_all_member : (p : ℕ → Bool) (xs : List ℕ) (t : ℕ) → list_all p xs ≡ true → member nat_eq xs t ≡ true → p t ≡ true
 list_all_member p [] t a m = absurd (false≢true m)
-list_all_member p (x ∷ xs) t a m = by_test (nat_eq x t)
-    (λ e. let q : x ≡ t = eqb-true x t e in ap p (sym q) ∙ (and_parts _ _ a).0)
-    (λ e. list_all_member p xs t (and_parts _ _ a).1 (rw e at m))
+list_all_member p (x ∷ xs) t a m = grind (arith, same_decides x t, list_all_member p xs t)
 
 one_member : (count x t : ℕ) → nat_lt x count ≡ true → member nat_eq (x ∷ []) t ≡ true → nat_lt t count ≡ true
-one_member count x t r m = list_all_member (λ y. nat_lt y count) (x ∷ []) t (ap (λ b. b && true) r) m
+one_member count x t r m = grind (arith, same_decides x t)
 
 -- the epsilon transitions of a state whose ids are in range
 edges_resolve : (count : ℕ) (holds : Assertion → Bool) (s : Node) (t : ℕ) → resolves count s ≡ true
     → member nat_eq (edges_of holds s) t ≡ true → nat_lt t count ≡ true
-edges_resolve count holds (Look look next) t r m = by_test (holds look)
-    (λ e. one_member count next t r (rw e at m))
-    (λ e. absurd (false≢true (rw e at m)))
+edges_resolve count holds (Look look next) t r m = grind (arith, one_member count next t)
 edges_resolve count holds (Union ids) t r m = list_all_member (λ y. nat_lt y count) ids t r m
-edges_resolve count holds (BinaryUnion a b) t r m =
-    list_all_member (λ y. nat_lt y count) (a ∷ b ∷ []) t (both (nat_lt a count) (nat_lt b count) r) m
-  where
-    both : (p q : Bool) → (p && q) ≡ true → (p && (q && true)) ≡ true
-    both p q h = grind arith
+edges_resolve count holds (BinaryUnion a b) t r m = grind (arith, same_decides a t, same_decides b t)
 edges_resolve count holds (Capture next) t r m = one_member count next t r m
 edges_resolve count holds s t r m = absurd (false≢true m)
 
@@ -101,9 +81,7 @@ sparse_resolves : (count : ℕ) (p : Transition → Bool) (ts : List Transition)
     → list_all (λ t. nat_lt t.next count) ts ≡ true
     → member nat_eq (option_to_list (option_map (λ t. t.next) (find p ts))) y ≡ true → nat_lt y count ≡ true
 sparse_resolves count p [] y a m = absurd (false≢true m)
-sparse_resolves count p (t ∷ ts) y a m = by_test (p t)
-    (λ e. one_member count t.next y (and_parts _ _ a).0 (rw e at m))
-    (λ e. sparse_resolves count p ts y (and_parts _ _ a).1 (rw e at m))
+sparse_resolves count p (t ∷ ts) y a m = grind (arith, one_member count t.next y, sparse_resolves count p ts y)
 
 -- an entry of a dense state that is not 0 is an element of its list
 dense_resolves : (count : ℕ) (ids : List ℕ) (byte y : ℕ) → list_all (λ id. nat_lt id count) ids ≡ true
@@ -121,9 +99,7 @@ dense_resolves count ids byte y a m = by_test (nat_eq (slice_index ids byte) 0)
 -- the target of a state whose ids are in range
 targets_resolve : (count : ℕ) (byte : ℕ) (s : Node) (t : ℕ) → resolves count s ≡ true
     → member nat_eq (option_to_list (target_of (Some byte) s)) t ≡ true → nat_lt t count ≡ true
-targets_resolve count byte (ByteRange x) t r m = by_test (transitions.matches x byte)
-    (λ e. one_member count x.next t r (rw e at m))
-    (λ e. absurd (false≢true (rw e at m)))
+targets_resolve count byte (ByteRange x) t r m = grind (arith, one_member count x.next t)
 targets_resolve count byte (Sparse ts) t r m = sparse_resolves count (λ x. transitions.matches x byte) ts t r m
 targets_resolve count byte (Dense ids) t r m = dense_resolves count ids byte t r m
 targets_resolve count byte s t r m = absurd (false≢true m)
@@ -151,27 +127,19 @@ module _ (nfa : Nfa) (a : IsAccepted nfa) where
 
   not_earlier : (i j p : ℕ) → i < j → pattern_of nfa i ≡ Some p → pattern_of nfa j ≡ Some p → ⊥
   not_earlier i j p l x y =
-      let u : (i < length nfa.states) × (get_or nfa.states i Fail ≡ Match p) = match_within i p x in
-      let v : (j < length nfa.states) × (get_or nfa.states j Fail ≡ Match p) = match_within j p y in
+      let u = match_within i p x in
+      let v = match_within j p y in
       let w = each_passes j (Match p) (slice_get-get_or nfa.states j Fail v.0 ∙ ap Some v.1) in
       let z : get_or (take j nfa.states) i Fail ≡ Match p = get_or-take j nfa.states i Fail l ∙ u.1 in
-      let k : i < length (take j nfa.states) = short nfa.states i j l u.0 in
+      let k : i < length (take j nfa.states) = omega (arith, length-take j nfa.states, u.0) in
       true≢false (sym (list_any_at (is_match_of p) (take j nfa.states) i Fail k
       (ap (is_match_of p) z ∙ eq-eqb p p refl)) ∙ w.first_match)
-    where
-      short : (xs : List Node) (i j : ℕ) → i < j → i < length xs → i < length (take j xs)
-      short [] i j l k = absurd (omega arith)
-      short (x ∷ xs) i zero l k = absurd (omega arith)
-      short (x ∷ xs) zero (suc j) l k = omega arith
-      short (x ∷ xs) (suc i) (suc j) l k = let h : i < length (take j xs) =
-          short xs i j (omega arith) (omega arith) in omega arith
 
   -- a valid NFA is sound
   pub accepted_sound : IsSound nfa
   accepted_sound = record {
     resolves = λ holds s t m. ltb-true t (length nfa.states)
-        (edges_resolve (length nfa.states) holds (state_at nfa s) t
-        (state_resolves s (edges_within nfa holds s t m)) m);
+        (edges_resolve _ holds (state_at nfa s) t (state_resolves s (edges_within nfa holds s t m)) m);
     one_match = λ i j p x y. by_cases (cases_order i j) (λ e. e)
         (λ h. by_cases h (λ l. absurd (not_earlier i j p l x y)) (λ l. absurd (not_earlier j i p l y x)));
   }

@@ -2,11 +2,7 @@
 -- Main statements: states_failure-turn, goes_on, fails_here.
 -- Used by: `check_states`.
 -- Idea: the first error of a list is that of its first state, or that of the rest.
-use Rattle.determinize_below.proofs.Common.{[], ap, arith, Bool, drop, false, get_or, inl, inr, is_match_of, length, List, list_any, list_any-append, map, Match, Node, None, refl, slice_get, Some, state_failure, states_failure, suc, sym, take, zero, ℕ, ◌++◌, ◌+◌, ◌<◌, ◌||◌, ◌∙◌, ◌∷◌, ◌≡◌, ◌⊎◌}
-use Rattle.std.specs.Option.{option_or}
-use Rattle.std.proofs.Math.Seq.{drop-cons}
-use Rattle.std.proofs.lemmas.List.{take_more, map-append}
-use Rattle.determinize_below.specs.Nfa.{repeats, failure_of}
+use Rattle.determinize_below.proofs.Common.{[], ap, arith, Bool, drop, get_or, inl, inr, is_match_of, length, List, list_any, list_any-append, map, Match, Node, None, refl, slice_get, Some, state_failure, states_failure, suc, sym, take, ℕ, ◌++◌, ◌+◌, ◌<◌, ◌||◌, ◌∙◌, ◌∷◌, ◌≡◌, ◌⊎◌, option_or, drop-cons, take_more, map-append, repeats, failure_of, slice_get-map, slice_get-get_or, option_map, Option}
 use Rattle.determinize_below.specs.declared.nfa.BuildError.{BuildError}
 use Rattle.determinize_below.specs.declared.nfa.BuildError.TheVariants.{OutOfMemory}
 
@@ -14,6 +10,10 @@ use Rattle.determinize_below.specs.declared.nfa.BuildError.TheVariants.{OutOfMem
 repeats-same : (f g : ℕ → Bool) (node : Node) → ((q : ℕ) → f q ≡ g q) → repeats f node ≡ repeats g node
 repeats-same f g (Match pattern) h = h pattern
 repeats-same f g s h = refl
+
+-- the first error of the states from the i-th on, after those before it
+abbrev pub failure_from : {S : Type 0} → (S → Node) → List S → ℕ → ℕ → Option BuildError
+failure_from f states count i = states_failure count (map f (take i states)) i (map f (drop i states))
 
 module _ {S : Type 0} (f : S → Node) (states : List S) (i : ℕ) (x : S) (within : i < length states)
     (at : x ≡ get_or states i x) where
@@ -30,9 +30,8 @@ module _ {S : Type 0} (f : S → Node) (states : List S) (i : ℕ) (x : S) (with
       ∙ (let z : suc i ≡ i + 1 = omega arith in ap (λ j. f x ∷ map f (drop j states)) z)
 
   -- the first error from the current state on
-  pub states_failure-turn : (count : ℕ) → states_failure count (map f (take i states)) i (map f (drop i states))
-      ≡ option_or (state_failure count (map f (take i states)) i (f x))
-      (states_failure count (map f (take (i + 1) states)) (i + 1) (map f (drop (i + 1) states)))
+  pub states_failure-turn : (count : ℕ) → failure_from f states count i
+      ≡ option_or (state_failure count (map f (take i states)) i (f x)) (failure_from f states count (i + 1))
   states_failure-turn count =
       ap (λ l. states_failure count (map f (take i states)) i l) nodes_left
       ∙ ap (λ l. option_or (state_failure count (map f (take i states)) i (f x))
@@ -43,13 +42,8 @@ module _ {S : Type 0} (f : S → Node) (states : List S) (i : ℕ) (x : S) (with
       → ((q : ℕ) → new q ≡ (is_match_of q (f x) || old q))
       → (q : ℕ) → new q ≡ list_any (is_match_of q) (map f (take (i + 1) states))
   seen-turn old new h k q =
-      k q ∙ ap (λ b. is_match_of q (f x) || b) (h q)
-      ∙ turn (is_match_of q (f x)) (list_any (is_match_of q) (map f (take i states)))
-      ∙ sym (ap (λ l. list_any (is_match_of q) l) nodes_more ∙ list_any-append (is_match_of q) (map f (take i states))
-      (f x ∷ []))
-    where
-      turn : (a b : Bool) → (a || b) ≡ (b || (a || false))
-      turn a b = grind arith
+      let turned = ap (λ l. list_any (is_match_of q) l) nodes_more in
+      grind (arith, k q, h q, turned, list_any-append (is_match_of q) (map f (take i states)) (f x ∷ []))
 
   -- the error of the current state, by the patterns seen
   pub state_failure-seen : (seen : ℕ → Bool) (count : ℕ)
@@ -61,31 +55,23 @@ module _ {S : Type 0} (f : S → Node) (states : List S) (i : ℕ) (x : S) (with
 
   -- no error so far
   pub goes_on : (seen : ℕ → Bool) (count : ℕ) → ((q : ℕ) → seen q ≡ list_any (is_match_of q) (map f (take i states)))
-      → states_failure count [] 0 (map f states) ≡ states_failure count (map f (take i states)) i
-      (map f (drop i states))
+      → states_failure count [] 0 (map f states) ≡ failure_from f states count i
       → failure_of count (repeats seen (f x)) i (f x) ≡ None
-      → states_failure count [] 0 (map f states) ≡ states_failure count (map f (take (i + 1) states)) (i + 1)
-      (map f (drop (i + 1) states))
-  goes_on seen count h same none =
-      same ∙ states_failure-turn count
-      ∙ ap (λ o. option_or o (states_failure count (map f (take (i + 1) states)) (i + 1) (map f (drop (i + 1) states))))
-      (sym (state_failure-seen seen count h) ∙ none)
+      → states_failure count [] 0 (map f states) ≡ failure_from f states count (i + 1)
+  goes_on seen count h same none = same ∙ states_failure-turn count
+      ∙ ap (λ o. option_or o (failure_from f states count (i + 1))) (sym (state_failure-seen seen count h) ∙ none)
 
   -- the error of the current state is the first
   pub fails_here : (seen : ℕ → Bool) (count : ℕ) → ((q : ℕ) → seen q ≡ list_any (is_match_of q) (map f (take i states)))
-      → states_failure count [] 0 (map f states) ≡ states_failure count (map f (take i states)) i
-      (map f (drop i states))
+      → states_failure count [] 0 (map f states) ≡ failure_from f states count i
       → (e : BuildError) → (failure_of count (repeats seen (f x)) i (f x) ≡ Some e) ⊎ (e ≡ OutOfMemory)
       → (states_failure count [] 0 (map f states) ≡ Some e) ⊎ (e ≡ OutOfMemory)
-  fails_here seen count h same e (inl some) = inl (
-      same ∙ states_failure-turn count
-      ∙ ap (λ o. option_or o (states_failure count (map f (take (i + 1) states)) (i + 1) (map f (drop (i + 1) states))))
-      (sym (state_failure-seen seen count h) ∙ some))
+  fails_here seen count h same e (inl some) = inl (same ∙ states_failure-turn count
+      ∙ ap (λ o. option_or o (failure_from f states count (i + 1))) (sym (state_failure-seen seen count h) ∙ some))
   fails_here seen count h same e (inr memory) = inr memory
 
 -- reading an element of a mapped list
 pub slice_get-map_read : {A B : Type 0} (f : A → B) (xs : List A) (i : ℕ) (x : A) → i < length xs → x ≡ get_or xs i x
     → slice_get (map f xs) i ≡ Some (f x)
-slice_get-map_read f [] i x h e = absurd (omega arith)
-slice_get-map_read f (y ∷ xs) zero x h e = ap (λ z. Some (f z)) (sym e)
-slice_get-map_read f (y ∷ xs) (suc i) x h e = slice_get-map_read f xs i x (omega arith) e
+slice_get-map_read f xs i x h e =
+    slice_get-map f xs i ∙ ap (λ o. option_map f o) (slice_get-get_or xs i x h) ∙ ap (λ y. Some (f y)) (sym e)

@@ -2,19 +2,10 @@
 -- Main statements: Decides-looks_of, Decides-look_set_any.
 -- Used by: `look_state_law`, and the truth of look-behind.
 -- Idea: the set is built state by state, and each state adds what it tests.
-use mathlib.Core.Bool.{or-false, or_assoc}
-use Rattle.determinize_below.proofs.Common.{[], ap, assertion_in, Bool, by_cases, cases_lt, Decides, Fail, false, false≢true, IsAccepted, IsTested, length, List, list_any, looks_of, Nfa, Node, None, Option, Some, state_at, sym, true, with_looks_of, ℕ, ◌||◌, ◌∙◌, ◌∷◌, ◌≡◌}
-use Rattle.std.specs.List.{Any}
-use Rattle.std.proofs.lemmas.Bool.Decides.{Decides-at, Decides-like}
-use Rattle.std.proofs.lemmas.List.{get_or_default}
-use Rattle.std.proofs.lemmas.List.Folds.{Any-from_list_any, list_any-from_Any}
+use Rattle.determinize_below.proofs.Common.{[], ap, assertion_in, Bool, by_cases, cases_lt, Decides, Fail, false, false≢true, IsAccepted, IsTested, length, List, list_any, looks_of, Nfa, Node, None, Option, Some, state_at, sym, true, with_looks_of, ℕ, ◌||◌, ◌∙◌, ◌∷◌, ◌≡◌, or-false, Any, Decides-at, Decides-like, get_or_default, Any-from_list_any, list_any-from_Any, has, with_look, some_injective, arith, Assertion}
 use Rattle.determinize_below.specs.Semantics.{Look}
-use Rattle.determinize_below.specs.Look.{has}
-use Rattle.determinize_below.specs.Nfa.{with_look}
-use Rattle.determinize_below.specs.declared.look.Look.{Look as Assertion}
 use Rattle.determinize_below.proofs.nfas.Edges.{state_past}
 use Rattle.determinize_below.proofs.looks.LookSets.{Decides-same, has-empty, has-insert, same}
-use Rattle.ordered_reach.proofs.Cases.{some_injective}
 
 -- whether there is an assertion, and it is this one
 abbrev pub is_look : Option Assertion → Assertion → Bool
@@ -46,9 +37,7 @@ has-with_looks_of : (set : ℕ) (xs : List Node) (look : Assertion)
     → has (with_looks_of set xs) look ≡ (has set look || list_any (λ s. is_look (assertion_in s) look) xs)
 has-with_looks_of set [] look = sym (or-false (has set look))
 has-with_looks_of set (s ∷ xs) look =
-    has-with_looks_of (with_look set s) xs look
-    ∙ ap (λ b. b || list_any (λ s. is_look (assertion_in s) look) xs) (has-with_look set s look)
-    ∙ or_assoc (has set look) (is_look (assertion_in s) look) (list_any (λ s. is_look (assertion_in s) look) xs)
+    grind (arith, has-with_looks_of (with_look set s) xs look, has-with_look set s look)
 
 -- the assertion set of some states contains exactly the assertions that one of them tests
 pub Decides-looks_of : (xs : List Node) (look : Assertion)

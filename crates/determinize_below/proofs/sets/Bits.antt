@@ -2,13 +2,7 @@
 -- Main statements: has_bit-set, words_back, the ruleset one_bit.
 -- Used by: SparseSets.
 -- Idea: an id is a word and a bit of it, and two ids differ in one of these.
-use Rattle.determinize_below.proofs.Common.{ap, arith, bit_and, bit_at, bit_at-zero, bit_or, by_cases, false, false≢true, get_or, length, List, nat_eq, refl, replicate, set, suc, sym, take, true, zero, ℕ, ◌*◌, ◌++◌, ◌/◌, ◌<◌, ◌^◌, ◌||◌, ◌∙◌, ◌≡◌}
-use Rattle.std.specs.Int.{w64}
-use Rattle.std.proofs.Common.{eq-eqb, ne_eqb, ◌%◌, ◌≢◌}
-use Rattle.std.proofs.Math.Seq.{take-append_seam}
-use Rattle.std.proofs.lemmas.Bool.{cases_eq}
-use Rattle.std.proofs.lemmas.List.{get_or-set_other, get_or-set_same}
-use Rattle.std.proofs.lemmas.Nat.Bits.{bit_at_set_other, bit_at_set_same, shr_and_one}
+use Rattle.determinize_below.proofs.Common.{ap, arith, bit_and, bit_at, bit_at-zero, bit_or, by_cases, false, false≢true, get_or, length, List, nat_eq, refl, replicate, set, suc, sym, take, true, zero, ℕ, ◌*◌, ◌++◌, ◌/◌, ◌<◌, ◌^◌, ◌||◌, ◌∙◌, ◌≡◌, w64, ne_eqb, ◌%◌, ◌≢◌, take-append_seam, cases_eq, get_or-set_other, get_or-set_same, bit_at_set_other, bit_at_set_same, shr_and_one, eq-eqb}
 use Rattle.determinize_below.specs.Private.Sparse.{has_bit}
 
 -- reading a bit
@@ -31,9 +25,6 @@ has_bit-elsewhere words id other n ne = rw (get_or-set_other {A = ℕ} words (id
 not_same : (id other : ℕ) → other / 64 ≢ id / 64 → nat_eq other id ≡ false
 not_same id other ne = ne_eqb other id (λ e. ne (ap (λ n. n / 64) e))
 
-same_place : (id other : ℕ) → other / 64 ≡ id / 64 → nat_eq (other % 64) (id % 64) ≡ nat_eq other id
-same_place id other e = grind arith
-
 -- setting a bit of a word
 bit-set : (n k i : ℕ) → k < 64
     → nat_eq (bit_at (bit_or n (1 * 2 ^ k % 2 ^ 64)) i) 1 ≡ (nat_eq i k || nat_eq (bit_at n i) 1)
@@ -50,7 +41,7 @@ unfolding has_bit
 has_bit-set words id other h =
     by_cases (cases_eq (other / 64) (id / 64))
     (λ e. has_bit-here words id other _ h e ∙ bit-set (get_or words (id / 64) 0) (id % 64) (other % 64) (omega arith)
-    ∙ rw (same_place id other e, e) refl)
+    ∙ (let place : nat_eq (other % 64) (id % 64) ≡ nat_eq other id = grind arith in rw (place, e) refl))
     (λ ne. has_bit-elsewhere words id other _ ne ∙ rw (not_same id other ne) refl)
 
 -- clearing a word

@@ -2,20 +2,13 @@
 -- Main statements: distinct_push, room_for_one, cleared_all, the rulesets emptying and pushing.
 -- Used by: the calls of `SparseSet`.
 -- Idea: a bit is set exactly if its id is in the list.
-use Rattle.std.proofs.lemmas.Bool.{cases_eq, eqb-true}
-use Rattle.determinize_below.proofs.Common.{[], arith, Bool, by_cases, cases_lt, false, false≢true, get_or, has_bit, inl, inr, IsCleared, length, List, list_any-append, nat_eq, not, replicate, set, subst, sym, take, true, ℕ, ◌*◌, ◌++◌, ◌+◌, ◌/◌, ◌<◌, ◌||◌, ◌∙◌, ◌∷◌, ◌≡◌, ◌≤◌, ◌⊎◌}
-use Rattle.std.proofs.Common.{All, eq-eqb, length-append, ne_eqb, refl}
+use Rattle.determinize_below.proofs.Common.{[], arith, by_cases, cases_lt, false, false≢true, get_or, has_bit, inl, inr, IsCleared, length, List, list_any-append, nat_eq, replicate, set, subst, sym, take, true, ℕ, ◌*◌, ◌++◌, ◌+◌, ◌/◌, ◌<◌, ◌||◌, ◌∙◌, ◌∷◌, ◌≡◌, ◌≤◌, ◌⊎◌, cases_eq, eqb-true, All, length-append, ne_eqb, refl, get_or-append, get_or-append_seam, list_any_more, has_id, IsSparse, eq-eqb}
 use Rattle.std.specs.Cmp.{nat_eq_equiv}
 use Rattle.std.specs.List.{IsDistinct}
-use Rattle.std.proofs.Math.ListN.{get_or-append}
-use Rattle.std.proofs.Math.Seq.{get_or-append_seam}
 pub use Rattle.std.proofs.lemmas.List.{length-replicate}
-use Rattle.std.proofs.lemmas.List.Folds.{list_any_more}
 use Rattle.std.proofs.lemmas.Map.Keys.{IsDistinct-push}
 use Rattle.std.proofs.lemmas.Map.Steps.{length-le_from_distinct_below}
 use Rattle.std.proofs.lemmas.Map.Views.{Contains-from_any}
-use Rattle.determinize_below.specs.Members.{has_id}
-use Rattle.determinize_below.specs.Private.Sparse.{IsSparse}
 use Rattle.determinize_below.proofs.sets.Bits.{has_bit-empty}
 pub use Rattle.determinize_below.proofs.sets.Bits.{has_bit-zeros, words_back}
 
@@ -30,10 +23,7 @@ pub distinct_push : (ids : List ℕ) (id : ℕ) → IsDistinct nat_eq ids → ha
 distinct_push ids id d none = IsDistinct-push nat_eq_equiv ids id d none
 
 pub holds-push : (ids : List ℕ) (id other : ℕ) → has_id (ids ++ id ∷ []) other ≡ (nat_eq other id || has_id ids other)
-holds-push ids id other = list_any-append (nat_eq other) ids (id ∷ []) ∙ turned (has_id ids other) (nat_eq other id)
-  where
-    turned : (a b : Bool) → (a || (b || false)) ≡ (b || a)
-    turned a b = grind arith
+holds-push ids id other = grind (arith, list_any-append (nat_eq other) ids (id ∷ []))
 
 pub holds-again : (ids : List ℕ) (id other : ℕ) → has_id ids id ≡ true
     → (nat_eq other id || has_id ids other) ≡ has_id ids other
@@ -64,13 +54,8 @@ pub room_for_one : (ids words : List ℕ) (id capacity room : ℕ) → IsSparse 
 room_for_one ids words id capacity room sparse small unset =
     let new : has_id ids id ≡ false = sym (sparse.marked id small) ∙ unset in
     let below : All (λ i. i < capacity) (ids ++ id ∷ []) = grind (arith, get_or-push) in
-    omega (
-      arith,
-      sparse.room_for_all,
-      length-append ids (id ∷ []),
-      length_at_most (ids ++ id ∷ []) capacity
-          (distinct_push ids id sparse.distinct new) below,
-    )
+    let most = length_at_most (ids ++ id ∷ []) capacity (distinct_push ids id sparse.distinct new) below in
+    omega (arith, sparse.room_for_all, length-append ids (id ∷ []), most)
 
 -- no bit is left
 pub cleared_all : (words ids : List ℕ) (n : ℕ) → IsCleared words (replicate n 0) ids
@@ -85,12 +70,8 @@ pub cleared_more : (words fewer ids : List ℕ) (i : ℕ) → i < length ids →
 cleared_more words fewer ids i h within so_far = record {
   was = λ id e. so_far.was id (has_bit-empty fewer (get_or ids i 0) id within e).0;
   none = λ id e. let now = has_bit-empty fewer (get_or ids i 0) id within e in
-      rw (list_any_more (nat_eq id) ids i 0 h)
-      (neither (has_id (take i ids) id) (nat_eq id (get_or ids i 0)) (so_far.none id now.0) now.1);
+      rw (list_any_more (nat_eq id) ids i 0 h) (grind (arith, so_far.none id now.0, now.1));
 }
-  where
-    neither : (a b : Bool) → not a ≡ true → b ≡ false → not (a || b) ≡ true
-    neither a b p q = grind arith
 
 -- the rules for the invariant of an empty set, and of a set with a new id
 pub ruleset emptying = (distinct_none, has_bit-zeros, length-replicate, words_back)

@@ -2,8 +2,7 @@
 -- Main statements: word_bits.
 -- Used by: `is_word_byte`.
 -- Idea: each byte is tried.
-use Rattle.determinize_below.proofs.Common.{refl, [], ℕ, ◌<◌, ◌∷◌, ◌≡◌}
-use Rattle.std.proofs.lemmas.Bool.{agree_below_at}
+use Rattle.determinize_below.proofs.Common.{refl, [], ℕ, ◌<◌, ◌∷◌, ◌≡◌, agree_below_at}
 use Rattle.determinize_below.specs.Private.Sparse.{has_bit}
 use Rattle.determinize_below.specs.Semantics.{is_word_byte}
 

@@ -2,22 +2,17 @@
 -- Main statements: has-have_at_start, start_have-known, from_word-same.
 -- Used by: `set_lookbehind_from_start`, `start_law`.
 -- Idea: the bytes of one start kind satisfy the same assertions of the NFA.
-use mathlib.Core.Bool.{and-true, and-false}
-use Rattle.determinize_start.proofs.Common.{and_parts, arith, behind_test, Bool, crlf_first, CustomLineTerminator, eqb-true, false, has, is_known, crlf_second, LineCR, LineLF, Look, NonWordByte, not, Option, refl, Some, start_kind, sym, Tables, true, WordByte, ℕ, ◌&&◌, ◌∙◌, ◌≡◌}
-use Rattle.std.proofs.Common.{None, nat_eq, subst}
-use Rattle.std.proofs.lemmas.Bool.{eq-eqb}
+use Rattle.determinize_start.proofs.Common.{and_parts, arith, behind_test, Bool, crlf_first, CustomLineTerminator, eqb-true, false, has, is_known, crlf_second, LineCR, LineLF, Look, NonWordByte, not, Option, refl, Some, start_kind, sym, Tables, true, WordByte, ℕ, ◌&&◌, ◌∙◌, ◌≡◌, and-true, and-false, None, nat_eq, subst, eq-eqb, known_is, by_test, start_kind_of}
 use Rattle.determinize_below.specs.Semantics.{is_word_byte}
-use Rattle.determinize_below.proofs.looks.LookBehindTable.{known_is}
-use Rattle.ordered_reach.proofs.Cases.{by_test}
 use Rattle.determinize_start.specs.LookTables.{start_have, start_from_word, start_half_crlf, have_at_start, from_word_at_start, half_crlf_at_start, from_word_after, half_crlf_after}
-use Rattle.determinize_start.specs.StartKinds.{start_kind_of}
-use Rattle.determinize_start.proofs.tables.KnownSet.{under, has-known_set, known-agree, known-within}
+use Rattle.determinize_start.proofs.tables.KnownSet.{under, known-agree, known-within}
 use Rattle.determinize_start.specs.declared.start.Start.{Start as Kind}
 
 swap_eq : (a b : ℕ) → nat_eq a b ≡ nat_eq b a
 swap_eq a b = grind arith
 
-not_second : (reverse : Bool) (b : ℕ) → nat_eq b 10 ≡ false → nat_eq b 13 ≡ false → nat_eq b (crlf_second reverse) ≡ false
+not_second : (reverse : Bool) (b : ℕ) → nat_eq b 10 ≡ false → nat_eq b 13 ≡ false
+    → nat_eq b (crlf_second reverse) ≡ false
 not_second true b e k = k
 not_second false b e k = e
 
@@ -46,21 +41,13 @@ by_kind t P lf cr custom word other b =
     (λ w. rw (e, k, m, w) (word b e k m w))
     (λ w. rw (e, k, m, w) (other b e k m w)))))
 
-lf_crlf : (reverse c : Bool) → c ≡ true → (c && not reverse) ≡ nat_eq 10 (crlf_second reverse)
-lf_crlf true c h = and-false c
-lf_crlf false c h = and-true c ∙ h
+lf_crlf : (reverse c : Bool) → (c && not reverse) ≡ (c && nat_eq 10 (crlf_second reverse))
+lf_crlf true c = refl
+lf_crlf false c = refl
 
-cr_crlf : (reverse c : Bool) → c ≡ true → (c && reverse) ≡ nat_eq 13 (crlf_second reverse)
-cr_crlf true c h = and-true c ∙ h
-cr_crlf false c h = and-false c
-
-lf_crlf_within : (reverse c : Bool) → (c && not reverse) ≡ true → nat_eq 10 (crlf_second reverse) ≡ true
-lf_crlf_within true c h = sym (and-false c) ∙ h
-lf_crlf_within false c h = refl
-
-cr_crlf_within : (reverse c : Bool) → (c && reverse) ≡ true → nat_eq 13 (crlf_second reverse) ≡ true
-cr_crlf_within true c h = refl
-cr_crlf_within false c h = sym (and-false c) ∙ h
+cr_crlf : (reverse c : Bool) → (c && reverse) ≡ (c && nat_eq 13 (crlf_second reverse))
+cr_crlf true c = refl
+cr_crlf false c = refl
 
 absent : {P : Type 0} → false ≡ true → P
 absent h = absurd (cc)
@@ -77,24 +64,23 @@ module _ (t : Tables) where
   right : (l : Look) → has t.any l ≡ true → (b : ℕ) → IsRight l b (start_kind t.terminator b)
   unfolding is_word_byte start_have
   right l h = by_kind t.terminator (IsRight l)
-      (has-known_set _ _ _ _ l ∙ known-agree t.any _ _ _ _ _ _ _ _ l h (λ _. refl)
-      (λ e. under _ _ e ∙ swap_eq t.terminator 10) (λ e _. lf_crlf t.reverse _ e) (λ e. e))
-      (has-known_set _ _ _ _ l ∙ known-agree t.any _ _ _ _ _ _ _ _ l h (λ _. refl)
-      (λ e. under _ _ e ∙ swap_eq t.terminator 13) (λ _ e. cr_crlf t.reverse _ e) (λ e. e))
-      (λ e k. has-known_set _ _ _ _ l ∙ known-agree t.any _ _ _ _ _ _ _ _ l h (λ _. refl)
+      (known-agree t.any _ _ _ _ _ _ _ _ l h (λ _. refl)
+      (λ e. under _ _ e ∙ swap_eq t.terminator 10) (λ e _. lf_crlf t.reverse _ ∙ under _ _ e) (λ e. e))
+      (known-agree t.any _ _ _ _ _ _ _ _ l h (λ _. refl)
+      (λ e. under _ _ e ∙ swap_eq t.terminator 13) (λ _ e. cr_crlf t.reverse _ ∙ under _ _ e) (λ e. e))
+      (λ e k. known-agree t.any _ _ _ _ _ _ _ _ l h (λ _. refl)
       (λ d. d ∙ sym (eq-eqb t.terminator t.terminator refl)) (λ _ _. sym (not_second t.reverse t.terminator e k))
       (λ d. under _ _ d))
-      (λ b e k m w. has-known_set _ _ _ _ l ∙ known-agree t.any _ _ _ _ _ _ _ _ l h (λ _. refl) (λ _. sym m)
+      (λ b e k m w. known-agree t.any _ _ _ _ _ _ _ _ l h (λ _. refl) (λ _. sym m)
       (λ _ _. sym (not_second t.reverse b e k)) (λ _. rw w))
-      (λ b e k m w. has-known_set _ _ _ _ l ∙ known-agree t.any _ _ _ _ _ _ _ _ l h (λ _. refl) (λ _. sym m)
+      (λ b e k m w. known-agree t.any _ _ _ _ _ _ _ _ l h (λ _. refl) (λ _. sym m)
       (λ _ _. sym (not_second t.reverse b e k)) (λ d. rw w d))
 
   pub has-have_at_start : (p : Option ℕ) (l : Look) → has t.any l ≡ true
       → has (have_at_start t p) l ≡ is_known t.reverse t.terminator p l
   unfolding have_at_start start_have
   has-have_at_start None l h =
-      has-known_set _ _ _ _ l
-      ∙ known-agree t.any _ _ _ _ _ _ _ _ l h (λ e. e) (λ e. e) (λ e _. e) (λ e. e)
+      known-agree t.any _ _ _ _ _ _ _ _ l h (λ e. e) (λ e. e) (λ e _. e) (λ e. e)
       ∙ sym (known_is t.reverse t.terminator None l)
   has-have_at_start (Some b) l h = right l h b ∙ sym (known_is t.reverse t.terminator (Some b) l)
 
@@ -106,22 +92,20 @@ module _ (t : Tables) where
   unfolding is_word_byte start_have
   start_within l = by_kind t.terminator (IsKnown l)
       (λ h. known-within _ _ _ _ _ _ _ _ l (λ e. e) (λ e. swap_eq 10 t.terminator ∙ (and_parts _ _ e).1)
-      (lf_crlf_within t.reverse _) (λ _. refl) (sym (has-known_set _ _ _ _ l) ∙ h))
+      (λ e. (and_parts _ _ (sym (lf_crlf t.reverse _) ∙ e)).1) (λ _. refl) h)
       (λ h. known-within _ _ _ _ _ _ _ _ l (λ e. e) (λ e. swap_eq 13 t.terminator ∙ (and_parts _ _ e).1)
-      (cr_crlf_within t.reverse _) (λ _. refl) (sym (has-known_set _ _ _ _ l) ∙ h))
+      (λ e. (and_parts _ _ (sym (cr_crlf t.reverse _) ∙ e)).1) (λ _. refl) h)
       (λ e k h. known-within _ _ _ _ _ _ _ _ l (λ e. e) (λ _. eq-eqb t.terminator t.terminator refl) absent
-      (λ e. (and_parts _ _ e).1) (sym (has-known_set _ _ _ _ l) ∙ h))
-      (λ b e k m w h. known-within _ _ _ _ _ _ _ _ l (λ e. e) absent absent absent (sym (has-known_set _ _ _ _ l) ∙ h))
-      (λ b e k m w h. known-within _ _ _ _ _ _ _ _ l (λ e. e) absent absent (λ _. rw w)
-      (sym (has-known_set _ _ _ _ l) ∙ h))
+      (λ e. (and_parts _ _ e).1) h)
+      (λ b e k m w h. known-within _ _ _ _ _ _ _ _ l (λ e. e) absent absent absent h)
+      (λ b e k m w h. known-within _ _ _ _ _ _ _ _ l (λ e. e) absent absent (λ _. rw w) h)
 
   pub have_at_start-known : (p : Option ℕ) (l : Look) → has (have_at_start t p) l ≡ true
       → is_known t.reverse t.terminator p l ≡ true
   unfolding have_at_start start_have
   have_at_start-known None l h =
       known_is t.reverse t.terminator None l
-      ∙ known-within _ _ _ _ _ _ _ _ l (λ _. refl) (λ _. refl) (λ _. refl) (λ _. refl)
-      (sym (has-known_set _ _ _ _ l) ∙ h)
+      ∙ known-within _ _ _ _ _ _ _ _ l (λ _. refl) (λ _. refl) (λ _. refl) (λ _. refl) h
   have_at_start-known (Some b) l h = known_is t.reverse t.terminator (Some b) l ∙ start_within l b h
 
   -- the same for the start kind of an optional byte
@@ -135,19 +119,14 @@ module _ (t : Tables) where
   unfolding is_word_byte from_word_at_start from_word_after start_from_word
   from_word-same None = sym (and-false _)
   from_word-same (Some b) = by_kind t.terminator (λ b kind. start_from_word t kind ≡ from_word_after t (Some b))
-      (sym (and-false _))
-      (sym (and-false _))
-      (λ e k. refl)
-      (λ b e k m w. rw w (sym (and-true _)))
-      (λ b e k m w. rw w (sym (and-false _)))
-      b
+      (sym (and-false _)) (sym (and-false _)) (λ e k. refl)
+      (λ b e k m w. rw w (sym (and-true _))) (λ b e k m w. rw w (sym (and-false _))) b
 
   pub half_crlf-same : (p : Option ℕ) → half_crlf_at_start t p ≡ half_crlf_after t p
   unfolding half_crlf_at_start half_crlf_after start_half_crlf
   half_crlf-same None = sym (and-false _)
   half_crlf-same (Some b) = by_kind t.terminator (λ b kind. start_half_crlf t kind ≡ half_crlf_after t (Some b))
-      (line_feed t.reverse _)
-      (carriage_return t.reverse _)
+      (line_feed t.reverse _) (carriage_return t.reverse _)
       (λ e k. rw (not_first t.reverse t.terminator e k) (sym (and-false _)))
       (λ b e k m w. rw (not_first t.reverse b e k) (sym (and-false _)))
       (λ b e k m w. rw (not_first t.reverse b e k) (sym (and-false _)))

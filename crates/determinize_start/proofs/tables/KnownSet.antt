@@ -2,10 +2,9 @@
 -- Main statements: has-known_set, known-agree, known-within.
 -- Used by: StartKinds, StepTables.
 -- Idea: the set is built class by class, and each class has few members.
-use mathlib.Core.Bool.{or-false}
-use Rattle.determinize_start.proofs.Common.{arith, behind_test, Bool, false, Look, refl, Start, StartCRLF, StartLF, true, WordStartHalfAscii, WordStartHalfUnicode, ℕ, ◌&&◌, ◌||◌, ◌∙◌, ◌≡◌}
-use Rattle.determinize_below.specs.Look.{has, has_haystack, has_line, has_crlf, has_word}
-use Rattle.determinize_below.proofs.looks.LookSets.{has-insert, has-empty, same, index_of}
+use Rattle.determinize_start.proofs.Common.{arith, behind_test, Bool, false, Look, refl, Start, StartCRLF, StartLF, true, WordStartHalfAscii, WordStartHalfUnicode, ℕ, ◌&&◌, ◌||◌, ◌≡◌, or-false, has_haystack, has_line, has_crlf, has_word, has-insert, has-empty, sym, ◌∙◌}
+use Rattle.determinize_below.specs.Look.{has}
+use Rattle.determinize_below.proofs.looks.LookSets.{same, index_of}
 use Rattle.determinize_below.proofs.looks.CommonLooks.{meets-from}
 use Rattle.determinize_start.specs.LookTables.{insert_where, known_set}
 
@@ -17,14 +16,8 @@ under c a h = grind arith
 pub has-insert_where : (s : ℕ) (test : Bool) (l k : Look)
     → has (insert_where s test l) k ≡ ((same l k && test) || has s k)
 unfolding insert_where
-has-insert_where s true l k = has-insert s l k ∙ turned (has s k) (same l k)
-  where
-    turned : (a b : Bool) → (a || b) ≡ ((b && true) || a)
-    turned a b = grind arith
-has-insert_where s false l k = turned (has s k) (same l k)
-  where
-    turned : (a b : Bool) → a ≡ ((b && false) || a)
-    turned a b = grind arith
+has-insert_where s true l k = grind (arith, has-insert s l k)
+has-insert_where s false l k = grind arith
 
 -- the classes of a member
 pub word_class : (any : ℕ) (l : Look) → has 0x3FFC0 l ≡ true → has any l ≡ true → has_word any ≡ true
@@ -48,11 +41,7 @@ known_each : (start line crlf word : Bool) (l : Look)
     ≡ behind_test start line crlf word l
 unfolding same index_of
 known_each a b c d Start = or-false a
-known_each a b c d StartLF = or-false b
-known_each a b c d StartCRLF = or-false c
-known_each a b c d WordStartHalfAscii = or-false d
-known_each a b c d WordStartHalfUnicode = or-false d
-known_each a b c d l = refl
+known_each a b c d l = grind arith
 
 -- the members of such a set
 pub has-known_set : (start line crlf word : Bool) (l : Look)
@@ -60,32 +49,26 @@ pub has-known_set : (start line crlf word : Bool) (l : Look)
 unfolding known_set
 has-known_set start line crlf word l = simp (has-insert_where, has-empty) (known_each start line crlf word l)
 
--- two such sets agree on the assertions of an NFA if their tests agree under its classes
+-- such a set agrees with a table on the assertions of an NFA if their tests agree under its classes
 pub known-agree : (any : ℕ) (start line crlf word start' line' crlf' word' : Bool) (l : Look) → has any l ≡ true
     → (has_haystack any ≡ true → start ≡ start')
     → (has_line any ≡ true → line ≡ line')
     → (has_line any ≡ true → has_crlf any ≡ true → crlf ≡ crlf')
     → (has_word any ≡ true → word ≡ word')
-    → behind_test start line crlf word l ≡ behind_test start' line' crlf' word' l
+    → has (known_set start line crlf word) l ≡ behind_test start' line' crlf' word' l
 unfolding has
-known-agree any a b c d a' b' c' d' Start h i j k m = i (haystack_class any Start refl h)
-known-agree any a b c d a' b' c' d' StartLF h i j k m = j (line_class any StartLF refl h)
-known-agree any a b c d a' b' c' d' StartCRLF h i j k m =
-    k (line_class any StartCRLF refl h) (crlf_class any StartCRLF refl h)
-known-agree any a b c d a' b' c' d' WordStartHalfAscii h i j k m = m (word_class any WordStartHalfAscii refl h)
-known-agree any a b c d a' b' c' d' WordStartHalfUnicode h i j k m = m (word_class any WordStartHalfUnicode refl h)
-known-agree any a b c d a' b' c' d' l h i j k m = refl
+known-agree any a b c d a' b' c' d' Start h i j k m =
+    has-known_set a b c d Start ∙ i (haystack_class any Start refl h)
+known-agree any a b c d a' b' c' d' l h i j k m =
+    has-known_set a b c d l ∙ search (i, j, k, m, word_class, line_class, crlf_class, haystack_class)
 
--- such a set is a subset of another if its tests imply the other's
+-- such a set is within a table if its tests imply the table's
 pub known-within : (start line crlf word start' line' crlf' word' : Bool) (l : Look)
     → (start ≡ true → start' ≡ true)
     → (line ≡ true → line' ≡ true)
     → (crlf ≡ true → crlf' ≡ true)
     → (word ≡ true → word' ≡ true)
-    → behind_test start line crlf word l ≡ true → behind_test start' line' crlf' word' l ≡ true
-known-within a b c d a' b' c' d' Start i j k m h = i h
-known-within a b c d a' b' c' d' StartLF i j k m h = j h
-known-within a b c d a' b' c' d' StartCRLF i j k m h = k h
-known-within a b c d a' b' c' d' WordStartHalfAscii i j k m h = m h
-known-within a b c d a' b' c' d' WordStartHalfUnicode i j k m h = m h
-known-within a b c d a' b' c' d' l i j k m h = h
+    → has (known_set start line crlf word) l ≡ true → behind_test start' line' crlf' word' l ≡ true
+known-within a b c d a' b' c' d' Start i j k m h = i (sym (has-known_set a b c d Start) ∙ h)
+known-within a b c d a' b' c' d' l i j k m h =
+    let e : behind_test a b c d l ≡ true = sym (has-known_set a b c d l) ∙ h in grind arith

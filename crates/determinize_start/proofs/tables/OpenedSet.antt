@@ -2,12 +2,9 @@
 -- Main statements: has-word_set, has-opened.
 -- Used by: `words_opened`, `LookTables::opened`.
 -- Idea: as KnownSet, for word and for line assertions.
-use mathlib.Core.Bool.{or-false}
-use Rattle.determinize_start.proofs.Common.{beq, Bool, crlf_first, End, EndCRLF, EndLF, false, has, is, is_none, is_word, crlf_second, Look, not, Option, refl, StartCRLF, Tables, WordAscii, WordAsciiNegate, WordEndAscii, WordEndHalfAscii, WordEndHalfUnicode, WordEndUnicode, WordStartAscii, WordStartUnicode, WordUnicode, WordUnicodeNegate, ℕ, ◌&&◌, ◌||◌, ◌≡◌}
-use Rattle.std.proofs.Common.{bit_or}
-use Rattle.determinize_below.proofs.looks.LookSets.{has-empty, has-union, same, index_of}
+use Rattle.determinize_start.proofs.Common.{beq, Bool, crlf_first, End, EndCRLF, EndLF, false, has, is, is_none, is_word, crlf_second, Look, not, Option, refl, StartCRLF, Tables, WordAscii, WordAsciiNegate, WordEndAscii, WordEndHalfAscii, WordEndHalfUnicode, WordEndUnicode, WordStartAscii, WordStartUnicode, WordUnicode, WordUnicodeNegate, ℕ, ◌&&◌, ◌||◌, ◌≡◌, or-false, bit_or, has-empty, has-union, word_set, line_set, arith}
+use Rattle.determinize_below.proofs.looks.LookSets.{same, index_of}
 use Rattle.determinize_start.specs.LookTables.{word_opened, line_opened, opened}
-use Rattle.determinize_start.specs.Private.LookSets.{word_set, line_set}
 use Rattle.determinize_start.proofs.tables.KnownSet.{has-insert_where}
 
 -- the members of the word set, the last inserted first
@@ -24,16 +21,7 @@ word_each : (f w : Bool) (k : Look)
     || ((same WordAscii k && not (beq f w)) || false)))))))))) ≡ word_opened f w k
 unfolding same index_of word_opened
 word_each f w WordAscii = or-false _
-word_each f w WordAsciiNegate = or-false _
-word_each f w WordUnicode = or-false _
-word_each f w WordUnicodeNegate = or-false _
-word_each f w WordStartAscii = or-false _
-word_each f w WordEndAscii = or-false _
-word_each f w WordStartUnicode = or-false _
-word_each f w WordEndUnicode = or-false _
-word_each f w WordEndHalfAscii = or-false _
-word_each f w WordEndHalfUnicode = or-false _
-word_each f w k = refl
+word_each f w k = grind arith
 
 pub has-word_set : (f w : Bool) (k : Look) → has (word_set f w) k ≡ word_opened f w k
 has-word_set f w k = simp (has-insert_where, has-empty) (word_each f w k)
@@ -46,10 +34,7 @@ line_each : (t : Tables) (half : Bool) (u : Option ℕ) (k : Look)
     ≡ line_opened t half u k
 unfolding same index_of line_opened
 line_each t half u End = or-false _
-line_each t half u EndLF = or-false _
-line_each t half u StartCRLF = or-false _
-line_each t half u EndCRLF = or-false _
-line_each t half u k = refl
+line_each t half u k = grind arith
 
 pub has-line_set : (t : Tables) (half : Bool) (u : Option ℕ) (k : Look)
     → has (line_set t half u) k ≡ line_opened t half u k

@@ -2,13 +2,10 @@
 -- Main statements: has-have_after, have_after-known, known_or_opened_any.
 -- Used by: TrueTables, and the laws of look-behind.
 -- Idea: by cases on the assertion and on a few tests of the byte behind and of the unit.
-use mathlib.Core.Bool.{or-false}
-use Rattle.determinize_start.proofs.Common.{and_parts, ap, behind_test, Bool, crlf_first, End, EndCRLF, EndLF, false, is, is_known, is_none, is_word, crlf_second, Look, not, Option, refl, Some, StartCRLF, sym, Tables, true, WordAscii, WordAsciiNegate, WordEndAscii, WordEndUnicode, WordStartAscii, WordStartUnicode, WordUnicode, WordUnicodeNegate, ℕ, ◌||◌, ◌∙◌, ◌≡◌}
+use Rattle.determinize_start.proofs.Common.{and_parts, ap, behind_test, Bool, crlf_first, End, is, is_known, is_none, is_word, crlf_second, Look, not, Option, refl, Some, StartCRLF, sym, Tables, true, ℕ, ◌||◌, ◌∙◌, ◌≡◌, holds, known_is, IsFlagged, arith}
 use Rattle.determinize_below.specs.Look.{has}
-use Rattle.determinize_below.specs.Semantics.{holds}
-use Rattle.determinize_below.proofs.looks.LookBehindTable.{known_is}
-use Rattle.determinize_start.specs.LookTables.{IsFlagged, opened, word_opened, line_opened, have_after, from_word_after, half_crlf_after}
-use Rattle.determinize_start.proofs.tables.KnownSet.{under, has-known_set, known-agree, known-within, word_class, crlf_class}
+use Rattle.determinize_start.specs.LookTables.{opened, word_opened, line_opened, have_after, from_word_after, half_crlf_after}
+use Rattle.determinize_start.proofs.tables.KnownSet.{under, known-agree, known-within, word_class, crlf_class}
 
 module _ (t : Tables) where
   -- look-have after a byte is complete, for the assertions of the NFA
@@ -16,8 +13,7 @@ module _ (t : Tables) where
       → has (have_after t (Some b)) l ≡ is_known t.reverse t.terminator (Some b) l
   unfolding have_after
   has-have_after b l h =
-      has-known_set _ _ _ _ l
-      ∙ known-agree t.any _ _ _ _ _ _ _ _ l h (λ _. refl) (λ e. under _ _ e) (λ _ e. under _ _ e) (λ e. under _ _ e)
+      known-agree t.any _ _ _ _ _ _ _ _ l h (λ _. refl) (λ e. under _ _ e) (λ _ e. under _ _ e) (λ e. under _ _ e)
       ∙ sym (known_is t.reverse t.terminator (Some b) l)
 
   -- look-have after a byte is sound
@@ -27,7 +23,7 @@ module _ (t : Tables) where
   have_after-known b l h =
       known_is t.reverse t.terminator (Some b) l
       ∙ known-within _ _ _ _ _ _ _ _ l (λ e. e) (λ e. (and_parts _ _ e).1) (λ e. (and_parts _ _ e).1)
-      (λ e. (and_parts _ _ e).1) (sym (has-known_set _ _ _ _ l) ∙ h)
+      (λ e. (and_parts _ _ e).1) h
 
   -- the flags after a step describe the byte that was read
   pub IsFlagged-after : (p : Option ℕ) → IsFlagged t p (from_word_after t p) (half_crlf_after t p)
@@ -38,13 +34,11 @@ module _ (t : Tables) where
   -- as tables, and as sets
   known_or_opened_each : (p u : Option ℕ) (l : Look)
       → (behind_test (is_none p) (is_none p || is p t.terminator) (is_none p || is p (crlf_second t.reverse))
-      (not (is_word p)) l || opened t (is_word p) (is p (crlf_first t.reverse)) u l) ≡ holds t.reverse t.terminator p u l
+      (not (is_word p)) l || opened t (is_word p) (is p (crlf_first t.reverse)) u l)
+      ≡ holds t.reverse t.terminator p u l
   unfolding opened word_opened line_opened
   known_or_opened_each p u End = refl
-  known_or_opened_each p u EndLF = refl
-  known_or_opened_each p u StartCRLF = refl
-  known_or_opened_each p u EndCRLF = refl
-  known_or_opened_each p u s = or-false _
+  known_or_opened_each p u s = grind arith
 
   known_or_opened : (p u : Option ℕ) (l : Look)
       → (is_known t.reverse t.terminator p l || opened t (is_word p) (is p (crlf_first t.reverse)) u l)
@@ -58,26 +52,7 @@ module _ (t : Tables) where
   unfolding has opened word_opened line_opened
   opened-flags p from_word half u StartCRLF f h =
       ap (λ x. line_opened t x u StartCRLF) (f.crlf (crlf_class t.any StartCRLF refl h))
-  opened-flags p from_word half u EndCRLF f h =
-      ap (λ x. line_opened t x u EndCRLF) (f.crlf (crlf_class t.any EndCRLF refl h))
-  opened-flags p from_word half u WordAscii f h =
-      ap (λ x. word_opened x (is_word u) WordAscii || false) (f.word (word_class t.any WordAscii refl h))
-  opened-flags p from_word half u WordAsciiNegate f h =
-      ap (λ x. word_opened x (is_word u) WordAsciiNegate || false) (f.word (word_class t.any WordAsciiNegate refl h))
-  opened-flags p from_word half u WordUnicode f h =
-      ap (λ x. word_opened x (is_word u) WordUnicode || false) (f.word (word_class t.any WordUnicode refl h))
-  opened-flags p from_word half u WordUnicodeNegate f h =
-      ap (λ x. word_opened x (is_word u) WordUnicodeNegate || false)
-      (f.word (word_class t.any WordUnicodeNegate refl h))
-  opened-flags p from_word half u WordStartAscii f h =
-      ap (λ x. word_opened x (is_word u) WordStartAscii || false) (f.word (word_class t.any WordStartAscii refl h))
-  opened-flags p from_word half u WordEndAscii f h =
-      ap (λ x. word_opened x (is_word u) WordEndAscii || false) (f.word (word_class t.any WordEndAscii refl h))
-  opened-flags p from_word half u WordStartUnicode f h =
-      ap (λ x. word_opened x (is_word u) WordStartUnicode || false) (f.word (word_class t.any WordStartUnicode refl h))
-  opened-flags p from_word half u WordEndUnicode f h =
-      ap (λ x. word_opened x (is_word u) WordEndUnicode || false) (f.word (word_class t.any WordEndUnicode refl h))
-  opened-flags p from_word half u l f h = refl
+  opened-flags p from_word half u l f h = grind (arith, f.word, f.crlf, word_class t.any l, crlf_class t.any l)
 
   -- with flags that are right if they are needed, an assertion of the NFA holds if and only if the
   -- look-behind or the unit satisfies it

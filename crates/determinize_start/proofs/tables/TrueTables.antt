@@ -2,17 +2,14 @@
 -- Main statements: known_truth, opened_truth, have_after_known.
 -- Used by: the steps and the walk of `determinize_core`.
 -- Idea: sets need to agree on the assertions of the NFA only.
-use Rattle.determinize_start.proofs.Common.{has, Option, Some, true, ℕ, ◌≡◌}
+use Rattle.determinize_start.proofs.Common.{has, Option, Some, true, ℕ, ◌≡◌, Nfa, known-holds, tables_of, opened, have_after, from_word_after, half_crlf_after, have_at_start}
 use Rattle.std.proofs.Common.{◌||◌}
 use Rattle.determinize_below.specs.Edges.{IsTested}
-use Rattle.determinize_below.specs.Semantics.{Nfa}
 use Rattle.determinize_below.specs.Positions.{truth}
 use Rattle.determinize_below.specs.Nfa.{IsAccepted}
 use Rattle.determinize_below.specs.Reached.{known}
 use Rattle.determinize_below.specs.declared.look.Look.{Look as Assertion}
-use Rattle.determinize_below.proofs.looks.LookBehindTable.{known-holds}
 use Rattle.determinize_below.proofs.nfas.TestedLooks.{Decides-look_set_any}
-use Rattle.determinize_start.specs.LookTables.{tables_of, opened, have_after, from_word_after, half_crlf_after, have_at_start}
 use Rattle.determinize_start.proofs.kinds.StartKinds.{has-have_at_start}
 use Rattle.determinize_start.proofs.tables.StepTables.{has-have_after, IsFlagged-after, known_or_opened_any}
 

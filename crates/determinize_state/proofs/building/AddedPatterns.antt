@@ -2,17 +2,10 @@
 -- Main statements: building_with_pattern, unlisted.
 -- Used by: `add_match_pattern_id`.
 -- Idea: the one pattern 0 takes no bytes until another comes.
-use Rattle.std.proofs.Common.{◌≡◌, ℕ, ◌+◌, ◌≤◌, true, false, List, [], ◌∷◌, ◌++◌, length, nat_eq, suc, zero, refl, arith, sym, ap, ◌∙◌, append-nil, length-append}
-use Rattle.std.specs.List.{list_any}
-use Rattle.std.specs.Cmp.{nat_eq_equiv}
-use Rattle.std.proofs.lemmas.Bool.Decides.{nat_tests}
-use Rattle.std.proofs.lemmas.List.Elements.{All-push}
+use Rattle.determinize_state.proofs.Common.{◌≡◌, ℕ, ◌+◌, ◌≤◌, true, false, List, [], ◌∷◌, ◌++◌, length, nat_eq, suc, zero, refl, arith, sym, ap, ◌∙◌, length-append, list_any, nat_eq_equiv, nat_tests, All-push, IsBuilding, Value, IsValue, with_pattern, is_nonempty, deltas, is_explicit, words, word, with_word, has_flag, value_of, number_at, flags, pattern_bytes, IsSpelled, with_bit, with_pattern_bytes}
+use Rattle.std.proofs.Common.{append-nil}
 use Rattle.std.proofs.lemmas.Map.Keys.{IsDistinct-push}
-use Rattle.determinize_state.specs.Building.{IsBuilding}
-use Rattle.determinize_state.specs.Value.{Value, IsValue, with_pattern, is_nonempty}
-use Rattle.determinize_state.specs.Varint.{deltas}
-use Rattle.determinize_state.specs.Spelling.{is_explicit, words, word, spell, with_word, has_flag, value_of, number_at, flags, pattern_bytes, IsSpelled}
-use Rattle.determinize_state.specs.Private.PatternBytes.{with_bit, with_pattern_bytes}
+use Rattle.determinize_state.specs.Spelling.{spell}
 use Rattle.determinize_state.proofs.building.UnfinishedBytes.{built}
 use Rattle.determinize_state.proofs.encoding.FlagBits.{has_1, has_2, or_1, or_2, or_3}
 use Rattle.determinize_state.proofs.encoding.ReadBytes.{explicit_of, match_of}
@@ -70,22 +63,15 @@ match_push (n ∷ ids) id = refl
 explicit_push : (ids : List ℕ) (id : ℕ) → is_explicit ids ≡ true → is_explicit (ids ++ id ∷ []) ≡ true
 explicit_push [] id e = (cc)
 explicit_push (zero ∷ []) id e = refl
-explicit_push (suc n ∷ []) id e = refl
-explicit_push (zero ∷ m ∷ ids) id e = refl
-explicit_push (suc n ∷ m ∷ ids) id e = refl
+explicit_push ids id e = refl
 
 front-more : (v : Value) (id : ℕ) → IsValue v → is_explicit v.patterns ≡ true
     → front (with_pattern v id) ≡ with_word (front v ++ word id) 9 (number_at (front v) 9 + 1)
 unfolding front
-front-more v id h e = rw (
-  front_count v h e,
-  e,
-  explicit_match v.patterns e,
-  explicit_push v.patterns id e,
-  match_push v.patterns id,
-  words-append v.patterns (id ∷ []),
-  length-append v.patterns (id ∷ []),
-)
+front-more v id h e =
+    let more : is_explicit (v.patterns ++ id ∷ []) ≡ true = explicit_push v.patterns id e in
+    rw (front_count v h e, e, explicit_match v.patterns e, more, match_push v.patterns id)
+    (rw (words-append v.patterns (id ∷ []), length-append v.patterns (id ∷ [])) refl)
 
 front-pushed : (v : Value) (id : ℕ) (ids : List ℕ) → IsValue v → v.patterns ≡ ids
     → front (with_pattern v id) ≡ with_pattern_bytes (front v) id
@@ -96,10 +82,7 @@ front-pushed v (suc n) [] h e =
     rw (front_explicit v ∙ ap is_explicit e, front_match v ∙ ap is_nonempty e, not_zero) (front-first v n e)
 front-pushed v id (zero ∷ []) h e =
     rw (front_explicit v ∙ ap is_explicit e, front_match v ∙ ap is_nonempty e) (front-second v id e)
-front-pushed v id (suc n ∷ []) h e = rw (front_explicit v ∙ ap is_explicit e) (front-more v id h (ap is_explicit e))
-front-pushed v id (zero ∷ m ∷ ids) h e = rw (front_explicit v ∙ ap is_explicit e) (front-more v id h (ap is_explicit e))
-front-pushed v id (suc n ∷ m ∷ ids) h e =
-    rw (front_explicit v ∙ ap is_explicit e) (front-more v id h (ap is_explicit e))
+front-pushed v id ids h e = rw (front_explicit v ∙ ap is_explicit e) (front-more v id h (ap is_explicit e))
 
 pub building_with_pattern : (bytes : List ℕ) (last id : ℕ) → IsBuilding bytes last → (value_of bytes).states ≡ []
     → id ≤ 2147483646 → list_any (nat_eq id) (value_of bytes).patterns ≡ false →
@@ -107,13 +90,9 @@ pub building_with_pattern : (bytes : List ℕ) (last id : ℕ) → IsBuilding by
     × (value_of (with_pattern_bytes bytes id) ≡ with_pattern (value_of bytes) id)
 building_with_pattern bytes last id h none small new =
     let v : Value = value_of bytes in
-    let valid : IsValue (with_pattern v id) = record {
-      have = h.is.valid.have;
-      need = h.is.valid.need;
-      distinct = IsDistinct-push nat_eq_equiv v.patterns id h.is.valid.distinct new;
-      pattern_ids = All-push (λ k. k ≤ 2147483646) v.patterns id h.is.valid.pattern_ids small;
-      state_ids = h.is.valid.state_ids;
-    } in
+    let distinct = IsDistinct-push nat_eq_equiv v.patterns id h.is.valid.distinct new in
+    let all = All-push (λ k. k ≤ 2147483646) v.patterns id h.is.valid.pattern_ids small in
+    let valid : IsValue (with_pattern v id) = assumption (distinct, all, h.is.valid) in
     built _ last (with_pattern v id) valid h.last
     (sym (front_alone (with_pattern v id) none) ∙ front-pushed v id v.patterns h.is.valid refl
     ∙ ap (λ (b : List ℕ). with_pattern_bytes b id) (front_alone v none ∙ h.is.spelled))
@@ -121,7 +100,4 @@ building_with_pattern bytes last id h none small new =
 -- the bits of the first byte if there is no pattern
 pub unlisted : (bytes : List ℕ) → IsSpelled bytes → (value_of bytes).patterns ≡ [] → (has_flag bytes 1 ≡ false)
     × (has_flag bytes 2 ≡ false)
-unlisted bytes h none = (
-  match_of bytes h ∙ ap is_nonempty none,
-  explicit_of bytes h ∙ ap is_explicit none,
-)
+unlisted bytes h none = (match_of bytes h ∙ ap is_nonempty none, explicit_of bytes h ∙ ap is_explicit none)

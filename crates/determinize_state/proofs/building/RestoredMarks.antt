@@ -2,16 +2,9 @@
 -- Main statements: mark_within, come_back.
 -- Used by: `restore`.
 -- Idea: bytes only grow, so cutting them and writing the sets is enough.
-use Rattle.std.proofs.Common.{◌≡◌, ℕ, ◌<◌, ◌≤◌, List, [], ◌∷◌, ◌++◌, length, All, nat_eq, refl, arith, sym, ap, ◌∙◌, take, append_assoc, subst, length-append}
-use Rattle.std.specs.List.{IsDistinct}
-use Rattle.std.proofs.Math.Seq.{take-append_seam}
-use Rattle.std.proofs.lemmas.List.Elements.{All-cons, All-head, All-tail}
-use Rattle.determinize_state.specs.Value.{Value, IsValue}
-use Rattle.determinize_state.specs.Varint.{deltas, varint, zigzag, last_id}
-use Rattle.determinize_state.specs.Spelling.{spell, with_word, value_of, IsSpelled}
-use Rattle.determinize_state.specs.Building.{IsBuilding}
+use Rattle.determinize_state.proofs.Common.{◌≡◌, ℕ, ◌<◌, ◌≤◌, List, [], ◌∷◌, ◌++◌, length, All, nat_eq, refl, arith, sym, ap, ◌∙◌, take, append_assoc, subst, length-append, IsDistinct, take-append_seam, All-cons, All-head, All-tail, Value, IsValue, deltas, varint, zigzag, last_id, with_word, value_of, IsSpelled, IsBuilding, IsGrown}
+use Rattle.determinize_state.specs.Spelling.{spell}
 use Rattle.determinize_state.specs.Private.Marking.{IsMarkOf}
-use Rattle.determinize_state.specs.Recording.{IsGrown}
 use Rattle.determinize_state.specs.declared.state.mark.Mark.{Mark}
 use Rattle.determinize_state.proofs.encoding.RoundTrip.{spell_long}
 use Rattle.determinize_state.proofs.building.UnfinishedBytes.{built}
@@ -48,10 +41,8 @@ grown_back : (v w : Value) → IsGrown v w → record w {
   states = v.states;
 } ≡ v
 grown_back v w g =
-    let from_word : w.from_word ≡ v.from_word = g.from_word in
-    let half_crlf : w.half_crlf ≡ v.half_crlf = g.half_crlf in
-    let patterns : w.patterns ≡ v.patterns = g.patterns in
-    rw (from_word, half_crlf, patterns)
+    let e : (w.from_word ≡ v.from_word) × (w.half_crlf ≡ v.half_crlf) × (w.patterns ≡ v.patterns) =
+    (g.from_word, g.half_crlf, g.patterns) in rw (e.0, e.1, e.2)
 
 all_front : (P : ℕ → Type 0) (xs ys : List ℕ) → All P (xs ++ ys) → All P xs
 all_front P [] ys h = λ k d e. absurd (omega (arith, e))

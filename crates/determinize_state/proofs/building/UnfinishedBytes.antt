@@ -2,17 +2,19 @@
 -- Main statements: built, building_with_have, building_with_state, built_zeros.
 -- Used by: the calls of the builders.
 -- Idea: the bytes are a header and a list that grows at its end.
-use Rattle.std.proofs.Common.{◌≡◌, ℕ, true, ◌<◌, ◌≤◌, List, [], ◌∷◌, ◌++◌, refl, sym, ap, ◌∙◌, append_assoc, subst}
-use Rattle.std.proofs.lemmas.List.Elements.{All-push}
-use Rattle.determinize_state.specs.Value.{Value, IsValue, dead, is_nonempty, with_state}
-use Rattle.determinize_state.specs.Varint.{varint, zigzag, last_id}
-use Rattle.determinize_state.specs.Spelling.{is_explicit, spell, with_word, value_of, IsSpelled}
-use Rattle.determinize_state.specs.Private.PatternBytes.{with_bit}
-use Rattle.determinize_state.specs.Building.{IsBuilding}
+use Rattle.determinize_state.proofs.Common.{◌≡◌, ℕ, true, ◌<◌, ◌≤◌, List, [], ◌∷◌, ◌++◌, refl, sym, ap, ◌∙◌, append_assoc, subst, All-push, Value, IsValue, dead, is_nonempty, with_state, varint, zigzag, last_id, is_explicit, with_word, value_of, IsSpelled, with_bit, IsBuilding}
+use Rattle.determinize_state.specs.Spelling.{spell}
 use Rattle.determinize_state.proofs.encoding.Varints.{deltas-push}
 use Rattle.determinize_state.proofs.encoding.RoundTrip.{dead_valid, value_of-spell, spelled}
-use Rattle.determinize_state.proofs.values.ReplacedParts.{with_have, with_need, with_have_valid, with_need_valid}
 use Rattle.determinize_state.proofs.encoding.FlagBits.{or_4, or_8}
+
+-- the value with another look-have
+abbrev pub with_have : Value → ℕ → Value
+with_have v set = record v { look_have = set }
+
+-- the value with another look-need
+abbrev pub with_need : Value → ℕ → Value
+with_need v set = record v { look_need = set }
 
 -- the encoding of a value has this value
 pub built : (bytes : List ℕ) (last : ℕ) (v : Value) → IsValue v → last ≡ last_id 0 v.states → spell v ≡ bytes →
@@ -25,16 +27,14 @@ pub building_with_have : (bytes : List ℕ) (last set : ℕ) → IsBuilding byte
     IsBuilding (with_word bytes 1 set) last × (value_of (with_word bytes 1 set) ≡ with_have (value_of bytes) set)
 unfolding spell
 building_with_have bytes last set h small =
-    let v : Value = value_of bytes in
-    built _ last (with_have v set) (with_have_valid v set h.is.valid small) h.last
+    built _ last (with_have (value_of bytes) set) (assumption (small, h.is.valid)) h.last
     (ap (λ (b : List ℕ). with_word b 1 set) h.is.spelled)
 
 pub building_with_need : (bytes : List ℕ) (last set : ℕ) → IsBuilding bytes last → set < 262144 →
     IsBuilding (with_word bytes 5 set) last × (value_of (with_word bytes 5 set) ≡ with_need (value_of bytes) set)
 unfolding spell
 building_with_need bytes last set h small =
-    let v : Value = value_of bytes in
-    built _ last (with_need v set) (with_need_valid v set h.is.valid small) h.last
+    built _ last (with_need (value_of bytes) set) (assumption (small, h.is.valid)) h.last
     (ap (λ (b : List ℕ). with_word b 5 set) h.is.spelled)
 
 spell-pushed : (v : Value) (id : ℕ) → spell (with_state v id) ≡ spell v ++ varint (zigzag (last_id 0 v.states) id)
@@ -50,13 +50,8 @@ pub building_with_state : (bytes : List ℕ) (from id : ℕ) → IsBuilding byte
     × (value_of (bytes ++ varint (zigzag from id)) ≡ with_state (value_of bytes) id)
 building_with_state bytes from id h small =
     let v : Value = value_of bytes in
-    let valid : IsValue (with_state v id) = record {
-      have = h.is.valid.have;
-      need = h.is.valid.need;
-      distinct = h.is.valid.distinct;
-      pattern_ids = h.is.valid.pattern_ids;
-      state_ids = All-push (λ k. k ≤ 2147483646) v.states id h.is.valid.state_ids small;
-    } in
+    let all = All-push (λ k. k ≤ 2147483646) v.states id h.is.valid.state_ids small in
+    let valid : IsValue (with_state v id) = assumption (all, h.is.valid) in
     built _ id (with_state v id) valid (sym (last-push 0 v.states id)) (spell-pushed v id ∙ rw (h.is.spelled, h.last))
 
 pub building_from_word : (bytes : List ℕ) (last : ℕ) → IsBuilding bytes last →
@@ -65,17 +60,9 @@ unfolding spell
 building_from_word bytes last h =
     let v : Value = value_of bytes in
     let w : Value = record v { from_word = true } in
-    let valid : IsValue w = record {
-      have = h.is.valid.have;
-      need = h.is.valid.need;
-      distinct = h.is.valid.distinct;
-      pattern_ids =
-          h.is.valid.pattern_ids;
-      state_ids = h.is.valid.state_ids;
-    } in
     let same : spell w ≡ with_bit (spell v) 4 =
     rw (or_4 (is_nonempty v.patterns) (is_explicit v.patterns) v.from_word v.half_crlf) in
-    built _ last w valid h.last (same ∙ ap (λ (b : List ℕ). with_bit b 4) h.is.spelled)
+    built _ last w (assumption h.is.valid) h.last (same ∙ ap (λ (b : List ℕ). with_bit b 4) h.is.spelled)
 
 pub building_half_crlf : (bytes : List ℕ) (last : ℕ) → IsBuilding bytes last →
     IsBuilding (with_bit bytes 8) last × (value_of (with_bit bytes 8) ≡ record (value_of bytes) { half_crlf = true })
@@ -83,17 +70,9 @@ unfolding spell
 building_half_crlf bytes last h =
     let v : Value = value_of bytes in
     let w : Value = record v { half_crlf = true } in
-    let valid : IsValue w = record {
-      have = h.is.valid.have;
-      need = h.is.valid.need;
-      distinct = h.is.valid.distinct;
-      pattern_ids =
-          h.is.valid.pattern_ids;
-      state_ids = h.is.valid.state_ids;
-    } in
     let same : spell w ≡ with_bit (spell v) 8 =
     rw (or_8 (is_nonempty v.patterns) (is_explicit v.patterns) v.from_word v.half_crlf) in
-    built _ last w valid h.last (same ∙ ap (λ (b : List ℕ). with_bit b 8) h.is.spelled)
+    built _ last w (assumption h.is.valid) h.last (same ∙ ap (λ (b : List ℕ). with_bit b 8) h.is.spelled)
 
 -- nine zero bytes are the encoding of the dead value
 pub built_zeros : IsBuilding (0 ∷ 0 ∷ 0 ∷ 0 ∷ 0 ∷ 0 ∷ 0 ∷ 0 ∷ 0 ∷ []) 0

@@ -2,20 +2,14 @@
 -- Main statements: spell_short.
 -- Used by: `State::memory_usage`.
 -- Idea: each part has at most five bytes for each number.
-use Rattle.std.proofs.Common.{◌≡◌, ℕ, ◌+◌, ◌*◌, ◌/◌, ◌≤◌, Bool, true, false, List, [], ◌∷◌, length, suc, zero, inl, inr, refl, arith, lit≤, length-append}
-use Rattle.std.proofs.lemmas.Bool.Decides.{leb_tells}
-use Rattle.determinize_state.specs.Value.{Value}
-use Rattle.determinize_state.specs.Varint.{groups, varint, zigzag, deltas}
-use Rattle.determinize_state.specs.Spelling.{spell, words, is_explicit}
+use Rattle.determinize_state.proofs.Common.{◌≡◌, ℕ, ◌+◌, ◌*◌, ◌/◌, ◌≤◌, Bool, true, false, List, [], ◌∷◌, length, suc, zero, refl, arith, lit≤, length-append, Value, groups, zigzag, deltas, words, is_explicit}
+use Rattle.determinize_state.specs.Varint.{varint}
+use Rattle.determinize_state.specs.Spelling.{spell}
 use Rattle.determinize_state.proofs.encoding.RoundTrip.{length-words}
 
 groups_short : (more n : ℕ) → length (groups more n) ≤ suc more
 groups_short zero n = lit≤ tt
-groups_short (suc more) n =
-    elim (leb_tells (suc n) 128) [
-      | inl h ↦ rw h.0 (omega arith)
-      | inr h ↦ rw h.0 (omega (arith, groups_short more (n / 128)))
-    ]
+groups_short (suc more) n = grind (arith, groups_short more (n / 128))
 
 varint_short : (n : ℕ) → length (varint n) ≤ 5
 unfolding varint
@@ -23,12 +17,9 @@ varint_short n = groups_short 4 n
 
 deltas_short : (from : ℕ) (ids : List ℕ) → length (deltas from ids) ≤ 5 * length ids
 deltas_short from [] = lit≤ tt
-deltas_short from (id ∷ ids) = omega (
-  arith,
-  length-append (varint (zigzag from id)) (deltas id ids),
-  varint_short (zigzag from id),
-  deltas_short id ids,
-)
+deltas_short from (id ∷ ids) =
+    let size = length-append (varint (zigzag from id)) (deltas id ids) in
+    omega (arith, size, varint_short (zigzag from id), deltas_short id ids)
 
 -- nine bytes, at most four plus four per pattern, and at most five per NFA state
 pub spell_short : (v : Value) → length (spell v) ≤ 13 + 4 * length v.patterns + 5 * length v.states
@@ -37,10 +28,7 @@ spell_short v = in_each_case (is_explicit v.patterns) refl
   where
     in_each_case : (b : Bool) → is_explicit v.patterns ≡ b
         → length (spell v) ≤ 13 + 4 * length v.patterns + 5 * length v.states
-    in_each_case true e = rw e (omega (
-      arith,
-      length-append (words v.patterns) (deltas 0 v.states),
-      length-words v.patterns,
-      deltas_short 0 v.states,
-    ))
+    in_each_case true e =
+        let size = length-append (words v.patterns) (deltas 0 v.states) in
+        rw e (omega (arith, size, length-words v.patterns, deltas_short 0 v.states))
     in_each_case false e = rw e (omega (arith, deltas_short 0 v.states))

@@ -2,16 +2,10 @@
 -- Main statements: same_bytes, bytes-decide.
 -- Used by: `==` and `cmp` of states.
 -- Idea: RoundTrip: equal bytes are decoded to equal values.
-use Rattle.std.proofs.Common.{◌≡◌, ◌==◌, ℕ, Bool, List, refl, sym, ap, ◌∙◌}
-use Rattle.std.specs.Bool.{one_answer}
-use Rattle.std.specs.Cmp.{unsigned_ties, Equal-is}
-use Rattle.std.specs.Cmp.Lexicographic.{bytes_decides, lists_ties, pointwise, slice_cmp}
+use Rattle.determinize_state.proofs.Common.{◌≡◌, ◌==◌, ℕ, Bool, List, refl, sym, ap, ◌∙◌, one_answer, unsigned_ties, Equal-is, bytes_decides, lists_ties, pointwise, slice_cmp, by_bytes, Decides-same, parts, same, spell, IsValue, Value}
 use Rattle.std.specs.Ordering.{is_eq, nat_cmp, ordering_then}
 use Rattle.std.specs.declared.cmp.Ordering.{Ordering}
 use Rattle.std.specs.declared.cmp.Ordering.TheVariants.{Less, Equal, Greater}
-use Rattle.determinize_state.specs.Equality.{by_bytes, Decides-same, parts, same}
-use Rattle.determinize_state.specs.Spelling.{spell}
-use Rattle.determinize_state.specs.Value.{IsValue, Value}
 use Rattle.determinize_state.proofs.encoding.RoundTrip.{decided, spell_tells}
 
 -- comparing the bytes is comparing the values

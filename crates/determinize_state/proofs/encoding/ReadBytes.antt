@@ -2,13 +2,8 @@
 -- Main statements: match_of, explicit_ids, implicit_ids, place_of.
 -- Used by: the calls that read a state.
 -- Idea: the bytes are those of a value, so each place has that part of the value.
-use Rattle.std.proofs.Common.{◌≡◌, ℕ, ◌+◌, ◌-◌, ◌*◌, ◌<◌, ◌≤◌, Bool, true, false, List, [], ◌∷◌, length, All, suc, zero, refl, arith, sym, ap, ◌∙◌, if◌then◌else◌, take, drop, lit≤, subst, slice_index, get_or}
-use Rattle.std.proofs.Math.Seq.{take-length}
-use Rattle.std.proofs.lemmas.List.Elements.{All-head, All-tail}
-use Rattle.std.specs.Int.{from_le_bytes, w32}
-use Rattle.determinize_state.specs.Value.{Value, is_nonempty}
-use Rattle.determinize_state.specs.Varint.{deltas, ids_from, IsDeltas}
-use Rattle.determinize_state.specs.Spelling.{is_explicit, words, number_at, numbers_in, has_flag, start_in, value_of, IsSpelled}
+use Rattle.determinize_state.proofs.Common.{◌≡◌, ℕ, ◌+◌, ◌-◌, ◌*◌, ◌<◌, ◌≤◌, Bool, true, false, List, [], ◌∷◌, length, All, suc, zero, refl, arith, sym, ap, ◌∙◌, if◌then◌else◌, take, drop, lit≤, subst, slice_index, get_or, take-length, All-head, All-tail, from_le_bytes, w32, Value, is_nonempty, deltas, ids_from, IsDeltas, is_explicit, words, number_at, numbers_in, has_flag, start_in, IsSpelled}
+use Rattle.determinize_state.specs.Spelling.{value_of}
 use Rattle.determinize_state.proofs.encoding.RoundTrip.{spell_long, match_bit, explicit_bit, count_at, drop-start, length-explicit, few}
 
 pub long : (bytes : List ℕ) → IsSpelled bytes → 9 ≤ length bytes
@@ -86,43 +81,30 @@ start_of bytes h = at_start (has_flag bytes 2) refl
 -- the number at an index of four bytes each
 
 pub place_of : (bytes : List ℕ) (index : ℕ) → index < length (numbers_in bytes) → 4 * index + 4 ≤ length bytes
-place_of [] index h = absurd (omega (arith, h))
-place_of (a ∷ []) index h = absurd (omega (arith, h))
-place_of (a ∷ b ∷ []) index h = absurd (omega (arith, h))
-place_of (a ∷ b ∷ c ∷ []) index h = absurd (omega (arith, h))
 place_of (a ∷ b ∷ c ∷ d ∷ bytes) zero h = omega arith
-place_of (a ∷ b ∷ c ∷ d ∷ bytes) (suc index) h = let before : 4 * index + 4
-    ≤ length bytes = place_of bytes index (omega (arith, h)) in omega (arith, before)
+place_of (a ∷ b ∷ c ∷ d ∷ bytes) (suc index) h = omega (arith, place_of bytes index (omega (arith, h)))
+place_of bytes index h = absurd (omega (arith, h))
 
 pub number_of : (bytes : List ℕ) (index : ℕ) → index < length (numbers_in bytes)
     → number_at bytes (4 * index) ≡ slice_index (numbers_in bytes) index
-number_of [] index h = absurd (omega (arith, h))
-number_of (a ∷ []) index h = absurd (omega (arith, h))
-number_of (a ∷ b ∷ []) index h = absurd (omega (arith, h))
-number_of (a ∷ b ∷ c ∷ []) index h = absurd (omega (arith, h))
 number_of (a ∷ b ∷ c ∷ d ∷ bytes) zero h = refl
 number_of (a ∷ b ∷ c ∷ d ∷ bytes) (suc index) h =
     let e : 4 * suc index ≡ suc (suc (suc (suc (4 * index)))) = omega arith in
     rw e (number_of bytes index (omega (arith, h)))
+number_of bytes index h = absurd (omega (arith, h))
 
 -- the first of the numbers, and the rest
 
 pub first_small : (bytes : List ℕ) → 4 ≤ length bytes → All (λ id. id ≤ 2147483646) (numbers_in bytes) →
     from_le_bytes w32 (get_or bytes 0 0 ∷ get_or bytes 1 0 ∷ get_or bytes 2 0 ∷ get_or bytes 3 0 ∷ []) ≤ 2147483646
-first_small [] h all = absurd (omega (arith, h))
-first_small (a ∷ []) h all = absurd (omega (arith, h))
-first_small (a ∷ b ∷ []) h all = absurd (omega (arith, h))
-first_small (a ∷ b ∷ c ∷ []) h all = absurd (omega (arith, h))
 first_small (a ∷ b ∷ c ∷ d ∷ bytes) h all =
     All-head (λ id. id ≤ 2147483646) (from_le_bytes w32 (a ∷ b ∷ c ∷ d ∷ [])) (numbers_in bytes) all
+first_small bytes h all = absurd (omega (arith, h))
 
 pub others_small : (bytes : List ℕ) → 4 ≤ length bytes → All (λ id. id ≤ 2147483646) (numbers_in bytes) →
     All (λ id. id ≤ 2147483646) (numbers_in (take (length bytes - 4) (drop 4 bytes)))
-others_small [] h all = absurd (omega (arith, h))
-others_small (a ∷ []) h all = absurd (omega (arith, h))
-others_small (a ∷ b ∷ []) h all = absurd (omega (arith, h))
-others_small (a ∷ b ∷ c ∷ []) h all = absurd (omega (arith, h))
 others_small (a ∷ b ∷ c ∷ d ∷ bytes) h all =
     let e : suc (suc (suc (suc (length bytes)))) - 4 ≡ length bytes = omega arith in
     rw (e, take-length bytes) (All-tail (λ id. id ≤ 2147483646) (from_le_bytes w32 (a ∷ b ∷ c ∷ d ∷ []))
     (numbers_in bytes) all)
+others_small bytes h all = absurd (omega (arith, h))

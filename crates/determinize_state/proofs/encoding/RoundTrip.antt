@@ -2,21 +2,13 @@
 -- Main statements: value_of-spell, spelled, decided.
 -- Used by: all that reads or writes the bytes of a state.
 -- Idea: the header has fixed places, and the lengths of the parts are in it.
-use Rattle.std.proofs.lemmas.Bool.{eqb-true}
-use Rattle.std.proofs.Common.{◌≡◌, ◌==◌, ℕ, ◌+◌, ◌*◌, ◌<◌, ◌≤◌, ◌^◌, Bool, true, false, List, [], ◌∷◌, ◌++◌, length, All, nat_eq, suc, zero, refl, arith, sym, ap, ◌∙◌, if◌then◌else◌, take, drop, lit<, subst, zero-add, suc-add, length-append}
-use Rattle.std.specs.Int.{from_le_bytes, w32}
-use Rattle.std.specs.Bool.{Decides}
-use Rattle.std.specs.Cmp.Lexicographic.{pointwise}
-use Rattle.std.proofs.lemmas.Bool.Decides.{Decides-eqb}
+use Rattle.determinize_state.proofs.Common.{eqb-true, ◌≡◌, ◌==◌, ℕ, ◌+◌, ◌*◌, ◌<◌, ◌≤◌, ◌^◌, Bool, true, false, List, [], ◌∷◌, ◌++◌, length, All, nat_eq, zero, refl, arith, sym, ap, ◌∙◌, if◌then◌else◌, take, drop, lit<, subst, length-append, from_le_bytes, w32, Decides, pointwise, Decides-eqb, All-head, All-tail, Value, IsValue, dead, is_nonempty, deltas, is_explicit, word, words, number_at, numbers_in, has_flag, start_in, patterns_in, IsSpelled, drop-drop, drop-append_seam, take-append_seam}
 use Rattle.std.proofs.lemmas.Slice.Eq.{slice_eq-Decides}
 use Rattle.std.specs.List.{IsDistinct}
 use Rattle.std.proofs.lemmas.Nat.{from_le_bytes-to_le_bytes_4}
-use Rattle.std.proofs.lemmas.List.Elements.{All-head, All-tail}
 use Rattle.std.proofs.lemmas.Map.Steps.{length-le_from_distinct_below}
 use Rattle.std.proofs.lemmas.Map.Views.{Contains-from_any}
-use Rattle.determinize_state.specs.Value.{Value, IsValue, dead, is_nonempty}
-use Rattle.determinize_state.specs.Varint.{deltas}
-use Rattle.determinize_state.specs.Spelling.{is_explicit, word, words, spell, number_at, numbers_in, has_flag, start_in, patterns_in, value_of, IsSpelled}
+use Rattle.determinize_state.specs.Spelling.{spell, value_of}
 use Rattle.determinize_state.proofs.encoding.Varints.{ids_from-deltas}
 use Rattle.determinize_state.proofs.encoding.FlagBits.{has_1, has_2, has_4, has_8}
 
@@ -26,8 +18,7 @@ dead_valid = record {
   have = lit< tt;
   need = lit< tt;
   distinct = tt;
-  pattern_ids = λ k d h.
-      absurd (omega (arith, h));
+  pattern_ids = λ k d h. absurd (omega (arith, h));
   state_ids = λ k d h. absurd (omega (arith, h));
 }
 
@@ -47,33 +38,21 @@ length-words (n ∷ ns) = omega (arith, length-words ns)
 pub numbers_in-words : (ns : List ℕ) → All (λ n. n ≤ 2147483646) ns → numbers_in (words ns) ≡ ns
 numbers_in-words [] all = refl
 numbers_in-words (n ∷ ns) all =
-    rw (
-      word_back n (omega (arith, All-head (λ k. k ≤ 2147483646) n ns all)),
-      numbers_in-words ns (All-tail (λ k. k ≤ 2147483646) n ns all),
-    )
+    let rest = numbers_in-words ns (All-tail (λ k. k ≤ 2147483646) n ns all) in
+    rw (word_back n (omega (arith, All-head (λ k. k ≤ 2147483646) n ns all)), rest)
 
 take-words : (ns rest : List ℕ) → take (4 * length ns) (words ns ++ rest) ≡ words ns
-take-words [] rest = refl
-take-words (n ∷ ns) rest =
-    let e : 4 * suc (length ns) ≡ suc (suc (suc (suc (4 * length ns)))) = omega arith in
-    rw e (ap (λ (r : List ℕ). word n ++ r) (take-words ns rest))
+take-words ns rest = rw (← length-words ns) (take-append_seam (words ns) rest)
 
 drop-words : (ns rest : List ℕ) → drop (4 * length ns) (words ns ++ rest) ≡ rest
-drop-words [] rest = refl
-drop-words (n ∷ ns) rest =
-    let e : 4 * suc (length ns) ≡ suc (suc (suc (suc (4 * length ns)))) = omega arith in
-    rw e (drop-words ns rest)
+drop-words ns rest = rw (← length-words ns) (drop-append_seam (words ns) rest)
 
 -- distinct ids are at most as numerous as all ids
 
-distinct_below : (ids : List ℕ) (n : ℕ) → IsDistinct nat_eq ids → All (λ id. id < n) ids → length ids ≤ n
-distinct_below ids n distinct below =
-    length-le_from_distinct_below ids n distinct
-    (λ id h. let at = Contains-from_any {eq = nat_eq} eqb-true id ids h in
-    subst (λ m. m < n) at.2 (below at.0 id at.1))
-
 pub few : (ids : List ℕ) → IsDistinct nat_eq ids → All (λ id. id ≤ 2147483646) ids → length ids ≤ 2147483647
-few ids distinct all = distinct_below ids 2147483647 distinct (λ k id h. omega (arith, all k id h))
+few ids distinct all = length-le_from_distinct_below ids 2147483647 distinct (λ id h.
+    let at = Contains-from_any {eq = nat_eq} eqb-true id ids h in
+    subst (λ m. m < 2147483647) at.2 (omega (arith, all at.0 id at.1)))
 
 -- the byte at each offset of an encoding
 
@@ -118,15 +97,6 @@ after_sets : (v : Value) → is_explicit v.patterns ≡ false → drop 9 (spell 
 unfolding spell
 after_sets v e = rw e
 
-drop-nil : (n : ℕ) → drop {A = ℕ} n [] ≡ []
-drop-nil zero = refl
-drop-nil (suc n) = refl
-
-drop-drop : (a b : ℕ) (xs : List ℕ) → drop (a + b) xs ≡ drop b (drop a xs)
-drop-drop zero b xs = rw (zero-add b)
-drop-drop (suc a) b [] = drop-nil (suc a + b) ∙ sym (drop-nil b)
-drop-drop (suc a) b (x ∷ xs) = rw suc-add (drop-drop a b xs)
-
 drop-if : (b : Bool) (m n : ℕ) (xs : List ℕ) → drop (if b then m else n) xs ≡ (if b then drop m xs else drop n xs)
 drop-if true m n xs = refl
 drop-if false m n xs = refl
@@ -135,9 +105,7 @@ drop-if false m n xs = refl
 pub implicit : (ids : List ℕ) → is_explicit ids ≡ false → (if is_nonempty ids then 0 ∷ [] else []) ≡ ids
 implicit [] e = refl
 implicit (zero ∷ []) e = refl
-implicit (suc n ∷ []) e = (cc)
-implicit (zero ∷ m ∷ ids) e = (cc)
-implicit (suc n ∷ m ∷ ids) e = (cc)
+implicit ids e = (cc)
 
 pub explicit_words : (v : Value) → IsValue v → is_explicit v.patterns ≡ true
     → take (4 * number_at (spell v) 9) (drop 13 (spell v)) ≡ words v.patterns
@@ -151,7 +119,8 @@ patterns_at v h false e = implicit v.patterns e
 
 deltas_at : (v : Value) → IsValue v → (b : Bool) → is_explicit v.patterns ≡ b →
     (if b then drop (13 + 4 * number_at (spell v) 9) (spell v) else drop 9 (spell v)) ≡ deltas 0 v.states
-deltas_at v h true e = rw (count_at v h e, drop-drop 13 (4 * length v.patterns) (spell v), after_count v e)
+deltas_at v h true e =
+    rw (count_at v h e, sym (drop-drop (4 * length v.patterns) 13 (spell v)), after_count v e)
     (drop-words v.patterns (deltas 0 v.states))
 deltas_at v h false e = after_sets v e
 
@@ -168,15 +137,8 @@ patterns_of-spell v h = rw (explicit_bit v, match_bit v) (patterns_at v h (is_ex
 pub value_of-spell : (v : Value) → IsValue v → value_of (spell v) ≡ v
 unfolding value_of
 value_of-spell v h =
-    rw (
-      from_word_bit v,
-      half_crlf_bit v,
-      have_at v h,
-      need_at v h,
-      patterns_of-spell v h,
-      drop-start v h,
-      ids_from-deltas 0 v.states (omega arith) h.state_ids,
-    )
+    let ids = ids_from-deltas 0 v.states (omega arith) h.state_ids in
+    rw (from_word_bit v, half_crlf_bit v, have_at v h, need_at v h, patterns_of-spell v h, drop-start v h, ids)
 
 -- values with equal encodings are equal
 pub spell_tells : (v w : Value) → IsValue v → IsValue w → spell v ≡ spell w → v ≡ w

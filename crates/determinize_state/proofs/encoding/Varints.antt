@@ -2,14 +2,11 @@
 -- Main statements: ids_from-deltas, varint-one, append-varint, begins_still.
 -- Used by: RoundTrip, the loops that read and write a varint.
 -- Idea: seven bits at a time; a zigzag number is even or odd with its sign.
-use Rattle.std.proofs.Common.{◌≡◌, inl, inr, ℕ, ◌+◌, ◌-◌, ◌*◌, ◌/◌, ◌%◌, ◌^◌, ◌<◌, ◌≤◌, true, false, Option, Some, None, List, [], ◌∷◌, ◌++◌, All, nat_lt, suc, zero, refl, arith, sym, ap, ◌∙◌, append_assoc, zero-add, lit≤, subst, append-nil, length, take, drop, IfNone, IfSome}
-use Rattle.std.proofs.Math.Seq.{drop-append_seam}
-use Rattle.determinize_state.specs.Varint.{IsDeltas, zigzag, unzigzag, groups, varint, deltas, ids_from, last_id}
-use Rattle.std.proofs.lemmas.List.{length-append, length-take, take-append-le}
+use Rattle.determinize_state.proofs.Common.{◌≡◌, inl, inr, ℕ, ◌+◌, ◌-◌, ◌*◌, ◌/◌, ◌%◌, ◌^◌, ◌<◌, ◌≤◌, true, false, Option, Some, None, List, [], ◌∷◌, ◌++◌, All, nat_lt, suc, zero, refl, arith, sym, ap, ◌∙◌, append_assoc, zero-add, lit≤, subst, length, take, drop, IfNone, IfSome, drop-append_seam, IsDeltas, zigzag, unzigzag, groups, deltas, ids_from, last_id, length-take, take-append-le, All-head, All-tail, leb_tells, nat_tests, read}
+use Rattle.std.proofs.Common.{append-nil}
+use Rattle.determinize_state.specs.Varint.{varint}
+use Rattle.std.proofs.lemmas.List.{length-append}
 use Rattle.std.proofs.Math.Nat.{pow-suc, one-mul, mul-le-mul_left}
-use Rattle.std.proofs.lemmas.List.Elements.{All-head, All-tail}
-use Rattle.std.proofs.lemmas.Bool.Decides.{leb_tells, nat_tests}
-use Rattle.determinize_state.specs.Private.Groups.{read}
 
 pub unzigzag-zigzag : (from to : ℕ) → unzigzag from (zigzag from to) ≡ to
 unzigzag-zigzag from to = grind (arith, nat_tests)
@@ -99,8 +96,8 @@ read-deltas from id ids small here =
     ∙ rw (zero-add (1 * zigzag from id), one-mul (zigzag from id))
 
 some_parts : (a c : ℕ) (b d : List ℕ) → ◌≡◌ {A = Option (ℕ × List ℕ)} (Some (a, b)) (Some (c, d)) → (a ≡ c) × (b ≡ d)
-some_parts a c b d e = let pair : ◌≡◌ {A = ℕ × List ℕ} (a, b) (c, d) = (cc) in
-    (ap (λ (p : ℕ × List ℕ). p.0) pair, ap (λ (p : ℕ × List ℕ). p.1) pair)
+some_parts a c b d e =
+    let pair : ◌≡◌ {A = ℕ × List ℕ} (a, b) (c, d) = (cc) in (ap (λ p. p.0) pair, ap (λ p. p.1) pair)
 
 none_differs : (p : ℕ × List ℕ) → ◌≡◌ {A = Option (ℕ × List ℕ)} (Some p) None → ⊥
 none_differs p e = (cc)
@@ -216,10 +213,7 @@ deltas-push from (i ∷ ids) id = rw (deltas-push i ids id)
 groups-one_more : (more n : ℕ) → n < 128 * 128 ^ more → groups (suc more) n ≡ groups more n
 groups-one_more zero n small = let one : nat_lt n 128 ≡ true = grind (arith, nat_tests) in rw one
 groups-one_more (suc more) n small =
-    elim (leb_tells (suc n) 128) [
-      | inl h ↦ rw h.0
-      | inr h ↦ rw (h.0, groups-one_more more (n / 128) (fits_after more n small))
-    ]
+    let rest = groups-one_more more (n / 128) (fits_after more n small) in grind (arith, nat_tests, rest)
 
 -- a number of one group
 pub varint-one : (n : ℕ) → n < 128 → varint n ≡ n ∷ []

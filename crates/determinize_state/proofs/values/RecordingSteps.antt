@@ -2,16 +2,8 @@
 -- Main statements: added_one-after, added-none, with_fact.
 -- Used by: `add_states`, and the closure that records.
 -- Idea: the value after a list is that after its first states and then one more.
-use Rattle.std.proofs.Common.{◌≡◌, ◌<◌, ℕ, All, subst, true, false, not, List, [], ◌∷◌, ◌++◌, Result, Ok, Err, refl, sym, ap, ◌∙◌, append_assoc}
+use Rattle.determinize_state.proofs.Common.{◌≡◌, ◌<◌, ℕ, All, subst, not, List, [], ◌∷◌, ◌++◌, Result, Ok, Err, refl, sym, ap, ◌∙◌, append_assoc, append-nil, All-tail, filter-append, is_capture, assertion_of, Nfa, without, by_test, added, added_one, needs, with_assertion, Value}
 use Rattle.std.specs.Result.{IfOk, OnOk}
-use Rattle.std.proofs.lemmas.List.{append-nil}
-use Rattle.std.proofs.lemmas.List.Elements.{All-tail, filter-append}
-use Rattle.determinize_below.specs.Edges.{is_capture, assertion_of}
-use Rattle.determinize_below.specs.Semantics.{Nfa}
-use Rattle.ordered_reach.specs.Runs.{without}
-use Rattle.ordered_reach.proofs.Cases.{by_test}
-use Rattle.determinize_state.specs.Recording.{added, added_one, needs, with_assertion}
-use Rattle.determinize_state.specs.Value.{Value}
 
 module _ (nfa : Nfa) where
   needs-append : (set : ℕ) (xs ys : List ℕ) → needs nfa set (xs ++ ys) ≡ needs nfa (needs nfa set xs) ys
@@ -32,19 +24,11 @@ module _ (nfa : Nfa) where
       → added_one nfa (added nfa v (without (is_capture nfa) xs)) s
       ≡ added nfa v (without (is_capture nfa) (xs ++ s ∷ []))
   added_one-after v xs s =
+      let both = filter-append (λ x. not (is_capture nfa x)) xs (s ∷ []) in
       by_test (is_capture nfa s)
-      (λ e. rw e (ap (λ l. added nfa v l) (sym (append-nil (without (is_capture nfa) xs))
-      ∙ ap (λ l. without (is_capture nfa) xs ++ l) (sym (dropped e))
-      ∙ sym (filter-append (λ x. not (is_capture nfa x)) xs (s ∷ [])))))
+      (λ e. rw e (ap (λ l. added nfa v l) (sym (both ∙ rw e (append-nil (without (is_capture nfa) xs))))))
       (λ e. rw e (added-append v (without (is_capture nfa) xs) (s ∷ [])
-      ∙ ap (λ l. added nfa v l) (ap (λ l. without (is_capture nfa) xs ++ l) (sym (kept e))
-      ∙ sym (filter-append (λ x. not (is_capture nfa x)) xs (s ∷ [])))))
-    where
-      dropped : is_capture nfa s ≡ true → without (is_capture nfa) (s ∷ []) ≡ []
-      dropped e = rw e refl
-
-      kept : is_capture nfa s ≡ false → without (is_capture nfa) (s ∷ []) ≡ s ∷ []
-      kept e = rw e refl
+      ∙ ap (λ l. added nfa v l) (sym (both ∙ rw e refl))))
 
   -- no more state
   pub added-none : (v : Value) → v ≡ added nfa v []

@@ -2,24 +2,16 @@
 -- Main statements: Decides-needs, needs_member, insert-had.
 -- Used by: `need_law`, WorkingLists.
 -- Idea: the set is built state by state.
-use mathlib.Core.Bool.{or-false, or-true, or_assoc}
-use Rattle.std.proofs.Common.{◌≡◌, ℕ, ◌<◌, ◌^◌, true, ◌||◌, ◌⊎◌, inr, List, [], ◌∷◌, refl, sym, ap, ◌∙◌, Option, Some, None, nat_eq}
-use Rattle.std.specs.Bool.{Decides}
-use Rattle.std.specs.List.{Any, Contains, list_any}
-use Rattle.std.proofs.lemmas.Bool.{true≢false, or_left, eq-eqb}
-use Rattle.std.proofs.lemmas.Bool.Decides.{Decides-at, Decides-or}
-use Rattle.determinize_below.specs.Edges.{assertion_of}
-use Rattle.determinize_below.specs.Look.{bit_of, has, insert}
-use Rattle.determinize_below.specs.Semantics.{Nfa}
+use mathlib.Core.Bool.{or-false}
+use Rattle.determinize_state.proofs.Common.{◌≡◌, ℕ, ◌<◌, ◌^◌, true, ◌||◌, ◌⊎◌, inr, List, [], ◌∷◌, refl, sym, ◌∙◌, Option, Some, None, nat_eq, Decides, Any, Contains, list_any, true≢false, or_left, eq-eqb, Decides-at, Decides-or, assertion_of, bit_of, has, Nfa, with_assertion, needs, arith}
+use Rattle.determinize_below.specs.Look.{insert}
 use Rattle.ordered_reach.specs.Reach.{member}
 use Rattle.determinize_below.specs.declared.look.Look.{Look as Assertion}
 use Rattle.ordered_reach.proofs.lists.Elements.{In_Contains, member_In}
 use Rattle.determinize_below.proofs.looks.LookBounds.{bit_small, or_of_18}
-use Rattle.determinize_below.proofs.looks.LookSets.{Decides-same, has-insert, has-empty, same, same_sets}
+use Rattle.determinize_below.proofs.looks.LookSets.{Decides-same, has-insert, has-empty, same_sets}
 use Rattle.ordered_reach.proofs.graph.FiniteGraphs.{same_decides}
 use Rattle.determinize_below.proofs.nfas.TestedLooks.{is_look, Decides-list_any_look}
-use Rattle.ordered_reach.proofs.Cases.{by_test}
-use Rattle.determinize_state.specs.Recording.{with_assertion, needs}
 
 -- the set with an optional assertion
 has-with_assertion : (set : ℕ) (o : Option Assertion) (look : Assertion)
@@ -31,10 +23,8 @@ has-needs : (nfa : Nfa) (set : ℕ) (xs : List ℕ) (look : Assertion)
     → has (needs nfa set xs) look ≡ (has set look || list_any (λ s. is_look (assertion_of nfa s) look) xs)
 has-needs nfa set [] look = has-with_assertion set None look
 has-needs nfa set (s ∷ xs) look =
-    has-needs nfa (with_assertion set (assertion_of nfa s)) xs look
-    ∙ ap (λ b. b || list_any (λ s. is_look (assertion_of nfa s) look) xs)
-    (has-with_assertion set (assertion_of nfa s) look)
-    ∙ or_assoc (has set look) (is_look (assertion_of nfa s) look) (list_any (λ s. is_look (assertion_of nfa s) look) xs)
+    let rest = has-needs nfa (with_assertion set (assertion_of nfa s)) xs look in
+    grind (arith, rest, has-with_assertion set (assertion_of nfa s) look)
 
 -- look-need contains an assertion if and only if it did before or some listed state tests it
 pub Decides-needs : (nfa : Nfa) (set : ℕ) (xs : List ℕ) (look : Assertion)
@@ -63,7 +53,5 @@ insert_small set look small = or_of_18 set (bit_of look) small (bit_small look)
 -- inserting an assertion that the set contains
 pub insert-had : (set : ℕ) (look : Assertion) → set < 2 ^ 18 → has set look ≡ true → insert set look ≡ set
 insert-had set look small had =
-    same_sets (insert set look) set (insert_small set look small) small (λ l. by_test (same look l)
-    (λ e. has-insert set look l ∙ ap (λ b. has set l || b) e ∙ or-true (has set l)
-    ∙ sym (ap (λ k. has set k) (sym ((Decides-same look l).0 e)) ∙ had))
-    (λ e. has-insert set look l ∙ ap (λ b. has set l || b) e ∙ or-false (has set l)))
+    same_sets (insert set look) set (insert_small set look small) small
+    (λ l. grind (arith, has-insert set look l, Decides-same look l))

@@ -2,7 +2,7 @@
 -- Main statements: IsClosed, ends-closed_set, fresh-held, fresh-ends_new.
 -- Used by: everything that a search with a visited set is compared with.
 -- Idea: an edge from a closed set goes to it or to a visited node, so nothing in it need be searched again.
-use Rattle.ordered_reach.proofs.Common.{[], ap, arith, Bool, by_test, cond, Decides, ends, false, false≢true, filter, flat_map, flat_map-append, fresh, fun_ext, joined, List, member, not, or_false, or_left, or_more, or_right, or_swap, refl, suc, sym, true, true≢false, with_node, zero, ℕ, ◌++◌, ◌||◌, ◌∙◌, ◌∷◌, ◌≡◌}
+use Rattle.ordered_reach.proofs.Common.{none_held, [], ap, arith, Bool, by_test, cond, Decides, ends, false, false≢true, filter, flat_map, flat_map-append, fresh, fun_ext, joined, List, member, not, or_false, or_left, or_more, or_right, or_swap, refl, suc, sym, true, true≢false, with_node, zero, ℕ, ◌++◌, ◌||◌, ◌∙◌, ◌∷◌, ◌≡◌}
 use Rattle.ordered_reach.proofs.lists.Pieces.{filter-flat_map, flat_map-same}
 use Rattle.ordered_reach.proofs.lists.NewNodes.{eq-self, filter_none, flat_map-agree, flat_map-member, fresh-append, fresh-filter, member-flat_map}
 
@@ -17,208 +17,162 @@ abbrev pub IsClosed : {N : Type 0} → (N → N → Bool) → (N → List N) →
 IsClosed {N} eq edges v held =
     (x y : N) → v x ≡ true → member eq (edges x) y ≡ true → joined v held y ≡ true
 
-module _ {N : Type 0} {eq : N → N → Bool} (dec : (a b : N) → Decides (eq a b) (a ≡ b)) where
+-- what the edges of r find once r is visited
+abbrev pub ends_behind : {N : Type 0} → (N → N → Bool) → (N → List N) → ℕ → (N → Bool) → N → List N
+ends_behind eq edges n held r = flat_map (ends eq edges n (with_node eq held r)) (edges r)
+
+module _ {N : Type 0} {eq : N → N → Bool} (dec : (a b : N) → Decides (eq a b) (a ≡ b)) (edges : N → List N) where
   -- more fuel changes nothing
-  pub ends-enough : (edges : N → List N) (n m : ℕ) (held : N → Bool) (r : N) → IsEnough eq edges n held r
+  pub ends-enough : (n m : ℕ) (held : N → Bool) (r : N) → IsEnough eq edges n held r
       → IsEnough eq edges m held r → ends eq edges n held r ≡ ends eq edges m held r
-  ends-enough edges zero zero held r a b = refl
-  ends-enough edges zero (suc m) held r a b = rw a refl
-  ends-enough edges (suc n) zero held r a b = rw b refl
-  ends-enough edges (suc n) (suc m) held r a b =
-      by_test (held r)
+  ends-enough zero zero held r a b = refl
+  ends-enough zero (suc m) held r a b = rw a refl
+  ends-enough (suc n) zero held r a b = rw b refl
+  ends-enough (suc n) (suc m) held r a b = by_test (held r)
       (λ e. rw e refl)
       (λ e. rw e (ap (λ l. r ∷ l)
       (flat_map-agree dec (ends eq edges n (with_node eq held r)) (ends eq edges m (with_node eq held r)) (edges r)
-      (λ t k. ends-enough edges n m (with_node eq held r) t (a e t k) (b e t k)))))
+      (λ t k. ends-enough n m (with_node eq held r) t (a e t k) (b e t k)))))
 
   -- enough fuel is enough if more is visited
-  pub IsEnough-more_held : (edges : N → List N) (n : ℕ) (held more : N → Bool) (r : N)
+  pub IsEnough-more_held : (n : ℕ) (held more : N → Bool) (r : N)
       → ((x : N) → held x ≡ true → more x ≡ true) → IsEnough eq edges n held r → IsEnough eq edges n more r
-  IsEnough-more_held edges zero held more r s a = s r a
-  IsEnough-more_held edges (suc n) held more r s a = λ e t k.
-      IsEnough-more_held edges n (with_node eq held r) (with_node eq more r) t (λ x m. both x m) (a (not_held e) t k)
-    where
-      both : (x : N) → (eq r x || held x) ≡ true → (eq r x || more x) ≡ true
-      both x m = or_more (eq r x) (held x) (more x) (s x) m
+  IsEnough-more_held zero held more r s a = s r a
+  IsEnough-more_held (suc n) held more r s a = λ e t k.
+      IsEnough-more_held n (with_node eq held r) (with_node eq more r) t
+      (λ x m. or_more (eq r x) (held x) (more x) (s x) m) (a (grind (arith, s r)) t k)
 
-      not_held : more r ≡ false → held r ≡ false
-      not_held e = back (held r) (more r) (s r) e
-        where
-          back : (b c : Bool) → (b ≡ true → c ≡ true) → c ≡ false → b ≡ false
-          back b c f h = grind arith
+  pub IsEnough-from_none : (n : ℕ) (held : N → Bool) (r : N) → IsEnough eq edges n none_held r
+      → IsEnough eq edges n held r
+  IsEnough-from_none n held r = IsEnough-more_held n none_held held r (λ x m. absurd (false≢true m))
 
-  pub IsEnough-more_fuel : (edges : N → List N) (n : ℕ) (held : N → Bool) (r : N) → IsEnough eq edges n held r
+  pub IsEnough-more_fuel : (n : ℕ) (held : N → Bool) (r : N) → IsEnough eq edges n held r
       → IsEnough eq edges (suc n) held r
-  IsEnough-more_fuel edges zero held r a = λ e t k. absurd (true≢false (sym a ∙ e))
-  IsEnough-more_fuel edges (suc n) held r a = λ e t k. IsEnough-more_fuel edges n (with_node eq held r) t (a e t k)
+  IsEnough-more_fuel zero held r a = λ e t k. absurd (true≢false (sym a ∙ e))
+  IsEnough-more_fuel (suc n) held r a = λ e t k. IsEnough-more_fuel n (with_node eq held r) t (a e t k)
 
-  pub ends-held : (edges : N → List N) (n : ℕ) (held : N → Bool) (r : N) → held r ≡ true → ends eq edges n held r ≡ []
-  ends-held edges zero held r e = refl
-  ends-held edges (suc n) held r e = rw e refl
+  pub ends-held : (n : ℕ) (held : N → Bool) (r : N) → held r ≡ true → ends eq edges n held r ≡ []
+  ends-held zero held r e = refl
+  ends-held (suc n) held r e = rw e refl
 
-  pub ends-free : (edges : N → List N) (n : ℕ) (held : N → Bool) (r : N) → held r ≡ false
-      → ends eq edges (suc n) held r ≡ r ∷ flat_map (ends eq edges n (with_node eq held r)) (edges r)
-  ends-free edges n held r e = rw e refl
+  pub ends-free : (n : ℕ) (held : N → Bool) (r : N) → held r ≡ false
+      → ends eq edges (suc n) held r ≡ r ∷ ends_behind eq edges n held r
+  ends-free n held r e = rw e refl
 
   -- a node that is not visited is found from itself
-  pub ends_self : (edges : N → List N) (n : ℕ) (held : N → Bool) (r : N) → IsEnough eq edges n held r
+  pub ends_self : (n : ℕ) (held : N → Bool) (r : N) → IsEnough eq edges n held r
       → (member eq (ends eq edges n held r) r || held r) ≡ true
-  ends_self edges zero held r a = a
-  ends_self edges (suc n) held r a = by_test (held r)
-      (λ e. or_right (member eq (ends eq edges (suc n) held r) r) (held r) e)
-      (λ e. or_left (member eq (ends eq edges (suc n) held r) r) (held r)
-      (rw (ends-free edges n held r e) (or_left (eq r r) _ (eq-self dec r))))
+  ends_self zero held r a = a
+  ends_self (suc n) held r a = grind (arith, eq-self dec r)
+
+  -- a node that is found is the start, or is found behind one of its edges
+  pub ends_cases : {P : Type 0} (n : ℕ) (held : N → Bool) (r x : N) → member eq (ends eq edges (suc n) held r) x ≡ true
+      → (held r ≡ false → r ≡ x → P)
+      → (held r ≡ false → (t : N) → member eq (edges r) t ≡ true
+      → member eq (ends eq edges n (with_node eq held r) t) x ≡ true → P) → P
+  ends_cases n held r x m f g = by_test (held r)
+      (λ e. absurd (false≢true (rw e at m)))
+      (λ e. by_test (eq r x)
+      (λ q. f e ((dec r x).0 q))
+      (λ q. flat_map-member dec (ends eq edges n (with_node eq held r)) (edges r) x (rw (e, q) at m) (g e)))
 
   -- with enough fuel, each edge from a found node goes to a found or visited node
-  pub ends_closed : (edges : N → List N) (n : ℕ) (held : N → Bool) (r : N) → IsEnough eq edges n held r
+  pub ends_closed : (n : ℕ) (held : N → Bool) (r : N) → IsEnough eq edges n held r
       → IsClosed eq edges (member eq (ends eq edges n held r)) held
-  ends_closed edges zero held r a x y m k = absurd (false≢true m)
-  ends_closed edges (suc n) held r a x y m k =
-      by_test (held r)
-      (λ e. absurd (false≢true (rw (ends-held edges (suc n) held r e) at m)))
-      (λ e. rw (ends-free edges n held r e) (free e (rw (ends-free edges n held r e) at m)
-      (λ t l z. ends_closed edges n (with_node eq held r) t (a e t l) x y z k)))
+  ends_closed zero held r a x y m k = absurd (false≢true m)
+  ends_closed (suc n) held r a x y m k = ends_cases n held r x m
+      (λ e q. let l : member eq (edges r) y ≡ true = rw q k in
+      found e y l (ends_self n (with_node eq held r) y (a e y l)))
+      (λ e t l z. found e t l (ends_closed n (with_node eq held r) t (a e t l) x y z k))
     where
-      found : (t : N) → member eq (edges r) t ≡ true
+      found : held r ≡ false → (t : N) → member eq (edges r) t ≡ true
           → (member eq (ends eq edges n (with_node eq held r) t) y || (eq r y || held y)) ≡ true
-          → ((eq r y || member eq (flat_map (ends eq edges n (with_node eq held r)) (edges r)) y) || held y) ≡ true
-      found t l h = by_test (member eq (ends eq edges n (with_node eq held r) t) y)
-          (λ q. let z : member eq (flat_map (ends eq edges n (with_node eq held r)) (edges r)) y ≡ true =
-          member-flat_map dec (ends eq edges n (with_node eq held r)) (edges r) t y l q in
-          rw z (first (eq r y) (held y)))
-          (λ q. second (eq r y) (member eq (flat_map (ends eq edges n (with_node eq held r)) (edges r)) y) (held y)
-          (rw q at h))
-        where
-          first : (b c : Bool) → ((b || true) || c) ≡ true
-          first b c = grind arith
-
-          second : (a b c : Bool) → (a || c) ≡ true → ((a || b) || c) ≡ true
-          second a b c h = grind arith
-
-      free : held r ≡ false
-          → (eq r x || member eq (flat_map (ends eq edges n (with_node eq held r)) (edges r)) x) ≡ true
-          → ((t : N) → member eq (edges r) t ≡ true → member eq (ends eq edges n (with_node eq held r) t) x ≡ true
-          → (member eq (ends eq edges n (with_node eq held r) t) y || (eq r y || held y)) ≡ true)
-          → ((eq r y || member eq (flat_map (ends eq edges n (with_node eq held r)) (edges r)) y) || held y) ≡ true
-      free e h ih = by_test (eq r x)
-          (λ q. let p : r ≡ x = (dec r x).0 q in
-          let l : member eq (edges r) y ≡ true = rw p k in
-          found y l (ends_self edges n (with_node eq held r) y (a e y l)))
-          (λ q. flat_map-member dec (ends eq edges n (with_node eq held r)) (edges r) x (rw q at h)
-          (λ t l z. found t l (ih t l z)))
+          → (member eq (ends eq edges (suc n) held r) y || held y) ≡ true
+      found e t l h = grind (arith, member-flat_map dec (ends eq edges n (with_node eq held r)) (edges r) t y l)
 
   -- the nodes found from a closed set are in it
-  pub ends_within : (edges : N → List N) (n : ℕ) (v held more : N → Bool) (r x : N) → IsClosed eq edges v held
+  pub ends_within : (n : ℕ) (v held more : N → Bool) (r x : N) → IsClosed eq edges v held
       → ((y : N) → held y ≡ true → more y ≡ true) → (v r || held r) ≡ true
       → member eq (ends eq edges n more r) x ≡ true → v x ≡ true
-  ends_within edges zero v held more r x c s i m = absurd (false≢true m)
-  ends_within edges (suc n) v held more r x c s i m =
-      by_test (more r)
-      (λ e. absurd (false≢true (rw (ends-held edges (suc n) more r e) at m)))
-      (λ e. free (in_v (v r) (held r) (more r) i (s r) e) (rw (ends-free edges n more r e) at m)
-      (λ t l z k. ends_within edges n v held (with_node eq more r) t x c
-      (λ y h. or_right (eq r y) (more y) (s y h)) k z))
+  ends_within zero v held more r x c s i m = absurd (false≢true m)
+  ends_within (suc n) v held more r x c s i m = ends_cases n more r x m
+      (λ e q. rw q at (start e))
+      (λ e t l z. ends_within n v held (with_node eq more r) t x c (λ y h. or_right (eq r y) (more y) (s y h))
+      (c r t (start e) l) z)
     where
-      in_v : (a b d : Bool) → (a || b) ≡ true → (b ≡ true → d ≡ true) → d ≡ false → a ≡ true
-      in_v a b d h f e = grind arith
-
-      free : v r ≡ true → (eq r x || member eq (flat_map (ends eq edges n (with_node eq more r)) (edges r)) x) ≡ true
-          → ((t : N) → member eq (edges r) t ≡ true → member eq (ends eq edges n (with_node eq more r) t) x ≡ true
-          → (v t || held t) ≡ true → v x ≡ true)
-          → v x ≡ true
-      free e h ih = by_test (eq r x)
-          (λ q. let p : r ≡ x = (dec r x).0 q in rw p at e)
-          (λ q. flat_map-member dec (ends eq edges n (with_node eq more r)) (edges r) x (rw q at h)
-          (λ t l z. ih t l z (c r t e l)))
+      start : more r ≡ false → v r ≡ true
+      start e = grind (arith, s r)
 
   -- a closed set and the visited nodes may be left out together
-  pub ends-closed_set : (edges : N → List N) (n : ℕ) (v held : N → Bool) (r : N) → IsClosed eq edges v held
+  pub ends-closed_set : (n : ℕ) (v held : N → Bool) (r : N) → IsClosed eq edges v held
       → filter (λ x. not (v x)) (ends eq edges n held r) ≡ ends eq edges n (joined v held) r
-  ends-closed_set edges zero v held r c = refl
-  ends-closed_set edges (suc n) v held r c =
-      by_test (held r)
-      (λ e. rw (ends-held edges (suc n) held r e)
-      (sym (ends-held edges (suc n) (joined v held) r (or_right (v r) (held r) e))))
+  ends-closed_set zero v held r c = refl
+  ends-closed_set (suc n) v held r c = by_test (held r)
+      (λ e. grind arith)
       (λ e. by_test (v r)
-      (λ k. rw (ends-held edges (suc n) (joined v held) r (or_left (v r) (held r) k))
+      (λ k. rw (ends-held (suc n) (joined v held) r (or_left (v r) (held r) k))
       (filter_none dec v (ends eq edges (suc n) held r)
-      (λ x m. ends_within edges (suc n) v held held r x c (λ y h. h) (or_left (v r) (held r) k) m)))
+      (λ x m. ends_within (suc n) v held held r x c (λ y h. h) (or_left (v r) (held r) k) m)))
       (λ k. rw (e, k) (ap (λ l. r ∷ l)
       (filter-flat_map (λ x. not (v x)) (ends eq edges n (with_node eq held r)) (edges r)
       ∙ flat_map-same (λ t. filter (λ x. not (v x)) (ends eq edges n (with_node eq held r) t))
       (ends eq edges n (with_node eq (joined v held) r)) (edges r)
-      (λ t. ends-closed_set edges n v (with_node eq held r) t (λ x y m l. widen (v y) (eq r y) (held y) (c x y m l))
+      (λ t. ends-closed_set n v (with_node eq held r) t (λ x y m l. grind (arith, c x y m l))
       ∙ ap (λ h. ends eq edges n h t) (fun_ext (λ x. or_swap (v x) (eq r x) (held x))))))))
-    where
-      widen : (a b c : Bool) → (a || c) ≡ true → (a || (b || c)) ≡ true
-      widen a b c h = grind arith
 
   -- two visited sets that agree on a closed set that contains the start
-  pub ends_agree : (edges : N → List N) (n : ℕ) (v held more : N → Bool) (r : N) → IsClosed eq edges v (λ x. false)
+  pub ends_agree : (n : ℕ) (v held more : N → Bool) (r : N) → IsClosed eq edges v (λ x. false)
       → ((x : N) → v x ≡ true → held x ≡ more x) → v r ≡ true
       → ends eq edges n held r ≡ ends eq edges n more r
-  ends_agree edges zero v held more r c s i = refl
-  ends_agree edges (suc n) v held more r c s i =
+  ends_agree zero v held more r c s i = refl
+  ends_agree (suc n) v held more r c s i =
       rw (s r i) (ap (λ l. cond (more r) [] (r ∷ l))
       (flat_map-agree dec (ends eq edges n (with_node eq held r)) (ends eq edges n (with_node eq more r)) (edges r)
-      (λ t l. ends_agree edges n v (with_node eq held r) (with_node eq more r) t c
+      (λ t l. ends_agree n v (with_node eq held r) (with_node eq more r) t c
       (λ x m. ap (λ b. eq r x || b) (s x m)) (or_false (v t) (c r t i l)))))
 
   -- the nodes of a closed set may count as visited from the start, where they count as seen
-  pub fresh-held : (edges : N → List N) (n : ℕ) (v held seen : N → Bool) (rs : List N) → IsClosed eq edges v held
+  pub fresh-held : (n : ℕ) (v held seen : N → Bool) (rs : List N) → IsClosed eq edges v held
       → ((x : N) → v x ≡ true → seen x ≡ true)
       → fresh eq seen (flat_map (ends eq edges n held) rs) ≡ fresh eq seen
       (flat_map (ends eq edges n (joined v held)) rs)
-  fresh-held edges n v held seen rs c s =
+  fresh-held n v held seen rs c s =
       sym (fresh-filter dec v seen (flat_map (ends eq edges n held) rs) s)
       ∙ ap (λ l. fresh eq seen l)
       (filter-flat_map (λ x. not (v x)) (ends eq edges n held) rs
       ∙ flat_map-same (λ t. filter (λ x. not (v x)) (ends eq edges n held t)) (ends eq edges n (joined v held)) rs
-      (λ t. ends-closed_set edges n v held t c))
+      (λ t. ends-closed_set n v held t c))
 
   -- a visited node is skipped
-  pub fresh-ends_held : (edges : N → List N) (n : ℕ) (held : N → Bool) (r : N) (rs : List N) → held r ≡ true
+  pub fresh-ends_held : (n : ℕ) (held : N → Bool) (r : N) (rs : List N) → held r ≡ true
       → fresh eq held (flat_map (ends eq edges n held) (r ∷ rs)) ≡ fresh eq held (flat_map (ends eq edges n held) rs)
-  fresh-ends_held edges n held r rs e = rw (ends-held edges n held r e) refl
+  fresh-ends_held n held r rs e = rw (ends-held n held r e) refl
 
   -- one step of the search with a stack: a new node is listed, and its edges go before the other
   -- pending nodes
-  pub fresh-ends_new : (edges : N → List N) (n : ℕ) (held : N → Bool) (r : N) (rs : List N) → held r ≡ false
+  pub fresh-ends_new : (n : ℕ) (held : N → Bool) (r : N) (rs : List N) → held r ≡ false
       → IsEnough eq edges n held r
       → fresh eq held (flat_map (ends eq edges n held) (r ∷ rs)) ≡ r ∷ fresh eq (with_node eq held r)
       (flat_map (ends eq edges n (with_node eq held r)) (edges r ++ rs))
-  fresh-ends_new edges zero held r rs e a = absurd (false≢true (sym e ∙ a))
-  fresh-ends_new edges (suc n) held r rs e a =
+  fresh-ends_new zero held r rs e a = absurd (false≢true (sym e ∙ a))
+  fresh-ends_new (suc n) held r rs e a =
       let h1 : N → Bool = with_node eq held r in
-      let A : List N = flat_map (ends eq edges n h1) (edges r) in
+      let A : List N = ends_behind eq edges n held r in
       let B : List N = flat_map (ends eq edges (suc n) held) rs in
       let C : List N = flat_map (ends eq edges (suc n) h1) rs in
       let same_A : flat_map (ends eq edges (suc n) h1) (edges r) ≡ A =
       flat_map-agree dec (ends eq edges (suc n) h1) (ends eq edges n h1) (edges r)
-      (λ t l. ends-enough edges (suc n) n h1 t (IsEnough-more_fuel edges n h1 t (a e t l)) (a e t l)) in
+      (λ t l. ends-enough (suc n) n h1 t (IsEnough-more_fuel n h1 t (a e t l)) (a e t l)) in
       let v : N → Bool = λ x. eq r x || member eq A x in
       let seen : N → Bool = joined (member eq A) h1 in
-      let closed : IsClosed eq edges v held =
-      λ x y. rw (ends-free edges n held r e) at (ends_closed edges (suc n) held r a x y) in
+      let closed : IsClosed eq edges v held = λ x y. rw (ends-free n held r e) at (ends_closed (suc n) held r a x y) in
       let rest : fresh eq seen B ≡ fresh eq seen C =
-      fresh-held edges (suc n) v held seen rs closed (λ x. into (eq r x) (member eq A x) (held x))
-      ∙ ap (λ h. fresh eq seen (flat_map (ends eq edges (suc n) h) rs))
-      (fun_ext (λ x. turn (eq r x) (member eq A x) (held x)))
-      ∙ sym (fresh-held edges (suc n) (member eq A) h1 seen rs
-      (λ x y m l. onto (eq r y) (member eq A y) (held y) (closed x y (or_right (eq r x) (member eq A x) m) l))
+      fresh-held (suc n) v held seen rs closed (λ x m. grind arith)
+      ∙ ap (λ h. fresh eq seen (flat_map (ends eq edges (suc n) h) rs)) (fun_ext (λ x. grind arith))
+      ∙ sym (fresh-held (suc n) (member eq A) h1 seen rs
+      (λ x y m l. grind (arith, closed x y (or_right (eq r x) (member eq A x) m) l))
       (λ x. or_left (member eq A x) (h1 x))) in
-      let left : fresh eq held ((r ∷ A) ++ B) ≡ r ∷ fresh eq h1 (A ++ B) = rw e refl in
-      ap (λ l. fresh eq held (l ++ B)) (ends-free edges n held r e)
-      ∙ left
-      ∙ ap (λ l. r ∷ l) (fresh-append dec h1 A B ∙ ap (λ l. fresh eq h1 A ++ l) rest ∙ sym (fresh-append dec h1 A C)
-      ∙ ap (λ l. fresh eq h1 l)
-      (ap (λ l. l ++ C) (sym same_A) ∙ sym (flat_map-append (ends eq edges (suc n) h1) (edges r) rs)))
-    where
-      into : (a b c : Bool) → (a || b) ≡ true → (b || (a || c)) ≡ true
-      into a b c h = grind arith
-
-      turn : (a b c : Bool) → ((a || b) || c) ≡ (b || (a || c))
-      turn a b c = grind arith
-
-      onto : (a b c : Bool) → ((a || b) || c) ≡ true → (b || (a || c)) ≡ true
-      onto a b c h = grind arith
+      ap (λ l. fresh eq held (l ++ B)) (ends-free n held r e)
+      ∙ (rw e (ap (λ l. r ∷ l) (fresh-append dec h1 A B ∙ ap (λ l. fresh eq h1 A ++ l) rest
+      ∙ sym (fresh-append dec h1 A C) ∙ ap (λ l. fresh eq h1 l)
+      (ap (λ l. l ++ C) (sym same_A) ∙ sym (flat_map-append (ends eq edges (suc n) h1) (edges r) rs)))))

@@ -2,9 +2,9 @@
 -- Main statements: each_reach_is_in_order, each_reach_is_one, each_reach_is_in_turn.
 -- Used by: the functions of `laws`.
 -- Idea: LeastPaths, UniqueOrder and RootByRoot with the fuel of FiniteGraphs.
-use Rattle.ordered_reach.proofs.Common.{[], arith, false≢true, IsInOrderOfReach, LeadsBelow, List, member, nat_eq, none_held, ordered, subst, suc, ℕ, ◌+◌, ◌≡◌}
+use Rattle.ordered_reach.proofs.Common.{[], arith, IsInOrderOfReach, LeadsBelow, List, member, nat_eq, ordered, subst, suc, ℕ, ◌+◌, ◌≡◌}
 use Rattle.ordered_reach.specs.Laws.{EachReachIsInOrder, EachReachIsInTurn, EachReachIsOne}
-use Rattle.ordered_reach.proofs.graph.ClosedSets.{IsEnough, IsEnough-more_held}
+use Rattle.ordered_reach.proofs.graph.ClosedSets.{IsEnough, IsEnough-from_none}
 use Rattle.ordered_reach.proofs.graph.FiniteGraphs.{IsEnough-below, same_decides}
 use Rattle.ordered_reach.proofs.graph.LeastPaths.{ordered_in_order}
 use Rattle.ordered_reach.proofs.graph.RootByRoot.{ordered_in_turn}
@@ -14,8 +14,7 @@ module _ (edges : ℕ → List ℕ) (count : ℕ) (h : LeadsBelow edges count) w
   enough : (held : List ℕ) (r : ℕ) → IsEnough nat_eq edges (count + 1) (member nat_eq held) r
   enough held r = let z : suc count ≡ count + 1 = omega arith in
       subst (λ n. IsEnough nat_eq edges n (member nat_eq held) r) z
-      (IsEnough-more_held same_decides edges (suc count) none_held (member nat_eq held) r (λ y w. absurd (false≢true w))
-      (IsEnough-below edges count h r))
+      (IsEnough-from_none same_decides edges (suc count) (member nat_eq held) r (IsEnough-below edges count h r))
 
   in_order : (held roots : List ℕ)
       → IsInOrderOfReach edges held roots (ordered nat_eq edges (count + 1) (member nat_eq held) roots)

@@ -2,10 +2,11 @@
 -- Main statements: paths, ends-paths, Ascending-paths, path_from_listed, listed_from_path.
 -- Used by: LeastPaths, MostPreferred.
 -- Idea: the paths through a branch begin with its number, and the numbers ascend.
-use Rattle.ordered_reach.proofs.Common.{[], ap, arith, Before, Bool, by_test, cond, Contains, Decides, ends, false, false≢true, flat_map, IsPath, List, map, map-append, member, None, refl, slice_get, Some, suc, sym, true≢false, with_node, zero, ℕ, ◌++◌, ◌+◌, ◌∙◌, ◌∷◌, ◌≡◌}
-use Rattle.ordered_reach.proofs.lists.Elements.{Contains_In, In, In_Contains, In_append_cases, In_append_left, In_append_right, In_cases, In_head, In_map, In_map_from, In_member, In_tail, member_In}
+use Rattle.ordered_reach.proofs.Common.{[], ap, arith, Before, Bool, by_test, cond, Contains, Decides, ends, false, false≢true, flat_map, IsPath, List, map, map-append, member, refl, slice_get, Some, suc, sym, true≢false, with_node, zero, ℕ, ◌++◌, ◌+◌, ◌∙◌, ◌∷◌, ◌≡◌}
+use Rattle.ordered_reach.proofs.lists.Elements.{Contains_In, In, In_Contains, In_append_cases, In_append_left, In_append_right, In_cases, In_head, In_map, In_map_from, In_member, In_none, In_tail, member_In}
 use Rattle.ordered_reach.proofs.lists.Lexicographic.{Before-first, Before-rest}
 use Rattle.ordered_reach.proofs.graph.ClosedSets.{IsEnough}
+use Rattle.std.proofs.lemmas.Simd.{map-map}
 use Rattle.ordered_reach.proofs.lists.Pieces.{flat_map-same}
 
 -- a path with its end, after one more edge number
@@ -45,7 +46,7 @@ Ascending-map i (p ∷ ps) a =
 pub branches_from : {N P : Type 0} (f : N → List (List ℕ × N)) (i : ℕ) (ts : List N) (p : List ℕ × N)
     → In p (branches f i ts)
     → ((c : ℕ) (t : N) (q : List ℕ × N) → slice_get ts c ≡ Some t → In q (f t) → p ≡ step (i + c) q → P) → P
-branches_from f i [] p h k = absurd (let e : Some p ≡ None = sym h.1 in cc)
+branches_from f i [] p h k = In_none p h
 branches_from f i (t ∷ ts) p h k = In_append_cases p (map (step i) (f t)) (branches f (suc i) ts) h
     (λ l. In_map_from (step i) p (f t) l (λ q m e. k 0 t q refl m (let z : i + 0 ≡ i = omega arith in rw z e)))
     (λ l. branches_from f (suc i) ts p l
@@ -53,7 +54,7 @@ branches_from f i (t ∷ ts) p h k = In_append_cases p (map (step i) (f t)) (bra
 
 pub branches_in : {N : Type 0} (f : N → List (List ℕ × N)) (i c : ℕ) (ts : List N) (t : N) (q : List ℕ × N)
     → slice_get ts c ≡ Some t → In q (f t) → In (step (i + c) q) (branches f i ts)
-branches_in f i c [] t q e h = absurd (let k : Some t ≡ None = sym e in cc)
+branches_in f i c [] t q e h = In_none t (c, e)
 branches_in f i zero (u ∷ ts) t q e h =
     let z : i + 0 ≡ i = omega arith in
     let k : u ≡ t = cc in
@@ -77,73 +78,67 @@ Ascending-branches f i (t ∷ ts) h =
 pub map-branches : {N : Type 0} (f : N → List (List ℕ × N)) (i : ℕ) (ts : List N)
     → map (λ p. p.1) (branches f i ts) ≡ flat_map (λ t. map (λ p. p.1) (f t)) ts
 map-branches f i [] = refl
-map-branches {N} f i (t ∷ ts) =
+map-branches f i (t ∷ ts) =
     map-append (λ p. p.1) (map (step i) (f t)) (branches f (suc i) ts)
-    ∙ ap (λ l. l ++ map (λ p. p.1) (branches f (suc i) ts)) (ends_step (f t))
+    ∙ ap (λ l. l ++ map (λ p. p.1) (branches f (suc i) ts)) (map-map (λ p. p.1) (step i) (f t))
     ∙ ap (λ l. map (λ p. p.1) (f t) ++ l) (map-branches f (suc i) ts)
-  where
-    ends_step : (ps : List (List ℕ × N)) → map (λ p. p.1) (map (step i) ps) ≡ map (λ p. p.1) ps
-    ends_step [] = refl
-    ends_step (p ∷ ps) = ap (λ l. p.1 ∷ l) (ends_step ps)
 
 module _ {N : Type 0} {eq : N → N → Bool} (dec : (a b : N) → Decides (eq a b) (a ≡ b)) where
   not_held : (held : List N) (r : N) → member eq held r ≡ false → ¬ (Contains held r)
   not_held held r e c = true≢false (sym (In_member dec held r (Contains_In dec held r c)) ∙ e)
 
   held_not : (held : List N) (r : N) → ¬ (Contains held r) → member eq held r ≡ false
-  held_not held r h = by_test (member eq held r)
-      (λ e. absurd (h (In_Contains dec held r (member_In dec held r e))))
-      (λ e. e)
+  held_not held r h =
+      by_test (member eq held r) (λ e. absurd (h (In_Contains dec held r (member_In dec held r e)))) (λ e. e)
 
-  -- the ends of the paths
-  pub ends-paths : (edges : N → List N) (n : ℕ) (held : N → Bool) (r : N)
-      → map (λ p. p.1) (paths eq edges n held r) ≡ ends eq edges n held r
-  ends-paths edges zero held r = refl
-  ends-paths edges (suc n) held r = by_test (held r)
-      (λ e. rw e refl)
-      (λ e. rw e (ap (λ l. r ∷ l) (map-branches (paths eq edges n (with_node eq held r)) 0 (edges r)
-      ∙ flat_map-same (λ t. map (λ p. p.1) (paths eq edges n (with_node eq held r) t))
-      (ends eq edges n (with_node eq held r)) (edges r) (λ t. ends-paths edges n (with_node eq held r) t))))
+  module _ (edges : N → List N) where
+    -- the ends of the paths
+    pub ends-paths : (n : ℕ) (held : N → Bool) (r : N)
+        → map (λ p. p.1) (paths eq edges n held r) ≡ ends eq edges n held r
+    ends-paths zero held r = refl
+    ends-paths (suc n) held r = by_test (held r)
+        (λ e. rw e refl)
+        (λ e. let f : N → List (List ℕ × N) = paths eq edges n (with_node eq held r) in
+        rw e (ap (λ l. r ∷ l) (map-branches f 0 (edges r)
+        ∙ flat_map-same (λ t. map (λ p. p.1) (f t)) (ends eq edges n (with_node eq held r)) (edges r)
+        (λ t. ends-paths n (with_node eq held r) t))))
 
-  pub Ascending-paths : (edges : N → List N) (n : ℕ) (held : N → Bool) (r : N) → Ascending (paths eq edges n held r)
-  Ascending-paths edges zero held r = tt
-  Ascending-paths edges (suc n) held r = by_test (held r)
-      (λ e. rw e tt)
-      (λ e. rw e (
-        (λ q l. branches_from (paths eq edges n (with_node eq held r)) 0 (edges r) q l (λ c t p g m d. rw d refl)),
-        Ascending-branches (paths eq edges n (with_node eq held r)) 0 (edges r)
-            (λ t. Ascending-paths edges n (with_node eq held r) t),
-      ))
+    pub Ascending-paths : (n : ℕ) (held : N → Bool) (r : N) → Ascending (paths eq edges n held r)
+    Ascending-paths zero held r = tt
+    Ascending-paths (suc n) held r = by_test (held r)
+        (λ e. rw e tt)
+        (λ e. let f : N → List (List ℕ × N) = paths eq edges n (with_node eq held r) in rw e (
+          (λ q l. branches_from f 0 (edges r) q l (λ c t p g m d. rw d refl)),
+          Ascending-branches f 0 (edges r) (λ t. Ascending-paths n (with_node eq held r) t),
+        ))
 
-  -- each listed pair is a path with its end
-  pub path_from_listed : (edges : N → List N) (n : ℕ) (held : List N) (r : N) (p : List ℕ × N)
-      → In p (paths eq edges n (member eq held) r) → IsPath edges held r p.0 p.1
-  path_from_listed edges zero held r p h = absurd (let k : Some p ≡ None = sym h.1 in cc)
-  path_from_listed edges (suc n) held r p h = by_test (member eq held r)
-      (λ e. let k : In p [] = rw e at h in absurd (let z : Some p ≡ None = sym k.1 in cc))
-      (λ e. let k : In p (([], r) ∷ branches (paths eq edges n (member eq (r ∷ held))) 0 (edges r)) = rw e at h in
-      In_cases p ([], r) (branches (paths eq edges n (member eq (r ∷ held))) 0 (edges r)) k
-      (λ d. rw d (not_held held r e, refl))
-      (λ l. branches_from (paths eq edges n (member eq (r ∷ held))) 0 (edges r) p l
-      (λ c t q g m d. rw d (
-        not_held held r e,
-        (t, (let z : 0 + c ≡ c = omega arith in rw z g), path_from_listed edges n (r ∷ held) t q m),
-      ))))
+    -- each listed pair is a path with its end
+    pub path_from_listed : (n : ℕ) (held : List N) (r : N) (p : List ℕ × N)
+        → In p (paths eq edges n (member eq held) r) → IsPath edges held r p.0 p.1
+    path_from_listed zero held r p h = In_none p h
+    path_from_listed (suc n) held r p h = by_test (member eq held r)
+        (λ e. In_none p (rw e at h))
+        (λ e. let f : N → List (List ℕ × N) = paths eq edges n (member eq (r ∷ held)) in
+        In_cases p ([], r) (branches f 0 (edges r)) (rw e at h)
+        (λ d. rw d (not_held held r e, refl))
+        (λ l. branches_from f 0 (edges r) p l (λ c t q g m d. rw d (
+          not_held held r e,
+          (t, (let z : 0 + c ≡ c = omega arith in rw z g), path_from_listed n (r ∷ held) t q m),
+        ))))
 
-  -- each path is listed
-  pub listed_from_path : (edges : N → List N) (n : ℕ) (held : List N) (r : N) (cs : List ℕ) (s : N)
-      → IsEnough eq edges n (member eq held) r → IsPath edges held r cs s
-      → In (cs, s) (paths eq edges n (member eq held) r)
-  listed_from_path edges zero held r [] s a h = absurd (false≢true (sym (held_not held r h.0) ∙ a))
-  listed_from_path edges zero held r (c ∷ cs) s a h = absurd (false≢true (sym (held_not held r h.0) ∙ a))
-  listed_from_path edges (suc n) held r [] s a h =
-      rw (held_not held r h.0, h.1) (In_head ([], r) (branches (paths eq edges n (member eq (r ∷ held))) 0 (edges r)))
-  listed_from_path edges (suc n) held r (c ∷ cs) s a h =
-      let e : member eq held r ≡ false = held_not held r h.0 in
-      let t : N = h.1.0 in
-      let z : 0 + c ≡ c = omega arith in
-      let f : N → List (List ℕ × N) = paths eq edges n (member eq (r ∷ held)) in
-      let l : In (cs, s) (f t) =
-      listed_from_path edges n (r ∷ held) t cs s (a e t (In_member dec (edges r) t (c, h.1.1))) h.1.2 in
-      rw e (In_tail (c ∷ cs, s) ([], r) (branches f 0 (edges r))
-      (rw z at (branches_in f 0 c (edges r) t (cs, s) h.1.1 l)))
+    -- each path is listed
+    pub listed_from_path : (n : ℕ) (held : List N) (r : N) (cs : List ℕ) (s : N)
+        → IsEnough eq edges n (member eq held) r → IsPath edges held r cs s
+        → In (cs, s) (paths eq edges n (member eq held) r)
+    listed_from_path zero held r [] s a h = absurd (false≢true (sym (held_not held r h.0) ∙ a))
+    listed_from_path zero held r (c ∷ cs) s a h = absurd (false≢true (sym (held_not held r h.0) ∙ a))
+    listed_from_path (suc n) held r [] s a h = rw (held_not held r h.0, h.1) (In_head ([], r) _)
+    listed_from_path (suc n) held r (c ∷ cs) s a h =
+        let e : member eq held r ≡ false = held_not held r h.0 in
+        let t : N = h.1.0 in
+        let z : 0 + c ≡ c = omega arith in
+        let f : N → List (List ℕ × N) = paths eq edges n (member eq (r ∷ held)) in
+        let l : In (cs, s) (f t) =
+        listed_from_path n (r ∷ held) t cs s (a e t (In_member dec (edges r) t (c, h.1.1))) h.1.2 in
+        rw e (In_tail (c ∷ cs, s) ([], r) (branches f 0 (edges r))
+        (rw z at (branches_in f 0 c (edges r) t (cs, s) h.1.1 l)))

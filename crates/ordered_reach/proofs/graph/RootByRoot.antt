@@ -2,9 +2,9 @@
 -- Main statements: ordered_in_turn.
 -- Used by: FiniteReach.
 -- Idea: what one root reaches counts as visited for the next.
-use Rattle.ordered_reach.proofs.Common.{[], ap, arith, Bool, Decides, false≢true, fun_ext, joined, List, member, none_held, ordered, refl, sym, ℕ, ◌++◌, ◌||◌, ◌∙◌, ◌∷◌, ◌≡◌}
-use Rattle.ordered_reach.specs.Paths.{IsListedInTurn}
-use Rattle.ordered_reach.proofs.graph.ClosedSets.{IsEnough, IsEnough-more_held}
+use Rattle.ordered_reach.proofs.Common.{[], ap, Bool, Decides, fun_ext, joined, List, member, none_held, ordered, refl, sym, ℕ, ◌++◌, ◌∙◌, ◌∷◌, ◌≡◌, IsListedInTurn}
+use Rattle.std.proofs.Math.Bool.{or_comm}
+use Rattle.ordered_reach.proofs.graph.ClosedSets.{IsEnough, IsEnough-from_none}
 use Rattle.ordered_reach.proofs.graph.LeastPaths.{ordered_in_order}
 use Rattle.ordered_reach.proofs.graph.StackSearch.{ordered-append}
 use Rattle.ordered_reach.proofs.lists.NewNodes.{member-append}
@@ -18,14 +18,11 @@ module _ {N : Type 0} {eq : N → N → Bool} (dec : (a b : N) → Decides (eq a
       let ys : List N = ordered eq edges n (member eq held) (r ∷ []) in
       let zs : List N = ordered eq edges n (member eq (held ++ ys)) rs in
       let same : joined (member eq ys) (member eq held) ≡ member eq (held ++ ys) =
-      fun_ext (λ x. swap (member eq ys x) (member eq held x) ∙ sym (member-append dec held ys x)) in (
+      fun_ext (λ x. or_comm (member eq ys x) (member eq held x) ∙ sym (member-append dec held ys x)) in (
         ys,
         zs,
         ordered-append dec edges n a (member eq held) (r ∷ []) rs ∙ ap (λ h. ys ++ ordered eq edges n h rs) same,
         ordered_in_order dec edges n held (r ∷ [])
-            (λ x. IsEnough-more_held dec edges n none_held (member eq held) x (λ y z. absurd (false≢true z)) (a x)),
+            (λ x. IsEnough-from_none dec edges n (member eq held) x (a x)),
         ordered_in_turn edges n a (held ++ ys) rs,
       )
-    where
-      swap : (a b : Bool) → (a || b) ≡ (b || a)
-      swap a b = grind arith

@@ -2,7 +2,7 @@
 -- Main statements: not_redone.
 -- Used by: the step that reads recorded states.
 -- Idea: the listed nodes are closed under the added edges.
-use Rattle.ordered_reach.proofs.Common.{[], ap, arith, Bool, by_test, Decides, ends, false, flat_map, fresh, List, member, none_held, or_false, or_left, or_right, ordered, sym, true, without, ℕ, ◌&&◌, ◌||◌, ◌∙◌, ◌∷◌, ◌≡◌}
+use Rattle.ordered_reach.proofs.Common.{[], ap, arith, Bool, by_test, Decides, ends, false, flat_map, fresh, List, member, none_held, or_false, or_left, ordered, sym, true, without, ℕ, ◌&&◌, ◌∙◌, ◌∷◌, ◌≡◌}
 use Rattle.ordered_reach.proofs.graph.ClosedSets.{IsClosed, IsEnough, ends_closed, ends_self}
 use Rattle.ordered_reach.proofs.graph.RepeatedSearch.{ends-same_edges, ordered_redone_without}
 use Rattle.ordered_reach.proofs.lists.NewNodes.{flat_map-agree, flat_map-member, member-flat_map, member-fresh}
@@ -12,27 +12,22 @@ module _ {N : Type 0} {eq : N → N → Bool} (dec : (a b : N) → Decides (eq a
   pub roots_closed : (edges : N → List N) (n : ℕ) (roots : List N) → ((x : N) → IsEnough eq edges n none_held x)
       → IsClosed eq edges (member eq (flat_map (ends eq edges n none_held) roots)) none_held
   roots_closed edges n roots a x y m k =
-      flat_map-member dec (ends eq edges n none_held) roots x m (λ r l z.
-      let w : (member eq (ends eq edges n none_held r) y || false) ≡ true =
-      ends_closed dec edges n none_held r (a r) x y z k in
-      or_left _ false (member-flat_map dec (ends eq edges n none_held) roots r y l
-      (or_false (member eq (ends eq edges n none_held r) y) w)))
+      let f : N → List N = ends eq edges n none_held in
+      flat_map-member dec f roots x m (λ r l z. or_left (member eq (flat_map f roots) y) false
+      (member-flat_map dec f roots r y l (or_false _ (ends_closed dec edges n none_held r (a r) x y z k))))
 
   -- the same edges at all listed nodes: the same list
   ordered-same_edges : (edges more : N → List N) (n : ℕ) (roots : List N) → ((x : N) → IsEnough eq edges n none_held x)
       → ((x : N) → member eq (ordered eq edges n none_held roots) x ≡ true → edges x ≡ more x)
       → ordered eq edges n none_held roots ≡ ordered eq more n none_held roots
   ordered-same_edges edges more n roots a h =
-      let v : N → Bool = member eq (flat_map (ends eq edges n none_held) roots) in
+      let f : N → List N = ends eq edges n none_held in
+      let v : N → Bool = member eq (flat_map f roots) in
       let same : (x : N) → v x ≡ true → edges x ≡ more x =
-      λ x m. h x (member-fresh dec none_held (flat_map (ends eq edges n none_held) roots) x ∙ both (v x) m) in
-      ap (λ l. fresh eq none_held l) (flat_map-agree dec (ends eq edges n none_held) (ends eq more n none_held) roots
+      λ x m. h x (member-fresh dec none_held (flat_map f roots) x ∙ ap (λ b. b && true) m) in
+      ap (λ l. fresh eq none_held l) (flat_map-agree dec f (ends eq more n none_held) roots
       (λ r l. ends-same_edges dec edges more n v none_held r (roots_closed edges n roots a) same
-      (member-flat_map dec (ends eq edges n none_held) roots r r l
-      (or_false (member eq (ends eq edges n none_held r) r) (ends_self dec edges n none_held r (a r))))))
-    where
-      both : (b : Bool) → b ≡ true → (b && true) ≡ true
-      both b h = grind arith
+      (member-flat_map dec f roots r r l (or_false (member eq (f r) r) (ends_self dec edges n none_held r (a r))))))
 
   -- where each listed node outside cap has the same edges, the recorded list is the list computed
   -- again from it
@@ -51,8 +46,4 @@ module _ {N : Type 0} {eq : N → N → Bool} (dec : (a b : N) → Decides (eq a
     where
       kept : (xs : List N) (x : N) → cap x ≡ false → member eq xs x ≡ true → member eq (without cap xs) x ≡ true
       kept [] x e m = m
-      kept (y ∷ xs) x e m = by_test (eq y x)
-          (λ q. let z : y ≡ x = (dec y x).0 q in let f : cap y ≡ false = rw z e in rw f (or_left (eq y x) _ q))
-          (λ q. by_test (cap y)
-          (λ f. rw f (kept xs x e (rw q at m)))
-          (λ f. rw f (or_right (eq y x) _ (kept xs x e (rw q at m)))))
+      kept (y ∷ xs) x e m = grind (arith, dec y x, kept xs x e)

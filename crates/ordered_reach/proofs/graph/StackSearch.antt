@@ -2,21 +2,17 @@
 -- Main statements: ordered-append, closure-held, closure-new.
 -- Used by: RootByRoot, and the loop of an epsilon closure.
 -- Idea: a visited node is skipped; a new one is listed, and its edges go before the other pending nodes.
-use Rattle.ordered_reach.proofs.Common.{[], ap, append-nil, append_assoc, arith, Bool, Decides, edge_count, ends, false, false≢true, flat_map, flat_map-append, fresh, fun_ext, joined, length, length-append, List, member, none_held, not, or_left, ordered, search_tries, suc, sym, true, with_node, ℕ, ◌&&◌, ◌++◌, ◌+◌, ◌||◌, ◌∙◌, ◌∷◌, ◌≡◌}
-use Rattle.ordered_reach.specs.StackSearch.{closure}
-use Rattle.ordered_reach.proofs.graph.ClosedSets.{IsClosed, IsEnough, IsEnough-more_held, ends_closed, fresh-ends_held, fresh-ends_new, fresh-held}
-use Rattle.ordered_reach.proofs.lists.NewNodes.{fresh-append, member-append, member-fresh}
+use Rattle.ordered_reach.proofs.Common.{[], ap, append-nil, append_assoc, arith, Bool, Decides, edge_count, ends, false, flat_map, flat_map-append, fresh, fun_ext, joined, length-append, List, member, none_held, or_left, ordered, search_tries, suc, sym, true, with_node, ℕ, ◌++◌, ◌∙◌, ◌∷◌, ◌≡◌, closure}
+use Rattle.ordered_reach.proofs.graph.ClosedSets.{IsClosed, IsEnough, IsEnough-from_none, ends_closed, fresh-ends_held, fresh-ends_new, fresh-held}
+use Rattle.ordered_reach.proofs.lists.NewNodes.{flat_map-member, fresh-append, member-append, member-flat_map, member-fresh}
 
 module _ {N : Type 0} {eq : N → N → Bool} (dec : (a b : N) → Decides (eq a b) (a ≡ b)) where
   pub member-push : (met : List N) (r : N) → member eq (met ++ r ∷ []) ≡ with_node eq (member eq met) r
-  member-push met r = fun_ext (λ x. member-append dec met (r ∷ []) x ∙ turn (member eq met x) (eq r x))
-    where
-      turn : (a b : Bool) → (a || (b || false)) ≡ (b || a)
-      turn a b = grind arith
+  member-push met r = fun_ext (λ x. grind (arith, member-append dec met (r ∷ []) x))
 
   module _ (edges : N → List N) (n : ℕ) (enough : (x : N) → IsEnough eq edges n none_held x) where
     enough_at : (held : N → Bool) (r : N) → IsEnough eq edges n held r
-    enough_at held r = IsEnough-more_held dec edges n none_held held r (λ x z. absurd (false≢true z)) (enough r)
+    enough_at held r = IsEnough-from_none dec edges n held r (enough r)
 
     ordered-held : (met : List N) (r : N) (rs : List N) → member eq met r ≡ true
         → ordered eq edges n (member eq met) (r ∷ rs) ≡ ordered eq edges n (member eq met) rs
@@ -44,19 +40,12 @@ module _ {N : Type 0} {eq : N → N → Bool} (dec : (a b : N) → Decides (eq a
 
     pub tries-held : (met : List N) (r : N) (rs : List N) → member eq met r ≡ true
         → search_tries eq edges n met (r ∷ rs) ≡ suc (search_tries eq edges n met rs)
-    tries-held met r rs e =
-        let k : edge_count edges (ordered eq edges n (member eq met) (r ∷ rs)) ≡ edge_count edges
-        (ordered eq edges n (member eq met) rs) =
-        ap (λ l. edge_count edges l) (ordered-held met r rs e) in omega arith
+    tries-held met r rs e = omega (arith, ap (λ l. edge_count edges l) (ordered-held met r rs e))
 
     pub tries-new : (met : List N) (r : N) (rs : List N) → member eq met r ≡ false
         → search_tries eq edges n met (r ∷ rs) ≡ suc (search_tries eq edges n (met ++ r ∷ []) (edges r ++ rs))
     tries-new met r rs e =
-        let k : edge_count edges (ordered eq edges n (member eq met) (r ∷ rs)) ≡ length (edges r) + edge_count edges
-        (ordered eq edges n (member eq (met ++ r ∷ [])) (edges r ++ rs))
-        = ap (λ l. edge_count edges l) (ordered-new met r rs e) in
-        let j : length (edges r ++ rs) ≡ length (edges r) + length rs = length-append (edges r) rs in
-        omega arith
+        omega (arith, ap (λ l. edge_count edges l) (ordered-new met r rs e), length-append (edges r) rs)
 
     -- nodes reached from earlier roots count as visited for the later ones
     pub ordered-append : (held : N → Bool) (rs ss : List N)
@@ -67,28 +56,14 @@ module _ {N : Type 0} {eq : N → N → Bool} (dec : (a b : N) → Decides (eq a
         let A : List N = flat_map f rs in
         let seen : N → Bool = joined (member eq A) held in
         let same : seen ≡ joined (member eq (ordered eq edges n held rs)) held =
-        fun_ext (λ x. known (member eq A x) (held x) ∙ ap (λ b. b || held x) (sym (member-fresh dec held A x))) in
+        fun_ext (λ x. grind (arith, member-fresh dec held A x)) in
         ap (λ l. fresh eq held l) (flat_map-append f rs ss)
         ∙ fresh-append dec held A (flat_map f ss)
         ∙ ap (λ l. fresh eq held A ++ l)
-        (fresh-held dec edges n (member eq A) held seen ss (all_closed rs) (λ x m. or_left (member eq A x) (held x) m)
+        (fresh-held dec edges n (member eq A) held seen ss closed (λ x m. or_left (member eq A x) (held x) m)
         ∙ ap (λ h. ordered eq edges n h ss) same)
       where
-        known : (a b : Bool) → (a || b) ≡ ((a && not b) || b)
-        known a b = grind arith
-
-        all_closed : (rs : List N) → IsClosed eq edges (member eq (flat_map (ends eq edges n held) rs)) held
-        all_closed [] = λ x y m k. absurd (false≢true m)
-        all_closed (r ∷ rs) = λ x y m k.
-            let f : N → List N = ends eq edges n held in
-            let e : member eq (f r ++ flat_map f rs) x ≡ (member eq (f r) x || member eq (flat_map f rs) x) =
-            member-append dec (f r) (flat_map f rs) x in
-            let g : member eq (f r ++ flat_map f rs) y ≡ (member eq (f r) y || member eq (flat_map f rs) y) =
-            member-append dec (f r) (flat_map f rs) y in
-            rw g (split (member eq (f r) x) (member eq (flat_map f rs) x) (member eq (f r) y)
-            (member eq (flat_map f rs) y) (held y) (sym e ∙ m)
-            (λ z. ends_closed dec edges n held r (enough_at held r) x y z k) (λ z. all_closed rs x y z k))
-          where
-            split : (a b c d h : Bool) → (a || b) ≡ true → (a ≡ true → (c || h) ≡ true) → (b ≡ true → (d || h) ≡ true)
-                → ((c || d) || h) ≡ true
-            split a b c d h p q r = grind arith
+        closed : IsClosed eq edges (member eq (flat_map (ends eq edges n held) rs)) held
+        closed x y m k = flat_map-member dec (ends eq edges n held) rs x m (λ r l z.
+            let c = ends_closed dec edges n held r (enough_at held r) x y z k in
+            grind (arith, c, member-flat_map dec (ends eq edges n held) rs r y l))

@@ -2,10 +2,9 @@
 -- Main statements: one_end, one_least, one_order.
 -- Used by: FiniteReach, and the law that results are determined.
 -- Idea: the least path to a node is unique, and the order of these is strict.
-use Rattle.ordered_reach.proofs.Common.{[], Before, Bool, Decides, IsInOrderOfReach, IsLeastPath, IsPath, List, subst, sym, ℕ, ◌∙◌, ◌∷◌, ◌≡◌}
+use Rattle.ordered_reach.proofs.Common.{[], Before, Bool, Decides, IsInOrderOfReach, IsLeastPath, IsPath, List, subst, sym, ℕ, ◌∙◌, ◌∷◌, ◌≡◌, some_injective}
 use Rattle.ordered_reach.proofs.lists.Elements.{Contains_In, In_Contains, same_by_order}
 use Rattle.ordered_reach.proofs.lists.Lexicographic.{Before-asym, same_least}
-use Rattle.ordered_reach.proofs.Cases.{some_injective}
 
 -- a path's numbers determine its end
 pub one_end : {N : Type 0} (es : N → List N) (held : List N) (r : N) (cs : List ℕ) (s u : N) → IsPath es held r cs s

@@ -2,10 +2,7 @@
 -- Main statements: In, Earlier, same_by_order, In_Contains, Contains_In.
 -- Used by: PathLists, LeastPaths, UniqueOrder, the folder runs, and the crates above.
 -- Idea: two lists with the same elements in the same strict order are equal (same_by_order).
-use Rattle.ordered_reach.proofs.Common.{[], arith, Bool, by_test, Contains, Decides, false, false≢true, length, List, map, member, None, or_left, or_right, refl, slice_get, Some, suc, sym, true, without, zero, ℕ, ◌++◌, ◌<◌, ◌∙◌, ◌∷◌, ◌≡◌}
-use Rattle.std.specs.Prelude.{All}
-use Rattle.std.proofs.Common.{get_or, take}
-use Rattle.std.proofs.lemmas.List.Elements.{All-cons, All-nil}
+use Rattle.ordered_reach.proofs.Common.{[], option_map, ap, arith, Bool, by_cases, by_test, cases_order, Contains, Decides, false, false≢true, List, map, member, None, or_left, or_right, refl, slice_get, Some, suc, sym, true, without, zero, ℕ, ◌++◌, ◌<◌, ◌∙◌, ◌∷◌, ◌≡◌, All, take, get_or_from_slice_get, slice_get-get_or, slice_get-map, slice_get_within, All-cons, All-nil}
 use Rattle.ordered_reach.proofs.lists.NewNodes.{eq-self}
 
 -- an element of a list
@@ -18,6 +15,9 @@ In_head x xs = (0, refl)
 pub In_tail : {A : Type 0} (x y : A) (xs : List A) → In x xs → In x (y ∷ xs)
 In_tail x y xs h = (suc h.0, h.1)
 
+pub In_none : {A P : Type 0} (x : A) → In x [] → P
+In_none x h = absurd (let k : Some x ≡ None = sym h.1 in cc)
+
 pub In_cases : {A P : Type 0} (x y : A) (xs : List A) → In x (y ∷ xs) → (x ≡ y → P) → (In x xs → P) → P
 In_cases {A} {P} x y xs h f g = go h.0 h.1
   where
@@ -26,7 +26,7 @@ In_cases {A} {P} x y xs h f g = go h.0 h.1
     go (suc i) e = g (i, e)
 
 pub In_append_left : {A : Type 0} (x : A) (xs ys : List A) → In x xs → In x (xs ++ ys)
-In_append_left x [] ys h = absurd (let k : Some x ≡ None = sym h.1 in cc)
+In_append_left x [] ys h = In_none x h
 In_append_left x (y ∷ xs) ys h =
     In_cases x y xs h (λ e. rw e (In_head y (xs ++ ys))) (λ k. In_tail x y (xs ++ ys) (In_append_left x xs ys k))
 
@@ -41,20 +41,18 @@ In_append_cases x (y ∷ xs) ys h f g = In_cases x y (xs ++ ys) h
     (λ k. In_append_cases x xs ys k (λ l. f (In_tail x y xs l)) g)
 
 pub In_map : {A B : Type 0} (g : A → B) (x : A) (xs : List A) → In x xs → In (g x) (map g xs)
-In_map g x [] h = absurd (let k : Some x ≡ None = sym h.1 in cc)
-In_map g x (y ∷ xs) h =
-    In_cases x y xs h (λ e. rw e (In_head (g y) (map g xs))) (λ k. In_tail (g x) (g y) (map g xs) (In_map g x xs k))
+In_map g x xs h = (h.0, slice_get-map g xs h.0 ∙ ap (λ o. option_map g o) h.1)
 
 pub In_map_from : {A B P : Type 0} (g : A → B) (z : B) (xs : List A) → In z (map g xs)
     → ((x : A) → In x xs → z ≡ g x → P) → P
-In_map_from g z [] h f = absurd (let k : Some z ≡ None = sym h.1 in cc)
+In_map_from g z [] h f = In_none z h
 In_map_from g z (y ∷ xs) h f = In_cases z (g y) (map g xs) h
     (λ e. f y (In_head y xs) e)
     (λ k. In_map_from g z xs k (λ x l e. f x (In_tail x y xs l) e))
 
 -- the elements of `without`
 pub In-without : {A : Type 0} (cap : A → Bool) (xs : List A) (s : A) → In s (without cap xs) → In s xs × (cap s ≡ false)
-In-without cap [] s h = absurd (let e : Some s ≡ None = sym h.1 in cc)
+In-without cap [] s h = In_none s h
 In-without cap (x ∷ xs) s h = by_test (cap x)
     (λ e. let r : In s xs × (cap s ≡ false) = In-without cap xs s (rw e at h) in (In_tail s x xs r.0, r.1))
     (λ e. In_cases s x (without cap xs) (rw e at h)
@@ -88,16 +86,22 @@ pub Earlier-without : {A : Type 0} (cap : A → Bool) (xs : List A) (i j : ℕ) 
 Earlier-without cap [] i j s t l a b = absurd (let e : Some s ≡ None = sym a in cc)
 Earlier-without {A} cap (x ∷ xs) i j s t l a b = by_test (cap x)
     (λ e. Earlier_tail xs s t x (Earlier-without cap xs i j s t l (rw e at a) (rw e at b)))
-    (λ e. go i j l (rw e at a) (rw e at b) (Earlier-without cap xs))
+    (λ e. go i j l (rw e at a) (rw e at b) (λ i j l a b. Earlier-without cap xs i j s t l a b))
   where
     go : (i j : ℕ) → i < j → slice_get (x ∷ without cap xs) i ≡ Some s → slice_get (x ∷ without cap xs) j ≡ Some t
-        → ((i j : ℕ) (s t : A) → i < j → slice_get (without cap xs) i ≡ Some s → slice_get (without cap xs) j ≡ Some t
+        → ((i j : ℕ) → i < j → slice_get (without cap xs) i ≡ Some s → slice_get (without cap xs) j ≡ Some t
         → Earlier xs s t) → Earlier (x ∷ xs) s t
     go i zero l a b ih = absurd (omega arith)
-    go zero (suc j) l a b ih =
-        let q : x ≡ s = cc in
-        rw (← q) (Earlier_head xs x t (In-without cap xs t (j, b)).0)
-    go (suc i) (suc j) l a b ih = Earlier_tail xs s t x (ih i j s t (omega arith) a b)
+    go zero (suc j) l a b ih = let q : x ≡ s = cc in rw (← q) (Earlier_head xs x t (In-without cap xs t (j, b)).0)
+    go (suc i) (suc j) l a b ih = Earlier_tail xs s t x (ih i j (omega arith) a b)
+
+-- where no element is at two indices in order, each has one index
+pub once_by_order : {A : Type 0} (xs : List A)
+    → ((i j : ℕ) (s : A) → i < j → slice_get xs i ≡ Some s → slice_get xs j ≡ Some s → ⊥)
+    → (i j : ℕ) (s : A) → slice_get xs i ≡ Some s → slice_get xs j ≡ Some s → i ≡ j
+once_by_order xs h i j s a b = by_cases (cases_order i j)
+    (λ e. e)
+    (λ o. by_cases o (λ l. absurd (h i j s l a b)) (λ l. absurd (h j i s l b a)))
 
 -- two lists with the same elements in the same strict order are equal
 pub same_by_order : {A : Type 0} (R : A → A → Type 0) → ((x y : A) → R x y → R y x → ⊥) → (xs ys : List A)
@@ -106,26 +110,23 @@ pub same_by_order : {A : Type 0} (R : A → A → Type 0) → ((x y : A) → R x
     → ((i j : ℕ) (x y : A) → i < j → slice_get ys i ≡ Some x → slice_get ys j ≡ Some y → R x y)
     → xs ≡ ys
 same_by_order R asym [] [] f g a b = refl
-same_by_order R asym [] (y ∷ ys) f g a b = let h : In y [] =
-    g y (In_head y ys) in absurd (let k : Some y ≡ None = sym h.1 in cc)
-same_by_order R asym (x ∷ xs) [] f g a b = let h : In x [] =
-    f x (In_head x xs) in absurd (let k : Some x ≡ None = sym h.1 in cc)
+same_by_order R asym [] (y ∷ ys) f g a b = In_none y (g y (In_head y ys))
+same_by_order R asym (x ∷ xs) [] f g a b = In_none x (f x (In_head x xs))
 same_by_order {A} R asym (x ∷ xs) (y ∷ ys) f g a b =
     let e : x ≡ y = In_cases x y ys (f x (In_head x xs)) (λ q. q)
     (λ h. In_cases y x xs (g y (In_head y ys)) (λ q. sym q)
     (λ k. absurd (asym x y (a 0 (suc k.0) x y (omega arith) refl k.1) (b 0 (suc h.0) y x (omega arith) refl h.1)))) in
     let t : xs ≡ ys = same_by_order R asym xs ys
-    (λ z h. In_cases z y ys (f z (In_tail z x xs h)) (λ q. absurd (again z (q ∙ sym e) h)) (λ k. k))
-    (λ z h. In_cases z x xs (g z (In_tail z y ys h)) (λ q. absurd (again2 z (q ∙ e) h)) (λ k. k))
+    (λ z h. In_cases z y ys (f z (In_tail z x xs h))
+    (λ q. absurd (again x z (q ∙ sym e) (a 0 (suc h.0) x z (omega arith) refl h.1))) (λ k. k))
+    (λ z h. In_cases z x xs (g z (In_tail z y ys h))
+    (λ q. absurd (again y z (q ∙ e) (b 0 (suc h.0) y z (omega arith) refl h.1))) (λ k. k))
     (λ i j u v l p q. a (suc i) (suc j) u v (omega arith) p q)
     (λ i j u v l p q. b (suc i) (suc j) u v (omega arith) p q) in
     cc
   where
-    again : (z : A) → z ≡ x → In z xs → ⊥
-    again z q h = let r : R x z = a 0 (suc h.0) x z (omega arith) refl h.1 in asym x x (rw q at r) (rw q at r)
-
-    again2 : (z : A) → z ≡ y → In z ys → ⊥
-    again2 z q h = let r : R y z = b 0 (suc h.0) y z (omega arith) refl h.1 in asym y y (rw q at r) (rw q at r)
+    again : (u z : A) → z ≡ u → R u z → ⊥
+    again u z q r = asym u u (rw q at r) (rw q at r)
 
 module _ {N : Type 0} {eq : N → N → Bool} (dec : (a b : N) → Decides (eq a b) (a ≡ b)) where
   pub All-from_member : (P : N → Type 0) (xs : List N) → ((x : N) → member eq xs x ≡ true → P x) → All P xs
@@ -141,21 +142,13 @@ module _ {N : Type 0} {eq : N → N → Bool} (dec : (a b : N) → Decides (eq a
       (λ e. In_tail x y xs (member_In xs x (rw e at m)))
 
   pub In_member : (xs : List N) (x : N) → In x xs → member eq xs x ≡ true
-  In_member [] x h = absurd (let k : Some x ≡ None = sym h.1 in cc)
+  In_member [] x h = In_none x h
   In_member (y ∷ xs) x h = In_cases x y xs h
       (λ e. rw e (or_left (eq y y) (member eq xs y) (eq-self dec y)))
       (λ k. or_right (eq y x) (member eq xs x) (In_member xs x k))
 
   pub In_Contains : (xs : List N) (x : N) → In x xs → Contains xs x
-  In_Contains [] x h = absurd (let k : Some x ≡ None = sym h.1 in cc)
-  In_Contains (y ∷ xs) x h = In_cases x y xs h
-      (λ e. (0, omega arith, sym e))
-      (λ k. let c : Contains xs x = In_Contains xs x k in (suc c.0, omega (arith, c.1), c.2))
+  In_Contains xs x h = (h.0, slice_get_within xs h.0 x h.1, get_or_from_slice_get xs h.0 x x h.1)
 
   pub Contains_In : (xs : List N) (x : N) → Contains xs x → In x xs
-  Contains_In xs x h = go xs h.0 h.1 h.2
-    where
-      go : (ys : List N) (k : ℕ) → k < length ys → get_or ys k x ≡ x → In x ys
-      go [] k l e = absurd (omega arith)
-      go (y ∷ ys) zero l e = rw e (In_head x ys)
-      go (y ∷ ys) (suc k) l e = In_tail x y ys (go ys k (omega arith) e)
+  Contains_In xs x h = (h.0, slice_get-get_or xs h.0 x h.1 ∙ ap Some h.2)

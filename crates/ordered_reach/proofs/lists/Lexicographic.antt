@@ -2,11 +2,10 @@
 -- Main statements: Before-first, Before-rest, Before-parts, Before-asym, same_least.
 -- Used by: PathLists, UniqueOrder, MostPreferred, RunLists.
 -- Idea: the first numbers decide unless they are equal.
-use Rattle.ordered_reach.proofs.Common.{[], ap, arith, Before, by_cases, cases_order, inl, inr, List, refl, sym, ℕ, ◌<◌, ◌∙◌, ◌∷◌, ◌≡◌, ◌⊎◌}
+use Rattle.ordered_reach.proofs.Common.{[], ap, arith, Before, by_cases, cases_order, inl, inr, List, refl, sym, ℕ, ◌<◌, ◌∙◌, ◌∷◌, ◌≡◌, ◌⊎◌, Equal, Greater, Less, Ordering, nat_cmp}
 use Rattle.std.specs.Cmp.{nat_cmp_is}
 use Rattle.std.specs.Cmp.Lexicographic.{slice_cmp}
 use Rattle.std.specs.Ordering.{ordering_then}
-use Rattle.std.proofs.Common.{Equal, Greater, Less, Ordering, nat_cmp}
 
 -- the order of two lists, given the order of their first numbers
 first_decides : (c d : ℕ) (cs ds : List ℕ) (o : Ordering) → o ≡ nat_cmp c d

@@ -2,13 +2,7 @@
 -- Main statements: fresh-append, member-fresh, fresh-filter, flat_map-agree.
 -- Used by: ClosedSets, and all that compares two searches.
 -- Idea: what is new after a list is what is new to the union of the set and the list.
-use Rattle.ordered_reach.proofs.Common.{[], ap, arith, Bool, by_test, Decides, false, false≢true, filter, flat_map, fresh, fun_ext, joined, List, member, not, or_left, or_more, or_right, or_swap, refl, sym, true, with_node, ◌&&◌, ◌++◌, ◌||◌, ◌∙◌, ◌∷◌, ◌≡◌}
-
-or_turn : (a b c : Bool) → (b || (a || c)) ≡ ((a || b) || c)
-or_turn a b c = grind arith
-
-or_known : (a b : Bool) → (a ≡ true → b ≡ true) → (a || b) ≡ b
-or_known a b h = grind arith
+use Rattle.ordered_reach.proofs.Common.{[], ap, arith, Bool, by_test, Decides, false, false≢true, filter, flat_map, fresh, fun_ext, joined, List, member, not, or_left, or_more, or_right, refl, sym, true, with_node, ◌&&◌, ◌++◌, ◌||◌, ◌∙◌, ◌∷◌, ◌≡◌}
 
 module _ {N : Type 0} {eq : N → N → Bool} (dec : (a b : N) → Decides (eq a b) (a ≡ b)) where
   pub eq-self : (x : N) → eq x x ≡ true
@@ -21,9 +15,6 @@ module _ {N : Type 0} {eq : N → N → Bool} (dec : (a b : N) → Decides (eq a
   pub fresh-same : (s t : N → Bool) (xs : List N) → ((x : N) → s x ≡ t x) → fresh eq s xs ≡ fresh eq t xs
   fresh-same s t xs h = ap (λ u. fresh eq u xs) (fun_ext h)
 
-  seen_alike : (seen : N → Bool) (x y : N) (m : Bool) → seen x ≡ true → (m || seen y) ≡ ((eq x y || m) || seen y)
-  seen_alike seen x y m e = grind (arith, dec)
-
   -- the new nodes of one list after another
   pub fresh-append : (seen : N → Bool) (xs ys : List N)
       → fresh eq seen (xs ++ ys) ≡ fresh eq seen xs ++ fresh eq (joined (member eq xs) seen) ys
@@ -31,71 +22,41 @@ module _ {N : Type 0} {eq : N → N → Bool} (dec : (a b : N) → Decides (eq a
   fresh-append seen (x ∷ xs) ys =
       by_test (seen x)
       (λ e. rw e (fresh-append seen xs ys ∙ ap (λ l. fresh eq seen xs ++ l)
-      (fresh-same _ _ ys (λ y. seen_alike seen x y (member eq xs y) e))))
+      (fresh-same _ _ ys (λ y. grind (arith, dec)))))
       (λ e. rw e (ap (λ l. x ∷ l)
       (fresh-append (with_node eq seen x) xs ys ∙ ap (λ l. fresh eq (with_node eq seen x) xs ++ l)
-      (fresh-same _ _ ys (λ y. or_turn (eq x y) (member eq xs y) (seen y))))))
+      (fresh-same _ _ ys (λ y. grind arith)))))
 
   -- a new node is in the list, and was not seen
-  member_if_seen : (seen : N → Bool) (x y : N) (m : Bool) → seen x ≡ true
-      → (m && not (seen y)) ≡ ((eq x y || m) && not (seen y))
-  member_if_seen seen x y m e = grind (arith, dec)
-
-  member_if_new : (seen : N → Bool) (x y : N) (m : Bool) → seen x ≡ false
-      → (eq x y || (m && not (eq x y || seen y))) ≡ ((eq x y || m) && not (seen y))
-  member_if_new seen x y m e = grind (arith, dec)
-
   pub member-fresh : (seen : N → Bool) (xs : List N) (y : N)
       → member eq (fresh eq seen xs) y ≡ (member eq xs y && not (seen y))
   member-fresh seen [] y = refl
-  member-fresh seen (x ∷ xs) y =
-      by_test (seen x)
-      (λ e. rw e (member-fresh seen xs y ∙ member_if_seen seen x y (member eq xs y) e))
-      (λ e. rw e (ap (λ b. eq x y || b) (member-fresh (with_node eq seen x) xs y) ∙ member_if_new seen x y
-      (member eq xs y) e))
+  member-fresh seen (x ∷ xs) y = grind (arith, dec, member-fresh seen xs y, member-fresh (with_node eq seen x) xs y)
 
   -- nothing is new where all was seen
   pub fresh_none : (seen : N → Bool) (xs : List N) → ((x : N) → member eq xs x ≡ true → seen x ≡ true)
       → fresh eq seen xs ≡ []
   fresh_none seen [] h = refl
-  fresh_none seen (x ∷ xs) h =
-      let e : seen x ≡ true = h x (or_left (eq x x) (member eq xs x) (eq-self x)) in
-      rw e (fresh_none seen xs (λ y m. h y (or_right' (eq x y) (member eq xs y) m)))
-    where
-      or_right' : (a b : Bool) → b ≡ true → (a || b) ≡ true
-      or_right' a b m = grind arith
+  fresh_none seen (x ∷ xs) h = grind (arith, h x, eq-self x, fresh_none seen xs (λ y m. h y (or_right _ _ m)))
 
   -- dropping seen nodes first changes nothing
   pub fresh-filter : (v seen : N → Bool) (xs : List N) → ((x : N) → v x ≡ true → seen x ≡ true)
       → fresh eq seen (filter (λ x. not (v x)) xs) ≡ fresh eq seen xs
   fresh-filter v seen [] h = refl
   fresh-filter v seen (x ∷ xs) h =
-      by_test (v x)
-      (λ e. rw (e, h x e) (fresh-filter v seen xs h))
-      (λ e. rw e (by_test (seen x)
-      (λ k. rw k (fresh-filter v seen xs h))
-      (λ k. rw k (ap (λ l. x ∷ l)
-      (fresh-filter v (with_node eq seen x) xs (λ y m. or_right (eq x y) (seen y) (h y m)))))))
+      let new = fresh-filter v (with_node eq seen x) xs (λ y m. or_right _ _ (h y m)) in
+      grind (arith, h x, fresh-filter v seen xs h, new)
 
   -- more seen nodes are dropped from the new ones
   pub fresh-joined : (v seen : N → Bool) (xs : List N)
       → fresh eq (joined v seen) xs ≡ filter (λ x. not (v x)) (fresh eq seen xs)
   fresh-joined v seen [] = refl
   fresh-joined v seen (x ∷ xs) =
-      by_test (v x)
-      (λ e. by_test (seen x)
-      (λ k. rw (e, k) (fresh-joined v seen xs))
-      (λ k. rw (e, k) (rw e (fresh-same _ _ xs (λ y. same_v x y e) ∙ fresh-joined v (with_node eq seen x) xs))))
-      (λ e. by_test (seen x)
-      (λ k. rw (e, k) (fresh-joined v seen xs))
-      (λ k. rw (e, k) (rw e
-      (ap (λ l. x ∷ l) (fresh-same _ _ xs (λ y. same_w x y) ∙ fresh-joined v (with_node eq seen x) xs)))))
-    where
-      same_v : (x y : N) → v x ≡ true → (v y || seen y) ≡ (v y || (eq x y || seen y))
-      same_v x y e = grind (arith, dec)
-
-      same_w : (x y : N) → (eq x y || (v y || seen y)) ≡ (v y || (eq x y || seen y))
-      same_w x y = grind arith
+      let same : v x ≡ true → fresh eq (joined v seen) xs ≡ fresh eq (joined v (with_node eq seen x)) xs =
+      λ e. fresh-same _ _ xs (λ y. grind (arith, dec)) in
+      let turn : fresh eq (with_node eq (joined v seen) x) xs ≡ fresh eq (joined v (with_node eq seen x)) xs =
+      fresh-same _ _ xs (λ y. grind arith) in
+      grind (arith, same, turn, fresh-joined v seen xs, fresh-joined v (with_node eq seen x) xs)
 
   -- a search from each node of a list needs each node once
   fresh-flat_map_fresh : (f : N → List N) (seen t : N → Bool) (xs : List N)
@@ -108,16 +69,12 @@ module _ {N : Type 0} {eq : N → N → Bool} (dec : (a b : N) → Decides (eq a
       ∙ sym (fresh-append seen (f x) (flat_map f xs)
       ∙ ap (λ l. l ++ fresh eq (joined (member eq (f x)) seen) (flat_map f xs))
       (fresh_none seen (f x) (λ y m. h x y e m))
-      ∙ fresh-same _ _ (flat_map f xs) (λ y. or_known (member eq (f x) y) (seen y) (h x y e)))))
+      ∙ fresh-same _ _ (flat_map f xs) (λ y. grind (arith, h x y e)))))
       (λ e. rw e (fresh-append seen (f x) (flat_map f (fresh eq (with_node eq t x) xs))
       ∙ ap (λ l. fresh eq seen (f x) ++ l)
-      (fresh-flat_map_fresh f (joined (member eq (f x)) seen) (with_node eq t x) xs (λ z y m k. more x z y m k))
+      (fresh-flat_map_fresh f (joined (member eq (f x)) seen) (with_node eq t x) xs
+      (λ z y m k. grind (arith, dec x z, h z y)))
       ∙ sym (fresh-append seen (f x) (flat_map f xs))))
-    where
-      more : (x z y : N) → (eq x z || t z) ≡ true → member eq (f z) y ≡ true → (member eq (f x) y || seen y) ≡ true
-      more x z y m k = by_test (eq x z)
-          (λ q. let p : x ≡ z = (dec x z).0 q in or_left (member eq (f x) y) (seen y) (rw p k))
-          (λ q. or_right (member eq (f x) y) (seen y) (h z y (rw q at m) k))
 
   pub fresh-flat_map : (f : N → List N) (seen : N → Bool) (xs : List N)
       → fresh eq seen (flat_map f (fresh eq (λ x. false) xs)) ≡ fresh eq seen (flat_map f xs)
@@ -127,12 +84,10 @@ module _ {N : Type 0} {eq : N → N → Bool} (dec : (a b : N) → Decides (eq a
   fresh-left_out : (v seen : N → Bool) (xs : List N)
       → fresh eq seen (filter (λ x. not (v x)) xs) ≡ fresh eq (joined v seen) xs
   fresh-left_out v seen [] = refl
-  fresh-left_out v seen (x ∷ xs) = by_test (v x)
-      (λ e. rw e (fresh-left_out v seen xs))
-      (λ e. by_test (seen x)
-      (λ k. rw (e, k) (fresh-left_out v seen xs))
-      (λ k. rw (e, k) (ap (λ l. x ∷ l)
-      (fresh-left_out v (with_node eq seen x) xs ∙ fresh-same _ _ xs (λ y. or_swap (v y) (eq x y) (seen y))))))
+  fresh-left_out v seen (x ∷ xs) =
+      let turn : fresh eq (joined v (with_node eq seen x)) xs ≡ fresh eq (with_node eq (joined v seen) x) xs =
+      fresh-same _ _ xs (λ y. grind arith) in
+      grind (arith, turn, fresh-left_out v seen xs, fresh-left_out v (with_node eq seen x) xs)
 
   pub filter-fresh : (v seen : N → Bool) (xs : List N)
       → filter (λ x. not (v x)) (fresh eq seen xs) ≡ fresh eq seen (filter (λ x. not (v x)) xs)
@@ -140,60 +95,39 @@ module _ {N : Type 0} {eq : N → N → Bool} (dec : (a b : N) → Decides (eq a
 
   pub member-filter : (p : N → Bool) (xs : List N) (x : N) → member eq (filter p xs) x ≡ true → member eq xs x ≡ true
   member-filter p [] x m = m
-  member-filter p (y ∷ xs) x m = by_test (p y)
-      (λ e. or_more (eq y x) (member eq (filter p xs) x) (member eq xs x) (member-filter p xs x) (rw e at m))
-      (λ e. or_right (eq y x) (member eq xs x) (member-filter p xs x (rw e at m)))
+  member-filter p (y ∷ xs) x m = grind (arith, member-filter p xs x)
 
   pub fresh-fresh : (seen more : N → Bool) (xs : List N) → ((x : N) → more x ≡ true → seen x ≡ true)
       → fresh eq more (fresh eq seen xs) ≡ fresh eq seen xs
   fresh-fresh seen more [] h = refl
-  fresh-fresh seen more (x ∷ xs) h = by_test (seen x)
-      (λ e. rw e (fresh-fresh seen more xs h))
-      (λ e. let k : more x ≡ false = not_more (more x) (seen x) (h x) e in
-      rw (e, k) (ap (λ l. x ∷ l)
-      (fresh-fresh (with_node eq seen x) (with_node eq more x) xs
-      (λ y z. or_more (eq x y) (more y) (seen y) (h y) z))))
-    where
-      not_more : (a b : Bool) → (a ≡ true → b ≡ true) → b ≡ false → a ≡ false
-      not_more a b f e = grind arith
+  fresh-fresh seen more (x ∷ xs) h =
+      let new = fresh-fresh (with_node eq seen x) (with_node eq more x) xs (λ y z. or_more _ _ _ (h y) z) in
+      grind (arith, h x, fresh-fresh seen more xs h, new)
 
   -- two functions that agree at each element
   pub flat_map-agree : {B : Type 0} (f g : N → List B) (xs : List N) → ((x : N) → member eq xs x ≡ true → f x ≡ g x)
       → flat_map f xs ≡ flat_map g xs
   flat_map-agree f g [] h = refl
   flat_map-agree f g (x ∷ xs) h =
-      let e : f x ≡ g x = h x (or_left (eq x x) (member eq xs x) (eq-self x)) in
-      let k : flat_map f xs ≡ flat_map g xs =
-      flat_map-agree f g xs (λ y m. h y (or_right (eq x y) (member eq xs y) m)) in
-      cc
+      grind (arith, h x, eq-self x, flat_map-agree f g xs (λ y m. h y (or_right _ _ m)))
 
   -- an element of a `flat_map`
   pub member-flat_map : (f : N → List N) (xs : List N) (x y : N) → member eq xs x ≡ true → member eq (f x) y ≡ true
       → member eq (flat_map f xs) y ≡ true
   member-flat_map f [] x y m k = absurd (false≢true m)
   member-flat_map f (z ∷ xs) x y m k =
-      rw (member-append (f z) (flat_map f xs) y)
-      (by_test (eq z x)
-      (λ q. let p : z ≡ x = (dec z x).0 q in or_left (member eq (f z) y) (member eq (flat_map f xs) y) (rw p k))
-      (λ q. or_right (member eq (f z) y) (member eq (flat_map f xs) y) (member-flat_map f xs x y (rw q at m) k)))
+      grind (arith, dec z x, member-append (f z) (flat_map f xs) y, member-flat_map f xs x y)
 
   -- the part of a `flat_map` that contains an element
   pub flat_map-member : {P : Type 0} (f : N → List N) (xs : List N) (y : N) → member eq (flat_map f xs) y ≡ true
       → ((x : N) → member eq xs x ≡ true → member eq (f x) y ≡ true → P) → P
   flat_map-member f [] y m k = absurd (false≢true m)
-  flat_map-member f (z ∷ xs) y m k =
-      by_test (member eq (f z) y)
-      (λ q. k z (or_left (eq z z) (member eq xs z) (eq-self z)) q)
-      (λ q. flat_map-member f xs y
-      (rest (member eq (f z) y) (member eq (flat_map f xs) y) q (rw (member-append (f z) (flat_map f xs) y) at m))
-      (λ x n l. k x (or_right (eq z x) (member eq xs x) n) l))
-    where
-      rest : (a b : Bool) → a ≡ false → (a || b) ≡ true → b ≡ true
-      rest a b e h = grind arith
+  flat_map-member f (z ∷ xs) y m k = by_test (member eq (f z) y)
+      (λ q. k z (or_left _ _ (eq-self z)) q)
+      (λ q. flat_map-member f xs y (grind (arith, member-append (f z) (flat_map f xs) y))
+      (λ x n l. k x (or_right _ _ n) l))
 
   pub filter_none : (v : N → Bool) (xs : List N) → ((x : N) → member eq xs x ≡ true → v x ≡ true)
       → filter (λ x. not (v x)) xs ≡ []
   filter_none v [] h = refl
-  filter_none v (x ∷ xs) h =
-      let e : v x ≡ true = h x (or_left (eq x x) (member eq xs x) (eq-self x)) in
-      rw e (filter_none v xs (λ y m. h y (or_right (eq x y) (member eq xs y) m)))
+  filter_none v (x ∷ xs) h = grind (arith, h x, eq-self x, filter_none v xs (λ y m. h y (or_right _ _ m)))

@@ -2,10 +2,7 @@
 -- Main statements: pairs_from, pairs_at.
 -- Used by: the lists of patterns of a walk.
 -- Idea: an index below the length has an element.
-use Rattle.std.specs.List.{AllPairs}
-use Rattle.std.specs.Prelude.{slice_get, slice_index_or}
-use Rattle.std.proofs.Common.{◌≡◌, ◌<◌, ℕ, List, Some, arith, length, subst}
-use Rattle.std.proofs.lemmas.Option.{get_or_from_slice_get, slice_get-get_or, slice_get_within}
+use Rattle.ordered_reach.proofs.Common.{AllPairs, slice_get, slice_index_or, ◌≡◌, ◌<◌, ℕ, List, Some, arith, length, subst, get_or_from_slice_get, slice_get-get_or, slice_get_within}
 
 pub pairs_from : {A : Type 0} (R : A → A → Type 0) (xs : List A)
     → ((i j : ℕ) (x y : A) → i < j → slice_get xs i ≡ Some x → slice_get xs j ≡ Some y → R x y) → AllPairs R xs

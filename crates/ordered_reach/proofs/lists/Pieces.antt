@@ -2,8 +2,7 @@
 -- Main statements: flat_map-flat_map, flat_map-without, before-without, find-without.
 -- Used by: the folders graph and runs, and the crates above.
 -- Idea: induction on the list, by cases on the test of its first element.
-use Rattle.ordered_reach.proofs.Common.{[], ap, arith, before, Bool, by_test, false, false≢true, filter, filter-append, find, flat_map, flat_map-append, fun_ext, length, length-append, List, None, Option, option_map, option_or, refl, Some, true, without, ◌++◌, ◌+◌, ◌∙◌, ◌∷◌, ◌≡◌, ◌≤◌}
-use Rattle.std.specs.List.{list_any}
+use Rattle.ordered_reach.proofs.Common.{◌∙◌, [], ap, arith, before, Bool, by_test, false, false≢true, filter, filter-append, find, flat_map, flat_map-append, fun_ext, length, length-append, List, None, Option, option_map, option_or, refl, Some, true, without, ◌∷◌, ◌≡◌, ◌≤◌, list_any}
 
 pub flat_map-same : {A B : Type 0} (f g : A → List B) (xs : List A) → ((x : A) → f x ≡ g x)
     → flat_map f xs ≡ flat_map g xs
@@ -14,6 +13,11 @@ pub flat_map-flat_map : {A B C : Type 0} (f : A → List B) (g : B → List C) (
 flat_map-flat_map f g [] = refl
 flat_map-flat_map f g (x ∷ xs) = grind (arith, flat_map-append, flat_map-flat_map f g xs)
 
+pub flat_map-thrice : {A B C D : Type 0} (f : A → List B) (g : B → List C) (h : C → List D) (xs : List A)
+    → flat_map h (flat_map g (flat_map f xs)) ≡ flat_map (λ x. flat_map h (flat_map g (f x))) xs
+flat_map-thrice f g h xs =
+    ap (λ l. flat_map h l) (flat_map-flat_map f g xs) ∙ flat_map-flat_map (λ x. flat_map g (f x)) h xs
+
 pub flat_map_none : {A B : Type 0} (f : A → List B) (xs : List A) → ((x : A) → f x ≡ []) → flat_map f xs ≡ []
 flat_map_none f [] h = refl
 flat_map_none f (x ∷ xs) h = rw (h x) (flat_map_none f xs h)
@@ -21,39 +25,26 @@ flat_map_none f (x ∷ xs) h = rw (h x) (flat_map_none f xs h)
 pub filter-flat_map : {A B : Type 0} (p : B → Bool) (f : A → List B) (xs : List A)
     → filter p (flat_map f xs) ≡ flat_map (λ x. filter p (f x)) xs
 filter-flat_map p f [] = refl
-filter-flat_map p f (x ∷ xs) =
-    filter-append p (f x) (flat_map f xs) ∙ ap (λ l. filter p (f x) ++ l) (filter-flat_map p f xs)
+filter-flat_map p f (x ∷ xs) = grind (arith, filter-append, filter-flat_map p f xs)
 
 pub flat_map-without : {A B : Type 0} (f : A → List B) (cap : A → Bool) (xs : List A)
     → ((x : A) → cap x ≡ true → f x ≡ []) → flat_map f (without cap xs) ≡ flat_map f xs
 flat_map-without f cap [] h = refl
-flat_map-without f cap (x ∷ xs) h = by_test (cap x)
-    (λ e. rw (e, h x e) (flat_map-without f cap xs h))
-    (λ e. rw e (ap (λ l. f x ++ l) (flat_map-without f cap xs h)))
+flat_map-without f cap (x ∷ xs) h = grind (arith, h x, flat_map-without f cap xs h)
 
 pub before-without : {A : Type 0} (p cap : A → Bool) (xs : List A) → ((x : A) → p x ≡ true → cap x ≡ false)
     → before p (without cap xs) ≡ without cap (before p xs)
 before-without p cap [] h = refl
-before-without p cap (x ∷ xs) h = by_test (p x)
-    (λ e. rw (e, h x e) (rw e refl))
-    (λ e. by_test (cap x)
-    (λ k. rw (e, k) (before-without p cap xs h))
-    (λ k. rw (e, k) (rw e (ap (λ l. x ∷ l) (before-without p cap xs h)))))
+before-without p cap (x ∷ xs) h = grind (arith, h x, before-without p cap xs h)
 
 pub find-without : {A : Type 0} (p cap : A → Bool) (xs : List A) → ((x : A) → p x ≡ true → cap x ≡ false)
     → find p (without cap xs) ≡ find p xs
 find-without p cap [] h = refl
-find-without p cap (x ∷ xs) h = by_test (p x)
-    (λ e. rw (e, h x e) (rw e refl))
-    (λ e. by_test (cap x)
-    (λ k. rw (e, k) (find-without p cap xs h))
-    (λ k. rw (e, k) (rw e (find-without p cap xs h))))
+find-without p cap (x ∷ xs) h = grind (arith, h x, find-without p cap xs h)
 
 pub without_twice : {A : Type 0} (cap : A → Bool) (xs : List A) → without cap (without cap xs) ≡ without cap xs
 without_twice cap [] = refl
-without_twice cap (x ∷ xs) = by_test (cap x)
-    (λ e. rw e (without_twice cap xs))
-    (λ e. rw e (rw e (ap (λ l. x ∷ l) (without_twice cap xs))))
+without_twice cap (x ∷ xs) = grind (arith, without_twice cap xs)
 
 pub option_or-assoc : {A : Type 0} (a b c : Option A) → option_or (option_or a b) c ≡ option_or a (option_or b c)
 option_or-assoc None b c = refl
@@ -71,17 +62,11 @@ map-option_or f (Some x) b = refl
 pub length-flat_map_le : {A B : Type 0} (f : A → List B) (xs : List A) → ((x : A) → length (f x) ≤ 1)
     → length (flat_map f xs) ≤ length xs
 length-flat_map_le f [] h = omega arith
-length-flat_map_le f (x ∷ xs) h =
-    let a : length (f x ++ flat_map f xs) ≡ length (f x) + length (flat_map f xs) =
-    length-append (f x) (flat_map f xs) in
-    let b : length (f x) ≤ 1 = h x in
-    let c : length (flat_map f xs) ≤ length xs = length-flat_map_le f xs h in omega arith
+length-flat_map_le f (x ∷ xs) h = grind (arith, length-append, h x, length-flat_map_le f xs h)
 
 pub length-before_le : {A : Type 0} (p : A → Bool) (xs : List A) → length (before p xs) ≤ length xs
 length-before_le p [] = omega arith
-length-before_le p (x ∷ xs) = by_test (p x)
-    (λ e. rw e (omega arith))
-    (λ e. let h : length (before p xs) ≤ length xs = length-before_le p xs in rw e (omega arith))
+length-before_le p (x ∷ xs) = grind (arith, length-before_le p xs)
 
 pub list_any_unmet : {A : Type 0} (p : A → Bool) (xs : List A) → ((x : A) → p x ≡ false) → list_any p xs ≡ false
 list_any_unmet p [] h = refl

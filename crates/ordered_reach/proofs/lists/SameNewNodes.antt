@@ -2,7 +2,7 @@
 -- Main statements: Alike, Alike-flat_map, Alike-front.
 -- Used by: RepeatedSearch.
 -- Idea: the relation is kept by concatenation, so it can be shown root by root.
-use Rattle.ordered_reach.proofs.Common.{[], ap, append-nil, arith, Bool, by_test, Decides, false, flat_map, fresh, joined, List, member, not, or_left, or_more, or_right, refl, sym, true, ◌&&◌, ◌++◌, ◌||◌, ◌∙◌, ◌∷◌, ◌≡◌}
+use Rattle.ordered_reach.proofs.Common.{[], ap, append-nil, arith, Bool, Decides, false, flat_map, fresh, joined, List, member, not, or_left, or_more, or_right, refl, sym, true, ◌&&◌, ◌++◌, ◌||◌, ◌∙◌, ◌∷◌, ◌≡◌}
 use Rattle.ordered_reach.proofs.lists.NewNodes.{eq-self, fresh-append, fresh-same, fresh_none, member-fresh}
 
 -- the lists have the same new nodes in the same order, for every seen set that contains c
@@ -15,10 +15,7 @@ module _ {N : Type 0} {eq : N → N → Bool} (dec : (a b : N) → Decides (eq a
   Alike-member c xs ys h x e =
       let p : (member eq xs x && not (c x)) ≡ (member eq ys x && not (c x)) =
       sym (member-fresh dec c xs x) ∙ ap (λ l. member eq l x) (h c (λ y m. m)) ∙ member-fresh dec c ys x in
-      drop_not (member eq xs x) (member eq ys x) (c x) e p
-    where
-      drop_not : (a b c : Bool) → c ≡ false → (a && not c) ≡ (b && not c) → a ≡ b
-      drop_not a b c e p = grind arith
+      grind arith
 
   Alike-append : (c : N → Bool) (xs xs' ys ys' : List N) → Alike eq c xs xs' → Alike eq c ys ys'
       → Alike eq c (xs ++ ys) (xs' ++ ys')
@@ -26,14 +23,9 @@ module _ {N : Type 0} {eq : N → N → Bool} (dec : (a b : N) → Decides (eq a
       fresh-append dec seen xs ys
       ∙ ap (λ l. l ++ fresh eq (joined (member eq xs) seen) ys) (h seen s)
       ∙ ap (λ l. fresh eq seen xs' ++ l)
-      (fresh-same dec _ _ ys (λ x. by_test (c x)
-      (λ e. rw (s x e) (or_true (member eq xs x) (member eq xs' x)))
-      (λ e. ap (λ b. b || seen x) (Alike-member c xs xs' h x e)))
+      (fresh-same dec _ _ ys (λ x. grind (arith, s x, Alike-member c xs xs' h x))
       ∙ k (joined (member eq xs') seen) (λ x m. or_right (member eq xs' x) (seen x) (s x m)))
       ∙ sym (fresh-append dec seen xs' ys')
-    where
-      or_true : (a b : Bool) → (a || true) ≡ (b || true)
-      or_true a b = grind arith
 
   pub Alike-flat_map : (c : N → Bool) (f g : N → List N) (xs : List N)
       → ((x : N) → member eq xs x ≡ true → Alike eq c (f x) (g x)) → Alike eq c (flat_map f xs) (flat_map g xs)

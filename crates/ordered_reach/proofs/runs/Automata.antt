@@ -5,8 +5,8 @@
 use Rattle.ordered_reach.proofs.Common.{[], ap, arith, Bool, by_test, false, find, IsBeginning, IsPath, known_at, LeadsBelow, List, ListsReached, member, nat_eq, None, none_held, ordered, run_edges, Some, suc, sym, true, without, ℕ, ◌==◌, ◌∙◌, ◌∷◌, ◌≡◌, ◌≤◌}
 use Rattle.ordered_reach.proofs.graph.ClosedSets.{IsEnough}
 use Rattle.ordered_reach.proofs.graph.Fuel.{IsEnough-fewer_edges}
-use Rattle.ordered_reach.proofs.runs.ByPosition.{pair_eq}
-use Rattle.ordered_reach.proofs.runs.CutLists.{known_level_is, last_accepting, last_accepting-agree, level_cut, recorded, recorded_cut, recorded_cut_begins, recorded_cut_is, recorded_is}
+use Rattle.ordered_reach.proofs.runs.ByPosition.{IsEnoughForRuns}
+use Rattle.ordered_reach.proofs.runs.CutLists.{IsRepeatable, known_level, level, known_level_is, last_accepting, last_accepting-agree, level_cut, recorded, recorded_cut, recorded_cut_begins, recorded_cut_is, recorded_is}
 use Rattle.ordered_reach.proofs.lists.Pieces.{find-without}
 use Rattle.ordered_reach.proofs.graph.FiniteGraphs.{IsEnough-below, same_decides}
 use Rattle.ordered_reach.proofs.runs.MostPreferred.{IsMostPreferred}
@@ -57,59 +57,62 @@ pub record IsTrueWalk (states m : ℕ) (known eps bytes : ℕ → ℕ → List �
 
 all_runs_enough : (states m : ℕ) (eps bytes : ℕ → ℕ → List ℕ) → ((i : ℕ) → LeadsBelow (eps i) states)
     → ((i s : ℕ) → m ≤ i → bytes i s ≡ [])
-    → (p : ℕ × ℕ) → IsEnough (pair_eq nat_eq) (run_edges eps bytes) (run_fuel (suc states) m) none_held p
+    → (p : ℕ × ℕ) → IsEnoughForRuns nat_eq eps bytes (run_fuel (suc states) m) none_held p
 all_runs_enough states m eps bytes within stop p =
     IsEnough-runs same_decides eps bytes (suc states) m (λ i. IsEnough-below (eps i) states (within i)) stop m p.0 p.1
     (omega arith)
 
 module _ (states m : ℕ) (known eps bytes : ℕ → ℕ → List ℕ) (cap acc : ℕ → Bool) (next : ℕ → ℕ) (start : ℕ)
     (a : IsAutomaton states m known eps bytes cap acc next) where
-  runs_enough : (p : ℕ × ℕ) → IsEnough (pair_eq nat_eq) (run_edges eps bytes) (run_fuel (suc states) m) none_held p
+  runs_enough : (p : ℕ × ℕ) → IsEnoughForRuns nat_eq eps bytes (run_fuel (suc states) m) none_held p
   runs_enough = all_runs_enough states m eps bytes a.within a.ends
 
   known_runs_enough : (k : ℕ) (p : ℕ × ℕ)
-      → IsEnough (pair_eq nat_eq) (run_edges (known_at k known eps) bytes) (run_fuel (suc states) m) none_held p
+      → IsEnoughForRuns nat_eq (known_at k known eps) bytes (run_fuel (suc states) m) none_held p
   known_runs_enough k = all_runs_enough states m (known_at k known eps) bytes
       (λ i s t z. by_test (i == k) (λ e. a.within i s t (a.fewer i s t (rw e at z))) (λ e. a.within i s t (rw e at z)))
       a.ends
 
-  eps_enough : (i s : ℕ) → IsEnough nat_eq (eps i) (run_fuel (suc states) m) none_held s
-  eps_enough i s = IsEnough-at same_decides eps bytes (run_fuel (suc states) m) none_held i s (runs_enough (i, s))
+  repeatable : IsRepeatable nat_eq known eps bytes (run_fuel (suc states) m) cap next
+  repeatable =
+      let eps_enough : (i s : ℕ) → IsEnough nat_eq (eps i) (run_fuel (suc states) m) none_held s =
+      λ i s. IsEnough-at same_decides eps bytes (run_fuel (suc states) m) none_held i s (runs_enough (i, s)) in
+      record {
+        one = a.cap_known;
+        one_more = a.cap_eps;
+        no_byte = a.cap_bytes;
+        fewer = a.fewer;
+        enough = eps_enough;
+        enough_known = λ i s. IsEnough-fewer_edges same_decides (known i) (eps i) (a.fewer i) (run_fuel (suc states) m)
+            none_held s (eps_enough i s);
+      }
 
-  known_enough : (i s : ℕ) → IsEnough nat_eq (known i) (run_fuel (suc states) m) none_held s
-  known_enough i s = IsEnough-fewer_edges same_decides (known i) (eps i) (a.fewer i)
-      (run_fuel (suc states) m) none_held s (eps_enough i s)
-
-  last_accepting_same : last_accepting (working_cut states m known eps bytes cap acc start) acc m 0 ≡ last_accepting
-      (level_cut nat_eq eps bytes acc (run_fuel (suc states) m) start) acc m 0
+  last_accepting_same : last_accepting (working_cut states m known eps bytes cap acc start) acc m 0
+      ≡ last_accepting (level_cut nat_eq eps bytes acc (run_fuel (suc states) m) start) acc m 0
   last_accepting_same =
-      last_accepting-agree (working_cut states m known eps bytes cap acc start)
-      (level_cut nat_eq eps bytes acc (run_fuel (suc states) m) start) acc
-      (λ k. sym (find-without acc cap (working_cut states m known eps bytes cap acc start k) a.cap_acc)
-      ∙ ap (λ l. find acc l)
-      (recorded_cut_is same_decides known eps bytes
-      (run_fuel (suc states) m) start cap next a.cap_known a.cap_eps a.cap_bytes a.fewer eps_enough known_enough
-      acc a.cap_acc k)
-      ∙ find-without acc cap (level_cut nat_eq eps bytes acc (run_fuel (suc states) m) start k) a.cap_acc)
+      let W : ℕ → List ℕ = working_cut states m known eps bytes cap acc start in
+      let L : ℕ → List ℕ = level_cut nat_eq eps bytes acc (run_fuel (suc states) m) start in
+      last_accepting-agree W L acc
+      (λ k. sym (find-without acc cap (W k) a.cap_acc)
+      ∙ ap (λ l. find acc l) (recorded_cut_is same_decides known eps bytes (run_fuel (suc states) m) start cap next
+      repeatable acc a.cap_acc k)
+      ∙ find-without acc cap (L k) a.cap_acc)
       m 0
 
   pub true_walk : IsTrueWalk states m known eps bytes cap acc start
-  true_walk = record {
-    reached = λ k. rw (recorded_is same_decides known eps bytes
-        (run_fuel (suc states) m) start cap next a.cap_known a.cap_eps a.cap_bytes a.fewer eps_enough known_enough k).1
-        (level_lists_reached same_decides eps bytes (run_fuel (suc states) m) start runs_enough cap k);
-    recorded_reached = λ k. rw
-        (recorded_is same_decides known eps bytes
-        (run_fuel (suc states) m) start cap next a.cap_known a.cap_eps a.cap_bytes a.fewer eps_enough known_enough
-        k).0
-        (rw (known_level_is nat_eq known eps bytes (run_fuel (suc states) m) start k)
-        (level_lists_reached same_decides (known_at k known eps) bytes (run_fuel (suc states) m) start
-        (known_runs_enough k) cap k));
-    preferred = λ p e. last_is_preferred same_decides eps bytes (run_fuel (suc states) m) start runs_enough acc m
-        (λ x. a.ends m x (omega arith)) p (sym last_accepting_same ∙ e);
-    none = λ e cs q h. last_none same_decides eps bytes (run_fuel (suc states) m) start runs_enough acc m
-        (λ x. a.ends m x (omega arith)) (sym last_accepting_same ∙ e) cs q h;
-    cut_begins = λ k. recorded_cut_begins same_decides known eps bytes
-        (run_fuel (suc states) m) start cap next a.cap_known a.cap_eps a.cap_bytes a.fewer eps_enough known_enough acc
-        a.cap_acc k;
-  }
+  true_walk =
+      let n : ℕ = run_fuel (suc states) m in
+      let is : (k : ℕ) → (recorded nat_eq known eps bytes cap n start k
+      ≡ without cap (known_level nat_eq known eps bytes n start k))
+      × (without cap (working states m known eps bytes cap start k) ≡ without cap (level nat_eq eps bytes n start k)) =
+      recorded_is same_decides known eps bytes n start cap next repeatable in
+      let stop : (x : ℕ) → bytes m x ≡ [] = λ x. a.ends m x (omega arith) in
+      record {
+        reached = λ k. rw (is k).1 (level_lists_reached same_decides eps bytes n start runs_enough cap k);
+        recorded_reached = λ k. rw (is k).0 (rw (known_level_is nat_eq known eps bytes n start k)
+            (level_lists_reached same_decides (known_at k known eps) bytes n start (known_runs_enough k) cap k));
+        preferred = λ p e.
+            last_is_preferred same_decides eps bytes n start runs_enough acc m stop p (sym last_accepting_same ∙ e);
+        none = λ e. last_none same_decides eps bytes n start runs_enough acc m stop (sym last_accepting_same ∙ e);
+        cut_begins = recorded_cut_begins same_decides known eps bytes n start cap next repeatable acc a.cap_acc;
+      }

@@ -1,12 +1,12 @@
 -- The lists that a walk over positions records, compared with the search over whole runs.
--- Main statements: level, recorded, level_cut, recorded_is, recorded_cut_is.
+-- Main statements: level, recorded, level_cut, IsRepeatable, recorded_is, recorded_cut_is.
 -- Used by: RunLists, Automata.
 -- Idea: a list that is cut at its first accepting node loses only nodes that are less preferred.
 use Rattle.ordered_reach.proofs.Common.{[], ap, arith, before, Bool, Decides, eq-eqb, false, find, flat_map, fun_ext, IsBeginning, known_at, List, member, ne_eqb, none_held, Option, option_map, option_or, ordered, placed, refl, run_edges, suc, sym, true, without, zero, ℕ, ◌+◌, ◌==◌, ◌∙◌, ◌∷◌, ◌≡◌, ◌≤◌}
 use Rattle.ordered_reach.proofs.lists.Prefixes.{Beginning-before, Beginning-flat_map, Beginning-ordered, Beginning-self, Beginning-without}
 use Rattle.ordered_reach.proofs.graph.ClosedSets.{IsEnough}
 use Rattle.ordered_reach.proofs.runs.LastAccepting.{best, best_step}
-use Rattle.ordered_reach.proofs.runs.ByPosition.{pair_eq, states_at, states_at-ordered_first, states_at-ordered_next}
+use Rattle.ordered_reach.proofs.runs.ByPosition.{IsEnoughForRuns, pair_eq, states_at, states_at-ordered_first, states_at-ordered_next}
 use Rattle.ordered_reach.proofs.lists.Pieces.{before-without, flat_map-without, flat_map_none}
 use Rattle.ordered_reach.proofs.graph.RepeatedSearch.{ordered_redone_without}
 
@@ -54,114 +54,96 @@ last_accepting lists acc zero k = option_map (placed k) (find acc (lists k))
 last_accepting lists acc (suc d) k =
     option_or (last_accepting lists acc d (suc k)) (option_map (placed k) (find acc (lists k)))
 
-module _ {N : Type 0} {eq : N → N → Bool} (dec : (a b : N) → Decides (eq a b) (a ≡ b)) where
-  module _ (known eps bytes : ℕ → N → List N) (n : ℕ) (start : N) where
-    -- the states at a position are those that whole runs reach there, in their order
-    pub level_is : (enough : (p : ℕ × N) → IsEnough (pair_eq eq) (run_edges eps bytes) n none_held p) → (k : ℕ)
-        → states_at k (ordered (pair_eq eq) (run_edges eps bytes) n none_held ((0, start) ∷ []))
-        ≡ level eq eps bytes n start k
-    level_is enough zero = states_at-ordered_first dec eps bytes n enough 0 (start ∷ [])
-    level_is enough (suc k) = states_at-ordered_next dec eps bytes n enough 0 k (start ∷ []) (omega arith)
-        ∙ ap (λ l. ordered eq (eps (suc k)) n none_held (flat_map (bytes k) l)) (level_is enough k)
+-- the search may be repeated from what was recorded: the nodes of cap have one epsilon edge and no
+-- byte step, the look-behind opens no more edges, and the fuel is enough
+pub record IsRepeatable {N : Type 0} (eq : N → N → Bool) (known eps bytes : ℕ → N → List N) (n : ℕ) (cap : N → Bool)
+    (next : N → N) : Type 0 where
+  pub one : (i : ℕ) (x : N) → cap x ≡ true → known i x ≡ next x ∷ []
+  pub one_more : (i : ℕ) (x : N) → cap x ≡ true → eps i x ≡ next x ∷ []
+  pub no_byte : (i : ℕ) (x : N) → cap x ≡ true → bytes i x ≡ []
+  pub fewer : (i : ℕ) (x y : N) → member eq (known i x) y ≡ true → member eq (eps i x) y ≡ true
+  pub enough : (i : ℕ) (x : N) → IsEnough eq (eps i) n none_held x
+  pub enough_known : (i : ℕ) (x : N) → IsEnough eq (known i) n none_held x
 
-    module _ (cap : N → Bool) (next : N → N)
-        (one : (i : ℕ) (x : N) → cap x ≡ true → known i x ≡ next x ∷ [])
-        (one_more : (i : ℕ) (x : N) → cap x ≡ true → eps i x ≡ next x ∷ [])
-        (no_byte : (i : ℕ) (x : N) → cap x ≡ true → bytes i x ≡ [])
-        (sub : (i : ℕ) (x y : N) → member eq (known i x) y ≡ true → member eq (eps i x) y ≡ true)
-        (enough : (i : ℕ) (x : N) → IsEnough eq (eps i) n none_held x)
-        (enough_known : (i : ℕ) (x : N) → IsEnough eq (known i) n none_held x) where
-      redone : (i : ℕ) (roots : List N)
-          → without cap (ordered eq (eps i) n none_held (without cap (ordered eq (known i) n none_held roots)))
-          ≡ without cap (ordered eq (eps i) n none_held roots)
-      redone i roots = ordered_redone_without dec (known i) (eps i) (sub i) n cap next (one i) (one_more i) n roots
-          (enough_known i) (enough i)
+module _ {N : Type 0} {eq : N → N → Bool} (dec : (a b : N) → Decides (eq a b) (a ≡ b))
+    (known eps bytes : ℕ → N → List N) (n : ℕ) (start : N) where
+  -- the states at a position are those that whole runs reach there, in their order
+  pub level_is : (enough : (p : ℕ × N) → IsEnoughForRuns eq eps bytes n none_held p) → (k : ℕ)
+      → states_at k (ordered (pair_eq eq) (run_edges eps bytes) n none_held ((0, start) ∷ []))
+      ≡ level eq eps bytes n start k
+  level_is enough zero = states_at-ordered_first dec eps bytes n enough 0 (start ∷ [])
+  level_is enough (suc k) = states_at-ordered_next dec eps bytes n enough 0 k (start ∷ []) (omega arith)
+      ∙ ap (λ l. ordered eq (eps (suc k)) n none_held (flat_map (bytes k) l)) (level_is enough k)
 
-      -- the recorded list is the search under the look-behind, and the search repeated from it is
-      -- the search under the true assertions
-      pub recorded_is : (k : ℕ)
-          → (recorded eq known eps bytes cap n start k ≡ without cap (known_level eq known eps bytes n start k))
-          × (without cap (ordered eq (eps k) n none_held (recorded eq known eps bytes cap n start k)) ≡ without cap
-          (level eq eps bytes n start k))
-      recorded_is zero = (refl, redone 0 (start ∷ []))
-      recorded_is (suc k) =
-          let ih : without cap (ordered eq (eps k) n none_held (recorded eq known eps bytes cap n start k))
-          ≡ without cap (level eq eps bytes n start k) = (recorded_is k).1 in
-          let targets : flat_map (bytes k) (ordered eq (eps k) n none_held (recorded eq known eps bytes cap n start k))
-          ≡ flat_map (bytes k) (level eq eps bytes n start k) =
-          sym (flat_map-without (bytes k) cap
-          (ordered eq (eps k) n none_held (recorded eq known eps bytes cap n start k)) (no_byte k))
-          ∙ ap (λ l. flat_map (bytes k) l) ih
-          ∙ flat_map-without (bytes k) cap (level eq eps bytes n start k) (no_byte k) in
-          let first_part : recorded eq known eps bytes cap n start (suc k) ≡ without cap
-          (known_level eq known eps bytes n start (suc k)) =
-          ap (λ l. without cap (ordered eq (known (suc k)) n none_held l)) targets in (
-            first_part,
-            ap (λ l. without cap (ordered eq (eps (suc k)) n none_held l)) first_part ∙ redone (suc k)
-                (flat_map (bytes k) (level eq eps bytes n start k)),
-          )
+  module _ (cap : N → Bool) (next : N → N) (is : IsRepeatable eq known eps bytes n cap next) where
+    redone : (i : ℕ) (roots : List N)
+        → without cap (ordered eq (eps i) n none_held (without cap (ordered eq (known i) n none_held roots)))
+        ≡ without cap (ordered eq (eps i) n none_held roots)
+    redone i roots = ordered_redone_without dec (known i) (eps i) (is.fewer i) n cap next (is.one i) (is.one_more i) n
+        roots (is.enough_known i) (is.enough i)
 
-      module _ (acc : N → Bool) (not_cap : (x : N) → acc x ≡ true → cap x ≡ false) where
-        pub recorded_cut_is : (k : ℕ)
-            → without cap (ordered eq (eps k) n none_held (recorded_cut eq known eps bytes cap acc n start k))
-            ≡ without cap (level_cut eq eps bytes acc n start k)
-        recorded_cut_is zero = redone 0 (start ∷ [])
-        recorded_cut_is (suc k) =
-            let W : List N = ordered eq (eps k) n none_held (recorded_cut eq known eps bytes cap acc n start k) in
-            let L : List N = level_cut eq eps bytes acc n start k in
-            let cut : (l : List N)
-            → flat_map (bytes k) (before acc l) ≡ flat_map (bytes k) (before acc (without cap l)) =
-            λ l. sym (ap (λ z. flat_map (bytes k) z) (before-without acc cap l not_cap) ∙ flat_map-without (bytes k) cap
-            (before acc l) (no_byte k)) in
-            let targets : flat_map (bytes k) (before acc W) ≡ flat_map (bytes k) (before acc L) =
-            cut W ∙ ap (λ l. flat_map (bytes k) (before acc l)) (recorded_cut_is k) ∙ sym (cut L) in
-            ap (λ l. without cap (ordered eq (eps (suc k)) n none_held
-            (without cap (ordered eq (known (suc k)) n none_held l)))) targets
-            ∙ redone (suc k) (flat_map (bytes k) (before acc L))
+    -- the recorded list is the search under the look-behind, and the search repeated from it is
+    -- the search under the true assertions
+    pub recorded_is : (k : ℕ)
+        → (recorded eq known eps bytes cap n start k ≡ without cap (known_level eq known eps bytes n start k))
+        × (without cap (ordered eq (eps k) n none_held (recorded eq known eps bytes cap n start k))
+        ≡ without cap (level eq eps bytes n start k))
+    recorded_is zero = (refl, redone 0 (start ∷ []))
+    recorded_is (suc k) =
+        let W : List N = ordered eq (eps k) n none_held (recorded eq known eps bytes cap n start k) in
+        let L : List N = level eq eps bytes n start k in
+        let targets : flat_map (bytes k) W ≡ flat_map (bytes k) L =
+        sym (flat_map-without (bytes k) cap W (is.no_byte k)) ∙ ap (λ l. flat_map (bytes k) l) (recorded_is k).1
+        ∙ flat_map-without (bytes k) cap L (is.no_byte k) in
+        (rw targets refl, rw targets (redone (suc k) (flat_map (bytes k) L)))
 
-        -- the cut lists are prefixes of the others
-        pub recorded_cut_begins : (k : ℕ)
-            → IsBeginning (recorded_cut eq known eps bytes cap acc n start k)
-            (recorded eq known eps bytes cap n start k)
-        recorded_cut_begins zero = Beginning-self _
-        recorded_cut_begins (suc k) =
-            Beginning-without cap _ _
-            (Beginning-ordered dec (known (suc k)) n none_held _ _ (Beginning-flat_map (bytes k) _ _
-            (Beginning-before acc _ _
-            (Beginning-ordered dec (eps k) n none_held (recorded_cut eq known eps bytes cap acc n start k)
-            (recorded eq known eps bytes cap n start k) (recorded_cut_begins k)))))
+    module _ (acc : N → Bool) (not_cap : (x : N) → acc x ≡ true → cap x ≡ false) where
+      pub recorded_cut_is : (k : ℕ)
+          → without cap (ordered eq (eps k) n none_held (recorded_cut eq known eps bytes cap acc n start k))
+          ≡ without cap (level_cut eq eps bytes acc n start k)
+      recorded_cut_is zero = redone 0 (start ∷ [])
+      recorded_cut_is (suc k) =
+          let W : List N = ordered eq (eps k) n none_held (recorded_cut eq known eps bytes cap acc n start k) in
+          let L : List N = level_cut eq eps bytes acc n start k in
+          let cut : (l : List N) → flat_map (bytes k) (before acc l) ≡ flat_map (bytes k) (before acc (without cap l)) =
+          λ l. sym (ap (λ z. flat_map (bytes k) z) (before-without acc cap l not_cap)
+          ∙ flat_map-without (bytes k) cap (before acc l) (is.no_byte k)) in
+          let targets : flat_map (bytes k) (before acc W) ≡ flat_map (bytes k) (before acc L) =
+          cut W ∙ ap (λ l. flat_map (bytes k) (before acc l)) (recorded_cut_is k) ∙ sym (cut L) in
+          rw targets (redone (suc k) (flat_map (bytes k) (before acc L)))
 
-    -- the first accepting node of all runs is the last accepting state of the cut lists
-    pub best_is_last : (acc : N → Bool)
-        (enough : (p : ℕ × N) → IsEnough (pair_eq eq) (run_edges eps bytes) n none_held p) (m : ℕ)
-        → ((x : N) → bytes m x ≡ [])
-        → (d k : ℕ) → k + d ≡ m → (rs : List N)
-        → ordered eq (eps k) n none_held rs ≡ level_cut eq eps bytes acc n start k
-        → best eq eps bytes acc n k rs ≡ last_accepting (level_cut eq eps bytes acc n start) acc d k
-    best_is_last acc enough m stop zero k e rs q =
-        let at_end : k ≡ m = omega arith in
-        best_step dec eps bytes acc n enough k rs
-        ∙ ap (λ l. option_or (best eq eps bytes acc n (suc k) (flat_map (bytes k) (before acc l)))
-        (option_map (placed k) (find acc l))) q
-        ∙ ap (λ l. option_or (best eq eps bytes acc n (suc k) l)
-        (option_map (placed k) (find acc (level_cut eq eps bytes acc n start k))))
-        (flat_map_none (bytes k) (before acc (level_cut eq eps bytes acc n start k)) (λ x. rw at_end (stop x)))
-    best_is_last acc enough m stop (suc d) k e rs q =
-        best_step dec eps bytes acc n enough k rs
-        ∙ ap (λ l. option_or (best eq eps bytes acc n (suc k) (flat_map (bytes k) (before acc l)))
-        (option_map (placed k) (find acc l))) q
-        ∙ ap (λ o. option_or o (option_map (placed k) (find acc (level_cut eq eps bytes acc n start k))))
-        (best_is_last acc enough m stop d (suc k) (omega arith)
-        (flat_map (bytes k) (before acc (level_cut eq eps bytes acc n start k))) refl)
+      -- the cut lists are prefixes of the others
+      pub recorded_cut_begins : (k : ℕ)
+          → IsBeginning (recorded_cut eq known eps bytes cap acc n start k)
+          (recorded eq known eps bytes cap n start k)
+      recorded_cut_begins zero = Beginning-self _
+      recorded_cut_begins (suc k) =
+          Beginning-without cap _ _ (Beginning-ordered dec (known (suc k)) n none_held _ _
+          (Beginning-flat_map (bytes k) _ _ (Beginning-before acc _ _
+          (Beginning-ordered dec (eps k) n none_held _ _ (recorded_cut_begins k)))))
+
+  -- the first accepting node of all runs is the last accepting state of the cut lists
+  pub best_is_last : (acc : N → Bool) (enough : (p : ℕ × N) → IsEnoughForRuns eq eps bytes n none_held p) (m : ℕ)
+      → ((x : N) → bytes m x ≡ [])
+      → (d k : ℕ) → k + d ≡ m → (rs : List N)
+      → ordered eq (eps k) n none_held rs ≡ level_cut eq eps bytes acc n start k
+      → best eq eps bytes acc n k rs ≡ last_accepting (level_cut eq eps bytes acc n start) acc d k
+  best_is_last acc enough m stop zero k e rs q =
+      let at_end : k ≡ m = omega arith in
+      rw (best_step dec eps bytes acc n enough k rs, q) (rw (flat_map_none (bytes k)
+      (before acc (level_cut eq eps bytes acc n start k)) (λ x. rw at_end (stop x))) refl)
+  best_is_last acc enough m stop (suc d) k e rs q =
+      rw (best_step dec eps bytes acc n enough k rs, q)
+      (ap (λ o. option_or o (option_map (placed k) (find acc (level_cut eq eps bytes acc n start k))))
+      (best_is_last acc enough m stop d (suc k) (omega arith)
+      (flat_map (bytes k) (before acc (level_cut eq eps bytes acc n start k))) refl))
 
 -- a level depends only on the edges up to its position
 level-agree : {N : Type 0} (eq : N → N → Bool) (eps more bytes : ℕ → N → List N) (n : ℕ) (start : N) (k : ℕ)
     → ((j : ℕ) → j ≤ k → eps j ≡ more j) → level eq eps bytes n start k ≡ level eq more bytes n start k
 level-agree eq eps more bytes n start zero h = ap (λ e. ordered eq e n none_held (start ∷ [])) (h 0 (omega arith))
 level-agree eq eps more bytes n start (suc k) h =
-    ap (λ e. ordered eq e n none_held (flat_map (bytes k) (level eq eps bytes n start k))) (h (suc k) (omega arith))
-    ∙ ap (λ l. ordered eq (more (suc k)) n none_held (flat_map (bytes k) l))
-    (level-agree eq eps more bytes n start k (λ j l. h j (omega arith)))
+    rw (h (suc k) (omega arith), level-agree eq eps more bytes n start k (λ j l. h j (omega arith))) refl
 
 pub known_level_is : {N : Type 0} (eq : N → N → Bool) (known eps bytes : ℕ → N → List N) (n : ℕ) (start : N) (k : ℕ)
     → known_level eq known eps bytes n start k ≡ level eq (known_at k known eps) bytes n start k

@@ -3,7 +3,7 @@
 -- Used by: RunLists.
 -- Idea: the paths are enumerated in order, so the first that accepts is the least.
 use Rattle.ordered_reach.proofs.Common.{[], ap, Before, Bool, by_test, Decides, ends, false, false≢true, find, flat_map, inl, inr, IsLeastPath, IsLeastRun, IsPath, IsPathFrom, List, map, None, none_held, refl, Some, subst, suc, sym, true, zero, ℕ, ◌∙◌, ◌∷◌, ◌≡◌, ◌⊎◌}
-use Rattle.ordered_reach.proofs.lists.Elements.{In, In_cases, In_head, In_tail}
+use Rattle.ordered_reach.proofs.lists.Elements.{In, In_cases, In_head, In_none, In_tail}
 use Rattle.ordered_reach.proofs.graph.ClosedSets.{IsEnough}
 use Rattle.ordered_reach.proofs.graph.LeastPaths.{all_ends, all_in_order, all_paths, listed_of, path_of}
 use Rattle.ordered_reach.proofs.graph.PathLists.{Ascending}
@@ -50,28 +50,23 @@ module _ {N : Type 0} {eq : N → N → Bool} (dec : (a b : N) → Decides (eq a
         p.0,
         rw (← z) (In_head p ps),
         rw (← z) q,
-        λ l t h k. In_cases (l, t) p ps h (λ d. inl (sym (ap (λ x. x.0) d)))
-            (λ m. inr (a.0 (l, t) m)),
+        λ l t h k. In_cases (l, t) p ps h (λ d. inl (sym (ap (λ x. x.0) d))) (λ m. inr (a.0 (l, t) m)),
       ))
-      (λ q. let r : (k : List ℕ) × In (k, s) ps × (acc s ≡ true) ×
-      ((l : List ℕ) (t : N) → In (l, t) ps → acc t ≡ true → (k ≡ l) ⊎ Before k l)
-      = first_least acc ps a.1 s (rw q at e) in (
+      (λ q. let r = first_least acc ps a.1 s (rw q at e) in (
         r.0,
         In_tail (r.0, s) p ps r.1,
         r.2,
         λ l t h k. In_cases (l, t) p ps h
-            (λ d. let u : t ≡ p.1 = ap (λ x. x.1) d in absurd (false≢true (sym q ∙ (rw u at k))))
+            (λ d. absurd (false≢true (sym q ∙ ap acc (sym (ap (λ x. x.1) d)) ∙ k)))
             (λ m. r.3 l t m k),
       ))
 
   first_none : (acc : N → Bool) (ps : List (List ℕ × N)) → find acc (map (λ p. p.1) ps) ≡ None → (l : List ℕ) (t : N)
       → In (l, t) ps → acc t ≡ false
-  first_none acc [] e l t h = absurd (let k : Some (l, t) ≡ None = sym h.1 in cc)
+  first_none acc [] e l t h = In_none (l, t) h
   first_none acc (p ∷ ps) e l t h = by_test (acc p.1)
-      (λ q. let w : Some p.1 ≡ None = rw q at e in absurd (cc))
-      (λ q. In_cases (l, t) p ps h
-      (λ d. let u : t ≡ p.1 = ap (λ x. x.1) d in rw u q)
-      (λ m. first_none acc ps (rw q at e) l t m))
+      (λ q. absurd (let w : Some p.1 ≡ None = rw q at e in cc))
+      (λ q. In_cases (l, t) p ps h (λ d. ap acc (ap (λ x. x.1) d) ∙ q) (λ m. first_none acc ps (rw q at e) l t m))
 
   module _ (edges : N → List N) (n : ℕ) (start : N) (a : (r : N) → IsEnough eq edges n none_held r)
       (acc : N → Bool) where
@@ -79,12 +74,8 @@ module _ {N : Type 0} {eq : N → N → Bool} (dec : (a b : N) → Decides (eq a
     pub first_is_preferred : (s : N) → find acc (flat_map (ends eq edges n none_held) (start ∷ [])) ≡ Some s
         → IsMostPreferred edges start acc s
     first_is_preferred s e =
-        let w : find acc (map (λ p. p.1) (all_paths dec edges n [] (start ∷ []) a)) ≡ Some s =
-        ap (λ l. find acc l) (all_ends dec edges n [] (start ∷ []) a) ∙ e in
-        let r : (k : List ℕ) × In (k, s) (all_paths dec edges n [] (start ∷ []) a) × (acc s ≡ true) ×
-        ((l : List ℕ) (t : N) → In (l, t) (all_paths dec edges n [] (start ∷ []) a) → acc t ≡ true
-        → (k ≡ l) ⊎ Before k l)
-        = first_least acc (all_paths dec edges n [] (start ∷ []) a) (all_in_order dec edges n [] (start ∷ []) a) s w in
+        let r = first_least acc (all_paths dec edges n [] (start ∷ []) a) (all_in_order dec edges n [] (start ∷ []) a) s
+        (ap (λ l. find acc l) (all_ends dec edges n [] (start ∷ []) a) ∙ e) in
         run_of edges start r.0 s (path_of dec edges n [] (start ∷ []) a r.0 s r.1) (λ cs z p. record {
           choices = cs;
           run = p;
@@ -98,7 +89,6 @@ module _ {N : Type 0} {eq : N → N → Bool} (dec : (a b : N) → Decides (eq a
     pub first_none_preferred : find acc (flat_map (ends eq edges n none_held) (start ∷ [])) ≡ None
         → (ds : List ℕ) (t : N) → IsPath edges [] start ds t → acc t ≡ false
     first_none_preferred e ds t p =
-        let w : find acc (map (λ p. p.1) (all_paths dec edges n [] (start ∷ []) a)) ≡ None =
-        ap (λ l. find acc l) (all_ends dec edges n [] (start ∷ []) a) ∙ e in
-        first_none acc (all_paths dec edges n [] (start ∷ []) a) w (0 ∷ ds) t
+        first_none acc (all_paths dec edges n [] (start ∷ []) a)
+        (ap (λ l. find acc l) (all_ends dec edges n [] (start ∷ []) a) ∙ e) (0 ∷ ds) t
         (listed_of dec edges n [] (start ∷ []) a (0 ∷ ds) t (start, refl, p))

@@ -2,11 +2,10 @@
 -- Main statements: run_fuel, IsEnough-runs, IsEnough-at.
 -- Used by: Automata.
 -- Idea: a run is at each position for at most the fuel there.
-use Rattle.ordered_reach.proofs.Common.{[], arith, Bool, by_test, Decides, eq-eqb, eqb, false, false≢true, fun_ext, List, map, member, none_held, or_left, or_right, placed, refl, run_edges, subst, suc, sym, true, with_node, zero, ℕ, ◌&&◌, ◌++◌, ◌+◌, ◌||◌, ◌∙◌, ◌∷◌, ◌≡◌, ◌≤◌}
-use Rattle.ordered_reach.proofs.graph.ClosedSets.{IsEnough, IsEnough-more_held}
+use Rattle.ordered_reach.proofs.Common.{[], arith, Bool, by_test, Decides, eq-eqb, false≢true, fun_ext, List, map, member, none_held, placed, refl, run_edges, subst, suc, sym, true, with_node, zero, ℕ, ◌+◌, ◌∙◌, ◌∷◌, ◌≡◌, ◌≤◌}
+use Rattle.ordered_reach.proofs.graph.ClosedSets.{IsEnough, IsEnough-from_none}
 use Rattle.ordered_reach.proofs.graph.Fuel.{IsEnough-held, IsEnough-plus}
-use Rattle.ordered_reach.proofs.runs.ByPosition.{Decides-pair_eq, eps_in, pair_eq, placed_at}
-use Rattle.ordered_reach.proofs.lists.NewNodes.{member-append}
+use Rattle.ordered_reach.proofs.runs.ByPosition.{Decides-pair_eq, IsEnoughForRuns, eps_in, member-run_edges, pair_eq, placed_at}
 
 -- fuel for all runs: the same amount at each position up to the last
 abbrev pub run_fuel : ℕ → ℕ → ℕ
@@ -21,73 +20,53 @@ module _ {N : Type 0} {eq : N → N → Bool} (dec : (a b : N) → Decides (eq a
   module _ (eps bytes : ℕ → N → List N) where
     -- fuel for the runs is fuel at each position
     pub IsEnough-at : (n : ℕ) (held : ℕ × N → Bool) (i : ℕ) (s : N)
-        → IsEnough (pair_eq eq) (run_edges eps bytes) n held (i, s) → IsEnough eq (eps i) n (λ t. held (i, t)) s
+        → IsEnoughForRuns eq eps bytes n held (i, s) → IsEnough eq (eps i) n (λ t. held (i, t)) s
     IsEnough-at zero held i s a = a
-    IsEnough-at (suc n) held i s a = λ e t k.
-        let r : IsEnough eq (eps i) n (λ u. with_node (pair_eq eq) held (i, s) (i, u)) t =
-        IsEnough-at n (with_node (pair_eq eq) held (i, s)) i t (a e (i, t) (eps_in dec eps bytes i s t k)) in
-        rw (with_node-at held i s) at r
+    IsEnough-at (suc n) held i s a = λ e t k. rw (with_node-at held i s) at
+        (IsEnough-at n (with_node (pair_eq eq) held (i, s)) i t (a e (i, t) (eps_in dec eps bytes i s t k)))
 
     -- an edge of a run is over a byte or stays at the position
     run_edge_cases : {P : Type 0} (i : ℕ) (s : N) (q : ℕ × N)
         → member (pair_eq eq) (run_edges eps bytes (i, s)) q ≡ true
         → ((t : N) → member eq (bytes i s) t ≡ true → q ≡ (suc i, t) → P)
         → ((t : N) → member eq (eps i s) t ≡ true → q ≡ (i, t) → P) → P
-    run_edge_cases {P} i s q m f g =
-        let e : member (pair_eq eq) (map (placed (suc i)) (bytes i s) ++ map (placed i) (eps i s)) q ≡
-        (member (pair_eq eq) (map (placed (suc i)) (bytes i s)) q || member (pair_eq eq)
-        (map (placed i) (eps i s)) q)
-        = member-append (Decides-pair_eq dec) (map (placed (suc i)) (bytes i s)) (map (placed i) (eps i s)) q in
-        by_test (member (pair_eq eq) (map (placed (suc i)) (bytes i s)) q)
-        (λ z. f q.1 (from_map (suc i) (bytes i s) z)
-        (let w : suc i ≡ q.0 = placed_at dec eps bytes (suc i) (bytes i s) q z in λ j. (sym w j, q.1)))
-        (λ z. let k : member (pair_eq eq) (map (placed i) (eps i s)) q ≡ true = rw z at (sym e ∙ m) in
-        g q.1 (from_map i (eps i s) k)
-        (let w : i ≡ q.0 = placed_at dec eps bytes i (eps i s) q k in λ j. (sym w j, q.1)))
+    run_edge_cases {P} i s q m f g = by_test (member (pair_eq eq) (map (placed (suc i)) (bytes i s)) q)
+        (λ z. let w : suc i ≡ q.0 = placed_at dec eps bytes (suc i) (bytes i s) q z in
+        f q.1 (from_map (suc i) (bytes i s) z) (λ j. (sym w j, q.1)))
+        (λ z. let k : member (pair_eq eq) (map (placed i) (eps i s)) q ≡ true =
+        rw z at (sym (member-run_edges dec eps bytes i s q) ∙ m) in
+        let w : i ≡ q.0 = placed_at dec eps bytes i (eps i s) q k in
+        g q.1 (from_map i (eps i s) k) (λ j. (sym w j, q.1)))
       where
         from_map : (j : ℕ) (xs : List N) → member (pair_eq eq) (map (placed j) xs) q ≡ true → member eq xs q.1 ≡ true
         from_map j [] z = z
-        from_map j (x ∷ xs) z = by_test (eq x q.1)
-            (λ e. or_left (eq x q.1) (member eq xs q.1) e)
-            (λ e. or_right (eq x q.1) (member eq xs q.1)
-            (from_map j xs (drop_left (eqb j q.0) (eq x q.1) (member (pair_eq eq) (map (placed j) xs) q) e z)))
-          where
-            drop_left : (a b c : Bool) → b ≡ false → ((a && b) || c) ≡ true → c ≡ true
-            drop_left a b c e h = grind arith
+        from_map j (x ∷ xs) z = grind (arith, from_map j xs)
 
     -- the fuel at a position, and then that from the next position on
     IsEnough-next : (a b : ℕ) (held : ℕ × N → Bool) (i : ℕ) (s : N) → IsEnough eq (eps i) a (λ t. held (i, t)) s
-        → ((t : N) → IsEnough (pair_eq eq) (run_edges eps bytes) b none_held (suc i, t))
-        → IsEnough (pair_eq eq) (run_edges eps bytes) (a + b) held (i, s)
+        → ((t : N) → IsEnoughForRuns eq eps bytes b none_held (suc i, t))
+        → IsEnoughForRuns eq eps bytes (a + b) held (i, s)
     IsEnough-next zero b held i s h f = IsEnough-held (Decides-pair_eq dec) (run_edges eps bytes) (0 + b) held (i, s) h
     IsEnough-next (suc a) b held i s h f =
         let z : suc a + b ≡ suc (a + b) = omega arith in
-        subst (λ j. IsEnough (pair_eq eq) (run_edges eps bytes) j held (i, s)) (sym z)
-        (λ e q m. run_edge_cases i s q m
-        (λ t k w. subst (λ p. IsEnough (pair_eq eq) (run_edges eps bytes) (a + b)
-        (with_node (pair_eq eq) held (i, s)) p) (sym w)
-        (IsEnough-plus (Decides-pair_eq dec) (run_edges eps bytes) a b (with_node (pair_eq eq) held (i, s)) (suc i, t)
-        (IsEnough-more_held (Decides-pair_eq dec) (run_edges eps bytes) b none_held (with_node (pair_eq eq) held (i, s))
-        (suc i, t) (λ y w. absurd (false≢true w)) (f t))))
-        (λ t k w. subst (λ p. IsEnough (pair_eq eq) (run_edges eps bytes) (a + b)
-        (with_node (pair_eq eq) held (i, s)) p) (sym w)
-        (IsEnough-next a b (with_node (pair_eq eq) held (i, s)) i t (rw (with_node-at held i s) (h e t k)) f)))
+        let more : ℕ × N → Bool = with_node (pair_eq eq) held (i, s) in
+        subst (λ j. IsEnoughForRuns eq eps bytes j held (i, s)) (sym z) (λ e q m. run_edge_cases i s q m
+        (λ t k w. rw w (IsEnough-plus (Decides-pair_eq dec) (run_edges eps bytes) a b more (suc i, t)
+        (IsEnough-from_none (Decides-pair_eq dec) (run_edges eps bytes) b more (suc i, t) (f t))))
+        (λ t k w. rw w (IsEnough-next a b more i t (rw (with_node-at held i s) (h e t k)) f)))
 
     -- where there is no step over a byte, the fuel at the position is enough
     IsEnough-stay : (a : ℕ) (held : ℕ × N → Bool) (i : ℕ) (s : N) → ((t : N) → bytes i t ≡ [])
-        → IsEnough eq (eps i) a (λ t. held (i, t)) s
-        → IsEnough (pair_eq eq) (run_edges eps bytes) a held (i, s)
+        → IsEnough eq (eps i) a (λ t. held (i, t)) s → IsEnoughForRuns eq eps bytes a held (i, s)
     IsEnough-stay zero held i s stop h = h
     IsEnough-stay (suc a) held i s stop h = λ e q m. run_edge_cases i s q m
         (λ t k w. absurd (false≢true (rw (stop s) at k)))
-        (λ t k w. subst (λ p. IsEnough (pair_eq eq) (run_edges eps bytes) a (with_node (pair_eq eq) held (i, s)) p)
-        (sym w)
-        (IsEnough-stay a (with_node (pair_eq eq) held (i, s)) i t stop (rw (with_node-at held i s) (h e t k))))
+        (λ t k w. rw w (IsEnough-stay a (with_node (pair_eq eq) held (i, s)) i t stop
+        (rw (with_node-at held i s) (h e t k))))
 
     pub IsEnough-runs : (c m : ℕ) → ((i : ℕ) (s : N) → IsEnough eq (eps i) c none_held s)
         → ((i : ℕ) (s : N) → m ≤ i → bytes i s ≡ [])
-        → (d : ℕ) (i : ℕ) (s : N) → m ≤ i + d
-        → IsEnough (pair_eq eq) (run_edges eps bytes) (run_fuel c d) none_held (i, s)
+        → (d : ℕ) (i : ℕ) (s : N) → m ≤ i + d → IsEnoughForRuns eq eps bytes (run_fuel c d) none_held (i, s)
     IsEnough-runs c m h stop zero i s l = IsEnough-stay c none_held i s (λ t. stop i t (omega arith)) (h i s)
     IsEnough-runs c m h stop (suc d) i s l =
         IsEnough-next c (run_fuel c d) none_held i s (h i s) (λ t. IsEnough-runs c m h stop d (suc i) t (omega arith))

@@ -1,6 +1,4 @@
-use Rattle.std.proofs.Common.{◌∙◌, ap, length}
-use Rattle.determinize_state.specs.Recording.{added_one}
-use Rattle.determinize_state.specs.Value.{Value}
+use Rattle.determinize_state.proofs.Common.{◌∙◌, ap, length, added_one, Value}
 use Rattle.determinize_state.proofs.values.RecordingSteps.{added_one-after, rest_below}
 use Rattle.determinize_state.proofs.recording.add_states.Goals as goal
 

@@ -1,7 +1,4 @@
-use Rattle.std.proofs.Common.{◌≡◌, ◌<◌, All, length}
-use Rattle.determinize_below.specs.Edges.{is_capture}
-use Rattle.ordered_reach.specs.Runs.{without}
-use Rattle.determinize_state.specs.Recording.{added}
+use Rattle.determinize_state.proofs.Common.{◌≡◌, ◌<◌, All, length, is_capture, without, added}
 use Rattle.determinize_state.proofs.recording.add_states.Given as goal
 
 abbrev pub invariant-loop-id : goal.invariant-loop-id

@@ -1,6 +1,4 @@
-use Rattle.std.proofs.Common.{◌≡◌, subst, sym}
-use Rattle.std.specs.Bool.{Decides}
-use Rattle.determinize_state.specs.Equality.{Decides-same}
+use Rattle.determinize_state.proofs.Common.{◌≡◌, subst, sym, Decides, Decides-same}
 use Rattle.determinize_state.proofs.state_laws.are_equal.Goals as goal
 
 pub returns : goal.returns

@@ -1,5 +1,4 @@
-use Rattle.determinize_below.proofs.Common.{ap, arith, length, Nfa, node_of, ◌<◌}
-use Rattle.std.proofs.lemmas.List.{length-map}
+use Rattle.determinize_below.proofs.Common.{ap, arith, length, Nfa, node_of, ◌<◌, length-map}
 use Rattle.determinize_below.proofs.nfas.StateChecks.{slice_get-map_read}
 use Rattle.determinize_below.proofs.nfas.SoundNfa.{each_passes}
 use Rattle.determinize_below.proofs.nfa.NFA.state.Goals as goal
@@ -9,15 +8,11 @@ returns-clause-ascends g c =
     let count = ap (λ (n : Nfa). length n.states) c.self.view_is in
     let within : c.as_usize.result < length c.self.inside.states.items =
     omega (arith, c.requires, c.as_usize.ensures.value, count, length-map c.self.inside.states.items node_of) in
-    (each_passes _ c.self.invariant c.as_usize.result _
-    (slice_get-map_read node_of c.self.inside.states.items c.as_usize.result c.index.result.now
-    within c.index.ensures)).ascends
+    (each_passes _ c.self.invariant _ _ (slice_get-map_read node_of _ _ _ within c.index.ensures)).ascends
 
 pub returns-clause-whole : goal.returns-clause-whole
 returns-clause-whole g c =
     let count = ap (λ (n : Nfa). length n.states) c.self.view_is in
     let within : c.as_usize.result < length c.self.inside.states.items =
     omega (arith, c.requires, c.as_usize.ensures.value, count, length-map c.self.inside.states.items node_of) in
-    (each_passes _ c.self.invariant c.as_usize.result _
-    (slice_get-map_read node_of c.self.inside.states.items c.as_usize.result c.index.result.now
-    within c.index.ensures)).whole
+    (each_passes _ c.self.invariant _ _ (slice_get-map_read node_of _ _ _ within c.index.ensures)).whole

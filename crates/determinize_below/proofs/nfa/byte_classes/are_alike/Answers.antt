@@ -1,6 +1,4 @@
-use Rattle.std.proofs.Common.{rules, ◌≡◌, arith, refl, true}
-use borrow.Author.Count.{below_more}
-use Rattle.determinize_below.specs.Node.{node_of}
+use Rattle.determinize_below.proofs.Common.{rules, ◌≡◌, arith, refl, true, below_more}
 use Rattle.determinize_below.proofs.nfas.Boundaries.{all_states, read_at}
 use Rattle.determinize_below.proofs.nfa.byte_classes.are_alike.Goals as goal
 
@@ -9,8 +7,7 @@ loop-index-preserved g c =
     let yes : c.leads_alike.result ≡ true = search rules in
     let index : c.must.result ≡ c.loop-index.index = search rules in
     below_more _ _ c.loop-index.invariant
-    (read_at c.args.nfa.now c.loop-index.index c.must.result (node_of c.state-state.result.now) c.args.b c.args.c
-    index c.state-state.ensures.state (c.leads_alike.ensures.0 yes))
+    (read_at c.args.nfa.now _ _ _ _ _ index c.state-state.ensures.state (c.leads_alike.ensures.0 yes))
 
 pub returns : goal.returns
 returns g c =

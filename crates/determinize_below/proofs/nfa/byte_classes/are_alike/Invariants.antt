@@ -1,5 +1,4 @@
-use Rattle.std.proofs.Common.{◌≡◌, ◌<◌, ℕ, Some}
-use Rattle.determinize_below.specs.Semantics.{state_at, target_of}
+use Rattle.determinize_below.proofs.Common.{◌≡◌, ◌<◌, ℕ, Some, state_at, target_of}
 use Rattle.determinize_below.proofs.nfa.byte_classes.are_alike.Given as goal
 
 abbrev pub invariant-loop-index : goal.invariant-loop-index

@@ -1,7 +1,4 @@
-use Rattle.std.proofs.Common.{◌≡◌, ◌+◌, ◌<◌, ℕ, Some, false, length}
-use Rattle.determinize_below.specs.ByteClasses.{AreTestedAlike}
-use Rattle.determinize_below.specs.Private.Boundaries.{is_marked}
-use Rattle.determinize_below.specs.Semantics.{state_at, target_of}
+use Rattle.determinize_below.proofs.Common.{◌≡◌, ◌+◌, ◌<◌, ℕ, Some, false, length, AreTestedAlike, is_marked, state_at, target_of}
 use Rattle.determinize_below.proofs.nfa.byte_classes.boundaries_of.Given as goal
 
 abbrev pub invariant-loop-byte : goal.invariant-loop-byte

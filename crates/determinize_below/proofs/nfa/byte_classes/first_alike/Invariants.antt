@@ -1,5 +1,4 @@
-use Rattle.std.proofs.Common.{◌<◌, ℕ, get_or}
-use Rattle.determinize_below.specs.ByteClasses.{AreAlike}
+use Rattle.determinize_below.proofs.Common.{◌<◌, ℕ, get_or, AreAlike}
 use Rattle.determinize_below.proofs.nfa.byte_classes.first_alike.Given as goal
 
 abbrev pub invariant-loop-k : goal.invariant-loop-k

@@ -1,6 +1,4 @@
-use Rattle.std.proofs.Common.{take}
-use Rattle.determinize_below.specs.Private.Boundaries.{MarksChanges}
-use Rattle.determinize_below.specs.Transition.{sparse_target}
+use Rattle.determinize_below.proofs.Common.{take, MarksChanges, sparse_target}
 use Rattle.determinize_below.proofs.nfa.byte_classes.mark_ranges.Given as goal
 
 abbrev pub invariant-loop-trans : goal.invariant-loop-trans

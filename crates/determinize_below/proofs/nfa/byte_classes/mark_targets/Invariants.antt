@@ -1,6 +1,4 @@
-use Rattle.std.proofs.Common.{◌≡◌, ◌+◌, ◌<◌, ℕ, false}
-use Rattle.determinize_below.specs.Private.Boundaries.{is_marked}
-use Rattle.determinize_below.specs.Transition.{dense_target}
+use Rattle.determinize_below.proofs.Common.{◌≡◌, ◌+◌, ◌<◌, ℕ, false, is_marked, dense_target}
 use Rattle.determinize_below.proofs.nfa.byte_classes.mark_targets.Given as goal
 
 abbrev pub invariant-loop-byte : goal.invariant-loop-byte

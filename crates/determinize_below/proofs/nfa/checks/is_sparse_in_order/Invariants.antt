@@ -1,5 +1,4 @@
-use Rattle.determinize_below.proofs.Common.{ascends_from, drop, ◌≡◌, ◌≤◌}
-use Rattle.determinize_below.specs.Transition.{is_ascending}
+use Rattle.determinize_below.proofs.Common.{ascends_from, drop, ◌≡◌, ◌≤◌, is_ascending}
 use Rattle.determinize_below.proofs.nfa.checks.is_sparse_in_order.Given as goal
 
 abbrev pub invariant-loop-t : goal.invariant-loop-t

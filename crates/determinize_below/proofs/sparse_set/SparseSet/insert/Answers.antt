@@ -1,5 +1,4 @@
-use Rattle.determinize_below.proofs.Common.{arith, false, has_bit, subst, sym, ◌<◌, ◌≡◌}
-use Rattle.determinize_below.specs.Members.{Members}
+use Rattle.determinize_below.proofs.Common.{arith, false, has_bit, subst, sym, ◌<◌, ◌≡◌, Members}
 use Rattle.determinize_below.proofs.sets.SparseSets.{room_for_one}
 use Rattle.determinize_below.proofs.sparse_set.SparseSet.insert.Goals as goal
 

@@ -1,5 +1,4 @@
-use Rattle.determinize_start.proofs.Common.{sym, ◌∙◌}
-use Rattle.determinize_below.specs.Unit.{byte_of}
+use Rattle.determinize_start.proofs.Common.{sym, ◌∙◌, byte_of}
 use Rattle.determinize_start.proofs.tables.NoAssertions.{line_set-nothing}
 use Rattle.determinize_start.proofs.look_tables.LookTables.line_set.Goals as goal
 

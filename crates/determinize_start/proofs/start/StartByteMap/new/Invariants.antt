@@ -1,5 +1,4 @@
-use Rattle.determinize_start.proofs.Common.{start_kind, Text, ℕ, ◌≡◌}
-use Rattle.std.proofs.Common.{◌<◌, get_or, length}
+use Rattle.determinize_start.proofs.Common.{start_kind, Text, ℕ, ◌≡◌, ◌<◌, get_or, length}
 use Rattle.determinize_start.proofs.start.StartByteMap.new.Given as goal
 
 abbrev pub invariant-loop-byte : goal.invariant-loop-byte

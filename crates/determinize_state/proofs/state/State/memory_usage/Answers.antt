@@ -1,5 +1,4 @@
-use Rattle.std.proofs.Common.{arith, ◌≡◌, ◌∙◌, ap, sym, length}
-use Rattle.determinize_state.specs.Spelling.{spell}
+use Rattle.determinize_state.proofs.Common.{arith, ◌≡◌, ◌∙◌, ap, sym, length, spell}
 use Rattle.determinize_state.proofs.encoding.EncodedLength.{spell_short}
 use Rattle.determinize_state.proofs.state.State.memory_usage.Goals as goal
 

@@ -1,5 +1,4 @@
-use Rattle.std.proofs.Common.{◌≡◌, ◌∙◌, ap, arith, false, length, List, sym, true, ℕ}
-use Rattle.determinize_state.specs.Spelling.{has_flag, number_at}
+use Rattle.determinize_state.proofs.Common.{◌≡◌, ◌∙◌, ap, arith, false, length, List, sym, true, ℕ, has_flag, number_at}
 use Rattle.determinize_state.proofs.encoding.ReadBytes.{has_patterns, long}
 use Rattle.determinize_state.proofs.state.bytes.add_pattern.Goals as goal
 
@@ -8,14 +7,12 @@ has_flag-requires g c = omega (arith, long _ c.requires, ap length c.deref.ensur
 
 pub number_at-count-requires : goal.number_at-count-requires
 number_at-count-requires g c =
-    let e : has_flag c.args.bytes.now.items 2 ≡ true =
-    sym (c.has_flag.ensures ∙ ap (λ (b : List ℕ). has_flag b 2) c.deref.ensures.value) ∙ c.if-has_flag.true in
+    let e = sym (c.has_flag.ensures ∙ ap (λ (b : List ℕ). has_flag b 2) c.deref.ensures.value) ∙ c.if-has_flag.true in
     omega (arith, (has_patterns _ c.requires e).room, ap length c.deref-then-has_flag.ensures.value)
 
 pub overflow_add-count : goal.overflow_add-count
 overflow_add-count g c =
-    let e : has_flag c.args.bytes.now.items 2 ≡ true =
-    sym (c.has_flag.ensures ∙ ap (λ (b : List ℕ). has_flag b 2) c.deref.ensures.value) ∙ c.if-has_flag.true in
+    let e = sym (c.has_flag.ensures ∙ ap (λ (b : List ℕ). has_flag b 2) c.deref.ensures.value) ∙ c.if-has_flag.true in
     let p = has_patterns _ c.requires e in
     let count : c.number_at-count.result ≡ number_at c.args.bytes.now.items 9 =
     c.number_at-count.ensures ∙ ap (λ (b : List ℕ). number_at b 9) c.deref-then-has_flag.ensures.value in
@@ -23,8 +20,7 @@ overflow_add-count g c =
 
 pub put_number-requires : goal.put_number-requires
 put_number-requires g c =
-    let e : has_flag c.args.bytes.now.items 2 ≡ true =
-    sym (c.has_flag.ensures ∙ ap (λ (b : List ℕ). has_flag b 2) c.deref.ensures.value) ∙ c.if-has_flag.true in
+    let e = sym (c.has_flag.ensures ∙ ap (λ (b : List ℕ). has_flag b 2) c.deref.ensures.value) ∙ c.if-has_flag.true in
     omega (arith, (has_patterns _ c.requires e).room, c.in_ok-extend_from_slice.ensures.len, c.args.bytes.now.ok)
 
 pub has_flag-requires-else-has_flag : goal.has_flag-requires-else-has_flag

@@ -1,4 +1,4 @@
-use Rattle.std.proofs.Common.{arith}
+use Rattle.determinize_state.proofs.Common.{arith}
 use Rattle.determinize_state.specs.Spelling.{value_of}
 use Rattle.determinize_state.proofs.encoding.ReadBytes.{long}
 use Rattle.determinize_state.proofs.state.bytes.is_from_word.Goals as goal

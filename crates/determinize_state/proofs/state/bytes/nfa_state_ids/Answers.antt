@@ -1,14 +1,12 @@
-use Rattle.std.proofs.Common.{arith, ◌≡◌, ◌∙◌, ap, ℕ, drop}
-use Rattle.determinize_state.specs.Spelling.{start_in}
-use Rattle.determinize_state.specs.Varint.{ids_from}
+use Rattle.determinize_state.proofs.Common.{arith, ◌≡◌, ◌∙◌, ap, ℕ, drop, start_in, ids_from}
 use Rattle.determinize_state.proofs.encoding.ReadBytes.{long, has_patterns, start_of, rest_valid, rest_ids}
 use Rattle.determinize_state.proofs.state.bytes.nfa_state_ids.Goals as goal
 
-pub ids_start-start-requires-clause-long : goal.ids_start-start-requires-clause-long
-ids_start-start-requires-clause-long c = long _ c.requires
-
-pub ids_start-start-requires-clause-counted : goal.ids_start-start-requires-clause-counted
-ids_start-start-requires-clause-counted c e = omega (arith, (has_patterns _ c.requires e).room)
+pub ids_start-start-requires : goal.ids_start-start-requires
+ids_start-start-requires c = record {
+  long = long _ c.requires;
+  counted = λ e. omega (arith, (has_patterns _ c.requires e).room);
+}
 
 pub split_at-requires : goal.split_at-requires
 split_at-requires c = rw c.ids_start-start.ensures (start_of _ c.requires)

@@ -1,5 +1,4 @@
-use Rattle.std.proofs.Common.{arith, ◌≡◌, ◌≤◌, ◌*◌, ◌∙◌, ℕ, subst, sym}
-use Rattle.determinize_state.specs.Spelling.{number_at}
+use Rattle.determinize_state.proofs.Common.{arith, ◌≡◌, ◌≤◌, ◌*◌, ◌∙◌, ℕ, subst, sym, number_at}
 use Rattle.determinize_state.proofs.encoding.ReadBytes.{place_of, number_of}
 use Rattle.determinize_state.proofs.state.bytes.pattern_at.Goals as goal
 

@@ -1,5 +1,4 @@
-use Rattle.std.proofs.Common.{arith, ◌≡◌, ◌≤◌, ◌*◌, ◌∙◌, sym, ap, List, ℕ, All, subst, length, take, drop}
-use Rattle.determinize_state.specs.Spelling.{numbers_in, number_at, value_of}
+use Rattle.determinize_state.proofs.Common.{arith, ◌≡◌, ◌≤◌, ◌*◌, ◌∙◌, sym, ap, List, ℕ, All, subst, length, take, drop, numbers_in, number_at, value_of}
 use Rattle.determinize_state.proofs.encoding.ReadBytes.{long, few_patterns, has_patterns, explicit_ids, implicit_ids, implicit_numbers, implicit_length}
 use Rattle.determinize_state.proofs.state.bytes.pattern_words.Goals as goal
 
@@ -21,21 +20,14 @@ has_flag-requires c = omega (arith, long _ c.requires)
 pub implicit_words-requires : goal.implicit_words-requires
 implicit_words-requires c = long _ c.requires
 
-pub returns-then-not-has_flag-clause-ids : goal.returns-then-not-has_flag-clause-ids
-returns-then-not-has_flag-clause-ids c = implicit_result c
-
-pub returns-then-not-has_flag-clause-size : goal.returns-then-not-has_flag-clause-size
-returns-then-not-has_flag-clause-size c =
-    ap length c.implicit_words.ensures ∙ implicit_length _
-    ∙ ap (λ (ids : List ℕ). 4 * length ids) (implicit_ids _ (sym c.has_flag.ensures ∙ c.if-not-has_flag.true))
-
-pub returns-then-not-has_flag-clause-small : goal.returns-then-not-has_flag-clause-small
-returns-then-not-has_flag-clause-small c =
-    subst (All (λ id. id ≤ 2147483646)) (sym (implicit_result c)) c.requires.valid.pattern_ids
-
-pub returns-then-not-has_flag-clause-few : goal.returns-then-not-has_flag-clause-few
-returns-then-not-has_flag-clause-few c =
-    subst (λ (ids : List ℕ). length ids ≤ 2147483647) (sym (implicit_result c)) (few_patterns _ c.requires)
+pub returns-then-not-has_flag : goal.returns-then-not-has_flag
+returns-then-not-has_flag c = record {
+  ids = implicit_result c;
+  size = ap length c.implicit_words.ensures ∙ implicit_length _
+      ∙ ap (λ (ids : List ℕ). 4 * length ids) (implicit_ids _ (sym c.has_flag.ensures ∙ c.if-not-has_flag.true));
+  small = subst (All (λ id. id ≤ 2147483646)) (sym (implicit_result c)) c.requires.valid.pattern_ids;
+  few = subst (λ (ids : List ℕ). length ids ≤ 2147483647) (sym (implicit_result c)) (few_patterns _ c.requires);
+}
 
 pub number_at-requires : goal.number_at-requires
 number_at-requires c =
@@ -51,19 +43,14 @@ split_at-requires-2 c =
     let count : c.number_at.result ≡ length (value_of c.args.bytes.now).patterns = place ∙ p.count in
     omega (arith, p.room, count, c.split_at.ensures.back_len)
 
-pub returns-clause-ids : goal.returns-clause-ids
-returns-clause-ids c = explicit_result c
-
-pub returns-clause-size : goal.returns-clause-size
-returns-clause-size c =
+pub returns : goal.returns
+returns c =
     let p = has_patterns _ c.requires (sym c.has_flag.ensures ∙ c.if-not-has_flag.false) in
     let place : c.number_at.result ≡ number_at c.args.bytes.now 9 = c.number_at.ensures in
     let count : c.number_at.result ≡ length (value_of c.args.bytes.now).patterns = place ∙ p.count in
-    omega (arith, count, c.split_at-2.ensures.front_len)
-
-pub returns-clause-small : goal.returns-clause-small
-returns-clause-small c = subst (All (λ id. id ≤ 2147483646)) (sym (explicit_result c)) c.requires.valid.pattern_ids
-
-pub returns-clause-few : goal.returns-clause-few
-returns-clause-few c =
-    subst (λ (ids : List ℕ). length ids ≤ 2147483647) (sym (explicit_result c)) (few_patterns _ c.requires)
+    record {
+      ids = explicit_result c;
+      size = omega (arith, count, c.split_at-2.ensures.front_len);
+      small = subst (All (λ id. id ≤ 2147483646)) (sym (explicit_result c)) c.requires.valid.pattern_ids;
+      few = subst (λ (ids : List ℕ). length ids ≤ 2147483647) (sym (explicit_result c)) (few_patterns _ c.requires);
+    }

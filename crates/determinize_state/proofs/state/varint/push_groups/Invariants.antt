@@ -1,5 +1,4 @@
-use Rattle.std.proofs.Common.{◌≡◌, ◌++◌, take, length}
-use Rattle.determinize_state.specs.Varint.{varint}
+use Rattle.determinize_state.proofs.Common.{◌≡◌, ◌++◌, take, length, varint}
 use Rattle.determinize_state.proofs.state.varint.push_groups.Given as goal
 
 abbrev pub invariant-loop-rest : goal.invariant-loop-rest

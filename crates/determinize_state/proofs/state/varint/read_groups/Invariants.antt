@@ -1,5 +1,4 @@
-use Rattle.std.proofs.Common.{◌≡◌, ◌*◌, ◌≤◌, ◌<◌, length}
-use Rattle.determinize_state.specs.Private.Groups.{read}
+use Rattle.determinize_state.proofs.Common.{◌≡◌, ◌*◌, ◌≤◌, ◌<◌, length, read}
 use Rattle.determinize_state.proofs.state.varint.read_groups.Given as goal
 
 abbrev pub invariant-loop-byte : goal.invariant-loop-byte

@@ -1,5 +1,4 @@
-use Rattle.std.proofs.Common.{ap}
-use Rattle.determinize_state.specs.Value.{Value}
+use Rattle.determinize_state.proofs.Common.{ap, Value}
 use Rattle.determinize_state.proofs.building.UnfinishedBytes.{built_zeros}
 use Rattle.determinize_state.proofs.state.builders.StateBuilderEmpty.into_matches.Goals as goal
 

@@ -1,9 +1,6 @@
-use Rattle.std.proofs.Common.{◌≡◌, ◌∙◌, ◌<◌, ◌^◌, ℕ, List, ap, sym, subst, true}
-use Rattle.determinize_below.specs.Look.{has}
-use Rattle.determinize_state.specs.Spelling.{value_of}
-use Rattle.determinize_state.specs.Value.{Value}
+use Rattle.determinize_state.proofs.Common.{◌≡◌, ◌∙◌, ◌<◌, ◌^◌, ℕ, List, ap, sym, subst, true, has, value_of, Value}
 use Rattle.determinize_state.proofs.values.TestedSets.{insert-had}
-use Rattle.determinize_state.proofs.values.ReplacedParts.{with_need}
+use Rattle.determinize_state.proofs.building.UnfinishedBytes.{with_need}
 use Rattle.determinize_state.proofs.state.builders.StateBuilderNFA.add_look_need.Goals as goal
 
 pub returns-else-not-contains : goal.returns-else-not-contains

@@ -1,8 +1,4 @@
-use Rattle.std.proofs.Common.{◌++◌, List, ℕ, ap, sym, ◌∙◌, subst}
-use Rattle.determinize_state.specs.Value.{Value, with_state}
-use Rattle.determinize_state.specs.Varint.{varint}
-use Rattle.determinize_state.specs.Spelling.{value_of}
-use Rattle.determinize_state.specs.Building.{IsBuilding}
+use Rattle.determinize_state.proofs.Common.{◌++◌, List, ℕ, ap, sym, ◌∙◌, subst, Value, with_state, varint, value_of, IsBuilding}
 use Rattle.determinize_state.proofs.building.UnfinishedBytes.{building_with_state}
 use Rattle.determinize_state.proofs.state.builders.StateBuilderNFA.add_nfa_state_id.Goals as goal
 

@@ -1,8 +1,5 @@
-use Rattle.std.proofs.Common.{ap, ◌∙◌, arith}
-use Rattle.determinize_state.specs.Value.{Value}
-use Rattle.determinize_state.specs.Spelling.{with_word, value_of}
-use Rattle.determinize_state.proofs.building.UnfinishedBytes.{building_with_have}
-use Rattle.determinize_state.proofs.values.ReplacedParts.{with_have}
+use Rattle.determinize_state.proofs.Common.{ap, ◌∙◌, arith, Value, with_word, value_of}
+use Rattle.determinize_state.proofs.building.UnfinishedBytes.{building_with_have, with_have}
 use Rattle.determinize_state.proofs.encoding.ReadBytes.{long}
 use Rattle.determinize_state.proofs.state.builders.StateBuilderNFA.put_look_have.Goals as goal
 

@@ -1,8 +1,5 @@
-use Rattle.std.proofs.Common.{ap, ◌∙◌, arith}
-use Rattle.determinize_state.specs.Value.{Value}
-use Rattle.determinize_state.specs.Spelling.{with_word, value_of}
-use Rattle.determinize_state.proofs.building.UnfinishedBytes.{building_with_need}
-use Rattle.determinize_state.proofs.values.ReplacedParts.{with_need}
+use Rattle.determinize_state.proofs.Common.{ap, ◌∙◌, arith, Value, with_word, value_of}
+use Rattle.determinize_state.proofs.building.UnfinishedBytes.{building_with_need, with_need}
 use Rattle.determinize_state.proofs.encoding.ReadBytes.{long}
 use Rattle.determinize_state.proofs.state.builders.StateBuilderNFA.put_look_need.Goals as goal
 

@@ -1,6 +1,4 @@
-use Rattle.std.proofs.Common.{sym, arith, subst}
-use Rattle.determinize_state.specs.Value.{Value}
-use Rattle.determinize_state.specs.Recording.{IsGrown}
+use Rattle.determinize_state.proofs.Common.{sym, arith, subst, Value, IsGrown}
 use Rattle.determinize_state.proofs.building.RestoredMarks.{mark_within, come_back}
 use Rattle.determinize_state.proofs.state.builders.StateBuilderNFA.restore.Goals as goal
 
@@ -21,23 +19,13 @@ invariant_of-self g c =
     let grown = subst (λ (w : Value). IsGrown c.requires.0 w) (sym c.self.view_is) c.requires.2 in
     let back = come_back c.requires.0 _ c.args.mark c.self.invariant.is c.requires.1 grown c.as_repr.ensures.small
     c.as_repr-2.ensures.small in
-    rw (
-      c.put_number-2.ensures.items,
-      c.put_number.ensures.items,
-      c.truncate.ensures.items,
-      c.as_repr.ensures.value,
-      c.as_repr-2.ensures.value,
-    ) back.0
+    rw (c.put_number-2.ensures.items, c.put_number.ensures.items, c.truncate.ensures.items)
+    (rw (c.as_repr.ensures.value, c.as_repr-2.ensures.value) back.0)
 
 pub returns : goal.returns
 returns g c value marked grown =
     let grown_inside = subst (λ (w : Value). IsGrown value w) (sym c.self.view_is) grown in
     let back = come_back value _ c.args.mark c.self.invariant.is marked grown_inside c.as_repr.ensures.small
     c.as_repr-2.ensures.small in
-    rw (
-      c.put_number-2.ensures.items,
-      c.put_number.ensures.items,
-      c.truncate.ensures.items,
-      c.as_repr.ensures.value,
-      c.as_repr-2.ensures.value,
-    ) back.1
+    rw (c.put_number-2.ensures.items, c.put_number.ensures.items, c.truncate.ensures.items)
+    (rw (c.as_repr.ensures.value, c.as_repr-2.ensures.value) back.1)

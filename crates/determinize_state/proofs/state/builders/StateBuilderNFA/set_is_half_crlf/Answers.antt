@@ -1,6 +1,4 @@
-use Rattle.std.proofs.Common.{ap, ◌∙◌, arith, true}
-use Rattle.determinize_state.specs.Value.{Value}
-use Rattle.determinize_state.specs.Spelling.{value_of}
+use Rattle.determinize_state.proofs.Common.{ap, ◌∙◌, arith, true, Value, value_of}
 use Rattle.determinize_state.proofs.building.UnfinishedBytes.{building_half_crlf}
 use Rattle.determinize_state.proofs.encoding.ReadBytes.{long}
 use Rattle.determinize_state.proofs.state.builders.StateBuilderNFA.set_is_half_crlf.Goals as goal

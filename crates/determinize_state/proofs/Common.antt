@@ -1,0 +1,31 @@
+-- The names that the proofs of this crate have in common: of std, of the definitions, and of the crates below.
+pub use Rattle.std.proofs.Common.{◌%◌, ◌*◌, ◌+◌, ◌++◌, ◌-◌, ◌/◌, ◌<◌, ◌==◌, [], ◌^◌, All, ap, append_assoc, arith}
+pub use Rattle.std.proofs.Common.{bit_and, bit_or, Bool, drop, Err, false, get_or, IfNone, IfSome, if◌then◌else◌, inl}
+pub use Rattle.std.proofs.Common.{inr, length, length-append, List, lit<, lit≤, nat_eq, nat_lt, None, not, Ok, Option}
+pub use Rattle.std.proofs.Common.{refl, Result, slice_index, Some, subst, suc, sym, take, true, zero, zero-add, ◌||◌, ℕ}
+pub use Rattle.std.proofs.Common.{◌∙◌, ◌∷◌, ◌≡◌, ◌≤◌, ◌⊎◌}
+pub use Rattle.std.proofs.Math.Seq.{drop-append_seam, take-append_seam, take-length}
+pub use Rattle.std.proofs.lemmas.Bool.{eq-eqb, eqb-true, or_left, true≢false}
+pub use Rattle.std.proofs.lemmas.Bool.Decides.{Decides-at, Decides-eqb, Decides-or, leb_tells, nat_tests}
+pub use Rattle.std.proofs.lemmas.List.{append-nil, drop-drop, length-take, take-append-le}
+pub use Rattle.std.proofs.lemmas.List.Elements.{All-cons, All-head, All-push, All-tail, filter-append}
+pub use Rattle.std.specs.Bool.{Decides, one_answer}
+pub use Rattle.std.specs.Cmp.{Equal-is, nat_eq_equiv, unsigned_ties}
+pub use Rattle.std.specs.Cmp.Lexicographic.{bytes_decides, lists_ties, pointwise, slice_cmp}
+pub use Rattle.std.specs.Int.{from_le_bytes, w32}
+pub use Rattle.std.specs.List.{Any, Contains, IsDistinct, list_any}
+pub use Rattle.determinize_below.specs.Edges.{assertion_of, is_capture}
+pub use Rattle.determinize_below.specs.Look.{bit_of, has}
+pub use Rattle.determinize_below.specs.Semantics.{Nfa}
+pub use Rattle.determinize_state.specs.Building.{IsBuilding}
+pub use Rattle.determinize_state.specs.Equality.{by_bytes, Decides-same, parts, same}
+pub use Rattle.determinize_state.specs.Private.Groups.{read}
+pub use Rattle.determinize_state.specs.Private.PatternBytes.{with_bit, with_pattern_bytes}
+pub use Rattle.determinize_state.specs.Recording.{added, added_one, IsGrown, needs, with_assertion}
+pub use Rattle.determinize_state.specs.Spelling.{bit, flags, has_flag, is_explicit, IsSpelled, number_at, numbers_in}
+pub use Rattle.determinize_state.specs.Spelling.{pattern_bytes, patterns_in, spell, start_in, value_of, with_word, word}
+pub use Rattle.determinize_state.specs.Spelling.{words}
+pub use Rattle.determinize_state.specs.Value.{dead, is_nonempty, IsValue, Value, with_pattern, with_state}
+pub use Rattle.determinize_state.specs.Varint.{deltas, groups, ids_from, IsDeltas, last_id, unzigzag, varint, zigzag}
+pub use Rattle.ordered_reach.proofs.Cases.{by_test}
+pub use Rattle.ordered_reach.specs.Runs.{without}
