@@ -12,11 +12,10 @@ use Rattle.determinize_below.specs.Semantics.{Nfa}
 use Rattle.determinize_below.specs.Nfa.{IsAccepted}
 use Rattle.ordered_reach.specs.Runs.{without}
 use Rattle.determinize_below.specs.declared.look.Look.{Look as Assertion}
-use Rattle.ordered_reach.specs.Reach.{joined, member, none_held, ordered}
+use Rattle.ordered_reach.specs.Reach.{member, none_held, ordered}
 use Rattle.determinize_below.specs.declared.search.MatchKind.{MatchKind}
 use Rattle.ordered_reach.proofs.lists.Elements.{All-from_member}
-use Rattle.ordered_reach.proofs.graph.FiniteGraphs.{fresh_below, same_decides}
-use Rattle.determinize_below.proofs.nfas.SoundNfa.{accepted_sound, reach_within}
+use Rattle.ordered_reach.proofs.graph.FiniteGraphs.{same_decides}
 use Rattle.ordered_reach.proofs.Cases.{by_test}
 use Rattle.determinize_state.specs.Recording.{added, added_one, settled}
 use Rattle.determinize_core.specs.Private.Reading.{IsListRead}
@@ -24,7 +23,7 @@ use Rattle.determinize_core.specs.Private.Search.{tries_left}
 use Rattle.determinize_core.proofs.step.Recorders.{fold-added}
 use Rattle.determinize_core.proofs.step.Resolving.{targets_resolve}
 use Rattle.determinize_core.proofs.closure.EmptySearch.{reach_past-empty, tries_left-empty}
-use Rattle.determinize_core.specs.Step.{distinct_states, is_reopened, opened_by, patterns_read, step, targets, working_list}
+use Rattle.determinize_core.specs.Step.{patterns_read, step, targets, working_list}
 use Rattle.determinize_start.specs.LookTables.{tables_of, from_word_after, half_crlf_after, have_after}
 use Rattle.determinize_core.specs.Tries.{edges_in_all, tries, tries_again, tries_of}
 use Rattle.determinize_state.specs.Value.{Value, dead, is_nonempty, with_flags}
@@ -50,21 +49,6 @@ is_nonempty-reach nfa holds (r ∷ roots) =
 
 module _ (nfa : Nfa) (accepted : IsAccepted nfa) (kind : MatchKind) (v : Value) (u : Option ℕ)
     (inside : Each (λ id. id < length nfa.states) v.states) where
-  -- the working list has only states of the NFA
-  pub working_resolves : (working : List ℕ) → working ≡ working_list nfa v u
-      → Each (λ id. id < length nfa.states) working
-  working_resolves working e = All-from_member same_decides (λ id. id < length nfa.states) working (λ x m.
-      by_test (is_reopened nfa v u)
-      (λ k. let again : working_list nfa v u ≡ reach nfa (joined (has v.look_have) (opened_by nfa v u))
-      (distinct_states v) = rw k refl in
-      reach_within nfa (accepted_sound nfa accepted) (joined (has v.look_have) (opened_by nfa v u))
-      (distinct_states v) distinct_below x (ap (λ l. member nat_eq l x) (sym again ∙ sym e) ∙ m))
-      (λ k. let kept : working_list nfa v u ≡ distinct_states v = rw k refl in
-      distinct_below x (ap (λ l. member nat_eq l x) (sym kept ∙ sym e) ∙ m)))
-    where
-      distinct_below : (s : ℕ) → member nat_eq (distinct_states v) s ≡ true → s < length nfa.states
-      distinct_below = fresh_below (length nfa.states) v.states (member-below (length nfa.states) v.states inside)
-
   -- the tries of the step are few
   pub step_tries : tries nfa kind v u ≤ 2 * (length nfa.states + edges_in_all nfa)
   step_tries = tries_are_few nfa accepted kind v u (member-below (length nfa.states) v.states inside)

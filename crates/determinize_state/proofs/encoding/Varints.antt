@@ -89,6 +89,15 @@ read-groups (suc more) n low weight rest small fits =
           ∙ ap (λ m. Some (m, rest)) (group low weight n)))
     ]
 
+-- a number of two groups
+pub read_two : (byte second : ℕ) (rest : List ℕ) → 128 ≤ byte → second < 128
+    → read 0 1 (byte ∷ second ∷ rest) ≡ Some (byte - 128 + 128 * second, rest)
+read_two byte second rest big small =
+    let more : nat_lt byte 128 ≡ false = grind (arith, nat_tests) in
+    let last : nat_lt second 128 ≡ true = grind (arith, nat_tests) in
+    let sum : 0 + 1 * (byte - 128) + 1 * 128 * second ≡ byte - 128 + 128 * second = omega arith in
+    rw (more, last) (ap (λ (m : ℕ). Some (m, rest)) sum)
+
 -- the first id that `read` finds
 pub read-deltas : (from id : ℕ) (ids : List ℕ) → from ≤ 2147483646 → id ≤ 2147483646
     → read 0 1 (deltas from (id ∷ ids)) ≡ Some (zigzag from id, deltas id ids)
@@ -239,6 +248,13 @@ pub append-varint : (bytes : List ℕ) (n : ℕ) → 128 ≤ n → n < 429496729
     (bytes ++ (128 + n % 128) ∷ []) ++ varint (n / 128) ≡ bytes ++ varint n
 append-varint bytes n big small =
     rw (varint-more n big small) (append_assoc bytes ((128 + n % 128) ∷ []) (varint (n / 128)))
+
+-- a number of two groups
+pub append-two : (bytes : List ℕ) (n : ℕ) → 128 ≤ n → n < 16384 →
+    (bytes ++ (128 + n % 128) ∷ []) ++ n / 128 ∷ [] ≡ bytes ++ varint n
+append-two bytes n big small =
+    ap (λ (l : List ℕ). (bytes ++ (128 + n % 128) ∷ []) ++ l) (sym (varint-one (n / 128) (omega arith)))
+    ∙ append-varint bytes n big (omega arith)
 
 -- a prefix of the bytes is one of the bytes with more added
 pub begins_still : (beginning bytes added : List ℕ) → take (length beginning) bytes ≡ beginning →

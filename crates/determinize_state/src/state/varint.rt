@@ -2,8 +2,8 @@
 //!
 //! Zigzag maps a signed difference to an unsigned number, so that a small difference of either sign
 //! is a small number. A varint has 7 bits per byte, the low ones first; the top bit of a byte says
-//! that another follows. A number below 128 is the common case and has a separate path, which is
-//! inlined.
+//! that another follows. Most numbers have one byte, in a large NFA two: both have paths of their
+//! own, which are inlined.
 
 ghost use Rattle.std.specs.Prelude.{◌≡◌, ◌+◌, ◌%◌, ◌≤◌, ◌<◌, [], ◌∷◌, ◌++◌, drop, length, take, option_map, IfNone, IfSome, OnErr, OnOk};
 ghost use Rattle.determinize_state.specs.Varint as format;
@@ -38,6 +38,12 @@ pub(crate) fn write<A: Allocator>(bytes: &mut Vec<u8, A>, number: u32) -> Result
 {
     if number < 128 {
         bytes.push(number as u8)?;
+        return Ok(());
+    }
+    if number < 16384 {
+        bytes.reserve(2)?;
+        bytes.push_reserved(more(number));
+        bytes.push_reserved((number / 128) as u8);
         return Ok(());
     }
     write_groups(bytes, number)
@@ -94,6 +100,7 @@ pub(crate) fn first_id(from: u32, bytes: &[u8]) -> Option<(StateID, &[u8])>
 }
 
 /// Decodes one varint. Returns it with the remaining bytes, or `None` at the end.
+#[tactic(auto, using(crate::proofs::encoding::Varints::read_two))]
 #[inline(always)]
 fn read_number(bytes: &[u8]) -> Option<(u64, &[u8])>
     ensures { option_map (λ r. (r.0, r.1.now)) result ≡ read 0 1 bytes.now }
@@ -101,6 +108,10 @@ fn read_number(bytes: &[u8]) -> Option<(u64, &[u8])>
     let (byte, after) = bytes.split_first()?;
     if *byte < 128 {
         return Some((*byte as u64, after));
+    }
+    let (second, rest) = after.split_first()?;
+    if *second < 128 {
+        return Some((*byte as u64 - 128 + 128 * *second as u64, rest));
     }
     // Two calls, since a number and a slice at once are returned through memory, which makes short
     // varints slower too.
