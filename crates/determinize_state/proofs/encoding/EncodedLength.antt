@@ -17,7 +17,7 @@ groups_short (suc more) n =
       | inr h ↦ rw h.0 (omega (arith, groups_short more (n / 128)))
     ]
 
-varint_short : (n : ℕ) → length (varint n) ≤ 5
+pub varint_short : (n : ℕ) → length (varint n) ≤ 5
 unfolding varint
 varint_short n = groups_short 4 n
 

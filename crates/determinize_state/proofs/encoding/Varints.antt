@@ -1,11 +1,11 @@
 -- Varints and the differences of ids: decoding inverts encoding.
--- Main statements: ids_from-deltas, varint-one, append-varint, begins_still.
+-- Main statements: ids_from-deltas, varint-one, append-varint.
 -- Used by: RoundTrip, the loops that read and write a varint.
 -- Idea: seven bits at a time; a zigzag number is even or odd with its sign.
-use Rattle.std.proofs.Common.{◌≡◌, inl, inr, ℕ, ◌+◌, ◌-◌, ◌*◌, ◌/◌, ◌%◌, ◌^◌, ◌<◌, ◌≤◌, true, false, Option, Some, None, List, [], ◌∷◌, ◌++◌, All, nat_lt, suc, zero, refl, arith, sym, ap, ◌∙◌, append_assoc, zero-add, lit≤, subst, append-nil, length, take, drop, IfNone, IfSome}
+use Rattle.std.proofs.Common.{◌≡◌, inl, inr, ℕ, ◌+◌, ◌-◌, ◌*◌, ◌/◌, ◌%◌, ◌^◌, ◌<◌, ◌≤◌, true, false, Option, Some, None, List, [], ◌∷◌, ◌++◌, All, nat_lt, suc, zero, refl, arith, sym, ap, ◌∙◌, append_assoc, zero-add, lit≤, subst, append-nil, length, drop, IfNone, IfSome}
 use Rattle.std.proofs.Math.Seq.{drop-append_seam}
 use Rattle.determinize_state.specs.Varint.{IsDeltas, zigzag, unzigzag, groups, varint, deltas, ids_from, last_id}
-use Rattle.std.proofs.lemmas.List.{length-append, length-take, take-append-le}
+use Rattle.std.proofs.lemmas.List.{length-append}
 use Rattle.std.proofs.Math.Nat.{pow-suc, one-mul, mul-le-mul_left}
 use Rattle.std.proofs.lemmas.List.Elements.{All-head, All-tail}
 use Rattle.std.proofs.lemmas.Bool.Decides.{leb_tells, nat_tests}
@@ -243,6 +243,15 @@ varint-more n big small =
     let fits : n / 128 < 128 * 128 ^ 3 = omega arith in
     rw more_groups (ap (λ r. (128 + n % 128) ∷ r) (sym (groups-one_more 3 (n / 128) fits)))
 
+-- how many groups these are
+pub length-one : (n : ℕ) → n < 128 → length (varint n) ≡ 1
+length-one n small = ap (λ (l : List ℕ). length l) (varint-one n small)
+
+pub length-more : (n : ℕ) → 128 ≤ n → n < 4294967296 → length (varint n) ≡ 1 + length (varint (n / 128))
+length-more n big small = omega (arith, ap (λ (l : List ℕ). length l) (varint-more n big small))
+
+pub ruleset group_counts = (length-one, length-more)
+
 -- after its low group, the groups of the rest are those of the number
 pub append-varint : (bytes : List ℕ) (n : ℕ) → 128 ≤ n → n < 4294967296 →
     (bytes ++ (128 + n % 128) ∷ []) ++ varint (n / 128) ≡ bytes ++ varint n
@@ -255,11 +264,3 @@ pub append-two : (bytes : List ℕ) (n : ℕ) → 128 ≤ n → n < 16384 →
 append-two bytes n big small =
     ap (λ (l : List ℕ). (bytes ++ (128 + n % 128) ∷ []) ++ l) (sym (varint-one (n / 128) (omega arith)))
     ∙ append-varint bytes n big (omega arith)
-
--- a prefix of the bytes is one of the bytes with more added
-pub begins_still : (beginning bytes added : List ℕ) → take (length beginning) bytes ≡ beginning →
-    take (length beginning) (bytes ++ added) ≡ beginning
-begins_still beginning bytes added begins =
-    let within : length beginning ≤ length bytes =
-    omega (arith, length-take (length beginning) bytes, ap length begins) in
-    rw take-append-le begins

@@ -50,30 +50,20 @@ pub(crate) fn write<A: Allocator>(bytes: &mut Vec<u8, A>, number: u32) -> Result
 }
 
 /// Appends a number of any size. On error the bytes are unchanged.
+#[tactic(auto, using(crate::proofs::encoding::Varints::group_counts))]
 #[cold]
 fn write_groups<A: Allocator>(bytes: &mut Vec<u8, A>, number: u32) -> Result<(), AllocError>
     ensures ok { OnOk result (bytes.new.items ≡ bytes.old.items ++ format.varint number) }
     ensures err { OnErr result (bytes.new.items ≡ bytes.old.items) }
 {
-    let before = bytes.len();
-    let pushed = push_groups(bytes, number);
-    if pushed.is_err() {
-        bytes.truncate(before);
-    }
-    pushed
-}
-
-/// Appends the groups of a number, the low one first. On error some of them may have been appended.
-fn push_groups<A: Allocator>(bytes: &mut Vec<u8, A>, number: u32) -> Result<(), AllocError>
-    ensures ok { OnOk result (bytes.new.items ≡ bytes.old.items ++ format.varint number) }
-    ensures begins { take (length bytes.old.items) bytes.new.items ≡ bytes.old.items }
-{
+    // A number of 32 bits has at most five groups.
+    bytes.reserve(5)?;
     let mut rest = number;
     while rest >= 128 {
-        bytes.push(more(rest))?;
+        bytes.push_reserved(more(rest));
         rest /= 128;
     }
-    bytes.push(rest as u8)?;
+    bytes.push_reserved(rest as u8);
     Ok(())
 }
 
