@@ -39,7 +39,7 @@ impl<L: Ledger> Steps<L> {
     }
 }
 
-/// Counts the tries of a search.
+/// Counts the tries of a search: `counts` says whether it does, `total` how many so far.
 pub(crate) trait Counter {
     ghost counts: { Bool };
 
