@@ -27,6 +27,9 @@
 
 pub mod closure;
 pub mod lookbehind;
+mod reading;
+mod recorder;
+mod reopening;
 pub mod stepper;
 pub mod steps;
 pub mod transition;

@@ -1,16 +1,15 @@
 -- The search of a closure, one iteration after another.
--- Main statements: IsSoFar, turn_held, turn_new, so_far-start, none_left.
--- Used by: `explore`, `take_turn`, `closure_from`.
+-- Main statements: IsSoFar, turn_held, turn_new, so_far-start, tries-turn.
+-- Used by: `explore`, `take_turn`, `epsilon_closure`.
 -- Idea: the visited states followed by the search of the pending ones is one list throughout.
-use Rattle.std.proofs.Common.{◌≡◌, ℕ, ◌+◌, ◌<◌, Bool, true, false, not, List, [], ◌∷◌, ◌++◌, length, nat_eq, All, refl, sym, ap, ◌∙◌, arith, subst, append_assoc, ◌≤◌, ◌||◌, ◌⊎◌, inl, inr, if◌then◌else◌, IfNone, None, Option, reverse}
+use Rattle.std.proofs.Common.{◌≡◌, ℕ, ◌+◌, ◌<◌, Bool, true, false, not, List, [], ◌∷◌, ◌++◌, length, nat_eq, All, refl, sym, ap, ◌∙◌, arith, subst, append_assoc, ◌||◌, if◌then◌else◌, IfNone, None, Option, reverse}
 use Rattle.std.proofs.lemmas.List.{append-nil, append_cancel_left, reverse-append}
 use Rattle.std.proofs.lemmas.List.Elements.{All-tail, All-append, All-cons, All-nil}
 use Rattle.std.proofs.lemmas.Bool.Decides.{nat_tests}
 use Rattle.determinize_below.specs.declared.look.Look.{Look as Assertion}
 use Rattle.determinize_below.specs.Edges.{edges, reach_past}
-use Rattle.determinize_below.specs.Semantics.{edges_of, state_at, Nfa, Node, ByteRange, Sparse, Dense, Look, Union, BinaryUnion, Capture, Fail, Match}
+use Rattle.determinize_below.specs.Semantics.{edges_of, state_at, Nfa, Node, Look, Union, BinaryUnion, Capture}
 use Rattle.determinize_below.specs.Members.{Members, has_id}
-use Rattle.determinize_below.specs.Nfa.{AllResolve}
 use Rattle.determinize_below.specs.Node.{is_epsilon}
 use Rattle.ordered_reach.proofs.Cases.{by_test}
 use Rattle.std.proofs.lemmas.Bool.{true≢false}
@@ -30,17 +29,17 @@ holds-member (x ∷ ids) id = turned x id (has_id ids id) ∙ ap (λ b. nat_eq x
     turned : (x id : ℕ) (b : Bool) → (nat_eq id x || b) ≡ (nat_eq x id || b)
     turned x id b = grind (arith, nat_tests)
 
+-- with nothing pending no tries are left
+pub tries_left-done : (nfa : Nfa) (look : Assertion → Bool) (met : List ℕ) → tries_left nfa look met [] ≡ 0
+unfolding tries_left
+tries_left-done nfa look met = refl
+
 module _ (nfa : Nfa) (sound : IsSound nfa) (look : Assertion → Bool) where
   -- a search with nothing pending has ended
   pub search_end-done : (met : List ℕ) → search_end nfa look met [] ≡ met
   unfolding search_end
   search_end-done met =
       closure-done same_decides (edges nfa look) (length nfa.states + 1) (edges_enough nfa sound look) met
-
-  -- and tries nothing more
-  pub tries_left-done : (met : List ℕ) → tries_left nfa look met [] ≡ 0
-  unfolding tries_left
-  tries_left-done met = refl
 
   -- a state that was met is passed over
   pub turn_held : (met rest : List ℕ) (id : ℕ) → has_id met id ≡ true → IsTurn nfa look met met id rest rest
@@ -113,52 +112,50 @@ first_pending id pending rest others below e same = e ∙ ap (λ (l : List ℕ).
 pub at_none : {A : Type 0} (result : Option A) (P : Type 0) → result ≡ None → IfNone result P → P
 at_none {A = A} result P none h = subst (λ (r : Option A). IfNone r P) none h
 
--- a search from roots, after some turns: what was visited, what is pending, and the tries before and after them
-pub record IsSoFar (nfa : Nfa) (look : Assertion → Bool) (held roots met pending : List ℕ)
-    (before now : ℕ) : Type 0 where
+-- the tries so far and those that are left are as many after a turn
+pub tries-turn : (nfa : Nfa) (look : Assertion → Bool) (met pending after next rest : List ℕ) (id now all : ℕ)
+    → pending ≡ id ∷ rest → IsTurn nfa look met after id rest next → now + tries_left nfa look met pending ≡ all
+    → now + 1 + tries_left nfa look after next ≡ all
+tries-turn nfa look met pending after next rest id now all top turn h =
+    omega (arith, turn.fewer, subst (λ (l : List ℕ). now + tries_left nfa look met l ≡ all) top h)
+
+pub tries-end : (nfa : Nfa) (look : Assertion → Bool) (met pending : List ℕ) (now all : ℕ) → pending ≡ []
+    → now + tries_left nfa look met pending ≡ all → now ≡ all
+tries-end nfa look met pending now all none h =
+    omega (arith, tries_left-done nfa look met, subst (λ (l : List ℕ). now + tries_left nfa look met l ≡ all) none h)
+
+-- a search from roots, after some turns: what was visited, and what is pending
+pub record IsSoFar (nfa : Nfa) (look : Assertion → Bool) (held roots met pending : List ℕ) : Type 0 where
   pub same : search_end nfa look met pending ≡ search_end nfa look held roots
-  pub counted : now + tries_left nfa look met pending ≡ before + tries_left nfa look held roots
   pub grown : (more : List ℕ) × (met ≡ held ++ more)
   pub below : All (λ s. s < length nfa.states) pending
 
 module _ (nfa : Nfa) (sound : IsSound nfa) (look : Assertion → Bool) (held roots : List ℕ) where
-  pub so_far-start : (before : ℕ) → All (λ s. s < length nfa.states) roots
-      → IsSoFar nfa look held roots held roots before before
-  so_far-start before h = record {
+  pub so_far-start : All (λ s. s < length nfa.states) roots → IsSoFar nfa look held roots held roots
+  so_far-start h = record {
     same = refl;
-    counted = refl;
     grown = ([], sym (append-nil held));
     below = h;
   }
 
-  module _ (met pending : List ℕ) (before now : ℕ) (so_far : IsSoFar nfa look held roots met pending before now) where
+  module _ (met pending : List ℕ) (so_far : IsSoFar nfa look held roots met pending) where
     pub so_far-turn : (after next rest : List ℕ) (id : ℕ) → pending ≡ id ∷ rest → IsTurn nfa look met after id rest next
-        → IsSoFar nfa look held roots after next before (now + 1)
-    so_far-turn after next rest id top turn =
-        let at_top : now + tries_left nfa look met (id ∷ rest) ≡ before + tries_left nfa look held roots =
-        subst (λ l. now + tries_left nfa look met l ≡ before + tries_left nfa look held roots) top so_far.counted in
-        record {
-          same = turn.same ∙ ap (λ l. search_end nfa look met l) (sym top) ∙ so_far.same;
-          counted = omega (arith, turn.fewer, at_top);
-          grown = (
-            so_far.grown.0 ++ turn.grown.0,
-            turn.grown.1 ∙ ap (λ l. l ++ turn.grown.0) so_far.grown.1
-                ∙ append_assoc held so_far.grown.0 turn.grown.0,
-          );
-          below = turn.below (All-tail (λ s. s < length nfa.states) id rest
-              (subst (λ l. All (λ s. s < length nfa.states) l) top so_far.below));
-        }
+        → IsSoFar nfa look held roots after next
+    so_far-turn after next rest id top turn = record {
+      same = turn.same ∙ ap (λ l. search_end nfa look met l) (sym top) ∙ so_far.same;
+      grown = (
+        so_far.grown.0 ++ turn.grown.0,
+        turn.grown.1 ∙ ap (λ l. l ++ turn.grown.0) so_far.grown.1
+            ∙ append_assoc held so_far.grown.0 turn.grown.0,
+      );
+      below = turn.below (All-tail (λ s. s < length nfa.states) id rest
+          (subst (λ l. All (λ s. s < length nfa.states) l) top so_far.below));
+    }
 
     pub so_far-end : pending ≡ [] → met ≡ held ++ reach_past nfa look held roots
     so_far-end none =
         sym (search_end-done nfa sound look met) ∙ ap (λ l. search_end nfa look met l) (sym none)
         ∙ so_far.same ∙ search_end-start nfa sound look held roots
-
-    pub so_far-counted : pending ≡ [] → now ≡ before + tries_left nfa look held roots
-    so_far-counted none =
-        let left : tries_left nfa look met pending ≡ 0 =
-        ap (λ l. tries_left nfa look met l) none ∙ tries_left-done nfa sound look met in
-        omega (arith, so_far.counted, left)
 
     pub so_far-part : (more : List ℕ) × (met ≡ held ++ more) × IsBeginning more (reach_past nfa look held roots)
     so_far-part = (
@@ -166,17 +163,6 @@ module _ (nfa : Nfa) (sound : IsSound nfa) (look : Assertion → Bool) (held roo
       so_far.grown.1,
       met_so_far nfa sound look held met pending roots so_far.same so_far.grown,
     )
-
-    -- the tries are no more than all
-    pub so_far-bounded : (after : ℕ) → after ≡ now → after ≤ before + tries_left nfa look held roots
-    so_far-bounded after e = omega (arith, so_far.counted)
-
--- where nothing is pending, a search from some root has made a turn
-pub none_left : (nfa : Nfa) (roots met pending : List ℕ) → pending ≡ [] → (pending ≡ roots) ⊎ AllResolve nfa met
-    → (root : ℕ) (others : List ℕ) → roots ≡ root ∷ others → AllResolve nfa met
-none_left nfa roots met pending none (inl same) root others e =
-    absurd (let k : [] ≡ root ∷ others = sym none ∙ same ∙ e in cc)
-none_left nfa roots met pending none (inr all) root others e = all
 
 -- the list that is chosen by the result of a test
 pub inserted : {A : Type 0} (b : Bool) (xs ys : List A) → b ≡ true → (if b then xs else ys) ≡ xs
@@ -195,32 +181,27 @@ members_same set ids capacity i k = ap (λ l. members l set.capacity) i ∙ ap (
 
 -- a state that is no epsilon state has no edges
 edges_of-leaf : (look : Assertion → Bool) (s : Node) → is_epsilon s ≡ false → edges_of look s ≡ []
-edges_of-leaf look (ByteRange t) e = refl
-edges_of-leaf look (Sparse ts) e = refl
-edges_of-leaf look (Dense ids) e = refl
 edges_of-leaf look (Look l next) e = absurd (true≢false e)
 edges_of-leaf look (Union ids) e = absurd (true≢false e)
 edges_of-leaf look (BinaryUnion a b) e = absurd (true≢false e)
 edges_of-leaf look (Capture next) e = absurd (true≢false e)
-edges_of-leaf look Fail e = refl
-edges_of-leaf look (Match pattern) e = refl
+edges_of-leaf look s e = refl
 
 module _ (nfa : Nfa) (sound : IsSound nfa) (look : Assertion → Bool) (held : List ℕ) (root : ℕ)
     (within : root < length nfa.states) (leaf : is_epsilon (state_at nfa root) ≡ false) where
   -- the search from such a state ends after one turn
-  one_turn : (new : Bool) → new ≡ not (has_id held root) → (before : ℕ)
-      → IsSoFar nfa look held (root ∷ []) (if new then held ++ root ∷ [] else held) [] before (before + 1)
-  one_turn new h before =
-      let start : IsSoFar nfa look held (root ∷ []) held (root ∷ []) before before =
-      so_far-start nfa sound look held (root ∷ []) before
+  one_turn : (new : Bool) → new ≡ not (has_id held root)
+      → IsSoFar nfa look held (root ∷ []) (if new then held ++ root ∷ [] else held) []
+  one_turn new h =
+      let start : IsSoFar nfa look held (root ∷ []) held (root ∷ []) = so_far-start nfa sound look held (root ∷ [])
       (All-cons (λ s. s < length nfa.states) root [] within (All-nil (λ s. s < length nfa.states))) in
       by_test (has_id held root)
       (λ e. let old : new ≡ false = h ∙ ap not e in
-      rw old (so_far-turn nfa sound look held (root ∷ []) held (root ∷ []) before before start held [] [] root refl
+      rw old (so_far-turn nfa sound look held (root ∷ []) held (root ∷ []) start held [] [] root refl
       (turn_held nfa sound look held [] root e)))
       (λ e. let fresh : new ≡ true = h ∙ ap not e in
       let no_edges : edges nfa look root ++ [] ≡ [] = ap (λ l. l ++ []) (edges_of-leaf look (state_at nfa root) leaf) in
-      rw fresh (so_far-turn nfa sound look held (root ∷ []) held (root ∷ []) before before start
+      rw fresh (so_far-turn nfa sound look held (root ∷ []) held (root ∷ []) start
       (held ++ root ∷ []) [] [] root refl
       (subst (λ l. IsTurn nfa look held (held ++ root ∷ []) root [] l) no_edges
       (turn_new nfa sound look held [] root e))))
@@ -228,4 +209,4 @@ module _ (nfa : Nfa) (sound : IsSound nfa) (look : Assertion → Bool) (held : L
   -- what it adds
   pub leaf_set : (new : Bool) → new ≡ not (has_id held root)
       → (if new then held ++ root ∷ [] else held) ≡ held ++ reach_past nfa look held (root ∷ [])
-  leaf_set new h = so_far-end nfa sound look held (root ∷ []) _ [] 0 1 (one_turn new h 0) refl
+  leaf_set new h = so_far-end nfa sound look held (root ∷ []) _ [] (one_turn new h) refl

@@ -43,7 +43,12 @@ module _ (nfa : Nfa) (b c : ℕ) (same : AreTestedAlike nfa b c) where
   second_alike true h = same.carriage h
   second_alike false h = same.feed h
 
-  -- an assertion of the NFA is satisfied by both bytes or by none
+  -- a word assertion of the NFA is satisfied by both bytes or by none
+  words_alike : (w : Bool) (l : Look) → has 0x3FFC0 l ≡ true → has nfa.look_set_any l ≡ true
+      → (word_opened w (is_word (Some b)) l || false) ≡ (word_opened w (is_word (Some c)) l || false)
+  words_alike w l k h = ap (λ (x : Bool). word_opened w x l || false) (same.word (word_class nfa.look_set_any l k h))
+
+  -- and so is each other
   opened-alike : (w f : Bool) (l : Look) → has nfa.look_set_any l ≡ true
       → opened (tables_of nfa) w f (Some b) l ≡ opened (tables_of nfa) w f (Some c) l
   unfolding has opened word_opened line_opened
@@ -55,26 +60,16 @@ module _ (nfa : Nfa) (b c : ℕ) (same : AreTestedAlike nfa b c) where
       (first_alike nfa.reverse (crlf_class nfa.look_set_any EndCRLF refl h))
       ∙ ap (λ (x : Bool). nat_eq c (crlf_first nfa.reverse) || (x && not f))
       (second_alike nfa.reverse (crlf_class nfa.look_set_any EndCRLF refl h))
-  opened-alike w f WordAscii h =
-      ap (λ (x : Bool). word_opened w x WordAscii || false) (same.word (word_class nfa.look_set_any WordAscii refl h))
-  opened-alike w f WordAsciiNegate h = ap (λ (x : Bool). word_opened w x WordAsciiNegate || false)
-      (same.word (word_class nfa.look_set_any WordAsciiNegate refl h))
-  opened-alike w f WordUnicode h = ap (λ (x : Bool). word_opened w x WordUnicode || false)
-      (same.word (word_class nfa.look_set_any WordUnicode refl h))
-  opened-alike w f WordUnicodeNegate h = ap (λ (x : Bool). word_opened w x WordUnicodeNegate || false)
-      (same.word (word_class nfa.look_set_any WordUnicodeNegate refl h))
-  opened-alike w f WordStartAscii h = ap (λ (x : Bool). word_opened w x WordStartAscii || false)
-      (same.word (word_class nfa.look_set_any WordStartAscii refl h))
-  opened-alike w f WordEndAscii h = ap (λ (x : Bool). word_opened w x WordEndAscii || false)
-      (same.word (word_class nfa.look_set_any WordEndAscii refl h))
-  opened-alike w f WordStartUnicode h = ap (λ (x : Bool). word_opened w x WordStartUnicode || false)
-      (same.word (word_class nfa.look_set_any WordStartUnicode refl h))
-  opened-alike w f WordEndUnicode h = ap (λ (x : Bool). word_opened w x WordEndUnicode || false)
-      (same.word (word_class nfa.look_set_any WordEndUnicode refl h))
-  opened-alike w f WordEndHalfAscii h = ap (λ (x : Bool). word_opened w x WordEndHalfAscii || false)
-      (same.word (word_class nfa.look_set_any WordEndHalfAscii refl h))
-  opened-alike w f WordEndHalfUnicode h = ap (λ (x : Bool). word_opened w x WordEndHalfUnicode || false)
-      (same.word (word_class nfa.look_set_any WordEndHalfUnicode refl h))
+  opened-alike w f WordAscii h = words_alike w WordAscii refl h
+  opened-alike w f WordAsciiNegate h = words_alike w WordAsciiNegate refl h
+  opened-alike w f WordUnicode h = words_alike w WordUnicode refl h
+  opened-alike w f WordUnicodeNegate h = words_alike w WordUnicodeNegate refl h
+  opened-alike w f WordStartAscii h = words_alike w WordStartAscii refl h
+  opened-alike w f WordEndAscii h = words_alike w WordEndAscii refl h
+  opened-alike w f WordStartUnicode h = words_alike w WordStartUnicode refl h
+  opened-alike w f WordEndUnicode h = words_alike w WordEndUnicode refl h
+  opened-alike w f WordEndHalfAscii h = words_alike w WordEndHalfAscii refl h
+  opened-alike w f WordEndHalfUnicode h = words_alike w WordEndHalfUnicode refl h
   opened-alike w f l h = refl
 
   -- the look-behind of the next value

@@ -29,8 +29,8 @@ module _ (nfa : Nfa) (v : Value) (u : Option ℕ) where
       → working_list nfa v u ≡ reach nfa (has set) (distinct_states v)
   working_again set e h = rw e (ap (λ f. reach nfa f (distinct_states v)) (sym h))
 
-module _ (nfa : Nfa) (v : Value) (u : Option ℕ) (set : ℕ) (reopened : is_reopened nfa v u ≡ true)
-    (is : has set ≡ joined (has v.look_have) (opened_by nfa v u)) (held roots : List ℕ) (empty : held ≡ [])
+module _ (nfa : Nfa) (v : Value) (u : Option ℕ) (set : ℕ) {held roots : List ℕ} (reopened : is_reopened nfa v u ≡ true)
+    (is : has set ≡ joined (has v.look_have) (opened_by nfa v u)) (empty : held ≡ [])
     (all : roots ≡ distinct_states v) where
   -- a search into an empty set, from the recorded states, makes it
   pub reached_again : held ++ reach_past nfa (has set) held roots ≡ working_list nfa v u

@@ -11,8 +11,8 @@ use Rattle.determinize_below.specs.Semantics.{Nfa}
 use Rattle.ordered_reach.specs.Reach.{fresh, none_held}
 use Rattle.determinize_core.specs.Step.{part_read, patterns_read}
 use Rattle.determinize_core.specs.Private.Changes.{with_patterns}
-use Rattle.determinize_core.specs.declared.determinize.working_list.Reading.{Reading}
-use Rattle.determinize_core.specs.declared.determinize.working_list.Reading.TheVariants.{Nothing, Target, Match}
+use Rattle.determinize_core.specs.declared.determinize.reading.Reading.{Reading}
+use Rattle.determinize_core.specs.declared.determinize.reading.Reading.TheVariants.{Nothing, Target, Match}
 
 -- the items of a list, each once
 abbrev pub distinct : List ℕ → List ℕ

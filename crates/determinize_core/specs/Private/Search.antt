@@ -1,12 +1,9 @@
 -- A depth-first search while it runs, and how often it tries to add a state.
-use Rattle.std.specs.Prelude.{◌≡◌, ℕ, suc, ◌+◌, ◌<◌, ◌≤◌, ◌∷◌, ◌++◌, All, Bool, List, length, nat_eq}
+use Rattle.std.specs.Prelude.{◌≡◌, ℕ, suc, ◌+◌, ◌<◌, ◌∷◌, ◌++◌, All, Bool, List, length, nat_eq}
 use Rattle.determinize_below.specs.declared.look.Look.{Look as Assertion}
-use Rattle.determinize_below.specs.Edges.{edges, reach_past}
-use Rattle.determinize_below.specs.Members.{Members}
-use Rattle.determinize_below.specs.Nfa.{AllResolve}
+use Rattle.determinize_below.specs.Edges.{edges}
 use Rattle.determinize_below.specs.Semantics.{Nfa}
 use Rattle.ordered_reach.specs.StackSearch.{closure, search_tries}
-use Rattle.determinize_core.specs.Closure.{AddsBeginning}
 
 -- the states of a search when it ends, given those visited so far and those pending
 unfoldable pub search_end : Nfa → (Assertion → Bool) → List ℕ → List ℕ → List ℕ
@@ -25,17 +22,3 @@ pub record IsTurn (nfa : Nfa) (holds : Assertion → Bool) (met after : List ℕ
   pub fewer : tries_left nfa holds met (id ∷ rest) ≡ suc (tries_left nfa holds after pending)
   pub grown : (more : List ℕ) × (after ≡ met ++ more)
   pub below : All (λ s. s < length nfa.states) rest → All (λ s. s < length nfa.states) pending
-
--- a search from roots has ended: the set has gained the states reachable from them, and each try is
--- counted
-pub record IsSearched (nfa : Nfa) (holds : Assertion → Bool) (roots : List ℕ) (old new : Members)
-    (before now : ℕ) : Type 0 where
-  pub set : new ≡ record old { ids = old.ids ++ reach_past nfa holds old.ids roots }
-  pub counted : now ≡ before + tries_left nfa holds old.ids roots
-
--- a search from roots has ended, or has stopped because an allocation failed
-pub record IsPartSearched (nfa : Nfa) (holds : Assertion → Bool) (roots : List ℕ)
-    (old new : Members) (before now : ℕ) : Type 0 where
-  pub set : AddsBeginning old new (reach_past nfa holds old.ids roots)
-  pub resolve : (root : ℕ) (others : List ℕ) → roots ≡ root ∷ others → AllResolve nfa new.ids
-  pub bounded : now ≤ before + tries_left nfa holds old.ids roots

@@ -1,71 +1,24 @@
 //! Epsilon closure: the NFA states reachable without input, in order of preference.
 //!
-//! One loop, [`explore`], computes all closures by depth-first search. The current list has the edges
-//! of the last state with some, and those of earlier states wait on the stack. The set ends the
-//! search on cycles. A [`Recorder`] receives each new state.
+//! One loop, [`explore`], computes all closures by depth-first search. The current list has the
+//! edges of the last state with some, and those of earlier states wait on the stack. The set ends
+//! the search on cycles. A [`Recorder`] receives each new state, and a [`Counter`] counts each try.
 
-ghost use Rattle.std.specs.Prelude.{◌≡◌, ℕ, ◌+◌, ◌<◌, List, [], ◌∷◌, ◌++◌, None, drop, false, fold, not, length, reverse, IfNone, IfSome, IfOk, OnOk, OnErr, IsOk, if◌then◌else◌};
+ghost use Rattle.std.specs.Prelude.{◌≡◌, ◌+◌, ◌<◌, ◌≤◌, ℕ, List, [], ◌∷◌, ◌++◌, ◌⊎◌, None, IsTrue, drop, false, fold, length, reverse, IfNone, IfSome, IfOk, OnOk, OnErr, IsOk};
 ghost use Rattle.determinize_below.specs.Edges.{edges, reach_past};
-ghost use Rattle.determinize_below.specs.Semantics.{state_at, Nfa};
+ghost use Rattle.determinize_below.specs.Semantics.{state_at};
 ghost use Rattle.determinize_below.specs.Look.{has};
-ghost use Rattle.determinize_below.specs.Members.{AreMembers, has_id};
 ghost use Rattle.determinize_below.specs.Nfa.{AllResolve, IsAccepted};
 ghost use Rattle.determinize_below.specs.Node.{is_epsilon};
 ghost use Rattle.determinize_core.specs.Closure.{closure_of, AddsBeginning};
-ghost use Rattle.determinize_core.specs.Private.Search.{IsPartSearched, IsSearched, IsTurn};
-ghost use Rattle.determinize_state.specs.Recording.{added_one};
+ghost use Rattle.determinize_core.specs.Private.Search.{IsTurn, tries_left};
 
-use crate::determinize::steps::Steps;
+use crate::determinize::recorder::Recorder;
+use crate::determinize::steps::Counter;
 use determinize_below::nfa::State;
 use determinize_below::{LookSet, NFA, SparseSet, StateID};
-use determinize_state::recording::add_state;
-use determinize_state::state::StateBuilderNFA;
 use std::alloc::{AllocError, Allocator};
-use std::marker::Brand;
 use std::slice;
-use std::sync::ledger::{Blank, Ledger};
-
-/// Receives the states that a search finds: a builder, or `()`, which ignores them.
-pub(crate) trait Recorder {
-    ghost with_one: { Nfa → Self → ℕ → Self };
-
-    /// Records a state after those before.
-    fn record<N: Allocator>(&mut self, nfa: &NFA<N>, id: StateID) -> Result<(), AllocError>
-        requires { id < length nfa.now.states }
-        ensures { OnOk result (self.new ≡ with_one nfa.now self.old id) };
-}
-
-impl Recorder for () {
-    ghost with_one = { λ nfa recorder id. recorder };
-
-    #[inline(always)]
-    fn record<N: Allocator>(&mut self, _nfa: &NFA<N>, _id: StateID) -> Result<(), AllocError> {
-        Ok(())
-    }
-}
-
-impl<A: Allocator> Recorder for StateBuilderNFA<A> {
-    ghost with_one = { added_one };
-
-    #[inline(always)]
-    fn record<N: Allocator>(&mut self, nfa: &NFA<N>, id: StateID) -> Result<(), AllocError> {
-        add_state(nfa, id, self)
-    }
-}
-
-/// Adds a state to the set and returns whether it is new. Counts one try, also if it is not new.
-#[inline(always)]
-fn visit<A: Allocator, L: Ledger>(set: &mut SparseSet<A>, id: StateID, steps: &mut Steps<L>) -> bool
-    requires { id < set.old.capacity }
-    ensures counted { steps.new ≡ steps.old + 1 }
-    ensures new { result ≡ not (has_id set.old.ids id) }
-    ensures after { set.new
-        ≡ record set.old { ids = (if result then set.old.ids ++ id ∷ [] else set.old.ids) } }
-    ensures members { AreMembers set.new }
-{
-    steps.tick();
-    set.insert(id)
-}
 
 /// Returns the state to visit next: the first of the current list, or else the top of the stack.
 #[inline(always)]
@@ -160,10 +113,10 @@ fn record_and_follow<'a, N: Allocator, A: Allocator, W: Recorder>(
     }
 }
 
-/// Visits a state and, if it is new, records it and follows its epsilon edges. Returns the current
-/// list.
+/// Adds a state to the set and, if it is new, records it and follows its epsilon edges. Counts one
+/// try, also if the state is not new. Returns the current list.
 #[inline(always)]
-fn take_turn<'a, N: Allocator, A: Allocator, W: Recorder, L: Ledger>(
+fn take_turn<'a, N: Allocator, A: Allocator, W: Recorder, C: Counter>(
     nfa: &'a NFA<N>,
     id: StateID,
     others: &'a [StateID],
@@ -171,7 +124,7 @@ fn take_turn<'a, N: Allocator, A: Allocator, W: Recorder, L: Ledger>(
     stack: &mut Vec<StateID, A>,
     set: &mut SparseSet<A>,
     recorder: &mut W,
-    steps: &mut Steps<L>,
+    counter: &mut C,
 ) -> Result<&'a [StateID], AllocError>
     requires accepted { IsAccepted nfa.now }
     requires resolve { id < length nfa.now.states }
@@ -184,9 +137,10 @@ fn take_turn<'a, N: Allocator, A: Allocator, W: Recorder, L: Ledger>(
         × (recorder.new ≡ fold (W.with_one nfa.now) recorder.old gained)) }
     ensures capacity { set.new.capacity ≡ set.old.capacity }
     ensures resolve { AllResolve nfa.now set.new.ids }
-    ensures counted { steps.new ≡ steps.old + 1 }
+    ensures counted { IsTrue C.counts → C.total counter.new ≡ C.total counter.old + 1 }
 {
-    if visit(set, id, steps) {
+    counter.count();
+    if set.insert(id) {
         record_and_follow(nfa, id, others, look_have, stack, recorder)
     } else {
         Ok(others)
@@ -196,74 +150,38 @@ fn take_turn<'a, N: Allocator, A: Allocator, W: Recorder, L: Ledger>(
 /// Searches from these states, and then from those on the stack, the first of them first. On error
 /// the stack is not cleared.
 #[inline(always)]
-pub(crate) fn explore<N: Allocator, A: Allocator, W: Recorder, L: Ledger>(
+pub(crate) fn explore<N: Allocator, A: Allocator, W: Recorder, C: Counter>(
     nfa: &NFA<N>,
     first: &[StateID],
     look_have: LookSet,
     stack: &mut Vec<StateID, A>,
     set: &mut SparseSet<A>,
     recorder: &mut W,
-    steps: &mut Steps<L>,
+    counter: &mut C,
 ) -> Result<(), AllocError>
     requires accepted { IsAccepted nfa.now }
     requires resolve { AllResolve nfa.now (first.now ++ stack.old.items) }
     requires capacity { set.old.capacity ≡ length nfa.now.states }
-    ensures ok { OnOk result (IsSearched nfa.now (has look_have)
-        (first.now ++ stack.old.items) set.old set.new steps.old steps.new) }
+    ensures ids { OnOk result (set.new.ids ≡ set.old.ids
+        ++ reach_past nfa.now (has look_have) set.old.ids (first.now ++ stack.old.items)) }
+    ensures part { AddsBeginning set.old set.new
+        (reach_past nfa.now (has look_have) set.old.ids (first.now ++ stack.old.items)) }
+    ensures resolve { (first.now ++ stack.old.items ≡ []) ⊎ AllResolve nfa.now set.new.ids }
     ensures recorded { OnOk result (recorder.new ≡ fold (W.with_one nfa.now) recorder.old
         (reach_past nfa.now (has look_have) set.old.ids (first.now ++ stack.old.items))) }
-    ensures part { IsPartSearched nfa.now (has look_have)
-        (first.now ++ stack.old.items) set.old set.new steps.old steps.new }
+    ensures counted { IsTrue C.counts → OnOk result (C.total counter.new ≡ C.total counter.old
+        + tries_left nfa.now (has look_have) set.old.ids (first.now ++ stack.old.items)) }
+    ensures bounded { IsTrue C.counts → C.total counter.new ≤ C.total counter.old
+        + tries_left nfa.now (has look_have) set.old.ids (first.now ++ stack.old.items) }
     ensures stack { OnOk result (stack.new.items ≡ []) }
 {
     stack.reverse();
     let mut current = first;
     while let Some(id) = take_next(current, stack) {
         let others = rest_of(current);
-        current = take_turn(nfa, id, others, look_have, stack, set, recorder, steps)?;
+        current = take_turn(nfa, id, others, look_have, stack, set, recorder, counter)?;
     }
     Ok(())
-}
-
-/// Adds the closure of a state, with a count of tries that is dropped.
-fn closure_from<N: Allocator, A: Allocator, L: Ledger>(
-    nfa: &NFA<N>,
-    start: StateID,
-    look_have: LookSet,
-    stack: &mut Vec<StateID, A>,
-    set: &mut SparseSet<A>,
-    blank: Blank,
-) -> Result<(), AllocError>
-    requires name { blank.name ≡ L.name }
-    requires parts { blank.parts ≡ L.parts }
-    requires some { 0 < L.parts }
-    requires stack { stack.old.items ≡ [] }
-    requires resolve { start < length nfa.now.states }
-    requires capacity { set.old.capacity ≡ length nfa.now.states }
-    ensures ok { OnOk result (set.new
-        ≡ record set.old { ids = set.old.ids ++ closure_of nfa.now look_have set.old.ids start }) }
-    ensures err { OnErr result
-        (AddsBeginning set.old set.new (closure_of nfa.now look_have set.old.ids start)) }
-    ensures resolve { AllResolve nfa.now set.new.ids }
-    ensures stack { stack.new.items ≡ [] }
-    ensures succeeds { is_epsilon (state_at nfa.now start) ≡ false → IsOk result }
-{
-    let mut steps = Steps::<L>::new(blank);
-    if !nfa.state(start).is_epsilon() {
-        visit(set, start, &mut steps);
-        return Ok(());
-    }
-    let result = explore(
-        nfa,
-        slice::from_ref(&start),
-        look_have,
-        stack,
-        set,
-        &mut (),
-        &mut steps,
-    );
-    stack.clear();
-    result
 }
 
 /// Adds the epsilon closure of `start` to the set: `start` and what it reaches without input.
@@ -291,5 +209,12 @@ pub fn epsilon_closure<N: Allocator, A: Allocator>(
     ensures stack { stack.new.items ≡ [] }
     ensures succeeds { is_epsilon (state_at nfa.now start) ≡ false → IsOk result }
 {
-    closure_from::<N, A, Brand>(nfa, start, look_have, stack, set, Blank::new(1))
+    if !nfa.state(start).is_epsilon() {
+        set.insert(start);
+        return Ok(());
+    }
+    let first = slice::from_ref(&start);
+    let result = explore(nfa, first, look_have, stack, set, &mut (), &mut ());
+    stack.clear();
+    result
 }

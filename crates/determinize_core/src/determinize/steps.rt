@@ -1,6 +1,9 @@
 //! A count of tries, of size 0.
+//!
+//! The closures count each try to add a state to a set, by a [`Counter`]: in [`Steps`] for
+//! `next_counted`, and in `()`, which counts nothing, for all other calls.
 
-ghost use Rattle.std.specs.Prelude.{◌≡◌, ℕ, ◌+◌, ◌<◌};
+ghost use Rattle.std.specs.Prelude.{◌≡◌, ℕ, ◌+◌, ◌<◌, Bool, true, false, IsTrue};
 
 use std::marker::Model;
 use std::sync::ledger::{Blank, Book, Ledger, Share};
@@ -34,11 +37,34 @@ impl<L: Ledger> Steps<L> {
         let (book, share) = blank.open::<L>();
         Steps { book, share }
     }
+}
+
+/// Counts the tries of a search: `counts` says whether it does, `total` how many so far.
+pub(crate) trait Counter {
+    ghost counts: { Bool };
+
+    ghost total: { Self → ℕ };
 
     /// Counts one more try.
-    pub(crate) fn tick(&mut self)
-        ensures { self.new ≡ self.old + 1 }
-    {
+    fn count(&mut self)
+        ensures { IsTrue counts → total self.new ≡ total self.old + 1 };
+}
+
+impl<L: Ledger> Counter for Steps<L> {
+    ghost counts = { true };
+
+    ghost total = { λ steps. steps };
+
+    fn count(&mut self) {
         self.book.add(&mut self.share, 1);
     }
+}
+
+impl Counter for () {
+    ghost counts = { false };
+
+    ghost total = { λ nothing. 0 };
+
+    #[inline(always)]
+    fn count(&mut self) {}
 }

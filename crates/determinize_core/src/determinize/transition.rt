@@ -3,7 +3,7 @@
 //! The look-behind of the next state is set from the unit, the first reading of the working list
 //! adds the patterns and pushes the targets, and the closure of the targets adds the NFA states.
 
-ghost use Rattle.std.specs.Prelude.{◌≡◌, ◌+◌, ◌*◌, ◌<◌, ◌≤◌, ◌&&◌, [], length, IfOk, OnOk};
+ghost use Rattle.std.specs.Prelude.{◌≡◌, ◌+◌, ◌*◌, ◌<◌, ◌≤◌, ◌&&◌, [], IsTrue, length, IfOk, OnOk};
 ghost use Rattle.determinize_below.specs.Nfa.{AllResolve, IsAccepted};
 ghost use Rattle.determinize_below.specs.Unit.{byte_of};
 ghost use Rattle.determinize_below.specs.declared.search.MatchKind.TheVariants as kinds;
@@ -14,14 +14,13 @@ ghost use Rattle.determinize_core.specs.Tries.{edges_in_all, tries};
 ghost use Rattle.determinize_state.specs.Value.{dead, with_flags};
 
 use crate::determinize::closure::explore;
-use crate::determinize::steps::Steps;
+use crate::determinize::steps::{Counter, Steps};
 use crate::determinize::working_list::read_working_list;
 use determinize_below::{MatchKind, NFA, SparseSets, StateID, Unit};
 use determinize_start::look_tables::{LookBehind, LookTables};
 use determinize_state::state::{State, StateBuilderEmpty, StateBuilderNFA};
 use std::alloc::{AllocError, Allocator};
-use std::marker::Brand;
-use std::sync::ledger::{Blank, Ledger};
+use std::sync::ledger::Ledger;
 
 /// Returns the look-behind of the next state, for the unit that is read.
 fn look_behind_after<N: Allocator>(nfa: &NFA<N>, unit: Unit) -> LookBehind
@@ -63,7 +62,7 @@ fn set_flags<A: Allocator>(
 /// as fast for each caller. It changes the builder in place, since a move just after a write has to
 /// wait for the write.
 #[inline(never)]
-fn transition<N: Allocator, A: Allocator, L: Ledger>(
+fn transition<N: Allocator, A: Allocator, C: Counter>(
     nfa: &NFA<N>,
     match_kind: MatchKind,
     sparses: &mut SparseSets<A>,
@@ -71,7 +70,7 @@ fn transition<N: Allocator, A: Allocator, L: Ledger>(
     state: &State<A>,
     unit: Unit,
     builder: &mut StateBuilderNFA<A>,
-    steps: &mut Steps<L>,
+    counter: &mut C,
 ) -> Result<(), AllocError>
     requires scratch { IsScratch nfa.now sparses.old.set1 sparses.old.set2 stack.old.items }
     requires resolve { AllResolve nfa.now state.now.states }
@@ -79,14 +78,17 @@ fn transition<N: Allocator, A: Allocator, L: Ledger>(
     ensures ok { OnOk result (builder.new ≡ step nfa.now match_kind state.now (byte_of unit)) }
     ensures resolve { OnOk result (AllResolve nfa.now builder.new.states) }
     ensures scratch { IsScratch nfa.now sparses.new.set1 sparses.new.set2 [] }
-    ensures counted { OnOk result
-        (steps.new ≡ steps.old + tries nfa.now match_kind state.now (byte_of unit)) }
-    ensures bounded { steps.new ≤ steps.old + 2 * (length nfa.now.states + edges_in_all nfa.now) }
+    ensures counted { IsTrue C.counts → OnOk result (C.total counter.new
+        ≡ C.total counter.old + tries nfa.now match_kind state.now (byte_of unit)) }
+    ensures bounded { IsTrue C.counts → C.total counter.new
+        ≤ C.total counter.old + 2 * (length nfa.now.states + edges_in_all nfa.now) }
 {
     let look_behind = look_behind_after(nfa, unit);
     sparses.clear();
     set_look_have(look_behind, builder);
-    read_working_list(nfa, match_kind, state, unit, sparses, stack, builder, steps)?;
+    read_working_list(
+        nfa, match_kind, state, unit, sparses, stack, builder, counter,
+    )?;
     // Without targets there is nothing that could use the flags, and setting them would make
     // different states of what is one: the dead state, or the same matches and nothing else.
     set_flags(look_behind, !stack.is_empty(), builder);
@@ -97,7 +99,7 @@ fn transition<N: Allocator, A: Allocator, L: Ledger>(
         stack,
         &mut sparses.set2,
         builder,
-        steps,
+        counter,
     )?;
     builder.settle();
     Ok(())
@@ -109,6 +111,7 @@ fn transition<N: Allocator, A: Allocator, L: Ledger>(
 /// and the unit determine this number, and it is at most twice the number of states and epsilon
 /// edges of the NFA. On error too, `steps` grows by no more than that.
 #[inline(always)]
+#[tactic(auto, using(crate::proofs::step::StepLaws::one_pattern))]
 pub fn next_counted<N: Allocator, A: Allocator, L: Ledger>(
     nfa: &NFA<N>,
     match_kind: MatchKind,
@@ -147,43 +150,6 @@ pub fn next_counted<N: Allocator, A: Allocator, L: Ledger>(
     Ok(builder)
 }
 
-/// Returns the same as [`next`], with a count of tries that is dropped.
-#[inline(always)]
-fn next_from<N: Allocator, A: Allocator, L: Ledger>(
-    nfa: &NFA<N>,
-    match_kind: MatchKind,
-    sparses: &mut SparseSets<A>,
-    stack: &mut Vec<StateID, A>,
-    state: &State<A>,
-    unit: Unit,
-    empty_builder: StateBuilderEmpty<A>,
-    blank: Blank,
-) -> Result<StateBuilderNFA<A>, AllocError>
-    requires name { blank.name ≡ L.name }
-    requires parts { blank.parts ≡ L.parts }
-    requires some { 0 < L.parts }
-    requires scratch { IsScratch nfa.now sparses.old.set1 sparses.old.set2 stack.old.items }
-    requires resolve { AllResolve nfa.now state.now.states }
-    ensures ok { IfOk result
-        (λ builder. builder ≡ step nfa.now match_kind state.now (byte_of unit)) }
-    ensures single { match_kind ≡ kinds.LeftmostFirst
-        → IfOk result (λ builder. length builder.patterns ≤ 1) }
-    ensures resolve { IfOk result (λ builder. AllResolve nfa.now builder.states) }
-    ensures scratch { IsScratch nfa.now sparses.new.set1 sparses.new.set2 stack.new.items }
-{
-    let mut steps = Steps::<L>::new(blank);
-    next_counted(
-        nfa,
-        match_kind,
-        sparses,
-        stack,
-        state,
-        unit,
-        empty_builder,
-        &mut steps,
-    )
-}
-
 /// Returns the state after a state over a unit of input, in a builder.
 ///
 /// - `sparses` and `stack` are scratch: both sets have the number of states of the NFA as their
@@ -197,6 +163,7 @@ fn next_from<N: Allocator, A: Allocator, L: Ledger>(
 /// `MatchKind::LeftmostFirst`. Its NFA states are the closure of the targets of the unit. On error
 /// the builder is dropped.
 #[inline(always)]
+#[tactic(auto, using(crate::proofs::step::StepLaws::one_pattern))]
 pub fn next<N: Allocator, A: Allocator>(
     nfa: &NFA<N>,
     match_kind: MatchKind,
@@ -215,14 +182,18 @@ pub fn next<N: Allocator, A: Allocator>(
     ensures resolve { IfOk result (λ builder. AllResolve nfa.now builder.states) }
     ensures scratch { IsScratch nfa.now sparses.new.set1 sparses.new.set2 stack.new.items }
 {
-    next_from::<N, A, Brand>(
+    let mut builder = empty_builder.into_matches()?.into_nfa();
+    let result = transition(
         nfa,
         match_kind,
         sparses,
         stack,
         state,
         unit,
-        empty_builder,
-        Blank::new(1),
-    )
+        &mut builder,
+        &mut (),
+    );
+    stack.clear();
+    result?;
+    Ok(builder)
 }

@@ -11,7 +11,7 @@ groups_short : (more n : ℕ) → length (groups more n) ≤ suc more
 groups_short zero n = lit≤ tt
 groups_short (suc more) n = grind (arith, groups_short more (n / 128))
 
-varint_short : (n : ℕ) → length (varint n) ≤ 5
+pub varint_short : (n : ℕ) → length (varint n) ≤ 5
 unfolding varint
 varint_short n = groups_short 4 n
 

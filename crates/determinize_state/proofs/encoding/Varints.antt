@@ -1,8 +1,8 @@
 -- Varints and the differences of ids: decoding inverts encoding.
--- Main statements: ids_from-deltas, varint-one, append-varint, begins_still.
+-- Main statements: ids_from-deltas, varint-one, append-varint.
 -- Used by: RoundTrip, the loops that read and write a varint.
 -- Idea: seven bits at a time; a zigzag number is even or odd with its sign.
-use Rattle.determinize_state.proofs.Common.{◌≡◌, inl, inr, ℕ, ◌+◌, ◌-◌, ◌*◌, ◌/◌, ◌%◌, ◌^◌, ◌<◌, ◌≤◌, true, false, Option, Some, None, List, [], ◌∷◌, ◌++◌, All, nat_lt, suc, zero, refl, arith, sym, ap, ◌∙◌, append_assoc, zero-add, lit≤, subst, length, take, drop, IfNone, IfSome, drop-append_seam, IsDeltas, zigzag, unzigzag, groups, deltas, ids_from, last_id, length-take, take-append-le, All-head, All-tail, leb_tells, nat_tests, read}
+use Rattle.determinize_state.proofs.Common.{◌≡◌, inl, inr, ℕ, ◌+◌, ◌-◌, ◌*◌, ◌/◌, ◌%◌, ◌^◌, ◌<◌, ◌≤◌, true, false, Option, Some, None, List, [], ◌∷◌, ◌++◌, All, nat_lt, suc, zero, refl, arith, sym, ap, ◌∙◌, append_assoc, zero-add, lit≤, subst, length, drop, IfNone, IfSome, drop-append_seam, IsDeltas, zigzag, unzigzag, groups, deltas, ids_from, last_id, All-head, All-tail, leb_tells, nat_tests, read}
 use Rattle.std.proofs.Common.{append-nil}
 use Rattle.determinize_state.specs.Varint.{varint}
 use Rattle.std.proofs.lemmas.List.{length-append}
@@ -85,6 +85,15 @@ read-groups (suc more) n low weight rest small fits =
           (fits_after more n small) (weight_after weight more fits)
           ∙ ap (λ m. Some (m, rest)) (group low weight n)))
     ]
+
+-- a number of two groups
+pub read_two : (byte second : ℕ) (rest : List ℕ) → 128 ≤ byte → second < 128
+    → read 0 1 (byte ∷ second ∷ rest) ≡ Some (byte - 128 + 128 * second, rest)
+read_two byte second rest big small =
+    let more : nat_lt byte 128 ≡ false = grind (arith, nat_tests) in
+    let last : nat_lt second 128 ≡ true = grind (arith, nat_tests) in
+    let sum : 0 + 1 * (byte - 128) + 1 * 128 * second ≡ byte - 128 + 128 * second = omega arith in
+    rw (more, last) (ap (λ (m : ℕ). Some (m, rest)) sum)
 
 -- the first id that `read` finds
 pub read-deltas : (from id : ℕ) (ids : List ℕ) → from ≤ 2147483646 → id ≤ 2147483646
@@ -228,16 +237,24 @@ varint-more n big small =
     let fits : n / 128 < 128 * 128 ^ 3 = omega arith in
     rw more_groups (ap (λ r. (128 + n % 128) ∷ r) (sym (groups-one_more 3 (n / 128) fits)))
 
+-- how many groups these are
+pub length-one : (n : ℕ) → n < 128 → length (varint n) ≡ 1
+length-one n small = ap (λ (l : List ℕ). length l) (varint-one n small)
+
+pub length-more : (n : ℕ) → 128 ≤ n → n < 4294967296 → length (varint n) ≡ 1 + length (varint (n / 128))
+length-more n big small = omega (arith, ap (λ (l : List ℕ). length l) (varint-more n big small))
+
+pub ruleset group_counts = (length-one, length-more)
+
 -- after its low group, the groups of the rest are those of the number
 pub append-varint : (bytes : List ℕ) (n : ℕ) → 128 ≤ n → n < 4294967296 →
     (bytes ++ (128 + n % 128) ∷ []) ++ varint (n / 128) ≡ bytes ++ varint n
 append-varint bytes n big small =
     rw (varint-more n big small) (append_assoc bytes ((128 + n % 128) ∷ []) (varint (n / 128)))
 
--- a prefix of the bytes is one of the bytes with more added
-pub begins_still : (beginning bytes added : List ℕ) → take (length beginning) bytes ≡ beginning →
-    take (length beginning) (bytes ++ added) ≡ beginning
-begins_still beginning bytes added begins =
-    let within : length beginning ≤ length bytes =
-    omega (arith, length-take (length beginning) bytes, ap length begins) in
-    rw take-append-le begins
+-- a number of two groups
+pub append-two : (bytes : List ℕ) (n : ℕ) → 128 ≤ n → n < 16384 →
+    (bytes ++ (128 + n % 128) ∷ []) ++ n / 128 ∷ [] ≡ bytes ++ varint n
+append-two bytes n big small =
+    ap (λ (l : List ℕ). (bytes ++ (128 + n % 128) ∷ []) ++ l) (sym (varint-one (n / 128) (omega arith)))
+    ∙ append-varint bytes n big (omega arith)

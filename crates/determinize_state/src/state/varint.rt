@@ -2,8 +2,8 @@
 //!
 //! Zigzag maps a signed difference to an unsigned number, so that a small difference of either sign
 //! is a small number. A varint has 7 bits per byte, the low ones first; the top bit of a byte says
-//! that another follows. A number below 128 is the common case and has a separate path, which is
-//! inlined.
+//! that another follows. Most numbers have one byte, in a large NFA two: both have paths of their
+//! own, which are inlined.
 
 ghost use Rattle.std.specs.Prelude.{◌≡◌, ◌+◌, ◌%◌, ◌≤◌, ◌<◌, [], ◌∷◌, ◌++◌, drop, length, take, option_map, IfNone, IfSome, OnErr, OnOk};
 ghost use Rattle.determinize_state.specs.Varint as format;
@@ -40,34 +40,30 @@ pub(crate) fn write<A: Allocator>(bytes: &mut Vec<u8, A>, number: u32) -> Result
         bytes.push(number as u8)?;
         return Ok(());
     }
+    if number < 16384 {
+        bytes.reserve(2)?;
+        bytes.push_reserved(more(number));
+        bytes.push_reserved((number / 128) as u8);
+        return Ok(());
+    }
     write_groups(bytes, number)
 }
 
 /// Appends a number of any size. On error the bytes are unchanged.
+#[tactic(auto, using(crate::proofs::encoding::Varints::group_counts))]
 #[cold]
 fn write_groups<A: Allocator>(bytes: &mut Vec<u8, A>, number: u32) -> Result<(), AllocError>
     ensures ok { OnOk result (bytes.new.items ≡ bytes.old.items ++ format.varint number) }
     ensures err { OnErr result (bytes.new.items ≡ bytes.old.items) }
 {
-    let before = bytes.len();
-    let pushed = push_groups(bytes, number);
-    if pushed.is_err() {
-        bytes.truncate(before);
-    }
-    pushed
-}
-
-/// Appends the groups of a number, the low one first. On error some of them may have been appended.
-fn push_groups<A: Allocator>(bytes: &mut Vec<u8, A>, number: u32) -> Result<(), AllocError>
-    ensures ok { OnOk result (bytes.new.items ≡ bytes.old.items ++ format.varint number) }
-    ensures begins { take (length bytes.old.items) bytes.new.items ≡ bytes.old.items }
-{
+    // A number of 32 bits has at most five groups.
+    bytes.reserve(5)?;
     let mut rest = number;
     while rest >= 128 {
-        bytes.push(more(rest))?;
+        bytes.push_reserved(more(rest));
         rest /= 128;
     }
-    bytes.push(rest as u8)?;
+    bytes.push_reserved(rest as u8);
     Ok(())
 }
 
@@ -94,6 +90,7 @@ pub(crate) fn first_id(from: u32, bytes: &[u8]) -> Option<(StateID, &[u8])>
 }
 
 /// Decodes one varint. Returns it with the remaining bytes, or `None` at the end.
+#[tactic(auto, using(crate::proofs::encoding::Varints::read_two))]
 #[inline(always)]
 fn read_number(bytes: &[u8]) -> Option<(u64, &[u8])>
     ensures { option_map (λ r. (r.0, r.1.now)) result ≡ read 0 1 bytes.now }
@@ -101,6 +98,10 @@ fn read_number(bytes: &[u8]) -> Option<(u64, &[u8])>
     let (byte, after) = bytes.split_first()?;
     if *byte < 128 {
         return Some((*byte as u64, after));
+    }
+    let (second, rest) = after.split_first()?;
+    if *second < 128 {
+        return Some((*byte as u64 - 128 + 128 * *second as u64, rest));
     }
     // Two calls, since a number and a slice at once are returned through memory, which makes short
     // varints slower too.

@@ -9,7 +9,8 @@ use Rattle.determinize_core.proofs.determinize.closure.record_and_follow.Goals a
 
 pub returns-in_ok-push_reversed-in-Union-clause-pending : goal.returns-in_ok-push_reversed-in-Union-clause-pending
 returns-in_ok-push_reversed-in-Union-clause-pending g c =
-    let node = get_or_from_slice_get c.args.nfa.now.states c.args.id _ Fail c.state-2.ensures.state ∙ ap node_of c.in-Union.is in
+    let node = get_or_from_slice_get c.args.nfa.now.states c.args.id _ Fail c.state-2.ensures.state
+    ∙ ap node_of c.in-Union.is in
     pending_by (edges c.args.nfa.now (has c.args.look_have) c.args.id) _ _ _
     (c.as_slice.ensures.value ∙ sym (ap (edges_of (has c.args.look_have)) node))
     c.in_ok-push_reversed-in-Union.ensures

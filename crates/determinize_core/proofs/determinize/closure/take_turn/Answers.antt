@@ -10,13 +10,13 @@ use Rattle.determinize_core.proofs.closure.ClosureSteps.{turn_held, turn_new, in
 use Rattle.determinize_state.proofs.values.RecordingSteps.{with_fact}
 use Rattle.determinize_core.proofs.determinize.closure.take_turn.Goals as goal
 
-pub returns-then-visit-clause-turn : goal.returns-then-visit-clause-turn
-returns-then-visit-clause-turn g c =
-    let new = not-true _ (sym c.visit.ensures.new ∙ c.if-visit.true) in
+pub returns-then-insert-clause-turn : goal.returns-then-insert-clause-turn
+returns-then-insert-clause-turn g c =
+    let new = not-true _ (sym c.insert.ensures.new ∙ c.if-insert.true) in
     let turn = turn_new c.args.nfa.now (accepted_sound c.args.nfa.now c.requires.accepted)
     (has c.args.look_have) c.args.set.now.ids (c.args.others.now ++ reverse c.args.stack.now.items) c.args.id new in
-    let after : c.visit.new.set.ids ≡ c.args.set.now.ids ++ c.args.id ∷ [] =
-    ap (λ (m : Members). m.ids) c.visit.ensures.after ∙ inserted c.visit.result _ _ c.if-visit.true in
+    let after : c.insert.new.self.ids ≡ c.args.set.now.ids ++ c.args.id ∷ [] =
+    ap (λ (m : Members). m.ids) c.insert.ensures.after ∙ inserted c.insert.result _ _ c.if-insert.true in
     let rest : List ℕ = c.args.others.now ++ reverse c.args.stack.now.items in
     let pending : List ℕ = edges c.args.nfa.now (has c.args.look_have) c.args.id ++ rest in (
       pending,
@@ -34,13 +34,13 @@ returns-then-visit-clause-turn g c =
           c.record_and_follow.ensures.recorded,
     )
 
-pub returns-else-visit-clause-turn : goal.returns-else-visit-clause-turn
-returns-else-visit-clause-turn g c =
-    let met = not-false _ (sym c.visit.ensures.new ∙ c.if-visit.false) in
+pub returns-else-insert-clause-turn : goal.returns-else-insert-clause-turn
+returns-else-insert-clause-turn g c =
+    let met = not-false _ (sym c.insert.ensures.new ∙ c.if-insert.false) in
     let turn = turn_held c.args.nfa.now (accepted_sound c.args.nfa.now c.requires.accepted)
     (has c.args.look_have) c.args.set.now.ids (c.args.others.now ++ reverse c.args.stack.now.items) c.args.id met in
-    let after : c.visit.new.set.ids ≡ c.args.set.now.ids =
-    ap (λ (m : Members). m.ids) c.visit.ensures.after ∙ not_inserted c.visit.result _ _ c.if-visit.false in
+    let after : c.insert.new.self.ids ≡ c.args.set.now.ids =
+    ap (λ (m : Members). m.ids) c.insert.ensures.after ∙ not_inserted c.insert.result _ _ c.if-insert.false in
     let rest : List ℕ = c.args.others.now ++ reverse c.args.stack.now.items in (
       rest,
       [],

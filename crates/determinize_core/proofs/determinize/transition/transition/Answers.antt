@@ -1,10 +1,7 @@
-use Rattle.std.proofs.Common.{ℕ, ◌≡◌, ◌∙◌, ◌+◌, ◌≤◌, ap, fold, not, subst, sym}
-use Rattle.determinize_below.specs.Edges.{reach_past}
-use Rattle.determinize_below.specs.Look.{has}
+use Rattle.std.proofs.Common.{ℕ, ◌≡◌, ◌∙◌, ap, not, subst, sym}
 use Rattle.determinize_below.specs.Nfa.{AllResolve}
 use Rattle.determinize_below.specs.Unit.{byte_of}
-use Rattle.determinize_core.specs.Private.Search.{tries_left}
-use Rattle.determinize_state.specs.Recording.{added_one, settled}
+use Rattle.determinize_state.specs.Recording.{settled}
 use Rattle.determinize_start.specs.LookTables.{LookBehindValue}
 use Rattle.determinize_state.specs.Value.{Value}
 use Rattle.determinize_core.proofs.step.Resolving.{step_resolves}
@@ -14,10 +11,9 @@ use Rattle.determinize_core.proofs.determinize.transition.transition.Goals.{Afte
 use Rattle.determinize_core.proofs.determinize.transition.transition.Goals as goal
 
 pub returns-in_err-read_working_list-clause-bounded : goal.returns-in_err-read_working_list-clause-bounded
-returns-in_err-read_working_list-clause-bounded g c =
+returns-in_err-read_working_list-clause-bounded g c = λ h.
     first_tries c.args.nfa.now c.look_behind_after-look_behind.ensures.accepted c.args.match_kind c.args.state.now
-    (byte_of c.args.unit) c.requires.resolve c.args.steps.now c.read_working_list.new.steps
-    c.read_working_list.ensures.bounded
+    (byte_of c.args.unit) c.requires.resolve _ _ (c.read_working_list.ensures.bounded h)
 
 -- the builder after the working list was read, and the targets on the stack
 read : (g : Over) (c : After-set_flags g) (looks : ℕ) → looks ≡ c.look_behind_after-look_behind.result.looks
@@ -25,7 +21,7 @@ read : (g : Over) (c : After-set_flags g) (looks : ℕ) → looks ≡ c.look_beh
     (byte_of c.args.unit) c.requires.resolve looks
     c.look_behind_after-look_behind.result.from_word c.look_behind_after-look_behind.result.half_crlf
     (not c.is_empty.result) c.set_look_have.new.builder c.read_working_list.new.builder c.set_flags.new.builder
-    c.read_working_list.new.stack.items
+    c.read_working_list.new.sparses.set2.ids c.read_working_list.new.stack.items
 read g c looks e = record {
   have_is = e ∙ c.look_behind_after-look_behind.ensures.looks;
   word_is = c.look_behind_after-look_behind.ensures.from_word;
@@ -35,56 +31,38 @@ read g c looks e = record {
   some_is = ap not c.is_empty.ensures ∙ is_nonempty-length _ c.read_working_list.new.stack.items
       c.read_working_list.new.stack.ok.0;
   flagged_is = c.set_flags.ensures;
+  held_is = c.in_ok-read_working_list.ensures.second;
 }
 
 pub explore-requires-clause-resolve : goal.explore-requires-clause-resolve
 explore-requires-clause-resolve g c =
-    row_resolves c.args.nfa.now c.look_behind_after-look_behind.ensures.accepted c.args.match_kind c.args.state.now
-    (byte_of c.args.unit) c.requires.resolve _ _ _ _ _ _ _ _
-    (read g (goal.at.explore-requires-clause-resolve g c).After-set_flags _
+    row_resolves (read g (goal.at.explore-requires-clause-resolve g c).After-set_flags _
     (ap (λ (t : LookBehindValue). t.looks) c.look_behind.view_is))
 
 pub returns-in_err-explore-clause-bounded : goal.returns-in_err-explore-clause-bounded
-returns-in_err-explore-clause-bounded g c =
-    tries_within c.args.nfa.now c.look_behind_after-look_behind.ensures.accepted c.args.match_kind c.args.state.now
-    (byte_of c.args.unit) c.requires.resolve _ _ _ _ _ _ _ _
-    (read g (goal.at.returns-in_err-explore-clause-bounded g c).After-set_flags _
+returns-in_err-explore-clause-bounded g c = λ h.
+    tries_within (read g (goal.at.returns-in_err-explore-clause-bounded g c).After-set_flags _
     (ap (λ (t : LookBehindValue). t.looks) c.look_behind.view_is))
-    c.args.steps.now c.read_working_list.new.steps c.explore.new.steps c.in_ok-read_working_list.ensures.counted
-    (subst (λ l. c.explore.new.steps ≤ c.read_working_list.new.steps + tries_left c.args.nfa.now
-    (has c.look_behind.inside.looks) l c.read_working_list.new.stack.items) c.in_ok-read_working_list.ensures.second
-    c.explore.ensures.part.bounded)
+    _ _ _ (c.in_ok-read_working_list.ensures.counted h) (c.explore.ensures.bounded h)
 
 pub returns-clause-ok : goal.returns-clause-ok
 returns-clause-ok g c =
     c.settle.ensures
     ∙ ap settled c.in_ok-explore.ensures.recorded
-    ∙ ap (λ l. settled (fold (added_one c.args.nfa.now) c.set_flags.new.builder
-    (reach_past c.args.nfa.now (has c.look_behind.inside.looks) l c.read_working_list.new.stack.items)))
-    c.in_ok-read_working_list.ensures.second
-    ∙ stepped c.args.nfa.now c.look_behind_after-look_behind.ensures.accepted c.args.match_kind c.args.state.now
-    (byte_of c.args.unit) c.requires.resolve _ _ _ _ _ _ _ _
-    (read g (goal.at.returns-clause-ok g c).After-set_flags _ (ap (λ (t : LookBehindValue). t.looks) c.look_behind.view_is))
+    ∙ stepped (read g (goal.at.returns-clause-ok g c).After-set_flags _
+    (ap (λ (t : LookBehindValue). t.looks) c.look_behind.view_is))
 
 pub returns-clause-counted : goal.returns-clause-counted
-returns-clause-counted g c =
-    all_tries c.args.nfa.now c.look_behind_after-look_behind.ensures.accepted c.args.match_kind c.args.state.now
-    (byte_of c.args.unit) c.requires.resolve _ _ _ _ _ _ _ _
-    (read g (goal.at.returns-clause-counted g c).After-set_flags _ (ap (λ (t : LookBehindValue). t.looks) c.look_behind.view_is))
-    c.args.steps.now c.read_working_list.new.steps c.explore.new.steps c.in_ok-read_working_list.ensures.counted
-    (subst (λ l. c.explore.new.steps ≡ c.read_working_list.new.steps + tries_left c.args.nfa.now
-    (has c.look_behind.inside.looks) l c.read_working_list.new.stack.items) c.in_ok-read_working_list.ensures.second
-    c.in_ok-explore.ensures.ok.counted)
+returns-clause-counted g c = λ h.
+    all_tries (read g (goal.at.returns-clause-counted g c).After-set_flags _
+    (ap (λ (t : LookBehindValue). t.looks) c.look_behind.view_is))
+    _ _ _ (c.in_ok-read_working_list.ensures.counted h) (c.in_ok-explore.ensures.counted h)
 
 pub returns-clause-bounded : goal.returns-clause-bounded
-returns-clause-bounded g c =
-    tries_within c.args.nfa.now c.look_behind_after-look_behind.ensures.accepted c.args.match_kind c.args.state.now
-    (byte_of c.args.unit) c.requires.resolve _ _ _ _ _ _ _ _
-    (read g (goal.at.returns-clause-bounded g c).After-set_flags _ (ap (λ (t : LookBehindValue). t.looks) c.look_behind.view_is))
-    c.args.steps.now c.read_working_list.new.steps c.explore.new.steps c.in_ok-read_working_list.ensures.counted
-    (subst (λ l. c.explore.new.steps ≤ c.read_working_list.new.steps + tries_left c.args.nfa.now
-    (has c.look_behind.inside.looks) l c.read_working_list.new.stack.items) c.in_ok-read_working_list.ensures.second
-    c.explore.ensures.part.bounded)
+returns-clause-bounded g c = λ h.
+    tries_within (read g (goal.at.returns-clause-bounded g c).After-set_flags _
+    (ap (λ (t : LookBehindValue). t.looks) c.look_behind.view_is))
+    _ _ _ (c.in_ok-read_working_list.ensures.counted h) (c.explore.ensures.bounded h)
 
 pub returns-clause-resolve : goal.returns-clause-resolve
 returns-clause-resolve g c =

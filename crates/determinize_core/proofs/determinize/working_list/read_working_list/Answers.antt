@@ -1,5 +1,4 @@
-use Rattle.std.proofs.Common.{◌≡◌, ◌∙◌, ◌+◌, ◌<◌, ◌≤◌, All, ap, sym, subst, List, ℕ, length}
-use Rattle.determinize_below.specs.Members.{Members}
+use Rattle.std.proofs.Common.{◌∙◌, ◌<◌, All, ap, arith, sym, subst, List, ℕ, length}
 use Rattle.ordered_reach.specs.Reach.{none_held}
 use Rattle.determinize_below.specs.Unit.{byte_of}
 use Rattle.determinize_core.specs.Private.Reading.{distinct, IsListRead}
@@ -14,44 +13,35 @@ explore-requires-clause-resolve g c =
     (All-fresh (λ id. id < length c.args.nfa.now.states) none_held c.args.state.now.states c.requires.resolve)
 
 pub returns-in_err-explore-clause-bounded : goal.returns-in_err-explore-clause-bounded
-returns-in_err-explore-clause-bounded g c =
-    subst (λ n. c.explore.new.steps ≤ c.args.steps.now + n)
-    (tried_again c.args.nfa.now c.args.state.now (byte_of c.args.unit) c.in-Some.look_have
-    (sym c.in-Some.ensures.whether) c.in-Some.ensures.set c.args.sparses.now.set2.ids
-    c.collect_states.new.stack.items c.requires.second_empty c.in_ok-collect_states.ensures.ok)
-    c.explore.ensures.part.bounded
+returns-in_err-explore-clause-bounded g c = λ h.
+    let tries = tried_again c.args.nfa.now c.args.state.now (byte_of c.args.unit) _ (sym c.in-Some.ensures.whether)
+    c.in-Some.ensures.set c.requires.second_empty c.in_ok-collect_states.ensures.ok in
+    omega (arith, c.explore.ensures.bounded h)
 
 pub returns-in_err-read_states-clause-bounded : goal.returns-in_err-read_states-clause-bounded
-returns-in_err-read_states-clause-bounded g c =
-    subst (λ n. c.explore.new.steps ≤ c.args.steps.now + n)
-    (tried_again c.args.nfa.now c.args.state.now (byte_of c.args.unit) c.in-Some.look_have
-    (sym c.in-Some.ensures.whether) c.in-Some.ensures.set c.args.sparses.now.set2.ids
-    c.collect_states.new.stack.items c.requires.second_empty c.in_ok-collect_states.ensures.ok)
-    c.explore.ensures.part.bounded
+returns-in_err-read_states-clause-bounded g c = λ h.
+    let tries = tried_again c.args.nfa.now c.args.state.now (byte_of c.args.unit) _ (sym c.in-Some.ensures.whether)
+    c.in-Some.ensures.set c.requires.second_empty c.in_ok-collect_states.ensures.ok in
+    omega (arith, c.explore.ensures.bounded h)
 
 pub returns-clause-ok : goal.returns-clause-ok
 returns-clause-ok g c =
-    let reached = reached_again c.args.nfa.now c.args.state.now (byte_of c.args.unit) c.in-Some.look_have
-    (sym c.in-Some.ensures.whether) c.in-Some.ensures.set c.args.sparses.now.set2.ids
-    c.collect_states.new.stack.items c.requires.second_empty c.in_ok-collect_states.ensures.ok in
     subst (λ (l : List ℕ). IsListRead c.args.nfa.now c.args.match_kind
     (byte_of c.args.unit) l c.args.builder.now c.read_states-2.new.builder c.read_states-2.new.stack.items)
     (ap distinct c.iter.ensures.ids ∙ distinct_same c.explore.new.set.ids c.iter.ensures.members.distinct
-    ∙ ap (λ (m : Members). m.ids) c.in_ok-explore.ensures.ok.set ∙ reached)
+    ∙ c.in_ok-explore.ensures.ids ∙ reached_again c.args.nfa.now c.args.state.now (byte_of c.args.unit)
+    c.in-Some.look_have (sym c.in-Some.ensures.whether) c.in-Some.ensures.set
+    c.requires.second_empty c.in_ok-collect_states.ensures.ok)
     c.in_ok-read_states.ensures.ok
 
 pub returns-clause-counted : goal.returns-clause-counted
-returns-clause-counted g c =
-    subst (λ n. c.explore.new.steps ≡ c.args.steps.now + n)
-    (tried_again c.args.nfa.now c.args.state.now (byte_of c.args.unit) c.in-Some.look_have
-    (sym c.in-Some.ensures.whether) c.in-Some.ensures.set c.args.sparses.now.set2.ids
-    c.collect_states.new.stack.items c.requires.second_empty c.in_ok-collect_states.ensures.ok)
-    c.in_ok-explore.ensures.ok.counted
+returns-clause-counted g c = λ h.
+    let tries = tried_again c.args.nfa.now c.args.state.now (byte_of c.args.unit) _ (sym c.in-Some.ensures.whether)
+    c.in-Some.ensures.set c.requires.second_empty c.in_ok-collect_states.ensures.ok in
+    omega (arith, c.in_ok-explore.ensures.counted h)
 
 pub returns-clause-bounded : goal.returns-clause-bounded
-returns-clause-bounded g c =
-    subst (λ n. c.explore.new.steps ≤ c.args.steps.now + n)
-    (tried_again c.args.nfa.now c.args.state.now (byte_of c.args.unit) c.in-Some.look_have
-    (sym c.in-Some.ensures.whether) c.in-Some.ensures.set c.args.sparses.now.set2.ids
-    c.collect_states.new.stack.items c.requires.second_empty c.in_ok-collect_states.ensures.ok)
-    c.explore.ensures.part.bounded
+returns-clause-bounded g c = λ h.
+    let tries = tried_again c.args.nfa.now c.args.state.now (byte_of c.args.unit) _ (sym c.in-Some.ensures.whether)
+    c.in-Some.ensures.set c.requires.second_empty c.in_ok-collect_states.ensures.ok in
+    omega (arith, c.explore.ensures.bounded h)

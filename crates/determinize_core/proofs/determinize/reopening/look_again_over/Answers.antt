@@ -5,7 +5,7 @@ use Rattle.determinize_start.specs.LookTables.{Tables, opened, tables_of}
 use Rattle.determinize_core.specs.Step.{is_redone, opened_by}
 use Rattle.determinize_core.proofs.step.RedoTest.{unneeded}
 use Rattle.determinize_core.proofs.step.RepeatedClosure.{IfSome-again}
-use Rattle.determinize_core.proofs.determinize.working_list.look_again_over.Goals as goal
+use Rattle.determinize_core.proofs.determinize.reopening.look_again_over.Goals as goal
 
 pub returns-then-is_empty-clause-whether : goal.returns-then-is_empty-clause-whether
 returns-then-is_empty-clause-whether g c =

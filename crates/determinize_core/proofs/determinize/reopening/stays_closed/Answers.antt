@@ -2,7 +2,7 @@ use Rattle.std.proofs.Common.{◌∙◌, sym}
 use Rattle.std.proofs.lemmas.Bool.{not-true}
 use Rattle.determinize_below.specs.Unit.{byte_of}
 use Rattle.determinize_core.proofs.step.RedoTest.{words_decide}
-use Rattle.determinize_core.proofs.determinize.working_list.stays_closed.Goals as goal
+use Rattle.determinize_core.proofs.determinize.reopening.stays_closed.Goals as goal
 
 pub returns : goal.returns
 returns c = λ tables half h.

@@ -1,7 +1,7 @@
 use Rattle.std.proofs.Common.{◌≡◌, ◌<◌, ◌++◌, All, length}
 use Rattle.determinize_below.specs.Unit.{byte_of}
 use Rattle.determinize_core.proofs.step.FirstReading.{IsFirstRead}
-use Rattle.determinize_core.proofs.determinize.working_list.read_states.Given as goal
+use Rattle.determinize_core.proofs.determinize.reading.read_states.Given as goal
 
 abbrev pub invariant-loop-id : goal.invariant-loop-id
 invariant-loop-id g l = record {

@@ -7,7 +7,7 @@ use Rattle.determinize_state.specs.Value.{Value}
 use Rattle.determinize_state.proofs.values.RecordingSteps.{rest_below}
 use Rattle.determinize_core.proofs.step.Collecting.{rest_behind}
 use Rattle.determinize_core.proofs.step.FirstReading.{first_read-start, first_read-new, first_read-next, first_read-stop, first_read-end}
-use Rattle.determinize_core.proofs.determinize.working_list.read_states.Goals as goal
+use Rattle.determinize_core.proofs.determinize.reading.read_states.Goals as goal
 
 pub loop-id-init : goal.loop-id-init
 loop-id-init g c =

@@ -1,7 +1,7 @@
 use Rattle.std.proofs.Common.{◌<◌, ◌^◌, arith}
 use Rattle.determinize_below.specs.Look.{meets}
 use Rattle.determinize_core.proofs.step.RedoTest.{redone_from_found}
-use Rattle.determinize_core.proofs.determinize.working_list.is_redone.Goals as goal
+use Rattle.determinize_core.proofs.determinize.reopening.is_redone.Goals as goal
 
 pub returns : goal.returns
 unfolding meets

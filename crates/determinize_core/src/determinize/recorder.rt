@@ -1,0 +1,42 @@
+//! Recording what a search finds.
+//!
+//! One search serves all closures. That of the targets of a transition records each new state in
+//! the builder of the next DFA state, at once, so that no second pass over the set is needed. All
+//! others only fill the set, and their recorder is `()`, for which no code is left.
+
+ghost use Rattle.std.specs.Prelude.{◌≡◌, ℕ, ◌<◌, length, OnOk};
+ghost use Rattle.determinize_below.specs.Semantics.{Nfa};
+ghost use Rattle.determinize_state.specs.Recording.{added_one};
+
+use determinize_below::{NFA, StateID};
+use determinize_state::recording::add_state;
+use determinize_state::state::StateBuilderNFA;
+use std::alloc::{AllocError, Allocator};
+
+/// Receives the states that a search finds: a builder, or `()`, which ignores them.
+pub(crate) trait Recorder {
+    ghost with_one: { Nfa → Self → ℕ → Self };
+
+    /// Records a state after those before.
+    fn record<N: Allocator>(&mut self, nfa: &NFA<N>, id: StateID) -> Result<(), AllocError>
+        requires { id < length nfa.now.states }
+        ensures { OnOk result (self.new ≡ with_one nfa.now self.old id) };
+}
+
+impl Recorder for () {
+    ghost with_one = { λ nfa recorder id. recorder };
+
+    #[inline(always)]
+    fn record<N: Allocator>(&mut self, _nfa: &NFA<N>, _id: StateID) -> Result<(), AllocError> {
+        Ok(())
+    }
+}
+
+impl<A: Allocator> Recorder for StateBuilderNFA<A> {
+    ghost with_one = { added_one };
+
+    #[inline(always)]
+    fn record<N: Allocator>(&mut self, nfa: &NFA<N>, id: StateID) -> Result<(), AllocError> {
+        add_state(nfa, id, self)
+    }
+}
