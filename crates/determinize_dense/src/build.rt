@@ -184,7 +184,8 @@ impl<'n, N: Allocator, A: Allocator + Copy> Builder<'n, N, A> {
         })
     }
 
-    /// Returns the row of a state, a new one if it was not found before.
+    /// Returns the row of a state, a new one if it was not found before. The stepper keeps the
+    /// memory of the state, so that a state that was found before needs no allocation.
     fn place(&mut self, state: State<A>) -> Result<u32, BuildError>
         requires reached { IsReachedValue self.old.nfa self.old.kind state }
         requires resolve { AllResolve self.old.nfa state.states }
@@ -195,12 +196,15 @@ impl<'n, N: Allocator, A: Allocator + Copy> Builder<'n, N, A> {
             → HasMoreStates self.old.nfa self.old.kind self.old.limit }
     {
         if let Some(index) = self.states.find(&state) {
+            self.stepper.take_back(state);
             return Ok(row_of(index));
         }
         if self.states.len() == self.limit {
             return Err(BuildError::TooManyStates);
         }
-        Ok(row_of(self.states.intern(state)?))
+        let found = state.clone()?;
+        self.stepper.take_back(state);
+        Ok(row_of(self.states.intern(found)?))
     }
 
     /// Returns the row of the start with this number, or 0 if no start has it.
@@ -260,7 +264,7 @@ impl<'n, N: Allocator, A: Allocator + Copy> Builder<'n, N, A> {
         let (entry, columns) = (self.next.len(), self.classes.alphabet_len());
         let unit = self.unit(entry % columns);
         let state = &self.states.as_slice()[entry / columns];
-        let next = self.stepper.next(state, unit)?;
+        let next = self.stepper.next_lent(state, unit)?;
         let row = self.place(next)?;
         self.next.push(row)?;
         Ok(())

@@ -56,9 +56,9 @@ unit-is g c = c.unit-unit.ensures
     ∙ ap (λ (x : Building). unit_at x.classes (c.len-entry.result % c.alphabet_len-columns.result)) (sym c.self.view_is)
     ∙ ap (λ n. unit_at c.self.inside.classes n) (column-is g c)
 
-pub next-requires : goal.next-requires
-next-requires g c =
-    let d = (goal.at.next-requires g c).After-as_slice in
+pub next_lent-requires : goal.next_lent-requires
+next_lent-requires g c =
+    let d = (goal.at.next_lent-requires g c).After-as_slice in
     c.self.invariant.resolve _ c.index-as_slice-entry.result
     (next-row record {
       nfa = c.self.inside.stepper.nfa;
@@ -113,8 +113,8 @@ invariant_of-self-3 g c =
     subst (λ (x : Building). IsBuilding (record x { next = c.push.new.self.items })) (sym c.self-2.view_is)
     (subst (λ ns. IsBuilding (record c.place.new.self { next = ns })) (sym items)
     (building-next {a = record {
-      nfa = c.next.new.self.nfa;
-      kind = c.next.new.self.kind;
+      nfa = c.next_lent.new.self.nfa;
+      kind = c.next_lent.new.self.kind;
       classes = c.self.inside.classes;
       limit = c.self.inside.limit;
       values = c.self.inside.states;
@@ -140,8 +140,8 @@ invariant_of-self-3 g c =
 pub returns-clause-stays : goal.returns-clause-stays
 returns-clause-stays g c =
     let first : Stays c.args.self.now record {
-      nfa = c.next.new.self.nfa;
-      kind = c.next.new.self.kind;
+      nfa = c.next_lent.new.self.nfa;
+      kind = c.next_lent.new.self.kind;
       classes = c.self.inside.classes;
       limit = c.self.inside.limit;
       values = c.self.inside.states;
