@@ -110,7 +110,15 @@ invariant_of-self-3 g c =
     let d = (goal.at.invariant_of-self-3 g c).After-as_slice in
     let items : c.push.new.self.items ≡ c.place.new.self.next ++ c.in_ok-row.row ∷ [] =
     c.in_ok-push.ensures.items ∙ ap (λ (x : Building). x.next ++ c.in_ok-row.row ∷ []) c.self-2.view_is in
-    subst (λ (x : Building). IsBuilding (record x { next = c.push.new.self.items })) (sym c.self-2.view_is)
+    subst (λ (s : StepperValue). IsBuilding record {
+      nfa = s.nfa;
+      kind = s.kind;
+      classes = c.self-2.inside.classes;
+      limit = c.self-2.inside.limit;
+      values = c.self-2.inside.states;
+      next = c.push.new.self.items;
+    }) (sym c.take_back.ensures.unchanged)
+    (subst (λ (x : Building). IsBuilding (record x { next = c.push.new.self.items })) (sym c.self-2.view_is)
     (subst (λ ns. IsBuilding (record c.place.new.self { next = ns })) (sym items)
     (building-next {a = record {
       nfa = c.next_lent.new.self.nfa;
@@ -135,7 +143,7 @@ invariant_of-self-3 g c =
     ∙ ap (λ (s : StepperValue). step s.nfa s.kind c.index-as_slice-entry.result
     (unit_at c.self.inside.classes (length c.self.inside.next.items % columns_of c.self.inside.classes)))
     (sym c.in_ok-next.ensures.unchanged))
-    c.in_ok-row.ensures.at (room g d)))
+    c.in_ok-row.ensures.at (room g d))))
 
 pub returns-clause-stays : goal.returns-clause-stays
 returns-clause-stays g c =
@@ -170,5 +178,13 @@ returns-clause-stays g c =
       values = c.self.inside.states;
       next = c.self.inside.next.items;
     })) in
-    subst (λ (x : Building). Stays c.args.self.now (record x { next = c.push.new.self.items })) (sym c.self-2.view_is)
-    (stays-next c.push.new.self.items (stays-more first c.in_ok-row.ensures.stays))
+    subst (λ (s : StepperValue). Stays c.args.self.now record {
+      nfa = s.nfa;
+      kind = s.kind;
+      classes = c.self-2.inside.classes;
+      limit = c.self-2.inside.limit;
+      values = c.self-2.inside.states;
+      next = c.push.new.self.items;
+    }) (sym c.take_back.ensures.unchanged)
+    (subst (λ (x : Building). Stays c.args.self.now (record x { next = c.push.new.self.items })) (sym c.self-2.view_is)
+    (stays-next c.push.new.self.items (stays-more first c.in_ok-row.ensures.stays)))
