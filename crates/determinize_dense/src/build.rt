@@ -185,22 +185,29 @@ impl<'n, N: Allocator, A: Allocator + Copy> Builder<'n, N, A> {
     }
 
     /// Returns the row of a state, a new one if it was not found before.
-    fn place(&mut self, state: State<A>) -> Result<u32, BuildError>
-        requires reached { IsReachedValue self.old.nfa self.old.kind state }
-        requires resolve { AllResolve self.old.nfa state.states }
-        ensures at { IfOk result (λ row. slice_get self.new.values row ≡ Some state) }
+    ///
+    /// - `likely` is the row that is compared first. A match of it saves the hash of the state.
+    fn place(&mut self, state: &State<A>, likely: u32) -> Result<u32, BuildError>
+        requires reached { IsReachedValue self.old.nfa self.old.kind state.now }
+        requires resolve { AllResolve self.old.nfa state.now.states }
+        requires likely { likely < length self.old.values }
+        ensures at { IfOk result (λ row. slice_get self.new.values row ≡ Some state.now) }
         ensures stays { OnOk result (Stays self.old self.new) }
         ensures next { self.new.next ≡ self.old.next }
         ensures many { result ≡ Err TooManyStates
             → HasMoreStates self.old.nfa self.old.kind self.old.limit }
     {
-        if let Some(index) = self.states.find(&state) {
+        if self.states.get(likely as usize) == state {
+            return Ok(likely);
+        }
+        if let Some(index) = self.states.find(state) {
             return Ok(row_of(index));
         }
         if self.states.len() == self.limit {
             return Err(BuildError::TooManyStates);
         }
-        Ok(row_of(self.states.intern(state)?))
+        let found = state.clone()?;
+        Ok(row_of(self.states.intern(found)?))
     }
 
     /// Returns the row of the start with this number, or 0 if no start has it.
@@ -219,7 +226,7 @@ impl<'n, N: Allocator, A: Allocator + Copy> Builder<'n, N, A> {
             return Ok(0);
         };
         let state = self.stepper.start(start_id(nfa, number), look_behind)?;
-        self.place(state)
+        self.place(&state, 0)
     }
 
     /// Returns the rows of all starts.
@@ -249,7 +256,17 @@ impl<'n, N: Allocator, A: Allocator + Copy> Builder<'n, N, A> {
         }
     }
 
-    /// Computes the next entry.
+    /// Returns the entry above the next one: in the same column, of the row before. 0 in row 0.
+    fn entry_above(&self) -> u32
+        ensures { result < length self.now.values }
+    {
+        match self.next.len().checked_sub(self.classes.alphabet_len()) {
+            Some(entry) => self.next[entry],
+            None => 0,
+        }
+    }
+
+    /// Computes the next entry. Often it is the entry above.
     fn add_entry(&mut self) -> Result<(), BuildError>
         requires { length self.old.next < length self.old.values * columns_of self.old.classes }
         ensures next { OnOk result (length self.new.next ≡ length self.old.next + 1) }
@@ -260,8 +277,9 @@ impl<'n, N: Allocator, A: Allocator + Copy> Builder<'n, N, A> {
         let (entry, columns) = (self.next.len(), self.classes.alphabet_len());
         let unit = self.unit(entry % columns);
         let state = &self.states.as_slice()[entry / columns];
-        let next = self.stepper.next(state, unit)?;
-        let row = self.place(next)?;
+        let next = self.stepper.next_lent(state, unit)?;
+        let row = self.place(&next, self.entry_above())?;
+        self.stepper.take_back(next);
         self.next.push(row)?;
         Ok(())
     }

@@ -15,23 +15,36 @@ use std::alloc::{AllocError, Allocator};
 const STAYING: usize = 64;
 
 impl<'n, N: Allocator, A: Allocator + Copy> Rows<'n, N, A> {
+    /// Returns the number of bytes of each class.
+    fn class_sizes(&self) -> [u16; 256] {
+        let mut sizes = [0; 256];
+        for byte in 0..=u8::MAX {
+            sizes[usize::from(self.classes.get(byte))] += 1;
+        }
+        sizes
+    }
+
     /// Returns whether a search scans out of a row: whether at least `STAYING` bytes do not leave
     /// it. This is a guess at what is fast, and no match depends on it.
-    fn is_scanned(&self, row: usize) -> bool
+    ///
+    /// - `sizes` are the numbers of bytes of the classes.
+    fn is_scanned(&self, row: usize, sizes: &[u16; 256]) -> bool
         requires { row < length self.now.table.patterns }
     {
         let offset = row * self.classes.alphabet_len();
         let mut staying = 0;
-        for byte in 0..=u8::MAX {
-            if self.row_over(offset, Some(byte)) == offset {
-                staying += 1;
+        for (class, byte) in self.classes.representatives().iter().enumerate() {
+            if self.row_over(offset, Some(*byte)) == offset {
+                staying += usize::from(sizes[class]);
             }
         }
         staying >= STAYING
     }
 
     /// Returns the rank of a row in the order.
-    fn rank(&self, row: usize) -> usize
+    ///
+    /// - `sizes` are the numbers of bytes of the classes.
+    fn rank(&self, row: usize, sizes: &[u16; 256]) -> usize
         requires { row < length self.now.table.patterns }
         ensures { IsRank self.now.table row result }
     {
@@ -39,7 +52,7 @@ impl<'n, N: Allocator, A: Allocator + Copy> Rows<'n, N, A> {
             0
         } else if !self.patterns[row].is_empty() {
             1
-        } else if self.is_scanned(row) {
+        } else if self.is_scanned(row, sizes) {
             2
         } else {
             3
@@ -50,9 +63,10 @@ impl<'n, N: Allocator, A: Allocator + Copy> Rows<'n, N, A> {
     fn ranks(&self, alloc: A) -> Result<Vec<usize, A>, AllocError>
         ensures { IfOk result (λ ranks. AreRanks self.now.table ranks.items) }
     {
+        let sizes = self.class_sizes();
         let mut ranks = Vec::with_capacity(alloc, self.len())?;
         for row in 0..self.len() {
-            ranks.push(self.rank(row))?;
+            ranks.push(self.rank(row, &sizes))?;
         }
         Ok(ranks)
     }

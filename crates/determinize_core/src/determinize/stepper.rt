@@ -102,18 +102,22 @@ impl<'n, N: Allocator, A: Allocator + Copy> Stepper<'n, N, A> {
         ensures accepted { OnOk result (IsAccepted self.old.nfa) }
         ensures unchanged { self.new ≡ self.old }
     {
-        let mut sparses = self.take_sparses()?;
+        if self.sparses.is_none() {
+            self.sparses = Some(SparseSets::new(self.alloc, self.nfa.len())?);
+        }
+        let Some(sparses) = &mut self.sparses else {
+            unreachable!()
+        };
         let empty = mem::replace(&mut self.empty_builder, StateBuilderEmpty::new(self.alloc));
-        let result = start_state(
+        let builder = start_state(
             self.nfa,
             start,
             look_behind,
-            &mut sparses,
+            sparses,
             &mut self.stack,
             empty,
-        );
-        self.sparses = Some(sparses);
-        self.finish(result?)
+        )?;
+        self.finish(builder)
     }
 
     /// Returns the state after a state over a unit of input, as [`next`] does.
@@ -129,30 +133,57 @@ impl<'n, N: Allocator, A: Allocator + Copy> Stepper<'n, N, A> {
         ensures resolve { IfOk result (λ after. AllResolve self.old.nfa after.states) }
         ensures unchanged { self.new ≡ self.old }
     {
-        let mut sparses = self.take_sparses()?;
+        let builder = self.build_next(state, unit)?;
+        self.finish(builder)
+    }
+
+    /// Returns the same as `next`, in the memory of the builder. A caller that gives the state to
+    /// `take_back`, and keeps a clone of it where it has to, needs no allocation for each state.
+    pub fn next_lent(&mut self, state: &State<A>, unit: Unit) -> Result<State<A>, AllocError>
+        requires { AllResolve self.old.nfa state.now.states }
+        ensures ok { IfOk result
+            (λ after. after ≡ step self.old.nfa self.old.kind state.now (byte_of unit)) }
+        ensures single { self.old.kind ≡ kinds.LeftmostFirst
+            → IfOk result (λ after. length after.patterns ≤ 1) }
+        ensures resolve { IfOk result (λ after. AllResolve self.old.nfa after.states) }
+        ensures unchanged { self.new ≡ self.old }
+    {
+        Ok(self.build_next(state, unit)?.into_state())
+    }
+
+    /// Keeps the memory of a state for the next builder.
+    pub fn take_back(&mut self, state: State<A>)
+        ensures unchanged { self.new ≡ self.old }
+    {
+        self.empty_builder = StateBuilderEmpty::from_state(state);
+    }
+
+    /// Returns the next state in a builder, with the memory that is kept for one.
+    fn build_next(&mut self, state: &State<A>, unit: Unit) -> Result<StateBuilderNFA<A>, AllocError>
+        requires { AllResolve self.old.nfa state.now.states }
+        ensures ok { IfOk result
+            (λ builder. builder ≡ step self.old.nfa self.old.kind state.now (byte_of unit)) }
+        ensures single { self.old.kind ≡ kinds.LeftmostFirst
+            → IfOk result (λ builder. length builder.patterns ≤ 1) }
+        ensures resolve { IfOk result (λ builder. AllResolve self.old.nfa builder.states) }
+        ensures unchanged { self.new ≡ self.old }
+    {
+        if self.sparses.is_none() {
+            self.sparses = Some(SparseSets::new(self.alloc, self.nfa.len())?);
+        }
+        let Some(sparses) = &mut self.sparses else {
+            unreachable!()
+        };
         let empty = mem::replace(&mut self.empty_builder, StateBuilderEmpty::new(self.alloc));
-        let result = next(
+        next(
             self.nfa,
             self.match_kind,
-            &mut sparses,
+            sparses,
             &mut self.stack,
             state,
             unit,
             empty,
-        );
-        self.sparses = Some(sparses);
-        self.finish(result?)
-    }
-
-    /// Returns the sets, which the caller puts back. They are made if there are none.
-    fn take_sparses(&mut self) -> Result<SparseSets<A>, AllocError>
-        ensures prepared { IfOk result (λ sets. IsPrepared self.old.nfa sets.set1 sets.set2) }
-        ensures unchanged { self.new ≡ self.old }
-    {
-        match self.sparses.take() {
-            Some(sparses) => Ok(sparses),
-            None => SparseSets::new(self.alloc, self.nfa.len()),
-        }
+        )
     }
 
     /// Returns the state that was built. Keeps the builder's memory for the next one.

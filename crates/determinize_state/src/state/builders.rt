@@ -50,6 +50,19 @@ impl<A: Allocator> StateBuilderEmpty<A> {
         }
     }
 
+    /// Returns a builder that may keep the memory of a state. Never fails.
+    pub fn from_state(state: State<A>) -> StateBuilderEmpty<A>
+        ensures { result ≡ dead }
+    {
+        match state.bytes.into_vec() {
+            Ok(mut bytes) => {
+                bytes::clear(&mut bytes);
+                StateBuilderEmpty { bytes }
+            }
+            Err(alloc) => StateBuilderEmpty::new(alloc),
+        }
+    }
+
     /// Returns the builder of the next phase, with nothing set and no patterns. On error this
     /// builder is dropped.
     pub fn into_matches(self) -> Result<StateBuilderMatches<A>, AllocError>
@@ -286,6 +299,15 @@ impl<A: Allocator> StateBuilderNFA<A> {
         Ok(State {
             bytes: SmallBytes::from_slice(alloc, self.bytes.as_slice())?,
         })
+    }
+
+    /// Returns a state with the value of the builder, in its memory. Does not allocate.
+    pub fn into_state(self) -> State<A>
+        ensures { result ≡ self }
+    {
+        State {
+            bytes: SmallBytes::from_vec(self.bytes),
+        }
     }
 
     /// Returns an empty builder, which may keep the memory of this one. Never fails.

@@ -20,7 +20,7 @@ enum Form<A: Allocator> {
         len: u8,
         bytes: [u8; SHORT],
     },
-    /// More than `SHORT` bytes, in a vector.
+    /// Any bytes, in a vector: those of a copy are more than `SHORT`.
     Long(Vec<u8, A>),
 }
 
@@ -63,6 +63,26 @@ impl<A: Allocator> SmallBytes<A> {
         Ok(SmallBytes { form })
     }
 
+    /// Returns a list of the bytes of a vector, in its memory.
+    #[inline(always)]
+    pub(crate) fn from_vec(bytes: Vec<u8, A>) -> SmallBytes<A>
+        ensures { result ≡ bytes.items }
+    {
+        let form = Form::Long(bytes);
+        SmallBytes { form }
+    }
+
+    /// Returns the vector of the bytes, or the allocator if they are inline.
+    #[inline(always)]
+    pub(crate) fn into_vec(self) -> Result<Vec<u8, A>, A>
+        ensures { IfOk result (λ bytes. bytes.items ≡ self) }
+    {
+        match self.form {
+            Form::Short { alloc, .. } => Err(alloc),
+            Form::Long(bytes) => Ok(bytes),
+        }
+    }
+
     /// Returns the bytes.
     #[inline(always)]
     pub(crate) fn as_slice(&self) -> &[u8]
@@ -99,9 +119,7 @@ impl<A: Allocator + Clone> Clone for SmallBytes<A> {
                 Ok(SmallBytes { form })
             }
             Form::Long(bytes) => {
-                let alloc = bytes.allocator().clone()?;
-                let form = Form::Long(Vec::from_slice(alloc, bytes.as_slice())?);
-                Ok(SmallBytes { form })
+                SmallBytes::from_slice(bytes.allocator().clone()?, bytes.as_slice())
             }
         }
     }

@@ -56,9 +56,9 @@ unit-is g c = c.unit-unit.ensures
     ∙ ap (λ (x : Building). unit_at x.classes (c.len-entry.result % c.alphabet_len-columns.result)) (sym c.self.view_is)
     ∙ ap (λ n. unit_at c.self.inside.classes n) (column-is g c)
 
-pub next-requires : goal.next-requires
-next-requires g c =
-    let d = (goal.at.next-requires g c).After-as_slice in
+pub next_lent-requires : goal.next_lent-requires
+next_lent-requires g c =
+    let d = (goal.at.next_lent-requires g c).After-as_slice in
     c.self.invariant.resolve _ c.index-as_slice-entry.result
     (next-row record {
       nfa = c.self.inside.stepper.nfa;
@@ -110,11 +110,19 @@ invariant_of-self-3 g c =
     let d = (goal.at.invariant_of-self-3 g c).After-as_slice in
     let items : c.push.new.self.items ≡ c.place.new.self.next ++ c.in_ok-row.row ∷ [] =
     c.in_ok-push.ensures.items ∙ ap (λ (x : Building). x.next ++ c.in_ok-row.row ∷ []) c.self-2.view_is in
-    subst (λ (x : Building). IsBuilding (record x { next = c.push.new.self.items })) (sym c.self-2.view_is)
+    subst (λ (s : StepperValue). IsBuilding record {
+      nfa = s.nfa;
+      kind = s.kind;
+      classes = c.self-2.inside.classes;
+      limit = c.self-2.inside.limit;
+      values = c.self-2.inside.states;
+      next = c.push.new.self.items;
+    }) (sym c.take_back.ensures.unchanged)
+    (subst (λ (x : Building). IsBuilding (record x { next = c.push.new.self.items })) (sym c.self-2.view_is)
     (subst (λ ns. IsBuilding (record c.place.new.self { next = ns })) (sym items)
     (building-next {a = record {
-      nfa = c.next.new.self.nfa;
-      kind = c.next.new.self.kind;
+      nfa = c.next_lent.new.self.nfa;
+      kind = c.next_lent.new.self.kind;
       classes = c.self.inside.classes;
       limit = c.self.inside.limit;
       values = c.self.inside.states;
@@ -135,13 +143,13 @@ invariant_of-self-3 g c =
     ∙ ap (λ (s : StepperValue). step s.nfa s.kind c.index-as_slice-entry.result
     (unit_at c.self.inside.classes (length c.self.inside.next.items % columns_of c.self.inside.classes)))
     (sym c.in_ok-next.ensures.unchanged))
-    c.in_ok-row.ensures.at (room g d)))
+    c.in_ok-row.ensures.at (room g d))))
 
 pub returns-clause-stays : goal.returns-clause-stays
 returns-clause-stays g c =
     let first : Stays c.args.self.now record {
-      nfa = c.next.new.self.nfa;
-      kind = c.next.new.self.kind;
+      nfa = c.next_lent.new.self.nfa;
+      kind = c.next_lent.new.self.kind;
       classes = c.self.inside.classes;
       limit = c.self.inside.limit;
       values = c.self.inside.states;
@@ -170,5 +178,13 @@ returns-clause-stays g c =
       values = c.self.inside.states;
       next = c.self.inside.next.items;
     })) in
-    subst (λ (x : Building). Stays c.args.self.now (record x { next = c.push.new.self.items })) (sym c.self-2.view_is)
-    (stays-next c.push.new.self.items (stays-more first c.in_ok-row.ensures.stays))
+    subst (λ (s : StepperValue). Stays c.args.self.now record {
+      nfa = s.nfa;
+      kind = s.kind;
+      classes = c.self-2.inside.classes;
+      limit = c.self-2.inside.limit;
+      values = c.self-2.inside.states;
+      next = c.push.new.self.items;
+    }) (sym c.take_back.ensures.unchanged)
+    (subst (λ (x : Building). Stays c.args.self.now (record x { next = c.push.new.self.items })) (sym c.self-2.view_is)
+    (stays-next c.push.new.self.items (stays-more first c.in_ok-row.ensures.stays)))

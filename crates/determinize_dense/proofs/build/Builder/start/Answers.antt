@@ -7,7 +7,7 @@ use Rattle.determinize_core.specs.Stepper.{StepperValue}
 use Rattle.determinize_dense.proofs.Building.{more-as}
 use Rattle.determinize_dense.proofs.Reached.{same_number, same_start, start-number}
 use Rattle.determinize_dense.proofs.build.Builder.start.Given.{Over}
-use Rattle.determinize_dense.proofs.build.Builder.start.Goals.{After-look_behind_of, After-place}
+use Rattle.determinize_dense.proofs.build.Builder.start.Goals.{After-look_behind_of}
 use Rattle.determinize_dense.proofs.build.Builder.start.Goals as goal
 
 nfa-is : (g : Over) (c : After-look_behind_of g) → c.nfa-nfa.result.now ≡ c.args.self.now.nfa
@@ -32,26 +32,26 @@ returns-in_default-clause-at g c = λ anchored q unit e.
     absurd (c.in_default.ensures.none q unit
     (ap (λ t. number_of (start_kind_of t q)) (terminator-is g d) ∙ kind-is g d anchored q e))
 
--- the start value
-state-is : (g : Over) (c : After-place g) → (anchored : Bool) (q : Option ℕ)
-    → start_number c.args.self.now.nfa anchored q ≡ c.args.number
-    → c.in_ok-state.state ≡ start_value c.args.self.now.nfa (start_in c.args.self.now.nfa anchored) q
-state-is g c anchored q e =
-    let d = (goal.at.returns-clause-at g c).After-look_behind_of in
-    c.in_ok-state.ensures.ok
-    ∙ ap (λ (x : Building). start_value x.nfa c.start_id.result c.in-Some.look_behind) c.self.view_is
-    ∙ ap (λ s. start_value c.args.self.now.nfa s c.in-Some.look_behind)
-    (c.start_id.ensures.value ∙ ap (λ n. start_in n (nat_lt c.args.number 6)) (nfa-is g d)
-    ∙ ap (λ b. start_in c.args.self.now.nfa b)
-    (ap (λ n. nat_lt n 6) (sym e) ∙ (start-number anchored (start_kind_of c.args.self.now.nfa.terminator q)).1))
-    ∙ same_start c.args.self.now.nfa (start_in c.args.self.now.nfa anchored) c.in-Some.look_behind q
-    (same_number _ _
-    (ap (λ t. number_of (start_kind_of t c.in-Some.look_behind)) (sym (terminator-is g d))
-    ∙ c.in-Some.ensures.some ∙ sym (kind-is g d anchored q e)))
-
 pub returns-clause-at : goal.returns-clause-at
 returns-clause-at g c = IfOk-weaker c.place.result _ _
-    (λ row at anchored q unit e. at ∙ ap Some (state-is g c anchored q e)) c.place.ensures.at
+    (λ row at anchored q unit e. at ∙ ap Some (state-is anchored q e)) c.place.ensures.at
+  where
+    d : After-look_behind_of g
+    d = (goal.at.returns-clause-at g c).After-look_behind_of
+
+    -- the start value
+    state-is : (anchored : Bool) (q : Option ℕ) → start_number c.args.self.now.nfa anchored q ≡ c.args.number
+        → c.in_ok-state.state ≡ start_value c.args.self.now.nfa (start_in c.args.self.now.nfa anchored) q
+    state-is anchored q e = c.in_ok-state.ensures.ok
+        ∙ ap (λ (x : Building). start_value x.nfa c.start_id.result c.in-Some.look_behind) c.self.view_is
+        ∙ ap (λ s. start_value c.args.self.now.nfa s c.in-Some.look_behind)
+        (c.start_id.ensures.value ∙ ap (λ n. start_in n (nat_lt c.args.number 6)) (nfa-is g d)
+        ∙ ap (λ b. start_in c.args.self.now.nfa b)
+        (ap (λ n. nat_lt n 6) (sym e) ∙ (start-number anchored (start_kind_of c.args.self.now.nfa.terminator q)).1))
+        ∙ same_start c.args.self.now.nfa (start_in c.args.self.now.nfa anchored) c.in-Some.look_behind q
+        (same_number _ _
+        (ap (λ t. number_of (start_kind_of t c.in-Some.look_behind)) (sym (terminator-is g d))
+        ∙ c.in-Some.ensures.some ∙ sym (kind-is g d anchored q e)))
 
 pub returns-clause-within : goal.returns-clause-within
 returns-clause-within g c = IfOk-weaker c.place.result _ _ (λ row at. slice_get_within _ row _ at) c.place.ensures.at

@@ -1,5 +1,5 @@
-use Rattle.determinize_core.proofs.Common.{◌≤◌}
+use Rattle.determinize_core.proofs.Common.{◌*◌, ◌≤◌}
 use Rattle.determinize_dense.proofs.rows.Rows.is_scanned.Given as goal
 
-abbrev pub invariant-loop-byte : goal.invariant-loop-byte
-invariant-loop-byte g l = l.staying ≤ l.byte
+abbrev pub invariant-loop-class : goal.invariant-loop-class
+invariant-loop-class g l = l.staying ≤ 65535 * l.class
