@@ -14,12 +14,12 @@ ghost use Rattle.determinize_core.specs.Value.{is_nonempty};
 ghost use Rattle.determinize_lazy.specs.Cache.{Grows, IsCutOff, after_step, after_walk, cache};
 ghost use Rattle.determinize_lazy.specs.Private.Cursors.{IsCursor, cursor_value};
 ghost use Rattle.determinize_lazy.specs.Private.Scanned.{IsPieceRead, later_by};
-ghost use Rattle.determinize_lazy.specs.Private.Steps.{IsSound};
 ghost use Rattle.determinize_lazy.specs.Scans.{IsScan, IsSettled, units_begun, units_fed, units_last};
 ghost use Rattle.determinize_core.specs.Searches.{IsSearch};
 ghost use Rattle.determinize_below.specs.declared.search.MatchKind.{MatchKind as Kind};
 
 use crate::lazy::Lazy;
+use crate::search::Position;
 use crate::table::Cursor;
 use determinize_below::{HalfMatch, StateID};
 use determinize_core::state::State;
@@ -153,14 +153,10 @@ impl<'n, N: Allocator, A: Allocator + Copy> Lazy<'n, N, A> {
     }
 
     /// Returns the search of a piece from a cursor, as if its text began there.
-    ///
-    /// Not inlined, so that the loop over cached transitions is compiled once for all callers.
-    #[inline(never)]
     fn read_piece(&mut self, start: Cursor<A>, piece: &[u8]) -> Result<Scan<A>, AllocError>
         requires cursor { IsCursor self.old.states start }
         requires resolve { AllResolve self.old.nfa
             (cursor_value self.old.states start).states }
-        requires sound { IsSound (cache self.old) }
         ensures read { IfOk result (λ scan. IsPieceRead (cache self.old)
             (cursor_value self.old.states start) piece.now scan (cache self.new)) }
         ensures resolve { IfOk result
@@ -171,12 +167,13 @@ impl<'n, N: Allocator, A: Allocator + Copy> Lazy<'n, N, A> {
             (cache self.new)) }
         ensures grows { Grows (cache self.old) (cache self.new) }
     {
-        let at = self.search_bytes(start, &Text::new(None, piece, None), false)?;
-        let found = at.last.or_match(self.tag_at(&at.cursor), at.read);
+        let text = Text::new(None, piece, None);
+        let at = self.search_bytes(Position::start(start), &text, false)?;
+        let last = self.found(&at);
         let state = self.table.into_state(at.cursor)?;
         Ok(Scan {
             state,
-            last: found.get(),
+            last,
             read: piece.len(),
         })
     }
@@ -238,7 +235,8 @@ impl<'n, N: Allocator, A: Allocator + Copy> Lazy<'n, N, A> {
         ensures grows { Grows (cache self.old) (cache self.new) }
     {
         let start = self.cursor_of(&scan.state)?;
-        let found = self.search_from(start, &Text::new(None, &[], look_ahead), false)?;
+        let text = Text::new(None, &[], look_ahead);
+        let found = self.search_from(Position::start(start), &text, false)?;
         Ok(or_later(scan.last, scan.read, found))
     }
 }

@@ -9,7 +9,7 @@
 //! Matches are delayed by one unit: a state lists the patterns that match before the unit that led
 //! to it. So a search also reads the unit ahead of its text, and a start state is no match state.
 
-ghost use Rattle.std.specs.Prelude.{Decides, ◌≡◌, ◌++◌, ◌<◌, ◌≤◌, ℕ, false, true, List, [], Option, is_some, length, map, not, slice_index_or, IfOk, OnErr, OnOk, Ok, None, Some};
+ghost use Rattle.std.specs.Prelude.{Decides, ◌≡◌, ◌++◌, ◌+◌, ◌<◌, ◌≤◌, ℕ, false, true, Bool, List, [], Option, is_some, length, map, not, slice_get, slice_index_or, IfOk, OnErr, OnOk, Ok, None, Some};
 ghost use Rattle.std.specs.Option.{IfNone, IfSome};
 ghost use Rattle.determinize_below.specs.Nfa.{AllResolve};
 ghost use Rattle.determinize_below.specs.Semantics.{between};
@@ -18,13 +18,13 @@ ghost use Rattle.determinize_below.specs.declared.search.MatchKind.TheVariants a
 ghost use Rattle.determinize_core.specs.Chain.{units};
 ghost use Rattle.determinize_core.specs.Step.{start_value};
 ghost use Rattle.determinize_core.specs.Value.{Value as StateValue, dead};
-ghost use Rattle.determinize_lazy.specs.Cache.{Cache, Grows, IsCutOff, cache};
+ghost use Rattle.determinize_lazy.specs.Cache.{Cache, Grows, IsCutOff, LazyValue, cache};
 ghost use Rattle.determinize_lazy.specs.Private.Cursors.{IsCursor, cursor_value};
-ghost use Rattle.determinize_lazy.specs.Private.Searched.{HasStopped, IsCutOffSearch, IsOver, IsOverIn, IsSearched};
+ghost use Rattle.determinize_lazy.specs.Private.Searched.{EndsWith, Fails, FailsOver, GoesOn, GoesOver, HasStopped, IsCachedPosition, IsCutOffSearch, IsFound, IsOver, IsOverIn, IsPosition, cached_place, first_place, place};
 ghost use Rattle.determinize_lazy.specs.Private.Steps.{IsSound};
-ghost use Rattle.determinize_lazy.specs.Private.Tags.{match_of};
+ghost use Rattle.determinize_lazy.specs.declared.table.Cursor.TheVariants as cursors;
 ghost use Rattle.determinize_core.specs.Searches.{HasMatch, IsFarthestIn, IsPreferredIn, IsSearch, has_start, last_in, start_for, text_of};
-ghost use Rattle.determinize_lazy.specs.CachedSearches.{IsCutOffIn, IsPlenty, IsPlentyIn, after_input, after_is_match, after_search, units_searched};
+ghost use Rattle.determinize_lazy.specs.CachedSearches.{IsCutOffIn, IsPlenty, IsPlentyIn, after_input, after_is_match, after_search, is_last, units_searched};
 
 use crate::lazy::Lazy;
 use crate::state_id::LazyStateId;
@@ -34,8 +34,8 @@ use determinize_below::{Anchored, HalfMatch, Input, StateID};
 use determinize_core::text::{Text, in_haystack};
 use std::alloc::{AllocError, Allocator};
 
-/// How far a search has come: where it is, how many units it has read, and the last match of the
-/// states before this one.
+/// Where a search is: at which state, how many units it has read, and the last match of the states
+/// before that one.
 #[derive(Drop)]
 pub(crate) struct Position<A: Allocator> {
     pub(crate) cursor: Cursor<A>,
@@ -43,73 +43,165 @@ pub(crate) struct Position<A: Allocator> {
     pub(crate) last: LastMatch,
 }
 
+impl<A: Allocator> Position<A> {
+    /// Returns the position before the first unit.
+    pub(crate) fn start(cursor: Cursor<A>) -> Position<A>
+        ensures cursor { result.cursor ≡ cursor }
+        ensures place { (c : LazyValue) → place c result
+            ≡ first_place (cache c) (cursor_value c.states cursor) }
+    {
+        Position {
+            cursor,
+            read: 0,
+            last: LastMatch::NONE,
+        }
+    }
+}
+
 /// A position at a cached state.
 #[derive(Clone, Copy)]
-struct Progress {
+struct CachedPosition {
     id: LazyStateId,
     read: usize,
     last: LastMatch,
 }
 
+impl CachedPosition {
+    /// Returns the position with a cursor.
+    fn with_cursor<A: Allocator>(self) -> Position<A>
+        ensures { result ≡ record { cursor = cursors.Cached self.id; read = self.read; last = self.last } }
+    {
+        Position {
+            cursor: Cursor::Cached(self.id),
+            read: self.read,
+            last: self.last,
+        }
+    }
+}
+
 impl<'n, N: Allocator, A: Allocator + Copy> Lazy<'n, N, A> {
-    /// Follows cached transitions over bytes of the text, up to a state at which the search ends.
-    /// The cache is only read.
+    /// Returns the position after one more unit, or `None` if the search ends before it or the
+    /// transition is not cached.
     #[inline(always)]
-    fn follow(&self, from: Progress, text: &Text<'_>, earliest: bool) -> Progress
-        requires id { from.id < length self.now.states }
+    fn next_cached(
+        &self,
+        at: &CachedPosition,
+        unit: Option<u8>,
+        earliest: bool,
+    ) -> Option<CachedPosition>
+        requires id { at.now.id < length self.now.states }
+        requires read { at.now.read < usize.MAX }
+        ensures position { IfSome result (λ next. IsCachedPosition self.now next) }
+        ensures read { IfSome result (λ next. next.read ≡ at.now.read + 1) }
+        ensures searched { IfSome result (λ next. (us : List (Option ℕ))
+            → slice_get us at.now.read ≡ Some unit
+            → GoesOn earliest us (cached_place self.now at.now) (cached_place self.now next)) }
+    {
+        // The entry comes before the tag, since the next entry waits for it.
+        let target = self.table.lookup(at.id, unit);
+        let tag = self.table.tag(at.id);
+        let id = target?;
+        if tag.is_last(earliest) {
+            return None;
+        }
+        Some(CachedPosition {
+            id,
+            read: at.read + 1,
+            last: at.last.or_match(tag, at.read),
+        })
+    }
+
+    /// Follows cached transitions over bytes of the text, up to a state at which the search ends.
+    #[inline(always)]
+    fn follow(&self, from: CachedPosition, text: &Text<'_>, earliest: bool) -> CachedPosition
+        requires position { IsCachedPosition self.now from }
         requires read { from.read ≤ length text.now.bytes }
-        ensures id { result.id < length self.now.states }
+        ensures position { IsCachedPosition self.now result }
         ensures forward { from.read ≤ result.read }
         ensures read { result.read ≤ length text.now.bytes }
-        ensures searched { (old : Cache) (first : StateValue) (rest : List (Option ℕ))
-            → IsSearched earliest old first (map Some text.now.bytes ++ rest) from.read
-            (slice_index_or self.now.states from.id dead) (match_of from.last) (cache self.now)
-            → IsSearched earliest old first (map Some text.now.bytes ++ rest) result.read
-            (slice_index_or self.now.states result.id dead) (match_of result.last)
-            (cache self.now) }
+        ensures searched { (rest : List (Option ℕ))
+            → GoesOn earliest (map Some text.now.bytes ++ rest) (cached_place self.now from)
+            (cached_place self.now result) }
     {
         let mut at = from;
         while at.read < text.len() {
-            let byte = text.byte(at.read);
-            // The entry comes before the tag, since the next entry waits for it.
-            let target = self.table.lookup(at.id, Some(byte));
-            let tag = self.table.tag(at.id);
-            let Some(id) = target else {
+            let Some(next) = self.next_cached(&at, Some(text.byte(at.read)), earliest) else {
                 return at;
             };
-            if tag.is_last(earliest) {
-                return at;
-            }
-            at.last = at.last.or_match(tag, at.read);
-            at.id = id;
-            at.read += 1;
+            at = next;
         }
         at
+    }
+
+    /// Follows cached transitions over a text and the unit ahead of it, up to a state at which the
+    /// search ends.
+    #[inline(always)]
+    fn follow_to_end(&self, start: LazyStateId, text: &Text<'_>, earliest: bool) -> CachedPosition
+        requires id { start < length self.now.states }
+        requires resolve { AllResolve self.now.nfa
+            (slice_index_or self.now.states start dead).states }
+        ensures position { IsCachedPosition self.now result }
+        ensures searched { GoesOn earliest (units text.now)
+            (first_place (cache self.now) (slice_index_or self.now.states start dead))
+            (cached_place self.now result) }
+    {
+        let first = CachedPosition {
+            id: start,
+            read: 0,
+            last: LastMatch::NONE,
+        };
+        let at = self.follow(first, text, earliest);
+        if at.read < text.len() {
+            return at;
+        }
+        self.next_cached(&at, text.ahead(), earliest).unwrap_or(at)
+    }
+
+    /// Returns the last match of the states up to a position.
+    pub(crate) fn found(&self, at: &Position<A>) -> Option<HalfMatch>
+        requires { IsCursor self.now.states at.now.cursor }
+        ensures { IsFound (place self.now at.now) result }
+    {
+        at.last.or_match(self.tag_at(&at.cursor), at.read).get()
+    }
+
+    /// Takes a step over a unit, from a position at which the search does not end.
+    fn advance(&mut self, at: Position<A>, unit: Option<u8>) -> Result<Position<A>, AllocError>
+        requires position { IsPosition self.old at }
+        requires read { at.read < usize.MAX }
+        ensures position { IfOk result (λ next. IsPosition self.new next) }
+        ensures read { IfOk result (λ next. next.read ≡ at.read + 1) }
+        ensures searched { IfOk result
+            (λ next. GoesOver unit (place self.old at) (place self.new next)) }
+        ensures failed { OnErr result (FailsOver unit (place self.old at) (cache self.new)) }
+        ensures grows { Grows (cache self.old) (cache self.new) }
+    {
+        let last = at.last.or_match(self.tag_at(&at.cursor), at.read);
+        let cursor = self.step(at.cursor, unit)?;
+        Ok(Position {
+            cursor,
+            read: at.read + 1,
+            last,
+        })
     }
 
     /// Follows cached transitions from a position, if its state is cached.
     #[inline(always)]
     fn run(&self, from: Position<A>, text: &Text<'_>, earliest: bool) -> Position<A>
-        requires cursor { IsCursor self.now.states from.cursor }
+        requires position { IsPosition self.now from }
         requires read { from.read ≤ length text.now.bytes }
-        ensures cursor { IsCursor self.now.states result.cursor }
+        ensures position { IsPosition self.now result }
         ensures forward { from.read ≤ result.read }
         ensures read { result.read ≤ length text.now.bytes }
-        ensures searched { (old : Cache) (first : StateValue) (rest : List (Option ℕ))
-            → IsSearched earliest old first (map Some text.now.bytes ++ rest) from.read
-            (cursor_value self.now.states from.cursor) (match_of from.last) (cache self.now)
-            → IsSearched earliest old first (map Some text.now.bytes ++ rest) result.read
-            (cursor_value self.now.states result.cursor) (match_of result.last) (cache self.now) }
+        ensures searched { (rest : List (Option ℕ))
+            → GoesOn earliest (map Some text.now.bytes ++ rest) (place self.now from)
+            (place self.now result) }
     {
         let Position { cursor, read, last } = from;
         match cursor {
             Cursor::Cached(id) => {
-                let at = self.follow(Progress { id, read, last }, text, earliest);
-                Position {
-                    cursor: Cursor::Cached(at.id),
-                    read: at.read,
-                    last: at.last,
-                }
+                let at = self.follow(CachedPosition { id, read, last }, text, earliest);
+                at.with_cursor()
             }
             Cursor::Uncached(state) => Position {
                 cursor: Cursor::Uncached(state),
@@ -119,80 +211,71 @@ impl<'n, N: Allocator, A: Allocator + Copy> Lazy<'n, N, A> {
         }
     }
 
-    /// Searches the bytes of a text from a cursor, without the unit ahead of them. Returns where
-    /// the search is then: after the last byte, or at the state at which it ends, a dead state or,
-    /// if `earliest`, a match state.
-    #[inline(always)]
+    /// Searches the bytes of a text from a position, without the unit ahead of them. Returns the
+    /// position after the last byte, or at the state at which the search ends: a dead state or, if
+    /// `earliest`, a match state.
+    ///
+    /// Not inlined, so that it is compiled once for all callers.
+    #[inline(never)]
     pub(crate) fn search_bytes(
         &mut self,
-        start: Cursor<A>,
+        from: Position<A>,
         text: &Text<'_>,
         earliest: bool,
     ) -> Result<Position<A>, AllocError>
-        requires cursor { IsCursor self.old.states start }
-        requires resolve { AllResolve self.old.nfa
-            (cursor_value self.old.states start).states }
-        requires sound { IsSound (cache self.old) }
-        ensures cursor { IfOk result (λ at. IsCursor self.new.states at.cursor) }
-        ensures searched { IfOk result (λ at. (rest : List (Option ℕ)) → IsSearched earliest
-            (cache self.old) (cursor_value self.old.states start)
-            (map Some text.now.bytes ++ rest) at.read
-            (cursor_value self.new.states at.cursor) (match_of at.last) (cache self.new)) }
-        ensures stopped { IfOk result (λ at. HasStopped earliest (length text.now.bytes) at.read
-            (cursor_value self.new.states at.cursor)) }
-        ensures failed { OnErr result ((rest : List (Option ℕ)) → IsCutOffSearch earliest
-            (cache self.old) (cursor_value self.old.states start)
-            (map Some text.now.bytes ++ rest) (cache self.new)) }
+        requires position { IsPosition self.old from }
+        requires read { from.read ≤ length text.now.bytes }
+        ensures position { IfOk result (λ at. IsPosition self.new at) }
+        ensures searched { IfOk result (λ at. (rest : List (Option ℕ))
+            → GoesOn earliest (map Some text.now.bytes ++ rest) (place self.old from)
+            (place self.new at)) }
+        ensures stopped { IfOk result
+            (λ at. HasStopped earliest (length text.now.bytes) (place self.new at)) }
+        ensures limit { IfOk result (λ at. at.read < usize.MAX) }
+        ensures failed { OnErr result ((rest : List (Option ℕ)) → Fails earliest
+            (map Some text.now.bytes ++ rest) (place self.old from) (cache self.new)) }
         ensures grows { Grows (cache self.old) (cache self.new) }
     {
-        let (mut cursor, mut read, mut last) = (start, 0, LastMatch::NONE);
-        while read < text.len() {
-            let at = self.run(Position { cursor, read, last }, text, earliest);
-            let tag = self.tag_at(&at.cursor);
-            if at.read == text.len() || tag.is_last(earliest) {
+        let mut at = from;
+        while at.read < text.len() {
+            if self.tag_at(&at.cursor).is_last(earliest) {
                 return Ok(at);
             }
-            last = at.last.or_match(tag, at.read);
-            cursor = self.step(at.cursor, Some(text.byte(at.read)))?;
-            read = at.read + 1;
+            let byte = text.byte(at.read);
+            let next = self.advance(at, Some(byte))?;
+            at = self.run(next, text, earliest);
         }
-        Ok(Position { cursor, read, last })
+        Ok(at)
     }
 
-    /// Searches from a cursor. The search ends at a dead state and, if `earliest`, at the first
-    /// match state. Returns the last match of the states that it enters.
-    #[inline(always)]
+    /// Searches a text from a position, up to a dead state or, if `earliest`, the first match state.
+    /// Returns the last match of the states before the position and of those that it enters.
     pub(crate) fn search_from(
         &mut self,
-        start: Cursor<A>,
+        from: Position<A>,
         text: &Text<'_>,
         earliest: bool,
     ) -> Result<Option<HalfMatch>, AllocError>
-        requires cursor { IsCursor self.old.states start }
-        requires unmatched { earliest ≡ true
-            → (cursor_value self.old.states start).patterns ≡ [] }
-        requires resolve { AllResolve self.old.nfa
-            (cursor_value self.old.states start).states }
-        requires sound { IsSound (cache self.old) }
-        ensures over { IfOk result (λ found. IsOver earliest (cache self.old)
-            (cursor_value self.old.states start) (units text.now) found (cache self.new)) }
-        ensures failed { OnErr result (IsCutOffSearch earliest (cache self.old)
-            (cursor_value self.old.states start) (units text.now) (cache self.new)) }
+        requires position { IsPosition self.old from }
+        requires read { from.read ≤ length text.now.bytes }
+        ensures over { IfOk result (λ found. EndsWith earliest (units text.now)
+            (place self.old from) found (cache self.new)) }
+        ensures failed { OnErr result
+            (Fails earliest (units text.now) (place self.old from) (cache self.new)) }
         ensures grows { Grows (cache self.old) (cache self.new) }
     {
-        let at = self.search_bytes(start, text, earliest)?;
-        let tag = self.tag_at(&at.cursor);
-        let last = at.last.or_match(tag, at.read);
-        if tag.is_last(earliest) {
-            return Ok(last.get());
+        let at = self.search_bytes(from, text, earliest)?;
+        if self.tag_at(&at.cursor).is_last(earliest) {
+            return Ok(self.found(&at));
         }
-        let cursor = self.step(at.cursor, text.ahead())?;
-        let tag = self.tag_at(&cursor);
-        Ok(last.or_match(tag, text.len() + 1).get())
+        let at = self.advance(at, text.ahead())?;
+        Ok(self.found(&at))
     }
 
     /// Searches a text from the start state of a walk over it.
-    #[inline(always)]
+    ///
+    /// If all that it needs is cached, the cache is only read, and nothing is moved. Not inlined, so that the loop is compiled once for all callers.
+    #[inline(never)]
     fn search_text(
         &mut self,
         start: StateID,
@@ -209,8 +292,16 @@ impl<'n, N: Allocator, A: Allocator + Copy> Lazy<'n, N, A> {
             (cache self.new)) }
         ensures grows { Grows (cache self.old) (cache self.new) }
     {
-        let cursor = self.start(start, text.behind())?;
-        self.search_from(cursor, text, earliest)
+        let Some(id) = self.kept_start(start, text.behind()) else {
+            let cursor = self.find_start(start, text.behind())?;
+            return self.search_from(Position::start(cursor), text, earliest);
+        };
+        let at = self.follow_to_end(id, text, earliest);
+        let tag = self.table.tag(at.id);
+        if at.read > text.len() || tag.is_last(earliest) {
+            return Ok(at.last.or_match(tag, at.read).get());
+        }
+        self.search_from(at.with_cursor(), text, earliest)
     }
 
     /// Searches the range of an input in the direction of the NFA. The match is one of the text

@@ -87,7 +87,7 @@ impl<'n, N: Allocator, A: Allocator + Copy> Lazy<'n, N, A> {
     /// Returns where a search begins whose start is not kept, and keeps it if it is cached.
     #[cold]
     #[inline(never)]
-    fn find_start(
+    pub(crate) fn find_start(
         &mut self,
         start: StateID,
         look_behind: Option<u8>,
@@ -106,7 +106,7 @@ impl<'n, N: Allocator, A: Allocator + Copy> Lazy<'n, N, A> {
 
     /// Returns the id of a start state, if it is kept.
     #[inline(always)]
-    fn kept_start(&self, start: StateID, look_behind: Option<u8>) -> Option<LazyStateId>
+    pub(crate) fn kept_start(&self, start: StateID, look_behind: Option<u8>) -> Option<LazyStateId>
         requires { start < length self.now.nfa.states }
         ensures at { IfSome result (λ id. slice_get self.now.states id
             ≡ Some (start_value self.now.nfa start look_behind)) }
@@ -179,6 +179,8 @@ impl<'n, N: Allocator, A: Allocator + Copy> Lazy<'n, N, A> {
             (cursor_value self.old.states cursor).states }
         ensures at { IfOk result (λ next. IsAt self.new.states next
             (step_of (cache self.old) (cursor_value self.old.states cursor) unit)) }
+        ensures resolve { AllResolve self.old.nfa
+            (step_of (cache self.old) (cursor_value self.old.states cursor) unit).states }
         ensures after { OnOk result (cache self.new ≡ after_step (cache self.old)
             (cursor_value self.old.states cursor) unit) }
         ensures failed { OnErr result (IsFailedStep (cache self.old)
@@ -206,6 +208,8 @@ impl<'n, N: Allocator, A: Allocator + Copy> Lazy<'n, N, A> {
             (cursor_value self.old.states cursor) unit ≡ false }
         ensures at { IfOk result (λ next. IsAt self.new.states next
             (step_of (cache self.old) (cursor_value self.old.states cursor) unit)) }
+        ensures resolve { AllResolve self.old.nfa
+            (step_of (cache self.old) (cursor_value self.old.states cursor) unit).states }
         ensures after { OnOk result (cache self.new ≡ after_step (cache self.old)
             (cursor_value self.old.states cursor) unit) }
         ensures failed { OnErr result (IsFailedStep (cache self.old)

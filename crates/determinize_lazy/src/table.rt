@@ -58,7 +58,7 @@ impl<A: Allocator> Cursor<A> {
 pub(crate) struct TransitionTable<A: Allocator = Global> {
     states: StateTable<A>,
     rows: Vec<u32, A>,
-    // They point into the table, so they go when it is cleared.
+    // The ids of start states, which are removed when the table is cleared.
     starts: [Option<LazyStateId>; STARTS],
 }
 

@@ -1,11 +1,11 @@
 -- A search of a text in pieces: its value and its match are those of the pieces together.
 use Rattle.determinize_lazy.proofs.Common.{[], append-nil, append_assoc, ap, arith, between, Bool, Cache, cond, drop}
 use Rattle.determinize_lazy.proofs.Common.{drop_all, ended_at, false, future, HalfMatch, HasStopped, IfSome, inl, inr}
-use Rattle.determinize_lazy.proofs.Common.{is_last, is_nonempty}
+use Rattle.determinize_lazy.proofs.Common.{is_last, is_nonempty, IsFound}
 use Rattle.determinize_lazy.proofs.Common.{IsOver, IsSearched, last_match, length, length-append, length-map, List, map}
-use Rattle.determinize_lazy.proofs.Common.{MatchKind, Nfa, None, not, Option, option_map, option_or, refl, Some}
+use Rattle.determinize_lazy.proofs.Common.{MatchKind, Nfa, None, not, Option, option_map, option_or, Place, refl, Some}
 use Rattle.determinize_lazy.proofs.Common.{start_value}
-use Rattle.determinize_lazy.proofs.Common.{step_of, subst, suc, sym, take, reported, true, true≢false, units}
+use Rattle.determinize_lazy.proofs.Common.{step_of, subst, suc, sym, take, true, true≢false, units}
 use Rattle.determinize_lazy.proofs.Common.{units_read}
 use Rattle.determinize_lazy.proofs.Common.{Value, value_after, ℕ, ◌++◌, ◌+◌, ◌∙◌, ◌∷◌, ◌<◌, ◌≡◌, ◌≤◌, ◌⊎◌}
 use Rattle.std.proofs.lemmas.List.{map-append}
@@ -32,7 +32,7 @@ later-none None = refl
 later-none (Some m) = ap (λ k. Some record { pattern = m.pattern; offset = k })
     (let e : 0 + m.offset ≡ m.offset = omega arith in e)
 
-pub later-within : (n k limit : ℕ) (found : Option HalfMatch) → IfSome found (λ m. m.offset < k) → n + k ≤ limit
+pub later-within : (n k limit : ℕ) (found : Option HalfMatch) → IfSome found (λ m. m.offset < k) → n + k ≤ limit + 1
     → IfSome found (λ m. n + m.offset ≤ limit)
 later-within n k limit None h sum = tt
 later-within n k limit (Some m) h sum = omega (arith, h, sum)
@@ -174,38 +174,38 @@ none_left [] h = refl
 none_left (x ∷ xs) h = absurd (true≢false (sym h))
 
 -- a search of the bytes of a piece
-module _ {old : Cache} {first : Value} (piece : List ℕ) {read : ℕ} {v : Value} {last : Option HalfMatch} {now : Cache}
-    (s : (rest : List (Option ℕ)) → IsSearched false old first (map Some piece ++ rest) read v last now)
-    (h : HasStopped false (length piece) read v) where
+module _ {old : Cache} {first : Value} (piece : List ℕ) {p : Place}
+    (s : (rest : List (Option ℕ)) → IsSearched false old first (map Some piece ++ rest) p)
+    (h : HasStopped false (length piece) p) where
   abbrev us : List (Option ℕ)
   us = map Some piece
 
-  searched : IsSearched false old first us read v last now
-  searched = subst (λ all. IsSearched false old first all read v last now) (append-nil us) (s [])
+  searched : IsSearched false old first us p
+  searched = subst (λ all. IsSearched false old first all p) (append-nil us) (s [])
 
-  all_or_last : (length us ≤ read) ⊎ (is_last false v ≡ true)
+  all_or_last : (length us ≤ p.read) ⊎ (is_last false p.value ≡ true)
   all_or_last = elim h.1 [
     | inl e ↦ inl (let size : length us ≡ length piece = length-map piece Some in omega (arith, e, size))
     | inr l ↦ inr l
   ]
 
   -- its match, and what it leaves
-  pub piece-over : {found : Option HalfMatch} → found ≡ option_or (reported read v) last
-      → IsOver false old first us found now
+  pub piece-over : {found : Option HalfMatch} → IsFound p found
+      → IsOver false old first us found p.cache
   piece-over found_is = elim all_or_last [
     | inl all ↦ finished searched found_is all
     | inr l ↦ stopped searched found_is (λ early. absurd (true≢false (sym early))) l
   ]
 
   -- its value
-  pub piece-value : v ≡ value_after old.nfa old.kind first (units_read (step_of old) false first us)
+  pub piece-value : p.value ≡ value_after old.nfa old.kind first (units_read (step_of old) false first us)
   piece-value = searched.reached.end ∙ ap (λ all. value_after old.nfa old.kind first all) (sym read_is)
     where
-      none : units_read (step_of old) false v (drop read us) ≡ []
+      none : units_read (step_of old) false p.value (drop p.read us) ≡ []
       none = elim all_or_last [
-        | inl all ↦ ap (λ l. units_read (step_of old) false v l) (drop_all read us all)
-        | inr l ↦ read_none (step_of old) false v (drop read us) l
+        | inl all ↦ ap (λ l. units_read (step_of old) false p.value l) (drop_all p.read us all)
+        | inr l ↦ read_none (step_of old) false p.value (drop p.read us) l
       ]
 
-      read_is : units_read (step_of old) false first us ≡ take read us
-      read_is = searched.rest ∙ ap (λ l. take read us ++ l) none ∙ append-nil (take read us)
+      read_is : units_read (step_of old) false first us ≡ take p.read us
+      read_is = searched.rest ∙ ap (λ l. take p.read us ++ l) none ∙ append-nil (take p.read us)

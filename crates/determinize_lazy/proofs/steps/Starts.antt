@@ -10,8 +10,7 @@ use Rattle.determinize_start.specs.LookTables.{from_word_at_start, half_crlf_at_
 use Rattle.determinize_start.specs.LookTables.{start_half_crlf, start_have}
 use Rattle.determinize_start.specs.StartKinds.{number_of, start_kind_of, start_of_number}
 use Rattle.determinize_start.specs.declared.start.Start.{Start as Kind}
-use Rattle.determinize_start.specs.declared.start.Start.TheVariants.{CustomLineTerminator, LineCR, LineLF, NonWordByte}
-use Rattle.determinize_start.specs.declared.start.Start.TheVariants.{Text, WordByte}
+use Rattle.determinize_start.specs.declared.start.Start.TheVariants.{NonWordByte}
 use Rattle.determinize_state.specs.Recording.{recorded}
 use Rattle.determinize_lazy.proofs.tables.Values.{get_with}
 use Rattle.determinize_core.proofs.states.Places.{not_both, not_none, of_some}

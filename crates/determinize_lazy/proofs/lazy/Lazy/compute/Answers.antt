@@ -1,7 +1,8 @@
-use Rattle.determinize_lazy.proofs.Common.{ap, cache, count_after, cursor_value, false, IfOk, inl, inr, is_cached}
+use Rattle.determinize_lazy.proofs.Common.{AllResolve, ap, cache, count_after, cursor_value, false, IfOk, inl, inr, is_cached}
 use Rattle.determinize_lazy.proofs.Common.{IsAt, IsLazy, IsTable, keep, LazyValue, on_err_weaker, on_ok_weaker, rules}
 use Rattle.determinize_lazy.proofs.Common.{step_of, subst, sym, table_of, ◌∙◌, ◌≡◌}
 use Rattle.determinize_core.specs.Step.{step}
+use Rattle.determinize_core.proofs.step.Resolving.{step_resolves}
 use Rattle.determinize_core.specs.Stepper.{StepperValue}
 use Rattle.determinize_lazy.proofs.steps.Cursors.{absent-at}
 use Rattle.determinize_lazy.proofs.steps.Rule.{lazy-kept, of_err, step-done, step-failed}
@@ -16,6 +17,20 @@ absent g c =
     absent-at (cache c.args.self.now) c.args.cursor c.args.unit
     (subst (λ (x : LazyValue). IsTable (step_of (cache x)) (cache x).table) c.self.view_is c.self.invariant.table)
     c.requires.cursor c.requires.uncached
+
+-- the state that follows has states of the NFA
+resolves : (g : Over) (c : After-state-state g) → AllResolve c.args.self.now.nfa
+    (step_of (cache c.args.self.now) (cursor_value c.args.self.now.states c.args.cursor) c.args.unit).states
+resolves g c = subst (λ (x : LazyValue). AllResolve x.nfa
+    (step_of (cache x) (cursor_value c.args.self.now.states c.args.cursor) c.args.unit).states) c.self.view_is
+    (step_resolves c.self.inside.stepper.nfa c.self.invariant.accepted c.self.inside.stepper.kind _ c.args.unit)
+
+pub returns-in_err-following-clause-resolve : goal.returns-in_err-following-clause-resolve
+returns-in_err-following-clause-resolve g c =
+    resolves g (goal.at.returns-in_err-following-clause-resolve g c).After-state-state
+
+pub returns-clause-resolve : goal.returns-clause-resolve
+returns-clause-resolve g c = resolves g (goal.at.returns-clause-resolve g c).After-state-state
 
 pub invariant_of-self : goal.invariant_of-self
 invariant_of-self g c =

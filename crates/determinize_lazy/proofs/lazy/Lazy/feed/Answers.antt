@@ -1,4 +1,4 @@
-use Rattle.determinize_lazy.proofs.Common.{ap, cache, future, IfSome}
+use Rattle.determinize_lazy.proofs.Common.{ap, arith, cache, future, IfSome}
 use Rattle.determinize_lazy.proofs.Common.{last_match, length, length-map, map, option_map, option_or, rules, Some}
 use Rattle.determinize_lazy.proofs.Common.{subst, sym, Value, ◌+◌, ◌<◌, ◌∙◌, ◌≡◌, ◌≤◌}
 use Rattle.determinize_lazy.specs.Private.Scanned.{IsPieceRead, later_by}
@@ -28,7 +28,8 @@ or_later-scan-inside-requires g c =
     (subst (λ o. IfSome o (λ m. m.offset < length c.args.piece.now)) (sym r.last)
     (subst (λ n. IfSome (last_match (future c.args.self.now.nfa c.args.self.now.kind c.args.scan.now.state
     (map Some c.args.piece.now))) (λ m. m.offset < n)) (length-map c.args.piece.now Some)
-    (last_match-within c.args.self.now.nfa c.args.self.now.kind c.args.scan.now.state (map Some c.args.piece.now)))) sum
+    (last_match-within c.args.self.now.nfa c.args.self.now.kind c.args.scan.now.state (map Some c.args.piece.now))))
+    (omega (arith, sum))
 
 pub returns-clause-fed : goal.returns-clause-fed
 returns-clause-fed g c start behind bytes is =

@@ -1,17 +1,15 @@
-use Rattle.determinize_lazy.proofs.Common.{cache, cursor_value, Grows, IsCursor, IsSearched, length, List, map}
-use Rattle.determinize_lazy.proofs.Common.{match_of, Option, Some, ℕ}
+use Rattle.determinize_lazy.proofs.Common.{cache, GoesOn, Grows, IsPosition, length, List, map, Option, place, Some, ℕ}
 use Rattle.determinize_lazy.proofs.Common.{◌++◌, ◌-◌, ◌≤◌}
 use Rattle.determinize_lazy.proofs.lazy.Lazy.search_bytes.Given as goal
 
-abbrev pub invariant-loop-read : goal.invariant-loop-read
-invariant-loop-read g l = record {
-  searched : (rest : List (Option ℕ)) → IsSearched l.fn.earliest (cache l.fn.self)
-      (cursor_value l.fn.self.states l.fn.start) (map Some l.text.bytes ++ rest) l.read
-      (cursor_value l.self.states l.cursor) (match_of l.last) (cache l.self);
-  cursor : IsCursor l.self.states l.cursor;
-  within : l.read ≤ length l.text.bytes;
+abbrev pub invariant-loop-at : goal.invariant-loop-at
+invariant-loop-at g l = record {
+  position : IsPosition l.self l.at;
+  read : l.at.read ≤ length l.text.bytes;
+  searched : (rest : List (Option ℕ)) → GoesOn l.fn.earliest (map Some l.text.bytes ++ rest)
+      (place l.fn.self l.fn.from) (place l.self l.at);
   grows : Grows (cache l.fn.self) (cache l.self);
 }
 
-abbrev pub decreases-loop-read : goal.decreases-loop-read
-decreases-loop-read g l = length l.text.bytes - l.read
+abbrev pub decreases-loop-at : goal.decreases-loop-at
+decreases-loop-at g l = length l.text.bytes - l.at.read

@@ -1,5 +1,6 @@
-use Rattle.determinize_lazy.proofs.Common.{ap, cache, cursor_value, IsTable, IsTarget, LazyValue, slice_get, Some}
+use Rattle.determinize_lazy.proofs.Common.{AllResolve, ap, cache, cursor_value, IsTable, IsTarget, LazyValue, slice_get, Some}
 use Rattle.determinize_lazy.proofs.Common.{step_of, subst, ◌∙◌, ◌≡◌}
+use Rattle.determinize_core.proofs.step.Resolving.{step_resolves}
 use Rattle.determinize_lazy.proofs.steps.Cursors.{cached_step, cached_target, state_of}
 use Rattle.determinize_lazy.proofs.lazy.Lazy.step.Given.{Over}
 use Rattle.determinize_lazy.proofs.lazy.Lazy.step.Goals.{In-Some}
@@ -32,3 +33,8 @@ returns-in-Some-clause-after g c = cached_step (cache c.args.self.now) _ c.args.
 
 pub compute-requires-in-Uncached-clause-uncached : goal.compute-requires-in-Uncached-clause-uncached
 compute-requires-in-Uncached-clause-uncached g c = λ id e. absurd (let no : ⊥ = (cc) in no)
+
+pub returns-in-Some-clause-resolve : goal.returns-in-Some-clause-resolve
+returns-in-Some-clause-resolve g c = subst (λ (x : LazyValue). AllResolve x.nfa
+    (step_of (cache x) (cursor_value c.args.self.now.states c.args.cursor) c.args.unit).states) c.self.view_is
+    (step_resolves c.self.inside.stepper.nfa c.self.invariant.accepted c.self.inside.stepper.kind _ c.args.unit)
