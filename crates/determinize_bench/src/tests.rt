@@ -7,15 +7,14 @@
 //! that makes an NFA and a cache lends them to another one as its last call.
 
 mod below;
+mod caches;
 mod invalid_jobs;
 mod laws;
-mod lazy;
 mod map_text;
 mod parts;
 mod rows;
 mod runs;
 mod scans;
-mod searches;
 mod sizes;
 mod starts;
 mod states;

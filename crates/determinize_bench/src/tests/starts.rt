@@ -1,7 +1,7 @@
 //! Start configurations and look-behind: texts of their tables.
 
 use crate::tests::map_text::MAP_OF_B;
-use crate::tests::{holds, lazy, same};
+use crate::tests::{caches, holds, same};
 use determinize_below::{Look, LookMatcher, Unit};
 use determinize_core::look_tables::LookTables;
 use determinize_core::start::{StartByteMap, start_kind_of};
@@ -40,6 +40,6 @@ fn expect_tables<R: Abort + AllocGlobal>(rt: &R, tables: LookTables) -> Result<(
 
 #[test]
 fn tables_of_assertions(rt: HostRuntime) -> Result<(), Fail> {
-    let nfa = lazy::nfa(&rt, ASSERTIONS, false)?;
+    let nfa = caches::nfa(&rt, ASSERTIONS, false)?;
     expect_tables(&rt, LookTables::of(&nfa))
 }

@@ -1,6 +1,6 @@
 //! The debug texts of states, builders, caches and NFAs.
 
-use crate::tests::lazy::{WORDS, nfa};
+use crate::tests::caches::{WORDS, nfa};
 use crate::tests::same;
 use crate::tests::states::{built, state, with_patterns};
 use determinize_below::{Look, MatchKind};
