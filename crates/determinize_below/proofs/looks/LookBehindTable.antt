@@ -53,6 +53,8 @@ word_end a = all_units_fails (λ q. a && not (is_word q)) letter letter_unit (rw
 word_end_half : all_units (λ q. not (is_word q)) ≡ false
 word_end_half = all_units_fails (λ q. not (is_word q)) letter letter_unit (rw letter_word)
 
+ruleset word_tests = (word, word_negate, word_start, word_end, word_end_half, all_units_constant)
+
 -- the look-behind satisfies Start, StartLF, StartCRLF or a half word start if the byte before does,
 -- and no other assertion
 pub known_is : (reverse : Bool) (t : ℕ) (p : Option ℕ) (l : Look)
@@ -65,7 +67,7 @@ known_is reverse t p EndLF = end_lf t
 known_is reverse t p StartCRLF =
     start_crlf (is_none p || is p (crlf_second reverse)) (is p (crlf_first reverse)) _ (crlf_unit reverse)
 known_is reverse t p EndCRLF = end_crlf reverse (is p (crlf_first reverse))
-known_is reverse t p s = search (word, word_negate, word_start, word_end, word_end_half, all_units_constant)
+known_is reverse t p s = search word_tests
 
 -- an assertion satisfied by the look-behind holds for every next unit
 pub known-holds : (reverse : Bool) (t : ℕ) (p q : Option ℕ) (l : Look) → is_known reverse t p l ≡ true

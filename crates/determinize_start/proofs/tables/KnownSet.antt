@@ -60,7 +60,8 @@ unfolding has
 known-agree any a b c d a' b' c' d' Start h i j k m =
     has-known_set a b c d Start ∙ i (haystack_class any Start refl h)
 known-agree any a b c d a' b' c' d' l h i j k m =
-    has-known_set a b c d l ∙ search (i, j, k, m, word_class, line_class, crlf_class, haystack_class)
+    has-known_set a b c d l
+    ∙ grind (arith, i, j, k, m, word_class any l, line_class any l, crlf_class any l, haystack_class any l)
 
 -- such a set is within a table if its tests imply the table's
 pub known-within : (start line crlf word start' line' crlf' word' : Bool) (l : Look)

@@ -10,7 +10,7 @@ abbrev pub weight : {N : Type 0} → (N → ℕ) → (N → Bool) → List N →
 weight f held [] = zero
 weight f held (x ∷ xs) = cond (held x) (weight f held xs) (f x + weight f held xs)
 
--- the weight is less where more is visited
+-- the nodes that are not visited weigh at most as much as all
 pub weight_held_le : {N : Type 0} (f : N → ℕ) (held : N → Bool) (xs : List N) → weight f held xs ≤ weight f none_held xs
 weight_held_le f held [] = omega arith
 weight_held_le f held (x ∷ xs) = grind (arith, weight_held_le f held xs)
