@@ -112,8 +112,11 @@ impl<'n, N: Allocator, A: Allocator + Copy> Lazy<'n, N, A> {
     }
 
     /// Follows cached transitions over bytes of the text, up to a state at which the search ends.
-    #[inline(always)]
-    fn follow(&self, from: CachedPosition, text: &Text<'_>, earliest: bool) -> CachedPosition
+    ///
+    /// Not inlined, so that the loop is compiled once for all searches, and nothing that comes
+    /// after it changes how it is compiled.
+    #[inline(never)]
+    fn follow_bytes(&self, from: CachedPosition, text: &Text<'_>, earliest: bool) -> CachedPosition
         requires position { IsCachedPosition self.now from }
         requires read { from.read ≤ length text.now.bytes }
         ensures position { IsCachedPosition self.now result }
@@ -131,6 +134,24 @@ impl<'n, N: Allocator, A: Allocator + Copy> Lazy<'n, N, A> {
             at = next;
         }
         at
+    }
+
+    /// Follows cached transitions as `follow_bytes` does, but calls it only if a byte is left.
+    #[inline(always)]
+    fn follow(&self, from: CachedPosition, text: &Text<'_>, earliest: bool) -> CachedPosition
+        requires position { IsCachedPosition self.now from }
+        requires read { from.read ≤ length text.now.bytes }
+        ensures position { IsCachedPosition self.now result }
+        ensures forward { from.read ≤ result.read }
+        ensures read { result.read ≤ length text.now.bytes }
+        ensures searched { (rest : List (Option ℕ))
+            → GoesOn earliest (map Some text.now.bytes ++ rest) (cached_place self.now from)
+            (cached_place self.now result) }
+    {
+        if from.read == text.len() {
+            return from;
+        }
+        self.follow_bytes(from, text, earliest)
     }
 
     /// Follows cached transitions over a text and the unit ahead of it, up to a state at which the
@@ -272,9 +293,50 @@ impl<'n, N: Allocator, A: Allocator + Copy> Lazy<'n, N, A> {
         Ok(self.found(&at))
     }
 
-    /// Searches a text from the start state of a walk over it.
-    ///
-    /// If all that it needs is cached, the cache is only read, and nothing is moved. Not inlined, so that the loop is compiled once for all callers.
+    /// Searches as `search_from` does, from a position at a cached state.
+    #[cold]
+    #[inline(never)]
+    fn search_on(
+        &mut self,
+        from: CachedPosition,
+        text: &Text<'_>,
+        earliest: bool,
+    ) -> Result<Option<HalfMatch>, AllocError>
+        requires position { IsCachedPosition self.old from }
+        requires read { from.read ≤ length text.now.bytes }
+        ensures over { IfOk result (λ found. EndsWith earliest (units text.now)
+            (cached_place self.old from) found (cache self.new)) }
+        ensures failed { OnErr result
+            (Fails earliest (units text.now) (cached_place self.old from) (cache self.new)) }
+        ensures grows { Grows (cache self.old) (cache self.new) }
+    {
+        self.search_from(from.with_cursor(), text, earliest)
+    }
+
+    /// Searches as `search_text` does, from a start state whose id is not kept.
+    #[cold]
+    #[inline(never)]
+    fn search_anew(
+        &mut self,
+        start: StateID,
+        text: &Text<'_>,
+        earliest: bool,
+    ) -> Result<Option<HalfMatch>, AllocError>
+        requires { start < length self.old.nfa.states }
+        ensures over { IfOk result (λ found. IsOver earliest (cache self.old)
+            (start_value self.old.nfa start text.now.behind) (units text.now) found
+            (cache self.new)) }
+        ensures failed { OnErr result (IsCutOffSearch earliest (cache self.old)
+            (start_value self.old.nfa start text.now.behind) (units text.now)
+            (cache self.new)) }
+        ensures grows { Grows (cache self.old) (cache self.new) }
+    {
+        let cursor = self.find_start(start, text.behind())?;
+        self.search_from(Position::start(cursor), text, earliest)
+    }
+
+    /// Searches a text from the start state of a walk over it. If the id of that state is kept and
+    /// all transitions are cached, the cache is only read.
     #[inline(never)]
     fn search_text(
         &mut self,
@@ -293,15 +355,14 @@ impl<'n, N: Allocator, A: Allocator + Copy> Lazy<'n, N, A> {
         ensures grows { Grows (cache self.old) (cache self.new) }
     {
         let Some(id) = self.kept_start(start, text.behind()) else {
-            let cursor = self.find_start(start, text.behind())?;
-            return self.search_from(Position::start(cursor), text, earliest);
+            return self.search_anew(start, text, earliest);
         };
         let at = self.follow_to_end(id, text, earliest);
         let tag = self.table.tag(at.id);
         if at.read > text.len() || tag.is_last(earliest) {
             return Ok(at.last.or_match(tag, at.read).get());
         }
-        self.search_from(at.with_cursor(), text, earliest)
+        self.search_on(at, text, earliest)
     }
 
     /// Searches the range of an input in the direction of the NFA. The match is one of the text

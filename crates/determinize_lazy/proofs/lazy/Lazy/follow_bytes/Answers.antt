@@ -1,6 +1,6 @@
 use Rattle.determinize_lazy.proofs.Common.{map, rules, Some, ◌++◌}
 use Rattle.determinize_core.proofs.states.Places.{get_more}
-use Rattle.determinize_lazy.proofs.lazy.Lazy.follow.Goals as goal
+use Rattle.determinize_lazy.proofs.lazy.Lazy.follow_bytes.Goals as goal
 
 pub loop-at-preserved : goal.loop-at-preserved
 loop-at-preserved g c =
