@@ -128,10 +128,19 @@ impl<'n, N: Allocator, A: Allocator + Copy> Lazy<'n, N, A> {
     {
         let mut at = from;
         while at.read < text.len() {
-            let Some(next) = self.next_cached(&at, Some(text.byte(at.read)), earliest) else {
+            let byte = text.byte(at.read);
+            // The entry comes before the tag, since the next entry waits for it.
+            let target = self.table.lookup(at.id, Some(byte));
+            let tag = self.table.tag(at.id);
+            let Some(id) = target else {
                 return at;
             };
-            at = next;
+            if tag.is_last(earliest) {
+                return at;
+            }
+            at.last = at.last.or_match(tag, at.read);
+            at.id = id;
+            at.read += 1;
         }
         at
     }
