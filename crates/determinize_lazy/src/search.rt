@@ -1,10 +1,12 @@
 //! Searches over the cache: the last match of a walk, without a list of its states.
 //!
-//! For each byte over which the transition is cached, a search reads two numbers in the row of its
-//! current state: the entry of the byte, which is the offset of the next row, and the tag. The loop
-//! that does so, `follow`, neither allocates nor hashes. It is left for a transition that is not
-//! cached, for the last unit, and at a state at which the search ends. If the id of the start state
-//! is kept as well (`step`), a search computes no state and searches no map.
+//! If the id of its start state is kept (`step`), a search begins at that id and follows cached
+//! transitions from row to row (`follow_bytes`). For each byte it reads two numbers in the row of
+//! the current state: the entry of the byte, which is the offset of the next row, and the tag. It
+//! neither allocates nor hashes, and computes no state. It ends at a transition that is not cached,
+//! after the last byte, and at a state at which the search ends. If the transition over the unit
+//! ahead is cached as well, the search is over then. If not, `search_from` goes on from there: it
+//! takes one step, which is computed if it is not cached, and follows cached transitions again.
 //!
 //! Matches are delayed by one unit: a state lists the patterns that match before the unit that led
 //! to it. So a search also reads the unit ahead of its text, and a start state is no match state.
@@ -115,7 +117,7 @@ impl<'n, N: Allocator, A: Allocator + Copy> Lazy<'n, N, A> {
     ///
     /// Not inlined, so that the loop is compiled once for all searches, and nothing that comes
     /// after it changes how it is compiled.
-    #[inline(never)]
+    #[inline(always)]
     fn follow_bytes(&self, from: CachedPosition, text: &Text<'_>, earliest: bool) -> CachedPosition
         requires position { IsCachedPosition self.now from }
         requires read { from.read ≤ length text.now.bytes }
