@@ -1,7 +1,7 @@
 //! Searches over the cache: the last match of a walk, without a list of its states.
 //!
 //! If the id of its start state is kept (`step`), a search begins at that id and follows cached
-//! transitions from row to row (`follow_bytes`). For each byte it reads two numbers in the row of
+//! transitions from row to row (`follow`). For each byte it reads two numbers in the row of
 //! the current state: the entry of the byte, which is the offset of the next row, and the tag. It
 //! neither allocates nor hashes, and computes no state. It ends at a transition that is not cached,
 //! after the last byte, and at a state at which the search ends. If the transition over the unit
@@ -114,11 +114,8 @@ impl<'n, N: Allocator, A: Allocator + Copy> Lazy<'n, N, A> {
     }
 
     /// Follows cached transitions over bytes of the text, up to a state at which the search ends.
-    ///
-    /// Not inlined, so that the loop is compiled once for all searches, and nothing that comes
-    /// after it changes how it is compiled.
     #[inline(always)]
-    fn follow_bytes(&self, from: CachedPosition, text: &Text<'_>, earliest: bool) -> CachedPosition
+    fn follow(&self, from: CachedPosition, text: &Text<'_>, earliest: bool) -> CachedPosition
         requires position { IsCachedPosition self.now from }
         requires read { from.read ≤ length text.now.bytes }
         ensures position { IsCachedPosition self.now result }
@@ -145,24 +142,6 @@ impl<'n, N: Allocator, A: Allocator + Copy> Lazy<'n, N, A> {
             at.read += 1;
         }
         at
-    }
-
-    /// Follows cached transitions as `follow_bytes` does, but calls it only if a byte is left.
-    #[inline(always)]
-    fn follow(&self, from: CachedPosition, text: &Text<'_>, earliest: bool) -> CachedPosition
-        requires position { IsCachedPosition self.now from }
-        requires read { from.read ≤ length text.now.bytes }
-        ensures position { IsCachedPosition self.now result }
-        ensures forward { from.read ≤ result.read }
-        ensures read { result.read ≤ length text.now.bytes }
-        ensures searched { (rest : List (Option ℕ))
-            → GoesOn earliest (map Some text.now.bytes ++ rest) (cached_place self.now from)
-            (cached_place self.now result) }
-    {
-        if from.read == text.len() {
-            return from;
-        }
-        self.follow_bytes(from, text, earliest)
     }
 
     /// Follows cached transitions over a text and the unit ahead of it, up to a state at which the
@@ -348,6 +327,8 @@ impl<'n, N: Allocator, A: Allocator + Copy> Lazy<'n, N, A> {
 
     /// Searches a text from the start state of a walk over it. If the id of that state is kept and
     /// all transitions are cached, the cache is only read.
+    ///
+    /// Not inlined, so that it is compiled once for all callers.
     #[inline(never)]
     fn search_text(
         &mut self,

@@ -1,6 +1,6 @@
 use Rattle.determinize_lazy.proofs.Common.{cached_place, GoesOn, IsCachedPosition, length, List, map, Option, Some, ℕ}
 use Rattle.determinize_lazy.proofs.Common.{◌++◌, ◌-◌, ◌≤◌}
-use Rattle.determinize_lazy.proofs.lazy.Lazy.follow_bytes.Given as goal
+use Rattle.determinize_lazy.proofs.lazy.Lazy.follow.Given as goal
 
 abbrev pub invariant-loop-at : goal.invariant-loop-at
 invariant-loop-at g l = record {
