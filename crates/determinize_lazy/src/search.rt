@@ -1,10 +1,12 @@
 //! Searches over the cache: the last match of a walk, without a list of its states.
 //!
-//! For each byte over which the transition is cached, a search reads two numbers in the row of its
-//! current state: the entry of the byte, which is the offset of the next row, and the tag. The loop
-//! that does so, `follow`, neither allocates nor hashes. It is left for a transition that is not
-//! cached, for the last unit, and at a state at which the search ends. If the id of the start state
-//! is kept as well (`step`), a search computes no state and searches no map.
+//! If the id of its start state is kept (`step`), a search begins at that id and follows cached
+//! transitions from row to row (`follow`). For each byte it reads two numbers in the row of
+//! the current state: the entry of the byte, which is the offset of the next row, and the tag. It
+//! neither allocates nor hashes, and computes no state. It ends at a transition that is not cached,
+//! after the last byte, and at a state at which the search ends. If the transition over the unit
+//! ahead is cached as well, the search is over then. If not, `search_from` goes on from there: it
+//! takes one step, which is computed if it is not cached, and follows cached transitions again.
 //!
 //! Matches are delayed by one unit: a state lists the patterns that match before the unit that led
 //! to it. So a search also reads the unit ahead of its text, and a start state is no match state.
@@ -125,10 +127,19 @@ impl<'n, N: Allocator, A: Allocator + Copy> Lazy<'n, N, A> {
     {
         let mut at = from;
         while at.read < text.len() {
-            let Some(next) = self.next_cached(&at, Some(text.byte(at.read)), earliest) else {
+            let byte = text.byte(at.read);
+            // The entry comes before the tag, since the next entry waits for it.
+            let target = self.table.lookup(at.id, Some(byte));
+            let tag = self.table.tag(at.id);
+            let Some(id) = target else {
                 return at;
             };
-            at = next;
+            if tag.is_last(earliest) {
+                return at;
+            }
+            at.last = at.last.or_match(tag, at.read);
+            at.id = id;
+            at.read += 1;
         }
         at
     }
@@ -272,9 +283,52 @@ impl<'n, N: Allocator, A: Allocator + Copy> Lazy<'n, N, A> {
         Ok(self.found(&at))
     }
 
-    /// Searches a text from the start state of a walk over it.
+    /// Searches as `search_from` does, from a position at a cached state.
+    #[cold]
+    #[inline(never)]
+    fn search_on(
+        &mut self,
+        from: CachedPosition,
+        text: &Text<'_>,
+        earliest: bool,
+    ) -> Result<Option<HalfMatch>, AllocError>
+        requires position { IsCachedPosition self.old from }
+        requires read { from.read ≤ length text.now.bytes }
+        ensures over { IfOk result (λ found. EndsWith earliest (units text.now)
+            (cached_place self.old from) found (cache self.new)) }
+        ensures failed { OnErr result
+            (Fails earliest (units text.now) (cached_place self.old from) (cache self.new)) }
+        ensures grows { Grows (cache self.old) (cache self.new) }
+    {
+        self.search_from(from.with_cursor(), text, earliest)
+    }
+
+    /// Searches as `search_text` does, from a start state whose id is not kept.
+    #[cold]
+    #[inline(never)]
+    fn search_anew(
+        &mut self,
+        start: StateID,
+        text: &Text<'_>,
+        earliest: bool,
+    ) -> Result<Option<HalfMatch>, AllocError>
+        requires { start < length self.old.nfa.states }
+        ensures over { IfOk result (λ found. IsOver earliest (cache self.old)
+            (start_value self.old.nfa start text.now.behind) (units text.now) found
+            (cache self.new)) }
+        ensures failed { OnErr result (IsCutOffSearch earliest (cache self.old)
+            (start_value self.old.nfa start text.now.behind) (units text.now)
+            (cache self.new)) }
+        ensures grows { Grows (cache self.old) (cache self.new) }
+    {
+        let cursor = self.find_start(start, text.behind())?;
+        self.search_from(Position::start(cursor), text, earliest)
+    }
+
+    /// Searches a text from the start state of a walk over it. If the id of that state is kept and
+    /// all transitions are cached, the cache is only read.
     ///
-    /// If all that it needs is cached, the cache is only read, and nothing is moved. Not inlined, so that the loop is compiled once for all callers.
+    /// Not inlined, so that it is compiled once for all callers.
     #[inline(never)]
     fn search_text(
         &mut self,
@@ -293,15 +347,14 @@ impl<'n, N: Allocator, A: Allocator + Copy> Lazy<'n, N, A> {
         ensures grows { Grows (cache self.old) (cache self.new) }
     {
         let Some(id) = self.kept_start(start, text.behind()) else {
-            let cursor = self.find_start(start, text.behind())?;
-            return self.search_from(Position::start(cursor), text, earliest);
+            return self.search_anew(start, text, earliest);
         };
         let at = self.follow_to_end(id, text, earliest);
         let tag = self.table.tag(at.id);
         if at.read > text.len() || tag.is_last(earliest) {
             return Ok(at.last.or_match(tag, at.read).get());
         }
-        self.search_from(at.with_cursor(), text, earliest)
+        self.search_on(at, text, earliest)
     }
 
     /// Searches the range of an input in the direction of the NFA. The match is one of the text

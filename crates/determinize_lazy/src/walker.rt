@@ -74,7 +74,8 @@ impl<'n, N: Allocator, A: Allocator + Copy> Lazy<'n, N, A> {
     /// Takes a step of a walk over a byte, or over the end of input (EOI) for `None`: the walker is
     /// then at the next state of the walk.
     ///
-    /// The walker must be one of the same NFA: the ids of its state are then those of NFA states.
+    /// The walker must have been begun with the same NFA, so that the ids in its state are ids of
+    /// this one, and with the same match kind, so that its states are those of one walk.
     ///
     /// Returns `AllocError` if an allocation fails, or if more than 16647160 states would be
     /// cached. The walker is unchanged then, and may take the same step again.

@@ -1,11 +1,11 @@
-use Rattle.determinize_lazy.proofs.Common.{AllResolve, ap, cache, cached_place, cursor_value, dead, first_place}
+use Rattle.determinize_lazy.proofs.Common.{AllResolve, ap, cache, cached_place, dead, first_place}
 use Rattle.determinize_lazy.proofs.Common.{get_or_from_slice_get, IfOk-weaker, IsFound, IsSearched, LazyValue, on_err_weaker}
-use Rattle.determinize_lazy.proofs.Common.{place, refl, slice_get, slice_get-get_or, slice_get_within, slice_index_or}
+use Rattle.determinize_lazy.proofs.Common.{refl, slice_get, slice_get-get_or, slice_get_within, slice_index_or}
 use Rattle.determinize_lazy.proofs.Common.{start_value, subst, sym, tag_in, tag_of, units, Value, ◌∙◌, ◌≡◌}
 use Rattle.determinize_core.proofs.finding.Texts.{all_read}
 use Rattle.determinize_lazy.proofs.finding.Searching.{finished, is-found, searched-first, stopped, tag-last}
 use Rattle.determinize_lazy.proofs.lazy.Lazy.search_text.Given.{Over}
-use Rattle.determinize_lazy.proofs.lazy.Lazy.search_text.Goals.{After-len, After-start, In-Some}
+use Rattle.determinize_lazy.proofs.lazy.Lazy.search_text.Goals.{After-len, In-Some}
 use Rattle.determinize_lazy.proofs.lazy.Lazy.search_text.Goals.{then-at-len-via-else-at-len+then-is_last}
 use Rattle.determinize_lazy.proofs.lazy.Lazy.search_text.Goals.{then-at-len-via-then-at-len}
 use Rattle.determinize_lazy.proofs.lazy.Lazy.search_text.Goals as goal
@@ -55,41 +55,12 @@ returns-then-at-len-clause-over g c =
 
 pub returns-clause-over : goal.returns-clause-over
 returns-clause-over g c =
-    IfOk-weaker c.search_from-2.result _ _
+    IfOk-weaker c.search_on.result _ _
     (λ found ends. ends (cache c.args.self.now) _ (λ _. refl)
-    (subst (λ at. IsSearched c.args.earliest (cache c.args.self.now)
-    (start_value c.args.self.now.nfa c.args.start c.args.text.now.behind) (units c.args.text.now)
-    (place c.args.self.now at)) (sym c.with_cursor.ensures) (here g (goal.at.returns-clause-over g c).After-len)))
-    c.search_from-2.ensures.over
+    (here g (goal.at.returns-clause-over g c).After-len)) c.search_on.ensures.over
 
 pub returns-clause-failed : goal.returns-clause-failed
 returns-clause-failed g c =
-    on_err_weaker c.search_from-2.result
-    (λ fails. fails (cache c.args.self.now) _
-    (subst (λ at. IsSearched c.args.earliest (cache c.args.self.now)
-    (start_value c.args.self.now.nfa c.args.start c.args.text.now.behind) (units c.args.text.now)
-    (place c.args.self.now at)) (sym c.with_cursor.ensures) (here g (goal.at.returns-clause-failed g c).After-len)))
-    c.search_from-2.ensures.failed
-
--- the search before its first unit
-begun : (g : Over) (c : After-start g) → IsSearched c.args.earliest (cache c.args.self.now)
-    (start_value c.args.self.now.nfa c.args.start c.args.text.now.behind) (units c.args.text.now)
-    (place c.find_start.new.self c.start.result)
-begun g c =
-    searched-first (c.start.ensures.place c.find_start.new.self
-    ∙ ap (λ (x : LazyValue). first_place (cache x) (cursor_value x.states c.in_ok-cursor.cursor))
-    c.in_ok-cursor.ensures.unchanged
-    ∙ ap (λ (v : Value). first_place (cache c.args.self.now) v) (c.in_ok-cursor.ensures.at.value
-    ∙ ap (λ b. start_value c.args.self.now.nfa c.args.start b) c.behind-in_default.ensures))
-
-pub returns-in_default-clause-over : goal.returns-in_default-clause-over
-returns-in_default-clause-over g c =
-    IfOk-weaker c.search_from.result _ _
-    (λ found ends. ends (cache c.args.self.now) _ (λ _. refl)
-    (begun g (goal.at.returns-in_default-clause-over g c).After-start)) c.search_from.ensures.over
-
-pub returns-in_default-clause-failed : goal.returns-in_default-clause-failed
-returns-in_default-clause-failed g c =
-    on_err_weaker c.search_from.result
-    (λ fails. fails (cache c.args.self.now) _ (begun g (goal.at.returns-in_default-clause-failed g c).After-start))
-    c.search_from.ensures.failed
+    on_err_weaker c.search_on.result
+    (λ fails. fails (cache c.args.self.now) _ (here g (goal.at.returns-clause-failed g c).After-len))
+    c.search_on.ensures.failed
