@@ -5,6 +5,7 @@ use determinize_below::{
     BuildError, DenseTransitions, PatternID, SparseSet, SparseTransitions, StateID, StateIDError,
     Transition, Unit,
 };
+use std::alloc::AllocError;
 use std::process::Abort;
 use std::test::Fail;
 
@@ -65,21 +66,37 @@ fn insert_down<R: Abort>(rt: &R, set: &mut SparseSet, is_new: bool) -> Result<()
     Ok(())
 }
 
+/// Compares the ids of a set with those below a number, from the greatest down.
+fn expect_down<R: Abort + AllocGlobal>(
+    rt: &R,
+    set: &SparseSet,
+    count: usize,
+) -> Result<(), AllocError> {
+    let ids: Vec<StateID> = set.iter().collect(rt.alloc())?;
+    same(rt, ids.len(), count);
+    for (id, number) in ids.iter().zip((0..count).rev()) {
+        same(rt, id.as_usize(), number);
+    }
+    Ok(())
+}
+
+/// Fills a set twice, and again after it is cleared.
+fn fill<R: Abort + AllocGlobal>(rt: &R, capacity: usize) -> Result<(), Fail> {
+    assert!(rt; capacity <= 128);
+    let mut set = SparseSet::new(rt.alloc(), capacity)?;
+    insert_down(rt, &mut set, true)?;
+    insert_down(rt, &mut set, false)?;
+    expect_down(rt, &set, capacity)?;
+    set.clear();
+    insert_down(rt, &mut set, true)?;
+    same(rt, set.len(), capacity);
+    Ok(())
+}
+
 #[test]
 fn sparse_sets(rt: HostRuntime) -> Result<(), Fail> {
     for capacity in [0, 1, 63, 64, 65, 128] {
-        assert!(rt; capacity <= 128);
-        let mut set = SparseSet::new(rt.alloc(), capacity)?;
-        insert_down(&rt, &mut set, true)?;
-        insert_down(&rt, &mut set, false)?;
-        let ids: Vec<StateID> = set.iter().collect(rt.alloc())?;
-        same(&rt, ids.len(), capacity);
-        for (id, number) in ids.iter().zip((0..capacity).rev()) {
-            same(&rt, id.as_usize(), number);
-        }
-        set.clear();
-        insert_down(&rt, &mut set, true)?;
-        same(&rt, set.len(), capacity);
+        fill(&rt, capacity)?;
     }
     Ok(())
 }

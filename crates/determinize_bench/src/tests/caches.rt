@@ -355,11 +355,11 @@ fn expect_memory<R: Abort + AllocGlobal>(
     expect_cached(rt, &mut lazy, text, computed, kept)
 }
 
-/// Returns the states of `[01]*1[01]{n}`, where a match ends after each byte that is `n` bytes after
-/// a `1`, of which the match is state `last`, `n` plus 4.
-fn far_from_the_end<R: AllocGlobal>(rt: &R, last: u32) -> Result<String, Fail> {
+/// Returns the `count` states of `[01]*1[01]{n}`, where `n` is `count` minus 4. A match ends after
+/// each byte that is `n` bytes after a `1`.
+fn far_from_the_end<R: AllocGlobal>(rt: &R, count: u32) -> Result<String, Fail> {
     let mut states = String::from_str(rt.alloc(), "BU:1,2 B:30-31>0 B:31>3")?;
-    for next in 4..last {
+    for next in 4..count {
         write!(states, " B:30-31>{next}")?;
     }
     states.push_str(" M:0")?;

@@ -2,6 +2,7 @@
 //! table, since the prover would read a table entry by entry wherever it is named.
 
 use crate::tests::runs::expect;
+use std::process::Abort;
 use std::test::Fail;
 
 /// Unknown verbs, and words that are not `key=value`.
@@ -123,6 +124,14 @@ start hay=616263 range=1 => not a range of the haystack
 start hay=616263 range=+1..2 => not a decimal number
 ";
 
+/// Runs the job of a line, and compares the error message.
+fn expect_message<R: Abort + AllocGlobal>(rt: &R, line: &str) -> Result<(), Fail> {
+    let (job, said) = line.split_once(" => ").unwrap_or((line, ""));
+    let text = format!(in rt.alloc(); "# first\n> {job}\nnone\n")?;
+    let said = format!(in rt.alloc(); "line 2: {said}\n")?;
+    expect(rt, "", text.as_str().as_bytes(), 2, "", said.as_str())
+}
+
 /// Each job is run separately.
 #[test]
 fn error_messages(rt: HostRuntime) -> Result<(), Fail> {
@@ -136,10 +145,7 @@ fn error_messages(rt: HostRuntime) -> Result<(), Fail> {
         RANGES,
     ] {
         for line in jobs.lines() {
-            let (job, said) = line.split_once(" => ").unwrap_or((line, ""));
-            let text = format!(in rt.alloc(); "# first\n> {job}\nnone\n")?;
-            let said = format!(in rt.alloc(); "line 2: {said}\n")?;
-            expect(&rt, "", text.as_str().as_bytes(), 2, "", said.as_str())?;
+            expect_message(&rt, line)?;
         }
     }
     Ok(())

@@ -4,6 +4,8 @@ use crate::tests::{holds, same, same_at};
 use determinize_below::nfa::State;
 use determinize_below::{BuildError, DenseTransitions, Look, LookMatcher, LookSet, NFA, StateID};
 use determinize_replay::nfas;
+use std::alloc::AllocError;
+use std::process::Abort;
 use std::test::Fail;
 
 #[test]
@@ -35,6 +37,26 @@ fn start_behind_the_last_state(rt: HostRuntime) -> Result<(), Fail> {
     Ok(())
 }
 
+/// Compares what the readers of an NFA return, which is for reverse scans.
+fn expect_readers<R: Abort + AllocGlobal>(
+    rt: &R,
+    nfa: &NFA,
+    start: StateID,
+) -> Result<(), AllocError> {
+    same(rt, (nfa.len(), nfa.pattern_len()), (3, 1));
+    holds(rt, nfa.is_reverse());
+    same(rt, nfa.start_anchored(), start);
+    same(rt, nfa.start_unanchored(), StateID::ZERO);
+    same(rt, nfa.look_matcher().get_line_terminator(), b';');
+    let any = LookSet::empty().insert(Look::End).insert(Look::WordAscii);
+    same(rt, nfa.look_set_any(), any);
+    let state = nfa.state(nfa.start_unanchored());
+    holds(rt, state.is_epsilon());
+    let text = format!(in rt.alloc(); "{state:?}")?;
+    same_at(rt, text.as_str(), text.contains("WordAscii"), true);
+    Ok(())
+}
+
 #[test]
 fn readers_of_an_nfa(rt: HostRuntime) -> Result<(), Fail> {
     let states = nfas::states(rt.alloc(), "L:WordAscii>1 M:7 L:End>1")?;
@@ -42,16 +64,6 @@ fn readers_of_an_nfa(rt: HostRuntime) -> Result<(), Fail> {
     matcher.set_line_terminator(b';');
     let first = StateID::new(1)?;
     let nfa = NFA::from_parts(rt.alloc(), states, first, StateID::ZERO, true, matcher)?;
-    same(&rt, (nfa.len(), nfa.pattern_len()), (3, 1));
-    holds(&rt, nfa.is_reverse());
-    same(&rt, nfa.start_anchored(), first);
-    same(&rt, nfa.start_unanchored(), StateID::ZERO);
-    same(&rt, nfa.look_matcher().get_line_terminator(), b';');
-    let any = LookSet::empty().insert(Look::End).insert(Look::WordAscii);
-    same(&rt, nfa.look_set_any(), any);
-    let state = nfa.state(StateID::ZERO);
-    holds(&rt, state.is_epsilon());
-    let text = format!(in rt.alloc(); "{state:?}")?;
-    same_at(&rt, text.as_str(), text.contains("WordAscii"), true);
+    expect_readers(&rt, &nfa, first)?;
     Ok(())
 }

@@ -236,53 +236,62 @@ fn dense_walks(rt: HostRuntime) -> Result<(), Fail> {
 }
 
 /// Asserts that these patterns match where a text ends, most preferred first.
-fn expect_patterns<R: Abort>(
+fn expect_patterns<R: Abort + AllocGlobal>(
     rt: &R,
-    dfa: &Dfa<'_>,
+    nfa: &NFA,
+    kind: MatchKind,
     text: &[u8],
     look_ahead: Option<u8>,
     wanted: &[PatternID],
-) {
+) -> Result<(), BuildError> {
+    let dfa = Dfa::build(rt.alloc(), nfa, kind, 100)?;
     same(
         rt,
         dfa.patterns_after(Anchored::Yes, None, text, look_ahead),
         wanted,
     );
+    Ok(())
 }
 
 /// Another program has written down the lists.
 #[test]
 fn dense_patterns(rt: HostRuntime) -> Result<(), Fail> {
+    let (all, first) = (MatchKind::All, MatchKind::LeftmostFirst);
     let (zero, one, two) = (PatternID::ZERO, PatternID::must(1), PatternID::must(2));
     let three = nfa(rt.alloc(), "U:1,2,3 M:2 M:0 M:1", StateID::ZERO)?;
-    let all = Dfa::build(rt.alloc(), &three, MatchKind::All, 100)?;
-    expect_patterns(&rt, &all, b"", None, &[two, zero, one]);
-    let first = Dfa::build(rt.alloc(), &three, MatchKind::LeftmostFirst, 100)?;
-    expect_patterns(&rt, &first, b"", None, &[two]);
+    expect_patterns(&rt, &three, all, b"", None, &[two, zero, one])?;
+    expect_patterns(&rt, &three, first, b"", None, &[two])?;
     let words = nfa(rt.alloc(), ROWS[3].states, StateID::ZERO)?;
-    let first = Dfa::build(rt.alloc(), &words, MatchKind::LeftmostFirst, 100)?;
-    expect_patterns(&rt, &first, b"12", Some(b'3'), &[one]);
-    expect_patterns(&rt, &first, b"123", Some(b' '), &[one]);
-    expect_patterns(&rt, &first, b"123 foobar", Some(b' '), &[]);
+    expect_patterns(&rt, &words, first, b"12", Some(b'3'), &[one])?;
+    expect_patterns(&rt, &words, first, b"123", Some(b' '), &[one])?;
+    expect_patterns(&rt, &words, first, b"123 foobar", Some(b' '), &[])?;
     Ok(())
 }
 
-/// Builds the DFA of `\b\w+\b`, which has five states, and minimizes it, which leaves four.
+/// Minimizes a DFA of five states, which leaves four.
+fn minimize<R: Abort, A: Allocator + Copy>(
+    rt: &R,
+    alloc: A,
+    dfa: &Dfa<'_, Global, A>,
+) -> Result<(), JobError> {
+    let smallest = dfa.minimize(alloc)?;
+    same(rt, (dfa.len(), smallest.len()), (5, 4));
+    Ok(())
+}
+
+/// Builds the DFA of `\b\w+\b`, and minimizes it.
 pub fn build_and_minimize<R: Abort + AllocGlobal, A: Allocator + Copy>(
     rt: &R,
     alloc: A,
 ) -> Result<(), JobError> {
     let nfa = nfa(rt.alloc(), ROWS[0].states, StateID::ZERO)?;
-    let dfa = match Dfa::build(alloc, &nfa, MatchKind::All, 5) {
-        Ok(dfa) => dfa,
+    match Dfa::build(alloc, &nfa, MatchKind::All, 5) {
+        Ok(dfa) => minimize(rt, alloc, &dfa),
         Err(error) => {
             same(rt, error, BuildError::OutOfMemory);
-            return Err(JobError::OutOfMemory);
+            Err(JobError::OutOfMemory)
         }
-    };
-    let smallest = dfa.minimize(alloc)?;
-    same(rt, (dfa.len(), smallest.len()), (5, 4));
-    Ok(())
+    }
 }
 
 /// Searches of a whole DFA make no request for memory.

@@ -2,6 +2,7 @@
 //! over two whole DFAs, and of a text in pieces.
 
 ghost use Rattle.std.specs.Prelude.{◌≡◌, IfOk, false, true};
+ghost use Rattle.determinize_below.specs.declared.search.MatchKind.TheVariants as kinds;
 ghost use Rattle.determinize_find.specs.Prefix.{HasPrefix};
 ghost use Rattle.determinize_find.specs.Reversal.{IsReverseOf};
 ghost use Rattle.determinize_find.specs.Streams.{IsSearching};
@@ -105,32 +106,75 @@ fn ends_of(found: Option<Match>) -> Option<Ends> {
 }
 
 /// Compares matches with their patterns and ends.
-fn expect_matches<R: Abort>(rt: &R, found: &[Match], wanted: &[Ends]) {
+pub fn expect_matches<R: Abort>(rt: &R, found: &[Match], wanted: &[Ends]) {
     same(rt, found.len(), wanted.len());
     for (found, wanted) in found.iter().zip(wanted) {
         same(rt, ends_of(Some(*found)), Some(*wanted));
     }
 }
 
-/// Finds the first match by `plain`, the next one after none, and all matches, each through a new
-/// cache.
+/// A search by `plain`.
+#[derive(Clone, Copy)]
+pub enum PlainSearch {
+    /// For the first match.
+    Find,
+    /// For the next match after none.
+    NextMatch,
+    /// For all matches.
+    FindAll,
+}
+
+/// A search by a `Regex`.
+#[derive(Clone, Copy)]
+pub enum Search {
+    /// For the first match.
+    Find,
+    /// For any match.
+    IsMatch,
+    /// For all matches.
+    FindAll,
+    /// For all matches in turn, by a cursor.
+    Advance,
+    /// For all matches of the haystack in two pieces.
+    Pieces,
+}
+
+/// Each search by `plain`.
+const PLAIN_SEARCHES: [PlainSearch; 3] = [
+    PlainSearch::Find,
+    PlainSearch::NextMatch,
+    PlainSearch::FindAll,
+];
+
+/// Each search by a `Regex`.
+const SEARCHES: [Search; 5] = [
+    Search::Find,
+    Search::IsMatch,
+    Search::FindAll,
+    Search::Advance,
+    Search::Pieces,
+];
+
+/// Searches by `plain`.
 fn find_plain<R: Abort, A: Allocator + Copy>(
     rt: &R,
     alloc: A,
-    nfa: &NFA,
+    lazy: &mut Lazy<'_, Global, A>,
     row: &Row,
-    limit: usize,
+    search: PlainSearch,
 ) -> Result<(), AllocError>
-    requires { nfa.now.reverse ≡ false }
+    requires forward { lazy.old.nfa.reverse ≡ false }
+    requires kind { lazy.old.kind ≡ kinds.LeftmostFirst }
 {
-    let (input, kind) = (Input::new(row.haystack), MatchKind::LeftmostFirst);
-    let wanted = row.matches.first().copied();
-    let found = plain::find(&mut Lazy::new(alloc, nfa, kind, limit), &input)?;
-    same(rt, ends_of(found), wanted);
-    let found = plain::next_match(&mut Lazy::new(alloc, nfa, kind, limit), &input, None)?;
-    same(rt, ends_of(found), wanted);
-    let found = plain::find_all(alloc, &mut Lazy::new(alloc, nfa, kind, limit), &input)?;
-    expect_matches(rt, found.as_slice(), row.matches);
+    let (input, wanted) = (Input::new(row.haystack), row.matches.first().copied());
+    match search {
+        PlainSearch::Find => same(rt, ends_of(plain::find(lazy, &input)?), wanted),
+        PlainSearch::NextMatch => same(rt, ends_of(plain::next_match(lazy, &input, None)?), wanted),
+        PlainSearch::FindAll => {
+            let found = plain::find_all(alloc, lazy, &input)?;
+            expect_matches(rt, found.as_slice(), row.matches);
+        }
+    }
     Ok(())
 }
 
@@ -213,67 +257,70 @@ fn feed<R: Abort, B: Allocator, A: Allocator + Copy>(
     succeed_if(is_sound && is_ended)
 }
 
-/// Makes each call of a `Regex` with new caches.
+/// Searches by a `Regex`.
 fn find_by_regex<R: Abort, A: Allocator + Copy>(
     rt: &R,
     alloc: A,
-    nfa: &NFA,
-    backward: &NFA<A>,
+    regex: &mut LazyRegex<'_, Global, A, A>,
     row: &Row,
-    limit: usize,
-) -> Result<(), AllocError>
-    requires forward { nfa.now.reverse ≡ false }
-    requires prefix { HasPrefix nfa.now }
-    requires reverse { IsReverseOf backward.now nfa.now }
-{
+    search: Search,
+) -> Result<(), AllocError> {
     let (input, wanted) = (Input::new(row.haystack), row.matches.first().copied());
-    let found = Regex::new(alloc, nfa, backward, limit).find(&input)?;
-    same(rt, ends_of(found), wanted);
-    let is_found = Regex::new(alloc, nfa, backward, limit).is_match(&input)?;
-    same(rt, is_found, wanted.is_some());
-    let found = Regex::new(alloc, nfa, backward, limit).find_all(alloc, &input)?;
-    expect_matches(rt, found.as_slice(), row.matches);
+    match search {
+        Search::Find => same(rt, ends_of(regex.find(&input)?), wanted),
+        Search::IsMatch => same(rt, regex.is_match(&input)?, wanted.is_some()),
+        Search::FindAll => {
+            let found = regex.find_all(alloc, &input)?;
+            expect_matches(rt, found.as_slice(), row.matches);
+        }
+        Search::Advance => advance_over(rt, regex, row)?,
+        Search::Pieces => {
+            let (first, second) = row.haystack.split_at(row.haystack.len().min(2));
+            feed(rt, alloc, regex, &[first, second], row.matches)?;
+        }
+    }
     Ok(())
 }
 
-/// Finds the matches of a row by an NFA and its reverse.
-fn find_both_ways<R: Abort, A: Allocator + Copy>(
-    rt: &R,
-    alloc: A,
-    nfa: &NFA,
-    row: &Row,
-    limit: usize,
-) -> Result<(), JobError>
-    requires forward { nfa.now.reverse ≡ false }
-    requires prefix { HasPrefix nfa.now }
-{
-    let backward = reversed(alloc, nfa)?;
-    find_by_regex(rt, alloc, nfa, &backward, row, limit)?;
-    let mut regex = Regex::new(alloc, nfa, &backward, limit);
-    advance_over(rt, &mut regex, row)?;
-    let (first, second) = row.haystack.split_at(row.haystack.len().min(2));
-    let mut regex = Regex::new(alloc, nfa, &backward, limit);
-    feed(rt, alloc, &mut regex, &[first, second], row.matches)?;
-    Ok(())
-}
-
-/// Finds the matches of a row by `plain`, and by an NFA and its reverse.
-pub fn search<R: Abort + AllocGlobal, A: Allocator + Copy>(
+/// Finds the matches of a row by `plain`, through a new cache of this limit.
+pub fn search_plain<R: Abort + AllocGlobal, A: Allocator + Copy>(
     rt: &R,
     alloc: A,
     row: &Row,
     limit: usize,
+    search: PlainSearch,
 ) -> Result<(), JobError> {
     let nfa = nfa(rt.alloc(), row.states)?;
-    find_plain(rt, alloc, &nfa, row, limit)?;
-    find_both_ways(rt, alloc, &nfa, row, limit)
+    let mut lazy = Lazy::new(alloc, &nfa, MatchKind::LeftmostFirst, limit);
+    find_plain(rt, alloc, &mut lazy, row, search)?;
+    Ok(())
+}
+
+/// Finds the matches of a row by an NFA and its reverse, through new caches of this limit.
+pub fn search_regex<R: Abort + AllocGlobal, A: Allocator + Copy>(
+    rt: &R,
+    alloc: A,
+    row: &Row,
+    limit: usize,
+    search: Search,
+) -> Result<(), JobError> {
+    let nfa = nfa(rt.alloc(), row.states)?;
+    let backward = reversed(alloc, &nfa)?;
+    let mut regex = Regex::new(alloc, &nfa, &backward, limit);
+    find_by_regex(rt, alloc, &mut regex, row, search)?;
+    Ok(())
 }
 
 #[test]
 fn all_matches(rt: HostRuntime) -> Result<(), Fail> {
     for row in &ROWS {
         for limit in [0, 64] {
-            fail_each_in_turn(&rt, &Trial::Search(row, limit))?;
+            for search in PLAIN_SEARCHES {
+                fail_each_in_turn(&rt, &Trial::SearchPlain(row, limit, search))?;
+            }
+            for search in SEARCHES {
+                fail_each_in_turn(&rt, &Trial::Search(row, limit, search))?;
+            }
         }
     }
     Ok(())
@@ -325,16 +372,22 @@ fn expect_all_cuts<R: Abort + AllocGlobal>(
     Ok(())
 }
 
+/// Finds the matches of a row by whole DFAs, and in pieces.
+fn expect_row<R: Abort + AllocGlobal>(rt: &R, row: &Row) -> Result<(), Fail> {
+    let nfa = nfa(rt.alloc(), row.states)?;
+    let backward = reversed(rt.alloc(), &nfa)?;
+    expect_by_whole(rt, &nfa, &backward, row)?;
+    let mut regex = Regex::new(rt.alloc(), &nfa, &backward, 100);
+    expect_all_cuts(rt, &mut regex, row)?;
+    Ok(())
+}
+
 /// Whole DFAs find the same matches as lazy ones, and so do scans of a text in pieces, however it is
 /// cut.
 #[test]
 fn whole_dfas_and_pieces(rt: HostRuntime) -> Result<(), Fail> {
     for row in &ROWS {
-        let nfa = nfa(rt.alloc(), row.states)?;
-        let backward = reversed(rt.alloc(), &nfa)?;
-        expect_by_whole(&rt, &nfa, &backward, row)?;
-        let mut regex = Regex::new(rt.alloc(), &nfa, &backward, 100);
-        expect_all_cuts(&rt, &mut regex, row)?;
+        expect_row(&rt, row)?;
     }
     Ok(())
 }

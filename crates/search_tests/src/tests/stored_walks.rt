@@ -2,20 +2,21 @@
 //! anchored search after another, by an NFA and its reverse, and as the original found them.
 
 ghost use Rattle.std.specs.Prelude.{◌≡◌, IfOk, false, true};
+ghost use Rattle.determinize_below.specs.declared.search.MatchKind.TheVariants as kinds;
 ghost use Rattle.determinize_find.specs.Prefix.{HasPrefix};
 ghost use Rattle.determinize_core.specs.Searches.{has_start};
 
 use crate::tests::{holds, same};
 use determinize_below::nfa::State;
 use determinize_below::{Anchored, HalfMatch, Input, MatchKind, NFA, StateID, Transition};
-use determinize_find::{Match, Regex, plain, prefix, reversed};
+use determinize_find::{LazyRegex, Match, Regex, plain, prefix, reversed};
 use determinize_lazy::Lazy;
 use determinize_replay::examples::examples;
 use determinize_replay::job::Job;
 use determinize_replay::key::Key;
 use determinize_replay::values::LastMatch;
 use determinize_replay::{nfas, values};
-use std::alloc::Global;
+use std::alloc::{AllocError, Global};
 use std::process::Abort;
 use std::test::Fail;
 
@@ -109,12 +110,9 @@ impl Place {
     }
 }
 
-/// Returns the NFA of a job for forward scans, with the usual prefix before its start.
-fn prefixed<R: AllocGlobal>(rt: &R, job: &Job<'_>) -> Result<NFA, Fail>
-    ensures { IfOk result (λ nfa. nfa.reverse ≡ false) }
-{
-    let mut states = nfas::states(rt.alloc(), job.states())?;
-    let start = values::state_id(job.value(Key::Start).unwrap_or("0"))?;
+/// Adds the usual prefix after states, before the one with this id. Returns the id of its first
+/// state.
+fn add_prefix(states: &mut Vec<State>, start: StateID) -> Result<StateID, Fail> {
     let any = StateID::new(states.len())?;
     let skip = StateID::new(any.as_usize() + 1)?;
     let (alt1, alt2) = (start, skip);
@@ -125,46 +123,88 @@ fn prefixed<R: AllocGlobal>(rt: &R, job: &Job<'_>) -> Result<NFA, Fail>
         next: any,
     };
     states.push(State::ByteRange { trans })?;
+    Ok(any)
+}
+
+/// Returns the NFA of a job for forward scans, with the usual prefix before its start.
+fn prefixed(alloc: Global, job: &Job<'_>) -> Result<NFA, Fail>
+    ensures forward { IfOk result (λ nfa. nfa.reverse ≡ false) }
+    ensures prefix { IfOk result (λ nfa. HasPrefix nfa) }
+{
+    let start = values::state_id(job.value(Key::Start).unwrap_or("0"))?;
     let matcher = nfas::matcher(job)?;
-    Ok(NFA::from_parts(rt.alloc(), states, start, any, false, matcher)?)
+    let mut states = nfas::states(alloc, job.states())?;
+    let any = add_prefix(&mut states, start)?;
+    let nfa = NFA::from_parts(alloc, states, start, any, false, matcher)?;
+    if prefix::has_prefix(&nfa) {
+        Ok(nfa)
+    } else {
+        Err(Fail::new("the NFA has the usual prefix"))
+    }
 }
 
 /// Returns the leftmost match of an input, and asserts that both ways find it, and the same matches
 /// after it.
 fn leftmost<R: Abort + AllocGlobal>(
     rt: &R,
-    nfa: &NFA,
+    lazy: &mut Lazy<'_>,
+    regex: &mut LazyRegex<'_>,
     input: &Input<'_>,
-) -> Result<Option<Match>, Fail>
-    requires forward { nfa.now.reverse ≡ false }
-    requires prefix { HasPrefix nfa.now }
+) -> Result<Option<Match>, AllocError>
+    requires forward { lazy.old.nfa.reverse ≡ false }
+    requires kind { lazy.old.kind ≡ kinds.LeftmostFirst }
     requires start { has_start input.now.anchored ≡ true }
+    ensures nfa { lazy.new.nfa ≡ lazy.old.nfa }
+    ensures kind { lazy.new.kind ≡ lazy.old.kind }
 {
-    let mut lazy = Lazy::new(rt.alloc(), nfa, MatchKind::LeftmostFirst, 50);
-    let backward = reversed(rt.alloc(), nfa)?;
-    let mut regex = Regex::new(rt.alloc(), nfa, &backward, 50);
     let found = regex.find(input)?;
-    same(rt, plain::find(&mut lazy, input)?, found);
+    same(rt, plain::find(lazy, input)?, found);
     same(rt, regex.is_match(input)?, found.is_some());
-    let all = plain::find_all(rt.alloc(), &mut lazy, input)?;
-    holds(rt, regex.find_all(rt.alloc(), input)? == all);
+    let all = plain::find_all(rt.alloc(), lazy, input)?;
     same(rt, all.first().copied(), found);
+    holds(rt, regex.find_all(rt.alloc(), input)? == all);
     Ok(found)
 }
 
-/// Returns the leftmost match of the text of a job and the one that begins with the text, which is
-/// the leftmost one if there is one.
-fn expect_job<R: Abort + AllocGlobal>(rt: &R, job: &Job<'_>) -> Result<Option<Match>, Fail> {
-    let (nfa, place) = (prefixed(rt, job)?, Place::of(rt.alloc(), job)?);
-    if !prefix::has_prefix(&nfa) {
-        return Err(Fail::new("the NFA has the usual prefix"));
-    }
-    let anywhere = leftmost(rt, &nfa, &place.input(Anchored::No)?)?;
-    let first = leftmost(rt, &nfa, &place.input(Anchored::Yes)?)?;
+/// Returns the leftmost match of a text and the one that begins with it, which is the leftmost one
+/// if there is one.
+fn expect_place<R: Abort + AllocGlobal>(
+    rt: &R,
+    lazy: &mut Lazy<'_>,
+    regex: &mut LazyRegex<'_>,
+    place: &Place,
+) -> Result<Option<Match>, Fail>
+    requires forward { lazy.old.nfa.reverse ≡ false }
+    requires kind { lazy.old.kind ≡ kinds.LeftmostFirst }
+{
+    let anywhere = leftmost(rt, lazy, regex, &place.input(Anchored::No)?)?;
+    let first = leftmost(rt, lazy, regex, &place.input(Anchored::Yes)?)?;
     if first.is_some() {
         same(rt, anywhere, first);
     }
     Ok(first)
+}
+
+/// Does this with an NFA that has the usual prefix.
+fn expect_in<R: Abort + AllocGlobal>(
+    rt: &R,
+    nfa: &NFA,
+    place: &Place,
+) -> Result<Option<Match>, Fail>
+    requires forward { nfa.now.reverse ≡ false }
+    requires prefix { HasPrefix nfa.now }
+{
+    let backward = reversed(rt.alloc(), nfa)?;
+    let mut lazy = Lazy::new(rt.alloc(), nfa, MatchKind::LeftmostFirst, 50);
+    let mut regex = Regex::new(rt.alloc(), nfa, &backward, 50);
+    expect_place(rt, &mut lazy, &mut regex, place)
+}
+
+/// Does this with the text and the NFA of a job.
+fn expect_job<R: Abort + AllocGlobal>(rt: &R, job: &Job<'_>) -> Result<Option<Match>, Fail> {
+    let nfa = prefixed(rt.alloc(), job)?;
+    let place = Place::of(rt.alloc(), job)?;
+    expect_in(rt, &nfa, &place)
 }
 
 /// Asserts that the leftmost match that begins with the text is the last match of the walk. Under

@@ -12,8 +12,10 @@ use std::test::Fail;
 pub enum Trial<'r> {
     /// Builds NFAs.
     Build,
-    /// Finds the matches of a row through caches of this limit.
-    Search(&'r find::Row, usize),
+    /// Finds the matches of a row by `plain`, through a cache of this limit.
+    SearchPlain(&'r find::Row, usize, find::PlainSearch),
+    /// Finds the matches of a row by a `Regex`, through caches of this limit.
+    Search(&'r find::Row, usize, find::Search),
     /// Builds a whole DFA, and minimizes it.
     Minimize,
 }
@@ -27,7 +29,10 @@ impl Trial<'_> {
     ) -> Result<(), JobError> {
         match *self {
             Trial::Build => uses::build(rt, alloc),
-            Trial::Search(row, limit) => find::search(rt, alloc, row, limit),
+            Trial::SearchPlain(row, limit, search) => {
+                find::search_plain(rt, alloc, row, limit, search)
+            }
+            Trial::Search(row, limit, search) => find::search_regex(rt, alloc, row, limit, search),
             Trial::Minimize => dense::build_and_minimize(rt, alloc),
         }
     }

@@ -1,8 +1,9 @@
 //! Runs of each caller, and NFAs of a `Builder`.
 
-ghost use Rattle.std.specs.Prelude.{◌≡◌};
+ghost use Rattle.std.specs.Prelude.{◌≡◌, ◌<◌, length};
 ghost use Rattle.determinize_below.specs.declared.search.MatchKind.TheVariants as kinds;
 
+use crate::tests::find::expect_matches;
 use crate::tests::{ended, holds, same};
 use determinize_below::{
     BuildError, Input, Look, LookMatcher, MatchKind, NFA, StateID, Transition,
@@ -12,7 +13,7 @@ use determinize_find::Builder;
 use determinize_lazy::Lazy;
 use determinize_replay::error::JobError;
 use determinize_uses::{built, cache, input, lexer, nfa, scanner, search, values, walk};
-use std::alloc::Allocator;
+use std::alloc::{AllocError, Allocator};
 use std::process::Abort;
 use std::test::Fail;
 
@@ -46,33 +47,48 @@ fn small_values(rt: HostRuntime) -> Result<(), Fail> {
     Ok(())
 }
 
+/// Compares the closure of a state.
+fn expect_closure<R: Abort + AllocGlobal>(
+    rt: &R,
+    nfa: &NFA,
+    start: StateID,
+    wanted: &[StateID],
+) -> Result<(), AllocError>
+    requires { start < length nfa.now.states }
+{
+    let closure = values::closure(rt.alloc(), nfa, start)?;
+    holds(rt, closure.iter().eq(wanted.iter().copied()));
+    Ok(())
+}
+
 /// The closure of the start of `[0-9]+` is that state, and that of the unanchored start has two
 /// more.
 #[test]
 fn closures(rt: HostRuntime) -> Result<(), Fail> {
     let nfa = nfa::digits(rt.alloc(), false)?;
-    let ids: Vec<StateID> = values::closure(rt.alloc(), &nfa, nfa.start_anchored())?
-        .iter()
-        .collect(rt.alloc())?;
-    same(&rt, ids.as_slice(), [StateID::must(2)].as_slice());
-    let ids: Vec<StateID> = values::closure(rt.alloc(), &nfa, nfa.start_unanchored())?
-        .iter()
-        .collect(rt.alloc())?;
-    let wanted = [StateID::ZERO, StateID::must(2), StateID::must(1)];
-    same(&rt, ids.as_slice(), wanted.as_slice());
+    let [zero, one, two] = [StateID::ZERO, StateID::must(1), StateID::must(2)];
+    expect_closure(&rt, &nfa, nfa.start_anchored(), &[two])?;
+    expect_closure(&rt, &nfa, nfa.start_unanchored(), &[zero, two, one])?;
+    Ok(())
+}
+
+/// Walks over a text, and compares at which positions there is a match.
+fn expect_positions<R: Abort>(rt: &R, lazy: &mut Lazy<'_>, text: &[u8]) -> Result<(), AllocError> {
+    let start = lazy.nfa().start_unanchored();
+    let states = lazy.walk(start, None, text)?;
+    for (position, state) in states.iter().skip(1).enumerate() {
+        same(rt, state.match_pattern_ids()?.is_some(), position > 1);
+    }
     Ok(())
 }
 
 #[test]
 fn first_search(rt: HostRuntime) -> Result<(), Fail> {
-    let (nfa, text) = (built::digits(rt.alloc())?, b"a12");
+    let nfa = built::digits(rt.alloc())?;
     let mut first = Lazy::new(rt.alloc(), &nfa, MatchKind::LeftmostFirst, 100);
-    same(&rt, first.search_input(&Input::new(text))?, ended(3));
+    same(&rt, first.search_input(&Input::new(b"a12"))?, ended(3));
     let mut all = Lazy::new(rt.alloc(), &nfa, MatchKind::All, 100);
-    let states = all.walk(all.nfa().start_unanchored(), None, text)?;
-    for (position, state) in states.iter().skip(1).enumerate() {
-        holds(&rt, state.match_pattern_ids()?.is_some() == (position > 1));
-    }
+    expect_positions(&rt, &mut all, b"a12")?;
     Ok(())
 }
 
@@ -237,10 +253,7 @@ fn searches_of_inputs(rt: HostRuntime) -> Result<(), Fail> {
 fn all_matches(rt: HostRuntime) -> Result<(), Fail> {
     let nfa = nfa::digits(rt.alloc(), false)?;
     let found = scanner::matches(rt.alloc(), &nfa, b"ab 42 c7")?;
-    same(&rt, found.len(), 2);
-    for (found, range) in found.iter().zip([3..5, 7..8]) {
-        holds(&rt, found.range() == range);
-    }
+    expect_matches(&rt, found.as_slice(), &[(0, 3, 5), (0, 7, 8)]);
     Ok(())
 }
 
@@ -250,9 +263,6 @@ fn longest_tokens(rt: HostRuntime) -> Result<(), Fail> {
     let nfa = nfa::digits(rt.alloc(), false)?;
     let mut lazy = Lazy::new(rt.alloc(), &nfa, MatchKind::All, 100);
     let found = lexer::tokens(rt.alloc(), &mut lazy, b"427 c")?;
-    same(&rt, found.len(), 1);
-    for token in &found {
-        holds(&rt, token.range() == (0..3));
-    }
+    expect_matches(&rt, found.as_slice(), &[(0, 0, 3)]);
     Ok(())
 }
