@@ -3,7 +3,7 @@
 //! Zigzag maps a signed difference to an unsigned number, so that a small difference of either sign
 //! is a small number. A varint has 7 bits per byte, the low ones first; the top bit of a byte says
 //! that another follows. A number below 128 is the common case and has a separate path, which is
-//! inlined.
+//! inlined, and so has one of two bytes where it is read.
 
 ghost use Rattle.std.specs.Prelude.{◌≡◌, ◌+◌, ◌%◌, ◌≤◌, ◌<◌, [], ◌∷◌, ◌++◌, drop, length, take, option_map, IfNone, IfSome, OnErr, OnOk};
 ghost use Rattle.determinize_state.specs.Varint as format;
@@ -101,6 +101,11 @@ fn read_number(bytes: &[u8]) -> Option<(u64, &[u8])>
     let (byte, after) = bytes.split_first()?;
     if *byte < 128 {
         return Some((*byte as u64, after));
+    }
+    if let Some((second, after)) = after.split_first() {
+        if *second < 128 {
+            return Some((*byte as u64 - 128 + 128 * *second as u64, after));
+        }
     }
     // Two calls, since a number and a slice at once are returned through memory, which makes short
     // varints slower too.
