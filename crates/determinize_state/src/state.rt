@@ -52,7 +52,8 @@ use std::marker::Model;
 
 /// A finished state of a DFA. It is immutable. A clone copies its bytes.
 ///
-/// Up to 30 bytes are stored inline, and more in memory of the allocator. No clause says so.
+/// Up to 30 bytes are stored inline, and more in memory of the allocator. A state that has the
+/// memory of a builder stores all its bytes there, and a clone of it does not. No clause says so.
 #[derive(Drop)]
 pub struct State<A: Allocator = Global> {
     bytes: SmallBytes<A>,

@@ -5,6 +5,8 @@
 //! `into_nfa`, which leaves the bytes as they are, NFA states are appended. So the bytes always
 //! encode the value of the builder. `to_state` copies them into a state, and `clear` returns an
 //! empty builder with the same buffer, so that a walk needs one buffer for all its states.
+//! `into_state` makes the buffer the memory of a state, and `StateBuilderEmpty::from_state` takes
+//! it back, so that a state can be looked up without a copy.
 //!
 //! `clear` leaves an empty header, so `into_matches` writes one for the first state only: a builder
 //! that is moved just after a write has to wait for the write.

@@ -1,4 +1,4 @@
-//! A list of bytes that is stored inline if it is short.
+//! A list of bytes: a copy is stored inline if it is short.
 //!
 //! Most states of small NFAs have few bytes, and an inline state needs no allocation.
 
@@ -20,7 +20,7 @@ enum Form<A: Allocator> {
         len: u8,
         bytes: [u8; SHORT],
     },
-    /// Any bytes, in a vector: those of a copy are more than `SHORT`.
+    /// More than `SHORT` bytes, or those of a vector that was handed over.
     Long(Vec<u8, A>),
 }
 
