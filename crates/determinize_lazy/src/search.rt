@@ -71,7 +71,11 @@ struct CachedPosition {
 impl CachedPosition {
     /// Returns the position with a cursor.
     fn with_cursor<A: Allocator>(self) -> Position<A>
-        ensures { result ≡ record { cursor = cursors.Cached self.id; read = self.read; last = self.last } }
+        ensures { result ≡ record {
+          cursor = cursors.Cached self.id;
+          read = self.read;
+          last = self.last;
+        } }
     {
         Position {
             cursor: Cursor::Cached(self.id),
@@ -259,8 +263,8 @@ impl<'n, N: Allocator, A: Allocator + Copy> Lazy<'n, N, A> {
         Ok(at)
     }
 
-    /// Searches a text from a position, up to a dead state or, if `earliest`, the first match state.
-    /// Returns the last match of the states before the position and of those that it enters.
+    /// Returns the last match of the states before a position and of those that a search enters
+    /// from there. It ends at a dead state or, if `earliest`, at the first match state.
     pub(crate) fn search_from(
         &mut self,
         from: Position<A>,
