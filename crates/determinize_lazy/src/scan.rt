@@ -1,8 +1,8 @@
 //! Searches of a text that comes in pieces, as from a socket or a file.
 //!
 //! A [`Scan`] owns a copy of the state where it is and the last match so far, so that it does not
-//! depend on what the cache is used for between two pieces. For each piece `feed` looks up the id of
-//! that state in the cache, and copies the state at the end of the piece. The first piece of
+//! depend on what the cache is used for between two pieces. For each piece `feed` looks up the id
+//! of that state in the cache, and copies the state at the end of the piece. The first piece of
 //! `scan_text` needs no lookup if the id of the start state is kept. The bytes of a piece are read
 //! as by `search`.
 
@@ -181,8 +181,8 @@ impl<'n, N: Allocator, A: Allocator + Copy> Lazy<'n, N, A> {
 
     /// Reads the next piece of the text of a scan, in the order of reading. A piece may be empty.
     ///
-    /// The scan must have been begun with the same NFA, so that the ids in its state are ids of this
-    /// one, and with the same match kind, so that its match is that of one search.
+    /// The scan must have been begun with the same NFA, so that the ids in its state are ids of
+    /// this one, and with the same match kind, so that its match is that of one search.
     ///
     /// Returns `AllocError` if an allocation fails, if more than 16647160 states would be cached,
     /// or if the pieces have more than `usize::MAX` bytes together. The scan is unchanged then, and

@@ -11,7 +11,7 @@
 //! Matches are delayed by one unit: a state lists the patterns that match before the unit that led
 //! to it. So a search also reads the unit ahead of its text, and a start state is no match state.
 
-ghost use Rattle.std.specs.Prelude.{Decides, ◌≡◌, ◌++◌, ◌+◌, ◌<◌, ◌≤◌, ℕ, false, true, Bool, List, [], Option, is_some, length, map, not, slice_get, slice_index_or, IfOk, OnErr, OnOk, Ok, None, Some};
+ghost use Rattle.std.specs.Prelude.{Decides, ◌≡◌, ◌++◌, ◌+◌, ◌<◌, ◌≤◌, ℕ, false, true, List, [], Option, length, map, slice_get, slice_index_or, IfOk, OnErr, OnOk, Ok, None, Some};
 ghost use Rattle.std.specs.Option.{IfNone, IfSome};
 ghost use Rattle.determinize_below.specs.Nfa.{AllResolve};
 ghost use Rattle.determinize_below.specs.Semantics.{between};
@@ -19,14 +19,14 @@ ghost use Rattle.determinize_below.specs.Search.{is_done};
 ghost use Rattle.determinize_below.specs.declared.search.MatchKind.TheVariants as kinds;
 ghost use Rattle.determinize_core.specs.Chain.{units};
 ghost use Rattle.determinize_core.specs.Step.{start_value};
-ghost use Rattle.determinize_core.specs.Value.{Value as StateValue, dead};
-ghost use Rattle.determinize_lazy.specs.Cache.{Cache, Grows, IsCutOff, LazyValue, cache};
+ghost use Rattle.determinize_core.specs.Value.{dead};
+ghost use Rattle.determinize_lazy.specs.Cache.{Grows, IsCutOff, LazyValue, cache};
 ghost use Rattle.determinize_lazy.specs.Private.Cursors.{IsCursor, cursor_value};
 ghost use Rattle.determinize_lazy.specs.Private.Searched.{EndsWith, Fails, FailsOver, GoesOn, GoesOver, HasStopped, IsCachedPosition, IsCutOffSearch, IsFound, IsOver, IsOverIn, IsPosition, cached_place, first_place, place};
 ghost use Rattle.determinize_lazy.specs.Private.Steps.{IsSound};
 ghost use Rattle.determinize_lazy.specs.declared.table.Cursor.TheVariants as cursors;
-ghost use Rattle.determinize_core.specs.Searches.{HasMatch, IsFarthestIn, IsPreferredIn, IsSearch, has_start, last_in, start_for, text_of};
-ghost use Rattle.determinize_lazy.specs.CachedSearches.{IsCutOffIn, IsPlenty, IsPlentyIn, after_input, after_is_match, after_search, is_last, units_searched};
+ghost use Rattle.determinize_core.specs.Searches.{HasMatch, IsFarthestIn, IsPreferredIn, IsSearch, has_start, last_in, start_for};
+ghost use Rattle.determinize_lazy.specs.CachedSearches.{IsCutOffIn, IsPlenty, IsPlentyIn, after_input, after_is_match, after_search, units_searched};
 
 use crate::lazy::Lazy;
 use crate::state_id::LazyStateId;
@@ -71,7 +71,11 @@ struct CachedPosition {
 impl CachedPosition {
     /// Returns the position with a cursor.
     fn with_cursor<A: Allocator>(self) -> Position<A>
-        ensures { result ≡ record { cursor = cursors.Cached self.id; read = self.read; last = self.last } }
+        ensures { result ≡ record {
+          cursor = cursors.Cached self.id;
+          read = self.read;
+          last = self.last;
+        } }
     {
         Position {
             cursor: Cursor::Cached(self.id),
@@ -259,8 +263,8 @@ impl<'n, N: Allocator, A: Allocator + Copy> Lazy<'n, N, A> {
         Ok(at)
     }
 
-    /// Searches a text from a position, up to a dead state or, if `earliest`, the first match state.
-    /// Returns the last match of the states before the position and of those that it enters.
+    /// Returns the last match of the states before a position and of those that a search enters
+    /// from there. It ends at a dead state or, if `earliest`, at the first match state.
     pub(crate) fn search_from(
         &mut self,
         from: Position<A>,

@@ -1,7 +1,8 @@
 -- A search over a cached transition: where it is then.
-use Rattle.determinize_lazy.proofs.Common.{AllResolve, Bool, Cache, cache, cached_place, dead, false, IsAt, IsCachedPosition}
-use Rattle.determinize_lazy.proofs.Common.{IsFound, is_last, IsSearched, IsSound, IsTarget, LazyValue, List, match_of}
-use Rattle.determinize_lazy.proofs.Common.{Option, slice_get, slice_index_or, Some, step_of, subst, sym, Value, ℕ, ◌+◌, ◌≡◌}
+use Rattle.determinize_lazy.proofs.Common.{AllResolve, Bool, Cache, cache, cached_place, dead, false, IsAt}
+use Rattle.determinize_lazy.proofs.Common.{IsCachedPosition, IsFound, is_last, IsSearched, IsSound, IsTarget, LazyValue}
+use Rattle.determinize_lazy.proofs.Common.{List, match_of, Option, slice_get, slice_index_or, Some, step_of, subst, sym}
+use Rattle.determinize_lazy.proofs.Common.{Value, ℕ, ◌+◌, ◌≡◌}
 use Rattle.determinize_core.proofs.step.Resolving.{step_resolves}
 use Rattle.determinize_lazy.specs.declared.search.CachedPosition.{CachedPosition}
 use Rattle.determinize_lazy.specs.declared.table.Cursor.TheVariants.{Cached}

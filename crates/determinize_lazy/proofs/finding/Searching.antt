@@ -1,13 +1,13 @@
 -- A search, one unit more at a time, and what it leaves.
 use Rattle.determinize_lazy.proofs.Common.{[], after_step, after_walk, ap, append-nil, append_assoc, arith, Bool, Cache}
 use Rattle.determinize_lazy.proofs.Common.{cond, drop, drop_all, ended_at, false, first_place, future, HalfMatch}
-use Rattle.determinize_lazy.proofs.Common.{is_last, is_last_tag, is_nonempty, is_some, IsCutOffSearch, IsFailedStep, IsFound}
-use Rattle.determinize_lazy.proofs.Common.{IsOver, IsReached, IsSearched, last_match, last_match-push, length, List}
-use Rattle.determinize_lazy.proofs.Common.{map, match_at, match_reported, nat_eq, None, not, Option, option_or, Place}
-use Rattle.determinize_lazy.proofs.Common.{refl, reported, slice_get, Some, step_of, subst, sym, Tag, tag_in, tag_of}
-use Rattle.determinize_lazy.proofs.Common.{take, take-append-drop, take_all, Text, true, true≢false, units, units_read}
-use Rattle.determinize_lazy.proofs.Common.{Value, value_after}
-use Rattle.determinize_lazy.proofs.Common.{ℕ, ◌&&◌, ◌++◌, ◌+◌, ◌-◌, ◌||◌, ◌∙◌, ◌∷◌, ◌≡◌, ◌≤◌}
+use Rattle.determinize_lazy.proofs.Common.{is_last, is_last_tag, is_nonempty, is_some, IsCutOffSearch, IsFailedStep}
+use Rattle.determinize_lazy.proofs.Common.{IsFound, IsOver, IsReached, IsSearched, last_match, last_match-push, length}
+use Rattle.determinize_lazy.proofs.Common.{List, map, match_at, match_reported, nat_eq, None, not, Option, option_or}
+use Rattle.determinize_lazy.proofs.Common.{Place, refl, reported, slice_get, Some, step_of, subst, sym, Tag, tag_in}
+use Rattle.determinize_lazy.proofs.Common.{tag_of, take, take-append-drop, take_all, Text, true, true≢false, units}
+use Rattle.determinize_lazy.proofs.Common.{units_read, Value, value_after, ℕ, ◌&&◌, ◌++◌, ◌+◌, ◌-◌, ◌||◌, ◌∙◌, ◌∷◌, ◌≡◌}
+use Rattle.determinize_lazy.proofs.Common.{◌≤◌}
 use Rattle.determinize_core.proofs.finding.LastUnits.{last_match-over, longer}
 use Rattle.determinize_core.proofs.finding.Texts.{units_listed}
 use Rattle.determinize_lazy.proofs.walking.CachedWalks.{cut_off-step, drop-one, follows, get-after, reached-push}
@@ -91,7 +91,8 @@ module _ {earliest : Bool} {old : Cache} {first : Value} {us : List (Option ℕ)
 
   -- before the first unit there is no match
   none_yet : p.read ≡ 0 → p.last ≡ None
-  none_yet e = sym (ap (λ b. option_or (cond b None (ended_at (p.read - 1) p.value.patterns)) p.last) is_first) ∙ s.found
+  none_yet e = sym (ap (λ b. option_or (cond b None (ended_at (p.read - 1) p.value.patterns)) p.last) is_first)
+      ∙ s.found
       ∙ ap (λ n. last_match (future old.nfa old.kind first (take n us))) e
     where
       is_first : nat_eq p.read 0 ≡ true

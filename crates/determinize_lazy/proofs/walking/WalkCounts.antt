@@ -3,7 +3,6 @@
 -- Used by: `walk_count_law`.
 -- Idea: a step computes at most one transition.
 use Rattle.determinize_lazy.proofs.Common.{[], arith, Cache, count_after, is_cached, Option, suc, Value, ℕ, ◌∷◌, ◌≤◌}
-use Rattle.std.proofs.Common.{min}
 use Rattle.ordered_reach.proofs.Cases.{by_test}
 use Rattle.determinize_lazy.specs.Cache.{after_step, EachWalkComputesFew, step_of}
 

@@ -1,6 +1,6 @@
 -- How far a walk or a search has come, and what a search leaves that is over.
-use Rattle.std.specs.Prelude.{◌≡◌, ℕ, ◌-◌, ◌++◌, ◌<◌, ◌≤◌, ◌⊎◌, Bool, true, false, cond, Option, None}
-use Rattle.std.specs.Prelude.{List, [], drop, is_some, length, nat_eq, slice_get, slice_index_or}
+use Rattle.std.specs.Prelude.{◌≡◌, ℕ, ◌-◌, ◌++◌, ◌<◌, ◌≤◌, ◌⊎◌, Bool, true, false, cond, Option}
+use Rattle.std.specs.Prelude.{None, List, [], drop, is_some, length, nat_eq, slice_get, slice_index_or}
 use Rattle.std.specs.Prelude.{Some, take}
 use Rattle.std.specs.Option.{option_or}
 use Rattle.determinize_below.specs.Nfa.{AllResolve}

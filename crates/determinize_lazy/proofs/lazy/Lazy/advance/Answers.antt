@@ -12,12 +12,14 @@ pub returns-clause-position : goal.returns-clause-position
 returns-clause-position g c =
     record {
       cursor = c.in_ok-cursor.ensures.at.cursor_is;
-      resolve = subst (λ (n : Nfa). AllResolve n (cursor_value c.step.new.self.states c.in_ok-cursor.cursor).states) (sym c.in_ok-cursor.ensures.grows.nfa)
+      resolve = subst (λ (n : Nfa). AllResolve n (cursor_value c.step.new.self.states c.in_ok-cursor.cursor).states)
+          (sym c.in_ok-cursor.ensures.grows.nfa)
           (subst (λ (v : Value). AllResolve c.args.self.now.nfa v.states) (sym c.in_ok-cursor.ensures.at.value)
           c.in_ok-cursor.ensures.resolve);
     }
 
 pub returns-clause-searched : goal.returns-clause-searched
 returns-clause-searched g c earliest us at more old first s =
-    searched-step s at more (is-found (place c.args.self.now c.args.at) _ c.tag_at.ensures c.or_match-last.ensures) c.in_ok-cursor.ensures.at.value
+    searched-step s at more (is-found (place c.args.self.now c.args.at) _ c.tag_at.ensures c.or_match-last.ensures)
+    c.in_ok-cursor.ensures.at.value
     c.in_ok-cursor.ensures.after

@@ -1,6 +1,6 @@
-use Rattle.determinize_lazy.proofs.Common.{AllResolve, ap, cache, count_after, cursor_value, false, IfOk, inl, inr, is_cached}
-use Rattle.determinize_lazy.proofs.Common.{IsAt, IsLazy, IsTable, keep, LazyValue, on_err_weaker, on_ok_weaker, rules}
-use Rattle.determinize_lazy.proofs.Common.{step_of, subst, sym, table_of, ◌∙◌, ◌≡◌}
+use Rattle.determinize_lazy.proofs.Common.{AllResolve, ap, cache, count_after, cursor_value, false, IfOk, inl, inr}
+use Rattle.determinize_lazy.proofs.Common.{is_cached, IsAt, IsLazy, IsTable, keep, LazyValue, on_err_weaker}
+use Rattle.determinize_lazy.proofs.Common.{on_ok_weaker, rules, step_of, subst, sym, table_of, ◌∙◌, ◌≡◌}
 use Rattle.determinize_core.specs.Step.{step}
 use Rattle.determinize_core.proofs.step.Resolving.{step_resolves}
 use Rattle.determinize_core.specs.Stepper.{StepperValue}

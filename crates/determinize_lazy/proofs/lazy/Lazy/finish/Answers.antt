@@ -1,7 +1,6 @@
-use Rattle.determinize_lazy.proofs.Common.{[], ap, arith, between, cache, false, IfSome, IsCutOffSearch}
-use Rattle.determinize_lazy.proofs.Common.{IsOver, None, rules, ◌∷◌, ◌<◌, ◌≤◌}
-use Rattle.determinize_lazy.proofs.Common.{option_map, option_or, refl, subst, sym, Text, true≢false, units, Value}
-use Rattle.determinize_lazy.proofs.Common.{◌∙◌}
+use Rattle.determinize_lazy.proofs.Common.{[], ap, arith, between, cache, false, IfSome, IsCutOffSearch, IsOver, None}
+use Rattle.determinize_lazy.proofs.Common.{rules, ◌∷◌, ◌<◌, ◌≤◌, option_map, option_or, refl, subst, sym, Text}
+use Rattle.determinize_lazy.proofs.Common.{true≢false, units, Value, ◌∙◌}
 use Rattle.determinize_core.specs.Chain.{chain}
 use Rattle.determinize_lazy.specs.Private.Scanned.{later_by}
 use Rattle.determinize_lazy.specs.Scans.{Scanned}

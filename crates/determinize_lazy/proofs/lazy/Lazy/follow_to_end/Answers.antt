@@ -1,5 +1,6 @@
-use Rattle.determinize_lazy.proofs.Common.{ap, arith, cached_place, cache, dead, first_place, GoesOn, IfSome, IsSearched, None}
-use Rattle.determinize_lazy.proofs.Common.{length, Option, slice_index_or, Some, subst, sym, units, ◌∙◌, ◌≡◌}
+use Rattle.determinize_lazy.proofs.Common.{ap, arith, cached_place, cache, dead, first_place, GoesOn, IfSome}
+use Rattle.determinize_lazy.proofs.Common.{IsSearched, None, length, Option, slice_index_or, Some, subst, sym, units}
+use Rattle.determinize_lazy.proofs.Common.{◌∙◌, ◌≡◌}
 use Rattle.std.specs.Option.{unwrap_or}
 use Rattle.determinize_core.proofs.finding.Texts.{unit-last}
 use Rattle.determinize_lazy.proofs.finding.Searching.{of_units}

@@ -1,5 +1,5 @@
-use Rattle.determinize_lazy.proofs.Common.{ap, cache, cached_place, dead, IsTarget, LazyValue, slice_get, slice_get-get_or}
-use Rattle.determinize_lazy.proofs.Common.{slice_index_or, Some, subst, Value, ◌∙◌, ◌≡◌}
+use Rattle.determinize_lazy.proofs.Common.{ap, cache, cached_place, dead, IsTarget, LazyValue, slice_get}
+use Rattle.determinize_lazy.proofs.Common.{slice_get-get_or, slice_index_or, Some, subst, Value, ◌∙◌, ◌≡◌}
 use Rattle.determinize_lazy.proofs.finding.CachedSteps.{next-position, next-searched}
 use Rattle.determinize_lazy.proofs.finding.Searching.{is-found, tag-last}
 use Rattle.determinize_lazy.proofs.steps.Rule.{lazy-sound}

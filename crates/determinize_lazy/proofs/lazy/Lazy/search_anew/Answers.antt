@@ -1,5 +1,5 @@
-use Rattle.determinize_lazy.proofs.Common.{ap, cache, cursor_value, first_place, IfOk-weaker, IsSearched}
-use Rattle.determinize_lazy.proofs.Common.{LazyValue, on_err_weaker, place, refl, start_value, units, Value, ◌∙◌}
+use Rattle.determinize_lazy.proofs.Common.{ap, cache, cursor_value, first_place, IfOk-weaker, IsSearched, LazyValue}
+use Rattle.determinize_lazy.proofs.Common.{on_err_weaker, place, refl, start_value, units, Value, ◌∙◌}
 use Rattle.determinize_lazy.proofs.finding.Searching.{searched-first}
 use Rattle.determinize_lazy.proofs.lazy.Lazy.search_anew.Given.{Over}
 use Rattle.determinize_lazy.proofs.lazy.Lazy.search_anew.Goals.{After-start}

@@ -1,5 +1,6 @@
-use Rattle.determinize_lazy.proofs.Common.{ap, arith, cache, cursor_value, Fails, false, GoesOn, inl, inr, is_last, length}
-use Rattle.determinize_lazy.proofs.Common.{place, slice_get, Some, subst, sym, true≢false, units, ◌+◌, ◌<◌, ◌∙◌, ◌≡◌, ◌≤◌}
+use Rattle.determinize_lazy.proofs.Common.{ap, arith, cache, cursor_value, Fails, false, GoesOn, inl, inr, is_last}
+use Rattle.determinize_lazy.proofs.Common.{length, place, slice_get, Some, subst, sym, true≢false, units, ◌+◌, ◌<◌, ◌∙◌}
+use Rattle.determinize_lazy.proofs.Common.{◌≡◌, ◌≤◌}
 use Rattle.determinize_core.proofs.finding.Texts.{all_read, unit-last}
 use Rattle.determinize_lazy.proofs.finding.Searching.{finished, of_units, stopped, tag-last}
 use Rattle.determinize_lazy.proofs.steps.Rule.{of_err}

@@ -1,7 +1,8 @@
 use Rattle.determinize_lazy.proofs.Common.{AllResolve, ap, cache, cached_place, dead, first_place}
-use Rattle.determinize_lazy.proofs.Common.{get_or_from_slice_get, IfOk-weaker, IsFound, IsSearched, LazyValue, on_err_weaker}
-use Rattle.determinize_lazy.proofs.Common.{refl, slice_get, slice_get-get_or, slice_get_within, slice_index_or}
-use Rattle.determinize_lazy.proofs.Common.{start_value, subst, sym, tag_in, tag_of, units, Value, ◌∙◌, ◌≡◌}
+use Rattle.determinize_lazy.proofs.Common.{get_or_from_slice_get, IfOk-weaker, IsFound, IsSearched, LazyValue}
+use Rattle.determinize_lazy.proofs.Common.{on_err_weaker, refl, slice_get, slice_get-get_or, slice_get_within}
+use Rattle.determinize_lazy.proofs.Common.{slice_index_or, start_value, subst, sym, tag_in, tag_of, units, Value, ◌∙◌}
+use Rattle.determinize_lazy.proofs.Common.{◌≡◌}
 use Rattle.determinize_core.proofs.finding.Texts.{all_read}
 use Rattle.determinize_lazy.proofs.finding.Searching.{finished, is-found, searched-first, stopped, tag-last}
 use Rattle.determinize_lazy.proofs.lazy.Lazy.search_text.Given.{Over}

@@ -1,5 +1,5 @@
-use Rattle.determinize_lazy.proofs.Common.{AllResolve, ap, cache, cursor_value, IsTable, IsTarget, LazyValue, slice_get, Some}
-use Rattle.determinize_lazy.proofs.Common.{step_of, subst, ◌∙◌, ◌≡◌}
+use Rattle.determinize_lazy.proofs.Common.{AllResolve, ap, cache, cursor_value, IsTable, IsTarget, LazyValue, slice_get}
+use Rattle.determinize_lazy.proofs.Common.{Some, step_of, subst, ◌∙◌, ◌≡◌}
 use Rattle.determinize_core.proofs.step.Resolving.{step_resolves}
 use Rattle.determinize_lazy.proofs.steps.Cursors.{cached_step, cached_target, state_of}
 use Rattle.determinize_lazy.proofs.lazy.Lazy.step.Given.{Over}
