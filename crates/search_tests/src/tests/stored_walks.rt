@@ -185,7 +185,8 @@ fn expect_place<R: Abort + AllocGlobal>(
     Ok(first)
 }
 
-/// Does this with an NFA that has the usual prefix.
+/// Returns the match of a text by [`expect_place`], through new caches of an NFA that has the usual
+/// prefix and of its reverse.
 fn expect_in<R: Abort + AllocGlobal>(
     rt: &R,
     nfa: &NFA,
@@ -200,7 +201,7 @@ fn expect_in<R: Abort + AllocGlobal>(
     expect_place(rt, &mut lazy, &mut regex, place)
 }
 
-/// Does this with the text and the NFA of a job.
+/// Returns the match of the text of a job by [`expect_place`].
 fn expect_job<R: Abort + AllocGlobal>(rt: &R, job: &Job<'_>) -> Result<Option<Match>, Fail> {
     let nfa = prefixed(rt.alloc(), job)?;
     let place = Place::of(rt.alloc(), job)?;
