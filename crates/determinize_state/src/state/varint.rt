@@ -2,8 +2,8 @@
 //!
 //! Zigzag maps a signed difference to an unsigned number, so that a small difference of either sign
 //! is a small number. A varint has 7 bits per byte, the low ones first; the top bit of a byte says
-//! that another follows. A number below 128 is the common case and has a separate path, which is
-//! inlined, and so has one of two bytes where it is read.
+//! that another follows. Numbers of one byte are the common case, and numbers of two bytes are those
+//! of large NFAs: both have separate paths, which are inlined.
 
 ghost use Rattle.std.specs.Prelude.{◌≡◌, ◌+◌, ◌%◌, ◌≤◌, ◌<◌, [], ◌∷◌, ◌++◌, drop, length, take, option_map, IfNone, IfSome, OnErr, OnOk};
 ghost use Rattle.determinize_state.specs.Varint as format;
@@ -38,6 +38,10 @@ pub(crate) fn write<A: Allocator>(bytes: &mut Vec<u8, A>, number: u32) -> Result
 {
     if number < 128 {
         bytes.push(number as u8)?;
+        return Ok(());
+    }
+    if number < 16384 {
+        bytes.extend_from_slice(&[more(number), (number / 128) as u8])?;
         return Ok(());
     }
     write_groups(bytes, number)
