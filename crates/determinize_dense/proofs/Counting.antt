@@ -1,6 +1,7 @@
 -- How many values are reached: one number, and fewer than it are not all.
--- Main statement: each_count_is_one. On it stands the law of the number of states.
--- The idea: a list of values, each once, that are all in another list is at most as long.
+-- Main statement: each_count_is_one.
+-- Used by: the law of the number of states.
+-- Idea: a list of values, each once, that are all in another list is not longer than that.
 use Rattle.determinize_core.proofs.Common.{ap, arith, Contains, EachApart, length, List, same, Some, sym}
 use Rattle.determinize_core.proofs.Common.{Value, ◌∙◌, ◌≡◌, ◌≤◌}
 use Rattle.determinize_core.proofs.states.Places.{same_laws}

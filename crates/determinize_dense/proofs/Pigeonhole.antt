@@ -1,6 +1,7 @@
 -- At most m numbers are the values of a function into the numbers below m that are all distinct.
--- Main statement: pigeonhole. On it stand the fewest rows, and that groups and ranks are few.
--- The idea: a list of distinct numbers below m has at most m elements.
+-- Main statement: pigeonhole.
+-- Used by: Least, Ordering, Splitting.
+-- Idea: a list of distinct numbers below m has at most m elements.
 use Rattle.std.proofs.Common.{◌<◌, ◌∙◌, ◌≡◌, ◌≤◌, arith, length, List, map, subst, sym, ℕ}
 use Rattle.std.proofs.lemmas.Bool.{eq-eqb, eqb-true}
 use Rattle.std.proofs.lemmas.List.FromFn.{get_or-map-range_with_len, length-map-range_with_len}

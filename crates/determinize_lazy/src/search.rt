@@ -5,7 +5,7 @@
 //! the current state: the entry of the byte, which is the offset of the next row, and the tag. It
 //! neither allocates nor hashes, and computes no state. It ends at a transition that is not cached,
 //! after the last byte, and at a state at which the search ends. If the transition over the unit
-//! ahead is cached as well, the search is over then. If not, `search_from` goes on from there: it
+//! ahead is cached as well, the search is over then. If not, `search_from` continues from there: it
 //! takes one step, which is computed if it is not cached, and follows cached transitions again.
 //!
 //! Matches are delayed by one unit: a state lists the patterns that match before the unit that led

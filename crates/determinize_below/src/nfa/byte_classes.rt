@@ -154,9 +154,9 @@ fn first_alike<A: Allocator>(nfa: &NFA<A>, firsts: &[u8], byte: u8) -> usize
 
 impl<A: Allocator> NFA<A> {
     /// Returns the classes of bytes that a step does not distinguish. Two bytes have one class
-    /// exactly if every state has the same target on both, and no assertion of the NFA distinguishes
-    /// them: one on words by whether they are word bytes, one on lines or CRLF by whether they are
-    /// the line terminator, and one on CRLF by whether they are `\r` or `\n`.
+    /// exactly if every state has the same target on both, and no assertion of the NFA
+    /// distinguishes them: one on words by whether they are word bytes, one on lines or CRLF by
+    /// whether they are the line terminator, one on CRLF by whether they are `\r` or `\n`.
     ///
     /// The classes are computed anew by each call. One pass over the states finds the bytes that
     /// may differ from the byte before. Only these are compared with the least byte of each class

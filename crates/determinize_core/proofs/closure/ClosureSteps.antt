@@ -112,7 +112,7 @@ first_pending id pending rest others below e same = e ∙ ap (λ (l : List ℕ).
 pub at_none : {A : Type 0} (result : Option A) (P : Type 0) → result ≡ None → IfNone result P → P
 at_none {A = A} result P none h = subst (λ (r : Option A). IfNone r P) none h
 
--- the tries so far and those that are left are as many after a turn
+-- the sum of the tries so far and of those that are left does not change in a turn
 pub tries-turn : (nfa : Nfa) (look : Assertion → Bool) (met pending after next rest : List ℕ) (id now all : ℕ)
     → pending ≡ id ∷ rest → IsTurn nfa look met after id rest next → now + tries_left nfa look met pending ≡ all
     → now + 1 + tries_left nfa look after next ≡ all
