@@ -239,9 +239,9 @@ fn nothing_to_search(rt: HostRuntime) -> Result<(), Fail> {
     Ok(())
 }
 
-/// Letters after a byte ff, by searches in reverse from the end of a range: one that is in the range,
-/// and one that is before it; from after the last letter, and from before the byte ff in front of
-/// that letter.
+/// Letters after a byte ff, by searches in reverse from the end of a range: one that is in the
+/// range, and one that is before it; from after the last letter, and from before the byte ff in
+/// front of that letter.
 #[test]
 fn ranges_backward(rt: HostRuntime) -> Result<(), Fail> {
     let inner = Input::new(LETTERS).range(1..4).anchored(Anchored::Yes);
