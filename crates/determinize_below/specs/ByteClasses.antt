@@ -1,4 +1,4 @@
--- Classes of bytes that the transitions of an NFA do not distinguish.
+-- Classes of bytes that an NFA does not distinguish.
 use Rattle.std.specs.Prelude.{◌≡◌, ℕ, ◌<◌, ◌≤◌, true, Some, List, length, nat_eq, slice_index}
 use Rattle.determinize_below.specs.Semantics.{state_at, target_of, Nfa, is_word_byte}
 use Rattle.determinize_below.specs.Look.{has_crlf, has_line, has_word}
@@ -11,7 +11,7 @@ pub record AreTestedAlike (nfa : Nfa) (b c : ℕ) : Type 0 where
   pub feed : has_crlf nfa.look_set_any ≡ true → nat_eq b 10 ≡ nat_eq c 10
   pub word : has_word nfa.look_set_any ≡ true → is_word_byte b ≡ is_word_byte c
 
--- bytes that a step does not distinguish: each state has the same target on both, and no assertion
+-- bytes that the NFA does not distinguish: each state has the same target on both, and no assertion
 -- distinguishes them
 pub record AreAlike (nfa : Nfa) (b c : ℕ) : Type 0 where
   pub targets : (s : ℕ) → target_of (Some b) (state_at nfa s) ≡ target_of (Some c) (state_at nfa s)
@@ -40,7 +40,7 @@ pub record AreClasses (p : Classes) : Type 0 where
   pub ascend : (j k : ℕ) → j < k → k < length p.firsts → first_of p j < first_of p k
   pub few : length p.firsts ≤ 256
 
--- two bytes have one class exactly if a step does not distinguish them
+-- two bytes have one class exactly if the NFA does not distinguish them
 pub record AreClassesOf (nfa : Nfa) (p : Classes) : Type 0 where
   pub alike : (b c : ℕ) → b < 256 → c < 256 → class_of p b ≡ class_of p c → AreAlike nfa b c
   pub coarsest : (b c : ℕ) → b < 256 → c < 256 → AreAlike nfa b c → class_of p b ≡ class_of p c

@@ -16,7 +16,7 @@ use std::hash::{BuildHasherDefault, FoldHasher};
 use std::marker::Model;
 use std::mem::{size_of, size_of_val};
 
-/// The most bytes of a state that lie in the `State` itself and not on the heap.
+/// The most bytes of a clone of a state that lie in the `State` itself and not on the heap.
 const SHORT: usize = 30;
 
 /// The greatest number of states, 16647160: rows of 258 numbers then have offsets of 32 bits.

@@ -87,8 +87,8 @@ fn start_id<N: Allocator>(nfa: &NFA<N>, number: usize) -> StateID
     }
 }
 
-/// Returns a byte of the kind of start with this number, or that the kind is of starts behind
-/// nothing. `None` if no start is of this kind.
+/// Returns a look-behind of this kind of start: `Some(Some(byte))`, or `Some(None)` for the kind of
+/// a start behind nothing. `None` if no look-behind is of this kind.
 fn look_behind_of(terminator: u8, kind: usize) -> Option<Option<u8>>
     ensures some { IfSome result (λ p. number_of (start_kind_of terminator p) ≡ kind) }
     ensures unit { IfSome result (λ p. IsUnit p) }
@@ -284,7 +284,7 @@ impl<'n, N: Allocator, A: Allocator + Copy> Builder<'n, N, A> {
         Ok(())
     }
 
-    /// Computes the entries of all rows, also of those that are found by then.
+    /// Computes the entries of all rows, also of those that are found meanwhile.
     pub(crate) fn fill(&mut self) -> Result<(), BuildError>
         ensures whole { OnOk result
             (length self.new.next ≡ length self.new.values * columns_of self.new.classes) }

@@ -27,7 +27,7 @@ impl<'n, N: Allocator, A: Allocator + Copy> Rows<'n, N, A> {
     /// Returns whether a search scans out of a row: whether at least `STAYING` bytes do not leave
     /// it. This is a guess at what is fast, and no match depends on it.
     ///
-    /// - `sizes` are the numbers of bytes of the classes.
+    /// - `sizes` has the number of bytes of each class.
     fn is_scanned(&self, row: usize, sizes: &[u16; 256]) -> bool
         requires { row < length self.now.table.patterns }
     {
@@ -43,7 +43,7 @@ impl<'n, N: Allocator, A: Allocator + Copy> Rows<'n, N, A> {
 
     /// Returns the rank of a row in the order.
     ///
-    /// - `sizes` are the numbers of bytes of the classes.
+    /// - `sizes` has the number of bytes of each class.
     fn rank(&self, row: usize, sizes: &[u16; 256]) -> usize
         requires { row < length self.now.table.patterns }
         ensures { IsRank self.now.table row result }

@@ -1,4 +1,4 @@
--- Marks at the bytes that a step may distinguish from the byte before.
+-- Marks at the bytes that the NFA may distinguish from the byte before.
 use Rattle.std.specs.Prelude.{◌≡◌, ℕ, ◌+◌, ◌<◌, Bool, false, List, slice_index_or}
 use Rattle.determinize_below.specs.ByteClasses.{AreAlike}
 use Rattle.determinize_below.specs.Semantics.{Nfa}

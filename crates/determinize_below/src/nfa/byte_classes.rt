@@ -122,7 +122,7 @@ fn mark_state<A: Allocator>(state: &State<A>, marks: &mut [bool; 256])
     }
 }
 
-/// Returns marks at all bytes that a step may distinguish from the byte before.
+/// Returns marks at all bytes that the NFA may distinguish from the byte before.
 fn boundaries_of<A: Allocator>(nfa: &NFA<A>) -> [bool; 256]
     ensures { AreBoundaries nfa.now result }
 {
@@ -153,7 +153,7 @@ fn first_alike<A: Allocator>(nfa: &NFA<A>, firsts: &[u8], byte: u8) -> usize
 }
 
 impl<A: Allocator> NFA<A> {
-    /// Returns the classes of bytes that a step does not distinguish. Two bytes have one class
+    /// Returns the classes of bytes that the NFA does not distinguish. Two bytes have one class
     /// exactly if every state has the same target on both, and no assertion of the NFA
     /// distinguishes them: one on words by whether they are word bytes, one on lines or CRLF by
     /// whether they are the line terminator, one on CRLF by whether they are `\r` or `\n`.

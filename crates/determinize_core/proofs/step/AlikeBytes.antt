@@ -48,7 +48,7 @@ module _ (nfa : Nfa) (b c : ℕ) (same : AreTestedAlike nfa b c) where
       → (word_opened w (is_word (Some b)) l || false) ≡ (word_opened w (is_word (Some c)) l || false)
   words_alike w l k h = ap (λ (x : Bool). word_opened w x l || false) (same.word (word_class nfa.look_set_any l k h))
 
-  -- and so is each other
+  -- an assertion of the NFA is satisfied by both bytes or by none
   opened-alike : (w f : Bool) (l : Look) → has nfa.look_set_any l ≡ true
       → opened (tables_of nfa) w f (Some b) l ≡ opened (tables_of nfa) w f (Some c) l
   unfolding has opened word_opened line_opened

@@ -1,8 +1,8 @@
 //! Epsilon closure: the NFA states reachable without input, in order of preference.
 //!
-//! One loop, [`explore`], computes all closures by depth-first search. The current list has the
-//! edges of the last state with some, and those of earlier states wait on the stack. The set ends
-//! the search on cycles. A [`Recorder`] receives each new state, and a [`Counter`] counts each try.
+//! One loop, [`explore`], searches depth first. The current list has what remains of the edges of
+//! the last state that had any, and what remains of earlier ones waits on the stack. The set ends
+//! the search on cycles. A [`Recorder`] receives each new state, a [`Counter`] counts each try.
 
 ghost use Rattle.std.specs.Prelude.{◌≡◌, ◌+◌, ◌<◌, ◌≤◌, ℕ, List, [], ◌∷◌, ◌++◌, ◌⊎◌, None, IsTrue, drop, false, fold, length, reverse, IfNone, IfSome, IfOk, OnOk, OnErr, IsOk};
 ghost use Rattle.determinize_below.specs.Edges.{edges, reach_past};

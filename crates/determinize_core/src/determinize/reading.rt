@@ -1,8 +1,8 @@
-//! The first reading of a working list: patterns and targets.
+//! The first pass of a transition: the patterns and the targets of a working list.
 //!
-//! The states are read in order, each once. A `Match` state adds its pattern to the builder, and
-//! any other state pushes its target on the unit, if it has one. Under `MatchKind::LeftmostFirst`
-//! the first match ends the reading.
+//! The states are read in order, each once. The pattern of a `Match` state is added to the builder,
+//! and the target of any other state over the unit is pushed. Under `MatchKind::LeftmostFirst` the
+//! first match ends the pass.
 
 ghost use Rattle.std.specs.Prelude.{◌≡◌, ℕ, ◌<◌, List, [], Option, Some, false, length, nat_eq, not, IfOk, OnOk, ◌&&◌};
 ghost use Rattle.std.specs.Iterator.{IsFinite, YieldsFirst};
@@ -19,7 +19,7 @@ use determinize_below::{MatchKind, NFA, PatternID, SparseSet, SparseSetIter, Sta
 use determinize_state::state::{NfaStateIds, StateBuilderNFA};
 use std::alloc::{AllocError, Allocator};
 
-/// What the first reading finds in an NFA state.
+/// What the first pass finds in an NFA state.
 #[derive(Clone, Copy)]
 pub(crate) enum Reading {
     /// No pattern, and no transition on the unit.
@@ -30,7 +30,7 @@ pub(crate) enum Reading {
     Match(PatternID),
 }
 
-/// Returns the pattern of an NFA state, or its target over a unit.
+/// Returns the pattern of an NFA state, or its target over a unit, or `Nothing`.
 #[inline(always)]
 fn read<N: Allocator>(nfa: &NFA<N>, id: StateID, unit: Unit) -> Reading
     requires { id < length nfa.now.states }
@@ -51,7 +51,7 @@ fn read<N: Allocator>(nfa: &NFA<N>, id: StateID, unit: Unit) -> Reading
 }
 
 /// Reads one state: adds its pattern, or pushes its target, unless the state was read before.
-/// Returns whether the reading stops: at a match, under `MatchKind::LeftmostFirst`.
+/// Returns whether the pass ends: at a match, under `MatchKind::LeftmostFirst`.
 #[inline(always)]
 fn read_state<N: Allocator, A: Allocator>(
     nfa: &NFA<N>,
@@ -109,7 +109,8 @@ impl<'a> Ids for SparseSetIter<'a> {
     ghost gives = { λ s t id h. h };
 }
 
-/// Reads the states of a list: pushes the targets and adds the patterns. Repeats are skipped.
+/// Reads the states of a list: pushes the targets and adds the patterns, under
+/// `MatchKind::LeftmostFirst` up to the first match. Repeats are skipped.
 #[inline(always)]
 pub(crate) fn read_states<N: Allocator, A: Allocator, I: Ids>(
     nfa: &NFA<N>,

@@ -1,8 +1,8 @@
 //! Recording what a search finds.
 //!
-//! One search serves all closures. That of the targets of a transition records each new state in
-//! the builder of the next DFA state, at once, so that no second pass over the set is needed. All
-//! others only fill the set, and their recorder is `()`, for which no code is left.
+//! One search serves all closures. The closure of the targets of a transition records each new
+//! state in the builder at once, so the set is not read again. The others only fill the set: their
+//! recorder is `()`, which compiles to nothing.
 
 ghost use Rattle.std.specs.Prelude.{◌≡◌, ℕ, ◌<◌, length, OnOk};
 ghost use Rattle.determinize_below.specs.Semantics.{Nfa};

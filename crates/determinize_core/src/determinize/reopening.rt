@@ -1,9 +1,9 @@
-//! Reopening a working list: whether a unit of input changes the closure of the recorded states.
+//! Reopening a working list: whether a unit of input makes the closure of the recorded states be
+//! computed again.
 //!
 //! The recorded states are closed under look-have. If the unit satisfies a further assertion of
-//! look-need, their closure is computed again, with that assertion. For most units none is
-//! satisfied, and word assertions are the most frequent, so these are tested first, by few
-//! instructions.
+//! look-need, their closure is computed again, with that assertion. Most units satisfy none. If
+//! look-need has only word assertions, the most frequent case, a short test decides.
 
 ghost use Rattle.std.specs.Prelude.{◌≡◌, Bool, IsTrue, false, is_some, IfSome, ◌||◌};
 ghost use Rattle.determinize_below.specs.Look.{has, has_haystack, has_line};
@@ -18,7 +18,7 @@ use determinize_start::look_tables::{LookTables, words_opened};
 use determinize_state::state::State;
 use std::alloc::Allocator;
 
-/// Returns whether the unit satisfies an assertion that is in look-need and not in look-have.
+/// Returns whether `found` has an assertion that is in look-need and not in look-have.
 fn is_redone(found: LookSet, have: LookSet, need: LookSet) -> bool
     ensures { result ≡ specs_of_steps.is_redone (has found) have need }
 {

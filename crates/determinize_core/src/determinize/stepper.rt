@@ -137,8 +137,8 @@ impl<'n, N: Allocator, A: Allocator + Copy> Stepper<'n, N, A> {
         self.finish(builder)
     }
 
-    /// Returns the same as `next`, in the memory of the builder. A caller that gives the state to
-    /// `take_back`, and keeps a clone of it where it has to, needs no allocation for each state.
+    /// Returns the state that `next` returns, in the memory of the builder and not in a copy. Given
+    /// back by `take_back`, the memory is used again by the next call. To keep the state, clone it.
     pub fn next_lent(&mut self, state: &State<A>, unit: Unit) -> Result<State<A>, AllocError>
         requires { AllResolve self.old.nfa state.now.states }
         ensures ok { IfOk result
@@ -151,7 +151,8 @@ impl<'n, N: Allocator, A: Allocator + Copy> Stepper<'n, N, A> {
         Ok(self.build_next(state, unit)?.into_state())
     }
 
-    /// Keeps the memory of a state for the next builder.
+    /// Replaces the memory that is kept for the next builder by that of a state, or by none if the
+    /// state is stored inline.
     pub fn take_back(&mut self, state: State<A>)
         ensures unchanged { self.new ≡ self.old }
     {

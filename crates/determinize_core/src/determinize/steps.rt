@@ -1,7 +1,7 @@
 //! A count of tries, of size 0.
 //!
-//! The closures count each try to add a state to a set, by a [`Counter`]: in [`Steps`] for
-//! `next_counted`, and in `()`, which counts nothing, for all other calls.
+//! The loop of a closure counts each try to add a state to a set, by a [`Counter`]: [`Steps`] in
+//! `next_counted`, and `()`, which counts nothing, in all other calls.
 
 ghost use Rattle.std.specs.Prelude.{◌≡◌, ℕ, ◌+◌, ◌<◌, Bool, true, false, IsTrue};
 
@@ -39,13 +39,13 @@ impl<L: Ledger> Steps<L> {
     }
 }
 
-/// Counts the tries of a search: `counts` says whether it does, `total` how many so far.
+/// Counts tries, or ignores them if `counts` is false. `total` is the number so far.
 pub(crate) trait Counter {
     ghost counts: { Bool };
 
     ghost total: { Self → ℕ };
 
-    /// Counts one more try.
+    /// Counts one more try, if `counts`.
     fn count(&mut self)
         ensures { IsTrue counts → total self.new ≡ total self.old + 1 };
 }

@@ -1,6 +1,6 @@
 //! One transition: from a DFA state over a unit of input to the next state.
 //!
-//! The look-behind of the next state is set from the unit, the first reading of the working list
+//! The look-behind of the next state is set from the unit, the first pass over the working list
 //! adds the patterns and pushes the targets, and the closure of the targets adds the NFA states.
 
 ghost use Rattle.std.specs.Prelude.{◌≡◌, ◌+◌, ◌*◌, ◌<◌, ◌≤◌, ◌&&◌, [], IsTrue, length, IfOk, OnOk};

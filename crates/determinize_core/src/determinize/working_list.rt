@@ -1,8 +1,8 @@
 //! The working list of a transition.
 //!
 //! It is the NFA states of a DFA state, each once, or their closure if the unit satisfies an
-//! assertion that they need. Without the closure no list is made: the recorded ids are read as they
-//! are decoded, and repeats are skipped.
+//! assertion that they need and that is not in look-have. Without the closure no list is made: the
+//! recorded ids are read as they are decoded, and repeats are skipped.
 
 ghost use Rattle.std.specs.Prelude.{◌≡◌, IsTrue, ◌+◌, ◌<◌, ◌≤◌, [], All, OnOk};
 ghost use Rattle.determinize_below.specs.Nfa.{AllResolve, IsAccepted};
@@ -40,7 +40,8 @@ fn collect_states<A: Allocator>(
     Ok(())
 }
 
-/// Reads the working list: adds its patterns to the builder and pushes its targets.
+/// Reads the working list: adds its patterns to the builder and pushes its targets, under
+/// `MatchKind::LeftmostFirst` up to the first match.
 #[inline(always)]
 pub(crate) fn read_working_list<N: Allocator, A: Allocator, C: Counter>(
     nfa: &NFA<N>,

@@ -2,8 +2,8 @@
 //!
 //! Zigzag maps a signed difference to an unsigned number, so that a small difference of either sign
 //! is a small number. A varint has 7 bits per byte, the low ones first; the top bit of a byte says
-//! that another follows. Most numbers have one byte, in a large NFA two: both have paths of their
-//! own, which are inlined.
+//! that another follows. Most numbers take one byte, in a large NFA two: each of these lengths has
+//! an inlined path of its own.
 
 ghost use Rattle.std.specs.Prelude.{◌≡◌, ◌+◌, ◌%◌, ◌≤◌, ◌<◌, [], ◌∷◌, ◌++◌, drop, length, take, option_map, IfNone, IfSome, OnErr, OnOk};
 ghost use Rattle.determinize_state.specs.Varint as format;
@@ -49,7 +49,7 @@ pub(crate) fn write<A: Allocator>(bytes: &mut Vec<u8, A>, number: u32) -> Result
     write_groups(bytes, number)
 }
 
-/// Appends a number of any size. On error the bytes are unchanged.
+/// Appends a number of any size, here one of three bytes or more. On error the bytes are unchanged.
 #[tactic(auto, using(crate::proofs::encoding::Varints::group_counts))]
 #[cold]
 fn write_groups<A: Allocator>(bytes: &mut Vec<u8, A>, number: u32) -> Result<(), AllocError>
