@@ -4,7 +4,7 @@
 //! depend on what the cache is used for between two pieces. For each piece `feed` looks up the id
 //! of that state in the cache, and copies the state at the end of the piece. The first piece of
 //! `scan_text` needs no lookup if the id of the start state is kept. The bytes of a piece are read
-//! as by `search`.
+//! by `search_bytes` of `search`.
 
 ghost use Rattle.std.specs.Prelude.{◌≡◌, ◌+◌, ◌++◌, ◌<◌, ◌≤◌, ℕ, [], List, Option, length, map, not, option_map, true, IfOk, OnErr, OnOk, None, Some};
 ghost use Rattle.std.specs.Option.{IfSome, option_or};
@@ -181,8 +181,8 @@ impl<'n, N: Allocator, A: Allocator + Copy> Lazy<'n, N, A> {
 
     /// Reads the next piece of the text of a scan, in the order of reading. A piece may be empty.
     ///
-    /// The scan must have been begun with the same NFA, so that the ids in its state are ids of
-    /// this one, and with the same match kind, so that its match is that of one search.
+    /// The ids in the state of the scan must be states of the NFA, as they are if the scan was begun
+    /// with it. The match is that of one search if the match kind is the same, too.
     ///
     /// Returns `AllocError` if an allocation fails, if more than 16647160 states would be cached,
     /// or if the pieces have more than `usize::MAX` bytes together. The scan is unchanged then, and
@@ -216,7 +216,7 @@ impl<'n, N: Allocator, A: Allocator + Copy> Lazy<'n, N, A> {
     ///
     /// - `look_ahead` is the byte just after the text, or `None` if the input ends there.
     ///
-    /// The scan must have been begun with the same NFA and match kind, as for `feed`.
+    /// The scan must be one for this NFA and match kind, as for `feed`.
     ///
     /// Returns `AllocError` if an allocation fails, or if more than 16647160 states would be
     /// cached.

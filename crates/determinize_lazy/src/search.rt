@@ -1,12 +1,13 @@
 //! Searches over the cache: the last match of a walk, without a list of its states.
 //!
 //! If the id of its start state is kept (`step`), a search begins at that id and follows cached
-//! transitions from row to row (`follow`). For each byte it reads two numbers in the row of
-//! the current state: the entry of the byte, which is the offset of the next row, and the tag. It
-//! neither allocates nor hashes, and computes no state. It ends at a transition that is not cached,
-//! after the last byte, and at a state at which the search ends. If the transition over the unit
-//! ahead is cached as well, the search is over then. If not, `search_from` continues from there: it
-//! takes one step, which is computed if it is not cached, and follows cached transitions again.
+//! transitions from row to row. For each byte `follow` reads two numbers in the row of the current
+//! state: the entry of the byte, which is the offset of the next row, and the tag. It neither
+//! allocates nor hashes, and computes no state. It stops at a transition that is not cached, after
+//! the last byte, and at a state at which the search ends. If the search has not ended, and the
+//! transition over the unit ahead is not cached either, `search_from` continues from there: it takes
+//! one step, which is computed if it is not cached, and follows cached transitions again. If the id
+//! of the start state is not kept, that state is computed first (`search_anew`).
 //!
 //! Matches are delayed by one unit: a state lists the patterns that match before the unit that led
 //! to it. So a search also reads the unit ahead of its text, and a start state is no match state.
@@ -69,7 +70,7 @@ struct CachedPosition {
 }
 
 impl CachedPosition {
-    /// Returns the position with a cursor.
+    /// Returns the position with a cursor in place of the id.
     fn with_cursor<A: Allocator>(self) -> Position<A>
         ensures { result ≡ record {
           cursor = cursors.Cached self.id;
@@ -86,8 +87,8 @@ impl CachedPosition {
 }
 
 impl<'n, N: Allocator, A: Allocator + Copy> Lazy<'n, N, A> {
-    /// Returns the position after one more unit, or `None` if the search ends before it or the
-    /// transition is not cached.
+    /// Returns the position after the cached transition over a unit, or `None` if there is none or
+    /// the search ends at this state.
     #[inline(always)]
     fn next_cached(
         &self,
@@ -118,6 +119,9 @@ impl<'n, N: Allocator, A: Allocator + Copy> Lazy<'n, N, A> {
     }
 
     /// Follows cached transitions over bytes of the text, up to a state at which the search ends.
+    ///
+    /// The loop has the body of `next_cached` written out: with the call it takes six cycles a byte
+    /// in place of five.
     #[inline(always)]
     fn follow(&self, from: CachedPosition, text: &Text<'_>, earliest: bool) -> CachedPosition
         requires position { IsCachedPosition self.now from }
@@ -263,8 +267,9 @@ impl<'n, N: Allocator, A: Allocator + Copy> Lazy<'n, N, A> {
         Ok(at)
     }
 
-    /// Returns the last match of the states before a position and of those that a search enters
-    /// from there. It ends at a dead state or, if `earliest`, at the first match state.
+    /// Searches a text from a position to its end, with the unit ahead. Returns the last match of all
+    /// states of the search, with those before the position. The search ends at a dead state or, if
+    /// `earliest`, at the first match state.
     pub(crate) fn search_from(
         &mut self,
         from: Position<A>,
@@ -332,8 +337,9 @@ impl<'n, N: Allocator, A: Allocator + Copy> Lazy<'n, N, A> {
     /// Searches a text from the start state of a walk over it. If the id of that state is kept and
     /// all transitions are cached, the cache is only read.
     ///
-    /// Not inlined, so that it is compiled once for all callers.
-    #[inline(never)]
+    /// Inlined, so that each caller has a loop in which `earliest` is a constant, and in `search`
+    /// also the direction of the text: tests of these cost the loop one of six cycles.
+    #[inline(always)]
     fn search_text(
         &mut self,
         start: StateID,

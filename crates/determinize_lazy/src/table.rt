@@ -58,7 +58,7 @@ impl<A: Allocator> Cursor<A> {
 pub(crate) struct TransitionTable<A: Allocator = Global> {
     states: StateTable<A>,
     rows: Vec<u32, A>,
-    // The ids of start states, which are removed when the table is cleared.
+    // The ids of start states, by `start_index` of `step`. `clear` removes them.
     starts: [Option<LazyStateId>; STARTS],
 }
 

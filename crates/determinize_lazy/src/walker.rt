@@ -74,8 +74,8 @@ impl<'n, N: Allocator, A: Allocator + Copy> Lazy<'n, N, A> {
     /// Takes a step of a walk over a byte, or over the end of input (EOI) for `None`: the walker is
     /// then at the next state of the walk.
     ///
-    /// The walker must have been begun with the same NFA, so that the ids in its state are ids of
-    /// this one, and with the same match kind, so that its states are those of one walk.
+    /// The ids in the state of the walker must be states of the NFA, as they are if the walker was
+    /// begun with it. The states are those of one walk if the match kind is the same, too.
     ///
     /// Returns `AllocError` if an allocation fails, or if more than 16647160 states would be
     /// cached. The walker is unchanged then, and may take the same step again.

@@ -70,13 +70,14 @@ pub record IsCachedPosition (c : LazyValue) (at : CachedPosition) : Type 0 where
   pub id : at.id < length c.states
   pub resolve : AllResolve c.nfa (slice_index_or c.states at.id dead).states
 
--- the last match of the values up to a place: the match that the value reports or, if it reports
--- none, the last one before
+-- the last match of the values up to a place, if there is none before the first unit: the match
+-- that the value reports or, if it reports none, the last one before
 abbrev pub IsFound : Place → Option HalfMatch → Type 0
 IsFound p found =
     (p.read ≡ 0 → p.last ≡ None) → found ≡ option_or (reported p.read p.value) p.last
 
--- a search from a value over units that has come to a place
+-- a search from a value over units has come to a place; `last` counts only where the value there
+-- reports no match
 pub record IsSearched (earliest : Bool) (old : Cache) (first : Value) (us : List (Option ℕ))
     (p : Place) : Type 0 where
   pub reached : IsReached old first us p.read p.value p.cache
@@ -120,18 +121,19 @@ abbrev pub IsCutOffSearch : Bool → Cache → Value → List (Option ℕ) → C
 IsCutOffSearch earliest old first us new =
     IsCutOff old first (units_read (step_of old) earliest first us) new
 
--- a search over units that has come to a place is over with this match
+-- a search over units that has come to a place ends with this match and leaves this cache; if
+-- `earliest`, its first value lists no pattern
 abbrev pub EndsWith : Bool → List (Option ℕ) → Place → Option HalfMatch → Cache → Type 0
 EndsWith earliest us p found new = (old : Cache) (first : Value)
     → (earliest ≡ true → first.patterns ≡ []) → IsSearched earliest old first us p
     → IsOver earliest old first us found new
 
--- a search over units that has come to a place fails
+-- a search over units that has come to a place fails, and leaves this cache
 abbrev pub Fails : Bool → List (Option ℕ) → Place → Cache → Type 0
 Fails earliest us p new = (old : Cache) (first : Value) → IsSearched earliest old first us p
     → IsCutOffSearch earliest old first us new
 
--- a search that has come to a place, and fails in the step over a unit there
+-- a search that has come to a place, and reads a unit there, fails in that step
 abbrev pub FailsOver : Option ℕ → Place → Cache → Type 0
 FailsOver u p new = (earliest : Bool) (us : List (Option ℕ)) → slice_get us p.read ≡ Some u
     → is_last earliest p.value ≡ false → Fails earliest us p new
