@@ -47,8 +47,8 @@ impl<'n, N: Allocator, A: Allocator + Copy> Dfa<'n, N, A> {
     ///
     /// - `limit` is the greatest number of states, and there are never more than 16647160.
     ///
-    /// Returns `TooManyStates` only if more states than that are reached, and a DFA only if they are
-    /// not. Returns `OutOfMemory` if an allocation fails. Under `MatchKind::All` the number of
+    /// Returns `TooManyStates` only if more states than that are reached, and a DFA only if they
+    /// are not. Returns `OutOfMemory` if an allocation fails. Under `MatchKind::All` the number of
     /// states may be exponential in the size of the NFA.
     pub fn build(
         alloc: A,

@@ -181,8 +181,8 @@ impl<'n, N: Allocator, A: Allocator + Copy> Lazy<'n, N, A> {
 
     /// Reads the next piece of the text of a scan, in the order of reading. A piece may be empty.
     ///
-    /// The ids in the state of the scan must be states of the NFA, as they are if the scan was begun
-    /// with it. The match is that of one search if the match kind is the same, too.
+    /// The ids in the state of the scan must be states of the NFA, as they are if the scan was
+    /// begun with it. The match is that of one search if the match kind is the same, too.
     ///
     /// Returns `AllocError` if an allocation fails, if more than 16647160 states would be cached,
     /// or if the pieces have more than `usize::MAX` bytes together. The scan is unchanged then, and
