@@ -66,13 +66,9 @@ has-empty l = rw (has-bit 0 l, bit_at-zero (index_of l))
 unfoldable pub same : Look → Look → Bool
 same l k = nat_eq (index_of l) (index_of k)
 
-bit_of_pow : (i j : ℕ) → nat_eq (bit_at (2 ^ i) j) 1 ≡ nat_eq i j
-bit_of_pow i j =
-    grind (arith, nat_tests, bit_at-pow_same, bit_at-pow_other)
-
 has_single : (l k : Look) → has (bit_of l) k ≡ same l k
 unfolding same
-has_single l k = rw (has-bit (bit_of l) k, (numbered l).0) (bit_of_pow (index_of l) (index_of k))
+has_single l k = rw (has-bit (bit_of l) k, (numbered l).0) (grind (arith, nat_tests, bit_at-pow_same, bit_at-pow_other))
 
 pub has-insert : (s : ℕ) (l k : Look) → has (insert s l) k ≡ (has s k || same l k)
 unfolding insert

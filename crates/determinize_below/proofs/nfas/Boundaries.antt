@@ -2,7 +2,7 @@
 -- Main statements: ranges_more, read_at, all_states.
 -- Used by: `mark_ranges`, `boundaries_of`, `are_alike`.
 -- Idea: the first range that contains a byte is among the ranges so far, or it is the next one.
-use Rattle.determinize_below.proofs.Common.{arith, [], ap, Bool, by_cases, cases_lt, Fail, get_or, length, List, Nfa, Node, None, Option, refl, slice_get, Some, state_at, sym, take, target_of, Transition, ℕ, ◌++◌, ◌+◌, ◌<◌, ◌∙◌, ◌∷◌, ◌≡◌, ap₂, cond, option_or, take_more, get_or_from_slice_get, MarksChanges, matches, sparse_target}
+use Rattle.determinize_below.proofs.Common.{arith, [], Bool, by_cases, cases_lt, Fail, get_or, length, List, Nfa, Node, None, refl, slice_get, Some, state_at, take, target_of, Transition, ℕ, ◌++◌, ◌+◌, ◌<◌, ◌∷◌, ◌≡◌, cond, option_or, take_more, get_or_from_slice_get, MarksChanges, matches, sparse_target}
 use Rattle.determinize_below.proofs.nfas.Edges.{state_past}
 
 -- the target of some ranges and one more
@@ -18,15 +18,13 @@ pub ranges_more : (ts : List Transition) (i : ℕ) (t : Transition) (old mid new
     → MarksChanges (sparse_target (take (i + 1) ts)) old new
 ranges_more ts i t old mid new within is first next = record {
   was = λ b h. first.was b (next.was b h);
-  same = λ b low h. at b ∙ ap₂ (λ (o : Option ℕ) (p : Bool). option_or o (cond p (Some t.next) None))
-      (first.same b low (next.was (b + 1) h)) (next.same b low h) ∙ sym (at (b + 1));
+  same = λ b low h.
+      cc (at b, at (b + 1), first.same b low (next.was (b + 1) h), next.same b low h);
 }
   where
     at : (b : ℕ) → sparse_target (take (i + 1) ts) b
         ≡ option_or (sparse_target (take i ts) b) (cond (matches t b) (Some t.next) None)
-    at b = ap (λ (xs : List Transition). sparse_target xs b)
-        (take_more ts i t within ∙ ap (λ (x : Transition). take i ts ++ x ∷ []) (sym is))
-        ∙ sparse_target-push (take i ts) t b
+    at b = grind (arith, take_more ts i t within, is, sparse_target-push (take i ts) t b)
 
 -- a state that was read, in the NFA
 pub read_at : (nfa : Nfa) (i j : ℕ) (n : Node) (b c : ℕ) → j ≡ i → slice_get nfa.states j ≡ Some n

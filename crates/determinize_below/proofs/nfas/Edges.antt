@@ -2,7 +2,7 @@
 -- Main statements: edges-agree, edges-more, edges-capture, edges-or-target.
 -- Used by: SoundNfa, and the steps of a walk.
 -- Idea: by the kinds of states; only a `Look` state depends on the set.
-use Rattle.determinize_below.proofs.Common.{[], ap, arith, Bool, edges, Fail, false, fun_ext, IsTested, length, List, member, nat_eq, Nfa, None, Option, option_to_list, pattern_of, Some, state_at, target, true, ℕ, ◌<◌, ◌∷◌, ◌≡◌, ◌≤◌, ◌⊎◌, is_capture, patterns_of, is_match, assertion_of, get_or_past, Assertion}
+use Rattle.determinize_below.proofs.Common.{[], ap, arith, Bool, edges, Fail, false, fun_ext, IsTested, length, List, member, nat_eq, Nfa, None, Option, option_to_list, pattern_of, Some, state_at, target, true, ℕ, ◌∷◌, ◌≡◌, ◌≤◌, ◌⊎◌, is_capture, patterns_of, is_match, assertion_of, get_or_past, Assertion}
 use Rattle.determinize_below.specs.Captures.{capture_next}
 use Rattle.ordered_reach.specs.Runs.{without}
 use Rattle.ordered_reach.proofs.lists.Pieces.{flat_map-without}
@@ -68,7 +68,3 @@ edges-or-target nfa holds u s = grind arith
 -- an id out of range
 pub state_past : (nfa : Nfa) (s : ℕ) → length nfa.states ≤ s → state_at nfa s ≡ Fail
 state_past nfa s l = get_or_past nfa.states s Fail l
-
-pub edges_within : (nfa : Nfa) (holds : Assertion → Bool) (s t : ℕ) → member nat_eq (edges nfa holds s) t ≡ true
-    → s < length nfa.states
-edges_within nfa holds s t m = grind (arith, state_past)

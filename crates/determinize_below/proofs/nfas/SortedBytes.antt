@@ -14,10 +14,7 @@ set_more P xs n k within h here = below_more (λ b. P b (get_or (set xs n k) b 0
 
 module _ (nfa : Nfa) where
   alike-self : (b : ℕ) → AreAlike nfa b b
-  alike-self b = record {
-    targets = λ s. refl;
-    tests = record { line = λ h. refl; carriage = λ h. refl; feed = λ h. refl; word = λ h. refl };
-  }
+  alike-self b = record { targets = λ s. refl; tests = grind arith }
 
   alike-swap : (b c : ℕ) → AreAlike nfa b c → AreAlike nfa c b
   alike-swap b c e = record { targets = λ s. sym (e.targets s); tests = grind (arith, e.tests) }

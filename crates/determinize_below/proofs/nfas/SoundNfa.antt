@@ -2,10 +2,10 @@
 -- Main statements: IsSound, accepted_sound, edges_enough, reach_within.
 -- Used by: nearly all proofs about closures and steps.
 -- Idea: each edge goes to a state, a pattern has one `Match`, and fuel one above the number of states is enough.
-use Rattle.determinize_below.proofs.Common.{[], ap, arith, Bool, by_cases, cases_lt, Dense, edges, edges_of, eq-eqb, Fail, false, false≢true, fun_ext, get_or, is_match_of, IsAccepted, length, List, list_any_at, Match, member, nat_eq, Nfa, Node, None, Option, option_to_list, or_left, pattern_in, pattern_of, refl, slice_get, Some, Sparse, state_at, state_failure, states_failure, subst, suc, sym, take, target, target_of, Transition, true, zero, ℕ, ◌++◌, ◌+◌, ◌<◌, ◌∙◌, ◌∷◌, ◌≡◌, ◌≤◌, or-false, append_assoc, nat_lt, flat_map, list_all, true≢false, cases_order, and_parts, ltb-true, lt-ltb, append-nil, get_or-take, slice_get-get_or, resolves, is_repeated, is_sparse_sound, is_dense_sound, ends, none_held, ordered, by_option, length-take, find, option_map, Assertion}
+use Rattle.determinize_below.proofs.Common.{nat_tests, [], ap, arith, Bool, by_cases, cases_lt, Dense, edges, edges_of, Fail, false, false≢true, fun_ext, get_or, is_match_of, IsAccepted, length, List, list_any_at, Match, member, nat_eq, Nfa, Node, None, Option, option_to_list, or_left, pattern_in, pattern_of, refl, slice_get, Some, Sparse, state_at, state_failure, states_failure, subst, suc, take, target, target_of, Transition, true, zero, ℕ, ◌++◌, ◌+◌, ◌<◌, ◌∙◌, ◌∷◌, ◌≡◌, ◌≤◌, or-false, append_assoc, nat_lt, flat_map, list_all, cases_order, and_parts, ltb-true, lt-ltb, append-nil, get_or-take, slice_get-get_or, resolves, is_repeated, is_sparse_sound, is_dense_sound, ends, none_held, ordered, by_option, length-take, find, option_map, Assertion}
 use Rattle.determinize_below.specs.Edges.{reach, reach_past}
 use Rattle.determinize_below.specs.Transition as transitions
-use Rattle.determinize_below.proofs.nfas.Edges.{state_past, edges_within, target-end}
+use Rattle.determinize_below.proofs.nfas.Edges.{state_past}
 use Rattle.ordered_reach.proofs.graph.ClosedSets.{IsEnough, ends_within}
 use Rattle.ordered_reach.proofs.graph.FiniteGraphs.{IsEnough-below, fresh_below, length-fresh_below, same_decides}
 use Rattle.ordered_reach.proofs.graph.StackSearch.{ordered-append}
@@ -66,11 +66,11 @@ dense_resolves count (id ∷ ids) zero a = grind arith
 dense_resolves count (id ∷ ids) (suc byte) a = dense_resolves count ids byte (and_parts _ _ a).1
 
 -- the target of a state whose ids are in range
-targets_resolve : (count : ℕ) (byte : ℕ) (s : Node) → resolves count s ≡ true
-    → list_all (λ t. nat_lt t count) (option_to_list (target_of (Some byte) s)) ≡ true
-targets_resolve count byte (Sparse ts) r = sparse_resolves count (λ x. transitions.matches x byte) ts r
-targets_resolve count byte (Dense ids) r = dense_resolves count ids byte r
-targets_resolve count byte s r = grind arith
+targets_resolve : (count : ℕ) (u : Option ℕ) (s : Node) → resolves count s ≡ true
+    → list_all (λ t. nat_lt t count) (option_to_list (target_of u s)) ≡ true
+targets_resolve count (Some byte) (Sparse ts) r = sparse_resolves count (λ x. transitions.matches x byte) ts r
+targets_resolve count (Some byte) (Dense ids) r = dense_resolves count ids byte r
+targets_resolve count u s r = grind arith
 
 pub match_in : (s : Node) (p : ℕ) → pattern_in s ≡ Some p → s ≡ Match p
 match_in s p e = grind arith
@@ -83,8 +83,14 @@ module _ (nfa : Nfa) (a : IsAccepted nfa) where
       let none : states_failure (length nfa.states) [] 0 nfa.states ≡ None = grind (arith, a.passes) in
       all_pass (length nfa.states) [] 0 nfa.states none
 
-  state_resolves : (s : ℕ) → s < length nfa.states → resolves (length nfa.states) (state_at nfa s) ≡ true
-  state_resolves s l = (each_passes s (state_at nfa s) (slice_get-get_or nfa.states s Fail l)).resolves
+  state_resolves : (s : ℕ) → resolves (length nfa.states) (state_at nfa s) ≡ true
+  state_resolves s = by_cases (cases_lt s (length nfa.states))
+      (λ l. (each_passes s (state_at nfa s) (slice_get-get_or nfa.states s Fail l)).resolves)
+      (λ l. rw (state_past nfa s l) refl)
+
+  below_count : (xs : List ℕ) (t : ℕ) → list_all (λ y. nat_lt y (length nfa.states)) xs ≡ true
+      → member nat_eq xs t ≡ true → t < length nfa.states
+  below_count xs t all m = ltb-true t _ (list_all_member (λ y. nat_lt y (length nfa.states)) xs t all m)
 
   match_within : (i p : ℕ) → pattern_of nfa i ≡ Some p → (i < length nfa.states) × (get_or nfa.states i Fail ≡ Match p)
   match_within i p e = grind (arith, state_past)
@@ -94,27 +100,27 @@ module _ (nfa : Nfa) (a : IsAccepted nfa) where
       let u = match_within i p x in
       let v = match_within j p y in
       let w = each_passes j (Match p) (slice_get-get_or nfa.states j Fail v.0 ∙ ap Some v.1) in
-      let z : get_or (take j nfa.states) i Fail ≡ Match p = get_or-take j nfa.states i Fail l ∙ u.1 in
-      let k : i < length (take j nfa.states) = omega (arith, length-take j nfa.states, u.0) in
-      true≢false (sym (list_any_at (is_match_of p) (take j nfa.states) i Fail k
-      (ap (is_match_of p) z ∙ eq-eqb p p refl)) ∙ w.first_match)
+      grind (
+        arith,
+        nat_tests,
+        w.first_match,
+        u,
+        get_or-take j nfa.states i Fail l,
+        length-take j nfa.states,
+        list_any_at (is_match_of p) (take j nfa.states) i Fail,
+      )
 
   -- a valid NFA is sound
   pub accepted_sound : IsSound nfa
   accepted_sound = record {
-    resolves = λ holds s t m. ltb-true t (length nfa.states) (list_all_member (λ y. nat_lt y (length nfa.states)) _ t
-        (edges_resolve _ holds (state_at nfa s) (state_resolves s (edges_within nfa holds s t m))) m);
+    resolves = λ holds s t. below_count _ t (edges_resolve _ holds (state_at nfa s) (state_resolves s));
     one_match = λ i j p x y. by_cases (cases_order i j) (λ e. e)
         (λ h. by_cases h (λ l. absurd (not_earlier i j p l x y)) (λ l. absurd (not_earlier j i p l y x)));
   }
 
   -- the target of a state on a unit is a state
   pub target_within : (u : Option ℕ) (s t : ℕ) → member nat_eq (target nfa u s) t ≡ true → t < length nfa.states
-  target_within None s t m = absurd (false≢true (rw (target-end nfa s) at m))
-  target_within (Some byte) s t m = by_cases (cases_lt s (length nfa.states))
-      (λ l. ltb-true t (length nfa.states) (list_all_member (λ y. nat_lt y (length nfa.states)) _ t
-      (targets_resolve (length nfa.states) byte (state_at nfa s) (state_resolves s l)) m))
-      (λ l. absurd (false≢true (rw (state_past nfa s l) at m)))
+  target_within u s t = below_count _ t (targets_resolve _ u (state_at nfa s) (state_resolves s))
 
 module _ (nfa : Nfa) (sound : IsSound nfa) (holds : Assertion → Bool) where
   -- fuel one above the number of states is enough for a search
