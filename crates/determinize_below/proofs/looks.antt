@@ -1,5 +1,4 @@
 pub mod CommonLooks
-pub mod EveryUnit
 pub mod LookBehindTable
 pub mod LookBounds
 pub mod LookSets

@@ -1,5 +1,4 @@
 pub mod Boundaries
-pub mod ClosureLaws
 pub mod Edges
 pub mod SortedBytes
 pub mod SortedRanges

@@ -1,90 +1,74 @@
 -- The assertions that hold after a byte for every next unit, as a table.
--- Main statements: known_is, known-holds, known-every.
+-- Main statements: known_is, known-holds, Decides-all_units.
 -- Used by: `known_law`, StartKinds, StepTables.
--- Idea: each assertion has a unit that decides it, or depends on no unit.
-use Rattle.determinize_below.proofs.Common.{and_right, arith, beq, Bool, by_test, Decides, End, EndCRLF, EndLF, eq-eqb, false, holds, is_word, IsUnit, lit<, Look, nat_eq, None, not, Option, or_left, refl, Some, Start, StartCRLF, StartLF, sym, true, WordStartHalfAscii, WordStartHalfUnicode, ℕ, ◌&&◌, ◌<◌, ◌∙◌, ◌≡◌, all_units, behind_test, is_known, crlf_first, crlf_second, is, is_none, ◌||◌}
+-- Idea: each assertion outside the table is refuted by one of six units, for any byte.
+use Rattle.determinize_below.proofs.Common.{◌<◌, ◌||◌, ◌≡◌, ◌∙◌, and_from, and_parts, arith, behind_test, Bool, by_cases, by_test, cases_lt, crlf_second, Decides, false, false_from_ne_true, holds, is, is_known, is_none, is_word, IsUnit, lit<, Look, None, not, Option, refl, Some, suc, sym, true, zero, ℕ}
 use Rattle.determinize_below.specs.Semantics.{is_word_byte}
-use Rattle.determinize_below.proofs.looks.EveryUnit.{all_units_at, all_units_from, all_units_fails, all_units_constant}
+use Rattle.determinize_below.specs.Truth.{all_below, all_units}
 
--- the unit of a word byte
-abbrev letter : Option ℕ
-letter = Some 97
+Decides-all_below : (n : ℕ) (test : ℕ → Bool) → Decides (all_below n test) ((b : ℕ) → b < n → test b ≡ true)
+unfolding all_below
+Decides-all_below zero test = (λ e b l. absurd (omega arith), λ h. refl)
+Decides-all_below (suc n) test = (
+  λ e b l. by_cases (cases_lt b n)
+      ((Decides-all_below n test).0 (and_parts _ _ e).1 b)
+      (λ k. let last : b ≡ n = omega arith in rw last (and_parts _ _ e).0),
+  λ h. and_from _ _ (h n (omega arith)) ((Decides-all_below n test).1 (λ b l. h b (omega arith))),
+)
 
-letter_unit : IsUnit letter
-letter_unit = lit< tt
+-- the test of all units
+pub Decides-all_units : (test : Option ℕ → Bool)
+    → Decides (all_units test) ((q : Option ℕ) → IsUnit q → test q ≡ true)
+unfolding all_units
+Decides-all_units test = (
+  λ e q. elim q as (λ q. IsUnit q → test q ≡ true) [
+    | None ↦ λ k. (and_parts _ _ e).0
+    | Some b ↦ (Decides-all_below 256 (λ b. test (Some b))).0 (and_parts _ _ e).1 b
+  ],
+  λ h. and_from _ _ (h None tt) ((Decides-all_below 256 (λ b. test (Some b))).1 (λ b. h (Some b))),
+)
 
-letter_word : is_word letter ≡ true
+-- whether the assertion is in the table
+abbrev in_table : Bool → ℕ → Option ℕ → Look → Bool
+in_table reverse t p l =
+    behind_test (is_none p) (is_none p || is p t) (is_none p || is p (crlf_second reverse)) (not (is_word p)) l
+
+-- an assertion in the table holds for every next unit
+table-holds : (reverse : Bool) (t : ℕ) (p q : Option ℕ) (l : Look) → in_table reverse t p l ≡ true
+    → holds reverse t p q l ≡ true
+table-holds reverse t p q l h = grind arith
+
+letter : is_word_byte 97 ≡ true
 unfolding is_word_byte
-letter_word = refl
+letter = refl
 
-crlf_unit : (reverse : Bool) → IsUnit (Some (crlf_second reverse))
-crlf_unit true = lit< tt
-crlf_unit false = lit< tt
-
-end_lf : (t : ℕ) → all_units (λ q. is_none q || is q t) ≡ false
-end_lf t = by_test (nat_eq 0 t)
-    (λ e. all_units_fails (λ q. is_none q || is q t) (Some 1) (lit< tt) (grind arith))
-    (λ e. all_units_fails (λ q. is_none q || is q t) (Some 0) (lit< tt) e)
-
-end_crlf : (reverse first : Bool)
-    → all_units (λ q. is_none q || is q (crlf_first reverse) || (is q (crlf_second reverse) && not first)) ≡ false
-end_crlf true first = all_units_fails (λ q. is_none q || is q 10 || (is q 13 && not first)) (Some 0) (lit< tt) refl
-end_crlf false first = all_units_fails (λ q. is_none q || is q 13 || (is q 10 && not first)) (Some 0) (lit< tt) refl
-
-start_crlf : (c first : Bool) (n : ℕ) → n < 256 → all_units (λ q. c || (first && not (is q n))) ≡ c
-start_crlf true first n h = all_units_constant true
-start_crlf false first n h =
-    all_units_fails (λ q. first && not (is q n)) (Some n) h (rw (eq-eqb n n refl) (and_right first false refl))
-
-word : (a : Bool) → all_units (λ q. not (beq a (is_word q))) ≡ false
-word true = all_units_fails (λ q. not (beq true (is_word q))) letter letter_unit (rw letter_word)
-word false = all_units_fails (λ q. not (beq false (is_word q))) None tt refl
-
-word_negate : (a : Bool) → all_units (λ q. beq a (is_word q)) ≡ false
-word_negate true = all_units_fails (λ q. beq true (is_word q)) None tt refl
-word_negate false = all_units_fails (λ q. beq false (is_word q)) letter letter_unit (rw letter_word)
-
-word_start : (a : Bool) → all_units (λ q. not a && is_word q) ≡ false
-word_start a = all_units_fails (λ q. not a && is_word q) None tt (grind arith)
-
-word_end : (a : Bool) → all_units (λ q. a && not (is_word q)) ≡ false
-word_end a = all_units_fails (λ q. a && not (is_word q)) letter letter_unit (rw letter_word (grind arith))
-
-word_end_half : all_units (λ q. not (is_word q)) ≡ false
-word_end_half = all_units_fails (λ q. not (is_word q)) letter letter_unit (rw letter_word)
-
-ruleset word_tests = (word, word_negate, word_start, word_end, word_end_half, all_units_constant)
+-- any other fails for EOI, the numbers 0 and 1, the bytes of a CRLF, or a word byte
+table-fails : (reverse : Bool) (t : ℕ) (p : Option ℕ) (l : Look) → in_table reverse t p l ≡ false
+    → ((q : Option ℕ) → IsUnit q → holds reverse t p q l ≡ true) → ⊥
+table-fails reverse t p l h all =
+    grind (
+      arith,
+      letter,
+      all None tt,
+      all (Some 0) (lit< tt),
+      all (Some 1) (lit< tt),
+      all (Some 10) (lit< tt),
+      all (Some 13) (lit< tt),
+      all (Some 97) (lit< tt),
+    )
 
 -- the look-behind satisfies Start, StartLF, StartCRLF or a half word start if the byte before does,
 -- and no other assertion
 pub known_is : (reverse : Bool) (t : ℕ) (p : Option ℕ) (l : Look)
     → is_known reverse t p l ≡ behind_test (is_none p) (is_none p || is p t) (is_none p || is p (crlf_second reverse))
     (not (is_word p)) l
-known_is reverse t p Start = all_units_constant (is_none p)
-known_is reverse t p End = all_units_fails is_none (Some 0) (lit< tt) refl
-known_is reverse t p StartLF = all_units_constant (is_none p || is p t)
-known_is reverse t p EndLF = end_lf t
-known_is reverse t p StartCRLF =
-    start_crlf (is_none p || is p (crlf_second reverse)) (is p (crlf_first reverse)) _ (crlf_unit reverse)
-known_is reverse t p EndCRLF = end_crlf reverse (is p (crlf_first reverse))
-known_is reverse t p s = search word_tests
+known_is reverse t p l =
+    let known = Decides-all_units (λ q. holds reverse t p q l) in
+    by_test (in_table reverse t p l)
+    (λ e. known.1 (λ q k. table-holds reverse t p q l e) ∙ sym e)
+    (λ e. false_from_ne_true _ (λ k. table-fails reverse t p l e (known.0 k)) ∙ sym e)
 
 -- an assertion satisfied by the look-behind holds for every next unit
 pub known-holds : (reverse : Bool) (t : ℕ) (p q : Option ℕ) (l : Look) → is_known reverse t p l ≡ true
     → holds reverse t p q l ≡ true
-known-holds reverse t p q l h = from_table reverse t p q l (sym (known_is reverse t p l) ∙ h)
-  where
-    from_table : (reverse : Bool) (t : ℕ) (p q : Option ℕ) (l : Look)
-        → behind_test (is_none p) (is_none p || is p t) (is_none p || is p (crlf_second reverse)) (not (is_word p)) l
-        ≡ true → holds reverse t p q l ≡ true
-    from_table reverse t p q Start h = h
-    from_table reverse t p q StartLF h = h
-    from_table reverse t p q StartCRLF h = or_left _ _ h
-    from_table reverse t p q WordStartHalfAscii h = h
-    from_table reverse t p q WordStartHalfUnicode h = h
-    from_table reverse t p q l h = cc
-
--- the assertions satisfied by the look-behind are those that hold for every next unit
-pub known-every : (reverse : Bool) (t : ℕ) (p : Option ℕ) (l : Look)
-    → Decides (is_known reverse t p l) ((q : Option ℕ) → IsUnit q → holds reverse t p q l ≡ true)
-known-every reverse t p l = (all_units_at (λ q. holds reverse t p q l), all_units_from (λ q. holds reverse t p q l))
+known-holds reverse t p q l h = table-holds reverse t p q l (sym (known_is reverse t p l) ∙ h)

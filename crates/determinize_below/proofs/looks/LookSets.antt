@@ -2,7 +2,7 @@
 -- Main statements: has-union, has-insert, same_sets, Decides-empty.
 -- Used by: all that computes with sets of assertions.
 -- Idea: a set is the bits of its members, and the bits of two assertions are distinct.
-use Rattle.determinize_below.proofs.Common.{ap, arith, bit_and, bit_at, bit_at-zero, bit_of, bit_or, Bool, Decides, each_look, End, EndCRLF, EndLF, eqb-true, false, get_or, inl, inr, list_any, list_any_at, lit<, Look, nat_eq, not, refl, Start, StartCRLF, StartLF, sym, true, WordAscii, WordAsciiNegate, WordEndAscii, WordEndHalfAscii, WordEndHalfUnicode, WordEndUnicode, WordStartAscii, WordStartHalfAscii, WordStartHalfUnicode, WordStartUnicode, WordUnicode, WordUnicodeNegate, ℕ, ◌&&◌, ◌<◌, ◌^◌, ◌∙◌, ◌≡◌, bit_not, w32, or-false, and-true, pow_pos, bit_at_or, bit_at_and, bit_at_not, bit_at-lt, and_pow, bit_at-pow_same, bit_at-pow_other, same_from_bits_below, eqb_tells, or_right, false_from_ne_true, agree_below_at, subst, eq-eqb, ◌||◌}
+use Rattle.determinize_below.proofs.Common.{ap, arith, bit_and, bit_at, bit_at-zero, bit_of, bit_or, Bool, Decides, each_look, End, EndCRLF, EndLF, eqb-true, false, get_or, list_any, list_any_at, lit<, Look, nat_eq, nat_tests, not, refl, Start, StartCRLF, StartLF, sym, true, WordAscii, WordAsciiNegate, WordEndAscii, WordEndHalfAscii, WordEndHalfUnicode, WordEndUnicode, WordStartAscii, WordStartHalfAscii, WordStartHalfUnicode, WordStartUnicode, WordUnicode, WordUnicodeNegate, ℕ, ◌&&◌, ◌<◌, ◌^◌, ◌∙◌, ◌≡◌, w32, pow_pos, bit_at_or, bit_at_and, bit_at_not, bit_at-lt, and_pow, bit_at-pow_same, bit_at-pow_other, same_from_bits_below, false_from_ne_true, agree_below_at, subst, eq-eqb, ◌||◌}
 use Rattle.determinize_below.proofs.looks.LookBounds.{bit_small}
 use Rattle.determinize_below.specs.Look.{has, insert, remove, subtract}
 
@@ -48,22 +48,16 @@ has-bit s l =
     rw ((numbered l).0, and_pow s (index_of l)) (grind (arith, bit_at-lt s (index_of l), pow_pos (index_of l)))
 
 pub has-union : (a b : ℕ) (l : Look) → has (bit_or a b) l ≡ (has a l || has b l)
-has-union a b l =
-    rw (has-bit (bit_or a b) l, has-bit a l, has-bit b l, bit_at_or a b (index_of l))
-    (grind (arith, bit_at-lt a (index_of l), bit_at-lt b (index_of l)))
+has-union a b l = grind (arith, has-bit, bit_at_or, bit_at-lt)
 
 pub has-intersect : (a b : ℕ) (l : Look) → has (bit_and a b) l ≡ (has a l && has b l)
-has-intersect a b l =
-    rw (has-bit (bit_and a b) l, has-bit a l, has-bit b l, bit_at_and a b (index_of l))
-    (grind (arith, bit_at-lt a (index_of l), bit_at-lt b (index_of l)))
+has-intersect a b l = grind (arith, has-bit, bit_at_and, bit_at-lt)
 
 pub has-subtract : (a b : ℕ) (l : Look) → b < 2 ^ 32 → has (subtract a b) l ≡ (has a l && not (has b l))
 unfolding subtract
 has-subtract a b l h =
     let k : index_of l < 18 = (numbered l).1 in
-    let n = bit_at_not w32 b (index_of l) h (omega arith) in
-    rw (has-intersect a (bit_not w32 b) l, has-bit (bit_not w32 b) l, has-bit b l, n)
-    (grind (arith, bit_at-lt b (index_of l)))
+    let n = bit_at_not w32 b (index_of l) h (omega arith) in grind (arith, has-intersect, has-bit, bit_at-lt)
 
 pub has-empty : (l : Look) → has 0 l ≡ false
 has-empty l = rw (has-bit 0 l, bit_at-zero (index_of l))
@@ -72,16 +66,9 @@ has-empty l = rw (has-bit 0 l, bit_at-zero (index_of l))
 unfoldable pub same : Look → Look → Bool
 same l k = nat_eq (index_of l) (index_of k)
 
-bit_of_pow : (i j : ℕ) → nat_eq (bit_at (2 ^ i) j) 1 ≡ nat_eq i j
-bit_of_pow i j =
-    elim (eqb_tells j i) [
-      | inl h ↦ rw (h.1, bit_at-pow_same i) (sym (eq-eqb i i refl))
-      | inr h ↦ rw (bit_at-pow_other i j h.1) (sym (grind (arith, h.1)))
-    ]
-
 has_single : (l k : Look) → has (bit_of l) k ≡ same l k
 unfolding same
-has_single l k = rw (has-bit (bit_of l) k, (numbered l).0) (bit_of_pow (index_of l) (index_of k))
+has_single l k = rw (has-bit (bit_of l) k, (numbered l).0) (grind (arith, nat_tests, bit_at-pow_same, bit_at-pow_other))
 
 pub has-insert : (s : ℕ) (l k : Look) → has (insert s l) k ≡ (has s k || same l k)
 unfolding insert
@@ -101,20 +88,11 @@ Decides-same l k = (
   λ e. eq-eqb _ _ (ap index_of e),
 )
 
-same_other : (l k : Look) → ¬ (k ≡ l) → same l k ≡ false
+pub same_other : (l k : Look) → ¬ (k ≡ l) → same l k ≡ false
 same_other l k n = false_from_ne_true _ (λ h. n (sym ((Decides-same l k).0 h)))
 
-pub has-insert_own : (s : ℕ) (l : Look) → has (insert s l) l ≡ true
-has-insert_own s l = has-insert s l l ∙ or_right (has s l) (same l l) ((Decides-same l l).1 refl)
-
-pub has-insert_others : (s : ℕ) (l k : Look) → ¬ (k ≡ l) → has (insert s l) k ≡ has s k
-has-insert_others s l k n = has-insert s l k ∙ ap (λ b. has s k || b) (same_other l k n) ∙ or-false (has s k)
-
-pub has-remove_own : (s : ℕ) (l : Look) → has (remove s l) l ≡ false
-has-remove_own s l = grind (arith, has-remove s l l, (Decides-same l l).1 refl)
-
-pub has-remove_others : (s : ℕ) (l k : Look) → ¬ (k ≡ l) → has (remove s l) k ≡ has s k
-has-remove_others s l k n = has-remove s l k ∙ ap (λ b. has s k && not b) (same_other l k n) ∙ and-true (has s k)
+-- what each method of a set does to the members
+pub ruleset members = (has-insert, has-remove, has-union, has-intersect, has-subtract, Decides-same, same_other)
 
 -- one assertion that passes the test
 pub each_look-any : (test : Look → Bool) (l : Look) → test l ≡ true → list_any test each_look ≡ true
@@ -124,8 +102,7 @@ each_look-any test l h = list_any_at test each_look (index_of l) Start (numbered
 pub same_sets : (a b : ℕ) → a < 2 ^ 18 → b < 2 ^ 18 → ((l : Look) → has a l ≡ has b l) → a ≡ b
 same_sets a b h k same_members =
     same_from_bits_below 18 a b h k
-    (at_indices (λ i. bit_at a i ≡ bit_at b i)
-    (λ l. grind (arith, bit_at-lt a (index_of l), bit_at-lt b (index_of l), has-bit a l, has-bit b l, same_members l)))
+    (at_indices (λ i. bit_at a i ≡ bit_at b i) (λ l. grind (arith, bit_at-lt, has-bit, same_members l)))
 
 -- a set is empty if and only if it has no member
 pub Decides-empty : (s : ℕ) → s < 2 ^ 18 → Decides (nat_eq s 0) ((l : Look) → has s l ≡ false)

@@ -2,8 +2,7 @@
 -- Main statements: Decides-looks_of, Decides-look_set_any.
 -- Used by: `look_state_law`, and the truth of look-behind.
 -- Idea: the set is built state by state, and each state adds what it tests.
-use Rattle.determinize_below.proofs.Common.{[], ap, assertion_in, Bool, by_cases, cases_lt, Decides, Fail, false, false≢true, IsAccepted, IsTested, length, List, list_any, looks_of, Nfa, Node, None, Option, Some, state_at, sym, true, with_looks_of, ℕ, ◌||◌, ◌∙◌, ◌∷◌, ◌≡◌, or-false, Any, Decides-at, Decides-like, get_or_default, Any-from_list_any, list_any-from_Any, has, with_look, some_injective, arith, Assertion}
-use Rattle.determinize_below.specs.Semantics.{Look}
+use Rattle.determinize_below.proofs.Common.{◌<◌, [], ap, assertion_in, Bool, Decides, Fail, false, IsAccepted, IsTested, length, List, list_any, looks_of, Nfa, Node, None, Option, Some, state_at, sym, true, with_looks_of, ℕ, ◌||◌, ◌∙◌, ◌∷◌, ◌≡◌, or-false, Any, Decides-at, Decides-like, get_or_default, Any-from_list_any, list_any-from_Any, has, with_look, arith, Assertion}
 use Rattle.determinize_below.proofs.nfas.Edges.{state_past}
 use Rattle.determinize_below.proofs.looks.LookSets.{Decides-same, has-empty, has-insert, same}
 
@@ -13,9 +12,7 @@ is_look None look = false
 is_look (Some other) look = same other look
 
 Decides-is_look : (o : Option Assertion) (look : Assertion) → Decides (is_look o look) (o ≡ Some look)
-Decides-is_look None look = (λ h. absurd (false≢true h), λ e. absurd (let k : Some look ≡ None = sym e in cc))
-Decides-is_look (Some other) look =
-    (λ h. ap Some ((Decides-same other look).0 h), λ e. (Decides-same other look).1 (some_injective other look e))
+Decides-is_look o look = grind (arith, Decides-same)
 
 -- whether some element of a list has the assertion
 pub Decides-list_any_look : {A : Type 0} (f : A → Option Assertion) (xs : List A) (look : Assertion)
@@ -29,8 +26,7 @@ Decides-list_any_look f xs look = (
 -- the set with the assertion of one more state
 has-with_look : (set : ℕ) (s : Node) (look : Assertion)
     → has (with_look set s) look ≡ (has set look || is_look (assertion_in s) look)
-has-with_look set (Look other next) look = has-insert set other look
-has-with_look set s look = sym (or-false (has set look))
+has-with_look set s look = grind (arith, has-insert)
 
 -- the set with the assertions of more states
 has-with_looks_of : (set : ℕ) (xs : List Node) (look : Assertion)
@@ -57,6 +53,5 @@ Decides-look_set_any nfa accepted look =
     there a = (a.0, ap assertion_in (get_or_default nfa.states a.0 Fail a.1 a.2 ∙ a.3) ∙ a.4)
 
     within : IsTested nfa look → Any (λ s. assertion_in s ≡ Some look) nfa.states
-    within t = by_cases (cases_lt t.0 (length nfa.states))
-        (λ l. (t.0, state_at nfa t.0, l, get_or_default nfa.states t.0 (state_at nfa t.0) Fail l, t.1))
-        (λ l. absurd (let k : Some look ≡ None = sym t.1 ∙ ap assertion_in (state_past nfa t.0 l) in cc))
+    within t = let l : t.0 < length nfa.states = grind (arith, t.1, state_past) in
+        (t.0, state_at nfa t.0, l, get_or_default nfa.states t.0 (state_at nfa t.0) Fail l, t.1)

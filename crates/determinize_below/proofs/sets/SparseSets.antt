@@ -2,7 +2,9 @@
 -- Main statements: distinct_push, room_for_one, cleared_all, the rulesets emptying and pushing.
 -- Used by: the calls of `SparseSet`.
 -- Idea: a bit is set exactly if its id is in the list.
-use Rattle.determinize_below.proofs.Common.{[], arith, by_cases, cases_lt, false, false≢true, get_or, has_bit, inl, inr, IsCleared, length, List, list_any-append, nat_eq, replicate, set, subst, sym, take, true, ℕ, ◌*◌, ◌++◌, ◌+◌, ◌/◌, ◌<◌, ◌||◌, ◌∙◌, ◌∷◌, ◌≡◌, ◌≤◌, ◌⊎◌, cases_eq, eqb-true, All, length-append, ne_eqb, refl, get_or-append, get_or-append_seam, list_any_more, has_id, IsSparse, eq-eqb}
+use Rattle.determinize_below.proofs.Common.{nat_tests, [], arith, false, get_or, has_bit, IsCleared, length, List, list_any-append, nat_eq, replicate, set, sym, take, true, ℕ, ◌*◌, ◌++◌, ◌+◌, ◌/◌, ◌<◌, ◌||◌, ◌∙◌, ◌∷◌, ◌≡◌, ◌⊎◌, eqb-true, length-append, list_any_more, has_id, IsSparse}
+use Rattle.std.proofs.lemmas.Grind.{common_steps}
+use Rattle.std.proofs.lemmas.List.Elements.{All-push}
 use Rattle.std.specs.Cmp.{nat_eq_equiv}
 use Rattle.std.specs.List.{IsDistinct}
 pub use Rattle.std.proofs.lemmas.List.{length-replicate}
@@ -27,51 +29,32 @@ holds-push ids id other = grind (arith, list_any-append (nat_eq other) ids (id �
 
 pub holds-again : (ids : List ℕ) (id other : ℕ) → has_id ids id ≡ true
     → (nat_eq other id || has_id ids other) ≡ has_id ids other
-holds-again ids id other h =
-    by_cases (cases_eq other id)
-    (λ e. rw (e, eq-eqb id id refl, h) refl)
-    (λ ne. rw (ne_eqb other id ne) refl)
+holds-again ids id other h = grind (arith, nat_tests)
 
 pub get_or-push : (ids : List ℕ) (id k d : ℕ) → k < length (ids ++ id ∷ [])
     → (get_or (ids ++ id ∷ []) k d ≡ id) ⊎ ((k < length ids) × (get_or (ids ++ id ∷ []) k d ≡ get_or ids k d))
-get_or-push ids id k d h =
-    by_cases (cases_lt k (length ids))
-    (λ l. inr (l, get_or-append ids (id ∷ []) d k l))
-    (λ g. let last : k ≡ length ids =
-    omega (arith, length-append ids (id ∷ [])) in inl (rw last (get_or-append_seam ids id [] d)))
+get_or-push ids id k d h = grind (arith, common_steps)
 
--- distinct ids below the capacity are at most the capacity
-length_at_most : (ids : List ℕ) (capacity : ℕ) → IsDistinct nat_eq ids → All (λ i. i < capacity) ids
-    → length ids ≤ capacity
-length_at_most ids capacity d below =
-    length-le_from_distinct_below ids capacity d
-    (λ q h. let at = Contains-from_any {eq = nat_eq} eqb-true q ids h in subst (λ n. n < capacity) at.2
-    (below at.0 q at.1))
-
--- so there is room for an id whose bit is not set
+-- there is room for an id whose bit is not set
 pub room_for_one : (ids words : List ℕ) (id capacity room : ℕ) → IsSparse ids words capacity room → id < capacity
     → has_bit words id ≡ false → length ids < room
 room_for_one ids words id capacity room sparse small unset =
     let new : has_id ids id ≡ false = sym (sparse.marked id small) ∙ unset in
-    let below : All (λ i. i < capacity) (ids ++ id ∷ []) = grind (arith, get_or-push) in
-    let most = length_at_most (ids ++ id ∷ []) capacity (distinct_push ids id sparse.distinct new) below in
+    let below = All-push (λ i. i < capacity) ids id sparse.below small in
+    let most = length-le_from_distinct_below (ids ++ id ∷ []) capacity (distinct_push ids id sparse.distinct new)
+    (λ q h. let at = Contains-from_any {eq = nat_eq} eqb-true q (ids ++ id ∷ []) h in rw at.2 at (below at.0 q at.1)) in
     omega (arith, sparse.room_for_all, length-append ids (id ∷ []), most)
 
 -- no bit is left
 pub cleared_all : (words ids : List ℕ) (n : ℕ) → IsCleared words (replicate n 0) ids
-cleared_all words ids n = record {
-  was = λ id e. absurd (false≢true (sym (has_bit-zeros n id) ∙ e));
-  none = λ id e. absurd (false≢true (sym (has_bit-zeros n id) ∙ e));
-}
+cleared_all words ids n = grind (arith, has_bit-zeros)
 
 -- clearing the word of one more id
 pub cleared_more : (words fewer ids : List ℕ) (i : ℕ) → i < length ids → get_or ids i 0 < 64 * length fewer
     → IsCleared words fewer (take i ids) → IsCleared words (set fewer (get_or ids i 0 / 64) 0) (take (i + 1) ids)
-cleared_more words fewer ids i h within so_far = record {
-  was = λ id e. so_far.was id (has_bit-empty fewer (get_or ids i 0) id within e).0;
-  none = λ id e. let now = has_bit-empty fewer (get_or ids i 0) id within e in
-      rw (list_any_more (nat_eq id) ids i 0 h) (grind (arith, so_far.none id now.0, now.1));
-}
+cleared_more words fewer ids i h within so_far =
+    let more = λ (id : ℕ). list_any_more (nat_eq id) ids i 0 h in
+    grind (arith, has_bit-empty fewer (get_or ids i 0), more)
 
 -- the rules for the invariant of an empty set, and of a set with a new id
 pub ruleset emptying = (distinct_none, has_bit-zeros, length-replicate, words_back)

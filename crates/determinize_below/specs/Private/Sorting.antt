@@ -1,10 +1,10 @@
 -- The bytes that are sorted into classes so far.
-use Rattle.std.specs.Prelude.{◌≡◌, ℕ, ◌<◌, ◌≤◌, List, length, slice_index}
+use Rattle.std.specs.Prelude.{◌≡◌, ℕ, ◌<◌, ◌≤◌, ◌↔◌, List, length, slice_index}
 use Rattle.determinize_below.specs.ByteClasses.{AreAlike}
 use Rattle.determinize_below.specs.Semantics.{Nfa}
 
--- the bytes below n are sorted into `len` classes: each is alike to the first byte of its class,
--- and no two first bytes are alike
+-- the bytes below n are sorted into `len` classes: two of them have one class exactly if the NFA
+-- does not distinguish them
 pub record AreSorted (nfa : Nfa) (n len : ℕ) (of_bytes firsts : List ℕ) : Type 0 where
   pub few : len ≤ n
   pub count : length of_bytes ≡ 256
@@ -14,6 +14,5 @@ pub record AreSorted (nfa : Nfa) (n len : ℕ) (of_bytes firsts : List ℕ) : Ty
   pub own : (k : ℕ) → k < len → slice_index of_bytes (slice_index firsts k) ≡ k
   pub least : (b : ℕ) → b < n → slice_index firsts (slice_index of_bytes b) ≤ b
   pub ascend : (j k : ℕ) → j < k → k < len → slice_index firsts j < slice_index firsts k
-  pub alike : (b : ℕ) → b < n → AreAlike nfa (slice_index firsts (slice_index of_bytes b)) b
-  pub apart : (j k : ℕ) → j < k → k < len
-      → AreAlike nfa (slice_index firsts j) (slice_index firsts k) → ⊥
+  pub same : (b : ℕ) → b < n → (c : ℕ) → c < n
+      → (slice_index of_bytes b ≡ slice_index of_bytes c) ↔ AreAlike nfa b c

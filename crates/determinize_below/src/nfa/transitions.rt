@@ -78,10 +78,8 @@ impl<A: Allocator> SparseTransitions<A> {
     {
         // Only the first range that does not end before the byte can contain it: the later ones
         // begin above its end.
-        match self.first_reaching(byte) {
-            Some(found) => { if found.0 <= byte { Some(found.1) } else { None } }
-            None => None,
-        }
+        let (start, next) = self.first_reaching(byte)?;
+        (start <= byte).then_some(next)
     }
 
     /// Returns the start and the target of the first transition whose range does not end before the

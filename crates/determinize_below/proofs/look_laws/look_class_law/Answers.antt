@@ -1,10 +1,13 @@
-use Rattle.determinize_below.proofs.looks.CommonLooks.{has-haystack, has-line, has-crlf, has-word}
+use Rattle.determinize_below.proofs.Common.{and-false, and-true, lit<, ◌∙◌}
+use Rattle.determinize_below.specs.Look.{has}
+use Rattle.determinize_below.proofs.looks.CommonLooks.{meets_class}
 use Rattle.determinize_below.proofs.look_laws.look_class_law.Goals as goal
 
 pub returns : goal.returns
+unfolding has
 returns c = record {
-  haystack = has-haystack c.args.set;
-  line = has-line c.args.set;
-  crlf = has-crlf c.args.set;
-  word = has-word c.args.set;
+  haystack = meets_class c.args.set 0x3 (lit< tt) ∙ simp (and-true, and-false);
+  line = meets_class c.args.set 0x3C (lit< tt) ∙ simp (and-true, and-false);
+  crlf = meets_class c.args.set 0x30 (lit< tt) ∙ simp (and-true, and-false);
+  word = meets_class c.args.set 0x3FFC0 (lit< tt) ∙ simp (and-true, and-false);
 }

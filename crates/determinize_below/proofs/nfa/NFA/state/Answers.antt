@@ -3,16 +3,16 @@ use Rattle.determinize_below.proofs.nfas.StateChecks.{slice_get-map_read}
 use Rattle.determinize_below.proofs.nfas.SoundNfa.{each_passes}
 use Rattle.determinize_below.proofs.nfa.NFA.state.Goals as goal
 
-pub returns-clause-ascends : goal.returns-clause-ascends
-returns-clause-ascends g c =
+pub returns : goal.returns
+returns g c =
     let count = ap (λ (n : Nfa). length n.states) c.self.view_is in
     let within : c.as_usize.result < length c.self.inside.states.items =
     omega (arith, c.requires, c.as_usize.ensures.value, count, length-map c.self.inside.states.items node_of) in
-    (each_passes _ c.self.invariant _ _ (slice_get-map_read node_of _ _ _ within c.index.ensures)).ascends
-
-pub returns-clause-whole : goal.returns-clause-whole
-returns-clause-whole g c =
-    let count = ap (λ (n : Nfa). length n.states) c.self.view_is in
-    let within : c.as_usize.result < length c.self.inside.states.items =
-    omega (arith, c.requires, c.as_usize.ensures.value, count, length-map c.self.inside.states.items node_of) in
-    (each_passes _ c.self.invariant _ _ (slice_get-map_read node_of _ _ _ within c.index.ensures)).whole
+    let there = slice_get-map_read node_of _ _ _ within c.index.ensures in
+    let passed = each_passes _ c.self.invariant _ _ there in
+    record {
+      state = cc there;
+      ascends = passed.ascends;
+      whole = passed.whole;
+      accepted = rw c.self.view_is at c.self.invariant;
+    }

@@ -3,8 +3,7 @@ use Rattle.determinize_below.proofs.nfa.checks.check_states.Given as goal
 
 abbrev pub invariant-loop-index : goal.invariant-loop-index
 invariant-loop-index g l = record {
-  same : states_failure (length l.states) [] 0 (map node_of l.states)
-      ≡ states_failure (length l.states) (map node_of (take l.index l.states)) l.index
-      (map node_of (drop l.index l.states));
-  seen : (q : ℕ) → contains nat_eq l.seen q ≡ list_any (is_match_of q) (map node_of (take l.index l.states));
+  same : states_failure (length l.states) [] 0 (map node_of l.states) ≡ states_failure (length l.states)
+      (take l.index (map node_of l.states)) l.index (drop l.index (map node_of l.states));
+  seen : (q : ℕ) → contains nat_eq l.seen q ≡ list_any (is_match_of q) (take l.index (map node_of l.states));
 }
