@@ -2,11 +2,11 @@
 -- Main statements: IsAutomaton, IsTrueWalk, true_walk.
 -- Used by: the theorem about NFAs.
 -- Idea: all of RunLists and CutLists for an automaton over numbers, without assertions or bytes.
-use Rattle.ordered_reach.proofs.Common.{[], ap, arith, Bool, by_test, false, find, IsBeginning, IsPath, known_at, LeadsBelow, List, ListsReached, member, nat_eq, None, none_held, ordered, run_edges, Some, suc, sym, true, without, ℕ, ◌==◌, ◌∙◌, ◌∷◌, ◌≡◌, ◌≤◌}
+use Rattle.ordered_reach.proofs.Common.{[], arith, before, Bool, by_test, false, IsBeginning, IsPath, known_at, LeadsBelow, List, ListsReached, member, nat_eq, None, none_held, ordered, run_edges, Some, suc, sym, true, without, ℕ, ◌==◌, ◌∙◌, ◌∷◌, ◌≡◌, ◌≤◌}
 use Rattle.ordered_reach.proofs.graph.ClosedSets.{IsEnough}
 use Rattle.ordered_reach.proofs.graph.Fuel.{IsEnough-fewer_edges}
 use Rattle.ordered_reach.proofs.runs.ByPosition.{IsEnoughForRuns}
-use Rattle.ordered_reach.proofs.runs.CutLists.{IsRepeatable, known_level, level, known_level_is, last_accepting, last_accepting-agree, level_cut, recorded, recorded_cut, recorded_cut_begins, recorded_cut_is, recorded_is}
+use Rattle.ordered_reach.proofs.runs.CutLists.{IsRepeatable, last_accepting, last_accepting-agree, level, recorded, recorded_cut, recorded_cut_begins, recorded_is, redone_cut, redone_whole}
 use Rattle.ordered_reach.proofs.lists.Pieces.{find-without}
 use Rattle.ordered_reach.proofs.graph.FiniteGraphs.{IsEnough-below, same_decides}
 use Rattle.ordered_reach.proofs.runs.MostPreferred.{IsMostPreferred}
@@ -88,29 +88,26 @@ module _ (states m : ℕ) (known eps bytes : ℕ → ℕ → List ℕ) (cap acc 
       }
 
   last_accepting_same : last_accepting (working_cut states m known eps bytes cap acc start) acc m 0
-      ≡ last_accepting (level_cut nat_eq eps bytes acc (run_fuel (suc states) m) start) acc m 0
+      ≡ last_accepting (level nat_eq eps bytes (before acc) (run_fuel (suc states) m) start) acc m 0
   last_accepting_same =
-      let W : ℕ → List ℕ = working_cut states m known eps bytes cap acc start in
-      let L : ℕ → List ℕ = level_cut nat_eq eps bytes acc (run_fuel (suc states) m) start in
-      last_accepting-agree W L acc
-      (λ k. sym (find-without acc cap (W k) a.cap_acc)
-      ∙ ap (λ l. find acc l) (recorded_cut_is same_decides known eps bytes (run_fuel (suc states) m) start cap next
-      repeatable acc a.cap_acc k)
-      ∙ find-without acc cap (L k) a.cap_acc)
+      let L : ℕ → List ℕ = level nat_eq eps bytes (before acc) (run_fuel (suc states) m) start in
+      last_accepting-agree (working_cut states m known eps bytes cap acc start) L acc
+      (λ k. rw (
+        ← (find-without acc cap (working_cut states m known eps bytes cap acc start k) a.cap_acc),
+        redone_cut same_decides known eps bytes (run_fuel (suc states) m) start cap next repeatable acc a.cap_acc k,
+      )
+      (find-without acc cap (L k) a.cap_acc))
       m 0
 
   pub true_walk : IsTrueWalk states m known eps bytes cap acc start
   true_walk =
       let n : ℕ = run_fuel (suc states) m in
-      let is : (k : ℕ) → (recorded nat_eq known eps bytes cap n start k
-      ≡ without cap (known_level nat_eq known eps bytes n start k))
-      × (without cap (working states m known eps bytes cap start k) ≡ without cap (level nat_eq eps bytes n start k)) =
-      recorded_is same_decides known eps bytes n start cap next repeatable in
       let stop : (x : ℕ) → bytes m x ≡ [] = λ x. a.ends m x (omega arith) in
       record {
-        reached = λ k. rw (is k).1 (level_lists_reached same_decides eps bytes n start runs_enough cap k);
-        recorded_reached = λ k. rw (is k).0 (rw (known_level_is nat_eq known eps bytes n start k)
-            (level_lists_reached same_decides (known_at k known eps) bytes n start (known_runs_enough k) cap k));
+        reached = λ k. rw (redone_whole same_decides known eps bytes n start cap next repeatable k)
+            (level_lists_reached same_decides eps bytes n start runs_enough cap k);
+        recorded_reached = λ k. rw (recorded_is same_decides known eps bytes n start cap next repeatable k)
+            (level_lists_reached same_decides (known_at k known eps) bytes n start (known_runs_enough k) cap k);
         preferred = λ p e.
             last_is_preferred same_decides eps bytes n start runs_enough acc m stop p (sym last_accepting_same ∙ e);
         none = λ e. last_none same_decides eps bytes n start runs_enough acc m stop (sym last_accepting_same ∙ e);

@@ -2,11 +2,11 @@
 -- Main statements: level_lists_reached, last_is_preferred, last_none.
 -- Used by: Automata.
 -- Idea: MostPreferred and LeastPaths over the graph of positions and nodes.
-use Rattle.ordered_reach.proofs.Common.{[], arith, Before, Bool, by_cases, by_test, Decides, eq-eqb, eqb-true, false, IsInOrderOfReach, IsPath, List, ListsReached, None, none_held, ordered, refl, run_edges, slice_get, Some, subst, suc, sym, true, without, zero, ℕ, ◌<◌, ◌==◌, ◌∙◌, ◌∷◌, ◌≡◌}
+use Rattle.ordered_reach.proofs.Common.{[], arith, before, Before, Bool, by_cases, by_test, Decides, eq-eqb, eqb-true, false, IsInOrderOfReach, IsPath, List, ListsReached, None, none_held, ordered, refl, run_edges, slice_get, Some, subst, suc, sym, true, without, zero, ℕ, ◌<◌, ◌==◌, ◌∙◌, ◌∷◌, ◌≡◌}
 use Rattle.ordered_reach.proofs.lists.Elements.{Contains_In, Earlier, Earlier-without, Earlier_head, Earlier_tail, In, In-without, In_Contains, In_cases, In_head, In_none, In_tail, once_by_order, without-In}
 use Rattle.ordered_reach.proofs.runs.ByPosition.{Decides-pair_eq, IsEnoughForRuns, pair_eq, states_at}
 use Rattle.ordered_reach.proofs.graph.LeastPaths.{ordered_in_order}
-use Rattle.ordered_reach.proofs.runs.CutLists.{best_is_last, last_accepting, level, level_cut, level_is}
+use Rattle.ordered_reach.proofs.runs.CutLists.{best_is_last, last_accepting, level, level_is}
 use Rattle.ordered_reach.proofs.runs.MostPreferred.{IsMostPreferred, first_is_preferred, first_none_preferred, least_run_of, run_of}
 use Rattle.ordered_reach.proofs.lists.Lexicographic.{Before-parts}
 
@@ -85,16 +85,16 @@ module _ {N : Type 0} {eq : N → N → Bool} (dec : (a b : N) → Decides (eq a
 
   -- the states of a position, without those of cap, are in the order of their least runs
   pub level_lists_reached : (cap : N → Bool) (k : ℕ)
-      → ListsReached (run_edges eps bytes) cap start k (without cap (level eq eps bytes n start k))
+      → ListsReached (run_edges eps bytes) cap start k (without cap (level eq eps bytes (λ l. l) n start k))
   level_lists_reached cap k =
       let all : List (ℕ × N) = ordered (pair_eq eq) (run_edges eps bytes) n none_held ((0, start) ∷ []) in
-      let e : states_at k all ≡ level eq eps bytes n start k = level_is dec eps eps bytes n start enough k in
+      let e : states_at k all ≡ level eq eps bytes (λ l. l) n start k = level_is dec eps eps bytes n start enough k in
       rw (← e) (lists_reached cap k all
       (ordered_in_order (Decides-pair_eq dec) (run_edges eps bytes) n [] ((0, start) ∷ []) enough))
 
   -- the last accepting state of the cut lists is the end of the most preferred accepting run
   pub last_is_preferred : (acc : N → Bool) (m : ℕ) → ((x : N) → bytes m x ≡ []) → (p : ℕ × N)
-      → last_accepting (level_cut eq eps bytes acc n start) acc m 0 ≡ Some p
+      → last_accepting (level eq eps bytes (before acc) n start) acc m 0 ≡ Some p
       → IsMostPreferred (run_edges eps bytes) (0, start) (λ q. acc q.1) p
   last_is_preferred acc m stop p e =
       first_is_preferred (Decides-pair_eq dec) (run_edges eps bytes) n (0, start) enough (λ q. acc q.1) p
@@ -102,7 +102,7 @@ module _ {N : Type 0} {eq : N → N → Bool} (dec : (a b : N) → Decides (eq a
 
   -- if no cut list accepts, no run does
   pub last_none : (acc : N → Bool) (m : ℕ) → ((x : N) → bytes m x ≡ [])
-      → last_accepting (level_cut eq eps bytes acc n start) acc m 0 ≡ None
+      → last_accepting (level eq eps bytes (before acc) n start) acc m 0 ≡ None
       → (ds : List ℕ) (q : ℕ × N) → IsPath (run_edges eps bytes) [] (0, start) ds q → acc q.1 ≡ false
   last_none acc m stop e ds q h =
       first_none_preferred (Decides-pair_eq dec) (run_edges eps bytes) n (0, start) enough (λ q. acc q.1)
