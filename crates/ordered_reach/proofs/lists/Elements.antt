@@ -50,15 +50,6 @@ In_map_from g z (y ∷ xs) h f = In_cases z (g y) (map g xs) h
     (λ e. f y (In_head y xs) e)
     (λ k. In_map_from g z xs k (λ x l e. f x (In_tail x y xs l) e))
 
--- the elements of `without`
-pub In-without : {A : Type 0} (cap : A → Bool) (xs : List A) (s : A) → In s (without cap xs) → In s xs × (cap s ≡ false)
-In-without cap [] s h = In_none s h
-In-without cap (x ∷ xs) s h = by_test (cap x)
-    (λ e. let r : In s xs × (cap s ≡ false) = In-without cap xs s (rw e at h) in (In_tail s x xs r.0, r.1))
-    (λ e. In_cases s x (without cap xs) (rw e at h)
-    (λ q. rw q (In_head x xs, e))
-    (λ l. let r : In s xs × (cap s ≡ false) = In-without cap xs s l in (In_tail s x xs r.0, r.1)))
-
 pub without-In : {A : Type 0} (cap : A → Bool) (xs : List A) (s : A) → In s xs → cap s ≡ false → In s (without cap xs)
 without-In cap [] s h c = h
 without-In cap (x ∷ xs) s h c = In_cases s x xs h
@@ -80,20 +71,6 @@ Earlier_tail xs x y z h = (suc h.0, suc h.1, omega (arith, h.2), h.3, h.4)
 
 pub Earlier_head : {A : Type 0} (xs : List A) (x y : A) → In y xs → Earlier (x ∷ xs) x y
 Earlier_head xs x y h = (0, suc h.0, omega arith, refl, h.1)
-
-pub Earlier-without : {A : Type 0} (cap : A → Bool) (xs : List A) (i j : ℕ) (s t : A) → i < j
-    → slice_get (without cap xs) i ≡ Some s → slice_get (without cap xs) j ≡ Some t → Earlier xs s t
-Earlier-without cap [] i j s t l a b = absurd (let e : Some s ≡ None = sym a in cc)
-Earlier-without {A} cap (x ∷ xs) i j s t l a b = by_test (cap x)
-    (λ e. Earlier_tail xs s t x (Earlier-without cap xs i j s t l (rw e at a) (rw e at b)))
-    (λ e. go i j l (rw e at a) (rw e at b) (λ i j l a b. Earlier-without cap xs i j s t l a b))
-  where
-    go : (i j : ℕ) → i < j → slice_get (x ∷ without cap xs) i ≡ Some s → slice_get (x ∷ without cap xs) j ≡ Some t
-        → ((i j : ℕ) → i < j → slice_get (without cap xs) i ≡ Some s → slice_get (without cap xs) j ≡ Some t
-        → Earlier xs s t) → Earlier (x ∷ xs) s t
-    go i zero l a b ih = absurd (omega arith)
-    go zero (suc j) l a b ih = let q : x ≡ s = cc in rw (← q) (Earlier_head xs x t (In-without cap xs t (j, b)).0)
-    go (suc i) (suc j) l a b ih = Earlier_tail xs s t x (ih i j (omega arith) a b)
 
 -- where no element is at two indices in order, each has one index
 pub once_by_order : {A : Type 0} (xs : List A)
