@@ -2,7 +2,7 @@
 -- Main statements: IsEnough-from_count, ordered-enough, IsEnough-fewer_edges.
 -- Used by: FiniteGraphs, RunFuel, Automata.
 -- Idea: each step of a loop-free path visits a node more.
-use Rattle.ordered_reach.proofs.Common.{ap, arith, Bool, by_test, Decides, ends, fresh, List, member, ordered, subst, suc, sym, true, true≢false, with_node, zero, ℕ, ◌+◌, ◌∙◌, ◌≡◌, ◌≤◌}
+use Rattle.ordered_reach.proofs.Common.{ap, arith, Bool, by_test, Decides, ends, fresh, List, member, ordered, suc, sym, true, true≢false, with_node, zero, ℕ, ◌+◌, ◌∙◌, ◌≡◌, ◌≤◌}
 use Rattle.ordered_reach.proofs.graph.ClosedSets.{IsEnough, IsEnough-more_fuel, ends-enough}
 use Rattle.ordered_reach.proofs.graph.SearchBound.{weight, weight_one}
 use Rattle.ordered_reach.proofs.lists.NewNodes.{flat_map-agree}
@@ -42,8 +42,7 @@ module _ {N : Type 0} {eq : N → N → Bool} (dec : (a b : N) → Decides (eq a
 
   pub IsEnough-plus : (edges : N → List N) (k n : ℕ) (held : N → Bool) (r : N) → IsEnough eq edges n held r
       → IsEnough eq edges (k + n) held r
-  IsEnough-plus edges zero n held r a =
-      let z : 0 + n ≡ n = omega arith in subst (λ j. IsEnough eq edges j held r) (sym z) a
+  IsEnough-plus edges zero n held r a = let z : 0 + n ≡ n = omega arith in rw z a
   IsEnough-plus edges (suc k) n held r a =
-      let z : suc k + n ≡ suc (k + n) = omega arith in subst (λ j. IsEnough eq edges j held r) (sym z)
-      (IsEnough-more_fuel dec edges (k + n) held r (IsEnough-plus edges k n held r a))
+      let z : suc k + n ≡ suc (k + n) = omega arith in
+      rw z (IsEnough-more_fuel dec edges (k + n) held r (IsEnough-plus edges k n held r a))

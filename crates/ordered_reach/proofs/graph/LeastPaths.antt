@@ -43,8 +43,9 @@ module _ {N : Type 0} {eq : N → N → Bool} (dec : (a b : N) → Decides (eq a
         (In_head p ps, λ l m. In_cases (l, p.1) p ps m (λ c. inl (sym (ap (λ z. z.0) c))) (λ n. inr (a.0 _ n))),
         e,
       ))
-      (λ l. let r = firsts_least (with_node eq seen p.1) ps a.1 q l in (
-        least_behind p ps q.0 q.1 (λ d. true≢false (sym ((dec p.1 q.1).1 (sym d)) ∙ or_false_left _ (seen q.1) r.1)) r.0,
+      (λ l. let r = firsts_least (with_node eq seen p.1) ps a.1 q l in
+      let apart = or_false_left (eq p.1 q.1) (seen q.1) r.1 in (
+        least_behind p ps q.0 q.1 (λ d. true≢false (sym ((dec p.1 q.1).1 (sym d)) ∙ apart)) r.0,
         or_false_right (eq p.1 q.1) (seen q.1) r.1,
       )))
 
@@ -87,7 +88,7 @@ module _ {N : Type 0} {eq : N → N → Bool} (dec : (a b : N) → Decides (eq a
     pub listed_of : (ks : List ℕ) (s : N) → IsPathFrom edges held roots ks s → In (ks, s) all_paths
     unfolding all_paths
     listed_of [] s h = absurd h
-    listed_of (c ∷ cs) s h = branch_from_path dec edges n held roots c h.0 (cs, s) h.1
+    listed_of (c ∷ cs) s h = branch_from_path dec edges n (member eq held) roots c h.0 (cs, s) h.1
         (listed_from_path dec edges n held h.0 cs s (a h.0) h.2)
 
     first_paths : List (List ℕ × N)

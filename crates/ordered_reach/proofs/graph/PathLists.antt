@@ -122,10 +122,11 @@ module _ {N : Type 0} {eq : N → N → Bool} (dec : (a b : N) → Decides (eq a
         (path_from_branch n (r ∷ held) (edges r) p (path_from_listed n (r ∷ held)) l)))
 
     -- each path is listed
-    pub branch_from_path : (n : ℕ) (held roots : List N) (c : ℕ) (t : N) (q : List ℕ × N) → slice_get roots c ≡ Some t
-        → In q (paths eq edges n (member eq held) t) → In (step c q) (branches (paths eq edges n (member eq held)) 0 roots)
-    branch_from_path n held roots c t q g l = let z : 0 + c ≡ c = omega arith in
-        rw z at (branches_in (paths eq edges n (member eq held)) 0 c roots t q g l)
+    pub branch_from_path : (n : ℕ) (held : N → Bool) (roots : List N) (c : ℕ) (t : N) (q : List ℕ × N)
+        → slice_get roots c ≡ Some t → In q (paths eq edges n held t)
+        → In (step c q) (branches (paths eq edges n held) 0 roots)
+    branch_from_path n held roots c t q g l =
+        let z : 0 + c ≡ c = omega arith in rw z at (branches_in (paths eq edges n held) 0 c roots t q g l)
 
     pub listed_from_path : (n : ℕ) (held : List N) (r : N) (cs : List ℕ) (s : N)
         → IsEnough eq edges n (member eq held) r → IsPath edges held r cs s
@@ -135,5 +136,5 @@ module _ {N : Type 0} {eq : N → N → Bool} (dec : (a b : N) → Decides (eq a
     listed_from_path (suc n) held r [] s a h = rw (held_not held r h.0, h.1) (In_head ([], r) _)
     listed_from_path (suc n) held r (c ∷ cs) s a h =
         let e : member eq held r ≡ false = held_not held r h.0 in
-        rw e (In_tail (c ∷ cs, s) ([], r) _ (branch_from_path n (r ∷ held) (edges r) c h.1.0 (cs, s) h.1.1
+        rw e (In_tail (c ∷ cs, s) ([], r) _ (branch_from_path n (member eq (r ∷ held)) (edges r) c h.1.0 (cs, s) h.1.1
         (listed_from_path n (r ∷ held) h.1.0 cs s (a e h.1.0 (In_member dec (edges r) h.1.0 (c, h.1.1))) h.1.2)))

@@ -2,9 +2,9 @@
 -- Main statements: ordered-append, closure-held, closure-new.
 -- Used by: RootByRoot, and the loop of an epsilon closure.
 -- Idea: a visited node is skipped; a new one is listed, and its edges go before the other pending nodes.
-use Rattle.ordered_reach.proofs.Common.{[], ap, append-nil, append_assoc, arith, Bool, Decides, edge_count, ends, false, flat_map, flat_map-append, fresh, fun_ext, joined, length-append, List, member, none_held, or_left, ordered, search_tries, suc, sym, true, with_node, ℕ, ◌++◌, ◌∙◌, ◌∷◌, ◌≡◌, closure}
-use Rattle.ordered_reach.proofs.graph.ClosedSets.{IsClosed, IsEnough, IsEnough-from_none, ends_closed, fresh-ends_held, fresh-ends_new, fresh-held}
-use Rattle.ordered_reach.proofs.lists.NewNodes.{flat_map-member, fresh-append, member-append, member-flat_map, member-fresh}
+use Rattle.ordered_reach.proofs.Common.{[], ap, append-nil, append_assoc, arith, Bool, Decides, edge_count, ends, false, flat_map, flat_map-append, fun_ext, joined, length-append, List, member, none_held, or_left, ordered, search_tries, suc, sym, true, with_node, ℕ, ◌++◌, ◌∙◌, ◌∷◌, ◌≡◌, closure}
+use Rattle.ordered_reach.proofs.graph.ClosedSets.{IsEnough, IsEnough-from_none, ends-held, roots_find_closed, fresh-ends_new, fresh-held}
+use Rattle.ordered_reach.proofs.lists.NewNodes.{fresh-append, member-append, member-fresh}
 
 module _ {N : Type 0} {eq : N → N → Bool} (dec : (a b : N) → Decides (eq a b) (a ≡ b)) where
   pub member-push : (met : List N) (r : N) → member eq (met ++ r ∷ []) ≡ with_node eq (member eq met) r
@@ -16,14 +16,13 @@ module _ {N : Type 0} {eq : N → N → Bool} (dec : (a b : N) → Decides (eq a
 
     ordered-held : (met : List N) (r : N) (rs : List N) → member eq met r ≡ true
         → ordered eq edges n (member eq met) (r ∷ rs) ≡ ordered eq edges n (member eq met) rs
-    ordered-held met r rs e = fresh-ends_held dec edges n (member eq met) r rs e
+    ordered-held met r rs e = rw (ends-held dec edges n (member eq met) r e)
 
     ordered-new : (met : List N) (r : N) (rs : List N) → member eq met r ≡ false
         → ordered eq edges n (member eq met) (r ∷ rs) ≡ r ∷ ordered eq edges n (member eq (met ++ r ∷ []))
         (edges r ++ rs)
     ordered-new met r rs e =
-        fresh-ends_new dec edges n (member eq met) r rs e (enough_at (member eq met) r)
-        ∙ ap (λ h. r ∷ ordered eq edges n h (edges r ++ rs)) (sym (member-push met r))
+        rw (member-push met r) (fresh-ends_new dec edges n (member eq met) r rs e (enough_at (member eq met) r))
 
     pub closure-done : (met : List N) → closure eq edges n met [] ≡ met
     closure-done met = append-nil met
@@ -52,18 +51,13 @@ module _ {N : Type 0} {eq : N → N → Bool} (dec : (a b : N) → Decides (eq a
         → ordered eq edges n held (rs ++ ss) ≡ ordered eq edges n held rs ++ ordered eq edges n
         (joined (member eq (ordered eq edges n held rs)) held) ss
     ordered-append held rs ss =
-        let f : N → List N = ends eq edges n held in
-        let A : List N = flat_map f rs in
-        let seen : N → Bool = joined (member eq A) held in
-        let same : seen ≡ joined (member eq (ordered eq edges n held rs)) held =
+        let A : List N = flat_map (ends eq edges n held) rs in
+        let same : joined (member eq A) held ≡ joined (member eq (ordered eq edges n held rs)) held =
         fun_ext (λ x. grind (arith, member-fresh dec held A x)) in
-        ap (λ l. fresh eq held l) (flat_map-append f rs ss)
-        ∙ fresh-append dec held A (flat_map f ss)
-        ∙ ap (λ l. fresh eq held A ++ l)
-        (fresh-held dec edges n (member eq A) held seen ss closed (λ x m. or_left (member eq A x) (held x) m)
-        ∙ ap (λ h. ordered eq edges n h ss) same)
-      where
-        closed : IsClosed eq edges (member eq (flat_map (ends eq edges n held) rs)) held
-        closed x y m k = flat_map-member dec (ends eq edges n held) rs x m (λ r l z.
-            let c = ends_closed dec edges n held r (enough_at held r) x y z k in
-            grind (arith, c, member-flat_map dec (ends eq edges n held) rs r y l))
+        rw (
+          flat_map-append (ends eq edges n held) rs ss,
+          fresh-append dec held A _,
+          fresh-held dec edges n (member eq A) held (joined (member eq A) held) ss
+              (roots_find_closed dec edges n held rs (enough_at held)) (λ x m. or_left (member eq A x) (held x) m),
+          same,
+        )

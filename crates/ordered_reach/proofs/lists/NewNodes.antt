@@ -19,13 +19,11 @@ module _ {N : Type 0} {eq : N → N → Bool} (dec : (a b : N) → Decides (eq a
   pub fresh-append : (seen : N → Bool) (xs ys : List N)
       → fresh eq seen (xs ++ ys) ≡ fresh eq seen xs ++ fresh eq (joined (member eq xs) seen) ys
   fresh-append seen [] ys = refl
-  fresh-append seen (x ∷ xs) ys =
-      by_test (seen x)
-      (λ e. rw e (fresh-append seen xs ys ∙ ap (λ l. fresh eq seen xs ++ l)
-      (fresh-same _ _ ys (λ y. grind (arith, dec)))))
-      (λ e. rw e (ap (λ l. x ∷ l)
-      (fresh-append (with_node eq seen x) xs ys ∙ ap (λ l. fresh eq (with_node eq seen x) xs ++ l)
-      (fresh-same _ _ ys (λ y. grind arith)))))
+  fresh-append seen (x ∷ xs) ys = by_test (seen x)
+      (λ e. let same : joined (member eq (x ∷ xs)) seen ≡ joined (member eq xs) seen =
+      fun_ext (λ y. grind (arith, dec x y)) in rw (e, same, fresh-append seen xs ys))
+      (λ e. let turn : joined (member eq (x ∷ xs)) seen ≡ joined (member eq xs) (with_node eq seen x) =
+      fun_ext (λ y. grind arith) in rw (e, turn, fresh-append (with_node eq seen x) xs ys))
 
   -- a new node is in the list, and was not seen
   pub member-fresh : (seen : N → Bool) (xs : List N) (y : N)
@@ -38,14 +36,6 @@ module _ {N : Type 0} {eq : N → N → Bool} (dec : (a b : N) → Decides (eq a
       → fresh eq seen xs ≡ []
   fresh_none seen [] h = refl
   fresh_none seen (x ∷ xs) h = grind (arith, h x, eq-self x, fresh_none seen xs (λ y m. h y (or_right _ _ m)))
-
-  -- dropping seen nodes first changes nothing
-  pub fresh-filter : (v seen : N → Bool) (xs : List N) → ((x : N) → v x ≡ true → seen x ≡ true)
-      → fresh eq seen (filter (λ x. not (v x)) xs) ≡ fresh eq seen xs
-  fresh-filter v seen [] h = refl
-  fresh-filter v seen (x ∷ xs) h =
-      let new = fresh-filter v (with_node eq seen x) xs (λ y m. or_right _ _ (h y m)) in
-      grind (arith, h x, fresh-filter v seen xs h, new)
 
   -- more seen nodes are dropped from the new ones
   pub fresh-joined : (v seen : N → Bool) (xs : List N)
@@ -63,18 +53,17 @@ module _ {N : Type 0} {eq : N → N → Bool} (dec : (a b : N) → Decides (eq a
       → ((x y : N) → t x ≡ true → member eq (f x) y ≡ true → seen y ≡ true)
       → fresh eq seen (flat_map f (fresh eq t xs)) ≡ fresh eq seen (flat_map f xs)
   fresh-flat_map_fresh f seen t [] h = refl
-  fresh-flat_map_fresh f seen t (x ∷ xs) h =
-      by_test (t x)
-      (λ e. rw e (fresh-flat_map_fresh f seen t xs h
-      ∙ sym (fresh-append seen (f x) (flat_map f xs)
-      ∙ ap (λ l. l ++ fresh eq (joined (member eq (f x)) seen) (flat_map f xs))
-      (fresh_none seen (f x) (λ y m. h x y e m))
-      ∙ fresh-same _ _ (flat_map f xs) (λ y. grind (arith, h x y e)))))
-      (λ e. rw e (fresh-append seen (f x) (flat_map f (fresh eq (with_node eq t x) xs))
-      ∙ ap (λ l. fresh eq seen (f x) ++ l)
-      (fresh-flat_map_fresh f (joined (member eq (f x)) seen) (with_node eq t x) xs
-      (λ z y m k. grind (arith, dec x z, h z y)))
-      ∙ sym (fresh-append seen (f x) (flat_map f xs))))
+  fresh-flat_map_fresh f seen t (x ∷ xs) h = by_test (t x)
+      (λ e. let same : joined (member eq (f x)) seen ≡ seen = fun_ext (λ y. grind (arith, h x y e)) in
+      rw (e, fresh-append seen (f x) (flat_map f xs), fresh_none seen (f x) (λ y m. h x y e m), same)
+      (fresh-flat_map_fresh f seen t xs h))
+      (λ e. rw (
+        e,
+        fresh-append seen (f x) (flat_map f xs),
+        fresh-append seen (f x) (flat_map f (fresh eq (with_node eq t x) xs)),
+        fresh-flat_map_fresh f (joined (member eq (f x)) seen) (with_node eq t x) xs
+            (λ z y m k. grind (arith, dec x z, h z y)),
+      ))
 
   pub fresh-flat_map : (f : N → List N) (seen : N → Bool) (xs : List N)
       → fresh eq seen (flat_map f (fresh eq (λ x. false) xs)) ≡ fresh eq seen (flat_map f xs)
@@ -88,6 +77,11 @@ module _ {N : Type 0} {eq : N → N → Bool} (dec : (a b : N) → Decides (eq a
       let turn : fresh eq (joined v (with_node eq seen x)) xs ≡ fresh eq (with_node eq (joined v seen) x) xs =
       fresh-same _ _ xs (λ y. grind arith) in
       grind (arith, turn, fresh-left_out v seen xs, fresh-left_out v (with_node eq seen x) xs)
+
+  -- dropping seen nodes first changes nothing
+  pub fresh-filter : (v seen : N → Bool) (xs : List N) → ((x : N) → v x ≡ true → seen x ≡ true)
+      → fresh eq seen (filter (λ x. not (v x)) xs) ≡ fresh eq seen xs
+  fresh-filter v seen xs h = fresh-left_out v seen xs ∙ fresh-same _ _ xs (λ x. grind (arith, h x))
 
   pub filter-fresh : (v seen : N → Bool) (xs : List N)
       → filter (λ x. not (v x)) (fresh eq seen xs) ≡ fresh eq seen (filter (λ x. not (v x)) xs)

@@ -2,16 +2,17 @@
 -- Main statements: IsAutomaton, IsTrueWalk, true_walk.
 -- Used by: the theorem about NFAs.
 -- Idea: all of RunLists and CutLists for an automaton over numbers, without assertions or bytes.
-use Rattle.ordered_reach.proofs.Common.{[], arith, before, Bool, by_test, false, IsBeginning, IsPath, known_at, LeadsBelow, List, ListsReached, member, nat_eq, None, none_held, ordered, run_edges, Some, suc, sym, true, without, ℕ, ◌==◌, ◌∙◌, ◌∷◌, ◌≡◌, ◌≤◌}
+use Rattle.ordered_reach.proofs.Common.{refl, find, [], arith, before, Bool, by_test, false, IsBeginning, IsPath, known_at, LeadsBelow, List, ListsReached, member, nat_eq, None, none_held, ordered, run_edges, Some, suc, sym, true, without, ℕ, ◌==◌, ◌∙◌, ◌∷◌, ◌≡◌, ◌≤◌}
 use Rattle.ordered_reach.proofs.graph.ClosedSets.{IsEnough}
 use Rattle.ordered_reach.proofs.graph.Fuel.{IsEnough-fewer_edges}
-use Rattle.ordered_reach.proofs.runs.ByPosition.{IsEnoughForRuns}
-use Rattle.ordered_reach.proofs.runs.CutLists.{IsRepeatable, last_accepting, last_accepting-agree, level, recorded, recorded_cut, recorded_cut_begins, recorded_is, redone_cut, redone_whole}
+use Rattle.ordered_reach.proofs.graph.RepeatedSearch.{IsRepeatable}
+use Rattle.ordered_reach.proofs.runs.ByPosition.{Decides-pair_eq, IsEnoughForRuns, runs}
+use Rattle.ordered_reach.proofs.runs.CutLists.{best_is_last, last_accepting, last_accepting-agree, level, recorded, recorded_cut, recorded_cut_begins, recorded_is, redone_cut, redone_whole}
 use Rattle.ordered_reach.proofs.lists.Pieces.{find-without}
 use Rattle.ordered_reach.proofs.graph.FiniteGraphs.{IsEnough-below, same_decides}
-use Rattle.ordered_reach.proofs.runs.MostPreferred.{IsMostPreferred}
+use Rattle.ordered_reach.proofs.runs.MostPreferred.{IsMostPreferred, first_is_preferred, first_none_preferred}
 use Rattle.ordered_reach.proofs.runs.RunFuel.{IsEnough-at, IsEnough-runs, run_fuel}
-use Rattle.ordered_reach.proofs.runs.RunLists.{last_is_preferred, last_none, level_lists_reached}
+use Rattle.ordered_reach.proofs.runs.RunLists.{level_lists_reached}
 
 -- an automaton over m bytes: its epsilon edges, fewer of them under the look-behind only, and its
 -- steps over bytes
@@ -73,43 +74,44 @@ module _ (states m : ℕ) (known eps bytes : ℕ → ℕ → List ℕ) (cap acc 
       (λ i s t z. by_test (i == k) (λ e. a.within i s t (a.fewer i s t (rw e at z))) (λ e. a.within i s t (rw e at z)))
       a.ends
 
-  repeatable : IsRepeatable nat_eq known eps bytes (run_fuel (suc states) m) cap next
-  repeatable =
-      let eps_enough : (i s : ℕ) → IsEnough nat_eq (eps i) (run_fuel (suc states) m) none_held s =
-      λ i s. IsEnough-at same_decides eps bytes (run_fuel (suc states) m) none_held i s (runs_enough (i, s)) in
+  repeatable : (i : ℕ) → IsRepeatable nat_eq (known i) (eps i) (run_fuel (suc states) m) cap next
+  repeatable i =
+      let enough : (s : ℕ) → IsEnough nat_eq (eps i) (run_fuel (suc states) m) none_held s = λ s.
+      IsEnough-at same_decides eps bytes (run_fuel (suc states) m) none_held i s (runs_enough (i, s)) in
       record {
-        one = a.cap_known;
-        one_more = a.cap_eps;
-        no_byte = a.cap_bytes;
-        fewer = a.fewer;
-        enough = eps_enough;
-        enough_known = λ i s. IsEnough-fewer_edges same_decides (known i) (eps i) (a.fewer i) (run_fuel (suc states) m)
-            none_held s (eps_enough i s);
+        fewer = a.fewer i;
+        one = a.cap_known i;
+        one_more = a.cap_eps i;
+        enough = λ s. IsEnough-fewer_edges same_decides (known i) (eps i) (a.fewer i) _ none_held s (enough s);
+        enough_more = enough;
       }
 
-  last_accepting_same : last_accepting (working_cut states m known eps bytes cap acc start) acc m 0
-      ≡ last_accepting (level nat_eq eps bytes (before acc) (run_fuel (suc states) m) start) acc m 0
-  last_accepting_same =
-      let L : ℕ → List ℕ = level nat_eq eps bytes (before acc) (run_fuel (suc states) m) start in
-      last_accepting-agree (working_cut states m known eps bytes cap acc start) L acc
-      (λ k. rw (
-        ← (find-without acc cap (working_cut states m known eps bytes cap acc start k) a.cap_acc),
-        redone_cut same_decides known eps bytes (run_fuel (suc states) m) start cap next repeatable acc a.cap_acc k,
+  -- the first accepting node of all runs is the last accepting state of the cut walk
+  found : find (λ q. acc q.1) (runs nat_eq eps bytes (run_fuel (suc states) m) 0 (start ∷ []))
+      ≡ last_accepting (working_cut states m known eps bytes cap acc start) acc m 0
+  found =
+      let n : ℕ = run_fuel (suc states) m in
+      let W : ℕ → List ℕ = working_cut states m known eps bytes cap acc start in
+      let L : ℕ → List ℕ = level nat_eq eps bytes (before acc) n start in
+      best_is_last same_decides eps eps bytes n start acc runs_enough m (λ x. a.ends m x (omega arith)) m 0 (omega arith)
+      (start ∷ []) refl
+      ∙ last_accepting-agree L W acc (λ k. rw (
+        ← (find-without acc cap (W k) a.cap_acc),
+        redone_cut same_decides known eps bytes n start cap next repeatable a.cap_bytes acc a.cap_acc k,
       )
-      (find-without acc cap (L k) a.cap_acc))
-      m 0
+      (sym (find-without acc cap (L k) a.cap_acc))) m 0
 
   pub true_walk : IsTrueWalk states m known eps bytes cap acc start
   true_walk =
       let n : ℕ = run_fuel (suc states) m in
-      let stop : (x : ℕ) → bytes m x ≡ [] = λ x. a.ends m x (omega arith) in
       record {
-        reached = λ k. rw (redone_whole same_decides known eps bytes n start cap next repeatable k)
+        reached = λ k. rw (redone_whole same_decides known eps bytes n start cap next repeatable a.cap_bytes k)
             (level_lists_reached same_decides eps bytes n start runs_enough cap k);
-        recorded_reached = λ k. rw (recorded_is same_decides known eps bytes n start cap next repeatable k)
+        recorded_reached = λ k. rw (recorded_is same_decides known eps bytes n start cap next repeatable a.cap_bytes k)
             (level_lists_reached same_decides (known_at k known eps) bytes n start (known_runs_enough k) cap k);
-        preferred = λ p e.
-            last_is_preferred same_decides eps bytes n start runs_enough acc m stop p (sym last_accepting_same ∙ e);
-        none = λ e. last_none same_decides eps bytes n start runs_enough acc m stop (sym last_accepting_same ∙ e);
-        cut_begins = recorded_cut_begins same_decides known eps bytes n start cap next repeatable acc a.cap_acc;
+        preferred = λ p e. first_is_preferred (Decides-pair_eq same_decides) (run_edges eps bytes) n (0, start)
+            runs_enough (λ q. acc q.1) p (found ∙ e);
+        none = λ e. first_none_preferred (Decides-pair_eq same_decides) (run_edges eps bytes) n (0, start)
+            runs_enough (λ q. acc q.1) (found ∙ e);
+        cut_begins = recorded_cut_begins same_decides known eps bytes n start cap next repeatable a.cap_bytes acc a.cap_acc;
       }

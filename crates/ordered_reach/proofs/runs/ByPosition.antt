@@ -88,8 +88,8 @@ module _ {N : Type 0} {eq : N → N → Bool} (dec : (a b : N) → Decides (eq a
     ends_forget n m held i p a b h l =
         ends-enough (Decides-pair_eq dec) (run_edges eps bytes) n m held p a
         (IsEnough-from_none (Decides-pair_eq dec) (run_edges eps bytes) m held p b)
-        ∙ ends_agree (Decides-pair_eq dec) (run_edges eps bytes) m (λ q. nat_lt i q.0) held none_held p (later_closed i)
-        (λ q z. h q.0 q.1 (grind (arith, nat_tests))) (grind (arith, nat_tests))
+        ∙ ends_agree (Decides-pair_eq dec) (run_edges eps bytes) (run_edges eps bytes) m (λ q. nat_lt i q.0) held none_held
+        p (later_closed i) (λ q z. h q.0 q.1 (grind (arith, nat_tests))) (λ q z. refl) (grind (arith, nat_tests))
 
     module _ (m : ℕ) (enough : (p : ℕ × N) → IsEnoughForRuns eq eps bytes m none_held p) where
       -- the runs from a state list each state at its position, and behind it the runs over its bytes

@@ -1,15 +1,14 @@
 -- The lists that a walk over positions records, compared with the search over whole runs.
--- Main statements: level, recorded, level_cut, IsRepeatable, recorded_is, recorded_cut_is.
+-- Main statements: level, recorded, recorded, recorded_is, redone_whole, redone_cut.
 -- Used by: RunLists, Automata.
 -- Idea: a list that is cut at its first accepting node loses only nodes that are less preferred.
-use Rattle.ordered_reach.proofs.Common.{[], ap, arith, before, Bool, Decides, false, find, flat_map, fun_ext, IsBeginning, known_at, List, member, none_held, Option, option_map, option_or, ordered, placed, refl, run_edges, suc, true, without, zero, ℕ, ◌+◌, ◌∙◌, ◌∷◌, ◌≡◌, ◌≤◌}
+use Rattle.ordered_reach.proofs.Common.{[], ap, arith, before, Bool, Decides, false, find, flat_map, fun_ext, IsBeginning, known_at, List, none_held, Option, option_map, option_or, ordered, placed, refl, run_edges, suc, true, without, zero, ℕ, ◌+◌, ◌∙◌, ◌∷◌, ◌≡◌, ◌≤◌}
 use Rattle.std.proofs.lemmas.Bool.Decides.{nat_tests}
 use Rattle.ordered_reach.proofs.lists.Prefixes.{Beginning-before, Beginning-flat_map, Beginning-ordered, Beginning-self, Beginning-without}
-use Rattle.ordered_reach.proofs.graph.ClosedSets.{IsEnough}
 use Rattle.ordered_reach.proofs.runs.LastAccepting.{best, best_step}
 use Rattle.ordered_reach.proofs.runs.ByPosition.{IsEnoughForRuns, pair_eq, states_at, states_at-ordered_first, states_at-ordered_next}
 use Rattle.ordered_reach.proofs.lists.Pieces.{before-without, flat_map-without, flat_map_none}
-use Rattle.ordered_reach.proofs.graph.RepeatedSearch.{ordered_redone_without}
+use Rattle.ordered_reach.proofs.graph.RepeatedSearch.{IsRepeatable, ordered_redone_without}
 
 -- the states at a position: the search there from the byte steps of the previous states, cut by `cut`
 abbrev pub level : {N : Type 0} → (N → N → Bool) → (ℕ → N → List N) → (ℕ → N → List N) → (List N → List N) → ℕ → N → ℕ
@@ -43,17 +42,6 @@ last_accepting lists acc zero k = option_map (placed k) (find acc (lists k))
 last_accepting lists acc (suc d) k =
     option_or (last_accepting lists acc d (suc k)) (option_map (placed k) (find acc (lists k)))
 
--- the search may be repeated from what was recorded: the nodes of cap have one epsilon edge and no
--- byte step, the look-behind opens no more edges, and the fuel is enough
-pub record IsRepeatable {N : Type 0} (eq : N → N → Bool) (known eps bytes : ℕ → N → List N) (n : ℕ) (cap : N → Bool)
-    (next : N → N) : Type 0 where
-  pub one : (i : ℕ) (x : N) → cap x ≡ true → known i x ≡ next x ∷ []
-  pub one_more : (i : ℕ) (x : N) → cap x ≡ true → eps i x ≡ next x ∷ []
-  pub no_byte : (i : ℕ) (x : N) → cap x ≡ true → bytes i x ≡ []
-  pub fewer : (i : ℕ) (x y : N) → member eq (known i x) y ≡ true → member eq (eps i x) y ≡ true
-  pub enough : (i : ℕ) (x : N) → IsEnough eq (eps i) n none_held x
-  pub enough_known : (i : ℕ) (x : N) → IsEnough eq (known i) n none_held x
-
 -- a level depends only on the edges up to its position
 level-agree : {N : Type 0} (eq : N → N → Bool) (eps more bytes : ℕ → N → List N) (cut : List N → List N) (n : ℕ)
     (start : N) (k : ℕ) → ((j : ℕ) → j ≤ k → eps j ≡ more j)
@@ -72,15 +60,10 @@ module _ {N : Type 0} {eq : N → N → Bool} (dec : (a b : N) → Decides (eq a
   level_is enough (suc k) = states_at-ordered_next dec eps bytes n enough 0 k (start ∷ []) (omega arith)
       ∙ ap (λ l. ordered eq (eps (suc k)) n none_held (flat_map (bytes k) l)) (level_is enough k)
 
-  module _ (cap : N → Bool) (next : N → N) (is : IsRepeatable eq known eps bytes n cap next) where
-    again : (i : ℕ) (roots : List N)
-        → without cap (ordered eq (eps i) n none_held (without cap (ordered eq (known i) n none_held roots)))
-        ≡ without cap (ordered eq (eps i) n none_held roots)
-    again i roots = ordered_redone_without dec (known i) (eps i) (is.fewer i) n cap next (is.one i) (is.one_more i) n
-        roots (is.enough_known i) (is.enough i)
-
+  module _ (cap : N → Bool) (next : N → N) (is : (i : ℕ) → IsRepeatable eq (known i) (eps i) n cap next)
+      (no_byte : (i : ℕ) (x : N) → cap x ≡ true → bytes i x ≡ []) where
     flat_map-cap : (k : ℕ) (l : List N) → flat_map (bytes k) (without cap l) ≡ flat_map (bytes k) l
-    flat_map-cap k l = flat_map-without (bytes k) cap l (is.no_byte k)
+    flat_map-cap k l = flat_map-without (bytes k) cap l (no_byte k)
 
     -- the search repeated from what is recorded is the search under the true assertions, if the
     -- nodes of cap do not matter to what is cut
@@ -88,8 +71,9 @@ module _ {N : Type 0} {eq : N → N → Bool} (dec : (a b : N) → Decides (eq a
         → ((k : ℕ) (l : List N) → flat_map (bytes k) (cut (without cap l)) ≡ flat_map (bytes k) (cut l)) → (k : ℕ)
         → without cap (ordered eq (eps k) n none_held (recorded_by eq known eps bytes cap cut n start k))
         ≡ without cap (level eq eps bytes cut n start k)
-    redone cut h zero = again 0 (start ∷ [])
-    redone cut h (suc k) = rw (← (h k (ordered eq (eps k) n none_held _)), redone cut h k, h k _) (again (suc k) _)
+    redone cut h zero = ordered_redone_without dec (known 0) (eps 0) n cap next (is 0) (start ∷ [])
+    redone cut h (suc k) = rw (← (h k (ordered eq (eps k) n none_held _)), redone cut h k, h k _)
+        (ordered_redone_without dec (known (suc k)) (eps (suc k)) n cap next (is (suc k)) _)
 
     pub redone_whole : (k : ℕ)
         → without cap (ordered eq (eps k) n none_held (recorded eq known eps bytes cap n start k))
@@ -136,7 +120,7 @@ module _ {N : Type 0} {eq : N → N → Bool} (dec : (a b : N) → Decides (eq a
       rw (
         best_step dec eps bytes acc n enough k rs,
         q,
-        best_is_last acc enough m stop d (suc k) (omega arith) (flat_map (bytes k) (before acc (level _ _ _ _ _ _ k))) refl,
+        best_is_last acc enough m stop d (suc k) (omega arith) (flat_map (bytes k) _) refl,
       )
 
 -- lists with the same first accepting states have the same last one

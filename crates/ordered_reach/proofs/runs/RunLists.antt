@@ -1,16 +1,16 @@
 -- The lists of a walk, in terms of whole runs.
--- Main statements: level_lists_reached, last_is_preferred, last_none.
+-- Main statements: level_lists_reached.
 -- Used by: Automata.
 -- Idea: MostPreferred and LeastPaths over the graph of positions and nodes.
-use Rattle.ordered_reach.proofs.Common.{[], ◌&&◌, not, member, arith, before, Before, Bool, by_cases, by_test, Decides, eqb-true, false, IsInOrderOfReach, IsPath, List, ListsReached, None, none_held, refl, run_edges, Some, subst, true, without, ℕ, ◌==◌, ◌∙◌, ◌∷◌, ◌≡◌}
+use Rattle.ordered_reach.proofs.Common.{◌<◌, slice_get, [], ◌&&◌, not, member, arith, Before, Bool, by_cases, by_test, Decides, eqb-true, false, IsInOrderOfReach, List, ListsReached, none_held, refl, run_edges, Some, subst, true, without, ℕ, ◌==◌, ◌∷◌, ◌≡◌}
 use Rattle.ordered_reach.proofs.lists.Elements.{Contains_In, In_Contains, In_member, member_In, once_by_order}
 use Rattle.std.proofs.lemmas.Bool.Decides.{nat_tests}
 use Rattle.ordered_reach.proofs.lists.Pairs.{Sorted, Sorted-at, Sorted-from}
 use Rattle.ordered_reach.proofs.graph.UniqueOrder.{IsEarlier}
 use Rattle.ordered_reach.proofs.runs.ByPosition.{Decides-pair_eq, IsEnoughForRuns, pair_eq, states_at}
 use Rattle.ordered_reach.proofs.graph.LeastPaths.{ordered_in_order}
-use Rattle.ordered_reach.proofs.runs.CutLists.{best_is_last, last_accepting, level, level_is}
-use Rattle.ordered_reach.proofs.runs.MostPreferred.{IsMostPreferred, first_is_preferred, first_none_preferred, least_run_of, run_of}
+use Rattle.ordered_reach.proofs.runs.CutLists.{level, level_is}
+use Rattle.ordered_reach.proofs.runs.MostPreferred.{least_run_of, run_of}
 use Rattle.ordered_reach.proofs.lists.Lexicographic.{Before-parts}
 
 module _ {N : Type 0} {eq : N → N → Bool} (dec : (a b : N) → Decides (eq a b) (a ≡ b)) where
@@ -49,12 +49,10 @@ module _ {N : Type 0} {eq : N → N → Bool} (dec : (a b : N) → Decides (eq a
           let m = In_member pairs all (k, s) (Contains_In pairs all (k, s) c) in
           In_Contains dec xs s (member_In dec xs s (grind (arith, h.0)))),
     );
-    once = once_by_order xs (λ i j s l a b. Sorted-at (λ s t. (k, s) ≡ (k, t) → ⊥) xs
-        (Sorted-kept dec (λ p q. p ≡ q → ⊥) cap k all
-        (Sorted-from _ all (λ i j p q l a b e. let z = is.once i j q (rw e at a) b in omega arith))) i j s s l a b refl);
+    once = once_by_order xs (λ i j s l a b. kept_at (λ p q. p ≡ q → ⊥)
+        (λ i j p q l a b e. let z = is.once i j q (rw e at a) b in omega arith) i j s s l a b refl);
     by_least = λ i j s t l a b.
-        let h = Sorted-at (λ s t. IsEarlier edges [] ((0, start) ∷ []) (k, s) (k, t)) xs
-        (Sorted-kept dec (IsEarlier edges [] ((0, start) ∷ [])) cap k all (Sorted-from _ all is.by_least)) i j s t l a b in
+        let h = kept_at (IsEarlier edges [] ((0, start) ∷ [])) is.by_least i j s t l a b in
         let c = least_run_of edges (0, start) h.0 (k, s) h.2 in
         let d = least_run_of edges (0, start) h.1 (k, t) h.3 in
         let w : Before (0 ∷ c.0) (0 ∷ d.0) = rw (c.1, d.1) at h.4 in
@@ -63,6 +61,11 @@ module _ {N : Type 0} {eq : N → N → Bool} (dec : (a b : N) → Decides (eq a
     where
       xs : List N
       xs = without cap (states_at k all)
+
+      kept_at : (R : ℕ × N → ℕ × N → Type 0)
+          → ((i j : ℕ) (p q : ℕ × N) → i < j → slice_get all i ≡ Some p → slice_get all j ≡ Some q → R p q)
+          → (i j : ℕ) (s t : N) → i < j → slice_get xs i ≡ Some s → slice_get xs j ≡ Some t → R (k, s) (k, t)
+      kept_at R h = Sorted-at (λ s t. R (k, s) (k, t)) xs (Sorted-kept dec R cap k all (Sorted-from R all h))
 
       pairs : (p q : ℕ × N) → Decides (pair_eq eq p q) (p ≡ q)
       pairs = Decides-pair_eq dec
@@ -76,19 +79,3 @@ module _ {N : Type 0} {eq : N → N → Bool} (dec : (a b : N) → Decides (eq a
   level_lists_reached cap k =
       rw (← (level_is dec eps eps bytes n start enough k)) (lists_reached cap k _
       (ordered_in_order (Decides-pair_eq dec) (run_edges eps bytes) n [] ((0, start) ∷ []) enough))
-
-  -- the last accepting state of the cut lists is the end of the most preferred accepting run
-  pub last_is_preferred : (acc : N → Bool) (m : ℕ) → ((x : N) → bytes m x ≡ []) → (p : ℕ × N)
-      → last_accepting (level eq eps bytes (before acc) n start) acc m 0 ≡ Some p
-      → IsMostPreferred (run_edges eps bytes) (0, start) (λ q. acc q.1) p
-  last_is_preferred acc m stop p e =
-      first_is_preferred (Decides-pair_eq dec) (run_edges eps bytes) n (0, start) enough (λ q. acc q.1) p
-      (best_is_last dec eps eps bytes n start acc enough m stop m 0 (omega arith) (start ∷ []) refl ∙ e)
-
-  -- if no cut list accepts, no run does
-  pub last_none : (acc : N → Bool) (m : ℕ) → ((x : N) → bytes m x ≡ [])
-      → last_accepting (level eq eps bytes (before acc) n start) acc m 0 ≡ None
-      → (ds : List ℕ) (q : ℕ × N) → IsPath (run_edges eps bytes) [] (0, start) ds q → acc q.1 ≡ false
-  last_none acc m stop e ds q h =
-      first_none_preferred (Decides-pair_eq dec) (run_edges eps bytes) n (0, start) enough (λ q. acc q.1)
-      (best_is_last dec eps eps bytes n start acc enough m stop m 0 (omega arith) (start ∷ []) refl ∙ e) ds q h
