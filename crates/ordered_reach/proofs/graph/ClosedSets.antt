@@ -2,7 +2,7 @@
 -- Main statements: IsClosed, ends-closed_set, fresh-held, fresh-ends_new.
 -- Used by: everything that a search with a visited set is compared with.
 -- Idea: an edge from a closed set goes to it or to a visited node, so nothing in it need be searched again.
-use Rattle.ordered_reach.proofs.Common.{none_held, [], ap, arith, Bool, by_test, cond, Decides, ends, false, false≢true, filter, flat_map, flat_map-append, fresh, fun_ext, joined, List, member, not, or_false, or_left, or_more, or_right, refl, suc, sym, true, true≢false, with_node, zero, ℕ, ◌++◌, ◌||◌, ◌∙◌, ◌∷◌, ◌≡◌}
+use Rattle.ordered_reach.proofs.Common.{none_held, [], ap, arith, Bool, by_test, cond, Decides, ends, false, false≢true, filter, flat_map, flat_map-append, fresh, fun_ext, joined, List, member, not, or_false, or_left, or_right, refl, suc, sym, true, true≢false, with_node, zero, ℕ, ◌++◌, ◌||◌, ◌∙◌, ◌∷◌, ◌≡◌}
 use Rattle.ordered_reach.proofs.lists.Pieces.{filter-flat_map, flat_map-same}
 use Rattle.ordered_reach.proofs.lists.NewNodes.{eq-self, filter_none, flat_map-agree, flat_map-member, fresh-append, fresh-filter, member-flat_map}
 
@@ -39,7 +39,7 @@ module _ {N : Type 0} {eq : N → N → Bool} (dec : (a b : N) → Decides (eq a
   IsEnough-more_held zero held more r s a = s r a
   IsEnough-more_held (suc n) held more r s a = λ e t k.
       IsEnough-more_held n (with_node eq held r) (with_node eq more r) t
-      (λ x m. or_more (eq r x) (held x) (more x) (s x) m) (a (grind (arith, s r)) t k)
+      (λ x m. grind (arith, s x)) (a (grind (arith, s r)) t k)
 
   pub IsEnough-from_none : (n : ℕ) (held : N → Bool) (r : N) → IsEnough eq edges n none_held r
       → IsEnough eq edges n held r
@@ -100,13 +100,11 @@ module _ {N : Type 0} {eq : N → N → Bool} (dec : (a b : N) → Decides (eq a
       → ((y : N) → held y ≡ true → more y ≡ true) → (v r || held r) ≡ true
       → member eq (ends eq edges n more r) x ≡ true → v x ≡ true
   ends_within zero v held more r x c s i m = absurd (false≢true m)
-  ends_within (suc n) v held more r x c s i m = ends_cases n more r x m
-      (λ e q. rw q at (start e))
+  ends_within (suc n) v held more r x c s i m =
+      let start : more r ≡ false → v r ≡ true = λ e. grind (arith, s r) in
+      ends_cases n more r x m (λ e q. rw q at (start e))
       (λ e t l z. ends_within n v held (with_node eq more r) t x c (λ y h. or_right (eq r y) (more y) (s y h))
       (c r t (start e) l) z)
-    where
-      start : more r ≡ false → v r ≡ true
-      start e = grind (arith, s r)
 
   -- a closed set and the visited nodes may be left out together
   pub ends-closed_set : (n : ℕ) (v held : N → Bool) (r : N) → IsClosed eq edges v held

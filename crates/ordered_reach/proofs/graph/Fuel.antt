@@ -2,7 +2,7 @@
 -- Main statements: IsEnough-from_count, ordered-enough, IsEnough-fewer_edges.
 -- Used by: FiniteGraphs, RunFuel, Automata.
 -- Idea: each step of a loop-free path visits a node more.
-use Rattle.ordered_reach.proofs.Common.{ap, arith, Bool, by_test, Decides, ends, fresh, List, member, ordered, suc, sym, true, true≢false, with_node, zero, ℕ, ◌+◌, ◌∙◌, ◌≡◌, ◌≤◌}
+use Rattle.ordered_reach.proofs.Common.{ap, arith, Bool, by_test, Decides, fresh, List, member, ordered, suc, sym, true, true≢false, with_node, zero, ℕ, ◌+◌, ◌∙◌, ◌≡◌, ◌≤◌}
 use Rattle.ordered_reach.proofs.graph.ClosedSets.{IsEnough, IsEnough-more_fuel, ends-enough}
 use Rattle.ordered_reach.proofs.graph.SearchBound.{weight, weight_one}
 use Rattle.ordered_reach.proofs.lists.NewNodes.{flat_map-agree}
@@ -23,9 +23,7 @@ module _ {N : Type 0} {eq : N → N → Bool} (dec : (a b : N) → Decides (eq a
       → ((x : N) → IsEnough eq edges n held x) → ((x : N) → IsEnough eq edges m held x)
       → ordered eq edges n held roots ≡ ordered eq edges m held roots
   ordered-enough edges n m held roots a b =
-      ap (λ l. fresh eq held l)
-      (flat_map-agree dec (ends eq edges n held) (ends eq edges m held) roots
-      (λ x z. ends-enough dec edges n m held x (a x) (b x)))
+      ap (λ l. fresh eq held l) (flat_map-agree dec _ _ roots (λ x z. ends-enough dec edges n m held x (a x) (b x)))
 
   -- fewer edges need no more fuel
   pub IsEnough-fewer_edges : (edges more : N → List N)

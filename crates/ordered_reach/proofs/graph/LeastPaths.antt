@@ -8,7 +8,7 @@ use Rattle.ordered_reach.proofs.graph.ClosedSets.{IsEnough, ends_cases}
 use Rattle.ordered_reach.proofs.lists.Pieces.{flat_map-same}
 use Rattle.ordered_reach.proofs.lists.Pairs.{Sorted, Sorted-at, Sorted-map}
 use Rattle.ordered_reach.proofs.graph.UniqueOrder.{IsEarlier, asym_earlier}
-use Rattle.ordered_reach.proofs.graph.PathLists.{Ascending, Ascending-branches, Ascending-paths, branches, branch_from_path, path_from_branch, ends-paths, listed_from_path, map-branches, path_from_listed, paths}
+use Rattle.ordered_reach.proofs.graph.PathLists.{Ascending, Ascending-branches, Ascending-paths, branches, branches_in, path_from_branch, ends-paths, listed_from_path, map-branches, path_from_listed, paths}
 use Rattle.ordered_reach.proofs.lists.NewNodes.{flat_map-member, member-fresh}
 
 -- the least key of a node among listed pairs
@@ -67,45 +67,38 @@ module _ {N : Type 0} {eq : N → N → Bool} (dec : (a b : N) → Decides (eq a
 
   module _ (edges : N → List N) (n : ℕ) (held roots : List N)
       (a : (r : N) → IsEnough eq edges n (member eq held) r) where
-    pub all_paths : List (List ℕ × N)
+    abbrev pub all_paths : List (List ℕ × N)
     all_paths = branches (paths eq edges n (member eq held)) 0 roots
 
     pub all_ends : map (λ p. p.1) all_paths ≡ flat_map (ends eq edges n (member eq held)) roots
-    unfolding all_paths
     all_ends = map-branches (paths eq edges n (member eq held)) 0 roots
         ∙ flat_map-same (λ t. map (λ p. p.1) (paths eq edges n (member eq held) t))
         (ends eq edges n (member eq held)) roots (λ t. ends-paths dec edges n (member eq held) t)
 
     pub all_in_order : Ascending all_paths
-    unfolding all_paths
     all_in_order = Ascending-branches (paths eq edges n (member eq held)) 0 roots
         (λ t. Ascending-paths dec edges n (member eq held) t)
 
     pub path_of : (ks : List ℕ) (s : N) → In (ks, s) all_paths → IsPathFrom edges held roots ks s
-    unfolding all_paths
     path_of ks s h = path_from_branch dec edges n held roots (ks, s) (path_from_listed dec edges n held) h
 
     pub listed_of : (ks : List ℕ) (s : N) → IsPathFrom edges held roots ks s → In (ks, s) all_paths
-    unfolding all_paths
     listed_of [] s h = absurd h
-    listed_of (c ∷ cs) s h = branch_from_path dec edges n (member eq held) roots c h.0 (cs, s) h.1
+    listed_of (c ∷ cs) s h = branches_in _ 0 c c roots h.0 (cs, s) (omega arith) h.1
         (listed_from_path dec edges n held h.0 cs s (a h.0) h.2)
 
-    first_paths : List (List ℕ × N)
+    abbrev pub first_paths : List (List ℕ × N)
     first_paths = firsts eq (member eq held) all_paths
 
     listed : map (λ p. p.1) first_paths ≡ ordered eq edges n (member eq held) roots
-    unfolding first_paths
     listed = map-firsts (member eq held) all_paths ∙ ap (λ l. fresh eq (member eq held) l) all_ends
 
     first_is_least : (p : List ℕ × N) → In p first_paths → IsLeastPath edges held roots p.0 p.1
-    unfolding first_paths
     first_is_least p h =
         let least = (firsts_least (member eq held) all_paths all_in_order p h).0 in
         record { path = path_of p.0 p.1 least.0; least = λ ds d. least.1 ds (listed_of ds p.1 d) }
 
     in_order : Sorted (IsEarlier edges held roots) (ordered eq edges n (member eq held) roots)
-    unfolding first_paths
     in_order = rw (← listed) (Sorted-map (IsEarlier edges held roots) (λ p. p.1) (λ p q. Before p.0 q.0) first_paths
         (λ p q h k b. (p.0, q.0, first_is_least p h, first_is_least q k, b))
         (Ascending-firsts (member eq held) all_paths all_in_order))

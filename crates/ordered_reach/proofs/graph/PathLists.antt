@@ -32,24 +32,21 @@ Ascending ps = Sorted (λ p q. Before p.0 q.0) ps
 -- a path of a branch
 pub branches_from : {N P : Type 0} (f : N → List (List ℕ × N)) (i : ℕ) (ts : List N) (p : List ℕ × N)
     → In p (branches f i ts)
-    → ((c : ℕ) (t : N) (q : List ℕ × N) → slice_get ts c ≡ Some t → In q (f t) → p ≡ step (i + c) q → P) → P
+    → ((c j : ℕ) (t : N) (q : List ℕ × N) → i + c ≡ j → slice_get ts c ≡ Some t → In q (f t) → p ≡ step j q → P) → P
 branches_from f i [] p h k = In_none p h
 branches_from f i (t ∷ ts) p h k = In_append_cases p (map (step i) (f t)) (branches f (suc i) ts) h
-    (λ l. In_map_from (step i) p (f t) l (λ q m e. k 0 t q refl m (let z : i + 0 ≡ i = omega arith in rw z e)))
-    (λ l. branches_from f (suc i) ts p l
-    (λ c u q g m e. k (suc c) u q g m (let z : i + suc c ≡ suc i + c = omega arith in rw z e)))
+    (λ l. In_map_from (step i) p (f t) l (λ q m e. k 0 i t q (omega arith) refl m e))
+    (λ l. branches_from f (suc i) ts p l (λ c j u q z g m e. k (suc c) j u q (omega arith) g m e))
 
-pub branches_in : {N : Type 0} (f : N → List (List ℕ × N)) (i c : ℕ) (ts : List N) (t : N) (q : List ℕ × N)
-    → slice_get ts c ≡ Some t → In q (f t) → In (step (i + c) q) (branches f i ts)
-branches_in f i c [] t q e h = In_none t (c, e)
-branches_in f i zero (u ∷ ts) t q e h =
-    let z : i + 0 ≡ i = omega arith in
+pub branches_in : {N : Type 0} (f : N → List (List ℕ × N)) (i c j : ℕ) (ts : List N) (t : N) (q : List ℕ × N)
+    → i + c ≡ j → slice_get ts c ≡ Some t → In q (f t) → In (step j q) (branches f i ts)
+branches_in f i c j [] t q z e h = In_none t (c, e)
+branches_in f i zero j (u ∷ ts) t q z e h =
     let k : u ≡ t = cc in
-    rw z (In_append_left (step i q) (map (step i) (f u)) (branches f (suc i) ts) (In_map (step i) q (f u) (rw k h)))
-branches_in f i (suc c) (u ∷ ts) t q e h =
-    let z : i + suc c ≡ suc i + c = omega arith in
-    rw z (In_append_right (step (suc i + c) q) (map (step i) (f u)) (branches f (suc i) ts)
-    (branches_in f (suc i) c ts t q e h))
+    let w : j ≡ i = omega arith in
+    rw w (In_append_left (step i q) (map (step i) (f u)) (branches f (suc i) ts) (In_map (step i) q (f u) (rw k h)))
+branches_in f i (suc c) j (u ∷ ts) t q z e h =
+    In_append_right (step j q) (map (step i) (f u)) _ (branches_in f (suc i) c j ts t q (omega arith) e h)
 
 pub Ascending-branches : {N : Type 0} (f : N → List (List ℕ × N)) (i : ℕ) (ts : List N) → ((t : N) → Ascending (f t))
     → Ascending (branches f i ts)
@@ -59,7 +56,7 @@ Ascending-branches f i (t ∷ ts) h =
     (Sorted-map _ (step i) _ (f t) (λ p q k l b. Before-rest i p.0 q.0 b) (h t)) (Ascending-branches f (suc i) ts h)
     (λ p q k l. In_map_from (step i) p (f t) k
     (λ x m e. branches_from f (suc i) ts q l
-    (λ c u y g n d. rw (e, d) (Before-first i (suc i + c) x.0 y.0 (omega arith)))))
+    (λ c j u y z g n d. rw (e, d) (Before-first i j x.0 y.0 (omega arith)))))
 
 -- the ends of the branches
 pub map-branches : {N : Type 0} (f : N → List (List ℕ × N)) (i : ℕ) (ts : List N)
@@ -95,7 +92,7 @@ module _ {N : Type 0} {eq : N → N → Bool} (dec : (a b : N) → Decides (eq a
     Ascending-paths (suc n) held r = by_test (held r)
         (λ e. rw e tt)
         (λ e. let f : N → List (List ℕ × N) = paths eq edges n (with_node eq held r) in rw e (
-          (λ q l. branches_from f 0 (edges r) q l (λ c t p g m d. rw d refl)),
+          (λ q l. branches_from f 0 (edges r) q l (λ c j t p z g m d. rw d refl)),
           Ascending-branches f 0 (edges r) (λ t. Ascending-paths n (with_node eq held r) t),
         ))
 
@@ -104,7 +101,7 @@ module _ {N : Type 0} {eq : N → N → Bool} (dec : (a b : N) → Decides (eq a
         → ((t : N) (q : List ℕ × N) → In q (paths eq edges n (member eq held) t) → IsPath edges held t q.0 q.1)
         → In p (branches (paths eq edges n (member eq held)) 0 roots) → IsPathFrom edges held roots p.0 p.1
     path_from_branch n held roots p h l = branches_from (paths eq edges n (member eq held)) 0 roots p l
-        (λ c t q g m d. let z : 0 + c ≡ c = omega arith in rw (d, z) (t, g, h t q m))
+        (λ c j t q z g m d. let w : j ≡ c = omega arith in rw (d, w) (t, g, h t q m))
 
     path_behind : (held : List N) (r : N) (cs : List ℕ) (s : N) → ¬ (Contains held r)
         → IsPathFrom edges (r ∷ held) (edges r) cs s → IsPath edges held r cs s
@@ -122,12 +119,6 @@ module _ {N : Type 0} {eq : N → N → Bool} (dec : (a b : N) → Decides (eq a
         (path_from_branch n (r ∷ held) (edges r) p (path_from_listed n (r ∷ held)) l)))
 
     -- each path is listed
-    pub branch_from_path : (n : ℕ) (held : N → Bool) (roots : List N) (c : ℕ) (t : N) (q : List ℕ × N)
-        → slice_get roots c ≡ Some t → In q (paths eq edges n held t)
-        → In (step c q) (branches (paths eq edges n held) 0 roots)
-    branch_from_path n held roots c t q g l =
-        let z : 0 + c ≡ c = omega arith in rw z at (branches_in (paths eq edges n held) 0 c roots t q g l)
-
     pub listed_from_path : (n : ℕ) (held : List N) (r : N) (cs : List ℕ) (s : N)
         → IsEnough eq edges n (member eq held) r → IsPath edges held r cs s
         → In (cs, s) (paths eq edges n (member eq held) r)
@@ -136,5 +127,5 @@ module _ {N : Type 0} {eq : N → N → Bool} (dec : (a b : N) → Decides (eq a
     listed_from_path (suc n) held r [] s a h = rw (held_not held r h.0, h.1) (In_head ([], r) _)
     listed_from_path (suc n) held r (c ∷ cs) s a h =
         let e : member eq held r ≡ false = held_not held r h.0 in
-        rw e (In_tail (c ∷ cs, s) ([], r) _ (branch_from_path n (member eq (r ∷ held)) (edges r) c h.1.0 (cs, s) h.1.1
+        rw e (In_tail (c ∷ cs, s) ([], r) _ (branches_in _ 0 c c (edges r) h.1.0 (cs, s) (omega arith) h.1.1
         (listed_from_path n (r ∷ held) h.1.0 cs s (a e h.1.0 (In_member dec (edges r) h.1.0 (c, h.1.1))) h.1.2)))

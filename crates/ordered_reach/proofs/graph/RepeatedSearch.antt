@@ -38,12 +38,8 @@ module _ {N : Type 0} {eq : N → N → Bool} (dec : (a b : N) → Decides (eq a
       (λ x p. let z : r ≡ x = (dec r x).0 p in rw (← z) q)) in
       let alone : fresh eq seen (ends eq more (suc k) none_held t) ≡ fresh eq seen (ends eq more (suc k) h t) =
       rw d (grind (arith, behind seen (s r c), behind (with_node eq seen t), s r c)) in
-      alone ∙ rw (
-        ends-enough dec more (suc k) k h t (IsEnough-more_fuel dec more k h t below) below,
-        s r c,
-        one r c,
-        append-nil (ends eq more k h t),
-      ) refl
+      let same = ends-enough dec more (suc k) k h t (IsEnough-more_fuel dec more k h t below) below in
+      alone ∙ rw (same, s r c, one r c, append-nil (ends eq more k h t)) refl
 
   module _ (edges more : N → List N) (n : ℕ) (cap : N → Bool) (next : N → N)
       (is : IsRepeatable eq edges more n cap next) where
@@ -93,14 +89,10 @@ module _ {N : Type 0} {eq : N → N → Bool} (dec : (a b : N) → Decides (eq a
     ordered_redone_without roots =
         let f : N → List N = ends eq more n none_held in
         let g : N → List N = ends eq edges n none_held in
-        rw (
-          filter-fresh dec cap none_held (flat_map g roots),
-          fresh-flat_map dec f none_held (without cap (flat_map g roots)),
-          filter-flat_map (λ x. not (cap x)) g roots,
-          flat_map-flat_map (λ r. without cap (g r)) f roots,
-          ← (fresh-joined dec cap none_held (flat_map (λ r. flat_map f (without cap (g r))) roots)),
-          ← (fresh-joined dec cap none_held (flat_map f roots)),
-        )
+        let left = fresh-joined dec cap none_held (flat_map (λ r. flat_map f (without cap (g r))) roots) in
+        let right = fresh-joined dec cap none_held (flat_map f roots) in
+        let once = fresh-flat_map dec f none_held (without cap (flat_map g roots)) in
+        rw (filter-fresh dec cap none_held (flat_map g roots), once, filter-flat_map, flat_map-flat_map, ← left, ← right)
         (Alike-flat_map dec cap _ f roots (λ r l. ends_redone_without n none_held r (is.enough r) refl
         (λ x z. absurd (false≢true z)) (λ x z. absurd (false≢true z)))
         (joined cap none_held) (λ x m. or_left (cap x) false m))

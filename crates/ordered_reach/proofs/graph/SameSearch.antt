@@ -2,7 +2,7 @@
 -- Main statements: not_redone.
 -- Used by: the step that reads recorded states.
 -- Idea: the listed nodes are closed under the added edges.
-use Rattle.ordered_reach.proofs.Common.{refl, [], ap, arith, Bool, by_test, Decides, ends, false, flat_map, fresh, List, member, none_held, or_false, ordered, sym, true, without, ℕ, ◌&&◌, ◌∙◌, ◌∷◌, ◌≡◌}
+use Rattle.ordered_reach.proofs.Common.{refl, [], ap, arith, Bool, by_test, Decides, ends, false, flat_map, fresh, List, member, none_held, or_false, ordered, sym, true, without, ℕ, ◌∙◌, ◌∷◌, ◌≡◌}
 use Rattle.ordered_reach.proofs.graph.ClosedSets.{IsClosed, IsEnough, ends_agree, ends_self, roots_find_closed}
 use Rattle.ordered_reach.proofs.graph.RepeatedSearch.{ordered_redone_without}
 use Rattle.ordered_reach.proofs.lists.NewNodes.{flat_map-agree, member-flat_map, member-fresh}
@@ -20,10 +20,9 @@ module _ {N : Type 0} {eq : N → N → Bool} (dec : (a b : N) → Decides (eq a
   ordered-same_edges edges more n roots a h =
       let f : N → List N = ends eq edges n none_held in
       let v : N → Bool = member eq (flat_map f roots) in
-      let same : (x : N) → v x ≡ true → edges x ≡ more x =
-      λ x m. h x (member-fresh dec none_held (flat_map f roots) x ∙ ap (λ b. b && true) m) in
-      ap (λ l. fresh eq none_held l) (flat_map-agree dec f (ends eq more n none_held) roots
-      (λ r l. ends_agree dec edges more n v none_held none_held r (roots_closed edges n roots a) (λ x m. refl) same
+      ap (λ l. fresh eq none_held l) (flat_map-agree dec f (ends eq more n none_held) roots (λ r l.
+      ends_agree dec edges more n v none_held none_held r (roots_closed edges n roots a) (λ x m. refl)
+      (λ x m. h x (grind (arith, member-fresh dec none_held (flat_map f roots) x)))
       (member-flat_map dec f roots r r l (or_false (member eq (f r) r) (ends_self dec edges n none_held r (a r))))))
 
   -- where each listed node outside cap has the same edges, the recorded list is the list computed

@@ -54,10 +54,6 @@ module _ {N : Type 0} {eq : N → N → Bool} (dec : (a b : N) → Decides (eq a
         let A : List N = flat_map (ends eq edges n held) rs in
         let same : joined (member eq A) held ≡ joined (member eq (ordered eq edges n held rs)) held =
         fun_ext (λ x. grind (arith, member-fresh dec held A x)) in
-        rw (
-          flat_map-append (ends eq edges n held) rs ss,
-          fresh-append dec held A _,
-          fresh-held dec edges n (member eq A) held (joined (member eq A) held) ss
-              (roots_find_closed dec edges n held rs (enough_at held)) (λ x m. or_left (member eq A x) (held x) m),
-          same,
-        )
+        let rest = fresh-held dec edges n (member eq A) held (joined (member eq A) held) ss
+        (roots_find_closed dec edges n held rs (enough_at held)) (λ x m. or_left (member eq A x) (held x) m) in
+        rw (flat_map-append (ends eq edges n held) rs ss, fresh-append dec held A _, rest, same)

@@ -2,7 +2,7 @@
 -- Main statements: one_end, one_least, one_order.
 -- Used by: FiniteReach, and the law that results are determined.
 -- Idea: the least path to a node is unique, and the order of these is strict.
-use Rattle.ordered_reach.proofs.Common.{[], Before, Bool, Decides, IsInOrderOfReach, IsLeastPath, IsPath, List, subst, sym, ℕ, ◌∙◌, ◌∷◌, ◌≡◌, some_injective}
+use Rattle.ordered_reach.proofs.Common.{[], Before, Bool, Decides, IsInOrderOfReach, IsLeastPath, IsPath, List, sym, ℕ, ◌∙◌, ◌∷◌, ◌≡◌, some_injective}
 use Rattle.ordered_reach.proofs.lists.Elements.{Contains_In, In_Contains, same_by_order}
 use Rattle.ordered_reach.proofs.lists.Lexicographic.{Before-asym, same_least}
 
@@ -12,7 +12,7 @@ pub one_end : {N : Type 0} (es : N → List N) (held : List N) (r : N) (cs : Lis
 one_end es held r [] s u a b = a.1 ∙ sym b.1
 one_end {N} es held r (c ∷ cs) s u a b =
     let e : a.1.0 ≡ b.1.0 = some_injective a.1.0 b.1.0 (sym a.1.1 ∙ b.1.1) in
-    one_end es (r ∷ held) b.1.0 cs s u (subst (λ z. IsPath es (r ∷ held) z cs s) e a.1.2) b.1.2
+    one_end es (r ∷ held) b.1.0 cs s u (rw e at a.1.2) b.1.2
 
 -- the least path to a node is unique
 pub one_least : {N : Type 0} (edges : N → List N) (held roots : List N) (cs ds : List ℕ) (s : N)

@@ -2,7 +2,7 @@
 -- Main statements: fresh-append, member-fresh, fresh-filter, flat_map-agree.
 -- Used by: ClosedSets, and all that compares two searches.
 -- Idea: what is new after a list is what is new to the union of the set and the list.
-use Rattle.ordered_reach.proofs.Common.{[], ap, arith, Bool, by_test, Decides, false, false≢true, filter, flat_map, fresh, fun_ext, joined, List, member, not, or_left, or_more, or_right, refl, sym, true, with_node, ◌&&◌, ◌++◌, ◌||◌, ◌∙◌, ◌∷◌, ◌≡◌}
+use Rattle.ordered_reach.proofs.Common.{[], ap, arith, Bool, by_test, Decides, false, false≢true, filter, flat_map, fresh, fun_ext, joined, List, member, not, or_left, or_right, refl, sym, true, with_node, ◌&&◌, ◌++◌, ◌||◌, ◌∙◌, ◌∷◌, ◌≡◌}
 
 module _ {N : Type 0} {eq : N → N → Bool} (dec : (a b : N) → Decides (eq a b) (a ≡ b)) where
   pub eq-self : (x : N) → eq x x ≡ true
@@ -31,12 +31,6 @@ module _ {N : Type 0} {eq : N → N → Bool} (dec : (a b : N) → Decides (eq a
   member-fresh seen [] y = refl
   member-fresh seen (x ∷ xs) y = grind (arith, dec, member-fresh seen xs y, member-fresh (with_node eq seen x) xs y)
 
-  -- nothing is new where all was seen
-  pub fresh_none : (seen : N → Bool) (xs : List N) → ((x : N) → member eq xs x ≡ true → seen x ≡ true)
-      → fresh eq seen xs ≡ []
-  fresh_none seen [] h = refl
-  fresh_none seen (x ∷ xs) h = grind (arith, h x, eq-self x, fresh_none seen xs (λ y m. h y (or_right _ _ m)))
-
   -- more seen nodes are dropped from the new ones
   pub fresh-joined : (v seen : N → Bool) (xs : List N)
       → fresh eq (joined v seen) xs ≡ filter (λ x. not (v x)) (fresh eq seen xs)
@@ -47,27 +41,6 @@ module _ {N : Type 0} {eq : N → N → Bool} (dec : (a b : N) → Decides (eq a
       let turn : fresh eq (with_node eq (joined v seen) x) xs ≡ fresh eq (joined v (with_node eq seen x)) xs =
       fresh-same _ _ xs (λ y. grind arith) in
       grind (arith, same, turn, fresh-joined v seen xs, fresh-joined v (with_node eq seen x) xs)
-
-  -- a search from each node of a list needs each node once
-  fresh-flat_map_fresh : (f : N → List N) (seen t : N → Bool) (xs : List N)
-      → ((x y : N) → t x ≡ true → member eq (f x) y ≡ true → seen y ≡ true)
-      → fresh eq seen (flat_map f (fresh eq t xs)) ≡ fresh eq seen (flat_map f xs)
-  fresh-flat_map_fresh f seen t [] h = refl
-  fresh-flat_map_fresh f seen t (x ∷ xs) h = by_test (t x)
-      (λ e. let same : joined (member eq (f x)) seen ≡ seen = fun_ext (λ y. grind (arith, h x y e)) in
-      rw (e, fresh-append seen (f x) (flat_map f xs), fresh_none seen (f x) (λ y m. h x y e m), same)
-      (fresh-flat_map_fresh f seen t xs h))
-      (λ e. rw (
-        e,
-        fresh-append seen (f x) (flat_map f xs),
-        fresh-append seen (f x) (flat_map f (fresh eq (with_node eq t x) xs)),
-        fresh-flat_map_fresh f (joined (member eq (f x)) seen) (with_node eq t x) xs
-            (λ z y m k. grind (arith, dec x z, h z y)),
-      ))
-
-  pub fresh-flat_map : (f : N → List N) (seen : N → Bool) (xs : List N)
-      → fresh eq seen (flat_map f (fresh eq (λ x. false) xs)) ≡ fresh eq seen (flat_map f xs)
-  fresh-flat_map f seen xs = fresh-flat_map_fresh f seen (λ x. false) xs (λ x y m k. absurd (false≢true m))
 
   -- the new nodes, with some nodes left out
   fresh-left_out : (v seen : N → Bool) (xs : List N)
@@ -83,6 +56,33 @@ module _ {N : Type 0} {eq : N → N → Bool} (dec : (a b : N) → Decides (eq a
       → fresh eq seen (filter (λ x. not (v x)) xs) ≡ fresh eq seen xs
   fresh-filter v seen xs h = fresh-left_out v seen xs ∙ fresh-same _ _ xs (λ x. grind (arith, h x))
 
+  pub filter_none : (v : N → Bool) (xs : List N) → ((x : N) → member eq xs x ≡ true → v x ≡ true)
+      → filter (λ x. not (v x)) xs ≡ []
+  filter_none v [] h = refl
+  filter_none v (x ∷ xs) h = grind (arith, h x, eq-self x, filter_none v xs (λ y m. h y (or_right _ _ m)))
+
+  -- nothing is new where all was seen
+  pub fresh_none : (seen : N → Bool) (xs : List N) → ((x : N) → member eq xs x ≡ true → seen x ≡ true)
+      → fresh eq seen xs ≡ []
+  fresh_none seen xs h = sym (fresh-filter seen seen xs (λ x m. m)) ∙ ap (λ l. fresh eq seen l) (filter_none seen xs h)
+
+  -- a search from each node of a list needs each node once
+  fresh-flat_map_fresh : (f : N → List N) (seen t : N → Bool) (xs : List N)
+      → ((x y : N) → t x ≡ true → member eq (f x) y ≡ true → seen y ≡ true)
+      → fresh eq seen (flat_map f (fresh eq t xs)) ≡ fresh eq seen (flat_map f xs)
+  fresh-flat_map_fresh f seen t [] h = refl
+  fresh-flat_map_fresh f seen t (x ∷ xs) h = by_test (t x)
+      (λ e. let same : joined (member eq (f x)) seen ≡ seen = fun_ext (λ y. grind (arith, h x y e)) in
+      rw (e, fresh-append seen (f x) (flat_map f xs), fresh_none seen (f x) (λ y m. h x y e m), same)
+      (fresh-flat_map_fresh f seen t xs h))
+      (λ e. let new = fresh-flat_map_fresh f (joined (member eq (f x)) seen) (with_node eq t x) xs
+      (λ z y m k. grind (arith, dec x z, h z y)) in
+      rw (e, fresh-append seen (f x) (flat_map f xs), fresh-append seen (f x) (flat_map f (fresh eq _ xs)), new))
+
+  pub fresh-flat_map : (f : N → List N) (seen : N → Bool) (xs : List N)
+      → fresh eq seen (flat_map f (fresh eq (λ x. false) xs)) ≡ fresh eq seen (flat_map f xs)
+  fresh-flat_map f seen xs = fresh-flat_map_fresh f seen (λ x. false) xs (λ x y m k. absurd (false≢true m))
+
   pub filter-fresh : (v seen : N → Bool) (xs : List N)
       → filter (λ x. not (v x)) (fresh eq seen xs) ≡ fresh eq seen (filter (λ x. not (v x)) xs)
   filter-fresh v seen xs = sym (fresh-joined v seen xs) ∙ sym (fresh-left_out v seen xs)
@@ -95,7 +95,7 @@ module _ {N : Type 0} {eq : N → N → Bool} (dec : (a b : N) → Decides (eq a
       → fresh eq more (fresh eq seen xs) ≡ fresh eq seen xs
   fresh-fresh seen more [] h = refl
   fresh-fresh seen more (x ∷ xs) h =
-      let new = fresh-fresh (with_node eq seen x) (with_node eq more x) xs (λ y z. or_more _ _ _ (h y) z) in
+      let new = fresh-fresh (with_node eq seen x) (with_node eq more x) xs (λ y z. grind (arith, h y)) in
       grind (arith, h x, fresh-fresh seen more xs h, new)
 
   -- two functions that agree at each element
@@ -120,8 +120,3 @@ module _ {N : Type 0} {eq : N → N → Bool} (dec : (a b : N) → Decides (eq a
       (λ q. k z (or_left _ _ (eq-self z)) q)
       (λ q. flat_map-member f xs y (grind (arith, member-append (f z) (flat_map f xs) y))
       (λ x n l. k x (or_right _ _ n) l))
-
-  pub filter_none : (v : N → Bool) (xs : List N) → ((x : N) → member eq xs x ≡ true → v x ≡ true)
-      → filter (λ x. not (v x)) xs ≡ []
-  filter_none v [] h = refl
-  filter_none v (x ∷ xs) h = grind (arith, h x, eq-self x, filter_none v xs (λ y m. h y (or_right _ _ m)))

@@ -22,13 +22,8 @@ module _ {N : Type 0} {eq : N → N → Bool} (dec : (a b : N) → Decides (eq a
   Alike-append c xs xs' ys ys' h k seen s =
       let same : joined (member eq xs) seen ≡ joined (member eq xs') seen =
       fun_ext (λ x. grind (arith, s x, Alike-member c xs xs' h x)) in
-      rw (
-        fresh-append dec seen xs ys,
-        fresh-append dec seen xs' ys',
-        h seen s,
-        same,
-        k (joined (member eq xs') seen) (λ x m. or_right (member eq xs' x) (seen x) (s x m)),
-      )
+      rw (fresh-append dec seen xs ys, fresh-append dec seen xs' ys', h seen s, same)
+      (ap (λ l. fresh eq seen xs' ++ l) (k _ (λ x m. or_right (member eq xs' x) (seen x) (s x m))))
 
   pub Alike-flat_map : (c : N → Bool) (f g : N → List N) (xs : List N)
       → ((x : N) → member eq xs x ≡ true → Alike eq c (f x) (g x)) → Alike eq c (flat_map f xs) (flat_map g xs)
@@ -42,8 +37,5 @@ module _ {N : Type 0} {eq : N → N → Bool} (dec : (a b : N) → Decides (eq a
   pub Alike-front : (c : N → Bool) (xs ys : List N) → ((x : N) → member eq ys x ≡ true → (member eq xs x || c x) ≡ true)
       → Alike eq c (xs ++ ys) xs
   Alike-front c xs ys h seen s =
-      rw (
-        fresh-append dec seen xs ys,
-        fresh_none dec (joined (member eq xs) seen) ys (λ x m. grind (arith, s x, h x m)),
-        append-nil (fresh eq seen xs),
-      )
+      let none = fresh_none dec (joined (member eq xs) seen) ys (λ x m. grind (arith, s x, h x m)) in
+      rw (fresh-append dec seen xs ys, none) (append-nil (fresh eq seen xs))

@@ -2,7 +2,7 @@
 -- Main statements: IsAutomaton, IsTrueWalk, true_walk.
 -- Used by: the theorem about NFAs.
 -- Idea: all of RunLists and CutLists for an automaton over numbers, without assertions or bytes.
-use Rattle.ordered_reach.proofs.Common.{refl, find, [], arith, before, Bool, by_test, false, IsBeginning, IsPath, known_at, LeadsBelow, List, ListsReached, member, nat_eq, None, none_held, ordered, run_edges, Some, suc, sym, true, without, ℕ, ◌==◌, ◌∙◌, ◌∷◌, ◌≡◌, ◌≤◌}
+use Rattle.ordered_reach.proofs.Common.{ap, refl, find, [], arith, before, Bool, by_test, false, IsBeginning, IsPath, known_at, LeadsBelow, List, ListsReached, member, nat_eq, None, none_held, ordered, run_edges, Some, suc, sym, true, without, ℕ, ◌==◌, ◌∙◌, ◌∷◌, ◌≡◌, ◌≤◌}
 use Rattle.ordered_reach.proofs.graph.ClosedSets.{IsEnough}
 use Rattle.ordered_reach.proofs.graph.Fuel.{IsEnough-fewer_edges}
 use Rattle.ordered_reach.proofs.graph.RepeatedSearch.{IsRepeatable}
@@ -95,11 +95,10 @@ module _ (states m : ℕ) (known eps bytes : ℕ → ℕ → List ℕ) (cap acc 
       let L : ℕ → List ℕ = level nat_eq eps bytes (before acc) n start in
       best_is_last same_decides eps eps bytes n start acc runs_enough m (λ x. a.ends m x (omega arith)) m 0 (omega arith)
       (start ∷ []) refl
-      ∙ last_accepting-agree L W acc (λ k. rw (
-        ← (find-without acc cap (W k) a.cap_acc),
-        redone_cut same_decides known eps bytes n start cap next repeatable a.cap_bytes acc a.cap_acc k,
-      )
-      (sym (find-without acc cap (L k) a.cap_acc))) m 0
+      ∙ last_accepting-agree L W acc (λ k. sym (find-without acc cap (L k) a.cap_acc)
+      ∙ ap (λ l. find acc l)
+      (sym (redone_cut same_decides known eps bytes n start cap next repeatable a.cap_bytes acc a.cap_acc k))
+      ∙ find-without acc cap (W k) a.cap_acc) m 0
 
   pub true_walk : IsTrueWalk states m known eps bytes cap acc start
   true_walk =

@@ -2,7 +2,7 @@
 -- Main statements: pair_eq, states_at, runs_are_listed, states_at-ordered_first, states_at-ordered_next.
 -- Used by: CutLists, LastAccepting, RunFuel, RunLists.
 -- Idea: runs list each state that they reach at their position, and behind it the runs over its bytes.
-use Rattle.ordered_reach.proofs.Common.{[], ap, arith, Bool, by_test, cond, Decides, ends, eqb-true, false, flat_map, flat_map-append, flat_map-map, fresh, fun_ext, List, map, map-append, member, none_held, ordered, placed, refl, run_edges, suc, sym, with_node, zero, ℕ, ◌&&◌, ◌++◌, ◌+◌, ◌<◌, ◌==◌, ◌||◌, ◌∙◌, ◌∷◌, ◌≡◌, ◌≤◌, nat_lt, ◌-◌}
+use Rattle.ordered_reach.proofs.Common.{true, [], ap, arith, Bool, by_test, cond, Decides, ends, eqb-true, false, flat_map, flat_map-append, flat_map-map, fresh, fun_ext, List, map, map-append, member, none_held, ordered, placed, refl, run_edges, suc, sym, with_node, zero, ℕ, ◌&&◌, ◌++◌, ◌+◌, ◌<◌, ◌==◌, ◌||◌, ◌∙◌, ◌∷◌, ◌≡◌, ◌≤◌, nat_lt, ◌-◌}
 use Rattle.std.proofs.lemmas.Bool.Decides.{Decides-and, Decides-eqb, Decides-like, nat_tests}
 use Rattle.ordered_reach.proofs.graph.ClosedSets.{IsClosed, IsEnough, IsEnough-from_none, ends-enough, ends_agree, ends_within}
 use Rattle.ordered_reach.proofs.lists.Pieces.{flat_map-flat_map, flat_map-same, flat_map_none}
@@ -81,35 +81,29 @@ module _ {N : Type 0} {eq : N → N → Bool} (dec : (a b : N) → Decides (eq a
     later_closed : (i : ℕ) → IsClosed (pair_eq eq) (run_edges eps bytes) (λ p. nat_lt i p.0) none_held
     later_closed i p q l m = grind (arith, nat_tests, member-run_edges p q)
 
-    -- a run that starts at a later position is independent of the nodes visited before
-    ends_forget : (n m : ℕ) (held : ℕ × N → Bool) (i : ℕ) (p : ℕ × N) → IsEnoughForRuns eq eps bytes n held p
-        → IsEnoughForRuns eq eps bytes m none_held p → ((j : ℕ) (t : N) → i < j → held (j, t) ≡ false) → i < p.0
-        → run_ends eq eps bytes n held p ≡ run_ends eq eps bytes m none_held p
-    ends_forget n m held i p a b h l =
-        ends-enough (Decides-pair_eq dec) (run_edges eps bytes) n m held p a
-        (IsEnough-from_none (Decides-pair_eq dec) (run_edges eps bytes) m held p b)
-        ∙ ends_agree (Decides-pair_eq dec) (run_edges eps bytes) (run_edges eps bytes) m (λ q. nat_lt i q.0) held none_held
-        p (later_closed i) (λ q z. h q.0 q.1 (grind (arith, nat_tests))) (λ q z. refl) (grind (arith, nat_tests))
-
     module _ (m : ℕ) (enough : (p : ℕ × N) → IsEnoughForRuns eq eps bytes m none_held p) where
       -- the runs from a state list each state at its position, and behind it the runs over its bytes
       run_ends-split : (n : ℕ) (held : ℕ × N → Bool) (i : ℕ) (s : N) → IsEnoughForRuns eq eps bytes n held (i, s)
-          → ((j : ℕ) (t : N) → i < j → held (j, t) ≡ false)
+          → ((p : ℕ × N) → nat_lt i p.0 ≡ true → held p ≡ false)
           → run_ends eq eps bytes n held (i, s)
           ≡ flat_map (runs_over eq eps bytes m i) (ends eq (eps i) n (λ t. held (i, t)) s)
       run_ends-split zero held i s a h = refl
       run_ends-split (suc n) held i s a h = by_test (held (i, s))
           (λ e. rw e refl)
-          (λ e. let more : ℕ × N → Bool = with_node (pair_eq eq) held (i, s) in
+          (λ e. let pairs : (p q : ℕ × N) → Decides (pair_eq eq p q) (p ≡ q) = Decides-pair_eq dec in
+          let E : ℕ × N → List (ℕ × N) = run_edges eps bytes in
+          let more : ℕ × N → Bool = with_node (pair_eq eq) held (i, s) in
           let f : ℕ × N → List (ℕ × N) = run_ends eq eps bytes n more in
           let g : N → List N = ends eq (eps i) n (with_node eq (λ t. held (i, t)) s) in
           let F : N → List (ℕ × N) = runs_over eq eps bytes m i in
           let next : List (ℕ × N) = map (placed (suc i)) (bytes i s) in
-          let above : (j : ℕ) (t : N) → i < j → more (j, t) ≡ false = λ j t l. grind (arith, nat_tests, h j t l) in
+          let above : (p : ℕ × N) → nat_lt i p.0 ≡ true → more p ≡ false = λ p l. grind (arith, nat_tests, h p l) in
           let later : flat_map f next ≡ runs eq eps bytes m (suc i) (bytes i s) =
-          flat_map-agree (Decides-pair_eq dec) f (run_ends eq eps bytes m none_held) next (λ q z.
+          flat_map-agree pairs f (run_ends eq eps bytes m none_held) next (λ q z.
           let at = member-placed (suc i) (bytes i s) q in
-          ends_forget n m more i q (a e q (grind (arith, at, member-run_edges (i, s) q))) (enough q) above
+          ends-enough pairs E n m more q (a e q (grind (arith, at, member-run_edges (i, s) q)))
+          (IsEnough-from_none pairs E m more q (enough q))
+          ∙ ends_agree pairs E E m (λ p. nat_lt i p.0) more none_held q (later_closed i) above (λ p l. refl)
           (grind (arith, nat_tests, at))) in
           let own : flat_map f (map (placed i) (eps i s)) ≡ flat_map F (flat_map g (eps i s)) =
           flat_map-map f (placed i) (eps i s)
@@ -120,7 +114,7 @@ module _ {N : Type 0} {eq : N → N → Bool} (dec : (a b : N) → Decides (eq a
           ∙ sym (flat_map-flat_map g F (eps i s)) in
           rw (e, flat_map-append f next (map (placed i) (eps i s)), later, own) refl)
 
-      paths_at : ℕ → List N → List N
+      abbrev paths_at : ℕ → List N → List N
       paths_at i rs = flat_map (ends eq (eps i) m none_held) rs
 
       -- the runs from some states, by the states that they reach at their position
@@ -130,7 +124,7 @@ module _ {N : Type 0} {eq : N → N → Bool} (dec : (a b : N) → Decides (eq a
       runs_are_listed i rs =
           flat_map-map (run_ends eq eps bytes m none_held) (placed i) rs
           ∙ flat_map-same (λ s. run_ends eq eps bytes m none_held (i, s)) _ rs
-          (λ s. run_ends-split m none_held i s (enough (i, s)) (λ j t l. refl))
+          (λ s. run_ends-split m none_held i s (enough (i, s)) (λ p l. refl))
           ∙ sym (flat_map-flat_map (ends eq (eps i) m none_held) (runs_over eq eps bytes m i) rs)
 
       -- no run returns to an earlier position
@@ -144,7 +138,6 @@ module _ {N : Type 0} {eq : N → N → Bool} (dec : (a b : N) → Decides (eq a
           ∙ flat_map_none (λ p. []) (runs eq eps bytes m i rs) (λ p. refl)
 
       runs_own : (i : ℕ) (rs : List N) → states_at i (runs eq eps bytes m i rs) ≡ paths_at i rs
-      unfolding paths_at
       runs_own i rs = rw (runs_are_listed i rs) (own (flat_map (ends eq (eps i) m none_held) rs))
         where
           own : (P : List N) → states_at i (flat_map (runs_over eq eps bytes m i) P) ≡ P
@@ -158,7 +151,6 @@ module _ {N : Type 0} {eq : N → N → Bool} (dec : (a b : N) → Decides (eq a
       runs_next : (i k : ℕ) (rs : List N) → i < k
           → states_at k (runs eq eps bytes m i rs)
           ≡ states_at k (runs eq eps bytes m (suc i) (flat_map (bytes i) (paths_at i rs)))
-      unfolding paths_at
       runs_next i k rs l = rw (runs_are_listed i rs) (next (flat_map (ends eq (eps i) m none_held) rs))
         where
           next : (P : List N) → states_at k (flat_map (runs_over eq eps bytes m i) P)
@@ -188,7 +180,6 @@ module _ {N : Type 0} {eq : N → N → Bool} (dec : (a b : N) → Decides (eq a
       pub states_at-ordered_first : (i : ℕ) (rs : List N)
           → states_at i (ordered (pair_eq eq) (run_edges eps bytes) m none_held (map (placed i) rs))
           ≡ ordered eq (eps i) m none_held rs
-      unfolding paths_at
       states_at-ordered_first i rs =
           states_at-fresh i none_held (runs eq eps bytes m i rs) ∙ ap (λ y. fresh eq none_held y) (runs_own i rs)
 
@@ -196,7 +187,6 @@ module _ {N : Type 0} {eq : N → N → Bool} (dec : (a b : N) → Decides (eq a
           → states_at (suc k) (ordered (pair_eq eq) (run_edges eps bytes) m none_held (map (placed i) rs))
           ≡ ordered eq (eps (suc k)) m none_held (flat_map (bytes k)
           (states_at k (ordered (pair_eq eq) (run_edges eps bytes) m none_held (map (placed i) rs))))
-      unfolding paths_at
       states_at-ordered_next i k rs l =
           let L : List N = states_at k (runs eq eps bytes m i rs) in
           let f : N → List N = ends eq (eps (suc k)) m none_held in

@@ -2,9 +2,9 @@
 -- Main statements: level, recorded, recorded, recorded_is, redone_whole, redone_cut.
 -- Used by: RunLists, Automata.
 -- Idea: a list that is cut at its first accepting node loses only nodes that are less preferred.
-use Rattle.ordered_reach.proofs.Common.{[], ap, arith, before, Bool, Decides, false, find, flat_map, fun_ext, IsBeginning, known_at, List, none_held, Option, option_map, option_or, ordered, placed, refl, run_edges, suc, true, without, zero, ℕ, ◌+◌, ◌∙◌, ◌∷◌, ◌≡◌, ◌≤◌}
+use Rattle.ordered_reach.proofs.Common.{append-nil, sym, [], ap, arith, before, Bool, Decides, false, find, flat_map, fun_ext, IsBeginning, known_at, List, none_held, Option, option_map, option_or, ordered, placed, refl, run_edges, suc, true, without, zero, ℕ, ◌+◌, ◌∙◌, ◌∷◌, ◌≡◌, ◌≤◌}
 use Rattle.std.proofs.lemmas.Bool.Decides.{nat_tests}
-use Rattle.ordered_reach.proofs.lists.Prefixes.{Beginning-before, Beginning-flat_map, Beginning-ordered, Beginning-self, Beginning-without}
+use Rattle.ordered_reach.proofs.lists.Prefixes.{Beginning-before, Beginning-flat_map, Beginning-ordered, Beginning-without}
 use Rattle.ordered_reach.proofs.runs.LastAccepting.{best, best_step}
 use Rattle.ordered_reach.proofs.runs.ByPosition.{IsEnoughForRuns, pair_eq, states_at, states_at-ordered_first, states_at-ordered_next}
 use Rattle.ordered_reach.proofs.lists.Pieces.{before-without, flat_map-without, flat_map_none}
@@ -100,7 +100,7 @@ module _ {N : Type 0} {eq : N → N → Bool} (dec : (a b : N) → Decides (eq a
       pub recorded_cut_begins : (k : ℕ)
           → IsBeginning (recorded_cut eq known eps bytes cap acc n start k)
           (recorded eq known eps bytes cap n start k)
-      recorded_cut_begins zero = Beginning-self _
+      recorded_cut_begins zero = ([], sym (append-nil _))
       recorded_cut_begins (suc k) =
           Beginning-without cap _ _ (Beginning-ordered dec (known (suc k)) n none_held _ _
           (Beginning-flat_map (bytes k) _ _ (Beginning-before acc _ _

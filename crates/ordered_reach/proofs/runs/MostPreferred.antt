@@ -2,7 +2,7 @@
 -- Main statements: IsMostPreferred, first_is_preferred, first_none_preferred.
 -- Used by: RunLists.
 -- Idea: the paths are enumerated in order, so the first that accepts is the least.
-use Rattle.ordered_reach.proofs.Common.{[], ap, Before, Bool, by_test, Decides, ends, false, false≢true, find, flat_map, inl, inr, IsLeastPath, IsLeastRun, IsPath, IsPathFrom, List, map, None, none_held, refl, Some, subst, suc, sym, true, zero, ℕ, ◌∙◌, ◌∷◌, ◌≡◌, ◌⊎◌}
+use Rattle.ordered_reach.proofs.Common.{[], ap, Before, Bool, by_test, Decides, ends, false, false≢true, find, flat_map, inl, inr, IsLeastPath, IsLeastRun, IsPath, IsPathFrom, List, map, None, none_held, refl, Some, suc, sym, true, zero, ℕ, ◌∙◌, ◌∷◌, ◌≡◌, ◌⊎◌}
 use Rattle.ordered_reach.proofs.lists.Elements.{In, In_cases, In_head, In_map, In_none, In_tail}
 use Rattle.ordered_reach.proofs.graph.ClosedSets.{IsEnough}
 use Rattle.ordered_reach.proofs.graph.LeastPaths.{all_ends, all_in_order, all_paths, listed_of, path_of}
@@ -33,8 +33,7 @@ least_run_of {N} edges start cs s h = run_of edges start cs s h.path (λ ds e p.
   e,
   record {
     run = p;
-    least = λ es q. same_first 0 ds es
-        (subst (λ z. (z ≡ 0 ∷ es) ⊎ Before z (0 ∷ es)) e (h.least (0 ∷ es) (start, refl, q)));
+    least = λ es q. same_first 0 ds es (rw e at (h.least (0 ∷ es) (start, refl, q)));
   },
 ))
 
@@ -74,8 +73,7 @@ module _ {N : Type 0} {eq : N → N → Bool} (dec : (a b : N) → Decides (eq a
           choices = cs;
           run = p;
           accepted = r.2;
-          preferred = λ ds t q k. same_first 0 cs ds
-              (subst (λ y. (y ≡ 0 ∷ ds) ⊎ Before y (0 ∷ ds)) z
+          preferred = λ ds t q k. same_first 0 cs ds (rw z at
               (r.3 (0 ∷ ds, t) (listed_of dec edges n [] (start ∷ []) a (0 ∷ ds) t (start, refl, q)) k));
         })
 
