@@ -54,10 +54,6 @@ module _ {N : Type 0} {eq : N → N → Bool} (dec : (a b : N) → Decides (eq a
   ends-held zero held r e = refl
   ends-held (suc n) held r e = rw e refl
 
-  pub ends-free : (n : ℕ) (held : N → Bool) (r : N) → held r ≡ false
-      → ends eq edges (suc n) held r ≡ r ∷ ends_behind eq edges n held r
-  ends-free n held r e = rw e refl
-
   -- a node that is not visited is found from itself
   pub ends_self : (n : ℕ) (held : N → Bool) (r : N) → IsEnough eq edges n held r
       → (member eq (ends eq edges n held r) r || held r) ≡ true
@@ -156,19 +152,12 @@ module _ {N : Type 0} {eq : N → N → Bool} (dec : (a b : N) → Decides (eq a
       let C : List N = flat_map (ends eq edges (suc n) h1) rs in
       let same_A : flat_map (ends eq edges (suc n) h1) (edges r) ≡ A = flat_map-agree dec _ _ (edges r)
       (λ t l. ends-enough (suc n) n h1 t (IsEnough-more_fuel n h1 t (a e t l)) (a e t l)) in
-      let closed : IsClosed eq edges v held = λ x y. rw (ends-free n held r e) at (ends_closed (suc n) held r a x y) in
+      let closed : IsClosed eq edges v held = λ x y. rw e at (ends_closed (suc n) held r a x y) in
       let turn : joined v held ≡ joined (member eq A) h1 = fun_ext (λ x. grind arith) in
       let rest : fresh eq (joined (member eq A) h1) B ≡ fresh eq (joined (member eq A) h1) C =
       rw turn at (fresh-held (suc n) v held (joined (member eq A) h1) rs closed (λ x m. grind arith))
       ∙ sym (fresh-held (suc n) (member eq A) h1 (joined (member eq A) h1) rs
       (λ x y m l. grind (arith, closed x y (or_right (eq r x) (member eq A x) m) l))
       (λ x. or_left (member eq A x) (h1 x))) in
-      rw (
-        e,
-        e,
-        flat_map-append (ends eq edges (suc n) h1) (edges r) rs,
-        same_A,
-        fresh-append dec h1 A B,
-        fresh-append dec h1 A C,
-        rest,
-      )
+      let parts = flat_map-append (ends eq edges (suc n) h1) (edges r) rs in
+      rw (e, e, parts, same_A, fresh-append dec h1 A B, fresh-append dec h1 A C, rest)

@@ -1,5 +1,5 @@
 -- Fuel for a search: the number of nodes that are not visited is enough.
--- Main statements: IsEnough-from_count, ordered-enough, IsEnough-fewer_edges.
+-- Main statements: IsEnough-from_count, ordered-enough.
 -- Used by: FiniteGraphs, RunFuel, Automata.
 -- Idea: each step of a loop-free path visits a node more.
 use Rattle.ordered_reach.proofs.Common.{ap, arith, Bool, by_test, Decides, fresh, List, member, ordered, suc, sym, true, true≢false, with_node, zero, ℕ, ◌+◌, ◌∙◌, ◌≡◌, ◌≤◌}
@@ -24,14 +24,6 @@ module _ {N : Type 0} {eq : N → N → Bool} (dec : (a b : N) → Decides (eq a
       → ordered eq edges n held roots ≡ ordered eq edges m held roots
   ordered-enough edges n m held roots a b =
       ap (λ l. fresh eq held l) (flat_map-agree dec _ _ roots (λ x z. ends-enough dec edges n m held x (a x) (b x)))
-
-  -- fewer edges need no more fuel
-  pub IsEnough-fewer_edges : (edges more : N → List N)
-      → ((x y : N) → member eq (edges x) y ≡ true → member eq (more x) y ≡ true)
-      → (n : ℕ) (held : N → Bool) (r : N) → IsEnough eq more n held r → IsEnough eq edges n held r
-  IsEnough-fewer_edges edges more sub zero held r a = a
-  IsEnough-fewer_edges edges more sub (suc n) held r a =
-      λ e t k. IsEnough-fewer_edges edges more sub n (with_node eq held r) t (a e t (sub r t k))
 
   pub IsEnough-held : (edges : N → List N) (n : ℕ) (held : N → Bool) (r : N) → held r ≡ true
       → IsEnough eq edges n held r

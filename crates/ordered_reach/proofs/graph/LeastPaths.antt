@@ -5,7 +5,6 @@
 use Rattle.ordered_reach.proofs.Common.{[], ap, arith, Before, Bool, by_test, cond, Contains, Decides, ends, false, false≢true, flat_map, fresh, inl, inr, IsInOrderOfReach, IsLeastPath, IsPathFrom, List, map, member, or_false_left, or_false_right, ordered, refl, suc, sym, true, true≢false, with_node, zero, ℕ, ◌∙◌, ◌∷◌, ◌≡◌, ◌⊎◌}
 use Rattle.ordered_reach.proofs.lists.Elements.{Contains_In, In, In_Contains, In_cases, In_head, In_map, In_map_from, In_member, In_none, In_tail, member_In, once_by_order}
 use Rattle.ordered_reach.proofs.graph.ClosedSets.{IsEnough, ends_cases}
-use Rattle.ordered_reach.proofs.lists.Pieces.{flat_map-same}
 use Rattle.ordered_reach.proofs.lists.Pairs.{Sorted, Sorted-at, Sorted-map}
 use Rattle.ordered_reach.proofs.graph.UniqueOrder.{IsEarlier, asym_earlier}
 use Rattle.ordered_reach.proofs.graph.PathLists.{Ascending, Ascending-branches, Ascending-paths, branches, branches_in, path_from_branch, ends-paths, listed_from_path, map-branches, path_from_listed, paths}
@@ -39,24 +38,21 @@ module _ {N : Type 0} {eq : N → N → Bool} (dec : (a b : N) → Decides (eq a
       (λ e. let r = firsts_least seen ps a.1 q (rw e at h) in
       (least_behind p ps q.0 q.1 (λ d. true≢false (sym e ∙ ap seen (sym d) ∙ r.1)) r.0, r.1))
       (λ e. In_cases q p (firsts eq (with_node eq seen p.1) ps) (rw e at h)
-      (λ d. rw d (
-        (In_head p ps, λ l m. In_cases (l, p.1) p ps m (λ c. inl (sym (ap (λ z. z.0) c))) (λ n. inr (a.0 _ n))),
-        e,
-      ))
+      (λ d. let front : LeastIn (p ∷ ps) p.0 p.1 = (
+        In_head p ps,
+        λ l m. In_cases (l, p.1) p ps m
+            (λ c. inl (ap (λ z. z.0) (sym c))) (λ n. inr (a.0 (l, p.1) n)),
+      ) in rw d (front, e))
       (λ l. let r = firsts_least (with_node eq seen p.1) ps a.1 q l in
-      let apart = or_false_left (eq p.1 q.1) (seen q.1) r.1 in (
-        least_behind p ps q.0 q.1 (λ d. true≢false (sym ((dec p.1 q.1).1 (sym d)) ∙ apart)) r.0,
-        or_false_right (eq p.1 q.1) (seen q.1) r.1,
-      )))
+      let apart : q.1 ≡ p.1 → ⊥ = λ d. true≢false (sym ((dec p.1 q.1).1 (sym d)) ∙ or_false_left _ (seen q.1) r.1) in
+      (least_behind p ps q.0 q.1 apart r.0, or_false_right (eq p.1 q.1) (seen q.1) r.1)))
 
   Ascending-firsts : (seen : N → Bool) (ps : List (List ℕ × N)) → Ascending ps → Ascending (firsts eq seen ps)
   Ascending-firsts seen [] a = tt
   Ascending-firsts seen (p ∷ ps) a = by_test (seen p.1)
       (λ e. rw e (Ascending-firsts seen ps a.1))
-      (λ e. rw e (
-        (λ q l. a.0 q (firsts_least (with_node eq seen p.1) ps a.1 q l).0.0),
-        Ascending-firsts (with_node eq seen p.1) ps a.1,
-      ))
+      (λ e. let rest = Ascending-firsts (with_node eq seen p.1) ps a.1 in
+      rw e ((λ q l. a.0 q (firsts_least (with_node eq seen p.1) ps a.1 q l).0.0), rest))
 
   ends_not_held : (edges : N → List N) (n : ℕ) (held : N → Bool) (r x : N) → member eq (ends eq edges n held r) x ≡ true
       → held x ≡ false
@@ -71,13 +67,10 @@ module _ {N : Type 0} {eq : N → N → Bool} (dec : (a b : N) → Decides (eq a
     all_paths = branches (paths eq edges n (member eq held)) 0 roots
 
     pub all_ends : map (λ p. p.1) all_paths ≡ flat_map (ends eq edges n (member eq held)) roots
-    all_ends = map-branches (paths eq edges n (member eq held)) 0 roots
-        ∙ flat_map-same (λ t. map (λ p. p.1) (paths eq edges n (member eq held) t))
-        (ends eq edges n (member eq held)) roots (λ t. ends-paths dec edges n (member eq held) t)
+    all_ends = map-branches _ _ 0 roots (λ t. ends-paths dec edges n (member eq held) t)
 
     pub all_in_order : Ascending all_paths
-    all_in_order = Ascending-branches (paths eq edges n (member eq held)) 0 roots
-        (λ t. Ascending-paths dec edges n (member eq held) t)
+    all_in_order = Ascending-branches _ 0 roots (λ t. Ascending-paths dec edges n (member eq held) t)
 
     pub path_of : (ks : List ℕ) (s : N) → In (ks, s) all_paths → IsPathFrom edges held roots ks s
     path_of ks s h = path_from_branch dec edges n held roots (ks, s) (path_from_listed dec edges n held) h

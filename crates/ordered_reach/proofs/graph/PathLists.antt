@@ -8,7 +8,6 @@ use Rattle.ordered_reach.proofs.lists.Pairs.{Sorted, Sorted-append, Sorted-map}
 use Rattle.ordered_reach.proofs.lists.Lexicographic.{Before-first, Before-rest}
 use Rattle.ordered_reach.proofs.graph.ClosedSets.{IsEnough}
 use Rattle.std.proofs.lemmas.Simd.{map-map}
-use Rattle.ordered_reach.proofs.lists.Pieces.{flat_map-same}
 
 -- a path with its end, after one more edge number
 abbrev pub step : {N : Type 0} → ℕ → List ℕ × N → List ℕ × N
@@ -59,13 +58,12 @@ Ascending-branches f i (t ∷ ts) h =
     (λ c j u y z g n d. rw (e, d) (Before-first i j x.0 y.0 (omega arith)))))
 
 -- the ends of the branches
-pub map-branches : {N : Type 0} (f : N → List (List ℕ × N)) (i : ℕ) (ts : List N)
-    → map (λ p. p.1) (branches f i ts) ≡ flat_map (λ t. map (λ p. p.1) (f t)) ts
-map-branches f i [] = refl
-map-branches f i (t ∷ ts) =
-    map-append (λ p. p.1) (map (step i) (f t)) (branches f (suc i) ts)
-    ∙ ap (λ l. l ++ map (λ p. p.1) (branches f (suc i) ts)) (map-map (λ p. p.1) (step i) (f t))
-    ∙ ap (λ l. map (λ p. p.1) (f t) ++ l) (map-branches f (suc i) ts)
+pub map-branches : {N : Type 0} (f : N → List (List ℕ × N)) (g : N → List N) (i : ℕ) (ts : List N)
+    → ((t : N) → map (λ p. p.1) (f t) ≡ g t) → map (λ p. p.1) (branches f i ts) ≡ flat_map g ts
+map-branches f g i [] h = refl
+map-branches f g i (t ∷ ts) h =
+    rw (map-append (λ p. p.1) (map (step i) (f t)) (branches f (suc i) ts), map-map (λ p. p.1) (step i) (f t))
+    (cc (h t, map-branches f g (suc i) ts h))
 
 module _ {N : Type 0} {eq : N → N → Bool} (dec : (a b : N) → Decides (eq a b) (a ≡ b)) where
   not_held : (held : List N) (r : N) → member eq held r ≡ false → ¬ (Contains held r)
@@ -82,19 +80,14 @@ module _ {N : Type 0} {eq : N → N → Bool} (dec : (a b : N) → Decides (eq a
     ends-paths zero held r = refl
     ends-paths (suc n) held r = by_test (held r)
         (λ e. rw e refl)
-        (λ e. let f : N → List (List ℕ × N) = paths eq edges n (with_node eq held r) in
-        rw e (ap (λ l. r ∷ l) (map-branches f 0 (edges r)
-        ∙ flat_map-same (λ t. map (λ p. p.1) (f t)) (ends eq edges n (with_node eq held r)) (edges r)
-        (λ t. ends-paths n (with_node eq held r) t))))
+        (λ e. rw e (ap (λ l. r ∷ l) (map-branches _ _ 0 (edges r) (λ t. ends-paths n (with_node eq held r) t))))
 
     pub Ascending-paths : (n : ℕ) (held : N → Bool) (r : N) → Ascending (paths eq edges n held r)
     Ascending-paths zero held r = tt
     Ascending-paths (suc n) held r = by_test (held r)
         (λ e. rw e tt)
-        (λ e. let f : N → List (List ℕ × N) = paths eq edges n (with_node eq held r) in rw e (
-          (λ q l. branches_from f 0 (edges r) q l (λ c j t p z g m d. rw d refl)),
-          Ascending-branches f 0 (edges r) (λ t. Ascending-paths n (with_node eq held r) t),
-        ))
+        (λ e. let rest = Ascending-branches _ 0 (edges r) (λ t. Ascending-paths n (with_node eq held r) t) in
+        rw e ((λ q l. branches_from _ 0 (edges r) q l (λ c j t p z g m d. rw d refl)), rest))
 
     -- each listed pair is a path with its end
     pub path_from_branch : (n : ℕ) (held roots : List N) (p : List ℕ × N)

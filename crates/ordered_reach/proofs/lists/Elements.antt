@@ -2,7 +2,7 @@
 -- Main statements: In, Earlier, same_by_order, In_Contains, Contains_In.
 -- Used by: PathLists, LeastPaths, UniqueOrder, the folder runs, and the crates above.
 -- Idea: two lists with the same elements in the same strict order are equal (same_by_order).
-use Rattle.ordered_reach.proofs.Common.{[], option_map, ap, arith, Bool, by_cases, by_test, cases_order, Contains, Decides, false, false≢true, List, map, member, None, or_left, or_right, refl, slice_get, Some, suc, sym, true, without, zero, ℕ, ◌++◌, ◌<◌, ◌∙◌, ◌∷◌, ◌≡◌, All, take, get_or_from_slice_get, slice_get-get_or, slice_get-map, slice_get_within, All-cons, All-nil}
+use Rattle.ordered_reach.proofs.Common.{[], option_map, ap, arith, Bool, by_test, Contains, Decides, false, false≢true, List, map, member, None, or_left, or_right, refl, slice_get, Some, suc, sym, true, without, zero, ℕ, ◌++◌, ◌<◌, ◌∙◌, ◌∷◌, ◌≡◌, All, take, get_or_from_slice_get, slice_get-get_or, slice_get-map, slice_get_within, All-cons, All-nil}
 use Rattle.ordered_reach.proofs.lists.NewNodes.{eq-self}
 
 -- an element of a list
@@ -76,9 +76,7 @@ Earlier_head xs x y h = (0, suc h.0, omega arith, refl, h.1)
 pub once_by_order : {A : Type 0} (xs : List A)
     → ((i j : ℕ) (s : A) → i < j → slice_get xs i ≡ Some s → slice_get xs j ≡ Some s → ⊥)
     → (i j : ℕ) (s : A) → slice_get xs i ≡ Some s → slice_get xs j ≡ Some s → i ≡ j
-once_by_order xs h i j s a b = by_cases (cases_order i j)
-    (λ e. e)
-    (λ o. by_cases o (λ l. absurd (h i j s l a b)) (λ l. absurd (h j i s l b a)))
+once_by_order xs h i j s a b = grind (arith, h i j s, h j i s)
 
 -- two lists with the same elements in the same strict order are equal
 pub same_by_order : {A : Type 0} (R : A → A → Type 0) → ((x y : A) → R x y → R y x → ⊥) → (xs ys : List A)

@@ -3,8 +3,6 @@
 -- Used by: the theorem about NFAs.
 -- Idea: all of RunLists and CutLists for an automaton over numbers, without assertions or bytes.
 use Rattle.ordered_reach.proofs.Common.{ap, refl, find, [], arith, before, Bool, by_test, false, IsBeginning, IsPath, known_at, LeadsBelow, List, ListsReached, member, nat_eq, None, none_held, ordered, run_edges, Some, suc, sym, true, without, ℕ, ◌==◌, ◌∙◌, ◌∷◌, ◌≡◌, ◌≤◌}
-use Rattle.ordered_reach.proofs.graph.ClosedSets.{IsEnough}
-use Rattle.ordered_reach.proofs.graph.Fuel.{IsEnough-fewer_edges}
 use Rattle.ordered_reach.proofs.graph.RepeatedSearch.{IsRepeatable}
 use Rattle.ordered_reach.proofs.runs.ByPosition.{Decides-pair_eq, IsEnoughForRuns, runs}
 use Rattle.ordered_reach.proofs.runs.CutLists.{best_is_last, last_accepting, last_accepting-agree, level, recorded, recorded_cut, recorded_cut_begins, recorded_is, redone_cut, redone_whole}
@@ -75,16 +73,15 @@ module _ (states m : ℕ) (known eps bytes : ℕ → ℕ → List ℕ) (cap acc 
       a.ends
 
   repeatable : (i : ℕ) → IsRepeatable nat_eq (known i) (eps i) (run_fuel (suc states) m) cap next
-  repeatable i =
-      let enough : (s : ℕ) → IsEnough nat_eq (eps i) (run_fuel (suc states) m) none_held s = λ s.
-      IsEnough-at same_decides eps bytes (run_fuel (suc states) m) none_held i s (runs_enough (i, s)) in
-      record {
-        fewer = a.fewer i;
-        one = a.cap_known i;
-        one_more = a.cap_eps i;
-        enough = λ s. IsEnough-fewer_edges same_decides (known i) (eps i) (a.fewer i) _ none_held s (enough s);
-        enough_more = enough;
-      }
+  repeatable i = record {
+    fewer = a.fewer i;
+    one = a.cap_known i;
+    one_more = a.cap_eps i;
+    enough = λ s. IsEnough-at same_decides known bytes (run_fuel (suc states) m) none_held i s
+        (all_runs_enough states m known bytes (λ i s t z. a.within i s t (a.fewer i s t z)) a.ends (i, s));
+    enough_more = λ s.
+        IsEnough-at same_decides eps bytes (run_fuel (suc states) m) none_held i s (runs_enough (i, s));
+  }
 
   -- the first accepting node of all runs is the last accepting state of the cut walk
   found : find (λ q. acc q.1) (runs nat_eq eps bytes (run_fuel (suc states) m) 0 (start ∷ []))

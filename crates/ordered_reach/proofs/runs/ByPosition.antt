@@ -71,12 +71,7 @@ module _ {N : Type 0} {eq : N → N → Bool} (dec : (a b : N) → Decides (eq a
     -- an edge of a run is over a byte or stays at the position
     pub member-run_edges : (p q : ℕ × N) → member (pair_eq eq) (run_edges eps bytes p) q
         ≡ (((suc p.0 == q.0) && member eq (bytes p.0 p.1) q.1) || ((p.0 == q.0) && member eq (eps p.0 p.1) q.1))
-    member-run_edges p q =
-        rw (
-          member-append (Decides-pair_eq dec) (map (placed (suc p.0)) (bytes p.0 p.1)) _ q,
-          member-placed (suc p.0) (bytes p.0 p.1) q,
-          member-placed p.0 (eps p.0 p.1) q,
-        )
+    member-run_edges p q = rw (member-append (Decides-pair_eq dec), member-placed, member-placed)
 
     later_closed : (i : ℕ) → IsClosed (pair_eq eq) (run_edges eps bytes) (λ p. nat_lt i p.0) none_held
     later_closed i p q l m = grind (arith, nat_tests, member-run_edges p q)
@@ -190,10 +185,8 @@ module _ {N : Type 0} {eq : N → N → Bool} (dec : (a b : N) → Decides (eq a
       states_at-ordered_next i k rs l =
           let L : List N = states_at k (runs eq eps bytes m i rs) in
           let f : N → List N = ends eq (eps (suc k)) m none_held in
-          states_at-fresh (suc k) none_held (runs eq eps bytes m i rs)
-          ∙ ap (λ y. fresh eq none_held y)
-          (runs_step (k - i) i k rs (omega arith) ∙ flat_map-flat_map (bytes k) f L)
-          ∙ sym (fresh-flat_map dec (λ s. flat_map f (bytes k s)) none_held L)
-          ∙ ap (λ y. fresh eq none_held y) (sym (flat_map-flat_map (bytes k) f (fresh eq none_held L)))
-          ∙ ap (λ y. fresh eq none_held (flat_map f (flat_map (bytes k) y)))
-          (sym (states_at-fresh k none_held (runs eq eps bytes m i rs)))
+          let step = runs_step (k - i) i k rs (omega arith) ∙ flat_map-flat_map (bytes k) f L in
+          let same = flat_map-flat_map (bytes k) f (fresh eq none_held L) in
+          let old = states_at-fresh k none_held (runs eq eps bytes m i rs) in
+          rw (states_at-fresh (suc k) none_held (runs eq eps bytes m i rs), old, step, same)
+          (sym (fresh-flat_map dec (λ s. flat_map f (bytes k s)) none_held L))

@@ -117,11 +117,9 @@ module _ {N : Type 0} {eq : N → N → Bool} (dec : (a b : N) → Decides (eq a
       rw (best_step dec eps bytes acc n enough k rs, q, at_end)
       (rw (flat_map_none (bytes m) (before acc (level eq eps bytes (before acc) n start m)) stop))
   best_is_last acc enough m stop (suc d) k e rs q =
-      rw (
-        best_step dec eps bytes acc n enough k rs,
-        q,
-        best_is_last acc enough m stop d (suc k) (omega arith) (flat_map (bytes k) _) refl,
-      )
+      let later = best_is_last acc enough m stop d (suc k) (omega arith)
+      (flat_map (bytes k) (before acc (level eq eps bytes (before acc) n start k))) refl in
+      rw (best_step dec eps bytes acc n enough k rs, q, later)
 
 -- lists with the same first accepting states have the same last one
 pub last_accepting-agree : {N : Type 0} (xs ys : ℕ → List N) (acc : N → Bool)

@@ -2,7 +2,7 @@
 -- Main statements: best, best_step.
 -- Used by: CutLists, RunLists.
 -- Idea: what accepts later before the cut is preferred to what accepts at the cut.
-use Rattle.ordered_reach.proofs.Common.{[], arith, before, Bool, Decides, ends, false, false≢true, find, find-append, flat_map, fresh, List, None, none_held, Option, option_map, option_or, ordered, placed, refl, suc, true, with_node, ℕ, ◌++◌, ◌∷◌, ◌≡◌}
+use Rattle.ordered_reach.proofs.Common.{◌∙◌, ap, [], arith, before, Bool, Decides, ends, false, false≢true, find, find-append, flat_map, fresh, List, None, none_held, Option, option_map, option_or, ordered, placed, refl, suc, true, with_node, ℕ, ◌++◌, ◌∷◌, ◌≡◌}
 use Rattle.ordered_reach.proofs.runs.ByPosition.{IsEnoughForRuns, runs, runs-append, runs_are_listed, runs_over}
 use Rattle.ordered_reach.proofs.lists.Pieces.{option_or-assoc}
 
@@ -61,9 +61,6 @@ module _ {N : Type 0} {eq : N → N → Bool} (dec : (a b : N) → Decides (eq a
     best_step enough i rs =
         let L : List N = flat_map (ends eq (eps i) m none_held) rs in
         let none : (x : N) → none_held x ≡ true → acc x ≡ false = λ x e. absurd (false≢true e) in
-        rw (
-          before-fresh acc none_held L none,
-          find-fresh acc none_held L none,
-          best-fresh (suc i) (bytes i) none_held (before acc L) (λ x e. absurd (false≢true e)),
-          runs_are_listed dec eps bytes m enough i rs,
-        ) (best_cut i L)
+        let rest = best-fresh (suc i) (bytes i) none_held (before acc L) (λ x e. absurd (false≢true e)) in
+        ap (λ l. find (λ p. acc p.1) l) (runs_are_listed dec eps bytes m enough i rs)
+        ∙ rw (before-fresh acc none_held L none, find-fresh acc none_held L none, rest) (best_cut i L)

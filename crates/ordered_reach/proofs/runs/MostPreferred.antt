@@ -47,13 +47,10 @@ module _ {N : Type 0} {eq : N → N → Bool} (dec : (a b : N) → Decides (eq a
   first_least acc (p ∷ ps) a s e = by_test (acc p.1)
       (λ c. let w : Some p.1 ≡ Some s = rw c at e in let z : p.1 ≡ s = cc in
       rw (← z) (p.0, In_head p ps, c, λ q h k. In_cases q p ps h (λ d. inl (ap (λ x. x.0) (sym d))) (λ l. inr (a.0 q l))))
-      (λ c. let r = first_least acc ps a.1 s (rw c at e) in (
-        r.0,
-        In_tail (r.0, s) p ps r.1,
-        r.2,
-        λ q h k. In_cases q p ps h
-            (λ d. absurd (false≢true (sym c ∙ ap (λ x. acc x.1) (sym d) ∙ k))) (λ l. r.3 q l k),
-      ))
+      (λ c. let r = first_least acc ps a.1 s (rw c at e) in
+      let no : (q : List ℕ × N) → q ≡ p → acc q.1 ≡ true → ⊥ =
+      λ q d k. false≢true (sym c ∙ ap (λ x. acc x.1) (sym d) ∙ k) in
+      (r.0, In_tail (r.0, s) p ps r.1, r.2, λ q h k. In_cases q p ps h (λ d. absurd (no q d k)) (λ l. r.3 q l k)))
 
   first_none : (acc : N → Bool) (xs : List N) → find acc xs ≡ None → (t : N) → In t xs → acc t ≡ false
   first_none acc [] e t h = In_none t h
