@@ -96,11 +96,6 @@ module _ {N : Type 0} {eq : N → N → Bool} (dec : (a b : N) → Decides (eq a
         (λ p q h k b. (p.0, q.0, first_is_least p h, first_is_least q k, b))
         (Ascending-firsts (member eq held) all_paths all_in_order))
 
-    reached_from : (s : N) → Contains (ordered eq edges n (member eq held) roots) s
-        → (cs : List ℕ) × IsPathFrom edges held roots cs s
-    reached_from s c = In_map_from (λ p. p.1) s first_paths (rw (← listed) at (Contains_In dec _ s c))
-        (λ p h e. (p.0, rw e (first_is_least p h).path))
-
     reached_to : (s : N) (cs : List ℕ) → IsPathFrom edges held roots cs s
         → Contains (ordered eq edges n (member eq held) roots) s
     reached_to s cs h =
@@ -119,7 +114,11 @@ module _ {N : Type 0} {eq : N → N → Bool} (dec : (a b : N) → Decides (eq a
     ordered_in_order =
         let by_least = Sorted-at (IsEarlier edges held roots) (ordered eq edges n (member eq held) roots) in_order in
         record {
-          reached = λ s. (reached_from s, (λ h. reached_to s h.0 h.1));
+          reached = λ s. (
+            (λ c. In_map_from (λ p. p.1) s first_paths (rw (← listed) at (Contains_In dec _ s c))
+                (λ p h e. (p.0, rw e (first_is_least p h).path))),
+            (λ h. reached_to s h.0 h.1),
+          );
           once = once_by_order (ordered eq edges n (member eq held) roots) (λ i j s l e f.
               let b = by_least i j s s l e f in asym_earlier edges held roots s s b b);
           by_least = by_least;

@@ -91,8 +91,8 @@ module _ {N : Type 0} {eq : N → N → Bool} (dec : (a b : N) → Decides (eq a
         let g : N → List N = ends eq edges n none_held in
         let left = fresh-joined dec cap none_held (flat_map (λ r. flat_map f (without cap (g r))) roots) in
         let right = fresh-joined dec cap none_held (flat_map f roots) in
-        let once = fresh-flat_map dec f none_held (without cap (flat_map g roots)) in
-        rw (filter-fresh dec cap none_held (flat_map g roots), once, filter-flat_map, flat_map-flat_map, ← left, ← right)
+        let new = fresh-flat_map dec f none_held (without cap (flat_map g roots)) in
+        rw (filter-fresh dec cap none_held (flat_map g roots), new, filter-flat_map, flat_map-flat_map, ← left, ← right)
         (Alike-flat_map dec cap _ f roots (λ r l. ends_redone_without n none_held r (is.enough r) refl
         (λ x z. absurd (false≢true z)) (λ x z. absurd (false≢true z)))
         (joined cap none_held) (λ x m. or_left (cap x) false m))

@@ -2,7 +2,7 @@
 -- Main statements: Before-first, Before-rest, Before-parts, Before-asym, same_least.
 -- Used by: PathLists, UniqueOrder, MostPreferred, RunLists.
 -- Idea: the first numbers decide unless they are equal.
-use Rattle.ordered_reach.proofs.Common.{[], arith, Before, by_cases, inl, inr, List, sym, ℕ, ◌<◌, ◌∷◌, ◌≡◌, ◌⊎◌, Equal, Greater, Less}
+use Rattle.ordered_reach.proofs.Common.{[], arith, Before, by_cases, List, sym, ℕ, ◌<◌, ◌∷◌, ◌≡◌, ◌⊎◌, Equal, Greater, Less}
 use Rattle.std.proofs.lemmas.Bool.Decides.{nat_tests}
 
 pub Before-first : (c d : ℕ) (cs ds : List ℕ) → c < d → Before (c ∷ cs) (d ∷ ds)
@@ -20,9 +20,7 @@ Before-asym [] [] a b = let z : Equal ≡ Less = a in cc
 Before-asym (c ∷ cs) [] a b = let z : Greater ≡ Less = a in cc
 Before-asym [] (d ∷ ds) a b = let z : Greater ≡ Less = b in cc
 Before-asym (c ∷ cs) (d ∷ ds) a b =
-    by_cases (Before-parts c d cs ds a)
-    (λ l. by_cases (Before-parts d c ds cs b) (λ k. omega arith) (λ k. omega arith))
-    (λ l. by_cases (Before-parts d c ds cs b) (λ k. omega arith) (λ k. Before-asym cs ds l.1 k.1))
+    grind (arith, Before-parts c d cs ds a, Before-parts d c ds cs b, Before-asym cs ds)
 
 -- two lists, neither of which is after the other, are equal
 pub same_least : (cs ds : List ℕ) → (cs ≡ ds) ⊎ Before cs ds → (ds ≡ cs) ⊎ Before ds cs → cs ≡ ds
@@ -30,6 +28,4 @@ same_least cs ds a b = by_cases a (λ e. e) (λ k. by_cases b (λ e. sym e) (λ 
 
 -- after the same first number, the order is that of the rest
 pub same_first : (c : ℕ) (cs ds : List ℕ) → (c ∷ cs ≡ c ∷ ds) ⊎ Before (c ∷ cs) (c ∷ ds) → (cs ≡ ds) ⊎ Before cs ds
-same_first c cs ds h = by_cases h
-    (λ e. inl cc)
-    (λ b. by_cases (Before-parts c c cs ds b) (λ l. absurd (omega arith)) (λ l. inr l.1))
+same_first c cs ds h = grind (arith, Before-parts c c cs ds)

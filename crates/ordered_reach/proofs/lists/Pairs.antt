@@ -13,10 +13,9 @@ Sorted {A} R (x ∷ xs) = ((y : A) → In y xs → R x y) × Sorted R xs
 pub Sorted-append : {A : Type 0} (R : A → A → Type 0) (xs ys : List A) → Sorted R xs → Sorted R ys
     → ((x y : A) → In x xs → In y ys → R x y) → Sorted R (xs ++ ys)
 Sorted-append R [] ys a b h = b
-Sorted-append R (x ∷ xs) ys a b h = (
-  (λ y l. In_append_cases y xs ys l (a.0 y) (h x y (In_head x xs))),
-  Sorted-append R xs ys a.1 b (λ z y k l. h z y (In_tail z x xs k) l),
-)
+Sorted-append R (x ∷ xs) ys a b h =
+    let rest = Sorted-append R xs ys a.1 b (λ z y k l. h z y (In_tail z x xs k) l) in
+    ((λ y l. In_append_cases y xs ys l (a.0 y) (h x y (In_head x xs))), rest)
 
 pub Sorted-map : {A B : Type 0} (R : B → B → Type 0) (f : A → B) (S : A → A → Type 0) (xs : List A)
     → ((x y : A) → In x xs → In y xs → S x y → R (f x) (f y)) → Sorted S xs → Sorted R (map f xs)
@@ -36,10 +35,9 @@ Sorted-at R (z ∷ xs) s (suc i) (suc j) x y l a b = Sorted-at R xs s.1 i j x y 
 pub Sorted-from : {A : Type 0} (R : A → A → Type 0) (xs : List A)
     → ((i j : ℕ) (x y : A) → i < j → slice_get xs i ≡ Some x → slice_get xs j ≡ Some y → R x y) → Sorted R xs
 Sorted-from R [] h = tt
-Sorted-from R (x ∷ xs) h = (
-  (λ y k. h 0 (suc k.0) x y (omega arith) refl k.1),
-  Sorted-from R xs (λ i j u v l p q. h (suc i) (suc j) u v (omega arith) p q),
-)
+Sorted-from R (x ∷ xs) h =
+    let rest = Sorted-from R xs (λ i j u v l p q. h (suc i) (suc j) u v (omega arith) p q) in
+    ((λ y k. h 0 (suc k.0) x y (omega arith) refl k.1), rest)
 
 pub pairs_from : {A : Type 0} (R : A → A → Type 0) (xs : List A)
     → ((i j : ℕ) (x y : A) → i < j → slice_get xs i ≡ Some x → slice_get xs j ≡ Some y → R x y) → AllPairs R xs

@@ -2,7 +2,7 @@
 -- Main statements: Alike, Alike-flat_map, Alike-front.
 -- Used by: RepeatedSearch.
 -- Idea: the relation is kept by concatenation, so it can be shown root by root.
-use Rattle.ordered_reach.proofs.Common.{fun_ext, [], ap, append-nil, arith, Bool, Decides, false, flat_map, fresh, joined, List, member, not, or_left, or_right, refl, sym, true, ◌&&◌, ◌++◌, ◌||◌, ◌∙◌, ◌∷◌, ◌≡◌}
+use Rattle.ordered_reach.proofs.Common.{fun_ext, [], ap, append-nil, arith, Bool, Decides, false, flat_map, fresh, joined, List, member, or_left, or_right, refl, true, ◌++◌, ◌||◌, ◌∷◌, ◌≡◌}
 use Rattle.ordered_reach.proofs.lists.NewNodes.{eq-self, fresh-append, fresh_none, member-fresh}
 
 -- the lists have the same new nodes in the same order, for every seen set that contains c
@@ -13,9 +13,8 @@ module _ {N : Type 0} {eq : N → N → Bool} (dec : (a b : N) → Decides (eq a
   Alike-member : (c : N → Bool) (xs ys : List N) → Alike eq c xs ys → (x : N) → c x ≡ false
       → member eq xs x ≡ member eq ys x
   Alike-member c xs ys h x e =
-      let p : (member eq xs x && not (c x)) ≡ (member eq ys x && not (c x)) =
-      sym (member-fresh dec c xs x) ∙ ap (λ l. member eq l x) (h c (λ y m. m)) ∙ member-fresh dec c ys x in
-      grind arith
+      let same = ap (λ l. member eq l x) (h c (λ y m. m)) in
+      grind (arith, same, member-fresh dec c xs x, member-fresh dec c ys x)
 
   Alike-append : (c : N → Bool) (xs xs' ys ys' : List N) → Alike eq c xs xs' → Alike eq c ys ys'
       → Alike eq c (xs ++ ys) (xs' ++ ys')

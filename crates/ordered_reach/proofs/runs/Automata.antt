@@ -90,8 +90,8 @@ module _ (states m : ℕ) (known eps bytes : ℕ → ℕ → List ℕ) (cap acc 
       let n : ℕ = run_fuel (suc states) m in
       let W : ℕ → List ℕ = working_cut states m known eps bytes cap acc start in
       let L : ℕ → List ℕ = level nat_eq eps bytes (before acc) n start in
-      best_is_last same_decides eps eps bytes n start acc runs_enough m (λ x. a.ends m x (omega arith)) m 0 (omega arith)
-      (start ∷ []) refl
+      best_is_last same_decides eps eps bytes n start acc runs_enough m (λ x. a.ends m x (omega arith)) m 0
+      (omega arith) (start ∷ []) refl
       ∙ last_accepting-agree L W acc (λ k. sym (find-without acc cap (L k) a.cap_acc)
       ∙ ap (λ l. find acc l)
       (sym (redone_cut same_decides known eps bytes n start cap next repeatable a.cap_bytes acc a.cap_acc k))
@@ -109,5 +109,6 @@ module _ (states m : ℕ) (known eps bytes : ℕ → ℕ → List ℕ) (cap acc 
             runs_enough (λ q. acc q.1) p (found ∙ e);
         none = λ e. first_none_preferred (Decides-pair_eq same_decides) (run_edges eps bytes) n (0, start)
             runs_enough (λ q. acc q.1) (found ∙ e);
-        cut_begins = recorded_cut_begins same_decides known eps bytes n start cap next repeatable a.cap_bytes acc a.cap_acc;
+        cut_begins = recorded_cut_begins same_decides known eps bytes n start cap next repeatable a.cap_bytes acc
+            a.cap_acc;
       }

@@ -1,5 +1,5 @@
 -- A depth-first search over positions, split into a search at each position.
--- Main statements: pair_eq, states_at, runs_are_listed, states_at-ordered_first, states_at-ordered_next.
+-- Main statements: pair_eq, states_at, runs_are_listed, runs_own, states_at-ordered_next.
 -- Used by: CutLists, LastAccepting, RunFuel, RunLists.
 -- Idea: runs list each state that they reach at their position, and behind it the runs over its bytes.
 use Rattle.ordered_reach.proofs.Common.{true, [], ap, arith, Bool, by_test, cond, Decides, ends, eqb-true, false, flat_map, flat_map-append, flat_map-map, fresh, fun_ext, List, map, map-append, member, none_held, ordered, placed, refl, run_edges, suc, sym, with_node, zero, ℕ, ◌&&◌, ◌++◌, ◌+◌, ◌<◌, ◌==◌, ◌||◌, ◌∙◌, ◌∷◌, ◌≡◌, ◌≤◌, nat_lt, ◌-◌}
@@ -49,7 +49,7 @@ runs-append eq eps bytes n i xs ys =
     rw (map-append (placed i) xs ys) (flat_map-append (run_ends eq eps bytes n none_held) (map (placed i) xs) _)
 
 module _ {N : Type 0} {eq : N → N → Bool} (dec : (a b : N) → Decides (eq a b) (a ≡ b)) where
-  states_at-fresh : (k : ℕ) (seen : ℕ × N → Bool) (xs : List (ℕ × N))
+  pub states_at-fresh : (k : ℕ) (seen : ℕ × N → Bool) (xs : List (ℕ × N))
       → states_at k (fresh (pair_eq eq) seen xs) ≡ fresh eq (λ s. seen (k, s)) (states_at k xs)
   states_at-fresh k seen [] = refl
   states_at-fresh k seen (p ∷ xs) =
@@ -71,7 +71,7 @@ module _ {N : Type 0} {eq : N → N → Bool} (dec : (a b : N) → Decides (eq a
     -- an edge of a run is over a byte or stays at the position
     pub member-run_edges : (p q : ℕ × N) → member (pair_eq eq) (run_edges eps bytes p) q
         ≡ (((suc p.0 == q.0) && member eq (bytes p.0 p.1) q.1) || ((p.0 == q.0) && member eq (eps p.0 p.1) q.1))
-    member-run_edges p q = rw (member-append (Decides-pair_eq dec), member-placed, member-placed)
+    member-run_edges p q = rw (member-append (Decides-pair_eq dec), member-placed (suc p.0), member-placed p.0)
 
     later_closed : (i : ℕ) → IsClosed (pair_eq eq) (run_edges eps bytes) (λ p. nat_lt i p.0) none_held
     later_closed i p q l m = grind (arith, nat_tests, member-run_edges p q)
@@ -132,7 +132,7 @@ module _ {N : Type 0} {eq : N → N → Bool} (dec : (a b : N) → Decides (eq a
           grind (arith, nat_tests)))
           ∙ flat_map_none (λ p. []) (runs eq eps bytes m i rs) (λ p. refl)
 
-      runs_own : (i : ℕ) (rs : List N) → states_at i (runs eq eps bytes m i rs) ≡ paths_at i rs
+      pub runs_own : (i : ℕ) (rs : List N) → states_at i (runs eq eps bytes m i rs) ≡ paths_at i rs
       runs_own i rs = rw (runs_are_listed i rs) (own (flat_map (ends eq (eps i) m none_held) rs))
         where
           own : (P : List N) → states_at i (flat_map (runs_over eq eps bytes m i) P) ≡ P
@@ -172,12 +172,6 @@ module _ {N : Type 0} {eq : N → N → Bool} (dec : (a b : N) → Decides (eq a
 
       -- the states of the next position are those of the search from the byte steps of the states
       -- of this one
-      pub states_at-ordered_first : (i : ℕ) (rs : List N)
-          → states_at i (ordered (pair_eq eq) (run_edges eps bytes) m none_held (map (placed i) rs))
-          ≡ ordered eq (eps i) m none_held rs
-      states_at-ordered_first i rs =
-          states_at-fresh i none_held (runs eq eps bytes m i rs) ∙ ap (λ y. fresh eq none_held y) (runs_own i rs)
-
       pub states_at-ordered_next : (i k : ℕ) (rs : List N) → i ≤ k
           → states_at (suc k) (ordered (pair_eq eq) (run_edges eps bytes) m none_held (map (placed i) rs))
           ≡ ordered eq (eps (suc k)) m none_held (flat_map (bytes k)

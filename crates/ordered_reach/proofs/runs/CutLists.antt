@@ -2,11 +2,11 @@
 -- Main statements: level, recorded, recorded, recorded_is, redone_whole, redone_cut.
 -- Used by: RunLists, Automata.
 -- Idea: a list that is cut at its first accepting node loses only nodes that are less preferred.
-use Rattle.ordered_reach.proofs.Common.{append-nil, sym, [], ap, arith, before, Bool, Decides, false, find, flat_map, fun_ext, IsBeginning, known_at, List, none_held, Option, option_map, option_or, ordered, placed, refl, run_edges, suc, true, without, zero, ℕ, ◌+◌, ◌∙◌, ◌∷◌, ◌≡◌, ◌≤◌}
+use Rattle.ordered_reach.proofs.Common.{fresh, append-nil, sym, [], ap, arith, before, Bool, Decides, false, find, flat_map, fun_ext, IsBeginning, known_at, List, none_held, Option, option_map, option_or, ordered, placed, refl, run_edges, suc, true, without, zero, ℕ, ◌+◌, ◌∙◌, ◌∷◌, ◌≡◌, ◌≤◌}
 use Rattle.std.proofs.lemmas.Bool.Decides.{nat_tests}
 use Rattle.ordered_reach.proofs.lists.Prefixes.{Beginning-before, Beginning-flat_map, Beginning-ordered, Beginning-without}
 use Rattle.ordered_reach.proofs.runs.LastAccepting.{best, best_step}
-use Rattle.ordered_reach.proofs.runs.ByPosition.{IsEnoughForRuns, pair_eq, states_at, states_at-ordered_first, states_at-ordered_next}
+use Rattle.ordered_reach.proofs.runs.ByPosition.{IsEnoughForRuns, pair_eq, states_at, runs, runs_own, states_at-fresh, states_at-ordered_next}
 use Rattle.ordered_reach.proofs.lists.Pieces.{before-without, flat_map-without, flat_map_none}
 use Rattle.ordered_reach.proofs.graph.RepeatedSearch.{IsRepeatable, ordered_redone_without}
 
@@ -56,7 +56,8 @@ module _ {N : Type 0} {eq : N → N → Bool} (dec : (a b : N) → Decides (eq a
   pub level_is : (enough : (p : ℕ × N) → IsEnoughForRuns eq eps bytes n none_held p) → (k : ℕ)
       → states_at k (ordered (pair_eq eq) (run_edges eps bytes) n none_held ((0, start) ∷ []))
       ≡ level eq eps bytes (λ l. l) n start k
-  level_is enough zero = states_at-ordered_first dec eps bytes n enough 0 (start ∷ [])
+  level_is enough zero = states_at-fresh dec 0 none_held (runs eq eps bytes n 0 (start ∷ []))
+      ∙ ap (λ l. fresh eq none_held l) (runs_own dec eps bytes n enough 0 (start ∷ []))
   level_is enough (suc k) = states_at-ordered_next dec eps bytes n enough 0 k (start ∷ []) (omega arith)
       ∙ ap (λ l. ordered eq (eps (suc k)) n none_held (flat_map (bytes k) l)) (level_is enough k)
 

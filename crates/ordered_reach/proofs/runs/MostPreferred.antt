@@ -2,8 +2,8 @@
 -- Main statements: IsMostPreferred, first_is_preferred, first_none_preferred.
 -- Used by: RunLists.
 -- Idea: the paths are enumerated in order, so the first that accepts is the least.
-use Rattle.ordered_reach.proofs.Common.{[], ap, Before, Bool, by_test, Decides, ends, false, false≢true, find, flat_map, inl, inr, IsLeastPath, IsLeastRun, IsPath, IsPathFrom, List, map, None, none_held, refl, Some, suc, sym, true, zero, ℕ, ◌∙◌, ◌∷◌, ◌≡◌, ◌⊎◌}
-use Rattle.ordered_reach.proofs.lists.Elements.{In, In_cases, In_head, In_map, In_none, In_tail}
+use Rattle.ordered_reach.proofs.Common.{arith, member, [], ap, Before, Bool, by_test, Decides, ends, false, false≢true, find, flat_map, inl, inr, IsLeastPath, IsLeastRun, IsPath, IsPathFrom, List, map, None, none_held, refl, Some, suc, sym, true, zero, ℕ, ◌∙◌, ◌∷◌, ◌≡◌, ◌⊎◌}
+use Rattle.ordered_reach.proofs.lists.Elements.{In, In_cases, In_head, In_map, In_member, In_tail}
 use Rattle.ordered_reach.proofs.graph.ClosedSets.{IsEnough}
 use Rattle.ordered_reach.proofs.graph.LeastPaths.{all_ends, all_in_order, all_paths, listed_of, path_of}
 use Rattle.ordered_reach.proofs.graph.PathLists.{Ascending}
@@ -46,17 +46,15 @@ module _ {N : Type 0} {eq : N → N → Bool} (dec : (a b : N) → Decides (eq a
   first_least acc [] a s e = absurd (let k : Some s ≡ None = sym e in cc)
   first_least acc (p ∷ ps) a s e = by_test (acc p.1)
       (λ c. let w : Some p.1 ≡ Some s = rw c at e in let z : p.1 ≡ s = cc in
-      rw (← z) (p.0, In_head p ps, c, λ q h k. In_cases q p ps h (λ d. inl (ap (λ x. x.0) (sym d))) (λ l. inr (a.0 q l))))
+      rw (← z) (p.0, In_head p ps, c, λ q h k. In_cases q p ps h (λ d. inl (λ i. (sym d i).0)) (λ l. inr (a.0 q l))))
       (λ c. let r = first_least acc ps a.1 s (rw c at e) in
       let no : (q : List ℕ × N) → q ≡ p → acc q.1 ≡ true → ⊥ =
       λ q d k. false≢true (sym c ∙ ap (λ x. acc x.1) (sym d) ∙ k) in
       (r.0, In_tail (r.0, s) p ps r.1, r.2, λ q h k. In_cases q p ps h (λ d. absurd (no q d k)) (λ l. r.3 q l k)))
 
-  first_none : (acc : N → Bool) (xs : List N) → find acc xs ≡ None → (t : N) → In t xs → acc t ≡ false
-  first_none acc [] e t h = In_none t h
-  first_none acc (x ∷ xs) e t h = by_test (acc x)
-      (λ c. absurd (let w : Some x ≡ None = rw c at e in cc))
-      (λ c. In_cases t x xs h (λ d. rw d c) (λ l. first_none acc xs (rw c at e) t l))
+  first_none : (acc : N → Bool) (xs : List N) (t : N) → find acc xs ≡ None → member eq xs t ≡ true → acc t ≡ false
+  first_none acc [] t e m = grind arith
+  first_none acc (x ∷ xs) t e m = grind (arith, dec x t, first_none acc xs t)
 
   module _ (edges : N → List N) (n : ℕ) (start : N) (a : (r : N) → IsEnough eq edges n none_held r)
       (acc : N → Bool) where
@@ -77,6 +75,6 @@ module _ {N : Type 0} {eq : N → N → Bool} (dec : (a b : N) → Decides (eq a
     -- if the search has no accepting node, no run has
     pub first_none_preferred : find acc (flat_map (ends eq edges n none_held) (start ∷ [])) ≡ None
         → (ds : List ℕ) (t : N) → IsPath edges [] start ds t → acc t ≡ false
-    first_none_preferred e ds t p = first_none acc _ e t (rw (all_ends dec edges n [] (start ∷ []) a) at
+    first_none_preferred e ds t p = first_none acc _ t e (In_member dec _ t (rw (all_ends dec edges n [] (start ∷ []) a) at
         (In_map (λ p. p.1) (0 ∷ ds, t) (all_paths dec edges n [] (start ∷ []) a)
-        (listed_of dec edges n [] (start ∷ []) a (0 ∷ ds) t (start, refl, p))))
+        (listed_of dec edges n [] (start ∷ []) a (0 ∷ ds) t (start, refl, p)))))
