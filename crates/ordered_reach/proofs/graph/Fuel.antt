@@ -1,8 +1,8 @@
 -- Fuel for a search: the number of nodes that are not visited is enough.
 -- Main statements: IsEnough-from_count, ordered-enough.
--- Used by: FiniteGraphs, RunFuel, Automata.
+-- Used by: FiniteGraphs, RunFuel, and the fuel of a step.
 -- Idea: each step of a loop-free path visits a node more.
-use Rattle.ordered_reach.proofs.Common.{ap, arith, Bool, by_test, Decides, fresh, List, member, ordered, suc, sym, true, true≢false, with_node, zero, ℕ, ◌+◌, ◌∙◌, ◌≡◌, ◌≤◌}
+use Rattle.ordered_reach.proofs.Common.{ap, arith, Bool, by_test, Decides, fresh, List, member, ordered, suc, true, with_node, zero, ℕ, ◌+◌, ◌≡◌, ◌≤◌}
 use Rattle.ordered_reach.proofs.graph.ClosedSets.{IsEnough, IsEnough-more_fuel, ends-enough}
 use Rattle.ordered_reach.proofs.graph.SearchBound.{weight, weight_one}
 use Rattle.ordered_reach.proofs.lists.NewNodes.{flat_map-agree}
@@ -24,11 +24,6 @@ module _ {N : Type 0} {eq : N → N → Bool} (dec : (a b : N) → Decides (eq a
       → ordered eq edges n held roots ≡ ordered eq edges m held roots
   ordered-enough edges n m held roots a b =
       ap (λ l. fresh eq held l) (flat_map-agree dec _ _ roots (λ x z. ends-enough dec edges n m held x (a x) (b x)))
-
-  pub IsEnough-held : (edges : N → List N) (n : ℕ) (held : N → Bool) (r : N) → held r ≡ true
-      → IsEnough eq edges n held r
-  IsEnough-held edges zero held r e = e
-  IsEnough-held edges (suc n) held r e = λ f t k. absurd (true≢false (sym e ∙ f))
 
   pub IsEnough-plus : (edges : N → List N) (k n : ℕ) (held : N → Bool) (r : N) → IsEnough eq edges n held r
       → IsEnough eq edges (k + n) held r

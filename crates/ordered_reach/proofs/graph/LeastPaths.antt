@@ -1,6 +1,6 @@
 -- The nodes that a search lists are in the order of their least paths.
 -- Main statements: ordered_in_order.
--- Used by: FiniteReach, RootByRoot, RunLists.
+-- Used by: FiniteReach, RootByRoot, MostPreferred, RunLists.
 -- Idea: the first of ascending paths to a node is its least one.
 use Rattle.ordered_reach.proofs.Common.{[], ap, arith, Before, Bool, by_test, cond, Contains, Decides, ends, false, false≢true, flat_map, fresh, inl, inr, IsInOrderOfReach, IsLeastPath, IsPathFrom, List, map, member, or_false_left, or_false_right, ordered, refl, suc, sym, true, true≢false, with_node, zero, ℕ, ◌∙◌, ◌∷◌, ◌≡◌, ◌⊎◌}
 use Rattle.ordered_reach.proofs.lists.Elements.{Contains_In, In, In_Contains, In_cases, In_head, In_map, In_map_from, In_member, In_none, In_tail, member_In, once_by_order}
@@ -99,14 +99,11 @@ module _ {N : Type 0} {eq : N → N → Bool} (dec : (a b : N) → Decides (eq a
     reached_to : (s : N) (cs : List ℕ) → IsPathFrom edges held roots cs s
         → Contains (ordered eq edges n (member eq held) roots) s
     reached_to s cs h =
-        let m : In s (map (λ p. p.1) all_paths) = In_map (λ p. p.1) (cs, s) all_paths (listed_of cs s h) in
-        let k : member eq (flat_map (ends eq edges n (member eq held)) roots) s ≡ true =
-        In_member dec _ s (rw all_ends at m) in
+        let k = In_member dec _ s (rw all_ends at (In_map (λ p. p.1) (cs, s) all_paths (listed_of cs s h))) in
         let free : member eq held s ≡ false =
-        flat_map-member dec (ends eq edges n (member eq held)) roots s k
-        (λ t l z. ends_not_held edges n (member eq held) t s z) in
-        In_Contains dec _ s (member_In dec _ s
-        (member-fresh dec (member eq held) (flat_map (ends eq edges n (member eq held)) roots) s ∙ rw (k, free) refl))
+        flat_map-member dec _ roots s k (λ t l z. ends_not_held edges n (member eq held) t s z) in
+        let new = member-fresh dec (member eq held) (flat_map (ends eq edges n (member eq held)) roots) s in
+        In_Contains dec _ s (member_In dec _ s (grind (arith, k, free, new)))
 
     -- the list of the search has the nodes at the ends of paths from the roots, in the order of
     -- their least paths

@@ -1,6 +1,6 @@
 -- A search that is repeated, under more edges, from what an earlier search listed.
 -- Main statements: IsRepeatable, ordered_redone_without.
--- Used by: SameSearch, CutLists.
+-- Used by: SameSearch, CutLists, Automata.
 -- Idea: what is new from a listed node is reached from its root, too, and the root comes first.
 use Rattle.ordered_reach.proofs.Common.{[], without, append-nil, arith, Bool, by_test, Decides, ends, false, false≢true, flat_map, fresh, fun_ext, joined, List, member, none_held, not, or_left, or_right, ordered, refl, suc, sym, true, with_node, zero, ℕ, ◌||◌, ◌∙◌, ◌∷◌, ◌≡◌, or_false_left}
 use Rattle.ordered_reach.proofs.lists.SameNewNodes.{Alike, Alike-flat_map, Alike-front}

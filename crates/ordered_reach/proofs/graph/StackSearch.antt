@@ -11,9 +11,6 @@ module _ {N : Type 0} {eq : N → N → Bool} (dec : (a b : N) → Decides (eq a
   member-push met r = fun_ext (λ x. grind (arith, member-append dec met (r ∷ []) x))
 
   module _ (edges : N → List N) (n : ℕ) (enough : (x : N) → IsEnough eq edges n none_held x) where
-    enough_at : (held : N → Bool) (r : N) → IsEnough eq edges n held r
-    enough_at held r = IsEnough-from_none dec edges n held r (enough r)
-
     ordered-held : (met : List N) (r : N) (rs : List N) → member eq met r ≡ true
         → ordered eq edges n (member eq met) (r ∷ rs) ≡ ordered eq edges n (member eq met) rs
     ordered-held met r rs e = rw (ends-held dec edges n (member eq met) r e)
@@ -22,7 +19,8 @@ module _ {N : Type 0} {eq : N → N → Bool} (dec : (a b : N) → Decides (eq a
         → ordered eq edges n (member eq met) (r ∷ rs) ≡ r ∷ ordered eq edges n (member eq (met ++ r ∷ []))
         (edges r ++ rs)
     ordered-new met r rs e =
-        rw (member-push met r) (fresh-ends_new dec edges n (member eq met) r rs e (enough_at (member eq met) r))
+        rw (member-push met r) (fresh-ends_new dec edges n (member eq met) r rs e
+        (IsEnough-from_none dec edges n (member eq met) r (enough r)))
 
     pub closure-done : (met : List N) → closure eq edges n met [] ≡ met
     closure-done met = append-nil met
@@ -55,5 +53,6 @@ module _ {N : Type 0} {eq : N → N → Bool} (dec : (a b : N) → Decides (eq a
         let same : joined (member eq A) held ≡ joined (member eq (ordered eq edges n held rs)) held =
         fun_ext (λ x. grind (arith, member-fresh dec held A x)) in
         let rest = fresh-held dec edges n (member eq A) held (joined (member eq A) held) ss
-        (roots_find_closed dec edges n held rs (enough_at held)) (λ x m. or_left (member eq A x) (held x) m) in
+        (roots_find_closed dec edges n held rs (λ r. IsEnough-from_none dec edges n held r (enough r)))
+        (λ x m. or_left (member eq A x) (held x) m) in
         rw (flat_map-append (ends eq edges n held) rs ss, fresh-append dec held A _, rest, same)

@@ -1,6 +1,6 @@
 -- At most one list is in the order of least paths.
--- Main statements: one_end, one_least, one_order.
--- Used by: FiniteReach, and the law that results are determined.
+-- Main statements: one_end, one_least, IsEarlier, one_order.
+-- Used by: LeastPaths, FiniteReach, RunLists, and the law that results are determined.
 -- Idea: the least path to a node is unique, and the order of these is strict.
 use Rattle.ordered_reach.proofs.Common.{[], Before, Bool, Decides, IsInOrderOfReach, IsLeastPath, IsPath, List, sym, ℕ, ◌∙◌, ◌∷◌, ◌≡◌, some_injective}
 use Rattle.ordered_reach.proofs.lists.Elements.{Contains_In, In_Contains, same_by_order}

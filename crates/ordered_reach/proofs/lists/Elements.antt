@@ -52,11 +52,9 @@ In_map_from g z (y ∷ xs) h f = In_cases z (g y) (map g xs) h
 
 pub without-In : {A : Type 0} (cap : A → Bool) (xs : List A) (s : A) → In s xs → cap s ≡ false → In s (without cap xs)
 without-In cap [] s h c = h
-without-In cap (x ∷ xs) s h c = In_cases s x xs h
-    (λ q. let z : cap x ≡ false = rw (← q) c in rw z (rw q (In_head x (without cap xs))))
-    (λ l. by_test (cap x)
-    (λ e. rw e (without-In cap xs s l c))
-    (λ e. rw e (In_tail s x (without cap xs) (without-In cap xs s l c))))
+without-In cap (x ∷ xs) s h c = by_test (cap x)
+    (λ e. rw e (In_cases s x xs h (λ q. absurd (false≢true (sym c ∙ ap cap q ∙ e))) (λ l. without-In cap xs s l c)))
+    (λ e. rw e (In_cases s x xs h (λ q. rw q (In_head x _)) (λ l. In_tail s x _ (without-In cap xs s l c))))
 
 pub In_take_one : {A : Type 0} (ps : List A) (x : A) → In x (take 1 ps) → In x ps
 In_take_one [] x h = h

@@ -2,7 +2,7 @@
 -- Main statements: Before-first, Before-rest, Before-parts, Before-asym, same_least.
 -- Used by: PathLists, UniqueOrder, MostPreferred, RunLists.
 -- Idea: the first numbers decide unless they are equal.
-use Rattle.ordered_reach.proofs.Common.{[], arith, Before, by_cases, List, sym, ℕ, ◌<◌, ◌∷◌, ◌≡◌, ◌⊎◌, Equal, Greater, Less}
+use Rattle.ordered_reach.proofs.Common.{[], arith, Before, by_cases, List, sym, ℕ, ◌<◌, ◌∷◌, ◌≡◌, ◌⊎◌}
 use Rattle.std.proofs.lemmas.Bool.Decides.{nat_tests}
 
 pub Before-first : (c d : ℕ) (cs ds : List ℕ) → c < d → Before (c ∷ cs) (d ∷ ds)
@@ -16,9 +16,8 @@ pub Before-parts : (c d : ℕ) (cs ds : List ℕ) → Before (c ∷ cs) (d ∷ d
 Before-parts c d cs ds b = grind (arith, nat_tests)
 
 pub Before-asym : (cs ds : List ℕ) → Before cs ds → Before ds cs → ⊥
-Before-asym [] [] a b = let z : Equal ≡ Less = a in cc
-Before-asym (c ∷ cs) [] a b = let z : Greater ≡ Less = a in cc
-Before-asym [] (d ∷ ds) a b = let z : Greater ≡ Less = b in cc
+Before-asym [] ds a b = grind arith
+Before-asym (c ∷ cs) [] a b = grind arith
 Before-asym (c ∷ cs) (d ∷ ds) a b =
     grind (arith, Before-parts c d cs ds a, Before-parts d c ds cs b, Before-asym cs ds)
 

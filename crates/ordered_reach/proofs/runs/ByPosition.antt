@@ -1,6 +1,6 @@
 -- A depth-first search over positions, split into a search at each position.
 -- Main statements: pair_eq, states_at, runs_are_listed, runs_own, states_at-ordered_next.
--- Used by: CutLists, LastAccepting, RunFuel, RunLists.
+-- Used by: CutLists, LastAccepting, RunFuel, RunLists, Automata.
 -- Idea: runs list each state that they reach at their position, and behind it the runs over its bytes.
 use Rattle.ordered_reach.proofs.Common.{true, [], ap, arith, Bool, by_test, cond, Decides, ends, eqb-true, false, flat_map, flat_map-append, flat_map-map, fresh, fun_ext, List, map, map-append, member, none_held, ordered, placed, refl, run_edges, suc, sym, with_node, zero, ℕ, ◌&&◌, ◌++◌, ◌+◌, ◌<◌, ◌==◌, ◌||◌, ◌∙◌, ◌∷◌, ◌≡◌, ◌≤◌, nat_lt, ◌-◌}
 use Rattle.std.proofs.lemmas.Bool.Decides.{Decides-and, Decides-eqb, Decides-like, nat_tests}

@@ -1,6 +1,6 @@
 -- The first accepting node of a search over positions, found by scanning position by position.
 -- Main statements: best, best_step.
--- Used by: CutLists, RunLists.
+-- Used by: CutLists.
 -- Idea: what accepts later before the cut is preferred to what accepts at the cut.
 use Rattle.ordered_reach.proofs.Common.{◌∙◌, ap, [], arith, before, Bool, Decides, ends, false, false≢true, find, find-append, flat_map, fresh, List, None, none_held, Option, option_map, option_or, ordered, placed, refl, suc, true, with_node, ℕ, ◌++◌, ◌∷◌, ◌≡◌}
 use Rattle.ordered_reach.proofs.runs.ByPosition.{IsEnoughForRuns, runs, runs-append, runs_are_listed, runs_over}

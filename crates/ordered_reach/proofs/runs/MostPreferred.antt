@@ -1,6 +1,6 @@
 -- The first accepting node of a search is the end of the most preferred run.
 -- Main statements: IsMostPreferred, first_is_preferred, first_none_preferred.
--- Used by: RunLists.
+-- Used by: RunLists, Automata.
 -- Idea: the paths are enumerated in order, so the first that accepts is the least.
 use Rattle.ordered_reach.proofs.Common.{arith, member, [], ap, Before, Bool, by_test, Decides, ends, false, false≢true, find, flat_map, inl, inr, IsLeastPath, IsLeastRun, IsPath, IsPathFrom, List, map, None, none_held, refl, Some, suc, sym, true, zero, ℕ, ◌∙◌, ◌∷◌, ◌≡◌, ◌⊎◌}
 use Rattle.ordered_reach.proofs.lists.Elements.{In, In_cases, In_head, In_map, In_member, In_tail}
@@ -75,6 +75,7 @@ module _ {N : Type 0} {eq : N → N → Bool} (dec : (a b : N) → Decides (eq a
     -- if the search has no accepting node, no run has
     pub first_none_preferred : find acc (flat_map (ends eq edges n none_held) (start ∷ [])) ≡ None
         → (ds : List ℕ) (t : N) → IsPath edges [] start ds t → acc t ≡ false
-    first_none_preferred e ds t p = first_none acc _ t e (In_member dec _ t (rw (all_ends dec edges n [] (start ∷ []) a) at
-        (In_map (λ p. p.1) (0 ∷ ds, t) (all_paths dec edges n [] (start ∷ []) a)
-        (listed_of dec edges n [] (start ∷ []) a (0 ∷ ds) t (start, refl, p)))))
+    first_none_preferred e ds t p =
+        let listed = listed_of dec edges n [] (start ∷ []) a (0 ∷ ds) t (start, refl, p) in
+        first_none acc _ t e (In_member dec _ t (rw (all_ends dec edges n [] (start ∷ []) a) at
+        (In_map (λ p. p.1) (0 ∷ ds, t) (all_paths dec edges n [] (start ∷ []) a) listed)))

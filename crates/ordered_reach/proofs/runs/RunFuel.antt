@@ -5,7 +5,7 @@
 use Rattle.ordered_reach.proofs.Common.{arith, Bool, by_test, Decides, eqb-true, List, member, none_held, run_edges, subst, suc, true, with_node, zero, ℕ, ◌+◌, ◌==◌, ◌≡◌, ◌≤◌, []}
 use Rattle.std.proofs.lemmas.Bool.Decides.{nat_tests}
 use Rattle.ordered_reach.proofs.graph.ClosedSets.{IsEnough, IsEnough-from_none}
-use Rattle.ordered_reach.proofs.graph.Fuel.{IsEnough-held, IsEnough-plus}
+use Rattle.ordered_reach.proofs.graph.Fuel.{IsEnough-plus}
 use Rattle.ordered_reach.proofs.runs.ByPosition.{Decides-pair_eq, IsEnoughForRuns, member-run_edges, pair_eq, with_node-at}
 
 -- fuel for all runs: the same amount at each position up to the last
@@ -27,7 +27,8 @@ module _ {N : Type 0} {eq : N → N → Bool} (dec : (a b : N) → Decides (eq a
     IsEnough-next : (a b : ℕ) (held : ℕ × N → Bool) (i : ℕ) (s : N) → IsEnough eq (eps i) a (λ t. held (i, t)) s
         → ((s t : N) → member eq (bytes i s) t ≡ true → IsEnoughForRuns eq eps bytes b none_held (suc i, t))
         → IsEnoughForRuns eq eps bytes (a + b) held (i, s)
-    IsEnough-next zero b held i s h f = IsEnough-held (Decides-pair_eq dec) (run_edges eps bytes) (0 + b) held (i, s) h
+    IsEnough-next zero b held i s h f = let z : 0 + b ≡ b + 0 = omega arith in
+        rw z (IsEnough-plus (Decides-pair_eq dec) (run_edges eps bytes) b 0 held (i, s) h)
     IsEnough-next (suc a) b held i s h f =
         let z : suc a + b ≡ suc (a + b) = omega arith in
         let more : ℕ × N → Bool = with_node (pair_eq eq) held (i, s) in
