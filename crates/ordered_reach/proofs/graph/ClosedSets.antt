@@ -75,15 +75,12 @@ module _ {N : Type 0} {eq : N → N → Bool} (dec : (a b : N) → Decides (eq a
   pub ends_closed : (n : ℕ) (held : N → Bool) (r : N) → IsEnough eq edges n held r
       → IsClosed eq edges (member eq (ends eq edges n held r)) held
   ends_closed zero held r a x y m k = absurd (false≢true m)
-  ends_closed (suc n) held r a x y m k = ends_cases n held r x m
+  ends_closed (suc n) held r a x y m k =
+      let h : N → Bool = with_node eq held r in ends_cases n held r x m
       (λ e q. let l : member eq (edges r) y ≡ true = rw q k in
-      found e y l (ends_self n (with_node eq held r) y (a e y l)))
-      (λ e t l z. found e t l (ends_closed n (with_node eq held r) t (a e t l) x y z k))
-    where
-      found : held r ≡ false → (t : N) → member eq (edges r) t ≡ true
-          → (member eq (ends eq edges n (with_node eq held r) t) y || (eq r y || held y)) ≡ true
-          → (member eq (ends eq edges (suc n) held r) y || held y) ≡ true
-      found e t l h = grind (arith, member-flat_map dec (ends eq edges n (with_node eq held r)) (edges r) t y l)
+      grind (arith, ends_self n h y (a e y l), member-flat_map dec (ends eq edges n h) (edges r) y y l))
+      (λ e t l z.
+      grind (arith, ends_closed n h t (a e t l) x y z k, member-flat_map dec (ends eq edges n h) (edges r) t y l))
 
   pub roots_find_closed : (n : ℕ) (held : N → Bool) (roots : List N) → ((r : N) → IsEnough eq edges n held r)
       → IsClosed eq edges (member eq (flat_map (ends eq edges n held) roots)) held

@@ -36,20 +36,17 @@ module _ {N : Type 0} {eq : N → N → Bool} (dec : (a b : N) → Decides (eq a
       → fresh eq (joined v seen) xs ≡ filter (λ x. not (v x)) (fresh eq seen xs)
   fresh-joined v seen [] = refl
   fresh-joined v seen (x ∷ xs) =
-      let same : v x ≡ true → fresh eq (joined v seen) xs ≡ fresh eq (joined v (with_node eq seen x)) xs =
-      λ e. fresh-same _ _ xs (λ y. grind (arith, dec)) in
-      let turn : fresh eq (with_node eq (joined v seen) x) xs ≡ fresh eq (joined v (with_node eq seen x)) xs =
-      fresh-same _ _ xs (λ y. grind arith) in
-      grind (arith, same, turn, fresh-joined v seen xs, fresh-joined v (with_node eq seen x) xs)
+      let turn : joined v (with_node eq seen x) ≡ with_node eq (joined v seen) x = fun_ext (λ y. grind arith) in
+      let same : v x ≡ true → joined v seen ≡ with_node eq (joined v seen) x = λ e. fun_ext (λ y. grind (arith, dec x y)) in
+      grind (arith, same, fresh-joined v seen xs, (rw turn at (fresh-joined v (with_node eq seen x) xs)))
 
   -- the new nodes, with some nodes left out
   fresh-left_out : (v seen : N → Bool) (xs : List N)
       → fresh eq seen (filter (λ x. not (v x)) xs) ≡ fresh eq (joined v seen) xs
   fresh-left_out v seen [] = refl
   fresh-left_out v seen (x ∷ xs) =
-      let turn : fresh eq (joined v (with_node eq seen x)) xs ≡ fresh eq (with_node eq (joined v seen) x) xs =
-      fresh-same _ _ xs (λ y. grind arith) in
-      grind (arith, turn, fresh-left_out v seen xs, fresh-left_out v (with_node eq seen x) xs)
+      let turn : joined v (with_node eq seen x) ≡ with_node eq (joined v seen) x = fun_ext (λ y. grind arith) in
+      grind (arith, fresh-left_out v seen xs, (rw turn at (fresh-left_out v (with_node eq seen x) xs)))
 
   -- dropping seen nodes first changes nothing
   pub fresh-filter : (v seen : N → Bool) (xs : List N) → ((x : N) → v x ≡ true → seen x ≡ true)
