@@ -37,7 +37,8 @@ module _ {N : Type 0} {eq : N → N → Bool} (dec : (a b : N) → Decides (eq a
   fresh-joined v seen [] = refl
   fresh-joined v seen (x ∷ xs) =
       let turn : joined v (with_node eq seen x) ≡ with_node eq (joined v seen) x = fun_ext (λ y. grind arith) in
-      let same : v x ≡ true → joined v seen ≡ with_node eq (joined v seen) x = λ e. fun_ext (λ y. grind (arith, dec x y)) in
+      let same : v x ≡ true → joined v seen ≡ with_node eq (joined v seen) x =
+      λ e. fun_ext (λ y. grind (arith, dec x y)) in
       grind (arith, same, fresh-joined v seen xs, (rw turn at (fresh-joined v (with_node eq seen x) xs)))
 
   -- the new nodes, with some nodes left out

@@ -3,6 +3,7 @@
 -- Used by: RunLists, Automata.
 -- Idea: the paths are enumerated in order, so the first that accepts is the least.
 use Rattle.ordered_reach.proofs.Common.{arith, member, [], ap, Before, Bool, by_test, Decides, ends, false, false≢true, find, flat_map, inl, inr, IsLeastPath, IsLeastRun, IsPath, IsPathFrom, List, map, None, none_held, refl, Some, suc, sym, true, zero, ℕ, ◌∙◌, ◌∷◌, ◌≡◌, ◌⊎◌}
+use Rattle.ordered_reach.specs.Paths.{IsLeast}
 use Rattle.ordered_reach.proofs.lists.Elements.{In, In_cases, In_head, In_map, In_member, In_tail}
 use Rattle.ordered_reach.proofs.graph.ClosedSets.{IsEnough}
 use Rattle.ordered_reach.proofs.graph.LeastPaths.{all_ends, all_in_order, all_paths, listed_of, path_of}
@@ -28,14 +29,10 @@ run_of edges start (suc i ∷ ds) s h k = absurd (let g : None ≡ Some h.0 = h.
 -- a least path from one root is a least run after the number 0
 pub least_run_of : {N : Type 0} (edges : N → List N) (start : N) (cs : List ℕ) (s : N)
     → IsLeastPath edges [] (start ∷ []) cs s → (ds : List ℕ) × (cs ≡ 0 ∷ ds) × IsLeastRun edges start ds s
-least_run_of {N} edges start cs s h = run_of edges start cs s h.path (λ ds e p. (
-  ds,
-  e,
-  record {
-    run = p;
-    least = λ es q. same_first 0 ds es (rw e at (h.least (0 ∷ es) (start, refl, q)));
-  },
-))
+least_run_of edges start cs s h = run_of edges start cs s h.path (λ ds e p.
+    let least : IsLeast (λ es. IsPath edges [] start es s) ds = λ es q.
+    same_first 0 ds es (rw e at (h.least (0 ∷ es) (start, refl, q))) in
+    (ds, e, record { run = p; least = least }))
 
 module _ {N : Type 0} {eq : N → N → Bool} (dec : (a b : N) → Decides (eq a b) (a ≡ b)) where
   -- the first accepting end of sorted paths is that of the least of them

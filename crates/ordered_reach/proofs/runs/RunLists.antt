@@ -3,7 +3,7 @@
 -- Used by: Automata.
 -- Idea: MostPreferred and LeastPaths over the graph of positions and nodes.
 use Rattle.ordered_reach.proofs.Common.{◌<◌, slice_get, [], ◌&&◌, not, member, arith, Before, Bool, by_cases, by_test, Decides, eqb-true, false, IsInOrderOfReach, List, ListsReached, none_held, refl, run_edges, Some, subst, true, without, ℕ, ◌==◌, ◌∷◌, ◌≡◌}
-use Rattle.ordered_reach.proofs.lists.Elements.{Contains_In, In_Contains, In_member, member_In, once_by_order}
+use Rattle.ordered_reach.proofs.lists.Elements.{Contains_In, In, In_Contains, In_member, member_In, once_by_order}
 use Rattle.std.proofs.lemmas.Bool.Decides.{nat_tests}
 use Rattle.ordered_reach.proofs.lists.Pairs.{Sorted, Sorted-at, Sorted-from}
 use Rattle.ordered_reach.proofs.graph.UniqueOrder.{IsEarlier}
@@ -23,15 +23,14 @@ module _ {N : Type 0} {eq : N → N → Bool} (dec : (a b : N) → Decides (eq a
   Sorted-kept : (R : ℕ × N → ℕ × N → Type 0) (cap : N → Bool) (k : ℕ) (ps : List (ℕ × N)) → Sorted R ps
       → Sorted (λ s t. R (k, s) (k, t)) (without cap (states_at k ps))
   Sorted-kept R cap k [] a = tt
-  Sorted-kept R cap k (p ∷ ps) a = by_test (p.0 == k)
-      (λ e. by_test (cap p.1)
-      (λ c. rw (e, c) (Sorted-kept R cap k ps a.1))
-      (λ c. rw (e, c) (
-        (λ t l. subst (λ j. R (j, p.1) (k, t)) (eqb-true p.0 k e) (a.0 (k, t)
-            (member_In (Decides-pair_eq dec) ps (k, t) (grind (arith, member-kept cap k ps t, In_member dec _ t l))))),
-        Sorted-kept R cap k ps a.1,
-      )))
-      (λ e. rw e (Sorted-kept R cap k ps a.1))
+  Sorted-kept R cap k (p ∷ ps) a =
+      let rest = Sorted-kept R cap k ps a.1 in
+      let first : (t : N) → In t (without cap (states_at k ps)) → R p (k, t) = λ t l. a.0 (k, t)
+      (member_In (Decides-pair_eq dec) ps (k, t) (grind (arith, member-kept cap k ps t, In_member dec _ t l))) in
+      by_test (p.0 == k)
+      (λ e. by_test (cap p.1) (λ c. rw (e, c) rest)
+      (λ c. rw (e, c) ((λ t l. subst (λ j. R (j, p.1) (k, t)) (eqb-true p.0 k e) (first t l)), rest)))
+      (λ e. rw e rest)
 
 module _ {N : Type 0} {eq : N → N → Bool} (dec : (a b : N) → Decides (eq a b) (a ≡ b)) (eps bytes : ℕ → N → List N)
     (n : ℕ) (start : N) (enough : (p : ℕ × N) → IsEnoughForRuns eq eps bytes n none_held p) where
