@@ -82,6 +82,7 @@ module _ {N : Type 0} {eq : N → N → Bool} (dec : (a b : N) → Decides (eq a
       (λ e t l z.
       grind (arith, ends_closed n h t (a e t l) x y z k, member-flat_map dec (ends eq edges n h) (edges r) t y l))
 
+  -- the nodes found from several roots are closed, too
   pub roots_find_closed : (n : ℕ) (held : N → Bool) (roots : List N) → ((r : N) → IsEnough eq edges n held r)
       → IsClosed eq edges (member eq (flat_map (ends eq edges n held) roots)) held
   roots_find_closed n held roots a x y m k = flat_map-member dec (ends eq edges n held) roots x m (λ r l z.

@@ -20,10 +20,9 @@ Sorted-append R (x ∷ xs) ys a b h =
 pub Sorted-map : {A B : Type 0} (R : B → B → Type 0) (f : A → B) (S : A → A → Type 0) (xs : List A)
     → ((x y : A) → In x xs → In y xs → S x y → R (f x) (f y)) → Sorted S xs → Sorted R (map f xs)
 Sorted-map R f S [] h a = tt
-Sorted-map R f S (x ∷ xs) h a = (
-  (λ z l. In_map_from f z xs l (λ y k e. rw e (h x y (In_head x xs) (In_tail y x xs k) (a.0 y k)))),
-  Sorted-map R f S xs (λ y z k l. h y z (In_tail y x xs k) (In_tail z x xs l)) a.1,
-)
+Sorted-map R f S (x ∷ xs) h a =
+    let rest = Sorted-map R f S xs (λ y z k l. h y z (In_tail y x xs k) (In_tail z x xs l)) a.1 in
+    ((λ z l. In_map_from f z xs l (λ y k e. rw e (h x y (In_head x xs) (In_tail y x xs k) (a.0 y k)))), rest)
 
 pub Sorted-at : {A : Type 0} (R : A → A → Type 0) (xs : List A) → Sorted R xs
     → (i j : ℕ) (x y : A) → i < j → slice_get xs i ≡ Some x → slice_get xs j ≡ Some y → R x y

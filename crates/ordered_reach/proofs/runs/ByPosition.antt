@@ -109,13 +109,13 @@ module _ {N : Type 0} {eq : N → N → Bool} (dec : (a b : N) → Decides (eq a
           ∙ sym (flat_map-flat_map g F (eps i s)) in
           rw (e, flat_map-append f next (map (placed i) (eps i s)), later, own) refl)
 
-      abbrev paths_at : ℕ → List N → List N
+      -- the ends of the paths at a position from some states there
+      abbrev pub paths_at : ℕ → List N → List N
       paths_at i rs = flat_map (ends eq (eps i) m none_held) rs
 
       -- the runs from some states, by the states that they reach at their position
       pub runs_are_listed : (i : ℕ) (rs : List N)
-          → runs eq eps bytes m i rs
-          ≡ flat_map (runs_over eq eps bytes m i) (flat_map (ends eq (eps i) m none_held) rs)
+          → runs eq eps bytes m i rs ≡ flat_map (runs_over eq eps bytes m i) (paths_at i rs)
       runs_are_listed i rs =
           flat_map-map (run_ends eq eps bytes m none_held) (placed i) rs
           ∙ flat_map-same (λ s. run_ends eq eps bytes m none_held (i, s)) _ rs
@@ -133,7 +133,7 @@ module _ {N : Type 0} {eq : N → N → Bool} (dec : (a b : N) → Decides (eq a
           ∙ flat_map_none (λ p. []) (runs eq eps bytes m i rs) (λ p. refl)
 
       pub runs_own : (i : ℕ) (rs : List N) → states_at i (runs eq eps bytes m i rs) ≡ paths_at i rs
-      runs_own i rs = rw (runs_are_listed i rs) (own (flat_map (ends eq (eps i) m none_held) rs))
+      runs_own i rs = rw (runs_are_listed i rs) (own (paths_at i rs))
         where
           own : (P : List N) → states_at i (flat_map (runs_over eq eps bytes m i) P) ≡ P
           own [] = refl
@@ -146,7 +146,7 @@ module _ {N : Type 0} {eq : N → N → Bool} (dec : (a b : N) → Decides (eq a
       runs_next : (i k : ℕ) (rs : List N) → i < k
           → states_at k (runs eq eps bytes m i rs)
           ≡ states_at k (runs eq eps bytes m (suc i) (flat_map (bytes i) (paths_at i rs)))
-      runs_next i k rs l = rw (runs_are_listed i rs) (next (flat_map (ends eq (eps i) m none_held) rs))
+      runs_next i k rs l = rw (runs_are_listed i rs) (next (paths_at i rs))
         where
           next : (P : List N) → states_at k (flat_map (runs_over eq eps bytes m i) P)
               ≡ states_at k (runs eq eps bytes m (suc i) (flat_map (bytes i) P))
