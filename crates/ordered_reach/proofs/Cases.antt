@@ -30,9 +30,3 @@ or_false_left a b h = grind arith
 
 pub or_false_right : (a b : Bool) → (a || b) ≡ false → b ≡ false
 or_false_right a b h = grind arith
-
-pub or_more : (a b c : Bool) → (b ≡ true → c ≡ true) → (a || b) ≡ true → (a || c) ≡ true
-or_more a b c f h = grind arith
-
-pub or_swap : (a b c : Bool) → (a || (b || c)) ≡ (b || (a || c))
-or_swap a b c = grind arith

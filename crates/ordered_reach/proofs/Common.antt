@@ -15,8 +15,7 @@ pub use Rattle.std.specs.List.{AllPairs, filter, find, flat_map, list_any}
 pub use Rattle.std.specs.Option.{option_map, option_or}
 pub use Rattle.std.specs.Prelude.{◌==◌, All, Contains, nat_eq, nat_lt, slice_get, slice_index_or}
 pub use mathlib.Core.Path.{fun_ext}
-pub use Rattle.ordered_reach.proofs.Cases.{by_cases, by_test, or_false, or_false_left, or_false_right, or_more, or_swap}
-pub use Rattle.ordered_reach.proofs.Cases.{some_injective}
+pub use Rattle.ordered_reach.proofs.Cases.{by_cases, by_test, or_false, or_false_left, or_false_right, some_injective}
 pub use Rattle.ordered_reach.specs.Paths.{Before, IsInOrderOfReach, IsLeastPath, IsListedInTurn, IsPath, IsPathFrom}
 pub use Rattle.ordered_reach.specs.Reach.{edge_count, ends, fresh, joined, LeadsBelow, member, nodes_below, none_held}
 pub use Rattle.ordered_reach.specs.Reach.{ordered, with_node}

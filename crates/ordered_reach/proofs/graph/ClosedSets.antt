@@ -2,7 +2,7 @@
 -- Main statements: IsClosed, ends-closed_set, fresh-held, fresh-ends_new.
 -- Used by: everything that a search with a visited set is compared with.
 -- Idea: an edge from a closed set goes to it or to a visited node, so nothing in it need be searched again.
-use Rattle.ordered_reach.proofs.Common.{none_held, [], ap, arith, Bool, by_test, cond, Decides, ends, false, false≢true, filter, flat_map, flat_map-append, fresh, fun_ext, joined, List, member, not, or_false, or_left, or_more, or_right, or_swap, refl, suc, sym, true, true≢false, with_node, zero, ℕ, ◌++◌, ◌||◌, ◌∙◌, ◌∷◌, ◌≡◌}
+use Rattle.ordered_reach.proofs.Common.{none_held, [], ap, arith, Bool, by_test, cond, Decides, ends, false, false≢true, filter, flat_map, flat_map-append, fresh, fun_ext, joined, List, member, not, or_false, or_left, or_right, refl, suc, sym, true, true≢false, with_node, zero, ℕ, ◌++◌, ◌||◌, ◌∙◌, ◌∷◌, ◌≡◌}
 use Rattle.ordered_reach.proofs.lists.Pieces.{filter-flat_map, flat_map-same}
 use Rattle.ordered_reach.proofs.lists.NewNodes.{eq-self, filter_none, flat_map-agree, flat_map-member, fresh-append, fresh-filter, member-flat_map}
 
@@ -30,8 +30,7 @@ module _ {N : Type 0} {eq : N → N → Bool} (dec : (a b : N) → Decides (eq a
   ends-enough (suc n) zero held r a b = rw b refl
   ends-enough (suc n) (suc m) held r a b = by_test (held r)
       (λ e. rw e refl)
-      (λ e. rw e (ap (λ l. r ∷ l)
-      (flat_map-agree dec (ends eq edges n (with_node eq held r)) (ends eq edges m (with_node eq held r)) (edges r)
+      (λ e. rw e (ap (λ l. r ∷ l) (flat_map-agree dec _ _ (edges r)
       (λ t k. ends-enough n m (with_node eq held r) t (a e t k) (b e t k)))))
 
   -- enough fuel is enough if more is visited
@@ -40,7 +39,7 @@ module _ {N : Type 0} {eq : N → N → Bool} (dec : (a b : N) → Decides (eq a
   IsEnough-more_held zero held more r s a = s r a
   IsEnough-more_held (suc n) held more r s a = λ e t k.
       IsEnough-more_held n (with_node eq held r) (with_node eq more r) t
-      (λ x m. or_more (eq r x) (held x) (more x) (s x) m) (a (grind (arith, s r)) t k)
+      (λ x m. grind (arith, s x)) (a (grind (arith, s r)) t k)
 
   pub IsEnough-from_none : (n : ℕ) (held : N → Bool) (r : N) → IsEnough eq edges n none_held r
       → IsEnough eq edges n held r
@@ -54,10 +53,6 @@ module _ {N : Type 0} {eq : N → N → Bool} (dec : (a b : N) → Decides (eq a
   pub ends-held : (n : ℕ) (held : N → Bool) (r : N) → held r ≡ true → ends eq edges n held r ≡ []
   ends-held zero held r e = refl
   ends-held (suc n) held r e = rw e refl
-
-  pub ends-free : (n : ℕ) (held : N → Bool) (r : N) → held r ≡ false
-      → ends eq edges (suc n) held r ≡ r ∷ ends_behind eq edges n held r
-  ends-free n held r e = rw e refl
 
   -- a node that is not visited is found from itself
   pub ends_self : (n : ℕ) (held : N → Bool) (r : N) → IsEnough eq edges n held r
@@ -80,28 +75,30 @@ module _ {N : Type 0} {eq : N → N → Bool} (dec : (a b : N) → Decides (eq a
   pub ends_closed : (n : ℕ) (held : N → Bool) (r : N) → IsEnough eq edges n held r
       → IsClosed eq edges (member eq (ends eq edges n held r)) held
   ends_closed zero held r a x y m k = absurd (false≢true m)
-  ends_closed (suc n) held r a x y m k = ends_cases n held r x m
+  ends_closed (suc n) held r a x y m k =
+      let h : N → Bool = with_node eq held r in ends_cases n held r x m
       (λ e q. let l : member eq (edges r) y ≡ true = rw q k in
-      found e y l (ends_self n (with_node eq held r) y (a e y l)))
-      (λ e t l z. found e t l (ends_closed n (with_node eq held r) t (a e t l) x y z k))
-    where
-      found : held r ≡ false → (t : N) → member eq (edges r) t ≡ true
-          → (member eq (ends eq edges n (with_node eq held r) t) y || (eq r y || held y)) ≡ true
-          → (member eq (ends eq edges (suc n) held r) y || held y) ≡ true
-      found e t l h = grind (arith, member-flat_map dec (ends eq edges n (with_node eq held r)) (edges r) t y l)
+      grind (arith, ends_self n h y (a e y l), member-flat_map dec (ends eq edges n h) (edges r) y y l))
+      (λ e t l z.
+      grind (arith, ends_closed n h t (a e t l) x y z k, member-flat_map dec (ends eq edges n h) (edges r) t y l))
+
+  -- the nodes found from several roots are closed, too
+  pub roots_find_closed : (n : ℕ) (held : N → Bool) (roots : List N) → ((r : N) → IsEnough eq edges n held r)
+      → IsClosed eq edges (member eq (flat_map (ends eq edges n held) roots)) held
+  roots_find_closed n held roots a x y m k = flat_map-member dec (ends eq edges n held) roots x m (λ r l z.
+      let c = ends_closed n held r (a r) x y z k in
+      grind (arith, c, member-flat_map dec (ends eq edges n held) roots r y l))
 
   -- the nodes found from a closed set are in it
   pub ends_within : (n : ℕ) (v held more : N → Bool) (r x : N) → IsClosed eq edges v held
       → ((y : N) → held y ≡ true → more y ≡ true) → (v r || held r) ≡ true
       → member eq (ends eq edges n more r) x ≡ true → v x ≡ true
   ends_within zero v held more r x c s i m = absurd (false≢true m)
-  ends_within (suc n) v held more r x c s i m = ends_cases n more r x m
-      (λ e q. rw q at (start e))
+  ends_within (suc n) v held more r x c s i m =
+      let start : more r ≡ false → v r ≡ true = λ e. grind (arith, s r) in
+      ends_cases n more r x m (λ e q. rw q at (start e))
       (λ e t l z. ends_within n v held (with_node eq more r) t x c (λ y h. or_right (eq r y) (more y) (s y h))
       (c r t (start e) l) z)
-    where
-      start : more r ≡ false → v r ≡ true
-      start e = grind (arith, s r)
 
   -- a closed set and the visited nodes may be left out together
   pub ends-closed_set : (n : ℕ) (v held : N → Bool) (r : N) → IsClosed eq edges v held
@@ -113,23 +110,20 @@ module _ {N : Type 0} {eq : N → N → Bool} (dec : (a b : N) → Decides (eq a
       (λ k. rw (ends-held (suc n) (joined v held) r (or_left (v r) (held r) k))
       (filter_none dec v (ends eq edges (suc n) held r)
       (λ x m. ends_within (suc n) v held held r x c (λ y h. h) (or_left (v r) (held r) k) m)))
-      (λ k. rw (e, k) (ap (λ l. r ∷ l)
-      (filter-flat_map (λ x. not (v x)) (ends eq edges n (with_node eq held r)) (edges r)
-      ∙ flat_map-same (λ t. filter (λ x. not (v x)) (ends eq edges n (with_node eq held r) t))
-      (ends eq edges n (with_node eq (joined v held) r)) (edges r)
-      (λ t. ends-closed_set n v (with_node eq held r) t (λ x y m l. grind (arith, c x y m l))
-      ∙ ap (λ h. ends eq edges n h t) (fun_ext (λ x. or_swap (v x) (eq r x) (held x))))))))
+      (λ k. let turn : with_node eq (joined v held) r ≡ joined v (with_node eq held r) = fun_ext (λ x. grind arith) in
+      rw (e, k, turn, filter-flat_map (λ x. not (v x)) (ends eq edges n (with_node eq held r)) (edges r))
+      (ap (λ l. r ∷ l) (flat_map-same _ _ (edges r)
+      (λ t. ends-closed_set n v (with_node eq held r) t (λ x y m l. grind (arith, c x y m l)))))))
 
-  -- two visited sets that agree on a closed set that contains the start
-  pub ends_agree : (n : ℕ) (v held more : N → Bool) (r : N) → IsClosed eq edges v (λ x. false)
-      → ((x : N) → v x ≡ true → held x ≡ more x) → v r ≡ true
-      → ends eq edges n held r ≡ ends eq edges n more r
-  ends_agree zero v held more r c s i = refl
-  ends_agree (suc n) v held more r c s i =
-      rw (s r i) (ap (λ l. cond (more r) [] (r ∷ l))
-      (flat_map-agree dec (ends eq edges n (with_node eq held r)) (ends eq edges n (with_node eq more r)) (edges r)
-      (λ t l. ends_agree n v (with_node eq held r) (with_node eq more r) t c
-      (λ x m. ap (λ b. eq r x || b) (s x m)) (or_false (v t) (c r t i l)))))
+  -- two visited sets, and two graphs, that agree on a closed set that contains the start
+  pub ends_agree : (others : N → List N) (n : ℕ) (v held more : N → Bool) (r : N) → IsClosed eq edges v none_held
+      → ((x : N) → v x ≡ true → held x ≡ more x) → ((x : N) → v x ≡ true → edges x ≡ others x) → v r ≡ true
+      → ends eq edges n held r ≡ ends eq others n more r
+  ends_agree others zero v held more r c s g i = refl
+  ends_agree others (suc n) v held more r c s g i =
+      rw (s r i, ← (g r i)) (ap (λ l. cond (more r) [] (r ∷ l)) (flat_map-agree dec _ _ (edges r)
+      (λ t l. ends_agree others n v (with_node eq held r) (with_node eq more r) t c
+      (λ x m. ap (λ b. eq r x || b) (s x m)) g (or_false (v t) (c r t i l)))))
 
   -- the nodes of a closed set may count as visited from the start, where they count as seen
   pub fresh-held : (n : ℕ) (v held seen : N → Bool) (rs : List N) → IsClosed eq edges v held
@@ -138,15 +132,8 @@ module _ {N : Type 0} {eq : N → N → Bool} (dec : (a b : N) → Decides (eq a
       (flat_map (ends eq edges n (joined v held)) rs)
   fresh-held n v held seen rs c s =
       sym (fresh-filter dec v seen (flat_map (ends eq edges n held) rs) s)
-      ∙ ap (λ l. fresh eq seen l)
-      (filter-flat_map (λ x. not (v x)) (ends eq edges n held) rs
-      ∙ flat_map-same (λ t. filter (λ x. not (v x)) (ends eq edges n held t)) (ends eq edges n (joined v held)) rs
-      (λ t. ends-closed_set n v held t c))
-
-  -- a visited node is skipped
-  pub fresh-ends_held : (n : ℕ) (held : N → Bool) (r : N) (rs : List N) → held r ≡ true
-      → fresh eq held (flat_map (ends eq edges n held) (r ∷ rs)) ≡ fresh eq held (flat_map (ends eq edges n held) rs)
-  fresh-ends_held n held r rs e = rw (ends-held n held r e) refl
+      ∙ ap (λ l. fresh eq seen l) (filter-flat_map (λ x. not (v x)) (ends eq edges n held) rs
+      ∙ flat_map-same _ _ rs (λ t. ends-closed_set n v held t c))
 
   -- one step of the search with a stack: a new node is listed, and its edges go before the other
   -- pending nodes
@@ -158,21 +145,17 @@ module _ {N : Type 0} {eq : N → N → Bool} (dec : (a b : N) → Decides (eq a
   fresh-ends_new (suc n) held r rs e a =
       let h1 : N → Bool = with_node eq held r in
       let A : List N = ends_behind eq edges n held r in
+      let v : N → Bool = λ x. eq r x || member eq A x in
       let B : List N = flat_map (ends eq edges (suc n) held) rs in
       let C : List N = flat_map (ends eq edges (suc n) h1) rs in
-      let same_A : flat_map (ends eq edges (suc n) h1) (edges r) ≡ A =
-      flat_map-agree dec (ends eq edges (suc n) h1) (ends eq edges n h1) (edges r)
+      let same_A : flat_map (ends eq edges (suc n) h1) (edges r) ≡ A = flat_map-agree dec _ _ (edges r)
       (λ t l. ends-enough (suc n) n h1 t (IsEnough-more_fuel n h1 t (a e t l)) (a e t l)) in
-      let v : N → Bool = λ x. eq r x || member eq A x in
-      let seen : N → Bool = joined (member eq A) h1 in
-      let closed : IsClosed eq edges v held = λ x y. rw (ends-free n held r e) at (ends_closed (suc n) held r a x y) in
-      let rest : fresh eq seen B ≡ fresh eq seen C =
-      fresh-held (suc n) v held seen rs closed (λ x m. grind arith)
-      ∙ ap (λ h. fresh eq seen (flat_map (ends eq edges (suc n) h) rs)) (fun_ext (λ x. grind arith))
-      ∙ sym (fresh-held (suc n) (member eq A) h1 seen rs
+      let closed : IsClosed eq edges v held = λ x y. rw e at (ends_closed (suc n) held r a x y) in
+      let turn : joined v held ≡ joined (member eq A) h1 = fun_ext (λ x. grind arith) in
+      let rest : fresh eq (joined (member eq A) h1) B ≡ fresh eq (joined (member eq A) h1) C =
+      rw turn at (fresh-held (suc n) v held (joined (member eq A) h1) rs closed (λ x m. grind arith))
+      ∙ sym (fresh-held (suc n) (member eq A) h1 (joined (member eq A) h1) rs
       (λ x y m l. grind (arith, closed x y (or_right (eq r x) (member eq A x) m) l))
       (λ x. or_left (member eq A x) (h1 x))) in
-      ap (λ l. fresh eq held (l ++ B)) (ends-free n held r e)
-      ∙ (rw e (ap (λ l. r ∷ l) (fresh-append dec h1 A B ∙ ap (λ l. fresh eq h1 A ++ l) rest
-      ∙ sym (fresh-append dec h1 A C) ∙ ap (λ l. fresh eq h1 l)
-      (ap (λ l. l ++ C) (sym same_A) ∙ sym (flat_map-append (ends eq edges (suc n) h1) (edges r) rs)))))
+      let parts = flat_map-append (ends eq edges (suc n) h1) (edges r) rs in
+      rw (e, e, parts, same_A, fresh-append dec h1 A B, fresh-append dec h1 A C, rest)

@@ -2,7 +2,7 @@
 -- Main statements: same_decides, IsEnough-below, length-fresh_below.
 -- Used by: FiniteReach, Automata, and the NFA's closures.
 -- Idea: the numbers below the bound are the nodes, so fuel one above it is enough.
-use Rattle.ordered_reach.proofs.Common.{ap, Bool, arith, Decides, fresh, LeadsBelow, length, List, member, nat_eq, none_held, refl, suc, sym, true, with_node, zero, ℕ, ◌<◌, ◌∙◌, ◌≡◌, ◌≤◌, and_parts, nodes_below}
+use Rattle.ordered_reach.proofs.Common.{ap, Bool, arith, Decides, fresh, LeadsBelow, length, List, member, nat_eq, none_held, refl, suc, true, with_node, zero, ℕ, ◌<◌, ◌≡◌, ◌≤◌, nodes_below}
 use Rattle.std.proofs.lemmas.Bool.Decides.{Decides-eqb}
 use Rattle.ordered_reach.proofs.graph.SearchBound.{weight-fresh, weight_held_le, weight_ones}
 use Rattle.ordered_reach.proofs.graph.ClosedSets.{IsEnough}
@@ -38,5 +38,4 @@ length-fresh_below n xs h =
 
 pub fresh_below : (n : ℕ) (xs : List ℕ) → ((x : ℕ) → member nat_eq xs x ≡ true → x < n) → (x : ℕ)
     → member nat_eq (fresh nat_eq none_held xs) x ≡ true → x < n
-fresh_below n xs h x m =
-    h x (and_parts _ _ (sym (member-fresh same_decides none_held xs x) ∙ m)).0
+fresh_below n xs h x m = h x (grind (arith, member-fresh same_decides none_held xs x))

@@ -1,8 +1,8 @@
 -- Fuel for a search: the number of nodes that are not visited is enough.
--- Main statements: IsEnough-from_count, ordered-enough, IsEnough-fewer_edges.
--- Used by: FiniteGraphs, RunFuel, Automata.
+-- Main statements: IsEnough-from_count, ordered-enough.
+-- Used by: FiniteGraphs, RunFuel, and the fuel of a step.
 -- Idea: each step of a loop-free path visits a node more.
-use Rattle.ordered_reach.proofs.Common.{ap, arith, Bool, by_test, Decides, ends, fresh, List, member, ordered, subst, suc, sym, true, true≢false, with_node, zero, ℕ, ◌+◌, ◌∙◌, ◌≡◌, ◌≤◌}
+use Rattle.ordered_reach.proofs.Common.{ap, arith, Bool, by_test, Decides, fresh, List, member, ordered, suc, true, with_node, zero, ℕ, ◌+◌, ◌≡◌, ◌≤◌}
 use Rattle.ordered_reach.proofs.graph.ClosedSets.{IsEnough, IsEnough-more_fuel, ends-enough}
 use Rattle.ordered_reach.proofs.graph.SearchBound.{weight, weight_one}
 use Rattle.ordered_reach.proofs.lists.NewNodes.{flat_map-agree}
@@ -23,27 +23,11 @@ module _ {N : Type 0} {eq : N → N → Bool} (dec : (a b : N) → Decides (eq a
       → ((x : N) → IsEnough eq edges n held x) → ((x : N) → IsEnough eq edges m held x)
       → ordered eq edges n held roots ≡ ordered eq edges m held roots
   ordered-enough edges n m held roots a b =
-      ap (λ l. fresh eq held l)
-      (flat_map-agree dec (ends eq edges n held) (ends eq edges m held) roots
-      (λ x z. ends-enough dec edges n m held x (a x) (b x)))
-
-  -- fewer edges need no more fuel
-  pub IsEnough-fewer_edges : (edges more : N → List N)
-      → ((x y : N) → member eq (edges x) y ≡ true → member eq (more x) y ≡ true)
-      → (n : ℕ) (held : N → Bool) (r : N) → IsEnough eq more n held r → IsEnough eq edges n held r
-  IsEnough-fewer_edges edges more sub zero held r a = a
-  IsEnough-fewer_edges edges more sub (suc n) held r a =
-      λ e t k. IsEnough-fewer_edges edges more sub n (with_node eq held r) t (a e t (sub r t k))
-
-  pub IsEnough-held : (edges : N → List N) (n : ℕ) (held : N → Bool) (r : N) → held r ≡ true
-      → IsEnough eq edges n held r
-  IsEnough-held edges zero held r e = e
-  IsEnough-held edges (suc n) held r e = λ f t k. absurd (true≢false (sym e ∙ f))
+      ap (λ l. fresh eq held l) (flat_map-agree dec _ _ roots (λ x z. ends-enough dec edges n m held x (a x) (b x)))
 
   pub IsEnough-plus : (edges : N → List N) (k n : ℕ) (held : N → Bool) (r : N) → IsEnough eq edges n held r
       → IsEnough eq edges (k + n) held r
-  IsEnough-plus edges zero n held r a =
-      let z : 0 + n ≡ n = omega arith in subst (λ j. IsEnough eq edges j held r) (sym z) a
+  IsEnough-plus edges zero n held r a = let z : 0 + n ≡ n = omega arith in rw z a
   IsEnough-plus edges (suc k) n held r a =
-      let z : suc k + n ≡ suc (k + n) = omega arith in subst (λ j. IsEnough eq edges j held r) (sym z)
-      (IsEnough-more_fuel dec edges (k + n) held r (IsEnough-plus edges k n held r a))
+      let z : suc k + n ≡ suc (k + n) = omega arith in
+      rw z (IsEnough-more_fuel dec edges (k + n) held r (IsEnough-plus edges k n held r a))

@@ -2,12 +2,12 @@
 -- Main statements: paths, ends-paths, Ascending-paths, path_from_listed, listed_from_path.
 -- Used by: LeastPaths, MostPreferred.
 -- Idea: the paths through a branch begin with its number, and the numbers ascend.
-use Rattle.ordered_reach.proofs.Common.{[], ap, arith, Before, Bool, by_test, cond, Contains, Decides, ends, false, false≢true, flat_map, IsPath, List, map, map-append, member, refl, slice_get, Some, suc, sym, true≢false, with_node, zero, ℕ, ◌++◌, ◌+◌, ◌∙◌, ◌∷◌, ◌≡◌}
+use Rattle.ordered_reach.proofs.Common.{[], ap, arith, Before, Bool, by_test, cond, Contains, Decides, ends, false, false≢true, flat_map, IsPath, IsPathFrom, List, map, map-append, member, refl, slice_get, Some, suc, sym, true≢false, with_node, zero, ℕ, ◌++◌, ◌+◌, ◌∙◌, ◌∷◌, ◌≡◌}
 use Rattle.ordered_reach.proofs.lists.Elements.{Contains_In, In, In_Contains, In_append_cases, In_append_left, In_append_right, In_cases, In_head, In_map, In_map_from, In_member, In_none, In_tail, member_In}
+use Rattle.ordered_reach.proofs.lists.Pairs.{Sorted, Sorted-append, Sorted-map}
 use Rattle.ordered_reach.proofs.lists.Lexicographic.{Before-first, Before-rest}
 use Rattle.ordered_reach.proofs.graph.ClosedSets.{IsEnough}
 use Rattle.std.proofs.lemmas.Simd.{map-map}
-use Rattle.ordered_reach.proofs.lists.Pieces.{flat_map-same}
 
 -- a path with its end, after one more edge number
 abbrev pub step : {N : Type 0} → ℕ → List ℕ × N → List ℕ × N
@@ -24,64 +24,46 @@ paths eq edges zero held r = []
 paths eq edges (suc n) held r =
     cond (held r) [] (([], r) ∷ branches (paths eq edges n (with_node eq held r)) 0 (edges r))
 
--- each element precedes all later ones
+-- each path precedes all later ones
 abbrev pub Ascending : {N : Type 0} → List (List ℕ × N) → Type 0
-Ascending [] = Unit {0}
-Ascending {N} (p ∷ ps) = ((q : List ℕ × N) → In q ps → Before p.0 q.0) × Ascending ps
-
-Ascending-append : {N : Type 0} (ps qs : List (List ℕ × N)) → Ascending ps → Ascending qs
-    → ((p q : List ℕ × N) → In p ps → In q qs → Before p.0 q.0) → Ascending (ps ++ qs)
-Ascending-append [] qs a b h = b
-Ascending-append (p ∷ ps) qs a b h = (
-  (λ q l. In_append_cases q ps qs l (λ k. a.0 q k) (λ k. h p q (In_head p ps) k)),
-  Ascending-append ps qs a.1 b (λ p' q k l. h p' q (In_tail p' p ps k) l),
-)
-
-Ascending-map : {N : Type 0} (i : ℕ) (ps : List (List ℕ × N)) → Ascending ps → Ascending (map (step i) ps)
-Ascending-map i [] a = tt
-Ascending-map i (p ∷ ps) a =
-    ((λ q l. In_map_from (step i) q ps l (λ x k e. rw e (Before-rest i p.0 x.0 (a.0 x k)))), Ascending-map i ps a.1)
+Ascending ps = Sorted (λ p q. Before p.0 q.0) ps
 
 -- a path of a branch
 pub branches_from : {N P : Type 0} (f : N → List (List ℕ × N)) (i : ℕ) (ts : List N) (p : List ℕ × N)
     → In p (branches f i ts)
-    → ((c : ℕ) (t : N) (q : List ℕ × N) → slice_get ts c ≡ Some t → In q (f t) → p ≡ step (i + c) q → P) → P
+    → ((c j : ℕ) (t : N) (q : List ℕ × N) → i + c ≡ j → slice_get ts c ≡ Some t → In q (f t) → p ≡ step j q → P) → P
 branches_from f i [] p h k = In_none p h
 branches_from f i (t ∷ ts) p h k = In_append_cases p (map (step i) (f t)) (branches f (suc i) ts) h
-    (λ l. In_map_from (step i) p (f t) l (λ q m e. k 0 t q refl m (let z : i + 0 ≡ i = omega arith in rw z e)))
-    (λ l. branches_from f (suc i) ts p l
-    (λ c u q g m e. k (suc c) u q g m (let z : i + suc c ≡ suc i + c = omega arith in rw z e)))
+    (λ l. In_map_from (step i) p (f t) l (λ q m e. k 0 i t q (omega arith) refl m e))
+    (λ l. branches_from f (suc i) ts p l (λ c j u q z g m e. k (suc c) j u q (omega arith) g m e))
 
-pub branches_in : {N : Type 0} (f : N → List (List ℕ × N)) (i c : ℕ) (ts : List N) (t : N) (q : List ℕ × N)
-    → slice_get ts c ≡ Some t → In q (f t) → In (step (i + c) q) (branches f i ts)
-branches_in f i c [] t q e h = In_none t (c, e)
-branches_in f i zero (u ∷ ts) t q e h =
-    let z : i + 0 ≡ i = omega arith in
+pub branches_in : {N : Type 0} (f : N → List (List ℕ × N)) (i c j : ℕ) (ts : List N) (t : N) (q : List ℕ × N)
+    → i + c ≡ j → slice_get ts c ≡ Some t → In q (f t) → In (step j q) (branches f i ts)
+branches_in f i c j [] t q z e h = In_none t (c, e)
+branches_in f i zero j (u ∷ ts) t q z e h =
     let k : u ≡ t = cc in
-    rw z (In_append_left (step i q) (map (step i) (f u)) (branches f (suc i) ts) (In_map (step i) q (f u) (rw k h)))
-branches_in f i (suc c) (u ∷ ts) t q e h =
-    let z : i + suc c ≡ suc i + c = omega arith in
-    rw z (In_append_right (step (suc i + c) q) (map (step i) (f u)) (branches f (suc i) ts)
-    (branches_in f (suc i) c ts t q e h))
+    let w : j ≡ i = omega arith in
+    rw w (In_append_left (step i q) (map (step i) (f u)) (branches f (suc i) ts) (In_map (step i) q (f u) (rw k h)))
+branches_in f i (suc c) j (u ∷ ts) t q z e h =
+    In_append_right (step j q) (map (step i) (f u)) _ (branches_in f (suc i) c j ts t q (omega arith) e h)
 
 pub Ascending-branches : {N : Type 0} (f : N → List (List ℕ × N)) (i : ℕ) (ts : List N) → ((t : N) → Ascending (f t))
     → Ascending (branches f i ts)
 Ascending-branches f i [] h = tt
 Ascending-branches f i (t ∷ ts) h =
-    Ascending-append (map (step i) (f t)) (branches f (suc i) ts) (Ascending-map i (f t) (h t))
-    (Ascending-branches f (suc i) ts h)
+    Sorted-append _ (map (step i) (f t)) (branches f (suc i) ts)
+    (Sorted-map _ (step i) _ (f t) (λ p q k l b. Before-rest i p.0 q.0 b) (h t)) (Ascending-branches f (suc i) ts h)
     (λ p q k l. In_map_from (step i) p (f t) k
     (λ x m e. branches_from f (suc i) ts q l
-    (λ c u y g n d. rw (e, d) (Before-first i (suc i + c) x.0 y.0 (omega arith)))))
+    (λ c j u y z g n d. rw (e, d) (Before-first i j x.0 y.0 (omega arith)))))
 
 -- the ends of the branches
-pub map-branches : {N : Type 0} (f : N → List (List ℕ × N)) (i : ℕ) (ts : List N)
-    → map (λ p. p.1) (branches f i ts) ≡ flat_map (λ t. map (λ p. p.1) (f t)) ts
-map-branches f i [] = refl
-map-branches f i (t ∷ ts) =
-    map-append (λ p. p.1) (map (step i) (f t)) (branches f (suc i) ts)
-    ∙ ap (λ l. l ++ map (λ p. p.1) (branches f (suc i) ts)) (map-map (λ p. p.1) (step i) (f t))
-    ∙ ap (λ l. map (λ p. p.1) (f t) ++ l) (map-branches f (suc i) ts)
+pub map-branches : {N : Type 0} (f : N → List (List ℕ × N)) (g : N → List N) (i : ℕ) (ts : List N)
+    → ((t : N) → map (λ p. p.1) (f t) ≡ g t) → map (λ p. p.1) (branches f i ts) ≡ flat_map g ts
+map-branches f g i [] h = refl
+map-branches f g i (t ∷ ts) h =
+    rw (map-append (λ p. p.1) (map (step i) (f t)) (branches f (suc i) ts), map-map (λ p. p.1) (step i) (f t))
+    (cc (h t, map-branches f g (suc i) ts h))
 
 module _ {N : Type 0} {eq : N → N → Bool} (dec : (a b : N) → Decides (eq a b) (a ≡ b)) where
   not_held : (held : List N) (r : N) → member eq held r ≡ false → ¬ (Contains held r)
@@ -98,33 +80,36 @@ module _ {N : Type 0} {eq : N → N → Bool} (dec : (a b : N) → Decides (eq a
     ends-paths zero held r = refl
     ends-paths (suc n) held r = by_test (held r)
         (λ e. rw e refl)
-        (λ e. let f : N → List (List ℕ × N) = paths eq edges n (with_node eq held r) in
-        rw e (ap (λ l. r ∷ l) (map-branches f 0 (edges r)
-        ∙ flat_map-same (λ t. map (λ p. p.1) (f t)) (ends eq edges n (with_node eq held r)) (edges r)
-        (λ t. ends-paths n (with_node eq held r) t))))
+        (λ e. rw e (ap (λ l. r ∷ l) (map-branches _ _ 0 (edges r) (λ t. ends-paths n (with_node eq held r) t))))
 
     pub Ascending-paths : (n : ℕ) (held : N → Bool) (r : N) → Ascending (paths eq edges n held r)
     Ascending-paths zero held r = tt
     Ascending-paths (suc n) held r = by_test (held r)
         (λ e. rw e tt)
-        (λ e. let f : N → List (List ℕ × N) = paths eq edges n (with_node eq held r) in rw e (
-          (λ q l. branches_from f 0 (edges r) q l (λ c t p g m d. rw d refl)),
-          Ascending-branches f 0 (edges r) (λ t. Ascending-paths n (with_node eq held r) t),
-        ))
+        (λ e. let rest = Ascending-branches _ 0 (edges r) (λ t. Ascending-paths n (with_node eq held r) t) in
+        rw e ((λ q l. branches_from _ 0 (edges r) q l (λ c j t p z g m d. rw d refl)), rest))
 
     -- each listed pair is a path with its end
+    pub path_from_branch : (n : ℕ) (held roots : List N) (p : List ℕ × N)
+        → ((t : N) (q : List ℕ × N) → In q (paths eq edges n (member eq held) t) → IsPath edges held t q.0 q.1)
+        → In p (branches (paths eq edges n (member eq held)) 0 roots) → IsPathFrom edges held roots p.0 p.1
+    path_from_branch n held roots p h l = branches_from (paths eq edges n (member eq held)) 0 roots p l
+        (λ c j t q z g m d. let w : j ≡ c = omega arith in rw (d, w) (t, g, h t q m))
+
+    path_behind : (held : List N) (r : N) (cs : List ℕ) (s : N) → ¬ (Contains held r)
+        → IsPathFrom edges (r ∷ held) (edges r) cs s → IsPath edges held r cs s
+    path_behind held r [] s n h = absurd h
+    path_behind held r (c ∷ cs) s n h = (n, h)
+
     pub path_from_listed : (n : ℕ) (held : List N) (r : N) (p : List ℕ × N)
         → In p (paths eq edges n (member eq held) r) → IsPath edges held r p.0 p.1
     path_from_listed zero held r p h = In_none p h
     path_from_listed (suc n) held r p h = by_test (member eq held r)
         (λ e. In_none p (rw e at h))
-        (λ e. let f : N → List (List ℕ × N) = paths eq edges n (member eq (r ∷ held)) in
-        In_cases p ([], r) (branches f 0 (edges r)) (rw e at h)
+        (λ e. In_cases p ([], r) (branches (paths eq edges n (member eq (r ∷ held))) 0 (edges r)) (rw e at h)
         (λ d. rw d (not_held held r e, refl))
-        (λ l. branches_from f 0 (edges r) p l (λ c t q g m d. rw d (
-          not_held held r e,
-          (t, (let z : 0 + c ≡ c = omega arith in rw z g), path_from_listed n (r ∷ held) t q m),
-        ))))
+        (λ l. path_behind held r p.0 p.1 (not_held held r e)
+        (path_from_branch n (r ∷ held) (edges r) p (path_from_listed n (r ∷ held)) l)))
 
     -- each path is listed
     pub listed_from_path : (n : ℕ) (held : List N) (r : N) (cs : List ℕ) (s : N)
@@ -135,10 +120,5 @@ module _ {N : Type 0} {eq : N → N → Bool} (dec : (a b : N) → Decides (eq a
     listed_from_path (suc n) held r [] s a h = rw (held_not held r h.0, h.1) (In_head ([], r) _)
     listed_from_path (suc n) held r (c ∷ cs) s a h =
         let e : member eq held r ≡ false = held_not held r h.0 in
-        let t : N = h.1.0 in
-        let z : 0 + c ≡ c = omega arith in
-        let f : N → List (List ℕ × N) = paths eq edges n (member eq (r ∷ held)) in
-        let l : In (cs, s) (f t) =
-        listed_from_path n (r ∷ held) t cs s (a e t (In_member dec (edges r) t (c, h.1.1))) h.1.2 in
-        rw e (In_tail (c ∷ cs, s) ([], r) (branches f 0 (edges r))
-        (rw z at (branches_in f 0 c (edges r) t (cs, s) h.1.1 l)))
+        rw e (In_tail (c ∷ cs, s) ([], r) _ (branches_in _ 0 c c (edges r) h.1.0 (cs, s) (omega arith) h.1.1
+        (listed_from_path n (r ∷ held) h.1.0 cs s (a e h.1.0 (In_member dec (edges r) h.1.0 (c, h.1.1))) h.1.2)))

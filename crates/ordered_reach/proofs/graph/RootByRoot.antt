@@ -16,11 +16,10 @@ module _ {N : Type 0} {eq : N → N → Bool} (dec : (a b : N) → Decides (eq a
   ordered_in_turn edges n a held [] = refl
   ordered_in_turn edges n a held (r ∷ rs) =
       let ys : List N = ordered eq edges n (member eq held) (r ∷ []) in
-      let zs : List N = ordered eq edges n (member eq (held ++ ys)) rs in
       let same : joined (member eq ys) (member eq held) ≡ member eq (held ++ ys) =
       fun_ext (λ x. or_comm (member eq ys x) (member eq held x) ∙ sym (member-append dec held ys x)) in (
         ys,
-        zs,
+        ordered eq edges n (member eq (held ++ ys)) rs,
         ordered-append dec edges n a (member eq held) (r ∷ []) rs ∙ ap (λ h. ys ++ ordered eq edges n h rs) same,
         ordered_in_order dec edges n held (r ∷ [])
             (λ x. IsEnough-from_none dec edges n (member eq held) x (a x)),

@@ -56,7 +56,6 @@ module _ {N : Type 0} {eq : N → N → Bool} (dec : (a b : N) → Decides (eq a
   tries_bound n met pending h =
       let degree : N → ℕ = λ x. length (edges x) in
       let all : List N = flat_map (ends eq edges n (member eq met)) pending in
-      let a : weight degree none_held (fresh eq (member eq met) all) ≤ weight degree (member eq met) nodes =
-      weight-fresh dec degree nodes (member eq met) all (λ x m k. h x m) in
+      let a = weight-fresh dec degree nodes (member eq met) all (λ x m k. h x m) in
       let b = edge_count_is edges (fresh eq (member eq met) all) in
       omega (arith, a, b, weight_held_le degree (member eq met) nodes, edge_count_is edges nodes)

@@ -2,28 +2,25 @@
 -- Main statements: ordered-append, closure-held, closure-new.
 -- Used by: RootByRoot, and the loop of an epsilon closure.
 -- Idea: a visited node is skipped; a new one is listed, and its edges go before the other pending nodes.
-use Rattle.ordered_reach.proofs.Common.{[], ap, append-nil, append_assoc, arith, Bool, Decides, edge_count, ends, false, flat_map, flat_map-append, fresh, fun_ext, joined, length-append, List, member, none_held, or_left, ordered, search_tries, suc, sym, true, with_node, ℕ, ◌++◌, ◌∙◌, ◌∷◌, ◌≡◌, closure}
-use Rattle.ordered_reach.proofs.graph.ClosedSets.{IsClosed, IsEnough, IsEnough-from_none, ends_closed, fresh-ends_held, fresh-ends_new, fresh-held}
-use Rattle.ordered_reach.proofs.lists.NewNodes.{flat_map-member, fresh-append, member-append, member-flat_map, member-fresh}
+use Rattle.ordered_reach.proofs.Common.{[], ap, append-nil, append_assoc, arith, Bool, Decides, edge_count, ends, false, flat_map, flat_map-append, fun_ext, joined, length-append, List, member, none_held, or_left, ordered, search_tries, suc, true, with_node, ℕ, ◌++◌, ◌∷◌, ◌≡◌, closure}
+use Rattle.ordered_reach.proofs.graph.ClosedSets.{IsEnough, IsEnough-from_none, ends-held, roots_find_closed, fresh-ends_new, fresh-held}
+use Rattle.ordered_reach.proofs.lists.NewNodes.{fresh-append, member-append, member-fresh}
 
 module _ {N : Type 0} {eq : N → N → Bool} (dec : (a b : N) → Decides (eq a b) (a ≡ b)) where
   pub member-push : (met : List N) (r : N) → member eq (met ++ r ∷ []) ≡ with_node eq (member eq met) r
   member-push met r = fun_ext (λ x. grind (arith, member-append dec met (r ∷ []) x))
 
   module _ (edges : N → List N) (n : ℕ) (enough : (x : N) → IsEnough eq edges n none_held x) where
-    enough_at : (held : N → Bool) (r : N) → IsEnough eq edges n held r
-    enough_at held r = IsEnough-from_none dec edges n held r (enough r)
-
     ordered-held : (met : List N) (r : N) (rs : List N) → member eq met r ≡ true
         → ordered eq edges n (member eq met) (r ∷ rs) ≡ ordered eq edges n (member eq met) rs
-    ordered-held met r rs e = fresh-ends_held dec edges n (member eq met) r rs e
+    ordered-held met r rs e = rw (ends-held dec edges n (member eq met) r e)
 
     ordered-new : (met : List N) (r : N) (rs : List N) → member eq met r ≡ false
         → ordered eq edges n (member eq met) (r ∷ rs) ≡ r ∷ ordered eq edges n (member eq (met ++ r ∷ []))
         (edges r ++ rs)
     ordered-new met r rs e =
-        fresh-ends_new dec edges n (member eq met) r rs e (enough_at (member eq met) r)
-        ∙ ap (λ h. r ∷ ordered eq edges n h (edges r ++ rs)) (sym (member-push met r))
+        rw (member-push met r) (fresh-ends_new dec edges n (member eq met) r rs e
+        (IsEnough-from_none dec edges n (member eq met) r (enough r)))
 
     pub closure-done : (met : List N) → closure eq edges n met [] ≡ met
     closure-done met = append-nil met
@@ -34,9 +31,7 @@ module _ {N : Type 0} {eq : N → N → Bool} (dec : (a b : N) → Decides (eq a
 
     pub closure-new : (met : List N) (r : N) (rs : List N) → member eq met r ≡ false
         → closure eq edges n met (r ∷ rs) ≡ closure eq edges n (met ++ r ∷ []) (edges r ++ rs)
-    closure-new met r rs e =
-        ap (λ l. met ++ l) (ordered-new met r rs e)
-        ∙ sym (append_assoc met (r ∷ []) (ordered eq edges n (member eq (met ++ r ∷ [])) (edges r ++ rs)))
+    closure-new met r rs e = rw (append_assoc met (r ∷ [])) (ap (λ l. met ++ l) (ordered-new met r rs e))
 
     pub tries-held : (met : List N) (r : N) (rs : List N) → member eq met r ≡ true
         → search_tries eq edges n met (r ∷ rs) ≡ suc (search_tries eq edges n met rs)
@@ -52,18 +47,10 @@ module _ {N : Type 0} {eq : N → N → Bool} (dec : (a b : N) → Decides (eq a
         → ordered eq edges n held (rs ++ ss) ≡ ordered eq edges n held rs ++ ordered eq edges n
         (joined (member eq (ordered eq edges n held rs)) held) ss
     ordered-append held rs ss =
-        let f : N → List N = ends eq edges n held in
-        let A : List N = flat_map f rs in
-        let seen : N → Bool = joined (member eq A) held in
-        let same : seen ≡ joined (member eq (ordered eq edges n held rs)) held =
+        let A : List N = flat_map (ends eq edges n held) rs in
+        let same : joined (member eq A) held ≡ joined (member eq (ordered eq edges n held rs)) held =
         fun_ext (λ x. grind (arith, member-fresh dec held A x)) in
-        ap (λ l. fresh eq held l) (flat_map-append f rs ss)
-        ∙ fresh-append dec held A (flat_map f ss)
-        ∙ ap (λ l. fresh eq held A ++ l)
-        (fresh-held dec edges n (member eq A) held seen ss closed (λ x m. or_left (member eq A x) (held x) m)
-        ∙ ap (λ h. ordered eq edges n h ss) same)
-      where
-        closed : IsClosed eq edges (member eq (flat_map (ends eq edges n held) rs)) held
-        closed x y m k = flat_map-member dec (ends eq edges n held) rs x m (λ r l z.
-            let c = ends_closed dec edges n held r (enough_at held r) x y z k in
-            grind (arith, c, member-flat_map dec (ends eq edges n held) rs r y l))
+        let rest = fresh-held dec edges n (member eq A) held (joined (member eq A) held) ss
+        (roots_find_closed dec edges n held rs (λ r. IsEnough-from_none dec edges n held r (enough r)))
+        (λ x m. or_left (member eq A x) (held x) m) in
+        rw (flat_map-append (ends eq edges n held) rs ss, fresh-append dec held A _, rest, same)

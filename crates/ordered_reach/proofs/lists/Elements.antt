@@ -2,7 +2,7 @@
 -- Main statements: In, Earlier, same_by_order, In_Contains, Contains_In.
 -- Used by: PathLists, LeastPaths, UniqueOrder, the folder runs, and the crates above.
 -- Idea: two lists with the same elements in the same strict order are equal (same_by_order).
-use Rattle.ordered_reach.proofs.Common.{[], option_map, ap, arith, Bool, by_cases, by_test, cases_order, Contains, Decides, false, false≢true, List, map, member, None, or_left, or_right, refl, slice_get, Some, suc, sym, true, without, zero, ℕ, ◌++◌, ◌<◌, ◌∙◌, ◌∷◌, ◌≡◌, All, take, get_or_from_slice_get, slice_get-get_or, slice_get-map, slice_get_within, All-cons, All-nil}
+use Rattle.ordered_reach.proofs.Common.{[], option_map, ap, arith, Bool, by_test, Contains, Decides, false, false≢true, List, map, member, None, or_left, or_right, refl, slice_get, Some, suc, sym, true, without, zero, ℕ, ◌++◌, ◌<◌, ◌∙◌, ◌∷◌, ◌≡◌, All, take, get_or_from_slice_get, slice_get-get_or, slice_get-map, slice_get_within, All-cons, All-nil}
 use Rattle.ordered_reach.proofs.lists.NewNodes.{eq-self}
 
 -- an element of a list
@@ -50,22 +50,11 @@ In_map_from g z (y ∷ xs) h f = In_cases z (g y) (map g xs) h
     (λ e. f y (In_head y xs) e)
     (λ k. In_map_from g z xs k (λ x l e. f x (In_tail x y xs l) e))
 
--- the elements of `without`
-pub In-without : {A : Type 0} (cap : A → Bool) (xs : List A) (s : A) → In s (without cap xs) → In s xs × (cap s ≡ false)
-In-without cap [] s h = In_none s h
-In-without cap (x ∷ xs) s h = by_test (cap x)
-    (λ e. let r : In s xs × (cap s ≡ false) = In-without cap xs s (rw e at h) in (In_tail s x xs r.0, r.1))
-    (λ e. In_cases s x (without cap xs) (rw e at h)
-    (λ q. rw q (In_head x xs, e))
-    (λ l. let r : In s xs × (cap s ≡ false) = In-without cap xs s l in (In_tail s x xs r.0, r.1)))
-
 pub without-In : {A : Type 0} (cap : A → Bool) (xs : List A) (s : A) → In s xs → cap s ≡ false → In s (without cap xs)
 without-In cap [] s h c = h
-without-In cap (x ∷ xs) s h c = In_cases s x xs h
-    (λ q. let z : cap x ≡ false = rw (← q) c in rw z (rw q (In_head x (without cap xs))))
-    (λ l. by_test (cap x)
-    (λ e. rw e (without-In cap xs s l c))
-    (λ e. rw e (In_tail s x (without cap xs) (without-In cap xs s l c))))
+without-In cap (x ∷ xs) s h c = by_test (cap x)
+    (λ e. rw e (In_cases s x xs h (λ q. absurd (false≢true (sym c ∙ ap cap q ∙ e))) (λ l. without-In cap xs s l c)))
+    (λ e. rw e (In_cases s x xs h (λ q. rw q (In_head x _)) (λ l. In_tail s x _ (without-In cap xs s l c))))
 
 pub In_take_one : {A : Type 0} (ps : List A) (x : A) → In x (take 1 ps) → In x ps
 In_take_one [] x h = h
@@ -81,27 +70,11 @@ Earlier_tail xs x y z h = (suc h.0, suc h.1, omega (arith, h.2), h.3, h.4)
 pub Earlier_head : {A : Type 0} (xs : List A) (x y : A) → In y xs → Earlier (x ∷ xs) x y
 Earlier_head xs x y h = (0, suc h.0, omega arith, refl, h.1)
 
-pub Earlier-without : {A : Type 0} (cap : A → Bool) (xs : List A) (i j : ℕ) (s t : A) → i < j
-    → slice_get (without cap xs) i ≡ Some s → slice_get (without cap xs) j ≡ Some t → Earlier xs s t
-Earlier-without cap [] i j s t l a b = absurd (let e : Some s ≡ None = sym a in cc)
-Earlier-without {A} cap (x ∷ xs) i j s t l a b = by_test (cap x)
-    (λ e. Earlier_tail xs s t x (Earlier-without cap xs i j s t l (rw e at a) (rw e at b)))
-    (λ e. go i j l (rw e at a) (rw e at b) (λ i j l a b. Earlier-without cap xs i j s t l a b))
-  where
-    go : (i j : ℕ) → i < j → slice_get (x ∷ without cap xs) i ≡ Some s → slice_get (x ∷ without cap xs) j ≡ Some t
-        → ((i j : ℕ) → i < j → slice_get (without cap xs) i ≡ Some s → slice_get (without cap xs) j ≡ Some t
-        → Earlier xs s t) → Earlier (x ∷ xs) s t
-    go i zero l a b ih = absurd (omega arith)
-    go zero (suc j) l a b ih = let q : x ≡ s = cc in rw (← q) (Earlier_head xs x t (In-without cap xs t (j, b)).0)
-    go (suc i) (suc j) l a b ih = Earlier_tail xs s t x (ih i j (omega arith) a b)
-
 -- where no element is at two indices in order, each has one index
 pub once_by_order : {A : Type 0} (xs : List A)
     → ((i j : ℕ) (s : A) → i < j → slice_get xs i ≡ Some s → slice_get xs j ≡ Some s → ⊥)
     → (i j : ℕ) (s : A) → slice_get xs i ≡ Some s → slice_get xs j ≡ Some s → i ≡ j
-once_by_order xs h i j s a b = by_cases (cases_order i j)
-    (λ e. e)
-    (λ o. by_cases o (λ l. absurd (h i j s l a b)) (λ l. absurd (h j i s l b a)))
+once_by_order xs h i j s a b = grind (arith, h i j s, h j i s)
 
 -- two lists with the same elements in the same strict order are equal
 pub same_by_order : {A : Type 0} (R : A → A → Type 0) → ((x y : A) → R x y → R y x → ⊥) → (xs ys : List A)

@@ -2,38 +2,24 @@
 -- Main statements: Before-first, Before-rest, Before-parts, Before-asym, same_least.
 -- Used by: PathLists, UniqueOrder, MostPreferred, RunLists.
 -- Idea: the first numbers decide unless they are equal.
-use Rattle.ordered_reach.proofs.Common.{[], ap, arith, Before, by_cases, cases_order, inl, inr, List, refl, sym, ℕ, ◌<◌, ◌∙◌, ◌∷◌, ◌≡◌, ◌⊎◌, Equal, Greater, Less, Ordering, nat_cmp}
-use Rattle.std.specs.Cmp.{nat_cmp_is}
-use Rattle.std.specs.Cmp.Lexicographic.{slice_cmp}
-use Rattle.std.specs.Ordering.{ordering_then}
-
--- the order of two lists, given the order of their first numbers
-first_decides : (c d : ℕ) (cs ds : List ℕ) (o : Ordering) → o ≡ nat_cmp c d
-    → slice_cmp nat_cmp (c ∷ cs) (d ∷ ds) ≡ ordering_then o (slice_cmp nat_cmp cs ds)
-first_decides c d cs ds o e = ap (λ r. ordering_then r (slice_cmp nat_cmp cs ds)) (sym e)
+use Rattle.ordered_reach.proofs.Common.{[], arith, Before, by_cases, List, sym, ℕ, ◌<◌, ◌∷◌, ◌≡◌, ◌⊎◌}
+use Rattle.std.proofs.lemmas.Bool.Decides.{nat_tests}
 
 pub Before-first : (c d : ℕ) (cs ds : List ℕ) → c < d → Before (c ∷ cs) (d ∷ ds)
-Before-first c d cs ds l = first_decides c d cs ds Less (nat_cmp_is c d Less l)
+Before-first c d cs ds l = grind (arith, nat_tests)
 
 pub Before-rest : (c : ℕ) (cs ds : List ℕ) → Before cs ds → Before (c ∷ cs) (c ∷ ds)
-Before-rest c cs ds b = first_decides c c cs ds Equal (nat_cmp_is c c Equal refl) ∙ b
+Before-rest c cs ds b = grind (arith, nat_tests)
 
 -- the first numbers decide, or the rest does
 pub Before-parts : (c d : ℕ) (cs ds : List ℕ) → Before (c ∷ cs) (d ∷ ds) → (c < d) ⊎ ((c ≡ d) × Before cs ds)
-Before-parts c d cs ds b = by_cases (cases_order c d)
-    (λ e. inr (e, sym (first_decides c d cs ds Equal (nat_cmp_is c d Equal e)) ∙ b))
-    (λ h. by_cases h
-    (λ l. inl l)
-    (λ l. absurd (let z : Greater ≡ Less = sym (first_decides c d cs ds Greater (nat_cmp_is c d Greater l)) ∙ b in cc)))
+Before-parts c d cs ds b = grind (arith, nat_tests)
 
 pub Before-asym : (cs ds : List ℕ) → Before cs ds → Before ds cs → ⊥
-Before-asym [] [] a b = let z : Equal ≡ Less = a in cc
-Before-asym (c ∷ cs) [] a b = let z : Greater ≡ Less = a in cc
-Before-asym [] (d ∷ ds) a b = let z : Greater ≡ Less = b in cc
+Before-asym [] ds a b = grind arith
+Before-asym (c ∷ cs) [] a b = grind arith
 Before-asym (c ∷ cs) (d ∷ ds) a b =
-    by_cases (Before-parts c d cs ds a)
-    (λ l. by_cases (Before-parts d c ds cs b) (λ k. omega arith) (λ k. omega arith))
-    (λ l. by_cases (Before-parts d c ds cs b) (λ k. omega arith) (λ k. Before-asym cs ds l.1 k.1))
+    grind (arith, Before-parts c d cs ds a, Before-parts d c ds cs b, Before-asym cs ds)
 
 -- two lists, neither of which is after the other, are equal
 pub same_least : (cs ds : List ℕ) → (cs ≡ ds) ⊎ Before cs ds → (ds ≡ cs) ⊎ Before ds cs → cs ≡ ds
@@ -41,6 +27,4 @@ same_least cs ds a b = by_cases a (λ e. e) (λ k. by_cases b (λ e. sym e) (λ 
 
 -- after the same first number, the order is that of the rest
 pub same_first : (c : ℕ) (cs ds : List ℕ) → (c ∷ cs ≡ c ∷ ds) ⊎ Before (c ∷ cs) (c ∷ ds) → (cs ≡ ds) ⊎ Before cs ds
-same_first c cs ds h = by_cases h
-    (λ e. inl cc)
-    (λ b. by_cases (Before-parts c c cs ds b) (λ l. absurd (omega arith)) (λ l. inr l.1))
+same_first c cs ds h = grind (arith, Before-parts c c cs ds)

@@ -2,7 +2,7 @@
 -- Main statements: fresh-append, member-fresh, fresh-filter, flat_map-agree.
 -- Used by: ClosedSets, and all that compares two searches.
 -- Idea: what is new after a list is what is new to the union of the set and the list.
-use Rattle.ordered_reach.proofs.Common.{[], ap, arith, Bool, by_test, Decides, false, false≢true, filter, flat_map, fresh, fun_ext, joined, List, member, not, or_left, or_more, or_right, refl, sym, true, with_node, ◌&&◌, ◌++◌, ◌||◌, ◌∙◌, ◌∷◌, ◌≡◌}
+use Rattle.ordered_reach.proofs.Common.{[], ap, arith, Bool, by_test, Decides, false, false≢true, filter, flat_map, fresh, fun_ext, joined, List, member, not, or_left, or_right, refl, sym, true, with_node, ◌&&◌, ◌++◌, ◌||◌, ◌∙◌, ◌∷◌, ◌≡◌}
 
 module _ {N : Type 0} {eq : N → N → Bool} (dec : (a b : N) → Decides (eq a b) (a ≡ b)) where
   pub eq-self : (x : N) → eq x x ≡ true
@@ -19,13 +19,11 @@ module _ {N : Type 0} {eq : N → N → Bool} (dec : (a b : N) → Decides (eq a
   pub fresh-append : (seen : N → Bool) (xs ys : List N)
       → fresh eq seen (xs ++ ys) ≡ fresh eq seen xs ++ fresh eq (joined (member eq xs) seen) ys
   fresh-append seen [] ys = refl
-  fresh-append seen (x ∷ xs) ys =
-      by_test (seen x)
-      (λ e. rw e (fresh-append seen xs ys ∙ ap (λ l. fresh eq seen xs ++ l)
-      (fresh-same _ _ ys (λ y. grind (arith, dec)))))
-      (λ e. rw e (ap (λ l. x ∷ l)
-      (fresh-append (with_node eq seen x) xs ys ∙ ap (λ l. fresh eq (with_node eq seen x) xs ++ l)
-      (fresh-same _ _ ys (λ y. grind arith)))))
+  fresh-append seen (x ∷ xs) ys = by_test (seen x)
+      (λ e. let same : joined (member eq (x ∷ xs)) seen ≡ joined (member eq xs) seen =
+      fun_ext (λ y. grind (arith, dec x y)) in rw (e, same, fresh-append seen xs ys))
+      (λ e. let turn : joined (member eq (x ∷ xs)) seen ≡ joined (member eq xs) (with_node eq seen x) =
+      fun_ext (λ y. grind arith) in rw (e, turn, fresh-append (with_node eq seen x) xs ys))
 
   -- a new node is in the list, and was not seen
   pub member-fresh : (seen : N → Bool) (xs : List N) (y : N)
@@ -33,61 +31,55 @@ module _ {N : Type 0} {eq : N → N → Bool} (dec : (a b : N) → Decides (eq a
   member-fresh seen [] y = refl
   member-fresh seen (x ∷ xs) y = grind (arith, dec, member-fresh seen xs y, member-fresh (with_node eq seen x) xs y)
 
-  -- nothing is new where all was seen
-  pub fresh_none : (seen : N → Bool) (xs : List N) → ((x : N) → member eq xs x ≡ true → seen x ≡ true)
-      → fresh eq seen xs ≡ []
-  fresh_none seen [] h = refl
-  fresh_none seen (x ∷ xs) h = grind (arith, h x, eq-self x, fresh_none seen xs (λ y m. h y (or_right _ _ m)))
-
-  -- dropping seen nodes first changes nothing
-  pub fresh-filter : (v seen : N → Bool) (xs : List N) → ((x : N) → v x ≡ true → seen x ≡ true)
-      → fresh eq seen (filter (λ x. not (v x)) xs) ≡ fresh eq seen xs
-  fresh-filter v seen [] h = refl
-  fresh-filter v seen (x ∷ xs) h =
-      let new = fresh-filter v (with_node eq seen x) xs (λ y m. or_right _ _ (h y m)) in
-      grind (arith, h x, fresh-filter v seen xs h, new)
-
   -- more seen nodes are dropped from the new ones
   pub fresh-joined : (v seen : N → Bool) (xs : List N)
       → fresh eq (joined v seen) xs ≡ filter (λ x. not (v x)) (fresh eq seen xs)
   fresh-joined v seen [] = refl
   fresh-joined v seen (x ∷ xs) =
-      let same : v x ≡ true → fresh eq (joined v seen) xs ≡ fresh eq (joined v (with_node eq seen x)) xs =
-      λ e. fresh-same _ _ xs (λ y. grind (arith, dec)) in
-      let turn : fresh eq (with_node eq (joined v seen) x) xs ≡ fresh eq (joined v (with_node eq seen x)) xs =
-      fresh-same _ _ xs (λ y. grind arith) in
-      grind (arith, same, turn, fresh-joined v seen xs, fresh-joined v (with_node eq seen x) xs)
-
-  -- a search from each node of a list needs each node once
-  fresh-flat_map_fresh : (f : N → List N) (seen t : N → Bool) (xs : List N)
-      → ((x y : N) → t x ≡ true → member eq (f x) y ≡ true → seen y ≡ true)
-      → fresh eq seen (flat_map f (fresh eq t xs)) ≡ fresh eq seen (flat_map f xs)
-  fresh-flat_map_fresh f seen t [] h = refl
-  fresh-flat_map_fresh f seen t (x ∷ xs) h =
-      by_test (t x)
-      (λ e. rw e (fresh-flat_map_fresh f seen t xs h
-      ∙ sym (fresh-append seen (f x) (flat_map f xs)
-      ∙ ap (λ l. l ++ fresh eq (joined (member eq (f x)) seen) (flat_map f xs))
-      (fresh_none seen (f x) (λ y m. h x y e m))
-      ∙ fresh-same _ _ (flat_map f xs) (λ y. grind (arith, h x y e)))))
-      (λ e. rw e (fresh-append seen (f x) (flat_map f (fresh eq (with_node eq t x) xs))
-      ∙ ap (λ l. fresh eq seen (f x) ++ l)
-      (fresh-flat_map_fresh f (joined (member eq (f x)) seen) (with_node eq t x) xs
-      (λ z y m k. grind (arith, dec x z, h z y)))
-      ∙ sym (fresh-append seen (f x) (flat_map f xs))))
-
-  pub fresh-flat_map : (f : N → List N) (seen : N → Bool) (xs : List N)
-      → fresh eq seen (flat_map f (fresh eq (λ x. false) xs)) ≡ fresh eq seen (flat_map f xs)
-  fresh-flat_map f seen xs = fresh-flat_map_fresh f seen (λ x. false) xs (λ x y m k. absurd (false≢true m))
+      let turn : joined v (with_node eq seen x) ≡ with_node eq (joined v seen) x = fun_ext (λ y. grind arith) in
+      let same : v x ≡ true → joined v seen ≡ with_node eq (joined v seen) x =
+      λ e. fun_ext (λ y. grind (arith, dec x y)) in
+      grind (arith, same, fresh-joined v seen xs, (rw turn at (fresh-joined v (with_node eq seen x) xs)))
 
   -- the new nodes, with some nodes left out
   fresh-left_out : (v seen : N → Bool) (xs : List N)
       → fresh eq seen (filter (λ x. not (v x)) xs) ≡ fresh eq (joined v seen) xs
   fresh-left_out v seen [] = refl
   fresh-left_out v seen (x ∷ xs) =
-      let turn : fresh eq (joined v (with_node eq seen x)) xs ≡ fresh eq (with_node eq (joined v seen) x) xs =
-      fresh-same _ _ xs (λ y. grind arith) in
-      grind (arith, turn, fresh-left_out v seen xs, fresh-left_out v (with_node eq seen x) xs)
+      let turn : joined v (with_node eq seen x) ≡ with_node eq (joined v seen) x = fun_ext (λ y. grind arith) in
+      grind (arith, fresh-left_out v seen xs, (rw turn at (fresh-left_out v (with_node eq seen x) xs)))
+
+  -- dropping seen nodes first changes nothing
+  pub fresh-filter : (v seen : N → Bool) (xs : List N) → ((x : N) → v x ≡ true → seen x ≡ true)
+      → fresh eq seen (filter (λ x. not (v x)) xs) ≡ fresh eq seen xs
+  fresh-filter v seen xs h = fresh-left_out v seen xs ∙ fresh-same _ _ xs (λ x. grind (arith, h x))
+
+  pub filter_none : (v : N → Bool) (xs : List N) → ((x : N) → member eq xs x ≡ true → v x ≡ true)
+      → filter (λ x. not (v x)) xs ≡ []
+  filter_none v [] h = refl
+  filter_none v (x ∷ xs) h = grind (arith, h x, eq-self x, filter_none v xs (λ y m. h y (or_right _ _ m)))
+
+  -- nothing is new where all was seen
+  pub fresh_none : (seen : N → Bool) (xs : List N) → ((x : N) → member eq xs x ≡ true → seen x ≡ true)
+      → fresh eq seen xs ≡ []
+  fresh_none seen xs h = sym (fresh-filter seen seen xs (λ x m. m)) ∙ ap (λ l. fresh eq seen l) (filter_none seen xs h)
+
+  -- a search from each node of a list needs each node once
+  fresh-flat_map_fresh : (f : N → List N) (seen t : N → Bool) (xs : List N)
+      → ((x y : N) → t x ≡ true → member eq (f x) y ≡ true → seen y ≡ true)
+      → fresh eq seen (flat_map f (fresh eq t xs)) ≡ fresh eq seen (flat_map f xs)
+  fresh-flat_map_fresh f seen t [] h = refl
+  fresh-flat_map_fresh f seen t (x ∷ xs) h = by_test (t x)
+      (λ e. let same : joined (member eq (f x)) seen ≡ seen = fun_ext (λ y. grind (arith, h x y e)) in
+      rw (e, fresh-append seen (f x) (flat_map f xs), fresh_none seen (f x) (λ y m. h x y e m), same)
+      (fresh-flat_map_fresh f seen t xs h))
+      (λ e. let new = fresh-flat_map_fresh f (joined (member eq (f x)) seen) (with_node eq t x) xs
+      (λ z y m k. grind (arith, dec x z, h z y)) in
+      rw (e, fresh-append seen (f x) (flat_map f xs), fresh-append seen (f x) (flat_map f (fresh eq _ xs)), new))
+
+  pub fresh-flat_map : (f : N → List N) (seen : N → Bool) (xs : List N)
+      → fresh eq seen (flat_map f (fresh eq (λ x. false) xs)) ≡ fresh eq seen (flat_map f xs)
+  fresh-flat_map f seen xs = fresh-flat_map_fresh f seen (λ x. false) xs (λ x y m k. absurd (false≢true m))
 
   pub filter-fresh : (v seen : N → Bool) (xs : List N)
       → filter (λ x. not (v x)) (fresh eq seen xs) ≡ fresh eq seen (filter (λ x. not (v x)) xs)
@@ -101,7 +93,7 @@ module _ {N : Type 0} {eq : N → N → Bool} (dec : (a b : N) → Decides (eq a
       → fresh eq more (fresh eq seen xs) ≡ fresh eq seen xs
   fresh-fresh seen more [] h = refl
   fresh-fresh seen more (x ∷ xs) h =
-      let new = fresh-fresh (with_node eq seen x) (with_node eq more x) xs (λ y z. or_more _ _ _ (h y) z) in
+      let new = fresh-fresh (with_node eq seen x) (with_node eq more x) xs (λ y z. grind (arith, h y)) in
       grind (arith, h x, fresh-fresh seen more xs h, new)
 
   -- two functions that agree at each element
@@ -126,8 +118,3 @@ module _ {N : Type 0} {eq : N → N → Bool} (dec : (a b : N) → Decides (eq a
       (λ q. k z (or_left _ _ (eq-self z)) q)
       (λ q. flat_map-member f xs y (grind (arith, member-append (f z) (flat_map f xs) y))
       (λ x n l. k x (or_right _ _ n) l))
-
-  pub filter_none : (v : N → Bool) (xs : List N) → ((x : N) → member eq xs x ≡ true → v x ≡ true)
-      → filter (λ x. not (v x)) xs ≡ []
-  filter_none v [] h = refl
-  filter_none v (x ∷ xs) h = grind (arith, h x, eq-self x, filter_none v xs (λ y m. h y (or_right _ _ m)))

@@ -2,7 +2,7 @@
 -- Main statements: flat_map-flat_map, flat_map-without, before-without, find-without.
 -- Used by: the folders graph and runs, and the crates above.
 -- Idea: induction on the list, by cases on the test of its first element.
-use Rattle.ordered_reach.proofs.Common.{◌∙◌, [], ap, arith, before, Bool, by_test, false, false≢true, filter, filter-append, find, flat_map, flat_map-append, fun_ext, length, length-append, List, None, Option, option_map, option_or, refl, Some, true, without, ◌∷◌, ◌≡◌, ◌≤◌, list_any}
+use Rattle.ordered_reach.proofs.Common.{[], ap, arith, before, Bool, by_test, false, false≢true, filter, filter-append, find, flat_map, flat_map-append, fun_ext, length, length-append, List, None, Option, option_map, option_or, refl, true, without, ◌∷◌, ◌≡◌, ◌≤◌, list_any}
 
 pub flat_map-same : {A B : Type 0} (f g : A → List B) (xs : List A) → ((x : A) → f x ≡ g x)
     → flat_map f xs ≡ flat_map g xs
@@ -12,11 +12,6 @@ pub flat_map-flat_map : {A B C : Type 0} (f : A → List B) (g : B → List C) (
     → flat_map g (flat_map f xs) ≡ flat_map (λ x. flat_map g (f x)) xs
 flat_map-flat_map f g [] = refl
 flat_map-flat_map f g (x ∷ xs) = grind (arith, flat_map-append, flat_map-flat_map f g xs)
-
-pub flat_map-thrice : {A B C D : Type 0} (f : A → List B) (g : B → List C) (h : C → List D) (xs : List A)
-    → flat_map h (flat_map g (flat_map f xs)) ≡ flat_map (λ x. flat_map h (flat_map g (f x))) xs
-flat_map-thrice f g h xs =
-    ap (λ l. flat_map h l) (flat_map-flat_map f g xs) ∙ flat_map-flat_map (λ x. flat_map g (f x)) h xs
 
 pub flat_map_none : {A B : Type 0} (f : A → List B) (xs : List A) → ((x : A) → f x ≡ []) → flat_map f xs ≡ []
 flat_map_none f [] h = refl
@@ -47,17 +42,14 @@ without_twice cap [] = refl
 without_twice cap (x ∷ xs) = grind (arith, without_twice cap xs)
 
 pub option_or-assoc : {A : Type 0} (a b c : Option A) → option_or (option_or a b) c ≡ option_or a (option_or b c)
-option_or-assoc None b c = refl
-option_or-assoc (Some x) b c = refl
+option_or-assoc a b c = grind arith
 
 pub option_or-None : {A : Type 0} (o : Option A) → option_or o None ≡ o
-option_or-None None = refl
-option_or-None (Some a) = refl
+option_or-None o = grind arith
 
 pub map-option_or : {A B : Type 0} (f : A → B) (a b : Option A)
     → option_map f (option_or a b) ≡ option_or (option_map f a) (option_map f b)
-map-option_or f None b = refl
-map-option_or f (Some x) b = refl
+map-option_or f a b = grind arith
 
 pub length-flat_map_le : {A B : Type 0} (f : A → List B) (xs : List A) → ((x : A) → length (f x) ≤ 1)
     → length (flat_map f xs) ≤ length xs

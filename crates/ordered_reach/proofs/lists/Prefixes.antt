@@ -2,7 +2,7 @@
 -- Main statements: Beginning-before, Beginning-ordered.
 -- Used by: CutLists.
 -- Idea: a search lists its roots in turn, so fewer roots list a prefix.
-use Rattle.ordered_reach.proofs.Common.{[], ap, append-nil, append_assoc, before, Bool, by_test, Decides, ends, filter-append, flat_map, flat_map-append, fresh, IsBeginning, joined, List, member, not, ordered, refl, sym, without, ℕ, ◌++◌, ◌∙◌, ◌∷◌, ◌≡◌}
+use Rattle.ordered_reach.proofs.Common.{[], ap, append_assoc, before, Bool, by_test, Decides, ends, filter-append, flat_map, flat_map-append, fresh, IsBeginning, List, not, ordered, refl, without, ℕ, ◌++◌, ◌∙◌, ◌∷◌, ◌≡◌}
 use Rattle.ordered_reach.proofs.lists.NewNodes.{fresh-append}
 
 -- prefixes
@@ -23,15 +23,10 @@ Beginning-before {A} p xs ys h = let r : IsBeginning (before p xs) xs =
     cut (x ∷ l) = by_test (p x) (λ e. rw e (x ∷ l, refl))
         (λ e. let r : IsBeginning (before p l) l = cut l in rw e (r.0, ap (λ k. x ∷ k) r.1))
 
-pub Beginning-self : {A : Type 0} (xs : List A) → IsBeginning xs xs
-Beginning-self xs = ([], sym (append-nil xs))
-
 module _ {N : Type 0} {eq : N → N → Bool} (dec : (a b : N) → Decides (eq a b) (a ≡ b)) where
   pub Beginning-ordered : (edges : N → List N) (n : ℕ) (held : N → Bool) (xs ys : List N) → IsBeginning xs ys
       → IsBeginning (ordered eq edges n held xs) (ordered eq edges n held ys)
   Beginning-ordered edges n held xs ys h =
-      let f : N → List N = ends eq edges n held in (
-        fresh eq (joined (member eq (flat_map f xs)) held) (flat_map f h.0),
-        ap (λ l. fresh eq held (flat_map f l)) h.1 ∙ ap (λ l. fresh eq held l) (flat_map-append f xs h.0)
-            ∙ fresh-append dec held (flat_map f xs) (flat_map f h.0),
-      )
+      let f : N → List N = ends eq edges n held in
+      let r = Beginning-flat_map f xs ys h in
+      (fresh eq _ r.0, ap (λ l. fresh eq held l) r.1 ∙ fresh-append dec held (flat_map f xs) r.0)

@@ -2,8 +2,8 @@
 -- Main statements: Alike, Alike-flat_map, Alike-front.
 -- Used by: RepeatedSearch.
 -- Idea: the relation is kept by concatenation, so it can be shown root by root.
-use Rattle.ordered_reach.proofs.Common.{[], ap, append-nil, arith, Bool, Decides, false, flat_map, fresh, joined, List, member, not, or_left, or_more, or_right, refl, sym, true, ◌&&◌, ◌++◌, ◌||◌, ◌∙◌, ◌∷◌, ◌≡◌}
-use Rattle.ordered_reach.proofs.lists.NewNodes.{eq-self, fresh-append, fresh-same, fresh_none, member-fresh}
+use Rattle.ordered_reach.proofs.Common.{fun_ext, [], ap, append-nil, arith, Bool, Decides, false, flat_map, fresh, joined, List, member, or_left, or_right, refl, true, ◌++◌, ◌||◌, ◌∷◌, ◌≡◌}
+use Rattle.ordered_reach.proofs.lists.NewNodes.{eq-self, fresh-append, fresh_none, member-fresh}
 
 -- the lists have the same new nodes in the same order, for every seen set that contains c
 abbrev pub Alike : {N : Type 0} → (N → N → Bool) → (N → Bool) → List N → List N → Type 0
@@ -13,19 +13,16 @@ module _ {N : Type 0} {eq : N → N → Bool} (dec : (a b : N) → Decides (eq a
   Alike-member : (c : N → Bool) (xs ys : List N) → Alike eq c xs ys → (x : N) → c x ≡ false
       → member eq xs x ≡ member eq ys x
   Alike-member c xs ys h x e =
-      let p : (member eq xs x && not (c x)) ≡ (member eq ys x && not (c x)) =
-      sym (member-fresh dec c xs x) ∙ ap (λ l. member eq l x) (h c (λ y m. m)) ∙ member-fresh dec c ys x in
-      grind arith
+      let same = ap (λ l. member eq l x) (h c (λ y m. m)) in
+      grind (arith, same, member-fresh dec c xs x, member-fresh dec c ys x)
 
   Alike-append : (c : N → Bool) (xs xs' ys ys' : List N) → Alike eq c xs xs' → Alike eq c ys ys'
       → Alike eq c (xs ++ ys) (xs' ++ ys')
   Alike-append c xs xs' ys ys' h k seen s =
-      fresh-append dec seen xs ys
-      ∙ ap (λ l. l ++ fresh eq (joined (member eq xs) seen) ys) (h seen s)
-      ∙ ap (λ l. fresh eq seen xs' ++ l)
-      (fresh-same dec _ _ ys (λ x. grind (arith, s x, Alike-member c xs xs' h x))
-      ∙ k (joined (member eq xs') seen) (λ x m. or_right (member eq xs' x) (seen x) (s x m)))
-      ∙ sym (fresh-append dec seen xs' ys')
+      let same : joined (member eq xs) seen ≡ joined (member eq xs') seen =
+      fun_ext (λ x. grind (arith, s x, Alike-member c xs xs' h x)) in
+      rw (fresh-append dec seen xs ys, fresh-append dec seen xs' ys', h seen s, same)
+      (ap (λ l. fresh eq seen xs' ++ l) (k _ (λ x m. or_right (member eq xs' x) (seen x) (s x m))))
 
   pub Alike-flat_map : (c : N → Bool) (f g : N → List N) (xs : List N)
       → ((x : N) → member eq xs x ≡ true → Alike eq c (f x) (g x)) → Alike eq c (flat_map f xs) (flat_map g xs)
@@ -39,8 +36,5 @@ module _ {N : Type 0} {eq : N → N → Bool} (dec : (a b : N) → Decides (eq a
   pub Alike-front : (c : N → Bool) (xs ys : List N) → ((x : N) → member eq ys x ≡ true → (member eq xs x || c x) ≡ true)
       → Alike eq c (xs ++ ys) xs
   Alike-front c xs ys h seen s =
-      fresh-append dec seen xs ys
-      ∙ ap (λ l. fresh eq seen xs ++ l)
-      (fresh_none dec (joined (member eq xs) seen) ys
-      (λ x m. or_more (member eq xs x) (c x) (seen x) (s x) (h x m)))
-      ∙ append-nil (fresh eq seen xs)
+      let none = fresh_none dec (joined (member eq xs) seen) ys (λ x m. grind (arith, s x, h x m)) in
+      rw (fresh-append dec seen xs ys, none) (append-nil (fresh eq seen xs))

@@ -2,16 +2,15 @@
 -- Main statements: IsAutomaton, IsTrueWalk, true_walk.
 -- Used by: the theorem about NFAs.
 -- Idea: all of RunLists and CutLists for an automaton over numbers, without assertions or bytes.
-use Rattle.ordered_reach.proofs.Common.{[], ap, arith, Bool, by_test, false, find, IsBeginning, IsPath, known_at, LeadsBelow, List, ListsReached, member, nat_eq, None, none_held, ordered, run_edges, Some, suc, sym, true, without, ℕ, ◌==◌, ◌∙◌, ◌∷◌, ◌≡◌, ◌≤◌}
-use Rattle.ordered_reach.proofs.graph.ClosedSets.{IsEnough}
-use Rattle.ordered_reach.proofs.graph.Fuel.{IsEnough-fewer_edges}
-use Rattle.ordered_reach.proofs.runs.ByPosition.{IsEnoughForRuns}
-use Rattle.ordered_reach.proofs.runs.CutLists.{IsRepeatable, known_level, level, known_level_is, last_accepting, last_accepting-agree, level_cut, recorded, recorded_cut, recorded_cut_begins, recorded_cut_is, recorded_is}
+use Rattle.ordered_reach.proofs.Common.{ap, refl, find, [], arith, before, Bool, by_test, false, IsBeginning, IsPath, known_at, LeadsBelow, List, ListsReached, member, nat_eq, None, none_held, ordered, run_edges, Some, suc, sym, true, without, ℕ, ◌==◌, ◌∙◌, ◌∷◌, ◌≡◌, ◌≤◌}
+use Rattle.ordered_reach.proofs.graph.RepeatedSearch.{IsRepeatable}
+use Rattle.ordered_reach.proofs.runs.ByPosition.{Decides-pair_eq, IsEnoughForRuns, runs}
+use Rattle.ordered_reach.proofs.runs.CutLists.{best_is_last, last_accepting, last_accepting-agree, level, recorded, recorded_cut, recorded_cut_begins, recorded_is, redone_cut, redone_whole}
 use Rattle.ordered_reach.proofs.lists.Pieces.{find-without}
 use Rattle.ordered_reach.proofs.graph.FiniteGraphs.{IsEnough-below, same_decides}
-use Rattle.ordered_reach.proofs.runs.MostPreferred.{IsMostPreferred}
+use Rattle.ordered_reach.proofs.runs.MostPreferred.{IsMostPreferred, first_is_preferred, first_none_preferred}
 use Rattle.ordered_reach.proofs.runs.RunFuel.{IsEnough-at, IsEnough-runs, run_fuel}
-use Rattle.ordered_reach.proofs.runs.RunLists.{last_is_preferred, last_none, level_lists_reached}
+use Rattle.ordered_reach.proofs.runs.RunLists.{level_lists_reached}
 
 -- an automaton over m bytes: its epsilon edges, fewer of them under the look-behind only, and its
 -- steps over bytes
@@ -73,46 +72,43 @@ module _ (states m : ℕ) (known eps bytes : ℕ → ℕ → List ℕ) (cap acc 
       (λ i s t z. by_test (i == k) (λ e. a.within i s t (a.fewer i s t (rw e at z))) (λ e. a.within i s t (rw e at z)))
       a.ends
 
-  repeatable : IsRepeatable nat_eq known eps bytes (run_fuel (suc states) m) cap next
-  repeatable =
-      let eps_enough : (i s : ℕ) → IsEnough nat_eq (eps i) (run_fuel (suc states) m) none_held s =
-      λ i s. IsEnough-at same_decides eps bytes (run_fuel (suc states) m) none_held i s (runs_enough (i, s)) in
-      record {
-        one = a.cap_known;
-        one_more = a.cap_eps;
-        no_byte = a.cap_bytes;
-        fewer = a.fewer;
-        enough = eps_enough;
-        enough_known = λ i s. IsEnough-fewer_edges same_decides (known i) (eps i) (a.fewer i) (run_fuel (suc states) m)
-            none_held s (eps_enough i s);
-      }
+  repeatable : (i : ℕ) → IsRepeatable nat_eq (known i) (eps i) (run_fuel (suc states) m) cap next
+  repeatable i = record {
+    fewer = a.fewer i;
+    one = a.cap_known i;
+    one_more = a.cap_eps i;
+    enough = λ s. IsEnough-at same_decides known bytes (run_fuel (suc states) m) none_held i s
+        (all_runs_enough states m known bytes (λ i s t z. a.within i s t (a.fewer i s t z)) a.ends (i, s));
+    enough_more = λ s.
+        IsEnough-at same_decides eps bytes (run_fuel (suc states) m) none_held i s (runs_enough (i, s));
+  }
 
-  last_accepting_same : last_accepting (working_cut states m known eps bytes cap acc start) acc m 0
-      ≡ last_accepting (level_cut nat_eq eps bytes acc (run_fuel (suc states) m) start) acc m 0
-  last_accepting_same =
+  -- the first accepting node of all runs is the last accepting state of the cut walk
+  found : find (λ q. acc q.1) (runs nat_eq eps bytes (run_fuel (suc states) m) 0 (start ∷ []))
+      ≡ last_accepting (working_cut states m known eps bytes cap acc start) acc m 0
+  found =
+      let n : ℕ = run_fuel (suc states) m in
       let W : ℕ → List ℕ = working_cut states m known eps bytes cap acc start in
-      let L : ℕ → List ℕ = level_cut nat_eq eps bytes acc (run_fuel (suc states) m) start in
-      last_accepting-agree W L acc
-      (λ k. sym (find-without acc cap (W k) a.cap_acc)
-      ∙ ap (λ l. find acc l) (recorded_cut_is same_decides known eps bytes (run_fuel (suc states) m) start cap next
-      repeatable acc a.cap_acc k)
-      ∙ find-without acc cap (L k) a.cap_acc)
-      m 0
+      let L : ℕ → List ℕ = level nat_eq eps bytes (before acc) n start in
+      best_is_last same_decides eps eps bytes n start acc runs_enough m (λ x. a.ends m x (omega arith)) m 0
+      (omega arith) (start ∷ []) refl
+      ∙ last_accepting-agree L W acc (λ k. sym (find-without acc cap (L k) a.cap_acc)
+      ∙ ap (λ l. find acc l)
+      (sym (redone_cut same_decides known eps bytes n start cap next repeatable a.cap_bytes acc a.cap_acc k))
+      ∙ find-without acc cap (W k) a.cap_acc) m 0
 
   pub true_walk : IsTrueWalk states m known eps bytes cap acc start
   true_walk =
       let n : ℕ = run_fuel (suc states) m in
-      let is : (k : ℕ) → (recorded nat_eq known eps bytes cap n start k
-      ≡ without cap (known_level nat_eq known eps bytes n start k))
-      × (without cap (working states m known eps bytes cap start k) ≡ without cap (level nat_eq eps bytes n start k)) =
-      recorded_is same_decides known eps bytes n start cap next repeatable in
-      let stop : (x : ℕ) → bytes m x ≡ [] = λ x. a.ends m x (omega arith) in
       record {
-        reached = λ k. rw (is k).1 (level_lists_reached same_decides eps bytes n start runs_enough cap k);
-        recorded_reached = λ k. rw (is k).0 (rw (known_level_is nat_eq known eps bytes n start k)
-            (level_lists_reached same_decides (known_at k known eps) bytes n start (known_runs_enough k) cap k));
-        preferred = λ p e.
-            last_is_preferred same_decides eps bytes n start runs_enough acc m stop p (sym last_accepting_same ∙ e);
-        none = λ e. last_none same_decides eps bytes n start runs_enough acc m stop (sym last_accepting_same ∙ e);
-        cut_begins = recorded_cut_begins same_decides known eps bytes n start cap next repeatable acc a.cap_acc;
+        reached = λ k. rw (redone_whole same_decides known eps bytes n start cap next repeatable a.cap_bytes k)
+            (level_lists_reached same_decides eps bytes n start runs_enough cap k);
+        recorded_reached = λ k. rw (recorded_is same_decides known eps bytes n start cap next repeatable a.cap_bytes k)
+            (level_lists_reached same_decides (known_at k known eps) bytes n start (known_runs_enough k) cap k);
+        preferred = λ p e. first_is_preferred (Decides-pair_eq same_decides) (run_edges eps bytes) n (0, start)
+            runs_enough (λ q. acc q.1) p (found ∙ e);
+        none = λ e. first_none_preferred (Decides-pair_eq same_decides) (run_edges eps bytes) n (0, start)
+            runs_enough (λ q. acc q.1) (found ∙ e);
+        cut_begins = recorded_cut_begins same_decides known eps bytes n start cap next repeatable a.cap_bytes acc
+            a.cap_acc;
       }

@@ -1,9 +1,10 @@
 -- The first accepting node of a search is the end of the most preferred run.
 -- Main statements: IsMostPreferred, first_is_preferred, first_none_preferred.
--- Used by: RunLists.
+-- Used by: RunLists, Automata.
 -- Idea: the paths are enumerated in order, so the first that accepts is the least.
-use Rattle.ordered_reach.proofs.Common.{[], ap, Before, Bool, by_test, Decides, ends, false, false≢true, find, flat_map, inl, inr, IsLeastPath, IsLeastRun, IsPath, IsPathFrom, List, map, None, none_held, refl, Some, subst, suc, sym, true, zero, ℕ, ◌∙◌, ◌∷◌, ◌≡◌, ◌⊎◌}
-use Rattle.ordered_reach.proofs.lists.Elements.{In, In_cases, In_head, In_none, In_tail}
+use Rattle.ordered_reach.proofs.Common.{arith, member, [], ap, Before, Bool, by_test, Decides, ends, false, false≢true, find, flat_map, inl, inr, IsLeastPath, IsLeastRun, IsPath, IsPathFrom, List, map, None, none_held, refl, Some, suc, sym, true, zero, ℕ, ◌∙◌, ◌∷◌, ◌≡◌, ◌⊎◌}
+use Rattle.ordered_reach.specs.Paths.{IsLeast}
+use Rattle.ordered_reach.proofs.lists.Elements.{In, In_cases, In_head, In_map, In_member, In_tail}
 use Rattle.ordered_reach.proofs.graph.ClosedSets.{IsEnough}
 use Rattle.ordered_reach.proofs.graph.LeastPaths.{all_ends, all_in_order, all_paths, listed_of, path_of}
 use Rattle.ordered_reach.proofs.graph.PathLists.{Ascending}
@@ -28,45 +29,29 @@ run_of edges start (suc i ∷ ds) s h k = absurd (let g : None ≡ Some h.0 = h.
 -- a least path from one root is a least run after the number 0
 pub least_run_of : {N : Type 0} (edges : N → List N) (start : N) (cs : List ℕ) (s : N)
     → IsLeastPath edges [] (start ∷ []) cs s → (ds : List ℕ) × (cs ≡ 0 ∷ ds) × IsLeastRun edges start ds s
-least_run_of {N} edges start cs s h = run_of edges start cs s h.path (λ ds e p. (
-  ds,
-  e,
-  record {
-    run = p;
-    least = λ es q. same_first 0 ds es
-        (subst (λ z. (z ≡ 0 ∷ es) ⊎ Before z (0 ∷ es)) e (h.least (0 ∷ es) (start, refl, q)));
-  },
-))
+least_run_of edges start cs s h = run_of edges start cs s h.path (λ ds e p.
+    let least : IsLeast (λ es. IsPath edges [] start es s) ds = λ es q.
+    same_first 0 ds es (rw e at (h.least (0 ∷ es) (start, refl, q))) in
+    (ds, e, record { run = p; least = least }))
 
 module _ {N : Type 0} {eq : N → N → Bool} (dec : (a b : N) → Decides (eq a b) (a ≡ b)) where
   -- the first accepting end of sorted paths is that of the least of them
   first_least : (acc : N → Bool) (ps : List (List ℕ × N)) → Ascending ps → (s : N)
       → find acc (map (λ p. p.1) ps) ≡ Some s
       → (k : List ℕ) × In (k, s) ps × (acc s ≡ true) ×
-      ((l : List ℕ) (t : N) → In (l, t) ps → acc t ≡ true → (k ≡ l) ⊎ Before k l)
+      ((q : List ℕ × N) → In q ps → acc q.1 ≡ true → (k ≡ q.0) ⊎ Before k q.0)
   first_least acc [] a s e = absurd (let k : Some s ≡ None = sym e in cc)
   first_least acc (p ∷ ps) a s e = by_test (acc p.1)
-      (λ q. let w : Some p.1 ≡ Some s = rw q at e in let z : p.1 ≡ s = cc in (
-        p.0,
-        rw (← z) (In_head p ps),
-        rw (← z) q,
-        λ l t h k. In_cases (l, t) p ps h (λ d. inl (sym (ap (λ x. x.0) d))) (λ m. inr (a.0 (l, t) m)),
-      ))
-      (λ q. let r = first_least acc ps a.1 s (rw q at e) in (
-        r.0,
-        In_tail (r.0, s) p ps r.1,
-        r.2,
-        λ l t h k. In_cases (l, t) p ps h
-            (λ d. absurd (false≢true (sym q ∙ ap acc (sym (ap (λ x. x.1) d)) ∙ k)))
-            (λ m. r.3 l t m k),
-      ))
+      (λ c. let w : Some p.1 ≡ Some s = rw c at e in let z : p.1 ≡ s = cc in
+      rw (← z) (p.0, In_head p ps, c, λ q h k. In_cases q p ps h (λ d. inl (λ i. (sym d i).0)) (λ l. inr (a.0 q l))))
+      (λ c. let r = first_least acc ps a.1 s (rw c at e) in
+      let no : (q : List ℕ × N) → q ≡ p → acc q.1 ≡ true → ⊥ =
+      λ q d k. false≢true (sym c ∙ ap (λ x. acc x.1) (sym d) ∙ k) in
+      (r.0, In_tail (r.0, s) p ps r.1, r.2, λ q h k. In_cases q p ps h (λ d. absurd (no q d k)) (λ l. r.3 q l k)))
 
-  first_none : (acc : N → Bool) (ps : List (List ℕ × N)) → find acc (map (λ p. p.1) ps) ≡ None → (l : List ℕ) (t : N)
-      → In (l, t) ps → acc t ≡ false
-  first_none acc [] e l t h = In_none (l, t) h
-  first_none acc (p ∷ ps) e l t h = by_test (acc p.1)
-      (λ q. absurd (let w : Some p.1 ≡ None = rw q at e in cc))
-      (λ q. In_cases (l, t) p ps h (λ d. ap acc (ap (λ x. x.1) d) ∙ q) (λ m. first_none acc ps (rw q at e) l t m))
+  first_none : (acc : N → Bool) (xs : List N) (t : N) → find acc xs ≡ None → member eq xs t ≡ true → acc t ≡ false
+  first_none acc [] t e m = grind arith
+  first_none acc (x ∷ xs) t e m = grind (arith, dec x t, first_none acc xs t)
 
   module _ (edges : N → List N) (n : ℕ) (start : N) (a : (r : N) → IsEnough eq edges n none_held r)
       (acc : N → Bool) where
@@ -80,15 +65,14 @@ module _ {N : Type 0} {eq : N → N → Bool} (dec : (a b : N) → Decides (eq a
           choices = cs;
           run = p;
           accepted = r.2;
-          preferred = λ ds t q k. same_first 0 cs ds
-              (subst (λ y. (y ≡ 0 ∷ ds) ⊎ Before y (0 ∷ ds)) z
-              (r.3 (0 ∷ ds) t (listed_of dec edges n [] (start ∷ []) a (0 ∷ ds) t (start, refl, q)) k));
+          preferred = λ ds t q k. same_first 0 cs ds (rw z at
+              (r.3 (0 ∷ ds, t) (listed_of dec edges n [] (start ∷ []) a (0 ∷ ds) t (start, refl, q)) k));
         })
 
     -- if the search has no accepting node, no run has
     pub first_none_preferred : find acc (flat_map (ends eq edges n none_held) (start ∷ [])) ≡ None
         → (ds : List ℕ) (t : N) → IsPath edges [] start ds t → acc t ≡ false
     first_none_preferred e ds t p =
-        first_none acc (all_paths dec edges n [] (start ∷ []) a)
-        (ap (λ l. find acc l) (all_ends dec edges n [] (start ∷ []) a) ∙ e) (0 ∷ ds) t
-        (listed_of dec edges n [] (start ∷ []) a (0 ∷ ds) t (start, refl, p))
+        let listed = listed_of dec edges n [] (start ∷ []) a (0 ∷ ds) t (start, refl, p) in
+        first_none acc _ t e (In_member dec _ t (rw (all_ends dec edges n [] (start ∷ []) a) at
+        (In_map (λ p. p.1) (0 ∷ ds, t) (all_paths dec edges n [] (start ∷ []) a) listed)))
