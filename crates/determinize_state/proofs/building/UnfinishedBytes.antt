@@ -2,9 +2,9 @@
 -- Main statements: built, building_with_have, building_with_state, built_zeros.
 -- Used by: the calls of the builders.
 -- Idea: the bytes are a header and a list that grows at its end.
-use Rattle.determinize_state.proofs.Common.{◌≡◌, ℕ, true, ◌<◌, ◌≤◌, List, [], ◌∷◌, ◌++◌, refl, sym, ap, ◌∙◌, append_assoc, subst, All-push, Value, IsValue, dead, is_nonempty, with_state, varint, zigzag, last_id, is_explicit, with_word, value_of, IsSpelled, with_bit, IsBuilding}
+use Rattle.determinize_state.proofs.Common.{◌≡◌, ℕ, true, ◌<◌, ◌≤◌, List, [], ◌∷◌, ◌++◌, refl, sym, ap, ◌∙◌, append-nil, append_assoc, subst, All-push, Value, IsValue, dead, is_nonempty, with_state, varint, zigzag, last_id, is_explicit, with_word, value_of, IsSpelled, with_bit, IsBuilding}
 use Rattle.determinize_state.specs.Spelling.{spell}
-use Rattle.determinize_state.proofs.encoding.Varints.{deltas-push}
+use Rattle.determinize_state.proofs.encoding.Varints.{deltas-append}
 use Rattle.determinize_state.proofs.encoding.RoundTrip.{dead_valid, value_of-spell, spelled}
 use Rattle.determinize_state.proofs.encoding.FlagBits.{or_4, or_8}
 
@@ -39,7 +39,7 @@ building_with_need bytes last set h small =
 
 spell-pushed : (v : Value) (id : ℕ) → spell (with_state v id) ≡ spell v ++ varint (zigzag (last_id 0 v.states) id)
 unfolding spell
-spell-pushed v id = rw (deltas-push 0 v.states id) (simp append_assoc)
+spell-pushed v id = simp (deltas-append 0 v.states (id ∷ []), append_assoc, append-nil)
 
 last-push : (from : ℕ) (ids : List ℕ) (id : ℕ) → last_id from (ids ++ id ∷ []) ≡ id
 last-push from [] id = refl
