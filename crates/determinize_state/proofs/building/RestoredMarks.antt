@@ -7,7 +7,6 @@ use Rattle.determinize_state.specs.Spelling.{spell}
 use Rattle.determinize_state.specs.Private.Marking.{IsMarkOf}
 use Rattle.determinize_state.specs.declared.state.mark.Mark.{Mark}
 use Rattle.determinize_state.proofs.encoding.Varints.{deltas-append}
-use Rattle.determinize_state.proofs.encoding.RoundTrip.{spell_long}
 use Rattle.determinize_state.proofs.building.UnfinishedBytes.{built}
 
 -- the bytes cut to a length, with other sets
@@ -71,9 +70,10 @@ pub mark_within : (v : Value) (bytes : List ℕ) (mark : Mark) → IsSpelled byt
 mark_within v bytes mark h m g =
     let u : Value = kept v (value_of bytes) in
     let more : List ℕ = deltas (last_id 0 v.states) g.states.0 in
+    let u_long : 9 ≤ length (spell u) = unfold spell in omega arith in
     let total : length bytes ≡ length (spell u ++ more) = ap length (split_grown v bytes h g) in
     let size : mark.bytes ≡ length (spell u) = mark_size v bytes mark m g in
-    (omega (arith, size, spell_long u), omega (arith, size, total, length-append (spell u) more))
+    (omega (arith, size, u_long), omega (arith, size, total, length-append (spell u) more))
 
 -- a builder that is cut back to a mark has the value of the mark
 pub come_back : (v : Value) (bytes : List ℕ) (mark : Mark) → IsSpelled bytes → IsMarkOf mark v
