@@ -45,7 +45,6 @@ pub use builders::{StateBuilderEmpty, StateBuilderMatches, StateBuilderNFA};
 use determinize_below::{LookSet, PatternID};
 pub(crate) use mark::Mark;
 pub use nfa_state_ids::NfaStateIds;
-use pattern_ids::PatternIds;
 use small_bytes::SmallBytes;
 use std::alloc::{AllocError, Allocator, Global};
 use std::marker::Model;
@@ -121,6 +120,7 @@ impl<A: Allocator> State<A> {
     }
 
     /// Returns the number of patterns that match.
+    #[tactic(auto, using(crate::proofs::encoding::ReadBytes::patterns))]
     pub fn match_len(&self) -> usize
         ensures { result ≡ length self.now.patterns }
     {
@@ -132,7 +132,7 @@ impl<A: Allocator> State<A> {
         requires { index < length self.now.patterns }
         ensures { result ≡ slice_index self.now.patterns index }
     {
-        bytes::pattern_at(bytes::pattern_words(self.bytes.as_slice()), index)
+        bytes::pattern_at(self.bytes.as_slice(), index)
     }
 
     /// Returns the patterns that match, in order, in a vector of the state's allocator. Returns
@@ -148,7 +148,7 @@ impl<A: Allocator> State<A> {
             return Ok(None);
         }
         let alloc = self.bytes.allocator().clone()?;
-        Ok(Some(self.iter_match_pattern_ids().collect(alloc)?))
+        Ok(Some(bytes::pattern_ids(self.bytes.as_slice()).collect(alloc)?))
     }
 
     /// Returns an iterator that decodes the NFA states in order. Does not allocate.
@@ -173,13 +173,6 @@ impl<A: Allocator> State<A> {
         ensures valid { IsValue self.now }
     {
         self.bytes.as_slice()
-    }
-
-    /// Returns an iterator over the patterns in order.
-    fn iter_match_pattern_ids(&self) -> PatternIds<'_>
-        ensures { result ≡ self.now.patterns }
-    {
-        PatternIds::new(bytes::pattern_words(self.bytes.as_slice()))
     }
 }
 

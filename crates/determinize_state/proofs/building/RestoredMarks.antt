@@ -2,18 +2,12 @@
 -- Main statements: mark_within, come_back.
 -- Used by: `restore`.
 -- Idea: bytes only grow, so cutting them and writing the sets is enough.
-use Rattle.determinize_state.proofs.Common.{◌≡◌, ℕ, ◌<◌, ◌≤◌, List, [], ◌∷◌, ◌++◌, length, All, nat_eq, refl, arith, sym, ap, ◌∙◌, take, append_assoc, subst, length-append, IsDistinct, take-append_seam, All-cons, All-head, All-tail, Value, IsValue, deltas, varint, zigzag, last_id, with_word, value_of, IsSpelled, IsBuilding, IsGrown}
+use Rattle.determinize_state.proofs.Common.{◌≡◌, ℕ, ◌<◌, ◌≤◌, List, [], ◌∷◌, ◌++◌, length, All, nat_eq, refl, arith, sym, ap, ◌∙◌, take, append_assoc, subst, length-append, IsDistinct, take-append_seam, All-cons, All-head, All-tail, Value, IsValue, deltas, last_id, with_word, value_of, IsSpelled, IsBuilding, IsGrown}
 use Rattle.determinize_state.specs.Spelling.{spell}
 use Rattle.determinize_state.specs.Private.Marking.{IsMarkOf}
 use Rattle.determinize_state.specs.declared.state.mark.Mark.{Mark}
-use Rattle.determinize_state.proofs.encoding.RoundTrip.{spell_long}
+use Rattle.determinize_state.proofs.encoding.Varints.{deltas-append}
 use Rattle.determinize_state.proofs.building.UnfinishedBytes.{built}
-
-deltas-append : (from : ℕ) (ids more : List ℕ)
-    → deltas from (ids ++ more) ≡ deltas from ids ++ deltas (last_id from ids) more
-deltas-append from [] more = refl
-deltas-append from (id ∷ ids) more = rw (deltas-append id ids more)
-    (sym (append_assoc (varint (zigzag from id)) (deltas id ids) (deltas (last_id id ids) more)))
 
 -- the bytes cut to a length, with other sets
 abbrev pub cut_back : List ℕ → ℕ → ℕ → ℕ → List ℕ
@@ -76,9 +70,10 @@ pub mark_within : (v : Value) (bytes : List ℕ) (mark : Mark) → IsSpelled byt
 mark_within v bytes mark h m g =
     let u : Value = kept v (value_of bytes) in
     let more : List ℕ = deltas (last_id 0 v.states) g.states.0 in
+    let u_long : 9 ≤ length (spell u) = unfold spell in omega arith in
     let total : length bytes ≡ length (spell u ++ more) = ap length (split_grown v bytes h g) in
     let size : mark.bytes ≡ length (spell u) = mark_size v bytes mark m g in
-    (omega (arith, size, spell_long u), omega (arith, size, total, length-append (spell u) more))
+    (omega (arith, size, u_long), omega (arith, size, total, length-append (spell u) more))
 
 -- a builder that is cut back to a mark has the value of the mark
 pub come_back : (v : Value) (bytes : List ℕ) (mark : Mark) → IsSpelled bytes → IsMarkOf mark v

@@ -2,11 +2,10 @@
 -- Main statements: built, building_with_have, building_with_state, built_zeros.
 -- Used by: the calls of the builders.
 -- Idea: the bytes are a header and a list that grows at its end.
-use Rattle.determinize_state.proofs.Common.{◌≡◌, ℕ, true, ◌<◌, ◌≤◌, List, [], ◌∷◌, ◌++◌, refl, sym, ap, ◌∙◌, append_assoc, subst, All-push, Value, IsValue, dead, is_nonempty, with_state, varint, zigzag, last_id, is_explicit, with_word, value_of, IsSpelled, with_bit, IsBuilding}
+use Rattle.determinize_state.proofs.Common.{◌≡◌, ℕ, true, ◌<◌, ◌≤◌, List, [], ◌∷◌, ◌++◌, refl, arith, sym, ap, ◌∙◌, append-nil, append_assoc, subst, All-push, Value, IsValue, dead, with_state, varint, zigzag, last_id, with_word, value_of, IsSpelled, with_bit, IsBuilding}
 use Rattle.determinize_state.specs.Spelling.{spell}
-use Rattle.determinize_state.proofs.encoding.Varints.{deltas-push}
+use Rattle.determinize_state.proofs.encoding.Varints.{deltas-append}
 use Rattle.determinize_state.proofs.encoding.RoundTrip.{dead_valid, value_of-spell, spelled}
-use Rattle.determinize_state.proofs.encoding.FlagBits.{or_4, or_8}
 
 -- the value with another look-have
 abbrev pub with_have : Value → ℕ → Value
@@ -39,7 +38,7 @@ building_with_need bytes last set h small =
 
 spell-pushed : (v : Value) (id : ℕ) → spell (with_state v id) ≡ spell v ++ varint (zigzag (last_id 0 v.states) id)
 unfolding spell
-spell-pushed v id = rw (deltas-push 0 v.states id) (simp append_assoc)
+spell-pushed v id = simp (deltas-append 0 v.states (id ∷ []), append_assoc, append-nil)
 
 last-push : (from : ℕ) (ids : List ℕ) (id : ℕ) → last_id from (ids ++ id ∷ []) ≡ id
 last-push from [] id = refl
@@ -61,7 +60,7 @@ building_from_word bytes last h =
     let v : Value = value_of bytes in
     let w : Value = record v { from_word = true } in
     let same : spell w ≡ with_bit (spell v) 4 =
-    rw (or_4 (is_nonempty v.patterns) (is_explicit v.patterns) v.from_word v.half_crlf) in
+    grind arith in
     built _ last w (assumption h.is.valid) h.last (same ∙ ap (λ (b : List ℕ). with_bit b 4) h.is.spelled)
 
 pub building_half_crlf : (bytes : List ℕ) (last : ℕ) → IsBuilding bytes last →
@@ -71,7 +70,7 @@ building_half_crlf bytes last h =
     let v : Value = value_of bytes in
     let w : Value = record v { half_crlf = true } in
     let same : spell w ≡ with_bit (spell v) 8 =
-    rw (or_8 (is_nonempty v.patterns) (is_explicit v.patterns) v.from_word v.half_crlf) in
+    grind arith in
     built _ last w (assumption h.is.valid) h.last (same ∙ ap (λ (b : List ℕ). with_bit b 8) h.is.spelled)
 
 -- nine zero bytes are the encoding of the dead value

@@ -1,97 +1,53 @@
 -- Reading the bytes of a finished state.
--- Main statements: match_of, explicit_ids, implicit_ids, place_of.
+-- Main statements: laid_out_in, long, rest_valid, number_of.
 -- Used by: the calls that read a state.
 -- Idea: the bytes are those of a value, so each place has that part of the value.
-use Rattle.determinize_state.proofs.Common.{◌≡◌, ℕ, ◌+◌, ◌-◌, ◌*◌, ◌<◌, ◌≤◌, Bool, true, false, List, [], ◌∷◌, length, All, suc, zero, refl, arith, sym, ap, ◌∙◌, if◌then◌else◌, take, drop, lit≤, subst, slice_index, get_or, take-length, All-head, All-tail, from_le_bytes, w32, Value, is_nonempty, deltas, ids_from, IsDeltas, is_explicit, words, number_at, numbers_in, has_flag, start_in, IsSpelled}
+use Rattle.determinize_state.proofs.Common.{◌≡◌, ℕ, ◌-◌, ◌*◌, ◌<◌, ◌≤◌, true, List, [], ◌∷◌, length, All, suc, zero, refl, arith, sym, ◌∙◌, take, drop, lit≤, subst, slice_index, get_or, take-length, All-head, All-tail, from_le_bytes, w32, is_nonempty, IsDeltas, words, number_at, numbers_in, has_flag, start_in, IsSpelled, by_test}
 use Rattle.determinize_state.specs.Spelling.{value_of}
-use Rattle.determinize_state.proofs.encoding.RoundTrip.{spell_long, match_bit, explicit_bit, count_at, drop-start, length-explicit, few}
+pub use Rattle.determinize_state.proofs.encoding.RoundTrip.{AreListed, IsLaidOut, few, laid_out, length-words, numbers_in-words}
+use Rattle.std.proofs.lemmas.Nat.{from_le_bytes-to_le_bytes_4}
+
+pub laid_out_in : (bytes : List ℕ) → IsSpelled bytes → IsLaidOut (value_of bytes) bytes
+laid_out_in bytes h = subst (IsLaidOut (value_of bytes)) h.spelled (laid_out (value_of bytes) h.valid)
 
 pub long : (bytes : List ℕ) → IsSpelled bytes → 9 ≤ length bytes
-long bytes h = rw (← h.spelled) (spell_long (value_of bytes))
+long bytes h = (laid_out_in bytes h).long
 
 pub match_of : (bytes : List ℕ) → IsSpelled bytes → has_flag bytes 1 ≡ is_nonempty (value_of bytes).patterns
-match_of bytes h = ap (λ (b : List ℕ). has_flag b 1) (sym h.spelled) ∙ match_bit (value_of bytes)
+match_of bytes h = (laid_out_in bytes h).matches
 
-pub explicit_of : (bytes : List ℕ) → IsSpelled bytes → has_flag bytes 2 ≡ is_explicit (value_of bytes).patterns
-explicit_of bytes h = ap (λ (b : List ℕ). has_flag b 2) (sym h.spelled) ∙ explicit_bit (value_of bytes)
+pub listed_in : (bytes : List ℕ) → IsSpelled bytes → has_flag bytes 2 ≡ true → AreListed (value_of bytes).patterns bytes
+listed_in bytes h e = let at = laid_out_in bytes h in at.listed (sym at.explicit ∙ e)
 
--- explicit patterns follow their number, and all of them are there
-pub record HasPatterns (bytes : List ℕ) (ids : List ℕ) : Type 0 where
-  pub count : number_at bytes 9 ≡ length ids
-  pub room : 13 + 4 * length ids ≤ length bytes
-  pub small : length ids ≤ 2147483647
-
-pub has_patterns : (bytes : List ℕ) → IsSpelled bytes → has_flag bytes 2 ≡ true
-    → HasPatterns bytes (value_of bytes).patterns
-has_patterns bytes h e =
-    let v : Value = value_of bytes in
-    let explicit : is_explicit v.patterns ≡ true = sym (explicit_of bytes h) ∙ e in
-    record {
-      count = ap (λ (b : List ℕ). number_at b 9) (sym h.spelled) ∙ count_at v h.valid explicit;
-      room = subst (λ (b : List ℕ). 13 + 4 * length v.patterns ≤ length b) h.spelled (length-explicit v explicit);
-      small = few v.patterns h.valid.distinct h.valid.pattern_ids;
-    }
-
-pub explicit_ids : (bytes : List ℕ) → has_flag bytes 2 ≡ true
-    → numbers_in (take (4 * number_at bytes 9) (drop 13 bytes)) ≡ (value_of bytes).patterns
-unfolding value_of
-explicit_ids bytes e = rw e
-
-pub implicit_ids : (bytes : List ℕ) → has_flag bytes 2 ≡ false
-    → (if has_flag bytes 1 then 0 ∷ [] else []) ≡ (value_of bytes).patterns
-unfolding value_of
-implicit_ids bytes e = rw e
-
--- the bytes of the implicit pattern 0, if it is present
-pub implicit_numbers : (b : Bool) → numbers_in (words (if b then 0 ∷ [] else [])) ≡ (if b then 0 ∷ [] else [])
-implicit_numbers true = refl
-implicit_numbers false = refl
-
-pub implicit_length : (b : Bool) → length (words (if b then 0 ∷ [] else []))
-    ≡ 4 * length {A = ℕ} (if b then 0 ∷ [] else [])
-implicit_length true = refl
-implicit_length false = refl
-
--- the bytes after the patterns are the differences of the NFA states
-pub rest_deltas : (bytes : List ℕ) → IsSpelled bytes → drop (start_in bytes) bytes ≡ deltas 0 (value_of bytes).states
-rest_deltas bytes h = subst (λ (b : List ℕ). drop (start_in b) b ≡ deltas 0 (value_of bytes).states) h.spelled
-    (drop-start (value_of bytes) h.valid)
-
-pub rest_ids : (bytes : List ℕ) → ids_from 0 0 1 (drop (start_in bytes) bytes) ≡ (value_of bytes).states
-unfolding value_of
-rest_ids bytes = refl
-
-pub rest_valid : (bytes : List ℕ) → IsSpelled bytes → IsDeltas 0 (drop (start_in bytes) bytes)
-rest_valid bytes h = record {
-  small = lit≤ tt;
-  ids = rw (rest_ids bytes) h.valid.state_ids;
-  spelled = rw (rest_ids bytes) (sym (rest_deltas bytes h));
-}
-
-pub few_patterns : (bytes : List ℕ) → IsSpelled bytes → length (value_of bytes).patterns ≤ 2147483647
-few_patterns bytes h = few (value_of bytes).patterns h.valid.distinct h.valid.pattern_ids
+-- the same, for a search that has a length in hand
+pub listed_at : (bytes : List ℕ) → IsSpelled bytes → has_flag bytes 2 ≡ true
+    → (length bytes ≡ length bytes) × AreListed (value_of bytes).patterns bytes
+listed_at bytes h e = (refl, listed_in bytes h e)
 
 pub start_of : (bytes : List ℕ) → IsSpelled bytes → start_in bytes ≤ length bytes
-start_of bytes h = at_start (has_flag bytes 2) refl
-  where
-    at_start : (b : Bool) → has_flag bytes 2 ≡ b → (if b then 13 + 4 * number_at bytes 9 else 9) ≤ length bytes
-    at_start true e = let p = has_patterns bytes h e in rw p.count p.room
-    at_start false e = long bytes h
+start_of bytes h = by_test (has_flag bytes 2)
+    (λ e. let listed = listed_in bytes h e in rw (e, listed.count) listed.room)
+    (λ e. rw e (long bytes h))
+
+pub rest_valid : (bytes : List ℕ) → IsSpelled bytes → IsDeltas 0 (drop (start_in bytes) bytes)
+unfolding value_of
+rest_valid bytes h = record { small = lit≤ tt; ids = h.valid.state_ids; spelled = sym (laid_out_in bytes h).rest }
+
+pub ruleset reading = (long, match_of, listed_at, start_of, rest_valid)
+
+pub few_in : (bytes : List ℕ) → IsSpelled bytes → length (value_of bytes).patterns ≤ 2147483647
+few_in bytes h = few (value_of bytes).patterns h.valid.distinct h.valid.pattern_ids
 
 -- the number at an index of four bytes each
-
-pub place_of : (bytes : List ℕ) (index : ℕ) → index < length (numbers_in bytes) → 4 * index + 4 ≤ length bytes
-place_of (a ∷ b ∷ c ∷ d ∷ bytes) zero h = omega arith
-place_of (a ∷ b ∷ c ∷ d ∷ bytes) (suc index) h = omega (arith, place_of bytes index (omega (arith, h)))
-place_of bytes index h = absurd (omega (arith, h))
-
-pub number_of : (bytes : List ℕ) (index : ℕ) → index < length (numbers_in bytes)
-    → number_at bytes (4 * index) ≡ slice_index (numbers_in bytes) index
-number_of (a ∷ b ∷ c ∷ d ∷ bytes) zero h = refl
-number_of (a ∷ b ∷ c ∷ d ∷ bytes) (suc index) h =
+pub number_of : (ids : List ℕ) (index : ℕ) → index < length ids → All (λ id. id ≤ 2147483646) ids
+    → number_at (words ids) (4 * index) ≡ slice_index ids index
+number_of (id ∷ ids) zero h all = from_le_bytes-to_le_bytes_4 id (omega (arith, All-head (λ i. i ≤ 2147483646) id ids all))
+number_of (id ∷ ids) (suc index) h all =
     let e : 4 * suc index ≡ suc (suc (suc (suc (4 * index)))) = omega arith in
-    rw e (number_of bytes index (omega (arith, h)))
-number_of bytes index h = absurd (omega (arith, h))
+    rw e (number_of ids index (omega (arith, h)) (All-tail (λ i. i ≤ 2147483646) id ids all))
+number_of [] index h all = absurd (omega (arith, h))
+
+pub ruleset patterns = (few_in, length-words, numbers_in-words, number_of)
 
 -- the first of the numbers, and the rest
 

@@ -2,6 +2,7 @@
 //!
 //! The bytes of a `State` and those of a builder encode its value (`IsSpelled`), so the readers
 //! serve both.
+#![tactic(auto, using(crate::proofs::encoding::ReadBytes::reading), unfolding(crate::specs::Spelling::value_of))]
 
 ghost use Rattle.std.specs.Prelude.{◌≡◌, ◌+◌, ◌*◌, ◌<◌, ◌≤◌, ◌^◌, [], ◌∷◌, ◌++◌, if◌then◌else◌, length, slice_index, vec_len, true, false, All, IfOk, OnOk, OnErr, IsOk};
 ghost use Rattle.determinize_state.specs.Value.{is_nonempty};
@@ -10,6 +11,7 @@ ghost use Rattle.determinize_state.specs.Building.{header, IsClear};
 ghost use Rattle.determinize_state.specs.Private.PatternBytes.{with_bit, with_pattern_bytes};
 
 use crate::state::nfa_state_ids::NfaStateIds;
+use crate::state::pattern_ids::PatternIds;
 use determinize_below::{LookSet, PatternID};
 use std::alloc::{AllocError, Allocator};
 
@@ -101,7 +103,7 @@ pub(crate) fn look_have(bytes: &[u8]) -> LookSet
     requires { IsSpelled bytes.now }
     ensures { result ≡ (value_of bytes.now).look_have }
 {
-    look_set_at(bytes, LOOK_HAVE)
+    LookSet::from_repr(number_at(bytes, LOOK_HAVE))
 }
 
 /// Returns look-need.
@@ -109,16 +111,7 @@ pub(crate) fn look_need(bytes: &[u8]) -> LookSet
     requires { IsSpelled bytes.now }
     ensures { result ≡ (value_of bytes.now).look_need }
 {
-    look_set_at(bytes, LOOK_NEED)
-}
-
-/// Returns the set in the four bytes at an offset.
-pub(crate) fn look_set_at(bytes: &[u8], at: usize) -> LookSet
-    requires room { at + 4 ≤ length bytes.now }
-    requires small { number_at bytes.now at < 2 ^ 18 }
-    ensures { result ≡ number_at bytes.now at }
-{
-    LookSet::from_repr(number_at(bytes, at))
+    LookSet::from_repr(number_at(bytes, LOOK_NEED))
 }
 
 /// Returns the number in the four bytes at an offset.
@@ -146,33 +139,21 @@ pub(crate) fn add_pattern<A: Allocator>(bytes: &mut Vec<u8, A>, id: u32) -> Resu
     ensures first { has_flag bytes.old.items 1 ≡ false → has_flag bytes.old.items 2 ≡ false
         → id ≡ 0 → IsOk result }
 {
+    // Flags are set last, so that the bytes are unchanged on error.
     let [a, b, c, d] = id.to_le_bytes();
     if has_flag(bytes, EXPLICIT) {
         let count = number_at(bytes, COUNT);
         bytes.extend_from_slice(&[a, b, c, d])?;
         put_number(bytes, COUNT, count + 1);
     } else if has_flag(bytes, MATCH) {
-        add_after_zero(bytes, id)?;
+        bytes.extend_from_slice(&[2, 0, 0, 0, 0, 0, 0, 0, a, b, c, d])?;
+        set_flag(bytes, EXPLICIT);
     } else if id != 0 {
-        // The flags are set last, so that the bytes are unchanged on error.
         bytes.extend_from_slice(&[1, 0, 0, 0, a, b, c, d])?;
         set_flag(bytes, MATCH | EXPLICIT);
     } else {
         set_flag(bytes, MATCH);
     }
-    Ok(())
-}
-
-/// Adds a pattern after an implicit `ZERO`, which is made explicit.
-fn add_after_zero<A: Allocator>(bytes: &mut Vec<u8, A>, id: u32) -> Result<(), AllocError>
-    requires { 0 < vec_len bytes.old }
-    ensures ok { OnOk result
-        (bytes.new.items ≡ with_bit (bytes.old.items ++ (word 2 ++ word 0 ++ word id)) 2) }
-    ensures err { OnErr result (bytes.new.items ≡ bytes.old.items) }
-{
-    let [a, b, c, d] = id.to_le_bytes();
-    bytes.extend_from_slice(&[2, 0, 0, 0, 0, 0, 0, 0, a, b, c, d])?;
-    set_flag(bytes, EXPLICIT);
     Ok(())
 }
 
@@ -194,43 +175,41 @@ pub(crate) fn put_number<A: Allocator>(bytes: &mut Vec<u8, A>, at: usize, number
 /// bytes of `ZERO`.
 pub(crate) fn pattern_words(bytes: &[u8]) -> &[u8]
     requires { IsSpelled bytes.now }
-    ensures ids { numbers_in result.now ≡ (value_of bytes.now).patterns }
-    ensures size { length result.now ≡ 4 * length (value_of bytes.now).patterns }
-    ensures small { All (λ id. id ≤ 2147483646) (numbers_in result.now) }
-    ensures few { length (numbers_in result.now) ≤ 2147483647 }
+    ensures { result.now ≡ words (value_of bytes.now).patterns }
 {
-    if !has_flag(bytes, EXPLICIT) {
-        return implicit_words(bytes);
-    }
-    let size = PatternID::SIZE * number_at(bytes, COUNT) as usize;
-    let (_, rest) = bytes.split_at(PATTERNS);
-    let (ids, _) = rest.split_at(size);
-    ids
-}
-
-/// Returns the implicit patterns: the bytes of `ZERO`, or nothing.
-fn implicit_words(bytes: &[u8]) -> &[u8]
-    requires { 9 ≤ length bytes.now }
-    ensures { result.now ≡ words (if has_flag bytes.now 1 then 0 ∷ [] else []) }
-{
-    if has_flag(bytes, MATCH) {
+    if has_flag(bytes, EXPLICIT) {
+        let size = PatternID::SIZE * number_at(bytes, COUNT) as usize;
+        let (_, rest) = bytes.split_at(PATTERNS);
+        let (ids, _) = rest.split_at(size);
+        ids
+    } else if has_flag(bytes, MATCH) {
         &ZERO_WORD
     } else {
         &[]
     }
 }
 
-/// Returns the pattern at an index, from patterns of four bytes each.
-pub(crate) fn pattern_at(words: &[u8], index: usize) -> PatternID
-    requires index { index < length (numbers_in words.now) }
-    requires small { All (λ id. id ≤ 2147483646) (numbers_in words.now) }
-    requires few { length (numbers_in words.now) ≤ 2147483647 }
-    ensures { result ≡ slice_index (numbers_in words.now) index }
+/// Returns the pattern at an index.
+#[tactic(auto, using(crate::proofs::encoding::ReadBytes::patterns))]
+pub(crate) fn pattern_at(bytes: &[u8], index: usize) -> PatternID
+    requires spelled { IsSpelled bytes.now }
+    requires index { index < length (value_of bytes.now).patterns }
+    ensures { result ≡ slice_index (value_of bytes.now).patterns index }
 {
+    let words = pattern_words(bytes);
     let Ok(id) = PatternID::new(number_at(words, PatternID::SIZE * index) as usize) else {
         unreachable!()
     };
     id
+}
+
+/// Returns an iterator over the patterns.
+#[tactic(auto, using(crate::proofs::encoding::ReadBytes::patterns))]
+pub(crate) fn pattern_ids(bytes: &[u8]) -> PatternIds<'_>
+    requires { IsSpelled bytes.now }
+    ensures { result ≡ (value_of bytes.now).patterns }
+{
+    PatternIds::new(pattern_words(bytes))
 }
 
 /// Returns an iterator over the NFA states.
@@ -245,8 +224,7 @@ pub(crate) fn nfa_state_ids(bytes: &[u8]) -> NfaStateIds<'_>
 
 /// Returns the offset of the NFA states.
 fn ids_start(bytes: &[u8]) -> usize
-    requires long { 9 ≤ length bytes.now }
-    requires counted { has_flag bytes.now 2 ≡ true → 13 ≤ length bytes.now }
+    requires { IsSpelled bytes.now }
     ensures { result ≡ start_in bytes.now }
 {
     if has_flag(bytes, EXPLICIT) {

@@ -56,10 +56,7 @@ fn write_value<W: fmt::Write>(name: &str, bytes: &[u8], f: &mut fmt::Formatter<W
         .field("is_half_crlf", &bytes::is_half_crlf(bytes))
         .field("look_have", &bytes::look_have(bytes))
         .field("look_need", &bytes::look_need(bytes))
-        .field(
-            "match_pattern_ids",
-            &PatternIds::new(bytes::pattern_words(bytes)),
-        )
+        .field("match_pattern_ids", &bytes::pattern_ids(bytes))
         .field("nfa_state_ids", &bytes::nfa_state_ids(bytes))
         .finish()
 }

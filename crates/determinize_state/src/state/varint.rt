@@ -30,7 +30,7 @@ pub(crate) fn zigzag(from: StateID, to: StateID) -> u32
 }
 
 /// Appends a number as a varint. On error the bytes are unchanged.
-#[tactic(auto, unfolding(crate::specs::Varint::varint))]
+#[tactic(auto, using(crate::proofs::encoding::Varints::varints))]
 #[inline(always)]
 pub(crate) fn write<A: Allocator>(bytes: &mut Vec<u8, A>, number: u32) -> Result<(), AllocError>
     ensures ok { OnOk result (bytes.new.items ≡ bytes.old.items ++ format.varint number) }
@@ -50,7 +50,7 @@ pub(crate) fn write<A: Allocator>(bytes: &mut Vec<u8, A>, number: u32) -> Result
 }
 
 /// Appends a number of any size, here one of three bytes or more. On error the bytes are unchanged.
-#[tactic(auto, using(crate::proofs::encoding::Varints::group_counts))]
+#[tactic(auto, using(crate::proofs::encoding::Varints::varints))]
 #[cold]
 fn write_groups<A: Allocator>(bytes: &mut Vec<u8, A>, number: u32) -> Result<(), AllocError>
     ensures ok { OnOk result (bytes.new.items ≡ bytes.old.items ++ format.varint number) }
@@ -90,7 +90,6 @@ pub(crate) fn first_id(from: u32, bytes: &[u8]) -> Option<(StateID, &[u8])>
 }
 
 /// Decodes one varint. Returns it with the remaining bytes, or `None` at the end.
-#[tactic(auto, using(crate::proofs::encoding::Varints::read_two))]
 #[inline(always)]
 fn read_number(bytes: &[u8]) -> Option<(u64, &[u8])>
     ensures { option_map (λ r. (r.0, r.1.now)) result ≡ read 0 1 bytes.now }
@@ -114,6 +113,7 @@ fn read_number(bytes: &[u8]) -> Option<(u64, &[u8])>
 }
 
 /// Returns the number of bytes of the first varint, or 0 if there is none.
+#[tactic(auto, using(crate::proofs::encoding::Varints::left_after))]
 #[cold]
 #[inline(never)]
 fn groups_size(bytes: &[u8]) -> usize
