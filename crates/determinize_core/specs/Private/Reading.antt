@@ -1,17 +1,23 @@
--- The first pass over a working list: which of its states are idle, and what the others give.
-use Rattle.std.specs.Prelude.{◌≡◌, ℕ, ◌++◌, Bool, not, Option, None, Some, List, [], ◌∷◌, if◌then◌else◌, nat_eq}
+-- The working list of a step: whether it is closed again, and the first pass over it.
+use Rattle.std.specs.Prelude.{◌≡◌, ℕ, ◌++◌, Bool, true, not, Option, None, Some, List, [], ◌∷◌, if◌then◌else◌, nat_eq}
 use Rattle.determinize_state.specs.Value.{Value, is_nonempty}
 use Rattle.determinize_below.specs.Members.{has_id}
 use mathlib.Core.Bool.{◌||◌}
 use Rattle.std.specs.List.{flat_map}
+use Rattle.determinize_below.specs.Look.{has}
 use Rattle.determinize_below.specs.declared.search.MatchKind.{MatchKind}
 use Rattle.determinize_below.specs.Edges.{is_match, patterns_of, target}
 use Rattle.determinize_below.specs.Semantics.{Nfa}
-use Rattle.ordered_reach.specs.Reach.{fresh, none_held}
-use Rattle.determinize_core.specs.Step.{part_read, patterns_read}
+use Rattle.ordered_reach.specs.Reach.{fresh, joined, none_held}
+use Rattle.determinize_core.specs.Step.{is_reopened, opened_by, part_read, patterns_read}
 use Rattle.determinize_core.specs.Private.Changes.{with_patterns}
 use Rattle.determinize_core.specs.declared.determinize.reading.Reading.{Reading}
 use Rattle.determinize_core.specs.declared.determinize.reading.Reading.TheVariants.{Nothing, Target, Match}
+
+-- the working list is closed again, under the assertions of the set
+pub record IsClosedAgain (nfa : Nfa) (v : Value) (u : Option ℕ) (set : ℕ) : Type 0 where
+  pub reopened : is_reopened nfa v u ≡ true
+  pub set_is : has set ≡ joined (has v.look_have) (opened_by nfa v u)
 
 -- the items of a list, each once
 abbrev pub distinct : List ℕ → List ℕ

@@ -1,4 +1,4 @@
-use Rattle.std.proofs.Common.{◌∙◌, sym}
+use Rattle.determinize_core.proofs.Common.{sym, ◌∙◌}
 use Rattle.std.proofs.lemmas.Bool.{not-true}
 use Rattle.determinize_below.specs.Unit.{byte_of}
 use Rattle.determinize_core.proofs.step.RedoTest.{words_decide}

@@ -1,7 +1,6 @@
 use Rattle.determinize_core.proofs.Common.{arith, length, ◌<◌}
 use Rattle.ordered_reach.proofs.lists.Elements.{All-from_member}
 use Rattle.ordered_reach.proofs.graph.FiniteGraphs.{fresh_below, same_decides}
-use Rattle.determinize_below.specs.Unit.{byte_of}
 use Rattle.determinize_core.proofs.step.StepParts.{member-below}
 use Rattle.determinize_core.proofs.step.RepeatedClosure.{reached_again, tried_again}
 use Rattle.determinize_core.proofs.determinize.working_list.read_working_list.Goals as goal
@@ -14,33 +13,40 @@ explore-requires-clause-resolve g c =
 
 pub returns-in_err-explore-clause-bounded : goal.returns-in_err-explore-clause-bounded
 returns-in_err-explore-clause-bounded g c = λ h.
-    let tries = tried_again c.args.nfa.now c.args.state.now (byte_of c.args.unit) _ c.in-Some.ensures.whether
-    c.in-Some.ensures.set c.requires.second_empty c.in_ok-collect_states.ensures.ok in
-    omega (arith, c.explore.ensures.bounded h)
+    omega (
+      arith,
+      c.explore.ensures.bounded h,
+      tried_again c.in-Some.ensures.some c.requires.second_empty c.in_ok-collect_states.ensures.ok,
+    )
 
 pub returns-in_err-read_states-clause-bounded : goal.returns-in_err-read_states-clause-bounded
 returns-in_err-read_states-clause-bounded g c = λ h.
-    let tries = tried_again c.args.nfa.now c.args.state.now (byte_of c.args.unit) _ c.in-Some.ensures.whether
-    c.in-Some.ensures.set c.requires.second_empty c.in_ok-collect_states.ensures.ok in
-    omega (arith, c.explore.ensures.bounded h)
+    omega (
+      arith,
+      c.explore.ensures.bounded h,
+      tried_again c.in-Some.ensures.some c.requires.second_empty c.in_ok-collect_states.ensures.ok,
+    )
 
 pub returns-clause-ok : goal.returns-clause-ok
 returns-clause-ok g c =
     rw (
-      ← reached_again c.args.nfa.now c.args.state.now (byte_of c.args.unit) _ c.in-Some.ensures.whether
-          c.in-Some.ensures.set c.requires.second_empty c.in_ok-collect_states.ensures.ok,
+      ← reached_again c.in-Some.ensures.some c.requires.second_empty c.in_ok-collect_states.ensures.ok,
       ← c.in_ok-explore.ensures.ids,
       ← c.iter.ensures.ids,
     ) c.in_ok-read_states.ensures.ok
 
 pub returns-clause-counted : goal.returns-clause-counted
 returns-clause-counted g c = λ h.
-    let tries = tried_again c.args.nfa.now c.args.state.now (byte_of c.args.unit) _ c.in-Some.ensures.whether
-    c.in-Some.ensures.set c.requires.second_empty c.in_ok-collect_states.ensures.ok in
-    omega (arith, c.in_ok-explore.ensures.counted h)
+    omega (
+      arith,
+      c.in_ok-explore.ensures.counted h,
+      tried_again c.in-Some.ensures.some c.requires.second_empty c.in_ok-collect_states.ensures.ok,
+    )
 
 pub returns-clause-bounded : goal.returns-clause-bounded
 returns-clause-bounded g c = λ h.
-    let tries = tried_again c.args.nfa.now c.args.state.now (byte_of c.args.unit) _ c.in-Some.ensures.whether
-    c.in-Some.ensures.set c.requires.second_empty c.in_ok-collect_states.ensures.ok in
-    omega (arith, c.explore.ensures.bounded h)
+    omega (
+      arith,
+      c.explore.ensures.bounded h,
+      tried_again c.in-Some.ensures.some c.requires.second_empty c.in_ok-collect_states.ensures.ok,
+    )
