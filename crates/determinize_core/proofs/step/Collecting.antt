@@ -3,9 +3,8 @@
 -- Used by: `collect_states`, FirstReading, and the rows of a whole DFA.
 -- Idea: one more id is new, or adds nothing.
 use Rattle.determinize_core.proofs.Common.{[], append-nil, arith, Bool, fresh, has_id, if◌then◌else◌, List, nat_eq}
-use Rattle.determinize_core.proofs.Common.{none_held, not, ℕ, ◌++◌, ◌∷◌, ◌≡◌}
+use Rattle.determinize_core.proofs.Common.{none_held, not, same_decides, ℕ, ◌++◌, ◌∷◌, ◌≡◌}
 use Rattle.ordered_reach.proofs.lists.NewNodes.{fresh-append, member-fresh}
-use Rattle.ordered_reach.proofs.graph.FiniteGraphs.{same_decides}
 use Rattle.determinize_core.proofs.closure.ClosureSteps.{holds-member}
 
 -- one more id of a list, at its place in the set of the distinct ids if it is new

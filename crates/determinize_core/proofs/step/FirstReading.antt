@@ -4,16 +4,14 @@
 -- Idea: an idle state adds nothing, so only the others need be kept.
 use Rattle.determinize_core.proofs.Common.{[], All, ap, append-nil, append_assoc, arith, Bool, by_option, false}
 use Rattle.determinize_core.proofs.Common.{false≢true, flat_map, flat_map-append, fresh, has_id, if◌then◌else◌}
-use Rattle.determinize_core.proofs.Common.{is_match, IsListRead, joined, LeftmostFirst, List, list_any, Match}
+use Rattle.determinize_core.proofs.Common.{is_match, IsListRead, IsSound, joined, LeftmostFirst, List, list_any, Match}
 use Rattle.determinize_core.proofs.Common.{MatchKind, member, nat_eq, Nfa, Node, None, none_held, not, Option}
-use Rattle.determinize_core.proofs.Common.{option_to_list, pattern_in, pattern_of, patterns_of, refl, Some, state_at}
-use Rattle.determinize_core.proofs.Common.{sym, target, true, Value, with_patterns, without, ℕ, ◌&&◌, ◌++◌, ◌||◌, ◌∙◌}
-use Rattle.determinize_core.proofs.Common.{◌∷◌, ◌≡◌}
+use Rattle.determinize_core.proofs.Common.{option_to_list, pattern_in, pattern_of, patterns_of, refl, same_decides}
+use Rattle.determinize_core.proofs.Common.{Some, state_at, sym, target, true, Value, with_patterns, without, ℕ, ◌&&◌}
+use Rattle.determinize_core.proofs.Common.{◌++◌, ◌||◌, ◌∙◌, ◌∷◌, ◌≡◌}
 use Rattle.ordered_reach.proofs.lists.NewNodes.{filter-fresh, fresh-append}
 use Rattle.ordered_reach.proofs.lists.Pieces.{before-without, flat_map-without}
 use Rattle.ordered_reach.specs.Runs.{before}
-use Rattle.determinize_below.proofs.nfas.SoundNfa.{IsSound}
-use Rattle.ordered_reach.proofs.graph.FiniteGraphs.{same_decides}
 use Rattle.std.proofs.lemmas.List.Elements.{filter-append}
 use Rattle.std.proofs.lemmas.List.Folds.{list_any-append}
 use Rattle.determinize_below.specs.Search.{continues}

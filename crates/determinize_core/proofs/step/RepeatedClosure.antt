@@ -3,10 +3,9 @@
 -- Used by: `look_again_over`, `read_working_list`.
 -- Idea: the closure of the recorded list, from an empty set.
 use Rattle.determinize_core.proofs.Common.{[], ap, Bool, distinct_states, false, fun_ext, IfNone, IfSome, is_reopened}
-use Rattle.determinize_core.proofs.Common.{List, Nfa, none_held, opened_by, Option, refl, sym, tries_again, true, Value}
-use Rattle.determinize_core.proofs.Common.{working_list, ℕ, ◌++◌, ◌||◌, ◌∙◌, ◌≡◌}
+use Rattle.determinize_core.proofs.Common.{List, Nfa, none_held, opened_by, Option, refl, same_decides, sym}
+use Rattle.determinize_core.proofs.Common.{tries_again, true, Value, working_list, ℕ, ◌++◌, ◌||◌, ◌∙◌, ◌≡◌}
 use Rattle.std.specs.Bool.{then_some}
-use Rattle.ordered_reach.proofs.graph.FiniteGraphs.{same_decides}
 use Rattle.ordered_reach.proofs.lists.NewNodes.{fresh-fresh}
 use Rattle.determinize_below.specs.declared.look.Look.{Look as Assertion}
 use Rattle.determinize_below.specs.Edges.{reach, reach_past}

@@ -2,15 +2,14 @@
 -- Main statements: tries_are_few.
 -- Used by: `tries_law`, and the count of `next_counted`.
 -- Idea: each of two closures tries each state and each epsilon transition at most once.
-use Rattle.determinize_core.proofs.Common.{[], All, arith, Bool, by_test, distinct_states, edge_count, edges}
-use Rattle.determinize_core.proofs.Common.{edges_in_all, flat_map, is_match, is_reopened, IsAccepted, joined}
-use Rattle.determinize_core.proofs.Common.{LeftmostFirst, length, List, MatchKind, member, nat_eq, Nfa, none_held}
-use Rattle.determinize_core.proofs.Common.{opened_by, Option, part_read, tables_of, target, tries_of, true, ℕ, ◌+◌, ◌<◌}
-use Rattle.determinize_core.proofs.Common.{◌∷◌, ◌≡◌, ◌≤◌}
-use Rattle.determinize_below.proofs.nfas.SoundNfa.{accepted_sound, ends_within_states, IsSound, length-reach}
-use Rattle.determinize_below.proofs.nfas.SoundNfa.{target_within}
+use Rattle.determinize_core.proofs.Common.{[], accepted_sound, All, arith, Bool, by_test, distinct_states, edge_count}
+use Rattle.determinize_core.proofs.Common.{edges, edges_in_all, flat_map, is_match, is_reopened, IsAccepted, IsSound}
+use Rattle.determinize_core.proofs.Common.{joined, LeftmostFirst, length, List, MatchKind, member, nat_eq, Nfa}
+use Rattle.determinize_core.proofs.Common.{none_held, opened_by, Option, part_read, same_decides, tables_of, target}
+use Rattle.determinize_core.proofs.Common.{tries_of, true, ℕ, ◌+◌, ◌<◌, ◌∷◌, ◌≡◌, ◌≤◌}
+use Rattle.determinize_below.proofs.nfas.SoundNfa.{ends_within_states, length-reach, target_within}
 use Rattle.ordered_reach.proofs.lists.NewNodes.{flat_map-member}
-use Rattle.ordered_reach.proofs.graph.FiniteGraphs.{below_member, fresh_below, length-fresh_below, same_decides}
+use Rattle.ordered_reach.proofs.graph.FiniteGraphs.{below_member, fresh_below, length-fresh_below}
 use Rattle.determinize_below.proofs.nfas.Edges.{length-edges, length-target}
 use Rattle.determinize_below.specs.Edges.{reach}
 use Rattle.determinize_below.specs.Look.{has}
@@ -53,7 +52,8 @@ tries_of-entered nfa accepted kind u working few =
     omega (
       arith,
       tries_of-bound nfa (accepted_sound nfa accepted) (has (have_after (tables_of nfa) u))
-          (flat_map (target nfa u) read) (λ r m. flat_map-member same_decides (target nfa u) read r m (λ s l z. target_within nfa accepted u s r z)),
+          (flat_map (target nfa u) read)
+          (λ r m. flat_map-member same_decides (target nfa u) read r m (λ s l z. target_within nfa accepted u s r z)),
       length-flat_map_le (target nfa u) read (length-target nfa u),
       length-read kind (is_match nfa) working,
     )

@@ -2,20 +2,20 @@
 -- Main statements: each_reach_goes_on, each_future_follows, dead_stays, one_pattern.
 -- Used by: `step_law`, and the cache.
 -- Idea: each is a consequence of the definition of a step.
-use Rattle.determinize_core.proofs.Common.{[], All, ap, arith, Bool, by_test, capture_next, cond, dead, drop, each_look}
-use Rattle.determinize_core.proofs.Common.{edges, ends, eq-eqb, eqb-true, false, false≢true, flat_map, followed, fresh}
-use Rattle.determinize_core.proofs.Common.{future, is_capture, LeftmostFirst, length, length-take, List, MatchKind}
-use Rattle.determinize_core.proofs.Common.{member, nat_eq, Nfa, None, none_held, not, opened_by, Option, or_left, refl}
-use Rattle.determinize_core.proofs.Common.{slice_get, Some, some_injective, start_value, state_at, suc, tables_of, true}
-use Rattle.determinize_core.proofs.Common.{units, Value, with_node, without, working_list, zero, ℕ, ◌&&◌, ◌+◌, ◌==◌}
-use Rattle.determinize_core.proofs.Common.{◌∙◌, ◌∷◌, ◌≡◌, ◌≤◌}
+use Rattle.determinize_core.proofs.Common.{[], accepted_sound, All, ap, arith, Bool, by_test, capture_next, cond, dead}
+use Rattle.determinize_core.proofs.Common.{drop, each_look, edges, ends, eq-eqb, eqb-true, false, false≢true, flat_map}
+use Rattle.determinize_core.proofs.Common.{followed, fresh, future, is_capture, IsSound, LeftmostFirst, length}
+use Rattle.determinize_core.proofs.Common.{length-take, List, MatchKind, member, nat_eq, Nfa, None, none_held, not}
+use Rattle.determinize_core.proofs.Common.{opened_by, Option, or_left, refl, same_decides, slice_get, Some}
+use Rattle.determinize_core.proofs.Common.{some_injective, start_value, state_at, suc, tables_of, true, units, Value}
+use Rattle.determinize_core.proofs.Common.{with_node, without, working_list, zero, ℕ, ◌&&◌, ◌+◌, ◌==◌, ◌∙◌, ◌∷◌, ◌≡◌}
+use Rattle.determinize_core.proofs.Common.{◌≤◌}
 use Rattle.ordered_reach.proofs.Cases.{or_false}
-use Rattle.determinize_below.proofs.nfas.SoundNfa.{accepted_sound, edges_enough, IsSound, reach-append}
+use Rattle.determinize_below.proofs.nfas.SoundNfa.{edges_enough, reach-append}
 use Rattle.determinize_below.proofs.nfas.Edges.{edges-capture, edges-or-target, length-target}
 use Rattle.determinize_below.proofs.looks.LookSets.{has-empty}
 use Rattle.ordered_reach.proofs.graph.ClosedSets.{IsEnough}
 use Rattle.ordered_reach.proofs.lists.NewNodes.{fresh_none, member-fresh}
-use Rattle.ordered_reach.proofs.graph.FiniteGraphs.{same_decides}
 use Rattle.determinize_below.specs.Captures.{HasNoCaptureCycle}
 use Rattle.determinize_below.specs.Edges.{reach}
 use Rattle.determinize_below.specs.Look.{has}

@@ -2,18 +2,18 @@
 -- Main statements: IsRead, first_tries, is_nonempty-length.
 -- Used by: `transition`.
 -- Idea: flags depend on whether a state is entered, and that on whether there is a target.
-use Rattle.determinize_core.proofs.Common.{[], added_one, All-head, All-tail, AllResolve, ap, arith, begun, Bool}
-use Rattle.determinize_core.proofs.Common.{by_test, edges, edges_in_all, eqb-true, false, fold, is_nonempty, IsAccepted}
-use Rattle.determinize_core.proofs.Common.{length, List, MatchKind, member, nat_eq, nat_tests, Nfa, none_held, not}
-use Rattle.determinize_core.proofs.Common.{Option, ordered, patterns_of, patterns_read, refl, subst, suc, tables_of}
-use Rattle.determinize_core.proofs.Common.{targets, tries_again, tries_of, true, Value, working_list, ℕ, ◌&&◌, ◌*◌, ◌+◌}
-use Rattle.determinize_core.proofs.Common.{◌<◌, ◌==◌, ◌∷◌, ◌≡◌, ◌≤◌}
+use Rattle.determinize_core.proofs.Common.{[], added_one, All-from_member, AllResolve, ap, arith, begun, Bool, edges}
+use Rattle.determinize_core.proofs.Common.{edges_in_all, false, fold, is_nonempty, IsAccepted, length, List, MatchKind}
+use Rattle.determinize_core.proofs.Common.{member, nat_eq, nat_tests, Nfa, none_held, not, Option, ordered, patterns_of}
+use Rattle.determinize_core.proofs.Common.{patterns_read, refl, same_decides, suc, tables_of, targets, tries_again}
+use Rattle.determinize_core.proofs.Common.{tries_of, true, Value, working_list, ℕ, ◌&&◌, ◌*◌, ◌+◌, ◌<◌, ◌==◌, ◌∷◌, ◌≡◌}
+use Rattle.determinize_core.proofs.Common.{◌≤◌}
 use Rattle.std.proofs.Common.{All as Each}
 use Rattle.determinize_below.specs.Edges.{reach, reach_past}
 use Rattle.determinize_below.specs.Look.{has}
 use Rattle.determinize_below.specs.declared.look.Look.{Look as Assertion}
-use Rattle.ordered_reach.proofs.lists.Elements.{All-from_member}
-use Rattle.ordered_reach.proofs.graph.FiniteGraphs.{same_decides}
+use Rattle.std.proofs.lemmas.List.Elements.{All-contains}
+use Rattle.ordered_reach.proofs.lists.Elements.{In_Contains, member_In}
 use Rattle.determinize_state.specs.Recording.{settled}
 use Rattle.determinize_core.specs.Private.Search.{tries_left}
 use Rattle.determinize_core.proofs.step.Recorders.{fold-added}
@@ -27,10 +27,8 @@ use Rattle.determinize_core.proofs.step.StepBound.{tries_are_few}
 -- each member of a list is below what all its items are below
 pub member-below : (bound : ℕ) (xs : List ℕ) → Each (λ id. id < bound) xs → (s : ℕ) → member nat_eq xs s ≡ true
     → s < bound
-member-below bound [] all s m = absurd (let k : false ≡ true = m in cc)
-member-below bound (x ∷ xs) all s m = by_test (nat_eq x s)
-    (λ e. subst (λ t. t < bound) (eqb-true x s e) (All-head (λ id. id < bound) x xs all))
-    (λ e. member-below bound xs (All-tail (λ id. id < bound) x xs all) s (rw e at m))
+member-below bound xs all s m = All-contains (λ id. id < bound) xs s all
+    (In_Contains same_decides xs s (member_In same_decides xs s m))
 
 -- a search reaches a state if and only if it has a root
 is_nonempty-reach : (nfa : Nfa) (holds : Assertion → Bool) (roots : List ℕ)

@@ -2,17 +2,17 @@
 -- Main statements: IsEntered, reach_is, working_is.
 -- Used by: WalkValues.
 -- Idea: closing again under more assertions, or not, gives the closure under the true ones.
-use Rattle.determinize_core.proofs.Common.{ap, arith, Bool, by_test, distinct_states, each_look, edges, ends, false}
-use Rattle.determinize_core.proofs.Common.{is_capture, is_reopened, IsAccepted, IsTested, joined, length, List, member}
-use Rattle.determinize_core.proofs.Common.{nat_eq, needs, Nfa, none_held, not, opened_by, Option, ordered, suc, sym}
-use Rattle.determinize_core.proofs.Common.{tables_of, true, truth, Value, without, working_list, zero, ℕ, ◌&&◌, ◌+◌}
-use Rattle.determinize_core.proofs.Common.{◌||◌, ◌∙◌, ◌≡◌}
-use Rattle.determinize_below.proofs.nfas.SoundNfa.{accepted_sound, edges_enough, IsSound}
+use Rattle.determinize_core.proofs.Common.{accepted_sound, ap, arith, Bool, by_test, distinct_states, each_look, edges}
+use Rattle.determinize_core.proofs.Common.{ends, false, is_capture, is_reopened, IsAccepted, IsSound, IsTested, joined}
+use Rattle.determinize_core.proofs.Common.{length, List, member, nat_eq, needs, Nfa, none_held, not, opened_by, Option}
+use Rattle.determinize_core.proofs.Common.{ordered, same_decides, suc, sym, tables_of, true, truth, Value, without}
+use Rattle.determinize_core.proofs.Common.{working_list, zero, ℕ, ◌&&◌, ◌+◌, ◌||◌, ◌∙◌, ◌≡◌}
+use Rattle.determinize_below.proofs.nfas.SoundNfa.{edges_enough}
 use Rattle.determinize_below.proofs.looks.CommonLooks.{each_look-false}
 use Rattle.determinize_below.proofs.nfas.Edges.{edges-agree, edges-capture, edges-more, edges-same, next_of}
 use Rattle.ordered_reach.proofs.graph.ClosedSets.{IsEnough}
 use Rattle.determinize_start.proofs.tables.TrueTables.{known_truth, opened_truth}
-use Rattle.ordered_reach.proofs.graph.FiniteGraphs.{IsEnough-below, same_decides}
+use Rattle.ordered_reach.proofs.graph.FiniteGraphs.{IsEnough-below}
 use Rattle.determinize_below.specs.Edges.{reach}
 use Rattle.determinize_below.specs.Look.{has}
 use Rattle.determinize_below.specs.Reached.{known}

@@ -1,8 +1,7 @@
-use Rattle.determinize_core.proofs.Common.{ap, Fail, get_or_from_slice_get, refl, sym, true≢false, ◌∙◌}
+use Rattle.determinize_core.proofs.Common.{accepted_sound, ap, Fail, get_or_from_slice_get, refl, sym, true≢false, ◌∙◌}
 use Rattle.determinize_below.specs.Look.{has}
 use Rattle.std.proofs.lemmas.Result.{on_ok_weaker}
 use Rattle.determinize_below.specs.Node.{is_epsilon}
-use Rattle.determinize_below.proofs.nfas.SoundNfa.{accepted_sound}
 use Rattle.determinize_core.proofs.closure.ClosureSteps.{leaf_set}
 use Rattle.determinize_core.proofs.determinize.closure.epsilon_closure.Goals as goal
 

@@ -1,7 +1,5 @@
-use Rattle.determinize_core.proofs.Common.{[], ap, append-nil, append_assoc, length, None, refl, Some, sym, Value, ◌<◌}
-use Rattle.determinize_core.proofs.Common.{◌∙◌, ◌∷◌}
-use Rattle.std.proofs.lemmas.List.Elements.{All-rest}
-use Rattle.determinize_below.proofs.nfas.SoundNfa.{accepted_sound}
+use Rattle.determinize_core.proofs.Common.{[], accepted_sound, All-rest, ap, append-nil, append_assoc, length, None}
+use Rattle.determinize_core.proofs.Common.{refl, Some, sym, Value, ◌<◌, ◌∙◌, ◌∷◌}
 use Rattle.determinize_core.proofs.step.FirstReading.{first_read-end, first_read-new, first_read-next, first_read-start}
 use Rattle.determinize_core.proofs.step.FirstReading.{first_read-stop, unmatched-next}
 use Rattle.determinize_core.proofs.determinize.reading.read_states.Goals as goal
@@ -31,7 +29,7 @@ loop-id-preserved g c =
     record {
       so_far = first_read-next c.loop-id.invariant.so_far c.in_ok-stops.ensures.read;
       unmatched = unmatched-next c.loop-id.invariant.so_far c.in_ok-stops.ensures.read c.args.match_kind
-          c.loop-id.invariant.unmatched (sym c.in_ok-stops.ensures.stops ∙ c.if-stops.false);
+          c.loop-id.invariant.unmatched (rw c.in_ok-stops.ensures.stops at c.if-stops.false);
       split = append_assoc c.loop-id.yielded (c.in-Some.id ∷ []) (g.I.Ids.left c.next.new.self)
           ∙ (rw step at c.loop-id.invariant.split);
       capacity = c.in_ok-stops.ensures.capacity ∙ c.loop-id.invariant.capacity;

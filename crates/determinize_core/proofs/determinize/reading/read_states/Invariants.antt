@@ -1,6 +1,5 @@
-use Rattle.determinize_core.proofs.Common.{AllResolve, false, is_match, list_any, ◌++◌, ◌≡◌}
+use Rattle.determinize_core.proofs.Common.{AllResolve, byte_of, false, is_match, list_any, ◌++◌, ◌≡◌}
 use Rattle.determinize_below.specs.Search.{continues}
-use Rattle.determinize_below.specs.Unit.{byte_of}
 use Rattle.determinize_core.proofs.step.FirstReading.{IsFirstRead}
 use Rattle.determinize_core.proofs.determinize.reading.read_states.Given as goal
 

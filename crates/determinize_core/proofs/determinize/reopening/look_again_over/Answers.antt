@@ -1,5 +1,4 @@
-use Rattle.determinize_core.proofs.Common.{eqb-true, opened_by, sym, ◌∙◌}
-use Rattle.determinize_below.specs.Unit.{byte_of}
+use Rattle.determinize_core.proofs.Common.{byte_of, eqb-true, opened_by, sym, ◌∙◌}
 use Rattle.determinize_core.proofs.step.RedoTest.{unneeded}
 use Rattle.determinize_core.proofs.step.RepeatedClosure.{closed_again}
 use Rattle.determinize_core.proofs.determinize.reopening.look_again_over.Goals as goal

@@ -1,5 +1,4 @@
-use Rattle.determinize_core.proofs.Common.{[], ap, List, ℕ, ◌++◌, ◌<◌, ◌∷◌}
-use Rattle.std.proofs.lemmas.List.Elements.{All-rest}
+use Rattle.determinize_core.proofs.Common.{[], All-rest, ap, List, ℕ, ◌++◌, ◌<◌, ◌∷◌}
 use Rattle.determinize_core.proofs.step.Collecting.{pushed}
 use Rattle.determinize_core.proofs.determinize.working_list.collect_states.Goals as goal
 

@@ -1,6 +1,5 @@
-use Rattle.determinize_core.proofs.Common.{arith, length, ◌<◌}
-use Rattle.ordered_reach.proofs.lists.Elements.{All-from_member}
-use Rattle.ordered_reach.proofs.graph.FiniteGraphs.{fresh_below, same_decides}
+use Rattle.determinize_core.proofs.Common.{All-from_member, arith, length, same_decides, ◌<◌}
+use Rattle.ordered_reach.proofs.graph.FiniteGraphs.{fresh_below}
 use Rattle.determinize_core.proofs.step.StepParts.{member-below}
 use Rattle.determinize_core.proofs.step.RepeatedClosure.{reached_again, tried_again}
 use Rattle.determinize_core.proofs.determinize.working_list.read_working_list.Goals as goal
