@@ -1,5 +1,6 @@
 -- The names that the proofs of this crate and of `determinize_dense` have in common: of std, of the definitions, and of
 -- the crates below.
+pub use Rattle.determinize_below.proofs.nfas.SoundNfa.{accepted_sound, IsSound}
 pub use Rattle.determinize_below.specs.Captures.{capture_next, followed}
 pub use Rattle.determinize_below.specs.Edges.{edges, is_capture, is_match, IsTested, pattern_in, pattern_of}
 pub use Rattle.determinize_below.specs.Edges.{patterns_of, target}
@@ -12,6 +13,7 @@ pub use Rattle.determinize_below.specs.Search.{Asked, is_done}
 pub use Rattle.determinize_below.specs.Semantics.{Accepts, after_at, before_at, between, BinaryUnion, ByteRange}
 pub use Rattle.determinize_below.specs.Semantics.{Capture, choices, Dense, Fail, IsBestRun, IsPreferredRun, Look, Match}
 pub use Rattle.determinize_below.specs.Semantics.{Nfa, Node, Sparse, state_at, Text, Union}
+pub use Rattle.determinize_below.specs.Unit.{byte_of}
 pub use Rattle.determinize_below.specs.declared.search.HalfMatch.{HalfMatch}
 pub use Rattle.determinize_below.specs.declared.search.MatchKind.{MatchKind}
 pub use Rattle.determinize_below.specs.declared.search.MatchKind.TheVariants.{All, LeftmostFirst}
@@ -34,6 +36,8 @@ pub use Rattle.determinize_state.specs.Equality.{same}
 pub use Rattle.determinize_state.specs.Recording.{added, added_one, needs, recorded}
 pub use Rattle.determinize_state.specs.Value.{dead, is_nonempty, Value}
 pub use Rattle.ordered_reach.proofs.Cases.{by_cases, by_option, by_test, or_false_left, or_false_right, some_injective}
+pub use Rattle.ordered_reach.proofs.graph.FiniteGraphs.{same_decides}
+pub use Rattle.ordered_reach.proofs.lists.Elements.{All-from_member}
 pub use Rattle.ordered_reach.specs.Paths.{Before, IsPath}
 pub use Rattle.ordered_reach.specs.Reach.{edge_count, ends, fresh, joined, member, none_held, ordered, with_node}
 pub use Rattle.ordered_reach.specs.Runs.{IsBeginning, IsLeastRun, placed, without}
@@ -48,7 +52,7 @@ pub use Rattle.std.proofs.lemmas.List.{append-nil, get_or-replicate, get_or-reve
 pub use Rattle.std.proofs.lemmas.List.{length-replicate, length-reverse, length-set, length-take, length-take-le}
 pub use Rattle.std.proofs.lemmas.List.{length_push, map-append, take-append-drop, take_all, take_at, take_more}
 pub use Rattle.std.proofs.lemmas.List.Concat.{flat_map-append}
-pub use Rattle.std.proofs.lemmas.List.Elements.{All-cons, All-head, All-nil, All-tail}
+pub use Rattle.std.proofs.lemmas.List.Elements.{All-cons, All-head, All-nil, All-rest, All-tail}
 pub use Rattle.std.proofs.lemmas.Option.{get_or_from_slice_get, slice_get-get_or, slice_get-map, slice_get_past}
 pub use Rattle.std.proofs.lemmas.Option.{slice_get_within}
 pub use Rattle.std.proofs.lemmas.Result.{IfOk-weaker}

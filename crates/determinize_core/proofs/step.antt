@@ -8,5 +8,4 @@ pub mod Resolving
 pub mod StepBound
 pub mod StepLaws
 pub mod StepParts
-pub mod Targets
 pub mod WorkingLists

@@ -2,9 +2,8 @@
 -- Main statements: ascending_captures_have_no_cycle, capture_rows.
 -- Used by: `capture_law`.
 -- Idea: ids that ascend along captures never return.
-use Rattle.determinize_core.proofs.Common.{ap, arith, Capture, capture_next}
-use Rattle.determinize_core.proofs.Common.{false≢true, followed, is_capture, Nfa, Node, refl}
-use Rattle.determinize_core.proofs.Common.{state_at, suc, sym, true, zero, ℕ, ◌<◌, ◌≡◌, ◌≤◌}
+use Rattle.determinize_core.proofs.Common.{ap, arith, Capture, capture_next, false≢true, followed, is_capture, Nfa}
+use Rattle.determinize_core.proofs.Common.{Node, refl, state_at, suc, sym, true, zero, ℕ, ◌<◌, ◌≡◌, ◌≤◌}
 use Rattle.determinize_below.specs.Edges.{tests_capture}
 use Rattle.determinize_core.specs.Laws.{AscendingCapturesHaveNoCycle, CapturesAscend}
 use Rattle.determinize_core.specs.WorkedRows.{AreCaptureRows, n14, n8}

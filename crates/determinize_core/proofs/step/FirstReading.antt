@@ -1,283 +1,151 @@
 -- The first reading of a working list, one state after another.
--- Main statements: IsFirstRead, first_read-start, first_read-new, first_read-end, first_read-stop.
+-- Main statements: IsFirstRead, first_read-next, first_read-end, first_read-stop, first_read-new.
 -- Used by: `read_states`.
--- Idea: a state with no pattern and no target adds nothing, so only the others need be kept.
-use mathlib.Core.Bool.{and-false}
-use Rattle.determinize_core.proofs.Common.{[], ap, append-nil, append_assoc, arith, Bool, by_option, by_test, eq-eqb}
-use Rattle.determinize_core.proofs.Common.{eqb-true, false, false≢true, flat_map, flat_map-append, fresh, has_id}
-use Rattle.determinize_core.proofs.Common.{if◌then◌else◌, is_match, is_nonempty, is_some, IsListRead, joined, List}
-use Rattle.determinize_core.proofs.Common.{list_any, MatchKind, member, nat_eq, Nfa, None, none_held, not, Option}
-use Rattle.determinize_core.proofs.Common.{option_to_list, or_false_left, or_false_right, or_left, part_read}
-use Rattle.determinize_core.proofs.Common.{pattern_of, patterns_of, patterns_read, refl, Some, subst, sym, take, target}
-use Rattle.determinize_core.proofs.Common.{true, true≢false, Value, with_node, with_patterns, ℕ, ◌&&◌, ◌++◌, ◌∙◌}
-use Rattle.determinize_core.proofs.Common.{◌∷◌, ◌≡◌}
-use Rattle.ordered_reach.proofs.lists.NewNodes.{fresh-append}
-use Rattle.determinize_below.proofs.nfas.SoundNfa.{IsSound}
-use Rattle.ordered_reach.proofs.graph.FiniteGraphs.{same_decides}
-use Rattle.std.specs.List.{AllByRecursion, filter, IsDistinct}
-use Rattle.std.proofs.lemmas.Bool.{or_right, or_from}
+-- Idea: an idle state adds nothing, so only the others need be kept.
+use Rattle.determinize_core.proofs.Common.{[], All, ap, append-nil, append_assoc, arith, Bool, by_option, false}
+use Rattle.determinize_core.proofs.Common.{false≢true, flat_map, flat_map-append, fresh, has_id, if◌then◌else◌}
+use Rattle.determinize_core.proofs.Common.{is_match, IsListRead, IsSound, joined, LeftmostFirst, List, list_any, Match}
+use Rattle.determinize_core.proofs.Common.{MatchKind, member, nat_eq, Nfa, Node, None, none_held, not, Option}
+use Rattle.determinize_core.proofs.Common.{option_to_list, pattern_in, pattern_of, patterns_of, refl, same_decides}
+use Rattle.determinize_core.proofs.Common.{Some, state_at, sym, target, true, Value, with_patterns, without, ℕ, ◌&&◌}
+use Rattle.determinize_core.proofs.Common.{◌++◌, ◌||◌, ◌∙◌, ◌∷◌, ◌≡◌}
+use Rattle.ordered_reach.proofs.lists.NewNodes.{filter-fresh, fresh-append}
+use Rattle.ordered_reach.proofs.lists.Pieces.{before-without, flat_map-without}
+use Rattle.ordered_reach.specs.Runs.{before}
 use Rattle.std.proofs.lemmas.List.Elements.{filter-append}
 use Rattle.std.proofs.lemmas.List.Folds.{list_any-append}
 use Rattle.determinize_below.specs.Search.{continues}
-use Rattle.determinize_core.specs.Private.Reading.{distinct, gained, IsStateRead, matters}
-use Rattle.determinize_core.proofs.step.Collecting.{fresh-push}
+use Rattle.determinize_below.specs.Semantics.{target_of}
+use Rattle.determinize_core.specs.Private.Reading.{distinct, gained, is_idle, IsStateRead, roots_of}
+use Rattle.determinize_core.proofs.step.Collecting.{pushed}
 use Rattle.determinize_core.proofs.walk.WalkLoops.{goes_on, pattern_new, patterns-push, stops_at, targets-push}
-use Rattle.determinize_core.proofs.step.Targets.{target-match}
-use Rattle.determinize_below.specs.declared.search.MatchKind.TheVariants as kinds
 
--- an empty list
-pub empty_of : (xs : List ℕ) → is_nonempty xs ≡ false → xs ≡ []
-empty_of [] e = refl
-empty_of (x ∷ xs) e = absurd (true≢false e)
-
-none_of : (o : Option ℕ) → is_some o ≡ false → option_to_list o ≡ []
-none_of None e = refl
-none_of (Some x) e = absurd (true≢false e)
-
--- an item of the filtered list is an item that passes
-holds-filter : (p : ℕ → Bool) (xs : List ℕ) (x : ℕ) → has_id (filter p xs) x ≡ (has_id xs x && p x)
-holds-filter p [] x = refl
-holds-filter p (y ∷ xs) x = by_test (p y)
-    (λ e. rw e (by_test (nat_eq x y)
-    (λ k. let q : p x ≡ true = ap p (eqb-true x y k) ∙ e in rw (k, q) refl)
-    (λ k. rw k (holds-filter p xs x))))
-    (λ e. rw e (by_test (nat_eq x y)
-    (λ k. let q : p x ≡ false = ap p (eqb-true x y k) ∙ e in
-    rw k (holds-filter p xs x ∙ rw q (and-false (has_id xs x))))
-    (λ k. rw k (holds-filter p xs x))))
-
-module _ (nfa : Nfa) (u : Option ℕ) where
-  -- a state that gives nothing has no pattern and no transition on the unit
-  pub matters-pattern : (s : ℕ) → matters nfa u s ≡ false → option_to_list (pattern_of nfa s) ≡ []
-  matters-pattern s e = none_of (pattern_of nfa s) (or_false_left (is_match nfa s) (is_nonempty (target nfa u s)) e)
-
-  pub matters-target : (s : ℕ) → matters nfa u s ≡ false → target nfa u s ≡ []
-  matters-target s e = empty_of (target nfa u s) (or_false_right (is_match nfa s) (is_nonempty (target nfa u s)) e)
-
-  -- what the states with a pattern or a target give, all give
-  all_that_matters : (f : ℕ → List ℕ) → ((s : ℕ) → matters nfa u s ≡ false → f s ≡ []) → (xs : List ℕ)
-      → flat_map f (filter (matters nfa u) xs) ≡ flat_map f xs
-  all_that_matters f h [] = refl
-  all_that_matters f h (x ∷ xs) = by_test (matters nfa u x)
-      (λ e. rw e (ap (λ l. f x ++ l) (all_that_matters f h xs)))
-      (λ e. rw e (all_that_matters f h xs ∙ sym (ap (λ l. l ++ flat_map f xs) (h x e))))
-
-  patterns-that_matter : (xs : List ℕ) → patterns_of nfa (filter (matters nfa u) xs) ≡ patterns_of nfa xs
-  patterns-that_matter = all_that_matters (λ s. option_to_list (pattern_of nfa s)) matters-pattern
-
-  targets-that_matter : (xs : List ℕ) → flat_map (target nfa u) (filter (matters nfa u) xs) ≡ flat_map (target nfa u) xs
-  targets-that_matter = all_that_matters (target nfa u) matters-target
-
-  -- what one more state adds to the distinct ones
-  pub one_more : List ℕ → ℕ → List ℕ
-  one_more xs x = if not (has_id (distinct xs) x) then x ∷ [] else []
-
-  distinct-push : (xs : List ℕ) (x : ℕ) → distinct (xs ++ x ∷ []) ≡ distinct xs ++ one_more xs x
-  unfolding one_more
-  distinct-push xs x = by_test (has_id (distinct xs) x)
-      (λ e. sym (fresh-push xs x false (sym (ap not e))) ∙ rw e (sym (append-nil (distinct xs))))
-      (λ e. sym (fresh-push xs x true (sym (ap not e))) ∙ rw e refl)
-
-  pub one_more-new : (xs : List ℕ) (x : ℕ) → has_id (distinct xs) x ≡ false → one_more xs x ≡ x ∷ []
-  unfolding one_more
-  one_more-new xs x e = rw e refl
-
-  -- and what it adds to those with a pattern or a target
-  gained_is : (xs : List ℕ) (x : ℕ) → gained nfa u (filter (matters nfa u) (distinct xs)) x
-      ≡ filter (matters nfa u) (one_more xs x)
-  unfolding one_more
-  gained_is xs x = by_test (matters nfa u x)
-      (λ e. by_test (has_id (distinct xs) x)
-      (λ k. let there : has_id (filter (matters nfa u) (distinct xs)) x
-      ≡ true = holds-filter (matters nfa u) (distinct xs) x ∙ rw (k, e) refl in rw (there, k, e) refl)
-      (λ k. let away : has_id (filter (matters nfa u) (distinct xs)) x
-      ≡ false = holds-filter (matters nfa u) (distinct xs) x ∙ rw k refl in rw (away, k, e) refl))
-      (λ e. by_test (has_id (distinct xs) x)
-      (λ k. rw (k, e) refl)
-      (λ k. rw (k, e) refl))
-
--- a list read up to some place: the states with a pattern or a target, what the builder has, and the targets
-pub record IsFirstRead (nfa : Nfa) (kind : MatchKind) (u : Option ℕ) (done : List ℕ) (begun value : Value)
-    (kept targets : List ℕ) : Type 0 where
-  pub kept_are : kept ≡ filter (matters nfa u) (distinct done)
-  pub value_is : value ≡ with_patterns begun (patterns_of nfa (distinct done))
-  pub targets_are : targets ≡ flat_map (target nfa u) (distinct done)
-  pub unmatched : continues kind ≡ false → list_any (is_match nfa) (distinct done) ≡ false
-
-module _ (nfa : Nfa) (kind : MatchKind) (u : Option ℕ) (begun : Value) where
-  pub first_read-start : (kept targets : List ℕ) → kept ≡ [] → targets ≡ [] → begun.patterns ≡ []
-      → IsFirstRead nfa kind u [] begun begun kept targets
-  first_read-start kept targets none untargeted unread = record {
-    kept_are = none;
-    value_is = sym (ap (λ ps. with_patterns begun ps) (sym unread));
-    targets_are = untargeted;
-    unmatched = λ h. refl;
-  }
-
-  module _ (done : List ℕ) (id : ℕ) (value next : Value) (kept after targets further : List ℕ)
-      (so_far : IsFirstRead nfa kind u done begun value kept targets)
-      (read : IsStateRead nfa u id kept after targets further value next) where
-    gained_more : gained nfa u kept id ≡ filter (matters nfa u) (one_more nfa u done id)
-    gained_more = ap (λ l. gained nfa u l id) so_far.kept_are ∙ gained_is nfa u done id
-
-    kept_more : after ≡ filter (matters nfa u) (distinct (done ++ id ∷ []))
-    kept_more = read.kept_are ∙ ap (λ l. l ++ gained nfa u kept id) so_far.kept_are
-        ∙ ap (λ l. filter (matters nfa u) (distinct done) ++ l) gained_more
-        ∙ sym (filter-append (matters nfa u) (distinct done) (one_more nfa u done id))
-        ∙ ap (λ l. filter (matters nfa u) l) (sym (distinct-push nfa u done id))
-
-    patterns_more : (value.patterns ++ patterns_of nfa (gained nfa u kept id))
-        ≡ patterns_of nfa (distinct (done ++ id ∷ []))
-    patterns_more = ap (λ (w : Value). w.patterns ++ patterns_of nfa (gained nfa u kept id)) so_far.value_is
-        ∙ ap (λ l. patterns_of nfa (distinct done) ++ l)
-        (ap (λ l. patterns_of nfa l) gained_more ∙ patterns-that_matter nfa u (one_more nfa u done id))
-        ∙ sym (flat_map-append (λ s. option_to_list (pattern_of nfa s)) (distinct done) (one_more nfa u done id))
-        ∙ ap (λ l. patterns_of nfa l) (sym (distinct-push nfa u done id))
-
-    value_more : next ≡ with_patterns begun (patterns_of nfa (distinct (done ++ id ∷ [])))
-    value_more = read.value_is ∙ ap (λ (w : Value). with_patterns w
-        (value.patterns ++ patterns_of nfa (gained nfa u kept id))) so_far.value_is
-        ∙ ap (λ ps. with_patterns begun ps) patterns_more
-
-    targets_more : further ≡ flat_map (target nfa u) (distinct (done ++ id ∷ []))
-    targets_more = read.targets_are
-        ∙ ap (λ l. l ++ flat_map (target nfa u) (gained nfa u kept id)) so_far.targets_are
-        ∙ ap (λ l. flat_map (target nfa u) (distinct done) ++ l)
-        (ap (λ l. flat_map (target nfa u) l) gained_more ∙ targets-that_matter nfa u (one_more nfa u done id))
-        ∙ sym (flat_map-append (target nfa u) (distinct done) (one_more nfa u done id))
-        ∙ ap (λ l. flat_map (target nfa u) l) (sym (distinct-push nfa u done id))
-
-    -- one more state
-    pub first_read-next : (is_match nfa id && not (continues kind)) ≡ false
-        → IsFirstRead nfa kind u (done ++ id ∷ []) begun next after further
-    unfolding one_more
-    first_read-next stop = record {
-      kept_are = kept_more;
-      value_is = value_more;
-      targets_are = targets_more;
-      unmatched = λ h. ap (λ l. list_any (is_match nfa) l) (distinct-push nfa u done id)
-          ∙ list_any-append (is_match nfa) (distinct done) (one_more nfa u done id)
-          ∙ or_from (list_any (is_match nfa) (distinct done)) (list_any (is_match nfa) (one_more nfa u done id))
-          (so_far.unmatched h) (no_match h stop);
-    }
-      where
-        unmatched_of : (a c : Bool) → c ≡ false → (a && not c) ≡ false → a ≡ false
-        unmatched_of a c h l = grind arith
-
-        no_match : continues kind ≡ false → (is_match nfa id && not (continues kind)) ≡ false
-            → list_any (is_match nfa) (one_more nfa u done id) ≡ false
-        no_match h l = by_test (has_id (distinct done) id)
-            (λ e. rw e refl)
-            (λ e. let m : is_match nfa id ≡ false = unmatched_of (is_match nfa id) (continues kind) h l in
-            rw (e, m) refl)
+-- a match has no transition
+target_of-match : (u : Option ℕ) (s : Node) (p : ℕ) → pattern_in s ≡ Some p → target_of u s ≡ None
+target_of-match u (Match q) p e = refl
+target_of-match u s p e = cc
 
 -- a match is new after states without one
 unmatched_new : (nfa : Nfa) (xs : List ℕ) (x : ℕ) → list_any (is_match nfa) xs ≡ false → is_match nfa x ≡ true
     → has_id xs x ≡ false
 unmatched_new nfa [] x h m = refl
-unmatched_new nfa (y ∷ xs) x h m = by_test (nat_eq x y)
-    (λ e. absurd (true≢false (sym (ap (is_match nfa) (sym (eqb-true x y e)) ∙ m)
-    ∙ or_false_left (is_match nfa y) (list_any (is_match nfa) xs) h)))
-    (λ e. rw e (unmatched_new nfa xs x (or_false_right (is_match nfa y) (list_any (is_match nfa) xs) h) m))
+unmatched_new nfa (y ∷ xs) x h m = grind (arith, same_decides x y, unmatched_new nfa xs x)
 
-module _ (nfa : Nfa) (u : Option ℕ) (begun : Value) where
-  -- the end of the list
-  pub first_read-end : (kind : MatchKind) (done : List ℕ) (value : Value) (kept targets : List ℕ)
-      → IsFirstRead nfa kind u done begun value kept targets
-      → IsListRead nfa kind u (distinct done) begun value targets
-  first_read-end kinds.All done value kept targets so_far = record {
-    value_is = so_far.value_is;
-    targets_are = so_far.targets_are;
+module _ (nfa : Nfa) (u : Option ℕ) where
+  idle-pattern : (s : ℕ) → is_idle nfa u s ≡ true → option_to_list (pattern_of nfa s) ≡ []
+  idle-pattern s e = grind arith
+
+  idle-target : (s : ℕ) → is_idle nfa u s ≡ true → target nfa u s ≡ []
+  idle-target s e = grind arith
+
+  match-idle : (s : ℕ) → is_match nfa s ≡ true → is_idle nfa u s ≡ false
+  match-idle s e = rw e refl
+
+  -- leaving out idle states does not change what a list gives
+  without_idle : (kind : MatchKind) (xs : List ℕ) (begun next : Value) (targets : List ℕ)
+      → IsListRead nfa kind u (without (is_idle nfa u) xs) begun next targets
+      → IsListRead nfa kind u xs begun next targets
+  without_idle kind xs begun next targets read = record {
+    value_is =
+        rw (flat_map-without (λ s. option_to_list (pattern_of nfa s)) (is_idle nfa u) xs idle-pattern) at read.value_is;
+    targets_are = read.targets_are ∙ roots kind;
   }
-  first_read-end kinds.LeftmostFirst done value kept targets so_far =
-      let on : (part_read kinds.LeftmostFirst (is_match nfa) (distinct done) ≡ distinct done)
-      × (patterns_of nfa (distinct done) ≡ []) = goes_on nfa (distinct done) (so_far.unmatched refl) in
-      record {
-        value_is = so_far.value_is ∙ ap (λ ps. with_patterns begun ps) (on.1 ∙ ap (λ ps. take 1 ps) (sym on.1));
-        targets_are = so_far.targets_are ∙ ap (λ l. flat_map (target nfa u) l) (sym on.0);
-      }
+    where
+      roots : (kind : MatchKind) → roots_of nfa kind u (without (is_idle nfa u) xs) ≡ roots_of nfa kind u xs
+      roots All = flat_map-without (target nfa u) (is_idle nfa u) xs idle-target
+      roots LeftmostFirst = rw (before-without (is_match nfa) (is_idle nfa u) xs match-idle)
+          (flat_map-without (target nfa u) (is_idle nfa u) (before (is_match nfa) xs) idle-target)
+
+-- a list read up to some place: the states that are kept, and what they give
+pub record IsFirstRead (nfa : Nfa) (u : Option ℕ) (done : List ℕ) (begun value : Value)
+    (kept targets : List ℕ) : Type 0 where
+  pub kept_are : kept ≡ distinct (without (is_idle nfa u) done)
+  pub value_is : value ≡ with_patterns begun (patterns_of nfa kept)
+  pub targets_are : targets ≡ flat_map (target nfa u) kept
+
+pub first_read-start : {nfa : Nfa} {u : Option ℕ} {begun : Value} {kept targets : List ℕ} → kept ≡ [] → targets ≡ []
+    → begun.patterns ≡ [] → IsFirstRead nfa u [] begun begun kept targets
+first_read-start {begun = begun} none untargeted unread = record {
+  kept_are = none;
+  value_is = rw none (sym (ap (λ ps. with_patterns begun ps) (sym unread)));
+  targets_are = rw none untargeted;
+}
+
+-- one more state
+kept_more : (idle : ℕ → Bool) (done kept : List ℕ) (id : ℕ) → kept ≡ distinct (without idle done)
+    → kept ++ (if idle id || has_id kept id then [] else id ∷ []) ≡ distinct (without idle (done ++ id ∷ []))
+kept_more idle done kept id e =
+    let one = filter-append (λ s. not (idle s)) done (id ∷ []) in
+    let new = pushed kept (without idle done) id (not (has_id kept id)) e refl in
+    grind (arith, append-nil (without idle done), append-nil kept)
+
+module _ {nfa : Nfa} {u : Option ℕ} {done kept after targets further : List ℕ} {begun value next : Value} {id : ℕ}
+    (so_far : IsFirstRead nfa u done begun value kept targets)
+    (read : IsStateRead nfa u id kept after targets further value next) where
+  pub first_read-next : IsFirstRead nfa u (done ++ id ∷ []) begun next after further
+  first_read-next = record {
+    kept_are = read.kept_are ∙ kept_more (is_idle nfa u) done kept id so_far.kept_are;
+    value_is = cc (flat_map-append (λ s. option_to_list (pattern_of nfa s)) kept (gained nfa u kept id));
+    targets_are = cc (flat_map-append (target nfa u) kept (gained nfa u kept id));
+  }
+
+  pub unmatched-next : (kind : MatchKind) → (continues kind ≡ false → list_any (is_match nfa) kept ≡ false)
+      → (is_match nfa id && not (continues kind)) ≡ false
+      → continues kind ≡ false → list_any (is_match nfa) after ≡ false
+  unmatched-next kind h stop k = rw (read.kept_are, list_any-append) (grind arith)
 
   -- the first match, after which nothing is read
-  pub first_read-stop : (kind : MatchKind) (done left : List ℕ) (id : ℕ) (value next : Value)
-      (kept after targets further : List ℕ)
-      → IsFirstRead nfa kind u done begun value kept targets
-      → IsStateRead nfa u id kept after targets further value next
+  pub first_read-stop : (kind : MatchKind) (left : List ℕ)
+      → (continues kind ≡ false → list_any (is_match nfa) kept ≡ false)
       → (is_match nfa id && not (continues kind)) ≡ true
       → IsListRead nfa kind u (distinct (done ++ (id ∷ left))) begun next further
-  first_read-stop kinds.All done left id value next kept after targets further so_far read stop =
-      absurd (never (is_match nfa id) stop)
-    where
-      never : (a : Bool) → (a && not true) ≡ true → ⊥
-      never a h = grind arith
-  first_read-stop kinds.LeftmostFirst done left id value next kept after targets further so_far read stop =
-      by_option (pattern_of nfa id)
-      (λ e. absurd (true≢false (sym (matched (is_match nfa id) stop) ∙ ap is_some e)))
+  first_read-stop All left h stop = absurd (let e : (is_match nfa id && false) ≡ true = stop in grind arith)
+  first_read-stop LeftmostFirst left h stop = by_option (pattern_of nfa id)
+      (λ e. absurd (false≢true (rw e at stop)))
       (λ p e.
-      let new : has_id (distinct done) id ≡ false =
-      unmatched_new nfa (distinct done) id (so_far.unmatched refl) (matched (is_match nfa id) stop) in
-      let later : List ℕ = fresh nat_eq (joined (member nat_eq (done ++ id ∷ [])) none_held) left in
-      let one : distinct (done ++ id ∷ []) ≡ distinct done ++ id ∷ [] =
-      distinct-push nfa u done id ∙ ap (λ l. distinct done ++ l) (one_more-new nfa u done id new) in
-      let whole : distinct (done ++ (id ∷ left)) ≡ distinct done ++ (id ∷ later) =
-      ap distinct (sym (append_assoc done (id ∷ []) left)) ∙ fresh-append same_decides none_held (done ++ id ∷ []) left
-      ∙ ap (λ l. l ++ later) one ∙ append_assoc (distinct done) (id ∷ []) later in
-      let on : (part_read kinds.LeftmostFirst (is_match nfa) (distinct done) ≡ distinct done)
-      × (patterns_of nfa (distinct done) ≡ []) = goes_on nfa (distinct done) (so_far.unmatched refl) in
-      let at : (part_read kinds.LeftmostFirst (is_match nfa) (distinct done ++ (id ∷ later)) ≡ distinct done)
-      × (patterns_read kinds.LeftmostFirst (patterns_of nfa (distinct done ++ (id ∷ later))) ≡ p ∷ []) =
-      stops_at nfa (distinct done) later id p (so_far.unmatched refl) e in
-      let part : part_read kinds.LeftmostFirst (is_match nfa) (distinct (done ++ (id ∷ left))) ≡ distinct done =
-      ap (λ l. part_read kinds.LeftmostFirst (is_match nfa) l) whole ∙ at.0 in
-      let first : patterns_of nfa (distinct (done ++ id ∷ [])) ≡ p ∷ [] =
-      ap (λ l. patterns_of nfa l) one ∙ patterns-push nfa (distinct done) id
-      ∙ ap (λ l. l ++ option_to_list (pattern_of nfa id)) on.1 ∙ ap (λ o. option_to_list o) e in
-      let roots_are : flat_map (target nfa u) (distinct (done ++ id ∷ [])) ≡ flat_map (target nfa u) (distinct done) =
-      ap (λ l. flat_map (target nfa u) l) one ∙ targets-push nfa u (distinct done) id
-      ∙ ap (λ l. flat_map (target nfa u) (distinct done) ++ l) (target-match nfa u id p e)
-      ∙ append-nil (flat_map (target nfa u) (distinct done)) in
-      record {
-        value_is = value_more nfa kinds.LeftmostFirst u begun done id value next kept after targets further so_far read
-            ∙ ap (λ ps. with_patterns begun ps) (first ∙ sym (ap (λ l. take 1 (patterns_of nfa l)) whole ∙ at.1));
-        targets_are =
-            targets_more nfa kinds.LeftmostFirst u begun done id value next kept after targets further so_far read
-            ∙ roots_are ∙ ap (λ l. flat_map (target nfa u) l) (sym part);
-      })
+      let m : is_match nfa id ≡ true = rw e refl in
+      let one : after ≡ kept ++ id ∷ [] = read.kept_are
+      ∙ rw (match-idle nfa u id m, unmatched_new nfa kept id (h refl) m) refl in
+      let first : List ℕ = without (is_idle nfa u) (done ++ id ∷ []) in
+      let later : List ℕ = fresh nat_eq (joined (member nat_eq first) none_held) (without (is_idle nfa u) left) in
+      let whole : without (is_idle nfa u) (distinct (done ++ (id ∷ left))) ≡ kept ++ (id ∷ later) =
+      filter-fresh same_decides (is_idle nfa u) none_held (done ++ (id ∷ left))
+      ∙ rw (
+        ← append_assoc done (id ∷ []) left,
+        filter-append (λ s. not (is_idle nfa u s)) (done ++ id ∷ []) left,
+        fresh-append same_decides none_held first (without (is_idle nfa u) left),
+        ← first_read-next.kept_are,
+        one,
+        append_assoc,
+      ) refl in
+      let at = stops_at nfa kept later id p (h refl) e in
+      let none = goes_on nfa kept (h refl) in
+      without_idle nfa u LeftmostFirst (distinct (done ++ (id ∷ left))) begun next further (rw whole record {
+        value_is = first_read-next.value_is
+            ∙ rw (one, patterns-push nfa kept id, none.1, e) (ap (λ ps. with_patterns begun ps) (sym at.1));
+        targets_are = first_read-next.targets_are
+            ∙ rw (one, targets-push nfa u kept id, target_of-match u (state_at nfa id) p e, append-nil)
+            (ap (λ l. flat_map (target nfa u) l) (sym at.0));
+      }))
+
+module _ {nfa : Nfa} {u : Option ℕ} {done kept targets : List ℕ} {begun value : Value}
+    (so_far : IsFirstRead nfa u done begun value kept targets) where
+  -- the end of the list
+  pub first_read-end : (kind : MatchKind) → (continues kind ≡ false → list_any (is_match nfa) kept ≡ false)
+      → IsListRead nfa kind u (distinct done) begun value targets
+  first_read-end kind h = without_idle nfa u kind (distinct done) begun value targets
+      (rw (filter-fresh same_decides (is_idle nfa u) none_held done, ← so_far.kept_are) (all kind h))
     where
-      matched : (a : Bool) → (a && not false) ≡ true → a ≡ true
-      matched a h = grind arith
+      all : (kind : MatchKind) → (continues kind ≡ false → list_any (is_match nfa) kept ≡ false)
+          → IsListRead nfa kind u kept begun value targets
+      all All h = record { value_is = so_far.value_is; targets_are = so_far.targets_are }
+      all LeftmostFirst h = let on = goes_on nfa kept (h refl) in record {
+        value_is = rw on.1 (rw on.1 at so_far.value_is);
+        targets_are = rw on.0 so_far.targets_are;
+      }
 
--- the items of a list without repeats
-all_at : (P : ℕ → Type 0) (xs : List ℕ) (y : ℕ) → AllByRecursion P xs → member nat_eq xs y ≡ true → P y
-all_at P [] y a m = absurd (false≢true m)
-all_at P (x ∷ xs) y a m = by_test (nat_eq x y)
-    (λ e. subst (λ n. P n) (eqb-true x y e) a.0)
-    (λ e. all_at P xs y a.1 (rw e at m))
-
-fresh_distinct : (seen : ℕ → Bool) (xs : List ℕ) → ((x : ℕ) → member nat_eq xs x ≡ true → seen x ≡ false)
-    → IsDistinct nat_eq xs → fresh nat_eq seen xs ≡ xs
-unfolding IsDistinct
-fresh_distinct seen [] h d = refl
-fresh_distinct seen (x ∷ xs) h d =
-    let first : seen x ≡ false = h x (or_left (nat_eq x x) (member nat_eq xs x) (eq-eqb x x refl)) in
-    rw first (ap (λ l. x ∷ l) (fresh_distinct (with_node nat_eq seen x) xs
-    (λ y m. or_from (nat_eq x y) (seen y) (all_at (λ w. nat_eq x w ≡ false) xs y d.0 m)
-    (h y (or_right (nat_eq x y) (member nat_eq xs y) m))) d.1))
-
-pub distinct_same : (xs : List ℕ) → IsDistinct nat_eq xs → distinct xs ≡ xs
-distinct_same xs d = fresh_distinct none_held xs (λ x m. refl) d
-
--- the pattern of a state that was not kept is new
-pub first_read-new : (nfa : Nfa) → IsSound nfa
-    → (kind : MatchKind) (u : Option ℕ) (done : List ℕ) (begun value : Value) (kept targets : List ℕ) (id p : ℕ)
-    → IsFirstRead nfa kind u done begun value kept targets → pattern_of nfa id ≡ Some p → has_id kept id ≡ false
-    → list_any (nat_eq p) value.patterns ≡ false
-first_read-new nfa sound kind u done begun value kept targets id p so_far e h =
-    let counted : matters nfa u id ≡ true = or_left (is_match nfa id) (is_nonempty (target nfa u id)) (ap is_some e) in
-    let new : has_id (distinct done) id ≡ false =
-    and_false (has_id (distinct done) id) (matters nfa u id) counted
-    (sym (holds-filter (matters nfa u) (distinct done) id) ∙ ap (λ l. has_id l id) (sym so_far.kept_are) ∙ h) in
-    ap (λ (v : Value). list_any (nat_eq p) v.patterns) so_far.value_is
-    ∙ pattern_new nfa sound (distinct done) id p new e
-  where
-    and_false : (a b : Bool) → b ≡ true → (a && b) ≡ false → a ≡ false
-    and_false a b h k = grind arith
+  -- the pattern of a state that was not kept is new
+  pub first_read-new : IsSound nfa → (id p : ℕ) → pattern_of nfa id ≡ Some p → has_id kept id ≡ false
+      → list_any (nat_eq p) value.patterns ≡ false
+  first_read-new sound id p e h =
+      ap (λ (v : Value). list_any (nat_eq p) v.patterns) so_far.value_is ∙ pattern_new nfa sound kept id p h e

@@ -2,30 +2,34 @@
 -- Main statements: start_resolves, targets_resolve, step_resolves.
 -- Used by: WalkSteps, `start_state`, `transition`.
 -- Idea: edges and targets of a valid NFA go to its states.
-use Rattle.determinize_core.proofs.Common.{[], arith, eqb-true, is_capture, is_match, IsAccepted, length, MatchKind}
-use Rattle.determinize_core.proofs.Common.{member, nat_eq, Nfa, not, Option, part_read, start_value, tables_of, target}
-use Rattle.determinize_core.proofs.Common.{targets, true, Value, working_list, ℕ, ◌<◌, ◌∷◌, ◌≡◌}
-use Rattle.determinize_below.proofs.nfas.SoundNfa.{accepted_sound, reach_within, target_within}
-use Rattle.ordered_reach.proofs.lists.Elements.{All-from_member}
+use Rattle.determinize_core.proofs.Common.{[], accepted_sound, All-from_member, AllResolve, arith, Bool, eqb-true}
+use Rattle.determinize_core.proofs.Common.{is_capture, is_match, IsAccepted, length, List, MatchKind, member, nat_eq}
+use Rattle.determinize_core.proofs.Common.{Nfa, not, Option, part_read, same_decides, start_value, tables_of, target}
+use Rattle.determinize_core.proofs.Common.{targets, true, Value, without, working_list, ℕ, ◌<◌, ◌∷◌, ◌≡◌}
+use Rattle.determinize_below.proofs.nfas.SoundNfa.{reach_within, target_within}
 use Rattle.ordered_reach.proofs.lists.NewNodes.{flat_map-member, member-filter}
-use Rattle.ordered_reach.proofs.graph.FiniteGraphs.{same_decides}
 use Rattle.std.proofs.Common.{All as Each}
 use Rattle.determinize_below.specs.Edges.{reach}
 use Rattle.determinize_below.specs.Look.{has}
+use Rattle.determinize_below.specs.declared.look.Look.{Look as Assertion}
 use Rattle.ordered_reach.proofs.Cases.{or_false}
 use Rattle.determinize_core.specs.Step.{step}
 use Rattle.determinize_start.specs.LookTables.{have_after, have_at_start}
 
 module _ (nfa : Nfa) (accepted : IsAccepted nfa) where
+  entered_resolve : (holds : Assertion → Bool) (roots : List ℕ)
+      → ((r : ℕ) → member nat_eq roots r ≡ true → r < length nfa.states)
+      → AllResolve nfa (without (is_capture nfa) (reach nfa holds roots))
+  entered_resolve holds roots h =
+      All-from_member same_decides (λ id. id < length nfa.states) _ (λ x m.
+      reach_within nfa (accepted_sound nfa accepted) holds roots h x
+      (member-filter same_decides (λ y. not (is_capture nfa y)) (reach nfa holds roots) x m))
+
   -- the value before the first unit, of a search that starts in a state of the NFA
   pub start_resolves : (s : ℕ) (p : Option ℕ) → s < length nfa.states
       → Each (λ id. id < length nfa.states) (start_value nfa s p).states
-  start_resolves s p l =
-      All-from_member same_decides (λ id. id < length nfa.states) (start_value nfa s p).states (λ x m.
-      reach_within nfa (accepted_sound nfa accepted) (has (have_at_start (tables_of nfa) p)) (s ∷ [])
-      (λ r k. let e : s ≡ r = eqb-true s r (or_false (nat_eq s r) k) in omega arith) x
-      (member-filter same_decides (λ y. not (is_capture nfa y))
-      (reach nfa (has (have_at_start (tables_of nfa) p)) (s ∷ [])) x m))
+  start_resolves s p l = entered_resolve (has (have_at_start (tables_of nfa) p)) (s ∷ [])
+      (λ r k. let e : s ≡ r = eqb-true s r (or_false (nat_eq s r) k) in omega arith)
 
   -- the targets that a step enters
   pub targets_resolve : (kind : MatchKind) (v : Value) (u : Option ℕ) (r : ℕ)
@@ -39,8 +43,4 @@ module _ (nfa : Nfa) (accepted : IsAccepted nfa) where
       → Each (λ id. id < length nfa.states) (step nfa kind v u).states
   unfolding step
   step_resolves kind v u =
-      All-from_member same_decides (λ id. id < length nfa.states) (step nfa kind v u).states (λ x m.
-      reach_within nfa (accepted_sound nfa accepted) (has (have_after (tables_of nfa) u)) (targets nfa kind v u)
-      (targets_resolve kind v u) x
-      (member-filter same_decides (λ y. not (is_capture nfa y))
-      (reach nfa (has (have_after (tables_of nfa) u)) (targets nfa kind v u)) x m))
+      entered_resolve (has (have_after (tables_of nfa) u)) (targets nfa kind v u) (targets_resolve kind v u)

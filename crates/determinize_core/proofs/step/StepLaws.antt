@@ -2,23 +2,20 @@
 -- Main statements: each_reach_goes_on, each_future_follows, dead_stays, one_pattern.
 -- Used by: `step_law`, and the cache.
 -- Idea: each is a consequence of the definition of a step.
+use Rattle.determinize_core.proofs.Common.{[], accepted_sound, All, ap, arith, Bool, by_test, capture_next, cond, dead}
+use Rattle.determinize_core.proofs.Common.{drop, each_look, edges, ends, eq-eqb, eqb-true, false, false≢true, flat_map}
+use Rattle.determinize_core.proofs.Common.{followed, fresh, future, is_capture, IsSound, LeftmostFirst, length}
+use Rattle.determinize_core.proofs.Common.{length-take, List, MatchKind, member, nat_eq, Nfa, None, none_held, not}
+use Rattle.determinize_core.proofs.Common.{opened_by, Option, or_left, refl, same_decides, slice_get, Some}
+use Rattle.determinize_core.proofs.Common.{some_injective, start_value, state_at, suc, tables_of, true, units, Value}
+use Rattle.determinize_core.proofs.Common.{with_node, without, working_list, zero, ℕ, ◌&&◌, ◌+◌, ◌==◌, ◌∙◌, ◌∷◌, ◌≡◌}
+use Rattle.determinize_core.proofs.Common.{◌≤◌}
 use Rattle.ordered_reach.proofs.Cases.{or_false}
-use mathlib.Core.Bool.{and-true}
-use Rattle.determinize_core.proofs.Common.{[], All, ap, arith, Bool, by_test, capture_next, cond, dead, each_look}
-use Rattle.determinize_core.proofs.Common.{edges, ends, eq-eqb, eqb-true, false, false≢true, flat_map, followed, fresh}
-use Rattle.determinize_core.proofs.Common.{future, is_capture, is_match, is_reopened, left_by, LeftmostFirst, length}
-use Rattle.determinize_core.proofs.Common.{List, MatchKind, member, nat_eq, Nfa, None, none_held, not, opened_by}
-use Rattle.determinize_core.proofs.Common.{Option, or_left, part_read, patterns_of, patterns_read, refl, slice_get}
-use Rattle.determinize_core.proofs.Common.{Some, some_injective, start_value, state_at, suc, sym, tables_of, take}
-use Rattle.determinize_core.proofs.Common.{target, true, units, Value, with_node, without, working_list, zero, ℕ, ◌&&◌}
-use Rattle.determinize_core.proofs.Common.{◌+◌, ◌==◌, ◌∙◌, ◌∷◌, ◌≡◌, ◌≤◌}
-use Rattle.determinize_below.proofs.nfas.SoundNfa.{accepted_sound, edges_enough, IsSound, reach-append}
+use Rattle.determinize_below.proofs.nfas.SoundNfa.{edges_enough, reach-append}
 use Rattle.determinize_below.proofs.nfas.Edges.{edges-capture, edges-or-target, length-target}
 use Rattle.determinize_below.proofs.looks.LookSets.{has-empty}
-use Rattle.ordered_reach.proofs.graph.ClosedSets.{IsClosed, IsEnough}
-use Rattle.ordered_reach.proofs.lists.NewNodes.{member-fresh}
-use Rattle.ordered_reach.proofs.graph.FiniteGraphs.{same_decides}
-use Rattle.std.proofs.Common.{drop}
+use Rattle.ordered_reach.proofs.graph.ClosedSets.{IsEnough}
+use Rattle.ordered_reach.proofs.lists.NewNodes.{fresh_none, member-fresh}
 use Rattle.determinize_below.specs.Captures.{HasNoCaptureCycle}
 use Rattle.determinize_below.specs.Edges.{reach}
 use Rattle.determinize_below.specs.Look.{has}
@@ -50,47 +47,35 @@ pub each_future_follows : EachFutureFollows
 unfolding chain
 each_future_follows nfa kind s text j v h = drop-future nfa kind (units text) (start_value nfa s text.behind) v j h
 
-read_none : (kind : MatchKind) (accepts : ℕ → Bool) → part_read kind accepts [] ≡ []
-read_none All accepts = refl
-read_none LeftmostFirst accepts = refl
-
-no_patterns : (kind : MatchKind) → patterns_read kind [] ≡ []
-no_patterns All = refl
-no_patterns LeftmostFirst = refl
-
 working_dead : (nfa : Nfa) (u : Option ℕ) → working_list nfa dead u ≡ []
-working_dead nfa u =
-    let e : is_reopened nfa dead u ≡ false =
-    list_any_unmet (λ l. opened_by nfa dead u l && has 0 l && not (has 0 l)) each_look
-    (λ l. rw (has-empty l) (none (opened_by nfa dead u l))) in
-    rw e refl
-  where
-    none : (a : Bool) → (a && false && not false) ≡ false
-    none a = grind arith
+working_dead nfa u = rw (list_any_unmet (λ l. opened_by nfa dead u l && has 0 l && not (has 0 l)) each_look
+    (λ l. grind (arith, has-empty l))) refl
 
 step_dead : (nfa : Nfa) (kind : MatchKind) (u : Option ℕ) → step nfa kind dead u ≡ dead
 unfolding step reach
-step_dead nfa kind u =
-    ap (λ l. left_by nfa u (patterns_read kind (patterns_of nfa l))
-    (reach nfa (has (have_after (tables_of nfa) u)) (flat_map (target nfa u) (part_read kind (is_match nfa) l))))
-    (working_dead nfa u)
-    ∙ ap (λ l. left_by nfa u (patterns_read kind [])
-    (reach nfa (has (have_after (tables_of nfa) u)) (flat_map (target nfa u) l))) (read_none kind (is_match nfa))
-    ∙ ap (λ ps. left_by nfa u ps []) (no_patterns kind)
+step_dead nfa All u = rw (working_dead nfa u) refl
+step_dead nfa LeftmostFirst u = rw (working_dead nfa u) refl
 
 -- a list of captures only
 all_capture : (nfa : Nfa) (xs : List ℕ) (x : ℕ) → without (is_capture nfa) xs ≡ [] → member nat_eq xs x ≡ true
     → is_capture nfa x ≡ true
 all_capture nfa [] x e m = absurd (false≢true m)
-all_capture nfa (y ∷ xs) x e m = by_test (is_capture nfa y)
-    (λ c. by_test (nat_eq y x)
-    (λ k. let q : y ≡ x = eqb-true y x k in ap (λ z. is_capture nfa z) (sym q) ∙ c)
-    (λ k. all_capture nfa xs x (rw c at e) (rw k at m)))
-    (λ c. absurd (let k : y ∷ without (is_capture nfa) xs ≡ [] = rw c at e in cc))
+all_capture nfa (y ∷ xs) x e m = grind (arith, same_decides y x, all_capture nfa xs x)
 
 -- r is reached from s through captures only, in at least one step
 abbrev LeadsTo : Nfa → ℕ → ℕ → Type 0
 LeadsTo nfa s r = (i : ℕ) × (followed nfa (suc i) s ≡ r) × ((j : ℕ) → j ≤ i → is_capture nfa (followed nfa j s) ≡ true)
+
+-- one more step, from a capture
+leads_further : (nfa : Nfa) (s r : ℕ) → LeadsTo nfa s r → is_capture nfa r ≡ true
+    → LeadsTo nfa s (capture_next (state_at nfa r))
+leads_further nfa s r l c = (suc l.0, rw l.1 refl, longer l.0 l.1 l.2)
+  where
+    longer : (i : ℕ) → followed nfa (suc i) s ≡ r → ((j : ℕ) → j ≤ i → is_capture nfa (followed nfa j s) ≡ true)
+        → (j : ℕ) → j ≤ suc i → is_capture nfa (followed nfa j s) ≡ true
+    longer i e f j b = by_test (nat_eq j (suc i))
+        (λ k. rw (eqb-true j (suc i) k, e) c)
+        (λ k. f j (grind (arith, k, b)))
 
 module _ (nfa : Nfa) (none : HasNoCaptureCycle nfa) (holds : Assertion → Bool) (v : ℕ → Bool)
     (captures : (x : ℕ) → v x ≡ true → is_capture nfa x ≡ true)
@@ -109,27 +94,8 @@ module _ (nfa : Nfa) (none : HasNoCaptureCycle nfa) (holds : Assertion → Bool)
       no_loop k (with_node nat_eq held r) (capture_next (state_at nfa r)) (a e (capture_next (state_at nfa r)) i)
       (closed r (capture_next (state_at nfa r)) m i)
       (λ h w. by_test (nat_eq r h)
-      (λ z. let y : r ≡ h = eqb-true r h z in (
-        0,
-        ap (λ n. capture_next (state_at nfa n)) (sym y),
-        (λ j l. at_zero h (ap (λ n. is_capture nfa n) (sym y) ∙ c) j l),
-      ))
-      (λ z. let l : LeadsTo nfa h r = inv h (rw z at w) in (
-        suc l.0,
-        ap (λ n. capture_next (state_at nfa n)) l.1,
-        (λ j b. longer h l.0 l.2 (ap (λ n. is_capture nfa n) l.1 ∙ c) j b),
-      ))))
-    where
-      at_zero : (h : ℕ) → is_capture nfa h ≡ true → (j : ℕ) → j ≤ 0 → is_capture nfa (followed nfa j h) ≡ true
-      at_zero h c zero l = c
-      at_zero h c (suc j) l = absurd (omega arith)
-
-      longer : (h i : ℕ) → ((j : ℕ) → j ≤ i → is_capture nfa (followed nfa j h) ≡ true)
-          → is_capture nfa (followed nfa (suc i) h) ≡ true → (j : ℕ) → j ≤ suc i
-          → is_capture nfa (followed nfa j h) ≡ true
-      longer h i f c j l = by_test (nat_eq j (suc i))
-          (λ e. let y : j ≡ suc i = eqb-true j (suc i) e in ap (λ n. is_capture nfa (followed nfa n h)) y ∙ c)
-          (λ e. f j (grind (arith, e, l)))
+      (λ z. rw (← eqb-true r h z) (0, refl, λ j l. let q : j ≡ 0 = omega arith in rw q c))
+      (λ z. leads_further nfa h r (inv h (rw z at w)) c)))
 
 -- a search that lists only captures lists nothing
 only_captures : (nfa : Nfa) (sound : IsSound nfa) → HasNoCaptureCycle nfa → (holds : Assertion → Bool) (roots : List ℕ)
@@ -137,50 +103,29 @@ only_captures : (nfa : Nfa) (sound : IsSound nfa) → HasNoCaptureCycle nfa → 
 unfolding reach
 only_captures nfa sound none holds roots e =
     let f : List ℕ = flat_map (ends nat_eq (edges nfa holds) (length nfa.states + 1) none_held) roots in
-    let same : reach nfa holds roots ≡ fresh nat_eq none_held f = refl in
-    let in_f : (x : ℕ) → member nat_eq (fresh nat_eq none_held f) x ≡ member nat_eq f x =
-    λ x. member-fresh same_decides none_held f x ∙ and-true (member nat_eq f x) in
-    let is_closed : IsClosed nat_eq (edges nfa holds) (member nat_eq f) none_held =
-    roots_closed same_decides (edges nfa holds) (length nfa.states + 1) roots (edges_enough nfa sound holds) in
-    same ∙ empty (fresh nat_eq none_held f) (λ x m.
-    no_loop nfa none holds (member nat_eq f)
-    (λ y k. all_capture nfa (reach nfa holds roots) y e (ap (λ l. member nat_eq l y) same ∙ in_f y ∙ k))
+    let is_closed = roots_closed same_decides (edges nfa holds) (length nfa.states + 1) roots
+    (edges_enough nfa sound holds) in
+    fresh_none same_decides none_held f (λ x m. absurd (no_loop nfa none holds (member nat_eq f)
+    (λ y k. all_capture nfa (fresh nat_eq none_held f) y e (member-fresh same_decides none_held f y ∙ rw k refl))
     (λ y z k l. or_false (member nat_eq f z) (is_closed y z k l))
-    (length nfa.states + 1) none_held x (edges_enough nfa sound holds x) (sym (in_f x) ∙ m)
-    (λ h w. absurd (false≢true w)))
-  where
-    empty : (xs : List ℕ) → ((x : ℕ) → member nat_eq xs x ≡ true → ⊥) → xs ≡ []
-    empty [] h = refl
-    empty (x ∷ xs) h = absurd (h x (or_left (nat_eq x x) (member nat_eq xs x) (eq-eqb x x refl)))
+    (length nfa.states + 1) none_held x (edges_enough nfa sound holds x) m (λ h w. absurd (false≢true w))))
 
 pub dead_stays : DeadStays
 unfolding step reach
 dead_stays nfa kind u = (
   step_dead nfa kind u,
   (λ v accepted none ps ss.
-      let roots : List ℕ = flat_map (target nfa u) (part_read kind (is_match nfa) (working_list nfa v u)) in
-      let e : reach nfa (has (have_after (tables_of nfa) u)) roots ≡ [] =
-      only_captures nfa (accepted_sound nfa accepted) none (has (have_after (tables_of nfa) u)) roots ss in
-      ap (λ l. left_by nfa u (patterns_read kind (patterns_of nfa (working_list nfa v u))) l) e
-      ∙ ap (λ l. left_by nfa u l []) ps),
+      rw (only_captures nfa (accepted_sound nfa accepted) none (has (have_after (tables_of nfa) u)) _ ss, ps) refl),
 )
 
 pub leftmost_gives_one : LeftmostGivesOne
 unfolding step
-leftmost_gives_one nfa v u = at_most (patterns_of nfa (working_list nfa v u))
-  where
-    at_most : (ps : List ℕ) → length (take 1 ps) ≤ 1
-    at_most [] = omega arith
-    at_most (p ∷ ps) = omega arith
+leftmost_gives_one nfa v u = omega (arith, length-take {A = ℕ})
 
 -- so a value that is such a step has one pattern at most
 pub one_pattern : (nfa : Nfa) (kind : MatchKind) (v : Value) (u : Option ℕ) → kind ≡ LeftmostFirst → (next : Value)
     → next ≡ step nfa kind v u → length next.patterns ≤ 1
-one_pattern nfa kind v u k next e =
-    let few : length (step nfa LeftmostFirst v u).patterns ≤ 1 = leftmost_gives_one nfa v u in
-    let same : length next.patterns ≡ length (step nfa LeftmostFirst v u).patterns =
-    ap (λ (w : Value). length w.patterns) (e ∙ ap (λ m. step nfa m v u) k) in
-    omega arith
+one_pattern nfa kind v u k next e = rw (e, k) (leftmost_gives_one nfa v u)
 
 pub no_need_no_have : NoNeedNoHave
 no_need_no_have nfa v xs h = ap (λ n. cond (n == 0) 0 v.look_have) h

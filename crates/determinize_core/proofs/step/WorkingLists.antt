@@ -2,17 +2,17 @@
 -- Main statements: IsEntered, reach_is, working_is.
 -- Used by: WalkValues.
 -- Idea: closing again under more assertions, or not, gives the closure under the true ones.
-use Rattle.determinize_core.proofs.Common.{ap, arith, Bool, by_test, distinct_states, each_look, edges, ends, false}
-use Rattle.determinize_core.proofs.Common.{fresh, is_capture, is_reopened, IsAccepted, IsTested, joined, length, List}
-use Rattle.determinize_core.proofs.Common.{member, nat_eq, needs, Nfa, none_held, not, opened_by, Option, ordered, suc}
-use Rattle.determinize_core.proofs.Common.{sym, tables_of, true, truth, Value, without, working_list, zero, ℕ, ◌&&◌}
-use Rattle.determinize_core.proofs.Common.{◌+◌, ◌||◌, ◌∙◌, ◌≡◌}
-use Rattle.determinize_below.proofs.nfas.SoundNfa.{accepted_sound, edges_enough, IsSound}
+use Rattle.determinize_core.proofs.Common.{accepted_sound, ap, arith, Bool, by_test, distinct_states, each_look, edges}
+use Rattle.determinize_core.proofs.Common.{ends, false, is_capture, is_reopened, IsAccepted, IsSound, IsTested, joined}
+use Rattle.determinize_core.proofs.Common.{length, List, member, nat_eq, needs, Nfa, none_held, not, opened_by, Option}
+use Rattle.determinize_core.proofs.Common.{ordered, same_decides, suc, sym, tables_of, true, truth, Value, without}
+use Rattle.determinize_core.proofs.Common.{working_list, zero, ℕ, ◌&&◌, ◌+◌, ◌||◌, ◌∙◌, ◌≡◌}
+use Rattle.determinize_below.proofs.nfas.SoundNfa.{edges_enough}
 use Rattle.determinize_below.proofs.looks.CommonLooks.{each_look-false}
 use Rattle.determinize_below.proofs.nfas.Edges.{edges-agree, edges-capture, edges-more, edges-same, next_of}
 use Rattle.ordered_reach.proofs.graph.ClosedSets.{IsEnough}
 use Rattle.determinize_start.proofs.tables.TrueTables.{known_truth, opened_truth}
-use Rattle.ordered_reach.proofs.graph.FiniteGraphs.{IsEnough-below, same_decides}
+use Rattle.ordered_reach.proofs.graph.FiniteGraphs.{IsEnough-below}
 use Rattle.determinize_below.specs.Edges.{reach}
 use Rattle.determinize_below.specs.Look.{has}
 use Rattle.determinize_below.specs.Reached.{known}
@@ -22,7 +22,7 @@ use Rattle.ordered_reach.proofs.lists.Pieces.{list_any_some, without_twice}
 use Rattle.ordered_reach.proofs.graph.SameSearch.{not_redone}
 use Rattle.ordered_reach.proofs.runs.RunFuel.{run_fuel}
 use Rattle.ordered_reach.proofs.lists.NewNodes.{filter-fresh, fresh-flat_map, fresh-fresh}
-use Rattle.determinize_start.specs.LookTables.{from_word_after, half_crlf_after, opened}
+use Rattle.determinize_start.specs.LookTables.{from_word_after, half_crlf_after}
 use Rattle.determinize_state.proofs.values.TestedSets.{needs_member, needs_some}
 
 -- the fuel of all runs over m bytes
@@ -58,33 +58,25 @@ module _ (nfa : Nfa) (accepted : IsAccepted nfa) (m : ℕ) where
   sound : IsSound nfa
   sound = accepted_sound nfa accepted
 
-  opened_is : (b u : Option ℕ) (v : Value) → (v.from_word ≡ from_word_after (tables_of nfa) b)
-      × (v.half_crlf ≡ half_crlf_after (tables_of nfa) b)
-      → opened_by nfa v u ≡ opened (tables_of nfa) (from_word_after (tables_of nfa) b)
-      (half_crlf_after (tables_of nfa) b) u
-  opened_is b u v f = ap (λ w. opened (tables_of nfa) w v.half_crlf u) f.0
-      ∙ ap (λ h. opened (tables_of nfa) (from_word_after (tables_of nfa) b) h u) f.1
+  -- what the look-behind and the unit satisfy together is true
+  together : (b u : Option ℕ) (v : Value) (l : Assertion) → IsTested nfa l → has v.look_have l ≡ known nfa b l
+      → (v.from_word ≡ from_word_after (tables_of nfa) b) × (v.half_crlf ≡ half_crlf_after (tables_of nfa) b)
+      → (has v.look_have l || opened_by nfa v u l) ≡ truth nfa b u l
+  together b u v l q h f = rw (h, f.0, f.1) (opened_truth nfa accepted b u l q)
 
   -- where the closure is redone, it is redone under what is true
   redo_same : (b u : Option ℕ) (v : Value) (roots : List ℕ) → IsEntered nfa m b v roots → is_reopened nfa v u ≡ true
       → reach nfa (joined (has v.look_have) (opened_by nfa v u)) (distinct_states v)
       ≡ listing nfa m (truth nfa b u) v.states
   redo_same b u v roots e r =
+      let again : Assertion → Bool = joined (has v.look_have) (opened_by nfa v u) in
       list_any_some (λ l. opened_by nfa v u l && has v.look_need l && not (has v.look_have l)) each_look r (λ k z.
-      let needed : has v.look_need k ≡ true =
-      middle (opened_by nfa v u k) (has v.look_need k) (not (has v.look_have k)) z in
-      needs_some nfa v.states k (ap (λ n. has n k) (sym e.need) ∙ needed) (λ s i.
-      reach_is nfa sound m (joined (has v.look_have) (opened_by nfa v u)) (distinct_states v)
-      ∙ fresh-flat_map same_decides (ends nat_eq (edges nfa (joined (has v.look_have) (opened_by nfa v u)))
-      (fuel nfa m) none_held) none_held v.states
-      ∙ ap (λ g. ordered nat_eq g (fuel nfa m) none_held v.states)
-      (edges-same nfa (joined (has v.look_have) (opened_by nfa v u)) (truth nfa b u) (λ l q.
-      ap (λ c. c || opened_by nfa v u l) (e.have k needed l q)
-      ∙ ap (λ o. known nfa b l || o l) (opened_is b u v (e.flags s i))
-      ∙ opened_truth nfa accepted b u l q))))
-    where
-      middle : (a b c : Bool) → (a && b && c) ≡ true → b ≡ true
-      middle a b c h = grind arith
+      let needed : has v.look_need k ≡ true = grind arith in
+      needs_some nfa v.states k (rw e.need at needed) (λ s i.
+      reach_is nfa sound m again (distinct_states v)
+      ∙ fresh-flat_map same_decides (ends nat_eq (edges nfa again) (fuel nfa m) none_held) none_held v.states
+      ∙ ap (λ g. ordered nat_eq g (fuel nfa m) none_held v.states) (edges-same nfa again (truth nfa b u)
+      (λ l q. together b u v l q (e.have k needed l q) (e.flags s i)))))
 
   -- if it is not, it is the recorded list
   kept_same : (b u : Option ℕ) (v : Value) (roots : List ℕ) → IsEntered nfa m b v roots → is_reopened nfa v u ≡ false
@@ -92,27 +84,24 @@ module _ (nfa : Nfa) (accepted : IsAccepted nfa) (m : ℕ) where
   kept_same b u v roots e r =
       let cap : ℕ → Bool = is_capture nfa in
       let K : List ℕ = listing nfa m (known nfa b) roots in
-      let once : distinct_states v ≡ v.states =
-      ap (λ l. fresh nat_eq none_held l) e.states
-      ∙ sym (filter-fresh same_decides cap none_held K)
-      ∙ ap (λ l. without cap l) (fresh-fresh same_decides none_held none_held _ (λ x z. z))
-      ∙ sym e.states in
-      ap (λ l. without cap l) (once ∙ e.states)
-      ∙ without_twice cap K
+      let once : distinct_states v ≡ without cap K =
+      rw (e.states, ← filter-fresh same_decides cap none_held K)
+      (ap (λ l. without cap l) (fresh-fresh same_decides none_held none_held _ (λ x z. z))) in
+      rw (once, e.states) (without_twice cap K
       ∙ sym (not_redone same_decides (edges nfa (known nfa b)) (edges nfa (truth nfa b u))
       (λ x y z. edges-more nfa (known nfa b) (truth nfa b u) x y (λ l. known_truth nfa b u l) z)
       (fuel nfa m) cap (next_of nfa) (edges-capture nfa (known nfa b)) (edges-capture nfa (truth nfa b u)) roots
       (fuel_enough nfa sound m (known nfa b)) (fuel_enough nfa sound m (truth nfa b u))
       (λ x z. edges-agree nfa (known nfa b) (truth nfa b u) x (λ l a.
-      let i : member nat_eq v.states x ≡ true = ap (λ l. member nat_eq l x) e.states ∙ z in
-      let needed : has v.look_need l ≡ true = ap (λ n. has n l) e.need ∙ needs_member nfa 0 v.states x l i a in
-      settled (known nfa b l) (truth nfa b u l) (opened_by nfa v u l) (has v.look_need l) (has v.look_have l)
-      (e.have l needed l (x, a)) needed
+      let i : member nat_eq v.states x ≡ true = rw e.states z in
+      let needed : has v.look_need l ≡ true = rw e.need (needs_member nfa 0 v.states x l i a) in
+      let have = e.have l needed l (x, a) in
+      settled (known nfa b l) (truth nfa b u l) (opened_by nfa v u l) (has v.look_need l) (has v.look_have l) have
+      needed
       (each_look-false (λ k. opened_by nfa v u k && has v.look_need k && not (has v.look_have k)) r l)
-      (ap (λ o. known nfa b l || o l) (opened_is b u v (e.flags x i)) ∙ opened_truth nfa accepted b u l (x, a)))))
-      ∙ ap (λ l. without cap (listing nfa m (truth nfa b u) l)) (sym e.states)
+      (together b u v l (x, a) have (e.flags x i))))))
     where
-      settled : (k h o n v : Bool) → v ≡ k → n ≡ true → (o && n && not v) ≡ false → (k || o) ≡ h → k ≡ h
+      settled : (k h o n v : Bool) → v ≡ k → n ≡ true → (o && n && not v) ≡ false → (v || o) ≡ h → k ≡ h
       settled k h o n v p q r s = grind arith
 
   -- captures aside, the working list is what is reached under what is true

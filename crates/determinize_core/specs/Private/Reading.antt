@@ -1,18 +1,23 @@
--- The first pass over a working list: which of its states are live, with a pattern or with a
--- target.
-use Rattle.std.specs.Prelude.{◌≡◌, ℕ, ◌++◌, Bool, not, Option, None, Some, List, [], ◌∷◌, if◌then◌else◌, nat_eq}
+-- The working list of a step: whether it is closed again, and the first pass over it.
+use Rattle.std.specs.Prelude.{◌≡◌, ℕ, ◌++◌, Bool, true, not, Option, None, Some, List, [], ◌∷◌, if◌then◌else◌, nat_eq}
 use Rattle.determinize_state.specs.Value.{Value, is_nonempty}
 use Rattle.determinize_below.specs.Members.{has_id}
-use mathlib.Core.Bool.{◌&&◌, ◌||◌}
+use mathlib.Core.Bool.{◌||◌}
 use Rattle.std.specs.List.{flat_map}
+use Rattle.determinize_below.specs.Look.{has}
 use Rattle.determinize_below.specs.declared.search.MatchKind.{MatchKind}
 use Rattle.determinize_below.specs.Edges.{is_match, patterns_of, target}
 use Rattle.determinize_below.specs.Semantics.{Nfa}
-use Rattle.ordered_reach.specs.Reach.{fresh, none_held}
-use Rattle.determinize_core.specs.Step.{part_read, patterns_read}
+use Rattle.ordered_reach.specs.Reach.{fresh, joined, none_held}
+use Rattle.determinize_core.specs.Step.{is_reopened, opened_by, part_read, patterns_read}
 use Rattle.determinize_core.specs.Private.Changes.{with_patterns}
 use Rattle.determinize_core.specs.declared.determinize.reading.Reading.{Reading}
 use Rattle.determinize_core.specs.declared.determinize.reading.Reading.TheVariants.{Nothing, Target, Match}
+
+-- the working list is closed again, under the assertions of the set
+pub record IsClosedAgain (nfa : Nfa) (v : Value) (u : Option ℕ) (set : ℕ) : Type 0 where
+  pub reopened : is_reopened nfa v u ≡ true
+  pub set_is : has set ≡ joined (has v.look_have) (opened_by nfa v u)
 
 -- the items of a list, each once
 abbrev pub distinct : List ℕ → List ℕ
@@ -22,13 +27,13 @@ distinct xs = fresh nat_eq none_held xs
 abbrev pub roots_of : Nfa → MatchKind → Option ℕ → List ℕ → List ℕ
 roots_of nfa kind u working = flat_map (target nfa u) (part_read kind (is_match nfa) working)
 
--- whether a state is live: it has a pattern, or a target on the unit
-abbrev pub matters : Nfa → Option ℕ → ℕ → Bool
-matters nfa u s = is_match nfa s || is_nonempty (target nfa u s)
+-- whether a state is idle: it has no pattern, and no target on the unit
+abbrev pub is_idle : Nfa → Option ℕ → ℕ → Bool
+is_idle nfa u s = not (is_match nfa s || is_nonempty (target nfa u s))
 
--- what reading a state adds to the live states, each once
+-- what reading a state adds to the states that are kept: the state, if it is new and not idle
 abbrev pub gained : Nfa → Option ℕ → List ℕ → ℕ → List ℕ
-gained nfa u kept s = if matters nfa u s && not (has_id kept s) then s ∷ [] else []
+gained nfa u kept s = if is_idle nfa u s || has_id kept s then [] else s ∷ []
 
 -- the target that was read
 abbrev pub target_read : Reading → Option ℕ
@@ -42,7 +47,7 @@ pattern_read Nothing = None
 pattern_read (Target id) = None
 pattern_read (Match pattern) = Some pattern
 
--- a state was read: the live states, the targets and the builder have gained what it gives
+-- a state was read: the kept states, the targets and the builder have gained what it gives
 pub record IsStateRead (nfa : Nfa) (u : Option ℕ) (id : ℕ)
     (kept kept_after targets targets_after : List ℕ) (value next : Value) : Type 0 where
   pub kept_are : kept_after ≡ kept ++ gained nfa u kept id

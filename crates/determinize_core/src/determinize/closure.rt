@@ -11,7 +11,7 @@ ghost use Rattle.determinize_below.specs.Look.{has};
 ghost use Rattle.determinize_below.specs.Nfa.{AllResolve, IsAccepted};
 ghost use Rattle.determinize_below.specs.Node.{is_epsilon};
 ghost use Rattle.determinize_core.specs.Closure.{closure_of, AddsBeginning};
-ghost use Rattle.determinize_core.specs.Private.Search.{IsTurn, tries_left};
+ghost use Rattle.determinize_core.specs.Private.Search.{entered, pending_after, tries_left};
 
 use crate::determinize::recorder::Recorder;
 use crate::determinize::steps::Counter;
@@ -126,15 +126,14 @@ fn take_turn<'a, N: Allocator, A: Allocator, W: Recorder, C: Counter>(
     recorder: &mut W,
     counter: &mut C,
 ) -> Result<&'a [StateID], AllocError>
-    requires accepted { IsAccepted nfa.now }
     requires resolve { id < length nfa.now.states }
     requires capacity { set.old.capacity ≡ length nfa.now.states }
-    ensures turn { (pending : List ℕ) × (gained : List ℕ)
-        × IsTurn nfa.now (has look_have) set.old.ids set.new.ids id
-        (others.now ++ reverse stack.old.items) pending
-        × (set.new.ids ≡ set.old.ids ++ gained)
-        × IfOk result (λ current. (current.now ++ reverse stack.new.items ≡ pending)
-        × (recorder.new ≡ fold (W.with_one nfa.now) recorder.old gained)) }
+    ensures ids { set.new.ids ≡ set.old.ids ++ entered set.old.ids id }
+    ensures pending { IfOk result (λ current. current.now ++ reverse stack.new.items
+        ≡ pending_after nfa.now (has look_have) set.old.ids id
+        (others.now ++ reverse stack.old.items)) }
+    ensures recorded { OnOk result
+        (recorder.new ≡ fold (W.with_one nfa.now) recorder.old (entered set.old.ids id)) }
     ensures capacity { set.new.capacity ≡ set.old.capacity }
     ensures resolve { AllResolve nfa.now set.new.ids }
     ensures counted { IsTrue C.counts → C.total counter.new ≡ C.total counter.old + 1 }

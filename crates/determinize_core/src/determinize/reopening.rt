@@ -5,13 +5,13 @@
 //! look-need, their closure is computed again, with that assertion. Most units satisfy none. If
 //! look-need has only word assertions, the most frequent case, a short test decides.
 
-ghost use Rattle.std.specs.Prelude.{◌≡◌, Bool, IsTrue, false, is_some, IfSome, ◌||◌};
+ghost use Rattle.std.specs.Prelude.{◌≡◌, Bool, IsTrue, false, IfNone, IfSome, ◌||◌};
 ghost use Rattle.determinize_below.specs.Look.{has, has_haystack, has_line};
 ghost use Rattle.determinize_below.specs.Unit.{byte_of};
 ghost use Rattle.determinize_start.specs.LookTables.{Tables, opened};
-ghost use Rattle.ordered_reach.specs.Reach.{joined};
+ghost use Rattle.determinize_core.specs.Private.Reading.{IsClosedAgain};
 ghost use Rattle.determinize_core.specs.Step as specs_of_steps;
-ghost use Rattle.determinize_core.specs.Step.{is_reopened, opened_by};
+ghost use Rattle.determinize_core.specs.Step.{is_reopened};
 
 use determinize_below::{LookSet, NFA, Unit};
 use determinize_start::look_tables::{LookTables, words_opened};
@@ -54,9 +54,8 @@ pub(crate) fn look_again_over<N: Allocator, A: Allocator>(
     state: &State<A>,
     unit: Unit,
 ) -> Option<LookSet>
-    ensures whether { is_some result ≡ is_reopened nfa.now state.now (byte_of unit) }
-    ensures set { IfSome result (λ set. has set
-        ≡ joined (has state.now.look_have) (opened_by nfa.now state.now (byte_of unit))) }
+    ensures none { IfNone result (is_reopened nfa.now state.now (byte_of unit) ≡ false) }
+    ensures some { IfSome result (IsClosedAgain nfa.now state.now (byte_of unit)) }
 {
     let need = state.look_need();
     if need.is_empty() {

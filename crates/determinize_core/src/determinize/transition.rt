@@ -4,10 +4,9 @@
 //! adds the patterns and pushes the targets, and the closure of the targets adds the NFA states.
 
 ghost use Rattle.std.specs.Prelude.{◌≡◌, ◌+◌, ◌*◌, ◌<◌, ◌≤◌, ◌&&◌, [], IsTrue, length, IfOk, OnOk};
-ghost use Rattle.determinize_below.specs.Nfa.{AllResolve, IsAccepted};
+ghost use Rattle.determinize_below.specs.Nfa.{AllResolve};
 ghost use Rattle.determinize_below.specs.Unit.{byte_of};
 ghost use Rattle.determinize_below.specs.declared.search.MatchKind.TheVariants as kinds;
-ghost use Rattle.determinize_start.specs.LookTables.{from_word_after, half_crlf_after, have_after, tables_of};
 ghost use Rattle.determinize_core.specs.Scratch.{IsScratch};
 ghost use Rattle.determinize_core.specs.Step.{step};
 ghost use Rattle.determinize_core.specs.Tries.{edges_in_all, tries};
@@ -21,16 +20,6 @@ use determinize_start::look_tables::{LookBehind, LookTables};
 use determinize_state::state::{State, StateBuilderEmpty, StateBuilderNFA};
 use std::alloc::{AllocError, Allocator};
 use std::sync::ledger::Ledger;
-
-/// Returns the look-behind of the next state, for the unit that is read.
-fn look_behind_after<N: Allocator>(nfa: &NFA<N>, unit: Unit) -> LookBehind
-    ensures looks { result.looks ≡ have_after (tables_of nfa.now) (byte_of unit) }
-    ensures from_word { result.from_word ≡ from_word_after (tables_of nfa.now) (byte_of unit) }
-    ensures half_crlf { result.half_crlf ≡ half_crlf_after (tables_of nfa.now) (byte_of unit) }
-    ensures accepted { IsAccepted nfa.now }
-{
-    LookTables::of(nfa).after(unit)
-}
 
 /// Replaces look-have by that of the look-behind.
 fn set_look_have<A: Allocator>(look_behind: LookBehind, builder: &mut StateBuilderNFA<A>)
@@ -83,7 +72,7 @@ fn transition<N: Allocator, A: Allocator, C: Counter>(
     ensures bounded { IsTrue C.counts → C.total counter.new
         ≤ C.total counter.old + 2 * (length nfa.now.states + edges_in_all nfa.now) }
 {
-    let look_behind = look_behind_after(nfa, unit);
+    let look_behind = LookTables::of(nfa).after(unit);
     sparses.clear();
     set_look_have(look_behind, builder);
     read_working_list(

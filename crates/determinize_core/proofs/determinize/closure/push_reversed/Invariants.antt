@@ -1,4 +1,4 @@
-use Rattle.std.proofs.Common.{◌≡◌, ◌++◌}
+use Rattle.determinize_core.proofs.Common.{◌++◌, ◌≡◌}
 use Rattle.determinize_core.proofs.determinize.closure.push_reversed.Given as goal
 
 abbrev pub invariant-loop-id : goal.invariant-loop-id

@@ -1,4 +1,5 @@
-use Rattle.std.proofs.Common.{◌<◌, ◌^◌, arith}
+use Rattle.determinize_core.proofs.Common.{arith, ◌<◌}
+use Rattle.std.proofs.Common.{◌^◌}
 use Rattle.determinize_below.specs.Look.{meets}
 use Rattle.determinize_core.proofs.step.RedoTest.{redone_from_found}
 use Rattle.determinize_core.proofs.determinize.reopening.is_redone.Goals as goal

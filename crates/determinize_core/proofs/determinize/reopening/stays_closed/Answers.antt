@@ -1,6 +1,5 @@
-use Rattle.std.proofs.Common.{◌∙◌, sym}
+use Rattle.determinize_core.proofs.Common.{byte_of, sym, ◌∙◌}
 use Rattle.std.proofs.lemmas.Bool.{not-true}
-use Rattle.determinize_below.specs.Unit.{byte_of}
 use Rattle.determinize_core.proofs.step.RedoTest.{words_decide}
 use Rattle.determinize_core.proofs.determinize.reopening.stays_closed.Goals as goal
 
