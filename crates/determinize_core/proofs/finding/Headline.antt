@@ -1,8 +1,8 @@
 -- The last match of a walk, in words of runs.
-use Rattle.determinize_core.proofs.Common.{Accepts, after_at, All, arith, future, HalfMatch, IfSome, IsAccepted}
-use Rattle.determinize_core.proofs.Common.{IsFarthestMatch, IsPreferredMatch, IsSearch, last_match, LeftmostFirst}
-use Rattle.determinize_core.proofs.Common.{length, List, MatchKind, Nfa, None, Option, refl, Some, start_value, subst}
-use Rattle.determinize_core.proofs.Common.{suc, sym, Text, units, ℕ, ◌<◌, ◌≡◌, ◌≤◌}
+use Rattle.determinize_core.proofs.Common.{Accepts, All, arith, HalfMatch, IfSome, IsAccepted, IsFarthestMatch}
+use Rattle.determinize_core.proofs.Common.{IsPreferredMatch, IsSearch, last_match, LeftmostFirst, length, List}
+use Rattle.determinize_core.proofs.Common.{MatchKind, Nfa, None, Option, refl, Some, start_value, suc, Text, units, ℕ}
+use Rattle.determinize_core.proofs.Common.{◌<◌, ◌≡◌, ◌≤◌}
 use Rattle.std.proofs.lemmas.List.FromFn.{length-map-range_with_len}
 use Rattle.determinize_core.specs.Chain.{chain}
 use Rattle.determinize_core.proofs.walk.Farthest.{each_last_is_farthest}
@@ -13,20 +13,13 @@ use Rattle.determinize_core.proofs.finding.LastUnits.{last_match-within}
 pub preferred : (nfa : Nfa) (kind : MatchKind) (start : ℕ) (text : Text) (found : Option HalfMatch) → IsAccepted nfa
     → kind ≡ LeftmostFirst → found ≡ last_match (chain nfa kind start text) → IsPreferredMatch nfa start text found
 preferred nfa kind start text found accepted kind_is found_is =
-    answer found (sym (subst (λ k. found ≡ last_match (chain nfa k start text)) kind_is found_is))
-  where
-    answer : (o : Option HalfMatch) → last_match (chain nfa LeftmostFirst start text) ≡ o
-        → IsPreferredMatch nfa start text o
-    answer None e = (leftmost_walk nfa accepted start text).none e
-    answer (Some m) e = (leftmost_walk nfa accepted start text).preferred m e
+    rw (found_is, kind_is) (leftmost_walk nfa accepted start text).found
 
 -- under All it is that of the best run at the last position where any run accepts
 pub farthest : (nfa : Nfa) (kind : MatchKind) (start : ℕ) (text : Text) (found : Option HalfMatch) → IsAccepted nfa
     → kind ≡ All → found ≡ last_match (chain nfa kind start text) → IsFarthestMatch nfa start text found
 farthest nfa kind start text found accepted kind_is found_is =
-    subst (λ o. IsFarthestMatch nfa start text o)
-    (sym (subst (λ k. found ≡ last_match (chain nfa k start text)) kind_is found_is))
-    (each_last_is_farthest nfa accepted start text)
+    rw (found_is, kind_is) (each_last_is_farthest nfa accepted start text)
 
 -- under both kinds no run accepts where a walk has no last match
 pub none_accepts : (nfa : Nfa) (kind : MatchKind) (start : ℕ) (text : Text) → IsAccepted nfa
@@ -48,14 +41,13 @@ ends_within : (nfa : Nfa) (kind : MatchKind) (start : ℕ) (text : Text)
     → IfSome (last_match (chain nfa kind start text)) (λ m. m.offset ≤ length text.bytes)
 unfolding chain
 ends_within nfa kind start text =
-    each (last_match (future nfa kind (start_value nfa start text.behind) (units text)))
-    (last_match-within nfa kind (start_value nfa start text.behind) (units text))
-    (length-map-range_with_len (after_at text) 0 (suc (length text.bytes)))
+    each _ (rw length-map-range_with_len at
+    (last_match-within nfa kind (start_value nfa start text.behind) (units text)))
   where
-    each : (o : Option HalfMatch) → IfSome o (λ m. m.offset < length (units text))
-        → length (units text) ≡ suc (length text.bytes) → IfSome o (λ m. m.offset ≤ length text.bytes)
-    each None h count = tt
-    each (Some m) h count = omega (arith, h, count)
+    each : (o : Option HalfMatch) → IfSome o (λ m. m.offset < suc (length text.bytes))
+        → IfSome o (λ m. m.offset ≤ length text.bytes)
+    each None h = tt
+    each (Some m) h = omega (arith, h)
 
 -- what a search promises of the last match
 pub is-search : (nfa : Nfa) (kind : MatchKind) (start : ℕ) (text : Text) (found : Option HalfMatch) → IsAccepted nfa
@@ -64,5 +56,5 @@ is-search nfa kind start text found accepted found_is = record {
   last = found_is;
   preferred = λ kind_is. preferred nfa kind start text found accepted kind_is found_is;
   farthest = λ kind_is. farthest nfa kind start text found accepted kind_is found_is;
-  within = subst (λ o. IfSome o (λ m. m.offset ≤ length text.bytes)) (sym found_is) (ends_within nfa kind start text);
+  within = rw found_is (ends_within nfa kind start text);
 }

@@ -2,9 +2,9 @@
 -- Main statements: each_answer_is_one.
 -- Used by: `answer_law`.
 -- Idea: least runs are unique, so lists in their order are.
-use Rattle.determinize_core.proofs.Common.{[], ap, Before, Bool, choices, is_capture, IsBestRun, IsLeastRun, IsPath}
+use Rattle.determinize_core.proofs.Common.{[], ap, Before, Bool, choices, is_capture, IsBestRun, IsLeastRun}
 use Rattle.determinize_core.proofs.Common.{IsPreferredRun, List, ListsAccepted, Nfa, pattern_in, some_injective}
-use Rattle.determinize_core.proofs.Common.{state_at, subst, sym, Text, ℕ, ◌∙◌, ◌≡◌}
+use Rattle.determinize_core.proofs.Common.{state_at, sym, Text, ℕ, ◌∙◌, ◌≡◌}
 use Rattle.ordered_reach.proofs.lists.Elements.{Contains_In, In_Contains, same_by_order}
 use Rattle.ordered_reach.proofs.graph.FiniteGraphs.{same_decides}
 use Rattle.determinize_below.specs.Reached.{known_choices}
@@ -24,7 +24,7 @@ module _ (nfa : Nfa) (text : Text) (start : ℕ) where
   better_asym i x y a b =
       let e : a.0 ≡ b.1 = same_least a.0 b.1 (a.2.best b.1 b.3.accepts) (b.3.best a.0 a.2.accepts) in
       let f : a.1 ≡ b.0 = same_least a.1 b.0 (a.3.best b.0 b.2.accepts) (b.2.best a.1 a.3.accepts) in
-      Before-asym a.0 a.1 a.4 (subst (λ z. Before a.1 z) (sym e) (subst (λ z. Before z b.1) (sym f) b.4))
+      Before-asym b.1 b.0 (rw (e, f) at a.4) b.4
 
   one_listing : (i : ℕ) (ps qs : List ℕ) → ListsAccepted nfa text start i ps → ListsAccepted nfa text start i qs
       → ps ≡ qs
@@ -39,11 +39,9 @@ module _ (nfa : Nfa) (text : Text) (start : ℕ) where
   one_preferred i j x y cs ds a b =
       let e : cs ≡ ds = same_least cs ds (a.preferred ds j y b.accepts) (b.preferred cs i x a.accepts) in
       let q : (i, a.accepts.0) ≡ (j, b.accepts.0) =
-      one_end (choices nfa text) [] (0, start) ds (i, a.accepts.0) (j, b.accepts.0)
-      (subst (λ z. IsPath (choices nfa text) [] (0, start) z (i, a.accepts.0)) e a.accepts.1) b.accepts.1 in (
+      one_end (choices nfa text) [] (0, start) ds (i, a.accepts.0) (j, b.accepts.0) (rw e at a.accepts.1) b.accepts.1 in (
         ap (λ w. w.0) q,
-        some_injective x y (ap pattern_in
-            (sym a.accepts.2 ∙ ap (λ w. state_at nfa w.1) q ∙ b.accepts.2)),
+        some_injective x y (ap pattern_in (sym a.accepts.2 ∙ ap (λ w. state_at nfa w.1) q ∙ b.accepts.2)),
       )
 
 -- a list in the order of the least runs is one
@@ -63,7 +61,7 @@ one_reached edges cap start i xs ys a b = same_by_order IsLess asym xs ys
     asym s t p q =
         let e : p.0 ≡ q.1 = same_least p.0 q.1 (p.2.least q.1 q.3.run) (q.3.least p.0 p.2.run) in
         let f : p.1 ≡ q.0 = same_least p.1 q.0 (p.3.least q.0 q.2.run) (q.2.least p.1 p.3.run) in
-        Before-asym p.0 p.1 p.4 (subst (λ z. Before p.1 z) (sym e) (subst (λ z. Before z q.1) (sym f) q.4))
+        Before-asym q.1 q.0 (rw (e, f) at p.4) q.4
 
 pub each_answer_is_one : EachAnswerIsOne
 each_answer_is_one nfa text start = (

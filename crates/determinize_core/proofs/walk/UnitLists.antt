@@ -1,6 +1,6 @@
 -- The units of a text as a list, and one byte more.
 -- Main statements: units_are, each_byte_ahead_is_next.
--- Used by: `units_law`, `ahead_law`, WalkSteps.
+-- Used by: `units_law`, `ahead_law`, ReturnedWalk, and searches.
 -- Idea: the bytes of a text, and then what is ahead.
 use Rattle.determinize_core.proofs.Common.{[], after_at, ap, arith, between, future, length, List, map, map-append}
 use Rattle.determinize_core.proofs.Common.{Option, range_with_len, refl, Some, start_value, suc, sym, units}

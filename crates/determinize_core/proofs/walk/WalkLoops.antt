@@ -1,6 +1,6 @@
 -- Laws for the invariants of the loops of a step and of a walk.
 -- Main statements: future-push, value_after-push, pattern_new, stops_at.
--- Used by: WalkSteps, FirstReading.
+-- Used by: LastMatches, FirstReading, and the crates above.
 -- Idea: what a loop has done grows at its end.
 use Rattle.determinize_core.proofs.Common.{[], ap, append-nil, by_option, by_test, eq-eqb, eqb-true, false, flat_map}
 use Rattle.determinize_core.proofs.Common.{flat_map-append, future, is_match, LeftmostFirst, List, list_any, MatchKind}
