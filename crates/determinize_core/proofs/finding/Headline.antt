@@ -1,8 +1,9 @@
 -- The last match of a walk, in words of runs.
 use Rattle.determinize_core.proofs.Common.{Accepts, All, arith, HalfMatch, IfSome, IsAccepted, IsFarthestMatch}
 use Rattle.determinize_core.proofs.Common.{IsPreferredMatch, IsSearch, last_match, LeftmostFirst, length, List}
-use Rattle.determinize_core.proofs.Common.{MatchKind, Nfa, None, Option, refl, Some, start_value, suc, Text, units, ℕ}
-use Rattle.determinize_core.proofs.Common.{◌<◌, ◌≡◌, ◌≤◌}
+use Rattle.determinize_core.proofs.Common.{MatchKind, Nfa, None, Option, refl, Some, start_value, Text, units, ℕ, ◌≡◌}
+use Rattle.determinize_core.proofs.Common.{◌≤◌}
+use Rattle.std.proofs.lemmas.Option.{IfSome_then}
 use Rattle.std.proofs.lemmas.List.FromFn.{length-map-range_with_len}
 use Rattle.determinize_core.specs.Chain.{chain}
 use Rattle.determinize_core.proofs.walk.Farthest.{each_last_is_farthest}
@@ -40,14 +41,9 @@ some_accepts nfa LeftmostFirst start text m accepted some =
 ends_within : (nfa : Nfa) (kind : MatchKind) (start : ℕ) (text : Text)
     → IfSome (last_match (chain nfa kind start text)) (λ m. m.offset ≤ length text.bytes)
 unfolding chain
-ends_within nfa kind start text =
-    each _ (rw length-map-range_with_len at
-    (last_match-within nfa kind (start_value nfa start text.behind) (units text)))
-  where
-    each : (o : Option HalfMatch) → IfSome o (λ m. m.offset < suc (length text.bytes))
-        → IfSome o (λ m. m.offset ≤ length text.bytes)
-    each None h = tt
-    each (Some m) h = omega (arith, h)
+ends_within nfa kind start text = IfSome_then _ {Q = λ m. m.offset ≤ length text.bytes}
+    (rw length-map-range_with_len at (last_match-within nfa kind (start_value nfa start text.behind) (units text)))
+    (λ m h. omega arith)
 
 -- what a search promises of the last match
 pub is-search : (nfa : Nfa) (kind : MatchKind) (start : ℕ) (text : Text) (found : Option HalfMatch) → IsAccepted nfa

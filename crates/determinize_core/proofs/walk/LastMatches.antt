@@ -1,11 +1,11 @@
 -- The last match of the values of a walk, found one by one, and over one unit more.
--- Main statements: last_match-read, last_match-push, each_last_unit_unrolls.
+-- Main statements: last_ended-more, last_match-push, each_last_unit_unrolls.
 -- Used by: `last_match`, and searches.
 -- Idea: one more value replaces the last match if it lists a pattern.
-use Rattle.determinize_core.proofs.Common.{[], ap, arith, ended_at, false, false≢true, future, get_or, HalfMatch}
-use Rattle.determinize_core.proofs.Common.{is_nonempty, last_ended, last_match, length, List, MatchKind, Nfa, Option}
-use Rattle.determinize_core.proofs.Common.{option_or, refl, Some, suc, sym, take, take_all, take_more, true, true≢false}
-use Rattle.determinize_core.proofs.Common.{Value, value_after, ℕ, ◌++◌, ◌+◌, ◌<◌, ◌∙◌, ◌∷◌, ◌≡◌, ◌≤◌}
+use Rattle.determinize_core.proofs.Common.{[], ap, arith, cond, ended_at, false≢true, future, get_or, is_nonempty}
+use Rattle.determinize_core.proofs.Common.{last_ended, last_match, length, List, MatchKind, Nfa, Option, option_or}
+use Rattle.determinize_core.proofs.Common.{refl, Some, suc, sym, take, take_more, true, Value, value_after, ℕ, ◌++◌}
+use Rattle.determinize_core.proofs.Common.{◌+◌, ◌<◌, ◌∷◌, ◌≡◌}
 use Rattle.ordered_reach.proofs.lists.Pieces.{map-option_or, option_or-assoc, option_or-None}
 use Rattle.std.proofs.Math.Nat.{add-zero}
 use Rattle.std.specs.Prelude.{option_map, slice_index}
@@ -22,45 +22,23 @@ last_ended-push n (w ∷ vs) v =
     let z : suc n + length vs ≡ n + suc (length vs) = omega arith in
     rw (last_ended-push (suc n) vs v, z, option_or-assoc)
 
--- one more value of a list
-last_ended-more : (vs : List Value) (i : ℕ) (v : Value) → i < length vs → v ≡ get_or vs i v
-    → last_ended 0 (take (i + 1) vs) ≡ option_or (ended_at i v.patterns) (last_ended 0 (take i vs))
+-- one more value of a list is the last that lists a pattern, or changes nothing
+pub last_ended-more : (vs : List Value) (i : ℕ) (v : Value) → i < length vs → v ≡ get_or vs i v
+    → last_ended 0 (take (i + 1) vs) ≡ cond (is_nonempty v.patterns)
+    (Some record { pattern = slice_index v.patterns 0; offset = i }) (last_ended 0 (take i vs))
 last_ended-more vs i v l e =
     let here : 0 + length (take i vs) ≡ i = let k = length-take-le i vs (omega arith) in omega arith in
-    rw (take_more vs i v l, ← e, last_ended-push 0 (take i vs) v, here)
-
-ended_at-match : (i : ℕ) (ps : List ℕ) (o : Option HalfMatch) → is_nonempty ps ≡ true
-    → option_or (ended_at i ps) o ≡ Some record { pattern = slice_index ps 0; offset = i }
-ended_at-match i [] o e = absurd (false≢true e)
-ended_at-match i (p ∷ ps) o e = refl
-
-ended_at-none : (i : ℕ) (ps : List ℕ) (o : Option HalfMatch) → is_nonempty ps ≡ false → option_or (ended_at i ps) o ≡ o
-ended_at-none i [] o e = refl
-ended_at-none i (p ∷ ps) o e = absurd (true≢false e)
+    rw (take_more vs i v l, ← e, last_ended-push 0 (take i vs) v, here) (first v.patterns)
+  where
+    first : (ps : List ℕ) → option_or (ended_at i ps) (last_ended 0 (take i vs))
+        ≡ cond (is_nonempty ps) (Some record { pattern = slice_index ps 0; offset = i }) (last_ended 0 (take i vs))
+    first [] = refl
+    first (p ∷ ps) = refl
 
 -- a list that is not empty has a first item
 pub first_listed : (xs : List ℕ) → is_nonempty xs ≡ true → 0 < length xs
 first_listed [] e = absurd (false≢true e)
 first_listed (x ∷ xs) e = omega arith
-
-module _ (vs : List Value) (i : ℕ) (v : Value) (within : i < length vs) (here : v ≡ get_or vs i v) where
-  -- a value that lists a pattern is the last that does, so far
-  pub last_ended-match : (before now : Option HalfMatch) (pattern : ℕ) → is_nonempty v.patterns ≡ true
-      → pattern ≡ slice_index v.patterns 0 → now ≡ Some record { pattern = pattern; offset = i }
-      → now ≡ last_ended 0 (take (i + 1) vs)
-  last_ended-match before now pattern m p e =
-      rw (last_ended-more vs i v within here, ended_at-match i v.patterns (last_ended 0 (take i vs)) m, ← p) e
-
-  -- one that lists none changes nothing
-  pub last_ended-none : (before now : Option HalfMatch) → is_nonempty v.patterns ≡ false
-      → before ≡ last_ended 0 (take i vs) → now ≡ before → now ≡ last_ended 0 (take (i + 1) vs)
-  last_ended-none before now m b e =
-      rw (last_ended-more vs i v within here, ended_at-none i v.patterns (last_ended 0 (take i vs)) m) (e ∙ b)
-
--- all values but the first were read
-pub last_match-read : (values vs : List Value) (first : Value) (i : ℕ) (last : Option HalfMatch) → values ≡ first ∷ vs
-    → length vs ≤ i → last ≡ last_ended 0 (take i vs) → last ≡ last_match values
-last_match-read values vs first i last whole l e = rw (whole, ← take_all i vs l) e
 
 -- a match, one position later
 ended_at-later : (n : ℕ) (ps : List ℕ) → ended_at (suc n) ps ≡ option_map one_later (ended_at n ps)
