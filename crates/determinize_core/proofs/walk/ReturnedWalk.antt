@@ -13,7 +13,7 @@ use Rattle.determinize_core.specs.WholeWalk.{IsWalk}
 use Rattle.determinize_core.proofs.step.Resolving.{start_resolves, step_resolves}
 use Rattle.determinize_core.proofs.step.StepLaws.{each_future_follows}
 use Rattle.determinize_core.proofs.walk.UnitLists.{units_are}
-use Rattle.determinize_core.proofs.walk.WalkOfRuns.{each_chain_has_its_lists, each_chain_is_true, records_reached}
+use Rattle.determinize_core.proofs.walk.WalkOfRuns.{each_chain_has_its_lists, each_chain_is_true, each_chain_reaches}
 
 module _ (nfa : Nfa) (kind : MatchKind) (start : ℕ) (text : Text) where
   -- after i bytes: the values before the last one, and from the last one on those over what is left
@@ -61,7 +61,7 @@ is_walk nfa kind start text states accepted resolves is = rw is (record {
   values = refl;
   all = λ k. rw k (each_chain_is_true nfa accepted start text).0;
   leftmost_first = λ k. rw k (each_chain_is_true nfa accepted start text).1;
-  records = records_reached nfa accepted start text kind;
+  records = each_chain_reaches nfa accepted kind start text;
   follows = each_future_follows nfa kind start text;
   resolve = chain_resolves nfa accepted kind start text resolves;
 })

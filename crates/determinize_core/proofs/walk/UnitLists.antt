@@ -16,10 +16,7 @@ later_units : (behind ahead : Option ℕ) (b : ℕ) (bytes : List ℕ) (k n : �
     ≡ map (after_at (between behind bytes ahead)) (range_with_len k n)
 later_units behind ahead b bytes k zero = refl
 later_units behind ahead b bytes k (suc n) =
-    let one : suc k + 1 ≡ suc (k + 1) = omega arith in
-    ap (λ m. after_at (between behind bytes ahead) k
-    ∷ map (after_at (between behind (b ∷ bytes) ahead)) (range_with_len m n)) one
-    ∙ ap (λ us. after_at (between behind bytes ahead) k ∷ us) (later_units behind ahead b bytes (k + 1) n)
+    let one : suc k + 1 ≡ suc (k + 1) = omega arith in rw (one, later_units behind ahead b bytes (k + 1) n)
 
 -- the units are the bytes and what is ahead of them
 pub units_are : (behind ahead : Option ℕ) (bytes : List ℕ)

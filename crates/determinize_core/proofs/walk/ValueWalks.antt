@@ -2,10 +2,10 @@
 -- Main statements: ListsAll, FindsLeftmost, all_listed, leftmost_listed.
 -- Used by: WalkOfRuns, Farthest.
 -- Idea: the list at an index is that of the value at the index.
-use Rattle.determinize_core.proofs.Common.{[], Accepts, ap, Contains, IsLeftmostWalk, IsPreferredMatch, IsWalkOfAll}
+use Rattle.determinize_core.proofs.Common.{[], Accepts, Contains, IsLeftmostWalk, IsPreferredMatch, IsWalkOfAll}
 use Rattle.determinize_core.proofs.Common.{last_match, length, List, lists_of, ListsAccepted, Nfa, None, refl}
-use Rattle.determinize_core.proofs.Common.{slice_get, Some, some_injective, suc, Text, Value, zero, ℕ, ◌+◌, ◌∙◌, ◌∷◌}
-use Rattle.determinize_core.proofs.Common.{◌≡◌}
+use Rattle.determinize_core.proofs.Common.{slice_get, slice_get-map, Some, some_injective, suc, Text, Value, zero, ℕ}
+use Rattle.determinize_core.proofs.Common.{◌+◌, ◌∙◌, ◌∷◌, ◌≡◌}
 use Rattle.std.specs.Prelude.{drop}
 use Rattle.determinize_core.specs.Walk.{last_listed}
 
@@ -30,9 +30,7 @@ value_of (v ∷ vs) (suc i) ps e = value_of vs i ps e
 -- the list of the value at an index
 pub list_of : (values : List Value) (i : ℕ) (v : Value) → slice_get values i ≡ Some v
     → slice_get (lists_of values) i ≡ Some v.patterns
-list_of [] i v e = absurd (let z : None ≡ Some v = e in cc)
-list_of (w ∷ vs) zero v e = ap (λ (u : Value). Some u.patterns) (some_injective w v e)
-list_of (w ∷ vs) (suc i) v e = list_of vs i v e
+list_of values i v e = rw (slice_get-map, e)
 
 pub last_is : (values : List Value) → last_match values ≡ last_listed 0 (drop 1 (lists_of values))
 last_is [] = refl

@@ -25,13 +25,11 @@ value_after-push nfa kind v (w ∷ us) u = value_after-push nfa kind (step nfa k
 -- one more state
 pub patterns-push : (nfa : Nfa) (xs : List ℕ) (s : ℕ)
     → patterns_of nfa (xs ++ s ∷ []) ≡ patterns_of nfa xs ++ option_to_list (pattern_of nfa s)
-patterns-push nfa xs s = flat_map-append (λ x. option_to_list (pattern_of nfa x)) xs (s ∷ [])
-    ∙ ap (λ l. patterns_of nfa xs ++ l) (append-nil (option_to_list (pattern_of nfa s)))
+patterns-push nfa xs s = simp (flat_map-append, append-nil)
 
 pub targets-push : (nfa : Nfa) (u : Option ℕ) (xs : List ℕ) (s : ℕ)
     → flat_map (target nfa u) (xs ++ s ∷ []) ≡ flat_map (target nfa u) xs ++ target nfa u s
-targets-push nfa u xs s =
-    flat_map-append (target nfa u) xs (s ∷ []) ∙ ap (λ l. flat_map (target nfa u) xs ++ l) (append-nil (target nfa u s))
+targets-push nfa u xs s = simp (flat_map-append, append-nil)
 
 -- the pattern of one more state is new
 pub pattern_new : (nfa : Nfa) → IsSound nfa → (xs : List ℕ) (s p : ℕ) → list_any (nat_eq s) xs ≡ false

@@ -1,17 +1,17 @@
 -- The values of a chain against whole runs: the theorem.
--- Main statements: walk_of_all, leftmost_walk, records_reached, each_chain_is_true.
+-- Main statements: walk_of_all, leftmost_walk, each_chain_reaches, each_chain_is_true.
 -- Used by: ReturnedWalk, `walk_law`, and searches.
 -- Idea: an NFA over a text is an automaton over numbers, so Automata applies.
 use Rattle.determinize_core.proofs.Common.{[], Accepts, after_at, All, arith, before_at, by_option, byte_edges, choices}
-use Rattle.determinize_core.proofs.Common.{Contains, ended_at, false≢true, flat_map-append, HalfMatch, is_capture}
-use Rattle.determinize_core.proofs.Common.{is_match, is_some, IsAccepted, IsBeginning, IsPreferredMatch, known_edges}
-use Rattle.determinize_core.proofs.Common.{last_ended, last_match, LeftmostFirst, length, List, ListsAccepted, map}
-use Rattle.determinize_core.proofs.Common.{MatchKind, Nfa, None, Option, pattern_of, patterns_of, placed}
-use Rattle.determinize_core.proofs.Common.{range_with_len, refl, slice_get, slice_get_past, Some, state_at, suc, sym}
-use Rattle.determinize_core.proofs.Common.{take, Text, true, true_edges, true≢false, truth, unwrap_or, Value, zero, ℕ}
-use Rattle.determinize_core.proofs.Common.{◌+◌, ◌∙◌, ◌∷◌, ◌≡◌, ◌≤◌}
+use Rattle.determinize_core.proofs.Common.{Contains, ended_at, flat_map-append, HalfMatch, is_capture, is_match}
+use Rattle.determinize_core.proofs.Common.{is_some, IsAccepted, IsBeginning, IsPreferredMatch, known_edges, last_ended}
+use Rattle.determinize_core.proofs.Common.{last_match, LeftmostFirst, length, List, ListsAccepted, map, MatchKind, Nfa}
+use Rattle.determinize_core.proofs.Common.{None, Option, pattern_of, patterns_of, placed, range_with_len, refl}
+use Rattle.determinize_core.proofs.Common.{slice_get, slice_get_past, Some, state_at, suc, sym, take, Text, true}
+use Rattle.determinize_core.proofs.Common.{true_edges, true≢false, truth, unwrap_or, Value, zero, ℕ, ◌+◌, ◌∙◌, ◌∷◌, ◌≡◌}
+use Rattle.determinize_core.proofs.Common.{◌≤◌}
 use Rattle.determinize_below.proofs.nfas.SoundNfa.{accepted_sound, match_in}
-use Rattle.ordered_reach.proofs.lists.Elements.{Contains_In, In, In_append_left, In_Contains, In_take_one}
+use Rattle.ordered_reach.proofs.lists.Elements.{Contains_In, In_append_left, In_Contains, In_take_one}
 use Rattle.determinize_below.proofs.nfas.Edges.{edges-capture, edges-more, match-capture, next_of, patterns-without}
 use Rattle.determinize_below.proofs.nfas.Edges.{target-capture, target-end}
 use Rattle.determinize_start.proofs.tables.TrueTables.{known_truth}
@@ -23,11 +23,11 @@ use Rattle.determinize_below.specs.Reached.{known}
 use Rattle.ordered_reach.proofs.lists.Prefixes.{Beginning-ordered}
 use Rattle.ordered_reach.proofs.runs.CutLists.{last_accepting}
 use Rattle.ordered_reach.proofs.runs.MostPreferred.{IsMostPreferred}
-use Rattle.ordered_reach.proofs.runs.Automata.{IsAutomaton, IsTrueWalk, true_walk}
+use Rattle.ordered_reach.proofs.runs.Automata.{IsTrueWalk, true_walk}
 use Rattle.determinize_core.specs.Chain.{chain}
 use Rattle.determinize_core.specs.Laws.{EachChainHasItsLists, EachChainIsTrue, EachChainReaches}
 use Rattle.determinize_core.proofs.walk.ValueWalks.{all_listed, FindsLeftmost, leftmost_listed, ListsAll}
-use Rattle.determinize_core.specs.WalkStates.{IsPartKept, RecordsReached}
+use Rattle.determinize_core.specs.WalkStates.{IsPartKept}
 use Rattle.determinize_core.proofs.walk.AcceptedPatterns.{lists_accepted, matches_at}
 use Rattle.std.proofs.Common.{add-one}
 use Rattle.determinize_core.proofs.walk.WalkValues.{chain_is, chain_item, length-chain, patterns_at_is, recorded_by}
@@ -35,8 +35,7 @@ use Rattle.determinize_core.proofs.walk.WalkValues.{redone_by, states_at_is, sta
 
 -- an option that has a number
 is_some_of : (o : Option ℕ) → is_some o ≡ true → o ≡ Some (unwrap_or o 0)
-is_some_of None e = absurd (false≢true e)
-is_some_of (Some n) e = refl
+is_some_of o e = grind arith
 
 module _ (nfa : Nfa) where
   -- a position as the end of a match, with the pattern of the state there
@@ -46,9 +45,7 @@ module _ (nfa : Nfa) where
   first-named : (k : ℕ) (xs : List ℕ) → ended_at k (take 1 (patterns_of nfa xs))
       ≡ option_map named (option_map (placed k) (find (is_match nfa) xs))
   first-named k [] = refl
-  first-named k (z ∷ xs) = by_option (pattern_of nfa z)
-      (λ e. rw e (first-named k xs))
-      (λ w e. rw e (rw e refl))
+  first-named k (z ∷ xs) = by_option (pattern_of nfa z) (λ e. rw e (first-named k xs)) (λ w e. rw e (rw e refl))
 
   last_named : (value : ℕ → Value) (lists : ℕ → List ℕ) (d k : ℕ)
       → ((j : ℕ) → j ≤ k + d → (value (suc j)).patterns ≡ take 1 (patterns_of nfa (lists j)))
@@ -56,17 +53,13 @@ module _ (nfa : Nfa) where
       ≡ option_map named (last_accepting lists (is_match nfa) d k)
   last_named value lists zero k h = rw (h k (omega arith)) (first-named k (lists k))
   last_named value lists (suc d) k h =
-      rw (
-        add-one (suc k),
-        last_named value lists d (suc k) (λ j l. h j (omega arith)),
-        h k (omega arith),
-        first-named k (lists k),
-      ) (sym (map-option_or named _ _))
+      let later = last_named value lists d (suc k) (λ j l. h j (omega arith)) in
+      rw (add-one (suc k), later, h k (omega arith), first-named k (lists k)) (sym (map-option_or named _ _))
 
 module _ (nfa : Nfa) (accepted : IsAccepted nfa) (start : ℕ) (text : Text) where
-  automaton : IsAutomaton (length nfa.states) (length text.bytes) (known_edges nfa text) (true_edges nfa text)
-      (byte_edges nfa text) (is_capture nfa) (is_match nfa) (next_of nfa)
-  automaton = record {
+  walk : IsTrueWalk (length nfa.states) (length text.bytes) (known_edges nfa text) (true_edges nfa text)
+      (byte_edges nfa text) (is_capture nfa) (is_match nfa) start
+  walk = true_walk _ _ _ _ _ _ _ (next_of nfa) start (record {
     within = λ i. (accepted_sound nfa accepted).resolves (truth nfa (before_at text i) (after_at text i));
     fewer = λ i s x. edges-more nfa (known nfa (before_at text i)) (truth nfa (before_at text i) (after_at text i)) s x
         (known_truth nfa (before_at text i) (after_at text i));
@@ -75,11 +68,7 @@ module _ (nfa : Nfa) (accepted : IsAccepted nfa) (start : ℕ) (text : Text) whe
     cap_eps = λ i. edges-capture nfa (truth nfa (before_at text i) (after_at text i));
     cap_bytes = λ i. target-capture nfa (slice_get text.bytes i);
     cap_acc = match-capture nfa;
-  }
-
-  walk : IsTrueWalk (length nfa.states) (length text.bytes) (known_edges nfa text) (true_edges nfa text)
-      (byte_edges nfa text) (is_capture nfa) (is_match nfa) start
-  walk = true_walk _ _ _ _ _ _ _ _ start automaton
+  })
 
   -- the patterns of what runs reach
   listed_at : (i : ℕ) → ListsAccepted nfa text start i (patterns_of nfa (redone_by nfa All start text i))
@@ -90,7 +79,7 @@ module _ (nfa : Nfa) (accepted : IsAccepted nfa) (start : ℕ) (text : Text) whe
   walk_of_all = record {
     count = length-chain nfa All start text;
     matches = λ i v h. let r = chain_item nfa All start text (suc i) v h in
-        rw (← r.1, patterns_at_is nfa accepted All start text i (omega (arith, r.0))) (listed_at i);
+        rw (← r.1, patterns_at_is nfa All start text accepted i (omega (arith, r.0))) (listed_at i);
   }
 
   -- the last accepting state of the cut lists
@@ -100,7 +89,7 @@ module _ (nfa : Nfa) (accepted : IsAccepted nfa) (start : ℕ) (text : Text) whe
   last_match_is : last_match (chain nfa LeftmostFirst start text) ≡ option_map (named nfa) last_cut
   last_match_is = rw chain_is (last_named nfa (value_at nfa LeftmostFirst start text)
       (redone_by nfa LeftmostFirst start text) (length text.bytes) 0
-      (λ j l. patterns_at_is nfa accepted LeftmostFirst start text j (omega arith)))
+      (λ j l. patterns_at_is nfa LeftmostFirst start text accepted j (omega arith)))
 
   preferred_of : (o : Option (ℕ × ℕ)) → last_cut ≡ o → IsPreferredMatch nfa start text (option_map (named nfa) o)
   preferred_of None e =
@@ -114,24 +103,21 @@ module _ (nfa : Nfa) (accepted : IsAccepted nfa) (start : ℕ) (text : Text) whe
         },
       )
 
-  -- a pattern of a value under `LeftmostFirst` is accepted by some run
-  leftmost_accepted : (i x : ℕ) → i ≤ length text.bytes
-      → Contains (value_at nfa LeftmostFirst start text (suc i)).patterns x → (cs : List ℕ)
-      × Accepts nfa text start cs i x
-  leftmost_accepted i x within c =
-      let cut : List ℕ = redone_by nfa LeftmostFirst start text i in
-      let b : IsBeginning cut (redone_by nfa All start text i) =
+  -- the first pattern of a cut list is accepted by some run
+  first_accepted : (i x : ℕ) → Contains (take 1 (patterns_of nfa (redone_by nfa LeftmostFirst start text i))) x
+      → (cs : List ℕ) × Accepts nfa text start cs i x
+  first_accepted i x c =
+      let b : IsBeginning (redone_by nfa LeftmostFirst start text i) (redone_by nfa All start text i) =
       Beginning-ordered same_decides _ _ _ _ _ (walk.cut_begins i) in
-      let listed : In x (patterns_of nfa cut) = In_take_one _ x (Contains_In same_decides _ x
-      (rw (patterns_at_is nfa accepted LeftmostFirst start text i within) at c)) in
-      ((listed_at i).accepted x).0 (In_Contains same_decides _ x
-      (rw (b.1, flat_map-append) (In_append_left x (patterns_of nfa cut) (patterns_of nfa b.0) listed)))
+      ((listed_at i).accepted x).0 (In_Contains same_decides _ x (rw (b.1, flat_map-append)
+      (In_append_left x _ (patterns_of nfa b.0) (In_take_one _ x (Contains_In same_decides _ x c)))))
 
   pub leftmost_walk : FindsLeftmost nfa start text (chain nfa LeftmostFirst start text)
   leftmost_walk = record {
     found = rw last_match_is (preferred_of last_cut refl);
     matches = λ i v h x c. let r = chain_item nfa LeftmostFirst start text (suc i) v h in
-        leftmost_accepted i x (omega (arith, r.0)) (rw (← r.1) at c);
+        let p = patterns_at_is nfa LeftmostFirst start text accepted i (omega (arith, r.0)) in
+        first_accepted i x (rw (← r.1, p) at c);
   }
 
   -- what is recorded at a position is the list that runs reach there, or a prefix of it
@@ -140,26 +126,23 @@ module _ (nfa : Nfa) (accepted : IsAccepted nfa) (start : ℕ) (text : Text) whe
   part_kept All i = refl
   part_kept LeftmostFirst i = walk.cut_begins i
 
-  pub records_reached : (kind : MatchKind) → RecordsReached nfa kind start text (chain nfa kind start text)
-  records_reached kind = record {
-    ids = λ i v l h. (
-      recorded_by nfa All start text i,
-      walk.recorded_reached i,
-      rw (← (chain_item nfa kind start text i v h).1, states_at_is nfa accepted kind start text i l) (part_kept kind i),
-    );
-    last = λ e v h. rw (← (chain_item nfa kind start text (suc (length text.bytes)) v h).1)
-        (states_last nfa accepted kind start text e);
-  }
+pub each_chain_reaches : EachChainReaches
+each_chain_reaches nfa accepted kind start text = record {
+  ids = λ i v l h. let is = states_at_is nfa kind start text accepted i l in (
+    recorded_by nfa All start text i,
+    (walk nfa accepted start text).recorded_reached i,
+    rw (← (chain_item nfa kind start text i v h).1, is) (part_kept nfa accepted start text kind i),
+  );
+  last = λ e v h. rw (← (chain_item nfa kind start text (suc (length text.bytes)) v h).1)
+      (states_last nfa kind start text accepted e);
+}
 
 pub each_chain_is_true : EachChainIsTrue
 each_chain_is_true nfa accepted start text = (
-  all_listed nfa start text (chain nfa All start text) (walk_of_all nfa accepted start text),
-  leftmost_listed nfa start text (chain nfa LeftmostFirst start text) (leftmost_walk nfa accepted start text),
+  all_listed nfa start text _ (walk_of_all nfa accepted start text),
+  leftmost_listed nfa start text _ (leftmost_walk nfa accepted start text),
 )
 
 pub each_chain_has_its_lists : EachChainHasItsLists
 unfolding chain
 each_chain_has_its_lists nfa kind start text = (length-chain nfa kind start text, refl)
-
-pub each_chain_reaches : EachChainReaches
-each_chain_reaches nfa accepted kind start text = records_reached nfa accepted start text kind

@@ -4,13 +4,13 @@
 -- Idea: induction over the positions, with WorkingLists for one step.
 use Rattle.determinize_core.proofs.Common.{[], after_at, All, ap, arith, before_at, begun, Bool, by_test, byte_edges}
 use Rattle.determinize_core.proofs.Common.{eqb-true, false, flat_map, future, get_or, get_or_from_slice_get, is_capture}
-use Rattle.determinize_core.proofs.Common.{is_match, is_nonempty, IsAccepted, IsTested, known_edges, left_by}
-use Rattle.determinize_core.proofs.Common.{LeftmostFirst, length, List, map, MatchKind, member, nat_eq, needs, Nfa}
-use Rattle.determinize_core.proofs.Common.{None, not, Option, part_read, patterns_of, patterns_read, range_with_len}
-use Rattle.determinize_core.proofs.Common.{recorded, refl, slice_get, slice_get-get_or, slice_get_past}
-use Rattle.determinize_core.proofs.Common.{slice_get_within, Some, start_value, suc, sym, tables_of, target, Text, true}
-use Rattle.determinize_core.proofs.Common.{true_edges, true≢false, truth, Value, without, working_list, zero, ℕ, ◌+◌}
-use Rattle.determinize_core.proofs.Common.{◌<◌, ◌==◌, ◌∙◌, ◌∷◌, ◌≡◌, ◌≤◌}
+use Rattle.determinize_core.proofs.Common.{is_match, is_nonempty, IsAccepted, IsTested, known_edges, LeftmostFirst}
+use Rattle.determinize_core.proofs.Common.{length, List, map, MatchKind, member, nat_eq, needs, Nfa, None, not, Option}
+use Rattle.determinize_core.proofs.Common.{part_read, patterns_of, patterns_read, range_with_len, recorded, refl}
+use Rattle.determinize_core.proofs.Common.{slice_get, slice_get-get_or, slice_get_past, slice_get_within, Some}
+use Rattle.determinize_core.proofs.Common.{start_value, suc, sym, tables_of, target, Text, true, true_edges, true≢false}
+use Rattle.determinize_core.proofs.Common.{truth, Value, without, working_list, zero, ℕ, ◌+◌, ◌<◌, ◌==◌, ◌∙◌, ◌∷◌, ◌≡◌}
+use Rattle.determinize_core.proofs.Common.{◌≤◌}
 use Rattle.determinize_below.proofs.nfas.SoundNfa.{accepted_sound}
 use Rattle.determinize_below.proofs.nfas.Edges.{edges-same, match-capture, patterns-without, target-capture, target-end}
 use Rattle.determinize_below.proofs.looks.LookSets.{has-empty}
@@ -42,48 +42,6 @@ read-without : (kind : MatchKind) (accepts cap : ℕ → Bool) (xs : List ℕ) �
 read-without All accepts cap xs h = refl
 read-without LeftmostFirst accepts cap xs h = before-without accepts cap xs h
 
-module _ (nfa : Nfa) (accepted : IsAccepted nfa) (m : ℕ) where
-  -- the closure under a set that has, of the assertions of the NFA, those that are known
-  recorded_entered : (b : Option ℕ) (w h : Bool) (have : ℕ) (ps roots : List ℕ)
-      → ((l : Assertion) → IsTested nfa l → has have l ≡ known nfa b l)
-      → ((s : ℕ) → member nat_eq (reach nfa (has have) roots) s ≡ true
-      → (w ≡ from_word_after (tables_of nfa) b) × (h ≡ half_crlf_after (tables_of nfa) b))
-      → IsEntered nfa m b (recorded nfa (begun w h have ps) (reach nfa (has have) roots)) roots
-  recorded_entered b w h have ps roots k f =
-      let entered : List ℕ = reach nfa (has have) roots in
-      record {
-        states = rw (reach_is nfa (accepted_sound nfa accepted) m, edges-same nfa (has have) (known nfa b) k);
-        need = refl;
-        have = λ a n l q. by_test (needs nfa 0 (without (is_capture nfa) entered) == 0)
-            (λ z. let y : needs nfa 0 (without (is_capture nfa) entered) ≡ 0 = eqb-true _ _ z in
-            absurd (true≢false (sym n ∙ ap (λ c. has c a) y ∙ has-empty a)))
-            (λ z. rw z (k l q));
-        flags = λ s i. f s (member-filter same_decides (λ x. not (is_capture nfa x)) entered s i);
-      }
-
-  start_entered : (p : Option ℕ) (s : ℕ) → IsEntered nfa m p (start_value nfa s p) (s ∷ [])
-  start_entered p s = recorded_entered p (from_word_at_start (tables_of nfa) p) (half_crlf_at_start (tables_of nfa) p)
-      (have_at_start (tables_of nfa) p) [] (s ∷ []) (start_known nfa accepted p)
-      (λ x i. (from_word-same (tables_of nfa) p, half_crlf-same (tables_of nfa) p))
-
-  left_entered : (b : ℕ) (ps roots : List ℕ)
-      → IsEntered nfa m (Some b) (left_by nfa (Some b) ps (reach nfa (has (have_after (tables_of nfa) (Some b))) roots))
-      roots
-  left_entered b ps roots = recorded_entered (Some b) _ _ (have_after (tables_of nfa) (Some b)) ps roots
-      (have_after_known nfa accepted b) (λ s i. rw (nonempty_member _ s i) (refl, refl))
-
--- the value at each place
-abbrev pub value_at : Nfa → MatchKind → ℕ → Text → ℕ → Value
-value_at nfa kind s text zero = start_value nfa s text.behind
-value_at nfa kind s text (suc k) = step nfa kind (value_at nfa kind s text k) (after_at text k)
-
--- the roots of its search
-abbrev pub roots_at : Nfa → MatchKind → ℕ → Text → ℕ → List ℕ
-roots_at nfa kind s text zero = s ∷ []
-roots_at nfa kind s text (suc k) =
-    flat_map (byte_edges nfa text k) (part_read kind (is_match nfa)
-    (working_list nfa (value_at nfa kind s text k) (after_at text k)))
-
 -- what the walk over positions records
 abbrev pub recorded_by : Nfa → MatchKind → ℕ → Text → ℕ → List ℕ
 recorded_by nfa All s text k =
@@ -93,10 +51,23 @@ recorded_by nfa LeftmostFirst s text k =
     levels.recorded_cut nat_eq (known_edges nfa text) (true_edges nfa text) (byte_edges nfa text) (is_capture nfa)
     (is_match nfa) (fuel nfa (length text.bytes)) s k
 
--- the search redone at a position
-abbrev pub redone_by : Nfa → MatchKind → ℕ → Text → ℕ → List ℕ
-redone_by nfa kind s text k =
-    listing nfa (length text.bytes) (truth nfa (before_at text k) (after_at text k)) (recorded_by nfa kind s text k)
+module _ (nfa : Nfa) (kind : MatchKind) (s : ℕ) (text : Text) where
+  -- the value at each place
+  abbrev pub value_at : ℕ → Value
+  value_at zero = start_value nfa s text.behind
+  value_at (suc k) = step nfa kind (value_at k) (after_at text k)
+
+  -- the roots of its search
+  abbrev roots_at : ℕ → List ℕ
+  roots_at zero = s ∷ []
+  roots_at (suc k) =
+      flat_map (byte_edges nfa text k)
+      (part_read kind (is_match nfa) (working_list nfa (value_at k) (after_at text k)))
+
+  -- the search redone at a position
+  abbrev pub redone_by : ℕ → List ℕ
+  redone_by k =
+      listing nfa (length text.bytes) (truth nfa (before_at text k) (after_at text k)) (recorded_by nfa kind s text k)
 
 recorded_by-zero : (nfa : Nfa) (kind : MatchKind) (s : ℕ) (text : Text)
     → recorded_by nfa kind s text 0 ≡ without (is_capture nfa)
@@ -111,13 +82,35 @@ recorded_by-suc : (nfa : Nfa) (kind : MatchKind) (s : ℕ) (text : Text) (k : �
 recorded_by-suc nfa All s text k = refl
 recorded_by-suc nfa LeftmostFirst s text k = refl
 
-module _ (nfa : Nfa) (accepted : IsAccepted nfa) (kind : MatchKind) (s : ℕ) (text : Text) where
-  entered_at : (k : ℕ) → k ≤ length text.bytes
-      → IsEntered nfa (length text.bytes) (before_at text k) (value_at nfa kind s text k) (roots_at nfa kind s text k)
+-- the closure under a set that has, of the assertions of the NFA, those that are known
+recorded_entered : (nfa : Nfa) (accepted : IsAccepted nfa) (m : ℕ) (b : Option ℕ) (w h : Bool) (have : ℕ)
+    (ps roots : List ℕ) → ((l : Assertion) → IsTested nfa l → has have l ≡ known nfa b l)
+    → ((s : ℕ) → member nat_eq (reach nfa (has have) roots) s ≡ true
+    → (w ≡ from_word_after (tables_of nfa) b) × (h ≡ half_crlf_after (tables_of nfa) b))
+    → IsEntered nfa m b (recorded nfa (begun w h have ps) (reach nfa (has have) roots)) roots
+recorded_entered nfa accepted m b w h have ps roots k f =
+    let entered : List ℕ = reach nfa (has have) roots in
+    record {
+      states = rw (reach_is nfa (accepted_sound nfa accepted) m, edges-same nfa (has have) (known nfa b) k);
+      need = refl;
+      have = λ a n l q. by_test (needs nfa 0 (without (is_capture nfa) entered) == 0)
+          (λ z. let y : needs nfa 0 (without (is_capture nfa) entered) ≡ 0 = eqb-true _ _ z in
+          absurd (true≢false (sym (rw y at n) ∙ has-empty a)))
+          (λ z. rw z (k l q));
+      flags = λ s i. f s (member-filter same_decides (λ x. not (is_capture nfa x)) entered s i);
+    }
+
+module _ (nfa : Nfa) (kind : MatchKind) (s : ℕ) (text : Text) (accepted : IsAccepted nfa) where
+  entered_at : (k : ℕ) → k ≤ length text.bytes → IsEntered nfa (length text.bytes) (before_at text k)
+      (value_at nfa kind s text k) (roots_at nfa kind s text k)
   unfolding step
-  entered_at zero l = start_entered nfa accepted (length text.bytes) text.behind s
+  entered_at zero l = recorded_entered nfa accepted (length text.bytes) text.behind
+      (from_word_at_start (tables_of nfa) text.behind) (half_crlf_at_start (tables_of nfa) text.behind)
+      (have_at_start (tables_of nfa) text.behind) [] (s ∷ []) (start_known nfa accepted text.behind)
+      (λ x i. (from_word-same (tables_of nfa) text.behind, half_crlf-same (tables_of nfa) text.behind))
   entered_at (suc k) l = rw (slice_get-get_or text.bytes k 0 l)
-      (left_entered nfa accepted (length text.bytes) (get_or text.bytes k 0) _ _)
+      (recorded_entered nfa accepted (length text.bytes) _ _ _ (have_after (tables_of nfa) _) _ _
+      (have_after_known nfa accepted (get_or text.bytes k 0)) (λ s i. rw (nonempty_member _ s i) (refl, refl)))
 
   -- captures aside, the working list is the search redone at the position
   working_at : (k : ℕ) → k ≤ length text.bytes → (value_at nfa kind s text k).states ≡ recorded_by nfa kind s text k
@@ -136,25 +129,18 @@ module _ (nfa : Nfa) (accepted : IsAccepted nfa) (kind : MatchKind) (s : ℕ) (t
       → (value_at nfa kind s text k).states ≡ recorded_by nfa kind s text k
   states_at_is zero l = (entered_at 0 l).states ∙ sym (recorded_by-zero nfa kind s text)
   states_at_is (suc k) l =
-      let W : List ℕ = working_list nfa (value_at nfa kind s text k) (after_at text k) in
-      rw (
-        (entered_at (suc k) l).states,
-        recorded_by-suc nfa kind s text k,
-        ← targets-without k W,
-        working_at k (omega arith) (states_at_is k (omega arith)),
-        targets-without k (redone_by nfa kind s text k),
-      )
+      let e = working_at k (omega arith) (states_at_is k (omega arith)) in
+      let read = rw e at (targets-without k (working_list nfa (value_at nfa kind s text k) (after_at text k))) in
+      rw ((entered_at (suc k) l).states, recorded_by-suc nfa kind s text k, ← read, targets-without k)
 
   -- the patterns of a value are those of what was reached at the position before its unit
   pub patterns_at_is : (k : ℕ) → k ≤ length text.bytes
       → (value_at nfa kind s text (suc k)).patterns ≡ patterns_read kind (patterns_of nfa (redone_by nfa kind s text k))
   unfolding step
   patterns_at_is k l =
-      rw (
-        ← patterns-without nfa (working_list nfa (value_at nfa kind s text k) (after_at text k)),
-        working_at k l (states_at_is k l),
-        patterns-without nfa (redone_by nfa kind s text k),
-      )
+      let e = working_at k l (states_at_is k l) in
+      ap (λ ps. patterns_read kind ps) (sym (patterns-without nfa _) ∙ ap (λ xs. patterns_of nfa xs) e
+      ∙ patterns-without nfa _)
 
   -- no state is recorded after EOI
   pub states_last : text.ahead ≡ None → (value_at nfa kind s text (suc (length text.bytes))).states ≡ []
@@ -165,12 +151,15 @@ module _ (nfa : Nfa) (accepted : IsAccepted nfa) (kind : MatchKind) (s : ℕ) (t
 
 -- the items of a chain
 module _ (nfa : Nfa) (kind : MatchKind) (s : ℕ) (text : Text) where
-  values_from : (n k : ℕ) → future nfa kind (value_at nfa kind s text k) (map (after_at text) (range_with_len k n))
-      ≡ map (value_at nfa kind s text) (range_with_len k (suc n))
-  values_from zero k = refl
-  values_from (suc n) k = rw (add-one k) (ap (λ vs. value_at nfa kind s text k ∷ vs) (values_from n (suc k)))
+  abbrev value : ℕ → Value
+  value = value_at nfa kind s text
 
-  pub chain_is : chain nfa kind s text ≡ map (value_at nfa kind s text) (range_with_len 0 (suc (suc (length text.bytes))))
+  values_from : (n k : ℕ) → future nfa kind (value k) (map (after_at text) (range_with_len k n))
+      ≡ map value (range_with_len k (suc n))
+  values_from zero k = refl
+  values_from (suc n) k = rw (add-one k) (ap (λ vs. value k ∷ vs) (values_from n (suc k)))
+
+  pub chain_is : chain nfa kind s text ≡ map value (range_with_len 0 (suc (suc (length text.bytes))))
   unfolding chain
   chain_is = values_from (suc (length text.bytes)) 0
 
@@ -179,11 +168,9 @@ module _ (nfa : Nfa) (kind : MatchKind) (s : ℕ) (text : Text) where
 
   -- an item of a chain is the value of its place
   pub chain_item : (j : ℕ) (v : Value) → slice_get (chain nfa kind s text) j ≡ Some v
-      → (j < length text.bytes + 2) × (value_at nfa kind s text j ≡ v)
+      → (j < length text.bytes + 2) × (value j ≡ v)
   chain_item j v h =
       let l : j < length text.bytes + 2 = rw length-chain at (slice_get_within _ j v h) in
-      let e = rw chain_is at (get_or_from_slice_get _ j v v h) in (
-        l,
-        sym (get_or-map-range_with_len (value_at nfa kind s text) 0 (suc (suc (length text.bytes))) j j v (omega arith)
-            (omega arith)) ∙ e,
-      )
+      let e = rw chain_is at (get_or_from_slice_get _ j v v h) in
+      let at = get_or-map-range_with_len value 0 (suc (suc (length text.bytes))) j j v (omega arith) (omega arith) in
+      (l, sym at ∙ e)
