@@ -16,6 +16,7 @@ pub use Rattle.determinize_below.specs.declared.search.HalfMatch.{HalfMatch}
 pub use Rattle.determinize_below.specs.declared.search.MatchKind.{MatchKind}
 pub use Rattle.determinize_below.specs.declared.search.MatchKind.TheVariants.{All, LeftmostFirst}
 pub use Rattle.determinize_core.specs.Chain.{future, units, value_after}
+unfoldable pub use Rattle.determinize_core.specs.Chain.{chain}
 pub use Rattle.determinize_core.specs.LastMatch.{ended_at, IsFarthestMatch, IsPreferredMatch, last_ended, last_match}
 pub use Rattle.determinize_core.specs.LastMatch.{lists_of}
 pub use Rattle.determinize_core.specs.Private.Changes.{with_patterns}
@@ -26,6 +27,7 @@ pub use Rattle.determinize_core.specs.Searches.{start_for, text_of}
 pub use Rattle.determinize_core.specs.States.{EachApart, IsIndex}
 pub use Rattle.determinize_core.specs.Step.{begun, distinct_states, is_reopened, left_by, opened_by, part_read}
 pub use Rattle.determinize_core.specs.Step.{patterns_read, start_value, targets, working_list}
+unfoldable pub use Rattle.determinize_core.specs.Step.{step}
 pub use Rattle.determinize_core.specs.Stepper.{StepperValue}
 pub use Rattle.determinize_core.specs.Tries.{edges_in_all, tries_again, tries_of}
 pub use Rattle.determinize_core.specs.Walk.{IsLeftmostWalk, IsWalkOfAll, ListsAccepted}
@@ -34,13 +36,14 @@ pub use Rattle.determinize_state.specs.Equality.{same}
 pub use Rattle.determinize_state.specs.Recording.{added, added_one, needs, recorded}
 pub use Rattle.determinize_state.specs.Value.{dead, is_nonempty, Value}
 pub use Rattle.ordered_reach.proofs.Cases.{by_cases, by_option, by_test, or_false_left, or_false_right, some_injective}
+pub use Rattle.ordered_reach.proofs.graph.FiniteGraphs.{same_decides}
 pub use Rattle.ordered_reach.specs.Paths.{Before, IsPath}
 pub use Rattle.ordered_reach.specs.Reach.{edge_count, ends, fresh, joined, member, none_held, ordered, with_node}
 pub use Rattle.ordered_reach.specs.Runs.{IsBeginning, IsLeastRun, placed, without}
-pub use Rattle.std.proofs.Common.{[], ap, append_assoc, arith, Bool, drop, false, fold, get_or, get_or-set_other}
-pub use Rattle.std.proofs.Common.{get_or-set_same, if◌then◌else◌, inl, inr, length, length-append, List, map, nat_eq}
-pub use Rattle.std.proofs.Common.{None, not, Option, refl, replicate, rules, Some, subst, suc, sym, take, true, zero, ℕ}
-pub use Rattle.std.proofs.Common.{◌&&◌, ◌*◌, ◌++◌, ◌+◌, ◌-◌, ◌<◌, ◌||◌, ◌∙◌, ◌∷◌, ◌≡◌, ◌≤◌, ◌⊎◌}
+pub use Rattle.std.proofs.Common.{[], add-one, ap, append_assoc, arith, Bool, drop, false, fold, get_or}
+pub use Rattle.std.proofs.Common.{get_or-set_other, get_or-set_same, if◌then◌else◌, inl, inr, length, length-append}
+pub use Rattle.std.proofs.Common.{List, map, nat_eq, None, not, Option, refl, replicate, rules, Some, subst, suc, sym}
+pub use Rattle.std.proofs.Common.{take, true, zero, ℕ, ◌&&◌, ◌*◌, ◌++◌, ◌+◌, ◌-◌, ◌<◌, ◌||◌, ◌∙◌, ◌∷◌, ◌≡◌, ◌≤◌, ◌⊎◌}
 pub use Rattle.std.proofs.Math.Seq.{take-suc}
 pub use Rattle.std.proofs.lemmas.Bool.{eq-eqb, eqb-true, false≢true, or_left, true≢false}
 pub use Rattle.std.proofs.lemmas.Bool.Decides.{nat_tests}

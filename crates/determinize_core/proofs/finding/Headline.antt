@@ -1,11 +1,10 @@
 -- The last match of a walk, in words of runs.
-use Rattle.determinize_core.proofs.Common.{Accepts, All, arith, HalfMatch, IfSome, IsAccepted, IsFarthestMatch}
+use Rattle.determinize_core.proofs.Common.{Accepts, All, arith, chain, HalfMatch, IfSome, IsAccepted, IsFarthestMatch}
 use Rattle.determinize_core.proofs.Common.{IsPreferredMatch, IsSearch, last_match, LeftmostFirst, length, List}
 use Rattle.determinize_core.proofs.Common.{MatchKind, Nfa, None, Option, refl, Some, start_value, Text, units, ℕ, ◌≡◌}
 use Rattle.determinize_core.proofs.Common.{◌≤◌}
 use Rattle.std.proofs.lemmas.Option.{IfSome_then}
 use Rattle.std.proofs.lemmas.List.FromFn.{length-map-range_with_len}
-use Rattle.determinize_core.specs.Chain.{chain}
 use Rattle.determinize_core.proofs.walk.Farthest.{each_last_is_farthest}
 use Rattle.determinize_core.proofs.walk.WalkOfRuns.{leftmost_walk}
 use Rattle.determinize_core.proofs.finding.LastUnits.{last_match-within}

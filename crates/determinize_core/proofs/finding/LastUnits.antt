@@ -1,11 +1,10 @@
 -- The last match of a walk where no NFA state is left; it ends within what is read.
-use Rattle.determinize_core.proofs.Common.{[], append-nil, append_assoc, arith, by_test, dead, ended_at, future}
-use Rattle.determinize_core.proofs.Common.{HalfMatch, IfSome, is_reopened, is_some, last_ended, last_match, length}
-use Rattle.determinize_core.proofs.Common.{List, MatchKind, Nfa, None, Option, option_or, refl, Some, suc, sym, true}
-use Rattle.determinize_core.proofs.Common.{Value, value_after, working_list, ℕ, ◌++◌, ◌+◌, ◌<◌, ◌∙◌, ◌∷◌, ◌≡◌}
+use Rattle.determinize_core.proofs.Common.{[], append-nil, append_assoc, arith, by_option, by_test, dead, ended_at}
+use Rattle.determinize_core.proofs.Common.{future, IfSome, is_reopened, is_some, last_ended, last_match, length, List}
+use Rattle.determinize_core.proofs.Common.{MatchKind, Nfa, None, Option, refl, step, suc, sym, true, Value, value_after}
+use Rattle.determinize_core.proofs.Common.{working_list, ℕ, ◌++◌, ◌+◌, ◌<◌, ◌∙◌, ◌∷◌, ◌≡◌}
 use Rattle.determinize_core.proofs.closure.EmptySearch.{reach-none}
 use Rattle.determinize_core.proofs.step.StepLaws.{dead_stays}
-use Rattle.determinize_core.specs.Step.{step}
 use Rattle.determinize_core.proofs.walk.LastMatches.{future_is, last_match-push, length-tail, tail}
 use Rattle.std.proofs.Math.Nat.{zero-add}
 
@@ -33,11 +32,8 @@ module _ (nfa : Nfa) (kind : MatchKind) where
   tail-over n v [] [] h = refl
   tail-over n v [] (u ∷ rest) h = rw (step_over nfa kind v u h) (none_dead n rest)
   tail-over n v (u ∷ us) rest h =
-      rw (
-        future_is nfa kind (step nfa kind v u) (us ++ rest),
-        future_is nfa kind (step nfa kind v u) us,
-        tail-over (suc n) (step nfa kind v u) us rest h,
-      )
+      let e = tail-over (suc n) (step nfa kind v u) us rest h in
+      rw (future_is nfa kind (step nfa kind v u) (us ++ rest), future_is nfa kind (step nfa kind v u) us, e)
 
   -- the last match stays where no NFA state is left
   pub last_match-over : (v : Value) (us rest : List (Option ℕ)) → (value_after nfa kind v us).states ≡ []
@@ -48,16 +44,12 @@ module _ (nfa : Nfa) (kind : MatchKind) where
   -- a match ends within what was read
   last_ended-within : (n : ℕ) (vs : List Value) → IfSome (last_ended n vs) (λ m. m.offset < n + length vs)
   last_ended-within n [] = tt
-  last_ended-within n (v ∷ vs) = later (last_ended (suc n) vs) (last_ended-within (suc n) vs)
+  last_ended-within n (v ∷ vs) = by_option (last_ended (suc n) vs) (λ e. rw e (here v.patterns))
+      (λ m e. let h = rw e at (last_ended-within (suc n) vs) in rw e (omega (arith, h)))
     where
       here : (ps : List ℕ) → IfSome (ended_at n ps) (λ m. m.offset < n + suc (length vs))
       here [] = tt
       here (p ∷ ps) = omega arith
-
-      later : (o : Option HalfMatch) → IfSome o (λ m. m.offset < suc n + length vs)
-          → IfSome (option_or o (ended_at n v.patterns)) (λ m. m.offset < n + suc (length vs))
-      later None h = here v.patterns
-      later (Some m) h = omega (arith, h)
 
   pub last_match-within : (v : Value) (us : List (Option ℕ))
       → IfSome (last_match (future nfa kind v us)) (λ m. m.offset < length us)
@@ -69,10 +61,6 @@ pub longer : (nfa : Nfa) (kind : MatchKind) (v : Value) (us rest : List (Option 
     → is_some (last_match (future nfa kind v us)) ≡ true → is_some (last_match (future nfa kind v (us ++ rest))) ≡ true
 longer nfa kind v us [] h = rw append-nil h
 longer nfa kind v us (u ∷ rest) h =
-    let one : is_some (last_match (future nfa kind v (us ++ u ∷ []))) ≡ true =
-    rw (last_match-push nfa kind v us u) (either _ _ h) in
+    let one : is_some (last_match (future nfa kind v (us ++ u ∷ []))) ≡ true = rw (last_match-push nfa kind v us u)
+    (by_option (ended_at (length us) (value_after nfa kind v (us ++ u ∷ [])).patterns) (λ e. rw e h) (λ m e. rw e)) in
     rw append_assoc at (longer nfa kind v (us ++ u ∷ []) rest one)
-  where
-    either : (o p : Option HalfMatch) → is_some p ≡ true → is_some (option_or o p) ≡ true
-    either None p k = k
-    either (Some m) p k = refl

@@ -1,10 +1,9 @@
 -- What an input asks for, and the answer in its haystack.
-use Rattle.determinize_core.proofs.Common.{All, arith, Asked, Bool, Decides, false, false≢true, HalfMatch, HasMatch}
-use Rattle.determinize_core.proofs.Common.{IfNone, IfSome, in_haystack, is_done, is_some, IsAccepted, IsFarthestIn}
-use Rattle.determinize_core.proofs.Common.{IsPreferredIn, IsSearch, last_match, LeftmostFirst, length, length-reverse}
-use Rattle.determinize_core.proofs.Common.{length-take, MatchKind, Nfa, None, Option, option_map, refl, Some, start_for}
-use Rattle.determinize_core.proofs.Common.{text_of, true, ℕ, ◌-◌, ◌≡◌, ◌≤◌}
-use Rattle.determinize_core.specs.Chain.{chain}
+use Rattle.determinize_core.proofs.Common.{All, arith, Asked, Bool, chain, Decides, false, false≢true, HalfMatch}
+use Rattle.determinize_core.proofs.Common.{HasMatch, IfNone, IfSome, in_haystack, is_done, is_some, IsAccepted}
+use Rattle.determinize_core.proofs.Common.{IsFarthestIn, IsPreferredIn, IsSearch, last_match, LeftmostFirst, length}
+use Rattle.determinize_core.proofs.Common.{length-reverse, length-take, MatchKind, Nfa, None, Option, option_map, refl}
+use Rattle.determinize_core.proofs.Common.{Some, start_for, text_of, true, ℕ, ◌-◌, ◌≡◌, ◌≤◌}
 use Rattle.determinize_core.specs.Searches.{last_in}
 use Rattle.determinize_core.proofs.finding.Headline.{none_accepts, some_accepts}
 use Rattle.std.proofs.lemmas.Option.{IfSome_then}

@@ -4,13 +4,12 @@
 -- Idea: a pattern has one `Match`, so its best run is the least run to that state.
 use Rattle.determinize_core.proofs.Common.{[], ap, arith, Before, by_option, choices, is_match, IsBestRun, IsLeastRun}
 use Rattle.determinize_core.proofs.Common.{IsReached, List, ListsAccepted, Match, Nfa, option_to_list, pattern_in}
-use Rattle.determinize_core.proofs.Common.{pattern_of, patterns_of, slice_get, Some, state_at, suc, sym, Text, true}
-use Rattle.determinize_core.proofs.Common.{zero, ℕ, ◌<◌, ◌∙◌, ◌∷◌, ◌≡◌}
+use Rattle.determinize_core.proofs.Common.{pattern_of, patterns_of, same_decides, slice_get, Some, state_at, suc, sym}
+use Rattle.determinize_core.proofs.Common.{Text, true, zero, ℕ, ◌<◌, ◌∙◌, ◌∷◌, ◌≡◌}
 use Rattle.ordered_reach.proofs.lists.Elements.{Contains_In, Earlier, Earlier_head, Earlier_tail, In, In_append_right}
 use Rattle.ordered_reach.proofs.lists.Elements.{In_cases, In_Contains, In_head, In_none, In_tail}
 use Rattle.determinize_below.proofs.nfas.SoundNfa.{IsSound, match_in}
 use Rattle.determinize_below.proofs.nfas.Edges.{match-capture}
-use Rattle.ordered_reach.proofs.graph.FiniteGraphs.{same_decides}
 use Rattle.std.proofs.lemmas.Map.Made.{IsDistinct-from_AllPairs}
 use Rattle.ordered_reach.proofs.lists.Pairs.{pairs_from}
 use Rattle.determinize_below.specs.Edges.{is_match_node}

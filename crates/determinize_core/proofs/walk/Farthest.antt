@@ -2,7 +2,7 @@
 -- Main statements: no_run_leaves_the_text, each_last_is_farthest.
 -- Used by: `farthest_law`, and searches.
 -- Idea: no transition leads over EOI; a later position with a match would be listed later.
-use Rattle.determinize_core.proofs.Common.{[], Accepts, All, ap, arith, by_cases, by_option, byte_edges, choices}
+use Rattle.determinize_core.proofs.Common.{[], Accepts, All, ap, arith, by_cases, by_option, byte_edges, chain, choices}
 use Rattle.determinize_core.proofs.Common.{Contains, ended_at, HalfMatch, IsFarthestMatch, IsPath, last_ended}
 use Rattle.determinize_core.proofs.Common.{last_match, length, List, ListsAccepted, map, Nfa, None, Option, option_or}
 use Rattle.determinize_core.proofs.Common.{placed, refl, slice_get, slice_get_within, Some, suc, Text, true_edges}
@@ -10,7 +10,6 @@ use Rattle.determinize_core.proofs.Common.{Value, ℕ, ◌+◌, ◌<◌, ◌∷�
 use Rattle.ordered_reach.proofs.lists.Elements.{In, In_append_cases, In_map_from, In_none}
 use Rattle.determinize_below.proofs.nfas.Edges.{target-end}
 use Rattle.std.proofs.lemmas.Bool.{cases_lt}
-use Rattle.determinize_core.specs.Chain.{chain}
 use Rattle.determinize_core.specs.Laws.{EachLastIsFarthest, NoRunLeavesTheText}
 use Rattle.determinize_core.proofs.walk.ValueWalks.{ListsAll}
 use Rattle.determinize_core.proofs.walk.WalkOfRuns.{walk_of_all}

@@ -4,14 +4,13 @@
 -- Idea: one more value replaces the last match if it lists a pattern.
 use Rattle.determinize_core.proofs.Common.{[], ap, arith, cond, ended_at, false≢true, future, get_or, is_nonempty}
 use Rattle.determinize_core.proofs.Common.{last_ended, last_match, length, List, MatchKind, Nfa, Option, option_or}
-use Rattle.determinize_core.proofs.Common.{refl, Some, suc, sym, take, take_more, true, Value, value_after, ℕ, ◌++◌}
-use Rattle.determinize_core.proofs.Common.{◌+◌, ◌<◌, ◌∷◌, ◌≡◌}
+use Rattle.determinize_core.proofs.Common.{refl, Some, step, suc, sym, take, take_more, true, Value, value_after, ℕ}
+use Rattle.determinize_core.proofs.Common.{◌++◌, ◌+◌, ◌<◌, ◌∷◌, ◌≡◌}
 use Rattle.ordered_reach.proofs.lists.Pieces.{map-option_or, option_or-assoc, option_or-None}
 use Rattle.std.proofs.Math.Nat.{add-zero}
 use Rattle.std.specs.Prelude.{option_map, slice_index}
 use Rattle.std.proofs.lemmas.List.{length-take-le}
 use Rattle.determinize_core.specs.Laws.{EachFirstUnitUnrolls, EachLastUnitUnrolls, one_later}
-use Rattle.determinize_core.specs.Step.{step}
 use Rattle.determinize_core.proofs.walk.WalkLoops.{future-push, value_after-push}
 
 -- one more value

@@ -3,10 +3,9 @@
 -- Used by: `answer_law`.
 -- Idea: least runs are unique, so lists in their order are.
 use Rattle.determinize_core.proofs.Common.{[], ap, Before, Bool, choices, is_capture, IsBestRun, IsLeastRun}
-use Rattle.determinize_core.proofs.Common.{IsPreferredRun, List, ListsAccepted, Nfa, pattern_in, some_injective}
-use Rattle.determinize_core.proofs.Common.{state_at, sym, Text, ℕ, ◌∙◌, ◌≡◌}
+use Rattle.determinize_core.proofs.Common.{IsPreferredRun, List, ListsAccepted, Nfa, pattern_in, same_decides}
+use Rattle.determinize_core.proofs.Common.{some_injective, state_at, sym, Text, ℕ, ◌∙◌, ◌≡◌}
 use Rattle.ordered_reach.proofs.lists.Elements.{Contains_In, In_Contains, same_by_order}
-use Rattle.ordered_reach.proofs.graph.FiniteGraphs.{same_decides}
 use Rattle.determinize_below.specs.Reached.{known_choices}
 use Rattle.ordered_reach.specs.Runs.{ListsReached}
 use Rattle.ordered_reach.proofs.lists.Pairs.{pairs_at}

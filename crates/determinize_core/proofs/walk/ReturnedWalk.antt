@@ -2,42 +2,42 @@
 -- Main statements: IsWalkedTo, walked-start, walked-push, walked-end, is_walk.
 -- Used by: `walk_between`, also that of the cache.
 -- Idea: the values so far are followed by those over the bytes that are left.
-use Rattle.determinize_core.proofs.Common.{[], All-cons, All-nil, AllResolve, append_assoc, drop, future, get_or}
-use Rattle.determinize_core.proofs.Common.{IsAccepted, length, List, map, MatchKind, Nfa, Option, refl, Some}
-use Rattle.determinize_core.proofs.Common.{start_value, Text, units, Value, ℕ, ◌++◌, ◌+◌, ◌<◌, ◌∷◌, ◌≡◌, ◌≤◌}
-use Rattle.std.proofs.Common.{add-one, All as Each, drop-cons}
+use Rattle.determinize_core.proofs.Common.{[], add-one, All-cons, All-nil, AllResolve, append_assoc, chain, drop}
+use Rattle.determinize_core.proofs.Common.{future, get_or, IsAccepted, length, List, map, MatchKind, Nfa, Option, refl}
+use Rattle.determinize_core.proofs.Common.{Some, start_value, step, Text, units, Value, ℕ, ◌++◌, ◌+◌, ◌<◌, ◌∷◌, ◌≡◌}
+use Rattle.determinize_core.proofs.Common.{◌≤◌}
+use Rattle.std.proofs.Common.{All as Each, drop-cons}
 use Rattle.std.proofs.lemmas.List.{drop_all}
-use Rattle.determinize_core.specs.Chain.{chain}
-use Rattle.determinize_core.specs.Step.{step}
 use Rattle.determinize_core.specs.WholeWalk.{IsWalk}
 use Rattle.determinize_core.proofs.step.Resolving.{start_resolves, step_resolves}
 use Rattle.determinize_core.proofs.step.StepLaws.{each_future_follows}
 use Rattle.determinize_core.proofs.walk.UnitLists.{units_are}
 use Rattle.determinize_core.proofs.walk.WalkOfRuns.{each_chain_has_its_lists, each_chain_is_true, each_chain_reaches}
 
-module _ (nfa : Nfa) (kind : MatchKind) (start : ℕ) (text : Text) where
-  -- after i bytes: the values before the last one, and from the last one on those over what is left
-  abbrev pub IsWalkedTo : ℕ → List Value → Value → Type 0
-  IsWalkedTo i values last =
-      values ++ future nfa kind last (map Some (drop i text.bytes) ++ text.ahead ∷ []) ≡ chain nfa kind start text
+-- after i bytes: the values before the last one, and from the last one on those over what is left
+pub record IsWalkedTo (nfa : Nfa) (kind : MatchKind) (start : ℕ) (text : Text) (i : ℕ) (values : List Value)
+    (last : Value) : Type 0 where
+  pub whole : values ++ future nfa kind last (map Some (drop i text.bytes) ++ text.ahead ∷ [])
+      ≡ chain nfa kind start text
 
-  pub walked-start : IsWalkedTo 0 [] (start_value nfa start text.behind)
-  unfolding chain
-  walked-start = rw (← units_are text.behind text.ahead text.bytes) refl
+pub walked-start : (nfa : Nfa) (kind : MatchKind) (start : ℕ) (text : Text)
+    → IsWalkedTo nfa kind start text 0 [] (start_value nfa start text.behind)
+unfolding chain
+walked-start nfa kind start text = record { whole = rw (← units_are text.behind text.ahead text.bytes) refl }
 
+module _ {nfa : Nfa} {kind : MatchKind} {start : ℕ} {text : Text} {i : ℕ} {values more : List Value} {last next : Value}
+    (walked : IsWalkedTo nfa kind start text i values last) where
   -- one more byte of the text
-  pub walked-push : (i d : ℕ) (values more : List Value) (last next : Value) (u : Option ℕ) → i < length text.bytes
-      → IsWalkedTo i values last → u ≡ Some (get_or text.bytes i d) → next ≡ step nfa kind last u
-      → more ≡ values ++ last ∷ [] → IsWalkedTo (i + 1) more next
-  walked-push i d values more last next u l w a b c =
-      rw (c, b, a, add-one, append_assoc) (rw (drop-cons text.bytes i d l) at w)
+  pub walked-push : {u : Option ℕ} (d : ℕ) → i < length text.bytes → u ≡ Some (get_or text.bytes i d)
+      → next ≡ step nfa kind last u → more ≡ values ++ last ∷ [] → IsWalkedTo nfa kind start text (i + 1) more next
+  walked-push d l a b c = record {
+    whole = rw (c, b, a, add-one, append_assoc) (rw (drop-cons text.bytes i d l) at walked.whole);
+  }
 
   -- what is ahead of the text
-  pub walked-end : (i : ℕ) (values more whole : List Value) (last next : Value) → length text.bytes ≤ i
-      → IsWalkedTo i values last → next ≡ step nfa kind last text.ahead → more ≡ values ++ last ∷ []
-      → whole ≡ more ++ next ∷ [] → whole ≡ chain nfa kind start text
-  walked-end i values more whole last next l w a b c =
-      rw (c, b, a, append_assoc) (rw (drop_all i text.bytes l) at w)
+  pub walked-end : {states : List Value} → length text.bytes ≤ i → next ≡ step nfa kind last text.ahead
+      → more ≡ values ++ last ∷ [] → states ≡ more ++ next ∷ [] → states ≡ chain nfa kind start text
+  walked-end l a b c = rw (c, b, a, append_assoc) (rw (drop_all i text.bytes l) at walked.whole)
 
 -- the states of the values of a walk are states of the NFA
 module _ (nfa : Nfa) (accepted : IsAccepted nfa) (kind : MatchKind) where

@@ -2,12 +2,10 @@
 -- Main statements: units_are, each_byte_ahead_is_next.
 -- Used by: `units_law`, `ahead_law`, ReturnedWalk, and searches.
 -- Idea: the bytes of a text, and then what is ahead.
-use Rattle.determinize_core.proofs.Common.{[], after_at, ap, arith, between, future, length, List, map, map-append}
-use Rattle.determinize_core.proofs.Common.{Option, range_with_len, refl, Some, start_value, suc, sym, units}
-use Rattle.determinize_core.proofs.Common.{value_after, zero, ℕ, ◌++◌, ◌+◌, ◌∙◌, ◌∷◌, ◌≡◌}
-use Rattle.determinize_core.specs.Chain.{chain}
+use Rattle.determinize_core.proofs.Common.{[], after_at, ap, arith, between, chain, future, length, List, map}
+use Rattle.determinize_core.proofs.Common.{map-append, Option, range_with_len, refl, Some, start_value, step, suc, sym}
+use Rattle.determinize_core.proofs.Common.{units, value_after, zero, ℕ, ◌++◌, ◌+◌, ◌∙◌, ◌∷◌, ◌≡◌}
 use Rattle.determinize_core.specs.Laws.{EachByteAheadIsNext}
-use Rattle.determinize_core.specs.Step.{step}
 use Rattle.determinize_core.proofs.walk.WalkLoops.{future-push}
 
 -- positions of a text with one more byte before its own

@@ -2,21 +2,20 @@
 -- Main statements: walk_of_all, leftmost_walk, each_chain_reaches, each_chain_is_true.
 -- Used by: ReturnedWalk, `walk_law`, and searches.
 -- Idea: an NFA over a text is an automaton over numbers, so Automata applies.
-use Rattle.determinize_core.proofs.Common.{[], Accepts, after_at, All, arith, before_at, by_option, byte_edges, choices}
-use Rattle.determinize_core.proofs.Common.{Contains, ended_at, flat_map-append, HalfMatch, is_capture, is_match}
-use Rattle.determinize_core.proofs.Common.{is_some, IsAccepted, IsBeginning, IsPreferredMatch, known_edges, last_ended}
-use Rattle.determinize_core.proofs.Common.{last_match, LeftmostFirst, length, List, ListsAccepted, map, MatchKind, Nfa}
-use Rattle.determinize_core.proofs.Common.{None, Option, pattern_of, patterns_of, placed, range_with_len, refl}
-use Rattle.determinize_core.proofs.Common.{slice_get, slice_get_past, Some, state_at, suc, sym, take, Text, true}
-use Rattle.determinize_core.proofs.Common.{true_edges, true≢false, truth, unwrap_or, Value, zero, ℕ, ◌+◌, ◌∙◌, ◌∷◌, ◌≡◌}
-use Rattle.determinize_core.proofs.Common.{◌≤◌}
+use Rattle.determinize_core.proofs.Common.{[], Accepts, add-one, after_at, All, arith, before_at, by_option, byte_edges}
+use Rattle.determinize_core.proofs.Common.{chain, choices, Contains, ended_at, flat_map-append, HalfMatch, is_capture}
+use Rattle.determinize_core.proofs.Common.{is_match, is_some, IsAccepted, IsBeginning, IsPreferredMatch, known_edges}
+use Rattle.determinize_core.proofs.Common.{last_ended, last_match, LeftmostFirst, length, List, ListsAccepted, map}
+use Rattle.determinize_core.proofs.Common.{MatchKind, Nfa, None, Option, pattern_of, patterns_of, placed}
+use Rattle.determinize_core.proofs.Common.{range_with_len, refl, same_decides, slice_get, slice_get_past, Some}
+use Rattle.determinize_core.proofs.Common.{state_at, suc, sym, take, Text, true, true_edges, true≢false, truth}
+use Rattle.determinize_core.proofs.Common.{unwrap_or, Value, zero, ℕ, ◌+◌, ◌∙◌, ◌∷◌, ◌≡◌, ◌≤◌}
 use Rattle.determinize_below.proofs.nfas.SoundNfa.{accepted_sound, match_in}
 use Rattle.ordered_reach.proofs.lists.Elements.{Contains_In, In_append_left, In_Contains, In_take_one}
 use Rattle.determinize_below.proofs.nfas.Edges.{edges-capture, edges-more, match-capture, next_of, patterns-without}
 use Rattle.determinize_below.proofs.nfas.Edges.{target-capture, target-end}
 use Rattle.determinize_start.proofs.tables.TrueTables.{known_truth}
 use Rattle.ordered_reach.proofs.lists.Pieces.{map-option_or}
-use Rattle.ordered_reach.proofs.graph.FiniteGraphs.{same_decides}
 use Rattle.std.specs.List.{find}
 use Rattle.std.specs.Option.{option_map}
 use Rattle.determinize_below.specs.Reached.{known}
@@ -24,12 +23,10 @@ use Rattle.ordered_reach.proofs.lists.Prefixes.{Beginning-ordered}
 use Rattle.ordered_reach.proofs.runs.CutLists.{last_accepting}
 use Rattle.ordered_reach.proofs.runs.MostPreferred.{IsMostPreferred}
 use Rattle.ordered_reach.proofs.runs.Automata.{IsTrueWalk, true_walk}
-use Rattle.determinize_core.specs.Chain.{chain}
 use Rattle.determinize_core.specs.Laws.{EachChainHasItsLists, EachChainIsTrue, EachChainReaches}
 use Rattle.determinize_core.proofs.walk.ValueWalks.{all_listed, FindsLeftmost, leftmost_listed, ListsAll}
 use Rattle.determinize_core.specs.WalkStates.{IsPartKept}
 use Rattle.determinize_core.proofs.walk.AcceptedPatterns.{lists_accepted, matches_at}
-use Rattle.std.proofs.Common.{add-one}
 use Rattle.determinize_core.proofs.walk.WalkValues.{chain_is, chain_item, length-chain, patterns_at_is, recorded_by}
 use Rattle.determinize_core.proofs.walk.WalkValues.{redone_by, states_at_is, states_last, value_at}
 

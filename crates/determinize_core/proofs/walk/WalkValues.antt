@@ -2,33 +2,29 @@
 -- Main statements: value_at, recorded_by, redone_by, states_at_is, patterns_at_is, chain_is.
 -- Used by: WalkOfRuns.
 -- Idea: induction over the positions, with WorkingLists for one step.
-use Rattle.determinize_core.proofs.Common.{[], after_at, All, ap, arith, before_at, begun, Bool, by_test, byte_edges}
-use Rattle.determinize_core.proofs.Common.{eqb-true, false, flat_map, future, get_or, get_or_from_slice_get, is_capture}
-use Rattle.determinize_core.proofs.Common.{is_match, is_nonempty, IsAccepted, IsTested, known_edges, LeftmostFirst}
-use Rattle.determinize_core.proofs.Common.{length, List, map, MatchKind, member, nat_eq, needs, Nfa, None, not, Option}
-use Rattle.determinize_core.proofs.Common.{part_read, patterns_of, patterns_read, range_with_len, recorded, refl}
-use Rattle.determinize_core.proofs.Common.{slice_get, slice_get-get_or, slice_get_past, slice_get_within, Some}
-use Rattle.determinize_core.proofs.Common.{start_value, suc, sym, tables_of, target, Text, true, true_edges, true≢false}
-use Rattle.determinize_core.proofs.Common.{truth, Value, without, working_list, zero, ℕ, ◌+◌, ◌<◌, ◌==◌, ◌∙◌, ◌∷◌, ◌≡◌}
-use Rattle.determinize_core.proofs.Common.{◌≤◌}
+use Rattle.determinize_core.proofs.Common.{[], add-one, after_at, All, ap, arith, before_at, begun, Bool, by_test}
+use Rattle.determinize_core.proofs.Common.{byte_edges, chain, eqb-true, false, flat_map, future, get_or}
+use Rattle.determinize_core.proofs.Common.{get_or_from_slice_get, is_capture, is_match, is_nonempty, IsAccepted}
+use Rattle.determinize_core.proofs.Common.{IsTested, known_edges, LeftmostFirst, length, List, map, MatchKind, member}
+use Rattle.determinize_core.proofs.Common.{nat_eq, needs, Nfa, None, not, Option, part_read, patterns_of, patterns_read}
+use Rattle.determinize_core.proofs.Common.{range_with_len, recorded, refl, same_decides, slice_get, slice_get-get_or}
+use Rattle.determinize_core.proofs.Common.{slice_get_past, slice_get_within, Some, start_value, step, suc, sym}
+use Rattle.determinize_core.proofs.Common.{tables_of, target, Text, true, true_edges, true≢false, truth, Value, without}
+use Rattle.determinize_core.proofs.Common.{working_list, zero, ℕ, ◌+◌, ◌<◌, ◌==◌, ◌∙◌, ◌∷◌, ◌≡◌, ◌≤◌}
 use Rattle.determinize_below.proofs.nfas.SoundNfa.{accepted_sound}
 use Rattle.determinize_below.proofs.nfas.Edges.{edges-same, match-capture, patterns-without, target-capture, target-end}
 use Rattle.determinize_below.proofs.looks.LookSets.{has-empty}
 use Rattle.ordered_reach.proofs.lists.NewNodes.{member-filter}
 use Rattle.ordered_reach.proofs.lists.Pieces.{before-without, flat_map-without, flat_map_none}
-use Rattle.ordered_reach.proofs.graph.FiniteGraphs.{same_decides}
 use Rattle.determinize_below.specs.Edges.{reach}
 use Rattle.determinize_below.specs.Look.{has}
 use Rattle.determinize_below.specs.Reached.{known}
 use Rattle.determinize_below.specs.declared.look.Look.{Look as Assertion}
-use Rattle.determinize_core.specs.Chain.{chain}
-use Rattle.determinize_core.specs.Step.{step}
 use Rattle.determinize_start.specs.LookTables.{from_word_after, from_word_at_start, half_crlf_after, half_crlf_at_start}
 use Rattle.determinize_start.specs.LookTables.{have_after, have_at_start}
 use Rattle.determinize_start.proofs.kinds.StartKinds.{from_word-same, half_crlf-same}
 use Rattle.determinize_start.proofs.tables.TrueTables.{have_after_known, start_known}
 use Rattle.determinize_core.proofs.step.WorkingLists.{fuel, IsEntered, listing, reach_is, working_is}
-use Rattle.std.proofs.Common.{add-one}
 use Rattle.std.proofs.lemmas.List.FromFn.{get_or-map-range_with_len, length-map-range_with_len}
 use Rattle.ordered_reach.proofs.runs.CutLists as levels
 

@@ -16,13 +16,8 @@ loop-byte-init g c =
 pub loop-byte-preserved : goal.loop-byte-preserved
 loop-byte-preserved g c = record {
   stepper = c.in_ok-next.ensures.unchanged ∙ c.loop-byte.invariant.stepper;
-  walked = walked-push c.args.nfa.now c.args.match_kind c.args.start
-      (between c.args.look_behind c.args.text.now c.args.look_ahead) c.loop-byte.byte-index 0 _ _ _ _
-      (byte_of c.u8-unit.result) c.loop-byte-test.true
-      c.loop-byte.invariant.walked
-      (ap byte_of c.u8-unit.ensures)
-      (rw c.loop-byte.invariant.stepper at c.in_ok-next.ensures.ok)
-      c.in_ok-push.ensures.items;
+  walked = walked-push c.loop-byte.invariant.walked 0 c.loop-byte-test.true (ap byte_of c.u8-unit.ensures)
+      (rw c.loop-byte.invariant.stepper at c.in_ok-next.ensures.ok) c.in_ok-push.ensures.items;
   resolve = rw c.loop-byte.invariant.stepper at c.in_ok-next.ensures.resolve;
 }
 
@@ -34,11 +29,8 @@ next-requires-2 g c = rw c.loop-byte.invariant.stepper c.loop-byte.invariant.res
 
 pub returns : goal.returns
 returns g c =
-    is_walk c.args.nfa.now c.args.match_kind c.args.start
-    (between c.args.look_behind c.args.text.now c.args.look_ahead) _
+    let ahead = rw c.from-unit.ensures.0 at (rw c.loop-byte.invariant.stepper at c.in_ok-last.ensures.ok) in
+    is_walk c.args.nfa.now c.args.match_kind c.args.start _ _
     (rw c.new-stepper.ensures at c.in_ok-state.ensures.accepted) c.requires
-    (walked-end c.args.nfa.now c.args.match_kind c.args.start
-    (between c.args.look_behind c.args.text.now c.args.look_ahead) c.loop-byte.byte-index _ _ _ _ _
-    c.loop-byte-test.false c.loop-byte.invariant.walked
-    (rw (← c.from-unit.ensures.0) (rw c.loop-byte.invariant.stepper at c.in_ok-last.ensures.ok))
-    c.in_ok-push-2.ensures.items c.in_ok-push-3.ensures.items)
+    (walked-end c.loop-byte.invariant.walked c.loop-byte-test.false ahead c.in_ok-push-2.ensures.items
+    c.in_ok-push-3.ensures.items)
