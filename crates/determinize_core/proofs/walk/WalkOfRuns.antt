@@ -131,7 +131,7 @@ each_chain_reaches nfa accepted kind start text = record {
     rw (← (chain_item nfa kind start text i v h).1, is) (part_kept nfa accepted start text kind i),
   );
   last = λ e v h. rw (← (chain_item nfa kind start text (suc (length text.bytes)) v h).1)
-      (states_last nfa kind start text accepted e);
+      (states_last nfa kind start text e);
 }
 
 pub each_chain_is_true : EachChainIsTrue

@@ -47,29 +47,16 @@ recorded_by nfa LeftmostFirst s text k =
     levels.recorded_cut nat_eq (known_edges nfa text) (true_edges nfa text) (byte_edges nfa text) (is_capture nfa)
     (is_match nfa) (fuel nfa (length text.bytes)) s k
 
-module _ (nfa : Nfa) (kind : MatchKind) (s : ℕ) (text : Text) where
-  -- the value at each place
-  abbrev pub value_at : ℕ → Value
-  value_at zero = start_value nfa s text.behind
-  value_at (suc k) = step nfa kind (value_at k) (after_at text k)
-
-  -- the roots of its search
-  abbrev roots_at : ℕ → List ℕ
-  roots_at zero = s ∷ []
-  roots_at (suc k) =
-      flat_map (byte_edges nfa text k)
-      (part_read kind (is_match nfa) (working_list nfa (value_at k) (after_at text k)))
-
-  -- the search redone at a position
-  abbrev pub redone_by : ℕ → List ℕ
-  redone_by k =
-      listing nfa (length text.bytes) (truth nfa (before_at text k) (after_at text k)) (recorded_by nfa kind s text k)
-
 recorded_by-zero : (nfa : Nfa) (kind : MatchKind) (s : ℕ) (text : Text)
     → recorded_by nfa kind s text 0 ≡ without (is_capture nfa)
     (listing nfa (length text.bytes) (known nfa text.behind) (s ∷ []))
 recorded_by-zero nfa All s text = refl
 recorded_by-zero nfa LeftmostFirst s text = refl
+
+-- the search redone at a position
+abbrev pub redone_by : Nfa → MatchKind → ℕ → Text → ℕ → List ℕ
+redone_by nfa kind s text k =
+    listing nfa (length text.bytes) (truth nfa (before_at text k) (after_at text k)) (recorded_by nfa kind s text k)
 
 recorded_by-suc : (nfa : Nfa) (kind : MatchKind) (s : ℕ) (text : Text) (k : ℕ)
     → recorded_by nfa kind s text (suc k)
@@ -96,66 +83,25 @@ recorded_entered nfa accepted m b w h have ps roots k f =
       flags = λ s i. f s (member-filter same_decides (λ x. not (is_capture nfa x)) entered s i);
     }
 
-module _ (nfa : Nfa) (kind : MatchKind) (s : ℕ) (text : Text) (accepted : IsAccepted nfa) where
-  entered_at : (k : ℕ) → k ≤ length text.bytes → IsEntered nfa (length text.bytes) (before_at text k)
-      (value_at nfa kind s text k) (roots_at nfa kind s text k)
-  unfolding step
-  entered_at zero l = recorded_entered nfa accepted (length text.bytes) text.behind
-      (from_word_at_start (tables_of nfa) text.behind) (half_crlf_at_start (tables_of nfa) text.behind)
-      (have_at_start (tables_of nfa) text.behind) [] (s ∷ []) (start_known nfa accepted text.behind)
-      (λ x i. (from_word-same (tables_of nfa) text.behind, half_crlf-same (tables_of nfa) text.behind))
-  entered_at (suc k) l = rw (slice_get-get_or text.bytes k 0 l)
-      (recorded_entered nfa accepted (length text.bytes) _ _ _ (have_after (tables_of nfa) _) _ _
-      (have_after_known nfa accepted (get_or text.bytes k 0)) (λ s i. rw (nonempty_member _ s i) (refl, refl)))
-
-  -- captures aside, the working list is the search redone at the position
-  working_at : (k : ℕ) → k ≤ length text.bytes → (value_at nfa kind s text k).states ≡ recorded_by nfa kind s text k
-      → without (is_capture nfa) (working_list nfa (value_at nfa kind s text k) (after_at text k))
-      ≡ without (is_capture nfa) (redone_by nfa kind s text k)
-  working_at k l e = rw (← e) (working_is nfa accepted (length text.bytes) (before_at text k) (after_at text k)
-      (value_at nfa kind s text k) (roots_at nfa kind s text k) (entered_at k l))
-
-  targets-without : (k : ℕ) (xs : List ℕ)
-      → flat_map (byte_edges nfa text k) (part_read kind (is_match nfa) (without (is_capture nfa) xs))
-      ≡ flat_map (byte_edges nfa text k) (part_read kind (is_match nfa) xs)
-  targets-without k xs = rw (read-without kind (is_match nfa) (is_capture nfa) xs (match-capture nfa))
-      (flat_map-without (byte_edges nfa text k) (is_capture nfa) _ (target-capture nfa (slice_get text.bytes k)))
-
-  pub states_at_is : (k : ℕ) → k ≤ length text.bytes
-      → (value_at nfa kind s text k).states ≡ recorded_by nfa kind s text k
-  states_at_is zero l = (entered_at 0 l).states ∙ sym (recorded_by-zero nfa kind s text)
-  states_at_is (suc k) l =
-      let e = working_at k (omega arith) (states_at_is k (omega arith)) in
-      let read = rw e at (targets-without k (working_list nfa (value_at nfa kind s text k) (after_at text k))) in
-      rw ((entered_at (suc k) l).states, recorded_by-suc nfa kind s text k, ← read, targets-without k)
-
-  -- the patterns of a value are those of what was reached at the position before its unit
-  pub patterns_at_is : (k : ℕ) → k ≤ length text.bytes
-      → (value_at nfa kind s text (suc k)).patterns ≡ patterns_read kind (patterns_of nfa (redone_by nfa kind s text k))
-  unfolding step
-  patterns_at_is k l =
-      let e = working_at k l (states_at_is k l) in
-      ap (λ ps. patterns_read kind ps) (sym (patterns-without nfa _) ∙ ap (λ xs. patterns_of nfa xs) e
-      ∙ patterns-without nfa _)
-
-  -- no state is recorded after EOI
-  pub states_last : text.ahead ≡ None → (value_at nfa kind s text (suc (length text.bytes))).states ≡ []
-  unfolding step reach
-  states_last e = rw (slice_get_past text.bytes (length text.bytes) (omega arith), e)
-      (ap (λ roots. without (is_capture nfa) (reach nfa (has (have_after (tables_of nfa) None)) roots))
-      (flat_map_none (target nfa None) _ (target-end nfa)))
-
--- the items of a chain
 module _ (nfa : Nfa) (kind : MatchKind) (s : ℕ) (text : Text) where
-  abbrev value : ℕ → Value
-  value = value_at nfa kind s text
+  -- the value at each place
+  abbrev pub value_at : ℕ → Value
+  value_at zero = start_value nfa s text.behind
+  value_at (suc k) = step nfa kind (value_at k) (after_at text k)
 
-  values_from : (n k : ℕ) → future nfa kind (value k) (map (after_at text) (range_with_len k n))
-      ≡ map value (range_with_len k (suc n))
+  -- the roots of its search
+  abbrev roots_at : ℕ → List ℕ
+  roots_at zero = s ∷ []
+  roots_at (suc k) =
+      flat_map (byte_edges nfa text k)
+      (part_read kind (is_match nfa) (working_list nfa (value_at k) (after_at text k)))
+
+  values_from : (n k : ℕ) → future nfa kind (value_at k) (map (after_at text) (range_with_len k n))
+      ≡ map value_at (range_with_len k (suc n))
   values_from zero k = refl
-  values_from (suc n) k = rw (add-one k) (ap (λ vs. value k ∷ vs) (values_from n (suc k)))
+  values_from (suc n) k = rw (add-one k) (ap (λ vs. value_at k ∷ vs) (values_from n (suc k)))
 
-  pub chain_is : chain nfa kind s text ≡ map value (range_with_len 0 (suc (suc (length text.bytes))))
+  pub chain_is : chain nfa kind s text ≡ map value_at (range_with_len 0 (suc (suc (length text.bytes))))
   unfolding chain
   chain_is = values_from (suc (length text.bytes)) 0
 
@@ -164,9 +110,57 @@ module _ (nfa : Nfa) (kind : MatchKind) (s : ℕ) (text : Text) where
 
   -- an item of a chain is the value of its place
   pub chain_item : (j : ℕ) (v : Value) → slice_get (chain nfa kind s text) j ≡ Some v
-      → (j < length text.bytes + 2) × (value j ≡ v)
+      → (j < length text.bytes + 2) × (value_at j ≡ v)
   chain_item j v h =
       let l : j < length text.bytes + 2 = rw length-chain at (slice_get_within _ j v h) in
       let e = rw chain_is at (get_or_from_slice_get _ j v v h) in
-      let at = get_or-map-range_with_len value 0 (suc (suc (length text.bytes))) j j v (omega arith) (omega arith) in
+      let at = get_or-map-range_with_len value_at 0 (suc (suc (length text.bytes))) j j v (omega arith) (omega arith) in
       (l, sym at ∙ e)
+
+  targets-without : (k : ℕ) (xs : List ℕ)
+      → flat_map (byte_edges nfa text k) (part_read kind (is_match nfa) (without (is_capture nfa) xs))
+      ≡ flat_map (byte_edges nfa text k) (part_read kind (is_match nfa) xs)
+  targets-without k xs = rw (read-without kind (is_match nfa) (is_capture nfa) xs (match-capture nfa))
+      (flat_map-without (byte_edges nfa text k) (is_capture nfa) _ (target-capture nfa (slice_get text.bytes k)))
+
+  -- no state is recorded after EOI
+  pub states_last : text.ahead ≡ None → (value_at (suc (length text.bytes))).states ≡ []
+  unfolding step reach
+  states_last e = rw (slice_get_past text.bytes (length text.bytes) (omega arith), e)
+      (ap (λ roots. without (is_capture nfa) (reach nfa (has (have_after (tables_of nfa) None)) roots))
+      (flat_map_none (target nfa None) _ (target-end nfa)))
+
+  module _ (accepted : IsAccepted nfa) where
+    entered_at : (k : ℕ) → k ≤ length text.bytes
+        → IsEntered nfa (length text.bytes) (before_at text k) (value_at k) (roots_at k)
+    unfolding step
+    entered_at zero l = recorded_entered nfa accepted (length text.bytes) text.behind
+        (from_word_at_start (tables_of nfa) text.behind) (half_crlf_at_start (tables_of nfa) text.behind)
+        (have_at_start (tables_of nfa) text.behind) [] (s ∷ []) (start_known nfa accepted text.behind)
+        (λ x i. (from_word-same (tables_of nfa) text.behind, half_crlf-same (tables_of nfa) text.behind))
+    entered_at (suc k) l = rw (slice_get-get_or text.bytes k 0 l)
+        (recorded_entered nfa accepted (length text.bytes) _ _ _ (have_after (tables_of nfa) _) _ _
+        (have_after_known nfa accepted (get_or text.bytes k 0)) (λ s i. rw (nonempty_member _ s i) (refl, refl)))
+
+    -- captures aside, the working list is the search redone at the position
+    working_at : (k : ℕ) → k ≤ length text.bytes → (value_at k).states ≡ recorded_by nfa kind s text k
+        → without (is_capture nfa) (working_list nfa (value_at k) (after_at text k))
+        ≡ without (is_capture nfa) (redone_by nfa kind s text k)
+    working_at k l e = rw (← e) (working_is nfa accepted (length text.bytes) (before_at text k) (after_at text k)
+        (value_at k) (roots_at k) (entered_at k l))
+
+    pub states_at_is : (k : ℕ) → k ≤ length text.bytes → (value_at k).states ≡ recorded_by nfa kind s text k
+    states_at_is zero l = (entered_at 0 l).states ∙ sym (recorded_by-zero nfa kind s text)
+    states_at_is (suc k) l =
+        let e = working_at k (omega arith) (states_at_is k (omega arith)) in
+        let read = rw e at (targets-without k (working_list nfa (value_at k) (after_at text k))) in
+        rw ((entered_at (suc k) l).states, recorded_by-suc nfa kind s text k, ← read, targets-without k)
+
+    -- the patterns of a value are those of what was reached at the position before its unit
+    pub patterns_at_is : (k : ℕ) → k ≤ length text.bytes
+        → (value_at (suc k)).patterns ≡ patterns_read kind (patterns_of nfa (redone_by nfa kind s text k))
+    unfolding step
+    patterns_at_is k l =
+        let e = working_at k l (states_at_is k l) in
+        ap (λ ps. patterns_read kind ps) (sym (patterns-without nfa _) ∙ ap (λ xs. patterns_of nfa xs) e
+        ∙ patterns-without nfa _)
