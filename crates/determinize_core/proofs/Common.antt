@@ -6,7 +6,7 @@ pub use Rattle.determinize_below.specs.Edges.{patterns_of, target}
 pub use Rattle.determinize_below.specs.Look.{each_look}
 pub use Rattle.determinize_below.specs.Members.{has_id, Members}
 pub use Rattle.determinize_below.specs.Nfa.{AllResolve, IsAccepted}
-pub use Rattle.determinize_below.specs.Positions.{byte_edges, IsRun, true_edges, truth}
+pub use Rattle.determinize_below.specs.Positions.{byte_edges, true_edges, truth}
 pub use Rattle.determinize_below.specs.Reached.{IsReached, known_edges}
 pub use Rattle.determinize_below.specs.Search.{Asked, is_done}
 pub use Rattle.determinize_below.specs.Semantics.{Accepts, after_at, before_at, between, BinaryUnion, ByteRange}
@@ -44,7 +44,6 @@ pub use Rattle.std.proofs.Common.{[], add-one, ap, append_assoc, arith, Bool, dr
 pub use Rattle.std.proofs.Common.{get_or-set_other, get_or-set_same, if◌then◌else◌, inl, inr, length, length-append}
 pub use Rattle.std.proofs.Common.{List, map, nat_eq, None, not, Option, refl, replicate, rules, Some, subst, suc, sym}
 pub use Rattle.std.proofs.Common.{take, true, zero, ℕ, ◌&&◌, ◌*◌, ◌++◌, ◌+◌, ◌-◌, ◌<◌, ◌||◌, ◌∙◌, ◌∷◌, ◌≡◌, ◌≤◌, ◌⊎◌}
-pub use Rattle.std.proofs.Math.Seq.{take-suc}
 pub use Rattle.std.proofs.lemmas.Bool.{eq-eqb, eqb-true, false≢true, or_left, true≢false}
 pub use Rattle.std.proofs.lemmas.Bool.Decides.{nat_tests}
 pub use Rattle.std.proofs.lemmas.List.{append-nil, get_or-replicate, get_or-reverse, get_or_append_left, length-map}
@@ -57,7 +56,7 @@ pub use Rattle.std.proofs.lemmas.Option.{slice_get_within}
 pub use Rattle.std.proofs.lemmas.Result.{IfOk-weaker}
 pub use Rattle.std.specs.Cmp.{IsEquivalence, on_equiv}
 pub use Rattle.std.specs.HashMap.{get}
-pub use Rattle.std.specs.List.{flat_map, list_any, range_with_len, slice_range}
+pub use Rattle.std.specs.List.{flat_map, list_any, range_with_len}
 pub use Rattle.std.specs.Map.{lookup}
 pub use Rattle.std.specs.Option.{IfSome, is_some, option_or, option_to_list}
 pub use Rattle.std.specs.Prelude.{cond, Contains, Decides, Err, IfNone, min, nat_lt, Ok, option_map, Result, slice_get}

@@ -2,15 +2,15 @@
 -- Main statements: value_at, recorded_by, redone_by, states_at_is, patterns_at_is, chain_is.
 -- Used by: WalkOfRuns.
 -- Idea: induction over the positions, with WorkingLists for one step.
-use Rattle.determinize_core.proofs.Common.{[], add-one, after_at, All, ap, arith, before_at, begun, Bool, by_test}
-use Rattle.determinize_core.proofs.Common.{byte_edges, chain, eqb-true, false, flat_map, future, get_or}
-use Rattle.determinize_core.proofs.Common.{get_or_from_slice_get, is_capture, is_match, is_nonempty, IsAccepted}
-use Rattle.determinize_core.proofs.Common.{IsTested, known_edges, LeftmostFirst, length, List, map, MatchKind, member}
-use Rattle.determinize_core.proofs.Common.{nat_eq, needs, Nfa, None, not, Option, part_read, patterns_of, patterns_read}
-use Rattle.determinize_core.proofs.Common.{range_with_len, recorded, refl, same_decides, slice_get, slice_get-get_or}
-use Rattle.determinize_core.proofs.Common.{slice_get_past, slice_get_within, Some, start_value, step, suc, sym}
-use Rattle.determinize_core.proofs.Common.{tables_of, target, Text, true, true_edges, true≢false, truth, Value, without}
-use Rattle.determinize_core.proofs.Common.{working_list, zero, ℕ, ◌+◌, ◌<◌, ◌==◌, ◌∙◌, ◌∷◌, ◌≡◌, ◌≤◌}
+use Rattle.determinize_core.proofs.Common.{[], add-one, after_at, All, ap, arith, before_at, begun, Bool, byte_edges}
+use Rattle.determinize_core.proofs.Common.{chain, false, flat_map, future, get_or, get_or_from_slice_get, is_capture}
+use Rattle.determinize_core.proofs.Common.{is_match, is_nonempty, IsAccepted, IsTested, known_edges, LeftmostFirst}
+use Rattle.determinize_core.proofs.Common.{length, List, map, MatchKind, member, nat_eq, nat_tests, Nfa, None, not}
+use Rattle.determinize_core.proofs.Common.{Option, part_read, patterns_of, patterns_read, range_with_len, recorded}
+use Rattle.determinize_core.proofs.Common.{refl, same_decides, slice_get, slice_get-get_or, slice_get_past}
+use Rattle.determinize_core.proofs.Common.{slice_get_within, Some, start_value, step, suc, sym, tables_of, target, Text}
+use Rattle.determinize_core.proofs.Common.{true, true_edges, truth, Value, without, working_list, zero, ℕ, ◌+◌, ◌<◌}
+use Rattle.determinize_core.proofs.Common.{◌∙◌, ◌∷◌, ◌≡◌, ◌≤◌}
 use Rattle.determinize_below.proofs.nfas.SoundNfa.{accepted_sound}
 use Rattle.determinize_below.proofs.nfas.Edges.{edges-same, match-capture, patterns-without, target-capture, target-end}
 use Rattle.determinize_below.proofs.looks.LookSets.{has-empty}
@@ -76,10 +76,7 @@ recorded_entered nfa accepted m b w h have ps roots k f =
     record {
       states = rw (reach_is nfa (accepted_sound nfa accepted) m, edges-same nfa (has have) (known nfa b) k);
       need = refl;
-      have = λ a n l q. by_test (needs nfa 0 (without (is_capture nfa) entered) == 0)
-          (λ z. let y : needs nfa 0 (without (is_capture nfa) entered) ≡ 0 = eqb-true _ _ z in
-          absurd (true≢false (sym (rw y at n) ∙ has-empty a)))
-          (λ z. rw z (k l q));
+      have = λ a n l q. grind (arith, nat_tests, has-empty a, k l q);
       flags = λ s i. f s (member-filter same_decides (λ x. not (is_capture nfa x)) entered s i);
     }
 
