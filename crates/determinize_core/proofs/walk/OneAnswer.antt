@@ -3,7 +3,7 @@
 -- Used by: `answer_law`.
 -- Idea: least runs are unique, so lists in their order are.
 use Rattle.determinize_core.proofs.Common.{[], ap, Before, Bool, choices, Contains, is_capture, IsBestRun, IsLeastRun}
-use Rattle.determinize_core.proofs.Common.{IsPreferredRun, List, ListsAccepted, Nfa, pattern_in, same, same_decides}
+use Rattle.determinize_core.proofs.Common.{IsPreferredRun, List, ListsAccepted, Nfa, pattern_in, same_decides}
 use Rattle.determinize_core.proofs.Common.{slice_get, Some, some_injective, state_at, sym, Text, ℕ, ◌<◌, ◌∙◌, ◌≡◌}
 use Rattle.ordered_reach.proofs.lists.Elements.{Contains_In, In_Contains, same_by_order}
 use Rattle.determinize_below.specs.Reached.{known_choices}
@@ -23,11 +23,11 @@ AreInOrder IsRunOf xs = (j k x y : ℕ) → j < k → slice_get xs j ≡ Some x 
 one_list : (IsRunOf : ℕ → List ℕ → Type 0) → ((x : ℕ) (cs ds : List ℕ) → IsRunOf x cs → IsRunOf x ds → cs ≡ ds)
     → (xs ys : List ℕ) → ((x : ℕ) → (Contains xs x) ↔ (Contains ys x)) → AreInOrder IsRunOf xs → AreInOrder IsRunOf ys
     → xs ≡ ys
-one_list IsRunOf one xs ys same a b = same_by_order
+one_list IsRunOf one xs ys both a b = same_by_order
     (λ x y. (cs : List ℕ) × (ds : List ℕ) × IsRunOf x cs × IsRunOf y ds × Before cs ds)
     (λ x y p q. Before-asym q.1 q.0 (rw (one x p.0 q.1 p.2 q.3, one y p.1 q.0 p.3 q.2) at p.4) q.4) xs ys
-    (λ x h. Contains_In same_decides ys x ((same x).0 (In_Contains same_decides xs x h)))
-    (λ x h. Contains_In same_decides xs x ((same x).1 (In_Contains same_decides ys x h))) a b
+    (λ x h. Contains_In same_decides ys x ((both x).0 (In_Contains same_decides xs x h)))
+    (λ x h. Contains_In same_decides xs x ((both x).1 (In_Contains same_decides ys x h))) a b
 
 module _ (nfa : Nfa) (text : Text) (start : ℕ) where
   one_listing : (i : ℕ) (ps qs : List ℕ) → ListsAccepted nfa text start i ps → ListsAccepted nfa text start i qs

@@ -1,6 +1,6 @@
 -- The loop of a walk, and that the values of a chain are what a walk returns.
 -- Main statements: IsWalkedTo, walked-start, walked-push, walked-end, is_walk.
--- Used by: `walk_between`, also that of the cache.
+-- Used by: `walk_between`, here and of the cache.
 -- Idea: the values so far are followed by those over the bytes that are left.
 use Rattle.determinize_core.proofs.Common.{[], add-one, All-cons, All-nil, AllResolve, append_assoc, chain, drop}
 use Rattle.determinize_core.proofs.Common.{future, get_or, IsAccepted, length, List, map, MatchKind, Nfa, Option, refl}

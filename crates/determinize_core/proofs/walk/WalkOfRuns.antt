@@ -1,6 +1,6 @@
 -- The values of a chain against whole runs: the theorem.
 -- Main statements: walk_of_all, leftmost_walk, each_chain_reaches, each_chain_is_true.
--- Used by: ReturnedWalk, `walk_law`, and searches.
+-- Used by: ReturnedWalk, Farthest, `walk_law`, and searches.
 -- Idea: an NFA over a text is an automaton over numbers, so Automata applies.
 use Rattle.determinize_core.proofs.Common.{[], Accepts, add-one, after_at, All, arith, before_at, by_option, byte_edges}
 use Rattle.determinize_core.proofs.Common.{chain, choices, Contains, ended_at, flat_map-append, HalfMatch, is_capture}
