@@ -7,7 +7,7 @@ pub use Rattle.determinize_below.specs.Edges.{patterns_of, target}
 pub use Rattle.determinize_below.specs.Look.{each_look}
 pub use Rattle.determinize_below.specs.Members.{has_id, Members}
 pub use Rattle.determinize_below.specs.Nfa.{AllResolve, IsAccepted}
-pub use Rattle.determinize_below.specs.Positions.{byte_edges, IsRun, true_edges, truth}
+pub use Rattle.determinize_below.specs.Positions.{byte_edges, true_edges, truth}
 pub use Rattle.determinize_below.specs.Reached.{IsReached, known_edges}
 pub use Rattle.determinize_below.specs.Search.{Asked, is_done}
 pub use Rattle.determinize_below.specs.Semantics.{Accepts, after_at, before_at, between, BinaryUnion, ByteRange}
@@ -18,6 +18,7 @@ pub use Rattle.determinize_below.specs.declared.search.HalfMatch.{HalfMatch}
 pub use Rattle.determinize_below.specs.declared.search.MatchKind.{MatchKind}
 pub use Rattle.determinize_below.specs.declared.search.MatchKind.TheVariants.{All, LeftmostFirst}
 pub use Rattle.determinize_core.specs.Chain.{future, units, value_after}
+unfoldable pub use Rattle.determinize_core.specs.Chain.{chain}
 pub use Rattle.determinize_core.specs.LastMatch.{ended_at, IsFarthestMatch, IsPreferredMatch, last_ended, last_match}
 pub use Rattle.determinize_core.specs.LastMatch.{lists_of}
 pub use Rattle.determinize_core.specs.Private.Changes.{with_patterns}
@@ -28,6 +29,7 @@ pub use Rattle.determinize_core.specs.Searches.{start_for, text_of}
 pub use Rattle.determinize_core.specs.States.{EachApart, IsIndex}
 pub use Rattle.determinize_core.specs.Step.{begun, distinct_states, is_reopened, left_by, opened_by, part_read}
 pub use Rattle.determinize_core.specs.Step.{patterns_read, start_value, targets, working_list}
+unfoldable pub use Rattle.determinize_core.specs.Step.{step}
 pub use Rattle.determinize_core.specs.Stepper.{StepperValue}
 pub use Rattle.determinize_core.specs.Tries.{edges_in_all, tries_again, tries_of}
 pub use Rattle.determinize_core.specs.Walk.{IsLeftmostWalk, IsWalkOfAll, ListsAccepted}
@@ -41,11 +43,10 @@ pub use Rattle.ordered_reach.proofs.lists.Elements.{All-from_member}
 pub use Rattle.ordered_reach.specs.Paths.{Before, IsPath}
 pub use Rattle.ordered_reach.specs.Reach.{edge_count, ends, fresh, joined, member, none_held, ordered, with_node}
 pub use Rattle.ordered_reach.specs.Runs.{IsBeginning, IsLeastRun, placed, without}
-pub use Rattle.std.proofs.Common.{[], ap, append_assoc, arith, Bool, drop, false, fold, get_or, get_or-set_other}
-pub use Rattle.std.proofs.Common.{get_or-set_same, if◌then◌else◌, inl, inr, length, length-append, List, map, nat_eq}
-pub use Rattle.std.proofs.Common.{None, not, Option, refl, replicate, rules, Some, subst, suc, sym, take, true, zero, ℕ}
-pub use Rattle.std.proofs.Common.{◌&&◌, ◌*◌, ◌++◌, ◌+◌, ◌-◌, ◌<◌, ◌||◌, ◌∙◌, ◌∷◌, ◌≡◌, ◌≤◌, ◌⊎◌}
-pub use Rattle.std.proofs.Math.Seq.{take-suc}
+pub use Rattle.std.proofs.Common.{[], add-one, ap, append_assoc, arith, Bool, drop, false, fold, get_or}
+pub use Rattle.std.proofs.Common.{get_or-set_other, get_or-set_same, if◌then◌else◌, inl, inr, length, length-append}
+pub use Rattle.std.proofs.Common.{List, map, nat_eq, None, not, Option, refl, replicate, rules, Some, subst, suc, sym}
+pub use Rattle.std.proofs.Common.{take, true, zero, ℕ, ◌&&◌, ◌*◌, ◌++◌, ◌+◌, ◌-◌, ◌<◌, ◌||◌, ◌∙◌, ◌∷◌, ◌≡◌, ◌≤◌, ◌⊎◌}
 pub use Rattle.std.proofs.lemmas.Bool.{eq-eqb, eqb-true, false≢true, or_left, true≢false}
 pub use Rattle.std.proofs.lemmas.Bool.Decides.{nat_tests}
 pub use Rattle.std.proofs.lemmas.List.{append-nil, get_or-replicate, get_or-reverse, get_or_append_left, length-map}
@@ -58,7 +59,7 @@ pub use Rattle.std.proofs.lemmas.Option.{slice_get_within}
 pub use Rattle.std.proofs.lemmas.Result.{IfOk-weaker}
 pub use Rattle.std.specs.Cmp.{IsEquivalence, on_equiv}
 pub use Rattle.std.specs.HashMap.{get}
-pub use Rattle.std.specs.List.{flat_map, list_any, range_with_len, slice_range}
+pub use Rattle.std.specs.List.{flat_map, list_any, range_with_len}
 pub use Rattle.std.specs.Map.{lookup}
 pub use Rattle.std.specs.Option.{IfSome, is_some, option_or, option_to_list}
 pub use Rattle.std.specs.Prelude.{cond, Contains, Decides, Err, IfNone, min, nat_lt, Ok, option_map, Result, slice_get}

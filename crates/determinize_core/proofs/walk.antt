@@ -3,10 +3,8 @@ pub mod Farthest
 pub mod LastMatches
 pub mod OneAnswer
 pub mod ReturnedWalk
-pub mod TextBounds
 pub mod UnitLists
 pub mod ValueWalks
 pub mod WalkLoops
 pub mod WalkOfRuns
-pub mod WalkSteps
 pub mod WalkValues

@@ -1,10 +1,9 @@
 -- The last match of a walk, in words of runs.
-use Rattle.determinize_core.proofs.Common.{Accepts, after_at, All, arith, future, HalfMatch, IfSome, IsAccepted}
-use Rattle.determinize_core.proofs.Common.{IsFarthestMatch, IsPreferredMatch, IsSearch, last_match, LeftmostFirst}
-use Rattle.determinize_core.proofs.Common.{length, List, MatchKind, Nfa, None, Option, refl, Some, start_value, subst}
-use Rattle.determinize_core.proofs.Common.{suc, sym, Text, units, ℕ, ◌<◌, ◌≡◌, ◌≤◌}
+use Rattle.determinize_core.proofs.Common.{Accepts, All, arith, chain, HalfMatch, IfSome, IsAccepted, IsPreferredMatch}
+use Rattle.determinize_core.proofs.Common.{IsSearch, last_match, LeftmostFirst, length, List, MatchKind, Nfa, None}
+use Rattle.determinize_core.proofs.Common.{Option, refl, Some, start_value, Text, units, ℕ, ◌≡◌, ◌≤◌}
+use Rattle.std.proofs.lemmas.Option.{IfSome_then}
 use Rattle.std.proofs.lemmas.List.FromFn.{length-map-range_with_len}
-use Rattle.determinize_core.specs.Chain.{chain}
 use Rattle.determinize_core.proofs.walk.Farthest.{each_last_is_farthest}
 use Rattle.determinize_core.proofs.walk.WalkOfRuns.{leftmost_walk}
 use Rattle.determinize_core.proofs.finding.LastUnits.{last_match-within}
@@ -13,33 +12,21 @@ use Rattle.determinize_core.proofs.finding.LastUnits.{last_match-within}
 pub preferred : (nfa : Nfa) (kind : MatchKind) (start : ℕ) (text : Text) (found : Option HalfMatch) → IsAccepted nfa
     → kind ≡ LeftmostFirst → found ≡ last_match (chain nfa kind start text) → IsPreferredMatch nfa start text found
 preferred nfa kind start text found accepted kind_is found_is =
-    answer found (sym (subst (λ k. found ≡ last_match (chain nfa k start text)) kind_is found_is))
-  where
-    answer : (o : Option HalfMatch) → last_match (chain nfa LeftmostFirst start text) ≡ o
-        → IsPreferredMatch nfa start text o
-    answer None e = (leftmost_walk nfa accepted start text).none e
-    answer (Some m) e = (leftmost_walk nfa accepted start text).preferred m e
-
--- under All it is that of the best run at the last position where any run accepts
-pub farthest : (nfa : Nfa) (kind : MatchKind) (start : ℕ) (text : Text) (found : Option HalfMatch) → IsAccepted nfa
-    → kind ≡ All → found ≡ last_match (chain nfa kind start text) → IsFarthestMatch nfa start text found
-farthest nfa kind start text found accepted kind_is found_is =
-    subst (λ o. IsFarthestMatch nfa start text o)
-    (sym (subst (λ k. found ≡ last_match (chain nfa k start text)) kind_is found_is))
-    (each_last_is_farthest nfa accepted start text)
+    rw (found_is, kind_is) (leftmost_walk nfa accepted start text).found
 
 -- under both kinds no run accepts where a walk has no last match
 pub none_accepts : (nfa : Nfa) (kind : MatchKind) (start : ℕ) (text : Text) → IsAccepted nfa
     → None ≡ last_match (chain nfa kind start text)
     → (cs : List ℕ) (i pattern : ℕ) → Accepts nfa text start cs i pattern → ⊥
-none_accepts nfa All start text accepted none = farthest nfa All start text None accepted refl none
+none_accepts nfa All start text accepted none = rw (← none) at (each_last_is_farthest nfa accepted start text)
 none_accepts nfa LeftmostFirst start text accepted none = preferred nfa LeftmostFirst start text None accepted refl none
 
 -- and some run accepts where it has one
 pub some_accepts : (nfa : Nfa) (kind : MatchKind) (start : ℕ) (text : Text) (m : HalfMatch) → IsAccepted nfa
     → Some m ≡ last_match (chain nfa kind start text) → (cs : List ℕ) × Accepts nfa text start cs m.offset m.pattern
 some_accepts nfa All start text m accepted some =
-    ((farthest nfa All start text (Some m) accepted refl some).0.1.accepted m.pattern).0 (0, omega arith, refl)
+    let h = rw (← some) at (each_last_is_farthest nfa accepted start text) in
+    (h.0.1.accepted m.pattern).0 (0, omega arith, refl)
 some_accepts nfa LeftmostFirst start text m accepted some =
     let h = preferred nfa LeftmostFirst start text (Some m) accepted refl some in (h.0, h.1.accepts)
 
@@ -47,15 +34,9 @@ some_accepts nfa LeftmostFirst start text m accepted some =
 ends_within : (nfa : Nfa) (kind : MatchKind) (start : ℕ) (text : Text)
     → IfSome (last_match (chain nfa kind start text)) (λ m. m.offset ≤ length text.bytes)
 unfolding chain
-ends_within nfa kind start text =
-    each (last_match (future nfa kind (start_value nfa start text.behind) (units text)))
-    (last_match-within nfa kind (start_value nfa start text.behind) (units text))
-    (length-map-range_with_len (after_at text) 0 (suc (length text.bytes)))
-  where
-    each : (o : Option HalfMatch) → IfSome o (λ m. m.offset < length (units text))
-        → length (units text) ≡ suc (length text.bytes) → IfSome o (λ m. m.offset ≤ length text.bytes)
-    each None h count = tt
-    each (Some m) h count = omega (arith, h, count)
+ends_within nfa kind start text = IfSome_then _ {Q = λ m. m.offset ≤ length text.bytes}
+    (rw length-map-range_with_len at (last_match-within nfa kind (start_value nfa start text.behind) (units text)))
+    (λ m h. omega arith)
 
 -- what a search promises of the last match
 pub is-search : (nfa : Nfa) (kind : MatchKind) (start : ℕ) (text : Text) (found : Option HalfMatch) → IsAccepted nfa
@@ -63,6 +44,6 @@ pub is-search : (nfa : Nfa) (kind : MatchKind) (start : ℕ) (text : Text) (foun
 is-search nfa kind start text found accepted found_is = record {
   last = found_is;
   preferred = λ kind_is. preferred nfa kind start text found accepted kind_is found_is;
-  farthest = λ kind_is. farthest nfa kind start text found accepted kind_is found_is;
-  within = subst (λ o. IfSome o (λ m. m.offset ≤ length text.bytes)) (sym found_is) (ends_within nfa kind start text);
+  farthest = λ kind_is. rw (found_is, kind_is) (each_last_is_farthest nfa accepted start text);
+  within = rw found_is (ends_within nfa kind start text);
 }

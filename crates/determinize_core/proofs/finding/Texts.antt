@@ -1,23 +1,19 @@
 -- The units of a text, and the text that an input asks for.
 use Rattle.determinize_core.proofs.Common.{[], ap, arith, Bool, false, get_or, in_order, length, length-append}
-use Rattle.determinize_core.proofs.Common.{length-map, length-reverse, List, map, Option, option_map, refl, slice_get}
-use Rattle.determinize_core.proofs.Common.{slice_get-get_or, slice_get-map, Some, sym, Text, true, units, ℕ, ◌++◌, ◌+◌}
-use Rattle.determinize_core.proofs.Common.{◌<◌, ◌∙◌, ◌∷◌, ◌≡◌, ◌≤◌}
+use Rattle.determinize_core.proofs.Common.{length-map, length-reverse, List, map, refl, slice_get, slice_get-get_or}
+use Rattle.determinize_core.proofs.Common.{slice_get-map, Some, Text, true, units, ℕ, ◌++◌, ◌+◌, ◌<◌, ◌∙◌, ◌∷◌, ◌≡◌}
+use Rattle.determinize_core.proofs.Common.{◌≤◌}
 use Rattle.determinize_core.proofs.walk.UnitLists.{units_are}
 use Rattle.determinize_core.proofs.states.Places.{get_last, get_more}
 
 -- each byte as a unit
 pub unit-byte : (bytes : List ℕ) (i b : ℕ) → i < length bytes → b ≡ get_or bytes i 0
     → slice_get (map Some bytes) i ≡ Some (Some b)
-unit-byte bytes i b inside is = slice_get-map Some bytes i
-    ∙ ap (λ o. option_map Some o) (slice_get-get_or bytes i 0 inside ∙ ap Some (sym is))
+unit-byte bytes i b inside is = rw (slice_get-map, slice_get-get_or bytes i 0 inside, is)
 
 module _ (text : Text) where
-  abbrev listed : List (Option ℕ)
-  listed = map Some text.bytes ++ text.ahead ∷ []
-
   -- the units are the bytes and what is ahead of them
-  pub units_listed : units text ≡ listed
+  pub units_listed : units text ≡ map Some text.bytes ++ text.ahead ∷ []
   units_listed = units_are text.behind text.ahead text.bytes
 
   pub unit-here : (i b : ℕ) → slice_get (map Some text.bytes) i ≡ Some (Some b)
@@ -27,16 +23,14 @@ module _ (text : Text) where
 
   -- and so is what is ahead of them
   pub unit-last : (i : ℕ) → i ≡ length text.bytes → slice_get (units text) i ≡ Some text.ahead
-  unit-last i is =
-      ap (λ us. slice_get us i) units_listed
-      ∙ ap (λ n. slice_get listed n) (is ∙ sym (length-map text.bytes Some)) ∙ get_last (map Some text.bytes) text.ahead
+  unit-last i is = ap (λ us. slice_get us i) units_listed
+      ∙ rw (is, ← length-map text.bytes Some) (get_last (map Some text.bytes) text.ahead)
 
   -- nothing is left past its bytes and the unit ahead
   pub all_read : {n m : ℕ} → n < m → n ≡ length text.bytes → length (units text) ≤ m
   all_read h is =
-      let count : length (units text) ≡ length text.bytes + 1 = ap length units_listed
-      ∙ length-append (map Some text.bytes) (text.ahead ∷ []) ∙ ap (λ n. n + 1) (length-map text.bytes Some) in
-      omega (arith, h, is, count)
+      let count : length (units text) ≡ length text.bytes + 1 = ap length units_listed ∙ simp (length-append, length-map) in
+      omega (arith, h, is)
 
 -- the bytes in either order are as many
 pub length-in_order : (is_backward : Bool) (bytes : List ℕ) → length (in_order is_backward bytes) ≡ length bytes

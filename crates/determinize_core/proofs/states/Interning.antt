@@ -1,8 +1,7 @@
 -- States of which no two are equal, with a map to their indices.
 use Rattle.determinize_core.proofs.Common.{[], ap, AreInterned, arith, Bool, cond, false, IsIndex, length}
-use Rattle.determinize_core.proofs.Common.{length-append, length_push, List, list_any, None, Option, refl, same}
-use Rattle.determinize_core.proofs.Common.{slice_get, Some, subst, sym, take, take_at, true, Value, ℕ, ◌++◌, ◌+◌, ◌-◌}
-use Rattle.determinize_core.proofs.Common.{◌<◌, ◌||◌, ◌∙◌, ◌∷◌, ◌≡◌, ◌≤◌}
+use Rattle.determinize_core.proofs.Common.{length-append, length_push, List, list_any, None, Option, refl, same, Some}
+use Rattle.determinize_core.proofs.Common.{sym, take, take_at, true, Value, ℕ, ◌++◌, ◌-◌, ◌<◌, ◌∙◌, ◌∷◌, ◌≡◌}
 use Rattle.std.proofs.lemmas.List.Folds.{list_any-append}
 use Rattle.determinize_core.proofs.states.Places.{apart-push, get_last, get_more, not_none, same_is, same_laws}
 use Rattle.determinize_core.specs.declared.state_table.TheConstants.{MAX_STATES}
@@ -10,9 +9,9 @@ use Rattle.determinize_core.specs.declared.state_table.TheConstants.{MAX_STATES}
 -- no values
 pub interned-none : (at : Value → Option ℕ) → ((q : Value) → at q ≡ None) → AreInterned [] at
 interned-none at none = record {
-  mapped = λ q. subst (λ o. IsIndex [] q o) (sym (none q)) refl;
+  mapped = λ q. rw (none q) refl;
   apart = λ p q v here. not_none (sym here);
-  few = let e : 0 ≤ MAX_STATES = omega arith in e;
+  few = omega arith;
 }
 
 module _ {values : List Value} {at at' : Value → Option ℕ} {n : ℕ} (v : Value) (placed : AreInterned values at) where
@@ -20,16 +19,15 @@ module _ {values : List Value} {at at' : Value → Option ℕ} {n : ℕ} (v : Va
   pub interned-push : list_any (same v) values ≡ false → n ≡ length values → n < MAX_STATES
       → ((q : Value) → at' q ≡ cond (same v q) (Some n) (at q)) → AreInterned (values ++ v ∷ []) at'
   interned-push none len few new = record {
-    mapped = λ q. subst (λ o. IsIndex (values ++ v ∷ []) q o) (sym (new q)) (index q (same v q) refl);
+    mapped = λ q. rw (new q) (index q (same v q) refl);
     apart = apart-push values v placed.apart none;
-    few = rw length-append (let e : length values + 1 ≤ MAX_STATES = omega (arith, len, few) in e);
+    few = rw length-append (omega (arith, len, few));
   }
     where
       index : (q : Value) (b : Bool) → same v q ≡ b → IsIndex (values ++ v ∷ []) q (cond b (Some n) (at q))
-      index q true e = ap (λ k. slice_get (values ++ v ∷ []) k) len ∙ get_last values v ∙ ap Some (same_is v q e)
+      index q true e = rw len (get_last values v ∙ ap Some (same_is v q e))
       index q false e = elim (at q) as (λ o. IsIndex values q o → IsIndex (values ++ v ∷ []) q o) [
-        | None ↦ λ h. list_any-append (same q) values (v ∷ []) ∙ ap (λ b. b || (same q v || false)) h
-            ∙ ap (λ b. b || false) (same_laws.symm q v ∙ e)
+        | None ↦ λ h. rw (list_any-append (same q) values (v ∷ []), h, same_laws.symm q v, e)
         | Some p ↦ λ h. get_more values (v ∷ []) p q h
       ] (placed.mapped q)
 
@@ -37,12 +35,10 @@ module _ {values : List Value} {at at' : Value → Option ℕ} {n : ℕ} (v : Va
   pub interned-pop : {more back : List Value} → more ≡ values ++ v ∷ [] → n ≡ length more → back ≡ take (n - 1) more
       → ((q : Value) → at' q ≡ at q) → AreInterned back at'
   interned-pop more_is len back_is same_map =
-      let n_is : length values ≡ n - 1 = let k : n ≡ length values + 1 =
-      len ∙ ap length more_is ∙ length_push values v in
-      omega (arith, k) in
-      subst (λ xs. AreInterned xs at') (sym (back_is ∙ ap (λ xs. take (n - 1) xs) more_is
-      ∙ take_at values (v ∷ []) (n - 1) n_is)) record {
-        mapped = λ q. subst (λ o. IsIndex values q o) (sym (same_map q)) (placed.mapped q);
+      let count = len ∙ ap length more_is ∙ length_push values v in
+      let size : length values ≡ n - 1 = omega arith in
+      rw (back_is, more_is, take_at values (v ∷ []) (n - 1) size) (record {
+        mapped = λ q. rw (same_map q) (placed.mapped q);
         apart = placed.apart;
         few = placed.few;
-      }
+      })

@@ -1,13 +1,11 @@
 -- The units of a text as a list, and one byte more.
 -- Main statements: units_are, each_byte_ahead_is_next.
--- Used by: `units_law`, `ahead_law`, WalkSteps.
+-- Used by: `units_law`, `ahead_law`, ReturnedWalk, and searches.
 -- Idea: the bytes of a text, and then what is ahead.
-use Rattle.determinize_core.proofs.Common.{[], after_at, ap, arith, between, future, length, List, map, map-append}
-use Rattle.determinize_core.proofs.Common.{Option, range_with_len, refl, Some, start_value, suc, sym, units}
-use Rattle.determinize_core.proofs.Common.{value_after, zero, ℕ, ◌++◌, ◌+◌, ◌∙◌, ◌∷◌, ◌≡◌}
-use Rattle.determinize_core.specs.Chain.{chain}
+use Rattle.determinize_core.proofs.Common.{[], after_at, ap, arith, between, chain, future, length, List, map}
+use Rattle.determinize_core.proofs.Common.{map-append, Option, range_with_len, refl, Some, start_value, step, suc, sym}
+use Rattle.determinize_core.proofs.Common.{units, value_after, zero, ℕ, ◌++◌, ◌+◌, ◌∙◌, ◌∷◌, ◌≡◌}
 use Rattle.determinize_core.specs.Laws.{EachByteAheadIsNext}
-use Rattle.determinize_core.specs.Step.{step}
 use Rattle.determinize_core.proofs.walk.WalkLoops.{future-push}
 
 -- positions of a text with one more byte before its own
@@ -16,10 +14,7 @@ later_units : (behind ahead : Option ℕ) (b : ℕ) (bytes : List ℕ) (k n : �
     ≡ map (after_at (between behind bytes ahead)) (range_with_len k n)
 later_units behind ahead b bytes k zero = refl
 later_units behind ahead b bytes k (suc n) =
-    let one : suc k + 1 ≡ suc (k + 1) = omega arith in
-    ap (λ m. after_at (between behind bytes ahead) k
-    ∷ map (after_at (between behind (b ∷ bytes) ahead)) (range_with_len m n)) one
-    ∙ ap (λ us. after_at (between behind bytes ahead) k ∷ us) (later_units behind ahead b bytes (k + 1) n)
+    let one : suc k + 1 ≡ suc (k + 1) = omega arith in rw (one, later_units behind ahead b bytes (k + 1) n)
 
 -- the units are the bytes and what is ahead of them
 pub units_are : (behind ahead : Option ℕ) (bytes : List ℕ)

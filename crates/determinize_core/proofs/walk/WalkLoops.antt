@@ -1,15 +1,13 @@
 -- Laws for the invariants of the loops of a step and of a walk.
 -- Main statements: future-push, value_after-push, pattern_new, stops_at.
--- Used by: WalkSteps, FirstReading.
+-- Used by: LastMatches, FirstReading, and the crates above.
 -- Idea: what a loop has done grows at its end.
-use Rattle.determinize_core.proofs.Common.{[], ap, append-nil, by_option, by_test, eq-eqb, eqb-true, false, flat_map}
-use Rattle.determinize_core.proofs.Common.{flat_map-append, future, is_match, LeftmostFirst, List, list_any, MatchKind}
-use Rattle.determinize_core.proofs.Common.{nat_eq, Nfa, Option, option_to_list, or_false_left, or_false_right}
-use Rattle.determinize_core.proofs.Common.{part_read, pattern_of, patterns_of, patterns_read, refl, Some, sym, take}
-use Rattle.determinize_core.proofs.Common.{target, true≢false, Value, value_after, ℕ, ◌++◌, ◌∙◌, ◌∷◌, ◌≡◌}
+use Rattle.determinize_core.proofs.Common.{[], ap, append-nil, arith, by_option, false, flat_map, flat_map-append}
+use Rattle.determinize_core.proofs.Common.{future, is_match, LeftmostFirst, List, list_any, MatchKind, nat_eq}
+use Rattle.determinize_core.proofs.Common.{nat_tests, Nfa, Option, option_to_list, or_false_right, part_read}
+use Rattle.determinize_core.proofs.Common.{pattern_of, patterns_of, patterns_read, refl, Some, step, target, true≢false}
+use Rattle.determinize_core.proofs.Common.{Value, value_after, ℕ, ◌++◌, ◌∷◌, ◌≡◌}
 use Rattle.determinize_below.proofs.nfas.SoundNfa.{IsSound}
-use Rattle.ordered_reach.specs.Runs.{before}
-use Rattle.determinize_core.specs.Step.{step}
 
 -- one more unit
 pub future-push : (nfa : Nfa) (kind : MatchKind) (v : Value) (us : List (Option ℕ)) (u : Option ℕ)
@@ -25,28 +23,20 @@ value_after-push nfa kind v (w ∷ us) u = value_after-push nfa kind (step nfa k
 -- one more state
 pub patterns-push : (nfa : Nfa) (xs : List ℕ) (s : ℕ)
     → patterns_of nfa (xs ++ s ∷ []) ≡ patterns_of nfa xs ++ option_to_list (pattern_of nfa s)
-patterns-push nfa xs s = flat_map-append (λ x. option_to_list (pattern_of nfa x)) xs (s ∷ [])
-    ∙ ap (λ l. patterns_of nfa xs ++ l) (append-nil (option_to_list (pattern_of nfa s)))
+patterns-push nfa xs s = simp (flat_map-append, append-nil)
 
 pub targets-push : (nfa : Nfa) (u : Option ℕ) (xs : List ℕ) (s : ℕ)
     → flat_map (target nfa u) (xs ++ s ∷ []) ≡ flat_map (target nfa u) xs ++ target nfa u s
-targets-push nfa u xs s =
-    flat_map-append (target nfa u) xs (s ∷ []) ∙ ap (λ l. flat_map (target nfa u) xs ++ l) (append-nil (target nfa u s))
+targets-push nfa u xs s = simp (flat_map-append, append-nil)
 
 -- the pattern of one more state is new
 pub pattern_new : (nfa : Nfa) → IsSound nfa → (xs : List ℕ) (s p : ℕ) → list_any (nat_eq s) xs ≡ false
     → pattern_of nfa s ≡ Some p → list_any (nat_eq p) (patterns_of nfa xs) ≡ false
 pattern_new nfa sound [] s p h e = refl
 pattern_new nfa sound (x ∷ xs) s p h e =
-    let ih : list_any (nat_eq p) (patterns_of nfa xs) ≡ false =
-    pattern_new nfa sound xs s p (or_false_right (nat_eq s x) (list_any (nat_eq s) xs) h) e in
-    by_option (pattern_of nfa x)
-    (λ k. rw k ih)
-    (λ q k. by_test (nat_eq p q)
-    (λ z. let y : p ≡ q = eqb-true p q z in
-    let same : s ≡ x = sound.one_match s x p e (k ∙ ap Some (sym y)) in
-    absurd (true≢false (sym (eq-eqb s x same) ∙ or_false_left (nat_eq s x) (list_any (nat_eq s) xs) h)))
-    (λ z. rw (k, z) ih))
+    let ih = pattern_new nfa sound xs s p (or_false_right (nat_eq s x) (list_any (nat_eq s) xs) h) e in
+    by_option (pattern_of nfa x) (λ k. rw k ih)
+    (λ q k. let same : p ≡ q → s ≡ x = λ y. sound.one_match s x p e (rw y k) in rw k (grind (arith, nat_tests)))
 
 -- states without a match, and then a match: there the reading stops
 pub stops_at : (nfa : Nfa) (xs zs : List ℕ) (s p : ℕ) → list_any (is_match nfa) xs ≡ false → pattern_of nfa s ≡ Some p
@@ -54,9 +44,7 @@ pub stops_at : (nfa : Nfa) (xs zs : List ℕ) (s p : ℕ) → list_any (is_match
     × (patterns_read LeftmostFirst (patterns_of nfa (xs ++ s ∷ zs)) ≡ p ∷ [])
 stops_at nfa [] zs s p h e = rw e (refl, refl)
 stops_at nfa (x ∷ xs) zs s p h e = by_option (pattern_of nfa x)
-    (λ k. let r : (before (is_match nfa) (xs ++ s ∷ zs) ≡ xs)
-    × (take 1 (patterns_of nfa (xs ++ s ∷ zs)) ≡ p ∷ []) = stops_at nfa xs zs s p (rw k at h) e in
-    rw k (ap (λ l. x ∷ l) r.0, r.1))
+    (λ k. let r = stops_at nfa xs zs s p (rw k at h) e in rw k (ap (λ l. x ∷ l) r.0, r.1))
     (λ q k. absurd (true≢false (rw k at h)))
 
 -- states without a match are all read, and have no pattern
@@ -64,6 +52,5 @@ pub goes_on : (nfa : Nfa) (xs : List ℕ) → list_any (is_match nfa) xs ≡ fal
     → (part_read LeftmostFirst (is_match nfa) xs ≡ xs) × (patterns_of nfa xs ≡ [])
 goes_on nfa [] h = (refl, refl)
 goes_on nfa (x ∷ xs) h = by_option (pattern_of nfa x)
-    (λ k. let r : (before (is_match nfa) xs ≡ xs) × (patterns_of nfa xs ≡ []) = goes_on nfa xs (rw k at h) in
-    rw k (ap (λ l. x ∷ l) r.0, r.1))
+    (λ k. let r = goes_on nfa xs (rw k at h) in rw k (ap (λ l. x ∷ l) r.0, r.1))
     (λ q k. absurd (true≢false (rw k at h)))

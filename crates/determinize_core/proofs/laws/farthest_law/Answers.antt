@@ -1,5 +1,4 @@
-use Rattle.determinize_core.proofs.walk.Farthest.{each_last_is_farthest}
-use Rattle.determinize_core.proofs.walk.TextBounds.{no_run_leaves_the_text}
+use Rattle.determinize_core.proofs.walk.Farthest.{each_last_is_farthest, no_run_leaves_the_text}
 use Rattle.determinize_core.proofs.laws.farthest_law.Goals as goal
 
 pub returns : goal.returns

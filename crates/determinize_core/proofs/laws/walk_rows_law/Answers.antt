@@ -1,4 +1,4 @@
-use Rattle.determinize_core.proofs.Common.{refl}
+use Rattle.determinize_core.proofs.Common.{rules}
 use Rattle.determinize_below.specs.Look.{has, insert, meets}
 use Rattle.determinize_below.specs.Edges.{reach}
 use Rattle.determinize_below.specs.Semantics.{is_word_byte}
@@ -15,23 +15,4 @@ pub returns : goal.returns
 unfolding has insert meets reach is_word_byte chain step spell varint
     from_word_after from_word_at_start half_crlf_after half_crlf_at_start have_after have_at_start
     insert_where known_set line_opened opened start_from_word start_half_crlf start_have word_opened
-returns c = record {
-  accepted = record {
-    n2_accepted = record { passes = refl; looks = refl };
-    n3_accepted = record { passes = refl; looks = refl };
-    n4_accepted = record { passes = refl; looks = refl };
-    n5_accepted = record { passes = refl; looks = refl };
-    n7_accepted = record { passes = refl; looks = refl };
-    n8_accepted = record { passes = refl; looks = refl };
-    n11_accepted = record { passes = refl; looks = refl };
-    n14_accepted = record { passes = refl; looks = refl };
-  };
-  row_4a = (refl, refl);
-  row_4b = (refl, refl);
-  row_5 = (refl, refl);
-  row_8a = (refl, refl);
-  row_9a = (refl, refl);
-  row_11b = (refl, refl);
-  row_18 = (refl, refl);
-  row_31a = (refl, refl);
-}
+returns c = search rules

@@ -1,20 +1,13 @@
-use Rattle.determinize_core.proofs.Common.{[], ap, AreInterned, cond, false, get, length, list_any, lookup}
-use Rattle.determinize_core.proofs.Common.{rules, same, Some, subst, sym, ◌++◌, ◌<◌, ◌∙◌, ◌∷◌, ◌≡◌}
+use Rattle.determinize_core.proofs.Common.{[], ap, lookup, rules, same, ◌++◌, ◌∷◌, ◌≡◌}
 use Rattle.determinize_core.proofs.states.Interning.{interned-pop, interned-push}
-use Rattle.determinize_core.specs.declared.state_table.TheConstants.{MAX_STATES}
 use Rattle.determinize_core.proofs.state_table.StateTable.intern.Goals as goal
 
 pub invariant_of-self-in-Ok : goal.invariant_of-self-in-Ok
 invariant_of-self-in-Ok g c =
-    let none : list_any (same c.args.state) c.self.inside.states.items ≡ false = rw c.self.view_is c.requires in
-    let len : c.len-index.result ≡ length c.self.inside.states.items = search rules in
-    let few : c.len-index.result < MAX_STATES = search rules in
     let key : c.in_ok-key.key ≡ c.args.state = search rules in
     let more : c.push.new.self.items ≡ c.self.inside.states.items ++ c.args.state ∷ [] = search rules in
-    subst (λ xs. AreInterned xs (get same c.insert.new.self)) (sym more)
-    (interned-push c.args.state c.self.invariant none len few
-    (λ q. c.in-Ok.ensures.updates.0 q
-    ∙ ap (λ k. cond (same k q) (Some c.len-index.result) (get same c.self.inside.indices q)) key))
+    rw more (interned-push c.args.state c.self.invariant (rw c.self.view_is c.requires) (search rules) (search rules)
+    (λ q. rw key at (c.in-Ok.ensures.updates.0 q)))
 
 pub invariant_of-self-in-Err : goal.invariant_of-self-in-Err
 invariant_of-self-in-Err g c =
