@@ -36,10 +36,10 @@ pub use Rattle.determinize_lazy.specs.Private.Cursors.{cursor_value, IsAt, IsCur
 pub use Rattle.determinize_lazy.specs.Private.Invariant.{IsLazy}
 pub use Rattle.determinize_lazy.specs.Private.Rows.{AreRows, IsStored, IsTarget, IsTargetIndex, Leads, StartsStay}
 pub use Rattle.determinize_lazy.specs.Private.Rows.{StoredTable, table_of, with_state}
-pub use Rattle.determinize_lazy.specs.Private.Searched.{cached_place, EndsWith, Fails, FailsOver, first_place}
-pub use Rattle.determinize_lazy.specs.Private.Searched.{GoesOn, GoesOver, HasStopped}
-pub use Rattle.determinize_lazy.specs.Private.Searched.{IsCachedPosition, IsCutOffSearch, IsFound, IsOver, IsOverIn}
-pub use Rattle.determinize_lazy.specs.Private.Searched.{IsPosition, IsReached, IsSearched, Place, place, reported}
+pub use Rattle.determinize_lazy.specs.Private.Searched.{cached_place, Fails, first_place, GoesOn, HasStopped}
+pub use Rattle.determinize_lazy.specs.Private.Searched.{IsCachedPosition, IsOver, IsPosition, IsReached, last_left}
+pub use Rattle.determinize_lazy.specs.Private.Searched.{Leaves, LeavesText, next_place, Place, place, reported}
+pub use Rattle.determinize_lazy.specs.Private.Searched.{units_left, with_cursor}
 pub use Rattle.determinize_lazy.specs.Private.Starts.{AreStarts, start_index}
 pub use Rattle.determinize_lazy.specs.Private.Steps.{IsFailedStep, IsSound}
 pub use Rattle.determinize_lazy.specs.Private.Tags.{is_last_tag, match_at, match_of, match_reported, Tag, tag_in}

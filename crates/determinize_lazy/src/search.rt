@@ -23,10 +23,9 @@ ghost use Rattle.determinize_core.specs.Step.{start_value};
 ghost use Rattle.determinize_core.specs.Value.{dead};
 ghost use Rattle.determinize_lazy.specs.Cache.{Grows, IsCutOff, LazyValue, cache};
 ghost use Rattle.determinize_lazy.specs.Private.Cursors.{IsCursor, cursor_value};
-ghost use Rattle.determinize_lazy.specs.Private.Searched.{EndsWith, Fails, FailsOver, GoesOn, GoesOver, HasStopped, IsCachedPosition, IsCutOffSearch, IsFound, IsOver, IsOverIn, IsPosition, cached_place, first_place, place};
-ghost use Rattle.determinize_lazy.specs.Private.Steps.{IsSound};
-ghost use Rattle.determinize_lazy.specs.declared.table.Cursor.TheVariants as cursors;
-ghost use Rattle.determinize_core.specs.Searches.{HasMatch, IsFarthestIn, IsPreferredIn, IsSearch, has_start, last_in, start_for};
+ghost use Rattle.determinize_lazy.specs.Private.Searched.{Fails, GoesOn, HasStopped, IsCachedPosition, IsPosition, Leaves, LeavesText, cached_place, first_place, next_place, place, with_cursor};
+ghost use Rattle.determinize_lazy.specs.Private.Steps.{IsFailedStep, IsSound};
+ghost use Rattle.determinize_core.specs.Searches.{HasMatch, IsFarthestIn, IsPreferredIn, IsSearch, has_start, last_in, start_for, text_of};
 ghost use Rattle.determinize_lazy.specs.CachedSearches.{IsCutOffIn, IsPlenty, IsPlentyIn, after_input, after_is_match, after_search, units_searched};
 
 use crate::lazy::Lazy;
@@ -49,7 +48,8 @@ pub(crate) struct Position<A: Allocator> {
 impl<A: Allocator> Position<A> {
     /// Returns the position before the first unit.
     pub(crate) fn start(cursor: Cursor<A>) -> Position<A>
-        ensures cursor { result.cursor ≡ cursor }
+        ensures position { (c : LazyValue) → IsCursor c.states cursor
+            → AllResolve c.nfa (cursor_value c.states cursor).states → IsPosition c result }
         ensures place { (c : LazyValue) → place c result
             ≡ first_place (cache c) (cursor_value c.states cursor) }
     {
@@ -72,11 +72,7 @@ struct CachedPosition {
 impl CachedPosition {
     /// Returns the position with a cursor in place of the id.
     fn with_cursor<A: Allocator>(self) -> Position<A>
-        ensures { result ≡ record {
-          cursor = cursors.Cached self.id;
-          read = self.read;
-          last = self.last;
-        } }
+        ensures { result ≡ with_cursor self }
     {
         Position {
             cursor: Cursor::Cached(self.id),
@@ -87,41 +83,10 @@ impl CachedPosition {
 }
 
 impl<'n, N: Allocator, A: Allocator + Copy> Lazy<'n, N, A> {
-    /// Returns the position after the cached transition over a unit, or `None` if there is none or
-    /// the search ends at this state.
-    #[inline(always)]
-    fn next_cached(
-        &self,
-        at: &CachedPosition,
-        unit: Option<u8>,
-        earliest: bool,
-    ) -> Option<CachedPosition>
-        requires id { at.now.id < length self.now.states }
-        requires read { at.now.read < usize.MAX }
-        ensures position { IfSome result (λ next. IsCachedPosition self.now next) }
-        ensures read { IfSome result (λ next. next.read ≡ at.now.read + 1) }
-        ensures searched { IfSome result (λ next. (us : List (Option ℕ))
-            → slice_get us at.now.read ≡ Some unit
-            → GoesOn earliest us (cached_place self.now at.now) (cached_place self.now next)) }
-    {
-        // The entry comes before the tag, since the next entry waits for it.
-        let target = self.table.lookup(at.id, unit);
-        let tag = self.table.tag(at.id);
-        let id = target?;
-        if tag.is_last(earliest) {
-            return None;
-        }
-        Some(CachedPosition {
-            id,
-            read: at.read + 1,
-            last: at.last.or_match(tag, at.read),
-        })
-    }
-
     /// Follows cached transitions over bytes of the text, up to a state at which the search ends.
     ///
-    /// The loop has the body of `next_cached` written out: with the call it takes six cycles a byte
-    /// in place of five.
+    /// The loop does not share its body with the last step of `follow_to_end`: with a call it takes
+    /// six cycles a byte in place of five.
     #[inline(always)]
     fn follow(&self, from: CachedPosition, text: &Text<'_>, earliest: bool) -> CachedPosition
         requires position { IsCachedPosition self.now from }
@@ -129,8 +94,7 @@ impl<'n, N: Allocator, A: Allocator + Copy> Lazy<'n, N, A> {
         ensures position { IsCachedPosition self.now result }
         ensures forward { from.read ≤ result.read }
         ensures read { result.read ≤ length text.now.bytes }
-        ensures searched { (rest : List (Option ℕ))
-            → GoesOn earliest (map Some text.now.bytes ++ rest) (cached_place self.now from)
+        ensures searched { GoesOn earliest (map Some text.now.bytes) (cached_place self.now from)
             (cached_place self.now result) }
     {
         let mut at = from;
@@ -173,13 +137,22 @@ impl<'n, N: Allocator, A: Allocator + Copy> Lazy<'n, N, A> {
         if at.read < text.len() {
             return at;
         }
-        self.next_cached(&at, text.ahead(), earliest).unwrap_or(at)
+        let target = self.table.lookup(at.id, text.ahead());
+        let tag = self.table.tag(at.id);
+        match target {
+            Some(id) if !tag.is_last(earliest) => CachedPosition {
+                id,
+                read: at.read + 1,
+                last: at.last.or_match(tag, at.read),
+            },
+            _ => at,
+        }
     }
 
     /// Returns the last match of the states up to a position.
     pub(crate) fn found(&self, at: &Position<A>) -> Option<HalfMatch>
-        requires { IsCursor self.now.states at.now.cursor }
-        ensures { IsFound (place self.now at.now) result }
+        requires { IsPosition self.now at.now }
+        ensures { result ≡ (place self.now at.now).last }
     {
         at.last.or_match(self.tag_at(&at.cursor), at.read).get()
     }
@@ -190,9 +163,10 @@ impl<'n, N: Allocator, A: Allocator + Copy> Lazy<'n, N, A> {
         requires read { at.read < usize.MAX }
         ensures position { IfOk result (λ next. IsPosition self.new next) }
         ensures read { IfOk result (λ next. next.read ≡ at.read + 1) }
-        ensures searched { IfOk result
-            (λ next. GoesOver unit (place self.old at) (place self.new next)) }
-        ensures failed { OnErr result (FailsOver unit (place self.old at) (cache self.new)) }
+        ensures place { IfOk result
+            (λ next. place self.new next ≡ next_place (place self.old at) unit) }
+        ensures failed { OnErr result (IsFailedStep (cache self.old)
+            (cursor_value self.old.states at.cursor) unit (cache self.new)) }
         ensures grows { Grows (cache self.old) (cache self.new) }
     {
         let last = at.last.or_match(self.tag_at(&at.cursor), at.read);
@@ -212,8 +186,7 @@ impl<'n, N: Allocator, A: Allocator + Copy> Lazy<'n, N, A> {
         ensures position { IsPosition self.now result }
         ensures forward { from.read ≤ result.read }
         ensures read { result.read ≤ length text.now.bytes }
-        ensures searched { (rest : List (Option ℕ))
-            → GoesOn earliest (map Some text.now.bytes ++ rest) (place self.now from)
+        ensures searched { GoesOn earliest (map Some text.now.bytes) (place self.now from)
             (place self.now result) }
     {
         let Position { cursor, read, last } = from;
@@ -245,9 +218,9 @@ impl<'n, N: Allocator, A: Allocator + Copy> Lazy<'n, N, A> {
         requires position { IsPosition self.old from }
         requires read { from.read ≤ length text.now.bytes }
         ensures position { IfOk result (λ at. IsPosition self.new at) }
-        ensures searched { IfOk result (λ at. (rest : List (Option ℕ))
-            → GoesOn earliest (map Some text.now.bytes ++ rest) (place self.old from)
-            (place self.new at)) }
+        ensures read { IfOk result (λ at. at.read ≤ length text.now.bytes) }
+        ensures searched { IfOk result (λ at. GoesOn earliest (map Some text.now.bytes)
+            (place self.old from) (place self.new at)) }
         ensures stopped { IfOk result
             (λ at. HasStopped earliest (length text.now.bytes) (place self.new at)) }
         ensures limit { IfOk result (λ at. at.read < usize.MAX) }
@@ -278,10 +251,8 @@ impl<'n, N: Allocator, A: Allocator + Copy> Lazy<'n, N, A> {
     ) -> Result<Option<HalfMatch>, AllocError>
         requires position { IsPosition self.old from }
         requires read { from.read ≤ length text.now.bytes }
-        ensures over { IfOk result (λ found. EndsWith earliest (units text.now)
-            (place self.old from) found (cache self.new)) }
-        ensures failed { OnErr result
-            (Fails earliest (units text.now) (place self.old from) (cache self.new)) }
+        ensures over { Leaves earliest (units text.now) (place self.old from) result
+            (cache self.new) }
         ensures grows { Grows (cache self.old) (cache self.new) }
     {
         let at = self.search_bytes(from, text, earliest)?;
@@ -303,10 +274,8 @@ impl<'n, N: Allocator, A: Allocator + Copy> Lazy<'n, N, A> {
     ) -> Result<Option<HalfMatch>, AllocError>
         requires position { IsCachedPosition self.old from }
         requires read { from.read ≤ length text.now.bytes }
-        ensures over { IfOk result (λ found. EndsWith earliest (units text.now)
-            (cached_place self.old from) found (cache self.new)) }
-        ensures failed { OnErr result
-            (Fails earliest (units text.now) (cached_place self.old from) (cache self.new)) }
+        ensures over { Leaves earliest (units text.now) (cached_place self.old from) result
+            (cache self.new) }
         ensures grows { Grows (cache self.old) (cache self.new) }
     {
         self.search_from(from.with_cursor(), text, earliest)
@@ -322,12 +291,8 @@ impl<'n, N: Allocator, A: Allocator + Copy> Lazy<'n, N, A> {
         earliest: bool,
     ) -> Result<Option<HalfMatch>, AllocError>
         requires { start < length self.old.nfa.states }
-        ensures over { IfOk result (λ found. IsOver earliest (cache self.old)
-            (start_value self.old.nfa start text.now.behind) (units text.now) found
-            (cache self.new)) }
-        ensures failed { OnErr result (IsCutOffSearch earliest (cache self.old)
-            (start_value self.old.nfa start text.now.behind) (units text.now)
-            (cache self.new)) }
+        ensures over { LeavesText earliest (cache self.old) start text.now result
+            (cache self.new) }
         ensures grows { Grows (cache self.old) (cache self.new) }
     {
         let cursor = self.find_start(start, text.behind())?;
@@ -347,13 +312,9 @@ impl<'n, N: Allocator, A: Allocator + Copy> Lazy<'n, N, A> {
         earliest: bool,
     ) -> Result<Option<HalfMatch>, AllocError>
         requires { start < length self.old.nfa.states }
-        ensures over { IfOk result (λ found. IsOver earliest (cache self.old)
-            (start_value self.old.nfa start text.now.behind) (units text.now) found
-            (cache self.new)) }
+        ensures over { LeavesText earliest (cache self.old) start text.now result
+            (cache self.new) }
         ensures sound { IsSound (cache self.old) }
-        ensures failed { OnErr result (IsCutOffSearch earliest (cache self.old)
-            (start_value self.old.nfa start text.now.behind) (units text.now)
-            (cache self.new)) }
         ensures grows { Grows (cache self.old) (cache self.new) }
     {
         let Some(id) = self.kept_start(start, text.behind()) else {
@@ -377,11 +338,10 @@ impl<'n, N: Allocator, A: Allocator + Copy> Lazy<'n, N, A> {
     ) -> Result<Option<HalfMatch>, AllocError>
         requires start { has_start input.now.anchored ≡ true }
         requires more { is_done input.now ≡ false }
-        ensures over { IfOk result
-            (λ found. IsOverIn earliest (cache self.old) input.now found (cache self.new)) }
+        ensures over { LeavesText earliest (cache self.old)
+            (start_for self.old.nfa input.now.anchored) (text_of self.old.nfa.reverse input.now)
+            result (cache self.new) }
         ensures sound { IsSound (cache self.old) }
-        ensures failed { OnErr result
-            (IsCutOffIn earliest (cache self.old) input.now (cache self.new)) }
         ensures grows { Grows (cache self.old) (cache self.new) }
     {
         let start = self.start_for(input.get_anchored());

@@ -1,209 +1,150 @@
--- A search, one unit more at a time, and what it leaves.
-use Rattle.determinize_lazy.proofs.Common.{[], after_step, after_walk, ap, append-nil, append_assoc, arith, Bool, Cache}
-use Rattle.determinize_lazy.proofs.Common.{cond, drop, drop_all, ended_at, false, first_place, future, HalfMatch}
-use Rattle.determinize_lazy.proofs.Common.{is_last, is_last_tag, is_nonempty, is_some, IsCutOffSearch, IsFailedStep}
-use Rattle.determinize_lazy.proofs.Common.{IsFound, IsOver, IsReached, IsSearched, last_match, last_match-push, length}
-use Rattle.determinize_lazy.proofs.Common.{List, map, match_at, match_reported, nat_eq, None, not, Option, option_or}
-use Rattle.determinize_lazy.proofs.Common.{Place, refl, reported, slice_get, Some, step_of, subst, sym, Tag, tag_in}
-use Rattle.determinize_lazy.proofs.Common.{tag_of, take, take-append-drop, take_all, Text, true, true≢false, units}
-use Rattle.determinize_lazy.proofs.Common.{units_read, Value, value_after, ℕ, ◌&&◌, ◌++◌, ◌+◌, ◌-◌, ◌||◌, ◌∙◌, ◌∷◌, ◌≡◌}
-use Rattle.determinize_lazy.proofs.Common.{◌≤◌}
-use Rattle.determinize_core.proofs.finding.LastUnits.{last_match-over, longer}
+-- A search, one unit more at a time, and what it finds and leaves.
+use Rattle.determinize_lazy.proofs.Common.{[], after_step, after_walk, ap, arith, Bool, Cache, drop, drop_all}
+use Rattle.determinize_lazy.proofs.Common.{Err, Fails, false, GoesOn, HalfMatch, HasStopped, IfOk, inl, inr, is_last}
+use Rattle.determinize_lazy.proofs.Common.{is_last_tag, is_nonempty, is_some, IsCutOff, IsFailedStep, IsOver, last_left}
+use Rattle.determinize_lazy.proofs.Common.{Leaves, length, List, map, match_reported, next_place, None, not, Ok, OnErr}
+use Rattle.determinize_lazy.proofs.Common.{Option, option_or, Place, refl, reported, Result, slice_get, Some, step_of}
+use Rattle.determinize_lazy.proofs.Common.{subst, suc, sym, tag_in, tag_of, Text, true, true≢false, units, units_left}
+use Rattle.determinize_lazy.proofs.Common.{units_read, Value, value_after, ℕ, ◌&&◌, ◌++◌, ◌+◌, ◌||◌, ◌∙◌, ◌∷◌, ◌≡◌}
+use Rattle.determinize_lazy.proofs.Common.{◌⊎◌}
+use Rattle.std.proofs.Common.{add-one}
+use Rattle.ordered_reach.proofs.Cases.{by_test}
 use Rattle.determinize_core.proofs.finding.Texts.{units_listed}
-use Rattle.determinize_lazy.proofs.walking.CachedWalks.{cut_off-step, drop-one, follows, get-after, reached-push}
-use Rattle.determinize_lazy.proofs.walking.CachedWalks.{take-before, take-length, take-one}
+use Rattle.determinize_core.proofs.states.Places.{get_more}
+use Rattle.determinize_lazy.specs.Private.Searched.{here, over}
+use Rattle.determinize_lazy.proofs.finding.Later.{last_from-next, last_from-over, none_left, reported-next}
+use Rattle.determinize_lazy.proofs.walking.CachedWalks.{drop-one}
 
-empty_is : (xs : List ℕ) → is_nonempty xs ≡ false → xs ≡ []
-empty_is [] h = refl
-empty_is (x ∷ xs) h = absurd (true≢false h)
-
--- what the tag of a value says
-module _ (bits : ℕ) (v : Value) (tag : tag_in bits ≡ tag_of v) where
-  -- the match that it tells
-  tag-match : (read : ℕ) → match_reported read (tag_in bits).pattern ≡ reported read v
-  tag-match read = ap (λ (t : Tag). match_reported read t.pattern) tag
-      ∙ ap (λ o. cond (nat_eq read 0) None o) (first_at v.patterns)
-    where
-      first_at : (patterns : List ℕ) → match_at (read - 1) (slice_get patterns 0) ≡ ended_at (read - 1) patterns
-      first_at [] = refl
-      first_at (p ∷ ps) = refl
-
-  -- whether a search ends there
-  pub tag-last : (earliest : Bool) {test answer : Bool} → test ≡ is_last_tag earliest (tag_in bits) → test ≡ answer
-      → is_last earliest v ≡ answer
-  tag-last earliest reported is =
-      sym (ap (λ t. is_last_tag earliest t) tag ∙ ap (λ b. (earliest && b) || not (is_nonempty v.states))
-      (first_of v.patterns))
-      ∙ sym reported ∙ is
-    where
-      first_of : (patterns : List ℕ) → is_some (slice_get patterns 0) ≡ is_nonempty patterns
-      first_of [] = refl
-      first_of (p ∷ ps) = refl
-
--- the last match up to a place, from the tag of its value
-pub is-found : (p : Place) (bits : ℕ) {found : Option HalfMatch} → tag_in bits ≡ tag_of p.value
-    → ((p.read ≡ 0 → p.last ≡ None) → found ≡ option_or (match_reported p.read (tag_in bits).pattern) p.last)
-    → IsFound p found
-is-found p bits tag found none = found none ∙ ap (λ o. option_or o p.last) (tag-match bits p.value tag p.read)
+-- what the tag of a value says: whether a search ends there
+pub tag-last : (earliest : Bool) (bits : ℕ) (v : Value) {test answer : Bool} → tag_in bits ≡ tag_of v
+    → test ≡ is_last_tag earliest (tag_in bits) → test ≡ answer → is_last earliest v ≡ answer
+tag-last earliest bits v tag told is =
+    sym (ap (λ t. is_last_tag earliest t) tag ∙ ap (λ b. (earliest && b) || not (is_nonempty v.states))
+    (first_of v.patterns)) ∙ sym told ∙ is
+  where
+    first_of : (patterns : List ℕ) → is_some (slice_get patterns 0) ≡ is_nonempty patterns
+    first_of [] = refl
+    first_of (p ∷ ps) = refl
 
 -- nothing is read after a value at which the search ends
 pub read_none : (f : Value → Option ℕ → Value) (earliest : Bool) (v : Value) (us : List (Option ℕ))
     → is_last earliest v ≡ true → units_read f earliest v us ≡ []
 read_none f earliest v [] h = refl
-read_none f earliest v (u ∷ us) h = ap (λ b. cond b [] (u ∷ units_read f earliest (f v u) us)) h
+read_none f earliest v (u ∷ us) h = rw h refl
 
--- what a value reports after a unit
-reported-after : (n : ℕ) (v : Value) → reported (n + 1) v ≡ ended_at n v.patterns
-reported-after n v = ap (λ b. cond b None (ended_at (n + 1 - 1) v.patterns))
-    (let e : nat_eq (n + 1) 0 ≡ false = grind arith in e)
-    ∙ ap (λ k. ended_at k v.patterns) (let e : n + 1 - 1 ≡ n = omega arith in e)
+-- a search that goes on twice, or over more units
+pub goes_twice : {earliest : Bool} {us : List (Option ℕ)} {p q r : Place} → GoesOn earliest us p q
+    → GoesOn earliest us q r → GoesOn earliest us p r
+goes_twice g here = g
+goes_twice g (over q r u h at more is) = over q r u (goes_twice g h) at more is
 
-ended_some : (offset : ℕ) (patterns : List ℕ) (last : Option HalfMatch) → is_nonempty patterns ≡ true
-    → is_some (option_or (ended_at offset patterns) last) ≡ true
-ended_some offset [] last h = absurd (true≢false (sym h))
-ended_some offset (p ∷ ps) last h = refl
+pub goes-longer : {earliest : Bool} {us : List (Option ℕ)} {p q : Place} (rest : List (Option ℕ))
+    → GoesOn earliest us p q → GoesOn earliest (us ++ rest) p q
+goes-longer rest here = here
+goes-longer {us = us} rest (over q r u g at more is) =
+    over q r u (goes-longer rest g) (get_more us rest q.read u at) more is
 
--- what is so of the bytes of a text and any unit after them is so of its units
-module _ (text : Text) (P : List (Option ℕ) → Type 0) where
-  pub of_units : ((rest : List (Option ℕ)) → P (map Some text.bytes ++ rest)) → P (units text)
-  of_units each = subst P (sym (units_listed text)) (each (text.ahead ∷ []))
+-- what is so of the bytes of a text is so of its units
+pub of_bytes : {earliest : Bool} {p q : Place} (text : Text) → GoesOn earliest (map Some text.bytes) p q
+    → GoesOn earliest (units text) p q
+of_bytes text g = rw (units_listed text) (goes-longer (text.ahead ∷ []) g)
 
--- a search that begins
-pub searched-first : {earliest : Bool} {us : List (Option ℕ)} {c : Cache} {v : Value} {p : Place} → p ≡ first_place c v
-    → IsSearched earliest c v us p
-searched-first {earliest} {us} {c} {v} e = subst (λ p. IsSearched earliest c v us p) (sym e)
-    (let r : IsSearched earliest c v us (first_place c v) = record {
-      reached = record { end = refl; after = refl };
-      found = refl;
-      rest = refl;
-    } in r)
+-- the place after a step
+pub next-place : (p : Place) (u : Option ℕ) {w : Value} {last : Option HalfMatch} {new : Cache}
+    → w ≡ step_of p.cache p.value u → last ≡ p.last → new ≡ after_step p.cache p.value u
+    → record { read = p.read + 1; value = w; last = option_or (reported (p.read + 1) w) last; cache = new }
+    ≡ next_place p u
+next-place p u w_is last_is new_is = rw (w_is, last_is, new_is) refl
 
-module _ {earliest : Bool} {old : Cache} {first : Value} {us : List (Option ℕ)} {p : Place}
-    (s : IsSearched earliest old first us p) where
-  abbrev so_far : Option HalfMatch
-  so_far = last_match (future old.nfa old.kind first (take p.read us))
+-- a walk that fails after its first step
+cut_off-later : {old : Cache} {v : Value} {u : Option ℕ} {us : List (Option ℕ)} {new : Cache}
+    → IsCutOff (after_step old v u) (step_of old v u) us new → IsCutOff old v (u ∷ us) new
+cut_off-later f = record { steps = suc f.steps; table = f.table; counted = rw (add-one (suc f.steps)) (rw (add-one f.steps) at f.counted) }
 
-  abbrev reads : Value → List (Option ℕ) → List (Option ℕ)
-  reads = units_read (step_of old) earliest
+-- one unit more
+module _ (earliest : Bool) (us : List (Option ℕ)) (p : Place) (u : Option ℕ) (at : slice_get us p.read ≡ Some u) where
+  last_left-next : last_left us p ≡ last_left us (next_place p u)
+  last_left-next = rw (drop-one us p.read u at, reported-next)
+      (last_from-next p.cache.nfa p.cache.kind p.read p.last p.value u (drop (p.read + 1) us))
 
-  abbrev last_of : List (Option ℕ) → Option HalfMatch
-  last_of all = last_match (future old.nfa old.kind first all)
+  module _ (more : is_last earliest p.value ≡ false) where
+    units_left-next : units_left earliest us p ≡ u ∷ units_left earliest us (next_place p u)
+    units_left-next = rw (drop-one us p.read u at, more)
 
-  -- before the first unit there is no match
-  none_yet : p.read ≡ 0 → p.last ≡ None
-  none_yet e = sym (ap (λ b. option_or (cond b None (ended_at (p.read - 1) p.value.patterns)) p.last) is_first)
-      ∙ s.found
-      ∙ ap (λ n. last_match (future old.nfa old.kind first (take n us))) e
-    where
-      is_first : nat_eq p.read 0 ≡ true
-      is_first = grind (arith, e)
+    -- what is left if the step fails
+    pub fails-here : {new : Cache} → IsFailedStep p.cache p.value u new → Fails earliest us p new
+    fails-here failed = rw units_left-next (record { steps = 0; table = failed.table; counted = failed.counted })
 
-  -- the units that are read go on with the next one
-  goes_on : {u : Option ℕ} → slice_get us p.read ≡ Some u → is_last earliest p.value ≡ false
-      → reads first us ≡ take p.read us ++ u ∷ reads (step_of old p.value u) (drop (p.read + 1) us)
-  goes_on {u} at more = s.rest
-      ∙ ap (λ all. take p.read us ++ reads p.value all) (drop-one us p.read u at)
-      ∙ ap (λ b. take p.read us ++ cond b [] (u ∷ reads (step_of old p.value u) (drop (p.read + 1) us))) more
+    leaves-next : {E : Type 0} (r : Result (Option HalfMatch) E) (new : Cache)
+        → Leaves earliest us (next_place p u) r new → Leaves earliest us p r new
+    leaves-next (Ok found) new o = record {
+      last = λ late. o.last late ∙ sym last_left-next;
+      some = λ _. o.some (λ h. seen (step_of p.cache p.value u).patterns h) ∙ ap is_some (sym last_left-next);
+      after = o.after ∙ ap (λ all. after_walk p.cache p.value all) (sym units_left-next);
+    }
+      where
+        seen : (patterns : List ℕ) → is_nonempty patterns ≡ true
+            → is_some (option_or (match_reported (p.read + 1) (slice_get patterns 0)) p.last) ≡ true
+        seen [] h = absurd (true≢false (sym h))
+        seen (q ∷ qs) h = rw (reported-next p.read (q ∷ qs)) refl
+    leaves-next (Err e) new f = rw units_left-next (cut_off-later f)
 
-  -- what is left if the next step fails
-  pub searched-fails : {u : Option ℕ} {new : Cache} → slice_get us p.read ≡ Some u → is_last earliest p.value ≡ false
-      → IsFailedStep p.cache p.value u new → IsCutOffSearch earliest old first us new
-  searched-fails {u} {new} at more failed =
-      cut_off-step {us = reads first us} (let r : IsReached old first (reads first us) p.read p.value p.cache = record {
-        end = s.reached.end ∙ ap (λ all. value_after old.nfa old.kind first all) (sym front);
-        after = s.reached.after ∙ ap (λ all. after_walk old first all) (sym front);
-      } in r)
-      (ap (λ all. slice_get all p.read) (goes_on at more)
-      ∙ get-after (take p.read us) u _ p.read (take-length us p.read u at))
-      failed
-    where
-      front : take p.read (reads first us) ≡ take p.read us
-      front = ap (λ all. take p.read all) (goes_on at more) ∙ take-before (take p.read us) u _ p.read
-          (take-length us p.read u at)
+-- what a search leaves that goes on
+pub leaves : {E : Type 0} {earliest : Bool} {us : List (Option ℕ)} {p q : Place} (r : Result (Option HalfMatch) E)
+    (new : Cache) → GoesOn earliest us p q → Leaves earliest us q r new → Leaves earliest us p r new
+leaves r new here o = o
+leaves {earliest = earliest} {us = us} r new (over q s u g at more is) o =
+    leaves r new g (leaves-next earliest us q u at more r new (subst (λ x. Leaves earliest us x r new) is o))
 
-  -- one more unit
-  pub searched-step : {u : Option ℕ} {w : Value} {next : Option HalfMatch} {new : Cache} → slice_get us p.read ≡ Some u
-      → is_last earliest p.value ≡ false → IsFound p next
-      → w ≡ step_of p.cache p.value u → new ≡ after_step p.cache p.value u
-      → IsSearched earliest old first us (record { read = p.read + 1; value = w; last = next; cache = new })
-  searched-step {u} {w} {next} {new} at more next_is w_is new_is = record {
-    reached = reached-push s.reached at w_is new_is;
-    found = ap (λ o. option_or (reported (p.read + 1) w) o) (next_is none_yet ∙ s.found)
-        ∙ ap (λ o. option_or o so_far) (reported-after p.read w)
-        ∙ ap (λ n. option_or (ended_at n w.patterns) so_far) (sym (take-length us p.read u at))
-        ∙ ap (λ (x : Value). option_or (ended_at (length (take p.read us)) x.patterns) so_far)
-        ((reached-push s.reached at w_is new_is).end ∙ ap (λ all. value_after old.nfa old.kind first all) taken)
-        ∙ sym (last_match-push old.nfa old.kind first (take p.read us) u) ∙ ap last_of (sym taken);
-    rest = goes_on at more
-        ∙ ap (λ x. take p.read us ++ u ∷ reads x (drop (p.read + 1) us)) (sym (follows s.reached at w_is new_is))
-        ∙ sym (append_assoc (take p.read us) (u ∷ []) (reads w (drop (p.read + 1) us)))
-        ∙ ap (λ all. all ++ reads w (drop (p.read + 1) us)) (sym taken);
+-- by whether the search has failed
+pub over_of : {E : Type 0} (earliest : Bool) (us : List (Option ℕ)) (p : Place) (r : Result (Option HalfMatch) E)
+    (new : Cache) → Leaves earliest us p r new
+    → IfOk r (λ found. IsOver earliest us p found new) × OnErr r (Fails earliest us p new)
+over_of earliest us p (Ok found) new o = (o, tt)
+over_of earliest us p (Err e) new f = (tt, f)
+
+-- the value at which it ends
+pub goes-value : {earliest : Bool} {us : List (Option ℕ)} {p q : Place} → GoesOn earliest us p q
+    → value_after q.cache.nfa q.cache.kind q.value (units_left earliest us q)
+    ≡ value_after p.cache.nfa p.cache.kind p.value (units_left earliest us p)
+goes-value here = refl
+goes-value {earliest} {us} (over q s u g at more is) =
+    ap (λ (x : Place). value_after x.cache.nfa x.cache.kind x.value (units_left earliest us x)) is
+    ∙ sym (ap (λ all. value_after q.cache.nfa q.cache.kind q.value all) (units_left-next earliest us q u at more))
+    ∙ goes-value g
+
+-- a search that has stopped
+module _ (earliest : Bool) (us : List (Option ℕ)) (p : Place) (stopped : HasStopped earliest (length us) p) where
+  units_left-none : units_left earliest us p ≡ []
+  units_left-none = elim stopped [
+    | inl all ↦ rw (drop_all p.read us all) refl
+    | inr last ↦ read_none _ earliest p.value _ last
+  ]
+
+  pub stopped-value : value_after p.cache.nfa p.cache.kind p.value (units_left earliest us p) ≡ p.value
+  stopped-value = rw units_left-none refl
+
+  -- no match follows, or the search is for the earliest, and ends at a match
+  ended : (last_left us p ≡ p.last) ⊎ ((earliest ≡ true) × (is_nonempty p.value.patterns ≡ true))
+  ended = elim stopped [
+    | inl all ↦ inl (rw (drop_all p.read us all) refl)
+    | inr last ↦ by_test (is_nonempty p.value.states)
+        (λ alive. inr (grind (arith, last, alive), grind (arith, last, alive)))
+        (λ dead. inl (last_from-over p.cache.nfa p.cache.kind p.read p.last p.value
+        (drop p.read us) (none_left p.value.states (ap not dead))))
+  ]
+
+  pub over-here : {found : Option HalfMatch} → found ≡ p.last → IsOver earliest us p found p.cache
+  over-here is = record {
+    last = λ late. is
+        ∙ elim ended [ inl same ↦ sym same | inr early ↦ absurd (true≢false (sym early.0 ∙ late)) ];
+    some = λ seen. ap is_some is ∙ elim ended [
+      | inl same ↦ ap is_some (sym same)
+      | inr early ↦ seen early.1 ∙ sym (either _ p.last (seen early.1))
+    ];
+    after = rw units_left-none refl;
   }
     where
-      taken : take (p.read + 1) us ≡ take p.read us ++ u ∷ []
-      taken = take-one us p.read u at
-
-  -- once no more units are read
-  module _ {found : Option HalfMatch} (is_found : IsFound p found) where
-    found_is : found ≡ last_match (future old.nfa old.kind first (take p.read us))
-    found_is = is_found none_yet ∙ s.found
-
-    over : (earliest ≡ false → so_far ≡ last_of us) → is_some so_far ≡ is_some (last_of us)
-        → reads p.value (drop p.read us) ≡ []
-        → IsOver earliest old first us found p.cache
-    over last_is some_is none = record {
-      last = λ e. found_is ∙ last_is e;
-      some = ap is_some found_is ∙ some_is;
-      after = s.reached.after ∙ ap (λ all. after_walk old first all)
-          (sym (s.rest ∙ ap (λ all. take p.read us ++ all) none ∙ append-nil (take p.read us)));
-    }
-
-    all_of : take p.read us ++ drop p.read us ≡ us
-    all_of = take-append-drop p.read us
-
-    -- at a value at which the search ends
-    pub stopped : (earliest ≡ true → first.patterns ≡ []) → is_last earliest p.value ≡ true
-        → IsOver earliest old first us found p.cache
-    stopped unmatched is = by earliest refl (is_nonempty p.value.patterns) refl (is_nonempty p.value.states) refl is
-      where
-        none : reads p.value (drop p.read us) ≡ []
-        none = read_none (step_of old) earliest p.value (drop p.read us) is
-
-        dead : is_nonempty p.value.states ≡ false → IsOver earliest old first us found p.cache
-        dead h =
-            let same : so_far ≡ last_of us =
-            last_match-over old.nfa old.kind first (take p.read us) (drop p.read us)
-            (ap (λ (x : Value). x.states) (sym s.reached.end) ∙ empty_is p.value.states h) ∙ ap last_of all_of in
-            over (λ _. same) (ap is_some same) none
-
-        matched : earliest ≡ true → is_nonempty p.value.patterns ≡ true → IsOver earliest old first us found p.cache
-        matched early h =
-            let some : is_some so_far ≡ true = ap is_some (sym s.found) ∙ reported_some (nat_eq p.read 0) refl in
-            over (λ late. absurd (true≢false (sym early ∙ late)))
-            (some ∙ sym (ap (λ all. is_some (last_of all)) (sym all_of)
-            ∙ longer old.nfa old.kind first (take p.read us) (drop p.read us) some)) none
-          where
-            reported_some : (b : Bool) → nat_eq p.read 0 ≡ b
-                → is_some (option_or (cond b None (ended_at (p.read - 1) p.value.patterns)) p.last) ≡ true
-            reported_some false e = ended_some (p.read - 1) p.value.patterns p.last h
-            reported_some true e =
-                let start : p.read ≡ 0 = grind (arith, e) in
-                let at_first : p.value ≡ first = s.reached.end
-                ∙ ap (λ n. value_after old.nfa old.kind first (take n us)) start in
-                absurd (true≢false (sym h ∙ ap (λ (x : Value). is_nonempty x.patterns) at_first
-                ∙ ap is_nonempty (unmatched early)))
-
-        by : (e : Bool) → earliest ≡ e → (m : Bool) → is_nonempty p.value.patterns ≡ m
-            → (q : Bool) → is_nonempty p.value.states ≡ q
-            → ((e && m) || not q) ≡ true → IsOver earliest old first us found p.cache
-        by true e true m q q_is h = matched e m
-        by true e false m true q h = absurd (true≢false (sym h))
-        by true e false m false q h = dead q
-        by false e m m_is true q h = absurd (true≢false (sym h))
-        by false e m m_is false q h = dead q
-
-    -- at the end of the units
-    pub finished : length us ≤ p.read → IsOver earliest old first us found p.cache
-    finished all_read =
-        let same : so_far ≡ last_of us = ap last_of (take_all p.read us all_read) in
-        over (λ _. same) (ap is_some same) (ap (λ all. reads p.value all) (drop_all p.read us all_read))
+      either : (o last : Option HalfMatch) → is_some last ≡ true → is_some (option_or o last) ≡ true
+      either None last h = h
+      either (Some m) last h = refl

@@ -4,7 +4,8 @@ use Rattle.determinize_lazy.proofs.Common.{subst, sym, Value, ◌+◌, ◌<◌, 
 use Rattle.determinize_lazy.specs.Private.Scanned.{IsPieceRead, later_by}
 use Rattle.determinize_lazy.specs.Scans.{Scanned}
 use Rattle.determinize_core.proofs.finding.LastUnits.{last_match-within}
-use Rattle.determinize_lazy.proofs.finding.Scanning.{later-within, scan-piece}
+use Rattle.determinize_lazy.proofs.finding.Later.{later-within}
+use Rattle.determinize_lazy.proofs.finding.Scanning.{scan-piece}
 use Rattle.determinize_lazy.proofs.lazy.Lazy.feed.Given.{Over}
 use Rattle.determinize_lazy.proofs.lazy.Lazy.feed.Goals.{After-rest}
 use Rattle.determinize_lazy.proofs.lazy.Lazy.feed.Goals as goal

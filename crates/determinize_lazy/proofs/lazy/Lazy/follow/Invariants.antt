@@ -1,5 +1,4 @@
-use Rattle.determinize_lazy.proofs.Common.{cached_place, GoesOn, IsCachedPosition, length, List, map, Option, Some, ℕ}
-use Rattle.determinize_lazy.proofs.Common.{◌++◌, ◌-◌, ◌≤◌}
+use Rattle.determinize_lazy.proofs.Common.{cached_place, GoesOn, IsCachedPosition, length, map, Some, ◌-◌, ◌≤◌}
 use Rattle.determinize_lazy.proofs.lazy.Lazy.follow.Given as goal
 
 abbrev pub invariant-loop-at : goal.invariant-loop-at
@@ -7,8 +6,7 @@ invariant-loop-at g l = record {
   position : IsCachedPosition l.self l.at;
   forward : l.fn.from.read ≤ l.at.read;
   read : l.at.read ≤ length l.text.bytes;
-  searched : (rest : List (Option ℕ)) → GoesOn l.fn.earliest (map Some l.text.bytes ++ rest)
-      (cached_place l.self l.fn.from) (cached_place l.self l.at);
+  searched : GoesOn l.fn.earliest (map Some l.text.bytes) (cached_place l.self l.fn.from) (cached_place l.self l.at);
 }
 
 abbrev pub decreases-loop-at : goal.decreases-loop-at

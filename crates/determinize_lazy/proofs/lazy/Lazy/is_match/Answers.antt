@@ -1,4 +1,4 @@
-use Rattle.determinize_lazy.proofs.Common.{cache, Decides, HasMatch, refl, subst, sym, ◌∙◌}
+use Rattle.determinize_lazy.proofs.Common.{cache, Decides, HasMatch, subst, sym, ◌∙◌}
 use Rattle.determinize_lazy.proofs.finding.CachedRanges.{decides, first-done, first-found}
 use Rattle.determinize_lazy.proofs.lazy.Lazy.is_match.Goals as goal
 
@@ -9,9 +9,10 @@ returns-then-is_done-clause-after g c =
 pub returns-clause-accepts : goal.returns-clause-accepts
 returns-clause-accepts g c = λ more.
     subst (λ b. Decides b (HasMatch c.args.self.now.nfa c.args.input.now)) (sym c.is_some.ensures)
-    (decides c.args.input.now c.search_range.ensures.sound.accepted more c.in_ok-search_range.ensures.over)
+    (decides (cache c.args.self.now) c.args.input.now more c.search_range.ensures.sound.accepted
+    c.in_ok-search_range.ensures.over)
 
 pub returns-clause-after : goal.returns-clause-after
 returns-clause-after g c =
-    first-found c.args.input.now c.search_range.ensures.sound.accepted (sym c.is_done.ensures ∙ c.if-is_done.false)
-    c.in_ok-search_range.ensures.over refl
+    first-found (cache c.args.self.now) c.args.input.now (sym c.is_done.ensures ∙ c.if-is_done.false)
+    c.in_ok-search_range.ensures.over

@@ -1,13 +1,11 @@
-use Rattle.determinize_lazy.proofs.Common.{cache, GoesOn, Grows, IsPosition, length, List, map, Option, place, Some, ℕ}
-use Rattle.determinize_lazy.proofs.Common.{◌++◌, ◌-◌, ◌≤◌}
+use Rattle.determinize_lazy.proofs.Common.{cache, GoesOn, Grows, IsPosition, length, map, place, Some, ◌-◌, ◌≤◌}
 use Rattle.determinize_lazy.proofs.lazy.Lazy.search_bytes.Given as goal
 
 abbrev pub invariant-loop-at : goal.invariant-loop-at
 invariant-loop-at g l = record {
   position : IsPosition l.self l.at;
   read : l.at.read ≤ length l.text.bytes;
-  searched : (rest : List (Option ℕ)) → GoesOn l.fn.earliest (map Some l.text.bytes ++ rest)
-      (place l.fn.self l.fn.from) (place l.self l.at);
+  searched : GoesOn l.fn.earliest (map Some l.text.bytes) (place l.fn.self l.fn.from) (place l.self l.at);
   grows : Grows (cache l.fn.self) (cache l.self);
 }
 

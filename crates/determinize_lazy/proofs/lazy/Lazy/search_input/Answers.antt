@@ -1,4 +1,4 @@
-use Rattle.determinize_lazy.proofs.Common.{cache, false, is_done, refl, rules, sym, ◌∙◌, ◌≡◌}
+use Rattle.determinize_lazy.proofs.Common.{cache, false, is_done, rules, start_for, sym, text_of, ◌∙◌, ◌≡◌}
 use Rattle.determinize_lazy.proofs.finding.CachedRanges.{after-done, after-found}
 use Rattle.determinize_core.proofs.finding.Ranges.{is-answer, IsAnswer, last-done}
 use Rattle.determinize_core.proofs.finding.Ranges.{offset-within}
@@ -17,8 +17,10 @@ returns-then-is_done-clause-after g c =
 
 pub in_haystack-requires-clause-within : goal.in_haystack-requires-clause-within
 in_haystack-requires-clause-within g c =
-    offset-within c.args.input.now (search-is c.args.input.now c.search_range.ensures.sound.accepted
-    (sym c.is_done.ensures ∙ c.if-is_done.false) c.in_ok-found.ensures.over refl)
+    offset-within c.args.input.now (search-is (cache c.args.self.now)
+    (start_for c.args.self.now.nfa c.args.input.now.anchored)
+    (text_of c.args.self.now.nfa.reverse c.args.input.now) c.search_range.ensures.sound.accepted
+    c.in_ok-found.ensures.over)
 
 -- the match that is returned
 answer : (g : Over) (c : After-in_haystack g)
@@ -27,7 +29,9 @@ answer g c =
     let more : is_done c.args.input.now ≡ false = sym c.is_done.ensures ∙ c.if-is_done.false in
     let direction : c.is_reverse.result ≡ c.args.self.now.nfa.reverse = search rules in
     is-answer c.search_range.ensures.sound.accepted more direction c.in_haystack.ensures.value
-    (search-is c.args.input.now c.search_range.ensures.sound.accepted more c.in_ok-found.ensures.over refl)
+    (search-is (cache c.args.self.now) (start_for c.args.self.now.nfa c.args.input.now.anchored)
+    (text_of c.args.self.now.nfa.reverse c.args.input.now) c.search_range.ensures.sound.accepted
+    c.in_ok-found.ensures.over)
 
 pub returns-clause-last : goal.returns-clause-last
 returns-clause-last g c = (answer g (goal.at.returns-clause-last g c).After-in_haystack).last
@@ -43,8 +47,8 @@ returns-clause-none g c = λ _. (answer g (goal.at.returns-clause-none g c).Afte
 
 pub returns-clause-after : goal.returns-clause-after
 returns-clause-after g c =
-    after-found c.args.input.now c.search_range.ensures.sound.accepted (sym c.is_done.ensures ∙ c.if-is_done.false)
-    c.in_ok-found.ensures.over refl
+    after-found (cache c.args.self.now) c.args.input.now (sym c.is_done.ensures ∙ c.if-is_done.false)
+    c.in_ok-found.ensures.over
 
 pub returns-clause-plenty : goal.returns-clause-plenty
 returns-clause-plenty g c = λ _. keeps_all c.search_range.ensures.sound c.in_ok-found.ensures.over.after

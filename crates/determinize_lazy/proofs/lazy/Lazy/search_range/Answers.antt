@@ -1,5 +1,5 @@
-use Rattle.determinize_lazy.proofs.Common.{ap, cache, IfOk, IsCutOffSearch, IsOver, LazyValue, OnErr, refl, rules}
-use Rattle.determinize_lazy.proofs.Common.{start_for, start_value, Text, text_of, units, ℕ, ◌∙◌, ◌≡◌}
+use Rattle.determinize_lazy.proofs.Common.{ap, cache, LazyValue, LeavesText, refl, rules, start_for, Text, text_of}
+use Rattle.determinize_lazy.proofs.Common.{ℕ, ◌∙◌, ◌≡◌}
 use Rattle.determinize_lazy.proofs.steps.Rule.{along}
 use Rattle.determinize_lazy.proofs.lazy.Lazy.search_range.Given.{Over}
 use Rattle.determinize_lazy.proofs.lazy.Lazy.search_range.Goals.{After-search_text}
@@ -19,12 +19,5 @@ pub returns-clause-over : goal.returns-clause-over
 returns-clause-over g c =
     let d = (goal.at.returns-clause-over g c).After-search_text in
     along {x = c.args.self.now} refl (start_is g d) (text_is g d)
-    (λ (x : LazyValue) (s : ℕ) (t : Text). IfOk c.search_text.result (λ found. IsOver c.args.earliest (cache x)
-    (start_value x.nfa s t.behind) (units t) found (cache c.search_text.new.self))) c.search_text.ensures.over
-
-pub returns-clause-failed : goal.returns-clause-failed
-returns-clause-failed g c =
-    let d = (goal.at.returns-clause-failed g c).After-search_text in
-    along {x = c.args.self.now} refl (start_is g d) (text_is g d)
-    (λ (x : LazyValue) (s : ℕ) (t : Text). OnErr c.search_text.result (IsCutOffSearch c.args.earliest (cache x)
-    (start_value x.nfa s t.behind) (units t) (cache c.search_text.new.self))) c.search_text.ensures.failed
+    (λ (x : LazyValue) (s : ℕ) (t : Text). LeavesText c.args.earliest (cache x) s t c.search_text.result
+    (cache c.search_text.new.self)) c.search_text.ensures.over

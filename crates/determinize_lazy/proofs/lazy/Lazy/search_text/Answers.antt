@@ -1,10 +1,9 @@
-use Rattle.determinize_lazy.proofs.Common.{AllResolve, ap, cache, cached_place, dead, first_place}
-use Rattle.determinize_lazy.proofs.Common.{get_or_from_slice_get, IfOk-weaker, IsFound, IsSearched, LazyValue}
-use Rattle.determinize_lazy.proofs.Common.{on_err_weaker, refl, slice_get, slice_get-get_or, slice_get_within}
-use Rattle.determinize_lazy.proofs.Common.{slice_index_or, start_value, subst, sym, tag_in, tag_of, units, Value, ◌∙◌}
-use Rattle.determinize_lazy.proofs.Common.{◌≡◌}
+use Rattle.determinize_lazy.proofs.Common.{AllResolve, ap, cache, cached_place, dead, first_place, GoesOn}
+use Rattle.determinize_lazy.proofs.Common.{get_or_from_slice_get, inl, inr, LazyValue, match_of, match_reported, Ok}
+use Rattle.determinize_lazy.proofs.Common.{option_or, slice_get, slice_get-get_or, slice_get_within, slice_index_or}
+use Rattle.determinize_lazy.proofs.Common.{start_value, subst, sym, Tag, tag_in, tag_of, units, Value, ◌∙◌, ◌≡◌}
 use Rattle.determinize_core.proofs.finding.Texts.{all_read}
-use Rattle.determinize_lazy.proofs.finding.Searching.{finished, is-found, searched-first, stopped, tag-last}
+use Rattle.determinize_lazy.proofs.finding.Searching.{leaves, over-here, tag-last}
 use Rattle.determinize_lazy.proofs.lazy.Lazy.search_text.Given.{Over}
 use Rattle.determinize_lazy.proofs.lazy.Lazy.search_text.Goals.{After-len, In-Some}
 use Rattle.determinize_lazy.proofs.lazy.Lazy.search_text.Goals.{then-at-len-via-else-at-len+then-is_last}
@@ -26,42 +25,32 @@ follow_to_end-at-requires-clause-resolve g c =
     (sym (start_is g (goal.at.follow_to_end-at-requires-clause-resolve g c).In-Some)) c.kept_start.ensures.resolve
 
 -- the search of what is cached
-here : (g : Over) (c : After-len g) → IsSearched c.args.earliest (cache c.args.self.now)
-    (start_value c.args.self.now.nfa c.args.start c.args.text.now.behind) (units c.args.text.now)
+here : (g : Over) (c : After-len g) → GoesOn c.args.earliest (units c.args.text.now) (first_place
+    (cache c.args.self.now) (start_value c.args.self.now.nfa c.args.start c.args.text.now.behind))
     (cached_place c.args.self.now c.follow_to_end-at.result)
 here g c =
-    c.follow_to_end-at.ensures.searched _ _
-    (searched-first (ap (λ (v : Value). first_place (cache c.args.self.now) v)
+    subst (λ (v : Value). GoesOn c.args.earliest (units c.args.text.now) (first_place (cache c.args.self.now) v)
+    (cached_place c.args.self.now c.follow_to_end-at.result))
     (get_or_from_slice_get c.args.self.now.states c.in-Some.id _ dead c.in-Some.ensures.at
-    ∙ ap (λ b. start_value c.args.self.now.nfa c.args.start b) c.behind.ensures)))
-
--- the tag of the state there
-tag : (g : Over) (c : After-len g) → tag_in c.tag-tag.result.bits
-    ≡ tag_of (slice_index_or c.args.self.now.states c.follow_to_end-at.result.id dead)
-tag g c = c.tag-tag.ensures _ (ap (λ (x : LazyValue). slice_get x.states c.follow_to_end-at.result.id) c.self.view_is
-    ∙ slice_get-get_or c.args.self.now.states c.follow_to_end-at.result.id dead c.follow_to_end-at.ensures.position.id)
+    ∙ ap (λ b. start_value c.args.self.now.nfa c.args.start b) c.behind.ensures) c.follow_to_end-at.ensures.searched
 
 pub returns-then-at-len-clause-over : goal.returns-then-at-len-clause-over
 returns-then-at-len-clause-over g c =
     let d = (goal.at.returns-then-at-len-clause-over g c).After-len in
-    let found : IsFound (cached_place c.args.self.now c.follow_to_end-at.result) c.get.result = λ none. c.get.ensures
-    ∙ is-found (cached_place c.args.self.now c.follow_to_end-at.result) _ (tag g d) c.or_match.ensures none in
-    elim c.then-at-len.branch [
-      | then-at-len-via-then-at-len w ↦
-          finished (here g d) found (all_read c.args.text.now w.if-at-len.true c.len.ensures.value)
+    let at = c.follow_to_end-at.result in
+    let v : Value = slice_index_or c.args.self.now.states at.id dead in
+    let tag : tag_in c.tag-tag.result.bits ≡ tag_of v = c.tag-tag.ensures _
+    (ap (λ (x : LazyValue). slice_get x.states at.id) c.self.view_is
+    ∙ slice_get-get_or c.args.self.now.states at.id dead c.follow_to_end-at.ensures.position.cursor) in
+    leaves {E = Unit {0}} (Ok c.get.result) _ (here g d) (over-here c.args.earliest _ (cached_place c.args.self.now at)
+    (elim c.then-at-len.branch [
+      | then-at-len-via-then-at-len w ↦ inl (all_read c.args.text.now w.if-at-len.true c.len.ensures.value)
       | then-at-len-via-else-at-len+then-is_last w ↦
-          stopped (here g d) found (λ _. refl) (tag-last c.tag-tag.result.bits (slice_index_or c.args.self.now.states
-          c.follow_to_end-at.result.id dead) (tag g d) _ w.is_last.ensures w.if-is_last.true)
-    ]
+          inr (tag-last c.args.earliest c.tag-tag.result.bits v tag w.is_last.ensures w.if-is_last.true)
+    ])
+    (c.get.ensures ∙ c.or_match.ensures c.follow_to_end-at.ensures.position.unmatched
+    ∙ ap (λ (t : Tag). option_or (match_reported at.read t.pattern) (match_of at.last)) tag))
 
 pub returns-clause-over : goal.returns-clause-over
 returns-clause-over g c =
-    IfOk-weaker c.search_on.result _ _
-    (λ found ends. ends (cache c.args.self.now) _ (λ _. refl)
-    (here g (goal.at.returns-clause-over g c).After-len)) c.search_on.ensures.over
-
-pub returns-clause-failed : goal.returns-clause-failed
-returns-clause-failed g c =
-    on_err_weaker c.search_on.result
-    (λ fails. fails (cache c.args.self.now) _ (here g (goal.at.returns-clause-failed g c).After-len))
-    c.search_on.ensures.failed
+    leaves c.search_on.result _ (here g (goal.at.returns-clause-over g c).After-len) c.search_on.ensures.over
