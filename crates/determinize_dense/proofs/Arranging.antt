@@ -1,15 +1,17 @@
 -- The rows in the order of their ranks.
 use Rattle.determinize_core.proofs.Common.{List, ap, arith, inl, inr, is_nonempty, length, slice_index, subst, sym}
 use Rattle.determinize_core.proofs.Common.{ℕ, ◌*◌, ◌+◌, ◌<◌, ◌∙◌, ◌≡◌, ◌≤◌}
-use Rattle.determinize_dense.proofs.Common.{DfaValue, patterns_at}
-use Rattle.std.proofs.Math.Nat.{mul-le-mul_right}
-use Rattle.determinize_dense.proofs.Offsets.{offset-less}
+use Rattle.determinize_dense.proofs.Common.{DfaValue, IsDfa, patterns_at}
+use Rattle.std.specs.Prelude.{◌/◌, ◌^◌}
+use Rattle.std.proofs.Math.Nat.{mul-le-mul_left, mul-le-mul_right}
+use Rattle.determinize_dense.proofs.Offsets.{inverse-room, inverse-row, offset-less}
+use Rattle.determinize_dense.proofs.Searching.{none-zero}
 use Rattle.determinize_dense.proofs.Splitting.{below_or}
 use Rattle.determinize_dense.specs.Least.{IsLeast}
 use Rattle.determinize_dense.specs.Private.Minimizing.{entry, IsGrouping, IsMerged}
 use Rattle.determinize_dense.specs.Private.Order.{AreRanks, IsOrdered}
 use Rattle.determinize_dense.specs.Private.Partition.{AreTogether, Blocks, IsByRank, IsLastUpto}
-use Rattle.determinize_dense.specs.Private.Rows.{offset_of}
+use Rattle.determinize_dense.specs.Private.Rows.{IsFilled, IsInverse, offset_of}
 
 module _ (v : DfaValue) {ranks : List ℕ} {p : Blocks} (are : AreRanks v.table ranks) (is : IsByRank ranks p) where
   inside : (r : ℕ) → r < length v.table.patterns → r < length ranks
@@ -47,6 +49,25 @@ module _ (v : DfaValue) {ranks : List ℕ} {p : Blocks} (are : AreRanks v.table 
           (member-below c j) (λ same. other (sym (is.blocks.own b i) ∙ ap (λ r. slice_index p.numbers r) same
           ∙ is.blocks.own c j)));
     }
+
+    pub arranged-inverse : IsFilled v.table → v.table.class_count + 1 ≤ 257 → {inverse : ℕ}
+        → inverse ≡ 4294967296 / (v.table.class_count + 1) + 1 → IsInverse w.table inverse
+    arranged-inverse filled narrow {inverse} e =
+        let same : inverse ≡ 4294967296 / (w.table.class_count + 1) + 1 =
+        e ∙ ap (λ n. 4294967296 / (n + 1) + 1) (sym m.columns) in
+        let few : (r : ℕ) → r < length w.table.patterns → r * (w.table.class_count + 1) < 4294967296 =
+        λ r h.
+        let rows = filled.few in
+        let count = arranged-count in
+        let columns = m.columns in
+        let most : r * (w.table.class_count + 1) ≤ r * 257 = mul-le-mul_left r (omega (arith, narrow, columns)) in
+        omega (arith, h, rows, count, most) in
+        record {
+          room = λ r h. subst (λ n. offset_of w.table r * n < 2 ^ 64) (sym same)
+              (inverse-room r (w.table.class_count + 1) (omega arith) (few r h));
+          row = λ r h. ap (λ n. offset_of w.table r * n / 4294967296) same
+              ∙ inverse-row r (w.table.class_count + 1) (omega arith) (few r h);
+        }
 
     -- the rank of the row of a block
     abbrev rank : ℕ → ℕ
@@ -86,10 +107,13 @@ module _ (v : DfaValue) {ranks : List ℕ} {p : Blocks} (are : AreRanks v.table 
           absurd (let no : ⊥ = omega (arith, upto, same, h) in no)
     ]
 
-    pub arranged-ordered : {first second last_match last_special : ℕ} → IsLastUpto ranks p 1 first
+    pub arranged-ordered : IsDfa v → {first second last_match last_special : ℕ} → IsLastUpto ranks p 1 first
         → IsLastUpto ranks p 2 second → last_match ≡ offset_of v.table first → last_special ≡ offset_of v.table second
         → IsOrdered w.table last_match last_special
-    arranged-ordered {first} {second} {last_match} {last_special} lists scans match_is special_is = record {
+    arranged-ordered dfa {first} {second} {last_match} {last_special} lists scans match_is special_is = record {
+      dead =
+          let some : 0 < length v.table.patterns = subst (λ n. 0 < n) (is.rows ∙ are.count) is.blocks.some in
+          m.patterns 0 is.blocks.some ∙ ap (λ r. patterns_at v.table r) is.blocks.first ∙ none-zero v dfa some;
       some = λ b some h l.
           let i : b < length p.members = block-below b h in
           let r : slice_index p.members b < length v.table.patterns = member-below b i in

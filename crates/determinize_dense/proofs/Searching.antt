@@ -17,7 +17,7 @@ use Rattle.determinize_dense.proofs.Offsets.{offset-zero, same-offset}
 use Rattle.determinize_dense.proofs.Reached.{head_unit, no_units, one_unit, tail_units}
 use Rattle.determinize_dense.proofs.Splitting.{below_or}
 use Rattle.determinize_dense.specs.Private.Order.{IsOrdered}
-use Rattle.determinize_dense.specs.Private.Rows.{HasPatterns, IsNext, IsOffset, offset_of}
+use Rattle.determinize_dense.specs.Private.Rows.{IsNext, IsRowAt, IsOffset, offset_of}
 use Rattle.determinize_dense.specs.Private.Searching.{IsMatch, StaysOver}
 use Rattle.determinize_core.proofs.walk.LastMatches.{last_match-push}
 
@@ -66,9 +66,16 @@ module _ {d : DfaValue} {anchored : Bool} {p : Option ℕ} where
         (row-push u unit goes)
 
     -- the row lists what the value lists
-    pub patterns-are : IsDfa d → {patterns : List ℕ} → HasPatterns d.table row patterns
-        → patterns ≡ (value_from d.nfa d.kind anchored p us).patterns
-    patterns-are is has = has here at.below at.reached ∙ is.tells anchored p us at.behind at.units
+    pub patterns-are : IsDfa d → {r : ℕ} → IsRowAt d.table row r
+        → patterns_at d.table r ≡ (value_from d.nfa d.kind anchored p us).patterns
+    patterns-are is is_at = ap (λ n. patterns_at d.table n) (same-offset d.table (sym is_at.1 ∙ at.reached))
+        ∙ is.tells anchored p us at.behind at.units
+
+-- the next row has an offset
+pub next-offset : (d : DfaValue) {row next : ℕ} (u : Option ℕ) → IsOffset d.table row → IsNext d.table row u next
+    → IsOffset d.table next
+next-offset d {row} {next} u at goes =
+    let k = goes at.0 at.1 at.2 in (row_over d.table at.0 u, k.0, k.1)
 
 -- no pattern is listed by row 0
 pub none-zero : (d : DfaValue) → IsDfa d → 0 < length d.table.patterns → patterns_at d.table 0 ≡ []

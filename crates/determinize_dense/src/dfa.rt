@@ -16,11 +16,15 @@ use std::alloc::{AllocError, Allocator, Global};
 use std::fmt;
 use std::marker::Model;
 
+/// 2^32. The offset of each row is less.
+pub(crate) const SCALE: usize = 1 << 32;
+
 /// A whole DFA of an NFA. As built, it has a row for each state that a search can reach, from every
 /// start and over any units; as minimized, one row for all states that match alike.
 ///
 /// First is the row of the dead state, then come the rows that list patterns, then those that a
-/// search scans out of, and then the others. So a search compares once for each byte.
+/// search scans out of, and then the others. So after the first 64 bytes a search compares once for
+/// each byte.
 #[derive(Drop)]
 pub struct Dfa<'n, N: Allocator = Global, A: Allocator = Global> {
     pub(crate) rows: Rows<'n, N, A>,
@@ -28,17 +32,23 @@ pub struct Dfa<'n, N: Allocator = Global, A: Allocator = Global> {
     pub(crate) last_match: usize,
     /// The offset of the last row that is scanned out of, or that of `last_match`.
     pub(crate) last_special: usize,
+    /// `SCALE` divided by the length of a row, plus 1. The product of an offset and this number is
+    /// at least `SCALE` times the number of the row, and less than `SCALE` more. So a search needs
+    /// no division to look up the patterns of a row.
+    pub(crate) inverse: usize,
 }
 
 impl<'n, N: Allocator, A: Allocator> Model for Dfa<'n, N, A> {
     ghost use Rattle.determinize_dense.specs.Table.{DfaValue};
     ghost use Rattle.determinize_dense.specs.Private.Order.{IsOrdered};
+    ghost use Rattle.determinize_dense.specs.Private.Rows.{IsInverse};
 
     ghost Value = { DfaValue };
 
     ghost view = { λ d. d.rows };
 
-    ghost invariant = { λ d. IsOrdered d.rows.table d.last_match d.last_special };
+    ghost invariant = { λ d. IsOrdered d.rows.table d.last_match d.last_special
+        × IsInverse d.rows.table d.inverse };
 }
 
 impl<'n, N: Allocator, A: Allocator + Copy> Dfa<'n, N, A> {

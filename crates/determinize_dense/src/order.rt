@@ -6,7 +6,7 @@ ghost use Rattle.determinize_dense.specs.Dfa.{IsDfaOf};
 ghost use Rattle.determinize_dense.specs.Least.{IsLeast};
 ghost use Rattle.determinize_dense.specs.Private.Order.{AreRanks, IsRank};
 
-use crate::dfa::Dfa;
+use crate::dfa::{Dfa, SCALE};
 use crate::partition::Partition;
 use crate::rows::Rows;
 use std::alloc::{AllocError, Allocator};
@@ -88,6 +88,7 @@ impl<'n, N: Allocator, A: Allocator + Copy> Rows<'n, N, A> {
             rows: self.merged(alloc, &order)?,
             last_match: order.last_upto(ranks.as_slice(), 1) * columns,
             last_special: order.last_upto(ranks.as_slice(), 2) * columns,
+            inverse: SCALE / columns + 1,
         })
     }
 }

@@ -3,7 +3,7 @@
 ghost use Rattle.std.specs.Prelude.{◌≤◌};
 
 /// The number of bytes that a search reads before it scans.
-const FIRST: usize = 64;
+pub(crate) const FIRST: usize = 64;
 
 /// A scan that reads fewer bytes costs more time than it saves.
 const WORTHWHILE: usize = 8;
@@ -24,7 +24,7 @@ pub(crate) struct Pauses {
 }
 
 impl Pauses {
-    /// Returns the pause at the start of a search.
+    /// Returns the pause before the first scan.
     #[inline(always)]
     pub(crate) fn new() -> Pauses {
         Pauses {

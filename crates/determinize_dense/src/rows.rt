@@ -3,8 +3,8 @@
 ghost use Rattle.std.specs.Prelude.{◌≡◌, ◌+◌, ◌*◌, ◌<◌, ◌≤◌, length};
 ghost use Rattle.determinize_below.specs.ByteClasses.{AreClassesOf};
 ghost use Rattle.determinize_below.specs.Truth.{IsUnit};
-ghost use Rattle.determinize_dense.specs.Private.Rows.{HasPatterns, IsDfa, IsNext, IsOffset, offset_of};
-ghost use Rattle.determinize_dense.specs.Table.{column_of, start_row};
+ghost use Rattle.determinize_dense.specs.Private.Rows.{IsDfa, IsNext, IsOffset, offset_of};
+ghost use Rattle.determinize_dense.specs.Table.{column_of, patterns_at, start_row};
 
 use determinize_below::alphabet::ByteClasses;
 use determinize_below::{MatchKind, NFA, PatternID};
@@ -121,18 +121,12 @@ impl<'n, N: Allocator, A: Allocator + Copy> Rows<'n, N, A> {
     }
 
     /// Returns the patterns that a row lists.
-    ///
-    /// - `row` is the offset of the row.
     #[inline(always)]
     pub(crate) fn patterns(&self, row: usize) -> &[PatternID]
-        requires { IsOffset self.now.table row }
-        ensures { HasPatterns self.now.table row result.now }
+        requires { row < length self.now.table.patterns }
+        ensures { result.now ≡ patterns_at self.now.table row }
     {
-        let columns = self.classes.alphabet_len();
-        if row == 0 {
-            return &[];
-        }
-        self.patterns[row / columns].as_slice()
+        self.patterns[row].as_slice()
     }
 
     /// Returns the classes of bytes.

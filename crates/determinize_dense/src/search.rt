@@ -3,7 +3,7 @@
 //! Matches are delayed by one unit: a row lists the patterns that match before the unit that led to
 //! it. So a search also reads the unit ahead of its text, and a start state is no match state.
 
-ghost use Rattle.std.specs.Prelude.{Decides, ◌≡◌, ◌≤◌, ℕ, List, Contains, false, length, true, None};
+ghost use Rattle.std.specs.Prelude.{[], Bool, Decides, ◌≡◌, ◌≤◌, ℕ, List, Contains, false, length, true, None};
 ghost use Rattle.std.specs.Option.{IfNone, IfSome};
 ghost use Rattle.determinize_below.specs.Semantics.{Accepts, between};
 ghost use Rattle.determinize_below.specs.Search.{is_done};
@@ -13,11 +13,12 @@ ghost use Rattle.determinize_core.specs.Searches.{HasMatch, IsFarthestIn, IsPref
 ghost use Rattle.determinize_core.specs.Walk.{ListsAccepted};
 ghost use Rattle.determinize_dense.specs.Dfa as dfas;
 ghost use Rattle.determinize_dense.specs.Dfa.{value_from};
-ghost use Rattle.determinize_dense.specs.Private.Rows.{IsOffset};
-ghost use Rattle.determinize_dense.specs.Private.Searching.{FindsLast, IsFound, IsMatch, StaysOver};
+ghost use Rattle.determinize_dense.specs.Private.Rows.{IsOffset, IsRowAt};
+ghost use Rattle.determinize_dense.specs.Table.{patterns_at};
+ghost use Rattle.determinize_dense.specs.Private.Searching.{FindsFrom, IsFound, IsMatch, StaysOver};
 
-use crate::dfa::Dfa;
-use crate::pauses::Pauses;
+use crate::dfa::{Dfa, SCALE};
+use crate::pauses::{FIRST, Pauses};
 use determinize_below::{Anchored, HalfMatch, Input, PatternID};
 use determinize_core::engine::Engine;
 use determinize_core::text::{Text, in_haystack};
@@ -64,17 +65,33 @@ impl<'n, N: Allocator, A: Allocator + Copy> Dfa<'n, N, A> {
         for byte in text {
             row = self.rows.row_over(row, Some(*byte));
         }
-        self.rows.patterns(self.rows.row_over(row, look_ahead))
+        let last = self.rows.row_over(row, look_ahead);
+        self.rows.patterns(self.row_at(last))
+    }
+
+    /// Returns the number of the row at an offset.
+    #[inline(always)]
+    fn row_at(&self, offset: usize) -> usize
+        requires { IsOffset self.now.table offset }
+        ensures row { IsRowAt self.now.table offset result }
+        ensures dead { patterns_at self.now.table 0 ≡ [] }
+    {
+        offset * self.inverse / SCALE
     }
 
     /// Returns the match of a row, or `None` if it lists no patterns.
     ///
     /// - `row` is the offset of the row, and `offset` that of the match.
+    #[inline(always)]
     fn match_of(&self, row: usize, offset: usize) -> Option<HalfMatch>
         requires { IsOffset self.now.table row }
         ensures { IsMatch self.now.table row offset result }
     {
-        let pattern = *self.rows.patterns(row).first()?;
+        let number = self.row_at(row);
+        if row == 0 {
+            return None;
+        }
+        let pattern = *self.rows.patterns(number).first()?;
         Some(HalfMatch { pattern, offset })
     }
 
@@ -82,8 +99,8 @@ impl<'n, N: Allocator, A: Allocator + Copy> Dfa<'n, N, A> {
     /// a pattern. Returns the last match of the rows that it enters.
     ///
     /// A row is known by its offset. The match of the last row that lists patterns is looked up at
-    /// the end. The inner loop compares each row with `stop` once. In a pause between scans this is
-    /// `last_match`, so that no row is scanned out of, and else `last_special`.
+    /// the end. The first bytes are read here, with no scans. Which rows list patterns is hard to
+    /// predict, so the loop assigns `matched` and `offset` in a form that needs no jump.
     #[inline(always)]
     fn search_text(
         &self,
@@ -95,6 +112,50 @@ impl<'n, N: Allocator, A: Allocator + Copy> Dfa<'n, N, A> {
     {
         let mut row = self.rows.start_row(is_anchored, text.behind());
         let (mut matched, mut offset, mut read) = (0, 0, 0);
+        let until = text.len().min(FIRST);
+        while read < until {
+            row = self.rows.row_over(row, Some(text.byte(read)));
+            if row == 0 {
+                return self.match_of(matched, offset);
+            }
+            if row <= self.last_match {
+                matched = row;
+                offset = read;
+                if is_earliest {
+                    return self.match_of(matched, offset);
+                }
+            }
+            read += 1;
+        }
+        if read < text.len() {
+            return self.search_rest(row, text, read, matched, offset, is_earliest);
+        }
+        self.last_of(row, text, matched, offset)
+    }
+
+    /// Searches the rest of a text as `search_text` does, with scans.
+    ///
+    /// The inner loop compares each row with `stop` once. In a pause between scans this is
+    /// `last_match`, so that no row is scanned out of, and else `last_special`.
+    ///
+    /// - `row` is the offset of the row, and `read` the number of bytes read before.
+    /// - `matched` is the offset of the last row that listed patterns, and `offset` that of its
+    ///   match.
+    fn search_rest(
+        &self,
+        row: usize,
+        text: &Text<'_>,
+        read: usize,
+        matched: usize,
+        offset: usize,
+        is_earliest: bool,
+    ) -> Option<HalfMatch>
+        requires row { IsOffset self.now.table row }
+        requires matched { IsOffset self.now.table matched }
+        requires read { read ≤ length text.now.bytes }
+        ensures { FindsFrom self.now is_earliest text.now read row matched offset result }
+    {
+        let (mut row, mut read, mut matched, mut offset) = (row, read, matched, offset);
         let mut pauses = Pauses::new();
         while read < text.len() {
             let (stop, until) = if read < pauses.end {
@@ -142,7 +203,8 @@ impl<'n, N: Allocator, A: Allocator + Copy> Dfa<'n, N, A> {
     ) -> Option<HalfMatch>
         requires row { IsOffset self.now.table row }
         requires matched { IsOffset self.now.table matched }
-        ensures { FindsLast self.now text.now row matched offset result }
+        ensures { (earliest : Bool) → FindsFrom self.now earliest text.now
+            (length text.now.bytes) row matched offset result }
     {
         let end = self.rows.row_over(row, text.ahead());
         if end == 0 || end > self.last_match {

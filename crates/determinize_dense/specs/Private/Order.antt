@@ -6,6 +6,7 @@ use Rattle.determinize_dense.specs.Table.{Table, patterns_at}
 
 -- behind row 0 and up to the last match, and only there, the rows list patterns
 pub record IsOrdered (d : Table) (last_match last_special : ℕ) : Type 0 where
+  pub dead : patterns_at d 0 ≡ []
   pub some : (r : ℕ) → 0 < r → r < length d.patterns → offset_of d r ≤ last_match
       → is_nonempty (patterns_at d r) ≡ true
   pub none : (r : ℕ) → r < length d.patterns → last_match < offset_of d r → patterns_at d r ≡ []

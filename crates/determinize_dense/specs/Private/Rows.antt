@@ -1,12 +1,12 @@
 -- What is true of every DFA.
-use Rattle.std.specs.Prelude.{◌≡◌, ◌<◌, ◌≤◌, ◌+◌, ◌*◌, ◌/◌, ◌++◌, ℕ, All, Bool, Option, List, []}
+use Rattle.std.specs.Prelude.{◌≡◌, ◌<◌, ◌≤◌, ◌+◌, ◌*◌, ◌/◌, ◌^◌, ◌++◌, ℕ, All, Bool, Option, List, []}
 use Rattle.std.specs.Prelude.{length, map, slice_index}
 use Rattle.determinize_below.specs.ByteClasses.{AreClassesOf, Classes}
 use Rattle.determinize_below.specs.Nfa.{IsAccepted}
 use Rattle.determinize_below.specs.Truth.{IsUnit}
 use Rattle.determinize_dense.specs.Dfa.{IsDfaOf, value_from}
 use Rattle.determinize_dense.specs.Least.{IsReachedRow}
-use Rattle.determinize_dense.specs.Table.{DfaValue, Table, column_of, patterns_at, row_after}
+use Rattle.determinize_dense.specs.Table.{DfaValue, Table, column_of, row_after}
 use Rattle.determinize_dense.specs.Table.{row_over, start_row}
 
 -- each entry is in place and is the number of a row, and each column is that of a unit
@@ -50,10 +50,14 @@ abbrev pub IsNext : Table → ℕ → Option ℕ → ℕ → Type 0
 IsNext d offset u next = (r : ℕ) → r < length d.patterns → offset ≡ offset_of d r
     → (row_over d r u < length d.patterns) × (next ≡ offset_of d (row_over d r u))
 
--- the row at an offset lists these patterns
-abbrev pub HasPatterns : Table → ℕ → List ℕ → Type 0
-HasPatterns d offset patterns = (r : ℕ) → r < length d.patterns → offset ≡ offset_of d r
-    → patterns ≡ patterns_at d r
+-- this is the number of the row at an offset
+abbrev pub IsRowAt : Table → ℕ → ℕ → Type 0
+IsRowAt d offset r = (r < length d.patterns) × (offset ≡ offset_of d r)
+
+-- the product of an offset and this number, over 2^32, is the number of the row
+pub record IsInverse (d : Table) (inverse : ℕ) : Type 0 where
+  pub room : (r : ℕ) → r < length d.patterns → offset_of d r * inverse < 2 ^ 64
+  pub row : (r : ℕ) → r < length d.patterns → offset_of d r * inverse / 4294967296 ≡ r
 
 -- the entries are stored as offsets
 pub record IsStored (v : DfaValue) (offsets : List ℕ) : Type 0 where

@@ -53,8 +53,17 @@ pub record IsSearched (dfa : DfaValue) (anchored : Bool) (text : Text) (read row
         (start_value dfa.nfa (start_in dfa.nfa anchored) text.behind)
         (take read (units text))))
 
--- what a search finds that has read all bytes, and before the unit ahead is here
-abbrev pub FindsLast : DfaValue → Text → ℕ → ℕ → ℕ → Option HalfMatch → Type 0
-FindsLast dfa text row matched end found = (earliest anchored : Bool) → IsDfa dfa
-    → IsSearched dfa anchored text (length text.bytes) row matched end
-    → IsFound dfa earliest anchored text found
+-- what a search finds from here on that has read some units
+abbrev pub FindsFrom : DfaValue → Bool → Text → ℕ → ℕ → ℕ → ℕ → Option HalfMatch → Type 0
+FindsFrom dfa earliest text read row matched end found = (anchored : Bool) → IsDfa dfa
+    → IsSearched dfa anchored text read row matched end → IsFound dfa earliest anchored text found
+
+-- a search that had read some units has now read these
+pub record HasCome (dfa : DfaValue) (text : Text) (read row matched end : ℕ)
+    (read_now row_now matched_now end_now : ℕ) : Type 0
+  where
+    pub at : IsOffset dfa.table row_now
+    pub listing : IsOffset dfa.table matched_now
+    pub searched : (anchored : Bool) → IsDfa dfa
+        → IsSearched dfa anchored text read row matched end
+        → IsSearched dfa anchored text read_now row_now matched_now end_now

@@ -13,7 +13,7 @@ use Rattle.determinize_dense.proofs.dfa.Dfa.last_of.Goals as goal
 order : (g : Over) (c : After-row_over-end g)
     → IsOrdered c.args.self.now.table c.self.inside.last_match c.self.inside.last_special
 order g c = subst (λ (x : DfaValue). IsOrdered x.table c.self.inside.last_match c.self.inside.last_special)
-    c.self.view_is c.self.invariant
+    c.self.view_is c.self.invariant.0
 
 -- the last row is that over the unit ahead
 goes : (g : Over) (c : After-row_over-end g)

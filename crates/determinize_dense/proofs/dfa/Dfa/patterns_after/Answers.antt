@@ -1,12 +1,12 @@
 use Rattle.determinize_core.proofs.Common.{ap, between, get_or, IsAccepted, length, map, refl, rules}
 use Rattle.determinize_core.proofs.Common.{Some, subst, sym, take_all, units, [], ◌++◌, ◌∙◌}
 use Rattle.determinize_core.proofs.Common.{◌<◌, ◌∷◌, ◌≡◌}
-use Rattle.determinize_dense.proofs.Common.{DfaValue, is_anchored, IsDfa, IsRowFrom, start_row, value_from}
+use Rattle.determinize_dense.proofs.Common.{DfaValue, is_anchored, IsDfa, IsRowFrom, patterns_at, start_row, value_from}
 use Rattle.determinize_core.proofs.walk.UnitLists.{units_are}
 use Rattle.determinize_dense.proofs.Inputs.{start_is}
 use Rattle.determinize_dense.proofs.Listing.{each-accepted, list-all}
 use Rattle.determinize_dense.proofs.Searching.{patterns-are, row-byte, row-push, row-start}
-use Rattle.determinize_dense.specs.Private.Rows.{HasPatterns, IsNext, offset_of}
+use Rattle.determinize_dense.specs.Private.Rows.{IsNext, offset_of}
 use Rattle.determinize_dense.proofs.dfa.Dfa.patterns_after.Given.{Over}
 use Rattle.determinize_dense.proofs.dfa.Dfa.patterns_after.Goals.{After-patterns}
 use Rattle.determinize_dense.proofs.dfa.Dfa.patterns_after.Goals as goal
@@ -36,12 +36,13 @@ listed : (g : Over) (c : After-patterns g) → c.patterns.result.now
     ≡ (value_from c.args.self.now.nfa c.args.self.now.kind (is_anchored c.args.anchored) c.args.look_behind
     (units (between c.args.look_behind c.args.text.now c.args.look_ahead))).patterns
 listed g c =
-    patterns-are (row-push c.loop-byte.invariant.at c.args.look_ahead c.row_over.ensures.unit
-    (subst (λ (x : DfaValue). IsNext x.table c.loop-byte.row c.args.look_ahead c.row_over.result) c.self.view_is
-    c.row_over.ensures.value))
+    c.patterns.ensures
+    ∙ ap (λ (x : DfaValue). patterns_at x.table c.row_at.result) c.self.view_is
+    ∙ patterns-are (row-push c.loop-byte.invariant.at c.args.look_ahead c.row_over-last.ensures.unit
+    (subst (λ (x : DfaValue). IsNext x.table c.loop-byte.row c.args.look_ahead c.row_over-last.result)
+    c.self.view_is c.row_over-last.ensures.value))
     (subst (λ (x : DfaValue). IsDfa x) c.self.view_is c.start_row-row.ensures.sound)
-    (subst (λ (x : DfaValue). HasPatterns x.table c.row_over.result c.patterns.result.now) c.self.view_is
-    c.patterns.ensures)
+    c.row_at.ensures.row
     ∙ ap (λ us. (value_from c.args.self.now.nfa c.args.self.now.kind (is_anchored c.args.anchored)
     c.args.look_behind us).patterns)
     (ap (λ bytes. map Some bytes ++ c.args.look_ahead ∷ []) (take_all c.loop-byte.byte-index c.args.text.now

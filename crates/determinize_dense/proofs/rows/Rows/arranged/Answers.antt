@@ -1,7 +1,8 @@
 use Rattle.determinize_core.proofs.Common.{ap, length, subst, sym, ◌*◌, ◌+◌, ◌<◌}
 use Rattle.determinize_core.proofs.Common.{◌∙◌, ◌≡◌}
-use Rattle.determinize_dense.proofs.Common.{DfaValue}
-use Rattle.determinize_dense.proofs.Arranging.{arranged-least, arranged-ordered, grouping-by_rank}
+use Rattle.determinize_dense.proofs.Common.{DfaValue, IsDfa}
+use Rattle.determinize_dense.proofs.Arranging.{arranged-inverse, arranged-least, arranged-ordered, grouping-by_rank}
+use Rattle.std.specs.Prelude.{◌/◌, ◌≤◌}
 use Rattle.determinize_dense.specs.Private.Partition.{IsByRank, IsLastUpto}
 use Rattle.determinize_dense.proofs.rows.Rows.arranged.Given.{Over}
 use Rattle.determinize_dense.proofs.rows.Rows.arranged.Goals.{After-alphabet_len-columns, In_ok-order, In_ok-ranks}
@@ -27,13 +28,18 @@ pub invariant_of-result : goal.invariant_of-result
 invariant_of-result g c =
     let columns : c.alphabet_len-columns.result ≡ c.args.self.now.table.class_count + 1 =
     columns-are g (goal.at.invariant_of-result g c).After-alphabet_len-columns in
-    arranged-ordered c.args.self.now c.in_ok-ranks.ensures (by-rank g (goal.at.invariant_of-result g c).In_ok-order)
-    c.in_ok-merged.ensures
-    (subst (λ rs. IsLastUpto rs c.in_ok-order.order 1 c.last_upto.result) c.as_slice-2.ensures.value
-    c.last_upto.ensures.last)
-    (subst (λ rs. IsLastUpto rs c.in_ok-order.order 2 c.last_upto-2.result) c.as_slice-3.ensures.value
-    c.last_upto-2.ensures.last)
-    (ap (λ n. c.last_upto.result * n) columns) (ap (λ n. c.last_upto-2.result * n) columns)
+    let dfa : IsDfa c.args.self.now = subst (λ (x : DfaValue). IsDfa x) c.self.view_is c.self.invariant.dfa in (
+      arranged-ordered c.args.self.now c.in_ok-ranks.ensures (by-rank g (goal.at.invariant_of-result g c).In_ok-order)
+          c.in_ok-merged.ensures dfa
+          (subst (λ rs. IsLastUpto rs c.in_ok-order.order 1 c.last_upto.result) c.as_slice-2.ensures.value
+          c.last_upto.ensures.last)
+          (subst (λ rs. IsLastUpto rs c.in_ok-order.order 2 c.last_upto-2.result) c.as_slice-3.ensures.value
+          c.last_upto-2.ensures.last)
+          (ap (λ n. c.last_upto.result * n) columns) (ap (λ n. c.last_upto-2.result * n) columns),
+      arranged-inverse c.args.self.now c.in_ok-ranks.ensures (by-rank g (goal.at.invariant_of-result g c).In_ok-order)
+          c.in_ok-merged.ensures dfa.table (subst (λ (x : DfaValue). x.table.class_count + 1 ≤ 257) c.self.view_is c.self.invariant.narrow)
+          (ap (λ n. 4294967296 / n + 1) columns),
+    )
 
 pub returns-clause-least : goal.returns-clause-least
 returns-clause-least g c = arranged-least c.args.self.now c.in_ok-ranks.ensures
