@@ -41,7 +41,8 @@ few_in bytes h = few (value_of bytes).patterns h.valid.distinct h.valid.pattern_
 -- the number at an index of four bytes each
 pub number_of : (ids : List ℕ) (index : ℕ) → index < length ids → All (λ id. id ≤ 2147483646) ids
     → number_at (words ids) (4 * index) ≡ slice_index ids index
-number_of (id ∷ ids) zero h all = from_le_bytes-to_le_bytes_4 id (omega (arith, All-head (λ i. i ≤ 2147483646) id ids all))
+number_of (id ∷ ids) zero h all =
+    from_le_bytes-to_le_bytes_4 id (omega (arith, All-head (λ i. i ≤ 2147483646) id ids all))
 number_of (id ∷ ids) (suc index) h all =
     let e : 4 * suc index ≡ suc (suc (suc (suc (4 * index)))) = omega arith in
     rw e (number_of ids index (omega (arith, h)) (All-tail (λ i. i ≤ 2147483646) id ids all))
