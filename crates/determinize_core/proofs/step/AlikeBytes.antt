@@ -2,7 +2,7 @@
 use Rattle.determinize_core.proofs.Common.{[], ap, arith, Bool, by_cases, by_test, distinct_states, each_look, false}
 use Rattle.determinize_core.proofs.Common.{fun_ext, is_capture, is_reopened, IsAccepted, IsTested, joined, length, List}
 use Rattle.determinize_core.proofs.Common.{list_any, nat_eq, needs, Nfa, none_held, not, opened_by, option_to_list}
-use Rattle.determinize_core.proofs.Common.{ordered, recorded, refl, Some, tables_of, target, targets, true, Value}
+use Rattle.determinize_core.proofs.Common.{ordered, refl, Some, tables_of, target, targets, true, Value}
 use Rattle.determinize_core.proofs.Common.{without, working_list, ℕ, ◌&&◌, ◌+◌, ◌||◌, ◌∷◌, ◌≡◌}
 use Rattle.determinize_state.proofs.values.TestedSets.{Decides-needs}
 use Rattle.determinize_below.proofs.nfas.Edges.{edges-same}
