@@ -4,7 +4,9 @@ pub use Rattle.determinize_below.proofs.nfas.SoundNfa.{accepted_sound, IsSound}
 pub use Rattle.determinize_below.specs.Captures.{capture_next, followed}
 pub use Rattle.determinize_below.specs.Edges.{edges, is_capture, is_match, IsTested, pattern_in, pattern_of}
 pub use Rattle.determinize_below.specs.Edges.{patterns_of, target}
+unfoldable pub use Rattle.determinize_below.specs.Edges.{reach, reach_past}
 pub use Rattle.determinize_below.specs.Look.{each_look}
+unfoldable pub use Rattle.determinize_below.specs.Look.{has}
 pub use Rattle.determinize_below.specs.Members.{has_id, Members}
 pub use Rattle.determinize_below.specs.Nfa.{AllResolve, IsAccepted}
 pub use Rattle.determinize_below.specs.Positions.{byte_edges, true_edges, truth}
@@ -14,6 +16,7 @@ pub use Rattle.determinize_below.specs.Semantics.{Accepts, after_at, before_at, 
 pub use Rattle.determinize_below.specs.Semantics.{Capture, choices, Dense, Fail, IsBestRun, IsPreferredRun, Look, Match}
 pub use Rattle.determinize_below.specs.Semantics.{Nfa, Node, Sparse, state_at, Text, Union}
 pub use Rattle.determinize_below.specs.Unit.{byte_of}
+pub use Rattle.determinize_below.specs.declared.look.Look.{Look as Assertion}
 pub use Rattle.determinize_below.specs.declared.search.HalfMatch.{HalfMatch}
 pub use Rattle.determinize_below.specs.declared.search.MatchKind.{MatchKind}
 pub use Rattle.determinize_below.specs.declared.search.MatchKind.TheVariants.{All, LeftmostFirst}
@@ -24,6 +27,7 @@ pub use Rattle.determinize_core.specs.LastMatch.{lists_of}
 pub use Rattle.determinize_core.specs.Private.Changes.{with_patterns}
 pub use Rattle.determinize_core.specs.Private.Interned.{AreInterned}
 pub use Rattle.determinize_core.specs.Private.Reading.{IsListRead}
+unfoldable pub use Rattle.determinize_core.specs.Private.Search.{tries_left}
 pub use Rattle.determinize_core.specs.Searches.{HasMatch, in_haystack, in_order, IsFarthestIn, IsPreferredIn, IsSearch}
 pub use Rattle.determinize_core.specs.Searches.{start_for, text_of}
 pub use Rattle.determinize_core.specs.States.{EachApart, IsIndex}

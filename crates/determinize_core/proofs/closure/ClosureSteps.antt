@@ -2,22 +2,21 @@
 -- Main statements: IsSoFar, so_far-start, so_far-turn, so_far-end, so_far-part, leaf_set.
 -- Used by: `explore`, `epsilon_closure`.
 -- Idea: the visited states followed by the search of the pending ones is one list throughout.
-use Rattle.determinize_core.proofs.Common.{[], All-from_member, All-rest, append-nil, append_assoc, arith, Bool}
-use Rattle.determinize_core.proofs.Common.{by_test, edges, Fail, false, fold, has_id, if◌then◌else◌, IsSound, length}
-use Rattle.determinize_core.proofs.Common.{List, member, Members, nat_eq, nat_tests, Nfa, Node, not, refl, same_decides}
-use Rattle.determinize_core.proofs.Common.{state_at, suc, sym, ℕ, ◌++◌, ◌+◌, ◌<◌, ◌∙◌, ◌∷◌, ◌≡◌}
+use Rattle.determinize_core.proofs.Common.{[], All-from_member, All-rest, append-nil, append_assoc, arith, Assertion}
+use Rattle.determinize_core.proofs.Common.{Bool, by_test, edges, Fail, false, fold, has_id, if◌then◌else◌, IsSound}
+use Rattle.determinize_core.proofs.Common.{length, List, member, Members, nat_eq, nat_tests, Nfa, Node, not, reach_past}
+use Rattle.determinize_core.proofs.Common.{refl, same_decides, state_at, suc, sym, tries_left, ℕ, ◌++◌, ◌+◌, ◌<◌, ◌∙◌}
+use Rattle.determinize_core.proofs.Common.{◌∷◌, ◌≡◌}
 use Rattle.std.proofs.Common.{All, IsTrue}
 use Rattle.std.proofs.lemmas.List.{append_cancel_left}
 use Rattle.std.proofs.lemmas.List.Elements.{All-append}
 use Rattle.std.proofs.lemmas.List.Sums.{fold-append}
-use Rattle.determinize_below.specs.declared.look.Look.{Look as Assertion}
-use Rattle.determinize_below.specs.Edges.{reach_past}
 use Rattle.determinize_below.specs.Semantics.{edges_of}
 use Rattle.determinize_below.specs.Node.{is_epsilon}
 use Rattle.ordered_reach.proofs.graph.StackSearch.{closure-held, closure-new, tries-held, tries-new}
 use Rattle.determinize_below.proofs.nfas.SoundNfa.{edges_enough}
 use Rattle.determinize_core.specs.Closure.{AddsBeginning}
-use Rattle.determinize_core.specs.Private.Search.{entered, pending_after, tries_left}
+use Rattle.determinize_core.specs.Private.Search.{entered, pending_after}
 
 -- the two tests for being in a list
 pub holds-member : (ids : List ℕ) (id : ℕ) → has_id ids id ≡ member nat_eq ids id

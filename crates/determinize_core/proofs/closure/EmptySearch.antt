@@ -2,11 +2,8 @@
 -- Main statements: reach-none, reach_past-empty, tries_left-empty.
 -- Used by: StepParts, RepeatedClosure.
 -- Idea: nothing is pending, so nothing is added.
-use Rattle.determinize_core.proofs.Common.{[], ap, Bool, edge_count, edges, fun_ext, length, List, nat_eq, Nfa, ordered}
-use Rattle.determinize_core.proofs.Common.{refl, tries_of, ℕ, ◌+◌, ◌≡◌}
-use Rattle.determinize_below.specs.declared.look.Look.{Look as Assertion}
-use Rattle.determinize_below.specs.Edges.{reach, reach_past}
-use Rattle.determinize_core.specs.Private.Search.{tries_left}
+use Rattle.determinize_core.proofs.Common.{[], ap, Assertion, Bool, edge_count, edges, fun_ext, length, List, nat_eq}
+use Rattle.determinize_core.proofs.Common.{Nfa, ordered, reach, reach_past, refl, tries_left, tries_of, ℕ, ◌+◌, ◌≡◌}
 
 -- without roots nothing is reached
 pub reach-none : (nfa : Nfa) (holds : Assertion → Bool) → reach nfa holds [] ≡ []

@@ -1,22 +1,20 @@
 -- A step does not distinguish bytes that the NFA does not distinguish.
 use Rattle.determinize_core.proofs.Common.{[], ap, arith, Bool, by_cases, by_test, distinct_states, each_look, false}
-use Rattle.determinize_core.proofs.Common.{fun_ext, is_capture, is_reopened, IsAccepted, IsTested, joined, length, List}
-use Rattle.determinize_core.proofs.Common.{list_any, nat_eq, needs, Nfa, none_held, not, opened_by, option_to_list}
-use Rattle.determinize_core.proofs.Common.{ordered, recorded, refl, Some, tables_of, target, targets, true, Value}
-use Rattle.determinize_core.proofs.Common.{without, working_list, ℕ, ◌&&◌, ◌+◌, ◌||◌, ◌∷◌, ◌≡◌}
+use Rattle.determinize_core.proofs.Common.{fun_ext, has, is_capture, is_reopened, IsAccepted, IsTested, joined, length}
+use Rattle.determinize_core.proofs.Common.{List, list_any, nat_eq, needs, Nfa, none_held, not, opened_by}
+use Rattle.determinize_core.proofs.Common.{option_to_list, ordered, reach, refl, Some, step, tables_of, target, targets}
+use Rattle.determinize_core.proofs.Common.{true, Value, without, working_list, ℕ, ◌&&◌, ◌+◌, ◌||◌, ◌∷◌, ◌≡◌}
 use Rattle.determinize_state.proofs.values.TestedSets.{Decides-needs}
 use Rattle.determinize_below.proofs.nfas.Edges.{edges-same}
 use Rattle.determinize_below.proofs.looks.LookSets.{has-empty}
 use Rattle.std.proofs.lemmas.Bool.{both_ways}
 use Rattle.determinize_below.specs.ByteClasses.{AreTestedAlike}
-use Rattle.determinize_below.specs.Edges.{reach}
-use Rattle.determinize_below.specs.Look.{has, has_crlf, has_line, has_word}
+use Rattle.determinize_below.specs.Look.{has_crlf, has_line, has_word}
 use Rattle.determinize_below.specs.Semantics.{crlf_first, crlf_second, is_word}
 use Rattle.determinize_below.specs.declared.look.Look.{Look}
 use Rattle.determinize_below.specs.declared.look.Look.TheVariants.{EndCRLF, EndLF, Start, StartCRLF}
 use Rattle.determinize_below.proofs.nfas.TestedLooks.{Decides-look_set_any}
 use Rattle.determinize_core.specs.Alike.{EachClassSteps, EachNeedIsTested, NeedsTested}
-use Rattle.determinize_core.specs.Step.{step}
 use Rattle.determinize_start.specs.LookTables.{from_word_after, half_crlf_after, have_after, have_at_start, line_opened}
 use Rattle.determinize_start.specs.LookTables.{opened, word_opened}
 use Rattle.determinize_start.proofs.tables.KnownSet.{crlf_class, line_class, word_class}

@@ -1,6 +1,6 @@
 -- Collecting the distinct ids of a list in a set.
 -- Main statements: pushed.
--- Used by: `collect_states`, FirstReading, and the rows of a whole DFA.
+-- Used by: `collect_states`, FirstReading.
 -- Idea: one more id is new, or adds nothing.
 use Rattle.determinize_core.proofs.Common.{[], append-nil, arith, Bool, fresh, has_id, if◌then◌else◌, List, nat_eq}
 use Rattle.determinize_core.proofs.Common.{none_held, not, same_decides, ℕ, ◌++◌, ◌∷◌, ◌≡◌}

@@ -32,6 +32,7 @@ unmatched_new nfa [] x h m = refl
 unmatched_new nfa (y ∷ xs) x h m = grind (arith, same_decides x y, unmatched_new nfa xs x)
 
 module _ (nfa : Nfa) (u : Option ℕ) where
+  -- an idle state has no pattern and no target, and is no match
   idle-pattern : (s : ℕ) → is_idle nfa u s ≡ true → option_to_list (pattern_of nfa s) ≡ []
   idle-pattern s e = grind arith
 

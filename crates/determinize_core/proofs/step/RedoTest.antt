@@ -2,7 +2,7 @@
 -- Main statements: redone_from_found, not_redone, unneeded, words_decide.
 -- Used by: `is_redone`, `stays_closed`, `look_again_over`.
 -- Idea: two sets meet exactly if they have a common assertion.
-use Rattle.determinize_core.proofs.Common.{ap, arith, Bool, each_look, false, fun_ext, list_any, not, Option, refl}
+use Rattle.determinize_core.proofs.Common.{ap, arith, Bool, each_look, false, fun_ext, has, list_any, not, Option, refl}
 use Rattle.determinize_core.proofs.Common.{true, ℕ, ◌&&◌, ◌<◌, ◌||◌, ◌∙◌, ◌≡◌}
 use Rattle.determinize_below.proofs.looks.CommonLooks.{each_look-false, meets-some}
 use Rattle.determinize_below.proofs.looks.LookSets.{has-empty, has-subtract}
@@ -10,7 +10,7 @@ use Rattle.ordered_reach.proofs.lists.Pieces.{list_any_unmet}
 use Rattle.std.proofs.Common.{bit_and, ◌^◌}
 use Rattle.std.proofs.lemmas.Nat.{and_le_l}
 use Rattle.std.specs.Int.{bit_not, w32}
-use Rattle.determinize_below.specs.Look.{has, has_haystack, has_line, meets, subtract}
+use Rattle.determinize_below.specs.Look.{has_haystack, has_line, meets, subtract}
 use Rattle.determinize_below.specs.Semantics.{is_word}
 use Rattle.determinize_below.specs.declared.look.Look.{Look}
 use Rattle.determinize_below.specs.declared.look.Look.TheVariants.{End, EndCRLF, EndLF, StartCRLF}

@@ -2,17 +2,15 @@
 -- Main statements: closed_again, reached_again, tried_again.
 -- Used by: `look_again_over`, `read_working_list`.
 -- Idea: the closure of the recorded list, from an empty set.
-use Rattle.determinize_core.proofs.Common.{[], ap, Bool, distinct_states, false, fun_ext, IfNone, IfSome, is_reopened}
-use Rattle.determinize_core.proofs.Common.{List, Nfa, none_held, opened_by, Option, refl, same_decides, sym}
-use Rattle.determinize_core.proofs.Common.{tries_again, true, Value, working_list, ℕ, ◌++◌, ◌||◌, ◌∙◌, ◌≡◌}
+use Rattle.determinize_core.proofs.Common.{[], ap, Assertion, Bool, distinct_states, false, fun_ext, has, IfNone}
+use Rattle.determinize_core.proofs.Common.{IfSome, is_reopened, List, Nfa, none_held, opened_by, Option, reach}
+use Rattle.determinize_core.proofs.Common.{reach_past, refl, same_decides, sym, tries_again, tries_left, true, Value}
+use Rattle.determinize_core.proofs.Common.{working_list, ℕ, ◌++◌, ◌||◌, ◌∙◌, ◌≡◌}
 use Rattle.std.specs.Bool.{then_some}
 use Rattle.ordered_reach.proofs.lists.NewNodes.{fresh-fresh}
-use Rattle.determinize_below.specs.declared.look.Look.{Look as Assertion}
-use Rattle.determinize_below.specs.Edges.{reach, reach_past}
-use Rattle.determinize_below.specs.Look.{has, union}
+use Rattle.determinize_below.specs.Look.{union}
 use Rattle.determinize_below.proofs.looks.LookSets.{has-union}
 use Rattle.determinize_core.specs.Private.Reading.{distinct, IsClosedAgain}
-use Rattle.determinize_core.specs.Private.Search.{tries_left}
 use Rattle.determinize_core.specs.Step.{is_redone}
 use Rattle.determinize_core.proofs.closure.EmptySearch.{reach_past-empty, tries_left-empty}
 

@@ -2,18 +2,15 @@
 -- Main statements: start_resolves, targets_resolve, step_resolves.
 -- Used by: WalkSteps, `start_state`, `transition`.
 -- Idea: edges and targets of a valid NFA go to its states.
-use Rattle.determinize_core.proofs.Common.{[], accepted_sound, All-from_member, AllResolve, arith, Bool, eqb-true}
-use Rattle.determinize_core.proofs.Common.{is_capture, is_match, IsAccepted, length, List, MatchKind, member, nat_eq}
-use Rattle.determinize_core.proofs.Common.{Nfa, not, Option, part_read, same_decides, start_value, tables_of, target}
-use Rattle.determinize_core.proofs.Common.{targets, true, Value, without, working_list, ℕ, ◌<◌, ◌∷◌, ◌≡◌}
+use Rattle.determinize_core.proofs.Common.{[], accepted_sound, All-from_member, AllResolve, arith, Assertion, Bool}
+use Rattle.determinize_core.proofs.Common.{eqb-true, has, is_capture, is_match, IsAccepted, length, List, MatchKind}
+use Rattle.determinize_core.proofs.Common.{member, nat_eq, Nfa, not, Option, part_read, reach, same_decides}
+use Rattle.determinize_core.proofs.Common.{start_value, step, tables_of, target, targets, true, Value, without}
+use Rattle.determinize_core.proofs.Common.{working_list, ℕ, ◌<◌, ◌∷◌, ◌≡◌}
 use Rattle.determinize_below.proofs.nfas.SoundNfa.{reach_within, target_within}
 use Rattle.ordered_reach.proofs.lists.NewNodes.{flat_map-member, member-filter}
 use Rattle.std.proofs.Common.{All as Each}
-use Rattle.determinize_below.specs.Edges.{reach}
-use Rattle.determinize_below.specs.Look.{has}
-use Rattle.determinize_below.specs.declared.look.Look.{Look as Assertion}
 use Rattle.ordered_reach.proofs.Cases.{or_false}
-use Rattle.determinize_core.specs.Step.{step}
 use Rattle.determinize_start.specs.LookTables.{have_after, have_at_start}
 
 module _ (nfa : Nfa) (accepted : IsAccepted nfa) where

@@ -2,19 +2,16 @@
 -- Main statements: tries_are_few.
 -- Used by: `tries_law`, and the count of `next_counted`.
 -- Idea: each of two closures tries each state and each epsilon transition at most once.
-use Rattle.determinize_core.proofs.Common.{[], accepted_sound, All, arith, Bool, by_test, distinct_states, edge_count}
-use Rattle.determinize_core.proofs.Common.{edges, edges_in_all, flat_map, is_match, is_reopened, IsAccepted, IsSound}
-use Rattle.determinize_core.proofs.Common.{joined, LeftmostFirst, length, List, MatchKind, member, nat_eq, Nfa}
-use Rattle.determinize_core.proofs.Common.{none_held, opened_by, Option, part_read, same_decides, tables_of, target}
-use Rattle.determinize_core.proofs.Common.{tries_of, true, ℕ, ◌+◌, ◌<◌, ◌∷◌, ◌≡◌, ◌≤◌}
+use Rattle.determinize_core.proofs.Common.{[], accepted_sound, All, arith, Assertion, Bool, by_test, distinct_states}
+use Rattle.determinize_core.proofs.Common.{edge_count, edges, edges_in_all, flat_map, has, is_match, is_reopened}
+use Rattle.determinize_core.proofs.Common.{IsAccepted, IsSound, joined, LeftmostFirst, length, List, MatchKind, member}
+use Rattle.determinize_core.proofs.Common.{nat_eq, Nfa, none_held, opened_by, Option, part_read, reach, same_decides}
+use Rattle.determinize_core.proofs.Common.{tables_of, target, tries_of, true, ℕ, ◌+◌, ◌<◌, ◌∷◌, ◌≡◌, ◌≤◌}
 use Rattle.determinize_below.proofs.nfas.SoundNfa.{ends_within_states, length-reach, target_within}
 use Rattle.ordered_reach.proofs.lists.NewNodes.{flat_map-member}
 use Rattle.ordered_reach.proofs.graph.FiniteGraphs.{below_member, fresh_below, length-fresh_below}
 use Rattle.determinize_below.proofs.nfas.Edges.{length-edges, length-target}
-use Rattle.determinize_below.specs.Edges.{reach}
-use Rattle.determinize_below.specs.Look.{has}
 use Rattle.ordered_reach.specs.Reach.{nodes_below}
-use Rattle.determinize_below.specs.declared.look.Look.{Look as Assertion}
 use Rattle.ordered_reach.proofs.graph.SearchBound.{tries_bound}
 use Rattle.ordered_reach.proofs.lists.Pieces.{length-before_le, length-flat_map_le}
 use Rattle.determinize_core.specs.Laws.{TriesAreFew}

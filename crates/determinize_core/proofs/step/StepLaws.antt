@@ -2,14 +2,14 @@
 -- Main statements: each_reach_goes_on, each_future_follows, dead_stays, one_pattern.
 -- Used by: `step_law`, and the cache.
 -- Idea: each is a consequence of the definition of a step.
-use Rattle.determinize_core.proofs.Common.{[], accepted_sound, All, ap, arith, Bool, by_test, capture_next, cond, dead}
-use Rattle.determinize_core.proofs.Common.{drop, each_look, edges, ends, eq-eqb, eqb-true, false, false≢true, flat_map}
-use Rattle.determinize_core.proofs.Common.{followed, fresh, future, is_capture, IsSound, LeftmostFirst, length}
-use Rattle.determinize_core.proofs.Common.{length-take, List, MatchKind, member, nat_eq, Nfa, None, none_held, not}
-use Rattle.determinize_core.proofs.Common.{opened_by, Option, or_left, refl, same_decides, slice_get, Some}
-use Rattle.determinize_core.proofs.Common.{some_injective, start_value, state_at, suc, tables_of, true, units, Value}
-use Rattle.determinize_core.proofs.Common.{with_node, without, working_list, zero, ℕ, ◌&&◌, ◌+◌, ◌==◌, ◌∙◌, ◌∷◌, ◌≡◌}
-use Rattle.determinize_core.proofs.Common.{◌≤◌}
+use Rattle.determinize_core.proofs.Common.{[], accepted_sound, All, ap, arith, Assertion, Bool, by_test, capture_next}
+use Rattle.determinize_core.proofs.Common.{cond, dead, drop, each_look, edges, ends, eq-eqb, eqb-true, false}
+use Rattle.determinize_core.proofs.Common.{false≢true, flat_map, followed, fresh, future, has, is_capture, IsSound}
+use Rattle.determinize_core.proofs.Common.{LeftmostFirst, length, length-take, List, MatchKind, member, nat_eq, Nfa}
+use Rattle.determinize_core.proofs.Common.{None, none_held, not, opened_by, Option, or_left, reach, refl, same_decides}
+use Rattle.determinize_core.proofs.Common.{slice_get, Some, some_injective, start_value, state_at, step, suc, tables_of}
+use Rattle.determinize_core.proofs.Common.{true, units, Value, with_node, without, working_list, zero, ℕ, ◌&&◌, ◌+◌}
+use Rattle.determinize_core.proofs.Common.{◌==◌, ◌∙◌, ◌∷◌, ◌≡◌, ◌≤◌}
 use Rattle.ordered_reach.proofs.Cases.{or_false}
 use Rattle.determinize_below.proofs.nfas.SoundNfa.{edges_enough, reach-append}
 use Rattle.determinize_below.proofs.nfas.Edges.{edges-capture, edges-or-target, length-target}
@@ -17,15 +17,11 @@ use Rattle.determinize_below.proofs.looks.LookSets.{has-empty}
 use Rattle.ordered_reach.proofs.graph.ClosedSets.{IsEnough}
 use Rattle.ordered_reach.proofs.lists.NewNodes.{fresh_none, member-fresh}
 use Rattle.determinize_below.specs.Captures.{HasNoCaptureCycle}
-use Rattle.determinize_below.specs.Edges.{reach}
-use Rattle.determinize_below.specs.Look.{has}
-use Rattle.determinize_below.specs.declared.look.Look.{Look as Assertion}
 use Rattle.ordered_reach.proofs.lists.Pieces.{list_any_unmet}
 use Rattle.ordered_reach.proofs.graph.SameSearch.{roots_closed}
 use Rattle.determinize_core.specs.Chain.{chain}
 use Rattle.determinize_core.specs.Laws.{DeadStays, EachFutureFollows, EachReachGoesOn, EachStateHasOneKind}
 use Rattle.determinize_core.specs.Laws.{LeftmostGivesOne, NoNeedNoHave}
-use Rattle.determinize_core.specs.Step.{step}
 use Rattle.determinize_start.specs.LookTables.{have_after}
 
 pub each_reach_goes_on : EachReachGoesOn

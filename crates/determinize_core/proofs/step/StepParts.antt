@@ -1,25 +1,20 @@
 -- The parts of a step make the step.
--- Main statements: IsRead, first_tries, is_nonempty-length.
+-- Main statements: IsRead, stepped, all_tries, tries_within.
 -- Used by: `transition`.
 -- Idea: flags depend on whether a state is entered, and that on whether there is a target.
-use Rattle.determinize_core.proofs.Common.{[], added_one, All-from_member, AllResolve, ap, arith, begun, Bool, edges}
-use Rattle.determinize_core.proofs.Common.{edges_in_all, false, fold, is_nonempty, IsAccepted, length, List, MatchKind}
-use Rattle.determinize_core.proofs.Common.{member, nat_eq, nat_tests, Nfa, none_held, not, Option, ordered, patterns_of}
-use Rattle.determinize_core.proofs.Common.{patterns_read, refl, same_decides, suc, tables_of, targets, tries_again}
-use Rattle.determinize_core.proofs.Common.{tries_of, true, Value, working_list, ℕ, ◌&&◌, ◌*◌, ◌+◌, ◌<◌, ◌==◌, ◌∷◌, ◌≡◌}
-use Rattle.determinize_core.proofs.Common.{◌≤◌}
+use Rattle.determinize_core.proofs.Common.{[], added_one, All-from_member, AllResolve, ap, arith, Assertion, begun}
+use Rattle.determinize_core.proofs.Common.{Bool, edges, edges_in_all, false, fold, has, is_nonempty, IsAccepted, length}
+use Rattle.determinize_core.proofs.Common.{List, MatchKind, member, nat_eq, nat_tests, Nfa, none_held, not, Option}
+use Rattle.determinize_core.proofs.Common.{ordered, patterns_of, patterns_read, reach, reach_past, refl, same_decides}
+use Rattle.determinize_core.proofs.Common.{step, suc, tables_of, targets, tries_again, tries_left, tries_of, true}
+use Rattle.determinize_core.proofs.Common.{Value, working_list, ℕ, ◌&&◌, ◌*◌, ◌+◌, ◌<◌, ◌==◌, ◌∷◌, ◌≡◌, ◌≤◌}
 use Rattle.std.proofs.Common.{All as Each}
-use Rattle.determinize_below.specs.Edges.{reach, reach_past}
-use Rattle.determinize_below.specs.Look.{has}
-use Rattle.determinize_below.specs.declared.look.Look.{Look as Assertion}
 use Rattle.std.proofs.lemmas.List.Elements.{All-contains}
 use Rattle.ordered_reach.proofs.lists.Elements.{In_Contains, member_In}
 use Rattle.determinize_state.specs.Recording.{settled}
-use Rattle.determinize_core.specs.Private.Search.{tries_left}
 use Rattle.determinize_core.proofs.step.Recorders.{fold-added}
 use Rattle.determinize_core.proofs.step.Resolving.{targets_resolve}
 use Rattle.determinize_core.proofs.closure.EmptySearch.{reach_past-empty, tries_left-empty}
-use Rattle.determinize_core.specs.Step.{step}
 use Rattle.determinize_start.specs.LookTables.{from_word_after, half_crlf_after, have_after}
 use Rattle.determinize_core.specs.Tries.{tries}
 use Rattle.determinize_core.proofs.step.StepBound.{tries_are_few}

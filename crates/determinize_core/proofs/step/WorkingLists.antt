@@ -2,21 +2,19 @@
 -- Main statements: IsEntered, reach_is, working_is.
 -- Used by: WalkValues.
 -- Idea: closing again under more assertions, or not, gives the closure under the true ones.
-use Rattle.determinize_core.proofs.Common.{accepted_sound, ap, arith, Bool, by_test, distinct_states, each_look, edges}
-use Rattle.determinize_core.proofs.Common.{ends, false, is_capture, is_reopened, IsAccepted, IsSound, IsTested, joined}
-use Rattle.determinize_core.proofs.Common.{length, List, member, nat_eq, needs, Nfa, none_held, not, opened_by, Option}
-use Rattle.determinize_core.proofs.Common.{ordered, same_decides, suc, sym, tables_of, true, truth, Value, without}
-use Rattle.determinize_core.proofs.Common.{working_list, zero, ℕ, ◌&&◌, ◌+◌, ◌||◌, ◌∙◌, ◌≡◌}
+use Rattle.determinize_core.proofs.Common.{accepted_sound, ap, arith, Assertion, Bool, by_test, distinct_states}
+use Rattle.determinize_core.proofs.Common.{each_look, edges, ends, false, has, is_capture, is_reopened, IsAccepted}
+use Rattle.determinize_core.proofs.Common.{IsSound, IsTested, joined, length, List, member, nat_eq, needs, Nfa}
+use Rattle.determinize_core.proofs.Common.{none_held, not, opened_by, Option, ordered, reach, same_decides, suc, sym}
+use Rattle.determinize_core.proofs.Common.{tables_of, true, truth, Value, without, working_list, zero, ℕ, ◌&&◌, ◌+◌}
+use Rattle.determinize_core.proofs.Common.{◌||◌, ◌∙◌, ◌≡◌}
 use Rattle.determinize_below.proofs.nfas.SoundNfa.{edges_enough}
 use Rattle.determinize_below.proofs.looks.CommonLooks.{each_look-false}
 use Rattle.determinize_below.proofs.nfas.Edges.{edges-agree, edges-capture, edges-more, edges-same, next_of}
 use Rattle.ordered_reach.proofs.graph.ClosedSets.{IsEnough}
 use Rattle.determinize_start.proofs.tables.TrueTables.{known_truth, opened_truth}
 use Rattle.ordered_reach.proofs.graph.FiniteGraphs.{IsEnough-below}
-use Rattle.determinize_below.specs.Edges.{reach}
-use Rattle.determinize_below.specs.Look.{has}
 use Rattle.determinize_below.specs.Reached.{known}
-use Rattle.determinize_below.specs.declared.look.Look.{Look as Assertion}
 use Rattle.ordered_reach.proofs.graph.Fuel.{IsEnough-plus, ordered-enough}
 use Rattle.ordered_reach.proofs.lists.Pieces.{list_any_some, without_twice}
 use Rattle.ordered_reach.proofs.graph.SameSearch.{not_redone}

@@ -1,5 +1,5 @@
-use Rattle.determinize_core.proofs.Common.{accepted_sound, ap, Fail, get_or_from_slice_get, refl, sym, true≢false, ◌∙◌}
-use Rattle.determinize_below.specs.Look.{has}
+use Rattle.determinize_core.proofs.Common.{accepted_sound, ap, Fail, get_or_from_slice_get, has, refl, sym, true≢false}
+use Rattle.determinize_core.proofs.Common.{◌∙◌}
 use Rattle.std.proofs.lemmas.Result.{on_ok_weaker}
 use Rattle.determinize_below.specs.Node.{is_epsilon}
 use Rattle.determinize_core.proofs.closure.ClosureSteps.{leaf_set}

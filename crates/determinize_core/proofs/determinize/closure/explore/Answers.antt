@@ -1,8 +1,7 @@
-use Rattle.determinize_core.proofs.Common.{accepted_sound, arith, inl, inr, refl, sym, ◌++◌, ◌∙◌, ◌≡◌}
+use Rattle.determinize_core.proofs.Common.{accepted_sound, arith, has, inl, inr, refl, sym, ◌++◌, ◌∙◌, ◌≡◌}
 use Rattle.std.proofs.Common.{reverse}
 use Rattle.std.proofs.lemmas.List.{reverse-reverse}
 use Rattle.determinize_core.proofs.closure.ClosureSteps.{so_far-end, so_far-part, so_far-start, so_far-turn, tries-turn}
-use Rattle.determinize_below.specs.Look.{has}
 use Rattle.determinize_core.proofs.determinize.closure.explore.Goals as goal
 
 pub loop-id-init : goal.loop-id-init

@@ -1,7 +1,5 @@
-use Rattle.determinize_core.proofs.Common.{AllResolve, ◌++◌, ◌≡◌, ◌⊎◌}
+use Rattle.determinize_core.proofs.Common.{AllResolve, has, tries_left, ◌++◌, ◌≡◌, ◌⊎◌}
 use Rattle.std.proofs.Common.{reverse}
-use Rattle.determinize_below.specs.Look.{has}
-use Rattle.determinize_core.specs.Private.Search.{tries_left}
 use Rattle.determinize_core.proofs.closure.ClosureSteps.{IsSoFar}
 use Rattle.determinize_core.proofs.determinize.closure.explore.Given as goal
 
