@@ -1,7 +1,7 @@
 -- What is known of a cursor at a cached state, and of one that owns its state.
 use Rattle.determinize_lazy.proofs.Common.{after_step, ap, arith, Cache, cache, cursor_value, dead, false, is_cached}
-use Rattle.determinize_lazy.proofs.Common.{is_some, IsAt, IsCursor, IsSound, IsStepped, IsTable, IsTarget, LazyValue, Ok}
-use Rattle.determinize_lazy.proofs.Common.{Option, refl, slice_get, slice_get-get_or, Some, step_of, true, Value, ℕ}
+use Rattle.determinize_lazy.proofs.Common.{is_some, IsAt, IsCursor, IsSound, IsStepped, IsTable, IsTarget, LazyValue}
+use Rattle.determinize_lazy.proofs.Common.{Ok, Option, refl, slice_get, slice_get-get_or, Some, step_of, true, Value, ℕ}
 use Rattle.determinize_lazy.proofs.Common.{◌∙◌, ◌≡◌}
 use Rattle.determinize_core.proofs.step.Resolving.{step_resolves}
 use Rattle.determinize_lazy.specs.declared.table.Cursor.{Cursor}

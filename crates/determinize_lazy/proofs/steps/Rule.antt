@@ -1,8 +1,8 @@
 -- What the rule keeps, and what is true of a cache after it.
 use Rattle.determinize_lazy.proofs.Common.{ap, arith, by_cases, by_test, Cache, cache, cond, count_after, empty, Err}
-use Rattle.determinize_lazy.proofs.Common.{false, fits, Grows, IfOk, inr, is_cached, IsAccepted, IsKept, IsLazy, IsSound}
-use Rattle.determinize_lazy.proofs.Common.{IsStepped, IsTable, keep, LazyValue, length, MatchKind, nat_le, Nfa, Ok}
-use Rattle.determinize_lazy.proofs.Common.{on_err_weaker, on_ok_weaker, OnErr, OnOk, Option, refl, Result, step_of}
+use Rattle.determinize_lazy.proofs.Common.{false, fits, Grows, IfOk, inr, is_cached, IsAccepted, IsKept, IsLazy}
+use Rattle.determinize_lazy.proofs.Common.{IsSound, IsStepped, IsTable, keep, LazyValue, length, MatchKind, nat_le, Nfa}
+use Rattle.determinize_lazy.proofs.Common.{Ok, on_err_weaker, on_ok_weaker, OnErr, OnOk, Option, refl, Result, step_of}
 use Rattle.determinize_lazy.proofs.Common.{StoredTable, subst, Table, table_of, true, Value, with_transition, ℕ, ◌∙◌}
 use Rattle.determinize_lazy.proofs.Common.{◌≡◌, ◌≤◌}
 use Rattle.determinize_core.specs.Step.{step}

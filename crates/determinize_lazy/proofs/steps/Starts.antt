@@ -1,14 +1,13 @@
 -- The cached starts: which are cached, and that a start state depends only on the kind of start.
-use Rattle.determinize_lazy.proofs.Common.{[], ap, AreStarts, arith, by_cases, by_test, get_or, IfSome, inl, inr, IsEmpty, List}
-use Rattle.determinize_lazy.proofs.Common.{nat_eq, Nfa, None, Option, refl, replicate, slice_get, slice_set, Some}
-use Rattle.determinize_lazy.proofs.Common.{start_index, start_value, StartsStay, StoredTable, suc, sym, Value}
-use Rattle.determinize_lazy.proofs.Common.{with_value, zero, ℕ, ◌+◌, ◌∙◌, ◌∷◌, ◌≡◌, ◌⊎◌}
+use Rattle.determinize_lazy.proofs.Common.{[], ap, AreStarts, arith, by_cases, by_test, get_or, IfSome, inl, inr}
+use Rattle.determinize_lazy.proofs.Common.{List, nat_eq, Nfa, None, Option, refl, replicate, slice_get}
+use Rattle.determinize_lazy.proofs.Common.{slice_set, Some, start_index, start_value, StartsStay, StoredTable, suc, sym}
+use Rattle.determinize_lazy.proofs.Common.{Value, zero, ℕ, ◌+◌, ◌∷◌, ◌≡◌, ◌⊎◌}
 use Rattle.determinize_start.specs.LookTables.{from_word_at_start, half_crlf_at_start, have_at_start}
 use Rattle.determinize_start.specs.StartKinds.{number_of, start_kind_of}
 use Rattle.determinize_start.specs.declared.start.Start.{Start as Kind}
 use Rattle.determinize_start.specs.declared.start.Start.TheVariants.{NonWordByte}
 use Rattle.determinize_lazy.specs.Private.Starts.{of_kind, start_kept_at}
-use Rattle.determinize_lazy.proofs.tables.Values.{get_with}
 use Rattle.determinize_core.proofs.states.Places.{not_none, of_some}
 
 -- none is kept
@@ -38,8 +37,8 @@ at_its_index nfa s p i e = by_test (nat_eq s nfa.start_anchored)
     (λ b. not_none (sym (rw (a, b) at e))))
 
 -- what is kept for a start is its state
-pub start_is : (nfa : Nfa) (t : StoredTable) {i : ℕ} (s : ℕ) (p : Option ℕ) → AreStarts nfa t → start_index nfa s p ≡ Some i
-    → (o : Option ℕ) → o ≡ get_or t.starts i None → IfSome o (λ id. slice_get t.states id ≡ Some (start_value nfa s p))
+pub start_is : (nfa : Nfa) (t : StoredTable) {i : ℕ} (s : ℕ) (p : Option ℕ) → AreStarts nfa t
+    → start_index nfa s p ≡ Some i → (o : Option ℕ) → o ≡ get_or t.starts i None → IfSome o (λ id. slice_get t.states id ≡ Some (start_value nfa s p))
 start_is nfa t s p are at None e = tt
 start_is nfa t {i} s p are at (Some id) e = are i id (start_value nfa s p) (sym e) (at_its_index nfa s p i at)
 
@@ -61,12 +60,3 @@ starts-set nfa t i id are here j k v kept is = by_cases (at t.starts i j kept)
 -- the starts that are kept stay right
 pub starts-stay : (nfa : Nfa) (t t' : StoredTable) → AreStarts nfa t → StartsStay t t' → AreStarts nfa t'
 starts-stay nfa t t' are stay i k v kept is = let (before, same) = stay i k kept in same v (are i k v before is)
-
-pub stay-none : (t t' : StoredTable) → IsEmpty t' → StartsStay t t'
-stay-none t t' none i k kept = not_none (sym kept ∙ none.starts i)
-
--- with two states more
-pub stay-with : (t t' : StoredTable) (v w : Value) → t'.starts ≡ t.starts
-    → t'.states ≡ with_value (with_value t.states v) w → StartsStay t t'
-stay-with t t' v w starts states i k kept =
-    (rw starts at kept, λ x at. rw states (get_with (with_value t.states v) w x k (get_with t.states v x k at)))

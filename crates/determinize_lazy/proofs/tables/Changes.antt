@@ -1,11 +1,11 @@
 -- What functions that change the table leave: how many states there are with two more, and what is stored.
-use Rattle.determinize_lazy.proofs.Common.{[], by_cases, fits, inl, IsEmpty, keep, on_err_weaker, on_ok_weaker, Result, sym}
-use Rattle.determinize_lazy.proofs.Common.{ap, arith, by_test, column, cond, dead, false, get_or}
-use Rattle.determinize_lazy.proofs.Common.{get_or_from_slice_get, is_unit, IsAt, IsCursor, IsInterned, IsKept, IsStored}
-use Rattle.determinize_lazy.proofs.Common.{cursor_value, length, List, list_any, list_any_congr, Ok, Option, refl, same}
-use Rattle.determinize_lazy.proofs.Common.{slice_get, slice_get-get_or, slice_get_within, slice_set, Some, StoredTable}
-use Rattle.determinize_lazy.proofs.Common.{Table, table_of, true, Value, with_state, with_target, with_transition}
-use Rattle.determinize_lazy.proofs.Common.{with_value, ℕ, ◌*◌, ◌+◌, ◌<◌, ◌∙◌, ◌≡◌, ◌||◌}
+use Rattle.determinize_lazy.proofs.Common.{[], ap, arith, by_cases, by_test, column, cond, cursor_value, dead, false}
+use Rattle.determinize_lazy.proofs.Common.{fits, get_or, get_or_from_slice_get, inl, is_unit, IsAt, IsCursor, IsEmpty}
+use Rattle.determinize_lazy.proofs.Common.{IsInterned, IsKept, IsStored, keep, length, List, list_any, list_any_congr}
+use Rattle.determinize_lazy.proofs.Common.{Ok, on_err_weaker, on_ok_weaker, Option, refl, Result, same, slice_get}
+use Rattle.determinize_lazy.proofs.Common.{slice_get-get_or, slice_get_within, slice_set, Some, StoredTable, sym, Table}
+use Rattle.determinize_lazy.proofs.Common.{table_of, true, Value, with_state, with_target, with_transition, with_value}
+use Rattle.determinize_lazy.proofs.Common.{ℕ, ◌*◌, ◌+◌, ◌<◌, ◌||◌, ◌∙◌, ◌≡◌}
 use Rattle.determinize_lazy.specs.declared.table.Cursor.{Cursor}
 use Rattle.determinize_lazy.specs.declared.table.Cursor.TheVariants.{Cached, Uncached}
 use Rattle.determinize_core.proofs.states.Places.{not_both, not_none, same_laws, there}
@@ -22,7 +22,8 @@ there-at states id inside = there states _ id (slice_get-get_or states id dead i
 
 apart_from : (states : List Value) (v w : Value) → list_any (same v) states ≡ true → list_any (same w) states ≡ false
     → same v w ≡ false
-apart_from states v w a b = by_test (same v w) (λ e. not_both (rw (list_any_congr same_laws v w states e) at a) b) (λ e. e)
+apart_from states v w a b =
+    by_test (same v w) (λ e. not_both (rw (list_any_congr same_laws v w states e) at a) b) (λ e. e)
 
 abbrev pub more_for : {A : Type 0} → Cursor A → Cursor A → ℕ
 more_for (Cached id) (Cached p) = 0
@@ -35,7 +36,8 @@ pub count_two : {A : Type 0} (states : List Value) (s t : Cursor A) → IsCursor
 count_two states (Cached id) (Cached p) s_is t_is =
     grind (arith, two, there-at states id s_is, there-at states p t_is)
 count_two states (Cached id) (Uncached w) s_is t_is =
-    grind (arith, two, there-at states id s_is, apart_from states (get_or states id dead) w (there-at states id s_is) t_is, t_is)
+    let here = there-at states id s_is in
+    grind (arith, two, here, apart_from states (get_or states id dead) w here t_is, t_is)
 count_two states (Uncached v) (Cached p) s_is t_is =
     grind (arith, two, there-at states p t_is, s_is)
 count_two states (Uncached v) (Uncached w) s_is t_is =
@@ -55,27 +57,33 @@ already t id {v} at = record { id = at; table = rw (there t.states v id at) refl
 
 -- what is stored after a transition more, once both states are there
 module _ {E : Type 0} {old mid : StoredTable} {v : Value} {s : ℕ} (first : IsInterned {E = E} old v (Ok s) mid) where
+  states : mid.states ≡ with_value old.states v
+  states = ap (λ (x : Table). x.states) first.table
+
   -- a cursor stays at its value
-  pub stays_at : {A : Type 0} (c : Cursor A) → IsCursor old.states c → cursor_value mid.states c ≡ cursor_value old.states c
-  stays_at (Cached id) is = get_or_from_slice_get mid.states id _ dead (rw (states) (get_with old.states v _ id (slice_get-get_or old.states id dead is)))
-    where
-      states : mid.states ≡ with_value old.states v
-      states = ap (λ (x : Table). x.states) first.table
+  pub stays_at : {A : Type 0} (c : Cursor A) → IsCursor old.states c
+      → cursor_value mid.states c ≡ cursor_value old.states c
+  stays_at (Cached id) is = get_or_from_slice_get mid.states id _ dead
+      (rw states (get_with old.states v _ id (slice_get-get_or old.states id dead is)))
   stays_at (Uncached w) is = refl
 
-  pub linked : {new : StoredTable} {w : Value} {t : ℕ} (u : Option ℕ) → IsInterned {E = E} mid w (Ok t) new → IsStored new.states new.rows → is_unit u ≡ true
+  pub linked : {new : StoredTable} {w : Value} {t : ℕ} (u : Option ℕ) → IsInterned {E = E} mid w (Ok t) new
+      → IsStored new.states new.rows → is_unit u ≡ true
       → IsStored new.states (slice_set new.rows (s * 258 + column u) (t * 258))
-      × ((A : Type 0) → IsKept {A = A} {E = E} old (with_transition (table_of old) v u w) w (Ok (Cached t)) (record new { rows = slice_set new.rows (s * 258 + column u) (t * 258) }))
+      × ((A : Type 0) → IsKept {A = A} {E = E} old (with_transition (table_of old) v u w) w (Ok (Cached t))
+      (record new { rows = slice_set new.rows (s * 258 + column u) (t * 258) }))
   linked {new} {w} {t} u second is unit =
-      let a : mid.states ≡ with_value old.states v = ap (λ (x : Table). x.states) first.table in
-      let b : new.states ≡ with_value mid.states w = ap (λ (x : Table). x.states) second.table in
-      let at_s : slice_get new.states s ≡ Some v = rw b (get_with mid.states w v s first.id) in
-      let r = rows-set is s t v w u at_s second.id unit in (
+      let more : new.states ≡ with_value mid.states w = ap (λ (x : Table). x.states) second.table in
+      let r = rows-set is s t v w u (rw more (get_with mid.states w v s first.id)) second.id unit in (
         rows-store r,
         λ A. record {
           at = at_id new.states t w second.id;
-          table = table-is r ∙ ap (λ (x : Table). record { states = x.states; target = with_target x.target v u w }) (second.table ∙ ap (λ (x : Table). with_state x w) first.table);
-          starts = λ i k kept. (rw (second.starts, first.starts) at kept, λ x at. rw (b, a) (get_with (with_value old.states v) w x k (get_with old.states v x k at)));
+          table = table-is r ∙ ap (λ (x : Table). record x { target = with_target x.target v u w })
+              (second.table ∙ ap (λ (x : Table). with_state x w) first.table);
+          starts = λ i k kept. (
+            rw (second.starts, first.starts) at kept,
+            λ x at. rw (more, states) (get_with (with_value old.states v) w x k (get_with old.states v x k at)),
+          );
           failed = tt;
         },
       )

@@ -1,20 +1,16 @@
 -- trial rows
-use Rattle.determinize_lazy.proofs.Common.{[], ap, AreRows, arith, column, drop, entry_at, false, Leads, IsStored}
-use Rattle.determinize_lazy.proofs.Common.{get_or-set_other, get_or-set_same}
-use Rattle.determinize_lazy.proofs.Common.{index_in, is_unit, length, length-append}
-use Rattle.determinize_lazy.proofs.Common.{length-replicate, length-set, length_push, List, list_any, nat_eq}
-use Rattle.determinize_lazy.proofs.Common.{None, Option, refl, replicate, same, slice_get, slice_get_within}
-use Rattle.determinize_lazy.proofs.Common.{slice_index, slice_set, Some, state_at, sym, table_in, tag_in}
-use Rattle.determinize_lazy.proofs.Common.{tag_of, take, target_in, true, Value, with_target, ℕ}
-use Rattle.determinize_lazy.proofs.Common.{take_all, with_state}
-use Rattle.determinize_lazy.proofs.Common.{◌*◌, ◌++◌, ◌+◌, ◌-◌, ◌/◌, ◌<◌, ◌∙◌, ◌∷◌, ◌≡◌, ◌≢◌}
+use Rattle.determinize_lazy.proofs.Common.{[], ap, AreRows, arith, by_cases, by_option, by_test, column, drop, entry_at}
+use Rattle.determinize_lazy.proofs.Common.{false, get_or-set_other, get_or-set_same, index_in, is_unit, IsStored, Leads}
+use Rattle.determinize_lazy.proofs.Common.{length, length-append, length-replicate, length-set, length_push, List}
+use Rattle.determinize_lazy.proofs.Common.{list_any, nat_eq, None, Option, refl, replicate, same, slice_get}
+use Rattle.determinize_lazy.proofs.Common.{slice_get_within, slice_index, slice_set, Some, state_at, sym, table_in}
+use Rattle.determinize_lazy.proofs.Common.{tag_in, tag_of, take, take_all, target_in, true, Value, with_state}
+use Rattle.determinize_lazy.proofs.Common.{with_target, ℕ, ◌*◌, ◌++◌, ◌+◌, ◌-◌, ◌/◌, ◌<◌, ◌∙◌, ◌∷◌, ◌≡◌, ◌≢◌}
 use Rattle.std.proofs.lemmas.Bool.Decides.{nat_tests}
 use Rattle.std.proofs.lemmas.Grind.{get_or-set_at}
 use Rattle.std.proofs.lemmas.List.{places}
-use Rattle.determinize_lazy.proofs.Common.{by_test, by_option, by_cases}
-use Rattle.determinize_core.proofs.states.Places.{apart-push, get_more, get_push}
-use Rattle.determinize_lazy.proofs.tables.Values.{with_target-by, index_is, none_passes}
-use Rattle.determinize_core.proofs.states.Places.{not_both, of_some, there}
+use Rattle.determinize_core.proofs.states.Places.{apart-push, get_more, get_push, not_both, of_some, there}
+use Rattle.determinize_lazy.proofs.tables.Values.{index_is, none_passes, with_target-by}
 
 column-lt : (u : Option ℕ) → is_unit u ≡ true → column u < 257
 column-lt (Some b) h = grind (arith, nat_tests)
@@ -131,7 +127,11 @@ module _ {states : List Value} {rows : List ℕ} {target : Value → Option ℕ 
                 t,
                 let p_is : p ≡ s = r.apart p s v (rw x_is at at) at_s in
                     let place : p * 258 + column y ≡ s * 258 + column u = rw (p_is, y_is) refl in
-                    rw (place, get_or-set_same rows (s * 258 + column u) (t * 258) 0 (omega (arith, inside, col, r.size))) refl,
+                    rw (
+                      place,
+                      get_or-set_same rows (s * 258 + column u) (t * 258) 0
+                          (omega (arith, inside, col, r.size)),
+                    ) refl,
                 at_t,
               ))
               (λ no. rw (get_or-set_other rows (s * 258 + column u) (p * 258 + column y) (t * 258) 0 (λ same_place.

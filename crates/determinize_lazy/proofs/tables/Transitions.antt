@@ -1,13 +1,9 @@
 -- Tables with one more transition.
-use Rattle.determinize_lazy.proofs.Common.{arith, Contains, empty, false, inl, inr}
-use Rattle.determinize_lazy.proofs.Common.{IsTable, List, list_any, list_any-from_Contains}
-use Rattle.determinize_lazy.proofs.Common.{None, Option, refl, same, Some}
-use Rattle.determinize_lazy.proofs.Common.{sym, Table, Value, with_target, with_transition}
-use Rattle.determinize_lazy.proofs.Common.{with_value, ℕ, ◌≡◌}
+use Rattle.determinize_lazy.proofs.Common.{arith, by_cases, by_option, Contains, empty, false, inl, inr, IsTable, List}
+use Rattle.determinize_lazy.proofs.Common.{list_any, list_any-from_Contains, None, Option, refl, same, Some, sym, Table}
+use Rattle.determinize_lazy.proofs.Common.{Value, with_target, with_transition, with_value, ℕ, ◌≡◌}
 use Rattle.determinize_lazy.proofs.tables.Values.{apart-with, has_more, has_new, of_with, with_target-by}
-use Rattle.determinize_lazy.proofs.Common.{by_option, by_cases}
-use Rattle.determinize_core.proofs.states.Places.{not_both, not_none, of_some}
-use Rattle.determinize_core.proofs.states.Places.{same_laws}
+use Rattle.determinize_core.proofs.states.Places.{not_both, not_none, of_some, same_laws}
 
 -- the transition is there
 pub with_target-new : (target : Value → Option ℕ → Option Value) (v : Value) (u : Option ℕ) (w : Value)

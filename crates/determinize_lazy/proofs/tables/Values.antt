@@ -1,15 +1,15 @@
 -- Cached values: their indices, and the values with one more.
-use Rattle.determinize_lazy.proofs.Common.{[], arith, cond, Contains, Decides, EachApart, false, index_in, inl, length}
-use Rattle.determinize_lazy.proofs.Common.{length_push, List, list_any, list_any_congr, None, Option, refl, same, same_unit}
-use Rattle.determinize_lazy.proofs.Common.{slice_get, Some, suc, sym, true, Value, with_value, ℕ, ◌&&◌, ◌+◌, ◌||◌, ◌∙◌}
-use Rattle.determinize_lazy.proofs.Common.{◌∷◌, ◌≡◌, ◌⊎◌, Bool, position_from, with_target, ap}
+use Rattle.determinize_lazy.proofs.Common.{[], arith, Bool, by_test, cond, Contains, Decides, EachApart}
+use Rattle.determinize_lazy.proofs.Common.{false, index_in, inl, length, length_push, List, list_any, list_any_congr}
+use Rattle.determinize_lazy.proofs.Common.{None, Option, position_from, refl, same, same_unit, slice_get, Some, suc}
+use Rattle.determinize_lazy.proofs.Common.{sym, true, Value, with_target, with_value, ℕ, ◌&&◌, ◌+◌, ◌||◌, ◌∷◌, ◌≡◌}
+use Rattle.determinize_lazy.proofs.Common.{◌⊎◌}
 use Rattle.std.proofs.lemmas.Bool.Decides.{Decides-and, nat_tests}
 use Rattle.std.proofs.lemmas.List.Elements.{Contains-append_left, Contains-push, Contains-push_cases}
 use Rattle.std.proofs.lemmas.List.Folds.{list_any-append}
 use Rattle.std.proofs.lemmas.Map.Views.{Contains-from_any}
 use Rattle.determinize_state.specs.Equality.{Decides-same}
-use Rattle.determinize_lazy.proofs.Common.{by_test, by_option}
-use Rattle.determinize_core.proofs.states.Places.{apart-push, get_more, not_both, not_none, same_is, same_laws, there}
+use Rattle.determinize_core.proofs.states.Places.{apart-push, get_more, not_both, not_none, same_is, same_laws}
 
 Decides-unit : (u w : Option ℕ) → Decides (same_unit u w) (u ≡ w)
 Decides-unit (Some a) (Some b) = (grind (arith, nat_tests), grind (arith, nat_tests))
@@ -45,12 +45,6 @@ index_is values v p here =
     let e : v ≡ x = same_is v x ok in
     let p_is : p ≡ k = omega (arith, at) in
     cc
-
--- the index of a value
-pub index_of : (values : List Value) → EachApart values → (v : Value) (p : ℕ) → slice_get values p ≡ Some v → index_in values v ≡ Some p
-index_of values apart v p at = by_option (index_in values v)
-    (λ e. not_both (there values v p at) (none_passes (same v) values 0 e))
-    (λ q e. e ∙ ap Some (apart q p v (index_is values v q e) at))
 
 module _ (values : List Value) (w : Value) where
   pub get_with : (v : Value) (p : ℕ) → slice_get values p ≡ Some v → slice_get (with_value values w) p ≡ Some v

@@ -1,13 +1,11 @@
 -- Walks, one step more at a time, and what is left of a walk that fails.
-use Rattle.determinize_lazy.proofs.Common.{[], after_step, after_walk, AllResolve, ap, arith, Cache}
-use Rattle.determinize_lazy.proofs.Common.{drop, future, get_or_from_slice_get, inl, inr, IsAccepted}
-use Rattle.determinize_lazy.proofs.Common.{IsCutOff, IsFailedStep, IsReached, length, length-take-le, List, MatchKind}
-use Rattle.determinize_lazy.proofs.Common.{Nfa, Option, refl, same, slice_get, slice_get_within, Some, step_of}
-use Rattle.determinize_lazy.proofs.Common.{take, take_all, take_more, Value, value_after, ℕ, ◌++◌, ◌+◌, ◌<◌}
-use Rattle.determinize_lazy.proofs.Common.{◌∙◌, ◌∷◌, ◌≡◌, ◌≤◌}
-use Rattle.std.proofs.lemmas.List.{drop_more, get_or_at, take_at, length-append}
+use Rattle.determinize_lazy.proofs.Common.{[], after_step, after_walk, AllResolve, ap, arith, by_cases, Cache, drop}
+use Rattle.determinize_lazy.proofs.Common.{future, get_or_from_slice_get, inl, inr, IsAccepted, IsCutOff, IsFailedStep}
+use Rattle.determinize_lazy.proofs.Common.{IsReached, length, length-take-le, List, MatchKind, Nfa, Option, refl, same}
+use Rattle.determinize_lazy.proofs.Common.{slice_get, slice_get_within, Some, step_of, take, take_all, take_more, Value}
+use Rattle.determinize_lazy.proofs.Common.{value_after, ℕ, ◌++◌, ◌+◌, ◌<◌, ◌∙◌, ◌∷◌, ◌≡◌, ◌≤◌}
+use Rattle.std.proofs.lemmas.List.{drop_more, get_or_at, length-append, take_at}
 use Rattle.std.proofs.lemmas.Option.{slice_get-get_or}
-use Rattle.determinize_lazy.proofs.Common.{by_cases}
 use Rattle.determinize_core.specs.Step.{step}
 use Rattle.determinize_core.proofs.walk.WalkLoops.{future-push, value_after-push}
 use Rattle.determinize_core.proofs.step.Resolving.{step_resolves}
@@ -97,7 +95,13 @@ module _ {old : Cache} {first : Value} {us : List (Option ℕ)} {read : ℕ} {v 
     pub future-more : {values more : List Value} → values ≡ future old.nfa old.kind first (take read us)
         → more ≡ values ++ w ∷ [] → more ≡ future old.nfa old.kind first (take (read + 1) us)
     future-more {values} {more} values_are more_is =
-        rw (take-one us read u at, future-push old.nfa old.kind first (take read us) u, ← r.end, ← values_are, ← follows)
+        rw (
+          take-one us read u at,
+          future-push old.nfa old.kind first (take read us) u,
+          ← r.end,
+          ← values_are,
+          ← follows,
+        )
         more_is
 
   -- what is left if the walk fails here

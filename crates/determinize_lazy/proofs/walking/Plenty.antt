@@ -1,14 +1,11 @@
 -- If there is room for all states of a walk, each of its transitions is cached and computed once.
-use Rattle.determinize_lazy.proofs.Common.{[], after_step, after_walk, arith, Bool, Cache, cond, count_after}
+use Rattle.determinize_lazy.proofs.Common.{[], after_step, after_walk, arith, Bool, by_test, Cache, cond, count_after}
 use Rattle.determinize_lazy.proofs.Common.{fits, future, future_is, HasRoom, is_cached, is_some, IsSound, IsTable}
-use Rattle.determinize_lazy.proofs.Common.{KeepsAll, length, List, list_any, list_any-from_Contains}
-use Rattle.determinize_lazy.proofs.Common.{missing, Option, refl, same, step_of, Table, tail, true}
-use Rattle.determinize_lazy.proofs.Common.{Value, with_step, with_transition, with_value, with_values, with_walk, ℕ, ⊤}
-use Rattle.determinize_lazy.proofs.Common.{◌+◌, ◌∙◌, ◌∷◌, ◌≡◌, ◌≤◌}
-use Rattle.determinize_lazy.proofs.Common.{by_test}
+use Rattle.determinize_lazy.proofs.Common.{KeepsAll, length, List, list_any, list_any-from_Contains, missing, Option}
+use Rattle.determinize_lazy.proofs.Common.{refl, same, step_of, Table, tail, true, Value, with_step, with_transition}
+use Rattle.determinize_lazy.proofs.Common.{with_value, with_values, with_walk, ℕ, ⊤, ◌+◌, ◌∙◌, ◌∷◌, ◌≡◌, ◌≤◌}
 use Rattle.determinize_lazy.proofs.tables.Transitions.{not_source, with_target-new, with_transition-is}
-use Rattle.determinize_lazy.proofs.tables.Values.{with_target-by}
-use Rattle.determinize_lazy.proofs.tables.Values.{has_new, length_with}
+use Rattle.determinize_lazy.proofs.tables.Values.{has_new, length_with, with_target-by}
 use Rattle.determinize_core.proofs.states.Places.{not_both, same_laws}
 use Rattle.determinize_lazy.proofs.walking.CachedWalks.{same_steps}
 
@@ -97,9 +94,11 @@ keeps : (us : List (Option ℕ)) (c : Cache) (v : Value) → IsTable (step_of c)
 keeps [] c v is small room = (refl, grind (arith, small))
 keeps (u ∷ us) c v is small room =
     let s = has_step c v u us is room in
-    let (table, once) = keeps us (after_step c v u) (step_of c v u) s.is (one (is_cached c.table v u) c.computed small) s.room in (
+    let (table, once) =
+    keeps us (after_step c v u) (step_of c v u) s.is (one (is_cached c.table v u) c.computed small) s.room in (
       rw (← s.table) table,
-      once ∙ rw s.table (more (is_cached c.table v u) c.computed (missing (step_of c) (with_step (step_of c) c.table v u) (step_of c v u) us)),
+      once ∙ rw s.table (more (is_cached c.table v u) c.computed
+          (missing (step_of c) (with_step (step_of c) c.table v u) (step_of c v u) us)),
     )
   where
     one : (b : Bool) (n : ℕ) → n ≤ 18446744073709551615 → cond b n (count_after n 1) ≤ 18446744073709551615
@@ -116,5 +115,6 @@ keeps_all {old} {new} {v} {us} sound is room =
     rw is record {
       table = table;
       once = once;
-      again = unchanged (after_walk old v us) v us (rw (table, same_steps us old v) (with_walk-cached (step_of old) old.table v us));
+      again = unchanged (after_walk old v us) v us
+          (rw (table, same_steps us old v) (with_walk-cached (step_of old) old.table v us));
     }

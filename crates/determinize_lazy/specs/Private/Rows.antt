@@ -22,8 +22,8 @@ pub record AreRows (states : List Value) (rows : List ℕ)
   pub apart : EachApart states
   pub entries : (p : ℕ) (v : Value) (u : Option ℕ) → slice_get states p ≡ Some v → is_unit u ≡ true
       → Leads states (entry_at rows p u) (target v u)
-  pub others : (v : Value) (u : Option ℕ) → ((p : ℕ) → slice_get states p ≡ Some v → is_unit u ≡ true → ⊥)
-      → target v u ≡ None
+  pub others : (v : Value) (u : Option ℕ)
+      → ((p : ℕ) → slice_get states p ≡ Some v → is_unit u ≡ true → ⊥) → target v u ≡ None
   pub tags : (p : ℕ) (v : Value) → slice_get states p ≡ Some v
       → tag_in (slice_index rows (p * 258 + 257)) ≡ tag_of v
 

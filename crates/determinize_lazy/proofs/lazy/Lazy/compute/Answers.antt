@@ -1,4 +1,5 @@
-use Rattle.determinize_lazy.proofs.Common.{arith, cache, count_after, cursor_value, inl, inr, IsFailedStep, refl, rules, ◌≡◌}
+use Rattle.determinize_lazy.proofs.Common.{arith, cache, count_after, cursor_value, inl, inr, IsFailedStep, refl, rules}
+use Rattle.determinize_lazy.proofs.Common.{◌≡◌}
 use Rattle.determinize_core.specs.Step.{step}
 use Rattle.determinize_core.proofs.step.Resolving.{step_resolves}
 use Rattle.determinize_lazy.proofs.steps.Cursors.{absent-at}

@@ -1,7 +1,7 @@
 use Rattle.determinize_lazy.proofs.Common.{false, refl, rules, same, true, ◌≡◌}
 use Rattle.determinize_lazy.proofs.tables.Changes.{count_two, more_for}
-use Rattle.determinize_lazy.proofs.table.TransitionTable.fits.Goals.{in_default, in_default-2, in_default-3}
-use Rattle.determinize_lazy.proofs.table.TransitionTable.fits.Goals.{in-Cached-Cached, in-Uncached-Uncached}
+use Rattle.determinize_lazy.proofs.table.TransitionTable.fits.Goals.{in-Cached-Cached, in-Uncached-Uncached, in_default}
+use Rattle.determinize_lazy.proofs.table.TransitionTable.fits.Goals.{in_default-2, in_default-3}
 use Rattle.determinize_lazy.proofs.table.TransitionTable.fits.Goals as goal
 
 pub returns : goal.returns

@@ -1,5 +1,5 @@
-use Rattle.determinize_lazy.proofs.Common.{dead, drop, Leads, length, slice_get, slice_get-get_or}
-use Rattle.determinize_lazy.proofs.Common.{slice_get_within, slice_index, Some, take, target_in, Value, ◌-◌, ◌≡◌}
+use Rattle.determinize_lazy.proofs.Common.{dead, drop, Leads, length, slice_get, slice_get-get_or, slice_get_within}
+use Rattle.determinize_lazy.proofs.Common.{slice_index, Some, take, target_in, Value, ◌-◌, ◌≡◌}
 use Rattle.determinize_lazy.proofs.tables.TableRows.{entry_from, leads-none, leads-row}
 use Rattle.determinize_lazy.proofs.table.TransitionTable.lookup.Given.{Over}
 use Rattle.determinize_lazy.proofs.table.TransitionTable.lookup.Goals.{After-row}

@@ -1,5 +1,5 @@
-use Rattle.determinize_lazy.proofs.Common.{IsStored, refl, rules, slice_set, table_in, with_state, ◌++◌, ◌+◌}
-use Rattle.determinize_lazy.proofs.Common.{[], ◌∷◌, ◌≡◌}
+use Rattle.determinize_lazy.proofs.Common.{[], IsStored, refl, rules, slice_set, table_in, with_state, ◌++◌, ◌+◌, ◌∷◌}
+use Rattle.determinize_lazy.proofs.Common.{◌≡◌}
 use Rattle.determinize_core.proofs.states.Places.{get_last}
 use Rattle.determinize_lazy.proofs.tables.TableRows.{pushed}
 use Rattle.determinize_lazy.proofs.table.TransitionTable.push.Given.{Over}
@@ -13,7 +13,8 @@ stored : (g : Over) (c : After-from_index g)
     × (table_in (c.self.inside.states ++ c.args.state ∷ [])
     (slice_set c.resize.new.self.items (c.len-len.result + 257) c.of-tag.result.bits)
     ≡ with_state (table_in c.self.inside.states c.self.inside.rows.items) c.args.state)
-stored g c = pushed {new = c.resize.new.self.items} {len = c.len-len.result} c.of-tag.result.bits c.args.state c.self.invariant (rw (← c.self.view_is) at c.requires)
+stored g c = pushed {new = c.resize.new.self.items} {len = c.len-len.result} c.of-tag.result.bits c.args.state
+    c.self.invariant (rw (← c.self.view_is) at c.requires)
     c.of-tag.ensures (search rules) (search rules)
 
 pub invariant_of-self-in-Ok : goal.invariant_of-self-in-Ok
