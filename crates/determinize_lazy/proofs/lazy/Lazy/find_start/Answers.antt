@@ -1,4 +1,4 @@
-use Rattle.determinize_lazy.proofs.Common.{ap, Some, sym, ◌∙◌}
+use Rattle.determinize_lazy.proofs.Common.{sym, ◌∙◌}
 use Rattle.determinize_lazy.proofs.steps.Starts.{at_its_index, starts-set}
 use Rattle.determinize_lazy.proofs.lazy.Lazy.find_start.Goals as goal
 
@@ -12,6 +12,6 @@ invariant_of-self g c =
       small = c.self.invariant.small;
       within = c.self.invariant.within;
       starts = starts-set c.self.inside.stepper.nfa c.self.inside.table c.in-Some-start_index.index c.in-Some.id
-          c.self.invariant.starts (λ v e. c.in-Some.ensures ∙ ap Some state_is
+          c.self.invariant.starts (λ v e. rw state_is at c.in-Some.ensures
           ∙ sym (at_its_index c.self.inside.stepper.nfa c.args.start c.args.look_behind _ index_is) ∙ e);
     }
