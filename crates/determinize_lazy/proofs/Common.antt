@@ -15,6 +15,7 @@ pub use Rattle.std.specs.Option.{IfSome, option_or}
 pub use Rattle.std.specs.Prelude.{Contains, Decides, Err, IfOk, min, nat_eq, nat_le, nat_lt, Ok, OnErr, OnOk}
 pub use Rattle.std.specs.Prelude.{option_map, Result, slice_get, slice_index, slice_index_or, slice_set, ⊤}
 pub use mathlib.Core.Bool.{true≢false}
+pub use Rattle.ordered_reach.proofs.Cases.{by_cases, by_option, by_test}
 pub use Rattle.determinize_below.specs.Nfa.{AllResolve, IsAccepted}
 pub use Rattle.determinize_below.specs.Semantics.{between, Nfa, Text}
 pub use Rattle.determinize_below.specs.Search.{Asked, is_done}
@@ -34,14 +35,15 @@ pub use Rattle.determinize_lazy.specs.Cache.{keep, LazyValue, step_of}
 pub use Rattle.determinize_lazy.specs.Plenty.{HasRoom, KeepsAll, missing, with_step, with_walk}
 pub use Rattle.determinize_lazy.specs.Private.Cursors.{cursor_value, IsAt, IsCursor}
 pub use Rattle.determinize_lazy.specs.Private.Invariant.{IsLazy}
-pub use Rattle.determinize_lazy.specs.Private.Rows.{AreRows, IsStored, IsTarget, IsTargetIndex, Leads, StartsStay}
+pub use Rattle.determinize_lazy.specs.Private.Rows.{AreRows, IsEmpty, IsStored, IsTarget, Leads, StartsStay}
 pub use Rattle.determinize_lazy.specs.Private.Rows.{StoredTable, table_of, with_state}
+pub use Rattle.determinize_lazy.specs.Private.Changes.{IsInterned, IsKept}
 pub use Rattle.determinize_lazy.specs.Private.Searched.{cached_place, Fails, first_place, GoesOn, HasStopped}
 pub use Rattle.determinize_lazy.specs.Private.Searched.{IsCachedPosition, IsOver, IsPosition, IsReached, last_left}
 pub use Rattle.determinize_lazy.specs.Private.Searched.{Leaves, LeavesText, next_place, Place, place, reported}
 pub use Rattle.determinize_lazy.specs.Private.Searched.{units_left, with_cursor}
 pub use Rattle.determinize_lazy.specs.Private.Starts.{AreStarts, start_index}
-pub use Rattle.determinize_lazy.specs.Private.Steps.{IsFailedStep, IsSound}
+pub use Rattle.determinize_lazy.specs.Private.Steps.{IsFailedStep, IsSound, IsStarted, IsStepped}
 pub use Rattle.determinize_lazy.specs.Private.Tags.{is_last_tag, match_at, match_of, match_reported, Tag, tag_in}
 pub use Rattle.determinize_lazy.specs.Private.Tags.{tag_of}
 pub use Rattle.determinize_lazy.specs.CachedSearches.{is_last, units_read}

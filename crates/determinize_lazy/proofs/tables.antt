@@ -1,4 +1,5 @@
--- The transition table: its states, its rows, and one transition more.
+-- The transition table: its states, its rows, one transition more, and what its functions leave.
+pub mod Changes
 pub mod TableRows
 pub mod Transitions
 pub mod Values

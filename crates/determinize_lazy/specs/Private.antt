@@ -1,5 +1,6 @@
 -- What private functions promise each other, and what is true of every cache: no public contract
 -- cites these definitions.
+pub mod Changes
 pub mod Cursors
 pub mod Invariant
 pub mod Rows

@@ -182,7 +182,7 @@ impl<'n, N: Allocator, A: Allocator + Copy> Lazy<'n, N, A> {
         while read <= text.len() {
             let unit = text.unit(read);
             cursor = self.step(cursor, unit)?;
-            states.push(self.state_at(&cursor)?)?;
+            states.push(self.table.state(&cursor).clone()?)?;
             read += 1;
         }
         Ok(states)

@@ -7,14 +7,14 @@
 //! The start states of searches are kept by the kind of their start, which is all that they depend
 //! on besides the NFA state. A search computes its start state anew as long as that is not cached.
 
-ghost use Rattle.std.specs.Prelude.{◌≡◌, ◌<◌, ℕ, false, length, slice_get, IfOk, OnErr, OnOk, Some};
+ghost use Rattle.std.specs.Prelude.{◌≡◌, ◌<◌, ℕ, false, length, slice_get, IfOk, Some};
 ghost use Rattle.std.specs.Option.{IfSome};
 ghost use Rattle.determinize_below.specs.Nfa.{AllResolve};
 ghost use Rattle.determinize_core.specs.Step.{start_value};
-ghost use Rattle.determinize_lazy.specs.Cache.{Grows, after_step, cache, step_of};
+ghost use Rattle.determinize_lazy.specs.Cache.{cache};
 ghost use Rattle.determinize_lazy.specs.Private.Cursors.{IsAt, IsCursor, cursor_value};
 ghost use Rattle.determinize_lazy.specs.Private.Starts.{start_index};
-ghost use Rattle.determinize_lazy.specs.Private.Steps.{IsFailedStep, IsSound};
+ghost use Rattle.determinize_lazy.specs.Private.Steps.{IsSound, IsStarted, IsStepped};
 ghost use Rattle.determinize_lazy.specs.Private.Tags.{tag_in, tag_of};
 ghost use Rattle.determinize_lazy.specs.Table.{is_cached};
 ghost use Rattle.determinize_lazy.specs.declared.table.Cursor.TheVariants as cursors;
@@ -71,12 +71,7 @@ impl<'n, N: Allocator, A: Allocator + Copy> Lazy<'n, N, A> {
         look_behind: Option<u8>,
     ) -> Result<Cursor<A>, AllocError>
         requires { start < length self.old.nfa.states }
-        ensures at { IfOk result (λ cursor. IsAt self.old.states cursor
-            (start_value self.old.nfa start look_behind)) }
-        ensures resolve { OnOk result
-            (AllResolve self.old.nfa (start_value self.old.nfa start look_behind).states) }
-        ensures sound { IsSound (cache self.old) }
-        ensures unchanged { self.new ≡ self.old }
+        ensures { IsStarted self.old (start_value self.old.nfa start look_behind) result self.new }
     {
         match self.kept_start(start, look_behind) {
             Some(id) => Ok(Cursor::Cached(id)),
@@ -93,15 +88,16 @@ impl<'n, N: Allocator, A: Allocator + Copy> Lazy<'n, N, A> {
         look_behind: Option<u8>,
     ) -> Result<Cursor<A>, AllocError>
         requires { start < length self.old.nfa.states }
-        ensures at { IfOk result (λ cursor. IsAt self.old.states cursor
-            (start_value self.old.nfa start look_behind)) }
-        ensures resolve { OnOk result
-            (AllResolve self.old.nfa (start_value self.old.nfa start look_behind).states) }
-        ensures sound { IsSound (cache self.old) }
-        ensures unchanged { self.new ≡ self.old }
+        ensures { IsStarted self.old (start_value self.old.nfa start look_behind) result self.new }
     {
         let state = self.start_state(start, look_behind)?;
-        Ok(self.keep_start(start, look_behind, state))
+        let Some(id) = self.table.find(&state) else {
+            return Ok(Cursor::Uncached(state));
+        };
+        if let Some(index) = start_index(self.stepper.nfa(), start, look_behind) {
+            self.table.set_start(index, id);
+        }
+        Ok(Cursor::Cached(id))
     }
 
     /// Returns the id of a start state, if it is kept.
@@ -118,22 +114,6 @@ impl<'n, N: Allocator, A: Allocator + Copy> Lazy<'n, N, A> {
         self.table.start(index)
     }
 
-    /// Returns the cursor of a start state, and keeps its id if the state is cached.
-    fn keep_start(&mut self, start: StateID, look_behind: Option<u8>, state: State<A>) -> Cursor<A>
-        requires { state ≡ start_value self.old.nfa start look_behind }
-        ensures at { IsAt self.old.states result
-            (start_value self.old.nfa start look_behind) }
-        ensures unchanged { self.new ≡ self.old }
-    {
-        let Some(id) = self.table.find(&state) else {
-            return Cursor::Uncached(state);
-        };
-        if let Some(index) = start_index(self.stepper.nfa(), start, look_behind) {
-            self.table.set_start(index, id);
-        }
-        Cursor::Cached(id)
-    }
-
     /// Returns the cursor of a state.
     pub(crate) fn cursor_of(&self, state: &State<A>) -> Result<Cursor<A>, AllocError>
         ensures at { IfOk result (λ cursor. IsAt self.now.states cursor state.now) }
@@ -143,15 +123,6 @@ impl<'n, N: Allocator, A: Allocator + Copy> Lazy<'n, N, A> {
             Some(id) => Ok(Cursor::Cached(id)),
             None => Ok(Cursor::Uncached(state.clone()?)),
         }
-    }
-
-    /// Returns a copy of the state at a cursor.
-    pub(crate) fn state_at(&self, cursor: &Cursor<A>) -> Result<State<A>, AllocError>
-        requires { IsCursor self.now.states cursor.now }
-        ensures { IfOk result
-            (λ state. state ≡ cursor_value self.now.states cursor.now) }
-    {
-        self.table.state(cursor).clone()
     }
 
     /// Returns the tag of the state at a cursor.
@@ -177,15 +148,7 @@ impl<'n, N: Allocator, A: Allocator + Copy> Lazy<'n, N, A> {
         requires cursor { IsCursor self.old.states cursor }
         requires resolve { AllResolve self.old.nfa
             (cursor_value self.old.states cursor).states }
-        ensures at { IfOk result (λ next. IsAt self.new.states next
-            (step_of (cache self.old) (cursor_value self.old.states cursor) unit)) }
-        ensures resolve { AllResolve self.old.nfa
-            (step_of (cache self.old) (cursor_value self.old.states cursor) unit).states }
-        ensures after { OnOk result (cache self.new ≡ after_step (cache self.old)
-            (cursor_value self.old.states cursor) unit) }
-        ensures failed { OnErr result (IsFailedStep (cache self.old)
-            (cursor_value self.old.states cursor) unit (cache self.new)) }
-        ensures grows { Grows (cache self.old) (cache self.new) }
+        ensures { IsStepped self.old (cursor_value self.old.states cursor) unit result self.new }
     {
         match cursor {
             Cursor::Cached(id) => match self.table.lookup(id, unit) {
@@ -206,15 +169,7 @@ impl<'n, N: Allocator, A: Allocator + Copy> Lazy<'n, N, A> {
             (cursor_value self.old.states cursor).states }
         requires uncached { (id : ℕ) → cursor ≡ cursors.Cached id → is_cached (cache self.old).table
             (cursor_value self.old.states cursor) unit ≡ false }
-        ensures at { IfOk result (λ next. IsAt self.new.states next
-            (step_of (cache self.old) (cursor_value self.old.states cursor) unit)) }
-        ensures resolve { AllResolve self.old.nfa
-            (step_of (cache self.old) (cursor_value self.old.states cursor) unit).states }
-        ensures after { OnOk result (cache self.new ≡ after_step (cache self.old)
-            (cursor_value self.old.states cursor) unit) }
-        ensures failed { OnErr result (IsFailedStep (cache self.old)
-            (cursor_value self.old.states cursor) unit (cache self.new)) }
-        ensures grows { Grows (cache self.old) (cache self.new) }
+        ensures { IsStepped self.old (cursor_value self.old.states cursor) unit result self.new }
     {
         let state = self.table.state(&cursor);
         let following = self.stepper.next(state, Unit::from(unit))?;

@@ -6,17 +6,17 @@
 //! state. The table also has the rule of what is cached (`keep`), and the ids of the start states
 //! that searches have used.
 
-ghost use Rattle.std.specs.Prelude.{◌≡◌, ◌*◌, ◌<◌, ◌≤◌, ◌⊎◌, ℕ, false, true, length, nat_le, slice_get, slice_set, IfOk, OnErr, OnOk, Some};
+ghost use Rattle.std.specs.Prelude.{◌≡◌, ◌*◌, ◌<◌, ◌≤◌, false, true, length, nat_le, slice_get, slice_index_or, slice_set, IfOk, None, Some};
 ghost use Rattle.std.specs.List.{list_any};
-ghost use Rattle.determinize_below.specs.Truth.{IsUnit};
 ghost use Rattle.determinize_core.specs.Value.{Value as StateValue};
 ghost use Rattle.determinize_lazy.specs.Cache.{keep};
-ghost use Rattle.determinize_lazy.specs.Private.Cursors.{IsAt, IsCursor, cursor_value};
-ghost use Rattle.determinize_lazy.specs.Private.Rows.{IsTarget, IsTargetIndex, StartsStay, table_of, with_state};
+ghost use Rattle.determinize_lazy.specs.Private.Cursors.{IsAt, IsCursor, IsWithin, cursor_value};
+ghost use Rattle.determinize_lazy.specs.Private.Rows.{IsEmpty, IsTarget, table_of};
 ghost use Rattle.determinize_lazy.specs.Private.Tags.{tag_in, tag_of};
 ghost use Rattle.determinize_lazy.specs.Stored.{column, is_unit};
 ghost use Rattle.determinize_core.specs.States.{IsIndex};
-ghost use Rattle.determinize_lazy.specs.Table.{empty, with_transition, with_value};
+ghost use Rattle.determinize_lazy.specs.Private.Changes.{IsInterned, IsKept};
+ghost use Rattle.determinize_lazy.specs.Table.{with_transition, with_value};
 ghost use Rattle.determinize_core.specs.Equality.{same};
 
 use crate::state_id::{COLUMNS, LazyStateId, UNITS};
@@ -81,7 +81,6 @@ impl<A: Allocator> Model for TransitionTable<A> {
 fn column(unit: Option<u8>) -> usize
     ensures value { result ≡ column unit }
     ensures limit { result < 257 }
-    ensures unit { IsUnit unit }
     ensures is_unit { is_unit unit ≡ true }
 {
     match unit {
@@ -93,8 +92,7 @@ fn column(unit: Option<u8>) -> usize
 impl<A: Allocator + Copy> TransitionTable<A> {
     /// Returns a table in which nothing is cached. Does not allocate.
     pub(crate) fn new(alloc: A) -> TransitionTable<A>
-        ensures table { table_of result ≡ empty }
-        ensures starts { (i index : ℕ) → slice_get result.starts i ≡ Some (Some index) → ⊥ }
+        ensures { IsEmpty result }
     {
         TransitionTable {
             states: StateTable::new(alloc),
@@ -105,8 +103,7 @@ impl<A: Allocator + Copy> TransitionTable<A> {
 
     /// Removes all transitions, states and start states.
     pub(crate) fn clear(&mut self)
-        ensures table { table_of self.new ≡ empty }
-        ensures starts { (i index : ℕ) → slice_get self.new.starts i ≡ Some (Some index) → ⊥ }
+        ensures { IsEmpty self.new }
     {
         self.states.clear();
         self.rows.clear();
@@ -121,30 +118,6 @@ impl<A: Allocator + Copy> TransitionTable<A> {
         ensures limit { result ≤ MAX_STATES }
     {
         self.states.len()
-    }
-
-    /// Returns how many states would be cached with the source and the target of one more
-    /// transition.
-    ///
-    /// - `target` is the id of `following` if it is cached.
-    fn len_with(
-        &self,
-        source: &Cursor<A>,
-        following: &State<A>,
-        target: &Option<LazyStateId>,
-    ) -> usize
-        requires source { IsCursor self.now.states source.now }
-        requires target { IsIndex self.now.states following.now target.now }
-        ensures { result ≡ length (with_value (with_value self.now.states
-            (cursor_value self.now.states source.now)) following.now) }
-    {
-        let len = self.states.len();
-        match source {
-            Cursor::Cached(_) => { if target.is_some() { len } else { len + 1 } }
-            Cursor::Uncached(_) if target.is_some() => len + 1,
-            Cursor::Uncached(state) if state == following => len + 1,
-            Cursor::Uncached(_) => len + 2,
-        }
     }
 
     /// Returns the heap memory that the table uses, in bytes.
@@ -225,7 +198,7 @@ impl<A: Allocator + Copy> TransitionTable<A> {
     /// Returns the kept start at an index.
     pub(crate) fn start(&self, index: usize) -> Option<LazyStateId>
         requires { index < 12 }
-        ensures { slice_get self.now.starts index ≡ Some result }
+        ensures { result ≡ slice_index_or self.now.starts index None }
     {
         self.starts[index]
     }
@@ -242,12 +215,9 @@ impl<A: Allocator + Copy> TransitionTable<A> {
     /// Caches a state that is not cached, and returns its id.
     ///
     /// If an allocation fails, the table is unchanged.
-    fn intern(&mut self, state: State<A>) -> Result<LazyStateId, AllocError>
+    fn push(&mut self, state: State<A>) -> Result<LazyStateId, AllocError>
         requires { list_any (same state) self.old.states ≡ false }
-        ensures id { IfOk result (λ id. slice_get self.new.states id ≡ Some state) }
-        ensures table { OnOk result ((table_of self.new) ≡ with_state (table_of self.old) state) }
-        ensures starts { self.new.starts ≡ self.old.starts }
-        ensures err { OnErr result ((table_of self.new) ≡ (table_of self.old)) }
+        ensures { IsInterned self.old state result self.new }
     {
         let tag = StateTag::of(&state);
         let len = self.rows.len();
@@ -262,98 +232,44 @@ impl<A: Allocator + Copy> TransitionTable<A> {
         }
     }
 
-    /// Caches the source of a transition, and returns its id.
-    fn intern_source(&mut self, source: Cursor<A>) -> Result<LazyStateId, AllocError>
-        requires { IsCursor self.old.states source }
-        ensures id { IfOk result
-            (λ id. slice_get self.new.states id ≡ Some (cursor_value self.old.states source)) }
-        ensures table { OnOk result (table_of self.new
-            ≡ with_state (table_of self.old) (cursor_value self.old.states source)) }
-        ensures starts { self.new.starts ≡ self.old.starts }
+    /// Returns the id of the state at a cursor, which is cached if it is not.
+    ///
+    /// If an allocation fails, the table is unchanged.
+    fn intern(&mut self, cursor: Cursor<A>) -> Result<LazyStateId, AllocError>
+        requires { IsWithin self.old.states cursor }
+        ensures { IsInterned self.old (cursor_value self.old.states cursor) result self.new }
     {
-        match source {
+        match cursor {
             Cursor::Cached(id) => Ok(id),
-            Cursor::Uncached(state) => self.intern(state),
+            Cursor::Uncached(state) => match self.find(&state) {
+                Some(id) => Ok(id),
+                None => self.push(state),
+            },
         }
     }
 
-    /// Caches the target of a transition, and returns its id.
+    /// Caches the transition from `source` over `unit` to `target`, and both states. Returns the
+    /// cursor of the target.
     ///
-    /// - `target` is the id of the target if it was cached before its source.
-    fn intern_target(
-        &mut self,
-        source: LazyStateId,
-        following: State<A>,
-        target: Option<LazyStateId>,
-    ) -> Result<LazyStateId, AllocError>
-        requires source { source < length self.old.states }
-        requires target { IsTargetIndex self.old.states source following target }
-        ensures id { IfOk result
-            (λ id. slice_get self.new.states id ≡ Some following) }
-        ensures table { OnOk result
-            (table_of self.new ≡ with_state (table_of self.old) following) }
-        ensures starts { self.new.starts ≡ self.old.starts }
-    {
-        match target {
-            Some(id) => Ok(id),
-            None => {
-                if *self.get(source) == following {
-                    Ok(source)
-                } else {
-                    self.intern(following)
-                }
-            }
-        }
-    }
-
-    /// Caches the transition from `source` over `unit` to `following`, and both states. Returns the
-    /// id of `following`.
-    ///
-    /// - `target` is the id of `following` if it is cached.
-    ///
-    /// If an allocation fails, one of the states may be cached without the transition: the caller
-    /// clears the table.
-    fn add(
-        &mut self,
-        source: Cursor<A>,
-        unit: Option<u8>,
-        following: State<A>,
-        target: Option<LazyStateId>,
-    ) -> Result<LazyStateId, AllocError>
-        requires source { IsCursor self.old.states source }
-        requires target { IsIndex self.old.states following target }
-        ensures id { IfOk result
-            (λ id. slice_get self.new.states id ≡ Some following) }
-        ensures table { OnOk result (table_of self.new ≡ with_transition (table_of self.old)
-            (cursor_value self.old.states source) unit following) }
-        ensures starts { self.new.starts ≡ self.old.starts }
-    {
-        let source = self.intern_source(source)?;
-        let target = self.intern_target(source, following, target)?;
-        self.rows[source.row() + column(unit)] = target.entry();
-        Ok(target)
-    }
-
-    /// Caches a transition as `add` does, and returns the cursor of its target.
-    ///
-    /// If an allocation fails, the table is empty.
+    /// If an allocation fails, the table is unchanged or empty.
     fn insert(
         &mut self,
         source: Cursor<A>,
         unit: Option<u8>,
-        following: State<A>,
-        target: Option<LazyStateId>,
+        target: Cursor<A>,
     ) -> Result<Cursor<A>, AllocError>
         requires source { IsCursor self.old.states source }
-        requires target { IsIndex self.old.states following target }
-        ensures at { IfOk result (λ next. IsAt self.new.states next following) }
-        ensures table { OnOk result (table_of self.new ≡ with_transition (table_of self.old)
-            (cursor_value self.old.states source) unit following) }
-        ensures starts { StartsStay self.old self.new }
-        ensures err { OnErr result (table_of self.new ≡ empty) }
+        requires target { IsCursor self.old.states target }
+        ensures { IsKept self.old (with_transition (table_of self.old)
+            (cursor_value self.old.states source) unit (cursor_value self.old.states target))
+            (cursor_value self.old.states target) result self.new }
     {
-        match self.add(source, unit, following, target) {
-            Ok(id) => Ok(Cursor::Cached(id)),
+        let source = self.intern(source)?;
+        match self.intern(target) {
+            Ok(target) => {
+                self.rows[source.row() + column(unit)] = target.entry();
+                Ok(Cursor::Cached(target))
+            }
             Err(failed) => {
                 self.clear();
                 Err(failed)
@@ -373,40 +289,47 @@ impl<A: Allocator + Copy> TransitionTable<A> {
         limit: usize,
     ) -> Result<Cursor<A>, AllocError>
         requires { IsCursor self.old.states source }
-        ensures at { IfOk result (λ next. IsAt self.new.states next following) }
-        ensures table { OnOk result (table_of self.new ≡ keep limit (table_of self.old)
-            (cursor_value self.old.states source) unit following) }
-        ensures starts { StartsStay self.old self.new }
-        ensures failed { OnErr result
-            ((table_of self.new ≡ empty) ⊎ (table_of self.new ≡ table_of self.old)) }
+        ensures { IsKept self.old (keep limit (table_of self.old)
+            (cursor_value self.old.states source) unit following) following result self.new }
     {
-        let target = self.find(&following);
-        if self.fits(&source, &following, &target, limit) {
-            return self.insert(source, unit, following, target);
+        let target = self.cursor_of(following);
+        if self.fits(&source, &target, limit) {
+            return self.insert(source, unit, target);
         }
-        let source = self.into_state(source)?;
+        let source = Cursor::Uncached(self.into_state(source)?);
+        let target = Cursor::Uncached(self.into_state(target)?);
         self.clear();
-        let source = Cursor::Uncached(source);
-        if self.fits(&source, &following, &None, limit) {
-            return self.insert(source, unit, following, None);
+        if self.fits(&source, &target, limit) {
+            return self.insert(source, unit, target);
         }
-        Ok(Cursor::Uncached(following))
+        Ok(target)
     }
 
-    /// Returns whether the cached states with the two of one more transition are at most `limit`.
-    fn fits(
-        &self,
-        source: &Cursor<A>,
-        following: &State<A>,
-        target: &Option<LazyStateId>,
-        limit: usize,
-    ) -> bool
+    /// Returns whether the cached states with the source and the target of one more transition are
+    /// at most `limit`.
+    fn fits(&self, source: &Cursor<A>, target: &Cursor<A>, limit: usize) -> bool
         requires source { IsCursor self.now.states source.now }
-        requires target { IsIndex self.now.states following.now target.now }
+        requires target { IsCursor self.now.states target.now }
         ensures { result ≡ nat_le (length (with_value (with_value self.now.states
-            (cursor_value self.now.states source.now)) following.now)) limit }
+            (cursor_value self.now.states source.now))
+            (cursor_value self.now.states target.now))) limit }
     {
-        self.len_with(source, following, target) <= limit
+        let more = match (source, target) {
+            (Cursor::Cached(_), Cursor::Cached(_)) => 0,
+            (Cursor::Uncached(state), Cursor::Uncached(following)) if state != following => 2,
+            _ => 1,
+        };
+        self.states.len() + more <= limit
+    }
+
+    /// Returns the cursor of a state.
+    fn cursor_of(&self, state: State<A>) -> Cursor<A>
+        ensures { IsAt self.now.states result state }
+    {
+        match self.find(&state) {
+            Some(id) => Cursor::Cached(id),
+            None => Cursor::Uncached(state),
+        }
     }
 
     /// Returns the state at a cursor, as a value that no longer needs the table.

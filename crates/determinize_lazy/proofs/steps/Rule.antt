@@ -1,78 +1,78 @@
 -- What the rule keeps, and what is true of a cache after it.
-use Rattle.determinize_lazy.proofs.Common.{after_step, ap, arith, Cache, cache, cond, count_after, empty, Err, false}
-use Rattle.determinize_lazy.proofs.Common.{fits}
-use Rattle.determinize_lazy.proofs.Common.{Grows, IfOk, inl, inr, is_cached, IsAccepted, IsFailedStep, IsLazy, IsSound}
-use Rattle.determinize_lazy.proofs.Common.{IsTable}
-use Rattle.determinize_lazy.proofs.Common.{keep, LazyValue, length, MatchKind, nat_le, Nfa, Ok, OnErr, OnOk, Option}
-use Rattle.determinize_lazy.proofs.Common.{refl, Result}
-use Rattle.determinize_lazy.proofs.Common.{same, slice_get, slice_set, Some, start_index, start_value, StartsStay}
-use Rattle.determinize_lazy.proofs.Common.{step_of, StoredTable, subst, sym, Table, table_of, true, Value}
-use Rattle.determinize_lazy.proofs.Common.{with_transition, ℕ, ◌∙◌, ◌≡◌, ◌≤◌, ◌⊎◌}
+use Rattle.determinize_lazy.proofs.Common.{ap, arith, by_cases, by_test, Cache, cache, cond, count_after, empty, Err}
+use Rattle.determinize_lazy.proofs.Common.{false, fits, Grows, IfOk, inr, is_cached, IsAccepted, IsKept, IsLazy}
+use Rattle.determinize_lazy.proofs.Common.{IsSound, IsStepped, IsTable, keep, LazyValue, length, MatchKind, nat_le, Nfa}
+use Rattle.determinize_lazy.proofs.Common.{Ok, on_err_weaker, on_ok_weaker, OnErr, OnOk, Option, refl, Result, step_of}
+use Rattle.determinize_lazy.proofs.Common.{StoredTable, subst, Table, table_of, true, Value, with_transition, ℕ, ◌∙◌}
+use Rattle.determinize_lazy.proofs.Common.{◌≡◌, ◌≤◌}
 use Rattle.determinize_core.specs.Step.{step}
-use Rattle.determinize_lazy.proofs.steps.Starts.{starts-set, starts-stay}
+use Rattle.determinize_core.proofs.step.Resolving.{step_resolves}
+use Rattle.determinize_lazy.specs.declared.table.Cursor.{Cursor}
+use Rattle.determinize_lazy.proofs.steps.Starts.{starts-stay}
 use Rattle.determinize_lazy.proofs.tables.Transitions.{empty-is, with_transition-is}
 
 le_of : (m n : ℕ) → nat_le m n ≡ true → m ≤ n
 le_of m n e = grind arith
 
 -- a table of steps with at most `limit` states
-record IsWithin (f : Value → Option ℕ → Value) (limit : ℕ) (t : Table) : Type 0 where
+record IsTableWithin (f : Value → Option ℕ → Value) (limit : ℕ) (t : Table) : Type 0 where
   steps : IsTable f t
   size : length t.states ≤ limit
 
+empty-within : (f : Value → Option ℕ → Value) (limit : ℕ) → IsTableWithin f limit empty
+empty-within f limit = record { steps = empty-is f; size = omega arith }
+
 -- the rule leaves such a table
 keep-within : (f : Value → Option ℕ → Value) (limit : ℕ) (t : Table) (v w : Value) (u : Option ℕ) → IsTable f t
-    → w ≡ f v u → IsWithin f limit (keep limit t v u w)
-keep-within f limit t v w u is w_is =
-    choose t (cond (fits limit empty v u w) (with_transition empty v u w) empty) is
-    (choose empty empty (empty-is f) record { steps = empty-is f; size = (let e : 0 ≤ limit = omega arith in e) })
+    → w ≡ f v u → IsTableWithin f limit (keep limit t v u w)
+keep-within f limit t v w u is w_is = choose t (cond (fits limit empty v u w) (with_transition empty v u w) empty) is
+    (choose empty empty (empty-is f) (empty-within f limit))
   where
-    choose : (t s : Table) → IsTable f t → IsWithin f limit s
-        → IsWithin f limit (cond (fits limit t v u w) (with_transition t v u w) s)
-    choose t s is h = elim (fits limit t v u w) as (λ b. fits limit t v u w ≡ b
-        → IsWithin f limit (cond b (with_transition t v u w) s)) [
-          | true ↦ λ e. record { steps = with_transition-is f t v w u is w_is; size = le_of _ limit e }
-          | false ↦ λ _. h
-        ] refl
+    choose : (t s : Table) → IsTable f t → IsTableWithin f limit s
+        → IsTableWithin f limit (cond (fits limit t v u w) (with_transition t v u w) s)
+    choose t s is other = by_test (fits limit t v u w)
+        (λ e. rw e record { steps = with_transition-is f t v w u is w_is; size = le_of _ limit e })
+        (λ e. rw e other)
 
-module _ {nfa : Nfa} {kind : MatchKind} {limit count counted : ℕ} {t t' : StoredTable} where
-  -- after a transition was computed
-  pub lazy-kept : {T E : Type 0} {w : Value} (v : Value) (u : Option ℕ) (r : Result T E)
-      → IsLazy nfa kind limit count t → w ≡ step nfa kind v u → counted ≤ 18446744073709551615
-      → OnOk r (table_of t' ≡ keep limit (table_of t) v u w)
-      → OnErr r ((table_of t' ≡ empty) ⊎ (table_of t' ≡ table_of t)) → StartsStay t t'
-      → IsLazy nfa kind limit counted t'
-  lazy-kept {T = T} {E = E} {w = w} v u r is w_is small ok err stay =
-      let within : IsWithin (step nfa kind) limit (table_of t') = by r ok err in record {
-        accepted = is.accepted;
-        small = small;
-        table = within.steps;
-        within = within.size;
-        starts = starts-stay nfa t t' is.starts stay;
-      }
-    where
-      of : {s : Table} → table_of t' ≡ s → IsWithin (step nfa kind) limit s
-          → IsWithin (step nfa kind) limit (table_of t')
-      of e h = subst (λ s. IsWithin (step nfa kind) limit s) (sym e) h
+-- after a transition was computed
+pub lazy-kept : {A E : Type 0} {nfa : Nfa} {kind : MatchKind} {limit count counted : ℕ} {t t' : StoredTable} {w : Value}
+    {r : Result (Cursor A) E} (v : Value) (u : Option ℕ) → IsLazy nfa kind limit count t → w ≡ step nfa kind v u
+    → counted ≤ 18446744073709551615 → IsKept t (keep limit (table_of t) v u w) w r t'
+    → IsLazy nfa kind limit counted t'
+lazy-kept {A} {E} {nfa} {kind} {limit} {t = t} {t' = t'} {w} {r} v u is w_is small kept =
+    let within : IsTableWithin (step nfa kind) limit (table_of t') = by r kept in record {
+      accepted = is.accepted;
+      small = small;
+      table = within.steps;
+      within = within.size;
+      starts = starts-stay nfa t t' is.starts kept.starts;
+    }
+  where
+    by : (r : Result (Cursor A) E) → IsKept t (keep limit (table_of t) v u w) w r t'
+        → IsTableWithin (step nfa kind) limit (table_of t')
+    by (Ok x) kept = rw kept.table (keep-within (step nfa kind) limit (table_of t) v w u is.table w_is)
+    by (Err x) kept = by_cases kept.failed (λ none. rw none (empty-within (step nfa kind) limit))
+        (λ same. rw same record { steps = is.table; size = is.within })
 
-      by : (r : Result T E) → OnOk r (table_of t' ≡ keep limit (table_of t) v u w)
-          → OnErr r ((table_of t' ≡ empty) ⊎ (table_of t' ≡ table_of t)) → IsWithin (step nfa kind) limit (table_of t')
-      by (Ok x) e h = of e (keep-within (step nfa kind) limit (table_of t) v w u is.table w_is)
-      by (Err x) e (inl none) = of none record {
-        steps = empty-is (step nfa kind);
-        size = (let r : 0 ≤ limit = omega arith in r);
-      }
-      by (Err x) e (inr same) = of same record { steps = is.table; size = is.within }
-
--- a cache in which nothing is cached
-pub lazy-none : (nfa : Nfa) (kind : MatchKind) (limit : ℕ) (t : StoredTable) → IsAccepted nfa → table_of t ≡ empty
-    → ((i index : ℕ) → slice_get t.starts i ≡ Some (Some index) → ⊥) → IsLazy nfa kind limit 0 t
-lazy-none nfa kind limit t accepted table_is none = record {
-  accepted = accepted;
-  small = (let e : 0 ≤ 18446744073709551615 = omega arith in e);
-  table = subst (λ x. IsTable (step nfa kind) x) (sym table_is) (empty-is (step nfa kind));
-  within = subst (λ (x : Table). length x.states ≤ limit) (sym table_is) (let e : 0 ≤ limit = omega arith in e);
-  starts = λ start p i index _ kept. absurd (none i index kept);
+-- what is left by a step that is not cached
+pub stepped : {A E : Type 0} (old : LazyValue) {t t' : StoredTable} {v : Value} (u : Option ℕ) {r : Result (Cursor A) E}
+    → IsAccepted old.nfa → old.computed ≤ 18446744073709551615 → is_cached (cache old).table v u ≡ false
+    → table_of t ≡ (cache old).table
+    → IsKept t (keep old.limit (cache old).table v u (step_of (cache old) v u)) (step_of (cache old) v u) r t'
+    → IsStepped old v u r (record old {
+      states = t'.states;
+      rows = t'.rows;
+      computed = count_after old.computed 1;
+    })
+stepped old {v = v} u {r} accepted small absent table_is kept = record {
+  at = kept.at;
+  resolve = step_resolves old.nfa accepted old.kind v u;
+  after = on_ok_weaker r (λ e. rw absent (ap (λ (t : Table). record (cache old) {
+    table = t;
+    computed = count_after old.computed 1;
+  }) e)) kept.table;
+  failed = on_err_weaker r (λ e. record { table = rw table_is at e; counted = inr (rw absent refl) }) kept.failed;
+  grows = record { nfa = refl; kind = refl; limit = refl; computed = grind (arith, small) };
 }
 
 -- what is true of a `Lazy` is true of its cache
@@ -86,46 +86,8 @@ pub lazy-sound : {nfa : Nfa} {kind : MatchKind} {limit count : ℕ} {t : StoredT
       rows = t.rows;
       computed = count;
     } ≡ x → IsSound (cache x)
-lazy-sound is view_is = subst (λ (x : LazyValue). IsSound (cache x)) view_is record {
-  accepted = is.accepted;
-  table = is.table;
-  small = is.small;
-}
-
--- a cache with one more start
-pub lazy-start : {nfa : Nfa} {kind : MatchKind} {limit count : ℕ} {t : StoredTable}
-    {i : ℕ} {v : Value} (start id : ℕ) (p : Option ℕ) → IsLazy nfa kind limit count t
-    → start_index nfa start p ≡ Some i → slice_get t.states id ≡ Some v → v ≡ start_value nfa start p
-    → IsLazy nfa kind limit count (record t { starts = slice_set t.starts i (Some id) })
-lazy-start {nfa} {t = t} {i} {v} start id p is at here v_is = record {
-  accepted = is.accepted;
-  small = is.small;
-  table = is.table;
-  within = is.within;
-  starts = starts-set nfa t start p i id v is.starts at here v_is;
-}
-
--- what a step leaves that is not cached
-pub step-done : {new : Cache} (old : Cache) (v : Value) (u : Option ℕ) → is_cached old.table v u ≡ false
-    → new.nfa ≡ old.nfa
-    → new.kind ≡ old.kind → new.limit ≡ old.limit → new.table ≡ keep old.limit old.table v u (step_of old v u)
-    → new.computed ≡ count_after old.computed 1 → new ≡ after_step old v u
-step-done old v u absent nfa kind limit table counted =
-    (λ i. record { nfa = nfa i; kind = kind i; limit = limit i; table = table i; computed = counted i })
-    ∙ ap (λ b. record old {
-      table = cond b old.table (keep old.limit old.table v u (step_of old v u));
-      computed = cond b old.computed (count_after old.computed 1);
-    }) (sym absent)
-
--- and if it fails
-pub step-failed : {old new : Cache} {v : Value} {u : Option ℕ} → is_cached old.table v u ≡ false
-    → (new.table ≡ empty) ⊎ (new.table ≡ old.table)
-    → (new.computed ≡ old.computed) ⊎ (new.computed ≡ count_after old.computed 1) → IsFailedStep old v u new
-step-failed {old} absent table (inl same) = record { table = table; counted = inl same }
-step-failed {old} absent table (inr one) = record {
-  table = table;
-  counted = inr (one ∙ ap (λ b. cond b old.computed (count_after old.computed 1)) (sym absent));
-}
+lazy-sound is view_is =
+    rw (← view_is) record { accepted = is.accepted; table = is.table; small = is.small }
 
 -- what holds in any case holds of an error
 pub of_err : {T E : Type 0} (r : Result T E) {P : Type 0} → P → OnErr r P
@@ -133,12 +95,11 @@ of_err (Ok x) p = tt
 of_err (Err x) p = p
 
 pub grows-more : {old now new : Cache} → Grows old now → Grows now new → Grows old new
-grows-more {old} {now} {new} g h = record {
+grows-more g h = record {
   nfa = h.nfa ∙ g.nfa;
   kind = h.kind ∙ g.kind;
   limit = h.limit ∙ g.limit;
-  computed = let a : old.computed ≤ now.computed = g.computed in let b : now.computed ≤ new.computed = h.computed in
-      omega (arith, a, b);
+  computed = omega (arith, g.computed, h.computed);
 }
 
 -- what follows from a value holds if there is one

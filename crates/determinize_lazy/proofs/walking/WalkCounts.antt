@@ -2,8 +2,8 @@
 -- Main statements: each_walk_computes_few.
 -- Used by: `walk_count_law`.
 -- Idea: a step computes at most one transition.
-use Rattle.determinize_lazy.proofs.Common.{[], arith, Cache, count_after, is_cached, Option, suc, Value, ℕ, ◌∷◌, ◌≤◌}
-use Rattle.ordered_reach.proofs.Cases.{by_test}
+use Rattle.determinize_lazy.proofs.Common.{[], arith, by_test, Cache, count_after, is_cached, Option, suc, Value, ℕ}
+use Rattle.determinize_lazy.proofs.Common.{◌∷◌, ◌≤◌}
 use Rattle.determinize_lazy.specs.Cache.{after_step, EachWalkComputesFew, step_of}
 
 -- the count grows by at most one, and is at most the greatest number

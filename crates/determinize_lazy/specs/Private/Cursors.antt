@@ -1,5 +1,5 @@
 -- Where a walk or a search is: at a cached state, or at one that is not cached.
-use Rattle.std.specs.Prelude.{◌≡◌, ◌<◌, false, List, length, slice_index_or}
+use Rattle.std.specs.Prelude.{◌≡◌, ◌<◌, false, List, length, slice_index_or, ⊤}
 use Rattle.std.specs.List.{list_any}
 use Rattle.determinize_core.specs.Equality.{same}
 use Rattle.determinize_core.specs.Value.{Value, dead}
@@ -15,6 +15,11 @@ cursor_value states (Uncached state) = state
 abbrev pub IsCursor : {A : Type 0} → List Value → Cursor A → Type 0
 IsCursor states (Cached id) = id < length states
 IsCursor states (Uncached state) = list_any (same state) states ≡ false
+
+-- an id is that of a cached state
+abbrev pub IsWithin : {A : Type 0} → List Value → Cursor A → Type 0
+IsWithin states (Cached id) = id < length states
+IsWithin states (Uncached state) = ⊤
 
 -- the cursor is at this value
 pub record IsAt {A : Type 0} (states : List Value) (cursor : Cursor A) (v : Value) : Type 0 where

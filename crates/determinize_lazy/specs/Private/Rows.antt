@@ -1,13 +1,10 @@
 -- What is true of the rows of a transition table, and what lookups in it return.
-use Rattle.std.specs.Prelude.{◌≡◌, ℕ, ◌+◌, ◌*◌, ◌<◌, Option, Some, None, List, length, slice_get}
-use Rattle.std.specs.Prelude.{slice_index}
-use Rattle.std.specs.List.{list_any}
-use Rattle.determinize_below.specs.Truth.{IsUnit}
-use Rattle.determinize_core.specs.Equality.{same}
+use Rattle.std.specs.Prelude.{◌≡◌, ℕ, ◌+◌, ◌*◌, ◌<◌, Option, Some, None, List, length, slice_get, true}
+use Rattle.std.specs.Prelude.{slice_index, slice_index_or}
 use Rattle.determinize_core.specs.States.{EachApart}
 use Rattle.determinize_core.specs.Value.{Value}
-use Rattle.determinize_lazy.specs.Stored.{entry_at, table_in, target_in}
-use Rattle.determinize_lazy.specs.Table.{Table, with_value}
+use Rattle.determinize_lazy.specs.Stored.{entry_at, is_unit, table_in, target_in}
+use Rattle.determinize_lazy.specs.Table.{Table, empty, with_value}
 use Rattle.determinize_lazy.specs.Private.Tags.{tag_in, tag_of}
 
 -- an entry is the offset of the row of the target, or 1 if the target is unknown: 1 is the offset
@@ -23,10 +20,10 @@ pub record AreRows (states : List Value) (rows : List ℕ)
     (target : Value → Option ℕ → Option Value) : Type 0 where
   pub size : length rows ≡ length states * 258
   pub apart : EachApart states
-  pub entries : (p : ℕ) (v : Value) (u : Option ℕ) → slice_get states p ≡ Some v → IsUnit u
+  pub entries : (p : ℕ) (v : Value) (u : Option ℕ) → slice_get states p ≡ Some v → is_unit u ≡ true
       → Leads states (entry_at rows p u) (target v u)
-  pub others : (v : Value) (u : Option ℕ) → ((p : ℕ) → slice_get states p ≡ Some v → IsUnit u → ⊥)
-      → target v u ≡ None
+  pub others : (v : Value) (u : Option ℕ)
+      → ((p : ℕ) → slice_get states p ≡ Some v → is_unit u ≡ true → ⊥) → target v u ≡ None
   pub tags : (p : ℕ) (v : Value) → slice_get states p ≡ Some v
       → tag_in (slice_index rows (p * 258 + 257)) ≡ tag_of v
 
@@ -43,13 +40,6 @@ IsTarget t v u (Some id) = (t.target v u ≡ slice_get t.states id) × (id < len
 abbrev pub with_state : Table → Value → Table
 with_state t v = record { states = with_value t.states v; target = t.target }
 
--- the index of the target of a transition whose source is there; `None` if it is none of the
--- states, or the source itself
-abbrev pub IsTargetIndex : List Value → ℕ → Value → Option ℕ → Type 0
-IsTargetIndex states source w None =
-    (v : Value) → slice_get states source ≡ Some v → list_any (same w) states ≡ same v w
-IsTargetIndex states source w (Some p) = slice_get states p ≡ Some w
-
 -- what the program's table is seen as: states, their rows, and for each kind of start the index of
 -- the start state
 pub record StoredTable : Type 0 where
@@ -61,8 +51,13 @@ pub record StoredTable : Type 0 where
 abbrev pub table_of : StoredTable → Table
 table_of t = table_in t.states t.rows
 
+-- neither states nor transitions are cached, and no start is kept
+pub record IsEmpty (t : StoredTable) : Type 0 where
+  pub table : table_of t ≡ empty
+  pub starts : (i : ℕ) → slice_index_or t.starts i None ≡ None
+
 -- each kept start was kept before, and is still that of the same state
 abbrev pub StartsStay : StoredTable → StoredTable → Type 0
-StartsStay old new = (i index : ℕ) → slice_get new.starts i ≡ Some (Some index)
-    → (slice_get old.starts i ≡ Some (Some index))
+StartsStay old new = (i index : ℕ) → slice_index_or new.starts i None ≡ Some index
+    → (slice_index_or old.starts i None ≡ Some index)
     × ((v : Value) → slice_get old.states index ≡ Some v → slice_get new.states index ≡ Some v)

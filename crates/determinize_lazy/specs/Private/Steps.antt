@@ -1,8 +1,10 @@
 -- One step of a walk or a search over a cache.
-use Rattle.std.specs.Prelude.{◌≡◌, ℕ, ◌≤◌, ◌⊎◌, Option}
-use Rattle.determinize_below.specs.Nfa.{IsAccepted}
+use Rattle.std.specs.Prelude.{◌≡◌, ℕ, ◌≤◌, ◌⊎◌, IfOk, OnErr, OnOk, Option, Result}
+use Rattle.determinize_below.specs.Nfa.{AllResolve, IsAccepted}
 use Rattle.determinize_core.specs.Value.{Value}
-use Rattle.determinize_lazy.specs.Cache.{Cache, after_step, step_of}
+use Rattle.determinize_lazy.specs.Cache.{Cache, Grows, LazyValue, after_step, cache, step_of}
+use Rattle.determinize_lazy.specs.Private.Cursors.{IsAt}
+use Rattle.determinize_lazy.specs.declared.table.Cursor.{Cursor}
 use Rattle.determinize_lazy.specs.Table.{IsTable, empty}
 
 -- what a step leaves if it fails: the table as it was, or nothing is cached; and the count as it
@@ -17,3 +19,20 @@ pub record IsSound (c : Cache) : Type 0 where
   pub accepted : IsAccepted c.nfa
   pub table : IsTable (step_of c) c.table
   pub small : c.computed ≤ 18446744073709551615
+
+-- what the search of a start state leaves and returns: its cursor, and the cache as it was
+pub record IsStarted {A E : Type 0} (old : LazyValue) (v : Value) (result : Result (Cursor A) E)
+    (new : LazyValue) : Type 0 where
+  pub at : IfOk result (λ cursor. IsAt old.states cursor v)
+  pub resolve : OnOk result (AllResolve old.nfa v.states)
+  pub sound : IsSound (cache old)
+  pub unchanged : new ≡ old
+
+-- what a step from a value over a unit leaves and returns: the cursor of the value that follows
+pub record IsStepped {A E : Type 0} (old : LazyValue) (v : Value) (u : Option ℕ)
+    (result : Result (Cursor A) E) (new : LazyValue) : Type 0 where
+  pub at : IfOk result (λ next. IsAt new.states next (step_of (cache old) v u))
+  pub resolve : AllResolve old.nfa (step_of (cache old) v u).states
+  pub after : OnOk result (cache new ≡ after_step (cache old) v u)
+  pub failed : OnErr result (IsFailedStep (cache old) v u (cache new))
+  pub grows : Grows (cache old) (cache new)

@@ -1,6 +1,7 @@
-use Rattle.determinize_lazy.proofs.Common.{AllResolve, cache, IsSound, start_value}
+use Rattle.determinize_lazy.proofs.Common.{AllResolve, cache, IsSound, start_value, sym}
 use Rattle.determinize_core.proofs.step.Resolving.{start_resolves}
 use Rattle.determinize_lazy.proofs.steps.Rule.{lazy-sound}
+use Rattle.determinize_lazy.proofs.steps.Starts.{start_is}
 use Rattle.determinize_lazy.proofs.lazy.Lazy.kept_start.Given.{Over}
 use Rattle.determinize_lazy.proofs.lazy.Lazy.kept_start.Goals.{After-start_index}
 use Rattle.determinize_lazy.proofs.lazy.Lazy.kept_start.Goals as goal
@@ -18,8 +19,10 @@ returns-in_err-index-clause-resolve g c = resolves g (goal.at.returns-in_err-ind
 pub returns-in_err-index-clause-sound : goal.returns-in_err-index-clause-sound
 returns-in_err-index-clause-sound g c = is_sound g (goal.at.returns-in_err-index-clause-sound g c).After-start_index
 
-pub returns-clause-resolve : goal.returns-clause-resolve
-returns-clause-resolve g c = resolves g (goal.at.returns-clause-resolve g c).After-start_index
-
-pub returns-clause-sound : goal.returns-clause-sound
-returns-clause-sound g c = is_sound g (goal.at.returns-clause-sound g c).After-start_index
+pub returns : goal.returns
+returns g c = record {
+  at = rw (← c.self.view_is) (start_is c.self.inside.stepper.nfa c.self.inside.table c.args.start c.args.look_behind
+      c.self.invariant.starts (rw c.nfa.ensures at (sym c.in_ok-index.ensures.value)) c.start.result c.start.ensures);
+  resolve = resolves g (goal.at.returns g c).After-start_index;
+  sound = is_sound g (goal.at.returns g c).After-start_index;
+}

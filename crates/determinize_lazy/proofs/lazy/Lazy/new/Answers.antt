@@ -1,10 +1,16 @@
-use Rattle.determinize_lazy.proofs.Common.{IsLazy, subst, sym}
-use Rattle.determinize_core.specs.Stepper.{StepperValue}
-use Rattle.determinize_lazy.proofs.steps.Rule.{lazy-none}
+use Rattle.determinize_lazy.proofs.Common.{[], ap, arith, sym, Table, ◌∙◌, ◌≡◌}
+use Rattle.determinize_core.proofs.states.Places.{not_none}
+use Rattle.determinize_core.specs.Step.{step}
+use Rattle.determinize_lazy.proofs.tables.Transitions.{empty-is}
 use Rattle.determinize_lazy.proofs.lazy.Lazy.new.Goals as goal
 
 pub invariant_of-result : goal.invariant_of-result
 invariant_of-result g c =
-    subst (λ (s : StepperValue). IsLazy s.nfa s.kind c.args.limit 0 c.new-2.result) (sym c.new.ensures)
-    (lazy-none c.args.nfa.now c.args.match_kind c.args.limit c.new-2.result c.len.ensures.accepted
-    c.new-2.ensures.table c.new-2.ensures.starts)
+    let states : c.new-2.result.states ≡ [] = ap (λ (t : Table). t.states) c.new-2.ensures.table in
+    rw c.new.ensures record {
+      accepted = c.len.ensures.accepted;
+      table = rw c.new-2.ensures.table (empty-is (step c.args.nfa.now c.args.match_kind));
+      small = omega arith;
+      within = rw states (omega arith);
+      starts = λ i id v kept is. not_none (sym kept ∙ c.new-2.ensures.starts i);
+    }

@@ -1,4 +1,5 @@
-use Rattle.determinize_lazy.proofs.Common.{[], ap, future, refl, take_all, units, Value, ◌++◌, ◌∙◌, ◌∷◌}
+use Rattle.determinize_lazy.proofs.Common.{[], ap, cursor_value, future, refl, rules, take_all, units, Value, ◌++◌, ◌∙◌}
+use Rattle.determinize_lazy.proofs.Common.{◌∷◌, ◌≡◌}
 use Rattle.determinize_core.proofs.finding.Texts.{all_read}
 use Rattle.determinize_lazy.proofs.steps.Rule.{grows-more, of_err}
 use Rattle.determinize_lazy.proofs.walking.CachedWalks.{cut_off-here, cut_off-none, cut_off-step, future-more}
@@ -22,8 +23,8 @@ pub returns-in_err-cursor-2-clause-failed : goal.returns-in_err-cursor-2-clause-
 returns-in_err-cursor-2-clause-failed g c =
     of_err _ (cut_off-step c.loop-read.invariant.reached c.unit-unit.ensures c.in_err-cursor-2.ensures.failed)
 
-pub returns-in_err-state_at-clause-failed : goal.returns-in_err-state_at-clause-failed
-returns-in_err-state_at-clause-failed g c =
+pub returns-in_err-clone-clause-failed : goal.returns-in_err-clone-clause-failed
+returns-in_err-clone-clause-failed g c =
     of_err _ (cut_off-here (reached-push c.loop-read.invariant.reached c.unit-unit.ensures
     c.in_ok-cursor-2.ensures.at.value c.in_ok-cursor-2.ensures.after))
 
@@ -35,11 +36,12 @@ returns-in_err-push-2-clause-failed g c =
 pub loop-read-preserved : goal.loop-read-preserved
 loop-read-preserved g c =
     let value = c.in_ok-cursor-2.ensures.at.value in
+    let state_is : c.in_ok-clone.field-0 ≡ cursor_value c.step.new.self.states c.in_ok-cursor-2.cursor =
+    search rules in
     record {
       values = future-more c.loop-read.invariant.reached c.unit-unit.ensures value c.in_ok-cursor-2.ensures.after
           c.loop-read.invariant.values
-          (c.in_ok-push-2.ensures.items ∙ ap (λ (v : Value). c.loop-read.states.items ++ v ∷ [])
-          c.in_ok-state_at.ensures);
+          (c.in_ok-push-2.ensures.items ∙ ap (λ (v : Value). c.loop-read.states.items ++ v ∷ []) state_is);
       reached = reached-push c.loop-read.invariant.reached c.unit-unit.ensures value c.in_ok-cursor-2.ensures.after;
       cursor = c.in_ok-cursor-2.ensures.at.cursor_is;
       grows = grows-more c.loop-read.invariant.grows c.in_ok-cursor-2.ensures.grows;

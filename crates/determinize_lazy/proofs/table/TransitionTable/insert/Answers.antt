@@ -1,16 +1,15 @@
-use Rattle.determinize_lazy.proofs.Common.{ap, cursor_value, Table}
-use Rattle.determinize_lazy.proofs.steps.Cursors.{at_id}
-use Rattle.determinize_lazy.proofs.steps.Starts.{stay-none, stay-with}
+use Rattle.determinize_lazy.proofs.tables.Changes.{linked, stays_at}
 use Rattle.determinize_lazy.proofs.table.TransitionTable.insert.Goals as goal
 
-pub returns-in-Ok-clause-at : goal.returns-in-Ok-clause-at
-returns-in-Ok-clause-at g c = at_id c.add.new.self.states c.in-Ok.id c.args.following c.in-Ok.ensures.id
+pub invariant_of-self : goal.invariant_of-self
+invariant_of-self g c = rw (c.row.ensures, c.column.ensures.value, c.entry.ensures)
+    (linked c.in_ok-source.ensures c.args.unit (rw (← c.self.view_is) at c.in-Ok.ensures) c.self.invariant
+    c.column.ensures.is_unit).0
 
-pub returns-in-Ok-clause-starts : goal.returns-in-Ok-clause-starts
-returns-in-Ok-clause-starts g c =
-    stay-with c.args.self.now c.add.new.self
-    (cursor_value c.args.self.now.states c.args.source) c.args.following c.add.ensures.starts
-    (ap (λ (t : Table). t.states) c.in-Ok.ensures.table)
-
-pub returns-in-Err-clause-starts : goal.returns-in-Err-clause-starts
-returns-in-Err-clause-starts g c = stay-none c.args.self.now c.clear.new.self c.clear.ensures.starts
+pub returns-in-Ok : goal.returns-in-Ok
+returns-in-Ok g c = rw (c.row.ensures, c.column.ensures.value, c.entry.ensures)
+    ((linked c.in_ok-source.ensures c.args.unit (rw (
+      ← c.self.view_is,
+      stays_at c.in_ok-source.ensures c.args.target
+          c.requires.target,
+    ) at c.in-Ok.ensures) c.self.invariant c.column.ensures.is_unit).1 _)
