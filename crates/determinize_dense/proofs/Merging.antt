@@ -14,7 +14,8 @@ use Rattle.determinize_dense.proofs.Least.{has_rows, row_after-below, row_after-
 use Rattle.determinize_dense.proofs.Reached.{head_unit, start-number, tail_units}
 use Rattle.determinize_dense.proofs.Splitting.{few_blocks}
 use Rattle.determinize_dense.specs.Least.{IsLeast, IsReachedRow}
-use Rattle.determinize_dense.specs.Private.Minimizing.{AreMergedLists, AreMergedRows, AreMergedStarts, entry, IsGrouping}
+use Rattle.determinize_dense.specs.Private.Minimizing.{AreMergedLists, AreMergedRows, AreMergedStarts, entry}
+use Rattle.determinize_dense.specs.Private.Minimizing.{IsGrouping}
 use Rattle.determinize_dense.specs.Private.Minimizing.{IsMerged, IsPartition, merged_entry}
 use Rattle.determinize_dense.specs.Private.Partition.{Blocks}
 use Rattle.determinize_dense.specs.Private.Rows.{IsStored, offset_of, rows_at}

@@ -74,6 +74,7 @@ module _ (d : Table) where
   pub offset-less : {r s : ℕ} → r < s → offset_of d r < offset_of d s
   offset-less {r} {s} h =
       let columns : ℕ = d.class_count + 1 in
-      let more : (r + 1) * columns ≤ s * columns = mul-le-mul_right columns (let k : r + 1 ≤ s = omega (arith, h) in k) in
+      let next : r + 1 ≤ s = omega (arith, h) in
+      let more : (r + 1) * columns ≤ s * columns = mul-le-mul_right columns next in
       let split : (r + 1) * columns ≡ r * columns + columns = omega arith in
       let room : 0 < columns = some in omega (arith, more, split, room)

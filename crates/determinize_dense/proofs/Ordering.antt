@@ -89,7 +89,8 @@ module _ {ranks numbers members : List ℕ} (rank row : ℕ)
     apart : (b : ℕ) → b < length members → slice_index members b ≡ row → ⊥
     apart b l e =
         let before : turn_of ranks (slice_index members b) < rank * length ranks + row = is.before b l in
-        let turn : turn_of ranks (slice_index members b) ≡ rank * length ranks + row = ap (λ n. turn_of ranks n) e ∙ turn_is in
+        let turn : turn_of ranks (slice_index members b) ≡ rank * length ranks + row =
+        ap (λ n. turn_of ranks n) e ∙ turn_is in
         let no : ⊥ = omega (arith, before, turn) in no
 
     old : (b : ℕ) → b < length members → slice_index more b ≡ slice_index members b
@@ -139,7 +140,8 @@ module _ {ranks numbers members : List ℕ} (rank row : ℕ)
             let i : b < length members = omega (arith, l, c_is) in
             subst (λ n. n < turn_of ranks (slice_index more c)) (ap (λ n. turn_of ranks n) (sym (old b i)))
             (subst (λ n. turn_of ranks (slice_index members b) < n)
-            (sym (ap (λ n. turn_of ranks (slice_index more n)) (sym c_is) ∙ ap (λ n. turn_of ranks n) (get_end 0 members row)
+            (sym (ap (λ n. turn_of ranks (slice_index more n)) (sym c_is)
+            ∙ ap (λ n. turn_of ranks n) (get_end 0 members row)
             ∙ turn_is)) (is.before b i))
       ];
     }
@@ -189,7 +191,8 @@ module _ {ranks numbers members : List ℕ} (is : IsOrdering ranks (4 * length r
         (λ r s h l e. sym (all r h).1 ∙ ap (λ b. slice_index members b) e ∙ (all s l).1) in
         let count : length numbers ≡ length ranks = is.count in omega (arith, upto, more, count);
     back = λ r h. (all r h).1;
-    ascend = λ b c h l. rank_of_turn (slice_index ranks (slice_index members b)) (slice_index ranks (slice_index members c))
+    ascend = λ b c h l. rank_of_turn (slice_index ranks (slice_index members b))
+        (slice_index ranks (slice_index members c))
         (length ranks) (slice_index members b) (slice_index members c) (is.rows c l) (is.ascend b c h l);
   }
 

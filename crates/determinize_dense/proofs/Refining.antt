@@ -8,7 +8,8 @@ use Rattle.std.specs.Prelude.{suc, zero}
 use Rattle.determinize_dense.proofs.Reached.{no_units}
 use Rattle.determinize_dense.proofs.Splitting.{below_or, few_blocks}
 use Rattle.determinize_dense.specs.Least.{AreApart}
-use Rattle.determinize_dense.specs.Private.Minimizing.{AreFirstAlike, AreTargets, entry, IsPartition, IsRefined, IsSettled}
+use Rattle.determinize_dense.specs.Private.Minimizing.{AreFirstAlike, AreTargets, entry, IsPartition, IsRefined}
+use Rattle.determinize_dense.specs.Private.Minimizing.{IsSettled}
 use Rattle.determinize_dense.specs.Private.Minimizing.{IsSplitBy, IsStable}
 use Rattle.determinize_dense.specs.Private.Partition.{AreEqual, AreTogether, Blocks, IsSplit}
 
@@ -50,7 +51,8 @@ apart-entry d is r s c l a =
 
 -- two rows have one first row exactly if they list the same patterns
 same_first : (d : Table) (values : List ℕ) → AreFirstAlike d values → (r s : ℕ) → r < length values → s < length values
-    → (AreEqual values r s → patterns_at d r ≡ patterns_at d s) × (patterns_at d r ≡ patterns_at d s → AreEqual values r s)
+    → (AreEqual values r s → patterns_at d r ≡ patterns_at d s)
+    × (patterns_at d r ≡ patterns_at d s → AreEqual values r s)
 same_first d values are r s h l = (
   λ e. sym (are.firsts r h).same ∙ ap (λ n. patterns_at d n) e ∙ (are.firsts s l).same,
   λ e.
@@ -104,8 +106,10 @@ partition-split d is p q c values inside part targets split = record {
               let same : AreTogether p r s = grind (arith, e) in
               apart-entry d is r s c inside (part.apart (entry d r c) (entry d s c)
               (entry-below d is r c h inside) (entry-below d is s c l inside)
-              (λ together. other ((split.together r s (number r h) (number s l)).1 (same, values_are r s h l together))))
-          | false ↦ λ e. part.apart r s h l (λ same. not_equal (slice_index p.numbers r) (slice_index p.numbers s) e same)
+              (λ together. other ((split.together r s (number r h) (number s l)).1
+              (same, values_are r s h l together))))
+          | false ↦ λ e. part.apart r s h l
+              (λ same. not_equal (slice_index p.numbers r) (slice_index p.numbers s) e same)
         ] refl;
   };
   more = split.more;

@@ -208,7 +208,8 @@ module _ {d : DfaValue} {anchored : Bool} {text : Text} {read row matched end : 
       ∙ ap (λ ps. option_or (ended_at (length (take read (units text))) ps)
       (last_of d anchored text (take read (units text))))
       (sym (is.tells anchored text.behind (take read (units text) ++ u ∷ []) there.behind there.units))
-      ∙ ap (λ n. option_or (ended_at n (patterns_at d.table now)) (last_of d anchored text (take read (units text)))) count
+      ∙ ap (λ n. option_or (ended_at n (patterns_at d.table now)) (last_of d anchored text (take read (units text))))
+      count
 
   -- a row more that lists none
   keeps : patterns_at d.table now ≡ [] → IsSearched d anchored text (read + 1) next matched end
@@ -216,7 +217,8 @@ module _ {d : DfaValue} {anchored : Bool} {text : Text} {read row matched end : 
     at = subst (λ us. IsRowFrom d anchored text.behind us next) (sym taken) there;
     listing = s.listing;
     so_far = subst (λ m. IsMatch d.table matched end m)
-        (sym (last_is ∙ ap (λ ps. option_or (ended_at read ps) (last_of d anchored text (take read (units text)))) none))
+        (sym (last_is
+        ∙ ap (λ ps. option_or (ended_at read ps) (last_of d anchored text (take read (units text)))) none))
         s.so_far;
   }
 

@@ -36,7 +36,8 @@ dead-stays nfa kind (u ∷ us) = ap (λ v. value_after nfa kind v us) (dead_stay
 -- other classes of the same bytes
 classes-as : {nfa : Nfa} {p q : Classes} → q.of_bytes ≡ p.of_bytes → AreClassesOf nfa p → AreClassesOf nfa q
 classes-as e are = record {
-  alike = λ b c h l same. are.alike b c h l (ap (λ bs. slice_index bs b) (sym e) ∙ same ∙ ap (λ bs. slice_index bs c) e);
+  alike = λ b c h l same. are.alike b c h l
+      (ap (λ bs. slice_index bs b) (sym e) ∙ same ∙ ap (λ bs. slice_index bs c) e);
   coarsest = λ b c h l alike. ap (λ bs. slice_index bs b) e ∙ are.coarsest b c h l alike
       ∙ ap (λ bs. slice_index bs c) (sym e);
 }

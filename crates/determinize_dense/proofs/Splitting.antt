@@ -279,7 +279,8 @@ module _ {p : Blocks} {values : List ℕ} (are : AreBlocks p) where
 
     own : (b : ℕ) → b < length members → slice_index numbers (slice_index members b) ≡ b
     own b h =
-        let r : slice_index members b < length numbers = subst (λ n. slice_index members b < n) (sym all) (s.rows b h) in
+        let r : slice_index members b < length numbers =
+        subst (λ n. slice_index members b < n) (sym all) (s.rows b h) in
         one_pair (slice_index numbers (slice_index members b)) b (s.within (slice_index members b) r) h
         (s.pairs (slice_index members b) r)
 
@@ -315,7 +316,8 @@ module _ {p : Blocks} {values : List ℕ} (are : AreBlocks p) where
           ap (λ ns. blocks_of ns members)
           (same_number_lists numbers p.numbers all (λ r h.
           let b : slice_index numbers r < length p.members = subst (λ n. slice_index numbers r < n) e (s.within r h) in
-          sym (are.own (slice_index numbers r) b) ∙ ap (λ m. slice_index p.numbers m) (sym (s.old (slice_index numbers r) b))
+          sym (are.own (slice_index numbers r) b)
+          ∙ ap (λ m. slice_index p.numbers m) (sym (s.old (slice_index numbers r) b))
           ∙ ap (λ (q : ℕ × ℕ). q.0) (s.pairs r h)))
           ∙ ap (λ ms. blocks_of p.numbers ms)
           (same_number_lists members p.members e (λ b h. s.old b (subst (λ n. b < n) e h)));

@@ -1,4 +1,5 @@
-use Rattle.determinize_core.proofs.Common.{AllResolve, ap, arith, false, length, list_any, rules, same, slice_get, Some, subst}
+use Rattle.determinize_core.proofs.Common.{AllResolve, ap, arith, false, length, list_any, rules, same, slice_get, Some}
+use Rattle.determinize_core.proofs.Common.{subst}
 use Rattle.determinize_core.proofs.Common.{sym, [], ◌++◌, ◌∙◌, ◌∷◌, ◌≡◌, ◌≤◌}
 use Rattle.determinize_dense.proofs.Common.{Building, HasMoreStates, IsBuilding, IsReachedValue, Stays}
 use Rattle.determinize_core.proofs.states.Places.{get_last, same_is}

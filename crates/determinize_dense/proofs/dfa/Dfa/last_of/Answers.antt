@@ -1,4 +1,5 @@
-use Rattle.determinize_core.proofs.Common.{ap, arith, length, refl, slice_get, Some, subst, sym, units, ◌+◌, ◌∙◌, ◌≡◌, ◌≤◌}
+use Rattle.determinize_core.proofs.Common.{ap, arith, length, refl, slice_get, Some, subst, sym, units, ◌+◌, ◌∙◌}
+use Rattle.determinize_core.proofs.Common.{◌≡◌, ◌≤◌}
 use Rattle.determinize_dense.proofs.Common.{DfaValue}
 use Rattle.determinize_core.proofs.finding.Texts.{all_read, unit-last}
 use Rattle.determinize_dense.proofs.Searching.{found-all, searched-dead, searched-none, searched-some}
@@ -6,7 +7,8 @@ use Rattle.determinize_dense.specs.Private.Order.{IsOrdered}
 use Rattle.determinize_dense.specs.Private.Rows.{IsNext}
 use Rattle.determinize_dense.specs.Private.Searching.{IsMatch}
 use Rattle.determinize_dense.proofs.dfa.Dfa.last_of.Given.{Over}
-use Rattle.determinize_dense.proofs.dfa.Dfa.last_of.Goals.{After-row_over-end, then-end-eq0-via-else-end-eq0+then-end-self}
+use Rattle.determinize_dense.proofs.dfa.Dfa.last_of.Goals.{After-row_over-end}
+use Rattle.determinize_dense.proofs.dfa.Dfa.last_of.Goals.{then-end-eq0-via-else-end-eq0+then-end-self}
 use Rattle.determinize_dense.proofs.dfa.Dfa.last_of.Goals.{then-end-eq0-via-then-end-eq0}
 use Rattle.determinize_dense.proofs.dfa.Dfa.last_of.Goals as goal
 

@@ -19,7 +19,8 @@ pub returns-clause-row : goal.returns-clause-row
 returns-clause-row g c =
     let at : After-self g = (goal.at.returns-clause-row g c).After-self in
     let row : c.requires.0 ≡ c.args.offset * c.self.inside.inverse / 4294967296 =
-    sym (ap (λ n. n * c.self.inside.inverse / 4294967296) c.requires.2 ∙ (inverse g at).row c.requires.0 c.requires.1) in (
+    sym (ap (λ n. n * c.self.inside.inverse / 4294967296) c.requires.2
+    ∙ (inverse g at).row c.requires.0 c.requires.1) in (
       subst (λ r. r < length c.args.self.now.table.patterns) row c.requires.1,
       c.requires.2 ∙ ap (λ r. offset_of c.args.self.now.table r) row,
     )

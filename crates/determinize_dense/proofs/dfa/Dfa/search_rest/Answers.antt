@@ -153,7 +153,8 @@ pub returns-then-is_earliest : goal.returns-then-is_earliest
 returns-then-is_earliest g c = λ anchored sound s.
     let at : After-row_over-row g = (goal.at.returns-then-is_earliest g c).After-row_over-row in
     let before = c.loop-read-2.invariant.come.searched anchored sound s in
-    let found : IsMatch c.args.self.now.table c.row_over-row.result c.loop-read-2.read c.match_of-then-is_earliest.result =
+    let found : IsMatch c.args.self.now.table c.row_over-row.result c.loop-read-2.read
+    c.match_of-then-is_earliest.result =
     subst (λ n. IsMatch c.args.self.now.table c.row_over-row.result n c.match_of-then-is_earliest.result)
     (same_end c.loop-read-2.read) c.match_of-then-is_earliest.ensures in
     found-first sound (searched-some sound before (here g at) c.row_over-row.ensures.unit (goes g at) (order g at)

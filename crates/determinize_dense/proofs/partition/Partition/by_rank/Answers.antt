@@ -1,6 +1,7 @@
 use Rattle.determinize_core.proofs.Common.{ap, arith, length, rules, subst, sym, ℕ, ◌*◌, ◌+◌, ◌≡◌, ◌≤◌}
 use Rattle.determinize_dense.specs.Private.Partition.{IsOrdering}
-use Rattle.determinize_dense.proofs.Ordering.{ordering-as, ordering-blocks, ordering-by_rank, ordering-first, ordering-push}
+use Rattle.determinize_dense.proofs.Ordering.{ordering-as, ordering-blocks, ordering-by_rank, ordering-first}
+use Rattle.determinize_dense.proofs.Ordering.{ordering-push}
 use Rattle.determinize_dense.proofs.Ordering.{ordering-skip}
 use Rattle.determinize_dense.proofs.partition.Partition.by_rank.Given.{Over}
 use Rattle.determinize_dense.proofs.partition.Partition.by_rank.Goals.{After-loop-rank, else-ranks-row}
@@ -28,7 +29,8 @@ loop-row-preserved g c = record {
   below = omega (arith, c.loop-row-test.true);
   ordering = elim c.if-ranks-row.branch [
     | then-ranks-row+in_ok-push w ↦ rw w.members-is (rw w.blocks-is (rw w.in_ok-push.ensures.items
-        (rw (let e : w.len.result ≡ length c.loop-row.members.items = search rules in e) (ordering-push c.loop-rank.rank c.loop-row.row c.loop-row.invariant.ordering
+        (rw (let e : w.len.result ≡ length c.loop-row.members.items = search rules in e)
+        (ordering-push c.loop-rank.rank c.loop-row.row c.loop-row.invariant.ordering
         c.loop-row-test.true w.if-ranks-row.true))))
     | else-ranks-row w ↦ rw w.members-is (rw w.blocks-is
         (ordering-skip c.loop-rank.rank c.loop-row.row c.loop-row.invariant.ordering

@@ -37,7 +37,8 @@ invariant_of-result g c =
           c.last_upto-2.ensures.last)
           (ap (λ n. c.last_upto.result * n) columns) (ap (λ n. c.last_upto-2.result * n) columns),
       arranged-inverse c.args.self.now c.in_ok-ranks.ensures (by-rank g (goal.at.invariant_of-result g c).In_ok-order)
-          c.in_ok-merged.ensures dfa.table (subst (λ (x : DfaValue). x.table.class_count + 1 ≤ 257) c.self.view_is c.self.invariant.narrow)
+          c.in_ok-merged.ensures dfa.table
+          (subst (λ (x : DfaValue). x.table.class_count + 1 ≤ 257) c.self.view_is c.self.invariant.narrow)
           (ap (λ n. 4294967296 / n + 1) columns),
     )
 

@@ -26,7 +26,8 @@ list-is g c =
     ∙ sym (get_or-map (λ list. list.items) c.self.inside.patterns.items c.loop-first.first c.index.result.now [] room)
     ∙ ap (λ (x : DfaValue). patterns_at x.table c.loop-first.first) c.self.view_is
 
-own-is : (g : Over) (c : After-eq g) → c.index-in-loop-first.result.now.items ≡ patterns_at c.args.self.now.table c.args.row
+own-is : (g : Over) (c : After-eq g)
+    → c.index-in-loop-first.result.now.items ≡ patterns_at c.args.self.now.table c.args.row
 own-is g c =
     ap (λ list. list.items) c.index-in-loop-first.ensures
     ∙ sym (get_or-map (λ list. list.items) c.self.inside.patterns.items c.args.row c.index-in-loop-first.result.now []

@@ -21,7 +21,8 @@ loop-row-preserved g c =
     c.requires.count ∙ sym (ap (λ (x : DfaValue). length x.table.patterns) c.self.view_is)
     ∙ length-map c.self.inside.patterns.items (λ list. list.items) in
     let copy : c.in_ok-clone.field-0.items ≡ c.index.result.now.items =
-    same_from_all_zip _ c.index.result.now.items c.in_ok-clone.field-0.items c.in_ok-clone.ensures.cases.0 (λ x y e. e) in
+    same_from_all_zip _ c.index.result.now.items c.in_ok-clone.field-0.items c.in_ok-clone.ensures.cases.0
+    (λ x y e. e) in
     let list : c.index.result.now.items ≡ patterns_at c.args.self.now.table row =
     ap (λ list. list.items) c.index.ensures
     ∙ sym (get_or-map (λ list. list.items) c.self.inside.patterns.items row c.index.result.now []

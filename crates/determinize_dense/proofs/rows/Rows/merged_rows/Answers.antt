@@ -49,7 +49,8 @@ loop-column-preserved g c =
           ∙ one_more (c.loop-row.row-index * (c.args.self.now.table.class_count + 1)) c.loop-column.column;
       entries = subst (λ ns. AreMergedEntries c.args.self.now.table c.args.parts.now ns)
           (sym c.in_ok-push.ensures.items)
-          (merged-push c.args.self.now.table c.args.parts.now c.loop-column.next.items (c.block-block.result * c.alphabet_len-columns.result)
+          (merged-push c.args.self.now.table c.args.parts.now c.loop-column.next.items
+          (c.block-block.result * c.alphabet_len-columns.result)
           c.loop-row.row-index c.loop-column.column c.loop-column.invariant.entries c.loop-column.invariant.size inside
           (ap (λ n. n * c.alphabet_len-columns.result) (c.block-block.ensures.value
           ∙ ap (λ n. slice_index c.args.parts.now.numbers n) (c.entry.ensures.value

@@ -25,7 +25,8 @@ loop-parts-init g c =
       partition = partition-first c.args.self.now.table c.in_ok-whole.whole c.in_ok-parts.parts
           c.in_ok-first_rows.first_rows.items whole
           (ap length whole ∙ length-replicate (length c.args.self.now.table.patterns) 0) c.in_ok-first_rows.ensures
-          (subst (λ vs. IsSplit vs c.in_ok-whole.whole c.in_ok-parts.parts) c.as_slice.ensures.value c.in_ok-parts.ensures);
+          (subst (λ vs. IsSplit vs c.in_ok-whole.whole c.in_ok-parts.parts) c.as_slice.ensures.value
+          c.in_ok-parts.ensures);
     }
 
 pub loop-parts-smaller : goal.loop-parts-smaller
