@@ -29,8 +29,7 @@ use Rattle.std.proofs.lemmas.List.FromFn.{get_or-map-range_with_len, length-map-
 use Rattle.ordered_reach.proofs.runs.CutLists as levels
 
 nonempty_member : (xs : List ℕ) (s : ℕ) → member nat_eq xs s ≡ true → is_nonempty xs ≡ true
-nonempty_member [] s m = m
-nonempty_member (x ∷ xs) s m = refl
+nonempty_member xs s m = grind arith
 
 -- captures do not change the targets of what is read of a list
 targets-without : (nfa : Nfa) (kind : MatchKind) (u : Option ℕ) (xs : List ℕ)
@@ -52,8 +51,7 @@ recorded_by nfa LeftmostFirst s text k =
 recorded_by-zero : (nfa : Nfa) (kind : MatchKind) (s : ℕ) (text : Text)
     → recorded_by nfa kind s text 0 ≡ without (is_capture nfa)
     (listing nfa (length text.bytes) (known nfa text.behind) (s ∷ []))
-recorded_by-zero nfa All s text = refl
-recorded_by-zero nfa LeftmostFirst s text = refl
+recorded_by-zero nfa kind s text = grind arith
 
 -- the search redone at a position
 abbrev pub redone_by : Nfa → MatchKind → ℕ → Text → ℕ → List ℕ
@@ -64,8 +62,7 @@ recorded_by-suc : (nfa : Nfa) (kind : MatchKind) (s : ℕ) (text : Text) (k : �
     → recorded_by nfa kind s text (suc k)
     ≡ without (is_capture nfa) (listing nfa (length text.bytes) (known nfa (slice_get text.bytes k))
     (flat_map (byte_edges nfa text k) (part_read kind (is_match nfa) (redone_by nfa kind s text k))))
-recorded_by-suc nfa All s text k = refl
-recorded_by-suc nfa LeftmostFirst s text k = refl
+recorded_by-suc nfa kind s text k = grind arith
 
 -- the closure under a set that has, of the assertions of the NFA, those that are known
 recorded_entered : (nfa : Nfa) (accepted : IsAccepted nfa) (m : ℕ) (b : Option ℕ) (w h : Bool) (have : ℕ)
