@@ -52,8 +52,7 @@ module _ (nfa : Nfa) (kind : MatchKind) where
   tail v (u ∷ us) = future nfa kind (step nfa kind v u) us
 
   pub future_is : (v : Value) (us : List (Option ℕ)) → future nfa kind v us ≡ v ∷ tail v us
-  future_is v [] = refl
-  future_is v (u ∷ us) = refl
+  future_is v us = grind arith
 
   pub length-tail : (v : Value) (us : List (Option ℕ)) → length (tail v us) ≡ length us
   length-tail v [] = refl
