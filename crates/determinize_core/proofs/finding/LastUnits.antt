@@ -48,8 +48,7 @@ module _ (nfa : Nfa) (kind : MatchKind) where
       (λ m e. let h = rw e at (last_ended-within (suc n) vs) in rw e (omega (arith, h)))
     where
       here : (ps : List ℕ) → IfSome (ended_at n ps) (λ m. m.offset < n + suc (length vs))
-      here [] = tt
-      here (p ∷ ps) = omega arith
+      here ps = grind arith
 
   pub last_match-within : (v : Value) (us : List (Option ℕ))
       → IfSome (last_match (future nfa kind v us)) (λ m. m.offset < length us)

@@ -1,8 +1,7 @@
 -- The units of a text, and the text that an input asks for.
-use Rattle.determinize_core.proofs.Common.{[], ap, arith, Bool, false, get_or, in_order, length, length-append}
-use Rattle.determinize_core.proofs.Common.{length-map, length-reverse, List, map, refl, slice_get, slice_get-get_or}
-use Rattle.determinize_core.proofs.Common.{slice_get-map, Some, Text, true, units, ℕ, ◌++◌, ◌+◌, ◌<◌, ◌∙◌, ◌∷◌, ◌≡◌}
-use Rattle.determinize_core.proofs.Common.{◌≤◌}
+use Rattle.determinize_core.proofs.Common.{[], ap, arith, get_or, length, length-append, length-map, List, map}
+use Rattle.determinize_core.proofs.Common.{slice_get, slice_get-get_or, slice_get-map, Some, Text, units, ℕ, ◌++◌, ◌+◌}
+use Rattle.determinize_core.proofs.Common.{◌<◌, ◌∙◌, ◌∷◌, ◌≡◌, ◌≤◌}
 use Rattle.determinize_core.proofs.walk.UnitLists.{units_are}
 use Rattle.determinize_core.proofs.states.Places.{get_last, get_more}
 
@@ -31,8 +30,3 @@ module _ (text : Text) where
   all_read h is =
       let count : length (units text) ≡ length text.bytes + 1 = ap length units_listed ∙ simp (length-append, length-map) in
       omega (arith, h, is)
-
--- the bytes in either order are as many
-pub length-in_order : (is_backward : Bool) (bytes : List ℕ) → length (in_order is_backward bytes) ≡ length bytes
-length-in_order false bytes = refl
-length-in_order true bytes = length-reverse bytes

@@ -2,10 +2,10 @@
 -- Main statements: last_ended-more, last_match-push, each_last_unit_unrolls.
 -- Used by: `last_match`, and searches.
 -- Idea: one more value replaces the last match if it lists a pattern.
-use Rattle.determinize_core.proofs.Common.{[], ap, arith, cond, ended_at, false≢true, future, get_or, is_nonempty}
-use Rattle.determinize_core.proofs.Common.{last_ended, last_match, length, List, MatchKind, Nfa, Option, option_or}
-use Rattle.determinize_core.proofs.Common.{refl, Some, step, suc, sym, take, take_more, true, Value, value_after, ℕ}
-use Rattle.determinize_core.proofs.Common.{◌++◌, ◌+◌, ◌<◌, ◌∷◌, ◌≡◌}
+use Rattle.determinize_core.proofs.Common.{[], ap, arith, cond, ended_at, future, get_or, is_nonempty, last_ended}
+use Rattle.determinize_core.proofs.Common.{last_match, length, List, MatchKind, Nfa, Option, option_or, refl, Some}
+use Rattle.determinize_core.proofs.Common.{step, suc, sym, take, take_more, true, Value, value_after, ℕ, ◌++◌, ◌+◌, ◌<◌}
+use Rattle.determinize_core.proofs.Common.{◌∷◌, ◌≡◌}
 use Rattle.ordered_reach.proofs.lists.Pieces.{map-option_or, option_or-assoc, option_or-None}
 use Rattle.std.proofs.Math.Nat.{add-zero}
 use Rattle.std.specs.Prelude.{option_map, slice_index}
@@ -31,18 +31,15 @@ last_ended-more vs i v l e =
   where
     first : (ps : List ℕ) → option_or (ended_at i ps) (last_ended 0 (take i vs))
         ≡ cond (is_nonempty ps) (Some record { pattern = slice_index ps 0; offset = i }) (last_ended 0 (take i vs))
-    first [] = refl
-    first (p ∷ ps) = refl
+    first ps = grind arith
 
 -- a list that is not empty has a first item
 pub first_listed : (xs : List ℕ) → is_nonempty xs ≡ true → 0 < length xs
-first_listed [] e = absurd (false≢true e)
-first_listed (x ∷ xs) e = omega arith
+first_listed xs e = grind arith
 
 -- a match, one position later
 ended_at-later : (n : ℕ) (ps : List ℕ) → ended_at (suc n) ps ≡ option_map one_later (ended_at n ps)
-ended_at-later n [] = refl
-ended_at-later n (p ∷ ps) = refl
+ended_at-later n ps = grind arith
 
 last_ended-later : (n : ℕ) (vs : List Value) → last_ended (suc n) vs ≡ option_map one_later (last_ended n vs)
 last_ended-later n [] = refl
@@ -55,8 +52,7 @@ module _ (nfa : Nfa) (kind : MatchKind) where
   tail v (u ∷ us) = future nfa kind (step nfa kind v u) us
 
   pub future_is : (v : Value) (us : List (Option ℕ)) → future nfa kind v us ≡ v ∷ tail v us
-  future_is v [] = refl
-  future_is v (u ∷ us) = refl
+  future_is v us = grind arith
 
   pub length-tail : (v : Value) (us : List (Option ℕ)) → length (tail v us) ≡ length us
   length-tail v [] = refl

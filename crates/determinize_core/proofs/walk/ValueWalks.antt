@@ -2,7 +2,7 @@
 -- Main statements: ListsAll, FindsLeftmost, all_listed, leftmost_listed.
 -- Used by: WalkOfRuns, Farthest.
 -- Idea: the list at an index is that of the value at the index.
-use Rattle.determinize_core.proofs.Common.{[], Accepts, Contains, IsLeftmostWalk, IsPreferredMatch, IsWalkOfAll}
+use Rattle.determinize_core.proofs.Common.{[], Accepts, arith, Contains, IsLeftmostWalk, IsPreferredMatch, IsWalkOfAll}
 use Rattle.determinize_core.proofs.Common.{last_match, length, List, lists_of, ListsAccepted, Nfa, None, refl}
 use Rattle.determinize_core.proofs.Common.{slice_get, slice_get-map, Some, some_injective, suc, Text, Value, zero, ℕ}
 use Rattle.determinize_core.proofs.Common.{◌+◌, ◌∙◌, ◌∷◌, ◌≡◌}
@@ -33,8 +33,7 @@ pub list_of : (values : List Value) (i : ℕ) (v : Value) → slice_get values i
 list_of values i v e = rw (slice_get-map, e)
 
 pub last_is : (values : List Value) → last_match values ≡ last_listed 0 (drop 1 (lists_of values))
-last_is [] = refl
-last_is (v ∷ vs) = refl
+last_is values = grind arith
 
 module _ (nfa : Nfa) (start : ℕ) (text : Text) (values : List Value) where
   pub all_listed : ListsAll nfa start text values → IsWalkOfAll nfa start text (lists_of values)

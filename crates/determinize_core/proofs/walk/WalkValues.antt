@@ -3,19 +3,19 @@
 -- Used by: WalkOfRuns.
 -- Idea: induction over the positions, with WorkingLists for one step.
 use Rattle.determinize_core.proofs.Common.{[], add-one, after_at, All, ap, arith, before_at, begun, Bool, byte_edges}
-use Rattle.determinize_core.proofs.Common.{chain, false, flat_map, future, get_or, get_or_from_slice_get, is_capture}
-use Rattle.determinize_core.proofs.Common.{is_match, is_nonempty, IsAccepted, IsTested, known_edges, LeftmostFirst}
-use Rattle.determinize_core.proofs.Common.{length, List, map, MatchKind, member, nat_eq, nat_tests, Nfa, None, not}
-use Rattle.determinize_core.proofs.Common.{Option, part_read, patterns_of, patterns_read, range_with_len, recorded}
-use Rattle.determinize_core.proofs.Common.{refl, same_decides, slice_get, slice_get-get_or, slice_get_past}
-use Rattle.determinize_core.proofs.Common.{slice_get_within, Some, start_value, step, suc, sym, tables_of, target, Text}
-use Rattle.determinize_core.proofs.Common.{true, true_edges, truth, Value, without, working_list, zero, ℕ, ◌+◌, ◌<◌}
-use Rattle.determinize_core.proofs.Common.{◌∙◌, ◌∷◌, ◌≡◌, ◌≤◌}
+use Rattle.determinize_core.proofs.Common.{chain, flat_map, future, get_or, get_or_from_slice_get, is_capture, is_match}
+use Rattle.determinize_core.proofs.Common.{is_nonempty, IsAccepted, IsTested, known_edges, LeftmostFirst, length, List}
+use Rattle.determinize_core.proofs.Common.{map, MatchKind, member, nat_eq, nat_tests, Nfa, None, not, Option, part_read}
+use Rattle.determinize_core.proofs.Common.{patterns_of, patterns_read, range_with_len, recorded, refl, same_decides}
+use Rattle.determinize_core.proofs.Common.{slice_get, slice_get-get_or, slice_get_past, slice_get_within, Some}
+use Rattle.determinize_core.proofs.Common.{start_value, step, suc, sym, tables_of, target, Text, true, true_edges}
+use Rattle.determinize_core.proofs.Common.{truth, Value, without, working_list, zero, ℕ, ◌+◌, ◌<◌, ◌∙◌, ◌∷◌, ◌≡◌, ◌≤◌}
 use Rattle.determinize_below.proofs.nfas.SoundNfa.{accepted_sound}
 use Rattle.determinize_below.proofs.nfas.Edges.{edges-same, match-capture, patterns-without, target-capture, target-end}
 use Rattle.determinize_below.proofs.looks.LookSets.{has-empty}
 use Rattle.ordered_reach.proofs.lists.NewNodes.{member-filter}
 use Rattle.ordered_reach.proofs.lists.Pieces.{before-without, flat_map-without, flat_map_none}
+use Rattle.ordered_reach.specs.Runs.{before}
 use Rattle.determinize_below.specs.Edges.{reach}
 use Rattle.determinize_below.specs.Look.{has}
 use Rattle.determinize_below.specs.Reached.{known}
@@ -29,14 +29,15 @@ use Rattle.std.proofs.lemmas.List.FromFn.{get_or-map-range_with_len, length-map-
 use Rattle.ordered_reach.proofs.runs.CutLists as levels
 
 nonempty_member : (xs : List ℕ) (s : ℕ) → member nat_eq xs s ≡ true → is_nonempty xs ≡ true
-nonempty_member [] s m = m
-nonempty_member (x ∷ xs) s m = refl
+nonempty_member xs s m = grind arith
 
--- what is read of a list commutes with leaving captures out
-read-without : (kind : MatchKind) (accepts cap : ℕ → Bool) (xs : List ℕ) → ((x : ℕ) → accepts x ≡ true → cap x ≡ false)
-    → part_read kind accepts (without cap xs) ≡ without cap (part_read kind accepts xs)
-read-without All accepts cap xs h = refl
-read-without LeftmostFirst accepts cap xs h = before-without accepts cap xs h
+-- captures do not change the targets of what is read of a list
+targets-without : (nfa : Nfa) (kind : MatchKind) (u : Option ℕ) (xs : List ℕ)
+    → flat_map (target nfa u) (part_read kind (is_match nfa) (without (is_capture nfa) xs))
+    ≡ flat_map (target nfa u) (part_read kind (is_match nfa) xs)
+targets-without nfa All u xs = flat_map-without (target nfa u) (is_capture nfa) xs (target-capture nfa u)
+targets-without nfa LeftmostFirst u xs = rw (before-without (is_match nfa) (is_capture nfa) xs (match-capture nfa))
+    (flat_map-without (target nfa u) (is_capture nfa) (before (is_match nfa) xs) (target-capture nfa u))
 
 -- what the walk over positions records
 abbrev pub recorded_by : Nfa → MatchKind → ℕ → Text → ℕ → List ℕ
@@ -50,8 +51,7 @@ recorded_by nfa LeftmostFirst s text k =
 recorded_by-zero : (nfa : Nfa) (kind : MatchKind) (s : ℕ) (text : Text)
     → recorded_by nfa kind s text 0 ≡ without (is_capture nfa)
     (listing nfa (length text.bytes) (known nfa text.behind) (s ∷ []))
-recorded_by-zero nfa All s text = refl
-recorded_by-zero nfa LeftmostFirst s text = refl
+recorded_by-zero nfa kind s text = grind arith
 
 -- the search redone at a position
 abbrev pub redone_by : Nfa → MatchKind → ℕ → Text → ℕ → List ℕ
@@ -62,8 +62,7 @@ recorded_by-suc : (nfa : Nfa) (kind : MatchKind) (s : ℕ) (text : Text) (k : �
     → recorded_by nfa kind s text (suc k)
     ≡ without (is_capture nfa) (listing nfa (length text.bytes) (known nfa (slice_get text.bytes k))
     (flat_map (byte_edges nfa text k) (part_read kind (is_match nfa) (redone_by nfa kind s text k))))
-recorded_by-suc nfa All s text k = refl
-recorded_by-suc nfa LeftmostFirst s text k = refl
+recorded_by-suc nfa kind s text k = grind arith
 
 -- the closure under a set that has, of the assertions of the NFA, those that are known
 recorded_entered : (nfa : Nfa) (accepted : IsAccepted nfa) (m : ℕ) (b : Option ℕ) (w h : Bool) (have : ℕ)
@@ -114,12 +113,6 @@ module _ (nfa : Nfa) (kind : MatchKind) (s : ℕ) (text : Text) where
       let at = get_or-map-range_with_len value_at 0 (suc (suc (length text.bytes))) j j v (omega arith) (omega arith) in
       (l, sym at ∙ e)
 
-  targets-without : (k : ℕ) (xs : List ℕ)
-      → flat_map (byte_edges nfa text k) (part_read kind (is_match nfa) (without (is_capture nfa) xs))
-      ≡ flat_map (byte_edges nfa text k) (part_read kind (is_match nfa) xs)
-  targets-without k xs = rw (read-without kind (is_match nfa) (is_capture nfa) xs (match-capture nfa))
-      (flat_map-without (byte_edges nfa text k) (is_capture nfa) _ (target-capture nfa (slice_get text.bytes k)))
-
   -- no state is recorded after EOI
   pub states_last : text.ahead ≡ None → (value_at (suc (length text.bytes))).states ≡ []
   unfolding step reach
@@ -150,8 +143,9 @@ module _ (nfa : Nfa) (kind : MatchKind) (s : ℕ) (text : Text) where
     states_at_is zero l = (entered_at 0 l).states ∙ sym (recorded_by-zero nfa kind s text)
     states_at_is (suc k) l =
         let e = working_at k (omega arith) (states_at_is k (omega arith)) in
-        let read = rw e at (targets-without k (working_list nfa (value_at k) (after_at text k))) in
-        rw ((entered_at (suc k) l).states, recorded_by-suc nfa kind s text k, ← read, targets-without k)
+        let same = targets-without nfa kind (slice_get text.bytes k) in
+        let read = rw e at (same (working_list nfa (value_at k) (after_at text k))) in
+        rw ((entered_at (suc k) l).states, recorded_by-suc nfa kind s text k, ← read, same)
 
     -- the patterns of a value are those of what was reached at the position before its unit
     pub patterns_at_is : (k : ℕ) → k ≤ length text.bytes

@@ -1,10 +1,10 @@
-use Rattle.determinize_core.proofs.Common.{get_or-reverse, length, sym, ◌<◌}
-use Rattle.determinize_core.proofs.finding.Texts.{length-in_order, unit-byte}
+use Rattle.determinize_core.proofs.Common.{get_or-reverse, length-reverse, sym}
+use Rattle.determinize_core.proofs.finding.Texts.{unit-byte}
 use Rattle.determinize_core.proofs.text.Text.byte.Goals as goal
 
 pub returns-then-self : goal.returns-then-self
 returns-then-self c =
-    let l : c.args.index < length c.self.inside.bytes.now = rw (← c.self.view_is, length-in_order) at c.requires in
+    let l = rw (← c.self.view_is, c.if-self.true, length-reverse) at c.requires in
     unit-byte c.args.self.now.bytes c.args.index _ c.requires (rw (← c.self.view_is, c.if-self.true)
     (sym (get_or-reverse c.self.inside.bytes.now c.args.index 0 l)))
 
