@@ -32,7 +32,7 @@ pub read_none : (f : Value → Option ℕ → Value) (earliest : Bool) (v : Valu
 read_none f earliest v [] h = refl
 read_none f earliest v (u ∷ us) h = rw h refl
 
--- a search that goes on twice, or over more units
+-- a search that continues twice, or over more units
 pub goes_twice : {earliest : Bool} {us : List (Option ℕ)} {p q r : Place} → GoesOn earliest us p q
     → GoesOn earliest us q r → GoesOn earliest us p r
 goes_twice g here = g
@@ -59,7 +59,11 @@ next-place p u w_is last_is new_is = rw (w_is, last_is, new_is) refl
 -- a walk that fails after its first step
 cut_off-later : {old : Cache} {v : Value} {u : Option ℕ} {us : List (Option ℕ)} {new : Cache}
     → IsCutOff (after_step old v u) (step_of old v u) us new → IsCutOff old v (u ∷ us) new
-cut_off-later f = record { steps = suc f.steps; table = f.table; counted = rw (add-one (suc f.steps)) (rw (add-one f.steps) at f.counted) }
+cut_off-later f = record {
+  steps = suc f.steps;
+  table = f.table;
+  counted = rw (add-one (suc f.steps)) (rw (add-one f.steps) at f.counted);
+}
 
 -- one unit more
 module _ (earliest : Bool) (us : List (Option ℕ)) (p : Place) (u : Option ℕ) (at : slice_get us p.read ≡ Some u) where
@@ -89,7 +93,7 @@ module _ (earliest : Bool) (us : List (Option ℕ)) (p : Place) (u : Option ℕ)
         seen (q ∷ qs) h = rw (reported-next p.read (q ∷ qs)) refl
     leaves-next (Err e) new f = rw units_left-next (cut_off-later f)
 
--- what a search leaves that goes on
+-- what a search leaves that continues
 pub leaves : {E : Type 0} {earliest : Bool} {us : List (Option ℕ)} {p q : Place} (r : Result (Option HalfMatch) E)
     (new : Cache) → GoesOn earliest us p q → Leaves earliest us q r new → Leaves earliest us p r new
 leaves r new here o = o
@@ -136,7 +140,7 @@ module _ (earliest : Bool) (us : List (Option ℕ)) (p : Place) (stopped : HasSt
       either None last h = h
       either (Some m) last h = refl
 
--- a search that goes on to a place
+-- a search that continues to a place
 module _ {earliest : Bool} {us : List (Option ℕ)} {p q : Place} (g : GoesOn earliest us p q) where
   -- and fails in the next step
   pub fails-at : {u : Option ℕ} {new : Cache} → slice_get us q.read ≡ Some u → is_last earliest q.value ≡ false

@@ -30,8 +30,8 @@ returns-in_err-walker-inside-clause-failed g c = of_err _ (cut_off-whole {us = c
 -- the state after it
 value : (g : Over) (c : In_ok-walker-inside g) → c.in_ok-walker-inside.field-0
     ≡ step c.args.self.now.nfa c.args.self.now.kind c.args.walker.now c.args.unit
-value g c = c.in_ok-walker-inside.ensures ∙ ap (λ (x : LazyValue). cursor_value x.states c.in_ok-next.next) c.self.view_is
-    ∙ c.in_ok-next.ensures.at.value
+value g c = c.in_ok-walker-inside.ensures
+    ∙ ap (λ (x : LazyValue). cursor_value x.states c.in_ok-next.next) c.self.view_is ∙ c.in_ok-next.ensures.at.value
     ∙ ap (λ v. step_of (cache c.args.self.now) v c.args.unit) (c.in_ok-cursor.ensures.at.value ∙ c.walker.view_is)
 
 pub returns-clause-value : goal.returns-clause-value
