@@ -5,7 +5,7 @@ pub use Rattle.std.proofs.Common.{get_or-set_same, inl, inr, is_some, length, le
 pub use Rattle.std.proofs.Common.{Option, refl, replicate, rules, Some, subst, suc, sym, take, true, zero, ℕ}
 pub use Rattle.std.proofs.lemmas.List.{append-nil, append_assoc, drop_all, get_or-append_right, get_or-drop}
 pub use Rattle.std.proofs.lemmas.List.{get_or-replicate, get_or-take, get_or_append_left, length-map, length-replicate}
-pub use Rattle.std.proofs.lemmas.List.{length-set, length-take-le, length_push, take-append-drop, take_all, take_more}
+pub use Rattle.std.proofs.lemmas.List.{length-set, length-take-le, length_push, take_all, take_more}
 pub use Rattle.std.proofs.lemmas.Map.Steps.{list_any_congr}
 pub use Rattle.std.proofs.lemmas.Option.{get_or_from_slice_get, slice_get-get_or, slice_get_within}
 pub use Rattle.std.proofs.lemmas.Map.Views.{list_any-from_Contains}
@@ -22,7 +22,7 @@ pub use Rattle.determinize_below.specs.Search.{Asked, is_done}
 pub use Rattle.determinize_below.specs.declared.search.HalfMatch.{HalfMatch}
 pub use Rattle.determinize_below.specs.declared.search.MatchKind.{MatchKind}
 pub use Rattle.determinize_start.specs.LookTables.{tables_of}
-pub use Rattle.determinize_core.proofs.walk.LastMatches.{future_is, last_match-push, tail}
+pub use Rattle.determinize_core.proofs.walk.LastMatches.{future_is, tail}
 pub use Rattle.determinize_core.specs.Chain.{future, units, value_after}
 pub use Rattle.determinize_core.specs.Step.{begun, start_value}
 pub use Rattle.determinize_core.specs.Value.{dead, is_nonempty, Value}
@@ -41,7 +41,7 @@ pub use Rattle.determinize_lazy.specs.Private.Changes.{IsInterned, IsKept}
 pub use Rattle.determinize_lazy.specs.Private.Searched.{cached_place, Fails, first_place, GoesOn, HasStopped}
 pub use Rattle.determinize_lazy.specs.Private.Searched.{IsCachedPosition, IsOver, IsPosition, IsReached, last_left}
 pub use Rattle.determinize_lazy.specs.Private.Searched.{Leaves, LeavesText, next_place, Place, place, reported}
-pub use Rattle.determinize_lazy.specs.Private.Searched.{units_left, with_cursor}
+pub use Rattle.determinize_lazy.specs.Private.Searched.{units_left}
 pub use Rattle.determinize_lazy.specs.Private.Starts.{AreStarts, start_index}
 pub use Rattle.determinize_lazy.specs.Private.Steps.{IsFailedStep, IsSound, IsStarted, IsStepped}
 pub use Rattle.determinize_lazy.specs.Private.Tags.{is_last_tag, match_at, match_of, match_reported, Tag, tag_in}

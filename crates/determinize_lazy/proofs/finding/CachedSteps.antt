@@ -14,7 +14,8 @@ use Rattle.determinize_lazy.proofs.finding.Searching.{next-place, tag-last}
 use Rattle.determinize_lazy.proofs.steps.Cursors.{cached_step, cached_target}
 
 -- a search that reads a unit at a position is at the next one
-pub record IsNext (earliest : Bool) (x : LazyValue) (at : CachedPosition) (u : Option ℕ) (next : CachedPosition) : Type 0
+pub record IsNext (earliest : Bool) (x : LazyValue) (at : CachedPosition) (u : Option ℕ) (next : CachedPosition)
+    : Type 0
   where
     pub position : IsCachedPosition x next
     pub goes : (us : List (Option ℕ)) → slice_get us at.read ≡ Some u

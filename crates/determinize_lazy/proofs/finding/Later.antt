@@ -1,7 +1,8 @@
 -- The last match of a walk over more units, after some that were read.
-use Rattle.determinize_lazy.proofs.Common.{[], ap, arith, ended_at, future, HalfMatch, IfSome, is_nonempty, last_match, List}
-use Rattle.determinize_lazy.proofs.Common.{match_reported, MatchKind, Nfa, None, not, Option, option_map, option_or, refl}
-use Rattle.determinize_lazy.proofs.Common.{slice_get, Some, sym, true, true≢false, Value, ℕ, ◌+◌, ◌<◌, ◌∙◌, ◌∷◌, ◌≡◌, ◌≤◌}
+use Rattle.determinize_lazy.proofs.Common.{[], ap, arith, ended_at, future, HalfMatch, IfSome, is_nonempty, last_match}
+use Rattle.determinize_lazy.proofs.Common.{List, match_reported, MatchKind, Nfa, None, not, Option, option_map}
+use Rattle.determinize_lazy.proofs.Common.{option_or, refl, slice_get, Some, sym, true, true≢false, Value, ℕ, ◌+◌, ◌<◌}
+use Rattle.determinize_lazy.proofs.Common.{◌∙◌, ◌∷◌, ◌≡◌, ◌≤◌}
 use Rattle.determinize_core.proofs.finding.LastUnits.{last_match-over}
 use Rattle.determinize_core.proofs.walk.LastMatches.{each_first_unit_unrolls}
 use Rattle.determinize_core.specs.Laws.{one_later}

@@ -1,8 +1,8 @@
 -- A search of a text in pieces: its value and its match are those of the pieces together.
 use Rattle.determinize_lazy.proofs.Common.{[], add-zero, append_assoc, ap, arith, between, future, HalfMatch, is_last}
 use Rattle.determinize_lazy.proofs.Common.{last_match, length, length-append, length-map, List, map, MatchKind, Nfa}
-use Rattle.determinize_lazy.proofs.Common.{None, Option, option_map, option_or, refl, Some, start_value, suc, sym, units}
-use Rattle.determinize_lazy.proofs.Common.{false, units_read, Value, value_after, ℕ, ◌++◌, ◌+◌, ◌∙◌, ◌∷◌, ◌≡◌}
+use Rattle.determinize_lazy.proofs.Common.{None, Option, option_map, option_or, refl, Some, start_value, suc, sym}
+use Rattle.determinize_lazy.proofs.Common.{false, units, units_read, Value, value_after, ℕ, ◌++◌, ◌+◌, ◌∙◌, ◌∷◌, ◌≡◌}
 use Rattle.std.proofs.lemmas.List.{map-append}
 use Rattle.ordered_reach.proofs.Cases.{by_test}
 use Rattle.determinize_core.proofs.walk.UnitLists.{units_are}
@@ -33,8 +33,8 @@ module _ (nfa : Nfa) (kind : MatchKind) where
   last_from-append (u ∷ us) vs n last v =
       let sum : n + suc (length us) ≡ n + 1 + length us = omega arith in
       by_test (is_last false v)
-      (λ over. let none = none_left v.states over in rw over
-      (last_from-over nfa kind n last v (u ∷ us ++ vs) none ∙ sym (last_from-over nfa kind (n + suc (length us)) _ v vs none
+      (λ over. let none = none_left v.states over in rw over (last_from-over nfa kind n last v (u ∷ us ++ vs) none
+      ∙ sym (last_from-over nfa kind (n + suc (length us)) _ v vs none
       ∙ last_from-over nfa kind n last v (u ∷ us) none)))
       (λ more. rw (more, sum, last_from-next nfa kind n last v u us)
       (last_from-next nfa kind n last v u (us ++ vs) ∙ last_from-append us vs (n + 1) _ (step nfa kind v u)))
@@ -55,13 +55,18 @@ module _ {nfa : Nfa} {kind : MatchKind} {start : ℕ} {behind : Option ℕ} {byt
 
   -- one piece more
   pub scan-piece : (piece : List ℕ) {found : Option HalfMatch} {new : Scanned}
-      → found ≡ last_match (future nfa kind s.state (map Some piece)) → new.state ≡ ends_at nfa kind s.state (map Some piece)
+      → found ≡ last_match (future nfa kind s.state (map Some piece))
+      → new.state ≡ ends_at nfa kind s.state (map Some piece)
       → new.last ≡ option_or (option_map (later_by s.read) found) s.last → new.read ≡ s.read + length piece
       → IsScan nfa kind start behind (bytes ++ piece) new
   scan-piece piece {found} {new} found_is state_is last_is read_is = record {
-    state = rw (map-append Some bytes piece, ends_at-append nfa kind (map Some bytes) (map Some piece) first, ← is.state)
-        state_is;
-    last = rw (map-append Some bytes piece) (last_is ∙ ap (λ o. option_or (option_map (later_by s.read) o) s.last) found_is
+    state = rw (
+      map-append Some bytes piece,
+      ends_at-append nfa kind (map Some bytes) (map Some piece) first,
+      ← is.state,
+    ) state_is;
+    last = rw (map-append Some bytes piece) (last_is
+        ∙ ap (λ o. option_or (option_map (later_by s.read) o) s.last) found_is
         ∙ sym (last-scanned (map Some piece)));
     read = omega (arith, read_is, is.read, length-append bytes piece);
   }

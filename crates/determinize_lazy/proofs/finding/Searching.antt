@@ -32,7 +32,7 @@ pub read_none : (f : Value → Option ℕ → Value) (earliest : Bool) (v : Valu
 read_none f earliest v [] h = refl
 read_none f earliest v (u ∷ us) h = rw h refl
 
--- a search that goes on twice, or over more units
+-- a search that continues twice, or over more units
 pub goes_twice : {earliest : Bool} {us : List (Option ℕ)} {p q r : Place} → GoesOn earliest us p q
     → GoesOn earliest us q r → GoesOn earliest us p r
 goes_twice g here = g
@@ -59,7 +59,11 @@ next-place p u w_is last_is new_is = rw (w_is, last_is, new_is) refl
 -- a walk that fails after its first step
 cut_off-later : {old : Cache} {v : Value} {u : Option ℕ} {us : List (Option ℕ)} {new : Cache}
     → IsCutOff (after_step old v u) (step_of old v u) us new → IsCutOff old v (u ∷ us) new
-cut_off-later f = record { steps = suc f.steps; table = f.table; counted = rw (add-one (suc f.steps)) (rw (add-one f.steps) at f.counted) }
+cut_off-later f = record {
+  steps = suc f.steps;
+  table = f.table;
+  counted = rw (add-one (suc f.steps)) (rw (add-one f.steps) at f.counted);
+}
 
 -- one unit more
 module _ (earliest : Bool) (us : List (Option ℕ)) (p : Place) (u : Option ℕ) (at : slice_get us p.read ≡ Some u) where
@@ -72,7 +76,7 @@ module _ (earliest : Bool) (us : List (Option ℕ)) (p : Place) (u : Option ℕ)
     units_left-next = rw (drop-one us p.read u at, more)
 
     -- what is left if the step fails
-    pub fails-here : {new : Cache} → IsFailedStep p.cache p.value u new → Fails earliest us p new
+    fails-here : {new : Cache} → IsFailedStep p.cache p.value u new → Fails earliest us p new
     fails-here failed = rw units_left-next (record { steps = 0; table = failed.table; counted = failed.counted })
 
     leaves-next : {E : Type 0} (r : Result (Option HalfMatch) E) (new : Cache)
@@ -89,7 +93,7 @@ module _ (earliest : Bool) (us : List (Option ℕ)) (p : Place) (u : Option ℕ)
         seen (q ∷ qs) h = rw (reported-next p.read (q ∷ qs)) refl
     leaves-next (Err e) new f = rw units_left-next (cut_off-later f)
 
--- what a search leaves that goes on
+-- what a search leaves that continues
 pub leaves : {E : Type 0} {earliest : Bool} {us : List (Option ℕ)} {p q : Place} (r : Result (Option HalfMatch) E)
     (new : Cache) → GoesOn earliest us p q → Leaves earliest us q r new → Leaves earliest us p r new
 leaves r new here o = o
@@ -103,16 +107,6 @@ pub over_of : {E : Type 0} (earliest : Bool) (us : List (Option ℕ)) (p : Place
 over_of earliest us p (Ok found) new o = (o, tt)
 over_of earliest us p (Err e) new f = (tt, f)
 
--- the value at which it ends
-pub goes-value : {earliest : Bool} {us : List (Option ℕ)} {p q : Place} → GoesOn earliest us p q
-    → value_after q.cache.nfa q.cache.kind q.value (units_left earliest us q)
-    ≡ value_after p.cache.nfa p.cache.kind p.value (units_left earliest us p)
-goes-value here = refl
-goes-value {earliest} {us} (over q s u g at more is) =
-    ap (λ (x : Place). value_after x.cache.nfa x.cache.kind x.value (units_left earliest us x)) is
-    ∙ sym (ap (λ all. value_after q.cache.nfa q.cache.kind q.value all) (units_left-next earliest us q u at more))
-    ∙ goes-value g
-
 -- a search that has stopped
 module _ (earliest : Bool) (us : List (Option ℕ)) (p : Place) (stopped : HasStopped earliest (length us) p) where
   units_left-none : units_left earliest us p ≡ []
@@ -121,20 +115,17 @@ module _ (earliest : Bool) (us : List (Option ℕ)) (p : Place) (stopped : HasSt
     | inr last ↦ read_none _ earliest p.value _ last
   ]
 
-  pub stopped-value : value_after p.cache.nfa p.cache.kind p.value (units_left earliest us p) ≡ p.value
-  stopped-value = rw units_left-none refl
-
   -- no match follows, or the search is for the earliest, and ends at a match
   ended : (last_left us p ≡ p.last) ⊎ ((earliest ≡ true) × (is_nonempty p.value.patterns ≡ true))
   ended = elim stopped [
     | inl all ↦ inl (rw (drop_all p.read us all) refl)
     | inr last ↦ by_test (is_nonempty p.value.states)
         (λ alive. inr (grind (arith, last, alive), grind (arith, last, alive)))
-        (λ dead. inl (last_from-over p.cache.nfa p.cache.kind p.read p.last p.value
-        (drop p.read us) (none_left p.value.states (ap not dead))))
+        (λ dead. inl (last_from-over p.cache.nfa p.cache.kind p.read p.last p.value (drop p.read us)
+        (none_left p.value.states (ap not dead))))
   ]
 
-  pub over-here : {found : Option HalfMatch} → found ≡ p.last → IsOver earliest us p found p.cache
+  over-here : {found : Option HalfMatch} → found ≡ p.last → IsOver earliest us p found p.cache
   over-here is = record {
     last = λ late. is
         ∙ elim ended [ inl same ↦ sym same | inr early ↦ absurd (true≢false (sym early.0 ∙ late)) ];
@@ -148,3 +139,28 @@ module _ (earliest : Bool) (us : List (Option ℕ)) (p : Place) (stopped : HasSt
       either : (o last : Option HalfMatch) → is_some last ≡ true → is_some (option_or o last) ≡ true
       either None last h = h
       either (Some m) last h = refl
+
+-- a search that continues to a place
+module _ {earliest : Bool} {us : List (Option ℕ)} {p q : Place} (g : GoesOn earliest us p q) where
+  -- and fails in the next step
+  pub fails-at : {u : Option ℕ} {new : Cache} → slice_get us q.read ≡ Some u → is_last earliest q.value ≡ false
+      → IsFailedStep q.cache q.value u new → Fails earliest us p new
+  fails-at {u} {new} at more failed =
+      leaves {E = Unit {0}} (Err tt) new g (fails-here earliest us q u at more failed)
+
+  -- and stops there
+  module _ (stopped : HasStopped earliest (length us) q) where
+    pub over-at : {found : Option HalfMatch} → found ≡ q.last → IsOver earliest us p found q.cache
+    over-at {found} is = leaves {E = Unit {0}} (Ok found) q.cache g (over-here earliest us q stopped is)
+
+    pub value-at : q.value ≡ value_after p.cache.nfa p.cache.kind p.value (units_left earliest us p)
+    value-at = rw (units_left-none earliest us q stopped) at (goes-value g)
+      where
+        goes-value : {r : Place} → GoesOn earliest us p r
+            → value_after r.cache.nfa r.cache.kind r.value (units_left earliest us r)
+            ≡ value_after p.cache.nfa p.cache.kind p.value (units_left earliest us p)
+        goes-value here = refl
+        goes-value (over x r u h at more is) =
+            ap (λ (y : Place). value_after y.cache.nfa y.cache.kind y.value (units_left earliest us y)) is
+            ∙ sym (ap (λ all. value_after x.cache.nfa x.cache.kind x.value all)
+            (units_left-next earliest us x u at more)) ∙ goes-value h

@@ -78,7 +78,7 @@ next_place p u = record {
   cache = after_step p.cache p.value u;
 }
 
--- a search over units goes on from one place to another: it does not end before that
+-- a search over units continues from one place to another: it does not end before that
 pub data GoesOn (earliest : Bool) (us : List (Option ℕ)) (p : Place) : Place → Type 0 where
   here : GoesOn earliest us p p
   over : (q r : Place) (u : Option ℕ) → GoesOn earliest us p q → slice_get us q.read ≡ Some u

@@ -1,5 +1,5 @@
-use Rattle.determinize_lazy.proofs.Common.{[], AllResolve, ap, arith, between, cache, Fails, false, first_place, future, IfSome}
-use Rattle.determinize_lazy.proofs.Common.{IsOver, last_match, None, option_map, option_or, Place, refl, rules}
+use Rattle.determinize_lazy.proofs.Common.{[], AllResolve, ap, arith, between, cache, Fails, false, first_place, future}
+use Rattle.determinize_lazy.proofs.Common.{IfSome, IsOver, last_match, None, option_map, option_or, Place, refl, rules}
 use Rattle.determinize_lazy.proofs.Common.{subst, sym, Text, units, Value, ◌<◌, ◌∙◌, ◌∷◌, ◌≡◌, ◌≤◌}
 use Rattle.determinize_core.specs.Chain.{chain}
 use Rattle.determinize_lazy.specs.Private.Scanned.{later_by}

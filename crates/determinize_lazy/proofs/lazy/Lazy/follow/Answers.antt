@@ -20,5 +20,6 @@ loop-at-preserved g c =
       position = next.position;
       forward = search rules;
       read = search rules;
-      searched = goes_twice c.loop-at.invariant.searched (next.goes (map Some c.args.text.now.bytes) c.byte-byte.ensures);
+      searched = goes_twice c.loop-at.invariant.searched
+          (next.goes (map Some c.args.text.now.bytes) c.byte-byte.ensures);
     }

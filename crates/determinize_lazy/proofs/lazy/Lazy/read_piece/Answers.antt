@@ -1,8 +1,9 @@
-use Rattle.determinize_lazy.proofs.Common.{[], AllResolve, ap, append-nil, cache, cursor_value, Fails, first_place, GoesOn}
-use Rattle.determinize_lazy.proofs.Common.{false, HasStopped, IsOver, LazyValue, length, length-map, List, map, Ok, Option, Place}
-use Rattle.determinize_lazy.proofs.Common.{place, refl, rules, Some, subst, sym, Text, Value, ℕ, ◌++◌, ◌∙◌}
+use Rattle.determinize_lazy.proofs.Common.{[], AllResolve, ap, append-nil, cache, cursor_value, Fails, false}
+use Rattle.determinize_lazy.proofs.Common.{first_place, GoesOn, HasStopped, IsOver, LazyValue, length, length-map, List}
+use Rattle.determinize_lazy.proofs.Common.{map, Option, place, Place, refl, rules, Some, subst, sym, Text, Value, ℕ}
+use Rattle.determinize_lazy.proofs.Common.{◌++◌, ◌∙◌}
 use Rattle.determinize_lazy.proofs.finding.Later.{last_from-first}
-use Rattle.determinize_lazy.proofs.finding.Searching.{goes-value, leaves, over-here, stopped-value}
+use Rattle.determinize_lazy.proofs.finding.Searching.{over-at, value-at}
 use Rattle.determinize_lazy.proofs.steps.Rule.{of_err}
 use Rattle.determinize_lazy.proofs.walking.CachedWalks.{cut_off-whole}
 use Rattle.determinize_lazy.proofs.lazy.Lazy.read_piece.Given.{Over}
@@ -23,8 +24,7 @@ stopped g c = rw length-map (rw c.new-text.ensures at c.in_ok-at.ensures.stopped
 over : (g : Over) (c : After-found-last g) → IsOver false (map Some c.args.piece.now)
     (first_place (cache c.args.self.now) (cursor_value c.args.self.now.states c.args.start)) c.found-last.result
     (cache c.search_bytes.new.self)
-over g c = leaves {E = Unit {0}} (Ok c.found-last.result) _ (goes g c)
-    (over-here false _ (place c.search_bytes.new.self c.in_ok-at.at) (stopped g c) c.found-last.ensures)
+over g c = over-at (goes g c) (stopped g c) c.found-last.ensures
 
 pub returns-in_err-at-clause-failed : goal.returns-in_err-at-clause-failed
 returns-in_err-at-clause-failed g c =
@@ -43,8 +43,7 @@ returns-clause-read g c =
     let d = (goal.at.returns-clause-read g c).After-found-last in record {
       state = c.in_ok-state.ensures
           ∙ ap (λ (x : LazyValue). cursor_value x.states c.in_ok-at.at.cursor) c.self.view_is
-          ∙ sym (stopped-value false (map Some c.args.piece.now) (place c.search_bytes.new.self c.in_ok-at.at)
-          (stopped g d)) ∙ goes-value (goes g d);
+          ∙ value-at (goes g d) (stopped g d);
       last = (over g d).last refl ∙ last_from-first _ _ _ (map Some c.args.piece.now);
       read = search rules;
       after = (over g d).after;

@@ -1,8 +1,8 @@
-use Rattle.determinize_lazy.proofs.Common.{cache, cursor_value, Err, Fails, false, is_last, List, map, Option, place, rules}
+use Rattle.determinize_lazy.proofs.Common.{cache, cursor_value, Fails, false, is_last, List, map, Option, place, rules}
 use Rattle.determinize_lazy.proofs.Common.{Some, ℕ, ◌++◌, ◌≡◌}
 use Rattle.determinize_core.proofs.states.Places.{get_more}
 use Rattle.determinize_lazy.specs.Private.Searched.{here, over}
-use Rattle.determinize_lazy.proofs.finding.Searching.{fails-here, goes-longer, goes_twice, leaves, tag-last}
+use Rattle.determinize_lazy.proofs.finding.Searching.{fails-at, goes-longer, goes_twice, tag-last}
 use Rattle.determinize_lazy.proofs.steps.Rule.{grows-more, of_err}
 use Rattle.determinize_lazy.proofs.lazy.Lazy.search_bytes.Given.{Over}
 use Rattle.determinize_lazy.proofs.lazy.Lazy.search_bytes.Goals.{After-byte-byte}
@@ -18,11 +18,9 @@ pub returns-in_err-next-clause-failed : goal.returns-in_err-next-clause-failed
 returns-in_err-next-clause-failed g c =
     of_err _ {P = (rest : List (Option ℕ)) → Fails c.args.earliest (map Some c.args.text.now.bytes ++ rest)
     (place c.args.self.now c.args.from) (cache c.advance.new.self)}
-    (λ rest. leaves {E = Unit {0}} (Err tt) (cache c.advance.new.self)
-    (goes-longer rest c.loop-at.invariant.searched) (fails-here c.args.earliest (map Some c.args.text.now.bytes ++ rest)
-    (place c.loop-at.self c.loop-at.at) (Some c.byte-byte.result) (get_more (map Some c.args.text.now.bytes) rest
-    c.loop-at.at.read (Some c.byte-byte.result) c.byte-byte.ensures)
-    (more g (goal.at.returns-in_err-next-clause-failed g c).After-byte-byte) c.in_err-next.ensures.failed))
+    (λ rest. fails-at (goes-longer rest c.loop-at.invariant.searched)
+    (get_more (map Some c.args.text.now.bytes) rest c.loop-at.at.read (Some c.byte-byte.result) c.byte-byte.ensures)
+    (more g (goal.at.returns-in_err-next-clause-failed g c).After-byte-byte) c.in_err-next.ensures.failed)
 
 pub loop-at-init : goal.loop-at-init
 loop-at-init g c = record {

@@ -1,8 +1,9 @@
 use Rattle.determinize_lazy.proofs.Common.{[], ap, arith, cursor_value, Err, false, inl, inr, is_last, length}
-use Rattle.determinize_lazy.proofs.Common.{Ok, place, rules, slice_get, Some, sym, true≢false, units, ◌+◌, ◌<◌, ◌∙◌, ◌∷◌, ◌≡◌}
+use Rattle.determinize_lazy.proofs.Common.{rules, slice_get, Some, sym, true≢false, units, ◌+◌, ◌<◌, ◌∙◌}
+use Rattle.determinize_lazy.proofs.Common.{◌∷◌, ◌≡◌}
 use Rattle.determinize_core.proofs.finding.Texts.{all_read, unit-last, units_listed}
 use Rattle.determinize_lazy.specs.Private.Searched.{over}
-use Rattle.determinize_lazy.proofs.finding.Searching.{fails-here, leaves, of_bytes, over-here, tag-last}
+use Rattle.determinize_lazy.proofs.finding.Searching.{fails-at, of_bytes, over-at, tag-last}
 use Rattle.determinize_lazy.proofs.lazy.Lazy.search_from.Given.{Over}
 use Rattle.determinize_lazy.proofs.lazy.Lazy.search_from.Goals.{After-ahead}
 use Rattle.determinize_lazy.proofs.lazy.Lazy.search_from.Goals as goal
@@ -30,25 +31,21 @@ returns-in_err-at-clause-over g c =
 
 pub returns-then-is_last-clause-over : goal.returns-then-is_last-clause-over
 returns-then-is_last-clause-over g c =
-    leaves {E = Unit {0}} (Ok c.found.result) _ (of_bytes c.args.text.now c.in_ok-at.ensures.searched)
-    (over-here c.args.earliest _ (place c.search_bytes.new.self c.in_ok-at.at) (inr (tag-last c.args.earliest
+    over-at (of_bytes c.args.text.now c.in_ok-at.ensures.searched) (inr (tag-last c.args.earliest
     c.tag_at.result.bits (cursor_value c.search_bytes.new.self.states c.in_ok-at.at.cursor) c.tag_at.ensures
-    c.is_last.ensures c.if-is_last.true)) c.found.ensures)
+    c.is_last.ensures c.if-is_last.true)) c.found.ensures
 
 pub returns-in_err-at-2-clause-over : goal.returns-in_err-at-2-clause-over
 returns-in_err-at-2-clause-over g c =
     let d = (goal.at.returns-in_err-at-2-clause-over g c).After-ahead in
     let e : c.from_residual-in_err-at-2.result ≡ Err c.in_err-at-2.field-0.0 = search rules in
-    rw e (leaves {E = Unit {0}} (Err tt) _ (of_bytes c.args.text.now c.in_ok-at.ensures.searched)
-    (fails-here c.args.earliest _ (place c.search_bytes.new.self c.in_ok-at.at) c.ahead.result (ahead g d) (more g d)
-    c.in_err-at-2.ensures.failed))
+    rw e (fails-at (of_bytes c.args.text.now c.in_ok-at.ensures.searched) (ahead g d) (more g d)
+    c.in_err-at-2.ensures.failed)
 
 pub returns-clause-over : goal.returns-clause-over
 returns-clause-over g c =
     let d = (goal.at.returns-clause-over g c).After-ahead in
     let next : c.in_ok-at.at.read < c.in_ok-at.at.read + 1 = omega arith in
-    leaves {E = Unit {0}} (Ok c.found-2.result) _
-    (over _ _ c.ahead.result (of_bytes c.args.text.now c.in_ok-at.ensures.searched) (ahead g d) (more g d)
-    c.in_ok-at-2.ensures.place)
-    (over-here c.args.earliest _ (place c.advance.new.self c.in_ok-at-2.at)
-    (inl (rw c.in_ok-at-2.ensures.read (all_read c.args.text.now next (read_all g d)))) c.found-2.ensures)
+    over-at (over _ _ c.ahead.result (of_bytes c.args.text.now c.in_ok-at.ensures.searched) (ahead g d) (more g d)
+    c.in_ok-at-2.ensures.place) (inl (rw c.in_ok-at-2.ensures.read (all_read c.args.text.now next (read_all g d))))
+    c.found-2.ensures

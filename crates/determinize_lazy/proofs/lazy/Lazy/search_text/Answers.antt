@@ -1,9 +1,9 @@
 use Rattle.determinize_lazy.proofs.Common.{AllResolve, ap, cache, cached_place, dead, first_place, GoesOn}
-use Rattle.determinize_lazy.proofs.Common.{get_or_from_slice_get, inl, inr, LazyValue, match_of, match_reported, Ok}
+use Rattle.determinize_lazy.proofs.Common.{get_or_from_slice_get, inl, inr, LazyValue, match_of, match_reported}
 use Rattle.determinize_lazy.proofs.Common.{option_or, slice_get, slice_get-get_or, slice_get_within, slice_index_or}
 use Rattle.determinize_lazy.proofs.Common.{start_value, subst, sym, Tag, tag_in, tag_of, units, Value, ◌∙◌, ◌≡◌}
 use Rattle.determinize_core.proofs.finding.Texts.{all_read}
-use Rattle.determinize_lazy.proofs.finding.Searching.{leaves, over-here, tag-last}
+use Rattle.determinize_lazy.proofs.finding.Searching.{leaves, over-at, tag-last}
 use Rattle.determinize_lazy.proofs.lazy.Lazy.search_text.Given.{Over}
 use Rattle.determinize_lazy.proofs.lazy.Lazy.search_text.Goals.{After-len, In-Some}
 use Rattle.determinize_lazy.proofs.lazy.Lazy.search_text.Goals.{then-at-len-via-else-at-len+then-is_last}
@@ -42,14 +42,12 @@ returns-then-at-len-clause-over g c =
     let tag : tag_in c.tag-tag.result.bits ≡ tag_of v = c.tag-tag.ensures _
     (ap (λ (x : LazyValue). slice_get x.states at.id) c.self.view_is
     ∙ slice_get-get_or c.args.self.now.states at.id dead c.follow_to_end-at.ensures.position.cursor) in
-    leaves {E = Unit {0}} (Ok c.get.result) _ (here g d) (over-here c.args.earliest _ (cached_place c.args.self.now at)
-    (elim c.then-at-len.branch [
+    over-at (here g d) (elim c.then-at-len.branch [
       | then-at-len-via-then-at-len w ↦ inl (all_read c.args.text.now w.if-at-len.true c.len.ensures.value)
       | then-at-len-via-else-at-len+then-is_last w ↦
           inr (tag-last c.args.earliest c.tag-tag.result.bits v tag w.is_last.ensures w.if-is_last.true)
-    ])
-    (c.get.ensures ∙ c.or_match.ensures c.follow_to_end-at.ensures.position.unmatched
-    ∙ ap (λ (t : Tag). option_or (match_reported at.read t.pattern) (match_of at.last)) tag))
+    ]) (c.get.ensures ∙ c.or_match.ensures c.follow_to_end-at.ensures.position.unmatched
+    ∙ ap (λ (t : Tag). option_or (match_reported at.read t.pattern) (match_of at.last)) tag)
 
 pub returns-clause-over : goal.returns-clause-over
 returns-clause-over g c =
