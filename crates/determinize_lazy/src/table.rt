@@ -10,7 +10,7 @@ ghost use Rattle.std.specs.Prelude.{◌≡◌, ◌*◌, ◌<◌, ◌≤◌, fals
 ghost use Rattle.std.specs.List.{list_any};
 ghost use Rattle.determinize_core.specs.Value.{Value as StateValue};
 ghost use Rattle.determinize_lazy.specs.Cache.{keep};
-ghost use Rattle.determinize_lazy.specs.Private.Cursors.{IsAt, IsCursor, IsWithin, cursor_value};
+ghost use Rattle.determinize_lazy.specs.Private.Cursors.{IsAt, IsCursor, IsCursorBefore, cursor_value};
 ghost use Rattle.determinize_lazy.specs.Private.Rows.{IsEmpty, IsTarget, table_of};
 ghost use Rattle.determinize_lazy.specs.Private.Tags.{tag_in, tag_of};
 ghost use Rattle.determinize_lazy.specs.Stored.{column, is_unit};
@@ -236,15 +236,35 @@ impl<A: Allocator + Copy> TransitionTable<A> {
     ///
     /// If an allocation fails, the table is unchanged.
     fn intern(&mut self, cursor: Cursor<A>) -> Result<LazyStateId, AllocError>
-        requires { IsWithin self.old.states cursor }
+        requires { IsCursor self.old.states cursor }
         ensures { IsInterned self.old (cursor_value self.old.states cursor) result self.new }
     {
         match cursor {
             Cursor::Cached(id) => Ok(id),
-            Cursor::Uncached(state) => match self.find(&state) {
-                Some(id) => Ok(id),
-                None => self.push(state),
-            },
+            Cursor::Uncached(state) => self.push(state),
+        }
+    }
+
+    /// Returns the id of the state at a cursor, as `intern` does, where the state at `source` was
+    /// cached after the cursor was made.
+    fn intern_after(
+        &mut self,
+        source: LazyStateId,
+        cursor: Cursor<A>,
+    ) -> Result<LazyStateId, AllocError>
+        requires source { source < length self.old.states }
+        requires cursor { IsCursorBefore self.old.states source cursor }
+        ensures { IsInterned self.old (cursor_value self.old.states cursor) result self.new }
+    {
+        match cursor {
+            Cursor::Cached(id) => Ok(id),
+            Cursor::Uncached(state) => {
+                if *self.get(source) == state {
+                    Ok(source)
+                } else {
+                    self.push(state)
+                }
+            }
         }
     }
 
@@ -265,7 +285,7 @@ impl<A: Allocator + Copy> TransitionTable<A> {
             (cursor_value self.old.states target) result self.new }
     {
         let source = self.intern(source)?;
-        match self.intern(target) {
+        match self.intern_after(source, target) {
             Ok(target) => {
                 self.rows[source.row() + column(unit)] = target.entry();
                 Ok(Cursor::Cached(target))

@@ -6,6 +6,7 @@ use Rattle.determinize_lazy.proofs.Common.{Ok, on_err_weaker, on_ok_weaker, Opti
 use Rattle.determinize_lazy.proofs.Common.{slice_get-get_or, slice_get_within, slice_set, Some, StoredTable, sym, Table}
 use Rattle.determinize_lazy.proofs.Common.{table_of, true, Value, with_state, with_target, with_transition, with_value}
 use Rattle.determinize_lazy.proofs.Common.{ℕ, ◌*◌, ◌+◌, ◌<◌, ◌||◌, ◌∙◌, ◌≡◌}
+use Rattle.determinize_lazy.specs.Private.Cursors.{IsCursorBefore}
 use Rattle.determinize_lazy.specs.declared.table.Cursor.{Cursor}
 use Rattle.determinize_lazy.specs.declared.table.Cursor.TheVariants.{Cached, Uncached}
 use Rattle.determinize_core.proofs.states.Places.{not_both, not_none, same_laws, there}
@@ -66,6 +67,13 @@ module _ {E : Type 0} {old mid : StoredTable} {v : Value} {s : ℕ} (first : IsI
   stays_at (Cached id) is = get_or_from_slice_get mid.states id _ dead
       (rw states (get_with old.states v _ id (slice_get-get_or old.states id dead is)))
   stays_at (Uncached w) is = refl
+
+  -- and is one before the state at the id was cached
+  pub before : {A : Type 0} (c : Cursor A) → IsCursor old.states c → IsCursorBefore mid.states s c
+  before (Cached id) is = rw states (slice_get_within (with_value old.states v) id _
+      (get_with old.states v _ id (slice_get-get_or old.states id dead is)))
+  before (Uncached w) is = λ apart. rw (states, any_with old.states v w, is)
+      (sym (ap (λ (x : Value). same x w) (get_or_from_slice_get mid.states s v dead first.id)) ∙ apart)
 
   pub linked : {new : StoredTable} {w : Value} {t : ℕ} (u : Option ℕ) → IsInterned {E = E} mid w (Ok t) new
       → IsStored new.states new.rows → is_unit u ≡ true

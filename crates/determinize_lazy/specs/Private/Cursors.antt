@@ -1,5 +1,5 @@
 -- Where a walk or a search is: at a cached state, or at one that is not cached.
-use Rattle.std.specs.Prelude.{◌≡◌, ◌<◌, false, List, length, slice_index_or, ⊤}
+use Rattle.std.specs.Prelude.{◌≡◌, ◌<◌, ℕ, false, List, length, slice_index_or}
 use Rattle.std.specs.List.{list_any}
 use Rattle.determinize_core.specs.Equality.{same}
 use Rattle.determinize_core.specs.Value.{Value, dead}
@@ -16,10 +16,11 @@ abbrev pub IsCursor : {A : Type 0} → List Value → Cursor A → Type 0
 IsCursor states (Cached id) = id < length states
 IsCursor states (Uncached state) = list_any (same state) states ≡ false
 
--- an id is that of a cached state
-abbrev pub IsWithin : {A : Type 0} → List Value → Cursor A → Type 0
-IsWithin states (Cached id) = id < length states
-IsWithin states (Uncached state) = ⊤
+-- the cursor was one before the state at an id was cached
+abbrev pub IsCursorBefore : {A : Type 0} → List Value → ℕ → Cursor A → Type 0
+IsCursorBefore states source (Cached id) = id < length states
+IsCursorBefore states source (Uncached state) =
+    same (slice_index_or states source dead) state ≡ false → list_any (same state) states ≡ false
 
 -- the cursor is at this value
 pub record IsAt {A : Type 0} (states : List Value) (cursor : Cursor A) (v : Value) : Type 0 where

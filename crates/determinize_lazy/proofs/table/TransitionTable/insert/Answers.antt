@@ -1,4 +1,4 @@
-use Rattle.determinize_lazy.proofs.tables.Changes.{linked, stays_at}
+use Rattle.determinize_lazy.proofs.tables.Changes.{before, linked, stays_at}
 use Rattle.determinize_lazy.proofs.table.TransitionTable.insert.Goals as goal
 
 pub invariant_of-self : goal.invariant_of-self
@@ -13,3 +13,6 @@ returns-in-Ok g c = rw (c.row.ensures, c.column.ensures.value, c.entry.ensures)
       stays_at c.in_ok-source.ensures c.args.target
           c.requires.target,
     ) at c.in-Ok.ensures) c.self.invariant c.column.ensures.is_unit).1 _)
+
+pub intern_after-requires-clause-cursor : goal.intern_after-requires-clause-cursor
+intern_after-requires-clause-cursor g c = before c.in_ok-source.ensures c.args.target c.requires.target

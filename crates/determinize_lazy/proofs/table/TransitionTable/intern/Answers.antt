@@ -5,6 +5,3 @@ use Rattle.determinize_lazy.proofs.table.TransitionTable.intern.Goals as goal
 pub returns-in-Cached : goal.returns-in-Cached
 returns-in-Cached g c = rw c.in-Cached.is (already c.args.self.now c.in-Cached.id
     (slice_get-get_or c.args.self.now.states c.in-Cached.id dead (rw c.in-Cached.is at c.requires)))
-
-pub returns-in-Some : goal.returns-in-Some
-returns-in-Some g c = rw c.in-Uncached.is (already c.args.self.now c.in-Some.id c.in-Some.ensures)
