@@ -12,9 +12,8 @@ pub use Rattle.determinize_below.specs.Nfa.{AllResolve, IsAccepted}
 pub use Rattle.determinize_below.specs.Positions.{byte_edges, true_edges, truth}
 pub use Rattle.determinize_below.specs.Reached.{IsReached, known_edges}
 pub use Rattle.determinize_below.specs.Search.{Asked, is_done}
-pub use Rattle.determinize_below.specs.Semantics.{Accepts, after_at, before_at, between, BinaryUnion, ByteRange}
-pub use Rattle.determinize_below.specs.Semantics.{Capture, choices, Dense, Fail, IsBestRun, IsPreferredRun, Look, Match}
-pub use Rattle.determinize_below.specs.Semantics.{Nfa, Node, Sparse, state_at, Text, Union}
+pub use Rattle.determinize_below.specs.Semantics.{Accepts, after_at, before_at, between, Capture, choices, Fail}
+pub use Rattle.determinize_below.specs.Semantics.{IsBestRun, IsPreferredRun, Match, Nfa, Node, state_at, Text}
 pub use Rattle.determinize_below.specs.Unit.{byte_of}
 pub use Rattle.determinize_below.specs.declared.look.Look.{Look as Assertion}
 pub use Rattle.determinize_below.specs.declared.search.HalfMatch.{HalfMatch}
@@ -31,8 +30,8 @@ unfoldable pub use Rattle.determinize_core.specs.Private.Search.{tries_left}
 pub use Rattle.determinize_core.specs.Searches.{HasMatch, in_haystack, in_order, IsFarthestIn, IsPreferredIn, IsSearch}
 pub use Rattle.determinize_core.specs.Searches.{start_for, text_of}
 pub use Rattle.determinize_core.specs.States.{EachApart, IsIndex}
-pub use Rattle.determinize_core.specs.Step.{begun, distinct_states, is_reopened, left_by, opened_by, part_read}
-pub use Rattle.determinize_core.specs.Step.{patterns_read, start_value, targets, working_list}
+pub use Rattle.determinize_core.specs.Step.{begun, distinct_states, is_reopened, opened_by, part_read, patterns_read}
+pub use Rattle.determinize_core.specs.Step.{start_value, targets, working_list}
 unfoldable pub use Rattle.determinize_core.specs.Step.{step}
 pub use Rattle.determinize_core.specs.Stepper.{StepperValue}
 pub use Rattle.determinize_core.specs.Tries.{edges_in_all, tries_again, tries_of}
@@ -41,7 +40,7 @@ pub use Rattle.determinize_start.specs.LookTables.{tables_of}
 pub use Rattle.determinize_state.specs.Equality.{same}
 pub use Rattle.determinize_state.specs.Recording.{added, added_one, needs, recorded}
 pub use Rattle.determinize_state.specs.Value.{dead, is_nonempty, Value}
-pub use Rattle.ordered_reach.proofs.Cases.{by_cases, by_option, by_test, or_false_left, or_false_right, some_injective}
+pub use Rattle.ordered_reach.proofs.Cases.{by_cases, by_option, by_test, or_false_right, some_injective}
 pub use Rattle.ordered_reach.proofs.graph.FiniteGraphs.{same_decides}
 pub use Rattle.ordered_reach.proofs.lists.Elements.{All-from_member}
 pub use Rattle.ordered_reach.specs.Paths.{Before, IsPath}
@@ -57,7 +56,7 @@ pub use Rattle.std.proofs.lemmas.List.{append-nil, get_or-replicate, get_or-reve
 pub use Rattle.std.proofs.lemmas.List.{length-replicate, length-reverse, length-set, length-take, length-take-le}
 pub use Rattle.std.proofs.lemmas.List.{length_push, map-append, take-append-drop, take_all, take_at, take_more}
 pub use Rattle.std.proofs.lemmas.List.Concat.{flat_map-append}
-pub use Rattle.std.proofs.lemmas.List.Elements.{All-cons, All-head, All-nil, All-rest, All-tail}
+pub use Rattle.std.proofs.lemmas.List.Elements.{All-cons, All-nil, All-rest}
 pub use Rattle.std.proofs.lemmas.Option.{get_or_from_slice_get, slice_get-get_or, slice_get-map, slice_get_past}
 pub use Rattle.std.proofs.lemmas.Option.{slice_get_within}
 pub use Rattle.std.proofs.lemmas.Result.{IfOk-weaker}

@@ -1,19 +1,18 @@
 -- The names that the proofs of this crate have in common: of std, of the definitions, and of the crates below.
 pub use Rattle.std.proofs.Common.{[], ◌&&◌, ◌*◌, ◌++◌, ◌+◌, ◌-◌, ◌/◌, ◌<◌, ◌||◌, ◌∙◌, ◌∷◌, ◌≡◌, ◌≢◌, ◌≤◌, ◌⊎◌, add-zero}
-pub use Rattle.std.proofs.Common.{ap, arith, Bool, cond, drop, drop-cons, false, get_or, get_or-set_other}
-pub use Rattle.std.proofs.Common.{get_or-set_same, inl, inr, is_some, length, length-append, List, map, None, not}
-pub use Rattle.std.proofs.Common.{Option, refl, replicate, rules, Some, subst, suc, sym, take, true, zero, ℕ}
-pub use Rattle.std.proofs.lemmas.List.{append-nil, append_assoc, drop_all, get_or-append_right, get_or-drop}
-pub use Rattle.std.proofs.lemmas.List.{get_or-replicate, get_or-take, get_or_append_left, length-map, length-replicate}
-pub use Rattle.std.proofs.lemmas.List.{length-set, length-take-le, length_push, take_all, take_more}
+pub use Rattle.std.proofs.Common.{ap, arith, Bool, cond, drop, false, get_or, get_or-set_other, get_or-set_same, inl}
+pub use Rattle.std.proofs.Common.{inr, is_some, length, length-append, List, map, None, not, Option, refl, replicate}
+pub use Rattle.std.proofs.Common.{rules, Some, subst, suc, sym, take, true, zero, ℕ}
+pub use Rattle.std.proofs.lemmas.List.{append-nil, append_assoc, drop_all, length-map, length-replicate, length-set}
+pub use Rattle.std.proofs.lemmas.List.{length-take-le, length_push, take_all, take_more}
 pub use Rattle.std.proofs.lemmas.Map.Steps.{list_any_congr}
 pub use Rattle.std.proofs.lemmas.Option.{get_or_from_slice_get, slice_get-get_or, slice_get_within}
 pub use Rattle.std.proofs.lemmas.Map.Views.{list_any-from_Contains}
 pub use Rattle.std.proofs.lemmas.Result.{IfOk-weaker, on_err_weaker, on_ok_weaker}
 pub use Rattle.std.specs.List.{list_any, position_from}
 pub use Rattle.std.specs.Option.{IfSome, option_or}
-pub use Rattle.std.specs.Prelude.{Contains, Decides, Err, IfOk, min, nat_eq, nat_le, nat_lt, Ok, OnErr, OnOk}
-pub use Rattle.std.specs.Prelude.{option_map, Result, slice_get, slice_index, slice_index_or, slice_set, ⊤}
+pub use Rattle.std.specs.Prelude.{Contains, Decides, Err, IfOk, nat_eq, nat_le, Ok, OnErr, OnOk, option_map, Result}
+pub use Rattle.std.specs.Prelude.{slice_get, slice_index, slice_index_or, slice_set, ⊤}
 pub use mathlib.Core.Bool.{true≢false}
 pub use Rattle.ordered_reach.proofs.Cases.{by_cases, by_option, by_test}
 pub use Rattle.determinize_below.specs.Nfa.{AllResolve, IsAccepted}
@@ -21,15 +20,14 @@ pub use Rattle.determinize_below.specs.Semantics.{between, Nfa, Text}
 pub use Rattle.determinize_below.specs.Search.{Asked, is_done}
 pub use Rattle.determinize_below.specs.declared.search.HalfMatch.{HalfMatch}
 pub use Rattle.determinize_below.specs.declared.search.MatchKind.{MatchKind}
-pub use Rattle.determinize_start.specs.LookTables.{tables_of}
 pub use Rattle.determinize_core.proofs.walk.LastMatches.{future_is, tail}
 pub use Rattle.determinize_core.specs.Chain.{future, units, value_after}
-pub use Rattle.determinize_core.specs.Step.{begun, start_value}
+pub use Rattle.determinize_core.specs.Step.{start_value}
 pub use Rattle.determinize_core.specs.Value.{dead, is_nonempty, Value}
 pub use Rattle.determinize_core.specs.LastMatch.{ended_at, last_match}
 pub use Rattle.determinize_core.specs.Equality.{same}
 pub use Rattle.determinize_core.specs.Searches.{HasMatch, IsSearch, start_for, text_of}
-pub use Rattle.determinize_core.specs.States.{EachApart, IsIndex}
+pub use Rattle.determinize_core.specs.States.{EachApart}
 pub use Rattle.determinize_lazy.specs.Cache.{after_step, after_walk, Cache, cache, count_after, fits, Grows, IsCutOff}
 pub use Rattle.determinize_lazy.specs.Cache.{keep, LazyValue, step_of}
 pub use Rattle.determinize_lazy.specs.Plenty.{HasRoom, KeepsAll, missing, with_step, with_walk}
@@ -43,10 +41,9 @@ pub use Rattle.determinize_lazy.specs.Private.Searched.{IsCachedPosition, IsOver
 pub use Rattle.determinize_lazy.specs.Private.Searched.{Leaves, LeavesText, next_place, Place, place, reported}
 pub use Rattle.determinize_lazy.specs.Private.Searched.{units_left}
 pub use Rattle.determinize_lazy.specs.Private.Starts.{AreStarts, start_index}
-pub use Rattle.determinize_lazy.specs.Private.Steps.{IsFailedStep, IsSound, IsStarted, IsStepped}
-pub use Rattle.determinize_lazy.specs.Private.Tags.{is_last_tag, match_at, match_of, match_reported, Tag, tag_in}
-pub use Rattle.determinize_lazy.specs.Private.Tags.{tag_of}
+pub use Rattle.determinize_lazy.specs.Private.Steps.{IsFailedStep, IsSound, IsStepped}
+pub use Rattle.determinize_lazy.specs.Private.Tags.{is_last_tag, match_of, match_reported, Tag, tag_in, tag_of}
 pub use Rattle.determinize_lazy.specs.CachedSearches.{is_last, units_read}
-pub use Rattle.determinize_lazy.specs.Stored.{column, entry_at, is_unit, state_at, table_in, target_from, target_in}
+pub use Rattle.determinize_lazy.specs.Stored.{column, entry_at, is_unit, state_at, table_in, target_in}
 pub use Rattle.determinize_lazy.specs.Table.{empty, index_in, is_cached, IsTable, same_unit, Table, with_target}
 pub use Rattle.determinize_lazy.specs.Table.{with_transition, with_value, with_values}

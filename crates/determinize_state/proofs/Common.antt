@@ -1,13 +1,12 @@
 -- The names that the proofs of this crate have in common: of std, of the definitions, and of the crates below.
-pub use Rattle.std.proofs.Common.{◌%◌, ◌*◌, ◌+◌, ◌++◌, ◌-◌, ◌/◌, ◌<◌, ◌==◌, [], ◌^◌, All, ap, append_assoc, arith}
-pub use Rattle.std.proofs.Common.{bit_and, bit_or, Bool, drop, Err, false, get_or, IfNone, IfSome, if◌then◌else◌, inl}
-pub use Rattle.std.proofs.Common.{inr, length, length-append, List, lit<, lit≤, nat_eq, nat_lt, None, not, Ok, Option}
-pub use Rattle.std.proofs.Common.{refl, Result, slice_index, Some, subst, suc, sym, take, true, zero, zero-add, ◌||◌, ℕ}
-pub use Rattle.std.proofs.Common.{◌∙◌, ◌∷◌, ◌≡◌, ◌≤◌, ◌⊎◌}
+pub use Rattle.std.proofs.Common.{◌%◌, ◌*◌, ◌+◌, ◌++◌, ◌-◌, ◌/◌, ◌<◌, ◌==◌, [], ◌^◌, All, ap, append_assoc, arith, Bool}
+pub use Rattle.std.proofs.Common.{drop, Err, false, get_or, IfSome, inr, length, length-append, List, lit<, lit≤}
+pub use Rattle.std.proofs.Common.{nat_eq, nat_lt, None, not, Ok, Option, refl, Result, slice_index, Some, subst, suc}
+pub use Rattle.std.proofs.Common.{sym, take, true, zero, zero-add, ◌||◌, ℕ, ◌∙◌, ◌∷◌, ◌≡◌, ◌≤◌, ◌⊎◌}
 pub use Rattle.std.proofs.Math.Seq.{drop-append_seam, take-append_seam, take-length}
 pub use Rattle.std.proofs.lemmas.Bool.{eq-eqb, eqb-true, or_left, true≢false}
-pub use Rattle.std.proofs.lemmas.Bool.Decides.{Decides-at, Decides-eqb, Decides-or, leb_tells, nat_tests}
-pub use Rattle.std.proofs.lemmas.List.{append-nil, drop-drop, length-take, take-append-le}
+pub use Rattle.std.proofs.lemmas.Bool.Decides.{Decides-at, Decides-eqb, Decides-or, nat_tests}
+pub use Rattle.std.proofs.lemmas.List.{append-nil, drop-drop}
 pub use Rattle.std.proofs.lemmas.List.Elements.{All-cons, All-head, All-push, All-tail, filter-append}
 pub use Rattle.std.specs.Bool.{Decides, one_answer}
 pub use Rattle.std.specs.Cmp.{Equal-is, nat_eq_equiv, unsigned_ties}
@@ -22,9 +21,8 @@ pub use Rattle.determinize_state.specs.Equality.{by_bytes, Decides-same, parts, 
 pub use Rattle.determinize_state.specs.Private.Groups.{read}
 pub use Rattle.determinize_state.specs.Private.PatternBytes.{with_bit, with_pattern_bytes}
 pub use Rattle.determinize_state.specs.Recording.{added, added_one, IsGrown, needs, with_assertion}
-pub use Rattle.determinize_state.specs.Spelling.{bit, flags, has_flag, is_explicit, IsSpelled, number_at, numbers_in}
-pub use Rattle.determinize_state.specs.Spelling.{pattern_bytes, patterns_in, spell, start_in, value_of, with_word, word}
-pub use Rattle.determinize_state.specs.Spelling.{words}
+pub use Rattle.determinize_state.specs.Spelling.{has_flag, is_explicit, IsSpelled, number_at, numbers_in, patterns_in}
+pub use Rattle.determinize_state.specs.Spelling.{spell, start_in, value_of, with_word, word, words}
 pub use Rattle.determinize_state.specs.Value.{dead, is_nonempty, IsValue, Value, with_pattern, with_state}
 pub use Rattle.determinize_state.specs.Varint.{deltas, groups, ids_from, IsDeltas, last_id, unzigzag, varint, zigzag}
 pub use Rattle.ordered_reach.proofs.Cases.{by_test}

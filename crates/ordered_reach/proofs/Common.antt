@@ -1,10 +1,8 @@
 -- The names that the proofs of this crate have in common: of std, of the definitions, and of the crates below.
-pub use Rattle.std.proofs.Common.{◌&&◌, ◌+◌, ◌++◌, ◌-◌, ◌<◌, [], ap, append_assoc, arith, Bool, cond, eqb, Equal, false}
-pub use Rattle.std.proofs.Common.{Greater, inl, inr, length, length-append, Less, List, map, nat_cmp, None, not, Option}
-pub use Rattle.std.proofs.Common.{Ordering, refl, Some, subst, suc, sym, take, true, zero, ◌||◌, ℕ, ◌∙◌, ◌∷◌, ◌≡◌, ◌≤◌}
-pub use Rattle.std.proofs.Common.{◌⊎◌}
-pub use Rattle.std.proofs.lemmas.Bool.{and_from, and_parts, cases_order, eq-eqb, eqb-true, false≢true, lt-ltb, ltb-true}
-pub use Rattle.std.proofs.lemmas.Bool.{ne_eqb, or_left, or_right, true≢false}
+pub use Rattle.std.proofs.Common.{◌&&◌, ◌+◌, ◌++◌, ◌-◌, ◌<◌, [], ap, append_assoc, arith, Bool, cond, false, inl, inr}
+pub use Rattle.std.proofs.Common.{length, length-append, List, map, None, not, Option, refl, Some, subst, suc, sym}
+pub use Rattle.std.proofs.Common.{take, true, zero, ◌||◌, ℕ, ◌∙◌, ◌∷◌, ◌≡◌, ◌≤◌, ◌⊎◌}
+pub use Rattle.std.proofs.lemmas.Bool.{eqb-true, false≢true, or_left, or_right, true≢false}
 pub use Rattle.std.proofs.lemmas.List.{append-nil, map-append}
 pub use Rattle.std.proofs.lemmas.List.Concat.{flat_map-append}
 pub use Rattle.std.proofs.lemmas.List.Elements.{All-cons, All-nil, filter-append}

@@ -53,7 +53,8 @@ module _ (nfa : Nfa) (kind : MatchKind) where
   pub last_match-within : (v : Value) (us : List (Option ℕ))
       → IfSome (last_match (future nfa kind v us)) (λ m. m.offset < length us)
   last_match-within v us =
-      rw (future_is nfa kind v us) (rw (zero-add, length-tail nfa kind v us) at (last_ended-within 0 (tail nfa kind v us)))
+      rw (future_is nfa kind v us)
+      (rw (zero-add, length-tail nfa kind v us) at (last_ended-within 0 (tail nfa kind v us)))
 
 -- a match that was found stays found over more units
 pub longer : (nfa : Nfa) (kind : MatchKind) (v : Value) (us rest : List (Option ℕ))

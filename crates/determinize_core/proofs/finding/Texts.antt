@@ -28,5 +28,6 @@ module _ (text : Text) where
   -- nothing is left past its bytes and the unit ahead
   pub all_read : {n m : ℕ} → n < m → n ≡ length text.bytes → length (units text) ≤ m
   all_read h is =
-      let count : length (units text) ≡ length text.bytes + 1 = ap length units_listed ∙ simp (length-append, length-map) in
+      let count : length (units text) ≡ length text.bytes + 1 =
+      ap length units_listed ∙ simp (length-append, length-map) in
       omega (arith, h, is)

@@ -1,6 +1,6 @@
 -- The states of each value of a walk are states of the NFA.
 -- Main statements: start_resolves, targets_resolve, step_resolves.
--- Used by: WalkSteps, `start_state`, `transition`.
+-- Used by: ReturnedWalk, `start_state`, `transition`.
 -- Idea: edges and targets of a valid NFA go to its states.
 use Rattle.determinize_core.proofs.Common.{[], accepted_sound, All-from_member, AllResolve, arith, Assertion, Bool}
 use Rattle.determinize_core.proofs.Common.{eqb-true, has, is_capture, is_match, IsAccepted, length, List, MatchKind}

@@ -42,7 +42,8 @@ module _ (nfa : Nfa) (text : Text) (start : ℕ) where
   one_preferred i j x y cs ds a b =
       let e : cs ≡ ds = same_least cs ds (a.preferred ds j y b.accepts) (b.preferred cs i x a.accepts) in
       let q : (i, a.accepts.0) ≡ (j, b.accepts.0) =
-      one_end (choices nfa text) [] (0, start) ds (i, a.accepts.0) (j, b.accepts.0) (rw e at a.accepts.1) b.accepts.1 in (
+      one_end (choices nfa text) [] (0, start) ds (i, a.accepts.0) (j, b.accepts.0)
+      (rw e at a.accepts.1) b.accepts.1 in (
         ap (λ w. w.0) q,
         some_injective x y (ap pattern_in (sym a.accepts.2 ∙ ap (λ w. state_at nfa w.1) q ∙ b.accepts.2)),
       )

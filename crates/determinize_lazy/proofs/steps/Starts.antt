@@ -38,7 +38,8 @@ at_its_index nfa s p i e = by_test (nat_eq s nfa.start_anchored)
 
 -- what is kept for a start is its state
 pub start_is : (nfa : Nfa) (t : StoredTable) {i : ℕ} (s : ℕ) (p : Option ℕ) → AreStarts nfa t
-    → start_index nfa s p ≡ Some i → (o : Option ℕ) → o ≡ get_or t.starts i None → IfSome o (λ id. slice_get t.states id ≡ Some (start_value nfa s p))
+    → start_index nfa s p ≡ Some i → (o : Option ℕ) → o ≡ get_or t.starts i None
+    → IfSome o (λ id. slice_get t.states id ≡ Some (start_value nfa s p))
 start_is nfa t s p are at None e = tt
 start_is nfa t {i} s p are at (Some id) e = are i id (start_value nfa s p) (sym e) (at_its_index nfa s p i at)
 

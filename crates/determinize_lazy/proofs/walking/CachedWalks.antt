@@ -1,11 +1,10 @@
 -- Walks, one step more at a time, and what is left of a walk that fails.
 use Rattle.determinize_lazy.proofs.Common.{[], after_step, after_walk, AllResolve, ap, arith, by_cases, Cache, drop}
 use Rattle.determinize_lazy.proofs.Common.{future, get_or_from_slice_get, inl, inr, IsAccepted, IsCutOff, IsFailedStep}
-use Rattle.determinize_lazy.proofs.Common.{IsReached, length, length-take-le, List, MatchKind, Nfa, Option, refl, same}
-use Rattle.determinize_lazy.proofs.Common.{slice_get, slice_get_within, Some, step_of, take, take_all, take_more, Value}
+use Rattle.determinize_lazy.proofs.Common.{IsReached, length, List, MatchKind, Nfa, Option, refl, same, slice_get}
+use Rattle.determinize_lazy.proofs.Common.{slice_get_within, Some, step_of, take, take_all, take_more, Value}
 use Rattle.determinize_lazy.proofs.Common.{value_after, ℕ, ◌++◌, ◌+◌, ◌<◌, ◌∙◌, ◌∷◌, ◌≡◌, ◌≤◌}
-use Rattle.std.proofs.lemmas.List.{drop_more, get_or_at, length-append, take_at}
-use Rattle.std.proofs.lemmas.Option.{slice_get-get_or}
+use Rattle.std.proofs.lemmas.List.{drop_more}
 use Rattle.determinize_core.specs.Step.{step}
 use Rattle.determinize_core.proofs.walk.WalkLoops.{future-push, value_after-push}
 use Rattle.determinize_core.proofs.step.Resolving.{step_resolves}
@@ -54,18 +53,6 @@ module _ {K : Type 0} (xs : List K) (i : ℕ) (x : K) (at : slice_get xs i ≡ S
 
   pub drop-one : drop i xs ≡ x ∷ drop (i + 1) xs
   drop-one = rw (drop_more xs i x within, get_or_from_slice_get xs i x x at)
-
-  pub take-length : length (take i xs) ≡ i
-  take-length = length-take-le i xs (let h = within in omega arith)
-
--- the part of a list before an element, and the element
-module _ {K : Type 0} (xs : List K) (x : K) (rest : List K) (i : ℕ) (at : length xs ≡ i) where
-  pub take-before : take i (xs ++ x ∷ rest) ≡ xs
-  take-before = take_at xs (x ∷ rest) i at
-
-  pub get-after : slice_get (xs ++ x ∷ rest) i ≡ Some x
-  get-after = slice_get-get_or (xs ++ x ∷ rest) i x (rw length-append (omega arith))
-      ∙ ap Some (get_or_at xs x rest x i at)
 
 module _ {old : Cache} {first : Value} {us : List (Option ℕ)} {read : ℕ} {v : Value} {now : Cache}
     (r : IsReached old first us read v now) where

@@ -1,9 +1,11 @@
 -- Adding states to a builder one by one.
--- Main statements: added_one-after, added-none, with_fact.
+-- Main statements: added_one-after, added-none, rest_below.
 -- Used by: `add_states`, and the closure that records.
 -- Idea: the value after a list is that after its first states and then one more.
-use Rattle.determinize_state.proofs.Common.{◌≡◌, ◌<◌, ℕ, All, subst, not, List, [], ◌∷◌, ◌++◌, Result, Ok, Err, refl, sym, ap, ◌∙◌, append_assoc, append-nil, All-tail, filter-append, is_capture, assertion_of, Nfa, without, by_test, added, added_one, needs, with_assertion, Value}
-use Rattle.std.specs.Result.{IfOk, OnOk}
+use Rattle.determinize_state.proofs.Common.{◌≡◌, ◌<◌, ℕ, All, subst, not, List, [], ◌∷◌, ◌++◌, refl}
+use Rattle.determinize_state.proofs.Common.{sym, ap, ◌∙◌, append_assoc, append-nil, All-tail, filter-append, is_capture}
+use Rattle.determinize_state.proofs.Common.{assertion_of, Nfa, without, by_test, added, added_one, needs}
+use Rattle.determinize_state.proofs.Common.{with_assertion, Value}
 
 module _ (nfa : Nfa) where
   needs-append : (set : ℕ) (xs ys : List ℕ) → needs nfa set (xs ++ ys) ≡ needs nfa (needs nfa set xs) ys
@@ -34,12 +36,6 @@ module _ (nfa : Nfa) where
   pub added-none : (v : Value) → v ≡ added nfa v []
   unfolding added_by
   added-none v = ap (λ l. added_by v v.look_need l) (sym (append-nil v.states))
-
--- combining two facts of a result
-pub with_fact : {T E : Type 0} (r : Result T E) (P : T → Type 0) (Q R : Type 0) → (Q → R) → IfOk r P → OnOk r Q
-    → IfOk r (λ x. P x × R)
-with_fact (Ok x) P Q R f p q = (p, f q)
-with_fact (Err e) P Q R f p q = tt
 
 -- the rest of a list whose elements are below a bound
 pub rest_below : (bound : ℕ) (xs ys : List ℕ) (x : ℕ) → xs ≡ x ∷ ys → All (λ id. id < bound) xs

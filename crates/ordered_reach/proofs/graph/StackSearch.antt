@@ -2,7 +2,7 @@
 -- Main statements: ordered-append, closure-held, closure-new.
 -- Used by: RootByRoot, and the loop of an epsilon closure.
 -- Idea: a visited node is skipped; a new one is listed, and its edges go before the other pending nodes.
-use Rattle.ordered_reach.proofs.Common.{[], ap, append-nil, append_assoc, arith, Bool, Decides, edge_count, ends, false, flat_map, flat_map-append, fun_ext, joined, length-append, List, member, none_held, or_left, ordered, search_tries, suc, true, with_node, ℕ, ◌++◌, ◌∷◌, ◌≡◌, closure}
+use Rattle.ordered_reach.proofs.Common.{[], ap, append_assoc, arith, Bool, Decides, edge_count, ends, false, flat_map, flat_map-append, fun_ext, joined, length-append, List, member, none_held, or_left, ordered, search_tries, suc, true, with_node, ℕ, ◌++◌, ◌∷◌, ◌≡◌, closure}
 use Rattle.ordered_reach.proofs.graph.ClosedSets.{IsEnough, IsEnough-from_none, ends-held, roots_find_closed, fresh-ends_new, fresh-held}
 use Rattle.ordered_reach.proofs.lists.NewNodes.{fresh-append, member-append, member-fresh}
 
@@ -21,9 +21,6 @@ module _ {N : Type 0} {eq : N → N → Bool} (dec : (a b : N) → Decides (eq a
     ordered-new met r rs e =
         rw (member-push met r) (fresh-ends_new dec edges n (member eq met) r rs e
         (IsEnough-from_none dec edges n (member eq met) r (enough r)))
-
-    pub closure-done : (met : List N) → closure eq edges n met [] ≡ met
-    closure-done met = append-nil met
 
     pub closure-held : (met : List N) (r : N) (rs : List N) → member eq met r ≡ true
         → closure eq edges n met (r ∷ rs) ≡ closure eq edges n met rs

@@ -15,7 +15,8 @@ loop-offset-preserved g c =
     ]
 
 pub returns : goal.returns
-returns g c = rw (c.in-Some.ensures.cases.0, ← take_all c.loop-offset.offset c.in-Some.others.now c.loop-offset-test.false)
+returns g c =
+    rw (c.in-Some.ensures.cases.0, ← take_all c.loop-offset.offset c.in-Some.others.now c.loop-offset-test.false)
     c.loop-offset.invariant
 
 pub match_pattern-pattern-requires : goal.match_pattern-pattern-requires
