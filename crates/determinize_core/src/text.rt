@@ -79,6 +79,19 @@ impl<'h> Text<'h> {
         Text::with_order(behind, bytes, is_backward, ahead)
     }
 
+    /// Returns a copy.
+    #[inline(always)]
+    pub fn copied(&self) -> Text<'h>
+        ensures { result ≡ self.now }
+    {
+        Text {
+            behind: self.behind,
+            bytes: self.bytes,
+            is_backward: self.is_backward,
+            ahead: self.ahead,
+        }
+    }
+
     /// Returns the byte behind the first.
     #[inline(always)]
     pub fn behind(&self) -> Option<u8>

@@ -71,6 +71,7 @@ struct CachedPosition {
 
 impl CachedPosition {
     /// Returns the position with a cursor in place of the id.
+    #[inline(always)]
     fn with_cursor<A: Allocator>(self) -> Position<A>
         ensures { result ≡ with_cursor self }
     {
@@ -243,6 +244,8 @@ impl<'n, N: Allocator, A: Allocator + Copy> Lazy<'n, N, A> {
     /// Searches a text from a position to its end, with the unit ahead. Returns the last match of
     /// all states of the search, with those before the position. The search ends at a dead state
     /// or, if `earliest`, at the first match state.
+    #[cold]
+    #[inline(never)]
     pub(crate) fn search_from(
         &mut self,
         from: Position<A>,
@@ -261,24 +264,6 @@ impl<'n, N: Allocator, A: Allocator + Copy> Lazy<'n, N, A> {
         }
         let at = self.advance(at, text.ahead())?;
         Ok(self.found(&at))
-    }
-
-    /// Searches as `search_from` does, from a position at a cached state.
-    #[cold]
-    #[inline(never)]
-    fn search_on(
-        &mut self,
-        from: CachedPosition,
-        text: &Text<'_>,
-        earliest: bool,
-    ) -> Result<Option<HalfMatch>, AllocError>
-        requires position { IsCachedPosition self.old from }
-        requires read { from.read ≤ length text.now.bytes }
-        ensures over { Leaves earliest (units text.now) (cached_place self.old from) result
-            (cache self.new) }
-        ensures grows { Grows (cache self.old) (cache self.new) }
-    {
-        self.search_from(from.with_cursor(), text, earliest)
     }
 
     /// Searches as `search_text` does, from a start state whose id is not kept.
@@ -318,14 +303,17 @@ impl<'n, N: Allocator, A: Allocator + Copy> Lazy<'n, N, A> {
         ensures grows { Grows (cache self.old) (cache self.new) }
     {
         let Some(id) = self.kept_start(start, text.behind()) else {
-            return self.search_anew(start, text, earliest);
+            // A copy, so that a search that only reads the cache keeps its text in registers.
+            let text = text.copied();
+            return self.search_anew(start, &text, earliest);
         };
         let at = self.follow_to_end(id, text, earliest);
         let tag = self.table.tag(at.id);
         if at.read > text.len() || tag.is_last(earliest) {
             return Ok(at.last.or_match(tag, at.read).get());
         }
-        self.search_on(at, text, earliest)
+        let text = text.copied();
+        self.search_from(at.with_cursor(), &text, earliest)
     }
 
     /// Searches the range of an input in the direction of the NFA. The match is one of the text

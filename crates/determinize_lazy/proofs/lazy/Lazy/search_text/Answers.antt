@@ -1,7 +1,8 @@
-use Rattle.determinize_lazy.proofs.Common.{AllResolve, ap, cache, cached_place, dead, first_place, GoesOn}
-use Rattle.determinize_lazy.proofs.Common.{get_or_from_slice_get, inl, inr, LazyValue, match_of, match_reported}
-use Rattle.determinize_lazy.proofs.Common.{option_or, slice_get, slice_get-get_or, slice_get_within, slice_index_or}
-use Rattle.determinize_lazy.proofs.Common.{start_value, subst, sym, Tag, tag_in, tag_of, units, Value, ◌∙◌, ◌≡◌}
+use Rattle.determinize_lazy.proofs.Common.{AllResolve, ap, cache, cached_place, dead, first_place}
+use Rattle.determinize_lazy.proofs.Common.{get_or_from_slice_get, GoesOn, inl, inr, LazyValue, Leaves, match_of}
+use Rattle.determinize_lazy.proofs.Common.{match_reported, option_or, slice_get, slice_get-get_or, slice_get_within}
+use Rattle.determinize_lazy.proofs.Common.{slice_index_or, start_value, subst, sym, Tag, tag_in, tag_of, Text, units}
+use Rattle.determinize_lazy.proofs.Common.{Value, ◌∙◌, ◌≡◌}
 use Rattle.determinize_core.proofs.finding.Texts.{all_read}
 use Rattle.determinize_lazy.proofs.finding.Searching.{leaves, over-at, tag-last}
 use Rattle.determinize_lazy.proofs.lazy.Lazy.search_text.Given.{Over}
@@ -51,4 +52,7 @@ returns-then-at-len-clause-over g c =
 
 pub returns-clause-over : goal.returns-clause-over
 returns-clause-over g c =
-    leaves c.search_on.result _ (here g (goal.at.returns-clause-over g c).After-len) c.search_on.ensures.over
+    leaves c.search_from.result _ (here g (goal.at.returns-clause-over g c).After-len)
+    (subst (λ (t : Text). Leaves c.args.earliest (units t) (cached_place c.args.self.now c.follow_to_end-at.result)
+    c.search_from.result (cache c.search_from.new.self)) c.copied-text-2.ensures
+    (rw c.with_cursor.ensures at c.search_from.ensures.over))
