@@ -6,7 +6,7 @@
 
 ghost use Rattle.std.specs.Prelude.{◌≡◌, All, true, IfOk};
 ghost use Rattle.determinize_below.specs.Nfa.{AllResolve};
-ghost use Rattle.determinize_core.specs.Searches.{has_start};
+ghost use Rattle.determinize_engine.specs.Searches.{has_start};
 
 mod caches;
 mod large;

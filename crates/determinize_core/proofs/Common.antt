@@ -24,12 +24,8 @@ unfoldable pub use Rattle.determinize_core.specs.Chain.{chain}
 pub use Rattle.determinize_core.specs.LastMatch.{ended_at, IsFarthestMatch, IsPreferredMatch, last_ended, last_match}
 pub use Rattle.determinize_core.specs.LastMatch.{lists_of}
 pub use Rattle.determinize_core.specs.Private.Changes.{with_patterns}
-pub use Rattle.determinize_core.specs.Private.Interned.{AreInterned}
 pub use Rattle.determinize_core.specs.Private.Reading.{IsListRead}
 unfoldable pub use Rattle.determinize_core.specs.Private.Search.{tries_left}
-pub use Rattle.determinize_core.specs.Searches.{HasMatch, in_haystack, in_order, IsFarthestIn, IsPreferredIn, IsSearch}
-pub use Rattle.determinize_core.specs.Searches.{start_for, text_of}
-pub use Rattle.determinize_core.specs.States.{EachApart, IsIndex}
 pub use Rattle.determinize_core.specs.Step.{begun, distinct_states, is_reopened, opened_by, part_read, patterns_read}
 pub use Rattle.determinize_core.specs.Step.{start_value, targets, working_list}
 unfoldable pub use Rattle.determinize_core.specs.Step.{step}

@@ -10,13 +10,10 @@ pub use Rattle.determinize_state.specs.Varint
 pub mod Alike
 pub mod Chain
 pub mod Closure
-pub mod Engines
 pub mod LastMatch
 pub mod Laws
 pub mod Private
 pub mod Scratch
-pub mod Searches
-pub mod States
 pub mod Step
 pub mod Stepper
 pub mod Tries

@@ -1,5 +1,4 @@
 -- What private functions promise each other: no public contract cites these definitions.
 pub mod Changes
-pub mod Interned
 pub mod Reading
 pub mod Search

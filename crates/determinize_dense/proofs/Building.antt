@@ -13,7 +13,7 @@ use Rattle.std.proofs.Math.Nat.{mul-le-mul_right, mul_comm}
 use Rattle.std.proofs.lemmas.Nat.{row-Below}
 use Rattle.std.proofs.lemmas.Option.{slice_get_read}
 use Rattle.determinize_dense.proofs.Reached.{reached-dead}
-use Rattle.determinize_core.proofs.states.Places.{apart-push, get_more, get_push, not_both, not_none}
+use Rattle.determinize_engine.proofs.Places.{apart-push, get_more, get_push, not_both, not_none}
 
 -- nothing changes
 pub stays-same : (b : Building) → Stays b b

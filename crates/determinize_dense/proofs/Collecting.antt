@@ -6,7 +6,7 @@ use Rattle.determinize_core.proofs.Common.{◌≡◌}
 use Rattle.std.specs.Prelude.{◌%◌, ◌/◌}
 use Rattle.std.proofs.lemmas.Nat.{div-mul-add, mod-mul-add}
 use Rattle.determinize_dense.proofs.Common.{Table}
-use Rattle.determinize_core.proofs.states.Places.{not_both}
+use Rattle.determinize_engine.proofs.Places.{not_both}
 use Rattle.determinize_dense.specs.Private.Minimizing.{AreMergedEntries, entry, merged_entry}
 use Rattle.determinize_dense.specs.Private.Partition.{Blocks}
 use Rattle.determinize_dense.specs.Private.Rows.{offset_of}

@@ -2,9 +2,10 @@
 -- Main statement: each_count_is_one.
 -- Used by: the law of the number of states.
 -- Idea: a list of values, each once, that are all in another list is not longer than that.
-use Rattle.determinize_core.proofs.Common.{ap, arith, Contains, EachApart, length, List, same, Some, sym}
+use Rattle.determinize_core.proofs.Common.{ap, arith, Contains, length, List, same, Some, sym}
+use Rattle.determinize_engine.specs.States.{EachApart}
 use Rattle.determinize_core.proofs.Common.{Value, ◌∙◌, ◌≡◌, ◌≤◌}
-use Rattle.determinize_core.proofs.states.Places.{same_laws}
+use Rattle.determinize_engine.proofs.Places.{same_laws}
 use Rattle.determinize_dense.specs.Dfa.{EachCountIsOne}
 use Rattle.determinize_state.specs.Equality.{Decides-same}
 use Rattle.ordered_reach.proofs.lists.Pairs.{pairs_from}

@@ -1,12 +1,14 @@
 -- A search of an input, in words of runs.
-use Rattle.determinize_core.proofs.Common.{ap, Asked, Bool, Decides, false, HalfMatch, HasMatch, is_some, IsSearch}
-use Rattle.determinize_core.proofs.Common.{last_match, Nfa, Option, refl, start_for, Text, text_of, ◌∙◌, ◌≡◌}
+use Rattle.determinize_core.proofs.Common.{ap, Asked, Bool, Decides, false, HalfMatch, is_some}
+use Rattle.determinize_engine.specs.Searches.{HasMatch, IsSearch}
+use Rattle.determinize_core.proofs.Common.{last_match, Nfa, Option, refl, Text, ◌∙◌, ◌≡◌}
+use Rattle.determinize_engine.specs.Searches.{start_for, text_of}
 use Rattle.determinize_dense.proofs.Common.{DfaValue, is_anchored, IsFound, start_in}
 use Rattle.determinize_below.specs.declared.search.Anchored.{Anchored}
 use Rattle.determinize_below.specs.declared.search.Anchored.TheVariants.{No, Pattern, Yes}
 use Rattle.determinize_core.specs.Chain.{chain}
-use Rattle.determinize_core.proofs.finding.Ranges.{match-decides}
-use Rattle.determinize_core.proofs.finding.Headline.{is-search}
+use Rattle.determinize_engine.proofs.Ranges.{match-decides}
+use Rattle.determinize_engine.proofs.Headline.{is-search}
 
 -- the state from which a search starts
 pub start_is : (nfa : Nfa) (a : Anchored) → start_in nfa (is_anchored a) ≡ start_for nfa a

@@ -2,7 +2,7 @@
 use Rattle.determinize_core.proofs.Common.{ap, get_or, length, List, map, None, refl, Some, sym, take, take_more}
 use Rattle.determinize_core.proofs.Common.{Value, ℕ, [], ◌++◌, ◌+◌, ◌<◌, ◌∙◌, ◌∷◌, ◌≡◌}
 use Rattle.determinize_core.specs.Value.{listed}
-use Rattle.determinize_core.proofs.states.Places.{not_none, of_some}
+use Rattle.determinize_engine.proofs.Places.{not_none, of_some}
 
 -- what is listed
 pub listed-some : (ps xs : List ℕ) → Some xs ≡ listed ps → xs ≡ ps

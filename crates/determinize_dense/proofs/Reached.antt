@@ -21,9 +21,9 @@ use Rattle.determinize_core.specs.Alike.{NeedsTested}
 use Rattle.determinize_core.proofs.closure.EmptySearch.{reach-none}
 use Rattle.determinize_core.proofs.step.AlikeBytes.{each_need_is_tested}
 use Rattle.determinize_core.proofs.walk.WalkLoops.{value_after-push}
-use Rattle.determinize_core.proofs.finding.LastUnits.{step_over}
-pub use Rattle.determinize_core.proofs.finding.TextUnits.{one_unit}
-use Rattle.determinize_core.proofs.states.Places.{of_some}
+use Rattle.determinize_engine.proofs.LastUnits.{step_over}
+pub use Rattle.determinize_engine.proofs.TextUnits.{one_unit}
+use Rattle.determinize_engine.proofs.Places.{of_some}
 
 pub head_unit : (u : Option ℕ) (us : List (Option ℕ)) → All IsUnit (u ∷ us) → IsUnit u
 head_unit u us h = h 0 None (omega arith)

@@ -11,8 +11,8 @@ use Rattle.determinize_dense.proofs.Common.{row_after, row_over, start_in, start
 use Rattle.determinize_dense.proofs.Lists.{map-push}
 use Rattle.determinize_core.specs.Chain.{chain}
 use Rattle.std.proofs.lemmas.List.Elements.{All-append, All-drop}
-use Rattle.determinize_core.proofs.finding.LastUnits.{longer}
-use Rattle.determinize_core.proofs.finding.Texts.{units_listed}
+use Rattle.determinize_engine.proofs.LastUnits.{longer}
+use Rattle.determinize_engine.proofs.Texts.{units_listed}
 use Rattle.determinize_dense.proofs.Offsets.{offset-zero, same-offset}
 use Rattle.determinize_dense.proofs.Reached.{head_unit, no_units, one_unit, tail_units}
 use Rattle.determinize_dense.proofs.Splitting.{below_or}

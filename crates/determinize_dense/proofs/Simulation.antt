@@ -19,7 +19,7 @@ use Rattle.std.proofs.lemmas.Nat.{div-mul-add, mod-mul-add, mul-add-lt}
 use Rattle.determinize_core.specs.Alike.{NeedsTested}
 use Rattle.determinize_core.proofs.step.AlikeBytes.{each_class_steps}
 use Rattle.determinize_core.proofs.step.StepLaws.{dead_stays}
-use Rattle.determinize_core.proofs.states.Places.{of_some}
+use Rattle.determinize_engine.proofs.Places.{of_some}
 use Rattle.determinize_dense.proofs.Reached.{head_unit, reached-tested, start-number, tail_units}
 
 -- units after units

@@ -7,7 +7,7 @@ use Rattle.determinize_below.specs.declared.search.Anchored.{Anchored}
 use Rattle.determinize_below.specs.declared.search.Anchored.TheVariants.{No}
 use Rattle.determinize_below.specs.declared.search.MatchKind.{MatchKind}
 use Rattle.determinize_core.specs.Chain.{value_after}
-use Rattle.determinize_core.specs.States.{EachApart}
+use Rattle.determinize_engine.specs.States.{EachApart}
 use Rattle.determinize_core.specs.Step.{start_value}
 use Rattle.determinize_core.specs.Value.{Value}
 use Rattle.determinize_dense.specs.Table.{Table, patterns_at, row_after, start_row}

@@ -22,7 +22,7 @@ use determinize_below::{MatchKind, NFA, PatternID, StateID, Unit};
 use determinize_core::determinize::Stepper;
 use determinize_core::start::{Start, start_kind_of};
 use determinize_core::state::State;
-use determinize_core::state_table::{MAX_STATES, StateTable};
+use determinize_engine::state_table::{MAX_STATES, StateTable};
 use std::alloc::{AllocError, Allocator};
 use std::marker::Model;
 

@@ -9,7 +9,7 @@ ghost use Rattle.determinize_below.specs.Semantics.{Accepts, between};
 ghost use Rattle.determinize_below.specs.Search.{is_done};
 ghost use Rattle.determinize_below.specs.declared.search.MatchKind.TheVariants as kinds;
 ghost use Rattle.determinize_core.specs.Chain.{units};
-ghost use Rattle.determinize_core.specs.Searches.{HasMatch, IsFarthestIn, IsPreferredIn, IsSearch, has_start, last_in, start_for, text_of};
+ghost use Rattle.determinize_engine.specs.Searches.{HasMatch, IsFarthestIn, IsPreferredIn, IsSearch, has_start, last_in, start_for, text_of};
 ghost use Rattle.determinize_core.specs.Walk.{ListsAccepted};
 ghost use Rattle.determinize_dense.specs.Dfa as dfas;
 ghost use Rattle.determinize_dense.specs.Dfa.{value_from};
@@ -20,8 +20,8 @@ ghost use Rattle.determinize_dense.specs.Private.Searching.{FindsFrom, IsFound, 
 use crate::dfa::{Dfa, SCALE};
 use crate::pauses::{FIRST, Pauses};
 use determinize_below::{Anchored, HalfMatch, Input, PatternID};
-use determinize_core::engine::Engine;
-use determinize_core::text::{Text, in_haystack};
+use determinize_engine::engine::Engine;
+use determinize_engine::text::{Text, in_haystack};
 use std::alloc::Allocator;
 use std::convert::Infallible;
 

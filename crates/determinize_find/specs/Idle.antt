@@ -1,7 +1,7 @@
 -- Idle scans, and runs that began before a position.
 use Rattle.std.specs.Prelude.{◌≡◌, ◌<◌, ℕ, List, None, Some, slice_get}
 use Rattle.determinize_below.specs.Semantics.{Nfa, Text}
-use Rattle.determinize_lazy.specs.Scans.{Scanned}
+use Rattle.determinize_engine.specs.Scans.{Scanned}
 use Rattle.determinize_find.specs.Leftmost.{IsRunFrom, NothingFrom}
 
 -- there is no match so far, and the first NFA state is the unanchored start

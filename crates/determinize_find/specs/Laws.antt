@@ -8,7 +8,7 @@ use Rattle.determinize_below.specs.declared.search.HalfMatch.{HalfMatch}
 use Rattle.determinize_below.specs.declared.search.Match.{Match}
 use Rattle.determinize_below.specs.declared.search.MatchKind.TheVariants.{LeftmostFirst}
 use Rattle.determinize_core.specs.LastMatch.{IsPreferredMatch}
-use Rattle.determinize_lazy.specs.Scans.{IsScan, Scanned}
+use Rattle.determinize_engine.specs.Scans.{IsScan, Scanned}
 use Rattle.determinize_find.specs.Idle.{HasBegun, IsIdle, NothingBefore}
 use Rattle.determinize_find.specs.Leftmost.{AcceptsFrom, IsLeftmost}
 use Rattle.determinize_find.specs.LeftmostIn.{IsLeftmostIn, is_anchored}

@@ -4,7 +4,7 @@ use mathlib.Core.Bool.{◌&&◌}
 use Rattle.determinize_below.specs.Semantics.{Nfa}
 use Rattle.determinize_below.specs.Search.{Asked}
 use Rattle.determinize_below.specs.declared.search.Match.{Match}
-use Rattle.determinize_core.specs.Searches.{text_of}
+use Rattle.determinize_engine.specs.Searches.{text_of}
 use Rattle.determinize_find.specs.Leftmost.{AcceptsFrom}
 use Rattle.determinize_find.specs.LeftmostIn.{IsLeftmostIn}
 

@@ -10,7 +10,7 @@ use Rattle.determinize_below.specs.declared.search.Match.{Match}
 use Rattle.determinize_below.specs.declared.search.MatchKind.TheVariants.{LeftmostFirst}
 use Rattle.determinize_start.specs.StartKinds.{byte_before}
 use Rattle.determinize_core.specs.Value.{is_nonempty}
-use Rattle.determinize_lazy.specs.Scans.{IsScan, Scanned}
+use Rattle.determinize_engine.specs.Scans.{IsScan, Scanned}
 use Rattle.determinize_find.specs.Idle.{IsIdle}
 use Rattle.determinize_find.specs.Matches.{AreMatches, from}
 use Rattle.determinize_find.specs.Prefix.{HasPrefix, HasPrefixApart}

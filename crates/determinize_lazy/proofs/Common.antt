@@ -26,24 +26,26 @@ pub use Rattle.determinize_core.specs.Step.{start_value}
 pub use Rattle.determinize_core.specs.Value.{dead, is_nonempty, Value}
 pub use Rattle.determinize_core.specs.LastMatch.{ended_at, last_match}
 pub use Rattle.determinize_core.specs.Equality.{same}
-pub use Rattle.determinize_core.specs.Searches.{HasMatch, IsSearch, start_for, text_of}
-pub use Rattle.determinize_core.specs.States.{EachApart}
-pub use Rattle.determinize_lazy.specs.Cache.{after_step, after_walk, Cache, cache, count_after, fits, Grows, IsCutOff}
-pub use Rattle.determinize_lazy.specs.Cache.{keep, LazyValue, step_of}
+pub use Rattle.determinize_engine.specs.Searches.{HasMatch, IsSearch, start_for, text_of}
+pub use Rattle.determinize_engine.specs.States.{EachApart}
+pub use Rattle.determinize_lazy.specs.Cache.{after_step, after_walk, Cache, cache, count_after, Grows, IsCutOff}
+pub use Rattle.determinize_table.specs.Table.{fits}
+pub use Rattle.determinize_lazy.specs.Cache.{LazyValue, step_of}
+pub use Rattle.determinize_table.specs.Table.{keep}
 pub use Rattle.determinize_lazy.specs.Plenty.{HasRoom, KeepsAll, missing, with_step, with_walk}
-pub use Rattle.determinize_lazy.specs.Private.Cursors.{cursor_value, IsAt, IsCursor}
+pub use Rattle.determinize_table.specs.Cursors.{cursor_value, IsAt, IsCursor}
 pub use Rattle.determinize_lazy.specs.Private.Invariant.{IsLazy}
-pub use Rattle.determinize_lazy.specs.Private.Rows.{AreRows, IsEmpty, IsStored, IsTarget, Leads, StartsStay}
-pub use Rattle.determinize_lazy.specs.Private.Rows.{StoredTable, table_of, with_state}
-pub use Rattle.determinize_lazy.specs.Private.Changes.{IsInterned, IsKept}
+pub use Rattle.determinize_table.specs.Rows.{AreRows, IsEmpty, IsStored, IsTarget, Leads, StartsStay}
+pub use Rattle.determinize_table.specs.Rows.{StoredTable, table_of, with_state}
+pub use Rattle.determinize_table.specs.Changes.{IsInterned, IsKept}
 pub use Rattle.determinize_lazy.specs.Private.Searched.{cached_place, Fails, first_place, GoesOn, HasStopped}
 pub use Rattle.determinize_lazy.specs.Private.Searched.{IsCachedPosition, IsOver, IsPosition, IsReached, last_left}
 pub use Rattle.determinize_lazy.specs.Private.Searched.{Leaves, LeavesText, next_place, Place, place, reported}
 pub use Rattle.determinize_lazy.specs.Private.Searched.{units_left}
 pub use Rattle.determinize_lazy.specs.Private.Starts.{AreStarts, start_index}
 pub use Rattle.determinize_lazy.specs.Private.Steps.{IsFailedStep, IsSound, IsStepped}
-pub use Rattle.determinize_lazy.specs.Private.Tags.{is_last_tag, match_of, match_reported, Tag, tag_in, tag_of}
-pub use Rattle.determinize_lazy.specs.CachedSearches.{is_last, units_read}
-pub use Rattle.determinize_lazy.specs.Stored.{column, entry_at, is_unit, state_at, table_in, target_in}
-pub use Rattle.determinize_lazy.specs.Table.{empty, index_in, is_cached, IsTable, same_unit, Table, with_target}
-pub use Rattle.determinize_lazy.specs.Table.{with_transition, with_value, with_values}
+pub use Rattle.determinize_table.specs.Tags.{is_last_tag, match_of, match_reported, Tag, tag_in, tag_of}
+pub use Rattle.determinize_engine.specs.UnitsRead.{is_last, units_read}
+pub use Rattle.determinize_table.specs.Stored.{column, entry_at, is_unit, state_at, table_in, target_in}
+pub use Rattle.determinize_table.specs.Table.{empty, index_in, is_cached, IsTable, same_unit, Table, with_target}
+pub use Rattle.determinize_table.specs.Table.{with_transition, with_value, with_values}

@@ -12,7 +12,7 @@ use Rattle.determinize_core.specs.Varint.{varint}
 use Rattle.determinize_core.specs.Chain.{chain}
 use Rattle.determinize_lazy.specs.Cache.{after_text}
 use Rattle.determinize_lazy.specs.CachedSearches.{after_search}
-use Rattle.determinize_core.specs.Searches.{last_in}
+use Rattle.determinize_engine.specs.Searches.{last_in}
 use Rattle.determinize_lazy.specs.WorkedRows.{AreWorkedRows}
 
 pub are_worked_rows : AreWorkedRows

@@ -1,6 +1,4 @@
 -- Searches over the cache: what they find and leave, in a haystack and in pieces.
 pub mod CachedRanges
 pub mod CachedSteps
-pub mod Later
-pub mod Scanning
 pub mod Searching

@@ -1,12 +1,12 @@
--- A bounded cache of transitions, and the rule of what it caches.
-use Rattle.std.specs.Prelude.{◌≡◌, ℕ, ◌+◌, ◌≤◌, ◌⊎◌, Bool, cond, Option, List, [], ◌∷◌, length, min, nat_le, take}
+-- A bounded cache of transitions.
+use Rattle.std.specs.Prelude.{◌≡◌, ℕ, ◌+◌, ◌≤◌, ◌⊎◌, cond, Option, List, [], ◌∷◌, length, min, take}
 use Rattle.determinize_below.specs.Semantics.{Nfa, Text}
 use Rattle.determinize_below.specs.declared.search.MatchKind.{MatchKind}
 use Rattle.determinize_core.specs.Chain.{units}
 use Rattle.determinize_core.specs.Step.{start_value, step}
 use Rattle.determinize_core.specs.Value.{Value}
-use Rattle.determinize_lazy.specs.Stored.{table_in}
-use Rattle.determinize_lazy.specs.Table.{Table, empty, is_cached, with_transition}
+use Rattle.determinize_table.specs.Stored.{table_in}
+use Rattle.determinize_table.specs.Table.{Table, empty, is_cached, keep}
 
 -- a cache: its NFA and match kind, the greatest number of states, the table, and how many
 -- transitions were computed
@@ -39,17 +39,6 @@ cache v = record {
 -- the step of its NFA and kind
 abbrev pub step_of : Cache → Value → Option ℕ → Value
 step_of c = step c.nfa c.kind
-
--- whether the table with one more transition, from v over u to w, has at most `limit` states
-abbrev pub fits : ℕ → Table → Value → Option ℕ → Value → Bool
-fits limit t v u w = nat_le (length (with_transition t v u w).states) limit
-
--- the table with one more transition; if it does not fit, that transition only; if that does not
--- fit either, nothing
-abbrev pub keep : ℕ → Table → Value → Option ℕ → Value → Table
-keep limit t v u w =
-    cond (fits limit t v u w) (with_transition t v u w)
-    (cond (fits limit empty v u w) (with_transition empty v u w) empty)
 
 -- the count after n more computed transitions, which stays at the greatest number of 64 bits
 abbrev pub count_after : ℕ → ℕ → ℕ

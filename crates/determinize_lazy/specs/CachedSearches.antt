@@ -1,26 +1,14 @@
 -- Searches over a cache: what they read, and what they leave.
-use Rattle.std.specs.Prelude.{◌≡◌, ℕ, Bool, true, false, cond, not, ◌&&◌, ◌||◌, Option, List, []}
-use Rattle.std.specs.Prelude.{◌∷◌}
+use Rattle.std.specs.Prelude.{◌≡◌, ℕ, Bool, true, false, cond, Option, List, ◌∷◌, [], map, Some}
 use Rattle.determinize_below.specs.Semantics.{Text}
 use Rattle.determinize_below.specs.Search.{Asked, is_done}
 use Rattle.determinize_core.specs.Chain.{units}
-use Rattle.determinize_core.specs.Searches.{start_for, text_of}
+use Rattle.determinize_engine.specs.Searches.{start_for, text_of}
 use Rattle.determinize_core.specs.Step.{start_value}
-use Rattle.determinize_core.specs.Value.{Value, is_nonempty}
+use Rattle.determinize_core.specs.Value.{Value}
+use Rattle.determinize_engine.specs.UnitsRead.{units_read}
 use Rattle.determinize_lazy.specs.Cache.{Cache, IsCutOff, after_walk, step_of}
 use Rattle.determinize_lazy.specs.Plenty.{HasRoom, KeepsAll}
-
--- whether a search ends at a value: it records no NFA states or, in a search for the earliest
--- match, it lists a pattern
-abbrev pub is_last : Bool → Value → Bool
-is_last earliest v = (earliest && is_nonempty v.patterns) || not (is_nonempty v.states)
-
--- the units that a search from a value reads: none more from a value on at which it ends
-abbrev pub units_read : (Value → Option ℕ → Value) → Bool → Value → List (Option ℕ)
-    → List (Option ℕ)
-units_read f earliest v [] = []
-units_read f earliest v (u ∷ us) =
-    cond (is_last earliest v) [] (u ∷ units_read f earliest (f v u) us)
 
 -- the units that a search from an NFA state over a text reads
 abbrev pub units_searched : Cache → ℕ → Text → List (Option ℕ)
@@ -69,3 +57,15 @@ IsCutOffIn earliest old asked new =
     let text : Text = text_of old.nfa.reverse asked in
     let first : Value = start_value old.nfa (start_for old.nfa asked.anchored) text.behind in
     IsCutOff old first (units_read (step_of old) earliest first (units text)) new
+
+-- the units that a scan reads of a piece, from its value on
+abbrev pub units_fed : Cache → Value → List ℕ → List (Option ℕ)
+units_fed c v piece = units_read (step_of c) false v (map Some piece)
+
+-- the same of the first piece, from an NFA state on
+abbrev pub units_begun : Cache → ℕ → Option ℕ → List ℕ → List (Option ℕ)
+units_begun c start behind piece = units_fed c (start_value c.nfa start behind) piece
+
+-- and at the end of the text: the unit ahead, unless the search has ended
+abbrev pub units_last : Cache → Value → Option ℕ → List (Option ℕ)
+units_last c v ahead = units_read (step_of c) false v (ahead ∷ [])

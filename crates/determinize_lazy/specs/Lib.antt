@@ -1,11 +1,12 @@
-pub use Rattle.determinize_core.specs.Engines
-pub use Rattle.determinize_core.specs.Searches
+pub use Rattle.determinize_engine.specs.Engines
+pub use Rattle.determinize_engine.specs.Scans
+pub use Rattle.determinize_engine.specs.Searches
+pub use Rattle.determinize_engine.specs.UnitsRead
+pub use Rattle.determinize_table.specs.Stored
+pub use Rattle.determinize_table.specs.Table
 pub mod Cache
 pub mod CachedSearches
 pub mod Plenty
 pub mod Private
-pub mod Scans
-pub mod Stored
-pub mod Table
 pub mod Walkers
 pub mod WorkedRows

@@ -5,7 +5,7 @@ use Rattle.determinize_core.specs.Chain.{future, units}
 use Rattle.determinize_core.specs.Step.{start_value}
 use Rattle.determinize_core.specs.Value.{Value}
 use Rattle.determinize_lazy.specs.Cache.{Cache, after_walk, count_after, step_of}
-use Rattle.determinize_lazy.specs.Table.{Table, is_cached, with_transition, with_values}
+use Rattle.determinize_table.specs.Table.{Table, is_cached, with_transition, with_values}
 
 -- the cached states and those of a walk from a value over units are together at most `limit`
 abbrev pub HasRoom : Cache → Value → List (Option ℕ) → Type 0

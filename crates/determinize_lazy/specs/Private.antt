@@ -1,11 +1,7 @@
 -- What private functions promise each other, and what is true of every cache: no public contract
 -- cites these definitions.
-pub mod Changes
-pub mod Cursors
 pub mod Invariant
-pub mod Rows
 pub mod Scanned
 pub mod Searched
 pub mod Starts
 pub mod Steps
-pub mod Tags

@@ -7,9 +7,9 @@ use Rattle.determinize_below.specs.Search.{Asked}
 use Rattle.determinize_below.specs.declared.search.Anchored.TheVariants.{Yes}
 use Rattle.determinize_core.specs.WorkedRows.{n4}
 use Rattle.determinize_lazy.specs.Cache.{Cache, after_text}
-use Rattle.determinize_lazy.specs.Table.{empty as nothing}
+use Rattle.determinize_table.specs.Table.{empty as nothing}
 use Rattle.determinize_lazy.specs.CachedSearches.{after_search}
-use Rattle.determinize_core.specs.Searches.{last_in}
+use Rattle.determinize_engine.specs.Searches.{last_in}
 
 -- an empty cache of at most so many states
 abbrev pub empty : ℕ → Cache

@@ -2,7 +2,7 @@
 
 use crate::lazy::Lazy;
 use determinize_below::{HalfMatch, Input};
-use determinize_core::engine::Engine;
+use determinize_engine::engine::Engine;
 use std::alloc::{AllocError, Allocator};
 
 impl<'n, N: Allocator, A: Allocator + Copy> Engine for Lazy<'n, N, A> {

@@ -13,13 +13,13 @@ ghost use Rattle.determinize_core.specs.WholeWalk.{IsWalk};
 ghost use Rattle.determinize_lazy.specs.Cache.{Grows, IsCutOff, IsCutOffText, after_text, after_walk, cache, step_of};
 ghost use Rattle.determinize_lazy.specs.Plenty.{IsPlentyText};
 ghost use Rattle.determinize_lazy.specs.Private.Steps.{IsSound};
-ghost use Rattle.determinize_lazy.specs.Table.{IsTable, empty};
+ghost use Rattle.determinize_table.specs.Table.{IsTable, empty};
 
-use crate::table::TransitionTable;
+use determinize_table::TransitionTable;
 use determinize_below::{MatchKind, NFA, StateID};
 use determinize_core::determinize::Stepper;
 use determinize_core::state::State;
-use determinize_core::text::Text;
+use determinize_engine::text::Text;
 use std::alloc::{AllocError, Allocator, Global};
 use std::marker::Model;
 

@@ -6,7 +6,7 @@
 //!
 //! - `lazy`: the type, and walks. `search`: searches. `step`: one step of either. `scan`: searches
 //!   of texts in pieces. `walker`: walks by steps. `engine`: a lazy DFA as an `Engine`.
-//! - `table`: the transition table and the rule of what is cached, with `state_id` and `tag`.
+//! - The transition table and the rule of what is cached are the crate `determinize_table`.
 //!
 //! A `Result` is `Err` if an allocation fails or more than 16647160 states would be cached.
 #![tactic(auto)]
@@ -17,13 +17,10 @@ pub mod laws;
 pub mod lazy;
 mod scan;
 mod search;
-mod state_id;
 mod step;
-mod table;
-mod tag;
 mod walker;
 
 pub use crate::lazy::Lazy;
 pub use crate::scan::Scan;
 pub use crate::walker::Walker;
-pub use determinize_core::engine::Engine;
+pub use determinize_engine::engine::Engine;

@@ -13,18 +13,20 @@ ghost use Rattle.determinize_below.specs.Semantics.{Nfa, between};
 ghost use Rattle.determinize_core.specs.Step.{start_value};
 ghost use Rattle.determinize_core.specs.Value.{is_nonempty};
 ghost use Rattle.determinize_lazy.specs.Cache.{Grows, IsCutOff, after_step, after_walk, cache};
-ghost use Rattle.determinize_lazy.specs.Private.Cursors.{IsCursor, cursor_value};
-ghost use Rattle.determinize_lazy.specs.Private.Scanned.{IsPieceRead, later_by};
-ghost use Rattle.determinize_lazy.specs.Scans.{IsScan, IsSettled, units_begun, units_fed, units_last};
-ghost use Rattle.determinize_core.specs.Searches.{IsSearch};
+ghost use Rattle.determinize_table.specs.Cursors.{IsCursor, cursor_value};
+ghost use Rattle.determinize_lazy.specs.Private.Scanned.{IsPieceRead};
+ghost use Rattle.determinize_engine.specs.Private.Later.{later_by};
+ghost use Rattle.determinize_engine.specs.Scans.{IsScan, IsSettled};
+ghost use Rattle.determinize_lazy.specs.CachedSearches.{units_begun, units_fed, units_last};
+ghost use Rattle.determinize_engine.specs.Searches.{IsSearch};
 ghost use Rattle.determinize_below.specs.declared.search.MatchKind.{MatchKind as Kind};
 
 use crate::lazy::Lazy;
 use crate::search::Position;
-use crate::table::Cursor;
+use determinize_table::Cursor;
 use determinize_below::{HalfMatch, StateID};
 use determinize_core::state::State;
-use determinize_core::text::Text;
+use determinize_engine::text::Text;
 use std::alloc::{AllocError, Allocator, Global};
 use std::marker::Model;
 
@@ -41,7 +43,7 @@ pub struct Scan<A: Allocator = Global> {
 }
 
 impl<A: Allocator> Model for Scan<A> {
-    ghost use Rattle.determinize_lazy.specs.Scans.{Scanned};
+    ghost use Rattle.determinize_engine.specs.Scans.{Scanned};
 
     ghost Value = { Scanned };
 

@@ -22,18 +22,18 @@ ghost use Rattle.determinize_core.specs.Chain.{units};
 ghost use Rattle.determinize_core.specs.Step.{start_value};
 ghost use Rattle.determinize_core.specs.Value.{dead};
 ghost use Rattle.determinize_lazy.specs.Cache.{Grows, IsCutOff, LazyValue, cache};
-ghost use Rattle.determinize_lazy.specs.Private.Cursors.{IsCursor, cursor_value};
+ghost use Rattle.determinize_table.specs.Cursors.{IsCursor, cursor_value};
 ghost use Rattle.determinize_lazy.specs.Private.Searched.{Fails, GoesOn, HasStopped, IsCachedPosition, IsPosition, Leaves, LeavesText, cached_place, first_place, next_place, place, with_cursor};
 ghost use Rattle.determinize_lazy.specs.Private.Steps.{IsFailedStep, IsSound};
-ghost use Rattle.determinize_core.specs.Searches.{HasMatch, IsFarthestIn, IsPreferredIn, IsSearch, has_start, last_in, start_for, text_of};
+ghost use Rattle.determinize_engine.specs.Searches.{HasMatch, IsFarthestIn, IsPreferredIn, IsSearch, has_start, last_in, start_for, text_of};
 ghost use Rattle.determinize_lazy.specs.CachedSearches.{IsCutOffIn, IsPlenty, IsPlentyIn, after_input, after_is_match, after_search, units_searched};
 
 use crate::lazy::Lazy;
-use crate::state_id::LazyStateId;
-use crate::table::Cursor;
-use crate::tag::LastMatch;
+use determinize_table::LazyStateId;
+use determinize_table::Cursor;
+use determinize_table::LastMatch;
 use determinize_below::{Anchored, HalfMatch, Input, StateID};
-use determinize_core::text::{Text, in_haystack};
+use determinize_engine::text::{Text, in_haystack};
 use std::alloc::{AllocError, Allocator};
 
 /// Where a search is: at which state, how many units it has read, and the last match of the states

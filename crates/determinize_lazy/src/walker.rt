@@ -6,13 +6,13 @@ ghost use Rattle.determinize_below.specs.Semantics.{Text as TextValue};
 ghost use Rattle.determinize_core.specs.Chain.{units};
 ghost use Rattle.determinize_core.specs.Step.{start_value, step};
 ghost use Rattle.determinize_lazy.specs.Cache.{Grows, IsCutOff, after_step, cache};
-ghost use Rattle.determinize_lazy.specs.Private.Cursors.{IsAt, IsCursor, cursor_value};
+ghost use Rattle.determinize_table.specs.Cursors.{IsAt, IsCursor, cursor_value};
 ghost use Rattle.determinize_lazy.specs.Private.Steps.{IsSound};
 ghost use Rattle.determinize_lazy.specs.Walkers.{IsWalkedTo};
 
 use crate::lazy::Lazy;
-use crate::state_id::LazyStateId;
-use crate::table::Cursor;
+use determinize_table::LazyStateId;
+use determinize_table::Cursor;
 use determinize_below::StateID;
 use determinize_core::state::State;
 use std::alloc::{AllocError, Allocator, Global};

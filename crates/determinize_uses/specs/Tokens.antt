@@ -3,7 +3,7 @@ use Rattle.std.specs.Prelude.{ℕ, List, length}
 use Rattle.determinize_below.specs.Semantics.{Nfa}
 use Rattle.determinize_below.specs.declared.search.Anchored.TheVariants.{Yes}
 use Rattle.determinize_below.specs.declared.search.Match.{Match}
-use Rattle.determinize_core.specs.Searches.{IsFarthestIn}
+use Rattle.determinize_engine.specs.Searches.{IsFarthestIn}
 
 -- the token is the longest one that begins where it does, with the pattern of the best run that
 -- ends there

@@ -5,7 +5,7 @@ ghost use Rattle.determinize_below.specs.Search.{Asked};
 ghost use Rattle.determinize_below.specs.declared.search.Anchored.TheVariants.{No, Yes};
 ghost use Rattle.determinize_below.specs.declared.search.HalfMatch.{HalfMatch};
 ghost use Rattle.determinize_below.specs.declared.search.MatchKind.TheVariants as kinds;
-ghost use Rattle.determinize_core.specs.Searches.{HasMatch, IsFarthestIn, IsPreferredIn};
+ghost use Rattle.determinize_engine.specs.Searches.{HasMatch, IsFarthestIn, IsPreferredIn};
 
 use determinize_below::{Anchored, Input};
 use determinize_lazy::Lazy;

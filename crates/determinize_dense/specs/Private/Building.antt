@@ -7,7 +7,7 @@ use Rattle.determinize_below.specs.Nfa.{AllResolve, IsAccepted}
 use Rattle.determinize_below.specs.Semantics.{Nfa}
 use Rattle.determinize_below.specs.Truth.{IsUnit}
 use Rattle.determinize_below.specs.declared.search.MatchKind.{MatchKind}
-use Rattle.determinize_core.specs.States.{EachApart}
+use Rattle.determinize_engine.specs.States.{EachApart}
 use Rattle.determinize_core.specs.Step.{start_value, step}
 use Rattle.determinize_core.specs.Value.{Value, dead}
 use Rattle.determinize_dense.specs.Dfa.{IsReachedValue, start_in}

@@ -15,7 +15,7 @@ use Rattle.ordered_reach.proofs.lists.Elements.{Contains_In}
 use Rattle.ordered_reach.proofs.lists.Lexicographic.{Before-asym}
 use Rattle.ordered_reach.proofs.graph.FiniteGraphs.{same_decides}
 use Rattle.ordered_reach.proofs.Cases.{by_cases, by_test, some_injective}
-use Rattle.determinize_lazy.specs.Scans.{IsScan, Scanned}
+use Rattle.determinize_engine.specs.Scans.{IsScan, Scanned}
 use Rattle.determinize_find.specs.Idle.{IsIdle}
 use Rattle.determinize_find.specs.Laws.{EachIdleIsFresh}
 use Rattle.determinize_find.specs.Leftmost.{AcceptsFrom}

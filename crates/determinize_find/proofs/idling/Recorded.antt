@@ -21,9 +21,9 @@ use Rattle.determinize_core.specs.Step.{start_value, step}
 use Rattle.determinize_core.specs.Value.{Value, is_nonempty}
 use Rattle.determinize_core.proofs.walk.UnitLists.{units_are}
 use Rattle.determinize_core.proofs.walk.WalkOfRuns.{each_chain_reaches}
-use Rattle.determinize_lazy.specs.Scans.{IsScan, Scanned}
-use Rattle.determinize_lazy.specs.CachedSearches.{units_read}
-use Rattle.determinize_core.proofs.finding.Headline.{none_accepts}
+use Rattle.determinize_engine.specs.Scans.{IsScan, Scanned}
+use Rattle.determinize_engine.specs.UnitsRead.{units_read}
+use Rattle.determinize_engine.proofs.Headline.{none_accepts}
 use Rattle.determinize_find.specs.Reversal.{upto}
 use Rattle.determinize_find.proofs.runs.Choices.{choices_under}
 use Rattle.determinize_find.proofs.runs.Cuts.{known_is, known_there}

@@ -8,7 +8,7 @@ use Rattle.determinize_below.specs.Semantics.{Nfa}
 use Rattle.determinize_below.specs.Search.{Asked}
 use Rattle.determinize_below.specs.declared.search.HalfMatch.{HalfMatch}
 use Rattle.determinize_core.specs.LastMatch.{IsPreferredMatch}
-use Rattle.determinize_core.specs.Searches.{HasMatch, IsPreferredIn, in_haystack, start_for, text_of}
+use Rattle.determinize_engine.specs.Searches.{HasMatch, IsPreferredIn, in_haystack, start_for, text_of}
 
 -- the preferred match of the text of an input, and the same in the haystack
 pub record IsFoundIn (nfa : Nfa) (asked : Asked) (answer : Option HalfMatch) : Type 0 where

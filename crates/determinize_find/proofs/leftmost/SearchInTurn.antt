@@ -15,7 +15,7 @@ use Rattle.determinize_below.specs.declared.search.HalfMatch.{HalfMatch}
 use Rattle.ordered_reach.proofs.Cases.{by_cases}
 use Rattle.determinize_start.specs.StartKinds.{byte_before}
 use Rattle.determinize_core.specs.LastMatch.{IsPreferredMatch}
-use Rattle.determinize_core.specs.Searches.{HasMatch, IsPreferredIn, in_haystack, text_of}
+use Rattle.determinize_engine.specs.Searches.{HasMatch, IsPreferredIn, in_haystack, text_of}
 use Rattle.determinize_find.specs.Leftmost.{AcceptsFrom, IsLeftmost, NothingFrom}
 use Rattle.determinize_find.specs.LeftmostIn.{IsLeftmostIn, is_anchored, latest, moved}
 use Rattle.determinize_find.specs.Private.BestAt.{IsBestAt, IsBestIn, from_index}

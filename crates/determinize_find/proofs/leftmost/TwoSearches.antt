@@ -20,8 +20,8 @@ use Rattle.determinize_below.specs.declared.search.Match.{Match}
 use Rattle.ordered_reach.proofs.Cases.{by_cases, by_test, some_injective}
 use Rattle.determinize_start.specs.StartKinds.{byte_before}
 use Rattle.determinize_core.specs.LastMatch.{IsFarthestMatch, IsPreferredMatch}
-use Rattle.determinize_core.specs.Searches.{HasMatch, IsFarthestIn, IsPreferredIn, has_start, in_haystack, index_after}
-use Rattle.determinize_core.specs.Searches.{start_for, text_of}
+use Rattle.determinize_engine.specs.Searches.{HasMatch, IsFarthestIn, IsPreferredIn, has_start, in_haystack, index_after}
+use Rattle.determinize_engine.specs.Searches.{start_for, text_of}
 use Rattle.determinize_find.specs.Laws.{end_of}
 use Rattle.determinize_find.specs.Leftmost.{AcceptsFrom, IsLeftmost, IsLeftmostMatch, NothingFrom}
 use Rattle.determinize_find.specs.LeftmostIn.{IsLeftmostIn, is_anchored, latest, moved}

@@ -11,7 +11,7 @@ use Rattle.determinize_below.specs.Semantics.{Nfa}
 use Rattle.determinize_below.specs.Search.{Asked}
 use Rattle.determinize_below.specs.declared.search.Match.{Match}
 use Rattle.ordered_reach.proofs.Cases.{by_cases, by_test, some_injective}
-use Rattle.determinize_core.specs.Searches.{text_of}
+use Rattle.determinize_engine.specs.Searches.{text_of}
 use Rattle.determinize_find.specs.Laws.{EachStartIsCovered}
 use Rattle.determinize_find.specs.Leftmost.{AcceptsFrom, IsLeftmost}
 use Rattle.determinize_find.specs.LeftmostIn.{IsLeftmostIn, is_anchored, latest, moved}

@@ -13,7 +13,7 @@ use Rattle.ordered_reach.specs.Paths.{IsPath}
 use Rattle.determinize_below.specs.Search.{Asked, is_done}
 use Rattle.determinize_below.proofs.nfas.Edges.{target-end}
 use Rattle.ordered_reach.proofs.Cases.{by_cases, by_option, by_test, some_injective}
-use Rattle.determinize_core.specs.Searches.{text_of}
+use Rattle.determinize_engine.specs.Searches.{text_of}
 use Rattle.determinize_find.specs.Laws.{EachLeftmostInIsOne, EachMatchesAreApart, EachMatchesAreOne}
 use Rattle.determinize_find.specs.Leftmost.{IsLeftmost}
 use Rattle.determinize_find.specs.LeftmostIn.{IsLeftmostIn, is_anchored, latest, moved}

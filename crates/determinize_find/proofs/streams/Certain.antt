@@ -17,9 +17,9 @@ use Rattle.determinize_below.specs.declared.search.MatchKind.TheVariants.{Leftmo
 use Rattle.ordered_reach.proofs.Cases.{by_cases, some_injective}
 use Rattle.determinize_start.specs.StartKinds.{byte_before}
 use Rattle.determinize_core.specs.Step.{start_value}
-use Rattle.determinize_lazy.specs.Scans.{IsScan, IsSettled, Scanned}
-use Rattle.determinize_core.proofs.finding.Headline.{preferred}
-use Rattle.determinize_core.proofs.finding.LastUnits.{last_match-within}
+use Rattle.determinize_engine.specs.Scans.{IsScan, IsSettled, Scanned}
+use Rattle.determinize_engine.proofs.Headline.{preferred}
+use Rattle.determinize_engine.proofs.LastUnits.{last_match-within}
 use Rattle.determinize_find.specs.Laws.{end_of}
 use Rattle.determinize_find.specs.Leftmost.{AcceptsFrom, IsLeftmost, IsLeftmostMatch}
 use Rattle.determinize_find.specs.LeftmostIn.{IsLeftmostIn, moved}

@@ -6,7 +6,7 @@ use Rattle.std.proofs.lemmas.List.{length-drop}
 use Rattle.std.proofs.lemmas.List.Elements.{All-drop}
 use Rattle.determinize_below.specs.Semantics.{Nfa}
 use Rattle.determinize_start.specs.StartKinds.{byte_before}
-use Rattle.determinize_lazy.specs.Scans.{Scanned}
+use Rattle.determinize_engine.specs.Scans.{Scanned}
 use Rattle.determinize_find.specs.Idle.{IsIdle}
 use Rattle.determinize_find.specs.Prefix.{HasPrefixApart}
 use Rattle.determinize_find.specs.Private.Windows.{IsFresh}

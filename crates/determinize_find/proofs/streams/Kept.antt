@@ -19,7 +19,7 @@ use Rattle.determinize_core.specs.Chain.{future}
 use Rattle.determinize_core.specs.LastMatch.{last_match}
 use Rattle.determinize_core.specs.Step.{start_value}
 use Rattle.determinize_core.specs.Value.{is_nonempty}
-use Rattle.determinize_lazy.specs.Scans.{Scanned}
+use Rattle.determinize_engine.specs.Scans.{Scanned}
 use Rattle.determinize_find.specs.Idle.{IsIdle}
 use Rattle.determinize_find.specs.Prefix.{HasPrefixApart}
 use Rattle.determinize_find.specs.Private.Windows.{unsearched, with_bytes, without_first}

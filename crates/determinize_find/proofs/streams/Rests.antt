@@ -12,7 +12,7 @@ use Rattle.determinize_below.specs.declared.search.Anchored.TheVariants.{No}
 use Rattle.determinize_below.specs.declared.search.Match.{Match}
 use Rattle.ordered_reach.proofs.Cases.{by_cases}
 use Rattle.determinize_start.specs.StartKinds.{byte_before}
-use Rattle.determinize_core.specs.Searches.{text_of}
+use Rattle.determinize_engine.specs.Searches.{text_of}
 use Rattle.determinize_find.specs.Leftmost.{AcceptsFrom, IsLeftmost, NothingFrom}
 use Rattle.determinize_find.specs.LeftmostIn.{IsLeftmostIn, is_anchored, latest, moved}
 use Rattle.determinize_find.specs.Matches.{from}

@@ -15,7 +15,7 @@ use Rattle.determinize_below.specs.Search.{Asked}
 use Rattle.determinize_below.specs.declared.search.Match.{Match}
 use Rattle.ordered_reach.proofs.Cases.{by_test}
 use Rattle.determinize_start.specs.StartKinds.{byte_before}
-use Rattle.determinize_lazy.specs.Scans.{Scanned}
+use Rattle.determinize_engine.specs.Scans.{Scanned}
 use Rattle.determinize_find.specs.Leftmost.{NothingFrom}
 use Rattle.determinize_find.specs.LeftmostIn.{IsLeftmostIn, moved}
 use Rattle.determinize_find.specs.Matches.{AreMatches, IsNext, IsTaken, from, touches}

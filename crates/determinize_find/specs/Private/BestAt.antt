@@ -5,7 +5,7 @@ use Rattle.ordered_reach.specs.Paths.{Before}
 use Rattle.determinize_below.specs.Search.{Asked}
 use Rattle.determinize_below.specs.declared.search.HalfMatch.{HalfMatch}
 use Rattle.determinize_below.specs.declared.search.Match.{Match}
-use Rattle.determinize_core.specs.Searches.{text_of}
+use Rattle.determinize_engine.specs.Searches.{text_of}
 use Rattle.determinize_find.specs.Leftmost.{AcceptsFrom, NothingFrom}
 use Rattle.determinize_find.specs.LeftmostIn.{moved}
 

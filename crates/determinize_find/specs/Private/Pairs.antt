@@ -4,7 +4,7 @@ use Rattle.std.specs.Bool.{Decides}
 use Rattle.std.specs.Option.{IfSome}
 use Rattle.determinize_below.specs.Semantics.{Nfa}
 use Rattle.determinize_below.specs.declared.search.MatchKind.TheVariants.{All, LeftmostFirst}
-use Rattle.determinize_core.specs.Engines.{EngineValue}
+use Rattle.determinize_engine.specs.Engines.{EngineValue}
 use Rattle.determinize_find.specs.Prefix.{HasPrefix, HasPrefixApart}
 use Rattle.determinize_find.specs.Reversal.{IsReverseOf}
 

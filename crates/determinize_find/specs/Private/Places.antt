@@ -1,7 +1,7 @@
 -- Where a cursor over the matches of an input may stand.
 use Rattle.std.specs.Prelude.{◌≡◌, ℕ, Option, Some, true}
 use Rattle.determinize_below.specs.Search.{Asked}
-use Rattle.determinize_core.specs.Searches.{has_start}
+use Rattle.determinize_engine.specs.Searches.{has_start}
 
 -- the rest of the input starts where the match before it ended
 pub record IsPlace (asked : Asked) (before : Option ℕ) : Type 0 where

@@ -5,9 +5,9 @@ use Rattle.determinize_lazy.proofs.Common.{start_for, start_value, sym, Text, te
 use Rattle.determinize_lazy.proofs.Common.{Value, ℕ, ◌∙◌, ◌≡◌}
 use Rattle.determinize_lazy.specs.CachedSearches.{after_first_match, after_input, after_is_match, after_search}
 use Rattle.determinize_core.specs.Chain.{chain}
-use Rattle.determinize_core.proofs.finding.Headline.{is-search}
-use Rattle.determinize_core.proofs.finding.Ranges.{match-decides}
-use Rattle.determinize_lazy.proofs.finding.Later.{last_from-first}
+use Rattle.determinize_engine.proofs.Headline.{is-search}
+use Rattle.determinize_engine.proofs.Ranges.{match-decides}
+use Rattle.determinize_engine.proofs.Later.{last_from-first}
 
 -- where nothing is left to search
 module _ (asked : Asked) (done : is_done asked ≡ true) (c : Cache) where

@@ -8,8 +8,8 @@ use Rattle.determinize_core.proofs.step.Resolving.{step_resolves}
 use Rattle.determinize_core.specs.Step.{step}
 use Rattle.determinize_lazy.specs.Private.Searched.{here, over}
 use Rattle.determinize_lazy.specs.declared.search.CachedPosition.{CachedPosition}
-use Rattle.determinize_lazy.specs.declared.table.Cursor.TheVariants.{Cached}
-use Rattle.determinize_lazy.specs.declared.tag.LastMatch.{LastMatch}
+use Rattle.determinize_table.specs.declared.table.Cursor.TheVariants.{Cached}
+use Rattle.determinize_table.specs.declared.tag.LastMatch.{LastMatch}
 use Rattle.determinize_lazy.proofs.finding.Searching.{next-place, tag-last}
 use Rattle.determinize_lazy.proofs.steps.Cursors.{cached_step, cached_target}
 

@@ -5,14 +5,16 @@ use Rattle.determinize_lazy.proofs.Common.{is_last_tag, is_nonempty, is_some, Is
 use Rattle.determinize_lazy.proofs.Common.{Leaves, length, List, map, match_reported, next_place, None, not, Ok, OnErr}
 use Rattle.determinize_lazy.proofs.Common.{Option, option_or, Place, refl, reported, Result, slice_get, Some, step_of}
 use Rattle.determinize_lazy.proofs.Common.{subst, suc, sym, tag_in, tag_of, Text, true, true≢false, units, units_left}
-use Rattle.determinize_lazy.proofs.Common.{units_read, Value, value_after, ℕ, ◌&&◌, ◌++◌, ◌+◌, ◌||◌, ◌∙◌, ◌∷◌, ◌≡◌}
+use Rattle.determinize_lazy.proofs.Common.{Value, value_after, ℕ, ◌&&◌, ◌++◌, ◌+◌, ◌||◌, ◌∙◌, ◌∷◌, ◌≡◌}
 use Rattle.determinize_lazy.proofs.Common.{◌⊎◌}
 use Rattle.std.proofs.Common.{add-one}
 use Rattle.ordered_reach.proofs.Cases.{by_test}
-use Rattle.determinize_core.proofs.finding.Texts.{units_listed}
-use Rattle.determinize_core.proofs.states.Places.{get_more}
+use Rattle.determinize_engine.proofs.Texts.{units_listed}
+use Rattle.determinize_engine.proofs.Places.{get_more}
 use Rattle.determinize_lazy.specs.Private.Searched.{here, over}
-use Rattle.determinize_lazy.proofs.finding.Later.{last_from-next, last_from-over, none_left, reported-next}
+use Rattle.determinize_engine.proofs.Later.{last_from-next, last_from-over, none_left}
+use Rattle.determinize_engine.proofs.Scanning.{read_none}
+use Rattle.determinize_lazy.proofs.Common.{ended_at}
 use Rattle.determinize_lazy.proofs.walking.CachedWalks.{drop-one}
 
 -- what the tag of a value says: whether a search ends there
@@ -26,11 +28,10 @@ tag-last earliest bits v tag told is =
     first_of [] = refl
     first_of (p ∷ ps) = refl
 
--- nothing is read after a value at which the search ends
-pub read_none : (f : Value → Option ℕ → Value) (earliest : Bool) (v : Value) (us : List (Option ℕ))
-    → is_last earliest v ≡ true → units_read f earliest v us ≡ []
-read_none f earliest v [] h = refl
-read_none f earliest v (u ∷ us) h = rw h refl
+-- a value that is entered after n + 1 units reports what it lists
+pub reported-next : (n : ℕ) (patterns : List ℕ) → match_reported (n + 1) (slice_get patterns 0) ≡ ended_at n patterns
+reported-next n [] = grind arith
+reported-next n (p ∷ ps) = grind arith
 
 -- a search that continues twice, or over more units
 pub goes_twice : {earliest : Bool} {us : List (Option ℕ)} {p q r : Place} → GoesOn earliest us p q

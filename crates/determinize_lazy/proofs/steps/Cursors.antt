@@ -4,10 +4,10 @@ use Rattle.determinize_lazy.proofs.Common.{is_some, IsAt, IsCursor, IsSound, IsS
 use Rattle.determinize_lazy.proofs.Common.{Ok, Option, refl, slice_get, slice_get-get_or, Some, step_of, true, Value, ℕ}
 use Rattle.determinize_lazy.proofs.Common.{◌∙◌, ◌≡◌}
 use Rattle.determinize_core.proofs.step.Resolving.{step_resolves}
-use Rattle.determinize_lazy.specs.declared.table.Cursor.{Cursor}
-use Rattle.determinize_lazy.specs.declared.table.Cursor.TheVariants.{Cached, Uncached}
-use Rattle.determinize_lazy.proofs.tables.Changes.{at_id}
-use Rattle.determinize_lazy.proofs.tables.Transitions.{not_source}
+use Rattle.determinize_table.specs.declared.table.Cursor.{Cursor}
+use Rattle.determinize_table.specs.declared.table.Cursor.TheVariants.{Cached, Uncached}
+use Rattle.determinize_table.proofs.Changes.{at_id}
+use Rattle.determinize_table.proofs.Transitions.{not_source}
 
 -- what a lookup returns is the state that follows, and the step changes nothing
 module _ (c : Cache) (v : Value) (u : Option ℕ) (id : ℕ) (is : IsTable (step_of c) c.table)

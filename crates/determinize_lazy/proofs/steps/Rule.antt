@@ -7,9 +7,9 @@ use Rattle.determinize_lazy.proofs.Common.{StoredTable, subst, Table, table_of, 
 use Rattle.determinize_lazy.proofs.Common.{◌≡◌, ◌≤◌}
 use Rattle.determinize_core.specs.Step.{step}
 use Rattle.determinize_core.proofs.step.Resolving.{step_resolves}
-use Rattle.determinize_lazy.specs.declared.table.Cursor.{Cursor}
+use Rattle.determinize_table.specs.declared.table.Cursor.{Cursor}
 use Rattle.determinize_lazy.proofs.steps.Starts.{starts-stay}
-use Rattle.determinize_lazy.proofs.tables.Transitions.{empty-is, with_transition-is}
+use Rattle.determinize_table.proofs.Transitions.{empty-is, with_transition-is}
 
 le_of : (m n : ℕ) → nat_le m n ≡ true → m ≤ n
 le_of m n e = grind arith

@@ -1,6 +1,6 @@
 -- The cached starts: which are cached, and that a start state depends only on the kind of start.
 use Rattle.determinize_lazy.proofs.Common.{[], ap, AreStarts, arith, by_cases, by_test, get_or, IfSome, inl, inr}
-use Rattle.determinize_lazy.proofs.Common.{List, nat_eq, Nfa, None, Option, refl, replicate, slice_get}
+use Rattle.determinize_lazy.proofs.Common.{List, nat_eq, Nfa, None, Option, refl, slice_get}
 use Rattle.determinize_lazy.proofs.Common.{slice_set, Some, start_index, start_value, StartsStay, StoredTable, suc, sym}
 use Rattle.determinize_lazy.proofs.Common.{Value, zero, ℕ, ◌+◌, ◌∷◌, ◌≡◌, ◌⊎◌}
 use Rattle.determinize_start.specs.LookTables.{from_word_at_start, half_crlf_at_start, have_at_start}
@@ -8,16 +8,7 @@ use Rattle.determinize_start.specs.StartKinds.{number_of, start_kind_of}
 use Rattle.determinize_start.specs.declared.start.Start.{Start as Kind}
 use Rattle.determinize_start.specs.declared.start.Start.TheVariants.{NonWordByte}
 use Rattle.determinize_lazy.specs.Private.Starts.{of_kind, start_kept_at}
-use Rattle.determinize_core.proofs.states.Places.{not_none, of_some}
-
--- none is kept
-pub none_kept : (i : ℕ) → get_or (replicate {A = Option ℕ} 12 None) i None ≡ None
-none_kept i = none 12 i
-  where
-    none : (n k : ℕ) → get_or (replicate {A = Option ℕ} n None) k None ≡ None
-    none zero k = refl
-    none (suc n) zero = refl
-    none (suc n) (suc k) = none n k
+use Rattle.determinize_engine.proofs.Places.{not_none, of_some}
 
 kind_at : (nfa : Nfa) (k : Kind) → (start_kept_at nfa (number_of k) ≡ Some (of_kind nfa nfa.start_anchored k))
     × (start_kept_at nfa (6 + number_of k) ≡ Some (of_kind nfa nfa.start_unanchored k))

@@ -4,9 +4,9 @@ use Rattle.determinize_lazy.proofs.Common.{fits, future, future_is, HasRoom, is_
 use Rattle.determinize_lazy.proofs.Common.{KeepsAll, length, List, list_any, list_any-from_Contains, missing, Option}
 use Rattle.determinize_lazy.proofs.Common.{refl, same, step_of, Table, tail, true, Value, with_step, with_transition}
 use Rattle.determinize_lazy.proofs.Common.{with_value, with_values, with_walk, ℕ, ⊤, ◌+◌, ◌∙◌, ◌∷◌, ◌≡◌, ◌≤◌}
-use Rattle.determinize_lazy.proofs.tables.Transitions.{not_source, with_target-new, with_transition-is}
-use Rattle.determinize_lazy.proofs.tables.Values.{has_new, length_with, with_target-by}
-use Rattle.determinize_core.proofs.states.Places.{not_both, same_laws}
+use Rattle.determinize_table.proofs.Transitions.{not_source, with_target-new, with_transition-is}
+use Rattle.determinize_table.proofs.Values.{has_new, length_with, with_target-by}
+use Rattle.determinize_engine.proofs.Places.{not_both, same_laws}
 use Rattle.determinize_lazy.proofs.walking.CachedWalks.{same_steps}
 
 module _ (f : Value → Option ℕ → Value) where

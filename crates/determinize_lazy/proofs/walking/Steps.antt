@@ -5,7 +5,7 @@ use Rattle.determinize_lazy.proofs.Common.{Text, units, Value, zero, ℕ, ◌+�
 use Rattle.determinize_core.specs.Chain.{chain}
 use Rattle.determinize_core.specs.Step.{step}
 use Rattle.determinize_lazy.specs.Walkers.{IsWalkedTo}
-use Rattle.determinize_core.proofs.states.Places.{not_none, of_some}
+use Rattle.determinize_engine.proofs.Places.{not_none, of_some}
 use Rattle.determinize_lazy.proofs.walking.CachedWalks.{cut_off-step}
 
 module _ (nfa : Nfa) (kind : MatchKind) where

@@ -4,9 +4,9 @@ use Rattle.determinize_below.specs.Nfa.{IsAccepted}
 use Rattle.determinize_below.specs.Semantics.{Nfa}
 use Rattle.determinize_below.specs.declared.search.MatchKind.{MatchKind}
 use Rattle.determinize_core.specs.Step.{step}
-use Rattle.determinize_lazy.specs.Private.Rows.{StoredTable, table_of}
+use Rattle.determinize_table.specs.Rows.{StoredTable, table_of}
 use Rattle.determinize_lazy.specs.Private.Starts.{AreStarts}
-use Rattle.determinize_lazy.specs.Table.{IsTable}
+use Rattle.determinize_table.specs.Table.{IsTable}
 
 -- an NFA that has passed every check, a table of its steps with at most `limit` states, a count of
 -- 64 bits, and the start states

@@ -1,24 +1,11 @@
--- The search of one piece, and the match of a text that is searched in two parts.
-use Rattle.std.specs.Prelude.{◌≡◌, ℕ, ◌+◌, Option, Some, List, length, map, option_map}
-use Rattle.std.specs.Option.{option_or}
-use Rattle.determinize_below.specs.Semantics.{Nfa}
-use Rattle.determinize_below.specs.declared.search.MatchKind.{MatchKind}
-use Rattle.determinize_below.specs.declared.search.HalfMatch.{HalfMatch}
+-- The search of one piece.
+use Rattle.std.specs.Prelude.{◌≡◌, ℕ, Some, List, length, map}
 use Rattle.determinize_core.specs.Chain.{future, value_after}
 use Rattle.determinize_core.specs.LastMatch.{last_match}
 use Rattle.determinize_core.specs.Value.{Value}
+use Rattle.determinize_engine.specs.Scans.{Scanned}
 use Rattle.determinize_lazy.specs.Cache.{Cache, after_walk}
-use Rattle.determinize_lazy.specs.Scans.{Scanned, units_fed}
-
--- a match of what follows after n bytes, in the whole text
-abbrev pub later_by : ℕ → HalfMatch → HalfMatch
-later_by read m = record m { offset = read + m.offset }
-
--- the last match over the units that follow n others, from that over these
-abbrev pub last_from : Nfa → MatchKind → ℕ → Option HalfMatch → Value → List (Option ℕ)
-    → Option HalfMatch
-last_from nfa kind n last v us =
-    option_or (option_map (later_by n) (last_match (future nfa kind v us))) last
+use Rattle.determinize_lazy.specs.CachedSearches.{units_fed}
 
 -- the search of a piece from a value: the value after what a search reads of it, its last match,
 -- its length, and the cache

@@ -10,13 +10,13 @@ use Rattle.determinize_core.specs.Step.{start_value}
 use Rattle.determinize_core.specs.Value.{Value, is_nonempty}
 use Rattle.determinize_lazy.specs.Cache.{Cache, IsCutOff, LazyValue, after_step, after_walk, cache}
 use Rattle.determinize_lazy.specs.Cache.{step_of}
-use Rattle.determinize_lazy.specs.CachedSearches.{is_last, units_read}
-use Rattle.determinize_lazy.specs.Private.Cursors.{IsCursor, cursor_value}
-use Rattle.determinize_lazy.specs.Private.Scanned.{last_from}
-use Rattle.determinize_lazy.specs.Private.Tags.{match_of, match_reported, tag_of}
+use Rattle.determinize_engine.specs.UnitsRead.{is_last, units_read}
+use Rattle.determinize_table.specs.Cursors.{IsCursor, cursor_value}
+use Rattle.determinize_engine.specs.Private.Later.{last_from}
+use Rattle.determinize_table.specs.Tags.{match_of, match_reported, tag_of}
 use Rattle.determinize_lazy.specs.declared.search.CachedPosition.{CachedPosition}
 use Rattle.determinize_lazy.specs.declared.search.Position.{Position}
-use Rattle.determinize_lazy.specs.declared.table.Cursor.TheVariants.{Cached}
+use Rattle.determinize_table.specs.declared.table.Cursor.TheVariants.{Cached}
 
 -- a walk from a value over units, of which it has read some: the value where it is, and the cache
 pub record IsReached (old : Cache) (first : Value) (us : List (Option ℕ)) (read : ℕ) (v : Value)

@@ -6,7 +6,7 @@ use Rattle.determinize_below.specs.Look.{has}
 use Rattle.determinize_below.specs.Semantics.{Nfa}
 use Rattle.determinize_core.specs.Step.{begun}
 use Rattle.determinize_core.specs.Value.{Value}
-use Rattle.determinize_lazy.specs.Private.Rows.{StoredTable}
+use Rattle.determinize_table.specs.Rows.{StoredTable}
 use Rattle.determinize_start.specs.LookTables.{start_from_word, start_half_crlf, start_have, tables_of}
 use Rattle.determinize_start.specs.StartKinds.{number_of, start_kind_of, start_of_number}
 use Rattle.determinize_start.specs.declared.start.Start.{Start as Kind}

@@ -3,9 +3,9 @@ use Rattle.std.specs.Prelude.{◌≡◌, ℕ, ◌≤◌, ◌⊎◌, IfOk, OnErr,
 use Rattle.determinize_below.specs.Nfa.{AllResolve, IsAccepted}
 use Rattle.determinize_core.specs.Value.{Value}
 use Rattle.determinize_lazy.specs.Cache.{Cache, Grows, LazyValue, after_step, cache, step_of}
-use Rattle.determinize_lazy.specs.Private.Cursors.{IsAt}
-use Rattle.determinize_lazy.specs.declared.table.Cursor.{Cursor}
-use Rattle.determinize_lazy.specs.Table.{IsTable, empty}
+use Rattle.determinize_table.specs.Cursors.{IsAt}
+use Rattle.determinize_table.specs.declared.table.Cursor.{Cursor}
+use Rattle.determinize_table.specs.Table.{IsTable, empty}
 
 -- what a step leaves if it fails: the table as it was, or nothing is cached; and the count as it
 -- was, or as it is after the step

@@ -6,7 +6,7 @@ ghost use Rattle.determinize_below.specs.declared.search.MatchKind.TheVariants a
 ghost use Rattle.determinize_find.specs.Prefix.{HasPrefix};
 ghost use Rattle.determinize_find.specs.Reversal.{IsReverseOf};
 ghost use Rattle.determinize_find.specs.Streams.{IsSearching};
-ghost use Rattle.determinize_core.specs.Searches.{has_start};
+ghost use Rattle.determinize_engine.specs.Searches.{has_start};
 
 use crate::tests::trial::{Trial, fail_each_in_turn, succeed_if};
 use crate::tests::{ended, same};

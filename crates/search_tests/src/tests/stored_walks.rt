@@ -4,7 +4,7 @@
 ghost use Rattle.std.specs.Prelude.{◌≡◌, IfOk, false, true};
 ghost use Rattle.determinize_below.specs.declared.search.MatchKind.TheVariants as kinds;
 ghost use Rattle.determinize_find.specs.Prefix.{HasPrefix};
-ghost use Rattle.determinize_core.specs.Searches.{has_start};
+ghost use Rattle.determinize_engine.specs.Searches.{has_start};
 
 use crate::tests::{holds, same};
 use determinize_below::nfa::State;

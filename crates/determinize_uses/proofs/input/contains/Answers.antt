@@ -1,6 +1,6 @@
 use Rattle.std.proofs.Common.{subst, Decides, IfOk}
 use Rattle.determinize_below.specs.Search.{Asked}
-use Rattle.determinize_core.specs.Searches.{HasMatch}
+use Rattle.determinize_engine.specs.Searches.{HasMatch}
 use Rattle.determinize_uses.proofs.input.contains.Goals as goal
 
 -- the input is the whole haystack

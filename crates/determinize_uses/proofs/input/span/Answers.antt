@@ -2,7 +2,7 @@ use Rattle.std.proofs.Common.{rules, ◌≡◌, ◌≤◌, false, None, arith, l
 use Rattle.std.proofs.lemmas.Bool.{le-ltb}
 use Rattle.determinize_below.specs.Search.{Asked, is_done}
 use Rattle.determinize_below.specs.declared.search.Anchored.TheVariants.{No, Yes}
-use Rattle.determinize_core.specs.Searches.{HasMatch, IsFarthestIn, IsPreferredIn}
+use Rattle.determinize_engine.specs.Searches.{HasMatch, IsFarthestIn, IsPreferredIn}
 use Rattle.determinize_uses.proofs.input.span.Goals as goal
 
 -- where no end is found, no run accepts

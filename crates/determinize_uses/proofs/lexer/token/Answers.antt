@@ -1,7 +1,7 @@
 use Rattle.std.proofs.Common.{rules, ◌≡◌, length, subst, IfSome}
 use Rattle.determinize_below.specs.Search.{Asked}
 use Rattle.determinize_below.specs.declared.search.Anchored.TheVariants.{Yes}
-use Rattle.determinize_core.specs.Searches.{IsFarthestIn}
+use Rattle.determinize_engine.specs.Searches.{IsFarthestIn}
 use Rattle.determinize_uses.proofs.lexer.token.Goals as goal
 
 -- the search is of the rest of the text

@@ -2,7 +2,7 @@ use Rattle.determinize_core.proofs.Common.{AllResolve, ap, arith, false, length,
 use Rattle.determinize_core.proofs.Common.{subst}
 use Rattle.determinize_core.proofs.Common.{sym, [], ◌++◌, ◌∙◌, ◌∷◌, ◌≡◌, ◌≤◌}
 use Rattle.determinize_dense.proofs.Common.{Building, HasMoreStates, IsBuilding, IsReachedValue, Stays}
-use Rattle.determinize_core.proofs.states.Places.{get_last, same_is}
+use Rattle.determinize_engine.proofs.Places.{get_last, same_is}
 use Rattle.determinize_dense.proofs.Building.{building-value, one_too_many, stays-value}
 use Rattle.determinize_dense.proofs.build.Builder.place.Goals as goal
 

@@ -1,4 +1,5 @@
-use Rattle.determinize_core.proofs.Common.{Decides, HasMatch, subst, sym}
+use Rattle.determinize_core.proofs.Common.{Decides, subst, sym}
+use Rattle.determinize_engine.specs.Searches.{HasMatch}
 use Rattle.determinize_dense.proofs.Inputs.{found-decides}
 use Rattle.determinize_dense.proofs.dfa.Dfa.is_match.Goals as goal
 

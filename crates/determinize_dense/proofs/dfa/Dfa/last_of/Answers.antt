@@ -1,7 +1,7 @@
 use Rattle.determinize_core.proofs.Common.{ap, arith, length, refl, slice_get, Some, subst, sym, units, ◌+◌, ◌∙◌}
 use Rattle.determinize_core.proofs.Common.{◌≡◌, ◌≤◌}
 use Rattle.determinize_dense.proofs.Common.{DfaValue}
-use Rattle.determinize_core.proofs.finding.Texts.{all_read, unit-last}
+use Rattle.determinize_engine.proofs.Texts.{all_read, unit-last}
 use Rattle.determinize_dense.proofs.Searching.{found-all, searched-dead, searched-none, searched-some}
 use Rattle.determinize_dense.specs.Private.Order.{IsOrdered}
 use Rattle.determinize_dense.specs.Private.Rows.{IsNext}

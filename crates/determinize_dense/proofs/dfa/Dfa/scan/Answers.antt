@@ -1,7 +1,7 @@
 use Rattle.determinize_core.proofs.Common.{arith, inl, inr, slice_get, Some, subst, sym, units, ◌∙◌, ◌≡◌}
 use Rattle.determinize_dense.proofs.Common.{DfaValue}
-use Rattle.determinize_core.proofs.finding.Texts.{unit-here}
-use Rattle.determinize_core.proofs.states.Places.{of_some}
+use Rattle.determinize_engine.proofs.Texts.{unit-here}
+use Rattle.determinize_engine.proofs.Places.{of_some}
 use Rattle.determinize_dense.proofs.Splitting.{below_or}
 use Rattle.determinize_dense.specs.Private.Rows.{IsNext}
 use Rattle.determinize_dense.proofs.dfa.Dfa.scan.Goals as goal

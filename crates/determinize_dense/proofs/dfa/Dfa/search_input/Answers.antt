@@ -1,5 +1,6 @@
-use Rattle.determinize_core.proofs.Common.{false, is_done, rules, sym, text_of, ◌∙◌, ◌≡◌}
-use Rattle.determinize_core.proofs.finding.Ranges.{is-answer, IsAnswer, last-done, offset-within}
+use Rattle.determinize_core.proofs.Common.{false, is_done, rules, sym, ◌∙◌, ◌≡◌}
+use Rattle.determinize_engine.specs.Searches.{text_of}
+use Rattle.determinize_engine.proofs.Ranges.{is-answer, IsAnswer, last-done, offset-within}
 use Rattle.determinize_dense.proofs.Inputs.{found-search}
 use Rattle.determinize_dense.proofs.dfa.Dfa.search_input.Given.{Over}
 use Rattle.determinize_dense.proofs.dfa.Dfa.search_input.Goals.{After-in_haystack}

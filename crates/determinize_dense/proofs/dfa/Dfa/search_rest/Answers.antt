@@ -1,7 +1,7 @@
 use Rattle.determinize_core.proofs.Common.{ap, arith, length, slice_get, Some, subst, sym, units, ℕ, ◌+◌, ◌-◌}
 use Rattle.determinize_core.proofs.Common.{◌<◌, ◌≡◌, ◌≤◌}
 use Rattle.determinize_dense.proofs.Common.{DfaValue, IsSearched}
-use Rattle.determinize_core.proofs.finding.Texts.{unit-here}
+use Rattle.determinize_engine.proofs.Texts.{unit-here}
 use Rattle.determinize_dense.proofs.Searching.{found-dead, found-first, match-some, next-offset, searched-dead}
 use Rattle.determinize_dense.proofs.Searching.{searched-none, searched-some, searched-stays, units-count}
 use Rattle.determinize_dense.specs.Private.Order.{IsOrdered}

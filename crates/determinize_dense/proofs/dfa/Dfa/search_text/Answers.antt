@@ -1,7 +1,7 @@
 use Rattle.determinize_core.proofs.Common.{[], ap, arith, length, slice_get, Some, subst, sym, units, ◌+◌}
 use Rattle.determinize_core.proofs.Common.{◌<◌, ◌∙◌, ◌≡◌}
 use Rattle.determinize_dense.proofs.Common.{DfaValue, IsDfa, IsRowFrom, IsSearched, IsUnit, start_row}
-use Rattle.determinize_core.proofs.finding.Texts.{unit-here}
+use Rattle.determinize_engine.proofs.Texts.{unit-here}
 use Rattle.determinize_dense.proofs.Searching.{found-dead, found-first, match-some, row-start, searched-dead}
 use Rattle.determinize_dense.proofs.Searching.{searched-none, searched-some, searched-start}
 use Rattle.determinize_dense.specs.Private.Order.{IsOrdered}

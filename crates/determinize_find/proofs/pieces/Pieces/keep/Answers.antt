@@ -1,7 +1,7 @@
 use Rattle.std.proofs.Common.{rules, ◌≡◌, ◌≤◌, ◌++◌, Option, Some, ap, drop, length, subst}
 use Rattle.std.specs.Option.{IfSome}
 use Rattle.determinize_start.specs.StartKinds.{byte_before}
-use Rattle.determinize_lazy.specs.Scans.{Scanned}
+use Rattle.determinize_engine.specs.Scans.{Scanned}
 use Rattle.determinize_find.specs.Streams.{IsEndScan, Streamed}
 use Rattle.determinize_find.proofs.streams.Steps.{scan_more}
 use Rattle.determinize_find.proofs.pieces.Pieces.keep.Goals as goal

@@ -3,7 +3,7 @@ use Rattle.std.proofs.lemmas.List.{take_rest}
 use Rattle.determinize_below.specs.Nfa.{AllResolve}
 use Rattle.determinize_below.specs.Semantics.{Nfa}
 use Rattle.determinize_start.specs.StartKinds.{byte_before}
-use Rattle.determinize_lazy.specs.Scans.{IsScan, Scanned}
+use Rattle.determinize_engine.specs.Scans.{IsScan, Scanned}
 use Rattle.determinize_find.specs.Regexes.{RegexValue}
 use Rattle.determinize_find.proofs.streams.Certain.{end_scan}
 use Rattle.determinize_find.proofs.regex.LazyRegex+N+B+A.scan.Goals as goal

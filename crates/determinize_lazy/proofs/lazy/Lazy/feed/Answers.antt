@@ -1,11 +1,12 @@
 use Rattle.determinize_lazy.proofs.Common.{ap, arith, cache, future, IfSome}
 use Rattle.determinize_lazy.proofs.Common.{last_match, length, length-map, map, option_map, option_or, rules, Some}
 use Rattle.determinize_lazy.proofs.Common.{subst, sym, Value, ◌+◌, ◌<◌, ◌∙◌, ◌≡◌, ◌≤◌}
-use Rattle.determinize_lazy.specs.Private.Scanned.{IsPieceRead, later_by}
-use Rattle.determinize_lazy.specs.Scans.{Scanned}
-use Rattle.determinize_core.proofs.finding.LastUnits.{last_match-within}
-use Rattle.determinize_lazy.proofs.finding.Later.{later-within}
-use Rattle.determinize_lazy.proofs.finding.Scanning.{scan-piece}
+use Rattle.determinize_lazy.specs.Private.Scanned.{IsPieceRead}
+use Rattle.determinize_engine.specs.Private.Later.{later_by}
+use Rattle.determinize_engine.specs.Scans.{Scanned}
+use Rattle.determinize_engine.proofs.LastUnits.{last_match-within}
+use Rattle.determinize_engine.proofs.Later.{later-within}
+use Rattle.determinize_engine.proofs.Scanning.{scan-piece}
 use Rattle.determinize_lazy.proofs.lazy.Lazy.feed.Given.{Over}
 use Rattle.determinize_lazy.proofs.lazy.Lazy.feed.Goals.{After-rest}
 use Rattle.determinize_lazy.proofs.lazy.Lazy.feed.Goals as goal

@@ -2,12 +2,12 @@ use Rattle.determinize_lazy.proofs.Common.{[], AllResolve, ap, arith, between, c
 use Rattle.determinize_lazy.proofs.Common.{IfSome, IsOver, last_match, None, option_map, option_or, Place, refl, rules}
 use Rattle.determinize_lazy.proofs.Common.{subst, sym, Text, units, Value, ◌<◌, ◌∙◌, ◌∷◌, ◌≡◌, ◌≤◌}
 use Rattle.determinize_core.specs.Chain.{chain}
-use Rattle.determinize_lazy.specs.Private.Scanned.{later_by}
-use Rattle.determinize_lazy.specs.Scans.{Scanned}
-use Rattle.determinize_core.proofs.finding.Headline.{is-search}
-use Rattle.determinize_core.proofs.finding.LastUnits.{last_match-within}
-use Rattle.determinize_lazy.proofs.finding.Later.{last_from-first, later-within}
-use Rattle.determinize_lazy.proofs.finding.Scanning.{last-whole}
+use Rattle.determinize_engine.specs.Private.Later.{later_by}
+use Rattle.determinize_engine.specs.Scans.{Scanned}
+use Rattle.determinize_engine.proofs.Headline.{is-search}
+use Rattle.determinize_engine.proofs.LastUnits.{last_match-within}
+use Rattle.determinize_engine.proofs.Later.{last_from-first, later-within}
+use Rattle.determinize_engine.proofs.Scanning.{last-whole}
 use Rattle.determinize_lazy.proofs.steps.Rule.{along, of_err}
 use Rattle.determinize_lazy.proofs.lazy.Lazy.finish.Given.{Over}
 use Rattle.determinize_lazy.proofs.lazy.Lazy.finish.Goals.{In_ok-found}

@@ -1,5 +1,5 @@
 use Rattle.determinize_lazy.proofs.Common.{ap, arith, length, Some, sym, units, ◌+◌, ◌∙◌, ◌≡◌}
-use Rattle.determinize_core.proofs.finding.Texts.{unit-last}
+use Rattle.determinize_engine.proofs.Texts.{unit-last}
 use Rattle.determinize_lazy.proofs.finding.CachedSteps.{IsNext, next-cached}
 use Rattle.determinize_lazy.proofs.finding.Searching.{goes_twice, of_bytes}
 use Rattle.determinize_lazy.proofs.lazy.Lazy.follow_to_end.Given.{Over}

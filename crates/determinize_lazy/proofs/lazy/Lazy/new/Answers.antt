@@ -1,7 +1,7 @@
 use Rattle.determinize_lazy.proofs.Common.{[], ap, arith, sym, Table, ◌∙◌, ◌≡◌}
-use Rattle.determinize_core.proofs.states.Places.{not_none}
+use Rattle.determinize_engine.proofs.Places.{not_none}
 use Rattle.determinize_core.specs.Step.{step}
-use Rattle.determinize_lazy.proofs.tables.Transitions.{empty-is}
+use Rattle.determinize_table.proofs.Transitions.{empty-is}
 use Rattle.determinize_lazy.proofs.lazy.Lazy.new.Goals as goal
 
 pub invariant_of-result : goal.invariant_of-result

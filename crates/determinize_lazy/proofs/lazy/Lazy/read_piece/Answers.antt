@@ -2,7 +2,7 @@ use Rattle.determinize_lazy.proofs.Common.{[], AllResolve, ap, append-nil, cache
 use Rattle.determinize_lazy.proofs.Common.{first_place, GoesOn, HasStopped, IsOver, LazyValue, length, length-map, List}
 use Rattle.determinize_lazy.proofs.Common.{map, Option, place, Place, refl, rules, Some, subst, sym, Text, Value, ℕ}
 use Rattle.determinize_lazy.proofs.Common.{◌++◌, ◌∙◌}
-use Rattle.determinize_lazy.proofs.finding.Later.{last_from-first}
+use Rattle.determinize_engine.proofs.Later.{last_from-first}
 use Rattle.determinize_lazy.proofs.finding.Searching.{over-at, value-at}
 use Rattle.determinize_lazy.proofs.steps.Rule.{of_err}
 use Rattle.determinize_lazy.proofs.walking.CachedWalks.{cut_off-whole}

@@ -1,6 +1,6 @@
 use Rattle.determinize_lazy.proofs.Common.{cache, cursor_value, Fails, false, is_last, List, map, Option, place, rules}
 use Rattle.determinize_lazy.proofs.Common.{Some, ℕ, ◌++◌, ◌≡◌}
-use Rattle.determinize_core.proofs.states.Places.{get_more}
+use Rattle.determinize_engine.proofs.Places.{get_more}
 use Rattle.determinize_lazy.specs.Private.Searched.{here, over}
 use Rattle.determinize_lazy.proofs.finding.Searching.{fails-at, goes-longer, goes_twice, tag-last}
 use Rattle.determinize_lazy.proofs.steps.Rule.{grows-more, of_err}

@@ -1,7 +1,7 @@
 use Rattle.determinize_lazy.proofs.Common.{[], ap, arith, cursor_value, Err, false, inl, inr, is_last, length}
 use Rattle.determinize_lazy.proofs.Common.{rules, slice_get, Some, sym, true≢false, units, ◌+◌, ◌<◌, ◌∙◌}
 use Rattle.determinize_lazy.proofs.Common.{◌∷◌, ◌≡◌}
-use Rattle.determinize_core.proofs.finding.Texts.{all_read, unit-last, units_listed}
+use Rattle.determinize_engine.proofs.Texts.{all_read, unit-last, units_listed}
 use Rattle.determinize_lazy.specs.Private.Searched.{over}
 use Rattle.determinize_lazy.proofs.finding.Searching.{fails-at, of_bytes, over-at, tag-last}
 use Rattle.determinize_lazy.proofs.lazy.Lazy.search_from.Given.{Over}

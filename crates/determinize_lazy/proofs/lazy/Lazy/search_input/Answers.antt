@@ -1,6 +1,6 @@
 use Rattle.determinize_lazy.proofs.Common.{cache, false, is_done, rules, start_for, sym, text_of, ◌∙◌, ◌≡◌}
 use Rattle.determinize_lazy.proofs.finding.CachedRanges.{after-done, after-found, search-is}
-use Rattle.determinize_core.proofs.finding.Ranges.{is-answer, IsAnswer, last-done, offset-within}
+use Rattle.determinize_engine.proofs.Ranges.{is-answer, IsAnswer, last-done, offset-within}
 use Rattle.determinize_lazy.proofs.walking.Plenty.{keeps_all}
 use Rattle.determinize_lazy.proofs.lazy.Lazy.search_input.Goals as goal
 

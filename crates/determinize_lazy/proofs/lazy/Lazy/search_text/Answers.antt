@@ -3,7 +3,7 @@ use Rattle.determinize_lazy.proofs.Common.{get_or_from_slice_get, GoesOn, inl, i
 use Rattle.determinize_lazy.proofs.Common.{match_reported, option_or, slice_get, slice_get-get_or, slice_get_within}
 use Rattle.determinize_lazy.proofs.Common.{slice_index_or, start_value, subst, sym, Tag, tag_in, tag_of, Text, units}
 use Rattle.determinize_lazy.proofs.Common.{Value, ◌∙◌, ◌≡◌}
-use Rattle.determinize_core.proofs.finding.Texts.{all_read}
+use Rattle.determinize_engine.proofs.Texts.{all_read}
 use Rattle.determinize_lazy.proofs.finding.Searching.{leaves, over-at, tag-last}
 use Rattle.determinize_lazy.proofs.lazy.Lazy.search_text.Given.{Over}
 use Rattle.determinize_lazy.proofs.lazy.Lazy.search_text.Goals.{After-len, In-Some}

@@ -1,6 +1,6 @@
 use Rattle.determinize_lazy.proofs.Common.{[], ap, cursor_value, future, refl, rules, take_all, units, Value, ◌++◌, ◌∙◌}
 use Rattle.determinize_lazy.proofs.Common.{◌∷◌, ◌≡◌}
-use Rattle.determinize_core.proofs.finding.Texts.{all_read}
+use Rattle.determinize_engine.proofs.Texts.{all_read}
 use Rattle.determinize_lazy.proofs.steps.Rule.{grows-more, of_err}
 use Rattle.determinize_lazy.proofs.walking.CachedWalks.{cut_off-here, cut_off-none, cut_off-step, future-more}
 use Rattle.determinize_lazy.proofs.walking.CachedWalks.{reached-all, reached-push, reached-resolves}

@@ -1,6 +1,6 @@
 use Rattle.determinize_lazy.proofs.Common.{is_nonempty, not, rules, sym, ◌∙◌, ◌≡◌}
-use Rattle.determinize_lazy.proofs.finding.Later.{none_left}
-use Rattle.determinize_lazy.proofs.finding.Scanning.{settled}
+use Rattle.determinize_engine.proofs.Later.{none_left}
+use Rattle.determinize_engine.proofs.Scanning.{settled}
 use Rattle.determinize_lazy.proofs.scan.Scan.is_over.Goals as goal
 
 pub returns-clause-settled : goal.returns-clause-settled

@@ -1,0 +1,45 @@
+-- The last match of a walk over more units, after some that were read.
+use Rattle.determinize_core.proofs.Common.{[], arith, ended_at, future, HalfMatch, is_nonempty, last_match, List, MatchKind, Nfa, None, not, Option, option_map, option_or, refl, Some, step, sym, true, true≢false, Value, ℕ, ◌+◌, ◌<◌, ◌∙◌, ◌∷◌, ◌≡◌, ◌≤◌, ap, IfSome}
+use Rattle.determinize_core.proofs.walk.LastMatches.{each_first_unit_unrolls}
+use Rattle.determinize_core.specs.Laws.{one_later}
+use Rattle.determinize_engine.proofs.LastUnits.{last_match-over}
+use Rattle.determinize_engine.specs.Private.Later.{last_from, later_by}
+
+pub later-within : (n k limit : ℕ) (found : Option HalfMatch) → IfSome found (λ m. m.offset < k) → n + k ≤ limit + 1
+    → IfSome found (λ m. n + m.offset ≤ limit)
+later-within n k limit None h sum = tt
+later-within n k limit (Some m) h sum = omega (arith, h, sum)
+
+pub none_left : (states : List ℕ) → not (is_nonempty states) ≡ true → states ≡ []
+none_left [] h = refl
+none_left (x ∷ xs) h = absurd (true≢false (sym h))
+
+-- one unit more before the others
+shift : (n : ℕ) (o last : Option HalfMatch) (patterns : List ℕ)
+    → option_or (option_map (later_by n) (option_or (option_map one_later o) (ended_at 0 patterns))) last
+    ≡ option_or (option_map (later_by (n + 1)) o) (option_or (ended_at n patterns) last)
+shift n None last [] = refl
+shift n None last (p ∷ ps) = grind arith
+shift n (Some m) last patterns = grind arith
+
+module _ (nfa : Nfa) (kind : MatchKind) where
+  pub last_from-next : (n : ℕ) (last : Option HalfMatch) (v : Value) (u : Option ℕ) (us : List (Option ℕ))
+      → last_from nfa kind n last v (u ∷ us)
+      ≡ last_from nfa kind (n + 1) (option_or (ended_at n (step nfa kind v u).patterns) last) (step nfa kind v u) us
+  last_from-next n last v u us =
+      ap (λ o. option_or (option_map (later_by n) o) last) (each_first_unit_unrolls nfa kind v u us)
+      ∙ shift n (last_match (future nfa kind (step nfa kind v u) us)) last (step nfa kind v u).patterns
+
+  -- from the beginning
+  pub last_from-first : (v : Value) (us : List (Option ℕ))
+      → last_from nfa kind 0 None v us ≡ last_match (future nfa kind v us)
+  last_from-first v us = same (last_match (future nfa kind v us))
+    where
+      same : (o : Option HalfMatch) → option_or (option_map (later_by 0) o) None ≡ o
+      same None = refl
+      same (Some m) = grind arith
+
+  -- no match follows a value without NFA states
+  pub last_from-over : (n : ℕ) (last : Option HalfMatch) (v : Value) (us : List (Option ℕ)) → v.states ≡ []
+      → last_from nfa kind n last v us ≡ last
+  last_from-over n last v us none = rw (← last_match-over nfa kind v [] us none)

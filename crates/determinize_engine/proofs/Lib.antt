@@ -1,0 +1,9 @@
+pub mod Headline
+pub mod Interning
+pub mod LastUnits
+pub mod Later
+pub mod Places
+pub mod Ranges
+pub mod Scanning
+pub mod TextUnits
+pub mod Texts

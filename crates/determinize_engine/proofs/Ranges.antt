@@ -1,0 +1,73 @@
+-- What an input asks for, and the answer in its haystack.
+use Rattle.determinize_core.proofs.Common.{All, arith, Asked, Bool, chain, Decides, false, false≢true, HalfMatch}
+use Rattle.determinize_core.proofs.Common.{IfNone, IfSome, is_done, is_some, IsAccepted}
+use Rattle.determinize_engine.specs.Searches.{HasMatch, in_haystack}
+use Rattle.determinize_core.proofs.Common.{last_match, LeftmostFirst, length}
+use Rattle.determinize_engine.specs.Searches.{IsFarthestIn, IsPreferredIn, IsSearch}
+use Rattle.determinize_core.proofs.Common.{length-reverse, length-take, MatchKind, Nfa, None, Option, option_map, refl}
+use Rattle.determinize_core.proofs.Common.{Some, true, ℕ, ◌-◌, ◌≡◌, ◌≤◌}
+use Rattle.determinize_engine.specs.Searches.{start_for, text_of}
+use Rattle.determinize_engine.specs.Searches.{last_in}
+use Rattle.determinize_engine.proofs.Headline.{none_accepts, some_accepts}
+use Rattle.std.proofs.lemmas.Option.{IfSome_then}
+
+-- where nothing is left to search
+module _ (asked : Asked) (done : is_done asked ≡ true) where
+  pub last-done : (nfa : Nfa) (kind : MatchKind) → None ≡ last_in nfa kind asked
+  unfolding last_in
+  last-done nfa kind = rw done
+
+-- a walk has a last match exactly where some run accepts
+pub match-decides : (nfa : Nfa) (kind : MatchKind) (asked : Asked) {found : Bool} → IsAccepted nfa
+    → found ≡ is_some (last_match (chain nfa kind (start_for nfa asked.anchored) (text_of nfa.reverse asked)))
+    → Decides found (HasMatch nfa asked)
+match-decides nfa kind asked accepted found_is = rw found_is (each _ refl)
+  where
+    each : (m : Option HalfMatch)
+        → m ≡ last_match (chain nfa kind (start_for nfa asked.anchored) (text_of nfa.reverse asked))
+        → Decides (is_some m) (HasMatch nfa asked)
+    each None e =
+        (λ h. absurd (false≢true h), λ h. absurd (none_accepts nfa kind _ _ accepted e h.0 h.1 h.2 h.3))
+    each (Some m) e =
+        (λ _. let a = some_accepts nfa kind _ _ m accepted e in (a.0, m.offset, m.pattern, a.1), λ _. refl)
+
+-- what a search returns, in the haystack
+pub record IsAnswer (nfa : Nfa) (kind : MatchKind) (asked : Asked) (answer : Option HalfMatch) : Type 0 where
+  pub last : answer ≡ last_in nfa kind asked
+  pub preferred : kind ≡ LeftmostFirst → IfSome answer (λ m. IsPreferredIn nfa asked m)
+  pub farthest : kind ≡ All → IfSome answer (λ m. IsFarthestIn nfa asked m)
+  pub none : IfNone answer (HasMatch nfa asked → ⊥)
+
+pub is-answer : {nfa : Nfa} {kind : MatchKind} {asked : Asked} {found answer : Option HalfMatch} {is_backward : Bool}
+    → IsAccepted nfa → is_done asked ≡ false → is_backward ≡ nfa.reverse
+    → answer ≡ option_map (in_haystack is_backward asked) found
+    → IsSearch nfa kind (start_for nfa asked.anchored) (text_of nfa.reverse asked) found
+    → IsAnswer nfa kind asked answer
+unfolding last_in
+is-answer {nfa} {kind} {asked} {found} accepted more direction answer_is s = rw (answer_is, direction) (each found s)
+  where
+    each : (o : Option HalfMatch) → IsSearch nfa kind (start_for nfa asked.anchored) (text_of nfa.reverse asked) o
+        → IsAnswer nfa kind asked (option_map (in_haystack nfa.reverse asked) o)
+    each None s = record {
+      last = rw (more, ← s.last);
+      preferred = λ k. tt;
+      farthest = λ k. tt;
+      none = λ h. none_accepts nfa kind _ _ accepted s.last h.0 h.1 h.2 h.3;
+    }
+    each (Some m) s = record {
+      last = rw (more, ← s.last);
+      preferred = λ k. let p = s.preferred k in (p.0, m.offset, refl, p.1);
+      farthest = λ k. (m.offset, refl, s.farthest k);
+      none = tt;
+    }
+
+range-within : (is_backward : Bool) (asked : Asked) → length (text_of is_backward asked).bytes ≤ asked.end - asked.start
+range-within false asked = rw length-take (omega arith)
+range-within true asked = rw (length-reverse, length-take) (omega arith)
+
+-- a match ends within the range
+pub offset-within : {nfa : Nfa} {kind : MatchKind} {start : ℕ} (asked : Asked) {found : Option HalfMatch}
+    → IsSearch nfa kind start (text_of nfa.reverse asked) found → IfSome found (λ m. m.offset ≤ asked.end - asked.start)
+offset-within {nfa} asked s =
+    let within = range-within nfa.reverse asked in
+    IfSome_then _ {Q = λ m. m.offset ≤ asked.end - asked.start} s.within (λ m h. omega arith)

@@ -1,0 +1,33 @@
+-- The units of a text, and the text that an input asks for.
+use Rattle.determinize_core.proofs.Common.{[], ap, arith, get_or, length, length-append, length-map, List, map}
+use Rattle.determinize_core.proofs.Common.{slice_get, slice_get-get_or, slice_get-map, Some, Text, units, ℕ, ◌++◌, ◌+◌}
+use Rattle.determinize_core.proofs.Common.{◌<◌, ◌∙◌, ◌∷◌, ◌≡◌, ◌≤◌}
+use Rattle.determinize_core.proofs.walk.UnitLists.{units_are}
+use Rattle.determinize_engine.proofs.Places.{get_last, get_more}
+
+-- each byte as a unit
+pub unit-byte : (bytes : List ℕ) (i b : ℕ) → i < length bytes → b ≡ get_or bytes i 0
+    → slice_get (map Some bytes) i ≡ Some (Some b)
+unit-byte bytes i b inside is = rw (slice_get-map, slice_get-get_or bytes i 0 inside, is)
+
+module _ (text : Text) where
+  -- the units are the bytes and what is ahead of them
+  pub units_listed : units text ≡ map Some text.bytes ++ text.ahead ∷ []
+  units_listed = units_are text.behind text.ahead text.bytes
+
+  pub unit-here : (i b : ℕ) → slice_get (map Some text.bytes) i ≡ Some (Some b)
+      → slice_get (units text) i ≡ Some (Some b)
+  unit-here i b at = ap (λ us. slice_get us i) units_listed
+      ∙ get_more (map Some text.bytes) (text.ahead ∷ []) i (Some b) at
+
+  -- and so is what is ahead of them
+  pub unit-last : (i : ℕ) → i ≡ length text.bytes → slice_get (units text) i ≡ Some text.ahead
+  unit-last i is = ap (λ us. slice_get us i) units_listed
+      ∙ rw (is, ← length-map text.bytes Some) (get_last (map Some text.bytes) text.ahead)
+
+  -- nothing is left past its bytes and the unit ahead
+  pub all_read : {n m : ℕ} → n < m → n ≡ length text.bytes → length (units text) ≤ m
+  all_read h is =
+      let count : length (units text) ≡ length text.bytes + 1 =
+      ap length units_listed ∙ simp (length-append, length-map) in
+      omega (arith, h, is)

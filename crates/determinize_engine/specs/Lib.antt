@@ -1,0 +1,6 @@
+pub mod Engines
+pub mod Private
+pub mod Scans
+pub mod Searches
+pub mod States
+pub mod UnitsRead

@@ -1,0 +1,5 @@
+pub mod Changes
+pub mod Common
+pub mod TableRows
+pub mod Transitions
+pub mod Values

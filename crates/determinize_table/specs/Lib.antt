@@ -1,0 +1,6 @@
+pub mod Changes
+pub mod Cursors
+pub mod Rows
+pub mod Stored
+pub mod Table
+pub mod Tags

@@ -1,0 +1,78 @@
+//! The id of a cached state: the offset of its row in the transition table.
+
+ghost use Rattle.std.specs.Prelude.{◌≡◌, ◌<◌, ◌≤◌, ◌*◌, ◌/◌};
+
+use determinize_engine::state_table::MAX_STATES;
+use std::marker::Model;
+
+/// The number of units: the bytes, and the end of input (EOI).
+pub const UNITS: usize = 257;
+
+/// The number of columns of a row: a target for each unit, and the tag of the state.
+pub const COLUMNS: usize = UNITS + 1;
+
+/// The id of a cached state, seen as the state's index.
+///
+/// It is premultiplied: stored is the offset of the state's row, so that a search only adds the
+/// column of a unit to it to find the next id.
+#[derive(Clone, Copy)]
+pub struct LazyStateId {
+    row: usize,
+}
+
+impl Model for LazyStateId {
+    ghost use Rattle.std.specs.Prelude.{◌≡◌, ℕ, ◌*◌, ◌/◌, ◌≤◌};
+
+    ghost Value = { ℕ };
+
+    ghost view = { λ id. id.row / 258 };
+
+    ghost invariant = { λ id. (id.row ≡ id.row / 258 * 258) × (id.row ≤ 4294967295) };
+
+    ghost inverse = { λ n. record { row = n * 258 } };
+}
+
+impl LazyStateId {
+    /// Returns the id of the state at an index.
+    pub fn from_index(index: usize) -> LazyStateId
+        requires { index < MAX_STATES }
+        ensures { result ≡ index }
+    {
+        LazyStateId {
+            row: index * COLUMNS,
+        }
+    }
+
+    /// Returns the id of the state whose row has this offset.
+    #[inline(always)]
+    pub fn from_row(row: u32) -> LazyStateId
+        requires { row ≡ row / 258 * 258 }
+        ensures { result ≡ row / 258 }
+    {
+        LazyStateId { row: row as usize }
+    }
+
+    /// Returns the index of the state.
+    #[inline(always)]
+    pub fn index(self) -> usize
+        ensures value { result ≡ self }
+        ensures limit { result ≤ MAX_STATES }
+    {
+        self.row / COLUMNS
+    }
+
+    /// Returns the offset of the state's row.
+    #[inline(always)]
+    pub fn row(self) -> usize
+        ensures { result ≡ self * 258 }
+    {
+        self.row
+    }
+
+    /// Returns the offset of the state's row as it is stored in a row.
+    pub fn entry(self) -> u32
+        ensures { result ≡ self * 258 }
+    {
+        self.row as u32
+    }
+}

@@ -1,0 +1,365 @@
+//! The transition table: the cached states, and a row of targets for each.
+//!
+//! A row has 258 numbers. In the column of a unit (a byte, or 256 for EOI) is the offset in `rows`
+//! of the row of the next state, or `UNKNOWN` if the transition is not cached. In the last column
+//! is the tag of the state. So a search over cached transitions reads two numbers a byte, and no
+//! state. The table also has the rule of what is cached (`keep`), and the ids of the start states
+//! that searches have used.
+
+ghost use Rattle.std.specs.Prelude.{◌≡◌, ◌*◌, ◌<◌, ◌≤◌, false, true, length, nat_le, slice_get, slice_index_or, slice_set, IfOk, None, Some};
+ghost use Rattle.std.specs.List.{list_any};
+ghost use Rattle.determinize_core.specs.Value.{Value as StateValue};
+ghost use Rattle.determinize_table.specs.Table.{keep};
+ghost use Rattle.determinize_table.specs.Cursors.{IsAt, IsCursor, IsCursorBefore, cursor_value};
+ghost use Rattle.determinize_table.specs.Rows.{IsEmpty, IsTarget, table_of};
+ghost use Rattle.determinize_table.specs.Tags.{tag_in, tag_of};
+ghost use Rattle.determinize_table.specs.Stored.{column, is_unit};
+ghost use Rattle.determinize_engine.specs.States.{IsIndex};
+ghost use Rattle.determinize_table.specs.Changes.{IsInterned, IsKept};
+ghost use Rattle.determinize_table.specs.Table.{with_transition, with_value};
+ghost use Rattle.determinize_core.specs.Equality.{same};
+
+use crate::state_id::{COLUMNS, LazyStateId, UNITS};
+use crate::tag::StateTag;
+use determinize_core::state::State;
+use determinize_engine::state_table::{MAX_STATES, StateTable};
+use std::alloc::{AllocError, Allocator, Global};
+use std::marker::Model;
+use std::mem::size_of;
+
+/// The entry of a transition that is not cached. It is the offset of no row, since these are
+/// multiples of 258.
+const UNKNOWN: u32 = 1;
+
+/// How many start states can be kept: two start states of the NFA, each with six kinds of start.
+pub const STARTS: usize = 12;
+
+/// Where a walk or a search is.
+#[derive(Drop)]
+pub enum Cursor<A: Allocator = Global> {
+    /// At a cached state.
+    Cached(LazyStateId),
+    /// At a state that is not cached.
+    Uncached(State<A>),
+}
+
+impl<A: Allocator> Cursor<A> {
+    /// Returns the id of the state, if it is cached.
+    pub fn id(&self) -> Option<LazyStateId> {
+        match self {
+            Cursor::Cached(id) => Some(*id),
+            Cursor::Uncached(_) => None,
+        }
+    }
+}
+
+/// The cached states, the cached transitions between them, and the ids of cached start states.
+#[derive(Drop)]
+pub struct TransitionTable<A: Allocator = Global> {
+    states: StateTable<A>,
+    rows: Vec<u32, A>,
+    // The ids of start states, by `start_index` of `step`. `clear` removes them.
+    starts: [Option<LazyStateId>; STARTS],
+}
+
+impl<A: Allocator> Model for TransitionTable<A> {
+    ghost use Rattle.determinize_table.specs.Rows.{IsStored, StoredTable};
+
+    ghost Value = { StoredTable };
+
+    ghost view = { λ t. record {
+      states = t.states;
+      rows = t.rows.items;
+      starts = t.starts;
+    } };
+
+    ghost invariant = { λ t. IsStored t.states t.rows.items };
+}
+
+/// Returns the column of a unit in a row.
+#[inline(always)]
+fn column(unit: Option<u8>) -> usize
+    ensures value { result ≡ column unit }
+    ensures limit { result < 257 }
+    ensures is_unit { is_unit unit ≡ true }
+{
+    match unit {
+        Some(byte) => byte as usize,
+        None => 256,
+    }
+}
+
+impl<A: Allocator + Copy> TransitionTable<A> {
+    /// Returns a table in which nothing is cached. Does not allocate.
+    pub fn new(alloc: A) -> TransitionTable<A>
+        ensures { IsEmpty result }
+    {
+        TransitionTable {
+            states: StateTable::new(alloc),
+            rows: Vec::new(alloc),
+            starts: [None; STARTS],
+        }
+    }
+
+    /// Removes all transitions, states and start states.
+    pub fn clear(&mut self)
+        ensures { IsEmpty self.new }
+    {
+        self.states.clear();
+        self.rows.clear();
+        let starts = [None; STARTS];
+        self.starts = starts;
+    }
+
+    /// Returns the number of cached states, at most 16647160.
+    #[inline(always)]
+    pub fn len(&self) -> usize
+        ensures value { result ≡ length self.now.states }
+        ensures limit { result ≤ MAX_STATES }
+    {
+        self.states.len()
+    }
+
+    /// Returns the heap memory that the table uses, in bytes.
+    pub fn memory_usage(&self) -> usize
+        ensures { length self.now.states * 1032 ≤ result }
+    {
+        let rows = self.states.len() * COLUMNS * size_of::<u32>();
+        rows.saturating_add(self.states.memory_usage())
+    }
+
+    /// Returns the id of a state, or `None` if it is not cached.
+    pub fn find(&self, state: &State<A>) -> Option<LazyStateId>
+        ensures { IsIndex self.now.states state.now result }
+    {
+        let index = self.states.find(state)?;
+        Some(LazyStateId::from_index(index))
+    }
+
+    /// Returns the cached state with this id.
+    #[inline(always)]
+    pub fn get(&self, id: LazyStateId) -> &State<A>
+        requires { id < length self.now.states }
+        ensures { slice_get self.now.states id ≡ Some result.now }
+    {
+        self.states.get(id.index())
+    }
+
+    /// Returns whether a state is cached with this id.
+    #[inline(always)]
+    pub fn has(&self, id: LazyStateId, state: &State<A>) -> bool
+        ensures { result ≡ true → slice_get self.now.states id ≡ Some state.now }
+    {
+        id.index() < self.states.len() && self.get(id) == state
+    }
+
+    /// Returns the state at a cursor.
+    #[inline(always)]
+    pub fn state<'a>(&'a self, cursor: &'a Cursor<A>) -> &'a State<A>
+        requires { IsCursor self.now.states cursor.now }
+        ensures { result.now ≡ cursor_value self.now.states cursor.now }
+    {
+        match cursor {
+            Cursor::Cached(id) => self.get(*id),
+            Cursor::Uncached(state) => state,
+        }
+    }
+
+    /// Returns the id of the state that follows a cached state over a unit, or `None` if that
+    /// transition is not cached.
+    #[inline(always)]
+    pub fn lookup(&self, id: LazyStateId, unit: Option<u8>) -> Option<LazyStateId>
+        requires { id < length self.now.states }
+        ensures { (v : StateValue) → slice_get self.now.states id ≡ Some v
+            → IsTarget (table_of self.now) v unit result }
+    {
+        // Slicing at the column first keeps that addition off the path from one id to the next.
+        let rows = &self.rows[column(unit)..];
+        let entry = rows[id.row()];
+        if entry == UNKNOWN {
+            None
+        } else {
+            Some(LazyStateId::from_row(entry))
+        }
+    }
+
+    /// Returns the tag of a cached state.
+    #[inline(always)]
+    pub fn tag(&self, id: LazyStateId) -> StateTag
+        requires { id < length self.now.states }
+        ensures { (v : StateValue) → slice_get self.now.states id ≡ Some v
+            → tag_in result.bits ≡ tag_of v }
+    {
+        StateTag {
+            bits: self.rows[id.row() + UNITS],
+        }
+    }
+
+    /// Returns the kept start at an index.
+    pub fn start(&self, index: usize) -> Option<LazyStateId>
+        requires { index < 12 }
+        ensures { result ≡ slice_index_or self.now.starts index None }
+    {
+        self.starts[index]
+    }
+
+    /// Keeps the id of a start state at an index.
+    pub fn set_start(&mut self, index: usize, id: LazyStateId)
+        requires { index < 12 }
+        ensures { self.new
+            ≡ record self.old { starts = slice_set self.old.starts index (Some id) } }
+    {
+        self.starts[index] = Some(id);
+    }
+
+    /// Caches a state that is not cached, and returns its id.
+    ///
+    /// If an allocation fails, the table is unchanged.
+    fn push(&mut self, state: State<A>) -> Result<LazyStateId, AllocError>
+        requires { list_any (same state) self.old.states ≡ false }
+        ensures { IsInterned self.old state result self.new }
+    {
+        let tag = StateTag::of(&state);
+        let len = self.rows.len();
+        self.rows.resize(len + COLUMNS, UNKNOWN)?;
+        self.rows[len + UNITS] = tag.bits;
+        match self.states.intern(state) {
+            Ok(index) => Ok(LazyStateId::from_index(index)),
+            Err(failed) => {
+                self.rows.truncate(len);
+                Err(failed)
+            }
+        }
+    }
+
+    /// Returns the id of the state at a cursor, which is cached if it is not.
+    ///
+    /// If an allocation fails, the table is unchanged.
+    fn intern(&mut self, cursor: Cursor<A>) -> Result<LazyStateId, AllocError>
+        requires { IsCursor self.old.states cursor }
+        ensures { IsInterned self.old (cursor_value self.old.states cursor) result self.new }
+    {
+        match cursor {
+            Cursor::Cached(id) => Ok(id),
+            Cursor::Uncached(state) => self.push(state),
+        }
+    }
+
+    /// Returns the id of the state at a cursor, as `intern` does, where the state at `source` was
+    /// cached after the cursor was made.
+    fn intern_after(
+        &mut self,
+        source: LazyStateId,
+        cursor: Cursor<A>,
+    ) -> Result<LazyStateId, AllocError>
+        requires source { source < length self.old.states }
+        requires cursor { IsCursorBefore self.old.states source cursor }
+        ensures { IsInterned self.old (cursor_value self.old.states cursor) result self.new }
+    {
+        match cursor {
+            Cursor::Cached(id) => Ok(id),
+            Cursor::Uncached(state) => {
+                if *self.get(source) == state {
+                    Ok(source)
+                } else {
+                    self.push(state)
+                }
+            }
+        }
+    }
+
+    /// Caches the transition from `source` over `unit` to `target`, and both states. Returns the
+    /// cursor of the target.
+    ///
+    /// If an allocation fails, the table is unchanged or empty.
+    fn insert(
+        &mut self,
+        source: Cursor<A>,
+        unit: Option<u8>,
+        target: Cursor<A>,
+    ) -> Result<Cursor<A>, AllocError>
+        requires source { IsCursor self.old.states source }
+        requires target { IsCursor self.old.states target }
+        ensures { IsKept self.old (with_transition (table_of self.old)
+            (cursor_value self.old.states source) unit (cursor_value self.old.states target))
+            (cursor_value self.old.states target) result self.new }
+    {
+        let source = self.intern(source)?;
+        match self.intern_after(source, target) {
+            Ok(target) => {
+                self.rows[source.row() + column(unit)] = target.entry();
+                Ok(Cursor::Cached(target))
+            }
+            Err(failed) => {
+                self.clear();
+                Err(failed)
+            }
+        }
+    }
+
+    /// Caches a computed transition if it fits within `limit` states, after clearing the table if
+    /// it does not fit with the rest. Returns the cursor of its target.
+    ///
+    /// If an allocation fails, the table is unchanged or empty.
+    pub fn keep(
+        &mut self,
+        source: Cursor<A>,
+        unit: Option<u8>,
+        following: State<A>,
+        limit: usize,
+    ) -> Result<Cursor<A>, AllocError>
+        requires { IsCursor self.old.states source }
+        ensures { IsKept self.old (keep limit (table_of self.old)
+            (cursor_value self.old.states source) unit following) following result self.new }
+    {
+        let target = self.cursor_of(following);
+        if self.fits(&source, &target, limit) {
+            return self.insert(source, unit, target);
+        }
+        let source = Cursor::Uncached(self.into_state(source)?);
+        let target = Cursor::Uncached(self.into_state(target)?);
+        self.clear();
+        if self.fits(&source, &target, limit) {
+            return self.insert(source, unit, target);
+        }
+        Ok(target)
+    }
+
+    /// Returns whether the cached states with the source and the target of one more transition are
+    /// at most `limit`.
+    fn fits(&self, source: &Cursor<A>, target: &Cursor<A>, limit: usize) -> bool
+        requires source { IsCursor self.now.states source.now }
+        requires target { IsCursor self.now.states target.now }
+        ensures { result ≡ nat_le (length (with_value (with_value self.now.states
+            (cursor_value self.now.states source.now))
+            (cursor_value self.now.states target.now))) limit }
+    {
+        let more = match (source, target) {
+            (Cursor::Cached(_), Cursor::Cached(_)) => 0,
+            (Cursor::Uncached(state), Cursor::Uncached(following)) if state != following => 2,
+            _ => 1,
+        };
+        self.states.len() + more <= limit
+    }
+
+    /// Returns the cursor of a state.
+    fn cursor_of(&self, state: State<A>) -> Cursor<A>
+        ensures { IsAt self.now.states result state }
+    {
+        match self.find(&state) {
+            Some(id) => Cursor::Cached(id),
+            None => Cursor::Uncached(state),
+        }
+    }
+
+    /// Returns the state at a cursor, as a value that no longer needs the table.
+    pub fn into_state(&self, cursor: Cursor<A>) -> Result<State<A>, AllocError>
+        requires { IsCursor self.now.states cursor }
+        ensures { IfOk result (λ state. state ≡ cursor_value self.now.states cursor) }
+    {
+        match cursor {
+            Cursor::Cached(id) => self.get(id).clone(),
+            Cursor::Uncached(state) => Ok(state),
+        }
+    }
+}
