@@ -32,9 +32,9 @@ pub struct Dfa<'n, N: Allocator = Global, A: Allocator = Global> {
     pub(crate) last_match: usize,
     /// The offset of the last row that is scanned out of, or that of `last_match`.
     pub(crate) last_special: usize,
-    /// `SCALE` divided by the length of a row, plus 1. The product of an offset and this number is
-    /// at least `SCALE` times the number of the row, and less than `SCALE` more. So a search needs
-    /// no division to look up the patterns of a row.
+    /// `SCALE` divided by the length of a row, rounded down, plus 1. Its product with the offset of
+    /// row `r` is at least `r` times `SCALE`, and less than `r + 1` times. So a search needs no
+    /// division to look up the patterns of a row.
     pub(crate) inverse: usize,
 }
 

@@ -24,7 +24,7 @@ pub(crate) struct Pauses {
 }
 
 impl Pauses {
-    /// Returns the pause before the first scan.
+    /// Returns the pause before the first scan. It is over where `search_rest` begins.
     #[inline(always)]
     pub(crate) fn new() -> Pauses {
         Pauses {

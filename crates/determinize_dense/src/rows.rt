@@ -121,6 +121,8 @@ impl<'n, N: Allocator, A: Allocator + Copy> Rows<'n, N, A> {
     }
 
     /// Returns the patterns that a row lists.
+    ///
+    /// - `row` is the number of the row.
     #[inline(always)]
     pub(crate) fn patterns(&self, row: usize) -> &[PatternID]
         requires { row < length self.now.table.patterns }

@@ -66,12 +66,12 @@ impl<'n, N: Allocator, A: Allocator + Copy> Dfa<'n, N, A> {
             row = self.rows.row_over(row, Some(*byte));
         }
         let last = self.rows.row_over(row, look_ahead);
-        self.rows.patterns(self.row_at(last))
+        self.rows.patterns(self.row_number(last))
     }
 
     /// Returns the number of the row at an offset.
     #[inline(always)]
-    fn row_at(&self, offset: usize) -> usize
+    fn row_number(&self, offset: usize) -> usize
         requires { IsOffset self.now.table offset }
         ensures row { IsRowAt self.now.table offset result }
         ensures dead { patterns_at self.now.table 0 ≡ [] }
@@ -87,7 +87,7 @@ impl<'n, N: Allocator, A: Allocator + Copy> Dfa<'n, N, A> {
         requires { IsOffset self.now.table row }
         ensures { IsMatch self.now.table row offset result }
     {
-        let number = self.row_at(row);
+        let number = self.row_number(row);
         if row == 0 {
             return None;
         }
@@ -100,7 +100,8 @@ impl<'n, N: Allocator, A: Allocator + Copy> Dfa<'n, N, A> {
     ///
     /// A row is known by its offset. The match of the last row that lists patterns is looked up at
     /// the end. The first bytes are read here, with no scans. Which rows list patterns is hard to
-    /// predict, so the loop assigns `matched` and `offset` in a form that needs no jump.
+    /// predict, so the loop assigns `matched` and `offset` in a form that needs no jump where
+    /// `is_earliest` is the constant `false`.
     #[inline(always)]
     fn search_text(
         &self,

@@ -7,4 +7,4 @@ use Rattle.determinize_dense.proofs.dfa.Dfa.match_of.Goals as goal
 pub returns-then-row-eq0 : goal.returns-then-row-eq0
 returns-then-row-eq0 g c = λ r h e. sym (ap (λ ps. ended_at c.args.offset ps)
     (ap (λ n. patterns_at c.args.self.now.table n) (offset-zero c.args.self.now.table (sym e ∙ c.if-row-eq0.true))
-    ∙ c.row_at-number.ensures.dead))
+    ∙ c.row_number-number.ensures.dead))

@@ -37,12 +37,12 @@ listed : (g : Over) (c : After-patterns g) → c.patterns.result.now
     (units (between c.args.look_behind c.args.text.now c.args.look_ahead))).patterns
 listed g c =
     c.patterns.ensures
-    ∙ ap (λ (x : DfaValue). patterns_at x.table c.row_at.result) c.self.view_is
+    ∙ ap (λ (x : DfaValue). patterns_at x.table c.row_number.result) c.self.view_is
     ∙ patterns-are (row-push c.loop-byte.invariant.at c.args.look_ahead c.row_over-last.ensures.unit
     (subst (λ (x : DfaValue). IsNext x.table c.loop-byte.row c.args.look_ahead c.row_over-last.result)
     c.self.view_is c.row_over-last.ensures.value))
     (subst (λ (x : DfaValue). IsDfa x) c.self.view_is c.start_row-row.ensures.sound)
-    c.row_at.ensures.row
+    c.row_number.ensures.row
     ∙ ap (λ us. (value_from c.args.self.now.nfa c.args.self.now.kind (is_anchored c.args.anchored)
     c.args.look_behind us).patterns)
     (ap (λ bytes. map Some bytes ++ c.args.look_ahead ∷ []) (take_all c.loop-byte.byte-index c.args.text.now

@@ -2,9 +2,9 @@ use Rattle.determinize_core.proofs.Common.{[], ap, arith, length, subst, sym, �
 use Rattle.determinize_dense.proofs.Common.{DfaValue, patterns_at}
 use Rattle.std.specs.Prelude.{◌/◌, ◌^◌}
 use Rattle.determinize_dense.specs.Private.Rows.{IsInverse, offset_of}
-use Rattle.determinize_dense.proofs.dfa.Dfa.row_at.Given.{Over}
-use Rattle.determinize_dense.proofs.dfa.Dfa.row_at.Goals.{After-self}
-use Rattle.determinize_dense.proofs.dfa.Dfa.row_at.Goals as goal
+use Rattle.determinize_dense.proofs.dfa.Dfa.row_number.Given.{Over}
+use Rattle.determinize_dense.proofs.dfa.Dfa.row_number.Goals.{After-self}
+use Rattle.determinize_dense.proofs.dfa.Dfa.row_number.Goals as goal
 
 inverse : (g : Over) (c : After-self g) → IsInverse c.args.self.now.table c.self.inside.inverse
 inverse g c = subst (λ (x : DfaValue). IsInverse x.table c.self.inside.inverse) c.self.view_is c.self.invariant.1
