@@ -27,13 +27,13 @@ distinct xs = fresh nat_eq none_held xs
 abbrev pub roots_of : Nfa → MatchKind → Option ℕ → List ℕ → List ℕ
 roots_of nfa kind u working = flat_map (target nfa u) (part_read kind (is_match nfa) working)
 
--- whether a state is idle: it has no pattern, and no target on the unit
-abbrev pub is_idle : Nfa → Option ℕ → ℕ → Bool
-is_idle nfa u s = not (is_match nfa s || is_nonempty (target nfa u s))
+-- whether a state has no pattern, and no target on the unit
+abbrev pub gives_nothing : Nfa → Option ℕ → ℕ → Bool
+gives_nothing nfa u s = not (is_match nfa s || is_nonempty (target nfa u s))
 
--- what reading a state adds to the states that are kept: the state, if it is new and not idle
+-- what reading a state adds to the states that are kept: the state, if it is new and gives something
 abbrev pub gained : Nfa → Option ℕ → List ℕ → ℕ → List ℕ
-gained nfa u kept s = if is_idle nfa u s || has_id kept s then [] else s ∷ []
+gained nfa u kept s = if gives_nothing nfa u s || has_id kept s then [] else s ∷ []
 
 -- the target that was read
 abbrev pub target_read : Reading → Option ℕ

@@ -70,7 +70,7 @@ fn read_state<N: Allocator, A: Allocator>(
     ensures read { OnOk result (IsStateRead nfa.now (byte_of unit) id kept.old.ids kept.new.ids
         stack.old.items stack.new.items builder.old builder.new) }
     ensures stops { IfOk result
-        (λ stops. stops ≡ (is_match nfa.now id && not (continues match_kind))) }
+        (λ stops. stops ≡ (not (continues match_kind) && is_match nfa.now id)) }
     ensures capacity { kept.new.capacity ≡ kept.old.capacity }
 {
     match read(nfa, id, unit) {

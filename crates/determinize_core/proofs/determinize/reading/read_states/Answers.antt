@@ -1,37 +1,35 @@
-use Rattle.determinize_core.proofs.Common.{[], accepted_sound, All-rest, ap, append-nil, append_assoc, length, None}
-use Rattle.determinize_core.proofs.Common.{refl, Some, sym, Value, ◌<◌, ◌∙◌, ◌∷◌}
-use Rattle.determinize_core.proofs.step.FirstReading.{first_read-end, first_read-new, first_read-next, first_read-start}
-use Rattle.determinize_core.proofs.step.FirstReading.{first_read-stop, unmatched-next}
+use Rattle.determinize_core.proofs.Common.{accepted_sound, All-rest, ap, length, None, refl, Some, Value, ◌<◌, ◌∙◌}
+use Rattle.determinize_core.proofs.step.FirstReading.{all_read, reading-new, reading-next}
 use Rattle.determinize_core.proofs.determinize.reading.read_states.Goals as goal
 
 pub loop-id-init : goal.loop-id-init
 loop-id-init g c =
     let all = ap g.I.Ids.left c.into_iter-id-iterator.ensures.into_iter_gives in
     record {
-      so_far = first_read-start c.requires.empty c.requires.stack c.requires.unread;
-      unmatched = λ h. rw c.requires.empty refl;
-      split = all;
+      reading = record {
+        value_is = rw (c.requires.empty, ← c.requires.unread) refl;
+        targets_are = rw (c.requires.empty, c.requires.stack) refl;
+      };
+      whole = rw (all, c.requires.empty) refl;
       capacity = refl;
       left = rw all c.requires.resolve;
     }
 
 pub read_state-requires-clause-new_pattern : goal.read_state-requires-clause-new_pattern
 read_state-requires-clause-new_pattern g c = λ p e h.
-    first_read-new c.loop-id.invariant.so_far (accepted_sound c.args.nfa.now c.requires.accepted) c.in-Some.id p e h
+    reading-new c.loop-id.invariant.reading (accepted_sound c.args.nfa.now c.requires.accepted) c.in-Some.id p e h
 
 pub read_state-requires-clause-unrecorded : goal.read_state-requires-clause-unrecorded
 read_state-requires-clause-unrecorded g c =
-    ap (λ (v : Value). v.states) c.loop-id.invariant.so_far.value_is ∙ c.requires.unrecorded
+    ap (λ (v : Value). v.states) c.loop-id.invariant.reading.value_is ∙ c.requires.unrecorded
 
 pub loop-id-preserved : goal.loop-id-preserved
 loop-id-preserved g c =
     let step = g.met.I.Ids.gives c.loop-id.id-iterator c.next.new.self (Some c.in-Some.id) c.in-Some.ensures.steps in
+    let goes_on = rw c.in_ok-stops.ensures.stops at c.if-stops.false in
     record {
-      so_far = first_read-next c.loop-id.invariant.so_far c.in_ok-stops.ensures.read;
-      unmatched = unmatched-next c.loop-id.invariant.so_far c.in_ok-stops.ensures.read c.args.match_kind
-          c.loop-id.invariant.unmatched (rw c.in_ok-stops.ensures.stops at c.if-stops.false);
-      split = append_assoc c.loop-id.yielded (c.in-Some.id ∷ []) (g.I.Ids.left c.next.new.self)
-          ∙ (rw step at c.loop-id.invariant.split);
+      reading = reading-next c.loop-id.invariant.reading c.in_ok-stops.ensures.read;
+      whole = rw (step, goes_on, ← c.in_ok-stops.ensures.read.kept_are) at c.loop-id.invariant.whole;
       capacity = c.in_ok-stops.ensures.capacity ∙ c.loop-id.invariant.capacity;
       left = All-rest (λ id. id < length c.args.nfa.now.states) c.in-Some.id _ _ step c.loop-id.invariant.left;
     }
@@ -39,12 +37,11 @@ loop-id-preserved g c =
 pub returns-then-stops-clause-ok : goal.returns-then-stops-clause-ok
 returns-then-stops-clause-ok g c =
     let step = g.met.I.Ids.gives c.loop-id.id-iterator c.next.new.self (Some c.in-Some.id) c.in-Some.ensures.steps in
-    rw (← c.loop-id.invariant.split, step)
-    (first_read-stop c.loop-id.invariant.so_far c.in_ok-stops.ensures.read c.args.match_kind
-    (g.I.Ids.left c.next.new.self) c.loop-id.invariant.unmatched (sym c.in_ok-stops.ensures.stops ∙ c.if-stops.true))
+    let stop = rw c.in_ok-stops.ensures.stops at c.if-stops.true in
+    let whole = rw (step, stop, ← c.in_ok-stops.ensures.read.kept_are) at c.loop-id.invariant.whole in
+    all_read c.args.match_kind _ (rw whole at (reading-next c.loop-id.invariant.reading c.in_ok-stops.ensures.read))
 
 pub returns-clause-ok : goal.returns-clause-ok
 returns-clause-ok g c =
     let end = g.met.I.Ids.gives c.loop-id.id-iterator c.next.new.self None c.in-None.ensures.steps in
-    rw (← c.loop-id.invariant.split, end.0, append-nil)
-    (first_read-end c.loop-id.invariant.so_far c.args.match_kind c.loop-id.invariant.unmatched)
+    all_read c.args.match_kind _ (rw (rw end.0 at c.loop-id.invariant.whole) at c.loop-id.invariant.reading)
