@@ -1,13 +1,13 @@
--- Laws of steps and of walks.
--- Main statements: each_reach_goes_on, each_future_follows, dead_stays, one_pattern.
--- Used by: `step_law`, and the cache.
--- Idea: each is a consequence of the definition of a step.
+-- Laws of one step, and of closures and the values of a walk by the definition of a step.
+-- Main statements: each_reach_goes_on, each_state_has_one_kind, each_future_follows, dead_stays, one_pattern.
+-- Used by: `step_law`, `search_law`, `next`, ReturnedWalk, LastUnits, and the whole DFA.
+-- Idea: the definitions compute. A search that lists only captures would visit one of them again.
 use Rattle.determinize_core.proofs.Common.{[], accepted_sound, All, ap, arith, Assertion, Bool, by_test, capture_next}
 use Rattle.determinize_core.proofs.Common.{cond, dead, drop, each_look, edges, ends, eq-eqb, eqb-true, false}
 use Rattle.determinize_core.proofs.Common.{false≢true, flat_map, followed, fresh, future, has, is_capture, IsSound}
 use Rattle.determinize_core.proofs.Common.{LeftmostFirst, length, length-take, List, MatchKind, member, nat_eq, Nfa}
 use Rattle.determinize_core.proofs.Common.{None, none_held, not, opened_by, Option, or_left, reach, refl, same_decides}
-use Rattle.determinize_core.proofs.Common.{slice_get, Some, some_injective, start_value, state_at, step, suc, tables_of}
+use Rattle.determinize_core.proofs.Common.{slice_get, Some, start_value, state_at, step, suc, tables_of}
 use Rattle.determinize_core.proofs.Common.{true, units, Value, with_node, without, working_list, zero, ℕ, ◌&&◌, ◌+◌}
 use Rattle.determinize_core.proofs.Common.{◌==◌, ◌∙◌, ◌∷◌, ◌≡◌, ◌≤◌}
 use Rattle.ordered_reach.proofs.Cases.{or_false}
@@ -33,10 +33,9 @@ each_state_has_one_kind nfa holds u s = (length-target nfa u s, edges-or-target 
 
 drop-future : (nfa : Nfa) (kind : MatchKind) (us : List (Option ℕ)) (v w : Value) (j : ℕ)
     → slice_get (future nfa kind v us) j ≡ Some w → drop j (future nfa kind v us) ≡ future nfa kind w (drop j us)
-drop-future nfa kind [] v w zero h = let e : v ≡ w = some_injective v w h in ap (λ x. x ∷ []) e
+drop-future nfa kind [] v w zero h = cc
 drop-future nfa kind [] v w (suc j) h = absurd (let k : None ≡ Some w = h in cc)
-drop-future nfa kind (u ∷ us) v w zero h = let e : v ≡ w = some_injective v w h in
-    ap (λ x. future nfa kind x (u ∷ us)) e
+drop-future nfa kind (u ∷ us) v w zero h = cc
 drop-future nfa kind (u ∷ us) v w (suc j) h = drop-future nfa kind us (step nfa kind v u) w j h
 
 pub each_future_follows : EachFutureFollows
@@ -58,40 +57,28 @@ all_capture : (nfa : Nfa) (xs : List ℕ) (x : ℕ) → without (is_capture nfa)
 all_capture nfa [] x e m = absurd (false≢true m)
 all_capture nfa (y ∷ xs) x e m = grind (arith, same_decides y x, all_capture nfa xs x)
 
--- r is reached from s through captures only, in at least one step
-abbrev LeadsTo : Nfa → ℕ → ℕ → Type 0
-LeadsTo nfa s r = (i : ℕ) × (followed nfa (suc i) s ≡ r) × ((j : ℕ) → j ≤ i → is_capture nfa (followed nfa j s) ≡ true)
-
--- one more step, from a capture
-leads_further : (nfa : Nfa) (s r : ℕ) → LeadsTo nfa s r → is_capture nfa r ≡ true
-    → LeadsTo nfa s (capture_next (state_at nfa r))
-leads_further nfa s r l c = (suc l.0, rw l.1 refl, longer l.0 l.1 l.2)
-  where
-    longer : (i : ℕ) → followed nfa (suc i) s ≡ r → ((j : ℕ) → j ≤ i → is_capture nfa (followed nfa j s) ≡ true)
-        → (j : ℕ) → j ≤ suc i → is_capture nfa (followed nfa j s) ≡ true
-    longer i e f j b = by_test (nat_eq j (suc i))
-        (λ k. rw (eqb-true j (suc i) k, e) c)
-        (λ k. f j (grind (arith, k, b)))
-
 module _ (nfa : Nfa) (none : HasNoCaptureCycle nfa) (holds : Assertion → Bool) (v : ℕ → Bool)
     (captures : (x : ℕ) → v x ≡ true → is_capture nfa x ≡ true)
     (closed : (x y : ℕ) → v x ≡ true → member nat_eq (edges nfa holds x) y ≡ true → v y ≡ true) where
-  -- with fuel, the captures from r on come to an end
+  -- a capture of the set has an edge
+  has_edge : (x : ℕ) → v x ≡ true → member nat_eq (edges nfa holds x) (capture_next (state_at nfa x)) ≡ true
+  has_edge x m = rw (edges-capture nfa holds x (captures x m)) (or_left _ false (eq-eqb _ _ refl))
+
+  -- all that follow it are in the set
+  stays : (x j : ℕ) → v x ≡ true → v (followed nfa j x) ≡ true
+  stays x zero m = m
+  stays x (suc j) m = closed (followed nfa j x) _ (stays x j m) (has_edge _ (stays x j m))
+
+  -- with fuel, a state is visited again
   no_loop : (k : ℕ) (held : ℕ → Bool) (r : ℕ) → IsEnough nat_eq (edges nfa holds) k held r → v r ≡ true
-      → ((h : ℕ) → held h ≡ true → LeadsTo nfa h r) → ⊥
-  no_loop zero held r a m inv = let l : LeadsTo nfa r r = inv r a in none r l.0 l.2 l.1
+      → ((h : ℕ) → held h ≡ true → (i : ℕ) × (followed nfa (suc i) h ≡ r)) → ⊥
+  no_loop zero held r a m inv = none r (inv r a).0 (λ j l. captures _ (stays r j m)) (inv r a).1
   no_loop (suc k) held r a m inv = by_test (held r)
-      (λ e. let l : LeadsTo nfa r r = inv r e in none r l.0 l.2 l.1)
-      (λ e. let c : is_capture nfa r ≡ true = captures r m in
-      let q : edges nfa holds r ≡ capture_next (state_at nfa r) ∷ [] = edges-capture nfa holds r c in
-      let i : member nat_eq (edges nfa holds r) (capture_next (state_at nfa r)) ≡ true =
-      ap (λ l. member nat_eq l (capture_next (state_at nfa r))) q
-      ∙ or_left (nat_eq (capture_next (state_at nfa r)) (capture_next (state_at nfa r))) false (eq-eqb _ _ refl) in
-      no_loop k (with_node nat_eq held r) (capture_next (state_at nfa r)) (a e (capture_next (state_at nfa r)) i)
-      (closed r (capture_next (state_at nfa r)) m i)
+      (λ e. none r (inv r e).0 (λ j l. captures _ (stays r j m)) (inv r e).1)
+      (λ e. no_loop k (with_node nat_eq held r) _ (a e _ (has_edge r m)) (closed r _ m (has_edge r m))
       (λ h w. by_test (nat_eq r h)
-      (λ z. rw (← eqb-true r h z) (0, refl, λ j l. let q : j ≡ 0 = omega arith in rw q c))
-      (λ z. leads_further nfa h r (inv h (rw z at w)) c)))
+      (λ z. rw (← eqb-true r h z) (0, refl))
+      (λ z. let l = inv h (rw z at w) in (suc l.0, rw l.1 refl))))
 
 -- a search that lists only captures lists nothing
 only_captures : (nfa : Nfa) (sound : IsSound nfa) → HasNoCaptureCycle nfa → (holds : Assertion → Bool) (roots : List ℕ)
