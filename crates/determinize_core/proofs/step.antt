@@ -1,5 +1,4 @@
 pub mod AlikeBytes
-pub mod Collecting
 pub mod FirstReading
 pub mod Recorders
 pub mod RedoTest

@@ -1,35 +1,25 @@
--- Where the working list is closed again.
--- Main statements: closed_again, reached_again, tried_again.
--- Used by: `look_again_over`, `read_working_list`.
--- Idea: the closure of the recorded list, from an empty set.
-use Rattle.determinize_core.proofs.Common.{[], ap, Assertion, Bool, distinct_states, false, fun_ext, has, IfNone}
-use Rattle.determinize_core.proofs.Common.{IfSome, is_reopened, List, Nfa, none_held, opened_by, Option, reach}
-use Rattle.determinize_core.proofs.Common.{reach_past, refl, same_decides, sym, tries_again, tries_left, true, Value}
-use Rattle.determinize_core.proofs.Common.{working_list, ℕ, ◌++◌, ◌||◌, ◌∙◌, ◌≡◌}
-use Rattle.std.specs.Bool.{then_some}
-use Rattle.ordered_reach.proofs.lists.NewNodes.{fresh-fresh}
-use Rattle.determinize_below.specs.Look.{union}
-use Rattle.determinize_below.proofs.looks.LookSets.{has-union}
+-- The working list of a step: the recorded states, each once, and their closure.
+-- Main statements: distinct-push, reached_again, tried_again.
+-- Used by: `collect_states`, `read_working_list`.
+-- Idea: a set that was empty collects the list.
+use Rattle.determinize_core.proofs.Common.{[], append-nil, arith, distinct_states, has, has_id, if◌then◌else◌}
+use Rattle.determinize_core.proofs.Common.{List, Nfa, none_held, Option, reach, reach_past, refl, same_decides}
+use Rattle.determinize_core.proofs.Common.{tries_again, tries_left, Value, working_list, ℕ, ◌++◌, ◌∷◌, ◌≡◌}
+use Rattle.ordered_reach.proofs.lists.NewNodes.{fresh-append, fresh-fresh, member-fresh}
 use Rattle.determinize_core.specs.Private.Reading.{distinct, IsClosedAgain}
-use Rattle.determinize_core.specs.Step.{is_redone}
+use Rattle.determinize_core.proofs.closure.ClosureSteps.{holds-member}
 use Rattle.determinize_core.proofs.closure.EmptySearch.{reach_past-empty, tries_left-empty}
 
--- the set under which the list is closed again, where it is
-pub closed_again : (nfa : Nfa) (v : Value) (u : Option ℕ) (found : ℕ) (redone : Bool)
-    → ((look : Assertion) → has found look ≡ opened_by nfa v u look)
-    → redone ≡ is_redone (has found) v.look_have v.look_need
-    → record {
-      none : IfNone (then_some redone (union v.look_have found)) (is_reopened nfa v u ≡ false);
-      some : IfSome (then_some redone (union v.look_have found)) (IsClosedAgain nfa v u);
-    }
-closed_again nfa v u found true h e = record {
-  none = tt;
-  some = record {
-    reopened = sym (rw (fun_ext h) at e);
-    set_is = fun_ext (λ look. has-union v.look_have found look ∙ ap (λ b. has v.look_have look || b) (h look));
-  };
-}
-closed_again nfa v u found false h e = record { none = sym (rw (fun_ext h) at e); some = tt }
+-- one more item of a list is a distinct one, or adds nothing
+pub distinct-push : (xs : List ℕ) (x : ℕ)
+    → distinct (xs ++ x ∷ []) ≡ (if has_id (distinct xs) x then distinct xs else distinct xs ++ x ∷ [])
+distinct-push xs x = grind (
+  arith,
+  append-nil (distinct xs),
+  holds-member (distinct xs) x,
+  member-fresh same_decides none_held xs x,
+  fresh-append same_decides none_held xs (x ∷ []),
+)
 
 module _ {nfa : Nfa} {v : Value} {u : Option ℕ} {set : ℕ} {held roots : List ℕ} (again : IsClosedAgain nfa v u set)
     (empty : held ≡ []) (all : roots ≡ distinct_states v) where

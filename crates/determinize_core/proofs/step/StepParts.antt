@@ -1,12 +1,12 @@
 -- The parts of a step make the step.
--- Main statements: IsRead, stepped, all_tries, tries_within.
+-- Main statements: targets_within, step_tries, IsRead, stepped, tries_are.
 -- Used by: `transition`.
 -- Idea: flags depend on whether a state is entered, and that on whether there is a target.
 use Rattle.determinize_core.proofs.Common.{[], added_one, All-from_member, AllResolve, ap, arith, Assertion, begun}
 use Rattle.determinize_core.proofs.Common.{Bool, edges, edges_in_all, false, fold, has, is_nonempty, IsAccepted, length}
 use Rattle.determinize_core.proofs.Common.{List, MatchKind, member, nat_eq, nat_tests, Nfa, none_held, not, Option}
 use Rattle.determinize_core.proofs.Common.{ordered, patterns_of, patterns_read, reach, reach_past, refl, same_decides}
-use Rattle.determinize_core.proofs.Common.{step, suc, tables_of, targets, tries_again, tries_left, tries_of, true}
+use Rattle.determinize_core.proofs.Common.{step, suc, tables_of, targets, tries_left, tries_of, true}
 use Rattle.determinize_core.proofs.Common.{Value, working_list, ℕ, ◌&&◌, ◌*◌, ◌+◌, ◌<◌, ◌==◌, ◌∷◌, ◌≡◌, ◌≤◌}
 use Rattle.std.proofs.Common.{All as Each}
 use Rattle.std.proofs.lemmas.List.Elements.{All-contains}
@@ -44,12 +44,6 @@ module _ (nfa : Nfa) (accepted : IsAccepted nfa) (kind : MatchKind) (v : Value) 
   pub step_tries : AllResolve nfa v.states → tries nfa kind v u ≤ 2 * (length nfa.states + edges_in_all nfa)
   step_tries inside = tries_are_few nfa accepted kind v u (member-below (length nfa.states) v.states inside)
 
-  -- those for the working list are no more
-  pub first_tries : AllResolve nfa v.states → (before now : ℕ) → now ≤ before + tries_again nfa v u
-      → now ≤ before + 2 * (length nfa.states + edges_in_all nfa)
-  unfolding tries
-  first_tries inside before now h = omega (arith, step_tries inside)
-
 -- a builder with the look-behind for the unit, after the working list was read: the set for the next states is empty,
 -- and the targets are on the stack
 pub record IsRead (nfa : Nfa) (kind : MatchKind) (v : Value) (u : Option ℕ) (have : ℕ) (flagged : Value)
@@ -76,21 +70,10 @@ module _ {nfa : Nfa} {kind : MatchKind} {v : Value} {u : Option ℕ} {have : ℕ
     ← is_nonempty-reach nfa (has (have_after (tables_of nfa) u)) (targets nfa kind v u),
   ) refl
 
-  tries_are : tries_left nfa (has have) held row
+  -- the tries for the states entered
+  pub tries_are : tries_left nfa (has have) held row
       ≡ tries_of nfa (has (have_after (tables_of nfa) u)) (targets nfa kind v u)
   tries_are = rw (is.held_is, tries_left-empty, is.have_is, is.row_is) refl
-
-  pub all_tries : (before filled now : ℕ) → filled ≡ before + tries_again nfa v u
-      → now ≡ filled + tries_left nfa (has have) held row → now ≡ before + tries nfa kind v u
-  unfolding tries
-  all_tries before filled now e h = omega (arith, tries_are)
-
-  pub tries_within : IsAccepted nfa → AllResolve nfa v.states → (before filled now : ℕ)
-      → filled ≡ before + tries_again nfa v u → now ≤ filled + tries_left nfa (has have) held row
-      → now ≤ before + 2 * (length nfa.states + edges_in_all nfa)
-  unfolding tries
-  tries_within accepted inside before filled now e h =
-      omega (arith, tries_are, step_tries nfa accepted kind v u inside)
 
 -- a list that is not empty
 pub is_nonempty-length : (n : ℕ) (xs : List ℕ) → n ≡ length xs → not (n == 0) ≡ is_nonempty xs

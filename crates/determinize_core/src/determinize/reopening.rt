@@ -19,6 +19,7 @@ use determinize_state::state::State;
 use std::alloc::Allocator;
 
 /// Returns whether `found` has an assertion that is in look-need and not in look-have.
+#[tactic(auto, using(crate::proofs::step::RedoTest::redone_from_found), unfolding(determinize_below::specs::Look::meets))]
 fn is_redone(found: LookSet, have: LookSet, need: LookSet) -> bool
     ensures { result ≡ specs_of_steps.is_redone (has found) have need }
 {
@@ -36,6 +37,7 @@ fn tests_lines(set: LookSet) -> bool
 
 /// Returns true only if the unit satisfies no assertion of look-need that is not in look-have. The
 /// word assertions decide, and so it returns false if look-need has others.
+#[tactic(auto, using(crate::proofs::step::RedoTest::words_decide))]
 fn stays_closed(from_word: bool, unit: Unit, have: LookSet, need: LookSet) -> bool
     ensures { (tables : Tables) (half_crlf : Bool) → IsTrue result → specs_of_steps.is_redone
         (opened tables from_word half_crlf (byte_of unit)) have need ≡ false }

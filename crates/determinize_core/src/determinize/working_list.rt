@@ -43,6 +43,7 @@ fn collect_states<A: Allocator>(
 /// Reads the working list: adds its patterns to the builder and pushes its targets, under
 /// `MatchKind::LeftmostFirst` up to the first match.
 #[inline(always)]
+#[tactic(auto, using(crate::proofs::step::RepeatedClosure::tried_again))]
 pub(crate) fn read_working_list<N: Allocator, A: Allocator, C: Counter>(
     nfa: &NFA<N>,
     match_kind: MatchKind,

@@ -1,7 +1,7 @@
-use Rattle.determinize_core.proofs.Common.{All-from_member, arith, length, same_decides, ◌<◌}
+use Rattle.determinize_core.proofs.Common.{All-from_member, length, same_decides, ◌<◌}
 use Rattle.ordered_reach.proofs.graph.FiniteGraphs.{fresh_below}
 use Rattle.determinize_core.proofs.step.StepParts.{member-below}
-use Rattle.determinize_core.proofs.step.RepeatedClosure.{reached_again, tried_again}
+use Rattle.determinize_core.proofs.step.RepeatedClosure.{reached_again}
 use Rattle.determinize_core.proofs.determinize.working_list.read_working_list.Goals as goal
 
 pub explore-requires-clause-resolve : goal.explore-requires-clause-resolve
@@ -10,22 +10,6 @@ explore-requires-clause-resolve g c =
     rw c.in_ok-collect_states.ensures.ok (All-from_member same_decides (λ id. id < n) _
     (fresh_below n c.args.state.now.states (member-below n c.args.state.now.states c.requires.resolve)))
 
-pub returns-in_err-explore-clause-bounded : goal.returns-in_err-explore-clause-bounded
-returns-in_err-explore-clause-bounded g c = λ h.
-    omega (
-      arith,
-      c.explore.ensures.bounded h,
-      tried_again c.in-Some.ensures.some c.requires.second_empty c.in_ok-collect_states.ensures.ok,
-    )
-
-pub returns-in_err-read_states-clause-bounded : goal.returns-in_err-read_states-clause-bounded
-returns-in_err-read_states-clause-bounded g c = λ h.
-    omega (
-      arith,
-      c.explore.ensures.bounded h,
-      tried_again c.in-Some.ensures.some c.requires.second_empty c.in_ok-collect_states.ensures.ok,
-    )
-
 pub returns-clause-ok : goal.returns-clause-ok
 returns-clause-ok g c =
     rw (
@@ -33,19 +17,3 @@ returns-clause-ok g c =
       ← c.in_ok-explore.ensures.ids,
       ← c.iter.ensures.ids,
     ) c.in_ok-read_states.ensures.ok
-
-pub returns-clause-counted : goal.returns-clause-counted
-returns-clause-counted g c = λ h.
-    omega (
-      arith,
-      c.in_ok-explore.ensures.counted h,
-      tried_again c.in-Some.ensures.some c.requires.second_empty c.in_ok-collect_states.ensures.ok,
-    )
-
-pub returns-clause-bounded : goal.returns-clause-bounded
-returns-clause-bounded g c = λ h.
-    omega (
-      arith,
-      c.explore.ensures.bounded h,
-      tried_again c.in-Some.ensures.some c.requires.second_empty c.in_ok-collect_states.ensures.ok,
-    )
