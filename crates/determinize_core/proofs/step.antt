@@ -1,6 +1,5 @@
 pub mod AlikeBytes
 pub mod FirstReading
-pub mod Recorders
 pub mod RedoTest
 pub mod RepeatedClosure
 pub mod Resolving

@@ -1,6 +1,6 @@
 -- The states of each value of a walk are states of the NFA.
--- Main statements: start_resolves, targets_resolve, step_resolves.
--- Used by: ReturnedWalk, `start_state`, `transition`.
+-- Main statements: start_resolves, targets_resolve, targets_within, step_resolves.
+-- Used by: ReturnedWalk, StepBound, `start_state`, `transition`, and the cache.
 -- Idea: edges and targets of a valid NFA go to its states.
 use Rattle.determinize_core.proofs.Common.{[], accepted_sound, All-from_member, AllResolve, arith, Assertion, Bool}
 use Rattle.determinize_core.proofs.Common.{eqb-true, has, is_capture, is_match, IsAccepted, length, List, MatchKind}
@@ -34,6 +34,9 @@ module _ (nfa : Nfa) (accepted : IsAccepted nfa) where
   targets_resolve kind v u r m =
       flat_map-member same_decides (target nfa u) (part_read kind (is_match nfa) (working_list nfa v u)) r m
       (λ s l z. target_within nfa accepted u s r z)
+
+  pub targets_within : (kind : MatchKind) (v : Value) (u : Option ℕ) → AllResolve nfa (targets nfa kind v u)
+  targets_within kind v u = All-from_member same_decides (λ id. id < length nfa.states) _ (targets_resolve kind v u)
 
   -- the value after a unit
   pub step_resolves : (kind : MatchKind) (v : Value) (u : Option ℕ)

@@ -1,12 +1,12 @@
 -- A step makes few tries.
 -- Main statements: tries_are_few.
--- Used by: `tries_law`, and the count of `next_counted`.
+-- Used by: `tries_law`, StepParts.
 -- Idea: each of two closures tries each state and each epsilon transition at most once.
 use Rattle.determinize_core.proofs.Common.{[], accepted_sound, All, arith, Assertion, Bool, by_test, distinct_states}
 use Rattle.determinize_core.proofs.Common.{edge_count, edges, edges_in_all, flat_map, has, is_match, is_reopened}
 use Rattle.determinize_core.proofs.Common.{IsAccepted, IsSound, joined, LeftmostFirst, length, List, MatchKind, member}
 use Rattle.determinize_core.proofs.Common.{nat_eq, Nfa, none_held, opened_by, Option, part_read, reach, same_decides}
-use Rattle.determinize_core.proofs.Common.{tables_of, target, tries_of, true, ℕ, ◌+◌, ◌<◌, ◌∷◌, ◌≡◌, ◌≤◌}
+use Rattle.determinize_core.proofs.Common.{tables_of, target, targets, tries_again, tries_of, true, Value, working_list, ℕ, ◌+◌, ◌<◌, ◌∷◌, ◌≡◌, ◌≤◌}
 use Rattle.determinize_below.proofs.nfas.SoundNfa.{ends_within_states, length-reach, target_within}
 use Rattle.ordered_reach.proofs.lists.NewNodes.{flat_map-member}
 use Rattle.ordered_reach.proofs.graph.FiniteGraphs.{below_member, fresh_below, length-fresh_below}
@@ -17,10 +17,10 @@ use Rattle.ordered_reach.proofs.lists.Pieces.{length-before_le, length-flat_map_
 use Rattle.determinize_core.specs.Laws.{TriesAreFew}
 use Rattle.determinize_start.specs.LookTables.{have_after}
 use Rattle.determinize_core.specs.Tries.{tries}
+use Rattle.determinize_core.proofs.step.Resolving.{targets_resolve}
 
 length-read : (kind : MatchKind) (p : ℕ → Bool) (xs : List ℕ) → length (part_read kind p xs) ≤ length xs
-length-read All p xs = omega arith
-length-read LeftmostFirst p xs = length-before_le p xs
+length-read kind p xs = grind (arith, length-before_le p xs)
 
 -- a set of all assertions gives the most edges
 fewer_edges : (nfa : Nfa) (holds : Assertion → Bool) (xs : List ℕ)
@@ -33,41 +33,44 @@ module _ (nfa : Nfa) (sound : IsSound nfa) (holds : Assertion → Bool) (roots :
   tries_of-bound : tries_of nfa holds roots ≤ length roots + edges_in_all nfa
   unfolding reach
   tries_of-bound =
-      let n : ℕ = length nfa.states in
-      let all : tries_of nfa holds roots ≤ length roots + edge_count (edges nfa holds) (nodes_below n) =
-      tries_bound same_decides (edges nfa holds) (nodes_below n) (n + 1) [] roots
-      (λ x m. below_member n x (ends_within_states nfa sound holds (n + 1) none_held roots inside x m)) in
-      omega (arith, all, fewer_edges nfa holds (nodes_below n))
+      let n : ℕ = length nfa.states in omega (
+        arith,
+        tries_bound same_decides (edges nfa holds) (nodes_below n) (n + 1) [] roots
+            (λ x m. below_member n x (ends_within_states nfa sound holds (n + 1) none_held roots inside x m)),
+        fewer_edges nfa holds (nodes_below n),
+      )
 
--- the tries for the states entered, given the working list
-tries_of-entered : (nfa : Nfa) → IsAccepted nfa → (kind : MatchKind) (u : Option ℕ) (working : List ℕ)
-    → length working ≤ length nfa.states
-    → tries_of nfa (has (have_after (tables_of nfa) u))
-    (flat_map (target nfa u) (part_read kind (is_match nfa) working)) ≤ length nfa.states + edges_in_all nfa
-tries_of-entered nfa accepted kind u working few =
-    let read : List ℕ = part_read kind (is_match nfa) working in
-    omega (
-      arith,
-      tries_of-bound nfa (accepted_sound nfa accepted) (has (have_after (tables_of nfa) u))
-          (flat_map (target nfa u) read)
-          (λ r m. flat_map-member same_decides (target nfa u) read r m (λ s l z. target_within nfa accepted u s r z)),
-      length-flat_map_le (target nfa u) read (length-target nfa u),
-      length-read kind (is_match nfa) working,
-    )
+module _ (nfa : Nfa) (accepted : IsAccepted nfa) (v : Value) (u : Option ℕ)
+    (inside : (s : ℕ) → member nat_eq v.states s ≡ true → s < length nfa.states) where
+  few : length (distinct_states v) ≤ length nfa.states
+  few = length-fresh_below (length nfa.states) v.states inside
+
+  working_few : length (working_list nfa v u) ≤ length nfa.states
+  working_few = by_test (is_reopened nfa v u)
+      (λ e. rw e (length-reach nfa (accepted_sound nfa accepted) _ (distinct_states v)
+      (fresh_below (length nfa.states) v.states inside)))
+      (λ e. rw e few)
+
+  again_few : tries_again nfa v u ≤ length nfa.states + edges_in_all nfa
+  again_few = by_test (is_reopened nfa v u)
+      (λ e. rw e (omega (
+        arith,
+        few,
+        tries_of-bound nfa (accepted_sound nfa accepted) (joined (has v.look_have) (opened_by nfa v u))
+            (distinct_states v) (fresh_below (length nfa.states) v.states inside),
+      )))
+      (λ e. rw e (omega arith))
 
 pub tries_are_few : TriesAreFew
 unfolding tries
 tries_are_few nfa accepted kind v u inside =
-    let sound : IsSound nfa = accepted_sound nfa accepted in
-    let ids : List ℕ = distinct_states v in
-    let again : Assertion → Bool = joined (has v.look_have) (opened_by nfa v u) in
-    let few : length ids ≤ length nfa.states = length-fresh_below (length nfa.states) v.states inside in
-    let below = fresh_below (length nfa.states) v.states inside in
-    by_test (is_reopened nfa v u)
-    (λ e. rw e (omega (
+    let read : List ℕ = part_read kind (is_match nfa) (working_list nfa v u) in
+    omega (
       arith,
-      few,
-      tries_of-bound nfa sound again ids below,
-      tries_of-entered nfa accepted kind u (reach nfa again ids) (length-reach nfa sound again ids below),
-    )))
-    (λ e. rw e (omega (arith, tries_of-entered nfa accepted kind u ids few)))
+      again_few nfa accepted v u inside,
+      working_few nfa accepted v u inside,
+      tries_of-bound nfa (accepted_sound nfa accepted) (has (have_after (tables_of nfa) u)) (targets nfa kind v u)
+          (targets_resolve nfa accepted kind v u),
+      length-flat_map_le (target nfa u) read (length-target nfa u),
+      length-read kind (is_match nfa) (working_list nfa v u),
+    )

@@ -23,6 +23,7 @@ use Rattle.determinize_core.specs.Chain.{chain}
 use Rattle.determinize_core.specs.Laws.{DeadStays, EachFutureFollows, EachReachGoesOn, EachStateHasOneKind}
 use Rattle.determinize_core.specs.Laws.{LeftmostGivesOne, NoNeedNoHave}
 use Rattle.determinize_start.specs.LookTables.{have_after}
+use Rattle.determinize_core.proofs.step.RedoTest.{unneeded}
 
 pub each_reach_goes_on : EachReachGoesOn
 each_reach_goes_on nfa accepted holds roots root =
@@ -43,8 +44,7 @@ unfolding chain
 each_future_follows nfa kind s text j v h = drop-future nfa kind (units text) (start_value nfa s text.behind) v j h
 
 working_dead : (nfa : Nfa) (u : Option ℕ) → working_list nfa dead u ≡ []
-working_dead nfa u = rw (list_any_unmet (λ l. opened_by nfa dead u l && has 0 l && not (has 0 l)) each_look
-    (λ l. grind (arith, has-empty l))) refl
+working_dead nfa u = rw (unneeded nfa dead u refl) refl
 
 step_dead : (nfa : Nfa) (kind : MatchKind) (u : Option ℕ) → step nfa kind dead u ≡ dead
 unfolding step reach

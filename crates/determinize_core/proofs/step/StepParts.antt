@@ -1,8 +1,8 @@
 -- The parts of a step make the step.
--- Main statements: targets_within, step_tries, IsRead, stepped, tries_are.
+-- Main statements: step_tries, IsRead, stepped, tries_are.
 -- Used by: `transition`.
 -- Idea: flags depend on whether a state is entered, and that on whether there is a target.
-use Rattle.determinize_core.proofs.Common.{[], added_one, All-from_member, AllResolve, ap, arith, Assertion, begun}
+use Rattle.determinize_core.proofs.Common.{[], add-one, added, append-nil, append_assoc, is_capture, sym, without, ◌++◌, ◌∙◌, added_one, All-from_member, AllResolve, ap, arith, Assertion, begun}
 use Rattle.determinize_core.proofs.Common.{Bool, edges, edges_in_all, false, fold, has, is_nonempty, IsAccepted, length}
 use Rattle.determinize_core.proofs.Common.{List, MatchKind, member, nat_eq, nat_tests, Nfa, none_held, not, Option}
 use Rattle.determinize_core.proofs.Common.{ordered, patterns_of, patterns_read, reach, reach_past, refl, same_decides}
@@ -12,8 +12,7 @@ use Rattle.std.proofs.Common.{All as Each}
 use Rattle.std.proofs.lemmas.List.Elements.{All-contains}
 use Rattle.ordered_reach.proofs.lists.Elements.{In_Contains, member_In}
 use Rattle.determinize_state.specs.Recording.{settled}
-use Rattle.determinize_core.proofs.step.Recorders.{fold-added}
-use Rattle.determinize_core.proofs.step.Resolving.{targets_resolve}
+use Rattle.determinize_state.proofs.values.RecordingSteps.{added-none, added_one-after}
 use Rattle.determinize_core.proofs.closure.EmptySearch.{reach_past-empty, tries_left-empty}
 use Rattle.determinize_start.specs.LookTables.{from_word_after, half_crlf_after, have_after}
 use Rattle.determinize_core.specs.Tries.{tries}
@@ -25,24 +24,29 @@ pub member-below : (bound : ℕ) (xs : List ℕ) → Each (λ id. id < bound) xs
 member-below bound xs all s m = All-contains (λ id. id < bound) xs s all
     (In_Contains same_decides xs s (member_In same_decides xs s m))
 
+-- states recorded one after another are added, captures left out
+fold-added : (nfa : Nfa) (v : Value) (xs : List ℕ)
+    → fold (added_one nfa) v xs ≡ added nfa v (without (is_capture nfa) xs)
+fold-added nfa v xs = ap (λ w. fold (added_one nfa) w xs) (added-none nfa v) ∙ after [] xs
+  where
+    after : (done xs : List ℕ) → fold (added_one nfa) (added nfa v (without (is_capture nfa) done)) xs
+        ≡ added nfa v (without (is_capture nfa) (done ++ xs))
+    after done [] = ap (λ l. added nfa v (without (is_capture nfa) l)) (sym (append-nil done))
+    after done (x ∷ xs) = ap (λ w. fold (added_one nfa) w xs) (added_one-after nfa v done x) ∙ after (done ++ x ∷ []) xs
+        ∙ ap (λ l. added nfa v (without (is_capture nfa) l)) (append_assoc done (x ∷ []) xs)
+
 -- a search reaches a state if and only if it has a root
 is_nonempty-reach : (nfa : Nfa) (holds : Assertion → Bool) (roots : List ℕ)
     → is_nonempty (reach nfa holds roots) ≡ is_nonempty roots
 unfolding reach
 is_nonempty-reach nfa holds [] = refl
-is_nonempty-reach nfa holds (r ∷ roots) =
-    let more : length nfa.states + 1 ≡ suc (length nfa.states) = omega arith in
-    ap (λ n. is_nonempty (ordered nat_eq (edges nfa holds) n none_held (r ∷ roots))) more
+is_nonempty-reach nfa holds (r ∷ roots) = rw add-one refl
 
-module _ (nfa : Nfa) (accepted : IsAccepted nfa) (kind : MatchKind) (v : Value) (u : Option ℕ) where
-  -- the targets are states of the NFA
-  pub targets_within : AllResolve nfa (targets nfa kind v u)
-  targets_within = All-from_member same_decides (λ id. id < length nfa.states) (targets nfa kind v u)
-      (targets_resolve nfa accepted kind v u)
-
-  -- the tries of the step are few
-  pub step_tries : AllResolve nfa v.states → tries nfa kind v u ≤ 2 * (length nfa.states + edges_in_all nfa)
-  step_tries inside = tries_are_few nfa accepted kind v u (member-below (length nfa.states) v.states inside)
+-- the tries of the step are few
+pub step_tries : (nfa : Nfa) → IsAccepted nfa → (kind : MatchKind) (v : Value) (u : Option ℕ) → AllResolve nfa v.states
+    → tries nfa kind v u ≤ 2 * (length nfa.states + edges_in_all nfa)
+step_tries nfa accepted kind v u inside =
+    tries_are_few nfa accepted kind v u (member-below (length nfa.states) v.states inside)
 
 -- a builder with the look-behind for the unit, after the working list was read: the set for the next states is empty,
 -- and the targets are on the stack
