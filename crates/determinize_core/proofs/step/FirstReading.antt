@@ -2,18 +2,20 @@
 -- Main statements: kept_of, IsReading, reading-next, reading-new, all_read.
 -- Used by: `read_states`.
 -- Idea: what was read is what the kept states give, and those that give nothing need not be kept.
-use Rattle.determinize_core.proofs.Common.{[], All, append-nil, append_assoc, arith, Bool, by_option, by_test, false}
-use Rattle.determinize_core.proofs.Common.{flat_map, flat_map-append, fresh, has_id, if◌then◌else◌, is_match, IsListRead}
-use Rattle.determinize_core.proofs.Common.{IsSound, LeftmostFirst, List, list_any, Match, MatchKind, nat_eq, Nfa, Node}
-use Rattle.determinize_core.proofs.Common.{None, none_held, not, Option, option_to_list, pattern_in, pattern_of}
-use Rattle.determinize_core.proofs.Common.{patterns_of, refl, same_decides, Some, sym, take, target, true, Value}
-use Rattle.determinize_core.proofs.Common.{with_node, with_patterns, ℕ, ◌&&◌, ◌++◌, ◌∙◌, ◌∷◌, ◌≡◌, ap}
+use Rattle.determinize_core.proofs.Common.{[], All, ap, append-nil, append_assoc, arith, Bool, by_option, by_test, false}
+use Rattle.determinize_core.proofs.Common.{flat_map, flat_map-append, fresh, fun_ext, has_id, if◌then◌else◌, is_match}
+use Rattle.determinize_core.proofs.Common.{IsListRead, IsSound, joined, LeftmostFirst, List, list_any, MatchKind}
+use Rattle.determinize_core.proofs.Common.{nat_eq, Nfa, none_held, not, Option, option_to_list}
+use Rattle.determinize_core.proofs.Common.{pattern_of, patterns_of, patterns_read, refl, same_decides, Some, target}
+use Rattle.determinize_core.proofs.Common.{true, true≢false, Value, with_patterns, without, ℕ, ◌&&◌, ◌++◌, ◌||◌, ◌∙◌}
+use Rattle.determinize_core.proofs.Common.{◌∷◌, ◌≡◌}
+use Rattle.ordered_reach.proofs.lists.NewNodes.{fresh-joined}
+use Rattle.ordered_reach.proofs.lists.Pieces.{before-without, flat_map-without}
 use Rattle.ordered_reach.specs.Runs.{before}
 use Rattle.std.proofs.lemmas.List.Folds.{list_any-append}
 use Rattle.determinize_below.specs.Search.{continues}
-use Rattle.determinize_below.specs.Semantics.{state_at, target_of}
-use Rattle.determinize_core.specs.Private.Reading.{distinct, gained, gives_nothing, IsStateRead}
-use Rattle.determinize_core.proofs.walk.WalkLoops.{goes_on, pattern_new, patterns-push, targets-push}
+use Rattle.determinize_core.specs.Private.Reading.{distinct, gained, gives_nothing, IsStateRead, roots_of}
+use Rattle.determinize_core.proofs.walk.WalkLoops.{goes_on, pattern_new, patterns-push, stops_at, targets-push}
 
 -- the states that are kept after a list was read, given those kept before
 abbrev pub kept_of : Nfa → MatchKind → Option ℕ → List ℕ → List ℕ → List ℕ
@@ -34,8 +36,8 @@ module _ {nfa : Nfa} {u : Option ℕ} {first value : Value} {kept targets : List
       → IsStateRead nfa u id kept kept_after targets targets_after value value_after
       → IsReading nfa u first value_after kept_after targets_after
   reading-next {id = id} read = record {
-    value_is = cc (flat_map-append (λ s. option_to_list (pattern_of nfa s)) kept (gained nfa u kept id), read.value_is, read.kept_are, reading.value_is);
-    targets_are = cc (flat_map-append (target nfa u) kept (gained nfa u kept id), read.targets_are, read.kept_are, reading.targets_are);
+    value_is = cc (flat_map-append (λ s. option_to_list (pattern_of nfa s)) kept (gained nfa u kept id));
+    targets_are = cc (flat_map-append (target nfa u) kept (gained nfa u kept id));
   }
 
   -- the pattern of a state that was not kept is new
@@ -44,23 +46,15 @@ module _ {nfa : Nfa} {u : Option ℕ} {first value : Value} {kept targets : List
   reading-new sound id p e h =
       ap (λ (v : Value). list_any (nat_eq p) v.patterns) reading.value_is ∙ pattern_new nfa sound kept id p h e
 
--- a match has no transition
-target_of-match : (u : Option ℕ) (s : Node) (p : ℕ) → pattern_in s ≡ Some p → target_of u s ≡ None
-target_of-match u (Match q) p e = refl
-target_of-match u s p e = cc
+-- a match is new after states without one
+unmatched_new : (nfa : Nfa) (xs : List ℕ) (s : ℕ) → list_any (is_match nfa) xs ≡ false → is_match nfa s ≡ true
+    → has_id xs s ≡ false
+unmatched_new nfa [] s h m = refl
+unmatched_new nfa (x ∷ xs) s h m = grind (arith, same_decides s x, unmatched_new nfa xs s)
 
 module _ (nfa : Nfa) (u : Option ℕ) where
-  -- of the states that give something, those that were met are kept
-  abbrev AreKept : (ℕ → Bool) → List ℕ → Type 0
-  AreKept met kept = (s : ℕ) → gives_nothing nfa u s ≡ false → met s ≡ has_id kept s
-
-  kept-next : (met : ℕ → Bool) (kept : List ℕ) (s : ℕ) → AreKept met kept
-      → AreKept (with_node nat_eq met s) (kept ++ gained nfa u kept s)
-  kept-next met kept s are r e =
-      rw list_any-append (grind (arith, are r e, same_decides s r, same_decides r s))
-
-  kept-met : (met : ℕ → Bool) (kept : List ℕ) (s : ℕ) → AreKept met kept → met s ≡ true → gained nfa u kept s ≡ []
-  kept-met met kept s are e = grind (arith, are s)
+  target-match : (s : ℕ) → is_match nfa s ≡ true → target nfa u s ≡ []
+  target-match s m = grind arith
 
   gives-pattern : (s : ℕ) → gives_nothing nfa u s ≡ true → option_to_list (pattern_of nfa s) ≡ []
   gives-pattern s e = grind arith
@@ -68,67 +62,56 @@ module _ (nfa : Nfa) (u : Option ℕ) where
   gives-target : (s : ℕ) → gives_nothing nfa u s ≡ true → target nfa u s ≡ []
   gives-target s e = grind arith
 
-  -- a match is new after states without one
-  unmatched_new : (kept : List ℕ) (s : ℕ) → list_any (is_match nfa) kept ≡ false → is_match nfa s ≡ true
-      → has_id kept s ≡ false
-  unmatched_new [] s h m = refl
-  unmatched_new (x ∷ kept) s h m = grind (arith, same_decides s x, unmatched_new kept s)
+  -- the states that give nothing can be left out
+  gives_same : (kind : MatchKind) (xs : List ℕ)
+      → (patterns_of nfa (without (gives_nothing nfa u) xs) ≡ patterns_of nfa xs)
+      × (roots_of nfa kind u (without (gives_nothing nfa u) xs) ≡ roots_of nfa kind u xs)
+  gives_same All xs =
+      (flat_map-without _ (gives_nothing nfa u) xs gives-pattern, flat_map-without _ (gives_nothing nfa u) xs gives-target)
+  gives_same LeftmostFirst xs = (
+    flat_map-without _ (gives_nothing nfa u) xs gives-pattern,
+    rw (before-without (is_match nfa) (gives_nothing nfa u) xs (λ s m. rw m refl))
+        (flat_map-without _ (gives_nothing nfa u) (before (is_match nfa) xs) gives-target),
+  )
 
-  unmatched-next : (kept : List ℕ) (s : ℕ) → list_any (is_match nfa) kept ≡ false → pattern_of nfa s ≡ None
-      → list_any (is_match nfa) (kept ++ gained nfa u kept s) ≡ false
-  unmatched-next kept s h k = rw list_any-append (grind arith)
+  -- the kept states, followed by those that will be new and give something
+  abbrev whole : List ℕ → List ℕ → List ℕ
+  whole kept xs = kept ++ fresh nat_eq (joined (gives_nothing nfa u) (has_id kept)) xs
 
-  -- what a new state gives
-  gives-new : (f : ℕ → List ℕ) → ((s : ℕ) → gives_nothing nfa u s ≡ true → f s ≡ []) → (met : ℕ → Bool)
-      (kept : List ℕ) (s : ℕ) → AreKept met kept → met s ≡ false
-      → flat_map f (kept ++ gained nfa u kept s) ≡ flat_map f kept ++ f s
-  gives-new f nothing met kept s are e =
-      rw flat_map-append (grind (arith, are s, nothing s, append-nil (f s)))
+  whole-next : (kept : List ℕ) (s : ℕ) (xs : List ℕ) → whole (kept ++ gained nfa u kept s) xs ≡ whole kept (s ∷ xs)
+  whole-next kept s xs = by_test (gives_nothing nfa u s || has_id kept s)
+      (λ e. rw (e, append-nil) refl)
+      (λ e. rw (e, append_assoc) (ap (λ (met : ℕ → Bool). kept ++ (s ∷ fresh nat_eq met xs))
+      (fun_ext (λ x. rw list_any-append (grind (arith, same_decides s x, same_decides x s))))))
 
-  all_kept : (f : ℕ → List ℕ) → ((s : ℕ) → gives_nothing nfa u s ≡ true → f s ≡ []) → (met : ℕ → Bool)
-      (kept xs : List ℕ) → AreKept met kept
-      → flat_map f (kept_of nfa All u kept xs) ≡ flat_map f kept ++ flat_map f (fresh nat_eq met xs)
-  all_kept f nothing met kept [] are = sym (append-nil _)
-  all_kept f nothing met kept (s ∷ xs) are = by_test (met s)
-      (λ e. rw (e, kept-met met kept s are e, append-nil) (all_kept f nothing met kept xs are))
-      (λ e. rw e (all_kept f nothing (with_node nat_eq met s) (kept ++ gained nfa u kept s) xs (kept-next met kept s are)
-      ∙ rw (gives-new f nothing met kept s are e, append_assoc) refl))
-
-  first_kept : (met : ℕ → Bool) (kept xs : List ℕ) → AreKept met kept → list_any (is_match nfa) kept ≡ false
-      → (patterns_of nfa (kept_of nfa LeftmostFirst u kept xs) ≡ take 1 (patterns_of nfa (fresh nat_eq met xs)))
-      × (flat_map (target nfa u) (kept_of nfa LeftmostFirst u kept xs)
-      ≡ flat_map (target nfa u) kept ++ flat_map (target nfa u) (before (is_match nfa) (fresh nat_eq met xs)))
-  first_kept met kept [] are none = ((goes_on nfa kept none).1, sym (append-nil _))
-  first_kept met kept (s ∷ xs) are none = by_option (pattern_of nfa s)
-      (λ k. by_test (met s)
-      (λ e. rw (kept-met met kept s are e, append-nil, e, k) (first_kept met kept xs are none))
-      (λ e. let later = first_kept (with_node nat_eq met s) (kept ++ gained nfa u kept s) xs (kept-next met kept s are)
-      (unmatched-next kept s none k) in (
-        cc later.0,
-        cc (
-          later.1,
-          gives-new (target nfa u) gives-target met kept s are e,
-          append_assoc (flat_map (target nfa u) kept) (target nfa u s)
-              (flat_map (target nfa u) (before (is_match nfa) (fresh nat_eq (with_node nat_eq met s) xs))),
-        ),
-      )))
-      (λ p k. let unkept = unmatched_new kept s none (rw k refl) in
-      let unmet : met s ≡ false = are s (rw k refl) ∙ unkept in
-      rw (k, unmet, unkept, k) (
-        patterns-push nfa kept s ∙ rw ((goes_on nfa kept none).1, k) refl,
-        targets-push nfa u kept s ∙ rw (target_of-match u (state_at nfa s) p k) refl,
+  -- what is kept gives what they give
+  keeps : (kind : MatchKind) (kept xs : List ℕ) → (continues kind ≡ false → list_any (is_match nfa) kept ≡ false)
+      → (patterns_of nfa (kept_of nfa kind u kept xs) ≡ patterns_read kind (patterns_of nfa (whole kept xs)))
+      × (flat_map (target nfa u) (kept_of nfa kind u kept xs) ≡ roots_of nfa kind u (whole kept xs))
+  keeps All kept [] none = rw append-nil (refl, refl)
+  keeps All kept (s ∷ xs) none =
+      rw (← whole-next kept s xs) (keeps All (kept ++ gained nfa u kept s) xs (λ e. absurd (true≢false e)))
+  keeps LeftmostFirst kept [] none =
+      let on = goes_on nfa kept (none refl) in rw append-nil (rw on.1 refl, rw on.0 refl)
+  keeps LeftmostFirst kept (s ∷ xs) none = by_option (pattern_of nfa s)
+      (λ k. let next = keeps LeftmostFirst (kept ++ gained nfa u kept s) xs
+      (λ e. rw list_any-append (grind (arith, none e))) in
+      (cc (next.0, whole-next kept s xs), cc (next.1, whole-next kept s xs)))
+      (λ p k. let new = unmatched_new nfa kept s (none refl) (rw k refl) in
+      let at = stops_at nfa kept (fresh nat_eq (joined (gives_nothing nfa u) (has_id (kept ++ s ∷ []))) xs) s p (none refl) k in
+      rw (← whole-next kept s xs, k, new, append_assoc, at.0, at.1) (
+        patterns-push nfa kept s ∙ rw ((goes_on nfa kept (none refl)).1, k) refl,
+        targets-push nfa u kept s ∙ rw (target-match s (rw k refl), append-nil) refl,
       ))
 
 -- the states that are kept give what the list gives
 pub all_read : {nfa : Nfa} {u : Option ℕ} {first value : Value} {targets : List ℕ} (kind : MatchKind) (xs : List ℕ)
     → IsReading nfa u first value (kept_of nfa kind u [] xs) targets
     → IsListRead nfa kind u (distinct xs) first value targets
-all_read {nfa} {u} All xs reading = record {
-  value_is = rw (← all_kept nfa u (λ s. option_to_list (pattern_of nfa s)) (gives-pattern nfa u) none_held [] xs (λ s e. refl)) reading.value_is;
-  targets_are = rw (← all_kept nfa u (target nfa u) (gives-target nfa u) none_held [] xs (λ s e. refl)) reading.targets_are;
-}
-all_read {nfa} {u} LeftmostFirst xs reading =
-    let kept = first_kept nfa u none_held [] xs (λ s e. refl) refl in record {
-      value_is = rw (← kept.0) reading.value_is;
-      targets_are = rw (← kept.1) reading.targets_are;
+all_read {nfa} {u} kind xs reading =
+    let kept = keeps nfa u kind [] xs (λ e. refl) in
+    let same = gives_same nfa u kind (distinct xs) in
+    let live = fresh-joined same_decides (gives_nothing nfa u) none_held xs in record {
+      value_is = rw (kept.0, live, same.0) at reading.value_is;
+      targets_are = reading.targets_are ∙ kept.1 ∙ rw live same.1;
     }

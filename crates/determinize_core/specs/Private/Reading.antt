@@ -35,17 +35,11 @@ gives_nothing nfa u s = not (is_match nfa s || is_nonempty (target nfa u s))
 abbrev pub gained : Nfa → Option ℕ → List ℕ → ℕ → List ℕ
 gained nfa u kept s = if gives_nothing nfa u s || has_id kept s then [] else s ∷ []
 
--- the target that was read
-abbrev pub target_read : Reading → Option ℕ
-target_read Nothing = None
-target_read (Target id) = Some id
-target_read (Match pattern) = None
-
--- the pattern that was read
-abbrev pub pattern_read : Reading → Option ℕ
-pattern_read Nothing = None
-pattern_read (Target id) = None
-pattern_read (Match pattern) = Some pattern
+-- what is found in a state, by its pattern and its target
+abbrev pub found_in : Option ℕ → Option ℕ → Reading
+found_in (Some pattern) target = Match pattern
+found_in None (Some target) = Target target
+found_in None None = Nothing
 
 -- a state was read: the kept states, the targets and the builder have gained what it gives
 pub record IsStateRead (nfa : Nfa) (u : Option ℕ) (id : ℕ)

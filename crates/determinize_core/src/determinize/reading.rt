@@ -13,7 +13,7 @@ ghost use Rattle.determinize_below.specs.Members.{has_id};
 ghost use Rattle.determinize_below.specs.Nfa.{AllResolve, IsAccepted};
 ghost use Rattle.determinize_below.specs.Search.{continues};
 ghost use Rattle.determinize_below.specs.Unit.{byte_of};
-ghost use Rattle.determinize_core.specs.Private.Reading.{distinct, IsListRead, IsStateRead, pattern_read, target_read};
+ghost use Rattle.determinize_core.specs.Private.Reading.{distinct, found_in, IsListRead, IsStateRead};
 
 use determinize_below::{MatchKind, NFA, PatternID, SparseSet, SparseSetIter, StateID, Unit, nfa};
 use determinize_state::state::{NfaStateIds, StateBuilderNFA};
@@ -34,8 +34,8 @@ pub(crate) enum Reading {
 #[inline(always)]
 fn read<N: Allocator>(nfa: &NFA<N>, id: StateID, unit: Unit) -> Reading
     requires { id < length nfa.now.states }
-    ensures target { target_read result ≡ target_of (byte_of unit) (state_at nfa.now id) }
-    ensures pattern { pattern_read result ≡ pattern_of nfa.now id }
+    ensures { result
+        ≡ found_in (pattern_of nfa.now id) (target_of (byte_of unit) (state_at nfa.now id)) }
 {
     let target = match nfa.state(id) {
         nfa::State::ByteRange { trans } => trans.matches_unit(unit).then_some(trans.next),

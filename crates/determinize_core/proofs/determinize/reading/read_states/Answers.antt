@@ -1,4 +1,4 @@
-use Rattle.determinize_core.proofs.Common.{accepted_sound, All-rest, ap, length, None, refl, Some, Value, ◌<◌, ◌∙◌}
+use Rattle.determinize_core.proofs.Common.{accepted_sound, All-rest, ap, arith, length, None, refl, Some, Value, ◌<◌, ◌∙◌}
 use Rattle.determinize_core.proofs.step.FirstReading.{all_read, reading-new, reading-next}
 use Rattle.determinize_core.proofs.determinize.reading.read_states.Goals as goal
 
@@ -14,6 +14,11 @@ loop-id-init g c =
       capacity = refl;
       left = rw all c.requires.resolve;
     }
+
+pub read_state-requires-clause-resolve : goal.read_state-requires-clause-resolve
+read_state-requires-clause-resolve g c =
+    let step = g.met.I.Ids.gives c.loop-id.id-iterator c.next.new.self (Some c.in-Some.id) c.in-Some.ensures.steps in
+    (rw step at c.loop-id.invariant.left) 0 0 (omega arith)
 
 pub read_state-requires-clause-new_pattern : goal.read_state-requires-clause-new_pattern
 read_state-requires-clause-new_pattern g c = λ p e h.
