@@ -24,29 +24,15 @@ module _ (nfa : Nfa) (b c : ℕ) (same : AreTestedAlike nfa b c) where
   opened-alike : (w f : Bool) (l : Look) → has nfa.look_set_any l ≡ true
       → opened (tables_of nfa) w f (Some b) l ≡ opened (tables_of nfa) w f (Some c) l
   unfolding has opened word_opened line_opened
-  opened-alike w f l h = grind (
-    arith,
-    same.line,
-    same.carriage,
-    same.feed,
-    same.word,
-    word_class nfa.look_set_any l,
-    line_class nfa.look_set_any l,
-    crlf_class nfa.look_set_any l,
-  )
+  opened-alike w f l h =
+      let any = nfa.look_set_any in grind (arith, word_class any l, line_class any l, crlf_class any l)
 
   -- the look-behind of the next value
-  have_after-alike : have_after (tables_of nfa) (Some b) ≡ have_after (tables_of nfa) (Some c)
-  unfolding have_after
-  have_after-alike = grind arith
-
-  from_word_after-alike : from_word_after (tables_of nfa) (Some b) ≡ from_word_after (tables_of nfa) (Some c)
-  unfolding from_word_after
-  from_word_after-alike = grind arith
-
-  half_crlf_after-alike : half_crlf_after (tables_of nfa) (Some b) ≡ half_crlf_after (tables_of nfa) (Some c)
-  unfolding half_crlf_after
-  half_crlf_after-alike = grind arith
+  after-alike : (have_after (tables_of nfa) (Some b) ≡ have_after (tables_of nfa) (Some c))
+      × (from_word_after (tables_of nfa) (Some b) ≡ from_word_after (tables_of nfa) (Some c))
+      × (half_crlf_after (tables_of nfa) (Some b) ≡ half_crlf_after (tables_of nfa) (Some c))
+  unfolding have_after from_word_after half_crlf_after
+  after-alike = (grind arith, grind arith, grind arith)
 
   module _ (accepted : IsAccepted nfa) (v : Value) (tested : NeedsTested nfa v) where
     opened_by-alike : (l : Look) → IsTested nfa l → opened_by nfa v (Some b) l ≡ opened_by nfa v (Some c) l
@@ -61,22 +47,14 @@ module _ (nfa : Nfa) (b c : ℕ) (same : AreTestedAlike nfa b c) where
         λ l. grind (arith, tested l, opened_by-alike l) in
         let reopened : is_reopened nfa v (Some b) ≡ is_reopened nfa v (Some c) =
         ap (λ (t : Look → Bool). list_any t each_look) (fun_ext needed) in
-        rw (
-          reopened,
-          edges-same nfa _ _ (λ l t. ap (λ (x : Bool). has v.look_have l || x) (opened_by-alike l t)),
-        ) refl
+        rw (reopened, edges-same nfa _ _ (λ l t. ap (λ (x : Bool). has v.look_have l || x) (opened_by-alike l t))) refl
 
 pub each_class_steps : EachClassSteps
 unfolding step
 each_class_steps nfa accepted kind v tested b c same =
     let over : target nfa (Some b) ≡ target nfa (Some c) = fun_ext (λ (s : ℕ). ap option_to_list (same.targets s)) in
-    rw (
-      working_list-alike nfa b c same.tests accepted v tested,
-      from_word_after-alike nfa b c same.tests,
-      half_crlf_after-alike nfa b c same.tests,
-      have_after-alike nfa b c same.tests,
-      over,
-    ) refl
+    let after = after-alike nfa b c same.tests in
+    rw (working_list-alike nfa b c same.tests accepted v tested, after.1, after.2, after.0, over) refl
 
 -- look-need of recorded states is of assertions that they test
 needs_tested : (nfa : Nfa) (xs : List ℕ) (l : Look) → has (needs nfa 0 xs) l ≡ true → IsTested nfa l

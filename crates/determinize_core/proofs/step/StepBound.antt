@@ -2,13 +2,12 @@
 -- Main statements: tries_are_few.
 -- Used by: `tries_law`, StepParts.
 -- Idea: each of two closures tries each state and each epsilon transition at most once.
-use Rattle.determinize_core.proofs.Common.{[], accepted_sound, All, arith, Assertion, Bool, by_test, distinct_states}
-use Rattle.determinize_core.proofs.Common.{edge_count, edges, edges_in_all, flat_map, has, is_match, is_reopened}
-use Rattle.determinize_core.proofs.Common.{IsAccepted, IsSound, joined, LeftmostFirst, length, List, MatchKind, member}
+use Rattle.determinize_core.proofs.Common.{[], accepted_sound, arith, Assertion, Bool, by_test, distinct_states}
+use Rattle.determinize_core.proofs.Common.{edge_count, edges, edges_in_all, has, is_match, is_reopened}
+use Rattle.determinize_core.proofs.Common.{IsAccepted, IsSound, joined, length, List, MatchKind, member}
 use Rattle.determinize_core.proofs.Common.{nat_eq, Nfa, none_held, opened_by, Option, part_read, reach, same_decides}
 use Rattle.determinize_core.proofs.Common.{tables_of, target, targets, tries_again, tries_of, true, Value, working_list, ℕ, ◌+◌, ◌<◌, ◌∷◌, ◌≡◌, ◌≤◌}
-use Rattle.determinize_below.proofs.nfas.SoundNfa.{ends_within_states, length-reach, target_within}
-use Rattle.ordered_reach.proofs.lists.NewNodes.{flat_map-member}
+use Rattle.determinize_below.proofs.nfas.SoundNfa.{ends_within_states, length-reach}
 use Rattle.ordered_reach.proofs.graph.FiniteGraphs.{below_member, fresh_below, length-fresh_below}
 use Rattle.determinize_below.proofs.nfas.Edges.{length-edges, length-target}
 use Rattle.ordered_reach.specs.Reach.{nodes_below}

@@ -3,21 +3,19 @@
 -- Used by: `step_law`, `search_law`, `next`, ReturnedWalk, LastUnits, and the whole DFA.
 -- Idea: the definitions compute. A search that lists only captures would visit one of them again.
 use Rattle.determinize_core.proofs.Common.{[], accepted_sound, All, ap, arith, Assertion, Bool, by_test, capture_next}
-use Rattle.determinize_core.proofs.Common.{cond, dead, drop, each_look, edges, ends, eq-eqb, eqb-true, false}
+use Rattle.determinize_core.proofs.Common.{cond, dead, drop, edges, ends, eq-eqb, eqb-true, false}
 use Rattle.determinize_core.proofs.Common.{false≢true, flat_map, followed, fresh, future, has, is_capture, IsSound}
 use Rattle.determinize_core.proofs.Common.{LeftmostFirst, length, length-take, List, MatchKind, member, nat_eq, Nfa}
-use Rattle.determinize_core.proofs.Common.{None, none_held, not, opened_by, Option, or_left, reach, refl, same_decides}
+use Rattle.determinize_core.proofs.Common.{None, none_held, Option, or_left, reach, refl, same_decides}
 use Rattle.determinize_core.proofs.Common.{slice_get, Some, start_value, state_at, step, suc, tables_of}
-use Rattle.determinize_core.proofs.Common.{true, units, Value, with_node, without, working_list, zero, ℕ, ◌&&◌, ◌+◌}
+use Rattle.determinize_core.proofs.Common.{true, units, Value, with_node, without, working_list, zero, ℕ, ◌+◌}
 use Rattle.determinize_core.proofs.Common.{◌==◌, ◌∙◌, ◌∷◌, ◌≡◌, ◌≤◌}
 use Rattle.ordered_reach.proofs.Cases.{or_false}
 use Rattle.determinize_below.proofs.nfas.SoundNfa.{edges_enough, reach-append}
 use Rattle.determinize_below.proofs.nfas.Edges.{edges-capture, edges-or-target, length-target}
-use Rattle.determinize_below.proofs.looks.LookSets.{has-empty}
 use Rattle.ordered_reach.proofs.graph.ClosedSets.{IsEnough}
 use Rattle.ordered_reach.proofs.lists.NewNodes.{fresh_none, member-fresh}
 use Rattle.determinize_below.specs.Captures.{HasNoCaptureCycle}
-use Rattle.ordered_reach.proofs.lists.Pieces.{list_any_unmet}
 use Rattle.ordered_reach.proofs.graph.SameSearch.{roots_closed}
 use Rattle.determinize_core.specs.Chain.{chain}
 use Rattle.determinize_core.specs.Laws.{DeadStays, EachFutureFollows, EachReachGoesOn, EachStateHasOneKind}

@@ -2,11 +2,11 @@
 -- Main statements: step_tries, IsRead, stepped, tries_are.
 -- Used by: `transition`.
 -- Idea: flags depend on whether a state is entered, and that on whether there is a target.
-use Rattle.determinize_core.proofs.Common.{[], add-one, added, append-nil, append_assoc, is_capture, sym, without, ◌++◌, ◌∙◌, added_one, All-from_member, AllResolve, ap, arith, Assertion, begun}
-use Rattle.determinize_core.proofs.Common.{Bool, edges, edges_in_all, false, fold, has, is_nonempty, IsAccepted, length}
-use Rattle.determinize_core.proofs.Common.{List, MatchKind, member, nat_eq, nat_tests, Nfa, none_held, not, Option}
-use Rattle.determinize_core.proofs.Common.{ordered, patterns_of, patterns_read, reach, reach_past, refl, same_decides}
-use Rattle.determinize_core.proofs.Common.{step, suc, tables_of, targets, tries_left, tries_of, true}
+use Rattle.determinize_core.proofs.Common.{[], add-one, added, append-nil, append_assoc, is_capture, sym, without, ◌++◌, ◌∙◌, added_one, AllResolve, ap, arith, Assertion, begun}
+use Rattle.determinize_core.proofs.Common.{Bool, edges_in_all, false, fold, has, is_nonempty, IsAccepted, length}
+use Rattle.determinize_core.proofs.Common.{List, MatchKind, member, nat_eq, nat_tests, Nfa, not, Option}
+use Rattle.determinize_core.proofs.Common.{patterns_of, patterns_read, reach, reach_past, refl, same_decides}
+use Rattle.determinize_core.proofs.Common.{step, tables_of, targets, tries_left, tries_of, true}
 use Rattle.determinize_core.proofs.Common.{Value, working_list, ℕ, ◌&&◌, ◌*◌, ◌+◌, ◌<◌, ◌==◌, ◌∷◌, ◌≡◌, ◌≤◌}
 use Rattle.std.proofs.Common.{All as Each}
 use Rattle.std.proofs.lemmas.List.Elements.{All-contains}

@@ -94,13 +94,9 @@ module _ (nfa : Nfa) (accepted : IsAccepted nfa) (m : ℕ) where
       let i : member nat_eq v.states x ≡ true = rw e.states z in
       let needed : has v.look_need l ≡ true = rw e.need (needs_member nfa 0 v.states x l i a) in
       let have = e.have l needed l (x, a) in
-      settled (known nfa b l) (truth nfa b u l) (opened_by nfa v u l) (has v.look_need l) (has v.look_have l) have
-      needed
-      (each_look-false (λ k. opened_by nfa v u k && has v.look_need k && not (has v.look_have k)) r l)
-      (together b u v l (x, a) have (e.flags x i))))))
-    where
-      settled : (k h o n v : Bool) → v ≡ k → n ≡ true → (o && n && not v) ≡ false → (v || o) ≡ h → k ≡ h
-      settled k h o n v p q r s = grind arith
+      let unmet = each_look-false (λ k. opened_by nfa v u k && has v.look_need k && not (has v.look_have k)) r l in
+      let both = together b u v l (x, a) have (e.flags x i) in
+      grind arith))))
 
   -- captures aside, the working list is what is reached under what is true
   pub working_is : (b u : Option ℕ) (v : Value) (roots : List ℕ) → IsEntered nfa m b v roots
