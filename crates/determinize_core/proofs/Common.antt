@@ -11,7 +11,7 @@ pub use Rattle.determinize_below.specs.Members.{has_id, Members}
 pub use Rattle.determinize_below.specs.Nfa.{AllResolve, IsAccepted}
 pub use Rattle.determinize_below.specs.Positions.{byte_edges, true_edges, truth}
 pub use Rattle.determinize_below.specs.Reached.{IsReached, known_edges}
-pub use Rattle.determinize_below.specs.Search.{Asked, is_done}
+pub use Rattle.determinize_below.specs.Search.{Asked, continues, is_done}
 pub use Rattle.determinize_below.specs.Semantics.{Accepts, after_at, before_at, between, Capture, choices, Fail}
 pub use Rattle.determinize_below.specs.Semantics.{IsBestRun, IsPreferredRun, Match, Nfa, Node, state_at, Text}
 pub use Rattle.determinize_below.specs.Unit.{byte_of}
@@ -24,15 +24,17 @@ unfoldable pub use Rattle.determinize_core.specs.Chain.{chain}
 pub use Rattle.determinize_core.specs.LastMatch.{ended_at, IsFarthestMatch, IsPreferredMatch, last_ended, last_match}
 pub use Rattle.determinize_core.specs.LastMatch.{lists_of}
 pub use Rattle.determinize_core.specs.Private.Changes.{with_patterns}
-pub use Rattle.determinize_core.specs.Private.Reading.{IsListRead}
+pub use Rattle.determinize_core.specs.Private.Reading.{distinct, IsClosedAgain, IsListRead}
 unfoldable pub use Rattle.determinize_core.specs.Private.Search.{tries_left}
 pub use Rattle.determinize_core.specs.Step.{begun, distinct_states, is_reopened, opened_by, part_read, patterns_read}
 pub use Rattle.determinize_core.specs.Step.{start_value, targets, working_list}
 unfoldable pub use Rattle.determinize_core.specs.Step.{step}
 pub use Rattle.determinize_core.specs.Stepper.{StepperValue}
 pub use Rattle.determinize_core.specs.Tries.{edges_in_all, tries_again, tries_of}
+unfoldable pub use Rattle.determinize_core.specs.Tries.{tries}
 pub use Rattle.determinize_core.specs.Walk.{IsLeftmostWalk, IsWalkOfAll, ListsAccepted}
-pub use Rattle.determinize_start.specs.LookTables.{tables_of}
+unfoldable pub use Rattle.determinize_start.specs.LookTables.{from_word_after, half_crlf_after, have_after}
+pub use Rattle.determinize_start.specs.LookTables.{have_at_start, tables_of}
 pub use Rattle.determinize_state.specs.Equality.{same}
 pub use Rattle.determinize_state.specs.Recording.{added, added_one, needs, recorded}
 pub use Rattle.determinize_state.specs.Value.{dead, is_nonempty, Value}
@@ -41,7 +43,7 @@ pub use Rattle.ordered_reach.proofs.graph.FiniteGraphs.{same_decides}
 pub use Rattle.ordered_reach.proofs.lists.Elements.{All-from_member}
 pub use Rattle.ordered_reach.specs.Paths.{Before, IsPath}
 pub use Rattle.ordered_reach.specs.Reach.{edge_count, ends, fresh, joined, member, none_held, ordered, with_node}
-pub use Rattle.ordered_reach.specs.Runs.{IsBeginning, IsLeastRun, placed, without}
+pub use Rattle.ordered_reach.specs.Runs.{before, IsBeginning, IsLeastRun, placed, without}
 pub use Rattle.std.proofs.Common.{[], add-one, ap, append_assoc, arith, Bool, drop, false, fold, get_or}
 pub use Rattle.std.proofs.Common.{get_or-set_other, get_or-set_same, if◌then◌else◌, inl, inr, length, length-append}
 pub use Rattle.std.proofs.Common.{List, map, nat_eq, None, not, Option, refl, replicate, rules, Some, subst, suc, sym}

@@ -2,19 +2,17 @@
 -- Main statements: kept_of, IsReading, reading-next, reading-new, all_read.
 -- Used by: `read_states`.
 -- Idea: what was read is what the kept states give, and those that give nothing need not be kept.
-use Rattle.determinize_core.proofs.Common.{[], All, ap, append-nil, append_assoc, arith, Bool, by_option, by_test, false}
-use Rattle.determinize_core.proofs.Common.{flat_map, flat_map-append, fresh, fun_ext, has_id, if◌then◌else◌, is_match}
-use Rattle.determinize_core.proofs.Common.{IsListRead, IsSound, joined, LeftmostFirst, List, list_any, MatchKind}
-use Rattle.determinize_core.proofs.Common.{nat_eq, Nfa, none_held, not, Option, option_to_list}
-use Rattle.determinize_core.proofs.Common.{pattern_of, patterns_of, patterns_read, refl, same_decides, Some, target}
-use Rattle.determinize_core.proofs.Common.{true, true≢false, Value, with_patterns, without, ℕ, ◌&&◌, ◌++◌, ◌||◌, ◌∙◌}
-use Rattle.determinize_core.proofs.Common.{◌∷◌, ◌≡◌}
+use Rattle.determinize_core.proofs.Common.{[], All, ap, append-nil, append_assoc, arith, before, Bool, by_option}
+use Rattle.determinize_core.proofs.Common.{by_test, continues, distinct, false, flat_map, flat_map-append, fresh}
+use Rattle.determinize_core.proofs.Common.{fun_ext, has_id, if◌then◌else◌, is_match, IsListRead, IsSound, joined}
+use Rattle.determinize_core.proofs.Common.{LeftmostFirst, List, list_any, MatchKind, nat_eq, Nfa, none_held, not}
+use Rattle.determinize_core.proofs.Common.{Option, option_to_list, pattern_of, patterns_of, patterns_read, refl}
+use Rattle.determinize_core.proofs.Common.{same_decides, Some, target, true, true≢false, Value, with_patterns, without}
+use Rattle.determinize_core.proofs.Common.{ℕ, ◌&&◌, ◌++◌, ◌||◌, ◌∙◌, ◌∷◌, ◌≡◌}
 use Rattle.ordered_reach.proofs.lists.NewNodes.{fresh-joined}
 use Rattle.ordered_reach.proofs.lists.Pieces.{before-without, flat_map-without}
-use Rattle.ordered_reach.specs.Runs.{before}
 use Rattle.std.proofs.lemmas.List.Folds.{list_any-append}
-use Rattle.determinize_below.specs.Search.{continues}
-use Rattle.determinize_core.specs.Private.Reading.{distinct, gained, gives_nothing, IsStateRead, roots_of}
+use Rattle.determinize_core.specs.Private.Reading.{gained, gives_nothing, IsStateRead, roots_of}
 use Rattle.determinize_core.proofs.walk.WalkLoops.{goes_on, pattern_new, patterns-push, stops_at, targets-push}
 
 -- the states that are kept after a list was read, given those kept before
@@ -63,16 +61,11 @@ module _ (nfa : Nfa) (u : Option ℕ) where
   gives-target s e = grind arith
 
   -- the states that give nothing can be left out
-  gives_same : (kind : MatchKind) (xs : List ℕ)
-      → (patterns_of nfa (without (gives_nothing nfa u) xs) ≡ patterns_of nfa xs)
-      × (roots_of nfa kind u (without (gives_nothing nfa u) xs) ≡ roots_of nfa kind u xs)
-  gives_same All xs =
-      (flat_map-without _ (gives_nothing nfa u) xs gives-pattern, flat_map-without _ (gives_nothing nfa u) xs gives-target)
-  gives_same LeftmostFirst xs = (
-    flat_map-without _ (gives_nothing nfa u) xs gives-pattern,
-    rw (before-without (is_match nfa) (gives_nothing nfa u) xs (λ s m. rw m refl))
-        (flat_map-without _ (gives_nothing nfa u) (before (is_match nfa) xs) gives-target),
-  )
+  roots_same : (kind : MatchKind) (xs : List ℕ)
+      → roots_of nfa kind u (without (gives_nothing nfa u) xs) ≡ roots_of nfa kind u xs
+  roots_same All xs = flat_map-without _ (gives_nothing nfa u) xs gives-target
+  roots_same LeftmostFirst xs = rw (before-without (is_match nfa) (gives_nothing nfa u) xs (λ s m. rw m refl))
+      (flat_map-without _ (gives_nothing nfa u) (before (is_match nfa) xs) gives-target)
 
   -- the kept states, followed by those that will be new and give something
   abbrev whole : List ℕ → List ℕ → List ℕ
@@ -94,11 +87,12 @@ module _ (nfa : Nfa) (u : Option ℕ) where
   keeps LeftmostFirst kept [] none =
       let on = goes_on nfa kept (none refl) in rw append-nil (rw on.1 refl, rw on.0 refl)
   keeps LeftmostFirst kept (s ∷ xs) none = by_option (pattern_of nfa s)
-      (λ k. let next = keeps LeftmostFirst (kept ++ gained nfa u kept s) xs
+      (λ k. let later = keeps LeftmostFirst (kept ++ gained nfa u kept s) xs
       (λ e. rw list_any-append (grind (arith, none e))) in
-      (cc (next.0, whole-next kept s xs), cc (next.1, whole-next kept s xs)))
+      (cc (later.0, whole-next kept s xs), cc (later.1, whole-next kept s xs)))
       (λ p k. let new = unmatched_new nfa kept s (none refl) (rw k refl) in
-      let at = stops_at nfa kept (fresh nat_eq (joined (gives_nothing nfa u) (has_id (kept ++ s ∷ []))) xs) s p (none refl) k in
+      let later : List ℕ = fresh nat_eq (joined (gives_nothing nfa u) (has_id (kept ++ s ∷ []))) xs in
+      let at = stops_at nfa kept later s p (none refl) k in
       rw (← whole-next kept s xs, k, new, append_assoc, at.0, at.1) (
         patterns-push nfa kept s ∙ rw ((goes_on nfa kept (none refl)).1, k) refl,
         targets-push nfa u kept s ∙ rw (target-match s (rw k refl), append-nil) refl,
@@ -110,8 +104,8 @@ pub all_read : {nfa : Nfa} {u : Option ℕ} {first value : Value} {targets : Lis
     → IsListRead nfa kind u (distinct xs) first value targets
 all_read {nfa} {u} kind xs reading =
     let kept = keeps nfa u kind [] xs (λ e. refl) in
-    let same = gives_same nfa u kind (distinct xs) in
-    let live = fresh-joined same_decides (gives_nothing nfa u) none_held xs in record {
-      value_is = rw (kept.0, live, same.0) at reading.value_is;
-      targets_are = reading.targets_are ∙ kept.1 ∙ rw live same.1;
+    let live = fresh-joined same_decides (gives_nothing nfa u) none_held xs in
+    let patterns = flat_map-without _ (gives_nothing nfa u) (distinct xs) (gives-pattern nfa u) in record {
+      value_is = rw (kept.0, live, patterns) at reading.value_is;
+      targets_are = reading.targets_are ∙ kept.1 ∙ rw live (roots_same nfa u kind (distinct xs));
     }

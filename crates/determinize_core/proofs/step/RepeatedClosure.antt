@@ -2,11 +2,11 @@
 -- Main statements: distinct-push, reached_again, tried_again.
 -- Used by: `collect_states`, `read_working_list`.
 -- Idea: a set that was empty collects the list.
-use Rattle.determinize_core.proofs.Common.{[], append-nil, arith, distinct_states, has, has_id, if◌then◌else◌}
-use Rattle.determinize_core.proofs.Common.{List, Nfa, none_held, Option, reach, reach_past, refl, same_decides}
-use Rattle.determinize_core.proofs.Common.{tries_again, tries_left, Value, working_list, ℕ, ◌++◌, ◌∷◌, ◌≡◌}
+use Rattle.determinize_core.proofs.Common.{[], append-nil, arith, distinct, distinct_states, has, has_id, if◌then◌else◌}
+use Rattle.determinize_core.proofs.Common.{IsClosedAgain, List, Nfa, none_held, Option, reach, reach_past, refl}
+use Rattle.determinize_core.proofs.Common.{same_decides, tries_again, tries_left, Value, working_list, ℕ, ◌++◌, ◌∷◌}
+use Rattle.determinize_core.proofs.Common.{◌≡◌}
 use Rattle.ordered_reach.proofs.lists.NewNodes.{fresh-append, fresh-fresh, member-fresh}
-use Rattle.determinize_core.specs.Private.Reading.{distinct, IsClosedAgain}
 use Rattle.determinize_core.proofs.closure.ClosureSteps.{holds-member}
 use Rattle.determinize_core.proofs.closure.EmptySearch.{reach_past-empty, tries_left-empty}
 

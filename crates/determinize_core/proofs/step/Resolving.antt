@@ -3,15 +3,14 @@
 -- Used by: ReturnedWalk, StepBound, `start_state`, `transition`, and the cache.
 -- Idea: edges and targets of a valid NFA go to its states.
 use Rattle.determinize_core.proofs.Common.{[], accepted_sound, All-from_member, AllResolve, arith, Assertion, Bool}
-use Rattle.determinize_core.proofs.Common.{eqb-true, has, is_capture, is_match, IsAccepted, length, List, MatchKind}
-use Rattle.determinize_core.proofs.Common.{member, nat_eq, Nfa, not, Option, part_read, reach, same_decides}
-use Rattle.determinize_core.proofs.Common.{start_value, step, tables_of, target, targets, true, Value, without}
-use Rattle.determinize_core.proofs.Common.{working_list, ℕ, ◌<◌, ◌∷◌, ◌≡◌}
+use Rattle.determinize_core.proofs.Common.{eqb-true, has, have_after, have_at_start, is_capture, is_match, IsAccepted}
+use Rattle.determinize_core.proofs.Common.{length, List, MatchKind, member, nat_eq, Nfa, not, Option, part_read, reach}
+use Rattle.determinize_core.proofs.Common.{same_decides, start_value, step, tables_of, target, targets, true, Value}
+use Rattle.determinize_core.proofs.Common.{without, working_list, ℕ, ◌<◌, ◌∷◌, ◌≡◌}
 use Rattle.determinize_below.proofs.nfas.SoundNfa.{reach_within, target_within}
 use Rattle.ordered_reach.proofs.lists.NewNodes.{flat_map-member, member-filter}
 use Rattle.std.proofs.Common.{All as Each}
 use Rattle.ordered_reach.proofs.Cases.{or_false}
-use Rattle.determinize_start.specs.LookTables.{have_after, have_at_start}
 
 module _ (nfa : Nfa) (accepted : IsAccepted nfa) where
   entered_resolve : (holds : Assertion → Bool) (roots : List ℕ)

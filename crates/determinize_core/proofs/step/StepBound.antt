@@ -3,10 +3,11 @@
 -- Used by: `tries_law`, StepParts.
 -- Idea: each of two closures tries each state and each epsilon transition at most once.
 use Rattle.determinize_core.proofs.Common.{[], accepted_sound, arith, Assertion, Bool, by_test, distinct_states}
-use Rattle.determinize_core.proofs.Common.{edge_count, edges, edges_in_all, has, is_match, is_reopened}
-use Rattle.determinize_core.proofs.Common.{IsAccepted, IsSound, joined, length, List, MatchKind, member}
-use Rattle.determinize_core.proofs.Common.{nat_eq, Nfa, none_held, opened_by, Option, part_read, reach, same_decides}
-use Rattle.determinize_core.proofs.Common.{tables_of, target, targets, tries_again, tries_of, true, Value, working_list, ℕ, ◌+◌, ◌<◌, ◌∷◌, ◌≡◌, ◌≤◌}
+use Rattle.determinize_core.proofs.Common.{edge_count, edges, edges_in_all, has, have_after, is_match, is_reopened}
+use Rattle.determinize_core.proofs.Common.{IsAccepted, IsSound, joined, length, List, MatchKind, member, nat_eq, Nfa}
+use Rattle.determinize_core.proofs.Common.{none_held, opened_by, Option, part_read, reach, same_decides, tables_of}
+use Rattle.determinize_core.proofs.Common.{target, targets, tries, tries_again, tries_of, true, Value, working_list, ℕ}
+use Rattle.determinize_core.proofs.Common.{◌+◌, ◌<◌, ◌∷◌, ◌≡◌, ◌≤◌}
 use Rattle.determinize_below.proofs.nfas.SoundNfa.{ends_within_states, length-reach}
 use Rattle.ordered_reach.proofs.graph.FiniteGraphs.{below_member, fresh_below, length-fresh_below}
 use Rattle.determinize_below.proofs.nfas.Edges.{length-edges, length-target}
@@ -14,8 +15,6 @@ use Rattle.ordered_reach.specs.Reach.{nodes_below}
 use Rattle.ordered_reach.proofs.graph.SearchBound.{tries_bound}
 use Rattle.ordered_reach.proofs.lists.Pieces.{length-before_le, length-flat_map_le}
 use Rattle.determinize_core.specs.Laws.{TriesAreFew}
-use Rattle.determinize_start.specs.LookTables.{have_after}
-use Rattle.determinize_core.specs.Tries.{tries}
 use Rattle.determinize_core.proofs.step.Resolving.{targets_resolve}
 
 length-read : (kind : MatchKind) (p : ℕ → Bool) (xs : List ℕ) → length (part_read kind p xs) ≤ length xs

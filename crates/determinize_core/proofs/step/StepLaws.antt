@@ -3,13 +3,12 @@
 -- Used by: `step_law`, `search_law`, `next`, ReturnedWalk, LastUnits, and the whole DFA.
 -- Idea: the definitions compute. A search that lists only captures would visit one of them again.
 use Rattle.determinize_core.proofs.Common.{[], accepted_sound, All, ap, arith, Assertion, Bool, by_test, capture_next}
-use Rattle.determinize_core.proofs.Common.{cond, dead, drop, edges, ends, eq-eqb, eqb-true, false}
-use Rattle.determinize_core.proofs.Common.{false≢true, flat_map, followed, fresh, future, has, is_capture, IsSound}
+use Rattle.determinize_core.proofs.Common.{chain, cond, dead, drop, edges, ends, eq-eqb, eqb-true, false, false≢true}
+use Rattle.determinize_core.proofs.Common.{flat_map, followed, fresh, future, has, have_after, is_capture, IsSound}
 use Rattle.determinize_core.proofs.Common.{LeftmostFirst, length, length-take, List, MatchKind, member, nat_eq, Nfa}
-use Rattle.determinize_core.proofs.Common.{None, none_held, Option, or_left, reach, refl, same_decides}
-use Rattle.determinize_core.proofs.Common.{slice_get, Some, start_value, state_at, step, suc, tables_of}
-use Rattle.determinize_core.proofs.Common.{true, units, Value, with_node, without, working_list, zero, ℕ, ◌+◌}
-use Rattle.determinize_core.proofs.Common.{◌==◌, ◌∙◌, ◌∷◌, ◌≡◌, ◌≤◌}
+use Rattle.determinize_core.proofs.Common.{None, none_held, Option, or_left, reach, refl, same_decides, slice_get, Some}
+use Rattle.determinize_core.proofs.Common.{start_value, state_at, step, suc, tables_of, true, units, Value, with_node}
+use Rattle.determinize_core.proofs.Common.{without, zero, ℕ, ◌+◌, ◌==◌, ◌∙◌, ◌∷◌, ◌≡◌, ◌≤◌}
 use Rattle.ordered_reach.proofs.Cases.{or_false}
 use Rattle.determinize_below.proofs.nfas.SoundNfa.{edges_enough, reach-append}
 use Rattle.determinize_below.proofs.nfas.Edges.{edges-capture, edges-or-target, length-target}
@@ -17,10 +16,8 @@ use Rattle.ordered_reach.proofs.graph.ClosedSets.{IsEnough}
 use Rattle.ordered_reach.proofs.lists.NewNodes.{fresh_none, member-fresh}
 use Rattle.determinize_below.specs.Captures.{HasNoCaptureCycle}
 use Rattle.ordered_reach.proofs.graph.SameSearch.{roots_closed}
-use Rattle.determinize_core.specs.Chain.{chain}
 use Rattle.determinize_core.specs.Laws.{DeadStays, EachFutureFollows, EachReachGoesOn, EachStateHasOneKind}
 use Rattle.determinize_core.specs.Laws.{LeftmostGivesOne, NoNeedNoHave}
-use Rattle.determinize_start.specs.LookTables.{have_after}
 use Rattle.determinize_core.proofs.step.RedoTest.{unneeded}
 
 pub each_reach_goes_on : EachReachGoesOn
@@ -41,13 +38,10 @@ pub each_future_follows : EachFutureFollows
 unfolding chain
 each_future_follows nfa kind s text j v h = drop-future nfa kind (units text) (start_value nfa s text.behind) v j h
 
-working_dead : (nfa : Nfa) (u : Option ℕ) → working_list nfa dead u ≡ []
-working_dead nfa u = rw (unneeded nfa dead u refl) refl
-
 step_dead : (nfa : Nfa) (kind : MatchKind) (u : Option ℕ) → step nfa kind dead u ≡ dead
 unfolding step reach
-step_dead nfa All u = rw (working_dead nfa u) refl
-step_dead nfa LeftmostFirst u = rw (working_dead nfa u) refl
+step_dead nfa All u = rw (unneeded nfa dead u refl) refl
+step_dead nfa LeftmostFirst u = rw (unneeded nfa dead u refl) refl
 
 -- a list of captures only
 all_capture : (nfa : Nfa) (xs : List ℕ) (x : ℕ) → without (is_capture nfa) xs ≡ [] → member nat_eq xs x ≡ true

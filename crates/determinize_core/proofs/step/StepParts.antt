@@ -2,20 +2,19 @@
 -- Main statements: step_tries, IsRead, stepped, tries_are.
 -- Used by: `transition`.
 -- Idea: flags depend on whether a state is entered, and that on whether there is a target.
-use Rattle.determinize_core.proofs.Common.{[], add-one, added, append-nil, append_assoc, is_capture, sym, without, ◌++◌, ◌∙◌, added_one, AllResolve, ap, arith, Assertion, begun}
-use Rattle.determinize_core.proofs.Common.{Bool, edges_in_all, false, fold, has, is_nonempty, IsAccepted, length}
-use Rattle.determinize_core.proofs.Common.{List, MatchKind, member, nat_eq, nat_tests, Nfa, not, Option}
-use Rattle.determinize_core.proofs.Common.{patterns_of, patterns_read, reach, reach_past, refl, same_decides}
-use Rattle.determinize_core.proofs.Common.{step, tables_of, targets, tries_left, tries_of, true}
-use Rattle.determinize_core.proofs.Common.{Value, working_list, ℕ, ◌&&◌, ◌*◌, ◌+◌, ◌<◌, ◌==◌, ◌∷◌, ◌≡◌, ◌≤◌}
+use Rattle.determinize_core.proofs.Common.{[], add-one, added, added_one, AllResolve, ap, append_assoc, arith}
+use Rattle.determinize_core.proofs.Common.{Assertion, begun, Bool, by_test, edges_in_all, false, fold, from_word_after}
+use Rattle.determinize_core.proofs.Common.{half_crlf_after, has, have_after, is_capture, is_nonempty, IsAccepted}
+use Rattle.determinize_core.proofs.Common.{length, List, MatchKind, member, nat_eq, nat_tests, Nfa, not, Option}
+use Rattle.determinize_core.proofs.Common.{patterns_of, patterns_read, reach, reach_past, refl, same_decides, step}
+use Rattle.determinize_core.proofs.Common.{tables_of, targets, tries, tries_left, tries_of, true, Value, without}
+use Rattle.determinize_core.proofs.Common.{working_list, ℕ, ◌&&◌, ◌*◌, ◌+◌, ◌<◌, ◌==◌, ◌∙◌, ◌∷◌, ◌≡◌, ◌≤◌}
 use Rattle.std.proofs.Common.{All as Each}
 use Rattle.std.proofs.lemmas.List.Elements.{All-contains}
 use Rattle.ordered_reach.proofs.lists.Elements.{In_Contains, member_In}
 use Rattle.determinize_state.specs.Recording.{settled}
-use Rattle.determinize_state.proofs.values.RecordingSteps.{added-none, added_one-after}
+use Rattle.determinize_state.proofs.values.RecordingSteps.{added-none}
 use Rattle.determinize_core.proofs.closure.EmptySearch.{reach_past-empty, tries_left-empty}
-use Rattle.determinize_start.specs.LookTables.{from_word_after, half_crlf_after, have_after}
-use Rattle.determinize_core.specs.Tries.{tries}
 use Rattle.determinize_core.proofs.step.StepBound.{tries_are_few}
 
 -- each member of a list is below what all its items are below
@@ -27,13 +26,10 @@ member-below bound xs all s m = All-contains (λ id. id < bound) xs s all
 -- states recorded one after another are added, captures left out
 fold-added : (nfa : Nfa) (v : Value) (xs : List ℕ)
     → fold (added_one nfa) v xs ≡ added nfa v (without (is_capture nfa) xs)
-fold-added nfa v xs = ap (λ w. fold (added_one nfa) w xs) (added-none nfa v) ∙ after [] xs
-  where
-    after : (done xs : List ℕ) → fold (added_one nfa) (added nfa v (without (is_capture nfa) done)) xs
-        ≡ added nfa v (without (is_capture nfa) (done ++ xs))
-    after done [] = ap (λ l. added nfa v (without (is_capture nfa) l)) (sym (append-nil done))
-    after done (x ∷ xs) = ap (λ w. fold (added_one nfa) w xs) (added_one-after nfa v done x) ∙ after (done ++ x ∷ []) xs
-        ∙ ap (λ l. added nfa v (without (is_capture nfa) l)) (append_assoc done (x ∷ []) xs)
+fold-added nfa v [] = added-none nfa v
+fold-added nfa v (x ∷ xs) = by_test (is_capture nfa x)
+    (λ e. rw e (fold-added nfa v xs))
+    (λ e. rw e (fold-added nfa (added nfa v (x ∷ [])) xs ∙ rw append_assoc refl))
 
 -- a search reaches a state if and only if it has a root
 is_nonempty-reach : (nfa : Nfa) (holds : Assertion → Bool) (roots : List ℕ)

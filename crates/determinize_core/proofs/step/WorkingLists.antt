@@ -3,11 +3,11 @@
 -- Used by: WalkValues.
 -- Idea: closing again under more assertions, or not, gives the closure under the true ones.
 use Rattle.determinize_core.proofs.Common.{accepted_sound, ap, arith, Assertion, Bool, by_test, distinct_states}
-use Rattle.determinize_core.proofs.Common.{each_look, edges, ends, false, has, is_capture, is_reopened, IsAccepted}
-use Rattle.determinize_core.proofs.Common.{IsSound, IsTested, joined, length, List, member, nat_eq, needs, Nfa}
-use Rattle.determinize_core.proofs.Common.{none_held, not, opened_by, Option, ordered, reach, same_decides, suc, sym}
-use Rattle.determinize_core.proofs.Common.{tables_of, true, truth, Value, without, working_list, zero, ℕ, ◌&&◌, ◌+◌}
-use Rattle.determinize_core.proofs.Common.{◌||◌, ◌∙◌, ◌≡◌}
+use Rattle.determinize_core.proofs.Common.{each_look, edges, ends, false, from_word_after, half_crlf_after, has}
+use Rattle.determinize_core.proofs.Common.{is_capture, is_reopened, IsAccepted, IsSound, IsTested, joined, length, List}
+use Rattle.determinize_core.proofs.Common.{member, nat_eq, needs, Nfa, none_held, not, opened_by, Option, ordered}
+use Rattle.determinize_core.proofs.Common.{reach, same_decides, suc, sym, tables_of, true, truth, Value, without}
+use Rattle.determinize_core.proofs.Common.{working_list, zero, ℕ, ◌&&◌, ◌+◌, ◌||◌, ◌∙◌, ◌≡◌}
 use Rattle.determinize_below.proofs.nfas.SoundNfa.{edges_enough}
 use Rattle.determinize_below.proofs.looks.CommonLooks.{each_look-false}
 use Rattle.determinize_below.proofs.nfas.Edges.{edges-agree, edges-capture, edges-more, edges-same, next_of}
@@ -20,7 +20,6 @@ use Rattle.ordered_reach.proofs.lists.Pieces.{list_any_some, without_twice}
 use Rattle.ordered_reach.proofs.graph.SameSearch.{not_redone}
 use Rattle.ordered_reach.proofs.runs.RunFuel.{run_fuel}
 use Rattle.ordered_reach.proofs.lists.NewNodes.{filter-fresh, fresh-flat_map, fresh-fresh}
-use Rattle.determinize_start.specs.LookTables.{from_word_after, half_crlf_after}
 use Rattle.determinize_state.proofs.values.TestedSets.{needs_member, needs_some}
 
 -- the fuel of all runs over m bytes

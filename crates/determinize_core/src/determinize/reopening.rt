@@ -19,7 +19,7 @@ use determinize_state::state::State;
 use std::alloc::Allocator;
 
 /// Returns whether `found` has an assertion that is in look-need and not in look-have.
-#[tactic(auto, using(crate::proofs::step::RedoTest::redone_from_found), unfolding(determinize_below::specs::Look::meets))]
+#[tactic(auto, using(crate::proofs::step::RedoTest::redone_from_found))]
 fn is_redone(found: LookSet, have: LookSet, need: LookSet) -> bool
     ensures { result ≡ specs_of_steps.is_redone (has found) have need }
 {

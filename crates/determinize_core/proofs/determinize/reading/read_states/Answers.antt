@@ -1,4 +1,5 @@
-use Rattle.determinize_core.proofs.Common.{accepted_sound, All-rest, ap, arith, length, None, refl, Some, Value, ◌<◌, ◌∙◌}
+use Rattle.determinize_core.proofs.Common.{accepted_sound, All-rest, ap, arith, length, None, refl, Some, Value, ◌<◌}
+use Rattle.determinize_core.proofs.Common.{◌∙◌}
 use Rattle.determinize_core.proofs.step.FirstReading.{all_read, reading-new, reading-next}
 use Rattle.determinize_core.proofs.determinize.reading.read_states.Goals as goal
 

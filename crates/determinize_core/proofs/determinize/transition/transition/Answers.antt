@@ -1,10 +1,8 @@
-use Rattle.determinize_core.proofs.Common.{ap, arith, byte_of, not, refl, ◌∙◌, ◌≡◌}
+use Rattle.determinize_core.proofs.Common.{ap, arith, byte_of, not, refl, tries, ◌∙◌, ◌≡◌}
 use Rattle.determinize_state.specs.Recording.{settled}
 use Rattle.determinize_start.specs.LookTables.{LookBehindValue}
-use Rattle.determinize_core.specs.Tries.{tries}
 use Rattle.determinize_core.proofs.step.Resolving.{step_resolves, targets_within}
-use Rattle.determinize_core.proofs.step.StepParts.{is_nonempty-length, IsRead, step_tries, stepped}
-use Rattle.determinize_core.proofs.step.StepParts.{tries_are}
+use Rattle.determinize_core.proofs.step.StepParts.{is_nonempty-length, IsRead, step_tries, stepped, tries_are}
 use Rattle.determinize_core.proofs.determinize.transition.transition.Given.{Over}
 use Rattle.determinize_core.proofs.determinize.transition.transition.Goals.{After-set_flags}
 use Rattle.determinize_core.proofs.determinize.transition.transition.Goals as goal

@@ -1,6 +1,5 @@
-use Rattle.determinize_core.proofs.Common.{◌<◌, ◌≡◌}
+use Rattle.determinize_core.proofs.Common.{distinct, ◌<◌, ◌≡◌}
 use Rattle.std.proofs.Common.{All}
-use Rattle.determinize_core.specs.Private.Reading.{distinct}
 use Rattle.determinize_core.proofs.determinize.working_list.collect_states.Given as goal
 
 abbrev pub invariant-loop-id : goal.invariant-loop-id
