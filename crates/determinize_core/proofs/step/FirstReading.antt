@@ -1,12 +1,12 @@
 -- The first pass over a list of states.
--- Main statements: kept_of, IsReading, reading-next, reading-new, all_read.
+-- Main statements: kept_of, IsReading, reading-next, new_pattern, all_read.
 -- Used by: `read_states`.
 -- Idea: what was read is what the kept states give, and those that give nothing need not be kept.
-use Rattle.determinize_core.proofs.Common.{[], All, ap, append-nil, append_assoc, arith, before, Bool, by_option}
-use Rattle.determinize_core.proofs.Common.{by_test, continues, distinct, false, flat_map, flat_map-append, fresh}
-use Rattle.determinize_core.proofs.Common.{fun_ext, has_id, if◌then◌else◌, is_match, IsListRead, IsSound, joined}
-use Rattle.determinize_core.proofs.Common.{LeftmostFirst, List, list_any, MatchKind, nat_eq, Nfa, none_held, not}
-use Rattle.determinize_core.proofs.Common.{Option, option_to_list, pattern_of, patterns_of, patterns_read, refl}
+use Rattle.determinize_core.proofs.Common.{[], accepted_sound, All, ap, append-nil, append_assoc, arith, before, Bool}
+use Rattle.determinize_core.proofs.Common.{by_option, by_test, continues, distinct, false, flat_map, flat_map-append}
+use Rattle.determinize_core.proofs.Common.{fresh, fun_ext, has_id, if◌then◌else◌, is_match, IsAccepted, IsListRead}
+use Rattle.determinize_core.proofs.Common.{joined, LeftmostFirst, List, list_any, MatchKind, nat_eq, Nfa, none_held}
+use Rattle.determinize_core.proofs.Common.{not, Option, option_to_list, pattern_of, patterns_of, patterns_read, refl}
 use Rattle.determinize_core.proofs.Common.{same_decides, Some, target, true, true≢false, Value, with_patterns, without}
 use Rattle.determinize_core.proofs.Common.{ℕ, ◌&&◌, ◌++◌, ◌||◌, ◌∙◌, ◌∷◌, ◌≡◌}
 use Rattle.ordered_reach.proofs.lists.NewNodes.{fresh-joined}
@@ -39,10 +39,10 @@ module _ {nfa : Nfa} {u : Option ℕ} {first value : Value} {kept targets : List
   }
 
   -- the pattern of a state that was not kept is new
-  pub reading-new : IsSound nfa → (id p : ℕ) → pattern_of nfa id ≡ Some p → has_id kept id ≡ false
+  pub new_pattern : IsAccepted nfa → (id p : ℕ) → pattern_of nfa id ≡ Some p → has_id kept id ≡ false
       → list_any (nat_eq p) value.patterns ≡ false
-  reading-new sound id p e h =
-      ap (λ (v : Value). list_any (nat_eq p) v.patterns) reading.value_is ∙ pattern_new nfa sound kept id p h e
+  new_pattern accepted id p e h = ap (λ (v : Value). list_any (nat_eq p) v.patterns) reading.value_is
+      ∙ pattern_new nfa (accepted_sound nfa accepted) kept id p h e
 
 -- a match is new after states without one
 unmatched_new : (nfa : Nfa) (xs : List ℕ) (s : ℕ) → list_any (is_match nfa) xs ≡ false → is_match nfa s ≡ true

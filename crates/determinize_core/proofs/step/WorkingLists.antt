@@ -51,21 +51,22 @@ module _ (nfa : Nfa) (sound : IsSound nfa) where
   reach_is m holds roots = ordered-enough same_decides (edges nfa holds) (length nfa.states + 1)
       (fuel nfa m) none_held roots (edges_enough nfa sound holds) (fuel_enough m holds)
 
-module _ (nfa : Nfa) (accepted : IsAccepted nfa) (m : ℕ) where
+module _ (nfa : Nfa) (accepted : IsAccepted nfa) (m : ℕ) (b u : Option ℕ) (v : Value) (roots : List ℕ)
+    (e : IsEntered nfa m b v roots) where
   sound : IsSound nfa
   sound = accepted_sound nfa accepted
 
   -- what the look-behind and the unit satisfy together is true
-  together : (b u : Option ℕ) (v : Value) (l : Assertion) → IsTested nfa l → has v.look_have l ≡ known nfa b l
+  together : (l : Assertion) → IsTested nfa l → has v.look_have l ≡ known nfa b l
       → (v.from_word ≡ from_word_after (tables_of nfa) b) × (v.half_crlf ≡ half_crlf_after (tables_of nfa) b)
       → (has v.look_have l || opened_by nfa v u l) ≡ truth nfa b u l
-  together b u v l q h f = rw (h, f.0, f.1) (opened_truth nfa accepted b u l q)
+  together l q h f = rw (h, f.0, f.1) (opened_truth nfa accepted b u l q)
 
   -- where the closure is redone, it is redone under what is true
-  redo_same : (b u : Option ℕ) (v : Value) (roots : List ℕ) → IsEntered nfa m b v roots → is_reopened nfa v u ≡ true
+  redo_same : is_reopened nfa v u ≡ true
       → reach nfa (joined (has v.look_have) (opened_by nfa v u)) (distinct_states v)
       ≡ listing nfa m (truth nfa b u) v.states
-  redo_same b u v roots e r =
+  redo_same r =
       let again : Assertion → Bool = joined (has v.look_have) (opened_by nfa v u) in
       list_any_some (λ l. opened_by nfa v u l && has v.look_need l && not (has v.look_have l)) each_look r (λ k z.
       let needed : has v.look_need k ≡ true = grind arith in
@@ -73,12 +74,12 @@ module _ (nfa : Nfa) (accepted : IsAccepted nfa) (m : ℕ) where
       reach_is nfa sound m again (distinct_states v)
       ∙ fresh-flat_map same_decides (ends nat_eq (edges nfa again) (fuel nfa m) none_held) none_held v.states
       ∙ ap (λ g. ordered nat_eq g (fuel nfa m) none_held v.states) (edges-same nfa again (truth nfa b u)
-      (λ l q. together b u v l q (e.have k needed l q) (e.flags s i)))))
+      (λ l q. together l q (e.have k needed l q) (e.flags s i)))))
 
   -- if it is not, it is the recorded list
-  kept_same : (b u : Option ℕ) (v : Value) (roots : List ℕ) → IsEntered nfa m b v roots → is_reopened nfa v u ≡ false
+  kept_same : is_reopened nfa v u ≡ false
       → without (is_capture nfa) (distinct_states v) ≡ without (is_capture nfa) (listing nfa m (truth nfa b u) v.states)
-  kept_same b u v roots e r =
+  kept_same r =
       let cap : ℕ → Bool = is_capture nfa in
       let K : List ℕ = listing nfa m (known nfa b) roots in
       let once : distinct_states v ≡ without cap K =
@@ -94,13 +95,12 @@ module _ (nfa : Nfa) (accepted : IsAccepted nfa) (m : ℕ) where
       let needed : has v.look_need l ≡ true = rw e.need (needs_member nfa 0 v.states x l i a) in
       let have = e.have l needed l (x, a) in
       let unmet = each_look-false (λ k. opened_by nfa v u k && has v.look_need k && not (has v.look_have k)) r l in
-      let both = together b u v l (x, a) have (e.flags x i) in
+      let both = together l (x, a) have (e.flags x i) in
       grind arith))))
 
   -- captures aside, the working list is what is reached under what is true
-  pub working_is : (b u : Option ℕ) (v : Value) (roots : List ℕ) → IsEntered nfa m b v roots
-      → without (is_capture nfa) (working_list nfa v u)
+  pub working_is : without (is_capture nfa) (working_list nfa v u)
       ≡ without (is_capture nfa) (listing nfa m (truth nfa b u) v.states)
-  working_is b u v roots e = by_test (is_reopened nfa v u)
-      (λ r. rw r (ap (λ l. without (is_capture nfa) l) (redo_same b u v roots e r)))
-      (λ r. rw r (kept_same b u v roots e r))
+  working_is = by_test (is_reopened nfa v u)
+      (λ r. rw r (ap (λ l. without (is_capture nfa) l) (redo_same r)))
+      (λ r. rw r (kept_same r))

@@ -1,20 +1,6 @@
-use Rattle.determinize_core.proofs.Common.{accepted_sound, All-rest, ap, arith, length, None, refl, Some, Value, ◌<◌}
-use Rattle.determinize_core.proofs.Common.{◌∙◌}
-use Rattle.determinize_core.proofs.step.FirstReading.{all_read, reading-new, reading-next}
+use Rattle.determinize_core.proofs.Common.{All-rest, arith, length, None, Some, ◌<◌, ◌∙◌}
+use Rattle.determinize_core.proofs.step.FirstReading.{all_read, new_pattern, reading-next}
 use Rattle.determinize_core.proofs.determinize.reading.read_states.Goals as goal
-
-pub loop-id-init : goal.loop-id-init
-loop-id-init g c =
-    let all = ap g.I.Ids.left c.into_iter-id-iterator.ensures.into_iter_gives in
-    record {
-      reading = record {
-        value_is = rw (c.requires.empty, ← c.requires.unread) refl;
-        targets_are = rw (c.requires.empty, c.requires.stack) refl;
-      };
-      whole = rw (all, c.requires.empty) refl;
-      capacity = refl;
-      left = rw all c.requires.resolve;
-    }
 
 pub read_state-requires-clause-resolve : goal.read_state-requires-clause-resolve
 read_state-requires-clause-resolve g c =
@@ -22,12 +8,8 @@ read_state-requires-clause-resolve g c =
     (rw step at c.loop-id.invariant.left) 0 0 (omega arith)
 
 pub read_state-requires-clause-new_pattern : goal.read_state-requires-clause-new_pattern
-read_state-requires-clause-new_pattern g c = λ p e h.
-    reading-new c.loop-id.invariant.reading (accepted_sound c.args.nfa.now c.requires.accepted) c.in-Some.id p e h
-
-pub read_state-requires-clause-unrecorded : goal.read_state-requires-clause-unrecorded
-read_state-requires-clause-unrecorded g c =
-    ap (λ (v : Value). v.states) c.loop-id.invariant.reading.value_is ∙ c.requires.unrecorded
+read_state-requires-clause-new_pattern g c =
+    new_pattern c.loop-id.invariant.reading c.requires.accepted c.in-Some.id
 
 pub loop-id-preserved : goal.loop-id-preserved
 loop-id-preserved g c =
