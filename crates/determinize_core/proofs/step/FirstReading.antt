@@ -15,7 +15,7 @@ use Rattle.std.proofs.lemmas.List.Folds.{list_any-append}
 use Rattle.determinize_core.specs.Private.Reading.{gained, gives_nothing, IsStateRead, roots_of}
 use Rattle.determinize_core.proofs.walk.WalkLoops.{goes_on, pattern_new, patterns-push, stops_at, targets-push}
 
--- the states that are kept after a list was read, given those kept before
+-- the states that are kept after a list was read, given those kept before; a match may end the reading
 abbrev pub kept_of : Nfa → MatchKind → Option ℕ → List ℕ → List ℕ → List ℕ
 kept_of nfa kind u kept [] = kept
 kept_of nfa kind u kept (s ∷ xs) =
@@ -51,21 +51,23 @@ unmatched_new nfa [] s h m = refl
 unmatched_new nfa (x ∷ xs) s h m = grind (arith, same_decides s x, unmatched_new nfa xs s)
 
 module _ (nfa : Nfa) (u : Option ℕ) where
+  -- a match has no transition
   target-match : (s : ℕ) → is_match nfa s ≡ true → target nfa u s ≡ []
   target-match s m = grind arith
 
-  gives-pattern : (s : ℕ) → gives_nothing nfa u s ≡ true → option_to_list (pattern_of nfa s) ≡ []
-  gives-pattern s e = grind arith
+  -- a state that gives nothing has no pattern and no target
+  nothing-pattern : (s : ℕ) → gives_nothing nfa u s ≡ true → option_to_list (pattern_of nfa s) ≡ []
+  nothing-pattern s e = grind arith
 
-  gives-target : (s : ℕ) → gives_nothing nfa u s ≡ true → target nfa u s ≡ []
-  gives-target s e = grind arith
+  nothing-target : (s : ℕ) → gives_nothing nfa u s ≡ true → target nfa u s ≡ []
+  nothing-target s e = grind arith
 
   -- the states that give nothing can be left out
   roots_same : (kind : MatchKind) (xs : List ℕ)
       → roots_of nfa kind u (without (gives_nothing nfa u) xs) ≡ roots_of nfa kind u xs
-  roots_same All xs = flat_map-without _ (gives_nothing nfa u) xs gives-target
+  roots_same All xs = flat_map-without _ (gives_nothing nfa u) xs nothing-target
   roots_same LeftmostFirst xs = rw (before-without (is_match nfa) (gives_nothing nfa u) xs (λ s m. rw m refl))
-      (flat_map-without _ (gives_nothing nfa u) (before (is_match nfa) xs) gives-target)
+      (flat_map-without _ (gives_nothing nfa u) (before (is_match nfa) xs) nothing-target)
 
   -- the kept states, followed by those that will be new and give something
   abbrev whole : List ℕ → List ℕ → List ℕ
@@ -78,16 +80,16 @@ module _ (nfa : Nfa) (u : Option ℕ) where
       (fun_ext (λ x. rw list_any-append (grind (arith, same_decides s x, same_decides x s))))))
 
   -- what is kept gives what they give
-  keeps : (kind : MatchKind) (kept xs : List ℕ) → (continues kind ≡ false → list_any (is_match nfa) kept ≡ false)
+  kept_gives : (kind : MatchKind) (kept xs : List ℕ) → (continues kind ≡ false → list_any (is_match nfa) kept ≡ false)
       → (patterns_of nfa (kept_of nfa kind u kept xs) ≡ patterns_read kind (patterns_of nfa (whole kept xs)))
       × (flat_map (target nfa u) (kept_of nfa kind u kept xs) ≡ roots_of nfa kind u (whole kept xs))
-  keeps All kept [] none = rw append-nil (refl, refl)
-  keeps All kept (s ∷ xs) none =
-      rw (← whole-next kept s xs) (keeps All (kept ++ gained nfa u kept s) xs (λ e. absurd (true≢false e)))
-  keeps LeftmostFirst kept [] none =
+  kept_gives All kept [] none = rw append-nil (refl, refl)
+  kept_gives All kept (s ∷ xs) none =
+      rw (← whole-next kept s xs) (kept_gives All (kept ++ gained nfa u kept s) xs (λ e. absurd (true≢false e)))
+  kept_gives LeftmostFirst kept [] none =
       let on = goes_on nfa kept (none refl) in rw append-nil (rw on.1 refl, rw on.0 refl)
-  keeps LeftmostFirst kept (s ∷ xs) none = by_option (pattern_of nfa s)
-      (λ k. let later = keeps LeftmostFirst (kept ++ gained nfa u kept s) xs
+  kept_gives LeftmostFirst kept (s ∷ xs) none = by_option (pattern_of nfa s)
+      (λ k. let later = kept_gives LeftmostFirst (kept ++ gained nfa u kept s) xs
       (λ e. rw list_any-append (grind (arith, none e))) in
       (cc (later.0, whole-next kept s xs), cc (later.1, whole-next kept s xs)))
       (λ p k. let new = unmatched_new nfa kept s (none refl) (rw k refl) in
@@ -103,9 +105,9 @@ pub all_read : {nfa : Nfa} {u : Option ℕ} {first value : Value} {targets : Lis
     → IsReading nfa u first value (kept_of nfa kind u [] xs) targets
     → IsListRead nfa kind u (distinct xs) first value targets
 all_read {nfa} {u} kind xs reading =
-    let kept = keeps nfa u kind [] xs (λ e. refl) in
+    let kept = kept_gives nfa u kind [] xs (λ e. refl) in
     let live = fresh-joined same_decides (gives_nothing nfa u) none_held xs in
-    let patterns = flat_map-without _ (gives_nothing nfa u) (distinct xs) (gives-pattern nfa u) in record {
+    let patterns = flat_map-without _ (gives_nothing nfa u) (distinct xs) (nothing-pattern nfa u) in record {
       value_is = rw (kept.0, live, patterns) at reading.value_is;
       targets_are = reading.targets_are ∙ kept.1 ∙ rw live (roots_same nfa u kind (distinct xs));
     }

@@ -1,6 +1,6 @@
 -- Whether the working list is closed again, and under which assertions.
 -- Main statements: redone_from_found, not_redone, unneeded, words_decide, closed_again.
--- Used by: `is_redone`, `stays_closed`, `look_again_over`.
+-- Used by: `is_redone`, `stays_closed`, `look_again_over`, `redo_law`, StepLaws.
 -- Idea: two sets meet exactly if they have a common assertion.
 use Rattle.determinize_core.proofs.Common.{ap, arith, Assertion, Bool, each_look, false, fun_ext, has, IfNone, IfSome}
 use Rattle.determinize_core.proofs.Common.{is_reopened, IsClosedAgain, list_any, Nfa, not, opened_by, Option, sym, true}
@@ -18,7 +18,7 @@ use Rattle.determinize_start.proofs.tables.KnownSet.{haystack_class, line_class}
 use Rattle.determinize_start.specs.LookTables.{line_opened, opened, Tables, word_opened}
 use Rattle.determinize_core.specs.Step.{is_redone}
 
--- the test on sets: something that was found and isn't in look-have is needed
+-- the test on sets: something that was found and is not in look-have is needed
 pub redone_from_found : (found have need : ℕ) → found < 2 ^ 18 → have < 2 ^ 18
     → not (intersect (subtract found have) need == 0) ≡ is_redone (has found) have need
 unfolding meets subtract

@@ -1,6 +1,6 @@
 -- The parts of a step make the step.
 -- Main statements: step_tries, IsRead, stepped, tries_are.
--- Used by: `transition`.
+-- Used by: `transition`, `read_working_list`.
 -- Idea: flags depend on whether a state is entered, and that on whether there is a target.
 use Rattle.determinize_core.proofs.Common.{[], add-one, added, added_one, AllResolve, ap, append_assoc, arith}
 use Rattle.determinize_core.proofs.Common.{Assertion, begun, Bool, by_test, edges_in_all, false, fold, from_word_after}

@@ -31,7 +31,7 @@ roots_of nfa kind u working = flat_map (target nfa u) (part_read kind (is_match 
 abbrev pub gives_nothing : Nfa → Option ℕ → ℕ → Bool
 gives_nothing nfa u s = not (is_match nfa s || is_nonempty (target nfa u s))
 
--- what reading a state adds to the states that are kept: the state, if it is new and gives something
+-- what reading a state adds to the kept states: the state, if it is new and gives something
 abbrev pub gained : Nfa → Option ℕ → List ℕ → ℕ → List ℕ
 gained nfa u kept s = if gives_nothing nfa u s || has_id kept s then [] else s ∷ []
 
