@@ -1,6 +1,6 @@
 -- Laws of one step, and of closures and the values of a walk by the definition of a step.
 -- Main statements: each_reach_goes_on, each_state_has_one_kind, each_future_follows, dead_stays, one_pattern.
--- Used by: `step_law`, `search_law`, `next`, ReturnedWalk, LastUnits, and the whole DFA.
+-- Used by: `step_law`, `search_law`, `next`, ReturnedWalk, and the crates above.
 -- Idea: the definitions compute. A search that lists only captures would visit one of them again.
 use Rattle.determinize_core.proofs.Common.{[], accepted_sound, All, ap, arith, Assertion, Bool, by_test, capture_next}
 use Rattle.determinize_core.proofs.Common.{chain, cond, dead, drop, edges, ends, eq-eqb, eqb-true, false, false≢true}
