@@ -1,15 +1,15 @@
 -- The values of a chain against whole runs: the theorem.
--- Main statements: walk_of_all, leftmost_walk, each_chain_reaches, each_chain_is_true.
+-- Main statements: walk_of_all, leftmost_walk, each_chain_reaches, walk_laws.
 -- Used by: ReturnedWalk, Farthest, `walk_law`, and searches.
 -- Idea: an NFA over a text is an automaton over numbers, so Automata applies.
 use Rattle.determinize_core.proofs.Common.{[], Accepts, add-one, after_at, All, arith, before_at, by_option, byte_edges}
 use Rattle.determinize_core.proofs.Common.{chain, choices, Contains, ended_at, flat_map-append, HalfMatch, is_capture}
-use Rattle.determinize_core.proofs.Common.{is_match, is_some, IsAccepted, IsBeginning, IsPreferredMatch, known_edges}
-use Rattle.determinize_core.proofs.Common.{last_ended, last_match, LeftmostFirst, length, List, ListsAccepted, map}
-use Rattle.determinize_core.proofs.Common.{MatchKind, Nfa, None, Option, pattern_of, patterns_of, placed}
-use Rattle.determinize_core.proofs.Common.{range_with_len, refl, same_decides, slice_get, slice_get_past, Some}
-use Rattle.determinize_core.proofs.Common.{state_at, suc, sym, take, Text, true, true_edges, true≢false, truth}
-use Rattle.determinize_core.proofs.Common.{unwrap_or, Value, zero, ℕ, ◌+◌, ◌∙◌, ◌∷◌, ◌≡◌, ◌≤◌}
+use Rattle.determinize_core.proofs.Common.{is_match, is_some, IsAccepted, IsBeginning, IsLeftmostWalk, IsPreferredMatch}
+use Rattle.determinize_core.proofs.Common.{IsWalkOfAll, known_edges, last_ended, last_match, LeftmostFirst, length}
+use Rattle.determinize_core.proofs.Common.{List, lists_of, ListsAccepted, map, MatchKind, Nfa, None, Option, pattern_of}
+use Rattle.determinize_core.proofs.Common.{patterns_of, placed, range_with_len, refl, same_decides, slice_get}
+use Rattle.determinize_core.proofs.Common.{slice_get_past, Some, state_at, suc, sym, take, Text, true, true_edges}
+use Rattle.determinize_core.proofs.Common.{true≢false, truth, unwrap_or, Value, zero, ℕ, ◌+◌, ◌∙◌, ◌∷◌, ◌≡◌, ◌≤◌}
 use Rattle.determinize_below.proofs.nfas.SoundNfa.{accepted_sound, match_in}
 use Rattle.ordered_reach.proofs.lists.Elements.{Contains_In, In_append_left, In_Contains, In_take_one}
 use Rattle.determinize_below.proofs.nfas.Edges.{edges-capture, edges-more, match-capture, next_of, patterns-without}
@@ -23,7 +23,7 @@ use Rattle.ordered_reach.proofs.lists.Prefixes.{Beginning-ordered}
 use Rattle.ordered_reach.proofs.runs.CutLists.{last_accepting}
 use Rattle.ordered_reach.proofs.runs.MostPreferred.{IsMostPreferred}
 use Rattle.ordered_reach.proofs.runs.Automata.{IsTrueWalk, true_walk}
-use Rattle.determinize_core.specs.Laws.{EachChainHasItsLists, EachChainIsTrue, EachChainReaches}
+use Rattle.determinize_core.specs.Laws.{EachChainReaches}
 use Rattle.determinize_core.proofs.walk.ValueWalks.{all_listed, FindsLeftmost, leftmost_listed, ListsAll}
 use Rattle.determinize_core.specs.WalkStates.{IsPartKept}
 use Rattle.determinize_core.proofs.walk.AcceptedPatterns.{lists_accepted, matches_at}
@@ -134,12 +134,18 @@ each_chain_reaches nfa accepted kind start text = record {
       (states_last nfa kind start text e);
 }
 
-pub each_chain_is_true : EachChainIsTrue
-each_chain_is_true nfa accepted start text = (
-  all_listed nfa start text _ (walk_of_all nfa accepted start text),
-  leftmost_listed nfa start text _ (leftmost_walk nfa accepted start text),
-)
+pub chain_of_all : (nfa : Nfa) → IsAccepted nfa → (start : ℕ) (text : Text)
+    → IsWalkOfAll nfa start text (lists_of (chain nfa All start text))
+chain_of_all nfa accepted start text = all_listed nfa start text _ (walk_of_all nfa accepted start text)
 
-pub each_chain_has_its_lists : EachChainHasItsLists
+pub chain_leftmost : (nfa : Nfa) → IsAccepted nfa → (start : ℕ) (text : Text)
+    → IsLeftmostWalk nfa start text (lists_of (chain nfa LeftmostFirst start text))
+chain_leftmost nfa accepted start text = leftmost_listed nfa start text _ (leftmost_walk nfa accepted start text)
+
+pub chain-first : (nfa : Nfa) (kind : MatchKind) (start : ℕ) (text : Text)
+    → slice_get (lists_of (chain nfa kind start text)) 0 ≡ Some []
 unfolding chain
-each_chain_has_its_lists nfa kind start text = (length-chain nfa kind start text, refl)
+chain-first nfa kind start text = refl
+
+-- all that a walk promises of its values
+pub ruleset walk_laws = (chain_of_all, chain_leftmost, length-chain, chain-first, each_chain_reaches)

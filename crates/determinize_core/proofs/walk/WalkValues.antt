@@ -41,28 +41,14 @@ targets-without nfa LeftmostFirst u xs = rw (before-without (is_match nfa) (is_c
 
 -- what the walk over positions records
 abbrev pub recorded_by : Nfa → MatchKind → ℕ → Text → ℕ → List ℕ
-recorded_by nfa All s text k =
-    levels.recorded nat_eq (known_edges nfa text) (true_edges nfa text) (byte_edges nfa text) (is_capture nfa)
-    (fuel nfa (length text.bytes)) s k
-recorded_by nfa LeftmostFirst s text k =
-    levels.recorded_cut nat_eq (known_edges nfa text) (true_edges nfa text) (byte_edges nfa text) (is_capture nfa)
-    (is_match nfa) (fuel nfa (length text.bytes)) s k
-
-recorded_by-zero : (nfa : Nfa) (kind : MatchKind) (s : ℕ) (text : Text)
-    → recorded_by nfa kind s text 0 ≡ without (is_capture nfa)
-    (listing nfa (length text.bytes) (known nfa text.behind) (s ∷ []))
-recorded_by-zero nfa kind s text = grind arith
+recorded_by nfa kind s text k =
+    levels.recorded_by nat_eq (known_edges nfa text) (true_edges nfa text) (byte_edges nfa text) (is_capture nfa)
+    (part_read kind (is_match nfa)) (fuel nfa (length text.bytes)) s k
 
 -- the search redone at a position
 abbrev pub redone_by : Nfa → MatchKind → ℕ → Text → ℕ → List ℕ
 redone_by nfa kind s text k =
     listing nfa (length text.bytes) (truth nfa (before_at text k) (after_at text k)) (recorded_by nfa kind s text k)
-
-recorded_by-suc : (nfa : Nfa) (kind : MatchKind) (s : ℕ) (text : Text) (k : ℕ)
-    → recorded_by nfa kind s text (suc k)
-    ≡ without (is_capture nfa) (listing nfa (length text.bytes) (known nfa (slice_get text.bytes k))
-    (flat_map (byte_edges nfa text k) (part_read kind (is_match nfa) (redone_by nfa kind s text k))))
-recorded_by-suc nfa kind s text k = grind arith
 
 -- the closure under a set that has, of the assertions of the NFA, those that are known
 recorded_entered : (nfa : Nfa) (accepted : IsAccepted nfa) (m : ℕ) (b : Option ℕ) (w h : Bool) (have : ℕ)
@@ -140,12 +126,12 @@ module _ (nfa : Nfa) (kind : MatchKind) (s : ℕ) (text : Text) where
         (value_at k) (roots_at k) (entered_at k l))
 
     pub states_at_is : (k : ℕ) → k ≤ length text.bytes → (value_at k).states ≡ recorded_by nfa kind s text k
-    states_at_is zero l = (entered_at 0 l).states ∙ sym (recorded_by-zero nfa kind s text)
+    states_at_is zero l = (entered_at 0 l).states
     states_at_is (suc k) l =
         let e = working_at k (omega arith) (states_at_is k (omega arith)) in
         let same = targets-without nfa kind (slice_get text.bytes k) in
         let read = rw e at (same (working_list nfa (value_at k) (after_at text k))) in
-        rw ((entered_at (suc k) l).states, recorded_by-suc nfa kind s text k, ← read, same)
+        rw ((entered_at (suc k) l).states, ← read, same)
 
     -- the patterns of a value are those of what was reached at the position before its unit
     pub patterns_at_is : (k : ℕ) → k ≤ length text.bytes

@@ -85,6 +85,7 @@ pub fn walk<N: Allocator, A: Allocator + Copy>(
 /// no match.
 ///
 /// The states and all scratch memory are allocated from `alloc`.
+#[tactic(auto, using(crate::proofs::walk::ReturnedWalk::walking))]
 pub fn walk_between<N: Allocator, A: Allocator + Copy>(
     alloc: A,
     nfa: &NFA<N>,
@@ -119,6 +120,7 @@ pub fn walk_between<N: Allocator, A: Allocator + Copy>(
 ///
 /// The start state, which lists no pattern, is skipped. The offset is the number of bytes before
 /// the end of the match. Under `MatchKind::LeftmostFirst` this is the most preferred match.
+#[tactic(auto, using(crate::proofs::walk::LastMatches::last_values))]
 pub fn last_match<A: Allocator>(states: &[State<A>]) -> Option<HalfMatch>
     ensures { result ≡ matches.last_match states.now }
 {
