@@ -6,12 +6,12 @@ use Rattle.determinize_core.proofs.Common.{[], accepted_sound, All-from_member, 
 use Rattle.determinize_core.proofs.Common.{arith, Assertion, Bool, by_test, edges, Fail, false, fold}
 use Rattle.determinize_core.proofs.Common.{get_or_from_slice_get, has_id, if◌then◌else◌, IsSound, length, List, member}
 use Rattle.determinize_core.proofs.Common.{Members, nat_eq, nat_tests, Nfa, Node, not, reach_past, refl, same_decides}
-use Rattle.determinize_core.proofs.Common.{state_at, suc, sym, tries_left, ℕ, ◌++◌, ◌+◌, ◌<◌, ◌∙◌, ◌∷◌, ◌≡◌, ◌≤◌}
+use Rattle.determinize_core.proofs.Common.{slice_get, Some, state_at, suc, sym, tries_left, ℕ, ◌++◌, ◌+◌, ◌<◌, ◌∙◌, ◌∷◌}
+use Rattle.determinize_core.proofs.Common.{◌≡◌, ◌≤◌}
 use Rattle.std.proofs.Common.{All, IsTrue}
 use Rattle.std.proofs.lemmas.List.{append_cancel_left, reverse-append, reverse-reverse}
 use Rattle.std.proofs.lemmas.List.Elements.{All-append}
 use Rattle.std.proofs.lemmas.List.Sums.{fold-append}
-use Rattle.determinize_below.specs.Semantics.{edges_of}
 use Rattle.determinize_below.specs.Node.{is_epsilon}
 use Rattle.ordered_reach.proofs.graph.StackSearch.{closure-held, closure-new, tries-held, tries-new}
 use Rattle.determinize_below.proofs.nfas.SoundNfa.{edges_enough}
@@ -114,25 +114,23 @@ module _ {W : Type 0} {nfa : Nfa} {look : Assertion → Bool} {with_one : W → 
           part = (next.more, rw from next.met_is, (_, sym next.whole));
         }
 
--- a state that is no epsilon state has no edges
-edges_of-leaf : (look : Assertion → Bool) (s : Node) → is_epsilon s ≡ false → edges_of look s ≡ []
-edges_of-leaf look s e = grind arith
+-- the kind of a state that was read
+pub leaf_at : (nfa : Nfa) (s : ℕ) (node : Node) → slice_get nfa.states s ≡ Some node
+    → is_epsilon (state_at nfa s) ≡ is_epsilon node
+leaf_at nfa s node h = rw (get_or_from_slice_get nfa.states s node Fail h) refl
 
--- what the search from such a state adds
+-- what the search from a state that is no epsilon state adds
 pub leaf_set : (nfa : Nfa) → IsSound nfa → (look : Assertion → Bool) (held : List ℕ) (root : ℕ) (new : Bool)
     → is_epsilon (state_at nfa root) ≡ false → new ≡ not (has_id held root)
     → (if new then held ++ root ∷ [] else held) ≡ held ++ reach_past nfa look held (root ∷ [])
-unfolding reach_past
 leaf_set nfa sound look held root new leaf h =
-    let same = same-turn nfa sound look held root {rest = []} refl refl refl in by_test (has_id held root)
-    (λ e. rw (h, ← same, e) (sym (append-nil held)))
-    (λ e. rw (h, ← same, e, edges_of-leaf look (state_at nfa root) leaf) refl)
+    grind (arith, same-turn nfa sound look held root {rest = []} refl refl refl, reach_past-none, append-nil)
 
 -- for `record_and_follow`
 pub ruleset following = (get_or_from_slice_get, reverse-append)
 
 -- for `epsilon_closure`
-pub ruleset leaf_search = (get_or_from_slice_get, leaf_set, accepted_sound)
+pub ruleset leaf_search = (leaf_at, leaf_set, accepted_sound)
 
 -- for `explore`
 pub ruleset exploring = (

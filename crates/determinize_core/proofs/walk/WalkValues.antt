@@ -2,20 +2,19 @@
 -- Main statements: value_at, recorded_by, redone_by, states_at_is, patterns_at_is, chain_is.
 -- Used by: WalkOfRuns.
 -- Idea: induction over the positions, with WorkingLists for one step.
-use Rattle.determinize_core.proofs.Common.{[], add-one, after_at, All, ap, arith, before_at, begun, Bool, byte_edges}
-use Rattle.determinize_core.proofs.Common.{chain, flat_map, future, get_or, get_or_from_slice_get, is_capture, is_match}
-use Rattle.determinize_core.proofs.Common.{is_nonempty, IsAccepted, IsTested, known_edges, LeftmostFirst, length, List}
-use Rattle.determinize_core.proofs.Common.{map, MatchKind, member, nat_eq, nat_tests, Nfa, None, not, Option, part_read}
-use Rattle.determinize_core.proofs.Common.{patterns_of, patterns_read, range_with_len, recorded, refl, same_decides}
-use Rattle.determinize_core.proofs.Common.{slice_get, slice_get-get_or, slice_get_past, slice_get_within, Some}
-use Rattle.determinize_core.proofs.Common.{start_value, step, suc, sym, tables_of, target, Text, true, true_edges}
-use Rattle.determinize_core.proofs.Common.{truth, Value, without, working_list, zero, ℕ, ◌+◌, ◌<◌, ◌∙◌, ◌∷◌, ◌≡◌, ◌≤◌}
+use Rattle.determinize_core.proofs.Common.{[], add-one, after_at, ap, arith, before_at, begun, Bool, byte_edges, chain}
+use Rattle.determinize_core.proofs.Common.{flat_map, future, get_or, get_or_from_slice_get, is_capture, is_match}
+use Rattle.determinize_core.proofs.Common.{is_nonempty, IsAccepted, IsTested, known_edges, length, List, map, MatchKind}
+use Rattle.determinize_core.proofs.Common.{member, nat_eq, nat_tests, Nfa, None, not, Option, part_read, patterns_of}
+use Rattle.determinize_core.proofs.Common.{patterns_read, range_with_len, recorded, refl, same_decides, slice_get}
+use Rattle.determinize_core.proofs.Common.{slice_get-get_or, slice_get_past, slice_get_within, Some, start_value, step}
+use Rattle.determinize_core.proofs.Common.{suc, sym, tables_of, target, Text, true, true_edges, truth, Value, without}
+use Rattle.determinize_core.proofs.Common.{working_list, zero, ℕ, ◌+◌, ◌<◌, ◌∙◌, ◌∷◌, ◌≡◌, ◌≤◌}
 use Rattle.determinize_below.proofs.nfas.SoundNfa.{accepted_sound}
 use Rattle.determinize_below.proofs.nfas.Edges.{edges-same, match-capture, patterns-without, target-capture, target-end}
 use Rattle.determinize_below.proofs.looks.LookSets.{has-empty}
 use Rattle.ordered_reach.proofs.lists.NewNodes.{member-filter}
 use Rattle.ordered_reach.proofs.lists.Pieces.{before-without, flat_map-without, flat_map_none}
-use Rattle.ordered_reach.specs.Runs.{before}
 use Rattle.determinize_below.specs.Edges.{reach}
 use Rattle.determinize_below.specs.Look.{has}
 use Rattle.determinize_below.specs.Reached.{known}
@@ -35,9 +34,8 @@ nonempty_member xs s m = grind arith
 targets-without : (nfa : Nfa) (kind : MatchKind) (u : Option ℕ) (xs : List ℕ)
     → flat_map (target nfa u) (part_read kind (is_match nfa) (without (is_capture nfa) xs))
     ≡ flat_map (target nfa u) (part_read kind (is_match nfa) xs)
-targets-without nfa All u xs = flat_map-without (target nfa u) (is_capture nfa) xs (target-capture nfa u)
-targets-without nfa LeftmostFirst u xs = rw (before-without (is_match nfa) (is_capture nfa) xs (match-capture nfa))
-    (flat_map-without (target nfa u) (is_capture nfa) (before (is_match nfa) xs) (target-capture nfa u))
+targets-without nfa kind u xs =
+    grind (arith, before-without, flat_map-without, target-capture nfa u, match-capture nfa)
 
 -- what the walk over positions records
 abbrev pub recorded_by : Nfa → MatchKind → ℕ → Text → ℕ → List ℕ
@@ -93,11 +91,13 @@ module _ (nfa : Nfa) (kind : MatchKind) (s : ℕ) (text : Text) where
   -- an item of a chain is the value of its place
   pub chain_item : (j : ℕ) (v : Value) → slice_get (chain nfa kind s text) j ≡ Some v
       → (j < length text.bytes + 2) × (value_at j ≡ v)
-  chain_item j v h =
-      let l : j < length text.bytes + 2 = rw length-chain at (slice_get_within _ j v h) in
-      let e = rw chain_is at (get_or_from_slice_get _ j v v h) in
-      let at = get_or-map-range_with_len value_at 0 (suc (suc (length text.bytes))) j j v (omega arith) (omega arith) in
-      (l, sym at ∙ e)
+  chain_item j v h = grind (
+    arith,
+    slice_get_within _ j v h,
+    length-chain,
+    rw chain_is at (get_or_from_slice_get _ j v v h),
+    get_or-map-range_with_len value_at 0 (suc (suc (length text.bytes))) j j v,
+  )
 
   -- no state is recorded after EOI
   pub states_last : text.ahead ≡ None → (value_at (suc (length text.bytes))).states ≡ []
