@@ -37,7 +37,7 @@ module _ (nfa : Nfa) (sound : IsSound nfa) (look : Assertion → Bool) (met : Li
       (edges nfa look) (length nfa.states + 1) (edges_enough nfa sound look) met id rest h)))))
 
   pub tries-turn : tries_left nfa look met pending ≡ suc (tries_left nfa look after next)
-  unfolding tries_left
+  unfolding reach_past
   tries-turn = rw (top, ids, left, holds-member met id) (by_test (member nat_eq met id)
       (λ h. rw (h, append-nil) (tries-held same_decides (edges nfa look) _ (edges_enough nfa sound look) met id rest h))
       (λ h. rw h (tries-new same_decides (edges nfa look) _ (edges_enough nfa sound look) met id rest h)))
@@ -65,29 +65,12 @@ pub reach_past-none : (nfa : Nfa) (look : Assertion → Bool) (met pending : Lis
 unfolding reach_past
 reach_past-none nfa look met pending none = rw none
 
-pub tries_left-none : (nfa : Nfa) (look : Assertion → Bool) (met pending : List ℕ) → pending ≡ []
-    → tries_left nfa look met pending ≡ 0
-unfolding tries_left
-tries_left-none nfa look met pending none = rw none
-
--- each pending state is one try
-pub tries_left-least : (nfa : Nfa) (look : Assertion → Bool) (met pending : List ℕ)
-    → length pending ≤ tries_left nfa look met pending
-unfolding tries_left
-tries_left-least nfa look met pending = omega arith
-
 module _ {W : Type 0} {nfa : Nfa} {look : Assertion → Bool} {with_one : W → ℕ → W} {counts : Bool}
     {held roots : List ℕ} {before : W} {start : ℕ} where
   pub so_far-start : {pending : List ℕ} → pending ≡ roots → All (λ s. s < length nfa.states) roots
       → IsSoFar nfa look with_one counts held roots before start held pending before start
-  so_far-start e h = record {
-    more = [];
-    met_is = sym (append-nil held);
-    now_is = refl;
-    whole = rw e refl;
-    below = rw e h;
-    counted = λ k. rw e refl;
-  }
+  so_far-start e h = rw e
+      record { more = []; met_is = sym (append-nil held); now_is = refl; whole = refl; below = h; counted = λ k. refl }
 
   module _ {met pending : List ℕ} {now : W} {total : ℕ}
       (so_far : IsSoFar nfa look with_one counts held roots before start met pending now total) where
@@ -133,14 +116,5 @@ pub ruleset following = (get_or_from_slice_get, reverse-append)
 pub ruleset leaf_search = (leaf_at, leaf_set, accepted_sound)
 
 -- for `explore`
-pub ruleset exploring = (
-  so_far-start,
-  so_far-turn,
-  tries-turn,
-  accepted_sound,
-  reverse-reverse,
-  reach_past-none,
-  tries_left-none,
-  tries_left-least,
-  append-nil,
-)
+pub ruleset exploring =
+    (so_far-start, so_far-turn, tries-turn, accepted_sound, reverse-reverse, reach_past-none, append-nil)

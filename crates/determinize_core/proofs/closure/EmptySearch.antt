@@ -19,7 +19,7 @@ reach_past-empty nfa holds roots = refl
 
 pub tries_left-empty : (nfa : Nfa) (holds : Assertion → Bool) (roots : List ℕ)
     → tries_left nfa holds [] roots ≡ tries_of nfa holds roots
-unfolding reach tries_left
+unfolding reach reach_past
 tries_left-empty nfa holds roots = refl
 
 pub ruleset starting = (reach_past-empty, or_zero_l)

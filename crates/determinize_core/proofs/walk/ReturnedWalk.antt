@@ -15,18 +15,11 @@ use Rattle.determinize_core.proofs.walk.WalkOfRuns.{chain-first, chain_leftmost,
 use Rattle.determinize_core.proofs.walk.WalkValues.{length-chain}
 
 -- the states of the values of a walk are states of the NFA
-module _ (nfa : Nfa) (accepted : IsAccepted nfa) (kind : MatchKind) where
-  abbrev Resolves : Value → Type 0
-  Resolves v = AllResolve nfa v.states
-
-  future_resolves : (v : Value) (us : List (Option ℕ)) → Resolves v → Each Resolves (future nfa kind v us)
-  future_resolves v [] h = All-cons Resolves v [] h (All-nil Resolves)
-  future_resolves v (u ∷ us) h = All-cons Resolves v (future nfa kind (step nfa kind v u) us) h
-      (future_resolves (step nfa kind v u) us (step_resolves nfa accepted kind v u))
-
-  chain_resolves : (start : ℕ) (text : Text) → start < length nfa.states → Each Resolves (chain nfa kind start text)
-  unfolding chain
-  chain_resolves start text l = future_resolves _ (units text) (start_resolves nfa accepted start text.behind l)
+future_resolves : (nfa : Nfa) → IsAccepted nfa → (kind : MatchKind) (v : Value) (us : List (Option ℕ))
+    → AllResolve nfa v.states → Each (λ (w : Value). AllResolve nfa w.states) (future nfa kind v us)
+future_resolves nfa accepted kind v [] h = All-cons (λ w. AllResolve nfa w.states) v [] h (All-nil _)
+future_resolves nfa accepted kind v (u ∷ us) h = All-cons (λ w. AllResolve nfa w.states) v _ h
+    (future_resolves nfa accepted kind (step nfa kind v u) us (step_resolves nfa accepted kind v u))
 
 pub is_walk : (nfa : Nfa) (kind : MatchKind) (start : ℕ) (text : Text) (states : List Value) → IsAccepted nfa
     → start < length nfa.states → states ≡ chain nfa kind start text → IsWalk nfa kind start text states
@@ -38,7 +31,8 @@ is_walk nfa kind start text states accepted resolves is = rw is (record {
   leftmost_first = λ k. rw k (chain_leftmost nfa accepted start text);
   records = each_chain_reaches nfa accepted kind start text;
   follows = each_future_follows nfa kind start text;
-  resolve = chain_resolves nfa accepted kind start text resolves;
+  resolve = rw (chain_is_future nfa kind start text.behind text.ahead text.bytes)
+      (future_resolves nfa accepted kind _ _ (start_resolves nfa accepted start text.behind resolves));
 })
 
 -- for `walk_between`

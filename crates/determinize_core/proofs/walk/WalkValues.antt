@@ -8,8 +8,8 @@ use Rattle.determinize_core.proofs.Common.{is_nonempty, IsAccepted, IsTested, kn
 use Rattle.determinize_core.proofs.Common.{member, nat_eq, nat_tests, Nfa, None, not, Option, part_read, patterns_of}
 use Rattle.determinize_core.proofs.Common.{patterns_read, range_with_len, recorded, refl, same_decides, slice_get}
 use Rattle.determinize_core.proofs.Common.{slice_get-get_or, slice_get_past, slice_get_within, Some, start_value, step}
-use Rattle.determinize_core.proofs.Common.{suc, sym, tables_of, target, Text, true, true_edges, truth, Value, without}
-use Rattle.determinize_core.proofs.Common.{working_list, zero, ℕ, ◌+◌, ◌<◌, ◌∙◌, ◌∷◌, ◌≡◌, ◌≤◌}
+use Rattle.determinize_core.proofs.Common.{suc, tables_of, target, Text, true, true_edges, truth, Value, without}
+use Rattle.determinize_core.proofs.Common.{working_list, zero, ℕ, ◌+◌, ◌<◌, ◌∷◌, ◌≡◌, ◌≤◌}
 use Rattle.determinize_below.proofs.nfas.SoundNfa.{accepted_sound}
 use Rattle.determinize_below.proofs.nfas.Edges.{edges-same, match-capture, patterns-without, target-capture, target-end}
 use Rattle.determinize_below.proofs.looks.LookSets.{has-empty}
@@ -137,7 +137,4 @@ module _ (nfa : Nfa) (kind : MatchKind) (s : ℕ) (text : Text) where
     pub patterns_at_is : (k : ℕ) → k ≤ length text.bytes
         → (value_at (suc k)).patterns ≡ patterns_read kind (patterns_of nfa (redone_by nfa kind s text k))
     unfolding step
-    patterns_at_is k l =
-        let e = working_at k l (states_at_is k l) in
-        ap (λ ps. patterns_read kind ps) (sym (patterns-without nfa _) ∙ ap (λ xs. patterns_of nfa xs) e
-        ∙ patterns-without nfa _)
+    patterns_at_is k l = grind (arith, patterns-without nfa, working_at k l (states_at_is k l))
