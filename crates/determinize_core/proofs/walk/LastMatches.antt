@@ -28,13 +28,10 @@ last_ended_more vs i d l = rw (drop_more vs i d l, add-one)
 -- for the loop of `last_match`
 pub ruleset last_values = (last_ended_more, option_or-assoc, option_or-None)
 
--- a match, one position later
-ended_at-later : (n : ℕ) (ps : List ℕ) → ended_at (suc n) ps ≡ option_map one_later (ended_at n ps)
-ended_at-later n ps = grind arith
-
+-- the last match, one position later
 last_ended-later : (n : ℕ) (vs : List Value) → last_ended (suc n) vs ≡ option_map one_later (last_ended n vs)
 last_ended-later n [] = refl
-last_ended-later n (v ∷ vs) = rw (last_ended-later (suc n) vs, ended_at-later n v.patterns) (sym (map-option_or _ _ _))
+last_ended-later n (v ∷ vs) = grind (arith, last_ended-later (suc n) vs)
 
 module _ (nfa : Nfa) (kind : MatchKind) where
   -- the values that follow, without the first
@@ -54,10 +51,8 @@ module _ (nfa : Nfa) (kind : MatchKind) where
       → last_match (future nfa kind v (us ++ u ∷ []))
       ≡ option_or (ended_at (length us) (value_after nfa kind v (us ++ u ∷ [])).patterns)
       (last_match (future nfa kind v us))
-  last_match-push v us u =
-      let n : 0 + length (tail v us) ≡ length us = let k = length-tail v us in omega arith in
-      rw (future-push nfa kind v us u, value_after-push nfa kind v us u, future_is v us)
-      (rw n at (last_ended-push 0 (tail v us) (step nfa kind (value_after nfa kind v us) u)))
+  last_match-push v us u = rw (future-push nfa kind v us u, value_after-push nfa kind v us u, future_is v us)
+      (grind (arith, length-tail v us, last_ended-push 0 (tail v us)))
 
 pub each_first_unit_unrolls : EachFirstUnitUnrolls
 each_first_unit_unrolls nfa kind v u us =

@@ -118,6 +118,12 @@ module _ (nfa : Nfa) (accepted : IsAccepted nfa) (start : ℕ) (text : Text) whe
         first_accepted i x (rw (← r.1, p) at c);
   }
 
+  pub chain_of_all : IsWalkOfAll nfa start text (lists_of (chain nfa All start text))
+  chain_of_all = all_listed nfa start text _ walk_of_all
+
+  pub chain_leftmost : IsLeftmostWalk nfa start text (lists_of (chain nfa LeftmostFirst start text))
+  chain_leftmost = leftmost_listed nfa start text _ leftmost_walk
+
   -- what is recorded at a position is the list that runs reach there, or a prefix of it
   part_kept : (kind : MatchKind) (i : ℕ) → IsPartKept kind (recorded_by nfa kind start text i)
       (recorded_by nfa All start text i)
@@ -134,14 +140,6 @@ each_chain_reaches nfa accepted kind start text = record {
   last = λ e v h. rw (← (chain_item nfa kind start text (suc (length text.bytes)) v h).1)
       (states_last nfa kind start text e);
 }
-
-pub chain_of_all : (nfa : Nfa) → IsAccepted nfa → (start : ℕ) (text : Text)
-    → IsWalkOfAll nfa start text (lists_of (chain nfa All start text))
-chain_of_all nfa accepted start text = all_listed nfa start text _ (walk_of_all nfa accepted start text)
-
-pub chain_leftmost : (nfa : Nfa) → IsAccepted nfa → (start : ℕ) (text : Text)
-    → IsLeftmostWalk nfa start text (lists_of (chain nfa LeftmostFirst start text))
-chain_leftmost nfa accepted start text = leftmost_listed nfa start text _ (leftmost_walk nfa accepted start text)
 
 pub chain-first : (nfa : Nfa) (kind : MatchKind) (start : ℕ) (text : Text)
     → slice_get (lists_of (chain nfa kind start text)) 0 ≡ Some []

@@ -130,8 +130,7 @@ module _ (nfa : Nfa) (kind : MatchKind) (s : ℕ) (text : Text) where
     states_at_is (suc k) l =
         let e = working_at k (omega arith) (states_at_is k (omega arith)) in
         let same = targets-without nfa kind (slice_get text.bytes k) in
-        let read = rw e at (same (working_list nfa (value_at k) (after_at text k))) in
-        rw ((entered_at (suc k) l).states, ← read, same)
+        rw ((entered_at (suc k) l).states, ← same, e, same)
 
     -- the patterns of a value are those of what was reached at the position before its unit
     pub patterns_at_is : (k : ℕ) → k ≤ length text.bytes
