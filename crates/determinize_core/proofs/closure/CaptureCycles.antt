@@ -5,7 +5,7 @@
 use Rattle.determinize_core.proofs.Common.{arith, capture_next, followed, is_capture, Nfa, refl, state_at, suc, true}
 use Rattle.determinize_core.proofs.Common.{zero, ℕ, ◌<◌, ◌≡◌, ◌≤◌}
 use Rattle.determinize_core.specs.Laws.{AscendingCapturesHaveNoCycle, CapturesAscend}
-use Rattle.determinize_core.specs.WorkedRows.{AreCaptureRows, n14, n8}
+use Rattle.determinize_core.specs.WorkedRows.{AreCaptureRows, n14}
 
 -- the next state of a capture is above it
 next_above : (nfa : Nfa) → CapturesAscend nfa → (s : ℕ) → is_capture nfa s ≡ true → s < capture_next (state_at nfa s)
@@ -24,15 +24,9 @@ followed_above nfa ascend s (suc k) f = omega (
 pub ascending_captures_have_no_cycle : AscendingCapturesHaveNoCycle
 ascending_captures_have_no_cycle nfa ascend s k f back = omega (arith, followed_above nfa ascend s k f, back)
 
-n14_ascends : CapturesAscend n14
-n14_ascends s next e = grind arith
-
 -- state 1 of n8 is a capture, and its own next state
-n8_loops : (j : ℕ) → j ≤ 0 → is_capture n8 (followed n8 j 1) ≡ true
-n8_loops j l = grind arith
-
 pub capture_rows : AreCaptureRows
 capture_rows = record {
-  n8_cycle = λ none. none 1 0 n8_loops refl;
-  n14_none = ascending_captures_have_no_cycle n14 n14_ascends;
+  n8_cycle = λ none. none 1 0 (λ j l. grind arith) refl;
+  n14_none = ascending_captures_have_no_cycle n14 (λ s next e. grind arith);
 }

@@ -6,8 +6,8 @@
 use Rattle.determinize_core.proofs.Common.{[], ap, arith, Before, Bool, by_option, choices, Contains, is_capture}
 use Rattle.determinize_core.proofs.Common.{is_match, IsBestRun, IsLeastRun, IsPreferredRun, IsReached, List}
 use Rattle.determinize_core.proofs.Common.{ListsAccepted, Match, Nfa, option_to_list, pattern_in, pattern_of}
-use Rattle.determinize_core.proofs.Common.{patterns_of, same_decides, slice_get, Some, some_injective, state_at, sym}
-use Rattle.determinize_core.proofs.Common.{Text, true, ℕ, ◌<◌, ◌∙◌, ◌∷◌, ◌≡◌}
+use Rattle.determinize_core.proofs.Common.{patterns_of, refl, same_decides, Some, some_injective, state_at, sym, Text}
+use Rattle.determinize_core.proofs.Common.{true, ℕ, ◌∙◌, ◌∷◌, ◌≡◌}
 use Rattle.ordered_reach.proofs.lists.Elements.{Contains_In, In, In_append_right, In_cases, In_Contains, In_head}
 use Rattle.ordered_reach.proofs.lists.Elements.{In_none, In_tail, same_by_order}
 use Rattle.determinize_below.proofs.nfas.SoundNfa.{IsSound, match_in}
@@ -16,7 +16,6 @@ use Rattle.std.proofs.lemmas.Map.Made.{IsDistinct-from_AllPairs}
 use Rattle.ordered_reach.proofs.lists.Pairs.{pairs_at, pairs_from, Sorted, Sorted-at, Sorted-from}
 use Rattle.std.specs.List.{AllPairs}
 use Rattle.std.specs.Prelude.{◌↔◌}
-use Rattle.determinize_below.specs.Edges.{is_match_node}
 use Rattle.determinize_below.specs.Reached.{known_choices}
 use Rattle.ordered_reach.specs.Runs.{ListsReached}
 use Rattle.ordered_reach.proofs.lists.Lexicographic.{Before-asym, same_least}
@@ -30,11 +29,6 @@ AreOrdered IsRunOf x y = (cs : List ℕ) × (ds : List ℕ) × IsRunOf cs x × I
 -- and they are distinct
 abbrev AreApart : (List ℕ → ℕ → Type 0) → ℕ → ℕ → Type 0
 AreApart IsRunOf x y = (x ≡ y → ⊥) × AreOrdered IsRunOf x y
-
--- the elements of a list are in the order of their runs
-abbrev IsOrdered : (List ℕ → ℕ → Type 0) → List ℕ → Type 0
-IsOrdered IsRunOf xs =
-    (j k x y : ℕ) → j < k → slice_get xs j ≡ Some x → slice_get xs k ≡ Some y → AreOrdered IsRunOf x y
 
 module _ (nfa : Nfa) where
   patterns_In : {P : Type 0} (xs : List ℕ) (x : ℕ) → In x (patterns_of nfa xs)
@@ -62,7 +56,7 @@ module _ (nfa : Nfa) where
       (λ x e. rw e ((λ y i. patterns_In xs y i (λ t j. f z t x y (h.0 t j) e)), Sorted-patterns R S f xs h.1))
 
   pub matches_at : (s x : ℕ) → state_at nfa s ≡ Match x → is_match nfa s ≡ true
-  matches_at s x e = ap is_match_node e
+  matches_at s x e = rw e refl
 
   module _ (sound : IsSound nfa) (text : Text) (start : ℕ) where
     -- the patterns of what is reached are those that runs accept, best run first
@@ -104,18 +98,20 @@ module _ (nfa : Nfa) where
 -- where each number has one run, two ordered lists of the same numbers are equal
 one_list : (IsRunOf : List ℕ → ℕ → Type 0) (IsListed : ℕ → Type 0) (xs ys : List ℕ)
     → ((x : ℕ) (cs ds : List ℕ) → IsRunOf cs x → IsRunOf ds x → cs ≡ ds) → ((x : ℕ) → (Contains xs x) ↔ IsListed x)
-    → ((x : ℕ) → (Contains ys x) ↔ IsListed x) → IsOrdered IsRunOf xs → IsOrdered IsRunOf ys → xs ≡ ys
+    → ((x : ℕ) → (Contains ys x) ↔ IsListed x) → AllPairs (AreOrdered IsRunOf) xs
+    → AllPairs (AreOrdered IsRunOf) ys → xs ≡ ys
 one_list IsRunOf IsListed xs ys one f g a b = same_by_order (AreOrdered IsRunOf)
     (λ x y p q. Before-asym q.1 q.0 (rw (one x p.0 q.1 p.2 q.3, one y p.1 q.0 p.3 q.2) at p.4) q.4) xs ys
     (λ x h. Contains_In same_decides ys x ((g x).1 ((f x).0 (In_Contains same_decides xs x h))))
-    (λ x h. Contains_In same_decides xs x ((f x).1 ((g x).0 (In_Contains same_decides ys x h)))) a b
+    (λ x h. Contains_In same_decides xs x ((f x).1 ((g x).0 (In_Contains same_decides ys x h))))
+    (pairs_at _ xs a) (pairs_at _ ys b)
 
 module _ (nfa : Nfa) (text : Text) (start : ℕ) where
   one_listing : (i : ℕ) (ps qs : List ℕ) → ListsAccepted nfa text start i ps → ListsAccepted nfa text start i qs
       → ps ≡ qs
   one_listing i ps qs a b = one_list (λ cs x. IsBestRun nfa text start cs i x) _ ps qs
       (λ x cs ds p q. same_least cs ds (p.best ds q.accepts) (q.best cs p.accepts))
-      a.accepted b.accepted (pairs_at _ ps a.best_first) (pairs_at _ qs b.best_first)
+      a.accepted b.accepted a.best_first b.best_first
 
   one_preferred : (i j x y : ℕ) (cs ds : List ℕ) → IsPreferredRun nfa text start cs i x
       → IsPreferredRun nfa text start ds j y → (i ≡ j) × (x ≡ y)
@@ -132,7 +128,8 @@ module _ (nfa : Nfa) (text : Text) (start : ℕ) where
 one_reached : (edges : ℕ × ℕ → List (ℕ × ℕ)) (cap : ℕ → Bool) (start i : ℕ) (xs ys : List ℕ)
     → ListsReached edges cap start i xs → ListsReached edges cap start i ys → xs ≡ ys
 one_reached edges cap start i xs ys a b = one_list (λ cs s. IsLeastRun edges (0, start) cs (i, s)) _ xs ys
-    (λ s cs ds p q. same_least cs ds (p.least ds q.run) (q.least cs p.run)) a.reached b.reached a.by_least b.by_least
+    (λ s cs ds p q. same_least cs ds (p.least ds q.run) (q.least cs p.run)) a.reached b.reached
+    (pairs_from _ xs a.by_least) (pairs_from _ ys b.by_least)
 
 pub each_answer_is_one : EachAnswerIsOne
 each_answer_is_one nfa text start = (

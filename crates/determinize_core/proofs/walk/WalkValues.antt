@@ -54,14 +54,12 @@ recorded_entered : (nfa : Nfa) (accepted : IsAccepted nfa) (m : ℕ) (b : Option
     → ((s : ℕ) → member nat_eq (reach nfa (has have) roots) s ≡ true
     → (w ≡ from_word_after (tables_of nfa) b) × (h ≡ half_crlf_after (tables_of nfa) b))
     → IsEntered nfa m b (recorded nfa (begun w h have ps) (reach nfa (has have) roots)) roots
-recorded_entered nfa accepted m b w h have ps roots k f =
-    let entered : List ℕ = reach nfa (has have) roots in
-    record {
-      states = rw (reach_is nfa (accepted_sound nfa accepted) m, edges-same nfa (has have) (known nfa b) k);
-      need = refl;
-      have = λ a n l q. grind (arith, nat_tests, has-empty a, k l q);
-      flags = λ s i. f s (member-filter same_decides (λ x. not (is_capture nfa x)) entered s i);
-    }
+recorded_entered nfa accepted m b w h have ps roots k f = record {
+  states = rw (reach_is nfa (accepted_sound nfa accepted) m, edges-same nfa (has have) (known nfa b) k);
+  need = refl;
+  have = λ a n l q. grind (arith, nat_tests, has-empty a, k l q);
+  flags = λ s i. f s (member-filter same_decides (λ x. not (is_capture nfa x)) (reach nfa (has have) roots) s i);
+}
 
 module _ (nfa : Nfa) (kind : MatchKind) (s : ℕ) (text : Text) where
   -- the value at each place
