@@ -5,7 +5,7 @@
 use Rattle.determinize_core.proofs.Common.{[], add-one, ap, arith, drop, ended_at, future, get_or, last_ended}
 use Rattle.determinize_core.proofs.Common.{last_match, length, List, MatchKind, Nfa, Option, option_or, refl, step, suc}
 use Rattle.determinize_core.proofs.Common.{Value, value_after, ℕ, ◌++◌, ◌+◌, ◌<◌, ◌∷◌, ◌≡◌}
-use Rattle.ordered_reach.proofs.lists.Pieces.{map-option_or, option_or-assoc, option_or-None}
+use Rattle.ordered_reach.proofs.lists.Pieces.{option_or-assoc, option_or-None}
 use Rattle.std.proofs.Math.Nat.{add-zero}
 use Rattle.std.specs.Prelude.{option_map}
 use Rattle.std.proofs.lemmas.List.{drop_more}

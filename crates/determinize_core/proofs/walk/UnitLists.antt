@@ -1,5 +1,5 @@
 -- The units of a text as a list, and one byte more.
--- Main statements: units_are, each_byte_ahead_is_next.
+-- Main statements: units_are, chain_is_future, each_byte_ahead_is_next.
 -- Used by: `units_law`, `ahead_law`, ReturnedWalk, and searches.
 -- Idea: the bytes of a text, and then what is ahead.
 use Rattle.determinize_core.proofs.Common.{[], after_at, ap, arith, between, chain, future, length, List, map}

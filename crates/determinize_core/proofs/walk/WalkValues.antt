@@ -100,9 +100,8 @@ module _ (nfa : Nfa) (kind : MatchKind) (s : ℕ) (text : Text) where
   -- no state is recorded after EOI
   pub states_last : text.ahead ≡ None → (value_at (suc (length text.bytes))).states ≡ []
   unfolding step reach
-  states_last e = rw (slice_get_past text.bytes (length text.bytes) (omega arith), e)
-      (ap (λ roots. without (is_capture nfa) (reach nfa (has (have_after (tables_of nfa) None)) roots))
-      (flat_map_none (target nfa None) _ (target-end nfa)))
+  states_last e =
+      grind (arith, e, slice_get_past text.bytes (length text.bytes), flat_map_none (target nfa None), target-end nfa)
 
   module _ (accepted : IsAccepted nfa) where
     entered_at : (k : ℕ) → k ≤ length text.bytes
