@@ -1,7 +1,6 @@
 pub mod AcceptedPatterns
 pub mod Farthest
 pub mod LastMatches
-pub mod OneAnswer
 pub mod ReturnedWalk
 pub mod UnitLists
 pub mod ValueWalks

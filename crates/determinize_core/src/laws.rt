@@ -22,6 +22,7 @@ use determinize_below::{Look, LookSet};
 /// accepting run, and if there is none, no run accepts. Except for captures, the values but the
 /// last record the NFA states that runs reach by what is known there, or a prefix of this list
 /// under `MatchKind::LeftmostFirst`.
+#[tactic(auto, using(crate::proofs::walk::WalkOfRuns::walk_laws))]
 pub fn walk_law()
     ensures runs { EachChainIsTrue }
     ensures lists { EachChainHasItsLists }
@@ -30,6 +31,7 @@ pub fn walk_law()
 
 /// The values over a text with a byte ahead are those over the text with this byte appended,
 /// without the last.
+#[tactic(auto, using(crate::proofs::walk::UnitLists::each_byte_ahead_is_next))]
 pub fn ahead_law()
     ensures { EachByteAheadIsNext }
 {}
@@ -43,6 +45,7 @@ pub fn answer_law()
 
 /// A search of an accepted NFA can be continued from one more root. A state has epsilon edges or
 /// transitions on bytes, not both, and never a transition on EOI.
+#[tactic(auto, using(crate::proofs::step::StepLaws::each_reach_goes_on, crate::proofs::step::StepLaws::each_state_has_one_kind))]
 pub fn search_law()
     ensures goes_on { EachReachGoesOn }
     ensures kinds { EachStateHasOneKind }
@@ -53,6 +56,7 @@ pub fn search_law()
 /// itself as the next one, and if no cycle of the NFA consists of captures, it is the only value
 /// after a transition without patterns and NFA states. A recorded value with empty look-need has
 /// empty look-have. Under `MatchKind::LeftmostFirst` a transition gives at most one pattern.
+#[tactic(auto, using(crate::proofs::step::StepLaws::each_future_follows, crate::proofs::step::StepLaws::no_need_no_have, crate::proofs::step::StepLaws::leftmost_gives_one))]
 pub fn step_law()
     ensures future { EachFutureFollows }
     ensures dead { DeadStays }
@@ -70,6 +74,7 @@ pub fn class_law()
 
 /// A transition from a value whose ids are states of the NFA tries to add a state to a set at most
 /// twice for each state and each epsilon edge of the NFA.
+#[tactic(auto, using(crate::proofs::step::StepBound::tries_are_few))]
 pub fn tries_law()
     ensures { TriesAreFew }
 {}
@@ -89,11 +94,13 @@ pub fn walk_rows_law()
 {}
 
 /// An example of a search into a set with a state: it takes no path through that state.
+#[tactic(auto, unfolding(determinize_below::specs::Look::has, determinize_below::specs::Look::insert, determinize_below::specs::Edges::reach_past))]
 pub fn search_row_law()
     ensures { rows.Row22 }
 {}
 
 /// If the closure is not computed again, the unit satisfies no further assertion of look-need.
+#[tactic(auto, using(crate::proofs::step::RedoTest::not_redone))]
 pub fn redo_law(
     reverse: bool,
     terminator: u8,
@@ -129,12 +136,14 @@ pub fn farthest_law()
 {}
 
 /// The units of a text are its bytes in order, and then the byte ahead of it or the end of input.
+#[tactic(auto, using(crate::proofs::walk::UnitLists::each_unit_is_a_byte))]
 pub fn units_law()
     ensures { EachUnitIsAByte }
 {}
 
 /// The last match of the values that follow a value over units, by one unit: by the first of them
 /// and the last match over the others, or by the last match over all but the last.
+#[tactic(auto, using(crate::proofs::walk::LastMatches::each_first_unit_unrolls, crate::proofs::walk::LastMatches::each_last_unit_unrolls))]
 pub fn last_match_law()
     ensures first { EachFirstUnitUnrolls }
     ensures last { EachLastUnitUnrolls }
@@ -143,6 +152,7 @@ pub fn last_match_law()
 /// An NFA in which the next state of each capture has a greater id than the capture has no cycle of
 /// captures only. The NFA of the rows `25` is one. That of row `12` has a capture whose next state
 /// is itself.
+#[tactic(auto, using(crate::proofs::closure::CaptureCycles::ascending_captures_have_no_cycle, crate::proofs::closure::CaptureCycles::capture_rows))]
 pub fn capture_law()
     ensures ascending { AscendingCapturesHaveNoCycle }
     ensures rows { rows.AreCaptureRows }

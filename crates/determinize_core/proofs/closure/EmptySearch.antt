@@ -2,8 +2,9 @@
 -- Main statements: reach-none, reach_past-empty, tries_left-empty.
 -- Used by: StepParts, RepeatedClosure.
 -- Idea: nothing is pending, so nothing is added.
-use Rattle.determinize_core.proofs.Common.{[], ap, Assertion, Bool, edge_count, edges, fun_ext, length, List, nat_eq}
-use Rattle.determinize_core.proofs.Common.{Nfa, ordered, reach, reach_past, refl, tries_left, tries_of, ℕ, ◌+◌, ◌≡◌}
+use Rattle.determinize_core.proofs.Common.{[], Assertion, Bool, List, Nfa, reach, reach_past, refl, tries_left}
+use Rattle.determinize_core.proofs.Common.{tries_of, ℕ, ◌≡◌}
+use Rattle.std.specs.Int.Bits.{or_zero_l}
 
 -- without roots nothing is reached
 pub reach-none : (nfa : Nfa) (holds : Assertion → Bool) → reach nfa holds [] ≡ []
@@ -14,12 +15,11 @@ reach-none nfa holds = refl
 pub reach_past-empty : (nfa : Nfa) (holds : Assertion → Bool) (roots : List ℕ)
     → reach_past nfa holds [] roots ≡ reach nfa holds roots
 unfolding reach reach_past
-reach_past-empty nfa holds roots =
-    ap (λ held. ordered nat_eq (edges nfa holds) (length nfa.states + 1) held roots) (fun_ext (λ x. refl))
+reach_past-empty nfa holds roots = refl
 
 pub tries_left-empty : (nfa : Nfa) (holds : Assertion → Bool) (roots : List ℕ)
     → tries_left nfa holds [] roots ≡ tries_of nfa holds roots
-unfolding reach tries_left
-tries_left-empty nfa holds roots = ap (λ held.
-    length roots + edge_count (edges nfa holds) (ordered nat_eq (edges nfa holds) (length nfa.states + 1) held roots))
-    (fun_ext (λ x. refl))
+unfolding reach reach_past
+tries_left-empty nfa holds roots = refl
+
+pub ruleset starting = (reach_past-empty, or_zero_l)

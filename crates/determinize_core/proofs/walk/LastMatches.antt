@@ -1,15 +1,14 @@
 -- The last match of the values of a walk, found one by one, and over one unit more.
--- Main statements: last_ended-more, last_match-push, each_last_unit_unrolls.
+-- Main statements: last_ended_more, last_match-push, each_last_unit_unrolls.
 -- Used by: `last_match`, and searches.
 -- Idea: one more value replaces the last match if it lists a pattern.
-use Rattle.determinize_core.proofs.Common.{[], ap, arith, cond, ended_at, future, get_or, is_nonempty, last_ended}
-use Rattle.determinize_core.proofs.Common.{last_match, length, List, MatchKind, Nfa, Option, option_or, refl, Some}
-use Rattle.determinize_core.proofs.Common.{step, suc, sym, take, take_more, true, Value, value_after, ℕ, ◌++◌, ◌+◌, ◌<◌}
-use Rattle.determinize_core.proofs.Common.{◌∷◌, ◌≡◌}
-use Rattle.ordered_reach.proofs.lists.Pieces.{map-option_or, option_or-assoc, option_or-None}
+use Rattle.determinize_core.proofs.Common.{[], add-one, ap, arith, drop, ended_at, future, get_or, last_ended}
+use Rattle.determinize_core.proofs.Common.{last_match, length, List, MatchKind, Nfa, Option, option_or, refl, step, suc}
+use Rattle.determinize_core.proofs.Common.{Value, value_after, ℕ, ◌++◌, ◌+◌, ◌<◌, ◌∷◌, ◌≡◌}
+use Rattle.ordered_reach.proofs.lists.Pieces.{option_or-assoc, option_or-None}
 use Rattle.std.proofs.Math.Nat.{add-zero}
-use Rattle.std.specs.Prelude.{option_map, slice_index}
-use Rattle.std.proofs.lemmas.List.{length-take-le}
+use Rattle.std.specs.Prelude.{option_map}
+use Rattle.std.proofs.lemmas.List.{drop_more}
 use Rattle.determinize_core.specs.Laws.{EachFirstUnitUnrolls, EachLastUnitUnrolls, one_later}
 use Rattle.determinize_core.proofs.walk.WalkLoops.{future-push, value_after-push}
 
@@ -21,29 +20,18 @@ last_ended-push n (w ∷ vs) v =
     let z : suc n + length vs ≡ n + suc (length vs) = omega arith in
     rw (last_ended-push (suc n) vs v, z, option_or-assoc)
 
--- one more value of a list is the last that lists a pattern, or changes nothing
-pub last_ended-more : (vs : List Value) (i : ℕ) (v : Value) → i < length vs → v ≡ get_or vs i v
-    → last_ended 0 (take (i + 1) vs) ≡ cond (is_nonempty v.patterns)
-    (Some record { pattern = slice_index v.patterns 0; offset = i }) (last_ended 0 (take i vs))
-last_ended-more vs i v l e =
-    let here : 0 + length (take i vs) ≡ i = let k = length-take-le i vs (omega arith) in omega arith in
-    rw (take_more vs i v l, ← e, last_ended-push 0 (take i vs) v, here) (first v.patterns)
-  where
-    first : (ps : List ℕ) → option_or (ended_at i ps) (last_ended 0 (take i vs))
-        ≡ cond (is_nonempty ps) (Some record { pattern = slice_index ps 0; offset = i }) (last_ended 0 (take i vs))
-    first ps = grind arith
+-- the last match of what is left of a list, from its first value on
+pub last_ended_more : (vs : List Value) (i : ℕ) (d : Value) → i < length vs
+    → last_ended i (drop i vs) ≡ option_or (last_ended (i + 1) (drop (i + 1) vs)) (ended_at i (get_or vs i d).patterns)
+last_ended_more vs i d l = rw (drop_more vs i d l, add-one)
 
--- a list that is not empty has a first item
-pub first_listed : (xs : List ℕ) → is_nonempty xs ≡ true → 0 < length xs
-first_listed xs e = grind arith
+-- for the loop of `last_match`
+pub ruleset last_values = (last_ended_more, option_or-assoc, option_or-None)
 
--- a match, one position later
-ended_at-later : (n : ℕ) (ps : List ℕ) → ended_at (suc n) ps ≡ option_map one_later (ended_at n ps)
-ended_at-later n ps = grind arith
-
+-- the last match, one position later
 last_ended-later : (n : ℕ) (vs : List Value) → last_ended (suc n) vs ≡ option_map one_later (last_ended n vs)
 last_ended-later n [] = refl
-last_ended-later n (v ∷ vs) = rw (last_ended-later (suc n) vs, ended_at-later n v.patterns) (sym (map-option_or _ _ _))
+last_ended-later n (v ∷ vs) = grind (arith, last_ended-later (suc n) vs)
 
 module _ (nfa : Nfa) (kind : MatchKind) where
   -- the values that follow, without the first
@@ -63,10 +51,8 @@ module _ (nfa : Nfa) (kind : MatchKind) where
       → last_match (future nfa kind v (us ++ u ∷ []))
       ≡ option_or (ended_at (length us) (value_after nfa kind v (us ++ u ∷ [])).patterns)
       (last_match (future nfa kind v us))
-  last_match-push v us u =
-      let n : 0 + length (tail v us) ≡ length us = let k = length-tail v us in omega arith in
-      rw (future-push nfa kind v us u, value_after-push nfa kind v us u, future_is v us)
-      (rw n at (last_ended-push 0 (tail v us) (step nfa kind (value_after nfa kind v us) u)))
+  last_match-push v us u = rw (future-push nfa kind v us u, value_after-push nfa kind v us u, future_is v us)
+      (grind (arith, length-tail v us, last_ended-push 0 (tail v us)))
 
 pub each_first_unit_unrolls : EachFirstUnitUnrolls
 each_first_unit_unrolls nfa kind v u us =

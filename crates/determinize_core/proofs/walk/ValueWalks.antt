@@ -2,10 +2,9 @@
 -- Main statements: ListsAll, FindsLeftmost, all_listed, leftmost_listed.
 -- Used by: WalkOfRuns, Farthest.
 -- Idea: the list at an index is that of the value at the index.
-use Rattle.determinize_core.proofs.Common.{[], Accepts, arith, Contains, IsLeftmostWalk, IsPreferredMatch, IsWalkOfAll}
-use Rattle.determinize_core.proofs.Common.{last_match, length, List, lists_of, ListsAccepted, Nfa, None, refl}
-use Rattle.determinize_core.proofs.Common.{slice_get, slice_get-map, Some, some_injective, suc, Text, Value, zero, ℕ}
-use Rattle.determinize_core.proofs.Common.{◌+◌, ◌∙◌, ◌∷◌, ◌≡◌}
+use Rattle.determinize_core.proofs.Common.{Accepts, arith, by_option, Contains, IsLeftmostWalk, IsPreferredMatch}
+use Rattle.determinize_core.proofs.Common.{IsWalkOfAll, last_match, length, List, lists_of, ListsAccepted, Nfa}
+use Rattle.determinize_core.proofs.Common.{slice_get, slice_get-map, Some, suc, Text, Value, ℕ, ◌+◌, ◌∙◌, ◌≡◌}
 use Rattle.std.specs.Prelude.{drop}
 use Rattle.determinize_core.specs.Walk.{last_listed}
 
@@ -23,9 +22,9 @@ pub record FindsLeftmost (nfa : Nfa) (start : ℕ) (text : Text) (values : List 
 -- the value whose list is at an index
 value_of : (values : List Value) (i : ℕ) (ps : List ℕ) → slice_get (lists_of values) i ≡ Some ps
     → (v : Value) × (slice_get values i ≡ Some v) × (v.patterns ≡ ps)
-value_of [] i ps e = absurd (let z : None ≡ Some ps = e in cc)
-value_of (v ∷ vs) zero ps e = (v, refl, some_injective v.patterns ps e)
-value_of (v ∷ vs) (suc i) ps e = value_of vs i ps e
+value_of values i ps e = by_option (slice_get values i)
+    (λ n. cc (slice_get-map (λ (v : Value). v.patterns) values i))
+    (λ v h. (v, h, cc (slice_get-map (λ (w : Value). w.patterns) values i)))
 
 -- the list of the value at an index
 pub list_of : (values : List Value) (i : ℕ) (v : Value) → slice_get values i ≡ Some v

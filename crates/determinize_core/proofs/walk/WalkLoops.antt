@@ -2,11 +2,10 @@
 -- Main statements: future-push, value_after-push, pattern_new, stops_at.
 -- Used by: LastMatches, FirstReading, and the crates above.
 -- Idea: what a loop has done grows at its end.
-use Rattle.determinize_core.proofs.Common.{[], ap, append-nil, arith, by_option, false, flat_map, flat_map-append}
-use Rattle.determinize_core.proofs.Common.{future, is_match, LeftmostFirst, List, list_any, MatchKind, nat_eq}
-use Rattle.determinize_core.proofs.Common.{nat_tests, Nfa, Option, option_to_list, or_false_right, part_read}
-use Rattle.determinize_core.proofs.Common.{pattern_of, patterns_of, patterns_read, refl, Some, step, target, true≢false}
-use Rattle.determinize_core.proofs.Common.{Value, value_after, ℕ, ◌++◌, ◌∷◌, ◌≡◌}
+use Rattle.determinize_core.proofs.Common.{[], ap, append-nil, arith, false, flat_map, flat_map-append, future}
+use Rattle.determinize_core.proofs.Common.{is_match, LeftmostFirst, List, list_any, MatchKind, nat_eq, nat_tests, Nfa}
+use Rattle.determinize_core.proofs.Common.{Option, option_to_list, part_read, pattern_of, patterns_of, patterns_read}
+use Rattle.determinize_core.proofs.Common.{refl, Some, step, target, Value, value_after, ℕ, ◌++◌, ◌∷◌, ◌≡◌}
 use Rattle.determinize_below.proofs.nfas.SoundNfa.{IsSound}
 
 -- one more unit
@@ -33,24 +32,17 @@ targets-push nfa u xs s = simp (flat_map-append, append-nil)
 pub pattern_new : (nfa : Nfa) → IsSound nfa → (xs : List ℕ) (s p : ℕ) → list_any (nat_eq s) xs ≡ false
     → pattern_of nfa s ≡ Some p → list_any (nat_eq p) (patterns_of nfa xs) ≡ false
 pattern_new nfa sound [] s p h e = refl
-pattern_new nfa sound (x ∷ xs) s p h e =
-    let ih = pattern_new nfa sound xs s p (or_false_right (nat_eq s x) (list_any (nat_eq s) xs) h) e in
-    by_option (pattern_of nfa x) (λ k. rw k ih)
-    (λ q k. let same : p ≡ q → s ≡ x = λ y. sound.one_match s x p e (rw y k) in rw k (grind (arith, nat_tests)))
+pattern_new nfa sound (x ∷ xs) s p h e = grind (arith, nat_tests, pattern_new nfa sound xs s p, sound.one_match s x p)
 
 -- states without a match, and then a match: there the reading stops
 pub stops_at : (nfa : Nfa) (xs zs : List ℕ) (s p : ℕ) → list_any (is_match nfa) xs ≡ false → pattern_of nfa s ≡ Some p
     → (part_read LeftmostFirst (is_match nfa) (xs ++ s ∷ zs) ≡ xs)
     × (patterns_read LeftmostFirst (patterns_of nfa (xs ++ s ∷ zs)) ≡ p ∷ [])
-stops_at nfa [] zs s p h e = rw e (refl, refl)
-stops_at nfa (x ∷ xs) zs s p h e = by_option (pattern_of nfa x)
-    (λ k. let r = stops_at nfa xs zs s p (rw k at h) e in rw k (ap (λ l. x ∷ l) r.0, r.1))
-    (λ q k. absurd (true≢false (rw k at h)))
+stops_at nfa [] zs s p h e = grind arith
+stops_at nfa (x ∷ xs) zs s p h e = grind (arith, stops_at nfa xs zs s p)
 
 -- states without a match are all read, and have no pattern
 pub goes_on : (nfa : Nfa) (xs : List ℕ) → list_any (is_match nfa) xs ≡ false
     → (part_read LeftmostFirst (is_match nfa) xs ≡ xs) × (patterns_of nfa xs ≡ [])
 goes_on nfa [] h = (refl, refl)
-goes_on nfa (x ∷ xs) h = by_option (pattern_of nfa x)
-    (λ k. let r = goes_on nfa xs (rw k at h) in rw k (ap (λ l. x ∷ l) r.0, r.1))
-    (λ q k. absurd (true≢false (rw k at h)))
+goes_on nfa (x ∷ xs) h = grind (arith, goes_on nfa xs)

@@ -1,16 +1,17 @@
 -- The values of a chain against whole runs: the theorem.
--- Main statements: walk_of_all, leftmost_walk, each_chain_reaches, each_chain_is_true.
+-- Main statements: walk_of_all, leftmost_walk, each_chain_reaches, walk_laws.
 -- Used by: ReturnedWalk, Farthest, `walk_law`, and searches.
 -- Idea: an NFA over a text is an automaton over numbers, so Automata applies.
-use Rattle.determinize_core.proofs.Common.{[], Accepts, add-one, after_at, All, arith, before_at, by_option, byte_edges}
-use Rattle.determinize_core.proofs.Common.{chain, choices, Contains, ended_at, flat_map-append, HalfMatch, is_capture}
-use Rattle.determinize_core.proofs.Common.{is_match, is_some, IsAccepted, IsBeginning, IsPreferredMatch, known_edges}
-use Rattle.determinize_core.proofs.Common.{last_ended, last_match, LeftmostFirst, length, List, ListsAccepted, map}
-use Rattle.determinize_core.proofs.Common.{MatchKind, Nfa, None, Option, pattern_of, patterns_of, placed}
-use Rattle.determinize_core.proofs.Common.{range_with_len, refl, same_decides, slice_get, slice_get_past, Some}
-use Rattle.determinize_core.proofs.Common.{state_at, suc, sym, take, Text, true, true_edges, true≢false, truth}
-use Rattle.determinize_core.proofs.Common.{unwrap_or, Value, zero, ℕ, ◌+◌, ◌∙◌, ◌∷◌, ◌≡◌, ◌≤◌}
-use Rattle.determinize_below.proofs.nfas.SoundNfa.{accepted_sound, match_in}
+use Rattle.determinize_core.proofs.Common.{[], Accepts, add-one, after_at, All, arith, before_at, byte_edges, chain}
+use Rattle.determinize_core.proofs.Common.{choices, Contains, ended_at, flat_map-append, HalfMatch, is_capture}
+use Rattle.determinize_core.proofs.Common.{is_match, IsAccepted, IsBeginning, IsLeftmostWalk, IsPreferredMatch}
+use Rattle.determinize_core.proofs.Common.{IsWalkOfAll, known_edges, last_ended, last_match, LeftmostFirst, length}
+use Rattle.determinize_core.proofs.Common.{List, lists_of, ListsAccepted, map, Match, MatchKind, Nfa, None, Option}
+use Rattle.determinize_core.proofs.Common.{pattern_of, patterns_of, placed, range_with_len, refl, same_decides}
+use Rattle.determinize_core.proofs.Common.{slice_get, slice_get_past, Some, state_at, suc, sym, take, Text, true}
+use Rattle.determinize_core.proofs.Common.{true_edges, true≢false, truth, unwrap_or, Value, zero, ℕ, ◌+◌, ◌∙◌, ◌∷◌, ◌≡◌}
+use Rattle.determinize_core.proofs.Common.{◌≤◌}
+use Rattle.determinize_below.proofs.nfas.SoundNfa.{accepted_sound}
 use Rattle.ordered_reach.proofs.lists.Elements.{Contains_In, In_append_left, In_Contains, In_take_one}
 use Rattle.determinize_below.proofs.nfas.Edges.{edges-capture, edges-more, match-capture, next_of, patterns-without}
 use Rattle.determinize_below.proofs.nfas.Edges.{target-capture, target-end}
@@ -23,26 +24,26 @@ use Rattle.ordered_reach.proofs.lists.Prefixes.{Beginning-ordered}
 use Rattle.ordered_reach.proofs.runs.CutLists.{last_accepting}
 use Rattle.ordered_reach.proofs.runs.MostPreferred.{IsMostPreferred}
 use Rattle.ordered_reach.proofs.runs.Automata.{IsTrueWalk, true_walk}
-use Rattle.determinize_core.specs.Laws.{EachChainHasItsLists, EachChainIsTrue, EachChainReaches}
+use Rattle.determinize_core.specs.Laws.{EachChainReaches}
 use Rattle.determinize_core.proofs.walk.ValueWalks.{all_listed, FindsLeftmost, leftmost_listed, ListsAll}
 use Rattle.determinize_core.specs.WalkStates.{IsPartKept}
 use Rattle.determinize_core.proofs.walk.AcceptedPatterns.{lists_accepted, matches_at}
 use Rattle.determinize_core.proofs.walk.WalkValues.{chain_is, chain_item, length-chain, patterns_at_is, recorded_by}
 use Rattle.determinize_core.proofs.walk.WalkValues.{redone_by, states_at_is, states_last, value_at}
 
--- an option that has a number
-is_some_of : (o : Option ℕ) → is_some o ≡ true → o ≡ Some (unwrap_or o 0)
-is_some_of o e = grind arith
-
 module _ (nfa : Nfa) where
   -- a position as the end of a match, with the pattern of the state there
   abbrev pub named : ℕ × ℕ → HalfMatch
   named q = record { pattern = unwrap_or (pattern_of nfa q.1) 0; offset = q.0 }
 
+  -- a state that matches
+  match_at : (s : ℕ) → is_match nfa s ≡ true → state_at nfa s ≡ Match (unwrap_or (pattern_of nfa s) 0)
+  match_at s e = grind arith
+
   first-named : (k : ℕ) (xs : List ℕ) → ended_at k (take 1 (patterns_of nfa xs))
       ≡ option_map named (option_map (placed k) (find (is_match nfa) xs))
   first-named k [] = refl
-  first-named k (z ∷ xs) = by_option (pattern_of nfa z) (λ e. rw e (first-named k xs)) (λ w e. rw e (rw e refl))
+  first-named k (z ∷ xs) = grind (arith, first-named k xs)
 
   last_named : (value : ℕ → Value) (lists : ℕ → List ℕ) (d k : ℕ)
       → ((j : ℕ) → j ≤ k + d → (value (suc j)).patterns ≡ take 1 (patterns_of nfa (lists j)))
@@ -95,7 +96,7 @@ module _ (nfa : Nfa) (accepted : IsAccepted nfa) (start : ℕ) (text : Text) whe
       let h : IsMostPreferred (choices nfa text) (0, start) (λ r. is_match nfa r.1) q = walk.preferred q e in (
         h.choices,
         record {
-          accepts = (q.1, h.run, match_in (state_at nfa q.1) _ (is_some_of (pattern_of nfa q.1) h.accepted));
+          accepts = (q.1, h.run, match_at nfa q.1 h.accepted);
           preferred = λ ds j other a. h.preferred ds (j, a.0) a.1 (matches_at nfa a.0 other a.2);
         },
       )
@@ -117,6 +118,12 @@ module _ (nfa : Nfa) (accepted : IsAccepted nfa) (start : ℕ) (text : Text) whe
         first_accepted i x (rw (← r.1, p) at c);
   }
 
+  pub chain_of_all : IsWalkOfAll nfa start text (lists_of (chain nfa All start text))
+  chain_of_all = all_listed nfa start text _ walk_of_all
+
+  pub chain_leftmost : IsLeftmostWalk nfa start text (lists_of (chain nfa LeftmostFirst start text))
+  chain_leftmost = leftmost_listed nfa start text _ leftmost_walk
+
   -- what is recorded at a position is the list that runs reach there, or a prefix of it
   part_kept : (kind : MatchKind) (i : ℕ) → IsPartKept kind (recorded_by nfa kind start text i)
       (recorded_by nfa All start text i)
@@ -134,12 +141,10 @@ each_chain_reaches nfa accepted kind start text = record {
       (states_last nfa kind start text e);
 }
 
-pub each_chain_is_true : EachChainIsTrue
-each_chain_is_true nfa accepted start text = (
-  all_listed nfa start text _ (walk_of_all nfa accepted start text),
-  leftmost_listed nfa start text _ (leftmost_walk nfa accepted start text),
-)
-
-pub each_chain_has_its_lists : EachChainHasItsLists
+pub chain-first : (nfa : Nfa) (kind : MatchKind) (start : ℕ) (text : Text)
+    → slice_get (lists_of (chain nfa kind start text)) 0 ≡ Some []
 unfolding chain
-each_chain_has_its_lists nfa kind start text = (length-chain nfa kind start text, refl)
+chain-first nfa kind start text = refl
+
+-- all that a walk promises of its values
+pub ruleset walk_laws = (chain_of_all, chain_leftmost, length-chain, chain-first, each_chain_reaches)

@@ -2,20 +2,19 @@
 -- Main statements: value_at, recorded_by, redone_by, states_at_is, patterns_at_is, chain_is.
 -- Used by: WalkOfRuns.
 -- Idea: induction over the positions, with WorkingLists for one step.
-use Rattle.determinize_core.proofs.Common.{[], add-one, after_at, All, ap, arith, before_at, begun, Bool, byte_edges}
-use Rattle.determinize_core.proofs.Common.{chain, flat_map, future, get_or, get_or_from_slice_get, is_capture, is_match}
-use Rattle.determinize_core.proofs.Common.{is_nonempty, IsAccepted, IsTested, known_edges, LeftmostFirst, length, List}
-use Rattle.determinize_core.proofs.Common.{map, MatchKind, member, nat_eq, nat_tests, Nfa, None, not, Option, part_read}
-use Rattle.determinize_core.proofs.Common.{patterns_of, patterns_read, range_with_len, recorded, refl, same_decides}
-use Rattle.determinize_core.proofs.Common.{slice_get, slice_get-get_or, slice_get_past, slice_get_within, Some}
-use Rattle.determinize_core.proofs.Common.{start_value, step, suc, sym, tables_of, target, Text, true, true_edges}
-use Rattle.determinize_core.proofs.Common.{truth, Value, without, working_list, zero, ℕ, ◌+◌, ◌<◌, ◌∙◌, ◌∷◌, ◌≡◌, ◌≤◌}
+use Rattle.determinize_core.proofs.Common.{[], add-one, after_at, ap, arith, before_at, begun, Bool, byte_edges, chain}
+use Rattle.determinize_core.proofs.Common.{flat_map, future, get_or, get_or_from_slice_get, is_capture, is_match}
+use Rattle.determinize_core.proofs.Common.{is_nonempty, IsAccepted, IsTested, known_edges, length, List, map, MatchKind}
+use Rattle.determinize_core.proofs.Common.{member, nat_eq, nat_tests, Nfa, None, not, Option, part_read, patterns_of}
+use Rattle.determinize_core.proofs.Common.{patterns_read, range_with_len, recorded, refl, same_decides, slice_get}
+use Rattle.determinize_core.proofs.Common.{slice_get-get_or, slice_get_past, slice_get_within, Some, start_value, step}
+use Rattle.determinize_core.proofs.Common.{suc, tables_of, target, Text, true, true_edges, truth, Value, without}
+use Rattle.determinize_core.proofs.Common.{working_list, zero, ℕ, ◌+◌, ◌<◌, ◌∷◌, ◌≡◌, ◌≤◌}
 use Rattle.determinize_below.proofs.nfas.SoundNfa.{accepted_sound}
 use Rattle.determinize_below.proofs.nfas.Edges.{edges-same, match-capture, patterns-without, target-capture, target-end}
 use Rattle.determinize_below.proofs.looks.LookSets.{has-empty}
 use Rattle.ordered_reach.proofs.lists.NewNodes.{member-filter}
 use Rattle.ordered_reach.proofs.lists.Pieces.{before-without, flat_map-without, flat_map_none}
-use Rattle.ordered_reach.specs.Runs.{before}
 use Rattle.determinize_below.specs.Edges.{reach}
 use Rattle.determinize_below.specs.Look.{has}
 use Rattle.determinize_below.specs.Reached.{known}
@@ -35,34 +34,19 @@ nonempty_member xs s m = grind arith
 targets-without : (nfa : Nfa) (kind : MatchKind) (u : Option ℕ) (xs : List ℕ)
     → flat_map (target nfa u) (part_read kind (is_match nfa) (without (is_capture nfa) xs))
     ≡ flat_map (target nfa u) (part_read kind (is_match nfa) xs)
-targets-without nfa All u xs = flat_map-without (target nfa u) (is_capture nfa) xs (target-capture nfa u)
-targets-without nfa LeftmostFirst u xs = rw (before-without (is_match nfa) (is_capture nfa) xs (match-capture nfa))
-    (flat_map-without (target nfa u) (is_capture nfa) (before (is_match nfa) xs) (target-capture nfa u))
+targets-without nfa kind u xs =
+    grind (arith, before-without, flat_map-without, target-capture nfa u, match-capture nfa)
 
 -- what the walk over positions records
 abbrev pub recorded_by : Nfa → MatchKind → ℕ → Text → ℕ → List ℕ
-recorded_by nfa All s text k =
-    levels.recorded nat_eq (known_edges nfa text) (true_edges nfa text) (byte_edges nfa text) (is_capture nfa)
-    (fuel nfa (length text.bytes)) s k
-recorded_by nfa LeftmostFirst s text k =
-    levels.recorded_cut nat_eq (known_edges nfa text) (true_edges nfa text) (byte_edges nfa text) (is_capture nfa)
-    (is_match nfa) (fuel nfa (length text.bytes)) s k
-
-recorded_by-zero : (nfa : Nfa) (kind : MatchKind) (s : ℕ) (text : Text)
-    → recorded_by nfa kind s text 0 ≡ without (is_capture nfa)
-    (listing nfa (length text.bytes) (known nfa text.behind) (s ∷ []))
-recorded_by-zero nfa kind s text = grind arith
+recorded_by nfa kind s text k =
+    levels.recorded_by nat_eq (known_edges nfa text) (true_edges nfa text) (byte_edges nfa text) (is_capture nfa)
+    (part_read kind (is_match nfa)) (fuel nfa (length text.bytes)) s k
 
 -- the search redone at a position
 abbrev pub redone_by : Nfa → MatchKind → ℕ → Text → ℕ → List ℕ
 redone_by nfa kind s text k =
     listing nfa (length text.bytes) (truth nfa (before_at text k) (after_at text k)) (recorded_by nfa kind s text k)
-
-recorded_by-suc : (nfa : Nfa) (kind : MatchKind) (s : ℕ) (text : Text) (k : ℕ)
-    → recorded_by nfa kind s text (suc k)
-    ≡ without (is_capture nfa) (listing nfa (length text.bytes) (known nfa (slice_get text.bytes k))
-    (flat_map (byte_edges nfa text k) (part_read kind (is_match nfa) (redone_by nfa kind s text k))))
-recorded_by-suc nfa kind s text k = grind arith
 
 -- the closure under a set that has, of the assertions of the NFA, those that are known
 recorded_entered : (nfa : Nfa) (accepted : IsAccepted nfa) (m : ℕ) (b : Option ℕ) (w h : Bool) (have : ℕ)
@@ -70,14 +54,12 @@ recorded_entered : (nfa : Nfa) (accepted : IsAccepted nfa) (m : ℕ) (b : Option
     → ((s : ℕ) → member nat_eq (reach nfa (has have) roots) s ≡ true
     → (w ≡ from_word_after (tables_of nfa) b) × (h ≡ half_crlf_after (tables_of nfa) b))
     → IsEntered nfa m b (recorded nfa (begun w h have ps) (reach nfa (has have) roots)) roots
-recorded_entered nfa accepted m b w h have ps roots k f =
-    let entered : List ℕ = reach nfa (has have) roots in
-    record {
-      states = rw (reach_is nfa (accepted_sound nfa accepted) m, edges-same nfa (has have) (known nfa b) k);
-      need = refl;
-      have = λ a n l q. grind (arith, nat_tests, has-empty a, k l q);
-      flags = λ s i. f s (member-filter same_decides (λ x. not (is_capture nfa x)) entered s i);
-    }
+recorded_entered nfa accepted m b w h have ps roots k f = record {
+  states = rw (reach_is nfa (accepted_sound nfa accepted) m, edges-same nfa (has have) (known nfa b) k);
+  need = refl;
+  have = λ a n l q. grind (arith, nat_tests, has-empty a, k l q);
+  flags = λ s i. f s (member-filter same_decides (λ x. not (is_capture nfa x)) (reach nfa (has have) roots) s i);
+}
 
 module _ (nfa : Nfa) (kind : MatchKind) (s : ℕ) (text : Text) where
   -- the value at each place
@@ -107,18 +89,19 @@ module _ (nfa : Nfa) (kind : MatchKind) (s : ℕ) (text : Text) where
   -- an item of a chain is the value of its place
   pub chain_item : (j : ℕ) (v : Value) → slice_get (chain nfa kind s text) j ≡ Some v
       → (j < length text.bytes + 2) × (value_at j ≡ v)
-  chain_item j v h =
-      let l : j < length text.bytes + 2 = rw length-chain at (slice_get_within _ j v h) in
-      let e = rw chain_is at (get_or_from_slice_get _ j v v h) in
-      let at = get_or-map-range_with_len value_at 0 (suc (suc (length text.bytes))) j j v (omega arith) (omega arith) in
-      (l, sym at ∙ e)
+  chain_item j v h = grind (
+    arith,
+    slice_get_within _ j v h,
+    length-chain,
+    rw chain_is at (get_or_from_slice_get _ j v v h),
+    get_or-map-range_with_len value_at 0 (suc (suc (length text.bytes))) j j v,
+  )
 
   -- no state is recorded after EOI
   pub states_last : text.ahead ≡ None → (value_at (suc (length text.bytes))).states ≡ []
   unfolding step reach
-  states_last e = rw (slice_get_past text.bytes (length text.bytes) (omega arith), e)
-      (ap (λ roots. without (is_capture nfa) (reach nfa (has (have_after (tables_of nfa) None)) roots))
-      (flat_map_none (target nfa None) _ (target-end nfa)))
+  states_last e =
+      grind (arith, e, slice_get_past text.bytes (length text.bytes), flat_map_none (target nfa None), target-end nfa)
 
   module _ (accepted : IsAccepted nfa) where
     entered_at : (k : ℕ) → k ≤ length text.bytes
@@ -140,18 +123,14 @@ module _ (nfa : Nfa) (kind : MatchKind) (s : ℕ) (text : Text) where
         (value_at k) (roots_at k) (entered_at k l))
 
     pub states_at_is : (k : ℕ) → k ≤ length text.bytes → (value_at k).states ≡ recorded_by nfa kind s text k
-    states_at_is zero l = (entered_at 0 l).states ∙ sym (recorded_by-zero nfa kind s text)
+    states_at_is zero l = (entered_at 0 l).states
     states_at_is (suc k) l =
         let e = working_at k (omega arith) (states_at_is k (omega arith)) in
         let same = targets-without nfa kind (slice_get text.bytes k) in
-        let read = rw e at (same (working_list nfa (value_at k) (after_at text k))) in
-        rw ((entered_at (suc k) l).states, recorded_by-suc nfa kind s text k, ← read, same)
+        rw ((entered_at (suc k) l).states, ← same, e, same)
 
     -- the patterns of a value are those of what was reached at the position before its unit
     pub patterns_at_is : (k : ℕ) → k ≤ length text.bytes
         → (value_at (suc k)).patterns ≡ patterns_read kind (patterns_of nfa (redone_by nfa kind s text k))
     unfolding step
-    patterns_at_is k l =
-        let e = working_at k l (states_at_is k l) in
-        ap (λ ps. patterns_read kind ps) (sym (patterns-without nfa _) ∙ ap (λ xs. patterns_of nfa xs) e
-        ∙ patterns-without nfa _)
+    patterns_at_is k l = grind (arith, patterns-without nfa, working_at k l (states_at_is k l))

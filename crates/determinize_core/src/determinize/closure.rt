@@ -63,6 +63,7 @@ fn push_reversed<A: Allocator>(
 /// the list are pushed. Without such edges the others stay the list. Most states have none, so that
 /// is tested before their kind is decided.
 #[inline(always)]
+#[tactic(auto, using(crate::proofs::closure::ClosureSteps::following))]
 fn record_and_follow<'a, N: Allocator, A: Allocator, W: Recorder>(
     nfa: &'a NFA<N>,
     id: StateID,
@@ -149,6 +150,7 @@ fn take_turn<'a, N: Allocator, A: Allocator, W: Recorder, C: Counter>(
 /// Searches from these states, and then from those on the stack, the first of them first. On error
 /// the stack is not cleared.
 #[inline(always)]
+#[tactic(auto, using(crate::proofs::closure::ClosureSteps::exploring))]
 pub(crate) fn explore<N: Allocator, A: Allocator, W: Recorder, C: Counter>(
     nfa: &NFA<N>,
     first: &[StateID],
@@ -190,6 +192,7 @@ pub(crate) fn explore<N: Allocator, A: Allocator, W: Recorder, C: Counter>(
 /// `look_have`. A state that the set contains already is not followed. Only the stack allocates,
 /// and not if `start` has no epsilon edge. The stack is empty afterwards, also on error. On error
 /// the set has its old ids and a prefix of those that were to be added.
+#[tactic(auto, using(crate::proofs::closure::ClosureSteps::leaf_search))]
 pub fn epsilon_closure<N: Allocator, A: Allocator>(
     nfa: &NFA<N>,
     start: StateID,

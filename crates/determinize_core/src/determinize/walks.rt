@@ -25,6 +25,7 @@ use std::alloc::{AllocError, Allocator};
 ///
 /// The state has the look-behind for that byte and the epsilon closure of `start`. It lists no
 /// pattern, since matches are delayed by one unit. On error the builder is dropped.
+#[tactic(auto, using(crate::proofs::closure::EmptySearch::starting, crate::proofs::step::Resolving::start_resolves), unfolding(determinize_start::specs::LookTables::from_word_at_start, determinize_start::specs::LookTables::half_crlf_at_start, determinize_start::specs::LookTables::have_at_start))]
 pub fn start_state<N: Allocator, A: Allocator>(
     nfa: &NFA<N>,
     start: StateID,
@@ -85,6 +86,7 @@ pub fn walk<N: Allocator, A: Allocator + Copy>(
 /// no match.
 ///
 /// The states and all scratch memory are allocated from `alloc`.
+#[tactic(auto, using(crate::proofs::walk::ReturnedWalk::walking))]
 pub fn walk_between<N: Allocator, A: Allocator + Copy>(
     alloc: A,
     nfa: &NFA<N>,
@@ -119,6 +121,7 @@ pub fn walk_between<N: Allocator, A: Allocator + Copy>(
 ///
 /// The start state, which lists no pattern, is skipped. The offset is the number of bytes before
 /// the end of the match. Under `MatchKind::LeftmostFirst` this is the most preferred match.
+#[tactic(auto, using(crate::proofs::walk::LastMatches::last_values))]
 pub fn last_match<A: Allocator>(states: &[State<A>]) -> Option<HalfMatch>
     ensures { result ≡ matches.last_match states.now }
 {

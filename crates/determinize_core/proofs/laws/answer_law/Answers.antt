@@ -1,4 +1,4 @@
-use Rattle.determinize_core.proofs.walk.OneAnswer.{each_answer_is_one}
+use Rattle.determinize_core.proofs.walk.AcceptedPatterns.{each_answer_is_one}
 use Rattle.determinize_core.proofs.laws.answer_law.Goals as goal
 
 pub returns : goal.returns

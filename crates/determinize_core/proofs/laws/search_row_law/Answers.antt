@@ -1,8 +1,0 @@
-use Rattle.determinize_core.proofs.Common.{refl}
-use Rattle.determinize_below.specs.Edges.{reach_past}
-use Rattle.determinize_below.specs.Look.{has, insert}
-use Rattle.determinize_core.proofs.laws.search_row_law.Goals as goal
-
-pub returns : goal.returns
-unfolding has insert reach_past
-returns c = refl
