@@ -1,9 +1,8 @@
 -- Encoding and decoding of states are inverse.
--- Main statements: laid_out, value_of-spell, spelled, decided.
+-- Main statements: laid_out, value_of-spell, spelled, spell_tells.
 -- Used by: all that reads or writes the bytes of a state.
 -- Idea: the header has fixed places, and the lengths of the parts are in it.
-use Rattle.determinize_state.proofs.Common.{eqb-true, ◌≡◌, ◌==◌, ℕ, ◌+◌, ◌*◌, ◌<◌, ◌≤◌, Bool, true, List, [], ◌∷◌, length, All, nat_eq, refl, arith, sym, ap, ◌∙◌, take, drop, lit<, subst, length-append, Decides, pointwise, Decides-eqb, All-head, All-tail, Value, IsValue, dead, is_nonempty, deltas, is_explicit, words, number_at, numbers_in, has_flag, start_in, patterns_in, IsSpelled, drop-drop, drop-append_seam, take-append_seam, by_test}
-use Rattle.std.proofs.lemmas.Slice.Eq.{slice_eq-Decides}
+use Rattle.determinize_state.proofs.Common.{eqb-true, ◌≡◌, ℕ, ◌+◌, ◌*◌, ◌<◌, ◌≤◌, true, List, [], ◌∷◌, length, All, nat_eq, refl, arith, sym, ap, ◌∙◌, take, drop, lit<, subst, length-append, All-head, All-tail, Value, IsValue, dead, is_nonempty, deltas, is_explicit, words, number_at, numbers_in, has_flag, start_in, patterns_in, IsSpelled, drop-drop, drop-append_seam, take-append_seam, by_test}
 use Rattle.std.specs.List.{IsDistinct}
 use Rattle.std.proofs.lemmas.Nat.{from_le_bytes-to_le_bytes_4}
 use Rattle.std.proofs.lemmas.Map.Steps.{length-le_from_distinct_below}
@@ -110,10 +109,3 @@ spell_tells v w hv hw e = sym (value_of-spell v hv) ∙ ap value_of e ∙ value_
 
 pub spelled : (v : Value) → IsValue v → IsSpelled (spell v)
 spelled v h = record { valid = rw (value_of-spell v h) h; spelled = rw (value_of-spell v h) }
-
--- comparing the bytes decides equality of the values
-pub decided : (v w : Value) (xs ys : List ℕ) (r : Bool) → IsValue v → IsValue w → xs ≡ spell v → ys ≡ spell w
-    → r ≡ pointwise ◌==◌ xs ys → Decides r (v ≡ w)
-decided v w xs ys r hv hw ex ey e =
-    let same : Decides r (xs ≡ ys) = slice_eq-Decides Decides-eqb xs ys r e in
-    (λ t. spell_tells v w hv hw (sym ex ∙ same.0 t ∙ ey), λ equal. same.1 (ex ∙ ap spell equal ∙ sym ey))
