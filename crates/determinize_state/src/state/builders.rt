@@ -10,6 +10,7 @@
 //!
 //! `clear` leaves an empty header, so `into_matches` writes one for the first state only: a builder
 //! that is moved just after a write has to wait for the write.
+#![tactic(auto, using(crate::proofs::building::UnfinishedBytes::building))]
 
 ghost use Rattle.std.specs.Prelude.{◌≡◌, ℕ, [], true, false, nat_eq, IfOk, OnOk, OnErr, IsOk};
 ghost use Rattle.std.specs.List.{list_any};
