@@ -72,6 +72,7 @@ impl<A: Allocator> Model for State<A> {
 impl<A: Allocator> State<A> {
     /// Returns the dead state, with nothing set and no pattern or NFA state: nine zero bytes. Does
     /// not allocate, so it never fails.
+    #[tactic(auto, using(crate::proofs::building::UnfinishedBytes::built_zeros))]
     pub fn dead(alloc: A) -> Result<State<A>, AllocError>
         ensures value { IfOk result (λ s. s ≡ dead) }
         ensures succeeds { IsOk result }
@@ -160,11 +161,12 @@ impl<A: Allocator> State<A> {
 
     /// Returns the number of bytes of the state: at most 13, plus 4 per pattern, plus 5 per NFA
     /// state.
+    #[tactic(auto, using(crate::proofs::encoding::EncodedLength::spell_short))]
     pub fn memory_usage(&self) -> usize
         ensures bytes { result ≡ length (spell self.now) }
         ensures bound { result ≤ 13 + 4 * length self.now.patterns + 5 * length self.now.states }
     {
-        self.bytes.as_slice().len()
+        self.as_bytes().len()
     }
 
     /// Returns the bytes of the state, the canonical encoding of its value.

@@ -6,6 +6,7 @@ use Rattle.determinize_state.proofs.Common.{◌≡◌, ℕ, true, ◌<◌, ◌�
 use Rattle.determinize_state.specs.Spelling.{spell}
 use Rattle.determinize_state.proofs.encoding.Varints.{deltas-append}
 use Rattle.determinize_state.proofs.encoding.ReadBytes.{long}
+use Rattle.determinize_state.proofs.values.TestedSets.{insert-had}
 use Rattle.determinize_state.proofs.encoding.RoundTrip.{dead_valid, value_of-spell, spelled}
 
 -- the encoding of a value has this value
@@ -51,18 +52,17 @@ spell-pushed : (v : Value) (id : ℕ) → spell (with_state v id) ≡ spell v ++
 unfolding spell
 spell-pushed v id = simp (deltas-append 0 v.states (id ∷ []), append_assoc, append-nil)
 
-last-push : (from : ℕ) (ids : List ℕ) (id : ℕ) → last_id from (ids ++ id ∷ []) ≡ id
+pub last-push : (from : ℕ) (ids : List ℕ) (id : ℕ) → last_id from (ids ++ id ∷ []) ≡ id
 last-push from [] id = refl
 last-push from (i ∷ ids) id = last-push i ids id
 
-pub building_with_state : (bytes : List ℕ) (from id : ℕ) → IsBuilding bytes from → id ≤ 2147483646 →
-    IsBuilding (bytes ++ varint (zigzag from id)) id
+pub state_written : (bytes : List ℕ) (from id : ℕ) → IsBuilding bytes from → id ≤ 2147483646 →
+    IsSpelled (bytes ++ varint (zigzag from id))
     × (value_of (bytes ++ varint (zigzag from id)) ≡ with_state (value_of bytes) id)
-building_with_state bytes from id h small =
+state_written bytes from id h small =
     let v : Value = value_of bytes in
     let all = All-push (λ k. k ≤ 2147483646) v.states id h.is.valid.state_ids small in
-    let valid : IsValue (with_state v id) = assumption (all, h.is.valid) in
-    built _ id (with_state v id) valid (sym (last-push 0 v.states id)) (spell-pushed v id ∙ rw (h.is.spelled, h.last))
+    respelled _ (with_state v id) (assumption (all, h.is.valid)) (spell-pushed v id ∙ rw (h.is.spelled, h.last))
 
 -- nine zero bytes are the encoding of the dead value
 pub built_zeros : IsBuilding (0 ∷ 0 ∷ 0 ∷ 0 ∷ 0 ∷ 0 ∷ 0 ∷ 0 ∷ 0 ∷ []) 0
@@ -70,8 +70,4 @@ pub built_zeros : IsBuilding (0 ∷ 0 ∷ 0 ∷ 0 ∷ 0 ∷ 0 ∷ 0 ∷ 0 ∷ 0 
 unfolding spell
 built_zeros = built _ 0 dead dead_valid refl refl
 
-pub spelled_zeros : IsSpelled (0 ∷ 0 ∷ 0 ∷ 0 ∷ 0 ∷ 0 ∷ 0 ∷ 0 ∷ 0 ∷ [])
-    × (value_of (0 ∷ 0 ∷ 0 ∷ 0 ∷ 0 ∷ 0 ∷ 0 ∷ 0 ∷ 0 ∷ []) ≡ dead)
-spelled_zeros = (built_zeros.0.is, built_zeros.1)
-
-pub ruleset building = (long, have_written, need_written, from_word_set, half_crlf_set)
+pub ruleset building = (long, have_written, need_written, from_word_set, half_crlf_set, state_written, last-push, insert-had, built_zeros)

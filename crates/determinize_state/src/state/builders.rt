@@ -240,7 +240,7 @@ impl<A: Allocator> StateBuilderNFA<A> {
     pub(crate) fn add_look_need(&mut self, look: Look)
         ensures { self.new ≡ record self.old { look_need = insert self.old.look_need look } }
     {
-        let look_need = bytes::look_need(self.bytes.as_slice());
+        let look_need = self.look_need();
         if !look_need.contains(look) {
             self.put_look_need(look_need.insert(look));
         }
@@ -343,8 +343,8 @@ impl<A: Allocator> StateBuilderNFA<A> {
     {
         self.bytes.truncate(mark.bytes);
         self.last = mark.last;
-        bytes::put_number(&mut self.bytes, bytes::LOOK_HAVE, mark.look_have.as_repr());
-        bytes::put_number(&mut self.bytes, bytes::LOOK_NEED, mark.look_need.as_repr());
+        self.put_look_have(mark.look_have);
+        self.put_look_need(mark.look_need);
     }
 }
 
