@@ -10,7 +10,7 @@ use Rattle.determinize_state.proofs.values.TestedSets.{insert-had}
 use Rattle.determinize_state.proofs.encoding.RoundTrip.{dead_valid, value_of-spell, spelled}
 
 -- the encoding of a value has this value
-respelled : (bytes : List ℕ) (v : Value) → IsValue v → spell v ≡ bytes → IsSpelled bytes × (value_of bytes ≡ v)
+pub respelled : (bytes : List ℕ) (v : Value) → IsValue v → spell v ≡ bytes → IsSpelled bytes × (value_of bytes ≡ v)
 respelled bytes v h e = (subst IsSpelled e (spelled v h), ap value_of (sym e) ∙ value_of-spell v h)
 
 pub built : (bytes : List ℕ) (last : ℕ) (v : Value) → IsValue v → last ≡ last_id 0 v.states → spell v ≡ bytes →

@@ -224,6 +224,7 @@ impl<A: Allocator> StateBuilderNFA<A> {
     /// Adds a pattern, which must be new, after the others. No NFA state may have been added yet.
     ///
     /// On error the builder is unchanged. Adding `ZERO` as the first pattern never fails.
+    #[tactic(auto, using(crate::proofs::building::AddedPatterns::adding))]
     pub fn add_match_pattern_id(&mut self, id: PatternID) -> Result<(), AllocError>
         requires unrecorded { self.old.states ≡ [] }
         requires new { list_any (nat_eq id) self.old.patterns ≡ false }
@@ -240,7 +241,7 @@ impl<A: Allocator> StateBuilderNFA<A> {
     pub(crate) fn add_look_need(&mut self, look: Look)
         ensures { self.new ≡ record self.old { look_need = insert self.old.look_need look } }
     {
-        let look_need = self.look_need();
+        let look_need = bytes::look_need(self.bytes.as_slice());
         if !look_need.contains(look) {
             self.put_look_need(look_need.insert(look));
         }
