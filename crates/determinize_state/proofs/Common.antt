@@ -1,6 +1,6 @@
 -- The names that the proofs of this crate have in common: of std, of the definitions, and of the crates below.
 pub use Rattle.std.proofs.Common.{◌%◌, ◌*◌, ◌+◌, ◌++◌, ◌-◌, ◌/◌, ◌<◌, ◌==◌, [], ◌^◌, All, ap, append_assoc, arith, Bool}
-pub use Rattle.std.proofs.Common.{drop, Err, false, get_or, IfSome, inr, length, length-append, List, lit<, lit≤}
+pub use Rattle.std.proofs.Common.{drop, Err, false, get_or, IfNone, IfSome, inr, length, length-append, List, lit<, lit≤}
 pub use Rattle.std.proofs.Common.{nat_eq, nat_lt, None, not, Ok, Option, refl, Result, slice_index, Some, subst, suc}
 pub use Rattle.std.proofs.Common.{sym, take, true, zero, zero-add, ◌||◌, ℕ, ◌∙◌, ◌∷◌, ◌≡◌, ◌≤◌, ◌⊎◌}
 pub use Rattle.std.proofs.Math.Seq.{drop-append_seam, take-append_seam, take-length}

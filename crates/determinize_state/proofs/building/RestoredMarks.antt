@@ -2,7 +2,7 @@
 -- Main statements: cut_back, grown_back.
 -- Used by: `restore`.
 -- Idea: bytes only grow, so cutting them and writing the sets is enough.
-use Rattle.determinize_state.proofs.Common.{◌≡◌, ℕ, ◌≤◌, List, [], ◌∷◌, ◌++◌, length, All, refl, arith, sym, ap, ◌∙◌, take, append_assoc, subst, take-append_seam, All-cons, All-head, All-tail, Value, IsValue, deltas, last_id, value_of, IsSpelled, IsBuilding, IsGrown}
+use Rattle.determinize_state.proofs.Common.{◌≡◌, ℕ, ◌≤◌, List, [], ◌∷◌, ◌++◌, length, All, arith, sym, ap, ◌∙◌, take, append_assoc, take-append_seam, All-cons, All-head, All-tail, Value, IsValue, deltas, last_id, value_of, IsSpelled, IsBuilding, IsGrown}
 use Rattle.determinize_state.specs.Spelling.{spell}
 use Rattle.determinize_state.specs.Private.Marking.{IsMarkOf}
 use Rattle.determinize_state.specs.declared.state.mark.Mark.{Mark}

@@ -2,7 +2,7 @@
 -- Main statements: laid_out_in, long, rest_valid, number_of.
 -- Used by: the calls that read a state.
 -- Idea: the bytes are those of a value, so each place has that part of the value.
-use Rattle.determinize_state.proofs.Common.{◌≡◌, ℕ, ◌-◌, ◌*◌, ◌<◌, ◌≤◌, true, List, [], ◌∷◌, length, All, suc, zero, refl, arith, sym, ◌∙◌, take, drop, lit≤, subst, slice_index, get_or, take-length, All-head, All-tail, from_le_bytes, w32, is_nonempty, IsDeltas, words, number_at, numbers_in, has_flag, start_in, IsSpelled, by_test}
+use Rattle.determinize_state.proofs.Common.{◌≡◌, ℕ, ◌*◌, ◌<◌, ◌≤◌, true, List, [], length, All, suc, zero, refl, arith, sym, ◌∙◌, take, drop, lit≤, subst, slice_index, All-head, All-tail, ◌∷◌, from_le_bytes, w32, is_nonempty, IsDeltas, words, number_at, numbers_in, has_flag, start_in, IsSpelled, by_test}
 use Rattle.determinize_state.specs.Spelling.{value_of}
 pub use Rattle.determinize_state.proofs.encoding.RoundTrip.{AreListed, IsLaidOut, few, laid_out, length-words, numbers_in-words}
 use Rattle.std.proofs.lemmas.Nat.{from_le_bytes-to_le_bytes_4}
@@ -50,18 +50,12 @@ number_of [] index h all = absurd (omega (arith, h))
 
 pub ruleset patterns = (few_in, length-words, numbers_in-words, number_of)
 
--- the first of the numbers, and the rest
+-- the first of the numbers, and the others
+pub first_number : (bytes : List ℕ) → 4 ≤ length bytes
+    → numbers_in bytes ≡ from_le_bytes w32 (take 4 bytes) ∷ numbers_in (drop 4 bytes)
+first_number (a ∷ b ∷ c ∷ d ∷ bytes) h = refl
+first_number bytes h = absurd (omega (arith, h))
 
-pub first_small : (bytes : List ℕ) → 4 ≤ length bytes → All (λ id. id ≤ 2147483646) (numbers_in bytes) →
-    from_le_bytes w32 (get_or bytes 0 0 ∷ get_or bytes 1 0 ∷ get_or bytes 2 0 ∷ get_or bytes 3 0 ∷ []) ≤ 2147483646
-first_small (a ∷ b ∷ c ∷ d ∷ bytes) h all =
-    All-head (λ id. id ≤ 2147483646) (from_le_bytes w32 (a ∷ b ∷ c ∷ d ∷ [])) (numbers_in bytes) all
-first_small bytes h all = absurd (omega (arith, h))
-
-pub others_small : (bytes : List ℕ) → 4 ≤ length bytes → All (λ id. id ≤ 2147483646) (numbers_in bytes) →
-    All (λ id. id ≤ 2147483646) (numbers_in (take (length bytes - 4) (drop 4 bytes)))
-others_small (a ∷ b ∷ c ∷ d ∷ bytes) h all =
-    let e : suc (suc (suc (suc (length bytes)))) - 4 ≡ length bytes = omega arith in
-    rw (e, take-length bytes) (All-tail (λ id. id ≤ 2147483646) (from_le_bytes w32 (a ∷ b ∷ c ∷ d ∷ []))
-    (numbers_in bytes) all)
-others_small bytes h all = absurd (omega (arith, h))
+pub others_small : (bytes : List ℕ) → 4 ≤ length bytes → All (λ id. id ≤ 2147483646) (numbers_in bytes)
+    → All (λ id. id ≤ 2147483646) (numbers_in (drop 4 bytes))
+others_small bytes h all = All-tail (λ id. id ≤ 2147483646) _ _ (rw (first_number bytes h) at all)

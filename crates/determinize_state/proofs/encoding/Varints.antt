@@ -2,7 +2,7 @@
 -- Main statements: ids_from-deltas, first_some, varint-more.
 -- Used by: RoundTrip, the functions that read and write a varint.
 -- Idea: seven bits at a time; a zigzag number is even or odd with its sign.
-use Rattle.determinize_state.proofs.Common.{◌≡◌, ℕ, ◌+◌, ◌-◌, ◌*◌, ◌/◌, ◌%◌, ◌<◌, ◌≤◌, Option, Some, None, IfSome, List, [], ◌∷◌, ◌++◌, All, nat_lt, suc, zero, refl, arith, sym, ap, ◌∙◌, append_assoc, zero-add, lit≤, length, drop, IsDeltas, zigzag, unzigzag, groups, deltas, ids_from, last_id, All-head, All-tail, nat_tests, read}
+use Rattle.determinize_state.proofs.Common.{◌≡◌, ℕ, ◌+◌, ◌-◌, ◌*◌, ◌/◌, ◌%◌, ◌<◌, ◌≤◌, Option, Some, None, IfNone, IfSome, List, [], ◌∷◌, ◌++◌, All, nat_lt, suc, zero, refl, arith, sym, ap, ◌∙◌, append_assoc, zero-add, lit≤, length, drop, IsDeltas, zigzag, unzigzag, groups, deltas, ids_from, last_id, All-head, All-tail, nat_tests, read}
 use Rattle.determinize_state.specs.Varint.{varint}
 use Rattle.std.proofs.Math.Nat.{one-mul, mul-le-mul_left}
 use Rattle.std.proofs.lemmas.Option.{some_pair_parts}
@@ -87,17 +87,7 @@ pub record IsFirst (from : ℕ) (bytes : List ℕ) (number : ℕ) (after : List 
   pub ids : ids_from from 0 1 bytes ≡ unzigzag from number ∷ ids_from (unzigzag from number) 0 1 after
   pub rest : IsDeltas (unzigzag from number) after
 
-pub first_none : (from : ℕ) (bytes : List ℕ) → IsDeltas from bytes → read 0 1 bytes ≡ None
-    → ids_from from 0 1 bytes ≡ []
-first_none from bytes h none = go (ids_from from 0 1 bytes) refl
-  where
-    go : (ids : List ℕ) → ids_from from 0 1 bytes ≡ ids → ids_from from 0 1 bytes ≡ []
-    go [] e = e
-    go (id ∷ ids) e =
-        let begins = rw e at h.spelled in
-        let reads = read-deltas from id ids h.small (All-head (λ i. i ≤ 2147483646) id ids (rw e at h.ids)) in (cc)
-
-pub first_some : (from : ℕ) (bytes : List ℕ) (number : ℕ) (after : List ℕ) → IsDeltas from bytes
+first_some : (from : ℕ) (bytes : List ℕ) (number : ℕ) (after : List ℕ) → IsDeltas from bytes
     → read 0 1 bytes ≡ Some (number, after) → IsFirst from bytes number after
 first_some from bytes number after h some =
     let id : ℕ = unzigzag from number in
@@ -113,6 +103,21 @@ first_some from bytes number after h some =
       ids = first;
       rest = record { small = here; ids = All-tail (λ i. i ≤ 2147483646) id ids all; spelled = sym same.1 };
     }
+
+-- the ids by the first number, if there is one
+pub first_read : (from : ℕ) (bytes : List ℕ) → IsDeltas from bytes → (ids_from from 0 1 bytes ≡ ids_from from 0 1 bytes)
+    × IfSome (read 0 1 bytes) (λ r. IsFirst from bytes r.0 r.1)
+    × IfNone (read 0 1 bytes) (ids_from from 0 1 bytes ≡ [])
+first_read from bytes h = let parts = go (read 0 1 bytes) (ids_from from 0 1 bytes) refl refl in (refl, parts.0, parts.1)
+  where
+    go : (found : Option (ℕ × List ℕ)) (ids : List ℕ) → read 0 1 bytes ≡ found → ids_from from 0 1 bytes ≡ ids
+        → IfSome found (λ r. IsFirst from bytes r.0 r.1) × IfNone found (ids_from from 0 1 bytes ≡ [])
+    go (Some r) ids e f = (first_some from bytes r.0 r.1 h e, tt)
+    go None [] e f = (tt, f)
+    go None (id ∷ ids) e f =
+        let begins = rw f at h.spelled in
+        let reads = read-deltas from id ids h.small (All-head (λ i. i ≤ 2147483646) id ids (rw f at h.ids)) in
+        (tt, absurd (cc))
 
 pub deltas-append : (from : ℕ) (ids more : List ℕ)
     → deltas from (ids ++ more) ≡ deltas from ids ++ deltas (last_id from ids) more

@@ -197,10 +197,7 @@ pub(crate) fn pattern_at(bytes: &[u8], index: usize) -> PatternID
     ensures { result ≡ slice_index (value_of bytes.now).patterns index }
 {
     let words = pattern_words(bytes);
-    let Ok(id) = PatternID::new(number_at(words, PatternID::SIZE * index) as usize) else {
-        unreachable!()
-    };
-    id
+    PatternID::must(number_at(words, PatternID::SIZE * index) as usize)
 }
 
 /// Returns an iterator over the patterns.
@@ -219,7 +216,7 @@ pub(crate) fn nfa_state_ids(bytes: &[u8]) -> NfaStateIds<'_>
 {
     let start = ids_start(bytes);
     let (_, rest) = bytes.split_at(start);
-    NfaStateIds::new(rest)
+    NfaStateIds::new(0, rest)
 }
 
 /// Returns the offset of the NFA states.

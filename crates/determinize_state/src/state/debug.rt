@@ -2,24 +2,9 @@
 
 ghost use Rattle.determinize_state.specs.Spelling.{IsSpelled};
 
-use crate::state::nfa_state_ids::NfaStateIds;
-use crate::state::pattern_ids::PatternIds;
 use crate::state::{State, StateBuilderEmpty, StateBuilderMatches, StateBuilderNFA, bytes};
 use std::alloc::Allocator;
 use std::fmt;
-
-impl<'a> fmt::Debug for PatternIds<'a> {
-    fn fmt<W: fmt::Write>(&self, f: &mut fmt::Formatter<W>) -> fmt::Result {
-        f.debug_list().entries(self.again()).finish()
-    }
-}
-
-/// Writes the list of the remaining ids.
-impl<'a> fmt::Debug for NfaStateIds<'a> {
-    fn fmt<W: fmt::Write>(&self, f: &mut fmt::Formatter<W>) -> fmt::Result {
-        f.debug_list().entries(self.again()).finish()
-    }
-}
 
 impl<A: Allocator> fmt::Debug for State<A> {
     fn fmt<W: fmt::Write>(&self, f: &mut fmt::Formatter<W>) -> fmt::Result {

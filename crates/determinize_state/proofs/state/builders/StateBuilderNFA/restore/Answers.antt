@@ -1,4 +1,3 @@
-use Rattle.determinize_state.proofs.Common.{arith}
 use Rattle.determinize_state.proofs.building.RestoredMarks.{cut_back, grown_back}
 use Rattle.determinize_state.proofs.state.builders.StateBuilderNFA.restore.Goals as goal
 
