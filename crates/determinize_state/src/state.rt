@@ -69,6 +69,7 @@ impl<A: Allocator> Model for State<A> {
     ghost invariant = { λ s. IsSpelled s.bytes };
 }
 
+#[tactic(auto, using(crate::proofs::encoding::ReadBytes::reading))]
 impl<A: Allocator> State<A> {
     /// Returns the dead state, with nothing set and no pattern or NFA state: nine zero bytes. Does
     /// not allocate, so it never fails.
@@ -87,7 +88,7 @@ impl<A: Allocator> State<A> {
     pub fn is_match(&self) -> bool
         ensures { result ≡ is_nonempty self.now.patterns }
     {
-        bytes::is_match(self.bytes.as_slice())
+        bytes::has_flag(self.bytes.as_slice(), bytes::MATCH)
     }
 
     /// Returns the flag from-word: the byte before the state is a word byte. Determinization sets
@@ -95,7 +96,7 @@ impl<A: Allocator> State<A> {
     pub fn is_from_word(&self) -> bool
         ensures { result ≡ self.now.from_word }
     {
-        bytes::is_from_word(self.bytes.as_slice())
+        bytes::has_flag(self.bytes.as_slice(), bytes::FROM_WORD)
     }
 
     /// Returns the flag half-CRLF: the byte before the state may be the first half of a CRLF.
@@ -103,7 +104,7 @@ impl<A: Allocator> State<A> {
     pub fn is_half_crlf(&self) -> bool
         ensures { result ≡ self.now.half_crlf }
     {
-        bytes::is_half_crlf(self.bytes.as_slice())
+        bytes::has_flag(self.bytes.as_slice(), bytes::HALF_CRLF)
     }
 
     /// Returns look-have: the assertions known to hold at the state.
@@ -129,11 +130,13 @@ impl<A: Allocator> State<A> {
     }
 
     /// Returns the pattern at this index, which must be below `match_len`.
+    #[tactic(auto, using(crate::proofs::encoding::ReadBytes::patterns))]
     pub fn match_pattern(&self, index: usize) -> PatternID
         requires { index < length self.now.patterns }
         ensures { result ≡ slice_index self.now.patterns index }
     {
-        bytes::pattern_at(self.bytes.as_slice(), index)
+        let words = bytes::pattern_words(self.bytes.as_slice());
+        PatternID::must(bytes::number_at(words, PatternID::SIZE * index) as usize)
     }
 
     /// Returns the patterns that match, in order, in a vector of the state's allocator. Returns

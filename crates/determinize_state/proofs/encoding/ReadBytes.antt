@@ -2,7 +2,7 @@
 -- Main statements: laid_out_in, long, rest_valid, number_of.
 -- Used by: the calls that read a state.
 -- Idea: the bytes are those of a value, so each place has that part of the value.
-use Rattle.determinize_state.proofs.Common.{◌≡◌, ℕ, ◌*◌, ◌<◌, ◌≤◌, true, List, [], length, All, suc, zero, refl, arith, sym, ◌∙◌, take, drop, lit≤, subst, slice_index, All-head, All-tail, ◌∷◌, from_le_bytes, w32, is_nonempty, IsDeltas, words, number_at, numbers_in, has_flag, start_in, IsSpelled, by_test}
+use Rattle.determinize_state.proofs.Common.{◌≡◌, ℕ, ◌*◌, ◌<◌, ◌≤◌, true, List, [], length, All, suc, zero, refl, arith, sym, ◌∙◌, take, drop, lit≤, subst, slice_index, All-head, All-tail, ◌∷◌, from_le_bytes, w32, is_nonempty, IsDeltas, words, number_at, numbers_in, has_flag, start_in, IsSpelled, by_test, ids_from, patterns_in}
 use Rattle.determinize_state.specs.Spelling.{value_of}
 pub use Rattle.determinize_state.proofs.encoding.RoundTrip.{AreListed, IsLaidOut, few, laid_out, length-words, numbers_in-words}
 use Rattle.std.proofs.lemmas.Nat.{from_le_bytes-to_le_bytes_4}
@@ -33,7 +33,15 @@ pub rest_valid : (bytes : List ℕ) → IsSpelled bytes → IsDeltas 0 (drop (st
 unfolding value_of
 rest_valid bytes h = record { small = lit≤ tt; ids = h.valid.state_ids; spelled = sym (laid_out_in bytes h).rest }
 
-pub ruleset reading = (long, match_of, listed_at, start_of, rest_valid)
+-- the parts of the value, where the bytes have them
+pub parts_of : (bytes : List ℕ) → ((value_of bytes).from_word ≡ has_flag bytes 4)
+    × ((value_of bytes).half_crlf ≡ has_flag bytes 8) × ((value_of bytes).look_have ≡ number_at bytes 1)
+    × ((value_of bytes).look_need ≡ number_at bytes 5) × ((value_of bytes).patterns ≡ patterns_in bytes)
+    × ((value_of bytes).states ≡ ids_from 0 0 1 (drop (start_in bytes) bytes))
+unfolding value_of
+parts_of bytes = (refl, refl, refl, refl, refl, refl)
+
+pub ruleset reading = (parts_of, long, match_of, listed_at, start_of, rest_valid)
 
 pub few_in : (bytes : List ℕ) → IsSpelled bytes → length (value_of bytes).patterns ≤ 2147483647
 few_in bytes h = few (value_of bytes).patterns h.valid.distinct h.valid.pattern_ids

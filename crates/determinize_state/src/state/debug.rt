@@ -32,13 +32,14 @@ impl<A: Allocator> fmt::Debug for StateBuilderNFA<A> {
 }
 
 /// Writes the parts of an encoded value as the fields of a struct with this name.
+#[tactic(auto, using(crate::proofs::encoding::ReadBytes::long))]
 fn write_value<W: fmt::Write>(name: &str, bytes: &[u8], f: &mut fmt::Formatter<W>) -> fmt::Result
     requires { IsSpelled bytes.now }
 {
     f.debug_struct(name)
-        .field("is_match", &bytes::is_match(bytes))
-        .field("is_from_word", &bytes::is_from_word(bytes))
-        .field("is_half_crlf", &bytes::is_half_crlf(bytes))
+        .field("is_match", &bytes::has_flag(bytes, bytes::MATCH))
+        .field("is_from_word", &bytes::has_flag(bytes, bytes::FROM_WORD))
+        .field("is_half_crlf", &bytes::has_flag(bytes, bytes::HALF_CRLF))
         .field("look_have", &bytes::look_have(bytes))
         .field("look_need", &bytes::look_need(bytes))
         .field("match_pattern_ids", &bytes::pattern_ids(bytes))
