@@ -31,7 +31,6 @@ mod builders;
 mod bytes;
 mod comparison;
 mod debug;
-mod mark;
 mod nfa_state_ids;
 mod pattern_ids;
 mod small_bytes;
@@ -43,7 +42,6 @@ ghost use Rattle.determinize_state.specs.Spelling.{spell};
 
 pub use builders::{StateBuilderEmpty, StateBuilderMatches, StateBuilderNFA};
 use determinize_below::{LookSet, PatternID};
-pub(crate) use mark::Mark;
 pub use nfa_state_ids::NfaStateIds;
 use small_bytes::SmallBytes;
 use std::alloc::{AllocError, Allocator, Global};
@@ -78,9 +76,8 @@ impl<A: Allocator> State<A> {
         ensures value { IfOk result (λ s. s ≡ dead) }
         ensures succeeds { IsOk result }
     {
-        Ok(State {
-            bytes: SmallBytes::from_slice(alloc, &[0; bytes::COUNT])?,
-        })
+        let bytes = SmallBytes::from_slice(alloc, &[0; bytes::COUNT])?;
+        Ok(State { bytes })
     }
 
     /// Returns whether some pattern matches in this state. Matches are delayed by one unit: such a
@@ -186,8 +183,7 @@ impl<A: Allocator + Clone> Clone for State<A> {
     ghost is_clone = { λ a b. a ≡ b };
 
     fn clone(&self) -> Result<State<A>, AllocError> {
-        Ok(State {
-            bytes: self.bytes.clone()?,
-        })
+        let bytes = self.bytes.clone()?;
+        Ok(State { bytes })
     }
 }

@@ -5,7 +5,7 @@
 use Rattle.determinize_state.proofs.Common.{◌≡◌, ℕ, ◌≤◌, List, [], ◌∷◌, ◌++◌, length, All, arith, sym, ap, ◌∙◌, take, append_assoc, take-append_seam, All-cons, All-head, All-tail, Value, IsValue, deltas, last_id, value_of, IsSpelled, IsBuilding, IsGrown}
 use Rattle.determinize_state.specs.Spelling.{spell}
 use Rattle.determinize_state.specs.Private.Marking.{IsMarkOf}
-use Rattle.determinize_state.specs.declared.state.mark.Mark.{Mark}
+use Rattle.determinize_state.specs.declared.state.builders.Mark.{Mark}
 use Rattle.determinize_state.proofs.encoding.Varints.{deltas-append}
 use Rattle.determinize_state.proofs.building.UnfinishedBytes.{built}
 

@@ -21,7 +21,7 @@ ghost use Rattle.determinize_state.specs.Spelling.{spell};
 ghost use Rattle.determinize_state.specs.Private.Marking.{IsMarkOf};
 
 use crate::state::small_bytes::SmallBytes;
-use crate::state::{Mark, State, bytes, varint};
+use crate::state::{State, bytes, varint};
 use determinize_below::{Look, LookSet, PatternID, StateID};
 use std::alloc::{AllocError, Allocator, Global};
 use std::marker::Model;
@@ -48,9 +48,8 @@ impl<A: Allocator> StateBuilderEmpty<A> {
     pub fn new(alloc: A) -> StateBuilderEmpty<A>
         ensures { result ≡ dead }
     {
-        StateBuilderEmpty {
-            bytes: Vec::new(alloc),
-        }
+        let bytes = Vec::new(alloc);
+        StateBuilderEmpty { bytes }
     }
 
     /// Returns a builder that may keep the memory of a state. Never fails.
@@ -72,7 +71,9 @@ impl<A: Allocator> StateBuilderEmpty<A> {
         ensures { IfOk result (λ builder. builder ≡ dead) }
     {
         let mut bytes = self.bytes;
-        bytes::begin(&mut bytes)?;
+        if bytes.is_empty() {
+            bytes.extend_from_slice(&[0; bytes::COUNT])?;
+        }
         let last = StateID::ZERO;
         let builder = StateBuilderNFA { bytes, last };
         Ok(StateBuilderMatches { builder })
@@ -170,6 +171,15 @@ impl<A: Allocator> Model for StateBuilderNFA<A> {
     ghost view = { λ s. value_of s.bytes.items };
 
     ghost invariant = { λ s. IsBuilding s.bytes.items s.last };
+}
+
+/// The part of a `StateBuilderNFA` that `restore` needs to undo later calls.
+#[derive(Clone, Copy)]
+pub(crate) struct Mark {
+    bytes: usize,
+    last: StateID,
+    look_have: LookSet,
+    look_need: LookSet,
 }
 
 impl<A: Allocator> StateBuilderNFA<A> {
@@ -300,18 +310,16 @@ impl<A: Allocator> StateBuilderNFA<A> {
         ensures { IfOk result (λ state. state ≡ self.now) }
     {
         let alloc = self.bytes.allocator().clone()?;
-        Ok(State {
-            bytes: SmallBytes::from_slice(alloc, self.bytes.as_slice())?,
-        })
+        let bytes = SmallBytes::from_slice(alloc, self.bytes.as_slice())?;
+        Ok(State { bytes })
     }
 
     /// Returns a state with the value of the builder, in its memory. Does not allocate.
     pub fn into_state(self) -> State<A>
         ensures { result ≡ self }
     {
-        State {
-            bytes: SmallBytes::from_vec(self.bytes),
-        }
+        let bytes = SmallBytes::from_vec(self.bytes);
+        State { bytes }
     }
 
     /// Returns an empty builder, which may keep the memory of this one. Never fails.
@@ -363,9 +371,8 @@ impl<A: Allocator + Clone> Clone for StateBuilderMatches<A> {
     ghost is_clone = { λ a b. a ≡ b };
 
     fn clone(&self) -> Result<StateBuilderMatches<A>, AllocError> {
-        Ok(StateBuilderMatches {
-            builder: self.builder.clone()?,
-        })
+        let builder = self.builder.clone()?;
+        Ok(StateBuilderMatches { builder })
     }
 }
 
@@ -374,10 +381,7 @@ impl<A: Allocator + Clone> Clone for StateBuilderNFA<A> {
     ghost is_clone = { λ a b. a ≡ b };
 
     fn clone(&self) -> Result<StateBuilderNFA<A>, AllocError> {
-        let bytes = self.bytes.clone()?;
-        Ok(StateBuilderNFA {
-            bytes,
-            last: self.last,
-        })
+        let (bytes, last) = (self.bytes.clone()?, self.last);
+        Ok(StateBuilderNFA { bytes, last })
     }
 }

@@ -39,21 +39,6 @@ pub(crate) const COUNT: usize = 9;
 /// The offset of the explicit patterns.
 pub(crate) const PATTERNS: usize = 13;
 
-/// The bytes of the pattern `ZERO`, for a state that has it implicitly.
-const ZERO_WORD: [u8; 4] = [0; 4];
-
-/// Writes an empty header, unless the bytes are one.
-#[inline(always)]
-pub(crate) fn begin<A: Allocator>(bytes: &mut Vec<u8, A>) -> Result<(), AllocError>
-    requires { IsClear bytes.old.items }
-    ensures { OnOk result (bytes.new.items ≡ header) }
-{
-    if bytes.is_empty() {
-        bytes.extend_from_slice(&[0; COUNT])?;
-    }
-    Ok(())
-}
-
 /// Removes all but the header, and empties that.
 #[inline(always)]
 pub(crate) fn clear<A: Allocator>(bytes: &mut Vec<u8, A>)
@@ -159,7 +144,7 @@ pub(crate) fn pattern_words(bytes: &[u8]) -> &[u8]
         let (ids, _) = rest.split_at(size);
         ids
     } else if has_flag(bytes, MATCH) {
-        &ZERO_WORD
+        &[0; PatternID::SIZE]
     } else {
         &[]
     }
