@@ -5,7 +5,7 @@
 use Rattle.determinize_state.proofs.Common.{◌≡◌, ℕ, true, ◌<◌, ◌≤◌, List, [], ◌∷◌, ◌++◌, refl, arith, sym, ap, ◌∙◌, append-nil, append_assoc, subst, All-push, Value, IsValue, dead, with_state, varint, zigzag, last_id, with_word, value_of, IsSpelled, with_bit, IsBuilding}
 use Rattle.determinize_state.specs.Spelling.{spell}
 use Rattle.determinize_state.proofs.encoding.Varints.{deltas-append}
-use Rattle.determinize_state.proofs.encoding.ReadBytes.{long}
+use Rattle.determinize_state.proofs.encoding.ReadBytes.{laid_out_in}
 use Rattle.determinize_state.proofs.values.TestedSets.{insert-had}
 use Rattle.determinize_state.proofs.encoding.RoundTrip.{dead_valid, value_of-spell, spelled}
 
@@ -70,4 +70,4 @@ pub built_zeros : IsBuilding (0 ∷ 0 ∷ 0 ∷ 0 ∷ 0 ∷ 0 ∷ 0 ∷ 0 ∷ 0 
 unfolding spell
 built_zeros = built _ 0 dead dead_valid refl refl
 
-pub ruleset building = (long, have_written, need_written, from_word_set, half_crlf_set, state_written, last-push, insert-had, built_zeros)
+pub ruleset building = (laid_out_in, have_written, need_written, from_word_set, half_crlf_set, state_written, last-push, insert-had, built_zeros)

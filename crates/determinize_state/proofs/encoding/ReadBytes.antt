@@ -2,7 +2,7 @@
 -- Main statements: laid_out_in, long, rest_valid, number_of.
 -- Used by: the calls that read a state.
 -- Idea: the bytes are those of a value, so each place has that part of the value.
-use Rattle.determinize_state.proofs.Common.{◌≡◌, ℕ, ◌*◌, ◌<◌, ◌≤◌, true, List, [], length, All, suc, zero, refl, arith, sym, ◌∙◌, take, drop, lit≤, subst, slice_index, All-head, All-tail, ◌∷◌, from_le_bytes, w32, is_nonempty, IsDeltas, words, number_at, numbers_in, has_flag, start_in, IsSpelled, by_test, ids_from, patterns_in}
+use Rattle.determinize_state.proofs.Common.{◌≡◌, ℕ, ◌*◌, ◌<◌, ◌≤◌, List, [], length, All, suc, zero, refl, arith, sym, take, drop, lit≤, subst, slice_index, All-head, All-tail, ◌∷◌, from_le_bytes, w32, IsDeltas, words, number_at, numbers_in, has_flag, start_in, IsSpelled, ids_from, patterns_in}
 use Rattle.determinize_state.specs.Spelling.{value_of}
 pub use Rattle.determinize_state.proofs.encoding.RoundTrip.{AreListed, IsLaidOut, few, laid_out, length-words, numbers_in-words}
 use Rattle.std.proofs.lemmas.Nat.{from_le_bytes-to_le_bytes_4}
@@ -10,24 +10,8 @@ use Rattle.std.proofs.lemmas.Nat.{from_le_bytes-to_le_bytes_4}
 pub laid_out_in : (bytes : List ℕ) → IsSpelled bytes → IsLaidOut (value_of bytes) bytes
 laid_out_in bytes h = subst (IsLaidOut (value_of bytes)) h.spelled (laid_out (value_of bytes) h.valid)
 
-pub long : (bytes : List ℕ) → IsSpelled bytes → 9 ≤ length bytes
-long bytes h = (laid_out_in bytes h).long
-
-pub match_of : (bytes : List ℕ) → IsSpelled bytes → has_flag bytes 1 ≡ is_nonempty (value_of bytes).patterns
-match_of bytes h = (laid_out_in bytes h).matches
-
-pub listed_in : (bytes : List ℕ) → IsSpelled bytes → has_flag bytes 2 ≡ true → AreListed (value_of bytes).patterns bytes
-listed_in bytes h e = let at = laid_out_in bytes h in at.listed (sym at.explicit ∙ e)
-
--- the same, for a search that has a length in hand
-pub listed_at : (bytes : List ℕ) → IsSpelled bytes → has_flag bytes 2 ≡ true
-    → (length bytes ≡ length bytes) × AreListed (value_of bytes).patterns bytes
-listed_at bytes h e = (refl, listed_in bytes h e)
-
 pub start_of : (bytes : List ℕ) → IsSpelled bytes → start_in bytes ≤ length bytes
-start_of bytes h = by_test (has_flag bytes 2)
-    (λ e. let listed = listed_in bytes h e in rw (e, listed.count) listed.room)
-    (λ e. rw e (long bytes h))
+start_of bytes h = grind (arith, laid_out_in bytes h)
 
 pub rest_valid : (bytes : List ℕ) → IsSpelled bytes → IsDeltas 0 (drop (start_in bytes) bytes)
 unfolding value_of
@@ -41,7 +25,7 @@ pub parts_of : (bytes : List ℕ) → ((value_of bytes).from_word ≡ has_flag b
 unfolding value_of
 parts_of bytes = (refl, refl, refl, refl, refl, refl)
 
-pub ruleset reading = (parts_of, long, match_of, listed_at, start_of, rest_valid)
+pub ruleset reading = (parts_of, laid_out_in, start_of, rest_valid)
 
 pub few_in : (bytes : List ℕ) → IsSpelled bytes → length (value_of bytes).patterns ≤ 2147483647
 few_in bytes h = few (value_of bytes).patterns h.valid.distinct h.valid.pattern_ids

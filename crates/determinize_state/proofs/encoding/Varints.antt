@@ -60,24 +60,18 @@ ids_from-deltas from (id ∷ ids) small all =
     ∙ rw (unzigzag-zigzag from id, ids_from-deltas id ids here (All-tail (λ i. i ≤ 2147483646) id ids all))
 
 -- the bytes after the first varint, by their number
-read-rest : (low weight : ℕ) (bytes : List ℕ) (number : ℕ) (after : List ℕ)
-    → read low weight bytes ≡ Some (number, after)
-    → (length after < length bytes) × (drop (length bytes - length after) bytes ≡ after)
-read-rest low weight [] number after e = absurd (cc)
-read-rest low weight (byte ∷ bytes) number after e =
-    let one_more : length after ≤ length bytes
+read-rest : (low weight : ℕ) (bytes : List ℕ) → IfSome (read low weight bytes) (λ r. (length r.1 < length bytes)
+    × (drop (length bytes - length r.1) bytes ≡ r.1))
+read-rest low weight [] = tt
+read-rest low weight (byte ∷ bytes) =
+    let one_more : (after : List ℕ) → length after ≤ length bytes
     → drop (suc (length bytes) - length after) (byte ∷ bytes) ≡ drop (length bytes - length after) bytes =
-    λ h. let k : suc (length bytes) - length after ≡ suc (length bytes - length after) = omega arith in rw k in
-    grind (arith, nat_tests, one_more, read-rest (low + weight * (byte - 128)) (weight * 128) bytes number after)
+    λ after h. let k : suc (length bytes) - length after ≡ suc (length bytes - length after) = omega arith in rw k in
+    grind (arith, nat_tests, one_more, read-rest (low + weight * (byte - 128)) (weight * 128) bytes)
 
 pub left_after : (bytes : List ℕ) → (read 0 1 bytes ≡ read 0 1 bytes)
     × IfSome (read 0 1 bytes) (λ r. (length r.1 < length bytes) × (drop (length bytes - length r.1) bytes ≡ r.1))
-left_after bytes = (refl, go (read 0 1 bytes) refl)
-  where
-    go : (found : Option (ℕ × List ℕ)) → read 0 1 bytes ≡ found
-        → IfSome found (λ r. (length r.1 < length bytes) × (drop (length bytes - length r.1) bytes ≡ r.1))
-    go None e = tt
-    go (Some r) e = read-rest 0 1 bytes r.0 r.1 e
+left_after bytes = (refl, read-rest 0 1 bytes)
 
 -- the first of these ids has this number, and the bytes after it encode the others
 pub record IsFirst (from : ℕ) (ids : List ℕ) (id number : ℕ) (after : List ℕ) : Type 0 where

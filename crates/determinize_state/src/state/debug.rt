@@ -32,7 +32,7 @@ impl<A: Allocator> fmt::Debug for StateBuilderNFA<A> {
 }
 
 /// Writes the parts of an encoded value as the fields of a struct with this name.
-#[tactic(auto, using(crate::proofs::encoding::ReadBytes::long))]
+#[tactic(auto, using(crate::proofs::encoding::ReadBytes::laid_out_in))]
 fn write_value<W: fmt::Write>(name: &str, bytes: &[u8], f: &mut fmt::Formatter<W>) -> fmt::Result
     requires { IsSpelled bytes.now }
 {
