@@ -1,5 +1,5 @@
 -- The bytes of a state to which a pattern is added.
--- Main statements: pattern_written, unlisted.
+-- Main statements: pattern_written.
 -- Used by: `add_match_pattern_id`.
 -- Idea: the one pattern 0 takes no bytes until another comes.
 use Rattle.determinize_state.proofs.Common.{◌≡◌, ℕ, ◌+◌, ◌≤◌, true, false, List, [], ◌∷◌, ◌++◌, nat_eq, suc, zero, refl, arith, ap, ◌∙◌, length-append, list_any, nat_eq_equiv, nat_tests, All-push, Value, IsValue, with_pattern, is_nonempty, is_explicit, words, word, with_word, has_flag, value_of, number_at, IsSpelled}
@@ -33,17 +33,9 @@ pushed-more v id h none e =
 
 pushed : (v : Value) (id : ℕ) (ids : List ℕ) → IsValue v → v.states ≡ [] → v.patterns ≡ ids
     → spell (with_pattern v id) ≡ with_pattern_bytes (spell v) id
-pushed v zero [] h none e =
-    let at = laid_out v h in
-    rw (at.explicit ∙ ap is_explicit e, at.matches ∙ ap is_nonempty e) (unfold spell in rw (none, e) (grind arith))
-pushed v (suc n) [] h none e =
-    let at = laid_out v h in
-    let not_zero : nat_eq (suc n) 0 ≡ false = grind (arith, nat_tests) in
-    rw (at.explicit ∙ ap is_explicit e, at.matches ∙ ap is_nonempty e, not_zero)
-    (unfold spell in rw (none, e) (grind arith))
-pushed v id (zero ∷ []) h none e =
-    let at = laid_out v h in
-    rw (at.explicit ∙ ap is_explicit e, at.matches ∙ ap is_nonempty e) (unfold spell in rw (none, e) (grind arith))
+pushed v zero [] h none e = unfold spell in rw (none, e) (grind (arith, laid_out v h))
+pushed v (suc n) [] h none e = unfold spell in rw (none, e) (grind (arith, nat_tests, laid_out v h))
+pushed v id (zero ∷ []) h none e = unfold spell in rw (none, e) (grind (arith, laid_out v h))
 pushed v id ids h none e =
     rw ((laid_out v h).explicit ∙ ap is_explicit e) (pushed-more v id h none (ap is_explicit e))
 
@@ -58,10 +50,4 @@ pattern_written bytes id h none small new =
     respelled _ (with_pattern v id) (assumption (distinct, all, h.valid))
     (pushed v id v.patterns h.valid none refl ∙ ap (λ (b : List ℕ). with_pattern_bytes b id) h.spelled)
 
--- the bits of the first byte if there is no pattern
-pub unlisted : (bytes : List ℕ) → IsSpelled bytes → (value_of bytes).patterns ≡ [] → (has_flag bytes 1 ≡ false)
-    × (has_flag bytes 2 ≡ false)
-unlisted bytes h none =
-    let at = laid_out_in bytes h in (at.matches ∙ ap is_nonempty none, at.explicit ∙ ap is_explicit none)
-
-pub ruleset adding = (pattern_written, unlisted)
+pub ruleset adding = (pattern_written, laid_out_in)

@@ -1,5 +1,5 @@
 -- Reading the bytes of a finished state.
--- Main statements: laid_out_in, long, rest_valid, number_of.
+-- Main statements: laid_out_in, rest_valid, number_of.
 -- Used by: the calls that read a state.
 -- Idea: the bytes are those of a value, so each place has that part of the value.
 use Rattle.determinize_state.proofs.Common.{◌≡◌, ℕ, ◌*◌, ◌<◌, ◌≤◌, List, [], length, All, suc, zero, refl, arith, sym, take, drop, lit≤, subst, slice_index, All-head, All-tail, ◌∷◌, from_le_bytes, w32, IsDeltas, words, number_at, numbers_in, has_flag, start_in, IsSpelled, ids_from, patterns_in}
@@ -27,9 +27,6 @@ parts_of bytes = (refl, refl, refl, refl, refl, refl)
 
 pub ruleset reading = (parts_of, laid_out_in, start_of, rest_valid)
 
-pub few_in : (bytes : List ℕ) → IsSpelled bytes → length (value_of bytes).patterns ≤ 2147483647
-few_in bytes h = few (value_of bytes).patterns h.valid.distinct h.valid.pattern_ids
-
 -- the number at an index of four bytes each
 pub number_of : (ids : List ℕ) (index : ℕ) → index < length ids → All (λ id. id ≤ 2147483646) ids
     → number_at (words ids) (4 * index) ≡ slice_index ids index
@@ -40,7 +37,7 @@ number_of (id ∷ ids) (suc index) h all =
     rw e (number_of ids index (omega (arith, h)) (All-tail (λ i. i ≤ 2147483646) id ids all))
 number_of [] index h all = absurd (omega (arith, h))
 
-pub ruleset patterns = (few_in, length-words, numbers_in-words, number_of)
+pub ruleset patterns = (laid_out_in, length-words, numbers_in-words, number_of)
 
 -- the first of the numbers, and the others
 pub first_number : (bytes : List ℕ) → 4 ≤ length bytes

@@ -40,7 +40,6 @@ few ids distinct all = length-le_from_distinct_below ids 2147483647 distinct (λ
 
 -- explicit patterns: their number, and the patterns themselves
 pub record AreListed (ids bytes : List ℕ) : Type 0 where
-  pub few : length ids ≤ 2147483647
   pub count : number_at bytes 9 ≡ length ids
   pub room : 13 + 4 * length ids ≤ length bytes
   pub words : take (4 * length ids) (drop 13 bytes) ≡ words ids
@@ -48,6 +47,7 @@ pub record AreListed (ids bytes : List ℕ) : Type 0 where
 -- where the parts of the value are in the bytes
 pub record IsLaidOut (v : Value) (bytes : List ℕ) : Type 0 where
   pub long : 9 ≤ length bytes
+  pub few : length v.patterns ≤ 2147483647
   pub matches : has_flag bytes 1 ≡ is_nonempty v.patterns
   pub explicit : has_flag bytes 2 ≡ is_explicit v.patterns
   pub listed : is_explicit v.patterns ≡ true → AreListed v.patterns bytes
@@ -59,7 +59,6 @@ listed_in v h e =
     let few_ids : length v.patterns ≤ 2147483647 = few v.patterns h.distinct h.pattern_ids in
     let size = length-words v.patterns in
     rw e record {
-      few = few_ids;
       count = from_le_bytes-to_le_bytes_4 (length v.patterns) (omega arith);
       room = omega (arith, length-append (words v.patterns) (deltas 0 v.states));
       words = rw (← size) (take-append_seam (words v.patterns) (deltas 0 v.states));
@@ -79,6 +78,7 @@ pub laid_out : (v : Value) → IsValue v → IsLaidOut v (spell v)
 unfolding spell
 laid_out v h = record {
   long = omega arith;
+  few = few v.patterns h.distinct h.pattern_ids;
   matches = grind arith;
   explicit = explicit_flag v;
   listed = listed_in v h;
@@ -88,9 +88,7 @@ laid_out v h = record {
 patterns_in-spell : (v : Value) → IsValue v → patterns_in (spell v) ≡ v.patterns
 patterns_in-spell v h =
     let at = laid_out v h in
-    by_test (is_explicit v.patterns)
-    (λ e. rw (at.explicit, e, (at.listed e).count, (at.listed e).words) (numbers_in-words v.patterns h.pattern_ids))
-    (λ e. rw (at.explicit, e, at.matches) (grind arith))
+    grind (arith, at, numbers_in-words v.patterns h.pattern_ids)
 
 -- decoding the encoding of a value gives the value
 pub value_of-spell : (v : Value) → IsValue v → value_of (spell v) ≡ v
