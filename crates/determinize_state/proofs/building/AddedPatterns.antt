@@ -2,7 +2,7 @@
 -- Main statements: pattern_written.
 -- Used by: `add_match_pattern_id`.
 -- Idea: the one pattern 0 takes no bytes until another comes.
-use Rattle.determinize_state.proofs.Common.{◌≡◌, ℕ, ◌+◌, ◌≤◌, true, false, List, [], ◌∷◌, ◌++◌, nat_eq, suc, zero, refl, arith, ap, ◌∙◌, length-append, list_any, nat_eq_equiv, nat_tests, All-push, Value, IsValue, with_pattern, is_nonempty, is_explicit, words, word, with_word, has_flag, value_of, number_at, IsSpelled}
+use Rattle.determinize_state.proofs.Common.{◌≡◌, ℕ, ◌+◌, ◌≤◌, true, false, List, [], ◌∷◌, ◌++◌, nat_eq, suc, zero, refl, arith, ap, ◌∙◌, length-append, list_any, nat_eq_equiv, nat_tests, All-push, Value, IsValue, with_pattern, is_nonempty, is_explicit, words, word, with_word, value_of, number_at, IsSpelled}
 use Rattle.std.proofs.Common.{append-nil}
 use Rattle.std.proofs.lemmas.Map.Keys.{IsDistinct-push}
 use Rattle.determinize_state.specs.Private.PatternBytes.{with_pattern_bytes}

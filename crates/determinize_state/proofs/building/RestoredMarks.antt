@@ -2,16 +2,13 @@
 -- Main statements: cut_back, grown_back.
 -- Used by: `restore`.
 -- Idea: bytes only grow, so cutting them and writing the sets is enough.
-use Rattle.determinize_state.proofs.Common.{◌≡◌, ℕ, ◌≤◌, List, [], ◌∷◌, ◌++◌, length, All, arith, sym, ap, ◌∙◌, take, append_assoc, take-append_seam, All-cons, All-head, All-tail, Value, IsValue, deltas, last_id, value_of, IsSpelled, IsBuilding, IsGrown}
+use Rattle.determinize_state.proofs.Common.{length-append, ◌≡◌, ℕ, ◌≤◌, List, ◌++◌, length, All, arith, sym, ap, ◌∙◌, take, append_assoc, take-append_seam, Value, IsValue, deltas, last_id, value_of, IsSpelled, IsBuilding, IsGrown}
+use Rattle.std.proofs.Math.ListN.{get_or-append}
 use Rattle.determinize_state.specs.Spelling.{spell}
 use Rattle.determinize_state.specs.Private.Marking.{IsMarkOf}
 use Rattle.determinize_state.specs.declared.state.builders.Mark.{Mark}
 use Rattle.determinize_state.proofs.encoding.Varints.{deltas-append}
 use Rattle.determinize_state.proofs.building.UnfinishedBytes.{built}
-
-all_front : (P : ℕ → Type 0) (xs ys : List ℕ) → All P (xs ++ ys) → All P xs
-all_front P [] ys h = λ k d e. absurd (omega (arith, e))
-all_front P (x ∷ xs) ys h = All-cons P x xs (All-head P x (xs ++ ys) h) (all_front P xs ys (All-tail P x (xs ++ ys) h))
 
 -- the value of the bytes before the mark
 abbrev pub kept : Value → Value → Value
@@ -33,8 +30,8 @@ cut_back v w bytes mark h is m g =
     let more = deltas (last_id 0 v.states) g.states.0 in
     let valid : IsValue w = rw is at h.valid in
     let whole : bytes ≡ spell (kept v w) ++ more = sym h.spelled ∙ rw is (spell-grown v w g) in
-    let small : All (λ id. id ≤ 2147483646) v.states = all_front (λ id. id ≤ 2147483646) v.states g.states.0
-    (rw g.states.1 at valid.state_ids) in
+    let small : All (λ id. id ≤ 2147483646) v.states =
+    grind (arith, get_or-append, length-append v.states g.states.0, g.states.1, valid.state_ids) in
     built _ mark.last (kept v w) (assumption (small, valid)) m.last
     (rw (m.bytes ∙ size_same v w g) (sym (ap (take (length (spell (kept v w)))) whole
     ∙ take-append_seam (spell (kept v w)) more)))

@@ -2,7 +2,7 @@
 -- Main statements: laid_out, value_of-spell, spelled, spell_tells.
 -- Used by: all that reads or writes the bytes of a state.
 -- Idea: the header has fixed places, and the lengths of the parts are in it.
-use Rattle.determinize_state.proofs.Common.{eqb-true, ◌≡◌, ℕ, ◌+◌, ◌*◌, ◌<◌, ◌≤◌, true, List, [], ◌∷◌, length, All, nat_eq, refl, arith, sym, ap, ◌∙◌, take, drop, lit<, subst, length-append, All-head, All-tail, Value, IsValue, dead, is_nonempty, deltas, is_explicit, words, number_at, numbers_in, has_flag, start_in, patterns_in, IsSpelled, drop-drop, drop-append_seam, take-append_seam, by_test}
+use Rattle.determinize_state.proofs.Common.{eqb-true, ◌≡◌, ℕ, ◌+◌, ◌*◌, ◌<◌, ◌≤◌, true, List, [], ◌∷◌, length, All, nat_eq, refl, arith, sym, ap, ◌∙◌, take, drop, subst, length-append, All-head, All-tail, Value, IsValue, dead, is_nonempty, deltas, is_explicit, words, number_at, numbers_in, has_flag, start_in, patterns_in, IsSpelled, drop-drop, drop-append_seam, take-append_seam, by_test}
 use Rattle.std.specs.List.{IsDistinct}
 use Rattle.std.proofs.lemmas.Nat.{from_le_bytes-to_le_bytes_4}
 use Rattle.std.proofs.lemmas.Map.Steps.{length-le_from_distinct_below}
@@ -12,13 +12,7 @@ use Rattle.determinize_state.proofs.encoding.Varints.{ids_from-deltas}
 
 pub dead_valid : IsValue dead
 unfolding IsDistinct
-dead_valid = record {
-  have = lit< tt;
-  need = lit< tt;
-  distinct = tt;
-  pattern_ids = λ k d h. absurd (omega (arith, h));
-  state_ids = λ k d h. absurd (omega (arith, h));
-}
+dead_valid = grind arith
 
 pub length-words : (ns : List ℕ) → length (words ns) ≡ 4 * length ns
 length-words [] = refl

@@ -1,5 +1,5 @@
 -- Varints and the differences of ids: decoding inverts encoding.
--- Main statements: ids_from-deltas, first_some, varint-more.
+-- Main statements: ids_from-deltas, first_read, varint-more.
 -- Used by: RoundTrip, the functions that read and write a varint.
 -- Idea: seven bits at a time; a zigzag number is even or odd with its sign.
 use Rattle.determinize_state.proofs.Common.{◌≡◌, ℕ, ◌+◌, ◌-◌, ◌*◌, ◌/◌, ◌%◌, ◌<◌, ◌≤◌, Option, Some, None, IfNone, IfSome, List, [], ◌∷◌, ◌++◌, All, nat_lt, suc, zero, refl, arith, sym, ap, ◌∙◌, append_assoc, zero-add, lit≤, length, drop, IsDeltas, zigzag, unzigzag, groups, deltas, ids_from, last_id, All-head, All-tail, nat_tests, read}
@@ -60,18 +60,15 @@ ids_from-deltas from (id ∷ ids) small all =
     ∙ rw (unzigzag-zigzag from id, ids_from-deltas id ids here (All-tail (λ i. i ≤ 2147483646) id ids all))
 
 -- the bytes after the first varint, by their number
-read-rest : (low weight : ℕ) (bytes : List ℕ) → IfSome (read low weight bytes) (λ r. (length r.1 < length bytes)
+pub read_rest : (low weight : ℕ) (bytes : List ℕ) → (read low weight bytes ≡ read low weight bytes)
+    × IfSome (read low weight bytes) (λ r. (length r.1 < length bytes)
     × (drop (length bytes - length r.1) bytes ≡ r.1))
-read-rest low weight [] = tt
-read-rest low weight (byte ∷ bytes) =
+read_rest low weight [] = (refl, tt)
+read_rest low weight (byte ∷ bytes) =
     let one_more : (after : List ℕ) → length after ≤ length bytes
     → drop (suc (length bytes) - length after) (byte ∷ bytes) ≡ drop (length bytes - length after) bytes =
     λ after h. let k : suc (length bytes) - length after ≡ suc (length bytes - length after) = omega arith in rw k in
-    grind (arith, nat_tests, one_more, read-rest (low + weight * (byte - 128)) (weight * 128) bytes)
-
-pub left_after : (bytes : List ℕ) → (read 0 1 bytes ≡ read 0 1 bytes)
-    × IfSome (read 0 1 bytes) (λ r. (length r.1 < length bytes) × (drop (length bytes - length r.1) bytes ≡ r.1))
-left_after bytes = (refl, read-rest 0 1 bytes)
+    (refl, grind (arith, nat_tests, one_more, (read_rest (low + weight * (byte - 128)) (weight * 128) bytes).1))
 
 -- the first of these ids has this number, and the bytes after it encode the others
 pub record IsFirst (from : ℕ) (ids : List ℕ) (id number : ℕ) (after : List ℕ) : Type 0 where

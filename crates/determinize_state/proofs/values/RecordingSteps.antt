@@ -1,9 +1,9 @@
 -- Adding states to a builder one by one.
--- Main statements: added_one-after, added-none, rest_below.
+-- Main statements: added_one-after, added-none.
 -- Used by: `add_states`, and the closure that records.
 -- Idea: the value after a list is that after its first states and then one more.
-use Rattle.determinize_state.proofs.Common.{◌≡◌, ◌<◌, ℕ, All, subst, not, List, [], ◌∷◌, ◌++◌, refl}
-use Rattle.determinize_state.proofs.Common.{sym, ap, ◌∙◌, append_assoc, append-nil, All-tail, filter-append, is_capture}
+use Rattle.determinize_state.proofs.Common.{◌≡◌, ℕ, not, List, [], ◌∷◌, ◌++◌, refl}
+use Rattle.determinize_state.proofs.Common.{sym, ap, ◌∙◌, append_assoc, append-nil, filter-append, is_capture}
 use Rattle.determinize_state.proofs.Common.{assertion_of, Nfa, without, by_test, added, added_one, needs}
 use Rattle.determinize_state.proofs.Common.{with_assertion, Value}
 
@@ -36,8 +36,3 @@ module _ (nfa : Nfa) where
   pub added-none : (v : Value) → v ≡ added nfa v []
   unfolding added_by
   added-none v = ap (λ l. added_by v v.look_need l) (sym (append-nil v.states))
-
--- the rest of a list whose elements are below a bound
-pub rest_below : (bound : ℕ) (xs ys : List ℕ) (x : ℕ) → xs ≡ x ∷ ys → All (λ id. id < bound) xs
-    → All (λ id. id < bound) ys
-rest_below bound xs ys x e h = All-tail (λ id. id < bound) x ys (subst (λ l. All (λ id. id < bound) l) e h)

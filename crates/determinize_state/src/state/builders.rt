@@ -1,12 +1,9 @@
 //! The three builders of a state.
 //!
-//! `StateBuilderEmpty` has an empty buffer, or the nine bytes of an empty header. `into_matches`
-//! ensures the latter, and patterns are appended, their number being written with each. After
-//! `into_nfa`, which leaves the bytes as they are, NFA states are appended. So the bytes always
-//! encode the value of the builder. `to_state` copies them into a state, and `clear` returns an
-//! empty builder with the same buffer, so that a walk needs one buffer for all its states.
-//! `into_state` makes the buffer the memory of a state, and `StateBuilderEmpty::from_state` takes
-//! it back, so that a state can be looked up without a copy.
+//! `StateBuilderEmpty` has an empty buffer, or the nine bytes of an empty header. From
+//! `into_matches` on, the bytes encode the value of the builder, and each part is appended. `clear`
+//! keeps the buffer, so that a walk needs one for all its states. `into_state` makes it the memory
+//! of a state, and `from_state` takes it back, so that a state can be looked up without a copy.
 //!
 //! `clear` leaves an empty header, so `into_matches` writes one for the first state only: a builder
 //! that is moved just after a write has to wait for the write.
@@ -242,8 +239,7 @@ impl<A: Allocator> StateBuilderNFA<A> {
         ensures err { OnErr result (self.new ≡ self.old) }
         ensures first { self.old.patterns ≡ [] → id ≡ 0 → IsOk result }
     {
-        bytes::add_pattern(&mut self.bytes, id.as_u32())?;
-        Ok(())
+        bytes::add_pattern(&mut self.bytes, id.as_u32())
     }
 
     /// Adds an assertion to look-need, which may contain it already.

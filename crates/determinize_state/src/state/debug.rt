@@ -20,8 +20,7 @@ impl<A: Allocator> fmt::Debug for StateBuilderEmpty<A> {
 
 impl<A: Allocator> fmt::Debug for StateBuilderMatches<A> {
     fn fmt<W: fmt::Write>(&self, f: &mut fmt::Formatter<W>) -> fmt::Result {
-        let builder = &self.builder;
-        write_value("StateBuilderMatches", builder.bytes.as_slice(), f)
+        write_value("StateBuilderMatches", self.builder.bytes.as_slice(), f)
     }
 }
 

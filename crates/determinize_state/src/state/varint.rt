@@ -98,7 +98,7 @@ pub(crate) fn read_number(bytes: &[u8]) -> Option<(u64, &[u8])>
 }
 
 /// Returns the number of bytes of the first varint, or 0 if there is none.
-#[tactic(auto, using(crate::proofs::encoding::Varints::left_after))]
+#[tactic(auto, using(crate::proofs::encoding::Varints::read_rest))]
 #[cold]
 #[inline(never)]
 fn groups_size(bytes: &[u8]) -> usize
