@@ -15,15 +15,12 @@ words-append : (ns ms : List ℕ) → words (ns ++ ms) ≡ words ns ++ words ms
 words-append [] ms = refl
 words-append (n ∷ ns) ms = rw (words-append ns ms)
 
-explicit_push : (ids : List ℕ) (id : ℕ) → is_explicit ids ≡ true → is_explicit (ids ++ id ∷ []) ≡ true
-explicit_push ids id e = grind arith
-
 -- the cases of adding a pattern before the first NFA state
 pushed-more : (v : Value) (id : ℕ) → IsValue v → v.states ≡ [] → is_explicit v.patterns ≡ true
     → spell (with_pattern v id) ≡ with_word (spell v ++ word id) 9 (number_at (spell v) 9 + 1)
 unfolding spell
 pushed-more v id h none e =
-    let more : is_explicit (v.patterns ++ id ∷ []) ≡ true = explicit_push v.patterns id e in
+    let more : is_explicit (v.patterns ++ id ∷ []) ≡ true = grind arith in
     let first : is_nonempty v.patterns ≡ true = grind arith in
     let last : is_nonempty (v.patterns ++ id ∷ []) ≡ true = grind arith in
     let tail : words (v.patterns ++ id ∷ []) ++ [] ≡ (words v.patterns ++ []) ++ word id =
