@@ -80,9 +80,7 @@ laid_out v h = record {
 }
 
 patterns_in-spell : (v : Value) → IsValue v → patterns_in (spell v) ≡ v.patterns
-patterns_in-spell v h =
-    let at = laid_out v h in
-    grind (arith, at, numbers_in-words v.patterns h.pattern_ids)
+patterns_in-spell v h = grind (arith, laid_out v h, numbers_in-words v.patterns h.pattern_ids)
 
 -- decoding the encoding of a value gives the value
 pub value_of-spell : (v : Value) → IsValue v → value_of (spell v) ≡ v

@@ -4,10 +4,9 @@
 //! serve both.
 #![tactic(auto, using(crate::proofs::encoding::ReadBytes::reading))]
 
-ghost use Rattle.std.specs.Prelude.{◌≡◌, ◌+◌, ◌*◌, ◌<◌, ◌≤◌, ◌^◌, [], ◌∷◌, ◌++◌, if◌then◌else◌, length, slice_index, vec_len, true, false, All, IfOk, OnOk, OnErr, IsOk};
-ghost use Rattle.determinize_state.specs.Value.{is_nonempty};
-ghost use Rattle.determinize_state.specs.Spelling.{IsSpelled, value_of, number_at, numbers_in, word, words, with_word, has_flag, start_in};
-ghost use Rattle.determinize_state.specs.Building.{header, IsClear};
+ghost use Rattle.std.specs.Prelude.{◌≡◌, ◌+◌, ◌*◌, ◌<◌, ◌≤◌, length, vec_len, false, OnOk, OnErr, IsOk};
+ghost use Rattle.determinize_state.specs.Spelling.{IsSpelled, value_of, number_at, words, with_word, has_flag};
+ghost use Rattle.determinize_state.specs.Building.{header};
 ghost use Rattle.determinize_state.specs.Private.PatternBytes.{with_bit, with_pattern_bytes};
 
 use crate::state::nfa_state_ids::NfaStateIds;
