@@ -1,8 +1,8 @@
 -- The bytes of a state to which a pattern is added.
--- Main statements: pattern_written.
+-- Main statements: pattern_written, unlisted.
 -- Used by: `add_match_pattern_id`.
 -- Idea: the one pattern 0 takes no bytes until another comes.
-use Rattle.determinize_state.proofs.Common.{◌≡◌, ℕ, ◌+◌, ◌≤◌, true, false, List, [], ◌∷◌, ◌++◌, nat_eq, suc, zero, refl, arith, ap, ◌∙◌, length-append, list_any, nat_eq_equiv, nat_tests, All-push, Value, IsValue, with_pattern, is_nonempty, is_explicit, words, word, with_word, value_of, number_at, IsSpelled}
+use Rattle.determinize_state.proofs.Common.{◌≡◌, ℕ, ◌+◌, ◌≤◌, true, false, List, [], ◌∷◌, ◌++◌, nat_eq, suc, zero, refl, arith, ap, ◌∙◌, length-append, list_any, nat_eq_equiv, nat_tests, All-push, Value, IsValue, with_pattern, is_nonempty, is_explicit, words, word, with_word, value_of, number_at, IsSpelled, has_flag}
 use Rattle.std.proofs.Common.{append-nil}
 use Rattle.std.proofs.lemmas.Map.Keys.{IsDistinct-push}
 use Rattle.determinize_state.specs.Private.PatternBytes.{with_pattern_bytes}
@@ -47,4 +47,10 @@ pattern_written bytes id h none small new =
     respelled _ (with_pattern v id) (assumption (distinct, all, h.valid))
     (pushed v id v.patterns h.valid none refl ∙ ap (λ (b : List ℕ). with_pattern_bytes b id) h.spelled)
 
-pub ruleset adding = (pattern_written, laid_out_in)
+-- the bits of the first byte if there is no pattern
+pub unlisted : (bytes : List ℕ) → IsSpelled bytes → (value_of bytes).patterns ≡ [] → (has_flag bytes 1 ≡ false)
+    × (has_flag bytes 2 ≡ false)
+unlisted bytes h none =
+    let at = laid_out_in bytes h in (at.matches ∙ ap is_nonempty none, at.explicit ∙ ap is_explicit none)
+
+pub ruleset adding = (pattern_written, unlisted)

@@ -1,5 +1,5 @@
 -- The bytes of a state that is being built.
--- Main statements: built, have_written, building_with_state, built_zeros.
+-- Main statements: built, have_written, state_written, built_zeros.
 -- Used by: the calls of the builders.
 -- Idea: the bytes are a header and a list that grows at its end.
 use Rattle.determinize_state.proofs.Common.{◌≡◌, ℕ, true, ◌<◌, ◌≤◌, List, [], ◌∷◌, ◌++◌, refl, arith, sym, ap, ◌∙◌, append-nil, append_assoc, subst, All-push, Value, IsValue, dead, with_state, varint, zigzag, last_id, with_word, value_of, IsSpelled, with_bit, IsBuilding}
@@ -70,4 +70,6 @@ pub built_zeros : IsBuilding (0 ∷ 0 ∷ 0 ∷ 0 ∷ 0 ∷ 0 ∷ 0 ∷ 0 ∷ 0 
 unfolding spell
 built_zeros = built _ 0 dead dead_valid refl refl
 
-pub ruleset building = (laid_out_in, have_written, need_written, from_word_set, half_crlf_set, state_written, last-push, insert-had, built_zeros)
+pub ruleset adding = (state_written, last-push)
+
+pub ruleset building = (laid_out_in, have_written, need_written, from_word_set, half_crlf_set, insert-had, built_zeros)

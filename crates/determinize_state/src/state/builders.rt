@@ -239,7 +239,8 @@ impl<A: Allocator> StateBuilderNFA<A> {
         ensures err { OnErr result (self.new ≡ self.old) }
         ensures first { self.old.patterns ≡ [] → id ≡ 0 → IsOk result }
     {
-        bytes::add_pattern(&mut self.bytes, id.as_u32())
+        bytes::add_pattern(&mut self.bytes, id.as_u32())?;
+        Ok(())
     }
 
     /// Adds an assertion to look-need, which may contain it already.
@@ -280,6 +281,7 @@ impl<A: Allocator> StateBuilderNFA<A> {
     /// Adds an NFA state after the others. It may be present already.
     ///
     /// On error the builder is unchanged.
+    #[tactic(auto, using(crate::proofs::building::UnfinishedBytes::adding))]
     #[inline(always)]
     pub fn add_nfa_state_id(&mut self, id: StateID) -> Result<(), AllocError>
         ensures ok { OnOk result (self.new ≡ with_state self.old id) }
