@@ -15,9 +15,9 @@ abbrev pub kept : Value → Value → Value
 kept v w = record w { states = v.states }
 
 -- what follows the mark
-spell-grown : (v w : Value) → (g : IsGrown v w) → spell w ≡ spell (kept v w) ++ deltas (last_id 0 v.states) g.states.0
+encoding-grown : (v w : Value) → (g : IsGrown v w) → spell w ≡ spell (kept v w) ++ deltas (last_id 0 v.states) g.states.0
 unfolding spell
-spell-grown v w g = rw (g.states.1, deltas-append 0 v.states g.states.0) (simp append_assoc)
+encoding-grown v w g = rw (g.states.1, deltas-append 0 v.states g.states.0) (simp append_assoc)
 
 size_same : (v w : Value) → IsGrown v w → length (spell v) ≡ length (spell (kept v w))
 unfolding spell
@@ -29,7 +29,7 @@ pub cut_back : (v w : Value) (bytes : List ℕ) (mark : Mark) → IsSpelled byte
 cut_back v w bytes mark h is m g =
     let more = deltas (last_id 0 v.states) g.states.0 in
     let valid : IsValue w = rw is at h.valid in
-    let whole : bytes ≡ spell (kept v w) ++ more = sym h.spelled ∙ rw is (spell-grown v w g) in
+    let whole : bytes ≡ spell (kept v w) ++ more = sym h.spelled ∙ rw is (encoding-grown v w g) in
     let small : All (λ id. id ≤ 2147483646) v.states =
     grind (arith, get_or-append, length-append v.states g.states.0, g.states.1, valid.state_ids) in
     built _ mark.last (kept v w) (assumption (small, valid)) m.last
