@@ -15,7 +15,7 @@ abbrev pub kept : Value → Value → Value
 kept v w = record w { states = v.states }
 
 -- what follows the mark
-encoding-grown : (v w : Value) → (g : IsGrown v w) → spell w ≡ spell (kept v w) ++ deltas (last_id 0 v.states) g.states.0
+encoding-grown : (v w : Value) (g : IsGrown v w) → spell w ≡ spell (kept v w) ++ deltas (last_id 0 v.states) g.states.0
 unfolding spell
 encoding-grown v w g = rw (g.states.1, deltas-append 0 v.states g.states.0) (simp append_assoc)
 

@@ -38,7 +38,8 @@ unfolding spell
 from_word_set bytes h =
     let v : Value = value_of bytes in
     let same : spell (record v { from_word = true }) ≡ with_bit (spell v) 4 = grind arith in
-    respelled _ (record v { from_word = true }) (assumption h.valid) (same ∙ ap (λ (b : List ℕ). with_bit b 4) h.spelled)
+    respelled _ (record v { from_word = true }) (assumption h.valid)
+    (same ∙ ap (λ (b : List ℕ). with_bit b 4) h.spelled)
 
 pub half_crlf_set : (bytes : List ℕ) → IsSpelled bytes →
     IsSpelled (with_bit bytes 8) × (value_of (with_bit bytes 8) ≡ record (value_of bytes) { half_crlf = true })
@@ -46,7 +47,8 @@ unfolding spell
 half_crlf_set bytes h =
     let v : Value = value_of bytes in
     let same : spell (record v { half_crlf = true }) ≡ with_bit (spell v) 8 = grind arith in
-    respelled _ (record v { half_crlf = true }) (assumption h.valid) (same ∙ ap (λ (b : List ℕ). with_bit b 8) h.spelled)
+    respelled _ (record v { half_crlf = true }) (assumption h.valid)
+    (same ∙ ap (λ (b : List ℕ). with_bit b 8) h.spelled)
 
 spell-pushed : (v : Value) (id : ℕ) → spell (with_state v id) ≡ spell v ++ varint (zigzag (last_id 0 v.states) id)
 unfolding spell

@@ -25,4 +25,5 @@ deltas_short from (id ∷ ids) =
 pub spell_short : (v : Value) → length (spell v) ≤ 13 + 4 * length v.patterns + 5 * length v.states
 unfolding spell
 spell_short v =
-    grind (arith, length-append (words v.patterns) (deltas 0 v.states), length-words v.patterns, deltas_short 0 v.states)
+    let size = length-append (words v.patterns) (deltas 0 v.states) in
+    grind (arith, size, length-words v.patterns, deltas_short 0 v.states)

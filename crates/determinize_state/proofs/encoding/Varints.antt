@@ -78,7 +78,8 @@ pub record IsFirst (from : ℕ) (ids : List ℕ) (id number : ℕ) (after : List
   pub rest : IsDeltas id after
 
 first_of : (from : ℕ) (ids : List ℕ) → from ≤ 2147483646 → All (λ i. i ≤ 2147483646) ids
-    → IfSome (read 0 1 (deltas from ids)) (λ r. IsFirst from ids (unzigzag from r.0) r.0 r.1) × IfNone (read 0 1 (deltas from ids)) (ids ≡ [])
+    → IfSome (read 0 1 (deltas from ids)) (λ r. IsFirst from ids (unzigzag from r.0) r.0 r.1)
+    × IfNone (read 0 1 (deltas from ids)) (ids ≡ [])
 first_of from [] small all = (tt, refl)
 first_of from (id ∷ ids) small all =
     let here : id ≤ 2147483646 = All-head (λ i. i ≤ 2147483646) id ids all in
