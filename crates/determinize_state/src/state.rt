@@ -31,7 +31,6 @@ mod builders;
 mod bytes;
 mod comparison;
 mod debug;
-mod mark;
 mod nfa_state_ids;
 mod pattern_ids;
 mod small_bytes;
@@ -43,7 +42,6 @@ ghost use Rattle.determinize_state.specs.Spelling.{spell};
 
 pub use builders::{StateBuilderEmpty, StateBuilderMatches, StateBuilderNFA};
 use determinize_below::{LookSet, PatternID};
-pub(crate) use mark::Mark;
 pub use nfa_state_ids::NfaStateIds;
 use small_bytes::SmallBytes;
 use std::alloc::{AllocError, Allocator, Global};
@@ -69,16 +67,17 @@ impl<A: Allocator> Model for State<A> {
     ghost invariant = { λ s. IsSpelled s.bytes };
 }
 
+#[tactic(auto, using(crate::proofs::encoding::ReadBytes::reading))]
 impl<A: Allocator> State<A> {
     /// Returns the dead state, with nothing set and no pattern or NFA state: nine zero bytes. Does
     /// not allocate, so it never fails.
+    #[tactic(auto, using(crate::proofs::building::UnfinishedBytes::built_zeros))]
     pub fn dead(alloc: A) -> Result<State<A>, AllocError>
         ensures value { IfOk result (λ s. s ≡ dead) }
         ensures succeeds { IsOk result }
     {
-        Ok(State {
-            bytes: SmallBytes::from_slice(alloc, &[0; bytes::COUNT])?,
-        })
+        let bytes = SmallBytes::from_slice(alloc, &[0; bytes::COUNT])?;
+        Ok(State { bytes })
     }
 
     /// Returns whether some pattern matches in this state. Matches are delayed by one unit: such a
@@ -86,7 +85,7 @@ impl<A: Allocator> State<A> {
     pub fn is_match(&self) -> bool
         ensures { result ≡ is_nonempty self.now.patterns }
     {
-        bytes::is_match(self.bytes.as_slice())
+        bytes::has_flag(self.bytes.as_slice(), bytes::MATCH)
     }
 
     /// Returns the flag from-word: the byte before the state is a word byte. Determinization sets
@@ -94,7 +93,7 @@ impl<A: Allocator> State<A> {
     pub fn is_from_word(&self) -> bool
         ensures { result ≡ self.now.from_word }
     {
-        bytes::is_from_word(self.bytes.as_slice())
+        bytes::has_flag(self.bytes.as_slice(), bytes::FROM_WORD)
     }
 
     /// Returns the flag half-CRLF: the byte before the state may be the first half of a CRLF.
@@ -102,7 +101,7 @@ impl<A: Allocator> State<A> {
     pub fn is_half_crlf(&self) -> bool
         ensures { result ≡ self.now.half_crlf }
     {
-        bytes::is_half_crlf(self.bytes.as_slice())
+        bytes::has_flag(self.bytes.as_slice(), bytes::HALF_CRLF)
     }
 
     /// Returns look-have: the assertions known to hold at the state.
@@ -128,11 +127,13 @@ impl<A: Allocator> State<A> {
     }
 
     /// Returns the pattern at this index, which must be below `match_len`.
+    #[tactic(auto, using(crate::proofs::encoding::ReadBytes::patterns))]
     pub fn match_pattern(&self, index: usize) -> PatternID
         requires { index < length self.now.patterns }
         ensures { result ≡ slice_index self.now.patterns index }
     {
-        bytes::pattern_at(self.bytes.as_slice(), index)
+        let words = bytes::pattern_words(self.bytes.as_slice());
+        PatternID::must(bytes::number_at(words, PatternID::SIZE * index) as usize)
     }
 
     /// Returns the patterns that match, in order, in a vector of the state's allocator. Returns
@@ -160,11 +161,12 @@ impl<A: Allocator> State<A> {
 
     /// Returns the number of bytes of the state: at most 13, plus 4 per pattern, plus 5 per NFA
     /// state.
+    #[tactic(auto, using(crate::proofs::encoding::EncodedLength::spell_short))]
     pub fn memory_usage(&self) -> usize
         ensures bytes { result ≡ length (spell self.now) }
         ensures bound { result ≤ 13 + 4 * length self.now.patterns + 5 * length self.now.states }
     {
-        self.bytes.as_slice().len()
+        self.as_bytes().len()
     }
 
     /// Returns the bytes of the state, the canonical encoding of its value.
@@ -181,8 +183,7 @@ impl<A: Allocator + Clone> Clone for State<A> {
     ghost is_clone = { λ a b. a ≡ b };
 
     fn clone(&self) -> Result<State<A>, AllocError> {
-        Ok(State {
-            bytes: self.bytes.clone()?,
-        })
+        let bytes = self.bytes.clone()?;
+        Ok(State { bytes })
     }
 }

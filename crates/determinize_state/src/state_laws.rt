@@ -1,5 +1,6 @@
 //! Facts about the encoding of states, as contracts of public functions. Each function but the last
 //! makes the calls that its clauses relate. The clauses of the last one are example encodings.
+#![tactic(auto, using(crate::proofs::encoding::EqualBytes::comparisons))]
 
 ghost use Rattle.std.specs.Prelude.{◌≡◌, ◌↔◌, [], ◌∷◌, length, option_map, slice_get, IfOk};
 ghost use Rattle.std.specs.Bool.{Decides};

@@ -2,7 +2,7 @@
 -- Main statements: spell_short.
 -- Used by: `State::memory_usage`.
 -- Idea: each part has at most five bytes for each number.
-use Rattle.determinize_state.proofs.Common.{◌≡◌, ℕ, ◌+◌, ◌*◌, ◌/◌, ◌≤◌, Bool, true, false, List, [], ◌∷◌, length, suc, zero, refl, arith, lit≤, length-append, Value, groups, zigzag, deltas, words, is_explicit}
+use Rattle.determinize_state.proofs.Common.{ℕ, ◌+◌, ◌*◌, ◌/◌, ◌≤◌, List, [], ◌∷◌, length, suc, zero, arith, lit≤, length-append, Value, groups, zigzag, deltas, words}
 use Rattle.determinize_state.specs.Varint.{varint}
 use Rattle.determinize_state.specs.Spelling.{spell}
 use Rattle.determinize_state.proofs.encoding.RoundTrip.{length-words}
@@ -24,11 +24,6 @@ deltas_short from (id ∷ ids) =
 -- nine bytes, at most four plus four per pattern, and at most five per NFA state
 pub spell_short : (v : Value) → length (spell v) ≤ 13 + 4 * length v.patterns + 5 * length v.states
 unfolding spell
-spell_short v = in_each_case (is_explicit v.patterns) refl
-  where
-    in_each_case : (b : Bool) → is_explicit v.patterns ≡ b
-        → length (spell v) ≤ 13 + 4 * length v.patterns + 5 * length v.states
-    in_each_case true e =
-        let size = length-append (words v.patterns) (deltas 0 v.states) in
-        rw e (omega (arith, size, length-words v.patterns, deltas_short 0 v.states))
-    in_each_case false e = rw e (omega (arith, deltas_short 0 v.states))
+spell_short v =
+    let size = length-append (words v.patterns) (deltas 0 v.states) in
+    grind (arith, size, length-words v.patterns, deltas_short 0 v.states)

@@ -1,8 +1,8 @@
 -- Reading the bytes of a finished state.
--- Main statements: laid_out_in, long, rest_valid, number_of.
+-- Main statements: laid_out_in, rest_valid, number_of.
 -- Used by: the calls that read a state.
 -- Idea: the bytes are those of a value, so each place has that part of the value.
-use Rattle.determinize_state.proofs.Common.{◌≡◌, ℕ, ◌-◌, ◌*◌, ◌<◌, ◌≤◌, true, List, [], ◌∷◌, length, All, suc, zero, refl, arith, sym, ◌∙◌, take, drop, lit≤, subst, slice_index, get_or, take-length, All-head, All-tail, from_le_bytes, w32, is_nonempty, IsDeltas, words, number_at, numbers_in, has_flag, start_in, IsSpelled, by_test}
+use Rattle.determinize_state.proofs.Common.{◌≡◌, ℕ, ◌*◌, ◌<◌, ◌≤◌, List, [], length, All, suc, zero, refl, arith, sym, take, drop, lit≤, subst, slice_index, All-head, All-tail, ◌∷◌, from_le_bytes, w32, IsDeltas, words, number_at, numbers_in, has_flag, start_in, IsSpelled, ids_from, patterns_in}
 use Rattle.determinize_state.specs.Spelling.{value_of}
 pub use Rattle.determinize_state.proofs.encoding.RoundTrip.{AreListed, IsLaidOut, few, laid_out, length-words, numbers_in-words}
 use Rattle.std.proofs.lemmas.Nat.{from_le_bytes-to_le_bytes_4}
@@ -10,33 +10,22 @@ use Rattle.std.proofs.lemmas.Nat.{from_le_bytes-to_le_bytes_4}
 pub laid_out_in : (bytes : List ℕ) → IsSpelled bytes → IsLaidOut (value_of bytes) bytes
 laid_out_in bytes h = subst (IsLaidOut (value_of bytes)) h.spelled (laid_out (value_of bytes) h.valid)
 
-pub long : (bytes : List ℕ) → IsSpelled bytes → 9 ≤ length bytes
-long bytes h = (laid_out_in bytes h).long
-
-pub match_of : (bytes : List ℕ) → IsSpelled bytes → has_flag bytes 1 ≡ is_nonempty (value_of bytes).patterns
-match_of bytes h = (laid_out_in bytes h).matches
-
-pub listed_in : (bytes : List ℕ) → IsSpelled bytes → has_flag bytes 2 ≡ true → AreListed (value_of bytes).patterns bytes
-listed_in bytes h e = let at = laid_out_in bytes h in at.listed (sym at.explicit ∙ e)
-
--- the same, for a search that has a length in hand
-pub listed_at : (bytes : List ℕ) → IsSpelled bytes → has_flag bytes 2 ≡ true
-    → (length bytes ≡ length bytes) × AreListed (value_of bytes).patterns bytes
-listed_at bytes h e = (refl, listed_in bytes h e)
-
 pub start_of : (bytes : List ℕ) → IsSpelled bytes → start_in bytes ≤ length bytes
-start_of bytes h = by_test (has_flag bytes 2)
-    (λ e. let listed = listed_in bytes h e in rw (e, listed.count) listed.room)
-    (λ e. rw e (long bytes h))
+start_of bytes h = grind (arith, laid_out_in bytes h)
 
 pub rest_valid : (bytes : List ℕ) → IsSpelled bytes → IsDeltas 0 (drop (start_in bytes) bytes)
 unfolding value_of
 rest_valid bytes h = record { small = lit≤ tt; ids = h.valid.state_ids; spelled = sym (laid_out_in bytes h).rest }
 
-pub ruleset reading = (long, match_of, listed_at, start_of, rest_valid)
+-- the parts of the value, where the bytes have them
+pub parts_of : (bytes : List ℕ) → ((value_of bytes).from_word ≡ has_flag bytes 4)
+    × ((value_of bytes).half_crlf ≡ has_flag bytes 8) × ((value_of bytes).look_have ≡ number_at bytes 1)
+    × ((value_of bytes).look_need ≡ number_at bytes 5) × ((value_of bytes).patterns ≡ patterns_in bytes)
+    × ((value_of bytes).states ≡ ids_from 0 0 1 (drop (start_in bytes) bytes))
+unfolding value_of
+parts_of bytes = (refl, refl, refl, refl, refl, refl)
 
-pub few_in : (bytes : List ℕ) → IsSpelled bytes → length (value_of bytes).patterns ≤ 2147483647
-few_in bytes h = few (value_of bytes).patterns h.valid.distinct h.valid.pattern_ids
+pub ruleset reading = (parts_of, laid_out_in, start_of, rest_valid)
 
 -- the number at an index of four bytes each
 pub number_of : (ids : List ℕ) (index : ℕ) → index < length ids → All (λ id. id ≤ 2147483646) ids
@@ -48,20 +37,14 @@ number_of (id ∷ ids) (suc index) h all =
     rw e (number_of ids index (omega (arith, h)) (All-tail (λ i. i ≤ 2147483646) id ids all))
 number_of [] index h all = absurd (omega (arith, h))
 
-pub ruleset patterns = (few_in, length-words, numbers_in-words, number_of)
+pub ruleset patterns = (laid_out_in, length-words, numbers_in-words, number_of)
 
--- the first of the numbers, and the rest
+-- the first of the numbers, and the others
+pub first_number : (bytes : List ℕ) → 4 ≤ length bytes
+    → numbers_in bytes ≡ from_le_bytes w32 (take 4 bytes) ∷ numbers_in (drop 4 bytes)
+first_number (a ∷ b ∷ c ∷ d ∷ bytes) h = refl
+first_number bytes h = absurd (omega (arith, h))
 
-pub first_small : (bytes : List ℕ) → 4 ≤ length bytes → All (λ id. id ≤ 2147483646) (numbers_in bytes) →
-    from_le_bytes w32 (get_or bytes 0 0 ∷ get_or bytes 1 0 ∷ get_or bytes 2 0 ∷ get_or bytes 3 0 ∷ []) ≤ 2147483646
-first_small (a ∷ b ∷ c ∷ d ∷ bytes) h all =
-    All-head (λ id. id ≤ 2147483646) (from_le_bytes w32 (a ∷ b ∷ c ∷ d ∷ [])) (numbers_in bytes) all
-first_small bytes h all = absurd (omega (arith, h))
-
-pub others_small : (bytes : List ℕ) → 4 ≤ length bytes → All (λ id. id ≤ 2147483646) (numbers_in bytes) →
-    All (λ id. id ≤ 2147483646) (numbers_in (take (length bytes - 4) (drop 4 bytes)))
-others_small (a ∷ b ∷ c ∷ d ∷ bytes) h all =
-    let e : suc (suc (suc (suc (length bytes)))) - 4 ≡ length bytes = omega arith in
-    rw (e, take-length bytes) (All-tail (λ id. id ≤ 2147483646) (from_le_bytes w32 (a ∷ b ∷ c ∷ d ∷ []))
-    (numbers_in bytes) all)
-others_small bytes h all = absurd (omega (arith, h))
+pub others_small : (bytes : List ℕ) → 4 ≤ length bytes → All (λ id. id ≤ 2147483646) (numbers_in bytes)
+    → All (λ id. id ≤ 2147483646) (numbers_in (drop 4 bytes))
+others_small bytes h all = All-tail (λ id. id ≤ 2147483646) _ _ (rw (first_number bytes h) at all)

@@ -1,9 +1,8 @@
 -- Encoding and decoding of states are inverse.
--- Main statements: laid_out, value_of-spell, spelled, decided.
+-- Main statements: laid_out, value_of-spell, spelled, spell_tells.
 -- Used by: all that reads or writes the bytes of a state.
 -- Idea: the header has fixed places, and the lengths of the parts are in it.
-use Rattle.determinize_state.proofs.Common.{eqb-true, ◌≡◌, ◌==◌, ℕ, ◌+◌, ◌*◌, ◌<◌, ◌≤◌, Bool, true, List, [], ◌∷◌, length, All, nat_eq, refl, arith, sym, ap, ◌∙◌, take, drop, lit<, subst, length-append, Decides, pointwise, Decides-eqb, All-head, All-tail, Value, IsValue, dead, is_nonempty, deltas, is_explicit, words, number_at, numbers_in, has_flag, start_in, patterns_in, IsSpelled, drop-drop, drop-append_seam, take-append_seam, by_test}
-use Rattle.std.proofs.lemmas.Slice.Eq.{slice_eq-Decides}
+use Rattle.determinize_state.proofs.Common.{eqb-true, ◌≡◌, ℕ, ◌+◌, ◌*◌, ◌<◌, ◌≤◌, true, List, [], ◌∷◌, length, All, nat_eq, refl, arith, sym, ap, ◌∙◌, take, drop, subst, length-append, All-head, All-tail, Value, IsValue, dead, is_nonempty, deltas, is_explicit, words, number_at, numbers_in, has_flag, start_in, patterns_in, IsSpelled, drop-drop, drop-append_seam, take-append_seam, by_test}
 use Rattle.std.specs.List.{IsDistinct}
 use Rattle.std.proofs.lemmas.Nat.{from_le_bytes-to_le_bytes_4}
 use Rattle.std.proofs.lemmas.Map.Steps.{length-le_from_distinct_below}
@@ -13,13 +12,7 @@ use Rattle.determinize_state.proofs.encoding.Varints.{ids_from-deltas}
 
 pub dead_valid : IsValue dead
 unfolding IsDistinct
-dead_valid = record {
-  have = lit< tt;
-  need = lit< tt;
-  distinct = tt;
-  pattern_ids = λ k d h. absurd (omega (arith, h));
-  state_ids = λ k d h. absurd (omega (arith, h));
-}
+dead_valid = grind arith
 
 pub length-words : (ns : List ℕ) → length (words ns) ≡ 4 * length ns
 length-words [] = refl
@@ -41,7 +34,6 @@ few ids distinct all = length-le_from_distinct_below ids 2147483647 distinct (λ
 
 -- explicit patterns: their number, and the patterns themselves
 pub record AreListed (ids bytes : List ℕ) : Type 0 where
-  pub few : length ids ≤ 2147483647
   pub count : number_at bytes 9 ≡ length ids
   pub room : 13 + 4 * length ids ≤ length bytes
   pub words : take (4 * length ids) (drop 13 bytes) ≡ words ids
@@ -49,6 +41,7 @@ pub record AreListed (ids bytes : List ℕ) : Type 0 where
 -- where the parts of the value are in the bytes
 pub record IsLaidOut (v : Value) (bytes : List ℕ) : Type 0 where
   pub long : 9 ≤ length bytes
+  pub few : length v.patterns ≤ 2147483647
   pub matches : has_flag bytes 1 ≡ is_nonempty v.patterns
   pub explicit : has_flag bytes 2 ≡ is_explicit v.patterns
   pub listed : is_explicit v.patterns ≡ true → AreListed v.patterns bytes
@@ -60,7 +53,6 @@ listed_in v h e =
     let few_ids : length v.patterns ≤ 2147483647 = few v.patterns h.distinct h.pattern_ids in
     let size = length-words v.patterns in
     rw e record {
-      few = few_ids;
       count = from_le_bytes-to_le_bytes_4 (length v.patterns) (omega arith);
       room = omega (arith, length-append (words v.patterns) (deltas 0 v.states));
       words = rw (← size) (take-append_seam (words v.patterns) (deltas 0 v.states));
@@ -80,6 +72,7 @@ pub laid_out : (v : Value) → IsValue v → IsLaidOut v (spell v)
 unfolding spell
 laid_out v h = record {
   long = omega arith;
+  few = few v.patterns h.distinct h.pattern_ids;
   matches = grind arith;
   explicit = explicit_flag v;
   listed = listed_in v h;
@@ -87,11 +80,7 @@ laid_out v h = record {
 }
 
 patterns_in-spell : (v : Value) → IsValue v → patterns_in (spell v) ≡ v.patterns
-patterns_in-spell v h =
-    let at = laid_out v h in
-    by_test (is_explicit v.patterns)
-    (λ e. rw (at.explicit, e, (at.listed e).count, (at.listed e).words) (numbers_in-words v.patterns h.pattern_ids))
-    (λ e. rw (at.explicit, e, at.matches) (grind arith))
+patterns_in-spell v h = grind (arith, laid_out v h, numbers_in-words v.patterns h.pattern_ids)
 
 -- decoding the encoding of a value gives the value
 pub value_of-spell : (v : Value) → IsValue v → value_of (spell v) ≡ v
@@ -110,10 +99,3 @@ spell_tells v w hv hw e = sym (value_of-spell v hv) ∙ ap value_of e ∙ value_
 
 pub spelled : (v : Value) → IsValue v → IsSpelled (spell v)
 spelled v h = record { valid = rw (value_of-spell v h) h; spelled = rw (value_of-spell v h) }
-
--- comparing the bytes decides equality of the values
-pub decided : (v w : Value) (xs ys : List ℕ) (r : Bool) → IsValue v → IsValue w → xs ≡ spell v → ys ≡ spell w
-    → r ≡ pointwise ◌==◌ xs ys → Decides r (v ≡ w)
-decided v w xs ys r hv hw ex ey e =
-    let same : Decides r (xs ≡ ys) = slice_eq-Decides Decides-eqb xs ys r e in
-    (λ t. spell_tells v w hv hw (sym ex ∙ same.0 t ∙ ey), λ equal. same.1 (ex ∙ ap spell equal ∙ sym ey))

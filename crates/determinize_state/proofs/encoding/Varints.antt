@@ -1,11 +1,10 @@
 -- Varints and the differences of ids: decoding inverts encoding.
--- Main statements: ids_from-deltas, first_some, varint-more.
+-- Main statements: ids_from-deltas, first_read, varint-more.
 -- Used by: RoundTrip, the functions that read and write a varint.
 -- Idea: seven bits at a time; a zigzag number is even or odd with its sign.
-use Rattle.determinize_state.proofs.Common.{◌≡◌, ℕ, ◌+◌, ◌-◌, ◌*◌, ◌/◌, ◌%◌, ◌<◌, ◌≤◌, Option, Some, None, IfSome, List, [], ◌∷◌, ◌++◌, All, nat_lt, suc, zero, refl, arith, sym, ap, ◌∙◌, append_assoc, zero-add, lit≤, length, drop, IsDeltas, zigzag, unzigzag, groups, deltas, ids_from, last_id, All-head, All-tail, nat_tests, read}
+use Rattle.determinize_state.proofs.Common.{◌≡◌, ℕ, ◌+◌, ◌-◌, ◌*◌, ◌/◌, ◌%◌, ◌<◌, ◌≤◌, Option, Some, None, IfNone, IfSome, List, [], ◌∷◌, ◌++◌, All, nat_lt, suc, zero, refl, arith, sym, ap, ◌∙◌, append_assoc, zero-add, lit≤, length, drop, IsDeltas, zigzag, unzigzag, groups, deltas, ids_from, last_id, All-head, All-tail, nat_tests, read}
 use Rattle.determinize_state.specs.Varint.{varint}
 use Rattle.std.proofs.Math.Nat.{one-mul, mul-le-mul_left}
-use Rattle.std.proofs.lemmas.Option.{some_pair_parts}
 
 unzigzag-zigzag : (from to : ℕ) → unzigzag from (zigzag from to) ≡ to
 unzigzag-zigzag from to = grind (arith, nat_tests)
@@ -61,58 +60,47 @@ ids_from-deltas from (id ∷ ids) small all =
     ∙ rw (unzigzag-zigzag from id, ids_from-deltas id ids here (All-tail (λ i. i ≤ 2147483646) id ids all))
 
 -- the bytes after the first varint, by their number
-read-rest : (low weight : ℕ) (bytes : List ℕ) (number : ℕ) (after : List ℕ)
-    → read low weight bytes ≡ Some (number, after)
-    → (length after < length bytes) × (drop (length bytes - length after) bytes ≡ after)
-read-rest low weight [] number after e = absurd (cc)
-read-rest low weight (byte ∷ bytes) number after e =
-    let one_more : length after ≤ length bytes
+pub read_rest : (low weight : ℕ) (bytes : List ℕ) → (read low weight bytes ≡ read low weight bytes)
+    × IfSome (read low weight bytes) (λ r. (length r.1 < length bytes)
+    × (drop (length bytes - length r.1) bytes ≡ r.1))
+read_rest low weight [] = (refl, tt)
+read_rest low weight (byte ∷ bytes) =
+    let one_more : (after : List ℕ) → length after ≤ length bytes
     → drop (suc (length bytes) - length after) (byte ∷ bytes) ≡ drop (length bytes - length after) bytes =
-    λ h. let k : suc (length bytes) - length after ≡ suc (length bytes - length after) = omega arith in rw k in
-    grind (arith, nat_tests, one_more, read-rest (low + weight * (byte - 128)) (weight * 128) bytes number after)
+    λ after h. let k : suc (length bytes) - length after ≡ suc (length bytes - length after) = omega arith in rw k in
+    (refl, grind (arith, nat_tests, one_more, (read_rest (low + weight * (byte - 128)) (weight * 128) bytes).1))
 
-pub left_after : (bytes : List ℕ) → (read 0 1 bytes ≡ read 0 1 bytes)
-    × IfSome (read 0 1 bytes) (λ r. (length r.1 < length bytes) × (drop (length bytes - length r.1) bytes ≡ r.1))
-left_after bytes = (refl, go (read 0 1 bytes) refl)
-  where
-    go : (found : Option (ℕ × List ℕ)) → read 0 1 bytes ≡ found
-        → IfSome found (λ r. (length r.1 < length bytes) × (drop (length bytes - length r.1) bytes ≡ r.1))
-    go None e = tt
-    go (Some r) e = read-rest 0 1 bytes r.0 r.1 e
+-- the first of these ids has this number, and the bytes after it encode the others
+pub record IsFirst (from : ℕ) (ids : List ℕ) (id number : ℕ) (after : List ℕ) : Type 0 where
+  pub small : id ≤ 2147483646
+  pub back : number ≡ zigzag from id
+  pub first : ids ≡ id ∷ ids_from id 0 1 after
+  pub rest : IsDeltas id after
 
--- the bytes begin with an id whose difference is this number
-pub record IsFirst (from : ℕ) (bytes : List ℕ) (number : ℕ) (after : List ℕ) : Type 0 where
-  pub small : unzigzag from number ≤ 2147483646
-  pub back : number ≡ zigzag from (unzigzag from number)
-  pub ids : ids_from from 0 1 bytes ≡ unzigzag from number ∷ ids_from (unzigzag from number) 0 1 after
-  pub rest : IsDeltas (unzigzag from number) after
-
-pub first_none : (from : ℕ) (bytes : List ℕ) → IsDeltas from bytes → read 0 1 bytes ≡ None
-    → ids_from from 0 1 bytes ≡ []
-first_none from bytes h none = go (ids_from from 0 1 bytes) refl
-  where
-    go : (ids : List ℕ) → ids_from from 0 1 bytes ≡ ids → ids_from from 0 1 bytes ≡ []
-    go [] e = e
-    go (id ∷ ids) e =
-        let begins = rw e at h.spelled in
-        let reads = read-deltas from id ids h.small (All-head (λ i. i ≤ 2147483646) id ids (rw e at h.ids)) in (cc)
-
-pub first_some : (from : ℕ) (bytes : List ℕ) (number : ℕ) (after : List ℕ) → IsDeltas from bytes
-    → read 0 1 bytes ≡ Some (number, after) → IsFirst from bytes number after
-first_some from bytes number after h some =
-    let id : ℕ = unzigzag from number in
-    let ids : List ℕ = ids_from id 0 1 after in
-    let first = ids_from-read from 0 1 bytes number after some in
-    let all : All (λ i. i ≤ 2147483646) (id ∷ ids) = rw first at h.ids in
+first_of : (from : ℕ) (ids : List ℕ) → from ≤ 2147483646 → All (λ i. i ≤ 2147483646) ids
+    → IfSome (read 0 1 (deltas from ids)) (λ r. IsFirst from ids (unzigzag from r.0) r.0 r.1)
+    × IfNone (read 0 1 (deltas from ids)) (ids ≡ [])
+first_of from [] small all = (tt, refl)
+first_of from (id ∷ ids) small all =
     let here : id ≤ 2147483646 = All-head (λ i. i ≤ 2147483646) id ids all in
-    let begins : deltas from (id ∷ ids) ≡ bytes = rw first at h.spelled in
-    let same = some_pair_parts _ _ _ _ (sym some ∙ ap (read 0 1) (sym begins) ∙ read-deltas from id ids h.small here) in
-    record {
-      small = here;
-      back = same.0;
-      ids = first;
-      rest = record { small = here; ids = All-tail (λ i. i ≤ 2147483646) id ids all; spelled = sym same.1 };
-    }
+    let others : All (λ i. i ≤ 2147483646) ids = All-tail (λ i. i ≤ 2147483646) id ids all in
+    let back = ids_from-deltas id ids here others in
+    rw (read-deltas from id ids small here, unzigzag-zigzag from id) (
+      record {
+        small = here;
+        back = refl;
+        first = rw back;
+        rest = record { small = here; ids = rw back others; spelled = rw back };
+      },
+      tt,
+    )
+
+-- the ids of these bytes, by the first number if there is one
+pub first_read : (from : ℕ) (bytes : List ℕ) → IsDeltas from bytes → (ids_from from 0 1 bytes ≡ ids_from from 0 1 bytes)
+    × IfSome (read 0 1 bytes) (λ r. IsFirst from (ids_from from 0 1 bytes) (unzigzag from r.0) r.0 r.1)
+    × IfNone (read 0 1 bytes) (ids_from from 0 1 bytes ≡ [])
+first_read from bytes h =
+    let first = rw h.spelled at (first_of from (ids_from from 0 1 bytes) h.small h.ids) in (refl, first.0, first.1)
 
 pub deltas-append : (from : ℕ) (ids more : List ℕ)
     → deltas from (ids ++ more) ≡ deltas from ids ++ deltas (last_id from ids) more

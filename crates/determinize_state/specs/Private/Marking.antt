@@ -3,7 +3,7 @@ use Rattle.std.specs.Prelude.{◌≡◌, length}
 use Rattle.determinize_state.specs.Value.{Value}
 use Rattle.determinize_state.specs.Spelling.{spell}
 use Rattle.determinize_state.specs.Varint.{last_id}
-use Rattle.determinize_state.specs.declared.state.mark.Mark.{Mark}
+use Rattle.determinize_state.specs.declared.state.builders.Mark.{Mark}
 
 -- the mark has what a builder needs to return to this value
 pub record IsMarkOf (mark : Mark) (value : Value) : Type 0 where

@@ -1,15 +1,13 @@
 //! The three builders of a state.
 //!
-//! `StateBuilderEmpty` has an empty buffer, or the nine bytes of an empty header. `into_matches`
-//! ensures the latter, and patterns are appended, their number being written with each. After
-//! `into_nfa`, which leaves the bytes as they are, NFA states are appended. So the bytes always
-//! encode the value of the builder. `to_state` copies them into a state, and `clear` returns an
-//! empty builder with the same buffer, so that a walk needs one buffer for all its states.
-//! `into_state` makes the buffer the memory of a state, and `StateBuilderEmpty::from_state` takes
-//! it back, so that a state can be looked up without a copy.
+//! `StateBuilderEmpty` has an empty buffer, or the nine bytes of an empty header. From
+//! `into_matches` on, the bytes encode the value of the builder, and each part is appended. `clear`
+//! keeps the buffer, so that a walk needs one for all its states. `into_state` makes it the memory
+//! of a state, and `from_state` takes it back, so that a state can be looked up without a copy.
 //!
 //! `clear` leaves an empty header, so `into_matches` writes one for the first state only: a builder
 //! that is moved just after a write has to wait for the write.
+#![tactic(auto, using(crate::proofs::building::UnfinishedBytes::building))]
 
 ghost use Rattle.std.specs.Prelude.{◌≡◌, ℕ, [], true, false, nat_eq, IfOk, OnOk, OnErr, IsOk};
 ghost use Rattle.std.specs.List.{list_any};
@@ -20,7 +18,7 @@ ghost use Rattle.determinize_state.specs.Spelling.{spell};
 ghost use Rattle.determinize_state.specs.Private.Marking.{IsMarkOf};
 
 use crate::state::small_bytes::SmallBytes;
-use crate::state::{Mark, State, bytes, varint};
+use crate::state::{State, bytes, varint};
 use determinize_below::{Look, LookSet, PatternID, StateID};
 use std::alloc::{AllocError, Allocator, Global};
 use std::marker::Model;
@@ -47,9 +45,8 @@ impl<A: Allocator> StateBuilderEmpty<A> {
     pub fn new(alloc: A) -> StateBuilderEmpty<A>
         ensures { result ≡ dead }
     {
-        StateBuilderEmpty {
-            bytes: Vec::new(alloc),
-        }
+        let bytes = Vec::new(alloc);
+        StateBuilderEmpty { bytes }
     }
 
     /// Returns a builder that may keep the memory of a state. Never fails.
@@ -71,7 +68,9 @@ impl<A: Allocator> StateBuilderEmpty<A> {
         ensures { IfOk result (λ builder. builder ≡ dead) }
     {
         let mut bytes = self.bytes;
-        bytes::begin(&mut bytes)?;
+        if bytes.is_empty() {
+            bytes.extend_from_slice(&[0; bytes::COUNT])?;
+        }
         let last = StateID::ZERO;
         let builder = StateBuilderNFA { bytes, last };
         Ok(StateBuilderMatches { builder })
@@ -171,6 +170,15 @@ impl<A: Allocator> Model for StateBuilderNFA<A> {
     ghost invariant = { λ s. IsBuilding s.bytes.items s.last };
 }
 
+/// The part of a `StateBuilderNFA` that `restore` needs to undo later calls.
+#[derive(Clone, Copy)]
+pub(crate) struct Mark {
+    bytes: usize,
+    last: StateID,
+    look_have: LookSet,
+    look_need: LookSet,
+}
+
 impl<A: Allocator> StateBuilderNFA<A> {
     /// Returns look-have: the assertions known to hold at the state.
     pub fn look_have(&self) -> LookSet
@@ -223,6 +231,7 @@ impl<A: Allocator> StateBuilderNFA<A> {
     /// Adds a pattern, which must be new, after the others. No NFA state may have been added yet.
     ///
     /// On error the builder is unchanged. Adding `ZERO` as the first pattern never fails.
+    #[tactic(auto, using(crate::proofs::building::AddedPatterns::adding))]
     pub fn add_match_pattern_id(&mut self, id: PatternID) -> Result<(), AllocError>
         requires unrecorded { self.old.states ≡ [] }
         requires new { list_any (nat_eq id) self.old.patterns ≡ false }
@@ -272,6 +281,7 @@ impl<A: Allocator> StateBuilderNFA<A> {
     /// Adds an NFA state after the others. It may be present already.
     ///
     /// On error the builder is unchanged.
+    #[tactic(auto, using(crate::proofs::building::UnfinishedBytes::adding))]
     #[inline(always)]
     pub fn add_nfa_state_id(&mut self, id: StateID) -> Result<(), AllocError>
         ensures ok { OnOk result (self.new ≡ with_state self.old id) }
@@ -298,18 +308,16 @@ impl<A: Allocator> StateBuilderNFA<A> {
         ensures { IfOk result (λ state. state ≡ self.now) }
     {
         let alloc = self.bytes.allocator().clone()?;
-        Ok(State {
-            bytes: SmallBytes::from_slice(alloc, self.bytes.as_slice())?,
-        })
+        let bytes = SmallBytes::from_slice(alloc, self.bytes.as_slice())?;
+        Ok(State { bytes })
     }
 
     /// Returns a state with the value of the builder, in its memory. Does not allocate.
     pub fn into_state(self) -> State<A>
         ensures { result ≡ self }
     {
-        State {
-            bytes: SmallBytes::from_vec(self.bytes),
-        }
+        let bytes = SmallBytes::from_vec(self.bytes);
+        State { bytes }
     }
 
     /// Returns an empty builder, which may keep the memory of this one. Never fails.
@@ -342,8 +350,8 @@ impl<A: Allocator> StateBuilderNFA<A> {
     {
         self.bytes.truncate(mark.bytes);
         self.last = mark.last;
-        bytes::put_number(&mut self.bytes, bytes::LOOK_HAVE, mark.look_have.as_repr());
-        bytes::put_number(&mut self.bytes, bytes::LOOK_NEED, mark.look_need.as_repr());
+        self.put_look_have(mark.look_have);
+        self.put_look_need(mark.look_need);
     }
 }
 
@@ -361,9 +369,8 @@ impl<A: Allocator + Clone> Clone for StateBuilderMatches<A> {
     ghost is_clone = { λ a b. a ≡ b };
 
     fn clone(&self) -> Result<StateBuilderMatches<A>, AllocError> {
-        Ok(StateBuilderMatches {
-            builder: self.builder.clone()?,
-        })
+        let builder = self.builder.clone()?;
+        Ok(StateBuilderMatches { builder })
     }
 }
 
@@ -372,10 +379,7 @@ impl<A: Allocator + Clone> Clone for StateBuilderNFA<A> {
     ghost is_clone = { λ a b. a ≡ b };
 
     fn clone(&self) -> Result<StateBuilderNFA<A>, AllocError> {
-        let bytes = self.bytes.clone()?;
-        Ok(StateBuilderNFA {
-            bytes,
-            last: self.last,
-        })
+        let (bytes, last) = (self.bytes.clone()?, self.last);
+        Ok(StateBuilderNFA { bytes, last })
     }
 }

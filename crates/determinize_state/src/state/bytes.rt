@@ -2,12 +2,11 @@
 //!
 //! The bytes of a `State` and those of a builder encode its value (`IsSpelled`), so the readers
 //! serve both.
-#![tactic(auto, using(crate::proofs::encoding::ReadBytes::reading), unfolding(crate::specs::Spelling::value_of))]
+#![tactic(auto, using(crate::proofs::encoding::ReadBytes::reading))]
 
-ghost use Rattle.std.specs.Prelude.{◌≡◌, ◌+◌, ◌*◌, ◌<◌, ◌≤◌, ◌^◌, [], ◌∷◌, ◌++◌, if◌then◌else◌, length, slice_index, vec_len, true, false, All, IfOk, OnOk, OnErr, IsOk};
-ghost use Rattle.determinize_state.specs.Value.{is_nonempty};
-ghost use Rattle.determinize_state.specs.Spelling.{IsSpelled, value_of, number_at, numbers_in, word, words, with_word, has_flag, start_in};
-ghost use Rattle.determinize_state.specs.Building.{header, IsClear};
+ghost use Rattle.std.specs.Prelude.{◌≡◌, ◌+◌, ◌*◌, ◌<◌, ◌≤◌, length, vec_len, false, OnOk, OnErr, IsOk};
+ghost use Rattle.determinize_state.specs.Spelling.{IsSpelled, value_of, number_at, words, with_word, has_flag};
+ghost use Rattle.determinize_state.specs.Building.{header};
 ghost use Rattle.determinize_state.specs.Private.PatternBytes.{with_bit, with_pattern_bytes};
 
 use crate::state::nfa_state_ids::NfaStateIds;
@@ -39,21 +38,6 @@ pub(crate) const COUNT: usize = 9;
 /// The offset of the explicit patterns.
 pub(crate) const PATTERNS: usize = 13;
 
-/// The bytes of the pattern `ZERO`, for a state that has it implicitly.
-const ZERO_WORD: [u8; 4] = [0; 4];
-
-/// Writes an empty header, unless the bytes are one.
-#[inline(always)]
-pub(crate) fn begin<A: Allocator>(bytes: &mut Vec<u8, A>) -> Result<(), AllocError>
-    requires { IsClear bytes.old.items }
-    ensures { OnOk result (bytes.new.items ≡ header) }
-{
-    if bytes.is_empty() {
-        bytes.extend_from_slice(&[0; COUNT])?;
-    }
-    Ok(())
-}
-
 /// Removes all but the header, and empties that.
 #[inline(always)]
 pub(crate) fn clear<A: Allocator>(bytes: &mut Vec<u8, A>)
@@ -74,30 +58,6 @@ pub(crate) fn has_flag(bytes: &[u8], weight: u8) -> bool
     bytes[0] & weight != 0
 }
 
-/// Returns whether some pattern matches.
-pub(crate) fn is_match(bytes: &[u8]) -> bool
-    requires { IsSpelled bytes.now }
-    ensures { result ≡ is_nonempty (value_of bytes.now).patterns }
-{
-    has_flag(bytes, MATCH)
-}
-
-/// Returns the flag from-word.
-pub(crate) fn is_from_word(bytes: &[u8]) -> bool
-    requires { IsSpelled bytes.now }
-    ensures { result ≡ (value_of bytes.now).from_word }
-{
-    has_flag(bytes, FROM_WORD)
-}
-
-/// Returns the flag half-CRLF.
-pub(crate) fn is_half_crlf(bytes: &[u8]) -> bool
-    requires { IsSpelled bytes.now }
-    ensures { result ≡ (value_of bytes.now).half_crlf }
-{
-    has_flag(bytes, HALF_CRLF)
-}
-
 /// Returns look-have.
 pub(crate) fn look_have(bytes: &[u8]) -> LookSet
     requires { IsSpelled bytes.now }
@@ -115,7 +75,7 @@ pub(crate) fn look_need(bytes: &[u8]) -> LookSet
 }
 
 /// Returns the number in the four bytes at an offset.
-fn number_at(bytes: &[u8], at: usize) -> u32
+pub(crate) fn number_at(bytes: &[u8], at: usize) -> u32
     requires { at + 4 ≤ length bytes.now }
     ensures { result ≡ number_at bytes.now at }
 {
@@ -139,7 +99,7 @@ pub(crate) fn add_pattern<A: Allocator>(bytes: &mut Vec<u8, A>, id: u32) -> Resu
     ensures first { has_flag bytes.old.items 1 ≡ false → has_flag bytes.old.items 2 ≡ false
         → id ≡ 0 → IsOk result }
 {
-    // Flags are set last, so that the bytes are unchanged on error.
+    // What may fail comes first, so that the bytes are unchanged on error.
     let [a, b, c, d] = id.to_le_bytes();
     if has_flag(bytes, EXPLICIT) {
         let count = number_at(bytes, COUNT);
@@ -183,24 +143,10 @@ pub(crate) fn pattern_words(bytes: &[u8]) -> &[u8]
         let (ids, _) = rest.split_at(size);
         ids
     } else if has_flag(bytes, MATCH) {
-        &ZERO_WORD
+        &[0; PatternID::SIZE]
     } else {
         &[]
     }
-}
-
-/// Returns the pattern at an index.
-#[tactic(auto, using(crate::proofs::encoding::ReadBytes::patterns))]
-pub(crate) fn pattern_at(bytes: &[u8], index: usize) -> PatternID
-    requires spelled { IsSpelled bytes.now }
-    requires index { index < length (value_of bytes.now).patterns }
-    ensures { result ≡ slice_index (value_of bytes.now).patterns index }
-{
-    let words = pattern_words(bytes);
-    let Ok(id) = PatternID::new(number_at(words, PatternID::SIZE * index) as usize) else {
-        unreachable!()
-    };
-    id
 }
 
 /// Returns an iterator over the patterns.
@@ -217,19 +163,11 @@ pub(crate) fn nfa_state_ids(bytes: &[u8]) -> NfaStateIds<'_>
     requires { IsSpelled bytes.now }
     ensures { result ≡ (value_of bytes.now).states }
 {
-    let start = ids_start(bytes);
-    let (_, rest) = bytes.split_at(start);
-    NfaStateIds::new(rest)
-}
-
-/// Returns the offset of the NFA states.
-fn ids_start(bytes: &[u8]) -> usize
-    requires { IsSpelled bytes.now }
-    ensures { result ≡ start_in bytes.now }
-{
-    if has_flag(bytes, EXPLICIT) {
+    let start = if has_flag(bytes, EXPLICIT) {
         PATTERNS + PatternID::SIZE * number_at(bytes, COUNT) as usize
     } else {
         COUNT
-    }
+    };
+    let (_, rest) = bytes.split_at(start);
+    NfaStateIds::new(0, rest)
 }

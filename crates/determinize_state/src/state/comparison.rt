@@ -1,7 +1,8 @@
 //! Equality, order and hash of states, all by their bytes. Two states are equal if and only if
 //! their values are.
+#![tactic(auto, using(crate::proofs::encoding::EqualBytes::comparisons))]
 
-ghost use Rattle.std.specs.Prelude.{◌≡◌, ◌++◌, ◌∷◌, [], length};
+ghost use Rattle.std.specs.Prelude.{◌++◌, ◌∷◌, [], length};
 ghost use Rattle.std.specs.Ordering.{as_partial_cmp};
 ghost use Rattle.std.specs.Cmp.{partial_order_from_own_ties};
 ghost use Rattle.std.specs.Cmp.Rules.{comparing};
@@ -21,7 +22,6 @@ impl<A: Allocator> PartialEq for State<A> {
 
     ghost laws = { Prim.search (comparing, rules) };
 
-    #[tactic(auto, using(crate::proofs::encoding::EqualBytes::same_bytes))]
     fn eq(&self, other: &State<A>) -> bool {
         self.as_bytes() == other.as_bytes()
     }

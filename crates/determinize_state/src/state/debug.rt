@@ -2,24 +2,9 @@
 
 ghost use Rattle.determinize_state.specs.Spelling.{IsSpelled};
 
-use crate::state::nfa_state_ids::NfaStateIds;
-use crate::state::pattern_ids::PatternIds;
 use crate::state::{State, StateBuilderEmpty, StateBuilderMatches, StateBuilderNFA, bytes};
 use std::alloc::Allocator;
 use std::fmt;
-
-impl<'a> fmt::Debug for PatternIds<'a> {
-    fn fmt<W: fmt::Write>(&self, f: &mut fmt::Formatter<W>) -> fmt::Result {
-        f.debug_list().entries(self.again()).finish()
-    }
-}
-
-/// Writes the list of the remaining ids.
-impl<'a> fmt::Debug for NfaStateIds<'a> {
-    fn fmt<W: fmt::Write>(&self, f: &mut fmt::Formatter<W>) -> fmt::Result {
-        f.debug_list().entries(self.again()).finish()
-    }
-}
 
 impl<A: Allocator> fmt::Debug for State<A> {
     fn fmt<W: fmt::Write>(&self, f: &mut fmt::Formatter<W>) -> fmt::Result {
@@ -35,8 +20,7 @@ impl<A: Allocator> fmt::Debug for StateBuilderEmpty<A> {
 
 impl<A: Allocator> fmt::Debug for StateBuilderMatches<A> {
     fn fmt<W: fmt::Write>(&self, f: &mut fmt::Formatter<W>) -> fmt::Result {
-        let builder = &self.builder;
-        write_value("StateBuilderMatches", builder.bytes.as_slice(), f)
+        write_value("StateBuilderMatches", self.builder.bytes.as_slice(), f)
     }
 }
 
@@ -47,13 +31,14 @@ impl<A: Allocator> fmt::Debug for StateBuilderNFA<A> {
 }
 
 /// Writes the parts of an encoded value as the fields of a struct with this name.
+#[tactic(auto, using(crate::proofs::encoding::ReadBytes::laid_out_in))]
 fn write_value<W: fmt::Write>(name: &str, bytes: &[u8], f: &mut fmt::Formatter<W>) -> fmt::Result
     requires { IsSpelled bytes.now }
 {
     f.debug_struct(name)
-        .field("is_match", &bytes::is_match(bytes))
-        .field("is_from_word", &bytes::is_from_word(bytes))
-        .field("is_half_crlf", &bytes::is_half_crlf(bytes))
+        .field("is_match", &bytes::has_flag(bytes, bytes::MATCH))
+        .field("is_from_word", &bytes::has_flag(bytes, bytes::FROM_WORD))
+        .field("is_half_crlf", &bytes::has_flag(bytes, bytes::HALF_CRLF))
         .field("look_have", &bytes::look_have(bytes))
         .field("look_need", &bytes::look_need(bytes))
         .field("match_pattern_ids", &bytes::pattern_ids(bytes))

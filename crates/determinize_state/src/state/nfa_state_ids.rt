@@ -4,8 +4,9 @@ ghost use Rattle.std.specs.Prelude.{◌≡◌, ℕ};
 ghost use Rattle.std.specs.Iterator.{YieldsFirst, item_count};
 ghost use Rattle.determinize_state.specs.Varint.{ids_from, IsDeltas};
 
-use crate::state::varint::first_id;
+use crate::state::varint;
 use determinize_below::StateID;
+use std::fmt;
 use std::marker::Model;
 
 /// An iterator over the NFA states of a state, in order.
@@ -29,22 +30,12 @@ impl<'a> Model for NfaStateIds<'a> {
 }
 
 impl<'a> NfaStateIds<'a> {
-    /// Returns an iterator over the ids that these bytes encode.
-    pub(crate) fn new(bytes: &'a [u8]) -> NfaStateIds<'a>
-        requires { IsDeltas 0 bytes.now }
-        ensures { result ≡ ids_from 0 0 1 bytes.now }
+    /// Returns an iterator over the ids that these bytes encode after `from`.
+    pub(crate) fn new(from: u32, bytes: &'a [u8]) -> NfaStateIds<'a>
+        requires { IsDeltas from bytes.now }
+        ensures { result ≡ ids_from from 0 1 bytes.now }
     {
-        NfaStateIds { bytes, from: 0 }
-    }
-
-    /// Returns a copy of the iterator, over the same remaining ids.
-    pub(crate) fn again(&self) -> NfaStateIds<'a>
-        ensures { result ≡ self.now }
-    {
-        NfaStateIds {
-            bytes: self.bytes,
-            from: self.from,
-        }
+        NfaStateIds { bytes, from }
     }
 }
 
@@ -56,13 +47,21 @@ impl<'a> Iterator for NfaStateIds<'a> {
     ghost remaining = { item_count (λ s. s) };
 
     /// Returns the next id, or `None` at the end.
+    #[tactic(auto, using(crate::proofs::encoding::Varints::first_read))]
     #[inline(always)]
     fn next(&mut self) -> Option<StateID> {
-        let Some((id, after)) = first_id(self.from, self.bytes) else {
-            return None;
-        };
+        let (number, after) = varint::read_number(self.bytes)?;
+        let id = varint::id_after(self.from, number);
         self.bytes = after;
         self.from = id.as_u32();
         Some(id)
+    }
+}
+
+/// Writes the list of the remaining ids.
+impl<'a> fmt::Debug for NfaStateIds<'a> {
+    fn fmt<W: fmt::Write>(&self, f: &mut fmt::Formatter<W>) -> fmt::Result {
+        let rest = NfaStateIds::new(self.from, self.bytes);
+        f.debug_list().entries(rest).finish()
     }
 }

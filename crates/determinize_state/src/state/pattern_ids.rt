@@ -5,6 +5,7 @@ ghost use Rattle.std.specs.Iterator.{YieldsFirst, item_count};
 ghost use Rattle.determinize_state.specs.Spelling.{numbers_in};
 
 use determinize_below::PatternID;
+use std::fmt;
 use std::marker::Model;
 
 /// An iterator over patterns of four bytes each.
@@ -32,13 +33,6 @@ impl<'a> PatternIds<'a> {
     {
         PatternIds { words }
     }
-
-    /// Returns a copy of the iterator, over the same remaining patterns.
-    pub(crate) fn again(&self) -> PatternIds<'a>
-        ensures { result ≡ self.now }
-    {
-        PatternIds { words: self.words }
-    }
 }
 
 impl<'a> Iterator for PatternIds<'a> {
@@ -48,15 +42,17 @@ impl<'a> Iterator for PatternIds<'a> {
 
     ghost remaining = { item_count (λ s. s) };
 
+    #[tactic(auto, using(crate::proofs::encoding::ReadBytes::first_number))]
     fn next(&mut self) -> Option<PatternID> {
-        let [first, second, third, fourth, after @ ..] = self.words else {
-            return None;
-        };
-        let number = u32::from_le_bytes([*first, *second, *third, *fourth]);
-        let Ok(id) = PatternID::new(number as usize) else {
-            unreachable!()
-        };
+        let (word, after) = self.words.split_first_chunk::<4>()?;
+        let id = PatternID::must(u32::from_le_bytes(*word) as usize);
         self.words = after;
         Some(id)
+    }
+}
+
+impl<'a> fmt::Debug for PatternIds<'a> {
+    fn fmt<W: fmt::Write>(&self, f: &mut fmt::Formatter<W>) -> fmt::Result {
+        f.debug_list().entries(PatternIds::new(self.words)).finish()
     }
 }

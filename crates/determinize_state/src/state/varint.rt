@@ -5,10 +5,10 @@
 //! that another follows. Most numbers take one byte, in a large NFA two: each of these lengths has
 //! a separate path, which is inlined.
 
-ghost use Rattle.std.specs.Prelude.{◌≡◌, ◌+◌, ◌%◌, ◌≤◌, ◌<◌, [], ◌∷◌, ◌++◌, drop, length, take, option_map, IfNone, IfSome, OnErr, OnOk};
+ghost use Rattle.std.specs.Prelude.{◌≡◌, ◌+◌, ◌%◌, ◌≤◌, ◌<◌, ◌++◌, drop, length, option_map, IfNone, IfSome, OnErr, OnOk};
 ghost use Rattle.determinize_state.specs.Varint as format;
 ghost use Rattle.determinize_state.specs.Private.Groups.{read};
-ghost use Rattle.determinize_state.specs.Varint.{unzigzag, ids_from, IsDeltas};
+ghost use Rattle.determinize_state.specs.Varint.{unzigzag};
 
 use determinize_below::StateID;
 use std::alloc::{AllocError, Allocator};
@@ -74,24 +74,9 @@ fn more(number: u32) -> u8
     128 + (number % 128) as u8
 }
 
-/// Decodes one id after `from`. Returns it with the remaining bytes, or `None` at the end.
-#[inline(always)]
-pub(crate) fn first_id(from: u32, bytes: &[u8]) -> Option<(StateID, &[u8])>
-    requires { IsDeltas from bytes.now }
-    ensures none { IfNone result (ids_from from 0 1 bytes.now ≡ []) }
-    ensures some { IfSome result (λ r.
-        ids_from from 0 1 bytes.now ≡ r.0 ∷ ids_from r.0 0 1 r.1.now) }
-    ensures rest { IfSome result (λ r. IsDeltas r.0 r.1.now) }
-{
-    match read_number(bytes) {
-        None => None,
-        Some((number, after)) => Some((id_after(from, number), after)),
-    }
-}
-
 /// Decodes one varint. Returns it with the remaining bytes, or `None` at the end.
 #[inline(always)]
-fn read_number(bytes: &[u8]) -> Option<(u64, &[u8])>
+pub(crate) fn read_number(bytes: &[u8]) -> Option<(u64, &[u8])>
     ensures { option_map (λ r. (r.0, r.1.now)) result ≡ read 0 1 bytes.now }
 {
     let (byte, after) = bytes.split_first()?;
@@ -113,7 +98,7 @@ fn read_number(bytes: &[u8]) -> Option<(u64, &[u8])>
 }
 
 /// Returns the number of bytes of the first varint, or 0 if there is none.
-#[tactic(auto, using(crate::proofs::encoding::Varints::left_after))]
+#[tactic(auto, using(crate::proofs::encoding::Varints::read_rest))]
 #[cold]
 #[inline(never)]
 fn groups_size(bytes: &[u8]) -> usize
@@ -166,7 +151,7 @@ fn read_groups(bytes: &[u8]) -> Option<(u64, &[u8])>
 
 /// Returns the id whose difference to `from` is this number.
 #[inline(always)]
-fn id_after(from: u32, number: u64) -> StateID
+pub(crate) fn id_after(from: u32, number: u64) -> StateID
     requires from { from ≤ 2147483646 }
     requires small { unzigzag from number ≤ 2147483646 }
     requires back { number ≡ format.zigzag from (unzigzag from number) }
