@@ -1,7 +1,7 @@
 -- Tables with one more transition.
 use Rattle.determinize_table.proofs.Common.{arith, by_cases, by_option, Contains, empty, false, inl, inr, IsTable, List}
-use Rattle.determinize_table.proofs.Common.{list_any, list_any-from_Contains, None, Option, refl, same, Some, sym, Table}
-use Rattle.determinize_table.proofs.Common.{Value, with_target, with_transition, with_value, ℕ, ◌≡◌}
+use Rattle.determinize_table.proofs.Common.{list_any, list_any-from_Contains, None, Option, refl, same, Some, sym}
+use Rattle.determinize_table.proofs.Common.{Table, Value, with_target, with_transition, with_value, ℕ, ◌≡◌}
 use Rattle.determinize_table.proofs.Values.{apart-with, has_more, has_new, of_with, with_target-by}
 use Rattle.determinize_engine.proofs.Places.{not_both, not_none, of_some, same_laws}
 
