@@ -1,4 +1,7 @@
--- The last match of a walk where no NFA state is left; it ends within what is read.
+-- The last match of a walk where no NFA state is left, over more units, and where it ends.
+-- Main statements: step_over, last_match-over, last_match-within, longer.
+-- Used by: Headline, Later, the searches of both DFAs, and `determinize_find`.
+-- Idea: a value without NFA states steps to the dead value, after which no value lists a pattern.
 use Rattle.determinize_core.proofs.Common.{[], append-nil, append_assoc, arith, by_test, dead, future, IfSome}
 use Rattle.determinize_core.proofs.Common.{is_reopened, is_some, last_ended, last_match, length, List, MatchKind, Nfa}
 use Rattle.determinize_core.proofs.Common.{None, Option, refl, step, suc, sym, true, Value, value_after, working_list}
@@ -49,12 +52,14 @@ module _ (nfa : Nfa) (kind : MatchKind) where
   pub last_match-within : (v : Value) (us : List (Option ℕ))
       → IfSome (last_match (future nfa kind v us)) (λ m. m.offset < length us)
   last_match-within v us =
-      rw (future_is nfa kind v us) (rw (zero-add, length-tail nfa kind v us) at (last_ended-within 0 (tail nfa kind v us)))
+      rw (future_is nfa kind v us)
+      (rw (zero-add, length-tail nfa kind v us) at (last_ended-within 0 (tail nfa kind v us)))
 
 -- a match that was found stays found over more units
 pub longer : (nfa : Nfa) (kind : MatchKind) (v : Value) (us rest : List (Option ℕ))
     → is_some (last_match (future nfa kind v us)) ≡ true → is_some (last_match (future nfa kind v (us ++ rest))) ≡ true
 longer nfa kind v us [] h = rw append-nil h
 longer nfa kind v us (u ∷ rest) h =
-    let one : is_some (last_match (future nfa kind v (us ++ u ∷ []))) ≡ true = grind (arith, last_match-push nfa kind v us u) in
+    let one : is_some (last_match (future nfa kind v (us ++ u ∷ []))) ≡ true =
+    grind (arith, last_match-push nfa kind v us u) in
     rw append_assoc at (longer nfa kind v (us ++ u ∷ []) rest one)

@@ -1,4 +1,7 @@
 -- The last match of a walk over more units, after some that were read.
+-- Main statements: last_from-next, last_from-first, last_from-over, later-within.
+-- Used by: Scanning, and the loops of searches of `determinize_lazy`.
+-- Idea: a loop keeps the last match so far, and the match of the rest replaces it if there is one.
 use Rattle.determinize_core.proofs.Common.{[], ap, arith, ended_at, future, HalfMatch, IfSome, is_nonempty, last_match}
 use Rattle.determinize_core.proofs.Common.{List, MatchKind, Nfa, None, not, Option, option_map, option_or, step, true}
 use Rattle.determinize_core.proofs.Common.{Value, ℕ, ◌+◌, ◌<◌, ◌∙◌, ◌∷◌, ◌≡◌, ◌≤◌}

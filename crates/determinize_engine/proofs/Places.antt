@@ -1,4 +1,7 @@
--- The places of values in lists, and of one more.
+-- The places of values in lists, one value more, and equal values.
+-- Main statements: get_push, get_more, apart-push, interned-push, same_is, not_both.
+-- Used by: Texts and `intern` here, and nearly every file of lemmas of the three crates that name this one.
+-- Idea: by induction on the list; `same` decides equality, so a value has one place.
 use Rattle.determinize_core.proofs.Common.{[], ap, arith, Bool, by_test, cond, false, inl, inr, IsEquivalence, length}
 use Rattle.determinize_core.proofs.Common.{length-append, List, list_any, None, on_equiv, Option, refl, same, slice_get}
 use Rattle.determinize_core.proofs.Common.{Some, suc, sym, true, true≢false, unwrap_or, Value, zero, ℕ, ◌++◌, ◌<◌, ◌∙◌}

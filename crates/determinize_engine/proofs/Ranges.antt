@@ -1,4 +1,7 @@
 -- What an input asks for, and the answer in its haystack.
+-- Main statements: is-answer, match-decides, last-done, offset-within.
+-- Used by: `search_input` and `is_match` of both DFAs.
+-- Idea: a search of an input is one of its text; only the offsets differ.
 use Rattle.determinize_core.proofs.Common.{All, arith, Asked, Bool, chain, Decides, false, false≢true, HalfMatch}
 use Rattle.determinize_core.proofs.Common.{IfNone, IfSome, is_done, is_some, IsAccepted, last_match, LeftmostFirst}
 use Rattle.determinize_core.proofs.Common.{length, length-reverse, length-take, MatchKind, Nfa, None, Option}

@@ -1,4 +1,7 @@
 -- A search of a text in pieces: its value and its match are those of the pieces together.
+-- Main statements: scan-piece, last-whole, settled, read_none.
+-- Used by: `feed`, `finish` and `is_over` of `determinize_lazy`, and its searches.
+-- Idea: the last match over two pieces is that of the second from the value after the first, or else that of the first.
 use Rattle.determinize_core.proofs.Common.{[], ap, append_assoc, arith, between, Bool, by_test, chain, false, future}
 use Rattle.determinize_core.proofs.Common.{HalfMatch, last_match, length, length-append, length-map, List, map}
 use Rattle.determinize_core.proofs.Common.{map-append, MatchKind, Nfa, None, Option, option_map, option_or, refl, Some}

@@ -1,4 +1,7 @@
 -- The units of a text are bytes, or the end of input.
+-- Main statements: text_units, one_unit.
+-- Used by: `with_order`, and Reached of `determinize_dense`.
+-- Idea: each byte of the reversed bytes is one of the bytes.
 use Rattle.determinize_core.proofs.Common.{[], arith, between, Bool, get_or-reverse, length-reverse, List, Option, Some}
 use Rattle.determinize_core.proofs.Common.{subst, sym, units, ℕ, ◌-◌, ◌<◌, ◌∷◌}
 use Rattle.determinize_engine.specs.Searches.{in_order}

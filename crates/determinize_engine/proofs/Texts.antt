@@ -1,4 +1,7 @@
--- The units of a text, and the text that an input asks for.
+-- The units of a text: which there are, and which is at an index.
+-- Main statements: units_listed, unit-here, unit-last, all_read.
+-- Used by: TextUnits, `byte` and `unit`, and the searches of both DFAs.
+-- Idea: they are its bytes, and then the byte ahead or the end of input.
 use Rattle.determinize_core.proofs.Common.{[], ap, arith, get_or, get_or-reverse, length, length-append, length-map}
 use Rattle.determinize_core.proofs.Common.{length-reverse, List, map, slice_get, slice_get-get_or, slice_get-map, Some}
 use Rattle.determinize_core.proofs.Common.{Text, units, ℕ, ◌++◌, ◌+◌, ◌<◌, ◌∙◌, ◌∷◌, ◌≡◌, ◌≤◌}
@@ -10,7 +13,6 @@ pub unit-byte : (bytes : List ℕ) (i b : ℕ) → i < length bytes → b ≡ ge
     → slice_get (map Some bytes) i ≡ Some (Some b)
 unit-byte bytes i b inside is = grind (arith, slice_get-map Some bytes i, slice_get-get_or bytes i 0 inside)
 
--- what a text's bytes and units are
 module _ (text : Text) where
   -- the units are the bytes and what is ahead of them
   pub units_listed : units text ≡ map Some text.bytes ++ text.ahead ∷ []
@@ -31,4 +33,5 @@ module _ (text : Text) where
   all_read h is =
       grind (arith, units_listed, length-append (map Some text.bytes) (text.ahead ∷ []), length-map text.bytes Some)
 
+-- the byte and the unit at an index
 pub ruleset reading = (unit-byte, unit-here, unit-last, get_or-reverse, length-reverse)

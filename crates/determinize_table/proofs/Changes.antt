@@ -1,16 +1,20 @@
--- What functions that change the table leave: how many states there are with two more, and what is stored.
-use Rattle.determinize_table.proofs.Common.{dead, ap, arith, column, get_or_from_slice_get, is_unit, IsAt, IsInterned, IsKept}
-use Rattle.determinize_table.proofs.Common.{IsStored, List, Ok, Option, slice_get, slice_get-get_or, slice_get_within}
-use Rattle.determinize_table.proofs.Common.{slice_set, Some, StoredTable, Table, table_of, true, Value, with_state}
-use Rattle.determinize_table.proofs.Common.{with_target, with_transition, with_value, ℕ, ◌*◌, ◌+◌, ◌∙◌, ◌≡◌}
+-- What functions that change a table leave, and what ids and cursors are in it.
+-- Main statements: transition-kept, index_before, at_id.
+-- Used by: the functions of `table.rt`, and Cursors of `determinize_lazy`.
+-- Idea: interning adds one state at most, at the end, so ids stay; then one write to the rows adds the transition.
+use Rattle.determinize_table.proofs.Common.{ap, arith, column, dead, get_or_from_slice_get, is_unit, IsAt, IsInterned}
+use Rattle.determinize_table.proofs.Common.{IsKept, IsStored, List, Ok, Option, slice_get, slice_get-get_or}
+use Rattle.determinize_table.proofs.Common.{slice_get_within, slice_set, Some, StoredTable, Table, table_of, true}
+use Rattle.determinize_table.proofs.Common.{Value, with_state, with_target, with_transition, with_value, ℕ, ◌*◌, ◌+◌}
+use Rattle.determinize_table.proofs.Common.{◌∙◌, ◌≡◌}
 use Rattle.determinize_table.specs.Cursors.{IsIndexBefore}
 use Rattle.determinize_table.specs.declared.table.Cursor.TheVariants.{Cached}
 use Rattle.determinize_engine.specs.States.{IsIndex}
-use Rattle.determinize_engine.proofs.Places.{there}
+use Rattle.determinize_engine.proofs.Places.{same-or, there}
 use Rattle.determinize_table.proofs.TableRows.{rows-set, rows-store, table-is}
-use Rattle.determinize_table.proofs.Values.{any_with, get_with, length_with, same-or}
+use Rattle.determinize_table.proofs.Values.{any_with, get_with, length_with}
 
--- what ids and cursors say of the cached states, and how many there are with one more
+-- the values at ids, and how many there are with one more
 pub ruleset caching = (there, slice_get-get_or, same-or, length_with, any_with, get_with, get_or_from_slice_get)
 
 -- a cursor at an id of a state
@@ -18,21 +22,18 @@ pub at_id : {A : Type 0} (states : List Value) (id : ℕ) (v : Value) → slice_
     → IsAt {A = A} states (Cached id) v
 at_id states id v at = grind (arith, slice_get_within {A = Value}, get_or_from_slice_get {X = Value})
 
--- the source of a transition was interned; then what was found of the target before holds still, and with the target
--- interned too, a write stores the transition
+-- the source of a transition is interned
 module _ {E : Type 0} {old mid : StoredTable} {v : Value} {s : ℕ} (first : IsInterned {E = E} old v (Ok s) mid) where
   states_with : mid.states ≡ with_value old.states v
   states_with = ap (λ (x : Table). x.states) first.table
 
+  -- a value that was looked up before
   pub index_before : (w : Value) (found : Option ℕ) → IsIndex old.states w found → IsIndexBefore mid.states s w found
-  index_before w found is = grind (
-    arith,
-    any_with old.states v w,
-    get_with old.states v w,
-    states_with,
-    get_or_from_slice_get mid.states s v dead first.id,
-  )
+  index_before w found is =
+      let same_source = get_or_from_slice_get mid.states s v dead first.id in
+      grind (arith, any_with old.states v w, get_with old.states v w, states_with)
 
+  -- the target is interned, too: writing its entry keeps the transition
   pub transition-kept : {new : StoredTable} {w : Value} {t : ℕ} (u : Option ℕ) → IsInterned {E = E} mid w (Ok t) new
       → IsStored new.states new.rows → is_unit u ≡ true
       → IsStored new.states (slice_set new.rows (s * 258 + column u) (t * 258))

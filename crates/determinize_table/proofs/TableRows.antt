@@ -1,7 +1,8 @@
--- The rows of a table: which targets they determine, and what stays true with one more state or transition.
--- Main statements: table-is (the table that rows store), pushed, rows-set, entry-read.
+-- The rows of a table: the targets that they store, and rows with one more state or one more transition.
+-- Main statements: table-is, pushed, rows-set, entry-read.
 -- Used by: Changes, and the proofs of `push`, `insert` and `lookup`.
--- Idea: an entry is at one index only, so a write changes one entry; the rows then determine the targets again.
+-- Idea: different pairs of row and column have different places, so a write changes one entry. Rows determine the
+-- targets (table-is), so it is enough to give those of the new rows.
 use Rattle.determinize_table.proofs.Common.{[], AreRows, arith, by_cases, by_option, column, drop, entry_at, false}
 use Rattle.determinize_table.proofs.Common.{index_in, is_unit, IsStored, Leads, length, length-set, List, list_any}
 use Rattle.determinize_table.proofs.Common.{None, Option, replicate, same, slice_get, slice_get_within, slice_index}
@@ -20,7 +21,7 @@ column-lt u h = grind (arith, nat_tests)
 column_once : (u w : Option ℕ) → is_unit u ≡ true → is_unit w ≡ true → column u ≡ column w → u ≡ w
 column_once u w h k e = grind (arith, nat_tests)
 
--- what an entry tells of the target: the state whose row it leads to; none for 1, which is no offset of a row
+-- what an entry says of the target; 1 is the offset of no row
 leads-state : (states : List Value) (e : ℕ) (o : Option Value) → Leads states e o → state_at states e ≡ o
 leads-state states e o is = grind (arith, nat_tests)
 

@@ -1,14 +1,17 @@
--- Cached values: their indices, and the values with one more.
+-- The cached values: their indices, the values with one more, and the targets with one more.
+-- Main statements: index_is, length_with, any_with, get_with, with_target-by.
+-- Used by: TableRows, Changes, Transitions, and Plenty of `determinize_lazy`.
+-- Idea: `same` decides equality, so each test in a definition is one for equal values.
 use Rattle.determinize_table.proofs.Common.{[], ap, arith, Bool, by_test, cond, Contains, Decides, EachApart, false}
-use Rattle.determinize_table.proofs.Common.{index_in, inl, inr, length, length_push, List, list_any, list_any_congr}
-use Rattle.determinize_table.proofs.Common.{None, Option, position_from, refl, same, same_unit, slice_get, Some, suc}
-use Rattle.determinize_table.proofs.Common.{sym, Value, with_target, with_value, ℕ, ◌&&◌, ◌+◌, ◌||◌, ◌∷◌, ◌≡◌, ◌⊎◌}
+use Rattle.determinize_table.proofs.Common.{index_in, inl, length, length_push, List, list_any, None, Option}
+use Rattle.determinize_table.proofs.Common.{position_from, refl, same, same_unit, slice_get, Some, suc, sym, Value}
+use Rattle.determinize_table.proofs.Common.{with_target, with_value, ℕ, ◌&&◌, ◌+◌, ◌||◌, ◌∷◌, ◌≡◌, ◌⊎◌}
 use Rattle.std.proofs.lemmas.Bool.Decides.{Decides-and, nat_tests}
 use Rattle.std.proofs.lemmas.List.Elements.{Contains-append_left, Contains-push, Contains-push_cases}
 use Rattle.std.proofs.lemmas.List.Folds.{list_any-append}
 use Rattle.std.proofs.lemmas.Map.Views.{Contains-from_any}
 use Rattle.determinize_state.specs.Equality.{Decides-same}
-use Rattle.determinize_engine.proofs.Places.{apart-push, get_more, not_both, not_none, same_is, same_laws}
+use Rattle.determinize_engine.proofs.Places.{apart-push, get_more, not_both, not_none, same-or, same_is, same_laws}
 
 Decides-unit : (u w : Option ℕ) → Decides (same_unit u w) (u ≡ w)
 Decides-unit u w = grind (arith, nat_tests)
@@ -38,9 +41,6 @@ index_is values v p here =
     let e : p ≡ k = omega (arith, at) in
     rw e is
 
-pub same-or : (v w : Value) → (same v w ≡ false) ⊎ (v ≡ w)
-same-or v w = by_test (same v w) (λ e. inr (same_is v w e)) inl
-
 module _ (values : List Value) (w : Value) where
   pub get_with : (v : Value) (p : ℕ) → slice_get values p ≡ Some v → slice_get (with_value values w) p ≡ Some v
   get_with v p at = grind (arith, get_more {K = Value})
@@ -63,7 +63,7 @@ module _ (values : List Value) (w : Value) where
   -- whether a value is among them
   pub any_with : (v : Value) → list_any (same v) (with_value values w) ≡ (list_any (same v) values || same w v)
   any_with v =
-      grind (arith, list_any-append {X = Value}, list_any_congr same_laws w v values, same_laws.symm v w)
+      grind (arith, list_any-append {X = Value}, same-or w v, same_laws.symm v w)
 
   pub apart-with : EachApart values → EachApart (with_value values w)
   apart-with h = grind (arith, apart-push)

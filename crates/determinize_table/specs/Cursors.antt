@@ -16,8 +16,8 @@ abbrev pub IsCursor : {A : Type 0} → List Value → Cursor A → Type 0
 IsCursor states (Cached id) = id < length states
 IsCursor states (Uncached state) = list_any (same state) states ≡ false
 
--- what a lookup of a value returned, before the state at `source` was cached or not: a value that
--- was not found is that state, or it is not cached
+-- the index of a value, as it was looked up. The state at `source` may have been cached since, so a
+-- value that was not found may be that of this state
 abbrev pub IsIndexBefore : List Value → ℕ → Value → Option ℕ → Type 0
 IsIndexBefore states source v None =
     same (slice_index_or states source dead) v ≡ false → list_any (same v) states ≡ false

@@ -1,22 +1,17 @@
-//! The transition table: the cached states, and a row of targets for each.
-//!
-//! A row has 258 numbers. In the column of a unit (a byte, or 256 for EOI) is the offset in `rows`
-//! of the row of the next state, or `UNKNOWN` if the transition is not cached. In the last column
-//! is the tag of the state. So a search over cached transitions reads two numbers a byte, and no
-//! state. The table also has the rule of what is cached (`keep`), and the ids of the start states
-//! that searches have used.
+//! The transition table: the cached states, a row for each, the ids of the start states that
+//! searches have used, and the rule of what is cached (`keep`).
 
 ghost use Rattle.std.specs.Prelude.{◌≡◌, ◌*◌, ◌<◌, ◌≤◌, false, true, length, nat_le, slice_get, slice_index_or, slice_set, IfOk, None, Some};
 ghost use Rattle.std.specs.List.{list_any};
+ghost use Rattle.determinize_core.specs.Equality.{same};
 ghost use Rattle.determinize_core.specs.Value.{Value as StateValue};
-ghost use Rattle.determinize_table.specs.Table.{keep, with_transition, with_value};
-ghost use Rattle.determinize_table.specs.Cursors.{IsAt, IsCursor, IsIndexBefore, cursor_value};
-ghost use Rattle.determinize_table.specs.Rows.{IsEmpty, IsTarget, table_of};
-ghost use Rattle.determinize_table.specs.Tags.{tag_in, tag_of};
-ghost use Rattle.determinize_table.specs.Stored.{column, is_unit};
 ghost use Rattle.determinize_engine.specs.States.{IsIndex};
 ghost use Rattle.determinize_table.specs.Changes.{IsInterned, IsKept};
-ghost use Rattle.determinize_core.specs.Equality.{same};
+ghost use Rattle.determinize_table.specs.Cursors.{IsCursor, IsIndexBefore, cursor_value};
+ghost use Rattle.determinize_table.specs.Rows.{IsEmpty, IsTarget, table_of};
+ghost use Rattle.determinize_table.specs.Stored.{column, is_unit};
+ghost use Rattle.determinize_table.specs.Table.{keep, with_transition, with_value};
+ghost use Rattle.determinize_table.specs.Tags.{tag_in, tag_of};
 
 use crate::state_id::{COLUMNS, LazyStateId, UNITS};
 use crate::tag::StateTag;
@@ -31,7 +26,7 @@ use std::mem::size_of;
 const UNKNOWN: u32 = 1;
 
 /// How many start states can be kept: two start states of the NFA, each with six kinds of start.
-pub const STARTS: usize = 12;
+const STARTS: usize = 12;
 
 /// Where a walk or a search is.
 #[derive(Drop)]
@@ -137,7 +132,7 @@ impl<A: Allocator + Copy> TransitionTable<A> {
 
     /// Returns the cached state with this id.
     #[inline(always)]
-    pub fn get(&self, id: LazyStateId) -> &State<A>
+    fn get(&self, id: LazyStateId) -> &State<A>
         requires { id < length self.now.states }
         ensures { slice_get self.now.states id ≡ Some result.now }
     {
@@ -246,9 +241,9 @@ impl<A: Allocator + Copy> TransitionTable<A> {
         }
     }
 
-    /// Returns the id of a state, which is cached if it is not. `found` is what `find` returned for
-    /// it. The state at `source` may have been cached since, so a state that was not found may be
-    /// that one.
+    /// Returns the id of a state. Caches the state if it is not cached. `found` is its id, as it
+    /// was looked up. The state at `source` may have been cached since, so a state that was not
+    /// found may be that one.
     ///
     /// If an allocation fails, the table is unchanged.
     #[tactic(auto, using(crate::proofs::Changes::caching))]
@@ -270,7 +265,7 @@ impl<A: Allocator + Copy> TransitionTable<A> {
     }
 
     /// Caches the transition from `source` over `unit` to `target`, and both states. Returns the
-    /// cursor of the target. `found` is what `find` returned for the target.
+    /// cursor of the target. `found` is the id of the target, if it is cached.
     ///
     /// If an allocation fails, the table is unchanged or empty.
     fn insert(
@@ -292,7 +287,7 @@ impl<A: Allocator + Copy> TransitionTable<A> {
                 Ok(Cursor::Cached(target))
             }
             Err(failed) => {
-                // The source may be new, and no transition leads to it or from it.
+                // The source may have been cached, and no transition has it.
                 self.clear();
                 Err(failed)
             }
