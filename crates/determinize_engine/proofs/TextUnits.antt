@@ -3,7 +3,7 @@
 -- Used by: `with_order`, and Reached of `determinize_dense`.
 -- Idea: each byte of the reversed bytes is one of the bytes.
 use Rattle.determinize_core.proofs.Common.{[], arith, between, Bool, get_or-reverse, length-reverse, List, Option, Some}
-use Rattle.determinize_core.proofs.Common.{subst, sym, units, ℕ, ◌-◌, ◌<◌, ◌∷◌}
+use Rattle.determinize_core.proofs.Common.{subst, sym, units, ℕ, ◌<◌, ◌∷◌}
 use Rattle.determinize_engine.specs.Searches.{in_order}
 use Rattle.std.specs.Prelude.{All}
 use Rattle.std.proofs.lemmas.List.Elements.{All-append, All-map}
