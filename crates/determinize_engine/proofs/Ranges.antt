@@ -1,4 +1,4 @@
--- What an input asks for, and the answer in its haystack.
+-- The range of an input as a text, and a match of the text in the haystack.
 -- Main statements: is-answer, match-decides, last-done, offset-within.
 -- Used by: `search_input` and `is_match` of both DFAs.
 -- Idea: a search of an input is one of its text; only the offsets differ.
