@@ -1,8 +1,11 @@
 -- The last match of a walk, in words of runs.
+-- Main statements: preferred, none_accepts, some_accepts, is-search.
+-- Used by: Ranges, the searches of both DFAs, and `determinize_find`.
+-- Idea: the theorem of walks for each match kind, read for a match or for none.
 use Rattle.determinize_core.proofs.Common.{Accepts, All, arith, chain, HalfMatch, IfSome, IsAccepted, IsPreferredMatch}
-use Rattle.determinize_core.proofs.Common.{last_match, LeftmostFirst, length, List, MatchKind, Nfa, None}
+use Rattle.determinize_core.proofs.Common.{last_match, LeftmostFirst, length, List, MatchKind, Nfa, None, Option, refl}
+use Rattle.determinize_core.proofs.Common.{Some, start_value, Text, units, ℕ, ◌≡◌, ◌≤◌}
 use Rattle.determinize_engine.specs.Searches.{IsSearch}
-use Rattle.determinize_core.proofs.Common.{Option, refl, Some, start_value, Text, units, ℕ, ◌≡◌, ◌≤◌}
 use Rattle.std.proofs.lemmas.Option.{IfSome_then}
 use Rattle.std.proofs.lemmas.List.FromFn.{length-map-range_with_len}
 use Rattle.determinize_core.proofs.walk.Farthest.{each_last_is_farthest}

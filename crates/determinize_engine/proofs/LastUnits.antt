@@ -1,8 +1,11 @@
--- The last match of a walk where no NFA state is left; it ends within what is read.
-use Rattle.determinize_core.proofs.Common.{[], append-nil, append_assoc, arith, by_option, by_test, dead, ended_at}
-use Rattle.determinize_core.proofs.Common.{future, IfSome, is_reopened, is_some, last_ended, last_match, length, List}
-use Rattle.determinize_core.proofs.Common.{MatchKind, Nfa, None, Option, refl, step, suc, sym, true, Value, value_after}
-use Rattle.determinize_core.proofs.Common.{working_list, ℕ, ◌++◌, ◌+◌, ◌<◌, ◌∙◌, ◌∷◌, ◌≡◌}
+-- The last match of a walk where no NFA state is left, over more units, and where it ends.
+-- Main statements: step_over, last_match-over, last_match-within, longer.
+-- Used by: Headline, Later, the searches of both DFAs, and `determinize_find`.
+-- Idea: a value without NFA states steps to the dead value, after which no value lists a pattern.
+use Rattle.determinize_core.proofs.Common.{[], append-nil, append_assoc, arith, by_test, dead, future, IfSome}
+use Rattle.determinize_core.proofs.Common.{is_reopened, is_some, last_ended, last_match, length, List, MatchKind, Nfa}
+use Rattle.determinize_core.proofs.Common.{None, Option, refl, step, suc, sym, true, Value, value_after, working_list}
+use Rattle.determinize_core.proofs.Common.{ℕ, ◌++◌, ◌+◌, ◌<◌, ◌∙◌, ◌∷◌, ◌≡◌}
 use Rattle.determinize_core.proofs.closure.EmptySearch.{reach-none}
 use Rattle.determinize_core.proofs.step.StepLaws.{dead_stays}
 use Rattle.determinize_core.proofs.walk.LastMatches.{future_is, last_match-push, length-tail, tail}
@@ -44,11 +47,7 @@ module _ (nfa : Nfa) (kind : MatchKind) where
   -- a match ends within what was read
   last_ended-within : (n : ℕ) (vs : List Value) → IfSome (last_ended n vs) (λ m. m.offset < n + length vs)
   last_ended-within n [] = tt
-  last_ended-within n (v ∷ vs) = by_option (last_ended (suc n) vs) (λ e. rw e (here v.patterns))
-      (λ m e. let h = rw e at (last_ended-within (suc n) vs) in rw e (omega (arith, h)))
-    where
-      here : (ps : List ℕ) → IfSome (ended_at n ps) (λ m. m.offset < n + suc (length vs))
-      here ps = grind arith
+  last_ended-within n (v ∷ vs) = grind (arith, last_ended-within (suc n) vs)
 
   pub last_match-within : (v : Value) (us : List (Option ℕ))
       → IfSome (last_match (future nfa kind v us)) (λ m. m.offset < length us)
@@ -61,6 +60,6 @@ pub longer : (nfa : Nfa) (kind : MatchKind) (v : Value) (us rest : List (Option 
     → is_some (last_match (future nfa kind v us)) ≡ true → is_some (last_match (future nfa kind v (us ++ rest))) ≡ true
 longer nfa kind v us [] h = rw append-nil h
 longer nfa kind v us (u ∷ rest) h =
-    let one : is_some (last_match (future nfa kind v (us ++ u ∷ []))) ≡ true = rw (last_match-push nfa kind v us u)
-    (by_option (ended_at (length us) (value_after nfa kind v (us ++ u ∷ [])).patterns) (λ e. rw e h) (λ m e. rw e)) in
+    let one : is_some (last_match (future nfa kind v (us ++ u ∷ []))) ≡ true =
+    grind (arith, last_match-push nfa kind v us u) in
     rw append_assoc at (longer nfa kind v (us ++ u ∷ []) rest one)

@@ -1,5 +1,10 @@
 -- The last match of a walk over more units, after some that were read.
-use Rattle.determinize_core.proofs.Common.{[], arith, ended_at, future, HalfMatch, is_nonempty, last_match, List, MatchKind, Nfa, None, not, Option, option_map, option_or, refl, Some, step, sym, true, true≢false, Value, ℕ, ◌+◌, ◌<◌, ◌∙◌, ◌∷◌, ◌≡◌, ◌≤◌, ap, IfSome}
+-- Main statements: last_from-next, last_from-first, last_from-over, later-within.
+-- Used by: Scanning, and the loops of searches of `determinize_lazy`.
+-- Idea: a loop keeps the last match so far, and the match of the rest replaces it if there is one.
+use Rattle.determinize_core.proofs.Common.{[], ap, arith, ended_at, future, HalfMatch, IfSome, is_nonempty, last_match}
+use Rattle.determinize_core.proofs.Common.{List, MatchKind, Nfa, None, not, Option, option_map, option_or, step, true}
+use Rattle.determinize_core.proofs.Common.{Value, ℕ, ◌+◌, ◌<◌, ◌∙◌, ◌∷◌, ◌≡◌, ◌≤◌}
 use Rattle.determinize_core.proofs.walk.LastMatches.{each_first_unit_unrolls}
 use Rattle.determinize_core.specs.Laws.{one_later}
 use Rattle.determinize_engine.proofs.LastUnits.{last_match-over}
@@ -7,20 +12,16 @@ use Rattle.determinize_engine.specs.Private.Later.{last_from, later_by}
 
 pub later-within : (n k limit : ℕ) (found : Option HalfMatch) → IfSome found (λ m. m.offset < k) → n + k ≤ limit + 1
     → IfSome found (λ m. n + m.offset ≤ limit)
-later-within n k limit None h sum = tt
-later-within n k limit (Some m) h sum = omega (arith, h, sum)
+later-within n k limit found h sum = grind arith
 
 pub none_left : (states : List ℕ) → not (is_nonempty states) ≡ true → states ≡ []
-none_left [] h = refl
-none_left (x ∷ xs) h = absurd (true≢false (sym h))
+none_left states h = grind arith
 
 -- one unit more before the others
 shift : (n : ℕ) (o last : Option HalfMatch) (patterns : List ℕ)
     → option_or (option_map (later_by n) (option_or (option_map one_later o) (ended_at 0 patterns))) last
     ≡ option_or (option_map (later_by (n + 1)) o) (option_or (ended_at n patterns) last)
-shift n None last [] = refl
-shift n None last (p ∷ ps) = grind arith
-shift n (Some m) last patterns = grind arith
+shift n o last patterns = grind arith
 
 module _ (nfa : Nfa) (kind : MatchKind) where
   pub last_from-next : (n : ℕ) (last : Option HalfMatch) (v : Value) (u : Option ℕ) (us : List (Option ℕ))
@@ -33,11 +34,7 @@ module _ (nfa : Nfa) (kind : MatchKind) where
   -- from the beginning
   pub last_from-first : (v : Value) (us : List (Option ℕ))
       → last_from nfa kind 0 None v us ≡ last_match (future nfa kind v us)
-  last_from-first v us = same (last_match (future nfa kind v us))
-    where
-      same : (o : Option HalfMatch) → option_or (option_map (later_by 0) o) None ≡ o
-      same None = refl
-      same (Some m) = grind arith
+  last_from-first v us = grind arith
 
   -- no match follows a value without NFA states
   pub last_from-over : (n : ℕ) (last : Option HalfMatch) (v : Value) (us : List (Option ℕ)) → v.states ≡ []

@@ -1,5 +1,4 @@
 pub mod Headline
-pub mod Interning
 pub mod LastUnits
 pub mod Later
 pub mod Places

@@ -1,8 +1,15 @@
--- The places of values in lists, and of one more.
-use Rattle.determinize_core.proofs.Common.{[], ap, Bool, false, inl, inr, IsEquivalence, length, List}
+-- The places of values in lists, one value more, and equal values.
+-- Main statements: get_push, get_more, apart-push, interned-push, same_is, not_both.
+-- Used by: Texts and `intern` here, and nearly every file of lemmas of the three crates that name this one.
+-- Idea: by induction on the list; `same` decides equality, so a value has one place.
+use Rattle.determinize_core.proofs.Common.{[], ap, arith, Bool, by_test, cond, false, inl, inr, IsEquivalence, length}
+use Rattle.determinize_core.proofs.Common.{length-append, List, list_any, None, on_equiv, Option, refl, same, slice_get}
+use Rattle.determinize_core.proofs.Common.{Some, suc, sym, true, true≢false, unwrap_or, Value, zero, ℕ, ◌++◌, ◌<◌, ◌∙◌}
+use Rattle.determinize_core.proofs.Common.{◌∷◌, ◌≡◌, ◌⊎◌}
 use Rattle.determinize_engine.specs.States.{EachApart}
-use Rattle.determinize_core.proofs.Common.{list_any, None, on_equiv, Option, refl, same, slice_get, Some, suc, sym}
-use Rattle.determinize_core.proofs.Common.{true, true≢false, unwrap_or, Value, zero, ℕ, ◌++◌, ◌∙◌, ◌∷◌, ◌≡◌, ◌⊎◌}
+use Rattle.determinize_engine.specs.Private.Interned.{AreInterned}
+use Rattle.determinize_engine.specs.declared.state_table.TheConstants.{MAX_STATES}
+use Rattle.std.proofs.lemmas.List.Folds.{list_any-append}
 use Rattle.std.proofs.lemmas.Map.Keys.{any_passes_from_place}
 use Rattle.std.specs.Cmp.Lexicographic.{nat_list_eq_equiv}
 use Rattle.determinize_state.specs.Equality.{Decides-same, parts}
@@ -25,10 +32,9 @@ same_is v w = (Decides-same v w).0
 module _ {K : Type 0} where
   pub get_push : (xs : List K) (x : K) (p : ℕ) (q : K) → slice_get (xs ++ x ∷ []) p ≡ Some q
       → (slice_get xs p ≡ Some q) ⊎ ((p ≡ length xs) × (q ≡ x))
-  get_push [] x zero q e = inr (refl, sym (of_some e))
-  get_push [] x (suc p) q e = not_none (sym e)
+  get_push [] x p q e = grind arith
   get_push (y ∷ ys) x zero q e = inl e
-  get_push (y ∷ ys) x (suc p) q e = elim (get_push ys x p q e) [ inl h ↦ inl h | inr h ↦ inr (ap suc h.0, h.1) ]
+  get_push (y ∷ ys) x (suc p) q e = grind (arith, get_push ys x p q e)
 
   -- the last element
   pub get_last : (xs : List K) (x : K) → slice_get (xs ++ x ∷ []) (length xs) ≡ Some x
@@ -46,9 +52,25 @@ module _ (values : List Value) where
 
   -- with one more, no two of them are equal
   pub apart-push : (w : Value) → EachApart values → list_any (same w) values ≡ false → EachApart (values ++ w ∷ [])
-  apart-push w apart new p q v at_p at_q = elim (get_push values w p v at_p) [
-    | inl a ↦ elim (get_push values w q v at_q)
-        [ inl b ↦ apart p q v a b | inr b ↦ not_both (there w p (a ∙ ap Some b.1)) new ]
-    | inr a ↦ elim (get_push values w q v at_q)
-        [ inl b ↦ not_both (there w q (b ∙ ap Some a.1)) new | inr b ↦ a.0 ∙ sym b.0 ]
-  ]
+  apart-push w apart new = grind (arith, get_push {K = Value}, there)
+
+pub same-or : (v w : Value) → (same v w ≡ false) ⊎ (v ≡ w)
+same-or v w = by_test (same v w) (λ e. inr (same_is v w e)) inl
+
+-- one more state in a table
+pub interned-push : {values : List Value} {at at' : Value → Option ℕ} {n : ℕ} (v : Value) → AreInterned values at
+    → list_any (same v) values ≡ false → n ≡ length values → n < MAX_STATES
+    → ((q : Value) → at' q ≡ cond (same v q) (Some n) (at q)) → AreInterned (values ++ v ∷ []) at'
+interned-push {values} v placed none len few new = record {
+  mapped = λ q. let m = placed.mapped q in grind (
+    arith,
+    new q,
+    same-or v q,
+    get_last values v,
+    get_more values (v ∷ []),
+    list_any-append (same q) values (v ∷ []),
+    same_laws.symm q v,
+  );
+  apart = apart-push values v placed.apart none;
+  few = rw length-append (omega (arith, len, few));
+}

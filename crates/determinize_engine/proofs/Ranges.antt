@@ -1,15 +1,14 @@
--- What an input asks for, and the answer in its haystack.
+-- The range of an input as a text, and a match of the text in the haystack.
+-- Main statements: is-answer, match-decides, last-done, offset-within.
+-- Used by: `search_input` and `is_match` of both DFAs.
+-- Idea: a search of an input is one of its text; only the offsets differ.
 use Rattle.determinize_core.proofs.Common.{All, arith, Asked, Bool, chain, Decides, false, false≢true, HalfMatch}
-use Rattle.determinize_core.proofs.Common.{IfNone, IfSome, is_done, is_some, IsAccepted}
-use Rattle.determinize_engine.specs.Searches.{HasMatch, in_haystack}
-use Rattle.determinize_core.proofs.Common.{last_match, LeftmostFirst, length}
-use Rattle.determinize_engine.specs.Searches.{IsFarthestIn, IsPreferredIn, IsSearch}
-use Rattle.determinize_core.proofs.Common.{length-reverse, length-take, MatchKind, Nfa, None, Option, option_map, refl}
-use Rattle.determinize_core.proofs.Common.{Some, true, ℕ, ◌-◌, ◌≡◌, ◌≤◌}
+use Rattle.determinize_core.proofs.Common.{IfNone, IfSome, is_done, is_some, IsAccepted, last_match, LeftmostFirst}
+use Rattle.determinize_core.proofs.Common.{length, length-reverse, length-take, MatchKind, Nfa, None, Option}
+use Rattle.determinize_core.proofs.Common.{option_map, refl, Some, true, ℕ, ◌-◌, ◌≡◌, ◌≤◌}
+use Rattle.determinize_engine.specs.Searches.{HasMatch, in_haystack, IsFarthestIn, IsPreferredIn, IsSearch, last_in}
 use Rattle.determinize_engine.specs.Searches.{start_for, text_of}
-use Rattle.determinize_engine.specs.Searches.{last_in}
 use Rattle.determinize_engine.proofs.Headline.{none_accepts, some_accepts}
-use Rattle.std.proofs.lemmas.Option.{IfSome_then}
 
 -- where nothing is left to search
 module _ (asked : Asked) (done : is_done asked ≡ true) where
@@ -62,12 +61,9 @@ is-answer {nfa} {kind} {asked} {found} accepted more direction answer_is s = rw 
     }
 
 range-within : (is_backward : Bool) (asked : Asked) → length (text_of is_backward asked).bytes ≤ asked.end - asked.start
-range-within false asked = rw length-take (omega arith)
-range-within true asked = rw (length-reverse, length-take) (omega arith)
+range-within back asked = grind (arith, length-reverse {A = ℕ}, length-take {A = ℕ})
 
 -- a match ends within the range
 pub offset-within : {nfa : Nfa} {kind : MatchKind} {start : ℕ} (asked : Asked) {found : Option HalfMatch}
     → IsSearch nfa kind start (text_of nfa.reverse asked) found → IfSome found (λ m. m.offset ≤ asked.end - asked.start)
-offset-within {nfa} asked s =
-    let within = range-within nfa.reverse asked in
-    IfSome_then _ {Q = λ m. m.offset ≤ asked.end - asked.start} s.within (λ m h. omega arith)
+offset-within {nfa} asked s = grind (arith, range-within nfa.reverse asked, s.within)

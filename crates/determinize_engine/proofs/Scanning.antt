@@ -1,5 +1,12 @@
 -- A search of a text in pieces: its value and its match are those of the pieces together.
-use Rattle.determinize_core.proofs.Common.{[], append_assoc, ap, arith, between, Bool, by_test, false, future, HalfMatch, last_match, length, length-append, length-map, List, map, map-append, MatchKind, Nfa, None, Option, option_map, option_or, refl, Some, start_value, step, suc, sym, true, units, Value, value_after, ℕ, ◌++◌, ◌+◌, ◌∙◌, ◌∷◌, ◌≡◌, chain}
+-- Main statements: scan-piece, last-whole, settled, read_none.
+-- Used by: `feed`, `finish` and `is_over` of `determinize_lazy`, and its searches.
+-- Idea: the last match over two pieces is that of the second from the value after the first, or else that of the first.
+use Rattle.determinize_core.proofs.Common.{[], ap, append_assoc, arith, between, Bool, by_test, chain, false, future}
+use Rattle.determinize_core.proofs.Common.{HalfMatch, last_match, length, length-append, length-map, List, map}
+use Rattle.determinize_core.proofs.Common.{map-append, MatchKind, Nfa, None, Option, option_map, option_or, refl, Some}
+use Rattle.determinize_core.proofs.Common.{start_value, step, suc, sym, true, units, Value, value_after, ℕ, ◌++◌, ◌+◌}
+use Rattle.determinize_core.proofs.Common.{◌∙◌, ◌∷◌, ◌≡◌}
 use Rattle.determinize_core.proofs.walk.UnitLists.{units_are}
 use Rattle.determinize_engine.proofs.Later.{last_from-first, last_from-next, last_from-over, none_left}
 use Rattle.determinize_engine.specs.Private.Later.{last_from, later_by}
@@ -21,9 +28,7 @@ module _ (nfa : Nfa) (kind : MatchKind) where
   -- that of a search over more units
   ends_at-append : (us vs : List (Option ℕ)) (v : Value) → ends_at v (us ++ vs) ≡ ends_at (ends_at v us) vs
   ends_at-append [] vs v = refl
-  ends_at-append (u ∷ us) vs v = by_test (is_last false v)
-      (λ over. rw (over, read_none (step nfa kind) false v vs over) refl)
-      (λ more. rw more (ends_at-append us vs (step nfa kind v u)))
+  ends_at-append (u ∷ us) vs v = grind (arith, read_none (step nfa kind), ends_at-append us vs (step nfa kind v u))
 
   -- the last match over more units
   last_from-append : (us vs : List (Option ℕ)) (n : ℕ) (last : Option HalfMatch) (v : Value)

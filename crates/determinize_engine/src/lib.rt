@@ -1,8 +1,13 @@
 //! What the search engines have in common: the lazy DFA of `determinize_lazy` and the whole DFA of
-//! `determinize_dense`.
+//! `determinize_dense`. Both step from state to state as `determinize_core` does, over the same
+//! texts; they differ in where they keep transitions.
 //!
-//! [`engine`] is their trait. [`text`] is what a search reads of an input, and [`state_table`] the
-//! states of a DFA, each once; both are public for the two crates.
+//! - [`engine`] is their trait, so that a caller, as `determinize_find`, may take either.
+//! - [`text`] is what a search of an input reads: the byte behind, on which the start state
+//!   depends; the bytes of the range, forward or backward; the byte ahead or the end of input (EOI).
+//! - [`state_table`] has the states of a DFA, each once, and finds the index of a state.
+//!
+//! The last two are public for the two crates only.
 #![tactic(auto)]
 
 pub mod engine;

@@ -120,6 +120,7 @@ impl<'h> Text<'h> {
 
     /// Returns the byte at an index.
     #[inline(always)]
+    #[tactic(auto, using(crate::proofs::Texts::reading))]
     pub fn byte(&self, index: usize) -> u8
         requires { index < length self.now.bytes }
         ensures { slice_get (map Some self.now.bytes) index ≡ Some (Some result) }
@@ -134,6 +135,7 @@ impl<'h> Text<'h> {
     /// Returns the unit at an index: a byte of the text; after the last one the byte ahead, or the
     /// end of input (EOI).
     #[inline(always)]
+    #[tactic(auto, using(crate::proofs::Texts::reading))]
     pub fn unit(&self, index: usize) -> Option<u8>
         requires { index ≤ length self.now.bytes }
         ensures { slice_get (units self.now) index ≡ Some result }

@@ -1,28 +1,20 @@
--- The names that the proofs of this crate and of `determinize_lazy` have in common.
-pub use Rattle.std.proofs.Common.{[], ◌&&◌, ◌*◌, ◌++◌, ◌+◌, ◌-◌, ◌/◌, ◌<◌, ◌||◌, ◌∙◌, ◌∷◌, ◌≡◌, ◌≢◌, ◌≤◌, ◌⊎◌, add-zero}
-pub use Rattle.std.proofs.Common.{ap, arith, Bool, cond, drop, false, get_or, get_or-set_other, get_or-set_same, inl}
-pub use Rattle.std.proofs.Common.{inr, is_some, length, length-append, List, map, None, not, Option, refl, replicate}
-pub use Rattle.std.proofs.Common.{rules, Some, subst, suc, sym, take, true, zero, ℕ}
-pub use Rattle.std.proofs.lemmas.List.{append-nil, append_assoc, drop_all, length-map, length-replicate, length-set}
-pub use Rattle.std.proofs.lemmas.List.{length-take-le, length_push, take_all, take_more}
-pub use Rattle.std.proofs.lemmas.Map.Steps.{list_any_congr}
+-- The names that the proofs of this crate have in common: of std, of the crates below, and of the definitions.
+pub use Rattle.std.proofs.Common.{[], ap, arith, Bool, cond, drop, false, inl, inr, length, List, None, Option, refl}
+pub use Rattle.std.proofs.Common.{replicate, rules, Some, suc, sym, take, true, ℕ, ◌&&◌, ◌*◌, ◌++◌, ◌+◌, ◌-◌, ◌/◌, ◌<◌}
+pub use Rattle.std.proofs.Common.{◌||◌, ◌∙◌, ◌∷◌, ◌≡◌, ◌≢◌, ◌⊎◌}
+pub use Rattle.std.proofs.lemmas.List.{length-set, length_push}
 pub use Rattle.std.proofs.lemmas.Option.{get_or_from_slice_get, slice_get-get_or, slice_get_within}
 pub use Rattle.std.proofs.lemmas.Map.Views.{list_any-from_Contains}
-pub use Rattle.std.proofs.lemmas.Result.{IfOk-weaker, on_err_weaker, on_ok_weaker}
 pub use Rattle.std.specs.List.{list_any, position_from}
-pub use Rattle.std.specs.Option.{IfSome, option_or}
-pub use Rattle.std.specs.Prelude.{Contains, Decides, Err, IfOk, nat_eq, nat_le, Ok, OnErr, OnOk, option_map, Result}
-pub use Rattle.std.specs.Prelude.{slice_get, slice_index, slice_index_or, slice_set, ⊤}
-pub use mathlib.Core.Bool.{true≢false}
+pub use Rattle.std.specs.Prelude.{Contains, Decides, Ok, slice_get, slice_index, slice_set}
 pub use Rattle.ordered_reach.proofs.Cases.{by_cases, by_option, by_test}
-pub use Rattle.determinize_core.specs.Value.{dead, is_nonempty, Value}
+pub use Rattle.determinize_core.specs.Value.{dead, Value}
 pub use Rattle.determinize_core.specs.Equality.{same}
 pub use Rattle.determinize_engine.specs.States.{EachApart}
-pub use Rattle.determinize_table.specs.Cursors.{cursor_value, IsAt, IsCursor}
-pub use Rattle.determinize_table.specs.Rows.{AreRows, IsEmpty, IsStored, IsTarget, Leads, StartsStay}
-pub use Rattle.determinize_table.specs.Rows.{StoredTable, table_of, with_state}
+pub use Rattle.determinize_table.specs.Cursors.{IsAt}
+pub use Rattle.determinize_table.specs.Rows.{AreRows, IsStored, Leads, StoredTable, table_of, with_state}
 pub use Rattle.determinize_table.specs.Changes.{IsInterned, IsKept}
-pub use Rattle.determinize_table.specs.Tags.{is_last_tag, match_of, match_reported, Tag, tag_in, tag_of}
+pub use Rattle.determinize_table.specs.Tags.{tag_in, tag_of}
 pub use Rattle.determinize_table.specs.Stored.{column, entry_at, is_unit, state_at, table_in, target_in}
-pub use Rattle.determinize_table.specs.Table.{empty, fits, index_in, keep, is_cached, IsTable, same_unit, Table, with_target}
-pub use Rattle.determinize_table.specs.Table.{with_transition, with_value, with_values}
+pub use Rattle.determinize_table.specs.Table.{empty, index_in, IsTable, same_unit, Table, with_target, with_transition}
+pub use Rattle.determinize_table.specs.Table.{with_value}

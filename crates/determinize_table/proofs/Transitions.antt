@@ -1,7 +1,10 @@
--- Tables with one more transition.
+-- Tables with one more transition, which is a step of the DFA, are tables of steps (`IsTable`).
+-- Main statements: empty-is, with_transition-is, with_target-new, not_source.
+-- Used by: `determinize_lazy` (Rule, Cursors, Plenty), for its cache.
+-- Idea: each transition is the new one or was there, and each state is its source, its target or was there.
 use Rattle.determinize_table.proofs.Common.{arith, by_cases, by_option, Contains, empty, false, inl, inr, IsTable, List}
-use Rattle.determinize_table.proofs.Common.{list_any, list_any-from_Contains, None, Option, refl, same, Some, sym, Table}
-use Rattle.determinize_table.proofs.Common.{Value, with_target, with_transition, with_value, ℕ, ◌≡◌}
+use Rattle.determinize_table.proofs.Common.{list_any, list_any-from_Contains, None, Option, refl, same, Some, sym}
+use Rattle.determinize_table.proofs.Common.{Table, Value, with_target, with_transition, with_value, ℕ, ◌≡◌}
 use Rattle.determinize_table.proofs.Values.{apart-with, has_more, has_new, of_with, with_target-by}
 use Rattle.determinize_engine.proofs.Places.{not_both, not_none, of_some, same_laws}
 

@@ -1,50 +1,45 @@
--- Cached values: their indices, and the values with one more.
-use Rattle.determinize_table.proofs.Common.{[], arith, Bool, by_test, cond, Contains, Decides, EachApart}
-use Rattle.determinize_table.proofs.Common.{false, index_in, inl, length, length_push, List, list_any, list_any_congr}
-use Rattle.determinize_table.proofs.Common.{None, Option, position_from, refl, same, same_unit, slice_get, Some, suc}
-use Rattle.determinize_table.proofs.Common.{sym, true, Value, with_target, with_value, ℕ, ◌&&◌, ◌+◌, ◌||◌, ◌∷◌, ◌≡◌}
-use Rattle.determinize_table.proofs.Common.{◌⊎◌}
+-- The cached values: their indices, the values with one more, and the targets with one more.
+-- Main statements: index_is, length_with, any_with, get_with, with_target-by.
+-- Used by: TableRows, Changes, Transitions, and Plenty of `determinize_lazy`.
+-- Idea: `same` decides equality, so each test in a definition is one for equal values.
+use Rattle.determinize_table.proofs.Common.{[], ap, arith, Bool, by_test, cond, Contains, Decides, EachApart, false}
+use Rattle.determinize_table.proofs.Common.{index_in, inl, length, length_push, List, list_any, None, Option}
+use Rattle.determinize_table.proofs.Common.{position_from, refl, same, same_unit, slice_get, Some, suc, sym, Value}
+use Rattle.determinize_table.proofs.Common.{with_target, with_value, ℕ, ◌&&◌, ◌+◌, ◌||◌, ◌∷◌, ◌≡◌, ◌⊎◌}
 use Rattle.std.proofs.lemmas.Bool.Decides.{Decides-and, nat_tests}
 use Rattle.std.proofs.lemmas.List.Elements.{Contains-append_left, Contains-push, Contains-push_cases}
 use Rattle.std.proofs.lemmas.List.Folds.{list_any-append}
 use Rattle.std.proofs.lemmas.Map.Views.{Contains-from_any}
 use Rattle.determinize_state.specs.Equality.{Decides-same}
-use Rattle.determinize_engine.proofs.Places.{apart-push, get_more, not_both, not_none, same_is, same_laws}
+use Rattle.determinize_engine.proofs.Places.{apart-push, get_more, not_both, not_none, same-or, same_is, same_laws}
 
 Decides-unit : (u w : Option ℕ) → Decides (same_unit u w) (u ≡ w)
-Decides-unit (Some a) (Some b) = (grind (arith, nat_tests), grind (arith, nat_tests))
-Decides-unit (Some a) None = (grind arith, grind arith)
-Decides-unit None (Some b) = (grind arith, grind arith)
-Decides-unit None None = (grind arith, grind arith)
+Decides-unit u w = grind (arith, nat_tests)
 
 -- the target of a transition in a table with one more: of the new one, or of another
 pub with_target-by : (target : Value → Option ℕ → Option Value) (v : Value) (u : Option ℕ) (w x : Value) (y : Option ℕ)
     (P : Option Value → Type 0) → ((x ≡ v) × (y ≡ u) → P (Some w)) → (((x ≡ v) × (y ≡ u) → ⊥) → P (target x y))
     → P (with_target target v u w x y)
 with_target-by target v u w x y P new old =
-    let both : Decides (same x v && same_unit y u) ((x ≡ v) × (y ≡ u)) =
-    Decides-and (same x v) (same_unit y u) (Decides-same x v) (Decides-unit y u) in
-    by_test (same x v && same_unit y u) (λ e. rw e (new (both.0 e)))
-    (λ e. rw e (old (λ is. not_both (both.1 is) e)))
+    let both = Decides-and (same x v) (same_unit y u) (Decides-same x v) (Decides-unit y u) in
+    by_test (same x v && same_unit y u) (λ e. rw e (new (both.0 e))) (λ e. rw e (old (λ is. not_both (both.1 is) e)))
 
-module _ {K : Type 0} (t : K → Bool) where
-  found : (xs : List K) (i p : ℕ) → position_from t i xs ≡ Some p
-      → (k : ℕ) × (x : K) × (p ≡ i + k) × (slice_get xs k ≡ Some x) × (t x ≡ true)
-  found [] i p e = not_none (sym e)
-  found (x ∷ xs) i p e = by_test (t x)
-      (λ here. (0, x, grind arith, refl, here))
-      (λ no. let (k, y, at, is, ok) = found xs (i + 1) p (rw no at e) in (suc k, y, omega (arith, at), is, ok))
+pub none_passes : {K : Type 0} (t : K → Bool) (xs : List K) (i : ℕ) → position_from t i xs ≡ None
+    → list_any t xs ≡ false
+none_passes t [] i e = refl
+none_passes t (x ∷ xs) i e = grind (arith, none_passes t xs (i + 1))
 
-  pub none_passes : (xs : List K) (i : ℕ) → position_from t i xs ≡ None → list_any t xs ≡ false
-  none_passes [] i e = refl
-  none_passes (x ∷ xs) i e = by_test (t x) (λ k. not_none (rw k at e)) (λ k. rw k (none_passes xs (i + 1) (rw k at e)))
+index_from : (v : Value) (xs : List Value) (i p : ℕ) → position_from (same v) i xs ≡ Some p
+    → (k : ℕ) × (p ≡ i + k) × (slice_get xs k ≡ Some v)
+index_from v [] i p e = not_none (sym e)
+index_from v (x ∷ xs) i p e = by_test (same v x) (λ here. (0, grind arith, ap Some (sym (same_is v x here))))
+    (λ no. let (k, at, is) = index_from v xs (i + 1) p (rw no at e) in (suc k, omega (arith, at), is))
 
 pub index_is : (values : List Value) (v : Value) (p : ℕ) → index_in values v ≡ Some p → slice_get values p ≡ Some v
 index_is values v p here =
-    let (k, x, at, is, ok) = found (same v) values 0 p here in
-    let e : v ≡ x = same_is v x ok in
-    let p_is : p ≡ k = omega (arith, at) in
-    cc
+    let (k, at, is) = index_from v values 0 p here in
+    let e : p ≡ k = omega (arith, at) in
+    rw e is
 
 module _ (values : List Value) (w : Value) where
   pub get_with : (v : Value) (p : ℕ) → slice_get values p ≡ Some v → slice_get (with_value values w) p ≡ Some v
@@ -68,7 +63,7 @@ module _ (values : List Value) (w : Value) where
   -- whether a value is among them
   pub any_with : (v : Value) → list_any (same v) (with_value values w) ≡ (list_any (same v) values || same w v)
   any_with v =
-      grind (arith, list_any-append {X = Value}, list_any_congr same_laws w v values, same_laws.symm v w)
+      grind (arith, list_any-append {X = Value}, same-or w v, same_laws.symm v w)
 
   pub apart-with : EachApart values → EachApart (with_value values w)
-  apart-with h = by_test (list_any (same w) values) (λ e. rw e h) (λ e. rw e (apart-push values w h e))
+  apart-with h = grind (arith, apart-push)

@@ -1,5 +1,5 @@
 -- Where a walk or a search is: at a cached state, or at one that is not cached.
-use Rattle.std.specs.Prelude.{◌≡◌, ◌<◌, ℕ, false, List, length, slice_index_or}
+use Rattle.std.specs.Prelude.{◌≡◌, ◌<◌, ℕ, false, List, None, Option, Some, length, slice_get, slice_index_or}
 use Rattle.std.specs.List.{list_any}
 use Rattle.determinize_core.specs.Equality.{same}
 use Rattle.determinize_core.specs.Value.{Value, dead}
@@ -16,11 +16,12 @@ abbrev pub IsCursor : {A : Type 0} → List Value → Cursor A → Type 0
 IsCursor states (Cached id) = id < length states
 IsCursor states (Uncached state) = list_any (same state) states ≡ false
 
--- the cursor was one before the state at an id was cached
-abbrev pub IsCursorBefore : {A : Type 0} → List Value → ℕ → Cursor A → Type 0
-IsCursorBefore states source (Cached id) = id < length states
-IsCursorBefore states source (Uncached state) =
-    same (slice_index_or states source dead) state ≡ false → list_any (same state) states ≡ false
+-- the index of a value, as it was looked up. The state at `source` may have been cached since, so a
+-- value that was not found may be that of this state
+abbrev pub IsIndexBefore : List Value → ℕ → Value → Option ℕ → Type 0
+IsIndexBefore states source v None =
+    same (slice_index_or states source dead) v ≡ false → list_any (same v) states ≡ false
+IsIndexBefore states source v (Some id) = slice_get states id ≡ Some v
 
 -- the cursor is at this value
 pub record IsAt {A : Type 0} (states : List Value) (cursor : Cursor A) (v : Value) : Type 0 where

@@ -6,10 +6,10 @@ use determinize_engine::state_table::MAX_STATES;
 use std::marker::Model;
 
 /// The number of units: the bytes, and the end of input (EOI).
-pub const UNITS: usize = 257;
+pub(crate) const UNITS: usize = 257;
 
 /// The number of columns of a row: a target for each unit, and the tag of the state.
-pub const COLUMNS: usize = UNITS + 1;
+pub(crate) const COLUMNS: usize = UNITS + 1;
 
 /// The id of a cached state, seen as the state's index.
 ///
@@ -34,7 +34,7 @@ impl Model for LazyStateId {
 
 impl LazyStateId {
     /// Returns the id of the state at an index.
-    pub fn from_index(index: usize) -> LazyStateId
+    pub(crate) fn from_index(index: usize) -> LazyStateId
         requires { index < MAX_STATES }
         ensures { result ≡ index }
     {
@@ -45,7 +45,7 @@ impl LazyStateId {
 
     /// Returns the id of the state whose row has this offset.
     #[inline(always)]
-    pub fn from_row(row: u32) -> LazyStateId
+    pub(crate) fn from_row(row: u32) -> LazyStateId
         requires { row ≡ row / 258 * 258 }
         ensures { result ≡ row / 258 }
     {
@@ -54,7 +54,7 @@ impl LazyStateId {
 
     /// Returns the index of the state.
     #[inline(always)]
-    pub fn index(self) -> usize
+    pub(crate) fn index(self) -> usize
         ensures value { result ≡ self }
         ensures limit { result ≤ MAX_STATES }
     {
@@ -63,14 +63,14 @@ impl LazyStateId {
 
     /// Returns the offset of the state's row.
     #[inline(always)]
-    pub fn row(self) -> usize
+    pub(crate) fn row(self) -> usize
         ensures { result ≡ self * 258 }
     {
         self.row
     }
 
     /// Returns the offset of the state's row as it is stored in a row.
-    pub fn entry(self) -> u32
+    pub(crate) fn entry(self) -> u32
         ensures { result ≡ self * 258 }
     {
         self.row as u32

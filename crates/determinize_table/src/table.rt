@@ -1,23 +1,17 @@
-//! The transition table: the cached states, and a row of targets for each.
-//!
-//! A row has 258 numbers. In the column of a unit (a byte, or 256 for EOI) is the offset in `rows`
-//! of the row of the next state, or `UNKNOWN` if the transition is not cached. In the last column
-//! is the tag of the state. So a search over cached transitions reads two numbers a byte, and no
-//! state. The table also has the rule of what is cached (`keep`), and the ids of the start states
-//! that searches have used.
+//! The transition table: the cached states, a row for each, the ids of the start states that
+//! searches have used, and the rule of what is cached (`keep`).
 
 ghost use Rattle.std.specs.Prelude.{◌≡◌, ◌*◌, ◌<◌, ◌≤◌, false, true, length, nat_le, slice_get, slice_index_or, slice_set, IfOk, None, Some};
 ghost use Rattle.std.specs.List.{list_any};
+ghost use Rattle.determinize_core.specs.Equality.{same};
 ghost use Rattle.determinize_core.specs.Value.{Value as StateValue};
-ghost use Rattle.determinize_table.specs.Table.{keep};
-ghost use Rattle.determinize_table.specs.Cursors.{IsAt, IsCursor, IsCursorBefore, cursor_value};
-ghost use Rattle.determinize_table.specs.Rows.{IsEmpty, IsTarget, table_of};
-ghost use Rattle.determinize_table.specs.Tags.{tag_in, tag_of};
-ghost use Rattle.determinize_table.specs.Stored.{column, is_unit};
 ghost use Rattle.determinize_engine.specs.States.{IsIndex};
 ghost use Rattle.determinize_table.specs.Changes.{IsInterned, IsKept};
-ghost use Rattle.determinize_table.specs.Table.{with_transition, with_value};
-ghost use Rattle.determinize_core.specs.Equality.{same};
+ghost use Rattle.determinize_table.specs.Cursors.{IsCursor, IsIndexBefore, cursor_value};
+ghost use Rattle.determinize_table.specs.Rows.{IsEmpty, IsTarget, table_of};
+ghost use Rattle.determinize_table.specs.Stored.{column, is_unit};
+ghost use Rattle.determinize_table.specs.Table.{keep, with_transition, with_value};
+ghost use Rattle.determinize_table.specs.Tags.{tag_in, tag_of};
 
 use crate::state_id::{COLUMNS, LazyStateId, UNITS};
 use crate::tag::StateTag;
@@ -32,7 +26,7 @@ use std::mem::size_of;
 const UNKNOWN: u32 = 1;
 
 /// How many start states can be kept: two start states of the NFA, each with six kinds of start.
-pub const STARTS: usize = 12;
+const STARTS: usize = 12;
 
 /// Where a walk or a search is.
 #[derive(Drop)]
@@ -138,7 +132,7 @@ impl<A: Allocator + Copy> TransitionTable<A> {
 
     /// Returns the cached state with this id.
     #[inline(always)]
-    pub fn get(&self, id: LazyStateId) -> &State<A>
+    fn get(&self, id: LazyStateId) -> &State<A>
         requires { id < length self.now.states }
         ensures { slice_get self.now.states id ≡ Some result.now }
     {
@@ -147,6 +141,7 @@ impl<A: Allocator + Copy> TransitionTable<A> {
 
     /// Returns whether a state is cached with this id.
     #[inline(always)]
+    #[tactic(auto, using(crate::proofs::Changes::caching))]
     pub fn has(&self, id: LazyStateId, state: &State<A>) -> bool
         ensures { result ≡ true → slice_get self.now.states id ≡ Some state.now }
     {
@@ -232,9 +227,10 @@ impl<A: Allocator + Copy> TransitionTable<A> {
         }
     }
 
-    /// Returns the id of the state at a cursor, which is cached if it is not.
+    /// Returns the id of the state at a cursor. Caches the state if it is not cached.
     ///
     /// If an allocation fails, the table is unchanged.
+    #[tactic(auto, using(crate::proofs::Changes::caching))]
     fn intern(&mut self, cursor: Cursor<A>) -> Result<LazyStateId, AllocError>
         requires { IsCursor self.old.states cursor }
         ensures { IsInterned self.old (cursor_value self.old.states cursor) result self.new }
@@ -245,52 +241,53 @@ impl<A: Allocator + Copy> TransitionTable<A> {
         }
     }
 
-    /// Returns the id of the state at a cursor, as `intern` does, where the state at `source` was
-    /// cached after the cursor was made.
+    /// Returns the id of a state. Caches the state if it is not cached. `found` is its id, as it
+    /// was looked up. The state at `source` may have been cached since, so a state that was not
+    /// found may be that one.
+    ///
+    /// If an allocation fails, the table is unchanged.
+    #[tactic(auto, using(crate::proofs::Changes::caching))]
     fn intern_after(
         &mut self,
         source: LazyStateId,
-        cursor: Cursor<A>,
+        state: State<A>,
+        found: Option<LazyStateId>,
     ) -> Result<LazyStateId, AllocError>
         requires source { source < length self.old.states }
-        requires cursor { IsCursorBefore self.old.states source cursor }
-        ensures { IsInterned self.old (cursor_value self.old.states cursor) result self.new }
+        requires found { IsIndexBefore self.old.states source state found }
+        ensures { IsInterned self.old state result self.new }
     {
-        match cursor {
-            Cursor::Cached(id) => Ok(id),
-            Cursor::Uncached(state) => {
-                if *self.get(source) == state {
-                    Ok(source)
-                } else {
-                    self.push(state)
-                }
-            }
+        match found {
+            Some(id) => Ok(id),
+            None if *self.get(source) == state => Ok(source),
+            None => self.push(state),
         }
     }
 
     /// Caches the transition from `source` over `unit` to `target`, and both states. Returns the
-    /// cursor of the target.
+    /// cursor of the target. `found` is the id of the target, if it is cached.
     ///
     /// If an allocation fails, the table is unchanged or empty.
     fn insert(
         &mut self,
         source: Cursor<A>,
         unit: Option<u8>,
-        target: Cursor<A>,
+        target: State<A>,
+        found: Option<LazyStateId>,
     ) -> Result<Cursor<A>, AllocError>
         requires source { IsCursor self.old.states source }
-        requires target { IsCursor self.old.states target }
+        requires found { IsIndex self.old.states target found }
         ensures { IsKept self.old (with_transition (table_of self.old)
-            (cursor_value self.old.states source) unit (cursor_value self.old.states target))
-            (cursor_value self.old.states target) result self.new }
+            (cursor_value self.old.states source) unit target) target result self.new }
     {
         let source = self.intern(source)?;
-        match self.intern_after(source, target) {
+        match self.intern_after(source, target, found) {
             Ok(target) => {
                 self.rows[source.row() + column(unit)] = target.entry();
                 Ok(Cursor::Cached(target))
             }
             Err(failed) => {
+                // The source may have been cached, and no transition has it.
                 self.clear();
                 Err(failed)
             }
@@ -312,44 +309,40 @@ impl<A: Allocator + Copy> TransitionTable<A> {
         ensures { IsKept self.old (keep limit (table_of self.old)
             (cursor_value self.old.states source) unit following) following result self.new }
     {
-        let target = self.cursor_of(following);
-        if self.fits(&source, &target, limit) {
-            return self.insert(source, unit, target);
+        let found = self.find(&following);
+        if self.fits(&source, &following, found, limit) {
+            return self.insert(source, unit, following, found);
         }
         let source = Cursor::Uncached(self.into_state(source)?);
-        let target = Cursor::Uncached(self.into_state(target)?);
         self.clear();
-        if self.fits(&source, &target, limit) {
-            return self.insert(source, unit, target);
+        if self.fits(&source, &following, None, limit) {
+            return self.insert(source, unit, following, None);
         }
-        Ok(target)
+        Ok(Cursor::Uncached(following))
     }
 
-    /// Returns whether the cached states with the source and the target of one more transition are
-    /// at most `limit`.
-    fn fits(&self, source: &Cursor<A>, target: &Cursor<A>, limit: usize) -> bool
+    /// Returns whether at most `limit` states are cached once the source and the target of one more
+    /// transition are too. `found` is the id of the target, if it is cached.
+    #[tactic(auto, using(crate::proofs::Changes::caching))]
+    fn fits(
+        &self,
+        source: &Cursor<A>,
+        target: &State<A>,
+        found: Option<LazyStateId>,
+        limit: usize,
+    ) -> bool
         requires source { IsCursor self.now.states source.now }
-        requires target { IsCursor self.now.states target.now }
+        requires found { IsIndex self.now.states target.now found }
         ensures { result ≡ nat_le (length (with_value (with_value self.now.states
-            (cursor_value self.now.states source.now))
-            (cursor_value self.now.states target.now))) limit }
+            (cursor_value self.now.states source.now)) target.now)) limit }
     {
-        let more = match (source, target) {
-            (Cursor::Cached(_), Cursor::Cached(_)) => 0,
-            (Cursor::Uncached(state), Cursor::Uncached(following)) if state != following => 2,
+        let more = match (source, found) {
+            (Cursor::Cached(_), Some(_)) => 0,
+            (Cursor::Uncached(state), None) if state != target => 2,
+            // One of them is new, or both are the same new state.
             _ => 1,
         };
         self.states.len() + more <= limit
-    }
-
-    /// Returns the cursor of a state.
-    fn cursor_of(&self, state: State<A>) -> Cursor<A>
-        ensures { IsAt self.now.states result state }
-    {
-        match self.find(&state) {
-            Some(id) => Cursor::Cached(id),
-            None => Cursor::Uncached(state),
-        }
     }
 
     /// Returns the state at a cursor, as a value that no longer needs the table.

@@ -43,7 +43,7 @@ impl StateTag {
 
     /// Returns whether the state lists a pattern.
     #[inline(always)]
-    pub fn is_match(self) -> bool
+    fn is_match(self) -> bool
         ensures { result ≡ is_some (tag_in self.bits).pattern }
     {
         self.bits % DEAD > 0

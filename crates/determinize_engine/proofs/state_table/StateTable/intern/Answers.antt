@@ -1,5 +1,6 @@
-use Rattle.determinize_core.proofs.Common.{[], ap, lookup, rules, same, ◌++◌, ◌∷◌, ◌≡◌}
-use Rattle.determinize_engine.proofs.Interning.{interned-pop, interned-push}
+use Rattle.determinize_core.proofs.Common.{[], arith, rules, ◌++◌, ◌∷◌, ◌≡◌}
+use Rattle.determinize_engine.proofs.Places.{interned-push}
+use Rattle.std.proofs.lemmas.Grind.{common_steps}
 use Rattle.determinize_engine.proofs.state_table.StateTable.intern.Goals as goal
 
 pub invariant_of-self-in-Ok : goal.invariant_of-self-in-Ok
@@ -11,6 +12,5 @@ invariant_of-self-in-Ok g c =
 
 pub invariant_of-self-in-Err : goal.invariant_of-self-in-Err
 invariant_of-self-in-Err g c =
-    let more : c.push.new.self.items ≡ c.self.inside.states.items ++ c.args.state ∷ [] = search rules in
-    interned-pop c.args.state c.self.invariant more (search rules) c.pop.ensures.rest
-    (λ q. ap (λ es. lookup (same q) es) c.in-Err.ensures.err)
+    let back : c.pop.new.self.items ≡ c.self.inside.states.items = grind (arith, common_steps) in
+    rw (back, c.in-Err.ensures.err) c.self.invariant
