@@ -6,8 +6,6 @@
 //!   its target, or 1 if it is not cached. In the last column is the tag of the state.
 //! - The *id* of a state (`state_id`) is the offset of its row; contracts see it as the index of
 //!   the state. So a search goes from one state to the next by one addition and one read.
-//! - The *id* of a state (`state_id`) is the offset of its row; contracts see it as the index of
-//!   the state. So a search goes from one state to the next by one addition and one read.
 //! - The *tag* (`tag`) is what a search asks of a state: its first pattern, and whether it is dead.
 //!   So a search over cached transitions reads two numbers a byte, and no state.
 //! - A *cursor* is a place of a walk or a search: the id of a cached state, or a state.
