@@ -39,11 +39,11 @@ pub use Rattle.determinize_table.specs.Rows.{AreRows, IsEmpty, IsStored, IsTarge
 pub use Rattle.determinize_table.specs.Rows.{StoredTable, table_of, with_state}
 pub use Rattle.determinize_table.specs.Changes.{IsInterned, IsKept}
 pub use Rattle.determinize_lazy.specs.Private.Searched.{cached_place, Fails, first_place, GoesOn, HasStopped}
-pub use Rattle.determinize_lazy.specs.Private.Searched.{IsCachedPosition, IsOver, IsPosition, IsReached, last_left}
+pub use Rattle.determinize_lazy.specs.Private.Searched.{IsCachedPosition, IsOver, IsPosition, last_left}
 pub use Rattle.determinize_lazy.specs.Private.Searched.{Leaves, LeavesText, next_place, Place, place, reported}
 pub use Rattle.determinize_lazy.specs.Private.Searched.{units_left}
 pub use Rattle.determinize_lazy.specs.Private.Starts.{AreStarts, start_index}
-pub use Rattle.determinize_lazy.specs.Private.Steps.{IsFailedStep, IsSound, IsStepped}
+pub use Rattle.determinize_lazy.specs.Private.Steps.{IsFailedStep, IsSound, IsStepped, IsWalking}
 pub use Rattle.determinize_table.specs.Tags.{is_last_tag, match_of, match_reported, Tag, tag_in, tag_of}
 pub use Rattle.determinize_engine.specs.UnitsRead.{is_last, units_read}
 pub use Rattle.determinize_table.specs.Stored.{column, entry_at, is_unit, state_at, table_in, target_in}

@@ -12,14 +12,13 @@ ghost use Rattle.determinize_core.specs.Chain.{future, units};
 ghost use Rattle.determinize_core.specs.WholeWalk.{IsWalk};
 ghost use Rattle.determinize_lazy.specs.Cache.{Grows, IsCutOff, IsCutOffText, after_text, after_walk, cache, step_of};
 ghost use Rattle.determinize_lazy.specs.Plenty.{IsPlentyText};
-ghost use Rattle.determinize_lazy.specs.Private.Steps.{IsSound};
 ghost use Rattle.determinize_table.specs.Table.{IsTable, empty};
 
-use determinize_table::TransitionTable;
 use determinize_below::{MatchKind, NFA, StateID};
 use determinize_core::determinize::Stepper;
 use determinize_core::state::State;
 use determinize_engine::text::Text;
+use determinize_table::TransitionTable;
 use std::alloc::{AllocError, Allocator, Global};
 use std::marker::Model;
 
@@ -165,8 +164,7 @@ impl<'n, N: Allocator, A: Allocator + Copy> Lazy<'n, N, A> {
         first: State<A>,
         text: &Text<'_>,
     ) -> Result<Vec<State<A>, A>, AllocError>
-        requires resolve { AllResolve self.old.nfa first.states }
-        requires sound { IsSound (cache self.old) }
+        requires { AllResolve self.old.nfa first.states }
         ensures values { IfOk result (λ states. states.items
             ≡ future self.old.nfa self.old.kind first (units text.now)) }
         ensures after { OnOk result (cache self.new

@@ -20,12 +20,10 @@ ghost use Rattle.determinize_table.specs.Table.{is_cached};
 ghost use Rattle.determinize_table.specs.declared.table.Cursor.TheVariants as cursors;
 
 use crate::lazy::Lazy;
-use determinize_table::LazyStateId;
-use determinize_table::Cursor;
-use determinize_table::StateTag;
 use determinize_below::{NFA, StateID, Unit};
 use determinize_core::start::{Start, start_kind_of};
 use determinize_core::state::State;
+use determinize_table::{Cursor, LazyStateId, StateTag};
 use std::alloc::{AllocError, Allocator};
 
 /// Returns the index at which the start of a search is kept: the kind of the start, for the

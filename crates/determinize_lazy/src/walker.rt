@@ -11,10 +11,9 @@ ghost use Rattle.determinize_lazy.specs.Private.Steps.{IsSound};
 ghost use Rattle.determinize_lazy.specs.Walkers.{IsWalkedTo};
 
 use crate::lazy::Lazy;
-use determinize_table::LazyStateId;
-use determinize_table::Cursor;
 use determinize_below::StateID;
 use determinize_core::state::State;
+use determinize_table::{Cursor, LazyStateId};
 use std::alloc::{AllocError, Allocator, Global};
 use std::marker::Model;
 

@@ -4,14 +4,14 @@ use Rattle.determinize_core.specs.Step.{step}
 use Rattle.determinize_core.proofs.step.Resolving.{step_resolves}
 use Rattle.determinize_lazy.proofs.steps.Rule.{of_err}
 use Rattle.determinize_lazy.proofs.walking.CachedWalks.{cut_off-whole}
-use Rattle.determinize_lazy.proofs.walking.Steps.{cut_off-one, walked-next}
+use Rattle.determinize_lazy.proofs.walking.CachedWalks.{cut_off-first, walked-next}
 use Rattle.determinize_lazy.proofs.lazy.Lazy.next.Given.{Over}
 use Rattle.determinize_lazy.proofs.lazy.Lazy.next.Goals.{After-into_state, In_ok-walker-inside}
 use Rattle.determinize_lazy.proofs.lazy.Lazy.next.Goals as goal
 
 pub returns-in_err-next-clause-failed : goal.returns-in_err-next-clause-failed
 returns-in_err-next-clause-failed g c =
-    of_err _ (cut_off-one (subst (λ (v : Value). IsFailedStep (cache c.args.self.now) v c.args.unit
+    of_err _ (cut_off-first (subst (λ (v : Value). IsFailedStep (cache c.args.self.now) v c.args.unit
     (cache c.step.new.self)) (c.in_ok-cursor.ensures.at.value ∙ c.walker.view_is) c.in_err-next.ensures.failed))
 
 pub returns-in_err-walker-inside-clause-resolve : goal.returns-in_err-walker-inside-clause-resolve

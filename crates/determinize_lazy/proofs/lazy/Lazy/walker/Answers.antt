@@ -1,5 +1,5 @@
 use Rattle.determinize_lazy.proofs.Common.{ap, start_value, sym, ◌∙◌}
-use Rattle.determinize_lazy.proofs.walking.Steps.{walked-none}
+use Rattle.determinize_lazy.proofs.walking.CachedWalks.{walked-none}
 use Rattle.determinize_lazy.proofs.lazy.Lazy.walker.Goals as goal
 
 pub returns-clause-begun : goal.returns-clause-begun
