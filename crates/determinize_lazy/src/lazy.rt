@@ -193,9 +193,6 @@ impl<'n, N: Allocator, A: Allocator + Copy> Lazy<'n, N, A> {
     /// - `look_behind` is the byte just before the text, if any.
     ///
     /// The text is in the order of reading: for an NFA that reads backward, from the last byte on.
-    ///
-    /// Returns `AllocError` if an allocation fails, or if more than 16647160 states would be
-    /// cached.
     pub fn walk(
         &mut self,
         start: StateID,
@@ -218,11 +215,6 @@ impl<'n, N: Allocator, A: Allocator + Copy> Lazy<'n, N, A> {
 
     /// Returns the states of a walk over a text, as `walk` does, but the last state follows over
     /// the byte just after the text, or over the end of input (EOI) if `look_ahead` is `None`.
-    ///
-    /// The text is in the order of reading: for an NFA that reads backward, from the last byte on.
-    ///
-    /// Returns `AllocError` if an allocation fails, or if more than 16647160 states would be
-    /// cached.
     pub fn walk_between(
         &mut self,
         start: StateID,

@@ -112,7 +112,7 @@ impl<'n, N: Allocator, A: Allocator + Copy> Lazy<'n, N, A> {
         self.table.start(index)
     }
 
-    /// Returns the cursor of a state.
+    /// Returns the cursor of a borrowed state: a copy of it, if it is not cached.
     pub(crate) fn cursor_of(&self, state: &State<A>) -> Result<Cursor<A>, AllocError>
         ensures at { IfOk result (λ cursor. IsAt self.now.states cursor state.now) }
         ensures sound { IsSound (cache self.now) }

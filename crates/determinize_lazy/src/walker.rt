@@ -76,8 +76,7 @@ impl<'n, N: Allocator, A: Allocator + Copy> Lazy<'n, N, A> {
     /// The ids in the state of the walker must be states of the NFA, as they are if the walker was
     /// begun with it. The states are those of one walk if the match kind is the same, too.
     ///
-    /// Returns `AllocError` if an allocation fails, or if more than 16647160 states would be
-    /// cached. The walker is unchanged then, and may take the same step again.
+    /// After an error the walker is unchanged, and may take the same step again.
     pub fn next(&mut self, walker: &mut Walker<A>, unit: Option<u8>) -> Result<(), AllocError>
         requires { AllResolve self.old.nfa walker.old.states }
         ensures value { OnOk result

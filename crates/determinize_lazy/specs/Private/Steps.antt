@@ -22,7 +22,7 @@ pub record IsSound (c : Cache) : Type 0 where
   pub table : IsTable (step_of c) c.table
   pub small : c.computed ≤ 18446744073709551615
 
--- what the search of a start state leaves and returns: its cursor, and the cache as it was
+-- what a call for a start state returns and leaves: its cursor, and the cache as it was
 pub record IsStarted {A E : Type 0} (old : LazyValue) (v : Value) (result : Result (Cursor A) E)
     (new : LazyValue) : Type 0 where
   pub at : IfOk result (λ cursor. IsAt old.states cursor v)
