@@ -1,9 +1,5 @@
 //! Steps of walks and searches: over a cached transition, or computed and cached by the rule.
 //!
-//! A computed transition is cached with its source and its target. If the states are then more than
-//! the limit, the cache is cleared first, and the transition is the only one in it. If its two
-//! states alone are too many, the cache stays empty.
-//!
 //! The start states of searches are kept by the kind of their start, which is all that they depend
 //! on besides the NFA state. A search computes its start state anew as long as that is not cached.
 

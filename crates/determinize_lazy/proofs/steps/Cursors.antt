@@ -2,8 +2,8 @@
 -- Main statements: cached_target, cached_step, stepped_at.
 -- Used by: `step`, and searches of what is cached.
 -- Idea: each cached transition is a step of the DFA, and the step over it changes nothing.
-use Rattle.determinize_lazy.proofs.Common.{after_step, ap, arith, Cache, cache, cursor_value, dead, false, get_or}
-use Rattle.determinize_lazy.proofs.Common.{is_cached, is_some, IsAt, IsCursor, IsSound, IsStepped, IsTable, IsTarget}
+use Rattle.determinize_lazy.proofs.Common.{after_step, ap, arith, Cache, cache, cursor_value, dead, false, get_or, IsAt}
+use Rattle.determinize_lazy.proofs.Common.{is_cached, IsCursor, is_some, IsSound, IsStepped, IsTable, IsTarget}
 use Rattle.determinize_lazy.proofs.Common.{LazyValue, Ok, Option, refl, slice_get-get_or, Some, step_of, true, Value, ℕ}
 use Rattle.determinize_lazy.proofs.Common.{◌∙◌, ◌≡◌}
 use Rattle.determinize_core.proofs.step.Resolving.{step_resolves}

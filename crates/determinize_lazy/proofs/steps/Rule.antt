@@ -3,10 +3,10 @@
 -- Used by: `compute`, and of_err, grows-more, on_ok and along by all that take steps.
 -- Idea: a step leaves the table that the rule keeps, or if it fails the one before or none.
 use Rattle.determinize_lazy.proofs.Common.{arith, by_cases, by_test, Cache, cache, count_after, empty, Err, false, fits}
-use Rattle.determinize_lazy.proofs.Common.{Grows, IfOk, inr, is_cached, IsAccepted, IsKept, IsLazy, IsSound, IsStepped}
-use Rattle.determinize_lazy.proofs.Common.{IsTable, keep, LazyValue, length, MatchKind, Nfa, Ok, on_err_weaker}
-use Rattle.determinize_lazy.proofs.Common.{on_ok_weaker, OnErr, OnOk, Option, refl, Result, step_of, StoredTable, subst}
-use Rattle.determinize_lazy.proofs.Common.{Table, table_of, Value, ℕ, ◌∙◌, ◌≡◌, ◌≤◌}
+use Rattle.determinize_lazy.proofs.Common.{Grows, IfOk, inr, IsAccepted, is_cached, IsKept, IsLazy, IsSound, IsStepped}
+use Rattle.determinize_lazy.proofs.Common.{IsTable, keep, LazyValue, length, MatchKind, Nfa, Ok, OnErr, on_err_weaker}
+use Rattle.determinize_lazy.proofs.Common.{OnOk, on_ok_weaker, Option, refl, Result, step_of, StoredTable, subst, Table}
+use Rattle.determinize_lazy.proofs.Common.{table_of, Value, ℕ, ◌∙◌, ◌≡◌, ◌≤◌}
 use Rattle.determinize_core.specs.Step.{step}
 use Rattle.determinize_core.proofs.step.Resolving.{step_resolves}
 use Rattle.determinize_table.specs.declared.table.Cursor.{Cursor}
@@ -14,31 +14,30 @@ use Rattle.determinize_table.proofs.Transitions.{empty-is, with_transition-is}
 use Rattle.determinize_lazy.proofs.steps.Starts.{starts-stay}
 
 -- the rule keeps a table of steps with at most `limit` states
-module _ (limit : ℕ) (t : Table) (v : Value) (u : Option ℕ) (w : Value) where
-  keep-is : (f : Value → Option ℕ → Value) → IsTable f t → w ≡ f v u → IsTable f (keep limit t v u w)
-  keep-is f is w_is = by_test (fits limit t v u w) (λ e. rw e (with_transition-is f t v w u is w_is))
+keep-is : (f : Value → Option ℕ → Value) (limit : ℕ) (t : Table) (v : Value) (u : Option ℕ) (w : Value) → IsTable f t
+    → w ≡ f v u → IsTable f (keep limit t v u w) × (length (keep limit t v u w).states ≤ limit)
+keep-is f limit t v u w is w_is = (
+  by_test (fits limit t v u w) (λ e. rw e (with_transition-is f t v w u is w_is))
       (λ e. rw e (by_test (fits limit empty v u w)
-      (λ k. rw k (with_transition-is f empty v w u (empty-is f) w_is)) (λ k. rw k (empty-is f))))
+      (λ k. rw k (with_transition-is f empty v w u (empty-is f) w_is)) (λ k. rw k (empty-is f)))),
+  grind arith,
+)
 
-  keep-size : length (keep limit t v u w).states ≤ limit
-  keep-size = grind arith
-
--- after a transition was computed: what holds of what the rule keeps, of what was there and of nothing holds of the table
+-- after a transition was computed
 pub lazy-kept : {A E : Type 0} {nfa : Nfa} {kind : MatchKind} {limit count counted : ℕ} {t t' : StoredTable} {w : Value}
     {r : Result (Cursor A) E} (v : Value) (u : Option ℕ) → IsLazy nfa kind limit count t → w ≡ step nfa kind v u
     → counted ≤ 18446744073709551615 → IsKept t (keep limit (table_of t) v u w) w r t'
     → IsLazy nfa kind limit counted t'
-lazy-kept {A} {E} {nfa} {kind} {limit} {t = t} {t' = t'} {w} {r} v u is w_is small kept = record {
-  accepted = is.accepted;
-  table = by r (IsTable f) kept (keep-is limit (table_of t) v u w f is.table w_is) is.table (empty-is f);
-  small = small;
-  within = by r (λ (x : Table). length x.states ≤ limit) kept (keep-size limit (table_of t) v u w) is.within (omega arith);
-  starts = starts-stay nfa t t' is.starts kept.starts;
-}
+lazy-kept {A} {E} {nfa} {kind} {limit} {t = t} {t' = t'} {w} {r} v u is w_is small kept =
+    let f : Value → Option ℕ → Value = step nfa kind in
+    let (table, within) = keep-is f limit (table_of t) v u w is.table w_is in record {
+      accepted = is.accepted;
+      table = by r (IsTable f) kept table is.table (empty-is f);
+      small = small;
+      within = by r (λ (x : Table). length x.states ≤ limit) kept within is.within (omega arith);
+      starts = starts-stay nfa t t' is.starts kept.starts;
+    }
   where
-    f : Value → Option ℕ → Value
-    f = step nfa kind
-
     by : (r : Result (Cursor A) E) (P : Table → Type 0) → IsKept t (keep limit (table_of t) v u w) w r t'
         → P (keep limit (table_of t) v u w) → P (table_of t) → P empty → P (table_of t')
     by (Ok x) P kept new old none = rw kept.table new

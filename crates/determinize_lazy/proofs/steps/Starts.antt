@@ -2,9 +2,9 @@
 -- Main statements: at_its_index, start_is, starts-set, starts-stay.
 -- Used by: `kept_start`, `find_start`, and Rule.
 -- Idea: the index of a start tells its NFA state and its kind.
-use Rattle.determinize_lazy.proofs.Common.{AreStarts, arith, by_cases, by_test, get_or, IfSome}
-use Rattle.determinize_lazy.proofs.Common.{nat_eq, Nfa, None, Option, refl, slice_get, slice_set, Some, start_index}
-use Rattle.determinize_lazy.proofs.Common.{start_value, StartsStay, StoredTable, sym, Value, ℕ, ◌+◌, ◌≡◌, ◌⊎◌}
+use Rattle.determinize_lazy.proofs.Common.{AreStarts, arith, by_cases, by_test, get_or, IfSome, nat_eq, Nfa, None}
+use Rattle.determinize_lazy.proofs.Common.{Option, refl, slice_get, slice_set, Some, start_index, StartsStay}
+use Rattle.determinize_lazy.proofs.Common.{start_value, StoredTable, sym, Value, ℕ, ◌+◌, ◌≡◌, ◌⊎◌}
 use Rattle.std.proofs.Common.{get_or-set_other, get_or-set_same}
 use Rattle.std.proofs.lemmas.List.{get_or_past, length-set}
 use Rattle.determinize_start.specs.LookTables.{from_word_at_start, half_crlf_at_start, have_at_start}

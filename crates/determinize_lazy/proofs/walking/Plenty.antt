@@ -2,11 +2,11 @@
 -- Main statements: keeps_all.
 -- Used by: `walk_between`, and searches.
 -- Idea: each step adds its transition and leaves room for the others; then the same walk finds each transition.
-use Rattle.determinize_lazy.proofs.Common.{[], after_walk, arith, Bool, by_test, Cache, cond, count_after, fits, future}
-use Rattle.determinize_lazy.proofs.Common.{future_is, HasRoom, is_cached, IsSound, IsTable, KeepsAll, length, List}
-use Rattle.determinize_lazy.proofs.Common.{list_any, list_any-from_Contains, missing, Option, refl, same, step_of, Table, tail}
-use Rattle.determinize_lazy.proofs.Common.{true, Value, with_step, with_value, with_values, with_walk}
-use Rattle.determinize_lazy.proofs.Common.{ℕ, ◌+◌, ◌∙◌, ◌∷◌, ◌≡◌, ◌≤◌, after_step}
+use Rattle.determinize_lazy.proofs.Common.{[], after_step, after_walk, arith, Bool, by_test, Cache, cond, count_after}
+use Rattle.determinize_lazy.proofs.Common.{fits, future, future_is, HasRoom, is_cached, IsSound, IsTable, KeepsAll}
+use Rattle.determinize_lazy.proofs.Common.{length, List, list_any, list_any-from_Contains, missing, Option, refl, same}
+use Rattle.determinize_lazy.proofs.Common.{step_of, Table, tail, true, Value, with_step, with_value, with_values}
+use Rattle.determinize_lazy.proofs.Common.{with_walk, ℕ, ◌+◌, ◌∙◌, ◌∷◌, ◌≡◌, ◌≤◌}
 use Rattle.determinize_table.proofs.Transitions.{not_source, with_target-new, with_transition-is}
 use Rattle.determinize_table.proofs.Values.{has_new, length_with}
 use Rattle.determinize_engine.proofs.Places.{same_laws}

@@ -2,14 +2,8 @@ use Rattle.determinize_lazy.proofs.Common.{IfOk-weaker, on_ok_weaker, rules}
 use Rattle.determinize_core.proofs.walk.ReturnedWalk.{is_walk}
 use Rattle.determinize_core.specs.Chain.{chain}
 use Rattle.determinize_lazy.specs.Cache.{after_text}
-use Rattle.determinize_lazy.proofs.steps.Rule.{of_err}
-use Rattle.determinize_lazy.proofs.walking.CachedWalks.{cut_off-none}
 use Rattle.determinize_lazy.proofs.walking.Plenty.{keeps_all}
 use Rattle.determinize_lazy.proofs.lazy.Lazy.walk_between.Goals as goal
-
-pub returns-in_err-first-clause-failed : goal.returns-in_err-first-clause-failed
-returns-in_err-first-clause-failed g c =
-    of_err _ (cut_off-none (search rules))
 
 pub returns-clause-walk : goal.returns-clause-walk
 unfolding chain

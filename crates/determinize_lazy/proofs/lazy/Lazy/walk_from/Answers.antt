@@ -2,28 +2,10 @@ use Rattle.determinize_lazy.proofs.Common.{[], append-nil, cache, cursor_value, 
 use Rattle.determinize_lazy.proofs.Common.{◌++◌, ◌+◌, ◌∷◌, ◌≡◌, drop}
 use Rattle.determinize_engine.proofs.Texts.{all_read}
 use Rattle.determinize_lazy.proofs.steps.Rule.{of_err}
-use Rattle.determinize_lazy.proofs.walking.CachedWalks.{cut_off-first, cut_off-none, drop-one, walks-none, walks-on}
+use Rattle.determinize_lazy.proofs.walking.CachedWalks.{cut_off-first, cut_off-none, drop-one, walks-on}
 use Rattle.determinize_lazy.proofs.lazy.Lazy.walk_from.Given.{Over}
 use Rattle.determinize_lazy.proofs.lazy.Lazy.walk_from.Goals.{In_ok-cursor-2}
 use Rattle.determinize_lazy.proofs.lazy.Lazy.walk_from.Goals as goal
-
-pub returns-in_err-states-clause-failed : goal.returns-in_err-states-clause-failed
-returns-in_err-states-clause-failed g c = of_err _ (cut_off-none refl)
-
-pub returns-in_err-cursor-clause-failed : goal.returns-in_err-cursor-clause-failed
-returns-in_err-cursor-clause-failed g c = of_err _ (cut_off-none refl)
-
-pub returns-in_err-push-clause-failed : goal.returns-in_err-push-clause-failed
-returns-in_err-push-clause-failed g c = of_err _ (cut_off-none refl)
-
-pub loop-read-init : goal.loop-read-init
-loop-read-init g c =
-    let items : c.push.new.self.items ≡ c.args.first ∷ [] = search rules in record {
-      walking = rw items (walks-none _ _ c.in_ok-cursor.ensures.at.value);
-      resolve = rw c.in_ok-cursor.ensures.at.value c.requires;
-      cursor = c.in_ok-cursor.ensures.at.cursor_is;
-      grows = search rules;
-    }
 
 pub returns-in_err-cursor-2-clause-failed : goal.returns-in_err-cursor-2-clause-failed
 returns-in_err-cursor-2-clause-failed g c =
