@@ -1,8 +1,6 @@
 //! A bounded cache of transitions, and walks over it.
 //!
-//! The cache is only ever cleared as a whole: by `clear`, by a step whose computed transition does
-//! not fit with what is cached, and if an allocation fails, or the table is full (16647160 states),
-//! while a transition is added. No single state or transition is ever removed, so between two
+//! No single state or transition is ever removed: the cache is cleared as a whole, so between two
 //! clears each id stays that of its state.
 
 ghost use Rattle.std.specs.Prelude.{◌≡◌, ◌<◌, ◌≤◌, ◌*◌, length, IfOk, OnErr, OnOk};

@@ -7,7 +7,6 @@ ghost use Rattle.determinize_core.specs.Chain.{units};
 ghost use Rattle.determinize_core.specs.Step.{start_value, step};
 ghost use Rattle.determinize_lazy.specs.Cache.{Grows, IsCutOff, after_step, cache};
 ghost use Rattle.determinize_table.specs.Cursors.{IsAt, IsCursor, cursor_value};
-ghost use Rattle.determinize_lazy.specs.Private.Steps.{IsSound};
 ghost use Rattle.determinize_lazy.specs.Walkers.{IsWalkedTo};
 
 use crate::lazy::Lazy;
@@ -103,8 +102,7 @@ impl<'n, N: Allocator, A: Allocator + Copy> Lazy<'n, N, A> {
 
     /// Returns the cursor of a state, of which `id` may be the id.
     fn cursor_at(&self, state: &State<A>, id: Option<LazyStateId>) -> Result<Cursor<A>, AllocError>
-        ensures at { IfOk result (λ cursor. IsAt self.now.states cursor state.now) }
-        ensures sound { IsSound (cache self.now) }
+        ensures { IfOk result (λ cursor. IsAt self.now.states cursor state.now) }
     {
         match id {
             Some(id) if self.table.has(id, state) => Ok(Cursor::Cached(id)),

@@ -1,7 +1,7 @@
--- The rule of what is kept, and general laws.
+-- What the rule keeps, and what is true of a cache after it; and general laws.
 -- Main statements: lazy-kept, stepped, lazy-sound.
--- Used by: `compute`, and of_err, grows-more, on_ok and along by all that take steps.
--- Idea: a step leaves the table that the rule keeps, or if it fails the one before or none.
+-- Used by: `compute`, `step`, `kept_start`; the general laws by searches, too.
+-- Idea: a step leaves the table that the rule keeps or, if it fails, the one before or none.
 use Rattle.determinize_lazy.proofs.Common.{arith, by_cases, by_test, Cache, cache, count_after, empty, Err, false, fits}
 use Rattle.determinize_lazy.proofs.Common.{Grows, IfOk, inr, IsAccepted, is_cached, IsKept, IsLazy, IsSound, IsStepped}
 use Rattle.determinize_lazy.proofs.Common.{IsTable, keep, LazyValue, length, MatchKind, Nfa, Ok, OnErr, on_err_weaker}

@@ -1,7 +1,7 @@
--- The cached starts: a start state depends only on the NFA state and the kind of the start, so one id is kept for both.
+-- The kept starts: a start state depends only on the state of the NFA and the kind of start.
 -- Main statements: at_its_index, start_is, starts-set, starts-stay.
 -- Used by: `kept_start`, `find_start`, and Rule.
--- Idea: the index of a start tells its NFA state and its kind.
+-- Idea: an index is that of one state and one kind, so it has one start state.
 use Rattle.determinize_lazy.proofs.Common.{AreStarts, arith, by_cases, by_test, get_or, IfSome, nat_eq, Nfa, None}
 use Rattle.determinize_lazy.proofs.Common.{Option, refl, slice_get, slice_set, Some, start_index, StartsStay}
 use Rattle.determinize_lazy.proofs.Common.{start_value, StoredTable, sym, Value, ℕ, ◌+◌, ◌≡◌, ◌⊎◌}

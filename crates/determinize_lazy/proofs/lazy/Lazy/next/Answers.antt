@@ -8,21 +8,21 @@ use Rattle.determinize_lazy.proofs.lazy.Lazy.next.Goals as goal
 
 pub returns-in_err-next-clause-failed : goal.returns-in_err-next-clause-failed
 returns-in_err-next-clause-failed g c =
-    of_err _ (cut_off-first (rw (c.in_ok-cursor.ensures.at.value, c.walker.view_is) at c.in_err-next.ensures.failed))
+    of_err _ (cut_off-first (rw (c.in_ok-cursor.ensures.value, c.walker.view_is) at c.in_err-next.ensures.failed))
 
 pub returns-in_err-walker-inside-clause-resolve : goal.returns-in_err-walker-inside-clause-resolve
 returns-in_err-walker-inside-clause-resolve g c = rw c.in_ok-next.ensures.grows.nfa c.requires
 
 pub returns-in_err-walker-inside-clause-failed : goal.returns-in_err-walker-inside-clause-failed
 returns-in_err-walker-inside-clause-failed g c = of_err _ (cut_off-whole {us = c.args.unit ∷ []}
-    (rw (c.in_ok-cursor.ensures.at.value, c.walker.view_is) at c.in_ok-next.ensures.after))
+    (rw (c.in_ok-cursor.ensures.value, c.walker.view_is) at c.in_ok-next.ensures.after))
 
 -- the state after the step
 value : (g : Over) (c : In_ok-walker-inside g) → c.in_ok-walker-inside.field-0
     ≡ step c.args.self.now.nfa c.args.self.now.kind c.args.walker.now c.args.unit
 value g c = c.in_ok-walker-inside.ensures
     ∙ ap (λ (x : LazyValue). cursor_value x.states c.in_ok-next.next) c.self.view_is
-    ∙ rw (c.in_ok-cursor.ensures.at.value, c.walker.view_is) at c.in_ok-next.ensures.at.value
+    ∙ rw (c.in_ok-cursor.ensures.value, c.walker.view_is) at c.in_ok-next.ensures.at.value
 
 pub returns-clause-value : goal.returns-clause-value
 returns-clause-value g c = value g (goal.at.returns-clause-value g c).In_ok-walker-inside
@@ -35,7 +35,7 @@ returns-clause-walked g c start index text at here =
 pub returns-clause-resolve : goal.returns-clause-resolve
 returns-clause-resolve g c =
     rw (c.in_ok-next.ensures.grows.nfa, value g (goal.at.returns-clause-resolve g c).In_ok-walker-inside)
-    (rw (c.in_ok-cursor.ensures.at.value, c.walker.view_is) at c.in_ok-next.ensures.resolve)
+    (rw (c.in_ok-cursor.ensures.value, c.walker.view_is) at c.in_ok-next.ensures.resolve)
 
 pub returns-clause-after : goal.returns-clause-after
-returns-clause-after g c = rw (c.in_ok-cursor.ensures.at.value, c.walker.view_is) at c.in_ok-next.ensures.after
+returns-clause-after g c = rw (c.in_ok-cursor.ensures.value, c.walker.view_is) at c.in_ok-next.ensures.after

@@ -1,5 +1,5 @@
-use Rattle.determinize_lazy.proofs.Common.{[], append-nil, cache, cursor_value, drop_all, IsWalking, refl, rules, units}
-use Rattle.determinize_lazy.proofs.Common.{◌++◌, ◌+◌, ◌∷◌, ◌≡◌, drop}
+use Rattle.determinize_lazy.proofs.Common.{[], append-nil, cache, cursor_value, drop, drop_all, IsWalking, refl, rules}
+use Rattle.determinize_lazy.proofs.Common.{units, ◌++◌, ◌+◌, ◌∷◌, ◌≡◌}
 use Rattle.determinize_engine.proofs.Texts.{all_read}
 use Rattle.determinize_lazy.proofs.steps.Rule.{of_err}
 use Rattle.determinize_lazy.proofs.walking.CachedWalks.{cut_off-first, cut_off-none, drop-one, walks-on}
