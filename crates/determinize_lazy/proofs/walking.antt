@@ -1,5 +1,3 @@
 -- Walks through the cache, and what they leave.
 pub mod CachedWalks
 pub mod Plenty
-pub mod Steps
-pub mod WalkCounts

@@ -1,8 +1,6 @@
 //! A bounded cache of transitions, and walks over it.
 //!
-//! The cache is only ever cleared as a whole: by `clear`, by a step whose computed transition does
-//! not fit with what is cached, and if an allocation fails, or the table is full (16647160 states),
-//! while a transition is added. No single state or transition is ever removed, so between two
+//! No single state or transition is ever removed: the cache is cleared as a whole, so between two
 //! clears each id stays that of its state.
 
 ghost use Rattle.std.specs.Prelude.{◌≡◌, ◌<◌, ◌≤◌, ◌*◌, length, IfOk, OnErr, OnOk};
@@ -12,14 +10,13 @@ ghost use Rattle.determinize_core.specs.Chain.{future, units};
 ghost use Rattle.determinize_core.specs.WholeWalk.{IsWalk};
 ghost use Rattle.determinize_lazy.specs.Cache.{Grows, IsCutOff, IsCutOffText, after_text, after_walk, cache, step_of};
 ghost use Rattle.determinize_lazy.specs.Plenty.{IsPlentyText};
-ghost use Rattle.determinize_lazy.specs.Private.Steps.{IsSound};
 ghost use Rattle.determinize_table.specs.Table.{IsTable, empty};
 
-use determinize_table::TransitionTable;
 use determinize_below::{MatchKind, NFA, StateID};
 use determinize_core::determinize::Stepper;
 use determinize_core::state::State;
 use determinize_engine::text::Text;
+use determinize_table::TransitionTable;
 use std::alloc::{AllocError, Allocator, Global};
 use std::marker::Model;
 
@@ -165,8 +162,7 @@ impl<'n, N: Allocator, A: Allocator + Copy> Lazy<'n, N, A> {
         first: State<A>,
         text: &Text<'_>,
     ) -> Result<Vec<State<A>, A>, AllocError>
-        requires resolve { AllResolve self.old.nfa first.states }
-        requires sound { IsSound (cache self.old) }
+        requires { AllResolve self.old.nfa first.states }
         ensures values { IfOk result (λ states. states.items
             ≡ future self.old.nfa self.old.kind first (units text.now)) }
         ensures after { OnOk result (cache self.new
@@ -195,9 +191,6 @@ impl<'n, N: Allocator, A: Allocator + Copy> Lazy<'n, N, A> {
     /// - `look_behind` is the byte just before the text, if any.
     ///
     /// The text is in the order of reading: for an NFA that reads backward, from the last byte on.
-    ///
-    /// Returns `AllocError` if an allocation fails, or if more than 16647160 states would be
-    /// cached.
     pub fn walk(
         &mut self,
         start: StateID,
@@ -220,11 +213,6 @@ impl<'n, N: Allocator, A: Allocator + Copy> Lazy<'n, N, A> {
 
     /// Returns the states of a walk over a text, as `walk` does, but the last state follows over
     /// the byte just after the text, or over the end of input (EOI) if `look_ahead` is `None`.
-    ///
-    /// The text is in the order of reading: for an NFA that reads backward, from the last byte on.
-    ///
-    /// Returns `AllocError` if an allocation fails, or if more than 16647160 states would be
-    /// cached.
     pub fn walk_between(
         &mut self,
         start: StateID,

@@ -23,10 +23,10 @@ ghost use Rattle.determinize_below.specs.declared.search.MatchKind.{MatchKind as
 
 use crate::lazy::Lazy;
 use crate::search::Position;
-use determinize_table::Cursor;
 use determinize_below::{HalfMatch, StateID};
 use determinize_core::state::State;
 use determinize_engine::text::Text;
+use determinize_table::Cursor;
 use std::alloc::{AllocError, Allocator, Global};
 use std::marker::Model;
 

@@ -29,11 +29,9 @@ ghost use Rattle.determinize_engine.specs.Searches.{HasMatch, IsFarthestIn, IsPr
 ghost use Rattle.determinize_lazy.specs.CachedSearches.{IsCutOffIn, IsPlenty, IsPlentyIn, after_input, after_is_match, after_search, units_searched};
 
 use crate::lazy::Lazy;
-use determinize_table::LazyStateId;
-use determinize_table::Cursor;
-use determinize_table::LastMatch;
 use determinize_below::{Anchored, HalfMatch, Input, StateID};
 use determinize_engine::text::{Text, in_haystack};
+use determinize_table::{Cursor, LastMatch, LazyStateId};
 use std::alloc::{AllocError, Allocator};
 
 /// Where a search is: at which state, how many units it has read, and the last match of the states

@@ -1,9 +1,5 @@
 //! Steps of walks and searches: over a cached transition, or computed and cached by the rule.
 //!
-//! A computed transition is cached with its source and its target. If the states are then more than
-//! the limit, the cache is cleared first, and the transition is the only one in it. If its two
-//! states alone are too many, the cache stays empty.
-//!
 //! The start states of searches are kept by the kind of their start, which is all that they depend
 //! on besides the NFA state. A search computes its start state anew as long as that is not cached.
 
@@ -20,12 +16,10 @@ ghost use Rattle.determinize_table.specs.Table.{is_cached};
 ghost use Rattle.determinize_table.specs.declared.table.Cursor.TheVariants as cursors;
 
 use crate::lazy::Lazy;
-use determinize_table::LazyStateId;
-use determinize_table::Cursor;
-use determinize_table::StateTag;
 use determinize_below::{NFA, StateID, Unit};
 use determinize_core::start::{Start, start_kind_of};
 use determinize_core::state::State;
+use determinize_table::{Cursor, LazyStateId, StateTag};
 use std::alloc::{AllocError, Allocator};
 
 /// Returns the index at which the start of a search is kept: the kind of the start, for the
@@ -114,7 +108,7 @@ impl<'n, N: Allocator, A: Allocator + Copy> Lazy<'n, N, A> {
         self.table.start(index)
     }
 
-    /// Returns the cursor of a state.
+    /// Returns the cursor of a borrowed state: a copy of it, if it is not cached.
     pub(crate) fn cursor_of(&self, state: &State<A>) -> Result<Cursor<A>, AllocError>
         ensures at { IfOk result (λ cursor. IsAt self.now.states cursor state.now) }
         ensures sound { IsSound (cache self.now) }

@@ -7,14 +7,12 @@ ghost use Rattle.determinize_core.specs.Chain.{units};
 ghost use Rattle.determinize_core.specs.Step.{start_value, step};
 ghost use Rattle.determinize_lazy.specs.Cache.{Grows, IsCutOff, after_step, cache};
 ghost use Rattle.determinize_table.specs.Cursors.{IsAt, IsCursor, cursor_value};
-ghost use Rattle.determinize_lazy.specs.Private.Steps.{IsSound};
 ghost use Rattle.determinize_lazy.specs.Walkers.{IsWalkedTo};
 
 use crate::lazy::Lazy;
-use determinize_table::LazyStateId;
-use determinize_table::Cursor;
 use determinize_below::StateID;
 use determinize_core::state::State;
+use determinize_table::{Cursor, LazyStateId};
 use std::alloc::{AllocError, Allocator, Global};
 use std::marker::Model;
 
@@ -77,8 +75,7 @@ impl<'n, N: Allocator, A: Allocator + Copy> Lazy<'n, N, A> {
     /// The ids in the state of the walker must be states of the NFA, as they are if the walker was
     /// begun with it. The states are those of one walk if the match kind is the same, too.
     ///
-    /// Returns `AllocError` if an allocation fails, or if more than 16647160 states would be
-    /// cached. The walker is unchanged then, and may take the same step again.
+    /// After an error the walker is unchanged, and may take the same step again.
     pub fn next(&mut self, walker: &mut Walker<A>, unit: Option<u8>) -> Result<(), AllocError>
         requires { AllResolve self.old.nfa walker.old.states }
         ensures value { OnOk result
@@ -105,8 +102,7 @@ impl<'n, N: Allocator, A: Allocator + Copy> Lazy<'n, N, A> {
 
     /// Returns the cursor of a state, of which `id` may be the id.
     fn cursor_at(&self, state: &State<A>, id: Option<LazyStateId>) -> Result<Cursor<A>, AllocError>
-        ensures at { IfOk result (λ cursor. IsAt self.now.states cursor state.now) }
-        ensures sound { IsSound (cache self.now) }
+        ensures { IfOk result (λ cursor. IsAt self.now.states cursor state.now) }
     {
         match id {
             Some(id) if self.table.has(id, state) => Ok(Cursor::Cached(id)),

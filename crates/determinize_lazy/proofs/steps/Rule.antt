@@ -1,38 +1,27 @@
--- What the rule keeps, and what is true of a cache after it.
-use Rattle.determinize_lazy.proofs.Common.{ap, arith, by_cases, by_test, Cache, cache, cond, count_after, empty, Err}
-use Rattle.determinize_lazy.proofs.Common.{false, fits, Grows, IfOk, inr, is_cached, IsAccepted, IsKept, IsLazy}
-use Rattle.determinize_lazy.proofs.Common.{IsSound, IsStepped, IsTable, keep, LazyValue, length, MatchKind, nat_le, Nfa}
-use Rattle.determinize_lazy.proofs.Common.{Ok, on_err_weaker, on_ok_weaker, OnErr, OnOk, Option, refl, Result, step_of}
-use Rattle.determinize_lazy.proofs.Common.{StoredTable, subst, Table, table_of, true, Value, with_transition, ℕ, ◌∙◌}
-use Rattle.determinize_lazy.proofs.Common.{◌≡◌, ◌≤◌}
+-- What the rule keeps, and what is true of a cache after it; and general laws.
+-- Main statements: lazy-kept, stepped, lazy-sound.
+-- Used by: `compute`, `step`, `kept_start`; the general laws by searches, too.
+-- Idea: a step leaves the table that the rule keeps or, if it fails, the one before or none.
+use Rattle.determinize_lazy.proofs.Common.{arith, by_cases, by_test, Cache, cache, count_after, empty, Err, false, fits}
+use Rattle.determinize_lazy.proofs.Common.{Grows, IfOk, inr, IsAccepted, is_cached, IsKept, IsLazy, IsSound, IsStepped}
+use Rattle.determinize_lazy.proofs.Common.{IsTable, keep, LazyValue, length, MatchKind, Nfa, Ok, OnErr, on_err_weaker}
+use Rattle.determinize_lazy.proofs.Common.{OnOk, on_ok_weaker, Option, refl, Result, step_of, StoredTable, subst, Table}
+use Rattle.determinize_lazy.proofs.Common.{table_of, Value, ℕ, ◌∙◌, ◌≡◌, ◌≤◌}
 use Rattle.determinize_core.specs.Step.{step}
 use Rattle.determinize_core.proofs.step.Resolving.{step_resolves}
 use Rattle.determinize_table.specs.declared.table.Cursor.{Cursor}
-use Rattle.determinize_lazy.proofs.steps.Starts.{starts-stay}
 use Rattle.determinize_table.proofs.Transitions.{empty-is, with_transition-is}
+use Rattle.determinize_lazy.proofs.steps.Starts.{starts-stay}
 
-le_of : (m n : ℕ) → nat_le m n ≡ true → m ≤ n
-le_of m n e = grind arith
-
--- a table of steps with at most `limit` states
-record IsTableWithin (f : Value → Option ℕ → Value) (limit : ℕ) (t : Table) : Type 0 where
-  steps : IsTable f t
-  size : length t.states ≤ limit
-
-empty-within : (f : Value → Option ℕ → Value) (limit : ℕ) → IsTableWithin f limit empty
-empty-within f limit = record { steps = empty-is f; size = omega arith }
-
--- the rule leaves such a table
-keep-within : (f : Value → Option ℕ → Value) (limit : ℕ) (t : Table) (v w : Value) (u : Option ℕ) → IsTable f t
-    → w ≡ f v u → IsTableWithin f limit (keep limit t v u w)
-keep-within f limit t v w u is w_is = choose t (cond (fits limit empty v u w) (with_transition empty v u w) empty) is
-    (choose empty empty (empty-is f) (empty-within f limit))
-  where
-    choose : (t s : Table) → IsTable f t → IsTableWithin f limit s
-        → IsTableWithin f limit (cond (fits limit t v u w) (with_transition t v u w) s)
-    choose t s is other = by_test (fits limit t v u w)
-        (λ e. rw e record { steps = with_transition-is f t v w u is w_is; size = le_of _ limit e })
-        (λ e. rw e other)
+-- the rule keeps a table of steps with at most `limit` states
+keep-is : (f : Value → Option ℕ → Value) (limit : ℕ) (t : Table) (v : Value) (u : Option ℕ) (w : Value) → IsTable f t
+    → w ≡ f v u → IsTable f (keep limit t v u w) × (length (keep limit t v u w).states ≤ limit)
+keep-is f limit t v u w is w_is = (
+  by_test (fits limit t v u w) (λ e. rw e (with_transition-is f t v w u is w_is))
+      (λ e. rw e (by_test (fits limit empty v u w)
+      (λ k. rw k (with_transition-is f empty v w u (empty-is f) w_is)) (λ k. rw k (empty-is f)))),
+  grind arith,
+)
 
 -- after a transition was computed
 pub lazy-kept : {A E : Type 0} {nfa : Nfa} {kind : MatchKind} {limit count counted : ℕ} {t t' : StoredTable} {w : Value}
@@ -40,37 +29,30 @@ pub lazy-kept : {A E : Type 0} {nfa : Nfa} {kind : MatchKind} {limit count count
     → counted ≤ 18446744073709551615 → IsKept t (keep limit (table_of t) v u w) w r t'
     → IsLazy nfa kind limit counted t'
 lazy-kept {A} {E} {nfa} {kind} {limit} {t = t} {t' = t'} {w} {r} v u is w_is small kept =
-    let within : IsTableWithin (step nfa kind) limit (table_of t') = by r kept in record {
+    let f : Value → Option ℕ → Value = step nfa kind in
+    let (table, within) = keep-is f limit (table_of t) v u w is.table w_is in record {
       accepted = is.accepted;
+      table = by r (IsTable f) kept table is.table (empty-is f);
       small = small;
-      table = within.steps;
-      within = within.size;
+      within = by r (λ (x : Table). length x.states ≤ limit) kept within is.within (omega arith);
       starts = starts-stay nfa t t' is.starts kept.starts;
     }
   where
-    by : (r : Result (Cursor A) E) → IsKept t (keep limit (table_of t) v u w) w r t'
-        → IsTableWithin (step nfa kind) limit (table_of t')
-    by (Ok x) kept = rw kept.table (keep-within (step nfa kind) limit (table_of t) v w u is.table w_is)
-    by (Err x) kept = by_cases kept.failed (λ none. rw none (empty-within (step nfa kind) limit))
-        (λ same. rw same record { steps = is.table; size = is.within })
+    by : (r : Result (Cursor A) E) (P : Table → Type 0) → IsKept t (keep limit (table_of t) v u w) w r t'
+        → P (keep limit (table_of t) v u w) → P (table_of t) → P empty → P (table_of t')
+    by (Ok x) P kept new old none = rw kept.table new
+    by (Err x) P kept new old none = by_cases kept.failed (λ e. rw e none) (λ e. rw e old)
 
 -- what is left by a step that is not cached
 pub stepped : {A E : Type 0} (old : LazyValue) {t t' : StoredTable} {v : Value} (u : Option ℕ) {r : Result (Cursor A) E}
     → IsAccepted old.nfa → old.computed ≤ 18446744073709551615 → is_cached (cache old).table v u ≡ false
     → table_of t ≡ (cache old).table
     → IsKept t (keep old.limit (cache old).table v u (step_of (cache old) v u)) (step_of (cache old) v u) r t'
-    → IsStepped old v u r (record old {
-      states = t'.states;
-      rows = t'.rows;
-      computed = count_after old.computed 1;
-    })
+    → IsStepped old v u r (record old { states = t'.states; rows = t'.rows; computed = count_after old.computed 1 })
 stepped old {v = v} u {r} accepted small absent table_is kept = record {
   at = kept.at;
   resolve = step_resolves old.nfa accepted old.kind v u;
-  after = on_ok_weaker r (λ e. rw absent (ap (λ (t : Table). record (cache old) {
-    table = t;
-    computed = count_after old.computed 1;
-  }) e)) kept.table;
+  after = on_ok_weaker r (λ e. rw (absent, ← e) refl) kept.table;
   failed = on_err_weaker r (λ e. record { table = rw table_is at e; counted = inr (rw absent refl) }) kept.failed;
   grows = record { nfa = refl; kind = refl; limit = refl; computed = grind (arith, small) };
 }
@@ -78,21 +60,10 @@ stepped old {v = v} u {r} accepted small absent table_is kept = record {
 -- what is true of a `Lazy` is true of its cache
 pub lazy-sound : {nfa : Nfa} {kind : MatchKind} {limit count : ℕ} {t : StoredTable} {x : LazyValue}
     → IsLazy nfa kind limit count t
-    → record {
-      nfa = nfa;
-      kind = kind;
-      limit = limit;
-      states = t.states;
-      rows = t.rows;
-      computed = count;
-    } ≡ x → IsSound (cache x)
+    → record { nfa = nfa; kind = kind; limit = limit; states = t.states; rows = t.rows; computed = count } ≡ x
+    → IsSound (cache x)
 lazy-sound is view_is =
     rw (← view_is) record { accepted = is.accepted; table = is.table; small = is.small }
-
--- what holds in any case holds of an error
-pub of_err : {T E : Type 0} (r : Result T E) {P : Type 0} → P → OnErr r P
-of_err (Ok x) p = tt
-of_err (Err x) p = p
 
 pub grows-more : {old now new : Cache} → Grows old now → Grows now new → Grows old new
 grows-more g h = record {
@@ -101,6 +72,11 @@ grows-more g h = record {
   limit = h.limit ∙ g.limit;
   computed = omega (arith, g.computed, h.computed);
 }
+
+-- what holds in any case holds of an error
+pub of_err : {T E : Type 0} (r : Result T E) {P : Type 0} → P → OnErr r P
+of_err (Ok x) p = tt
+of_err (Err x) p = p
 
 -- what follows from a value holds if there is one
 pub on_ok : {T E : Type 0} (r : Result T E) {P : T → Type 0} {Q : Type 0} → ((x : T) → P x → Q) → IfOk r P → OnOk r Q

@@ -1,23 +1,27 @@
--- The cached starts: which are cached, and that a start state depends only on the kind of start.
-use Rattle.determinize_lazy.proofs.Common.{[], ap, AreStarts, arith, by_cases, by_test, get_or, IfSome, inl, inr}
-use Rattle.determinize_lazy.proofs.Common.{List, nat_eq, Nfa, None, Option, refl, slice_get}
-use Rattle.determinize_lazy.proofs.Common.{slice_set, Some, start_index, start_value, StartsStay, StoredTable, suc, sym}
-use Rattle.determinize_lazy.proofs.Common.{Value, zero, ℕ, ◌+◌, ◌∷◌, ◌≡◌, ◌⊎◌}
+-- The kept starts: a start state depends only on the state of the NFA and the kind of start.
+-- Main statements: at_its_index, start_is, starts-set, starts-stay.
+-- Used by: `kept_start`, `find_start`, and Rule.
+-- Idea: an index is that of one state and one kind, so it has one start state.
+use Rattle.determinize_lazy.proofs.Common.{AreStarts, arith, by_cases, by_test, get_or, IfSome, nat_eq, Nfa, None}
+use Rattle.determinize_lazy.proofs.Common.{Option, refl, slice_get, slice_set, Some, start_index, StartsStay}
+use Rattle.determinize_lazy.proofs.Common.{start_value, StoredTable, sym, Value, ℕ, ◌+◌, ◌≡◌, ◌⊎◌}
+use Rattle.std.proofs.Common.{get_or-set_other, get_or-set_same}
+use Rattle.std.proofs.lemmas.List.{get_or_past, length-set}
 use Rattle.determinize_start.specs.LookTables.{from_word_at_start, half_crlf_at_start, have_at_start}
 use Rattle.determinize_start.specs.StartKinds.{number_of, start_kind_of}
 use Rattle.determinize_start.specs.declared.start.Start.{Start as Kind}
 use Rattle.determinize_start.specs.declared.start.Start.TheVariants.{NonWordByte}
-use Rattle.determinize_lazy.specs.Private.Starts.{of_kind, start_kept_at}
+use Rattle.determinize_lazy.specs.Private.Starts.{of_kind, start_at_index}
 use Rattle.determinize_engine.proofs.Places.{not_none, of_some}
 
-kind_at : (nfa : Nfa) (k : Kind) → (start_kept_at nfa (number_of k) ≡ Some (of_kind nfa nfa.start_anchored k))
-    × (start_kept_at nfa (6 + number_of k) ≡ Some (of_kind nfa nfa.start_unanchored k))
+kind_at : (nfa : Nfa) (k : Kind) → (start_at_index nfa (number_of k) ≡ Some (of_kind nfa nfa.start_anchored k))
+    × (start_at_index nfa (6 + number_of k) ≡ Some (of_kind nfa nfa.start_unanchored k))
 kind_at nfa NonWordByte = (refl, refl)
 kind_at nfa s = (refl, refl)
 
--- the start state of a start is that of its index: it depends only on the kind of start
+-- the start state of a start is that of its index
 pub at_its_index : (nfa : Nfa) (s : ℕ) (p : Option ℕ) (i : ℕ) → start_index nfa s p ≡ Some i
-    → start_kept_at nfa i ≡ Some (start_value nfa s p)
+    → start_at_index nfa i ≡ Some (start_value nfa s p)
 unfolding have_at_start from_word_at_start half_crlf_at_start
 at_its_index nfa s p i e = by_test (nat_eq s nfa.start_anchored)
     (λ a. let s_is : s ≡ nfa.start_anchored = grind (arith, a) in
@@ -36,18 +40,12 @@ start_is nfa t {i} s p are at (Some id) e = are i id (start_value nfa s p) (sym 
 
 -- one more start is kept
 pub starts-set : (nfa : Nfa) (t : StoredTable) (i id : ℕ) → AreStarts nfa t
-    → ((v : Value) → start_kept_at nfa i ≡ Some v → slice_get t.states id ≡ Some v)
+    → ((v : Value) → start_at_index nfa i ≡ Some v → slice_get t.states id ≡ Some v)
     → AreStarts nfa (record t { starts = slice_set t.starts i (Some id) })
-starts-set nfa t i id are here j k v kept is = by_cases (at t.starts i j kept)
-    (λ (j_is, k_is). rw (← k_is) (here v (rw j_is at is))) (λ before. are j k v before is)
-  where
-    at : (xs : List (Option ℕ)) (i j : ℕ) → get_or (slice_set xs i (Some id)) j None ≡ Some k
-        → ((j ≡ i) × (id ≡ k)) ⊎ (get_or xs j None ≡ Some k)
-    at [] i j e = inr e
-    at (x ∷ xs) zero zero e = inl (refl, of_some e)
-    at (x ∷ xs) zero (suc j) e = inr e
-    at (x ∷ xs) (suc i) zero e = inr e
-    at (x ∷ xs) (suc i) (suc j) e = by_cases (at xs i j e) (λ (a, b). inl (ap suc a, b)) inr
+starts-set nfa t i id are here j k v kept is =
+    let at : ((j ≡ i) × (id ≡ k)) ⊎ (get_or t.starts j None ≡ Some k) =
+    grind (arith, get_or-set_other, get_or-set_same, get_or_past, length-set) in
+    by_cases at (λ (j_is, k_is). rw (← k_is) (here v (rw j_is at is))) (λ before. are j k v before is)
 
 -- the starts that are kept stay right
 pub starts-stay : (nfa : Nfa) (t t' : StoredTable) → AreStarts nfa t → StartsStay t t' → AreStarts nfa t'

@@ -1,106 +1,98 @@
--- Walks, one step more at a time, and what is left of a walk that fails.
-use Rattle.determinize_lazy.proofs.Common.{[], after_step, after_walk, AllResolve, ap, arith, by_cases, Cache, drop}
-use Rattle.determinize_lazy.proofs.Common.{future, get_or_from_slice_get, inl, inr, IsAccepted, IsCutOff, IsFailedStep}
-use Rattle.determinize_lazy.proofs.Common.{IsReached, length, List, MatchKind, Nfa, Option, refl, same, slice_get}
-use Rattle.determinize_lazy.proofs.Common.{slice_get_within, Some, step_of, take, take_all, take_more, Value}
-use Rattle.determinize_lazy.proofs.Common.{value_after, ℕ, ◌++◌, ◌+◌, ◌<◌, ◌∙◌, ◌∷◌, ◌≡◌, ◌≤◌}
+-- Walks through the cache: the steps done so far, followed by those that are left, are the whole walk.
+-- Main statements: walks-on, walked-next, each_walk_computes_few.
+-- Used by: `walk_from`, `next`, searches and Plenty.
+-- Idea: what a walk leaves depends only on the cache and the value where it is, and on the units that are left.
+use Rattle.determinize_lazy.proofs.Common.{[], after_step, after_walk, ap, append_assoc, arith, Bool, Cache, cond}
+use Rattle.determinize_lazy.proofs.Common.{count_after, drop, future, future_is, get_or_from_slice_get, inl, inr}
+use Rattle.determinize_lazy.proofs.Common.{is_cached, IsCutOff, IsFailedStep, IsWalking, length, List, MatchKind, Nfa}
+use Rattle.determinize_lazy.proofs.Common.{Option, refl, slice_get, slice_get_within, Some, start_value, step_of, suc}
+use Rattle.determinize_lazy.proofs.Common.{sym, take, take_all, Text, units, Value, zero, ℕ, ◌++◌, ◌+◌, ◌∙◌, ◌∷◌, ◌≡◌}
+use Rattle.determinize_lazy.proofs.Common.{◌≤◌}
+use Rattle.std.proofs.Common.{add-one}
 use Rattle.std.proofs.lemmas.List.{drop_more}
+use Rattle.determinize_core.specs.Chain.{chain}
 use Rattle.determinize_core.specs.Step.{step}
-use Rattle.determinize_core.proofs.walk.WalkLoops.{future-push, value_after-push}
-use Rattle.determinize_core.proofs.step.Resolving.{step_resolves}
+use Rattle.determinize_lazy.specs.Cache.{EachWalkComputesFew}
+use Rattle.determinize_lazy.specs.Walkers.{IsWalkedTo}
+use Rattle.determinize_engine.proofs.Places.{not_none, of_some}
 
--- a step more
-pub after_walk-push : (us : List (Option ℕ)) (c : Cache) (v : Value) (u : Option ℕ)
-    → after_step (after_walk c v us) (value_after c.nfa c.kind v us) u ≡ after_walk c v (us ++ u ∷ [])
-after_walk-push [] c v u = refl
-after_walk-push (w ∷ us) c v u = after_walk-push us (after_step c v w) (step_of c v w) u
-
--- the NFA and the steps stay
-pub same_nfa : (us : List (Option ℕ)) (c : Cache) (v : Value) → (after_walk c v us).nfa ≡ c.nfa
-same_nfa [] c v = refl
-same_nfa (u ∷ us) c v = same_nfa us (after_step c v u) (step_of c v u)
-
+-- the steps stay
 pub same_steps : (us : List (Option ℕ)) (c : Cache) (v : Value) → step_of (after_walk c v us) ≡ step_of c
 same_steps [] c v = refl
 same_steps (u ∷ us) c v = same_steps us (after_step c v u) (step_of c v u)
 
--- the value after some units has states of the NFA, if the first has
-after_resolves : (nfa : Nfa) (kind : MatchKind) → IsAccepted nfa → (v : Value) (us : List (Option ℕ))
-    → AllResolve nfa v.states → AllResolve nfa (value_after nfa kind v us).states
-after_resolves nfa kind accepted v [] h = h
-after_resolves nfa kind accepted v (u ∷ us) h =
-    after_resolves nfa kind accepted (step nfa kind v u) us (step_resolves nfa accepted kind v u)
+-- the part of a list from an index on
+pub drop-one : {K : Type 0} (xs : List K) (i : ℕ) (x : K) → slice_get xs i ≡ Some x → drop i xs ≡ x ∷ drop (i + 1) xs
+drop-one xs i x at = rw (drop_more xs i x (slice_get_within xs i x at), get_or_from_slice_get xs i x x at)
 
--- what a walk leaves that fails before its first step
-pub cut_off-none : {old : Cache} {first : Value} {us : List (Option ℕ)} {new : Cache} → new ≡ old
-    → IsCutOff old first us new
-cut_off-none same = record { steps = 0; table = inr (rw same); counted = inl (rw same) }
+module _ {old : Cache} {v : Value} {us : List (Option ℕ)} {new : Cache} where
+  -- what a walk leaves that fails before its first step, and after its last
+  pub cut_off-none : new ≡ old → IsCutOff old v us new
+  cut_off-none is = record { steps = 0; table = inr (rw is); counted = inl (rw is) }
 
--- and what one leaves that fails after its last
-pub cut_off-whole : {old : Cache} {first : Value} {us : List (Option ℕ)} {new : Cache} → new ≡ after_walk old first us
-    → IsCutOff old first us new
-cut_off-whole {old} {first} {us} {new} after =
-    let all : take (length us) us ≡ us = take_all (length us) us (omega arith) in
-    record { steps = length us; table = inr (rw (after, all)); counted = inl (rw (after, all)) }
+  pub cut_off-whole : new ≡ after_walk old v us → IsCutOff old v us new
+  cut_off-whole is = let all : take (length us) us ≡ us = take_all (length us) us (omega arith) in
+      record { steps = length us; table = inr (rw (is, all)); counted = inl (rw (is, all)) }
 
--- the part of a list up to an index, and from there on
-module _ {K : Type 0} (xs : List K) (i : ℕ) (x : K) (at : slice_get xs i ≡ Some x) where
-  within : i < length xs
-  within = slice_get_within xs i x at
+  -- one that fails in its first step, and after it
+  pub cut_off-first : {u : Option ℕ} → IsFailedStep old v u new → IsCutOff old v (u ∷ us) new
+  cut_off-first failed = record { steps = 0; table = failed.table; counted = failed.counted }
 
-  pub take-one : take (i + 1) xs ≡ take i xs ++ x ∷ []
-  take-one = rw (take_more xs i x within, get_or_from_slice_get xs i x x at)
-
-  pub drop-one : drop i xs ≡ x ∷ drop (i + 1) xs
-  drop-one = rw (drop_more xs i x within, get_or_from_slice_get xs i x x at)
-
-module _ {old : Cache} {first : Value} {us : List (Option ℕ)} {read : ℕ} {v : Value} {now : Cache}
-    (r : IsReached old first us read v now) where
-  -- the value has states of the NFA, if the first has
-  pub reached-resolves : IsAccepted old.nfa → AllResolve old.nfa first.states → AllResolve now.nfa v.states
-  reached-resolves accepted h = rw (r.after, same_nfa (take read us) old first, r.end)
-      (after_resolves old.nfa old.kind accepted first (take read us) h)
-
-  -- once all units are read
-  pub reached-all : length us ≤ read → (v ≡ value_after old.nfa old.kind first us) × (now ≡ after_walk old first us)
-  reached-all all_read = (rw (take_all read us all_read) at r.end, rw (take_all read us all_read) at r.after)
-
-  -- one more unit
-  module _ {u : Option ℕ} {w : Value} {new : Cache} (at : slice_get us read ≡ Some u) (w_is : w ≡ step_of now v u)
-      (new_is : new ≡ after_step now v u) where
-    pub follows : w ≡ step_of old v u
-    follows = w_is ∙ ap (λ (c : Cache). step_of c v u) r.after
-        ∙ ap (λ f. f v u) (same_steps (take read us) old first)
-
-    pub reached-push : IsReached old first us (read + 1) w new
-    reached-push = record {
-      end = rw (take-one us read u at, value_after-push old.nfa old.kind first (take read us) u, ← r.end) follows;
-      after = rw (take-one us read u at, ← after_walk-push (take read us) old first u, ← r.end, ← r.after) new_is;
-    }
-
-    -- and one more value
-    pub future-more : {values more : List Value} → values ≡ future old.nfa old.kind first (take read us)
-        → more ≡ values ++ w ∷ [] → more ≡ future old.nfa old.kind first (take (read + 1) us)
-    future-more {values} {more} values_are more_is =
-        rw (
-          take-one us read u at,
-          future-push old.nfa old.kind first (take read us) u,
-          ← r.end,
-          ← values_are,
-          ← follows,
-        )
-        more_is
-
-  -- what is left if the walk fails here
-  pub cut_off-here : IsCutOff old first us now
-  cut_off-here = record { steps = read; table = inr (rw r.after); counted = inl (rw r.after) }
-
-  -- and if it fails in the next step
-  pub cut_off-step : {new : Cache} {u : Option ℕ} → slice_get us read ≡ Some u → IsFailedStep now v u new
-      → IsCutOff old first us new
-  cut_off-step {new} {u} at failed = record {
-    steps = read;
-    table = by_cases failed.table inl (λ stays. inr (rw r.after at stays));
-    counted = by_cases failed.counted (λ same. inl (rw r.after at same))
-        (λ one. inr (one ∙ ap (λ (c : Cache). c.computed) (reached-push {w = step_of now v u} at refl refl).after));
+  cut_off-later : {u : Option ℕ} → IsCutOff (after_step old v u) (step_of old v u) us new → IsCutOff old v (u ∷ us) new
+  cut_off-later f = record {
+    steps = suc f.steps;
+    table = f.table;
+    counted = rw (add-one (suc f.steps)) (rw (add-one f.steps) at f.counted);
   }
+
+-- a walk begins, and takes a step
+pub walks-none : (old : Cache) {first v : Value} (us : List (Option ℕ)) → v ≡ first
+    → IsWalking old first us (first ∷ []) old v us
+walks-none old {first} us is = rw is record {
+  values = rw (future_is old.nfa old.kind first us) refl;
+  after = refl;
+  failed = λ new f. f;
+}
+
+pub walks-on : {old : Cache} {first : Value} {us : List (Option ℕ)} {done : List Value} {now : Cache} {v : Value}
+    {u : Option ℕ} {rest : List (Option ℕ)} {w : Value} {new : Cache} → IsWalking old first us done now v (u ∷ rest)
+    → w ≡ step_of now v u → new ≡ after_step now v u → IsWalking old first us (done ++ w ∷ []) new w rest
+walks-on {done = done} {now} {v} {u} {rest} {w} walk w_is new_is = rw (w_is, new_is) record {
+  values = let is = future_is now.nfa now.kind (step_of now v u) rest in rw (append_assoc, is) (rw is at walk.values);
+  after = walk.after;
+  failed = λ x f. walk.failed x (cut_off-later f);
+}
+
+-- a walker that takes a step is at the next value
+module _ (nfa : Nfa) (kind : MatchKind) where
+  future-next : (us : List (Option ℕ)) (v : Value) (k : ℕ) (w : Value) (u : Option ℕ)
+      → slice_get (future nfa kind v us) k ≡ Some w → slice_get us k ≡ Some u
+      → slice_get (future nfa kind v us) (suc k) ≡ Some (step nfa kind w u)
+  future-next [] v k w u at here = not_none (sym here)
+  future-next (x ∷ us) v zero w u at here =
+      rw (future_is nfa kind (step nfa kind v x) us, of_some at, of_some here) refl
+  future-next (x ∷ us) v (suc k) w u at here = future-next us (step nfa kind v x) k w u at here
+
+  module _ (start : ℕ) (text : Text) where
+    pub walked-none : {v : Value} → v ≡ start_value nfa start text.behind → IsWalkedTo nfa kind start text 0 v
+    unfolding chain
+    walked-none is = ap (λ vs. slice_get vs 0) (future_is nfa kind (start_value nfa start text.behind) (units text))
+        ∙ ap Some (sym is)
+
+    pub walked-next : (k : ℕ) {v w : Value} {u : Option ℕ} → IsWalkedTo nfa kind start text k v
+        → slice_get (units text) k ≡ Some u → w ≡ step nfa kind v u → IsWalkedTo nfa kind start text (k + 1) w
+    unfolding chain
+    walked-next k at here is =
+        rw (add-one k, is) (future-next (units text) (start_value nfa start text.behind) k _ _ at here)
+
+-- a step computes at most one transition
+counted : (b : Bool) (n : ℕ) → n ≤ 18446744073709551615 → let m = cond b n (count_after n 1) in
+    (n ≤ m) × (m ≤ suc n) × (m ≤ 18446744073709551615)
+counted b n small = (grind arith, grind arith, grind arith)
+
+pub each_walk_computes_few : EachWalkComputesFew
+each_walk_computes_few c v [] small = (omega arith, omega arith)
+each_walk_computes_few c v (u ∷ us) small =
+    let one = counted (is_cached c.table v u) c.computed small in
+    let rest = each_walk_computes_few (after_step c v u) (step_of c v u) us one.2 in
+    (omega (arith, one.0, rest.0), omega (arith, one.1, rest.1))

@@ -1,11 +1,11 @@
--- How far a walk or a search has come, and what a search finds and leaves.
+-- How far a search has come, and what a search finds and leaves.
 use Rattle.std.specs.Prelude.{◌≡◌, ℕ, ◌+◌, ◌≤◌, ◌⊎◌, Bool, true, false, Option, Some, None, List}
-use Rattle.std.specs.Prelude.{Result, Ok, Err, drop, is_some, slice_get, take}
+use Rattle.std.specs.Prelude.{Result, Ok, Err, drop, is_some, slice_get}
 use Rattle.std.specs.Option.{option_or}
 use Rattle.determinize_below.specs.Nfa.{AllResolve}
 use Rattle.determinize_below.specs.Semantics.{Text}
 use Rattle.determinize_below.specs.declared.search.HalfMatch.{HalfMatch}
-use Rattle.determinize_core.specs.Chain.{units, value_after}
+use Rattle.determinize_core.specs.Chain.{units}
 use Rattle.determinize_core.specs.Step.{start_value}
 use Rattle.determinize_core.specs.Value.{Value, is_nonempty}
 use Rattle.determinize_lazy.specs.Cache.{Cache, IsCutOff, LazyValue, after_step, after_walk, cache}
@@ -17,13 +17,6 @@ use Rattle.determinize_table.specs.Tags.{match_of, match_reported, tag_of}
 use Rattle.determinize_lazy.specs.declared.search.CachedPosition.{CachedPosition}
 use Rattle.determinize_lazy.specs.declared.search.Position.{Position}
 use Rattle.determinize_table.specs.declared.table.Cursor.TheVariants.{Cached}
-
--- a walk from a value over units, of which it has read some: the value where it is, and the cache
-pub record IsReached (old : Cache) (first : Value) (us : List (Option ℕ)) (read : ℕ) (v : Value)
-    (new : Cache) : Type 0
-  where
-    pub end : v ≡ value_after old.nfa old.kind first (take read us)
-    pub after : new ≡ after_walk old first (take read us)
 
 -- the match that a value reports which is entered after n units
 abbrev pub reported : ℕ → Value → Option HalfMatch

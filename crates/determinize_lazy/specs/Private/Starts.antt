@@ -27,13 +27,13 @@ of_kind nfa s kind =
     (start_half_crlf (tables_of nfa) kind) (start_have (tables_of nfa) kind) [])
     (reach nfa (has (start_have (tables_of nfa) kind)) (s ∷ []))
 
--- the start state that is kept at an index
-abbrev pub start_kept_at : Nfa → ℕ → Option Value
-start_kept_at nfa i =
+-- the start state of an index, whether it is kept or not
+abbrev pub start_at_index : Nfa → ℕ → Option Value
+start_at_index nfa i =
     option_map (of_kind nfa (cond (nat_lt i 6) nfa.start_anchored nfa.start_unanchored))
     (start_of_number (i % 6))
 
 -- each kept start is the index of its start state
 abbrev pub AreStarts : Nfa → StoredTable → Type 0
 AreStarts nfa stored = (i index : ℕ) (v : Value) → slice_index_or stored.starts i None ≡ Some index
-    → start_kept_at nfa i ≡ Some v → slice_get stored.states index ≡ Some v
+    → start_at_index nfa i ≡ Some v → slice_get stored.states index ≡ Some v

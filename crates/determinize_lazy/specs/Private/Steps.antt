@@ -1,8 +1,10 @@
 -- One step of a walk or a search over a cache.
-use Rattle.std.specs.Prelude.{◌≡◌, ℕ, ◌≤◌, ◌⊎◌, IfOk, OnErr, OnOk, Option, Result}
+use Rattle.std.specs.Prelude.{◌≡◌, ℕ, ◌++◌, ◌≤◌, ◌⊎◌, IfOk, List, OnErr, OnOk, Option, Result, drop}
 use Rattle.determinize_below.specs.Nfa.{AllResolve, IsAccepted}
+use Rattle.determinize_core.specs.Chain.{future}
 use Rattle.determinize_core.specs.Value.{Value}
-use Rattle.determinize_lazy.specs.Cache.{Cache, Grows, LazyValue, after_step, cache, step_of}
+use Rattle.determinize_lazy.specs.Cache.{Cache, Grows, IsCutOff, LazyValue, after_step, after_walk}
+use Rattle.determinize_lazy.specs.Cache.{cache, step_of}
 use Rattle.determinize_table.specs.Cursors.{IsAt}
 use Rattle.determinize_table.specs.declared.table.Cursor.{Cursor}
 use Rattle.determinize_table.specs.Table.{IsTable, empty}
@@ -20,7 +22,7 @@ pub record IsSound (c : Cache) : Type 0 where
   pub table : IsTable (step_of c) c.table
   pub small : c.computed ≤ 18446744073709551615
 
--- what the search of a start state leaves and returns: its cursor, and the cache as it was
+-- what a call for a start state returns and leaves: its cursor, and the cache as it was
 pub record IsStarted {A E : Type 0} (old : LazyValue) (v : Value) (result : Result (Cursor A) E)
     (new : LazyValue) : Type 0 where
   pub at : IfOk result (λ cursor. IsAt old.states cursor v)
@@ -36,3 +38,11 @@ pub record IsStepped {A E : Type 0} (old : LazyValue) (v : Value) (u : Option �
   pub after : OnOk result (cache new ≡ after_step (cache old) v u)
   pub failed : OnErr result (IsFailedStep (cache old) v u (cache new))
   pub grows : Grows (cache old) (cache new)
+
+-- a walk over units that is at a value, with some units left: the values so far and those that
+-- follow are those of the whole walk, and what the rest of it leaves is what the whole leaves
+pub record IsWalking (old : Cache) (first : Value) (us : List (Option ℕ)) (done : List Value)
+    (now : Cache) (v : Value) (left : List (Option ℕ)) : Type 0 where
+  pub values : done ++ drop 1 (future now.nfa now.kind v left) ≡ future old.nfa old.kind first us
+  pub after : after_walk now v left ≡ after_walk old first us
+  pub failed : (new : Cache) → IsCutOff now v left new → IsCutOff old first us new

@@ -1,13 +1,9 @@
-use Rattle.determinize_lazy.proofs.Common.{arith, cache, count_after, cursor_value, inl, inr, IsFailedStep, refl, rules}
-use Rattle.determinize_lazy.proofs.Common.{◌≡◌}
+use Rattle.determinize_lazy.proofs.Common.{arith, cache, count_after, cursor_value, Err, inl, inr, refl, rules, ◌≡◌}
 use Rattle.determinize_core.specs.Step.{step}
 use Rattle.determinize_core.proofs.step.Resolving.{step_resolves}
 use Rattle.determinize_lazy.proofs.steps.Cursors.{absent-at}
-use Rattle.determinize_lazy.proofs.steps.Rule.{lazy-kept, lazy-sound, of_err, stepped}
+use Rattle.determinize_lazy.proofs.steps.Rule.{lazy-kept, lazy-sound, stepped}
 use Rattle.determinize_lazy.proofs.lazy.Lazy.compute.Goals as goal
-
-pub invariant_of-self : goal.invariant_of-self
-invariant_of-self g c = rw c.in_err-following.ensures.unchanged c.self.invariant
 
 pub invariant_of-self-2 : goal.invariant_of-self-2
 invariant_of-self-2 g c =
@@ -18,14 +14,12 @@ invariant_of-self-2 g c =
 
 pub returns-in_err-following : goal.returns-in_err-following
 returns-in_err-following g c =
-    let old = cache c.args.self.now in
-    let stays : IsFailedStep old (cursor_value old.table.states c.args.cursor) c.args.unit old =
-    record { table = inr refl; counted = inl refl } in
-    rw (c.in_err-following.ensures.unchanged, c.self.view_is) record {
-      at = search rules;
-      resolve = step_resolves old.nfa (lazy-sound c.self.invariant c.self.view_is).accepted old.kind _ c.args.unit;
-      after = search rules;
-      failed = of_err _ stays;
+    let e : c.from_residual.result ≡ Err c.in_err-following.field-0.0 = search rules in
+    rw (e, c.in_err-following.ensures.unchanged, ← c.self.view_is) record {
+      at = tt;
+      resolve = step_resolves _ c.self.invariant.accepted _ _ c.args.unit;
+      after = tt;
+      failed = record { table = inr refl; counted = inl refl };
       grows = record { nfa = refl; kind = refl; limit = refl; computed = omega arith };
     }
 

@@ -11,7 +11,6 @@ invariant_of-self g c =
       table = c.self.invariant.table;
       small = c.self.invariant.small;
       within = c.self.invariant.within;
-      starts = starts-set c.self.inside.stepper.nfa c.self.inside.table c.in-Some-start_index.index c.in-Some.id
-          c.self.invariant.starts (λ v e. rw state_is at c.in-Some.ensures
-          ∙ sym (at_its_index c.self.inside.stepper.nfa c.args.start c.args.look_behind _ index_is) ∙ e);
+      starts = starts-set _ c.self.inside.table _ _ c.self.invariant.starts (λ v e. rw state_is at c.in-Some.ensures
+          ∙ sym (at_its_index _ c.args.start c.args.look_behind _ index_is) ∙ e);
     }

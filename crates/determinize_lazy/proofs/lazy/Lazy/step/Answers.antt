@@ -8,6 +8,3 @@ returns-in-Some g c =
     let inside = rw (← c.self.view_is, c.in-Cached.is) at c.requires.cursor in
     rw (← c.self.view_is, c.in-Cached.is) (stepped_at _ _ c.args.unit c.in-Some.next (lazy-sound c.self.invariant refl)
     (c.in-Some.ensures _ (slice_get-get_or c.self.inside.table.states c.in-Cached.id dead inside)))
-
-pub compute-requires-in-Uncached-clause-uncached : goal.compute-requires-in-Uncached-clause-uncached
-compute-requires-in-Uncached-clause-uncached g c = λ id e. absurd (let no : ⊥ = (cc) in no)

@@ -1,12 +1,12 @@
-use Rattle.determinize_lazy.proofs.Common.{cache, cursor_value, future, Grows, IsCursor, IsReached, length, take}
-use Rattle.determinize_lazy.proofs.Common.{units, ◌+◌, ◌-◌, ◌≡◌}
+use Rattle.determinize_lazy.proofs.Common.{AllResolve, cache, cursor_value, drop, Grows, IsCursor, IsWalking, length}
+use Rattle.determinize_lazy.proofs.Common.{units, ◌+◌, ◌-◌}
 use Rattle.determinize_lazy.proofs.lazy.Lazy.walk_from.Given as goal
 
 abbrev pub invariant-loop-read : goal.invariant-loop-read
 invariant-loop-read g l = record {
-  values : l.states.items ≡ future l.fn.self.nfa l.fn.self.kind l.fn.first (take l.read (units l.text));
-  reached : IsReached (cache l.fn.self) l.fn.first (units l.text) l.read (cursor_value l.self.states l.cursor)
-      (cache l.self);
+  walking : IsWalking (cache l.fn.self) l.fn.first (units l.text) l.states.items (cache l.self)
+      (cursor_value l.self.states l.cursor) (drop l.read (units l.text));
+  resolve : AllResolve l.self.nfa (cursor_value l.self.states l.cursor).states;
   cursor : IsCursor l.self.states l.cursor;
   grows : Grows (cache l.fn.self) (cache l.self);
 }
