@@ -38,10 +38,10 @@ pub use Rattle.determinize_lazy.specs.Private.Invariant.{IsLazy}
 pub use Rattle.determinize_table.specs.Rows.{AreRows, IsEmpty, IsStored, IsTarget, Leads, StartsStay}
 pub use Rattle.determinize_table.specs.Rows.{StoredTable, table_of, with_state}
 pub use Rattle.determinize_table.specs.Changes.{IsInterned, IsKept}
-pub use Rattle.determinize_lazy.specs.Private.Searched.{cached_place, Fails, first_place, GoesOn, HasStopped}
-pub use Rattle.determinize_lazy.specs.Private.Searched.{IsCachedPosition, IsOver, IsPosition, IsReached, last_left}
-pub use Rattle.determinize_lazy.specs.Private.Searched.{Leaves, LeavesText, next_place, Place, place, reported}
-pub use Rattle.determinize_lazy.specs.Private.Searched.{units_left}
+pub use Rattle.determinize_lazy.specs.Private.Searched.{cached_place, GoesTo, GoesToCached, HasStopped}
+pub use Rattle.determinize_lazy.specs.Private.Searched.{IsCachedPosition, Fails}
+pub use Rattle.determinize_lazy.specs.Private.Searched.{IsFailed, IsNext, IsOver, IsOverText, IsPosition, IsReached}
+pub use Rattle.determinize_lazy.specs.Private.Searched.{IsSearched, next_place, Place, place, reported, units_ahead}
 pub use Rattle.determinize_lazy.specs.Private.Starts.{AreStarts, start_index}
 pub use Rattle.determinize_lazy.specs.Private.Steps.{IsFailedStep, IsSound, IsStepped}
 pub use Rattle.determinize_table.specs.Tags.{is_last_tag, match_of, match_reported, Tag, tag_in, tag_of}

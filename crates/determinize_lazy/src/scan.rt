@@ -23,10 +23,10 @@ ghost use Rattle.determinize_below.specs.declared.search.MatchKind.{MatchKind as
 
 use crate::lazy::Lazy;
 use crate::search::Position;
-use determinize_table::Cursor;
 use determinize_below::{HalfMatch, StateID};
 use determinize_core::state::State;
 use determinize_engine::text::Text;
+use determinize_table::Cursor;
 use std::alloc::{AllocError, Allocator, Global};
 use std::marker::Model;
 
@@ -126,12 +126,6 @@ impl<'n, N: Allocator, A: Allocator + Copy> Lazy<'n, N, A> {
 
     /// Returns a search that has read the first piece of its text, as `scan` and then `feed` would.
     /// If the id of its start state is kept, as for `search`, nothing is computed to begin it.
-    ///
-    /// - `start` is the id of the NFA state to start from, below the number of states.
-    /// - `look_behind` is the byte just before the text, if any.
-    ///
-    /// Returns `AllocError` if an allocation fails, or if more than 16647160 states would be
-    /// cached.
     pub fn scan_text(
         &mut self,
         start: StateID,
@@ -186,9 +180,8 @@ impl<'n, N: Allocator, A: Allocator + Copy> Lazy<'n, N, A> {
     /// The ids in the state of the scan must be states of the NFA, as they are if the scan was
     /// begun with it. The match is that of one search if the match kind is the same, too.
     ///
-    /// Returns `AllocError` if an allocation fails, if more than 16647160 states would be cached,
-    /// or if the pieces have more than `usize::MAX` bytes together. The scan is unchanged then, and
-    /// the piece may be fed again.
+    /// Returns `AllocError` also if the pieces have more than `usize::MAX` bytes together. After an
+    /// error the scan is unchanged, and the piece may be fed again.
     pub fn feed(&mut self, scan: &mut Scan<A>, piece: &[u8]) -> Result<(), AllocError>
         requires { AllResolve self.old.nfa scan.old.state.states }
         ensures fed { (start : ℕ) (behind : Option ℕ) (bytes : List ℕ)
@@ -219,9 +212,6 @@ impl<'n, N: Allocator, A: Allocator + Copy> Lazy<'n, N, A> {
     /// - `look_ahead` is the byte just after the text, or `None` if the input ends there.
     ///
     /// The scan must be one for this NFA and match kind, as for `feed`.
-    ///
-    /// Returns `AllocError` if an allocation fails, or if more than 16647160 states would be
-    /// cached.
     pub fn finish(
         &mut self,
         scan: &Scan<A>,

@@ -1,6 +1,6 @@
-use Rattle.determinize_lazy.proofs.Common.{ap, arith, cache, future, IfSome}
-use Rattle.determinize_lazy.proofs.Common.{last_match, length, length-map, map, option_map, option_or, rules, Some}
-use Rattle.determinize_lazy.proofs.Common.{subst, sym, Value, ◌+◌, ◌<◌, ◌∙◌, ◌≡◌, ◌≤◌}
+use Rattle.determinize_lazy.proofs.Common.{ap, arith, cache, future, IfSome, last_match, length, length-map, map}
+use Rattle.determinize_lazy.proofs.Common.{option_map, option_or, rules, Some, subst, sym, Value, ◌+◌, ◌<◌, ◌∙◌, ◌≡◌}
+use Rattle.determinize_lazy.proofs.Common.{◌≤◌}
 use Rattle.determinize_lazy.specs.Private.Scanned.{IsPieceRead}
 use Rattle.determinize_engine.specs.Private.Later.{later_by}
 use Rattle.determinize_engine.specs.Scans.{Scanned}

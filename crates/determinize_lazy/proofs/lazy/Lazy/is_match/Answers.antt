@@ -1,18 +1,20 @@
-use Rattle.determinize_lazy.proofs.Common.{cache, Decides, HasMatch, subst, sym, ◌∙◌}
-use Rattle.determinize_lazy.proofs.finding.CachedRanges.{decides, first-done, first-found}
+use Rattle.determinize_lazy.proofs.Common.{cache, false, is_done, sym, true, ◌∙◌, ◌≡◌}
+use Rattle.determinize_lazy.specs.CachedSearches.{after_first_match, after_is_match}
+use Rattle.determinize_lazy.proofs.finding.Searching.{decides}
 use Rattle.determinize_lazy.proofs.lazy.Lazy.is_match.Goals as goal
 
 pub returns-then-is_done-clause-after : goal.returns-then-is_done-clause-after
+unfolding after_is_match
 returns-then-is_done-clause-after g c =
-    first-done c.args.input.now (sym c.is_done.ensures ∙ c.if-is_done.true) (cache c.args.self.now)
+    let done : is_done c.args.input.now ≡ true = sym c.is_done.ensures ∙ c.if-is_done.true in rw done
 
 pub returns-clause-accepts : goal.returns-clause-accepts
-returns-clause-accepts g c = λ more.
-    subst (λ b. Decides b (HasMatch c.args.self.now.nfa c.args.input.now)) (sym c.is_some.ensures)
-    (decides (cache c.args.self.now) c.args.input.now more c.search_range.ensures.sound.accepted
-    c.in_ok-search_range.ensures.over)
+returns-clause-accepts g c = λ more. rw c.is_some.ensures
+    (decides (cache c.args.self.now) c.args.input.now c.search_range.ensures.sound.accepted
+    c.in_ok-search_range.ensures.over.last)
 
 pub returns-clause-after : goal.returns-clause-after
+unfolding after_is_match after_first_match
 returns-clause-after g c =
-    first-found (cache c.args.self.now) c.args.input.now (sym c.is_done.ensures ∙ c.if-is_done.false)
-    c.in_ok-search_range.ensures.over
+    let more : is_done c.args.input.now ≡ false = sym c.is_done.ensures ∙ c.if-is_done.false in
+    rw more c.in_ok-search_range.ensures.over.after
