@@ -1,20 +1,19 @@
 -- The names that the proofs of this crate have in common: of std, of the definitions, and of the crates below.
-pub use Rattle.std.proofs.Common.{[], ◌&&◌, ◌*◌, ◌++◌, ◌+◌, ◌-◌, ◌/◌, ◌<◌, ◌||◌, ◌∙◌, ◌∷◌, ◌≡◌, ◌≢◌, ◌≤◌, ◌⊎◌, add-zero}
-pub use Rattle.std.proofs.Common.{ap, arith, Bool, cond, drop, false, get_or, get_or-set_other, get_or-set_same, inl}
-pub use Rattle.std.proofs.Common.{inr, is_some, length, length-append, List, map, None, not, Option, refl, replicate}
+pub use Rattle.std.proofs.Common.{[], ◌&&◌, ◌++◌, ◌+◌, ◌-◌, ◌<◌, ◌||◌, ◌∙◌, ◌∷◌, ◌≡◌, ◌≤◌, ◌⊎◌}
+pub use Rattle.std.proofs.Common.{ap, arith, Bool, cond, drop, false, get_or, inl}
+pub use Rattle.std.proofs.Common.{inr, is_some, length, List, map, None, not, Option, refl}
 pub use Rattle.std.proofs.Common.{rules, Some, subst, suc, sym, take, true, zero, ℕ}
-pub use Rattle.std.proofs.lemmas.List.{append-nil, append_assoc, drop_all, length-map, length-replicate, length-set}
-pub use Rattle.std.proofs.lemmas.List.{length-take-le, length_push, take_all, take_more}
-pub use Rattle.std.proofs.lemmas.Map.Steps.{list_any_congr}
+pub use Rattle.std.proofs.lemmas.List.{append-nil, drop_all, length-map}
+pub use Rattle.std.proofs.lemmas.List.{length-take-le, take_all, take_more}
 pub use Rattle.std.proofs.lemmas.Option.{get_or_from_slice_get, slice_get-get_or, slice_get_within}
 pub use Rattle.std.proofs.lemmas.Map.Views.{list_any-from_Contains}
 pub use Rattle.std.proofs.lemmas.Result.{IfOk-weaker, on_err_weaker, on_ok_weaker}
-pub use Rattle.std.specs.List.{list_any, position_from}
+pub use Rattle.std.specs.List.{list_any}
 pub use Rattle.std.specs.Option.{IfSome, option_or}
-pub use Rattle.std.specs.Prelude.{Contains, Decides, Err, IfOk, nat_eq, nat_le, Ok, OnErr, OnOk, option_map, Result}
-pub use Rattle.std.specs.Prelude.{slice_get, slice_index, slice_index_or, slice_set, ⊤}
+pub use Rattle.std.specs.Prelude.{Decides, Err, IfOk, nat_eq, nat_le, Ok, OnErr, OnOk, option_map, Result}
+pub use Rattle.std.specs.Prelude.{slice_get, slice_index_or, slice_set, ⊤}
 pub use mathlib.Core.Bool.{true≢false}
-pub use Rattle.ordered_reach.proofs.Cases.{by_cases, by_option, by_test}
+pub use Rattle.ordered_reach.proofs.Cases.{by_cases, by_test}
 pub use Rattle.determinize_below.specs.Nfa.{AllResolve, IsAccepted}
 pub use Rattle.determinize_below.specs.Semantics.{between, Nfa, Text}
 pub use Rattle.determinize_below.specs.Search.{Asked, is_done}
@@ -27,7 +26,6 @@ pub use Rattle.determinize_core.specs.Value.{dead, is_nonempty, Value}
 pub use Rattle.determinize_core.specs.LastMatch.{ended_at, last_match}
 pub use Rattle.determinize_core.specs.Equality.{same}
 pub use Rattle.determinize_engine.specs.Searches.{HasMatch, IsSearch, start_for, text_of}
-pub use Rattle.determinize_engine.specs.States.{EachApart}
 pub use Rattle.determinize_lazy.specs.Cache.{after_step, after_walk, Cache, cache, count_after, Grows, IsCutOff}
 pub use Rattle.determinize_table.specs.Table.{fits}
 pub use Rattle.determinize_lazy.specs.Cache.{LazyValue, step_of}
@@ -35,10 +33,10 @@ pub use Rattle.determinize_table.specs.Table.{keep}
 pub use Rattle.determinize_lazy.specs.Plenty.{HasRoom, KeepsAll, missing, with_step, with_walk}
 pub use Rattle.determinize_table.specs.Cursors.{cursor_value, IsAt, IsCursor}
 pub use Rattle.determinize_lazy.specs.Private.Invariant.{IsLazy}
-pub use Rattle.determinize_table.specs.Rows.{AreRows, IsEmpty, IsStored, IsTarget, Leads, StartsStay}
-pub use Rattle.determinize_table.specs.Rows.{StoredTable, table_of, with_state}
-pub use Rattle.determinize_table.specs.Changes.{IsInterned, IsKept}
-pub use Rattle.determinize_lazy.specs.Private.Searched.{cached_place, GoesTo, GoesToCached, HasStopped}
+pub use Rattle.determinize_table.specs.Rows.{IsTarget, StartsStay}
+pub use Rattle.determinize_table.specs.Rows.{StoredTable, table_of}
+pub use Rattle.determinize_table.specs.Changes.{IsKept}
+pub use Rattle.determinize_lazy.specs.Private.Searched.{cached_place, GoesTo, GoesToCached}
 pub use Rattle.determinize_lazy.specs.Private.Searched.{IsCachedPosition, Fails}
 pub use Rattle.determinize_lazy.specs.Private.Searched.{IsFailed, IsNext, IsOver, IsOverText, IsPosition, IsReached}
 pub use Rattle.determinize_lazy.specs.Private.Searched.{IsSearched, next_place, Place, place, reported, units_ahead}
@@ -46,6 +44,5 @@ pub use Rattle.determinize_lazy.specs.Private.Starts.{AreStarts, start_index}
 pub use Rattle.determinize_lazy.specs.Private.Steps.{IsFailedStep, IsSound, IsStepped}
 pub use Rattle.determinize_table.specs.Tags.{is_last_tag, match_of, match_reported, Tag, tag_in, tag_of}
 pub use Rattle.determinize_engine.specs.UnitsRead.{is_last, units_read}
-pub use Rattle.determinize_table.specs.Stored.{column, entry_at, is_unit, state_at, table_in, target_in}
-pub use Rattle.determinize_table.specs.Table.{empty, index_in, is_cached, IsTable, same_unit, Table, with_target}
+pub use Rattle.determinize_table.specs.Table.{empty, is_cached, IsTable, Table}
 pub use Rattle.determinize_table.specs.Table.{with_transition, with_value, with_values}

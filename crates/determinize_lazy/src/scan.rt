@@ -14,7 +14,7 @@ ghost use Rattle.determinize_core.specs.Step.{start_value};
 ghost use Rattle.determinize_core.specs.Value.{is_nonempty};
 ghost use Rattle.determinize_lazy.specs.Cache.{Grows, IsCutOff, after_step, after_walk, cache};
 ghost use Rattle.determinize_table.specs.Cursors.{IsCursor, cursor_value};
-ghost use Rattle.determinize_lazy.specs.Private.Scanned.{IsPieceRead};
+ghost use Rattle.determinize_lazy.specs.Private.Searched.{IsPieceRead};
 ghost use Rattle.determinize_engine.specs.Private.Later.{later_by};
 ghost use Rattle.determinize_engine.specs.Scans.{IsScan, IsSettled};
 ghost use Rattle.determinize_lazy.specs.CachedSearches.{units_begun, units_fed, units_last};

@@ -6,12 +6,11 @@ use Rattle.determinize_lazy.proofs.Common.{is_last_tag, is_nonempty, is_some, Is
 use Rattle.determinize_lazy.proofs.Common.{IsFailed, IsFailedStep, IsLazy, IsNext, IsOver, IsOverText, IsPosition}
 use Rattle.determinize_lazy.proofs.Common.{IsReached, IsSearch, IsSearched, IsTarget, last_match, LazyValue, length}
 use Rattle.determinize_lazy.proofs.Common.{length-map, length-take-le, List, map, match_of, match_reported, MatchKind}
-use Rattle.determinize_lazy.proofs.Common.{next_place, Nfa, None, not, Ok, Option, option_or, place, Place, refl}
-use Rattle.determinize_lazy.proofs.Common.{reported, Result, slice_get, slice_get-get_or, slice_get_within}
-use Rattle.determinize_lazy.proofs.Common.{slice_index_or, Some, start_for, start_value, step_of, StoredTable, subst}
-use Rattle.determinize_lazy.proofs.Common.{suc, sym, table_of, Tag, tag_in, tag_of, take, Text, text_of, true}
-use Rattle.determinize_lazy.proofs.Common.{true≢false, units, units_ahead, units_read, Value, zero, ℕ, ◌&&◌, ◌+◌, ◌||◌}
-use Rattle.determinize_lazy.proofs.Common.{◌∙◌, ◌∷◌, ◌≡◌, ◌≤◌, ◌⊎◌}
+use Rattle.determinize_lazy.proofs.Common.{next_place, Nfa, None, Ok, Option, option_or, place, Place, refl, reported}
+use Rattle.determinize_lazy.proofs.Common.{Result, slice_get, slice_get-get_or, slice_get_within, slice_index_or, Some}
+use Rattle.determinize_lazy.proofs.Common.{start_for, start_value, step_of, StoredTable, subst, suc, sym, table_of}
+use Rattle.determinize_lazy.proofs.Common.{tag_in, tag_of, take, Text, text_of, true, true≢false, units, units_ahead}
+use Rattle.determinize_lazy.proofs.Common.{units_read, Value, zero, ℕ, ◌+◌, ◌∙◌, ◌∷◌, ◌≡◌, ◌≤◌, ◌⊎◌}
 use Rattle.std.proofs.Common.{add-one}
 use Rattle.std.proofs.lemmas.List.{take-append-drop}
 use Rattle.determinize_core.proofs.walk.LastMatches.{last_match-push}
@@ -35,13 +34,7 @@ use Rattle.determinize_lazy.proofs.steps.Cursors.{cached_step, cached_target}
 -- what the tag of a value says: whether a search ends there
 pub tag-last : (earliest : Bool) (bits : ℕ) (v : Value) {test answer : Bool} → tag_in bits ≡ tag_of v
     → test ≡ is_last_tag earliest (tag_in bits) → test ≡ answer → is_last earliest v ≡ answer
-tag-last earliest bits v tag told is =
-    sym (ap (λ t. is_last_tag earliest t) tag ∙ ap (λ b. (earliest && b) || not (is_nonempty v.states))
-    (first_of v.patterns)) ∙ sym told ∙ is
-  where
-    first_of : (patterns : List ℕ) → is_some (slice_get patterns 0) ≡ is_nonempty patterns
-    first_of [] = refl
-    first_of (p ∷ ps) = refl
+tag-last earliest bits v tag told is = grind (arith, tag, told, is)
 
 -- a value that is entered after n + 1 units reports what it lists
 reported-next : (n : ℕ) (patterns : List ℕ) → match_reported (n + 1) (slice_get patterns 0) ≡ ended_at n patterns
@@ -245,8 +238,7 @@ next-cached {nfa} {kind} {limit} {count} {t} is view at position u id looked bit
               unmatched = λ e. absurd (omega arith);
             };
             read = refl;
-            place = next-place (cached_place x at) u w.value (found p.unmatched
-                ∙ ap (λ (k : Tag). option_or (match_reported at.read k.pattern) (match_of at.last)) (tagged v there))
+            place = next-place (cached_place x at) u w.value (let last_is = found p.unmatched in cc (tagged v there))
                 (cached_step (cache x) v u id is.table (looked v there));
             grows = record { nfa = refl; kind = refl; limit = refl; computed = omega arith };
           },

@@ -1,5 +1,5 @@
 -- How far a walk or a search has come, and what a search finds and leaves.
-use Rattle.std.specs.Prelude.{◌≡◌, ℕ, ◌+◌, ◌≤◌, ◌⊎◌, Bool, true, Option, Some, None, List, drop}
+use Rattle.std.specs.Prelude.{◌≡◌, ℕ, ◌+◌, ◌≤◌, ◌⊎◌, Bool, true, false, Option, Some, None, List, drop}
 use Rattle.std.specs.Prelude.{length, map, slice_get, take, IfOk, OnErr, OnOk, Result}
 use Rattle.std.specs.Option.{option_or}
 use Rattle.determinize_below.specs.Nfa.{AllResolve}
@@ -11,6 +11,7 @@ use Rattle.determinize_core.specs.Step.{start_value}
 use Rattle.determinize_core.specs.Value.{Value}
 use Rattle.determinize_lazy.specs.Cache.{Cache, Grows, IsCutOff, LazyValue, after_step, after_walk}
 use Rattle.determinize_lazy.specs.Cache.{cache, step_of}
+use Rattle.determinize_engine.specs.Scans.{Scanned}
 use Rattle.determinize_engine.specs.UnitsRead.{is_last, units_read}
 use Rattle.determinize_table.specs.Cursors.{IsCursor, cursor_value}
 use Rattle.determinize_table.specs.Tags.{match_of, match_reported, tag_of}
@@ -152,3 +153,13 @@ GoesToCached earliest text p c at = GoesTo {A = Unit {0}} earliest text p c (wit
 -- a search that reads no more of n units: it has read them all, or it ends at the value
 abbrev pub HasStopped : Bool → ℕ → Place → Type 0
 HasStopped earliest n p = (n ≤ p.read) ⊎ (is_last earliest p.value ≡ true)
+
+-- the search of a piece from a value: the value after what a search reads of it, its last match,
+-- its length, and the cache
+pub record IsPieceRead (old : Cache) (first : Value) (piece : List ℕ) (s : Scanned) (new : Cache)
+    : Type 0 where
+  pub state : s.state
+      ≡ value_after old.nfa old.kind first (units_ahead false old first (map Some piece))
+  pub last : s.last ≡ last_match (future old.nfa old.kind first (map Some piece))
+  pub read : s.read ≡ length piece
+  pub after : new ≡ after_walk old first (units_ahead false old first (map Some piece))

@@ -1,5 +1,4 @@
-use Rattle.determinize_lazy.proofs.Common.{cache, false, is_done, IsSearch, rules, start_for, sym, text_of, true, ◌∙◌}
-use Rattle.determinize_lazy.proofs.Common.{◌≡◌}
+use Rattle.determinize_lazy.proofs.Common.{cache, false, is_done, IsSearch, rules, start_for, sym, text_of, ◌∙◌, ◌≡◌}
 use Rattle.determinize_engine.proofs.Ranges.{is-answer, IsAnswer, last-done, offset-within}
 use Rattle.determinize_lazy.specs.CachedSearches.{after_input, after_search}
 use Rattle.determinize_lazy.proofs.finding.Searching.{search-is}
@@ -10,11 +9,6 @@ use Rattle.determinize_lazy.proofs.lazy.Lazy.search_input.Goals as goal
 
 pub returns-then-is_done-clause-last : goal.returns-then-is_done-clause-last
 returns-then-is_done-clause-last g c = last-done c.args.input.now (sym c.is_done.ensures ∙ c.if-is_done.true) _ _
-
-pub returns-then-is_done-clause-after : goal.returns-then-is_done-clause-after
-unfolding after_input
-returns-then-is_done-clause-after g c =
-    let done : is_done c.args.input.now ≡ true = sym c.is_done.ensures ∙ c.if-is_done.true in rw done
 
 -- the search of the text
 answer : (g : Over) (c : In_ok-found g) → IsSearch c.args.self.now.nfa c.args.self.now.kind
