@@ -2,9 +2,7 @@
 //!
 //! A [`Scan`] owns a copy of the state where it is and the last match so far, so that it does not
 //! depend on what the cache is used for between two pieces. For each piece `feed` looks up the id
-//! of that state in the cache, and copies the state at the end of the piece. The first piece of
-//! `scan_text` needs no lookup if the id of the start state is kept. The bytes of a piece are read
-//! by `search_bytes` of `search`.
+//! of that state in the cache, and copies the state at the end of the piece.
 
 ghost use Rattle.std.specs.Prelude.{◌≡◌, ◌+◌, ◌++◌, ◌<◌, ◌≤◌, ℕ, [], List, Option, length, map, not, option_map, true, IfOk, OnErr, OnOk, None, Some};
 ghost use Rattle.std.specs.Option.{IfSome, option_or};
@@ -33,8 +31,7 @@ use std::marker::Model;
 /// A search under way, of a text that comes in pieces: `Lazy::scan` begins it, `Lazy::feed` reads
 /// the next piece, and `Lazy::finish` returns the match.
 ///
-/// It may be fed through any cache of the same NFA and match kind, regardless of the other uses of
-/// that cache in between.
+/// It may be fed through any cache of the same NFA and match kind.
 #[derive(Drop)]
 pub struct Scan<A: Allocator = Global> {
     state: State<A>,

@@ -362,9 +362,9 @@ impl<'n, N: Allocator, A: Allocator + Copy> Lazy<'n, N, A> {
     /// search for one pattern only, give the pattern a start state in the NFA, and call `search`
     /// with the id of that state.
     ///
-    /// A match is within the range. The bytes just before and after the range are only peeked at,
-    /// by assertions, but the byte ahead is a unit that may be computed and cached as any other. If
-    /// the range starts past its end, nothing is read and the result is `Ok(None)`.
+    /// The bytes just before and after the range are only peeked at, by assertions, but the byte
+    /// ahead is a unit that may be computed and cached as any other. If the range starts past its
+    /// end, nothing is read and the result is `Ok(None)`.
     #[tactic(auto, unfolding(crate::specs::CachedSearches::after_input, crate::specs::CachedSearches::after_search))]
     pub fn search_input(&mut self, input: &Input<'_>) -> Result<Option<HalfMatch>, AllocError>
         requires { has_start input.now.anchored ≡ true }

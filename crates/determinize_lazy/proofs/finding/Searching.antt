@@ -3,14 +3,14 @@ use Rattle.determinize_lazy.proofs.Common.{[], after_step, ap, append-nil, arith
 use Rattle.determinize_lazy.proofs.Common.{cached_place, cursor_value, dead, Decides, drop, drop_all, ended_at, Err}
 use Rattle.determinize_lazy.proofs.Common.{false, future, GoesTo, Grows, HalfMatch, HasMatch, inl, inr, is_last}
 use Rattle.determinize_lazy.proofs.Common.{is_last_tag, is_nonempty, is_some, IsAccepted, IsAt, IsCachedPosition}
-use Rattle.determinize_lazy.proofs.Common.{IsFailed, IsFailedStep, IsLazy, IsNext, IsOver, IsOverText, IsPosition}
-use Rattle.determinize_lazy.proofs.Common.{IsReached, IsSearch, IsSearched, IsTarget, last_match, LazyValue, length}
-use Rattle.determinize_lazy.proofs.Common.{length-map, length-take-le, List, map, match_of, match_reported, MatchKind}
-use Rattle.determinize_lazy.proofs.Common.{next_place, Nfa, None, Ok, Option, option_or, place, Place, refl, reported}
-use Rattle.determinize_lazy.proofs.Common.{Result, slice_get, slice_get-get_or, slice_get_within, slice_index_or, Some}
-use Rattle.determinize_lazy.proofs.Common.{start_for, start_value, step_of, StoredTable, subst, suc, sym, table_of}
-use Rattle.determinize_lazy.proofs.Common.{tag_in, tag_of, take, Text, text_of, true, true≢false, units, units_ahead}
-use Rattle.determinize_lazy.proofs.Common.{units_read, Value, zero, ℕ, ◌+◌, ◌∙◌, ◌∷◌, ◌≡◌, ◌≤◌, ◌⊎◌}
+use Rattle.determinize_lazy.proofs.Common.{IsFailed, IsFailedStep, IsNext, IsOver, IsOverText, IsPosition}
+use Rattle.determinize_lazy.proofs.Common.{IsReached, IsSearch, IsSearched, IsSound, IsTarget, last_match, LazyValue}
+use Rattle.determinize_lazy.proofs.Common.{length, length-map, length-take-le, List, map, match_of, match_reported}
+use Rattle.determinize_lazy.proofs.Common.{MatchKind, next_place, Nfa, None, Ok, Option, option_or, place, Place, refl}
+use Rattle.determinize_lazy.proofs.Common.{reported, Result, slice_get, slice_get-get_or, slice_get_within}
+use Rattle.determinize_lazy.proofs.Common.{slice_index_or, Some, start_for, start_value, step_of, subst}
+use Rattle.determinize_lazy.proofs.Common.{suc, sym, tag_in, tag_of, take, Text, text_of, true, true≢false}
+use Rattle.determinize_lazy.proofs.Common.{units, units_ahead, units_read, Value, zero, ℕ, ◌+◌, ◌∙◌, ◌∷◌, ◌≡◌, ◌≤◌, ◌⊎◌}
 use Rattle.std.proofs.Common.{add-one}
 use Rattle.std.proofs.lemmas.List.{take-append-drop}
 use Rattle.determinize_core.proofs.walk.LastMatches.{last_match-push}
@@ -204,45 +204,32 @@ module _ (nfa : Nfa) (kind : MatchKind) where
       (some_from-read us 0 None v (λ some. absurd (true≢false (sym some ∙ ap is_nonempty none))))
 
 -- from what a lookup, the tag and the last match say
-pub next-cached : {nfa : Nfa} {kind : MatchKind} {limit count : ℕ} {t : StoredTable} {x : LazyValue}
-    → IsLazy nfa kind limit count t
-    → record { nfa = nfa; kind = kind; limit = limit; states = t.states; rows = t.rows; computed = count } ≡ x
-    → (at : CachedPosition) → IsCachedPosition x at → (u : Option ℕ) (id : ℕ)
-    → ((v : Value) → slice_get t.states at.id ≡ Some v → IsTarget (table_of t) v u (Some id))
-    → (bits : ℕ) → ((v : Value) → slice_get t.states at.id ≡ Some v → tag_in bits ≡ tag_of v)
+pub next-cached : (x : LazyValue) → IsSound (cache x) → (at : CachedPosition) → IsCachedPosition x at → (u : Option ℕ)
+    (id : ℕ) → ((v : Value) → slice_get x.states at.id ≡ Some v → IsTarget (cache x).table v u (Some id))
+    → (bits : ℕ) → ((v : Value) → slice_get x.states at.id ≡ Some v → tag_in bits ≡ tag_of v)
     → (earliest : Bool) {test : Bool} → test ≡ is_last_tag earliest (tag_in bits) → test ≡ false
     → (last : LastMatch) → ((at.read ≡ 0 → match_of at.last ≡ None)
     → match_of last ≡ option_or (match_reported at.read (tag_in bits).pattern) (match_of at.last))
     → (is_last earliest (cached_place x at).value ≡ false) × IsNext {A = Unit {0}} (cached_place x at) u x
     (with_cursor (record { id = id; read = at.read + 1; last = last }))
-next-cached {nfa} {kind} {limit} {count} {t} is view at position u id looked bits tagged earliest told more last found =
-    rw (← view) (from (rw (← view) at position))
-  where
-    x : LazyValue
-    x = record { nfa = nfa; kind = kind; limit = limit; states = t.states; rows = t.rows; computed = count }
-
-    v : Value
-    v = slice_index_or t.states at.id dead
-
-    from : IsCachedPosition x at → (is_last earliest v ≡ false) × IsNext {A = Unit {0}} (cached_place x at) u x
-        (with_cursor (record { id = id; read = at.read + 1; last = last }))
-    from p =
-        let there : slice_get t.states at.id ≡ Some v = slice_get-get_or t.states at.id dead p.cursor in
-        let w : IsAt {A = Unit {0}} t.states (Cached id) (step nfa kind v u) =
-        cached_target (cache x) v u id is.table (looked v there) in (
-          tag-last earliest bits v (tagged v there) told more,
-          record {
-            position = record {
-              cursor = w.cursor_is;
-              resolve = rw w.value (step_resolves nfa is.accepted kind v u);
-              unmatched = λ e. absurd (omega arith);
-            };
-            read = refl;
-            place = next-place (cached_place x at) u w.value (let last_is = found p.unmatched in cc (tagged v there))
-                (cached_step (cache x) v u id is.table (looked v there));
-            grows = record { nfa = refl; kind = refl; limit = refl; computed = omega arith };
-          },
-        )
+next-cached x is at position u id looked bits tagged earliest told more last found =
+    let v : Value = slice_index_or x.states at.id dead in
+    let there : slice_get x.states at.id ≡ Some v = slice_get-get_or x.states at.id dead position.cursor in
+    let w : IsAt {A = Unit {0}} x.states (Cached id) (step x.nfa x.kind v u) =
+    cached_target (cache x) v u id is.table (looked v there) in (
+      tag-last earliest bits v (tagged v there) told more,
+      record {
+        position = record {
+          cursor = w.cursor_is;
+          resolve = rw w.value (step_resolves x.nfa is.accepted x.kind v u);
+          unmatched = λ e. absurd (omega arith);
+        };
+        read = refl;
+        place = next-place (cached_place x at) u w.value (let last_is = found position.unmatched in
+            cc (tagged v there)) (cached_step (cache x) v u id is.table (looked v there));
+        grows = record { nfa = refl; kind = refl; limit = refl; computed = omega arith };
+      },
+    )
 
 -- the last match of what the search reads, from an NFA state over a text
 abbrev pub last_of : Bool → Cache → ℕ → Text → Option HalfMatch

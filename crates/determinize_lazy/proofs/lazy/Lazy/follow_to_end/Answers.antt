@@ -3,6 +3,7 @@ use Rattle.determinize_lazy.proofs.Common.{length, rules, slice_get, slice_get_w
 use Rattle.determinize_lazy.proofs.Common.{◌≡◌}
 use Rattle.determinize_engine.proofs.Texts.{unit-here, unit-last}
 use Rattle.determinize_lazy.proofs.finding.Searching.{next-cached, searched-next, searched-none}
+use Rattle.determinize_lazy.proofs.steps.Rule.{lazy-sound}
 use Rattle.determinize_lazy.proofs.lazy.Lazy.follow_to_end.Given.{Over}
 use Rattle.determinize_lazy.proofs.lazy.Lazy.follow_to_end.Goals.{After-follow-at}
 use Rattle.determinize_lazy.proofs.lazy.Lazy.follow_to_end.Goals as goal
@@ -33,9 +34,10 @@ returns-in_default-2-clause-searched g c = bytes g (goal.at.returns-in_default-2
 -- the step over the unit ahead
 pub returns-in-Some : goal.returns-in-Some
 returns-in-Some g c =
-    let (more, next) = next-cached c.self.invariant c.self.view_is c.follow-at.result c.follow-at.ensures.position
-    c.ahead.result c.in-Some.id c.in-Some.ensures c.tag-tag.result.bits c.tag-tag.ensures c.args.earliest
-    c.is_last.ensures c.if-not-is_last.true c.or_match.result c.or_match.ensures in
+    let (more, next) = next-cached c.args.self.now (lazy-sound c.self.invariant c.self.view_is) c.follow-at.result
+    c.follow-at.ensures.position c.ahead.result c.in-Some.id (rw (← c.self.view_is) c.in-Some.ensures)
+    c.tag-tag.result.bits (rw (← c.self.view_is) c.tag-tag.ensures) c.args.earliest c.is_last.ensures
+    c.if-not-is_last.true c.or_match.result c.or_match.ensures in
     let all : c.follow-at.result.read ≡ length c.args.text.now.bytes =
     omega (arith, c.if-at-len.false, c.follow-at.ensures.within, c.len.ensures.value) in record {
       position = next.position;
