@@ -3,15 +3,13 @@ pub use Rattle.std.proofs.Common.{[], ◌&&◌, ◌++◌, ◌+◌, ◌-◌, ◌<
 pub use Rattle.std.proofs.Common.{ap, arith, Bool, cond, drop, false, get_or, inl}
 pub use Rattle.std.proofs.Common.{inr, is_some, length, List, map, None, not, Option, refl}
 pub use Rattle.std.proofs.Common.{rules, Some, subst, suc, sym, take, true, zero, ℕ}
-pub use Rattle.std.proofs.lemmas.List.{append-nil, append_assoc, drop_all, length-map}
-pub use Rattle.std.proofs.lemmas.List.{take_all}
+pub use Rattle.std.proofs.lemmas.List.{append-nil, append_assoc, drop_all, length-map, take_all, length-take-le, take_more}
 pub use Rattle.std.proofs.lemmas.Option.{get_or_from_slice_get, slice_get-get_or, slice_get_within}
 pub use Rattle.std.proofs.lemmas.Map.Views.{list_any-from_Contains}
 pub use Rattle.std.proofs.lemmas.Result.{IfOk-weaker, on_err_weaker, on_ok_weaker}
 pub use Rattle.std.specs.List.{list_any}
 pub use Rattle.std.specs.Option.{IfSome, option_or}
-pub use Rattle.std.specs.Prelude.{Decides, Err, IfOk, nat_eq, Ok, OnErr, OnOk, option_map, Result}
-pub use Rattle.std.specs.Prelude.{slice_get, slice_index_or, slice_set}
+pub use Rattle.std.specs.Prelude.{Decides, Err, IfOk, nat_eq, Ok, OnErr, OnOk, option_map, Result, slice_get, slice_index_or, slice_set, nat_le, ⊤}
 pub use mathlib.Core.Bool.{true≢false}
 pub use Rattle.ordered_reach.proofs.Cases.{by_cases, by_test}
 pub use Rattle.determinize_below.specs.Nfa.{AllResolve, IsAccepted}
@@ -36,10 +34,10 @@ pub use Rattle.determinize_lazy.specs.Private.Invariant.{IsLazy}
 pub use Rattle.determinize_table.specs.Rows.{IsTarget, StartsStay}
 pub use Rattle.determinize_table.specs.Rows.{StoredTable, table_of}
 pub use Rattle.determinize_table.specs.Changes.{IsKept}
-pub use Rattle.determinize_lazy.specs.Private.Searched.{cached_place, Fails, first_place, GoesOn, HasStopped}
-pub use Rattle.determinize_lazy.specs.Private.Searched.{IsCachedPosition, IsOver, IsPosition, last_left}
-pub use Rattle.determinize_lazy.specs.Private.Searched.{Leaves, LeavesText, next_place, Place, place, reported}
-pub use Rattle.determinize_lazy.specs.Private.Searched.{units_left}
+pub use Rattle.determinize_lazy.specs.Private.Searched.{cached_place, Fails, GoesTo, GoesToCached}
+pub use Rattle.determinize_lazy.specs.Private.Searched.{IsCachedPosition, IsFailed, IsNext, IsOver, IsOverText}
+pub use Rattle.determinize_lazy.specs.Private.Searched.{IsPosition, IsReached, IsSearched, next_place, Place, place}
+pub use Rattle.determinize_lazy.specs.Private.Searched.{reported, units_ahead}
 pub use Rattle.determinize_lazy.specs.Private.Starts.{AreStarts, start_index}
 pub use Rattle.determinize_lazy.specs.Private.Steps.{IsFailedStep, IsSound, IsStepped, IsWalking}
 pub use Rattle.determinize_table.specs.Tags.{is_last_tag, match_of, match_reported, Tag, tag_in, tag_of}

@@ -1,4 +1,3 @@
 -- Searches over the cache: what they find and leave, in a haystack and in pieces.
-pub mod CachedRanges
-pub mod CachedSteps
+mod Reached
 pub mod Searching

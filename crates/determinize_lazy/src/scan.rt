@@ -2,9 +2,7 @@
 //!
 //! A [`Scan`] owns a copy of the state where it is and the last match so far, so that it does not
 //! depend on what the cache is used for between two pieces. For each piece `feed` looks up the id
-//! of that state in the cache, and copies the state at the end of the piece. The first piece of
-//! `scan_text` needs no lookup if the id of the start state is kept. The bytes of a piece are read
-//! by `search_bytes` of `search`.
+//! of that state in the cache, and copies the state at the end of the piece.
 
 ghost use Rattle.std.specs.Prelude.{◌≡◌, ◌+◌, ◌++◌, ◌<◌, ◌≤◌, ℕ, [], List, Option, length, map, not, option_map, true, IfOk, OnErr, OnOk, None, Some};
 ghost use Rattle.std.specs.Option.{IfSome, option_or};
@@ -14,7 +12,7 @@ ghost use Rattle.determinize_core.specs.Step.{start_value};
 ghost use Rattle.determinize_core.specs.Value.{is_nonempty};
 ghost use Rattle.determinize_lazy.specs.Cache.{Grows, IsCutOff, after_step, after_walk, cache};
 ghost use Rattle.determinize_table.specs.Cursors.{IsCursor, cursor_value};
-ghost use Rattle.determinize_lazy.specs.Private.Scanned.{IsPieceRead};
+ghost use Rattle.determinize_lazy.specs.Private.Searched.{IsPieceRead};
 ghost use Rattle.determinize_engine.specs.Private.Later.{later_by};
 ghost use Rattle.determinize_engine.specs.Scans.{IsScan, IsSettled};
 ghost use Rattle.determinize_lazy.specs.CachedSearches.{units_begun, units_fed, units_last};
@@ -33,8 +31,7 @@ use std::marker::Model;
 /// A search under way, of a text that comes in pieces: `Lazy::scan` begins it, `Lazy::feed` reads
 /// the next piece, and `Lazy::finish` returns the match.
 ///
-/// It may be fed through any cache of the same NFA and match kind, regardless of the other uses of
-/// that cache in between.
+/// It may be fed through any cache of the same NFA and match kind.
 #[derive(Drop)]
 pub struct Scan<A: Allocator = Global> {
     state: State<A>,
@@ -126,12 +123,6 @@ impl<'n, N: Allocator, A: Allocator + Copy> Lazy<'n, N, A> {
 
     /// Returns a search that has read the first piece of its text, as `scan` and then `feed` would.
     /// If the id of its start state is kept, as for `search`, nothing is computed to begin it.
-    ///
-    /// - `start` is the id of the NFA state to start from, below the number of states.
-    /// - `look_behind` is the byte just before the text, if any.
-    ///
-    /// Returns `AllocError` if an allocation fails, or if more than 16647160 states would be
-    /// cached.
     pub fn scan_text(
         &mut self,
         start: StateID,
@@ -186,9 +177,8 @@ impl<'n, N: Allocator, A: Allocator + Copy> Lazy<'n, N, A> {
     /// The ids in the state of the scan must be states of the NFA, as they are if the scan was
     /// begun with it. The match is that of one search if the match kind is the same, too.
     ///
-    /// Returns `AllocError` if an allocation fails, if more than 16647160 states would be cached,
-    /// or if the pieces have more than `usize::MAX` bytes together. The scan is unchanged then, and
-    /// the piece may be fed again.
+    /// Returns `AllocError` also if the pieces have more than `usize::MAX` bytes together. After an
+    /// error the scan is unchanged, and the piece may be fed again.
     pub fn feed(&mut self, scan: &mut Scan<A>, piece: &[u8]) -> Result<(), AllocError>
         requires { AllResolve self.old.nfa scan.old.state.states }
         ensures fed { (start : ℕ) (behind : Option ℕ) (bytes : List ℕ)
@@ -219,9 +209,6 @@ impl<'n, N: Allocator, A: Allocator + Copy> Lazy<'n, N, A> {
     /// - `look_ahead` is the byte just after the text, or `None` if the input ends there.
     ///
     /// The scan must be one for this NFA and match kind, as for `feed`.
-    ///
-    /// Returns `AllocError` if an allocation fails, or if more than 16647160 states would be
-    /// cached.
     pub fn finish(
         &mut self,
         scan: &Scan<A>,

@@ -3,27 +3,24 @@
 //! If the id of its start state is kept (`step`), a search begins at that id and follows cached
 //! transitions from row to row. For each byte `follow` reads two numbers in the row of the current
 //! state: the entry of the byte, which is the offset of the next row, and the tag. It neither
-//! allocates nor hashes, and computes no state. It stops at a transition that is not cached, after
-//! the last byte, and at a state at which the search ends. If the search has not ended, and the
-//! transition over the unit ahead is not cached either, `search_from` continues from there: it
-//! takes one step, which is computed if it is not cached, and follows cached transitions again. If
-//! the id of the start state is not kept, that state is computed first (`search_anew`).
+//! allocates nor hashes, and computes no state. Where a transition is not cached, `search_from`
+//! takes one step and follows cached transitions again.
 //!
 //! Matches are delayed by one unit: a state lists the patterns that match before the unit that led
 //! to it. So a search also reads the unit ahead of its text, and a start state is no match state.
 
-ghost use Rattle.std.specs.Prelude.{Decides, ◌≡◌, ◌++◌, ◌+◌, ◌<◌, ◌≤◌, ℕ, false, true, List, [], Option, length, map, slice_get, slice_index_or, IfOk, OnErr, OnOk, Ok, None, Some};
+ghost use Rattle.std.specs.Prelude.{Decides, ◌≡◌, ◌<◌, ◌≤◌, ℕ, Bool, false, true, List, Option, length, slice_get, slice_index_or, IfOk, OnErr, OnOk, Ok, None, Some};
 ghost use Rattle.std.specs.Option.{IfNone, IfSome};
 ghost use Rattle.determinize_below.specs.Nfa.{AllResolve};
-ghost use Rattle.determinize_below.specs.Semantics.{between};
+ghost use Rattle.determinize_below.specs.Semantics.{Text as TextValue, between};
 ghost use Rattle.determinize_below.specs.Search.{is_done};
 ghost use Rattle.determinize_below.specs.declared.search.MatchKind.TheVariants as kinds;
 ghost use Rattle.determinize_core.specs.Chain.{units};
 ghost use Rattle.determinize_core.specs.Step.{start_value};
-ghost use Rattle.determinize_core.specs.Value.{dead};
-ghost use Rattle.determinize_lazy.specs.Cache.{Grows, IsCutOff, LazyValue, cache};
+ghost use Rattle.determinize_core.specs.Value.{Value, dead};
+ghost use Rattle.determinize_lazy.specs.Cache.{Cache, Grows, IsCutOff, LazyValue, cache};
 ghost use Rattle.determinize_table.specs.Cursors.{IsCursor, cursor_value};
-ghost use Rattle.determinize_lazy.specs.Private.Searched.{Fails, GoesOn, HasStopped, IsCachedPosition, IsPosition, Leaves, LeavesText, cached_place, first_place, next_place, place, with_cursor};
+ghost use Rattle.determinize_lazy.specs.Private.Searched.{Fails, GoesTo, GoesToCached, HasStopped, IsCachedPosition, IsNext, IsOver, IsOverText, IsPosition, IsSearched, cached_place, place, with_cursor};
 ghost use Rattle.determinize_lazy.specs.Private.Steps.{IsFailedStep, IsSound};
 ghost use Rattle.determinize_engine.specs.Searches.{HasMatch, IsFarthestIn, IsPreferredIn, IsSearch, has_start, last_in, start_for, text_of};
 ghost use Rattle.determinize_lazy.specs.CachedSearches.{IsCutOffIn, IsPlenty, IsPlentyIn, after_input, after_is_match, after_search, units_searched};
@@ -48,8 +45,10 @@ impl<A: Allocator> Position<A> {
     pub(crate) fn start(cursor: Cursor<A>) -> Position<A>
         ensures position { (c : LazyValue) → IsCursor c.states cursor
             → AllResolve c.nfa (cursor_value c.states cursor).states → IsPosition c result }
-        ensures place { (c : LazyValue) → place c result
-            ≡ first_place (cache c) (cursor_value c.states cursor) }
+        ensures searched { (earliest : Bool) (us : List (Option ℕ)) (c : LazyValue) (v : Value)
+            → cursor_value c.states cursor ≡ v
+            → IsSearched earliest (cache c) v us (place c result) }
+        ensures read { result.read ≡ 0 }
     {
         Position {
             cursor,
@@ -90,11 +89,7 @@ impl<'n, N: Allocator, A: Allocator + Copy> Lazy<'n, N, A> {
     fn follow(&self, from: CachedPosition, text: &Text<'_>, earliest: bool) -> CachedPosition
         requires position { IsCachedPosition self.now from }
         requires read { from.read ≤ length text.now.bytes }
-        ensures position { IsCachedPosition self.now result }
-        ensures forward { from.read ≤ result.read }
-        ensures read { result.read ≤ length text.now.bytes }
-        ensures searched { GoesOn earliest (map Some text.now.bytes) (cached_place self.now from)
-            (cached_place self.now result) }
+        ensures { GoesToCached earliest text.now (cached_place self.now from) self.now result }
     {
         let mut at = from;
         while at.read < text.len() {
@@ -119,12 +114,11 @@ impl<'n, N: Allocator, A: Allocator + Copy> Lazy<'n, N, A> {
     /// search ends.
     #[inline(always)]
     fn follow_to_end(&self, start: LazyStateId, text: &Text<'_>, earliest: bool) -> CachedPosition
-        requires id { start < length self.now.states }
-        requires resolve { AllResolve self.now.nfa
-            (slice_index_or self.now.states start dead).states }
+        requires { (v : Value) × (slice_get self.now.states start ≡ Some v)
+            × AllResolve self.now.nfa v.states }
         ensures position { IsCachedPosition self.now result }
-        ensures searched { GoesOn earliest (units text.now)
-            (first_place (cache self.now) (slice_index_or self.now.states start dead))
+        ensures searched { (v : Value) → slice_get self.now.states start ≡ Some v
+            → IsSearched earliest (cache self.now) v (units text.now)
             (cached_place self.now result) }
     {
         let first = CachedPosition {
@@ -148,7 +142,7 @@ impl<'n, N: Allocator, A: Allocator + Copy> Lazy<'n, N, A> {
         }
     }
 
-    /// Returns the last match of the states up to a position.
+    /// Returns the last match up to and including the state at a position.
     pub(crate) fn found(&self, at: &Position<A>) -> Option<HalfMatch>
         requires { IsPosition self.now at.now }
         ensures { result ≡ (place self.now at.now).last }
@@ -160,10 +154,7 @@ impl<'n, N: Allocator, A: Allocator + Copy> Lazy<'n, N, A> {
     fn advance(&mut self, at: Position<A>, unit: Option<u8>) -> Result<Position<A>, AllocError>
         requires position { IsPosition self.old at }
         requires read { at.read < usize.MAX }
-        ensures position { IfOk result (λ next. IsPosition self.new next) }
-        ensures read { IfOk result (λ next. next.read ≡ at.read + 1) }
-        ensures place { IfOk result
-            (λ next. place self.new next ≡ next_place (place self.old at) unit) }
+        ensures next { IfOk result (λ next. IsNext (place self.old at) unit self.new next) }
         ensures failed { OnErr result (IsFailedStep (cache self.old)
             (cursor_value self.old.states at.cursor) unit (cache self.new)) }
         ensures grows { Grows (cache self.old) (cache self.new) }
@@ -182,11 +173,7 @@ impl<'n, N: Allocator, A: Allocator + Copy> Lazy<'n, N, A> {
     fn run(&self, from: Position<A>, text: &Text<'_>, earliest: bool) -> Position<A>
         requires position { IsPosition self.now from }
         requires read { from.read ≤ length text.now.bytes }
-        ensures position { IsPosition self.now result }
-        ensures forward { from.read ≤ result.read }
-        ensures read { result.read ≤ length text.now.bytes }
-        ensures searched { GoesOn earliest (map Some text.now.bytes) (place self.now from)
-            (place self.now result) }
+        ensures { GoesTo earliest text.now (place self.now from) self.now result }
     {
         let Position { cursor, read, last } = from;
         match cursor {
@@ -204,9 +191,7 @@ impl<'n, N: Allocator, A: Allocator + Copy> Lazy<'n, N, A> {
 
     /// Searches the bytes of a text from a position, without the unit ahead of them. Returns the
     /// position after the last byte, or at the state at which the search ends: a dead state or, if
-    /// `earliest`, a match state.
-    ///
-    /// Not inlined, so that it is compiled once for all callers.
+    /// `earliest`, a match state. Not inlined, so that it is compiled once for all callers.
     #[inline(never)]
     pub(crate) fn search_bytes(
         &mut self,
@@ -216,16 +201,13 @@ impl<'n, N: Allocator, A: Allocator + Copy> Lazy<'n, N, A> {
     ) -> Result<Position<A>, AllocError>
         requires position { IsPosition self.old from }
         requires read { from.read ≤ length text.now.bytes }
-        ensures position { IfOk result (λ at. IsPosition self.new at) }
-        ensures read { IfOk result (λ at. at.read ≤ length text.now.bytes) }
-        ensures searched { IfOk result (λ at. GoesOn earliest (map Some text.now.bytes)
-            (place self.old from) (place self.new at)) }
+        ensures at { IfOk result
+            (λ at. GoesTo earliest text.now (place self.old from) self.new at) }
         ensures stopped { IfOk result
             (λ at. HasStopped earliest (length text.now.bytes) (place self.new at)) }
         ensures limit { IfOk result (λ at. at.read < usize.MAX) }
-        ensures failed { OnErr result ((rest : List (Option ℕ)) → Fails earliest
-            (map Some text.now.bytes ++ rest) (place self.old from) (cache self.new)) }
-        ensures grows { Grows (cache self.old) (cache self.new) }
+        ensures failed { OnErr result
+            (Fails earliest text.now (place self.old from) (cache self.new)) }
     {
         let mut at = from;
         while at.read < text.len() {
@@ -240,8 +222,7 @@ impl<'n, N: Allocator, A: Allocator + Copy> Lazy<'n, N, A> {
     }
 
     /// Searches a text from a position to its end, with the unit ahead. Returns the last match of
-    /// all states of the search, with those before the position. The search ends at a dead state
-    /// or, if `earliest`, at the first match state.
+    /// all states of the search, with those before the position.
     #[cold]
     #[inline(never)]
     pub(crate) fn search_from(
@@ -252,9 +233,9 @@ impl<'n, N: Allocator, A: Allocator + Copy> Lazy<'n, N, A> {
     ) -> Result<Option<HalfMatch>, AllocError>
         requires position { IsPosition self.old from }
         requires read { from.read ≤ length text.now.bytes }
-        ensures over { Leaves earliest (units text.now) (place self.old from) result
-            (cache self.new) }
-        ensures grows { Grows (cache self.old) (cache self.new) }
+        ensures { (t : TextValue) → text.now ≡ t → (old : Cache) (first : Value)
+            → IsSearched earliest old first (units t) (place self.old from)
+            → IsOver earliest old first (units t) result (cache self.new) }
     {
         let at = self.search_bytes(from, text, earliest)?;
         if self.tag_at(&at.cursor).is_last(earliest) {
@@ -274,9 +255,8 @@ impl<'n, N: Allocator, A: Allocator + Copy> Lazy<'n, N, A> {
         earliest: bool,
     ) -> Result<Option<HalfMatch>, AllocError>
         requires { start < length self.old.nfa.states }
-        ensures over { LeavesText earliest (cache self.old) start text.now result
-            (cache self.new) }
-        ensures grows { Grows (cache self.old) (cache self.new) }
+        ensures { (t : TextValue) → text.now ≡ t
+            → IsOverText earliest (cache self.old) start t result (cache self.new) }
     {
         let cursor = self.find_start(start, text.behind())?;
         self.search_from(Position::start(cursor), text, earliest)
@@ -295,10 +275,9 @@ impl<'n, N: Allocator, A: Allocator + Copy> Lazy<'n, N, A> {
         earliest: bool,
     ) -> Result<Option<HalfMatch>, AllocError>
         requires { start < length self.old.nfa.states }
-        ensures over { LeavesText earliest (cache self.old) start text.now result
+        ensures over { IsOverText earliest (cache self.old) start text.now result
             (cache self.new) }
         ensures sound { IsSound (cache self.old) }
-        ensures grows { Grows (cache self.old) (cache self.new) }
     {
         let Some(id) = self.kept_start(start, text.behind()) else {
             // A copy, so that a search that only reads the cache keeps its text in registers.
@@ -324,11 +303,10 @@ impl<'n, N: Allocator, A: Allocator + Copy> Lazy<'n, N, A> {
     ) -> Result<Option<HalfMatch>, AllocError>
         requires start { has_start input.now.anchored ≡ true }
         requires more { is_done input.now ≡ false }
-        ensures over { LeavesText earliest (cache self.old)
+        ensures over { IsOverText earliest (cache self.old)
             (start_for self.old.nfa input.now.anchored) (text_of self.old.nfa.reverse input.now)
             result (cache self.new) }
         ensures sound { IsSound (cache self.old) }
-        ensures grows { Grows (cache self.old) (cache self.new) }
     {
         let start = self.start_for(input.get_anchored());
         let text = Text::of_input(input, self.nfa().is_reverse());
@@ -348,9 +326,6 @@ impl<'n, N: Allocator, A: Allocator + Copy> Lazy<'n, N, A> {
     ///
     /// The text is in reading order: for a reverse NFA from the last byte on. The search stops at a
     /// state that records no NFA states, since no match can follow it.
-    ///
-    /// Returns `AllocError` if an allocation fails, or if more than 16647160 states would be
-    /// cached.
     pub fn search(
         &mut self,
         start: StateID,
@@ -387,12 +362,10 @@ impl<'n, N: Allocator, A: Allocator + Copy> Lazy<'n, N, A> {
     /// search for one pattern only, give the pattern a start state in the NFA, and call `search`
     /// with the id of that state.
     ///
-    /// A match is within the range. The bytes just before and after the range are only peeked at,
-    /// by assertions, but the byte ahead is a unit that may be computed and cached as any other. If
-    /// the range starts past its end, nothing is read and the result is `Ok(None)`.
-    ///
-    /// Returns `AllocError` if an allocation fails, or if more than 16647160 states would be
-    /// cached.
+    /// The bytes just before and after the range are only peeked at, by assertions, but the byte
+    /// ahead is a unit that may be computed and cached as any other. If the range starts past its
+    /// end, nothing is read and the result is `Ok(None)`.
+    #[tactic(auto, unfolding(crate::specs::CachedSearches::after_input, crate::specs::CachedSearches::after_search))]
     pub fn search_input(&mut self, input: &Input<'_>) -> Result<Option<HalfMatch>, AllocError>
         requires { has_start input.now.anchored ≡ true }
         ensures last { IfOk result
@@ -426,9 +399,7 @@ impl<'n, N: Allocator, A: Allocator + Copy> Lazy<'n, N, A> {
     /// Stops at the first match state, and at a state that records no NFA states. Over cached
     /// transitions the cache is only read. If the range starts past its end, nothing is read and
     /// the result is `Ok(false)`. `Anchored::Pattern` is not accepted.
-    ///
-    /// Returns `AllocError` if an allocation fails, or if more than 16647160 states would be
-    /// cached.
+    #[tactic(auto, unfolding(crate::specs::CachedSearches::after_is_match, crate::specs::CachedSearches::after_first_match))]
     pub fn is_match(&mut self, input: &Input<'_>) -> Result<bool, AllocError>
         requires { has_start input.now.anchored ≡ true }
         ensures accepts { is_done input.now ≡ false → IfOk result

@@ -1,22 +1,30 @@
--- How far a search has come, and what a search finds and leaves.
-use Rattle.std.specs.Prelude.{◌≡◌, ℕ, ◌+◌, ◌≤◌, ◌⊎◌, Bool, true, false, Option, Some, None, List}
-use Rattle.std.specs.Prelude.{Result, Ok, Err, drop, is_some, slice_get}
+-- How far a walk or a search has come, and what a search finds and leaves.
+use Rattle.std.specs.Prelude.{◌≡◌, ℕ, ◌+◌, ◌≤◌, ◌⊎◌, Bool, true, false, Option, Some, None, List, drop}
+use Rattle.std.specs.Prelude.{length, map, slice_get, take, IfOk, OnErr, OnOk, Result}
 use Rattle.std.specs.Option.{option_or}
 use Rattle.determinize_below.specs.Nfa.{AllResolve}
 use Rattle.determinize_below.specs.Semantics.{Text}
 use Rattle.determinize_below.specs.declared.search.HalfMatch.{HalfMatch}
-use Rattle.determinize_core.specs.Chain.{units}
+use Rattle.determinize_core.specs.Chain.{future, units, value_after}
+use Rattle.determinize_core.specs.LastMatch.{last_match}
 use Rattle.determinize_core.specs.Step.{start_value}
-use Rattle.determinize_core.specs.Value.{Value, is_nonempty}
-use Rattle.determinize_lazy.specs.Cache.{Cache, IsCutOff, LazyValue, after_step, after_walk, cache}
-use Rattle.determinize_lazy.specs.Cache.{step_of}
+use Rattle.determinize_core.specs.Value.{Value}
+use Rattle.determinize_lazy.specs.Cache.{Cache, Grows, IsCutOff, LazyValue, after_step, after_walk}
+use Rattle.determinize_lazy.specs.Cache.{cache, step_of}
+use Rattle.determinize_engine.specs.Scans.{Scanned}
 use Rattle.determinize_engine.specs.UnitsRead.{is_last, units_read}
 use Rattle.determinize_table.specs.Cursors.{IsCursor, cursor_value}
-use Rattle.determinize_engine.specs.Private.Later.{last_from}
 use Rattle.determinize_table.specs.Tags.{match_of, match_reported, tag_of}
 use Rattle.determinize_lazy.specs.declared.search.CachedPosition.{CachedPosition}
 use Rattle.determinize_lazy.specs.declared.search.Position.{Position}
 use Rattle.determinize_table.specs.declared.table.Cursor.TheVariants.{Cached}
+
+-- a walk from a value over units, of which it has read some: the value where it is, and the cache
+pub record IsReached (old : Cache) (first : Value) (us : List (Option ℕ)) (read : ℕ) (v : Value)
+    (new : Cache) : Type 0
+  where
+    pub end : v ≡ value_after old.nfa old.kind first (take read us)
+    pub after : new ≡ after_walk old first (take read us)
 
 -- the match that a value reports which is entered after n units
 abbrev pub reported : ℕ → Value → Option HalfMatch
@@ -71,46 +79,87 @@ next_place p u = record {
   cache = after_step p.cache p.value u;
 }
 
--- a search over units continues from one place to another: it does not end before that
-pub data GoesOn (earliest : Bool) (us : List (Option ℕ)) (p : Place) : Place → Type 0 where
-  here : GoesOn earliest us p p
-  over : (q r : Place) (u : Option ℕ) → GoesOn earliest us p q → slice_get us q.read ≡ Some u
-      → is_last earliest q.value ≡ false → r ≡ next_place q u → GoesOn earliest us p r
+-- a step over a unit from a place to a position
+pub record IsNext {A : Type 0} (p : Place) (u : Option ℕ) (c : LazyValue) (at : Position A) : Type 0
+  where
+    pub position : IsPosition c at
+    pub read : at.read ≡ p.read + 1
+    pub place : place c at ≡ next_place p u
+    pub grows : Grows p.cache (cache c)
+
+-- the units that a search from a value reads, of these
+abbrev pub units_ahead : Bool → Cache → Value → List (Option ℕ) → List (Option ℕ)
+units_ahead earliest c v us = units_read (step_of c) earliest v us
+
+-- a search over units has come from a value to a place: what it has read, followed by what is ahead
+-- of it, is all that it reads
+pub record IsSearched (earliest : Bool) (old : Cache) (first : Value) (us : List (Option ℕ))
+    (p : Place) : Type 0 where
+  pub reached : IsReached old first (units_ahead earliest old first us) p.read p.value p.cache
+  pub ahead : drop p.read (units_ahead earliest old first us)
+      ≡ units_ahead earliest old p.value (drop p.read us)
+  pub last : p.last
+      ≡ last_match (future old.nfa old.kind first (take p.read (units_ahead earliest old first us)))
+  pub grows : Grows old p.cache
+
+-- what a search over units leaves if it fails: what the walk over those that it reads leaves
+pub record IsFailed (earliest : Bool) (old : Cache) (first : Value) (us : List (Option ℕ))
+    (new : Cache) : Type 0 where
+  pub cut_off : IsCutOff old first (units_ahead earliest old first us) new
+  pub grows : Grows old new
+
+-- what a search over units returns and leaves: the last match of what it reads, and the cache
+pub record IsOver {E : Type 0} (earliest : Bool) (old : Cache) (first : Value)
+    (us : List (Option ℕ)) (result : Result (Option HalfMatch) E) (new : Cache) : Type 0 where
+  pub last : IfOk result (λ found. found
+      ≡ last_match (future old.nfa old.kind first (units_ahead earliest old first us)))
+  pub after : OnOk result (new ≡ after_walk old first (units_ahead earliest old first us))
+  pub failed : OnErr result (IsCutOff old first (units_ahead earliest old first us) new)
+  pub grows : Grows old new
+
+-- the same of a search from an NFA state over a text
+abbrev pub IsOverText : {E : Type 0} → Bool → Cache → ℕ → Text → Result (Option HalfMatch) E
+    → Cache → Type 0
+IsOverText earliest old start text result new =
+    IsOver earliest old (start_value old.nfa start text.behind) (units text) result new
+
+-- units that begin with the bytes of a text
+abbrev pub Begins : Text → List (Option ℕ) → Type 0
+Begins text us = (i b : ℕ) → slice_get (map Some text.bytes) i ≡ Some (Some b)
+    → slice_get us i ≡ Some (Some b)
+
+-- a search over such units that has come to one place comes to another, over bytes of the text
+abbrev pub GoesOn : Bool → Text → Place → Place → Type 0
+GoesOn earliest text p q = (us : List (Option ℕ)) → Begins text us → (old : Cache) (first : Value)
+    → IsSearched earliest old first us p → IsSearched earliest old first us q
+
+-- or fails there
+abbrev pub Fails : Bool → Text → Place → Cache → Type 0
+Fails earliest text p new = (us : List (Option ℕ)) → Begins text us → (old : Cache) (first : Value)
+    → IsSearched earliest old first us p → IsFailed earliest old first us new
+
+-- such a search at a position
+pub record GoesTo {A : Type 0} (earliest : Bool) (text : Text) (p : Place) (c : LazyValue)
+    (at : Position A) : Type 0 where
+  pub position : IsPosition c at
+  pub forward : p.read ≤ at.read
+  pub within : at.read ≤ length text.bytes
+  pub searched : GoesOn earliest text p (place c at)
+
+-- the same at a cached state
+abbrev pub GoesToCached : Bool → Text → Place → LazyValue → CachedPosition → Type 0
+GoesToCached earliest text p c at = GoesTo {A = Unit {0}} earliest text p c (with_cursor at)
 
 -- a search that reads no more of n units: it has read them all, or it ends at the value
 abbrev pub HasStopped : Bool → ℕ → Place → Type 0
 HasStopped earliest n p = (n ≤ p.read) ⊎ (is_last earliest p.value ≡ true)
 
--- the units that a search reads from a place on
-abbrev pub units_left : Bool → List (Option ℕ) → Place → List (Option ℕ)
-units_left earliest us p = units_read (step_of p.cache) earliest p.value (drop p.read us)
-
--- the last match over units, from that of the values up to a place
-abbrev pub last_left : List (Option ℕ) → Place → Option HalfMatch
-last_left us p = last_from p.cache.nfa p.cache.kind p.read p.last p.value (drop p.read us)
-
--- a search from a place over units that is over: the last match, or whether there is one; and the
--- cache after the units that it reads
-pub record IsOver (earliest : Bool) (us : List (Option ℕ)) (p : Place) (found : Option HalfMatch)
-    (new : Cache) : Type 0 where
-  pub last : earliest ≡ false → found ≡ last_left us p
-  pub some : (is_nonempty p.value.patterns ≡ true → is_some p.last ≡ true)
-      → is_some found ≡ is_some (last_left us p)
-  pub after : new ≡ after_walk p.cache p.value (units_left earliest us p)
-
--- what a search from a place leaves if it fails: what the walk over the units that it reads leaves
-abbrev pub Fails : Bool → List (Option ℕ) → Place → Cache → Type 0
-Fails earliest us p new = IsCutOff p.cache p.value (units_left earliest us p) new
-
--- what a search from a place over units returns and leaves
-abbrev pub Leaves : {E : Type 0} → Bool → List (Option ℕ) → Place → Result (Option HalfMatch) E
-    → Cache → Type 0
-Leaves earliest us p (Ok found) new = IsOver earliest us p found new
-Leaves earliest us p (Err e) new = Fails earliest us p new
-
--- the same of a search from an NFA state over a text
-abbrev pub LeavesText : {E : Type 0} → Bool → Cache → ℕ → Text → Result (Option HalfMatch) E
-    → Cache → Type 0
-LeavesText earliest old start text result new =
-    Leaves earliest (units text) (first_place old (start_value old.nfa start text.behind)) result
-    new
+-- the search of a piece from a value: the value after what a search reads of it, its last match,
+-- its length, and the cache
+pub record IsPieceRead (old : Cache) (first : Value) (piece : List ℕ) (s : Scanned) (new : Cache)
+    : Type 0 where
+  pub state : s.state
+      ≡ value_after old.nfa old.kind first (units_ahead false old first (map Some piece))
+  pub last : s.last ≡ last_match (future old.nfa old.kind first (map Some piece))
+  pub read : s.read ≡ length piece
+  pub after : new ≡ after_walk old first (units_ahead false old first (map Some piece))

@@ -1,7 +1,6 @@
-use Rattle.determinize_lazy.proofs.Common.{ap, arith, cache, future, IfSome}
-use Rattle.determinize_lazy.proofs.Common.{last_match, length, length-map, map, option_map, option_or, rules, Some}
-use Rattle.determinize_lazy.proofs.Common.{subst, sym, Value, ◌+◌, ◌<◌, ◌∙◌, ◌≡◌, ◌≤◌}
-use Rattle.determinize_lazy.specs.Private.Scanned.{IsPieceRead}
+use Rattle.determinize_lazy.proofs.Common.{ap, arith, cache, length, length-map, map, option_map, option_or, rules}
+use Rattle.determinize_lazy.proofs.Common.{Some, ◌+◌, ◌∙◌, ◌≡◌, ◌≤◌}
+use Rattle.determinize_lazy.specs.Private.Searched.{IsPieceRead}
 use Rattle.determinize_engine.specs.Private.Later.{later_by}
 use Rattle.determinize_engine.specs.Scans.{Scanned}
 use Rattle.determinize_engine.proofs.LastUnits.{last_match-within}
@@ -16,21 +15,15 @@ read : (g : Over) (c : After-rest g) → IsPieceRead (cache c.args.self.now) c.a
     (record { state = c.rest.inside.state; last = c.rest.inside.last; read = c.rest.inside.read })
     (cache c.read_piece.new.self)
 read g c =
-    subst (λ (s : Scanned). IsPieceRead (cache c.args.self.now) c.args.scan.now.state c.args.piece.now s
-    (cache c.read_piece.new.self)) (sym c.rest.view_is)
-    (subst (λ (v : Value). IsPieceRead (cache c.args.self.now) v c.args.piece.now c.in_ok-rest.rest
-    (cache c.read_piece.new.self)) (c.in_ok-start.ensures.at.value ∙ ap (λ (s : Scanned). s.state) c.scan.view_is)
-    c.in_ok-rest.ensures.read)
+    let state_is = c.in_ok-start.ensures.at.value ∙ ap (λ (s : Scanned). s.state) c.scan.view_is in
+    rw c.rest.view_is (rw state_is at c.in_ok-rest.ensures.read)
 
 pub or_later-scan-inside-requires : goal.or_later-scan-inside-requires
 or_later-scan-inside-requires g c =
     let r = read g (goal.at.or_later-scan-inside-requires g c).After-rest in
     let sum : c.scan.inside.read + length c.args.piece.now ≤ 18446744073709551615 = search rules in
-    later-within _ _ _ c.rest.inside.last
-    (subst (λ o. IfSome o (λ m. m.offset < length c.args.piece.now)) (sym r.last)
-    (subst (λ n. IfSome (last_match (future c.args.self.now.nfa c.args.self.now.kind c.args.scan.now.state
-    (map Some c.args.piece.now))) (λ m. m.offset < n)) (length-map c.args.piece.now Some)
-    (last_match-within c.args.self.now.nfa c.args.self.now.kind c.args.scan.now.state (map Some c.args.piece.now))))
+    later-within _ (length c.args.piece.now) _ c.rest.inside.last (rw (r.last, ← length-map c.args.piece.now Some)
+    (last_match-within c.args.self.now.nfa c.args.self.now.kind c.args.scan.now.state (map Some c.args.piece.now)))
     (omega (arith, sum))
 
 pub returns-clause-fed : goal.returns-clause-fed

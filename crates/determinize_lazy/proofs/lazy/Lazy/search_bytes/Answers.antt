@@ -1,9 +1,6 @@
-use Rattle.determinize_lazy.proofs.Common.{cache, cursor_value, Fails, false, is_last, List, map, Option, place, rules}
-use Rattle.determinize_lazy.proofs.Common.{Some, ℕ, ◌++◌, ◌≡◌}
-use Rattle.determinize_engine.proofs.Places.{get_more}
-use Rattle.determinize_lazy.specs.Private.Searched.{here, over}
-use Rattle.determinize_lazy.proofs.finding.Searching.{fails-at, goes-longer, goes_twice, tag-last}
-use Rattle.determinize_lazy.proofs.steps.Rule.{grows-more, of_err}
+use Rattle.determinize_lazy.proofs.Common.{cache, cursor_value, Fails, false, is_last, place, ◌≡◌}
+use Rattle.determinize_lazy.proofs.finding.Searching.{fails-next, goes-next, goes-nowhere, goes_twice, tag-last}
+use Rattle.determinize_lazy.proofs.steps.Rule.{of_err}
 use Rattle.determinize_lazy.proofs.lazy.Lazy.search_bytes.Given.{Over}
 use Rattle.determinize_lazy.proofs.lazy.Lazy.search_bytes.Goals.{After-byte-byte}
 use Rattle.determinize_lazy.proofs.lazy.Lazy.search_bytes.Goals as goal
@@ -16,25 +13,15 @@ more g c = tag-last c.args.earliest c.tag_at.result.bits (cursor_value c.loop-at
 
 pub returns-in_err-next-clause-failed : goal.returns-in_err-next-clause-failed
 returns-in_err-next-clause-failed g c =
-    of_err _ {P = (rest : List (Option ℕ)) → Fails c.args.earliest (map Some c.args.text.now.bytes ++ rest)
-    (place c.args.self.now c.args.from) (cache c.advance.new.self)}
-    (λ rest. fails-at (goes-longer rest c.loop-at.invariant.searched)
-    (get_more (map Some c.args.text.now.bytes) rest c.loop-at.at.read (Some c.byte-byte.result) c.byte-byte.ensures)
-    (more g (goal.at.returns-in_err-next-clause-failed g c).After-byte-byte) c.in_err-next.ensures.failed)
+    of_err _ {P = Fails c.args.earliest c.args.text.now (place c.args.self.now c.args.from) (cache c.advance.new.self)}
+    (λ us begins old first s. fails-next (c.loop-at.invariant.searched us begins old first s)
+    (begins _ _ c.byte-byte.ensures) (more g (goal.at.returns-in_err-next-clause-failed g c).After-byte-byte)
+    c.in_err-next.ensures.failed c.in_err-next.ensures.grows)
 
 pub loop-at-init : goal.loop-at-init
-loop-at-init g c = record {
-  position = c.requires.position;
-  read = c.requires.read;
-  searched = here;
-  grows = search rules;
-}
+loop-at-init g c = goes-nowhere c.requires.position c.requires.read
 
 pub loop-at-preserved : goal.loop-at-preserved
-loop-at-preserved g c = record {
-  position = c.run-at.ensures.position;
-  read = c.run-at.ensures.read;
-  searched = goes_twice (over _ _ (Some c.byte-byte.result) c.loop-at.invariant.searched c.byte-byte.ensures
-      (more g (goal.at.loop-at-preserved g c).After-byte-byte) c.in_ok-next.ensures.place) c.run-at.ensures.searched;
-  grows = grows-more c.loop-at.invariant.grows c.in_ok-next.ensures.grows;
-}
+loop-at-preserved g c =
+    goes_twice (goes-next c.loop-at.invariant c.byte-byte.ensures
+    (more g (goal.at.loop-at-preserved g c).After-byte-byte) c.in_ok-next.ensures.next) c.run-at.ensures

@@ -1,13 +1,8 @@
-use Rattle.determinize_lazy.proofs.Common.{cache, GoesOn, Grows, IsPosition, length, map, place, Some, ◌-◌, ◌≤◌}
+use Rattle.determinize_lazy.proofs.Common.{GoesTo, length, place, ◌-◌}
 use Rattle.determinize_lazy.proofs.lazy.Lazy.search_bytes.Given as goal
 
 abbrev pub invariant-loop-at : goal.invariant-loop-at
-invariant-loop-at g l = record {
-  position : IsPosition l.self l.at;
-  read : l.at.read ≤ length l.text.bytes;
-  searched : GoesOn l.fn.earliest (map Some l.text.bytes) (place l.fn.self l.fn.from) (place l.self l.at);
-  grows : Grows (cache l.fn.self) (cache l.self);
-}
+invariant-loop-at g l = GoesTo l.fn.earliest l.text (place l.fn.self l.fn.from) l.self l.at
 
 abbrev pub decreases-loop-at : goal.decreases-loop-at
 decreases-loop-at g l = length l.text.bytes - l.at.read
