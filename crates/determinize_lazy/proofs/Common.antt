@@ -36,8 +36,7 @@ pub use Rattle.determinize_lazy.specs.Private.Invariant.{IsLazy}
 pub use Rattle.determinize_table.specs.Rows.{IsTarget, StartsStay}
 pub use Rattle.determinize_table.specs.Rows.{StoredTable, table_of}
 pub use Rattle.determinize_table.specs.Changes.{IsKept}
-pub use Rattle.determinize_lazy.specs.Private.Searched.{cached_place, GoesTo, GoesToCached}
-pub use Rattle.determinize_lazy.specs.Private.Searched.{IsCachedPosition, Fails}
+pub use Rattle.determinize_lazy.specs.Private.Searched.{cached_place, Fails, GoesTo, GoesToCached, IsCachedPosition}
 pub use Rattle.determinize_lazy.specs.Private.Searched.{IsFailed, IsNext, IsOver, IsOverText, IsPosition, IsReached}
 pub use Rattle.determinize_lazy.specs.Private.Searched.{IsSearched, next_place, Place, place, reported, units_ahead}
 pub use Rattle.determinize_lazy.specs.Private.Starts.{AreStarts, start_index}
