@@ -3,14 +3,14 @@ use Rattle.determinize_lazy.proofs.Common.{[], after_step, ap, append-nil, arith
 use Rattle.determinize_lazy.proofs.Common.{cached_place, cursor_value, dead, Decides, drop, drop_all, ended_at, Err}
 use Rattle.determinize_lazy.proofs.Common.{false, future, GoesTo, Grows, HalfMatch, HasMatch, inl, inr, is_last}
 use Rattle.determinize_lazy.proofs.Common.{is_last_tag, is_nonempty, is_some, IsAccepted, IsAt, IsCachedPosition}
-use Rattle.determinize_lazy.proofs.Common.{IsFailed, IsFailedStep, IsNext, IsOver, IsOverText, IsPosition}
-use Rattle.determinize_lazy.proofs.Common.{IsReached, IsSearch, IsSearched, IsSound, IsTarget, last_match, LazyValue}
-use Rattle.determinize_lazy.proofs.Common.{length, length-map, length-take-le, List, map, match_of, match_reported}
-use Rattle.determinize_lazy.proofs.Common.{MatchKind, next_place, Nfa, None, Ok, Option, option_or, place, Place, refl}
-use Rattle.determinize_lazy.proofs.Common.{reported, Result, slice_get, slice_get-get_or, slice_get_within}
-use Rattle.determinize_lazy.proofs.Common.{slice_index_or, Some, start_for, start_value, step_of, subst}
-use Rattle.determinize_lazy.proofs.Common.{suc, sym, tag_in, tag_of, take, Text, text_of, true, true≢false}
-use Rattle.determinize_lazy.proofs.Common.{units, units_ahead, units_read, Value, zero, ℕ, ◌+◌, ◌∙◌, ◌∷◌, ◌≡◌, ◌≤◌, ◌⊎◌}
+use Rattle.determinize_lazy.proofs.Common.{IsFailed, IsFailedStep, IsNext, IsOver, IsOverText, IsReached, IsSearch}
+use Rattle.determinize_lazy.proofs.Common.{IsSearched, IsSound, IsTarget, last_match, LazyValue, length, length-map}
+use Rattle.determinize_lazy.proofs.Common.{length-take-le, List, map, match_of, match_reported, MatchKind, next_place}
+use Rattle.determinize_lazy.proofs.Common.{Nfa, None, Ok, Option, option_or, place, Place, refl, reported, Result}
+use Rattle.determinize_lazy.proofs.Common.{slice_get, slice_get-get_or, slice_get_within, slice_index_or, Some}
+use Rattle.determinize_lazy.proofs.Common.{start_for, start_value, step_of, subst, suc, sym, tag_in, tag_of, take, Text}
+use Rattle.determinize_lazy.proofs.Common.{text_of, true, true≢false, units, units_ahead, units_read, Value, zero, ℕ}
+use Rattle.determinize_lazy.proofs.Common.{◌+◌, ◌∙◌, ◌∷◌, ◌≡◌, ◌≤◌, ◌⊎◌}
 use Rattle.std.proofs.Common.{add-one}
 use Rattle.std.proofs.lemmas.List.{take-append-drop}
 use Rattle.determinize_core.proofs.walk.LastMatches.{last_match-push}
@@ -136,12 +136,7 @@ module _ {earliest : Bool} {old : Cache} {first : Value} {us : List (Option ℕ)
       grows = s.grows;
     }
 
--- a search that stays, one that takes a step over a byte, and one that continues twice
-pub goes-nowhere : {A : Type 0} {earliest : Bool} {text : Text} {c : LazyValue} {at : Position A} → IsPosition c at
-    → at.read ≤ length text.bytes → GoesTo earliest text (place c at) c at
-goes-nowhere position within =
-    record { position = position; forward = omega arith; within = within; searched = λ us begins old first s. s }
-
+-- a search that takes a step over a byte, and one that continues twice
 module _ {A B : Type 0} {earliest : Bool} {text : Text} {p : Place} {c : LazyValue} {at : Position A}
     (g : GoesTo earliest text p c at) {d : LazyValue} {next : Position B} where
   pub goes-next : {b : ℕ} → slice_get (map Some text.bytes) at.read ≡ Some (Some b)

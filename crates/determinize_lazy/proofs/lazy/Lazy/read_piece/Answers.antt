@@ -1,6 +1,5 @@
-use Rattle.determinize_lazy.proofs.Common.{ap, cache, cursor_value, false, IsFailed, IsOver, LazyValue, length-map, map}
-use Rattle.determinize_lazy.proofs.Common.{Ok, refl, rules, Some, value_after, ◌∙◌, ◌≡◌}
-use Rattle.determinize_lazy.specs.CachedSearches.{units_fed}
+use Rattle.determinize_lazy.proofs.Common.{ap, cache, cursor_value, false, IsOver, LazyValue, length-map, map, Ok, refl}
+use Rattle.determinize_lazy.proofs.Common.{rules, Some, units_ahead, value_after, ◌∙◌, ◌≡◌}
 use Rattle.determinize_lazy.proofs.finding.Searching.{last-read, over-at, searched-all}
 use Rattle.determinize_lazy.proofs.steps.Rule.{of_err}
 use Rattle.determinize_lazy.proofs.walking.CachedWalks.{cut_off-whole}
@@ -8,24 +7,23 @@ use Rattle.determinize_lazy.proofs.lazy.Lazy.read_piece.Given.{Over}
 use Rattle.determinize_lazy.proofs.lazy.Lazy.read_piece.Goals.{After-found-last, In_err-at}
 use Rattle.determinize_lazy.proofs.lazy.Lazy.read_piece.Goals as goal
 
-failed : (g : Over) (c : In_err-at g) → IsFailed false (cache c.args.self.now)
-    (cursor_value c.args.self.now.states c.args.start) (map Some c.args.piece.now) (cache c.search_bytes.new.self)
-failed g c = c.in_err-at.ensures.failed _ (rw c.new-text.ensures (λ i b at. at)) _ _
-    (c.start.ensures.searched false _ c.args.self.now _ refl)
-
 pub returns-in_err-at-clause-failed : goal.returns-in_err-at-clause-failed
 returns-in_err-at-clause-failed g c =
-    of_err _ (failed g (goal.at.returns-in_err-at-clause-failed g c).In_err-at).cut_off
+    of_err _ (c.in_err-at.ensures.failed (map Some c.args.piece.now) (rw c.new-text.ensures (λ i b at. at)) _ _
+    (c.start.ensures.searched false _ c.args.self.now _ refl)).cut_off
 
 pub returns-in_err-at-clause-grows : goal.returns-in_err-at-clause-grows
-returns-in_err-at-clause-grows g c = (failed g (goal.at.returns-in_err-at-clause-grows g c).In_err-at).grows
+returns-in_err-at-clause-grows g c =
+    (c.in_err-at.ensures.failed (map Some c.args.piece.now) (rw c.new-text.ensures (λ i b at. at)) _ _
+    (c.start.ensures.searched false _ c.args.self.now _ refl)).grows
 
 -- where the search is over, and the value there
 over : (g : Over) (c : After-found-last g) → IsOver {E = Unit {0}} false (cache c.args.self.now)
     (cursor_value c.args.self.now.states c.args.start) (map Some c.args.piece.now) (Ok c.found-last.result)
     (cache c.search_bytes.new.self) × (cursor_value c.search_bytes.new.self.states c.in_ok-at.at.cursor
     ≡ value_after c.args.self.now.nfa c.args.self.now.kind (cursor_value c.args.self.now.states c.args.start)
-    (units_fed (cache c.args.self.now) (cursor_value c.args.self.now.states c.args.start) c.args.piece.now))
+    (units_ahead false (cache c.args.self.now) (cursor_value c.args.self.now.states c.args.start)
+    (map Some c.args.piece.now)))
 over g c =
     let s = c.in_ok-at.ensures.at.searched (map Some c.args.piece.now) (rw c.new-text.ensures (λ i b at. at)) _ _
     (c.start.ensures.searched false _ c.args.self.now _ refl) in

@@ -1,5 +1,5 @@
 use Rattle.determinize_lazy.proofs.Common.{cache, cursor_value, Fails, false, is_last, place, ◌≡◌}
-use Rattle.determinize_lazy.proofs.finding.Searching.{fails-next, goes-next, goes-nowhere, goes_twice, tag-last}
+use Rattle.determinize_lazy.proofs.finding.Searching.{fails-next, goes-next, goes_twice, tag-last}
 use Rattle.determinize_lazy.proofs.steps.Rule.{of_err}
 use Rattle.determinize_lazy.proofs.lazy.Lazy.search_bytes.Given.{Over}
 use Rattle.determinize_lazy.proofs.lazy.Lazy.search_bytes.Goals.{After-byte-byte}
@@ -17,9 +17,6 @@ returns-in_err-next-clause-failed g c =
     (λ us begins old first s. fails-next (c.loop-at.invariant.searched us begins old first s)
     (begins _ _ c.byte-byte.ensures) (more g (goal.at.returns-in_err-next-clause-failed g c).After-byte-byte)
     c.in_err-next.ensures.failed c.in_err-next.ensures.grows)
-
-pub loop-at-init : goal.loop-at-init
-loop-at-init g c = goes-nowhere c.requires.position c.requires.read
 
 pub loop-at-preserved : goal.loop-at-preserved
 loop-at-preserved g c =
