@@ -103,8 +103,6 @@ impl<'n, N: Allocator, A: Allocator + Copy> Lazy<'n, N, A> {
     ///
     /// - `start` is the id of the NFA state to start from, below the number of states.
     /// - `look_behind` is the byte just before the text, if any.
-    ///
-    /// Returns `AllocError` if an allocation fails.
     pub fn scan(&mut self, start: StateID, look_behind: Option<u8>) -> Result<Scan<A>, AllocError>
         requires { start < length self.old.nfa.states }
         ensures begun { IfOk result

@@ -208,6 +208,7 @@ impl<'n, N: Allocator, A: Allocator + Copy> Lazy<'n, N, A> {
         ensures limit { IfOk result (λ at. at.read < usize.MAX) }
         ensures failed { OnErr result
             (Fails earliest text.now (place self.old from) (cache self.new)) }
+        ensures grows { Grows (cache self.old) (cache self.new) }
     {
         let mut at = from;
         while at.read < text.len() {
@@ -233,9 +234,10 @@ impl<'n, N: Allocator, A: Allocator + Copy> Lazy<'n, N, A> {
     ) -> Result<Option<HalfMatch>, AllocError>
         requires position { IsPosition self.old from }
         requires read { from.read ≤ length text.now.bytes }
-        ensures { (t : TextValue) → text.now ≡ t → (old : Cache) (first : Value)
+        ensures over { (t : TextValue) → text.now ≡ t → (old : Cache) (first : Value)
             → IsSearched earliest old first (units t) (place self.old from)
             → IsOver earliest old first (units t) result (cache self.new) }
+        ensures grows { Grows (cache self.old) (cache self.new) }
     {
         let at = self.search_bytes(from, text, earliest)?;
         if self.tag_at(&at.cursor).is_last(earliest) {
@@ -293,8 +295,7 @@ impl<'n, N: Allocator, A: Allocator + Copy> Lazy<'n, N, A> {
         self.search_from(at.with_cursor(), &text, earliest)
     }
 
-    /// Searches the range of an input in the direction of the NFA. The match is one of the text
-    /// that is read.
+    /// Searches the text of an input. The match is one of that text, and not of the haystack.
     #[inline(always)]
     fn search_range(
         &mut self,

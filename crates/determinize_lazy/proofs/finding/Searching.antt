@@ -98,13 +98,9 @@ module _ {earliest : Bool} {old : Cache} {first : Value} {us : List (Option ℕ)
           let within = slice_get_within all p.read u starts.0 in
           let count : length (take p.read all) ≡ p.read = length-take-le p.read all (omega arith) in
           let v_is = rw (take-one all p.read u starts.0) at r.end in
-          rw (
-            take-one all p.read u starts.0,
-            last_match-push old.nfa old.kind first (take p.read all) u,
-            ← v_is,
-            count,
-            ← s.last,
-          ) (ap (λ m. option_or m p.last) (reported-next p.read (step_of p.cache p.value u).patterns));
+          let push = last_match-push old.nfa old.kind first (take p.read all) u in
+          rw (take-one all p.read u starts.0, push, ← v_is, count, ← s.last)
+          (ap (λ m. option_or m p.last) (reported-next p.read (step_of p.cache p.value u).patterns));
       grows = grows-more s.grows (rw is at grows);
     })
       where
@@ -149,6 +145,7 @@ module _ {A B : Type 0} {earliest : Bool} {text : Text} {p : Place} {c : LazyVal
         within = omega (arith, within, n.read);
         searched = λ us begins old first s.
             searched-next (g.searched us begins old first s) (begins at.read b byte) more n.place n.grows;
+        grows = grows-more g.grows n.grows;
       }
 
   pub goes_twice : GoesTo earliest text (place c at) d next → GoesTo earliest text p d next
@@ -157,6 +154,7 @@ module _ {A B : Type 0} {earliest : Bool} {text : Text} {p : Place} {c : LazyVal
     forward = omega (arith, g.forward, h.forward);
     within = h.within;
     searched = λ us begins old first s. h.searched us begins old first (g.searched us begins old first s);
+    grows = grows-more g.grows h.grows;
   }
 
 -- the last match of what a search reads

@@ -1,6 +1,6 @@
 -- How far a walk or a search has come, and what a search finds and leaves.
-use Rattle.std.specs.Prelude.{◌≡◌, ℕ, ◌+◌, ◌≤◌, ◌⊎◌, Bool, true, false, Option, Some, None, List, drop}
-use Rattle.std.specs.Prelude.{length, map, slice_get, take, IfOk, OnErr, OnOk, Result}
+use Rattle.std.specs.Prelude.{◌≡◌, ℕ, ◌+◌, ◌≤◌, ◌⊎◌, Bool, true, false, Option, Some, None, List}
+use Rattle.std.specs.Prelude.{drop, length, map, slice_get, take, IfOk, OnErr, OnOk, Result}
 use Rattle.std.specs.Option.{option_or}
 use Rattle.determinize_below.specs.Nfa.{AllResolve}
 use Rattle.determinize_below.specs.Semantics.{Text}
@@ -145,6 +145,7 @@ pub record GoesTo {A : Type 0} (earliest : Bool) (text : Text) (p : Place) (c : 
   pub forward : p.read ≤ at.read
   pub within : at.read ≤ length text.bytes
   pub searched : GoesOn earliest text p (place c at)
+  pub grows : Grows p.cache (cache c)
 
 -- the same at a cached state
 abbrev pub GoesToCached : Bool → Text → Place → LazyValue → CachedPosition → Type 0

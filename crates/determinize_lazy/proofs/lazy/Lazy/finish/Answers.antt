@@ -21,7 +21,7 @@ search_from-requires-clause-position g c =
 -- the search of the unit ahead, from the state of the scan
 over : (g : Over) (c : After-search_from g) → IsOver false (cache c.args.self.now) c.args.scan.now.state
     (c.args.look_ahead ∷ []) c.search_from.result (cache c.search_from.new.self)
-over g c = c.search_from.ensures _ c.new-text.ensures _ _ (c.start.ensures.searched false _ c.args.self.now _
+over g c = c.search_from.ensures.over _ c.new-text.ensures _ _ (c.start.ensures.searched false _ c.args.self.now _
     (c.in_ok-start.ensures.at.value ∙ ap (λ (s : Scanned). s.state) c.scan.view_is))
 
 last : (g : Over) (c : After-search_from g) → IfOk c.search_from.result (λ found. found
@@ -47,14 +47,7 @@ returns-clause-search g c start behind bytes is =
 pub returns-clause-after : goal.returns-clause-after
 returns-clause-after g c = rw c.in_ok-found.was at (over g (goal.at.returns-clause-after g c).After-search_from).after
 
-pub returns-clause-grows : goal.returns-clause-grows
-returns-clause-grows g c = (over g (goal.at.returns-clause-grows g c).After-search_from).grows
-
 pub returns-in_err-found-clause-failed : goal.returns-in_err-found-clause-failed
 returns-in_err-found-clause-failed g c =
     let failed = (over g (goal.at.returns-in_err-found-clause-failed g c).After-search_from).failed in
     of_err _ (rw c.in_err-found.was at failed)
-
-pub returns-in_err-found-clause-grows : goal.returns-in_err-found-clause-grows
-returns-in_err-found-clause-grows g c =
-    (over g (goal.at.returns-in_err-found-clause-grows g c).After-search_from).grows

@@ -19,8 +19,9 @@ follow-at-requires-clause-position g c = let (v, at, resolve) = c.requires in re
 bytes : (g : Over) (c : After-follow-at g) (v : Value) → slice_get c.args.self.now.states c.args.start ≡ Some v
     → IsSearched c.args.earliest (cache c.args.self.now) v (units c.args.text.now)
     (cached_place c.args.self.now c.follow-at.result)
-bytes g c v at = c.follow-at.ensures.searched (units c.args.text.now) (unit-here c.args.text.now) (cache c.args.self.now)
-    v (rw (get_or_from_slice_get c.args.self.now.states c.args.start v dead at) (searched-none c.args.earliest _ v _))
+bytes g c v at = c.follow-at.ensures.searched _ (unit-here c.args.text.now) (cache c.args.self.now) v
+    (rw (get_or_from_slice_get c.args.self.now.states c.args.start v dead at)
+    (searched-none c.args.earliest (cache c.args.self.now) v (units c.args.text.now)))
 
 pub returns-then-at-len-clause-searched : goal.returns-then-at-len-clause-searched
 returns-then-at-len-clause-searched g c = bytes g (goal.at.returns-then-at-len-clause-searched g c).After-follow-at

@@ -12,11 +12,6 @@ returns-in_err-at-clause-failed g c =
     of_err _ (c.in_err-at.ensures.failed (map Some c.args.piece.now) (rw c.new-text.ensures (λ i b at. at)) _ _
     (c.start.ensures.searched false _ c.args.self.now _ refl)).cut_off
 
-pub returns-in_err-at-clause-grows : goal.returns-in_err-at-clause-grows
-returns-in_err-at-clause-grows g c =
-    (c.in_err-at.ensures.failed (map Some c.args.piece.now) (rw c.new-text.ensures (λ i b at. at)) _ _
-    (c.start.ensures.searched false _ c.args.self.now _ refl)).grows
-
 -- where the search is over, and the value there
 over : (g : Over) (c : After-found-last g) → IsOver {E = Unit {0}} false (cache c.args.self.now)
     (cursor_value c.args.self.now.states c.args.start) (map Some c.args.piece.now) (Ok c.found-last.result)
@@ -34,15 +29,11 @@ pub returns-in_err-state-clause-failed : goal.returns-in_err-state-clause-failed
 returns-in_err-state-clause-failed g c =
     of_err _ (cut_off-whole (over g (goal.at.returns-in_err-state-clause-failed g c).After-found-last).0.after)
 
-pub returns-in_err-state-clause-grows : goal.returns-in_err-state-clause-grows
-returns-in_err-state-clause-grows g c =
-    (over g (goal.at.returns-in_err-state-clause-grows g c).After-found-last).0.grows
-
 pub returns : goal.returns
 returns g c =
     let (o, value) = over g (goal.at.returns g c).After-found-last in
-    let is = c.in_ok-state.ensures ∙ ap (λ (x : LazyValue). cursor_value x.states c.in_ok-at.at.cursor) c.self.view_is in
-    record {
+    let is = c.in_ok-state.ensures
+    ∙ ap (λ (x : LazyValue). cursor_value x.states c.in_ok-at.at.cursor) c.self.view_is in record {
       read = record {
         state = is ∙ value;
         last = o.last ∙ last-read _ _ _ (map Some c.args.piece.now);
@@ -51,5 +42,5 @@ returns g c =
       };
       resolve = rw is c.in_ok-at.ensures.at.position.resolve;
       failed = tt;
-      grows = o.grows;
+      grows = search rules;
     }

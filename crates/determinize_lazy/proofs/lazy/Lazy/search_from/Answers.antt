@@ -23,27 +23,27 @@ module _ (g : Over) (c : After-ahead g) (t : Text) (is : c.args.text.now ≡ t) 
   ahead : slice_get (units t) c.in_ok-at.at.read ≡ Some c.ahead.result
   ahead = unit-last t c.in_ok-at.at.read read_all ∙ ap Some (sym (rw is at c.ahead.ensures))
 
-pub returns-in_err-at : goal.returns-in_err-at
-returns-in_err-at g c t is old first s =
+pub returns-in_err-at-clause-over : goal.returns-in_err-at-clause-over
+returns-in_err-at-clause-over g c t is old first s =
     over-err c.in_err-at.field-0.0 (search rules)
     (c.in_err-at.ensures.failed _ (rw is (unit-here t)) old first s)
 
-pub returns-then-is_last : goal.returns-then-is_last
-returns-then-is_last g c t is old first s =
+pub returns-then-is_last-clause-over : goal.returns-then-is_last-clause-over
+returns-then-is_last-clause-over g c t is old first s =
     over-at (c.in_ok-at.ensures.at.searched _ (rw is (unit-here t)) old first s) (inr (tag-last c.args.earliest
     c.tag_at.result.bits (cursor_value c.search_bytes.new.self.states c.in_ok-at.at.cursor) c.tag_at.ensures
     c.is_last.ensures c.if-is_last.true)) c.found.ensures
 
-pub returns-in_err-at-2 : goal.returns-in_err-at-2
-returns-in_err-at-2 g c t is old first s =
-    let d = (goal.at.returns-in_err-at-2 g c).After-ahead in
+pub returns-in_err-at-2-clause-over : goal.returns-in_err-at-2-clause-over
+returns-in_err-at-2-clause-over g c t is old first s =
+    let d = (goal.at.returns-in_err-at-2-clause-over g c).After-ahead in
     over-err c.in_err-at-2.field-0.0 (search rules)
     (fails-next (c.in_ok-at.ensures.at.searched _ (rw is (unit-here t)) old first s) (ahead g d t is) (more g d)
     c.in_err-at-2.ensures.failed c.in_err-at-2.ensures.grows)
 
-pub returns : goal.returns
-returns g c t is old first s =
-    let d = (goal.at.returns g c).After-ahead in
+pub returns-clause-over : goal.returns-clause-over
+returns-clause-over g c t is old first s =
+    let d = (goal.at.returns-clause-over g c).After-ahead in
     let next : c.in_ok-at.at.read < c.in_ok-at.at.read + 1 = omega arith in
     over-at (searched-next (c.in_ok-at.ensures.at.searched _ (rw is (unit-here t)) old first s) (ahead g d t is)
     (more g d) c.in_ok-at-2.ensures.next.place c.in_ok-at-2.ensures.next.grows)

@@ -42,5 +42,5 @@ search_from-requires-clause-read g c = rw (c.copied-text-2.ensures, c.with_curso
 
 pub returns-clause-over : goal.returns-clause-over
 returns-clause-over g c =
-    (rw c.with_cursor.ensures at c.search_from.ensures) _ c.copied-text-2.ensures _ _
+    (rw c.with_cursor.ensures at c.search_from.ensures.over) _ c.copied-text-2.ensures _ _
     (cached g (goal.at.returns-clause-over g c).After-len)
