@@ -4,7 +4,8 @@
 //!
 //! - [`engine`] is their trait, so that a caller, as `determinize_find`, may take either.
 //! - [`text`] is what a search of an input reads: the byte behind, on which the start state
-//!   depends; the bytes of the range, forward or backward; the byte ahead or the end of input (EOI).
+//!   depends; the bytes of the range, forward or backward; the byte ahead, or the end of input
+//!   (EOI).
 //! - [`state_table`] has the states of a DFA, each once, and finds the index of a state.
 //!
 //! The last two are public for the two crates only.

@@ -15,7 +15,8 @@ after_walk-push : (us : List (Option ℕ)) (c : Cache) (v : Value) (u : Option �
 after_walk-push [] c v u = refl
 after_walk-push (w ∷ us) c v u = after_walk-push us (after_step c v w) (step_of c v w) u
 
-pub take-one : {K : Type 0} (xs : List K) (i : ℕ) (x : K) → slice_get xs i ≡ Some x → take (i + 1) xs ≡ take i xs ++ x ∷ []
+pub take-one : {K : Type 0} (xs : List K) (i : ℕ) (x : K) → slice_get xs i ≡ Some x
+    → take (i + 1) xs ≡ take i xs ++ x ∷ []
 take-one xs i x at = rw (take_more xs i x (slice_get_within xs i x at), get_or_from_slice_get xs i x x at)
 
 module _ {old : Cache} {first : Value} {us : List (Option ℕ)} {read : ℕ} {v : Value} {now : Cache} {u : Option ℕ}
