@@ -24,7 +24,7 @@ units text = map (after_at text) (range_with_len 0 (suc (length text.bytes)))
 unfoldable pub chain : Nfa → MatchKind → ℕ → Text → List Value
 chain nfa kind s text = future nfa kind (start_value nfa s text.behind) (units text)
 
--- from each of the values on, they are that value and those after the remaining units
+-- the values from index j on are the future of the value at j over the remaining units
 abbrev pub FollowsItself : Nfa → MatchKind → Text → List Value → Type 0
 FollowsItself nfa kind text values = (j : ℕ) (v : Value) → slice_get values j ≡ Some v
     → drop j values ≡ future nfa kind v (drop j (units text))

@@ -60,15 +60,15 @@ EachAnswerIsOne = (nfa : Nfa) (text : Text) (start : ℕ)
     × ((i : ℕ) (xs ys : List ℕ) → IsReached nfa text start i xs → IsReached nfa text start i ys
     → xs ≡ ys)
 
--- for a valid NFA, the closure of one more root adds the states that it reaches around those
--- reached before
+-- for a valid NFA, the closure of one more root adds the states that it reaches past those reached
+-- before
 abbrev pub EachReachGoesOn : Type 0
 EachReachGoesOn = (nfa : Nfa) → IsAccepted nfa
     → (holds : Assertion → Bool) (roots : List ℕ) (root : ℕ)
     → reach nfa holds (roots ++ root ∷ []) ≡ reach nfa holds roots
     ++ reach_past nfa holds (reach nfa holds roots) (root ∷ [])
 
--- a state has epsilon transitions, or at most one transition on a unit, not both
+-- a state has epsilon edges, or at most one transition on a unit, not both
 abbrev pub EachStateHasOneKind : Type 0
 EachStateHasOneKind = (nfa : Nfa) (holds : Assertion → Bool) (u : Option ℕ) (s : ℕ)
     → (length (target nfa u s) ≤ 1) × ((edges nfa holds s ≡ []) ⊎ (target nfa u s ≡ []))
@@ -101,7 +101,7 @@ LeftmostGivesOne = (nfa : Nfa) (v : Value) (u : Option ℕ)
     → length (step nfa LeftmostFirst v u).patterns ≤ 1
 
 -- a step from a value whose ids are in range makes at most two tries for each state and each
--- epsilon transition
+-- epsilon edge
 abbrev pub TriesAreFew : Type 0
 TriesAreFew = (nfa : Nfa) → IsAccepted nfa → (kind : MatchKind) (v : Value) (u : Option ℕ)
     → ((s : ℕ) → member nat_eq v.states s ≡ true → s < length nfa.states)

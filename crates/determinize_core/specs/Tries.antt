@@ -26,6 +26,6 @@ tries nfa kind v u =
     tries_again nfa v u
     + tries_of nfa (has (have_after (tables_of nfa) u)) (targets nfa kind v u)
 
--- the number of epsilon transitions of the NFA, as if all assertions hold
+-- the number of epsilon edges of the NFA, as if all assertions hold
 abbrev pub edges_in_all : Nfa → ℕ
 edges_in_all nfa = edge_count (edges nfa (λ look. true)) (nodes_below (length nfa.states))

@@ -11,8 +11,8 @@
 //!    states and the targets: the states to which its other states have a transition on the unit.
 //!    Under `MatchKind::LeftmostFirst` it stops at the first `Match` state, since every later
 //!    state belongs to a less preferred run.
-//! 2. It adds the epsilon closure of each target in turn. The states in order of discovery are
-//!    those of the next DFA state.
+//! 2. It adds the epsilon closure of each target in turn. The states in order of discovery, except
+//!    captures, are those of the next DFA state.
 //!
 //! An assertion such as `\b` depends on the byte before a position and on the unit after it, and a
 //! state is computed when only the byte before is known. So a state also has look-have, the

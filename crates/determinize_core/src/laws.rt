@@ -52,9 +52,9 @@ pub fn search_law()
     ensures ends { NothingLeadsOverTheEnd }
 {}
 
-/// From each of its values a walk continues as a walk that starts there. The dead value has only
-/// itself as the next one, and if no cycle of the NFA consists of captures, it is the only value
-/// after a transition without patterns and NFA states. A recorded value with empty look-need has
+/// From each of its values a walk continues as a walk that starts there. A step from the dead value
+/// gives the dead value. If no cycle of the NFA consists of captures, so does each step that gives
+/// no pattern and no NFA state. A recorded value with empty look-need has
 /// empty look-have. Under `MatchKind::LeftmostFirst` a transition gives at most one pattern.
 #[tactic(auto, using(crate::proofs::step::StepLaws::each_future_follows, crate::proofs::step::StepLaws::no_need_no_have, crate::proofs::step::StepLaws::leftmost_gives_one))]
 pub fn step_law()
@@ -79,7 +79,7 @@ pub fn tries_law()
     ensures { TriesAreFew }
 {}
 
-/// States eight examples of the program `rows`: the bytes of the states of each walk, and the
+/// Gives eight examples of the program `rows`: the bytes of the states of each walk, and the
 /// pattern and end of its last match. Their NFAs pass every check.
 pub fn walk_rows_law()
     ensures accepted { rows.AreAccepted }
@@ -93,7 +93,7 @@ pub fn walk_rows_law()
     ensures row_31a { rows.Row31a }
 {}
 
-/// An example of a search into a set with a state: it takes no path through that state.
+/// An example of a closure into a set that is not empty: no state of the set is followed.
 #[tactic(auto, unfolding(determinize_below::specs::Look::has, determinize_below::specs::Look::insert, determinize_below::specs::Edges::reach_past))]
 pub fn search_row_law()
     ensures { rows.Row22 }
@@ -119,8 +119,8 @@ pub fn redo_law(
         ≡ has have look }
 {}
 
-/// An assertion is in a set with what a list of states needs if and only if it is in the set or
-/// some state of the list tests it.
+/// An assertion is in a set to which the needs of a list of states were added if and only if it was
+/// in the set or some state of the list tests it.
 pub fn need_law(set: LookSet, look: Look)
     ensures { (nfa : Nfa) (xs : List ℕ)
         → Decides (has (needs nfa set xs) look)
@@ -135,14 +135,14 @@ pub fn farthest_law()
     ensures within { NoRunLeavesTheText }
 {}
 
-/// The units of a text are its bytes in order, and then the byte ahead of it or the end of input.
+/// The units of a text are its bytes in order, and then the byte ahead of it or EOI.
 #[tactic(auto, using(crate::proofs::walk::UnitLists::each_unit_is_a_byte))]
 pub fn units_law()
     ensures { EachUnitIsAByte }
 {}
 
-/// The last match of the values that follow a value over units, by one unit: by the first of them
-/// and the last match over the others, or by the last match over all but the last.
+/// Two recursions for the last match over a list of units: one takes off the first unit, the other
+/// the last.
 #[tactic(auto, using(crate::proofs::walk::LastMatches::each_first_unit_unrolls, crate::proofs::walk::LastMatches::each_last_unit_unrolls))]
 pub fn last_match_law()
     ensures first { EachFirstUnitUnrolls }

@@ -38,7 +38,8 @@ pub fn add_state<N: Allocator, A: Allocator>(
     builder.add_nfa_state_id(id)
 }
 
-/// Adds the states of a set. On error some of them have been added.
+/// Adds the states of a set. On error a prefix of them may have been added, and assertions to
+/// look-need.
 fn add_states<N: Allocator, A: Allocator>(
     nfa: &NFA<N>,
     set: &SparseSet<A>,

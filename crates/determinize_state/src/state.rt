@@ -25,7 +25,7 @@
 //! A state is built in three phases, and each phase has a type: `StateBuilderEmpty`, then
 //! `StateBuilderMatches` for flags, look-have and pattern ids, then `StateBuilderNFA` for NFA
 //! states and both sets. The last also takes flags and, before the first NFA state, pattern ids, so
-//! that a transition needs one builder. So each part is appended and never inserted.
+//! that a transition needs one builder. So nothing is ever inserted.
 
 mod builders;
 mod bytes;
@@ -49,8 +49,9 @@ use std::marker::Model;
 
 /// A finished state of a DFA. It is immutable. A clone copies its bytes.
 ///
-/// Up to 30 bytes are stored inline, and more in memory of the allocator. A state that has the
-/// memory of a builder stores all its bytes there, and a clone of it does not. No clause says so.
+/// Up to 30 bytes are stored inline, and more in memory of the allocator. A state that `into_state`
+/// of a builder made keeps the builder's memory, however short it is; its clone is stored like any
+/// other. No clause says so.
 #[derive(Drop)]
 pub struct State<A: Allocator = Global> {
     bytes: SmallBytes<A>,

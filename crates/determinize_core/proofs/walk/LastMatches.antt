@@ -1,6 +1,6 @@
 -- The last match of the values of a walk, found one by one, and over one unit more.
 -- Main statements: last_ended_more, last_match-push, each_last_unit_unrolls.
--- Used by: `last_match`, and searches.
+-- Used by: `last_match`, `last_match_law`, and searches.
 -- Idea: one more value replaces the last match if it lists a pattern.
 use Rattle.determinize_core.proofs.Common.{[], add-one, ap, arith, drop, ended_at, future, get_or, last_ended}
 use Rattle.determinize_core.proofs.Common.{last_match, length, List, MatchKind, Nfa, Option, option_or, refl, step, suc}

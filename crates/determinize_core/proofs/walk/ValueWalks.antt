@@ -1,6 +1,6 @@
 -- The theorem in words of values, and as what it says of their lists of patterns.
 -- Main statements: ListsAll, FindsLeftmost, all_listed, leftmost_listed.
--- Used by: WalkOfRuns, Farthest.
+-- Used by: WalkOfRuns, Farthest, and `determinize_uses`.
 -- Idea: the list at an index is that of the value at the index.
 use Rattle.determinize_core.proofs.Common.{Accepts, arith, by_option, Contains, IsLeftmostWalk, IsPreferredMatch}
 use Rattle.determinize_core.proofs.Common.{IsWalkOfAll, last_match, length, List, lists_of, ListsAccepted, Nfa}

@@ -1,6 +1,6 @@
 -- Laws for the invariants of the loops of a step and of a walk.
 -- Main statements: future-push, value_after-push, pattern_new, stops_at.
--- Used by: LastMatches, FirstReading, and the crates above.
+-- Used by: LastMatches, FirstReading, UnitLists, and the crates above.
 -- Idea: what a loop has done grows at its end.
 use Rattle.determinize_core.proofs.Common.{[], ap, append-nil, arith, false, flat_map, flat_map-append, future}
 use Rattle.determinize_core.proofs.Common.{is_match, LeftmostFirst, List, list_any, MatchKind, nat_eq, nat_tests, Nfa}

@@ -1,6 +1,6 @@
 -- The values of a chain record what the walk over positions records.
 -- Main statements: value_at, recorded_by, redone_by, states_at_is, patterns_at_is, chain_is.
--- Used by: WalkOfRuns.
+-- Used by: WalkOfRuns, ReturnedWalk.
 -- Idea: induction over the positions, with WorkingLists for one step.
 use Rattle.determinize_core.proofs.Common.{[], add-one, after_at, ap, arith, before_at, begun, Bool, byte_edges, chain}
 use Rattle.determinize_core.proofs.Common.{flat_map, future, get_or, get_or_from_slice_get, is_capture, is_match}

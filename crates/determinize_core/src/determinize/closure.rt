@@ -1,8 +1,9 @@
 //! Epsilon closure: the NFA states reachable without input, in order of preference.
 //!
 //! One loop, [`explore`], searches depth first. The current list has what remains of the edges of
-//! the last state that had any, and what remains of earlier ones waits on the stack. The set ends
-//! the search on cycles. A [`Recorder`] receives each new state, a [`Counter`] counts each try.
+//! the last state that had any, and what remains of earlier ones waits on the stack. A state of
+//! the set is not visited again, so the search ends on cycles. A [`Recorder`] receives each new
+//! state, a [`Counter`] counts each try.
 
 ghost use Rattle.std.specs.Prelude.{◌≡◌, ◌+◌, ◌<◌, ◌≤◌, ℕ, List, [], ◌∷◌, ◌++◌, ◌⊎◌, None, IsTrue, drop, false, fold, length, reverse, IfNone, IfSome, IfOk, OnOk, OnErr, IsOk};
 ghost use Rattle.determinize_below.specs.Edges.{edges, reach_past};
@@ -59,9 +60,9 @@ fn push_reversed<A: Allocator>(
     Ok(())
 }
 
-/// Records a state and follows its epsilon edges: they become the current list, and the others of
-/// the list are pushed. Without such edges the others stay the list. Most states have none, so that
-/// is tested before their kind is decided.
+/// Records a state and returns the next current list: its epsilon targets, or the first of them,
+/// with what remains pushed, and `others` if no edge is followed. Most states have no epsilon edge,
+/// so that is tested before their kind is decided.
 #[inline(always)]
 #[tactic(auto, using(crate::proofs::closure::ClosureSteps::following))]
 fn record_and_follow<'a, N: Allocator, A: Allocator, W: Recorder>(
@@ -81,7 +82,7 @@ fn record_and_follow<'a, N: Allocator, A: Allocator, W: Recorder>(
         recorder.record(nfa, id)?;
         return Ok(others);
     }
-    // Each arm records by itself, and so the kind is decided once.
+    // `record` matches on the kind too: inlined into an arm, that match is decided already.
     match nfa.state(id) {
         State::Look { look, next } => {
             recorder.record(nfa, id)?;
@@ -190,7 +191,7 @@ pub(crate) fn explore<N: Allocator, A: Allocator, W: Recorder, C: Counter>(
 /// The states are added after those of the set in order of preference: depth first, the earlier
 /// alternates of a union first, and a `Look` state is followed only if its assertion is in
 /// `look_have`. A state that the set contains already is not followed. Only the stack allocates,
-/// and not if `start` has no epsilon edge. The stack is empty afterwards, also on error. On error
+/// and not if `start` is no epsilon state. The stack is empty afterwards, also on error. On error
 /// the set has its old ids and a prefix of those that were to be added.
 #[tactic(auto, using(crate::proofs::closure::ClosureSteps::leaf_search))]
 pub fn epsilon_closure<N: Allocator, A: Allocator>(

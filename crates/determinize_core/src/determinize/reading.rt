@@ -110,7 +110,8 @@ impl<'a> Ids for SparseSetIter<'a> {
 }
 
 /// Reads the states of a list: pushes the targets and adds the patterns, under
-/// `MatchKind::LeftmostFirst` up to the first match. Repeats are skipped.
+/// `MatchKind::LeftmostFirst` up to the first match. Repeats are skipped: `kept` has the states so
+/// far that gave a pattern or a target.
 #[inline(always)]
 pub(crate) fn read_states<N: Allocator, A: Allocator, I: Ids>(
     nfa: &NFA<N>,

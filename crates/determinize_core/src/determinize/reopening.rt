@@ -1,5 +1,4 @@
-//! Reopening a working list: whether a unit of input makes the closure of the recorded states be
-//! computed again.
+//! Whether the closure of the recorded states must be computed again for a unit of input.
 //!
 //! The recorded states are closed under look-have. If the unit satisfies a further assertion of
 //! look-need, their closure is computed again, with that assertion. Most units satisfy none. If
@@ -35,8 +34,8 @@ fn tests_lines(set: LookSet) -> bool
     set.contains_anchor_haystack() || set.contains_anchor_line()
 }
 
-/// Returns true only if the unit satisfies no assertion of look-need that is not in look-have. The
-/// word assertions decide, and so it returns false if look-need has others.
+/// Returns true only if the unit satisfies no assertion of look-need that is not in look-have. It
+/// tests word assertions only, so it may return false although the unit satisfies none.
 #[tactic(auto, using(crate::proofs::step::RedoTest::words_decide))]
 fn stays_closed(from_word: bool, unit: Unit, have: LookSet, need: LookSet) -> bool
     ensures { (tables : Tables) (half_crlf : Bool) → IsTrue result → specs_of_steps.is_redone

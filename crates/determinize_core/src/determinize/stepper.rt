@@ -22,8 +22,8 @@ use std::mem::size_of;
 /// The states depend on the NFA, the match kind and the arguments of the call only, not on earlier
 /// calls. After an error a stepper can be used as before.
 ///
-/// The first call allocates the sets. The stack and the builder's memory keep their capacity
-/// between calls. A stepper is seen as its NFA and its match kind.
+/// The first `start` or `next` allocates the sets. The builder's memory is lost on error, and goes
+/// with a state of `next_lent`. A stepper is seen as its NFA and its match kind.
 #[derive(Drop)]
 pub struct Stepper<'n, N: Allocator = Global, A: Allocator = Global> {
     alloc: A,
@@ -77,7 +77,7 @@ impl<'n, N: Allocator, A: Allocator + Copy> Stepper<'n, N, A> {
     }
 
     /// Returns the heap memory of the scratch and of the builder, in bytes. A set has an id and a
-    /// bit for each NFA state.
+    /// bit for each NFA state. No clause says how much it is.
     pub fn memory_usage(&self) -> usize {
         let states = match &self.sparses {
             Some(sparses) => sparses.set1.capacity(),
@@ -94,7 +94,8 @@ impl<'n, N: Allocator, A: Allocator + Copy> Stepper<'n, N, A> {
     /// Returns the state before the first unit, as [`start_state`] does.
     ///
     /// - `start` is the NFA state to start from, below the number of states.
-    /// - `look_behind` is the byte before the text, `None` at the start of the haystack.
+    /// - `look_behind` is the byte before the text in reading order, `None` at an end of the
+    ///   haystack.
     pub fn start(&mut self, start: StateID, look_behind: Option<u8>) -> Result<State<A>, AllocError>
         requires { start < length self.old.nfa.states }
         ensures ok { IfOk result (λ state. state ≡ start_value self.old.nfa start look_behind) }

@@ -8,10 +8,11 @@ ghost use Rattle.std.specs.Prelude.{◌≡◌, ℕ, ◌+◌, ◌<◌, Bool, true
 use std::marker::Model;
 use std::sync::ledger::{Blank, Book, Ledger, Share};
 
-/// The number of tries to add a state to a set, each try of an epsilon closure counted.
+/// The number of tries of epsilon closures to add a state to a set, also states that are in it.
 ///
 /// It has size 0 and no program can read it: only contracts use it. Only the closures of this crate
-/// increment it. The parameter is the ledger of the count.
+/// increment it. The parameter is the ledger of the count (`std::sync::ledger`), which a `Blank`
+/// opens.
 #[derive(Drop)]
 pub struct Steps<L: Ledger> {
     book: Book<L>,

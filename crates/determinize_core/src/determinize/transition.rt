@@ -78,8 +78,8 @@ fn transition<N: Allocator, A: Allocator, C: Counter>(
     read_working_list(
         nfa, match_kind, state, unit, sparses, stack, builder, counter,
     )?;
-    // Without targets there is nothing that could use the flags, and setting them would make
-    // different states of what is one: the dead state, or the same matches and nothing else.
+    // Without targets nothing uses the flags, and setting them would give states that differ in
+    // flags only, such as a second dead state.
     set_flags(look_behind, !stack.is_empty(), builder);
     explore(
         nfa,

@@ -20,7 +20,7 @@ use std::alloc::{AllocError, Allocator};
 /// Returns the state before the first unit, in a builder.
 ///
 /// - `start` is the NFA state to start from, below the number of states.
-/// - `look_behind` is the byte before the text, `None` at the start of the haystack.
+/// - `look_behind` is the byte before the text in reading order, `None` at an end of the haystack.
 /// - `sparses` and `stack` are scratch, as in [`crate::determinize::next`].
 ///
 /// The state has the look-behind for that byte and the epsilon closure of `start`. It lists no

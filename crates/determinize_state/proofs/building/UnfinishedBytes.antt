@@ -1,6 +1,6 @@
 -- The bytes of a state that is being built.
 -- Main statements: built, have_written, state_written, built_zeros.
--- Used by: the calls of the builders.
+-- Used by: the calls of the builders, `State::dead`, RestoredMarks, AddedPatterns.
 -- Idea: the bytes are a header and a list that grows at its end.
 use Rattle.determinize_state.proofs.Common.{◌≡◌, ℕ, true, ◌<◌, ◌≤◌, List, [], ◌∷◌, ◌++◌, refl, arith, sym, ap, ◌∙◌, append-nil, append_assoc, subst, All-push, Value, IsValue, dead, with_state, varint, zigzag, last_id, with_word, value_of, IsSpelled, with_bit, IsBuilding}
 use Rattle.determinize_state.specs.Spelling.{spell}

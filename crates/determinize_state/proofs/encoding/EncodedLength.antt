@@ -1,6 +1,6 @@
 -- The length of an encoding.
 -- Main statements: spell_short.
--- Used by: `State::memory_usage`.
+-- Used by: `State::memory_usage`, `write_groups`.
 -- Idea: each part has at most five bytes for each number.
 use Rattle.determinize_state.proofs.Common.{ℕ, ◌+◌, ◌*◌, ◌/◌, ◌≤◌, List, [], ◌∷◌, length, suc, zero, arith, lit≤, length-append, Value, groups, zigzag, deltas, words}
 use Rattle.determinize_state.specs.Varint.{varint}

@@ -1,6 +1,6 @@
 -- Reading the bytes of a finished state.
 -- Main statements: laid_out_in, rest_valid, number_of.
--- Used by: the calls that read a state.
+-- Used by: the calls that read a state, UnfinishedBytes, AddedPatterns.
 -- Idea: the bytes are those of a value, so each place has that part of the value.
 use Rattle.determinize_state.proofs.Common.{◌≡◌, ℕ, ◌*◌, ◌<◌, ◌≤◌, List, [], length, All, suc, zero, refl, arith, sym, take, drop, lit≤, subst, slice_index, All-head, All-tail, ◌∷◌, from_le_bytes, w32, IsDeltas, words, number_at, numbers_in, has_flag, start_in, IsSpelled, ids_from, patterns_in}
 use Rattle.determinize_state.specs.Spelling.{value_of}

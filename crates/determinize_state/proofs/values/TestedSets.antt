@@ -1,6 +1,6 @@
 -- The assertions that the states of a list test.
 -- Main statements: Decides-needs, needs_member, insert-had.
--- Used by: `need_law`, WorkingLists.
+-- Used by: UnfinishedBytes; `need_law`, WorkingLists and AlikeBytes of `determinize_core`.
 -- Idea: the set is built state by state.
 use mathlib.Core.Bool.{or-false}
 use Rattle.determinize_state.proofs.Common.{◌≡◌, ℕ, ◌<◌, ◌^◌, true, ◌||◌, ◌⊎◌, inr, List, [], ◌∷◌, refl, sym, ◌∙◌, Option, Some, None, nat_eq, Decides, Any, Contains, list_any, true≢false, or_left, eq-eqb, Decides-at, Decides-or, assertion_of, bit_of, has, Nfa, with_assertion, needs, arith}

@@ -1,4 +1,4 @@
--- The checkpoint of a builder.
+-- The mark of a builder.
 use Rattle.std.specs.Prelude.{◌≡◌, length}
 use Rattle.determinize_state.specs.Value.{Value}
 use Rattle.determinize_state.specs.Spelling.{spell}

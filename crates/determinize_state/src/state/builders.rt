@@ -1,8 +1,9 @@
 //! The three builders of a state.
 //!
 //! `StateBuilderEmpty` has an empty buffer, or the nine bytes of an empty header. From
-//! `into_matches` on, the bytes encode the value of the builder, and each part is appended. `clear`
-//! keeps the buffer, so that a walk needs one for all its states. `into_state` makes it the memory
+//! `into_matches` on, the bytes encode the value of the builder: flags and sets are written in
+//! place, patterns and NFA states are appended. `clear` keeps the buffer, so that a walk needs one
+//! for all its states. `into_state` makes it the memory
 //! of a state, and `from_state` takes it back, so that a state can be looked up without a copy.
 //!
 //! `clear` leaves an empty header, so `into_matches` writes one for the first state only: a builder

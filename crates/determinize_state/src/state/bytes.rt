@@ -14,16 +14,17 @@ use crate::state::pattern_ids::PatternIds;
 use determinize_below::{LookSet, PatternID};
 use std::alloc::{AllocError, Allocator};
 
-/// The flag of the first byte that some pattern matches.
+/// The bit of the first byte that is set if some pattern matches.
 pub(crate) const MATCH: u8 = 1;
 
-/// The flag of the first byte that the patterns are explicit.
+/// The bit of the first byte that is set if the patterns are explicit.
 pub(crate) const EXPLICIT: u8 = 2;
 
-/// The flag of the first byte that the byte before the state is a word byte.
+/// The bit of the first byte that is set if the byte before the state is a word byte.
 pub(crate) const FROM_WORD: u8 = 4;
 
-/// The flag of the first byte that the byte before the state may be the first half of a CRLF.
+/// The bit of the first byte that is set if the byte before the state may be the first half of a
+/// CRLF.
 pub(crate) const HALF_CRLF: u8 = 8;
 
 /// The offset of look-have.
@@ -38,7 +39,7 @@ pub(crate) const COUNT: usize = 9;
 /// The offset of the explicit patterns.
 pub(crate) const PATTERNS: usize = 13;
 
-/// Removes all but the header, and empties that.
+/// Truncates the bytes to the header, and zeroes it.
 #[inline(always)]
 pub(crate) fn clear<A: Allocator>(bytes: &mut Vec<u8, A>)
     requires { 9 ≤ vec_len bytes.old }
