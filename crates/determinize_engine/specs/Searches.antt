@@ -23,7 +23,7 @@ pub record IsSearch (nfa : Nfa) (kind : MatchKind) (start : ℕ) (text : Text)
   pub farthest : kind ≡ All → IsFarthestMatch nfa start text found
   pub within : IfSome found (λ m. m.offset ≤ length text.bytes)
 
--- whether there is a start for a search that is so anchored: for one pattern alone there is none
+-- whether there is a start for a search in this anchored mode: none for `Anchored::Pattern`
 abbrev pub has_start : Anchored → Bool
 has_start No = true
 has_start Yes = true
@@ -39,7 +39,7 @@ abbrev pub in_order : Bool → List ℕ → List ℕ
 in_order false bytes = bytes
 in_order true bytes = reverse bytes
 
--- what a search of a range reads: its bytes, with what stands beside it in the haystack
+-- what a search of a range reads: its bytes, with the bytes before and after it
 abbrev pub text_of : Bool → Asked → Text
 text_of false asked = between (byte_before asked.haystack asked.start)
     (slice_range asked.haystack asked.start asked.end) (slice_get asked.haystack asked.end)
@@ -47,7 +47,7 @@ text_of true asked = between (slice_get asked.haystack asked.end)
     (reverse (slice_range asked.haystack asked.start asked.end))
     (byte_before asked.haystack asked.start)
 
--- the index in the haystack after so many bytes
+-- the index in the haystack after `read` bytes
 abbrev pub index_after : Bool → Asked → ℕ → ℕ
 index_after false asked read = asked.start + read
 index_after true asked read = asked.end - read

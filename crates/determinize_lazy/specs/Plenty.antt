@@ -26,7 +26,7 @@ module _ (f : Value → Option ℕ → Value) where
   missing t v [] = 0
   missing t v (u ∷ us) = cond (is_cached t v u) 0 1 + missing (with_step t v u) (f v u) us
 
--- the cache was not emptied, each transition of the walk is cached, each that was missing was
+-- the cache was not cleared, each transition of the walk is cached, each that was missing was
 -- computed once, and the same walk again changes nothing
 pub record KeepsAll (old : Cache) (v : Value) (us : List (Option ℕ)) (new : Cache) : Type 0 where
   pub table : new.table ≡ with_walk (step_of old) old.table v us

@@ -1,4 +1,4 @@
--- Example walks and searches over one cache of the NFA `\b\w+\b`, the preferred match wanted: how
+-- Example walks and searches over one cache of the NFA `\b\w+\b`, under `LeftmostFirst`: how
 -- many transitions are computed, and how many states are cached then.
 use Rattle.std.specs.Prelude.{◌≡◌, ℕ, true, Option, Some, None, List, [], ◌∷◌, length}
 use Rattle.determinize_below.specs.declared.search.MatchKind.TheVariants.{LeftmostFirst}
@@ -11,7 +11,7 @@ use Rattle.determinize_table.specs.Table.{empty as nothing}
 use Rattle.determinize_lazy.specs.CachedSearches.{after_search}
 use Rattle.determinize_engine.specs.Searches.{last_in}
 
--- an empty cache of at most so many states
+-- an empty cache of at most `limit` states
 abbrev pub empty : ℕ → Cache
 empty limit =
     record { nfa = n4; kind = LeftmostFirst; limit = limit; table = nothing; computed = 0 }
@@ -28,7 +28,7 @@ rest_of_a_word = between None (0x75 ∷ 0x61 ∷ 0x72 ∷ 0x74 ∷ 0x7A ∷ []) 
 abbrev pub inside_a_word : Text
 inside_a_word = between (Some 0x71) (0x75 ∷ 0x61 ∷ 0x72 ∷ 0x74 ∷ 0x7A ∷ []) None
 
--- the cache after walks over texts in order, emptied at each `None`
+-- the cache after walks over texts in order, cleared at each `None`
 abbrev pub after_texts : Cache → List (Option Text) → Cache
 after_texts c [] = c
 after_texts c (None ∷ texts) = after_texts (record c { table = nothing }) texts
@@ -44,7 +44,7 @@ abbrev pub LeavesAfterSearch : Text → ℕ → ℕ → Type 0
 LeavesAfterSearch text computed cached = ((after_search (empty 16) 0 text).computed ≡ computed)
     × (length (after_search (empty 16) 0 text).table.states ≡ cached)
 
--- a range of `= ok =`, in which a word stands from 2 to 4
+-- a range of `= ok =`, in which a word is from 2 to 4
 abbrev pub between_signs : ℕ → ℕ → Asked
 between_signs start end = record {
   haystack = 0x3D ∷ 0x20 ∷ 0x6F ∷ 0x6B ∷ 0x20 ∷ 0x3D ∷ [];

@@ -1,7 +1,8 @@
 //! A bounded cache of transitions, and walks over it.
 //!
-//! No single state or transition is ever removed: the cache is cleared as a whole, so between two
-//! clears each id stays that of its state.
+//! The cache is cleared as a whole: by `clear`, by a computed transition that does not fit, and by
+//! an error while one is added. No single state or transition is ever removed, so between two
+//! clears the id of a cached state stays the same.
 
 ghost use Rattle.std.specs.Prelude.{◌≡◌, ◌<◌, ◌≤◌, ◌*◌, length, IfOk, OnErr, OnOk};
 ghost use Rattle.determinize_below.specs.Nfa.{AllResolve, IsAccepted};

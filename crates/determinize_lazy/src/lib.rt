@@ -6,7 +6,8 @@
 //!
 //! - `lazy`: the type, and walks. `search`: searches. `step`: one step of either. `scan`: searches
 //!   of texts in pieces. `walker`: walks by steps. `engine`: a lazy DFA as an `Engine`.
-//! - The transition table and the rule of what is cached are the crate `determinize_table`.
+//! - The transition table and the rule of what is cached are in the crate `determinize_table`,
+//!   which also says what a row is.
 //!
 //! A `Result` is `Err` if an allocation fails or more than 16647160 states would be cached.
 #![tactic(auto)]

@@ -1,10 +1,14 @@
 //! Searches over the cache: the last match of a walk, without a list of its states.
 //!
 //! If the id of its start state is kept (`step`), a search begins at that id and follows cached
-//! transitions from row to row. For each byte `follow` reads two numbers in the row of the current
-//! state: the entry of the byte, which is the offset of the next row, and the tag. It neither
-//! allocates nor hashes, and computes no state. Where a transition is not cached, `search_from`
-//! takes one step and follows cached transitions again.
+//! transitions from row to row; else the start state is computed and looked up (`search_anew`). For
+//! each byte `follow` reads two numbers in the row of the current state: the entry of the byte,
+//! which is the offset of the next row, and the tag. It neither allocates nor hashes, and computes
+//! no state. Where a transition is not cached, `search_from` (its loop is `search_bytes`) takes one
+//! step, which is computed if it is not cached, and follows cached transitions again.
+//!
+//! A search ends after the unit ahead of its text, at a dead state (one that records no NFA states)
+//! and, in `is_match`, at the first match state.
 //!
 //! Matches are delayed by one unit: a state lists the patterns that match before the unit that led
 //! to it. So a search also reads the unit ahead of its text, and a start state is no match state.
@@ -151,6 +155,7 @@ impl<'n, N: Allocator, A: Allocator + Copy> Lazy<'n, N, A> {
     }
 
     /// Takes a step over a unit, from a position at which the search does not end.
+    #[inline(always)]
     fn advance(&mut self, at: Position<A>, unit: Option<u8>) -> Result<Position<A>, AllocError>
         requires position { IsPosition self.old at }
         requires read { at.read < usize.MAX }

@@ -1,7 +1,9 @@
 //! Steps of walks and searches: over a cached transition, or computed and cached by the rule.
 //!
 //! The start states of searches are kept by the kind of their start, which is all that they depend
-//! on besides the NFA state. A search computes its start state anew as long as that is not cached.
+//! on besides the NFA state. Only starts from the two start states of the NFA are kept, and the
+//! table drops them when it is cleared. A search computes its start state anew as long as that is
+//! not cached.
 
 ghost use Rattle.std.specs.Prelude.{◌≡◌, ◌<◌, ℕ, false, length, slice_get, IfOk, Some};
 ghost use Rattle.std.specs.Option.{IfSome};
@@ -22,8 +24,9 @@ use determinize_core::state::State;
 use determinize_table::{Cursor, LazyStateId, StateTag};
 use std::alloc::{AllocError, Allocator};
 
-/// Returns the index at which the start of a search is kept: the kind of the start, for the
-/// unanchored start behind those of the anchored one. `None` for any other state.
+/// Returns where the id of a start state is kept: 0 to 5, by the kind of start, for the anchored
+/// start of the NFA, and 6 to 11 for the unanchored one. `None` for any other NFA state: its start
+/// is not kept.
 fn start_index<N: Allocator>(nfa: &NFA<N>, start: StateID, look_behind: Option<u8>) -> Option<usize>
     ensures value { result ≡ start_index nfa.now start look_behind }
     ensures limit { IfSome result (λ index. index < 12) }

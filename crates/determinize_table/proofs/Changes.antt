@@ -1,6 +1,6 @@
 -- What functions that change a table leave, and what ids and cursors are in it.
 -- Main statements: transition-kept, index_before, at_id.
--- Used by: the functions of `table.rt`, and Cursors of `determinize_lazy`.
+-- Used by: the functions of `table.rt`.
 -- Idea: interning adds one state at most, at the end, so ids stay; then one write to the rows adds the transition.
 use Rattle.determinize_table.proofs.Common.{ap, arith, column, dead, get_or_from_slice_get, is_unit, IsAt, IsInterned}
 use Rattle.determinize_table.proofs.Common.{IsKept, IsStored, List, Ok, Option, slice_get, slice_get-get_or}

@@ -1,6 +1,6 @@
 -- The rows of a table: the targets that they store, and rows with one more state or one more transition.
 -- Main statements: table-is, pushed, rows-set, entry-read.
--- Used by: Changes, and the proofs of `push`, `insert` and `lookup`.
+-- Used by: Changes, and the proofs of `push` and `lookup`.
 -- Idea: different pairs of row and column have different places, so a write changes one entry. Rows determine the
 -- targets (table-is), so it is enough to give those of the new rows.
 use Rattle.determinize_table.proofs.Common.{[], AreRows, arith, by_cases, by_option, column, drop, entry_at, false}

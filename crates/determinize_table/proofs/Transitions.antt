@@ -1,6 +1,6 @@
 -- Tables with one more transition, which is a step of the DFA, are tables of steps (`IsTable`).
 -- Main statements: empty-is, with_transition-is, with_target-new, not_source.
--- Used by: `determinize_lazy` (Rule, Cursors, Plenty), for its cache.
+-- Used by: `determinize_lazy` (Rule, Cursors, Plenty, and `Lazy::new`), for its cache.
 -- Idea: each transition is the new one or was there, and each state is its source, its target or was there.
 use Rattle.determinize_table.proofs.Common.{arith, by_cases, by_option, Contains, empty, false, inl, inr, IsTable, List}
 use Rattle.determinize_table.proofs.Common.{list_any, list_any-from_Contains, None, Option, refl, same, Some, sym}

@@ -30,7 +30,7 @@ same_unit = option_eq nat_eq
 abbrev pub with_value : List Value → Value → List Value
 with_value values v = cond (list_any (same v) values) values (values ++ v ∷ [])
 
--- the values with more at the end, each unless it is there by then
+-- the values with more at the end, each unless it is there already
 abbrev pub with_values : List Value → List Value → List Value
 with_values values [] = values
 with_values values (v ∷ vs) = with_values (with_value values v) vs

@@ -2,19 +2,24 @@
 //! the rule of what is cached. `determinize_lazy` computes states and searches over the table.
 //!
 //! - A *row* is 258 numbers, one row for each cached state, all in one vector. In the column of a
-//!   byte, or of the end of input (EOI), is the entry of that transition: the offset of the row of
-//!   its target, or 1 if it is not cached. In the last column is the tag of the state.
+//!   byte, or of the end of input (EOI), is the entry of the transition from the row's state over
+//!   it: the offset of the row of the target, or 1 if the transition is not cached. In the last
+//!   column is the tag of the state.
 //! - The *id* of a state (`state_id`) is the offset of its row; contracts see it as the index of
 //!   the state. So a search goes from one state to the next by one addition and one read.
-//! - The *tag* (`tag`) is what a search asks of a state: its first pattern, and whether it is dead.
-//!   So a search over cached transitions reads two numbers a byte, and no state.
-//! - A *cursor* is a place of a walk or a search: the id of a cached state, or a state.
+//! - The *tag* (`tag`) is what a search asks of a state: its first pattern, and whether it is dead
+//!   (records no NFA states, so that no match follows). So a search over cached transitions reads
+//!   two numbers a byte, and no state.
+//! - A *cursor* is a place of a walk or a search: the id of a cached state, or a state that is not
+//!   cached.
 //!
-//! `TransitionTable::keep` (`table`) caches a computed transition with its two states. If there
-//! would be more states than a limit, it clears the table first; if its two states are more than
-//! the limit, it caches nothing. The table is also cleared if the target cannot be added after the
-//! source. No single state or transition is removed, so between two clears an id stays that of its
-//! state.
+//! `TransitionTable::keep` (`table`) caches a computed transition with its two states. If the table
+//! would then have more than `limit` states, it is cleared first; if the two states alone are more
+//! than `limit`, it stays empty. It is also cleared if adding the target fails, since the source
+//! may just have been added and would be in no transition. No single state or transition is
+//! removed, so between two clears an id stays that of its state.
+//!
+//! All is public for `determinize_lazy` only.
 //!
 //! A `Result` is `Err` if an allocation fails or more than 16647160 states would be cached.
 #![tactic(auto)]

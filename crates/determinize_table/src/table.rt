@@ -139,7 +139,7 @@ impl<A: Allocator + Copy> TransitionTable<A> {
         self.states.get(id.index())
     }
 
-    /// Returns whether a state is cached with this id.
+    /// Returns `true` only if a state is cached with this id.
     #[inline(always)]
     #[tactic(auto, using(crate::proofs::Changes::caching))]
     pub fn has(&self, id: LazyStateId, state: &State<A>) -> bool
@@ -241,11 +241,12 @@ impl<A: Allocator + Copy> TransitionTable<A> {
         }
     }
 
-    /// Returns the id of a state. Caches the state if it is not cached. `found` is its id, as it
-    /// was looked up. The state at `source` may have been cached since, so a state that was not
-    /// found may be that one.
+    /// Returns the id of a state. Caches the state if it is not cached. `found` is what a lookup
+    /// returned before the state at `source` was interned, so a state that was not found may be
+    /// that one.
     ///
     /// If an allocation fails, the table is unchanged.
+    #[inline(always)]
     #[tactic(auto, using(crate::proofs::Changes::caching))]
     fn intern_after(
         &mut self,
@@ -268,6 +269,7 @@ impl<A: Allocator + Copy> TransitionTable<A> {
     /// cursor of the target. `found` is the id of the target, if it is cached.
     ///
     /// If an allocation fails, the table is unchanged or empty.
+    #[inline(always)]
     fn insert(
         &mut self,
         source: Cursor<A>,
@@ -287,7 +289,7 @@ impl<A: Allocator + Copy> TransitionTable<A> {
                 Ok(Cursor::Cached(target))
             }
             Err(failed) => {
-                // The source may have been cached, and no transition has it.
+                // The source may just have been added, and no transition would have it.
                 self.clear();
                 Err(failed)
             }

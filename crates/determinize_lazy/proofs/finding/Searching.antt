@@ -1,4 +1,8 @@
 -- A search, one unit more at a time, and what it finds and leaves.
+-- Main statements: searched-next, over-at, next-cached, last-read, search-is.
+-- Used by: the functions of `search.rt` and `scan.rt`.
+-- Idea: what a search has read, followed by what is ahead of it, is all that it reads; so its match and what it leaves
+-- are those of the walk over the units that it reads.
 use Rattle.determinize_lazy.proofs.Common.{[], after_step, ap, append-nil, arith, Asked, Bool, by_test, Cache, cache}
 use Rattle.determinize_lazy.proofs.Common.{cached_place, cursor_value, dead, Decides, drop, drop_all, ended_at, Err}
 use Rattle.determinize_lazy.proofs.Common.{false, future, GoesTo, Grows, HalfMatch, HasMatch, inl, inr, is_last}

@@ -1,6 +1,6 @@
 -- A step over a cached transition: what a lookup returns is the state that follows.
 -- Main statements: cached_target, cached_step, stepped_at.
--- Used by: `step`, and searches of what is cached.
+-- Used by: `step`, `compute`, and searches of what is cached.
 -- Idea: each cached transition is a step of the DFA, and the step over it changes nothing.
 use Rattle.determinize_lazy.proofs.Common.{after_step, ap, arith, Cache, cache, cursor_value, dead, false, get_or, IsAt}
 use Rattle.determinize_lazy.proofs.Common.{is_cached, IsCursor, is_some, IsSound, IsStepped, IsTable, IsTarget}

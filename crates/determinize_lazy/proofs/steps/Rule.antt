@@ -1,6 +1,6 @@
 -- What the rule keeps, and what is true of a cache after it; and general laws.
 -- Main statements: lazy-kept, stepped, lazy-sound.
--- Used by: `compute`, `step`, `kept_start`; the general laws by searches, too.
+-- Used by: `compute`, `step`, `kept_start`; the general laws by searches and `determinize_find`, too.
 -- Idea: a step leaves the table that the rule keeps or, if it fails, the one before or none.
 use Rattle.determinize_lazy.proofs.Common.{arith, by_cases, by_test, Cache, cache, count_after, empty, Err, false, fits}
 use Rattle.determinize_lazy.proofs.Common.{Grows, IfOk, inr, IsAccepted, is_cached, IsKept, IsLazy, IsSound, IsStepped}

@@ -102,7 +102,8 @@ pub record IsSearched (earliest : Bool) (old : Cache) (first : Value) (us : List
       ≡ last_match (future old.nfa old.kind first (take p.read (units_ahead earliest old first us)))
   pub grows : Grows old p.cache
 
--- what a search over units leaves if it fails: what the walk over those that it reads leaves
+-- what a search over units leaves if it fails: what a walk over the units that it reads leaves if
+-- it fails
 pub record IsFailed (earliest : Bool) (old : Cache) (first : Value) (us : List (Option ℕ))
     (new : Cache) : Type 0 where
   pub cut_off : IsCutOff old first (units_ahead earliest old first us) new
@@ -138,7 +139,7 @@ abbrev pub Fails : Bool → Text → Place → Cache → Type 0
 Fails earliest text p new = (us : List (Option ℕ)) → Begins text us → (old : Cache) (first : Value)
     → IsSearched earliest old first us p → IsFailed earliest old first us new
 
--- such a search at a position
+-- each search at the place comes to this position, which is not before it, and within the text
 pub record GoesTo {A : Type 0} (earliest : Bool) (text : Text) (p : Place) (c : LazyValue)
     (at : Position A) : Type 0 where
   pub position : IsPosition c at
