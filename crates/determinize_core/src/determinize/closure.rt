@@ -1,9 +1,8 @@
 //! Epsilon closure: the NFA states reachable without input, in order of preference.
 //!
 //! One loop, [`explore`], searches depth first. The current list has what remains of the edges of
-//! the last state that had any, and what remains of earlier ones waits on the stack. A state of
-//! the set is not visited again, so the search ends on cycles. A [`Recorder`] receives each new
-//! state, a [`Counter`] counts each try.
+//! the last state that had any, the stack what remains of earlier ones. No state of the set is
+//! visited again, so cycles end. A [`Recorder`] receives each new state, a [`Counter`] each try.
 
 ghost use Rattle.std.specs.Prelude.{◌≡◌, ◌+◌, ◌<◌, ◌≤◌, ℕ, List, [], ◌∷◌, ◌++◌, ◌⊎◌, None, IsTrue, drop, false, fold, length, reverse, IfNone, IfSome, IfOk, OnOk, OnErr, IsOk};
 ghost use Rattle.determinize_below.specs.Edges.{edges, reach_past};
@@ -61,8 +60,7 @@ fn push_reversed<A: Allocator>(
 }
 
 /// Records a state and returns the next current list: its epsilon targets, or the first of them,
-/// with what remains pushed, and `others` if no edge is followed. Most states have no epsilon edge,
-/// so that is tested before their kind is decided.
+/// with what remains pushed; `others` if it has none, as most states, which is tested first.
 #[inline(always)]
 #[tactic(auto, using(crate::proofs::closure::ClosureSteps::following))]
 fn record_and_follow<'a, N: Allocator, A: Allocator, W: Recorder>(
@@ -188,11 +186,10 @@ pub(crate) fn explore<N: Allocator, A: Allocator, W: Recorder, C: Counter>(
 
 /// Adds the epsilon closure of `start` to the set: `start` and what it reaches without input.
 ///
-/// The states are added after those of the set in order of preference: depth first, the earlier
-/// alternates of a union first, and a `Look` state is followed only if its assertion is in
-/// `look_have`. A state that the set contains already is not followed. Only the stack allocates,
-/// and not if `start` is no epsilon state. The stack is empty afterwards, also on error. On error
-/// the set has its old ids and a prefix of those that were to be added.
+/// The states are added after those of the set, in order of preference: depth first, the earlier
+/// alternates of a union first. A `Look` state is followed only if its assertion is in `look_have`,
+/// a state of the set is not. Only the stack allocates, and not if `start` is no epsilon state. It
+/// is empty afterwards, also on error; then the set has a prefix of what was to be added.
 #[tactic(auto, using(crate::proofs::closure::ClosureSteps::leaf_search))]
 pub fn epsilon_closure<N: Allocator, A: Allocator>(
     nfa: &NFA<N>,
