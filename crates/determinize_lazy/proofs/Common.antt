@@ -38,7 +38,7 @@ pub use Rattle.determinize_lazy.specs.Private.Searched.{cached_place, Fails, Goe
 pub use Rattle.determinize_lazy.specs.Private.Searched.{IsFailed, IsNext, IsOver, IsOverText, IsPosition, IsReached}
 pub use Rattle.determinize_lazy.specs.Private.Searched.{IsSearched, next_place, Place, place, reported, units_ahead}
 pub use Rattle.determinize_lazy.specs.Private.Starts.{AreStarts, start_index}
-pub use Rattle.determinize_lazy.specs.Private.Steps.{IsFailedStep, IsSound, IsStepped, IsWalking}
+pub use Rattle.determinize_lazy.specs.Private.Steps.{IsFailedStep, IsFollowed, IsSound, IsStepped, IsWalking}
 pub use Rattle.determinize_table.specs.Tags.{is_last_tag, match_of, match_reported, Tag, tag_in, tag_of}
 pub use Rattle.determinize_engine.specs.UnitsRead.{is_last, units_read}
 pub use Rattle.determinize_table.specs.Table.{empty, is_cached, IsTable, Table}

@@ -11,13 +11,14 @@ ghost use Rattle.determinize_core.specs.Chain.{future, units};
 ghost use Rattle.determinize_core.specs.WholeWalk.{IsWalk};
 ghost use Rattle.determinize_lazy.specs.Cache.{Grows, IsCutOff, IsCutOffText, after_text, after_walk, cache, step_of};
 ghost use Rattle.determinize_lazy.specs.Plenty.{IsPlentyText};
+ghost use Rattle.determinize_lazy.specs.Private.Steps.{IsFollowed};
 ghost use Rattle.determinize_table.specs.Table.{IsTable, empty};
 
 use determinize_below::{MatchKind, NFA, StateID};
 use determinize_core::determinize::Stepper;
 use determinize_core::state::State;
 use determinize_engine::text::Text;
-use determinize_table::TransitionTable;
+use determinize_table::{Cursor, LazyStateId, TransitionTable};
 use std::alloc::{AllocError, Allocator, Global};
 use std::marker::Model;
 
@@ -157,6 +158,33 @@ impl<'n, N: Allocator, A: Allocator + Copy> Lazy<'n, N, A> {
         self.table.clear();
     }
 
+    /// Follows cached transitions over the units of a text from an index on, and adds a clone of
+    /// each state. Returns the id of the last one and the index of the first unit not read.
+    #[inline(always)]
+    fn follow_units(
+        &self,
+        from: LazyStateId,
+        start: usize,
+        text: &Text<'_>,
+        states: &mut Vec<State<A>, A>,
+    ) -> Result<(LazyStateId, usize), AllocError>
+        requires { from < length self.now.states }
+        ensures { IfOk result (λ at. IsFollowed (units text.now) self.now from start
+            states.old.items at.0 at.1 states.new.items) }
+    {
+        let mut id = from;
+        let mut read = start;
+        while read <= text.len() {
+            let Some(next) = self.table.lookup(id, text.unit(read)) else {
+                return Ok((id, read));
+            };
+            states.push(self.table.get(next).clone()?)?;
+            id = next;
+            read += 1;
+        }
+        Ok((id, read))
+    }
+
     /// Returns a state and the states that follow it over each unit of a text.
     fn walk_from(
         &mut self,
@@ -181,6 +209,11 @@ impl<'n, N: Allocator, A: Allocator + Copy> Lazy<'n, N, A> {
             cursor = self.step(cursor, unit)?;
             states.push(self.table.state(&cursor).clone()?)?;
             read += 1;
+            if let Cursor::Cached(id) = &cursor {
+                let (id, next) = self.follow_units(*id, read, text, &mut states)?;
+                cursor = Cursor::Cached(id);
+                read = next;
+            }
         }
         Ok(states)
     }

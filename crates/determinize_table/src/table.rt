@@ -132,7 +132,7 @@ impl<A: Allocator + Copy> TransitionTable<A> {
 
     /// Returns the cached state with this id.
     #[inline(always)]
-    fn get(&self, id: LazyStateId) -> &State<A>
+    pub fn get(&self, id: LazyStateId) -> &State<A>
         requires { id < length self.now.states }
         ensures { slice_get self.now.states id ≡ Some result.now }
     {

@@ -1,11 +1,12 @@
 -- A step over a cached transition: what a lookup returns is the state that follows.
--- Main statements: cached_target, cached_step, stepped_at.
--- Used by: `step`, `compute`, and searches of what is cached.
+-- Main statements: cached_target, cached_step, stepped_at, followed-next.
+-- Used by: `step`, `compute`, `follow_units`, and searches of what is cached.
 -- Idea: each cached transition is a step of the DFA, and the step over it changes nothing.
-use Rattle.determinize_lazy.proofs.Common.{after_step, ap, arith, Cache, cache, cursor_value, dead, false, get_or, IsAt}
+use Rattle.determinize_lazy.proofs.Common.{[], after_step, ap, arith, Cache, cache, cursor_value, dead, false, get_or, IsAt}
 use Rattle.determinize_lazy.proofs.Common.{is_cached, IsCursor, is_some, IsSound, IsStepped, IsTable, IsTarget}
-use Rattle.determinize_lazy.proofs.Common.{LazyValue, Ok, Option, refl, slice_get-get_or, Some, step_of, true, Value, ℕ}
-use Rattle.determinize_lazy.proofs.Common.{◌∙◌, ◌≡◌}
+use Rattle.determinize_lazy.proofs.Common.{get_or_from_slice_get, IsFollowed, LazyValue, List, Ok, Option, refl, slice_get}
+use Rattle.determinize_lazy.proofs.Common.{slice_get-get_or, Some, step_of, true, Value, ℕ, ◌++◌, ◌+◌, ◌∙◌, ◌∷◌, ◌≡◌}
+use Rattle.determinize_lazy.proofs.walking.CachedWalks.{drop-one, walks-on}
 use Rattle.determinize_core.proofs.step.Resolving.{step_resolves}
 use Rattle.determinize_table.specs.declared.table.Cursor.{Cursor}
 use Rattle.determinize_table.specs.declared.table.Cursor.TheVariants.{Cached, Uncached}
@@ -40,3 +41,20 @@ pub absent-at : {A : Type 0} (c : Cache) (cursor : Cursor A) (u : Option ℕ) �
     → is_cached c.table (cursor_value c.table.states cursor) u ≡ false
 absent-at c (Cached id) u is at none = none id refl
 absent-at c (Uncached state) u is at none = ap is_some (not_source (step_of c) c.table state u is at)
+
+-- what is followed over cached transitions is followed over one more
+pub followed-next : {us : List (Option ℕ)} {c : LazyValue} {from start id read next : ℕ} {before done : List Value}
+    {u : Option ℕ} {w : Value} → IsSound (cache c) → IsFollowed us c from start before id read done
+    → slice_get us read ≡ Some u
+    → ((v : Value) → slice_get c.states id ≡ Some v → IsTarget (cache c).table v u (Some next))
+    → slice_get c.states next ≡ Some w → IsFollowed us c from start before next (read + 1) (done ++ w ∷ [])
+followed-next {us} {c} {id = id} {read} {next} {u = u} {w} sound f here target at =
+    let s : IsStepped {A = ℕ} {E = ℕ} c (get_or c.states id dead) u (Ok (Cached next)) c =
+    stepped_at c _ u next sound (target _ (slice_get-get_or c.states id dead f.inside)) in
+    let w_is : get_or c.states next dead ≡ w = get_or_from_slice_get c.states next w dead at in record {
+      inside = s.at.cursor_is;
+      further = omega (arith, f.further);
+      resolve = λ r. rw s.at.value s.resolve;
+      walking = λ old first walk. rw w_is (walks-on (rw (drop-one us read u here) at f.walking old first walk)
+          (rw (← w_is) s.at.value) s.after);
+    }

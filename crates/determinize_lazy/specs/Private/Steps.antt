@@ -1,8 +1,9 @@
 -- One step of a walk or a search over a cache.
-use Rattle.std.specs.Prelude.{◌≡◌, ℕ, ◌++◌, ◌≤◌, ◌⊎◌, IfOk, List, OnErr, OnOk, Option, Result, drop}
+use Rattle.std.specs.Prelude.{◌≡◌, ℕ, ◌++◌, ◌<◌, ◌≤◌, ◌⊎◌, IfOk, List, OnErr, OnOk, Option, Result, drop}
+use Rattle.std.specs.Prelude.{length, slice_index_or}
 use Rattle.determinize_below.specs.Nfa.{AllResolve, IsAccepted}
 use Rattle.determinize_core.specs.Chain.{future}
-use Rattle.determinize_core.specs.Value.{Value}
+use Rattle.determinize_core.specs.Value.{Value, dead}
 use Rattle.determinize_lazy.specs.Cache.{Cache, Grows, IsCutOff, LazyValue, after_step, after_walk}
 use Rattle.determinize_lazy.specs.Cache.{cache, step_of}
 use Rattle.determinize_table.specs.Cursors.{IsAt}
@@ -46,3 +47,15 @@ pub record IsWalking (old : Cache) (first : Value) (us : List (Option ℕ)) (don
   pub values : done ++ drop 1 (future now.nfa now.kind v left) ≡ future old.nfa old.kind first us
   pub after : after_walk now v left ≡ after_walk old first us
   pub failed : (new : Cache) → IsCutOff now v left new → IsCutOff old first us new
+
+-- what follows cached transitions from one cached state to another, and adds states: a walk over
+-- these units that was at the first state, with the states before, is at the second, with those after
+pub record IsFollowed (us : List (Option ℕ)) (c : LazyValue) (from start : ℕ) (before : List Value)
+    (id read : ℕ) (done : List Value) : Type 0 where
+  pub inside : id < length c.states
+  pub further : start ≤ read
+  pub resolve : AllResolve c.nfa (slice_index_or c.states from dead).states
+      → AllResolve c.nfa (slice_index_or c.states id dead).states
+  pub walking : (old : Cache) (first : Value)
+      → IsWalking old first us before (cache c) (slice_index_or c.states from dead) (drop start us)
+      → IsWalking old first us done (cache c) (slice_index_or c.states id dead) (drop read us)

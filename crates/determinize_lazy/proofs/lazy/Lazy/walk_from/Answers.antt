@@ -28,6 +28,10 @@ pub returns-in_err-push-2-clause-failed : goal.returns-in_err-push-2-clause-fail
 returns-in_err-push-2-clause-failed g c =
     of_err _ ((on g (goal.at.returns-in_err-push-2-clause-failed g c).In_ok-cursor-2).failed _ (cut_off-none refl))
 
+pub returns-in_err-id-clause-failed : goal.returns-in_err-id-clause-failed
+returns-in_err-id-clause-failed g c =
+    of_err _ ((on g (goal.at.returns-in_err-id-clause-failed g c).In_ok-cursor-2).failed _ (cut_off-none refl))
+
 pub loop-read-preserved : goal.loop-read-preserved
 loop-read-preserved g c =
     let state_is : c.in_ok-clone.field-0 ≡ cursor_value c.step.new.self.states c.in_ok-cursor-2.cursor =
@@ -36,6 +40,20 @@ loop-read-preserved g c =
       resolve = rw (c.in_ok-cursor-2.ensures.grows.nfa, c.in_ok-cursor-2.ensures.at.value)
           c.in_ok-cursor-2.ensures.resolve;
       cursor = c.in_ok-cursor-2.ensures.at.cursor_is;
+      grows = search rules;
+    }
+
+pub loop-read-preserved-in-Cached : goal.loop-read-preserved-in-Cached
+loop-read-preserved-in-Cached g c =
+    let state_is : c.in_ok-clone.field-0 ≡ cursor_value c.step.new.self.states c.in_ok-cursor-2.cursor =
+    search rules in
+    let walk = on g (goal.at.loop-read-preserved-in-Cached g c).In_ok-cursor-2 in
+    let at_id = rw c.in-Cached.is at c.in_ok-cursor-2.ensures.at.value in record {
+      walking = c.in_ok-id.ensures.walking _ _
+          (rw (c.in_ok-push-2.ensures.items, rw c.in-Cached.is at state_is) (rw c.in-Cached.is at walk));
+      resolve = c.in_ok-id.ensures.resolve
+          (rw (c.in_ok-cursor-2.ensures.grows.nfa, at_id) c.in_ok-cursor-2.ensures.resolve);
+      cursor = c.in_ok-id.ensures.inside;
       grows = search rules;
     }
 
