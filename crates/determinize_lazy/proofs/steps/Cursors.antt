@@ -2,10 +2,11 @@
 -- Main statements: cached_target, cached_step, stepped_at, followed-next.
 -- Used by: `step`, `compute`, `follow_units`, and searches of what is cached.
 -- Idea: each cached transition is a step of the DFA, and the step over it changes nothing.
-use Rattle.determinize_lazy.proofs.Common.{[], after_step, ap, arith, Cache, cache, cursor_value, dead, false, get_or, IsAt}
-use Rattle.determinize_lazy.proofs.Common.{is_cached, IsCursor, is_some, IsSound, IsStepped, IsTable, IsTarget}
-use Rattle.determinize_lazy.proofs.Common.{get_or_from_slice_get, IsFollowed, LazyValue, List, Ok, Option, refl, slice_get}
-use Rattle.determinize_lazy.proofs.Common.{slice_get-get_or, Some, step_of, true, Value, ℕ, ◌++◌, ◌+◌, ◌∙◌, ◌∷◌, ◌≡◌}
+use Rattle.determinize_lazy.proofs.Common.{[], after_step, ap, arith, cache, Cache, cursor_value, dead, false, get_or}
+use Rattle.determinize_lazy.proofs.Common.{get_or_from_slice_get, is_cached, is_some, IsAt, IsCursor, IsFollowed}
+use Rattle.determinize_lazy.proofs.Common.{IsSound, IsStepped, IsTable, IsTarget, LazyValue, List, Ok, Option, refl}
+use Rattle.determinize_lazy.proofs.Common.{slice_get, slice_get-get_or, Some, step_of, true, Value, ℕ, ◌++◌, ◌+◌, ◌∙◌}
+use Rattle.determinize_lazy.proofs.Common.{◌∷◌, ◌≡◌}
 use Rattle.determinize_lazy.proofs.walking.CachedWalks.{drop-one, walks-on}
 use Rattle.determinize_core.proofs.step.Resolving.{step_resolves}
 use Rattle.determinize_table.specs.declared.table.Cursor.{Cursor}

@@ -1,6 +1,6 @@
 -- One step of a walk or a search over a cache.
-use Rattle.std.specs.Prelude.{◌≡◌, ℕ, ◌++◌, ◌<◌, ◌≤◌, ◌⊎◌, IfOk, List, OnErr, OnOk, Option, Result, drop}
-use Rattle.std.specs.Prelude.{length, slice_index_or}
+use Rattle.std.specs.Prelude.{◌≡◌, ℕ, ◌++◌, ◌<◌, ◌≤◌, ◌⊎◌, IfOk, List, OnErr, OnOk, Option, Result}
+use Rattle.std.specs.Prelude.{drop, length, slice_index_or}
 use Rattle.determinize_below.specs.Nfa.{AllResolve, IsAccepted}
 use Rattle.determinize_core.specs.Chain.{future}
 use Rattle.determinize_core.specs.Value.{Value, dead}
@@ -48,8 +48,8 @@ pub record IsWalking (old : Cache) (first : Value) (us : List (Option ℕ)) (don
   pub after : after_walk now v left ≡ after_walk old first us
   pub failed : (new : Cache) → IsCutOff now v left new → IsCutOff old first us new
 
--- what follows cached transitions from one cached state to another, and adds states: a walk over
--- these units that was at the first state, with the states before, is at the second, with those after
+-- cached transitions were followed from the state with one id to that with another: a walk over
+-- these units that was at the first, with the states `before`, is at the second, with `done`
 pub record IsFollowed (us : List (Option ℕ)) (c : LazyValue) (from start : ℕ) (before : List Value)
     (id read : ℕ) (done : List Value) : Type 0 where
   pub inside : id < length c.states
