@@ -90,7 +90,7 @@ with_looks_of set (node ∷ rest) = with_looks_of (with_look set node) rest
 abbrev pub looks_of : List Node → ℕ
 looks_of states = with_looks_of 0 states
 
--- the NFA passed validation, and its assertion set is that of its states
+-- the NFA is valid: validation finds no error, and the assertion set is that of the states
 pub record IsAccepted (nfa : Nfa) : Type 0 where
   pub passes : failure nfa.states nfa.start_anchored nfa.start_unanchored ≡ None
   pub looks : nfa.look_set_any ≡ looks_of nfa.states

@@ -10,8 +10,8 @@ use crate::search::Input;
 pub use ordered_reach::laws::reach_law;
 use std::alloc::AllocError;
 
-/// States the laws of [`reach_law`] of an NFA that passed validation, for any roots and any set of
-/// states visited before. With nothing visited, `reach` is `reach_past` of the empty list.
+/// States the laws of [`reach_law`] of a valid NFA, for any roots and any set of states visited
+/// before. With nothing visited, `reach` is `reach_past` of the empty list.
 pub fn nfa_reach_law()
     ensures in_order { EachNfaReachIsInOrder }
     ensures only { EachNfaReachIsOne }

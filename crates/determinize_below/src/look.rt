@@ -6,9 +6,11 @@
 //! end of the haystack. `determinize_start` computes which assertions hold; here are only their
 //! bits.
 
-ghost use Rattle.std.specs.Prelude.{◌≡◌, ℕ, ◌^◌, ◌<◌, ◌==◌, bit_and, bit_or};
+ghost use Rattle.std.specs.Prelude.{◌≡◌, ℕ, ◌^◌, ◌<◌, ◌==◌, ◌&&◌, bit_and, bit_or, false, not};
+ghost use Rattle.std.specs.Bool.{Decides};
 ghost use Rattle.determinize_below.specs.Look.{bit_of, has};
 ghost use Rattle.determinize_below.specs.Look as looks;
+ghost use Rattle.determinize_below.specs.declared.look.Look.{Look as Assertion};
 
 use std::marker::Model;
 
@@ -180,8 +182,11 @@ impl LookSet {
     }
 
     /// Returns the assertions in `self` that are not in `other`.
+    #[tactic(auto, using(crate::proofs::looks::LookSets::difference))]
     pub fn subtract(self, other: LookSet) -> LookSet
-        ensures { result ≡ looks.subtract self other }
+        ensures value { result ≡ looks.subtract self other }
+        ensures members { (look : Assertion)
+            → has result look ≡ (has self look && not (has other look)) }
     {
         LookSet {
             bits: self.bits & !other.bits,
@@ -189,8 +194,10 @@ impl LookSet {
     }
 
     /// Returns whether the set is empty.
+    #[tactic(auto, using(crate::proofs::looks::LookSets::emptiness))]
     pub fn is_empty(self) -> bool
-        ensures { result ≡ (self == 0) }
+        ensures value { result ≡ (self == 0) }
+        ensures members { Decides result ((look : Assertion) → has self look ≡ false) }
     {
         self.bits == 0
     }

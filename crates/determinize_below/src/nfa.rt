@@ -101,7 +101,7 @@ impl fmt::Display for BuildError {
 
 impl Error for BuildError {}
 
-/// A Thompson NFA that has passed validation.
+/// A valid Thompson NFA.
 #[derive(Drop)]
 pub struct NFA<A: Allocator = Global> {
     states: Vec<State<A>, A>,

@@ -24,7 +24,7 @@ unfoldable pub use Rattle.determinize_core.specs.Chain.{chain}
 pub use Rattle.determinize_core.specs.LastMatch.{ended_at, IsFarthestMatch, IsPreferredMatch, last_ended, last_match}
 pub use Rattle.determinize_core.specs.LastMatch.{lists_of}
 pub use Rattle.determinize_core.specs.Private.Changes.{with_patterns}
-pub use Rattle.determinize_core.specs.Private.Reading.{distinct, IsClosedAgain, IsListRead}
+pub use Rattle.determinize_core.specs.Private.Reading.{distinct, IsReopened, IsListRead}
 unfoldable pub use Rattle.determinize_core.specs.Private.Search.{tries_left}
 pub use Rattle.determinize_core.specs.Step.{begun, distinct_states, is_reopened, opened_by, part_read, patterns_read}
 pub use Rattle.determinize_core.specs.Step.{start_value, targets, working_list}

@@ -1,7 +1,7 @@
 pub mod AlikeBytes
 pub mod FirstReading
-pub mod RedoTest
-pub mod RepeatedClosure
+pub mod ReopenedClosure
+pub mod Reopening
 pub mod Resolving
 pub mod StepBound
 pub mod StepLaws

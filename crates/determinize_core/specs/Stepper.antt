@@ -10,7 +10,7 @@ pub record StepperValue : Type 0 where
   pub nfa : Nfa
   pub kind : MatchKind
 
--- the NFA has passed validation, and both sets have its capacity
+-- the NFA is valid, and both sets have its capacity
 pub record IsPrepared (nfa : Nfa) (first second : Members) : Type 0 where
   pub accepted : IsAccepted nfa
   pub first_room : first.capacity ≡ length nfa.states

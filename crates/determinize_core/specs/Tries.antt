@@ -15,7 +15,7 @@ use Rattle.determinize_state.specs.Value.{Value}
 abbrev pub tries_of : Nfa → (Assertion → Bool) → List ℕ → ℕ
 tries_of nfa holds roots = length roots + edge_count (edges nfa holds) (reach nfa holds roots)
 
--- the tries for the working list, if its closure is computed again
+-- the tries for the working list, if the closure is reopened
 abbrev pub tries_again : Nfa → Value → Option ℕ → ℕ
 tries_again nfa v u = cond (is_reopened nfa v u)
     (tries_of nfa (joined (has v.look_have) (opened_by nfa v u)) (distinct_states v)) 0

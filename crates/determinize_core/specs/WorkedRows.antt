@@ -78,7 +78,7 @@ n14 = automaton false 10 (Capture 1 ∷ Union (2 ∷ 3 ∷ 4 ∷ []) ∷ Fail
     ∷ Sparse (over 0x61 0x63 5 ∷ over 0x78 0x78 5 ∷ [])
     ∷ Dense (padded 0x62 0 (5 ∷ padded 157 0 [])) ∷ Match 0 ∷ [])
 
--- these NFAs have passed every check
+-- these NFAs are valid
 pub record AreAccepted : Type 0 where
   pub n2_accepted : IsAccepted n2
   pub n3_accepted : IsAccepted n3

@@ -18,8 +18,8 @@
 //! state is computed when only the byte before is known. So a state also has look-have, the
 //! assertions known to hold for any next unit, look-need, the assertions that its NFA states test,
 //! and two flags about the byte before. Its closure is computed under look-have. When the state is
-//! left over a unit that satisfies a further assertion of look-need, the closure is first computed
-//! again, from the recorded states and with that assertion.
+//! left over a unit that satisfies a further assertion of look-need, the closure is first reopened:
+//! computed again, from the recorded states and with that assertion.
 //!
 //! For the same reason matches are delayed by one unit: the patterns that match at a position are
 //! listed by the state after it, once the unit after the position is known. So each text ends with

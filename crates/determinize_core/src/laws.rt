@@ -15,7 +15,7 @@ ghost use Rattle.determinize_state.specs.Recording.{needs};
 
 use determinize_below::{Look, LookSet};
 
-/// The walk of an accepted NFA over a text corresponds to its runs over the text. There are two
+/// The walk of a valid NFA over a text corresponds to its runs over the text. There are two
 /// more values than bytes, and the first lists no pattern. Under `MatchKind::All`, each value lists
 /// the patterns of the runs that accept before its unit, the most preferred run first. Under
 /// `MatchKind::LeftmostFirst`, the last value with a pattern is at the end of the most preferred
@@ -43,9 +43,9 @@ pub fn answer_law()
     ensures { EachAnswerIsOne }
 {}
 
-/// A search of an accepted NFA can be continued from one more root. A state has epsilon edges or
+/// A search of a valid NFA can be continued from one more root. A state has epsilon edges or
 /// transitions on bytes, not both, and never a transition on EOI.
-#[tactic(auto, using(crate::proofs::step::StepLaws::each_reach_goes_on, crate::proofs::step::StepLaws::each_state_has_one_kind))]
+#[tactic(auto, using(crate::proofs::step::StepLaws::search_laws))]
 pub fn search_law()
     ensures goes_on { EachReachGoesOn }
     ensures kinds { EachStateHasOneKind }
@@ -56,7 +56,6 @@ pub fn search_law()
 /// gives the dead value. If no cycle of the NFA consists of captures, so does each step that gives
 /// no pattern and no NFA state. A recorded value with empty look-need has
 /// empty look-have. Under `MatchKind::LeftmostFirst` a transition gives at most one pattern.
-#[tactic(auto, using(crate::proofs::step::StepLaws::each_future_follows, crate::proofs::step::StepLaws::no_need_no_have, crate::proofs::step::StepLaws::leftmost_gives_one))]
 pub fn step_law()
     ensures future { EachFutureFollows }
     ensures dead { DeadStays }
@@ -80,7 +79,7 @@ pub fn tries_law()
 {}
 
 /// Gives eight examples of the program `rows`: the bytes of the states of each walk, and the
-/// pattern and end of its last match. Their NFAs pass every check.
+/// pattern and end of its last match. Their NFAs are valid.
 pub fn walk_rows_law()
     ensures accepted { rows.AreAccepted }
     ensures row_4a { rows.Row4a }
@@ -94,13 +93,12 @@ pub fn walk_rows_law()
 {}
 
 /// An example of a closure into a set that is not empty: no state of the set is followed.
-#[tactic(auto, unfolding(determinize_below::specs::Look::has, determinize_below::specs::Look::insert, determinize_below::specs::Edges::reach_past))]
 pub fn search_row_law()
     ensures { rows.Row22 }
 {}
 
-/// If the closure is not computed again, the unit satisfies no further assertion of look-need.
-#[tactic(auto, using(crate::proofs::step::RedoTest::not_redone))]
+/// If the closure is not reopened, the unit satisfies no further assertion of look-need.
+#[tactic(auto, using(crate::proofs::step::Reopening::not_reopened))]
 pub fn redo_law(
     reverse: bool,
     terminator: u8,
@@ -143,7 +141,7 @@ pub fn units_law()
 
 /// Two recursions for the last match over a list of units: one takes off the first unit, the other
 /// the last.
-#[tactic(auto, using(crate::proofs::walk::LastMatches::each_first_unit_unrolls, crate::proofs::walk::LastMatches::each_last_unit_unrolls))]
+#[tactic(auto, using(crate::proofs::walk::LastMatches::last_match_laws))]
 pub fn last_match_law()
     ensures first { EachFirstUnitUnrolls }
     ensures last { EachLastUnitUnrolls }
@@ -152,7 +150,7 @@ pub fn last_match_law()
 /// An NFA in which the next state of each capture has a greater id than the capture has no cycle of
 /// captures only. The NFA of the rows `25` is one. That of row `12` has a capture whose next state
 /// is itself.
-#[tactic(auto, using(crate::proofs::closure::CaptureCycles::ascending_captures_have_no_cycle, crate::proofs::closure::CaptureCycles::capture_rows))]
+#[tactic(auto, using(crate::proofs::closure::CaptureCycles::capture_laws))]
 pub fn capture_law()
     ensures ascending { AscendingCapturesHaveNoCycle }
     ensures rows { rows.AreCaptureRows }

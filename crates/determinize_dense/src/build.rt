@@ -169,8 +169,6 @@ impl<'n, N: Allocator, A: Allocator + Copy> Builder<'n, N, A> {
         if limit == 0 {
             return Err(BuildError::TooManyStates);
         }
-        // For the proof: a call says that the NFA has passed its checks.
-        let _ = nfa.len();
         let classes = nfa.byte_classes();
         let next = Vec::with_capacity(alloc, classes.alphabet_len())?;
         let mut states = StateTable::new(alloc);

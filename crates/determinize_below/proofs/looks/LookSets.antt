@@ -5,6 +5,7 @@
 use Rattle.determinize_below.proofs.Common.{ap, arith, bit_and, bit_at, bit_at-zero, bit_of, bit_or, Bool, Decides, each_look, End, EndCRLF, EndLF, eqb-true, false, get_or, list_any, list_any_at, lit<, Look, nat_eq, nat_tests, not, refl, Start, StartCRLF, StartLF, sym, true, WordAscii, WordAsciiNegate, WordEndAscii, WordEndHalfAscii, WordEndHalfUnicode, WordEndUnicode, WordStartAscii, WordStartHalfAscii, WordStartHalfUnicode, WordStartUnicode, WordUnicode, WordUnicodeNegate, ℕ, ◌&&◌, ◌<◌, ◌^◌, ◌∙◌, ◌≡◌, w32, pow_pos, bit_at_or, bit_at_and, bit_at_not, bit_at-lt, and_pow, bit_at-pow_same, bit_at-pow_other, same_from_bits_below, false_from_ne_true, agree_below_at, subst, eq-eqb, ◌||◌}
 use Rattle.determinize_below.proofs.looks.LookBounds.{bit_small}
 use Rattle.determinize_below.specs.Look.{has, insert, remove, subtract}
+use Rattle.std.specs.Int.{bit_not}
 
 -- the number of the assertion, from 0
 unfoldable pub index_of : Look → ℕ
@@ -53,11 +54,21 @@ has-union a b l = grind (arith, has-bit, bit_at_or, bit_at-lt)
 pub has-intersect : (a b : ℕ) (l : Look) → has (bit_and a b) l ≡ (has a l && has b l)
 has-intersect a b l = grind (arith, has-bit, bit_at_and, bit_at-lt)
 
-pub has-subtract : (a b : ℕ) (l : Look) → b < 2 ^ 32 → has (subtract a b) l ≡ (has a l && not (has b l))
-unfolding subtract
-has-subtract a b l h =
+pub has-and_not : (a b : ℕ) (l : Look) → b < 2 ^ 32
+    → has (bit_and a (bit_not w32 b)) l ≡ (has a l && not (has b l))
+has-and_not a b l h =
     let k : index_of l < 18 = (numbered l).1 in
     let n = bit_at_not w32 b (index_of l) h (omega arith) in grind (arith, has-intersect, has-bit, bit_at-lt)
+
+pub subtract-bits : (a b : ℕ) → subtract a b ≡ bit_and a (bit_not w32 b)
+unfolding subtract
+subtract-bits a b = refl
+
+pub has-subtract : (a b : ℕ) (l : Look) → b < 2 ^ 32 → has (subtract a b) l ≡ (has a l && not (has b l))
+has-subtract a b l h = rw subtract-bits (has-and_not a b l h)
+
+-- for the method `subtract`
+pub ruleset difference = (has-and_not, subtract-bits)
 
 pub has-empty : (l : Look) → has 0 l ≡ false
 has-empty l = rw (has-bit 0 l, bit_at-zero (index_of l))
@@ -110,3 +121,6 @@ Decides-empty s h = (
   λ e l. ap (λ a. has a l) (eqb-true s 0 e) ∙ has-empty l,
   λ none. eq-eqb s 0 (same_sets s 0 h (lit< tt) (λ l. none l ∙ sym (has-empty l))),
 )
+
+-- the test for emptiness, on the members
+pub ruleset emptiness = (Decides-empty)

@@ -11,7 +11,7 @@ ghost use Rattle.std.specs.Prelude.{◌≡◌, ℕ, ◌<◌, ◌≤◌, Some, le
 ghost use Rattle.std.specs.Bool.{Decides};
 ghost use Rattle.determinize_below.specs.ByteClasses.{AreAlike, AreClassesOf, AreTestedAlike};
 ghost use Rattle.determinize_below.specs.Semantics.{target_of};
-ghost use Rattle.determinize_below.specs.Nfa.{is_dense_sound, is_sparse_sound};
+ghost use Rattle.determinize_below.specs.Nfa.{IsAccepted, is_dense_sound, is_sparse_sound};
 ghost use Rattle.determinize_below.specs.Node.{node_of};
 ghost use Rattle.determinize_below.specs.Private.Boundaries.{AreBoundaries, MarksChanges};
 ghost use Rattle.determinize_below.specs.Transition.{dense_target, matches, sparse_target};
@@ -124,7 +124,8 @@ fn mark_state<A: Allocator>(state: &State<A>, marks: &mut [bool; 256])
 
 /// Returns marks at all bytes that the NFA may distinguish from the byte before.
 fn boundaries_of<A: Allocator>(nfa: &NFA<A>) -> [bool; 256]
-    ensures { AreBoundaries nfa.now result }
+    ensures marks { AreBoundaries nfa.now result }
+    ensures accepted { IsAccepted nfa.now }
 {
     let mut marks = [false; 256];
     for byte in 0..255u8 {
@@ -162,7 +163,8 @@ impl<A: Allocator> NFA<A> {
     /// may differ from the byte before. Only these are compared with the least byte of each class
     /// so far, and a comparison reads each state at most once. Does not allocate.
     pub fn byte_classes(&self) -> ByteClasses
-        ensures { AreClassesOf self.now result }
+        ensures classes { AreClassesOf self.now result }
+        ensures accepted { IsAccepted self.now }
     {
         let boundaries = boundaries_of(self);
         let mut classes = [0; 256];

@@ -30,3 +30,5 @@ capture_rows = record {
   n8_cycle = λ none. none 1 0 (λ j l. grind arith) refl;
   n14_none = ascending_captures_have_no_cycle n14 (λ s next e. grind arith);
 }
+
+pub ruleset capture_laws = (ascending_captures_have_no_cycle, capture_rows)

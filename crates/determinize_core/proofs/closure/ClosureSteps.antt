@@ -1,6 +1,6 @@
 -- The search of a closure, one iteration after another.
 -- Main statements: IsSoFar, so_far-start, so_far-turn, so_far-stopped, leaf_set.
--- Used by: `explore`, `epsilon_closure`, `record_and_follow`, RepeatedClosure.
+-- Used by: `explore`, `epsilon_closure`, `record_and_follow`, ReopenedClosure.
 -- Idea: the visited states followed by the search of the pending ones is one list throughout.
 use Rattle.determinize_core.proofs.Common.{[], accepted_sound, All-from_member, All-rest, append-nil, append_assoc}
 use Rattle.determinize_core.proofs.Common.{arith, Assertion, Bool, by_test, edges, Fail, false, fold}

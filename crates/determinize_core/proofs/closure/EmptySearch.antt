@@ -1,10 +1,9 @@
 -- Searches from no root, and searches into an empty set.
 -- Main statements: reach-none, reach_past-empty, tries_left-empty.
--- Used by: `start_state`, StepParts, RepeatedClosure, and the crates above.
+-- Used by: `start_state`, StepParts, ReopenedClosure, and the crates above.
 -- Idea: nothing is pending, so nothing is added.
 use Rattle.determinize_core.proofs.Common.{[], Assertion, Bool, List, Nfa, reach, reach_past, refl, tries_left}
 use Rattle.determinize_core.proofs.Common.{tries_of, ℕ, ◌≡◌}
-use Rattle.std.specs.Int.Bits.{or_zero_l}
 
 -- without roots nothing is reached
 pub reach-none : (nfa : Nfa) (holds : Assertion → Bool) → reach nfa holds [] ≡ []
@@ -21,5 +20,3 @@ pub tries_left-empty : (nfa : Nfa) (holds : Assertion → Bool) (roots : List �
     → tries_left nfa holds [] roots ≡ tries_of nfa holds roots
 unfolding reach reach_past
 tries_left-empty nfa holds roots = refl
-
-pub ruleset starting = (reach_past-empty, or_zero_l)

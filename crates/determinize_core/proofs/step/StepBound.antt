@@ -49,8 +49,8 @@ module _ (nfa : Nfa) (accepted : IsAccepted nfa) (v : Value) (u : Option ℕ)
       (fresh_below (length nfa.states) v.states inside)))
       (λ e. rw e few)
 
-  again_few : tries_again nfa v u ≤ length nfa.states + edges_in_all nfa
-  again_few = by_test (is_reopened nfa v u)
+  reopened_few : tries_again nfa v u ≤ length nfa.states + edges_in_all nfa
+  reopened_few = by_test (is_reopened nfa v u)
       (λ e. rw e (omega (
         arith,
         few,
@@ -65,7 +65,7 @@ tries_are_few nfa accepted kind v u inside =
     let read : List ℕ = part_read kind (is_match nfa) (working_list nfa v u) in
     omega (
       arith,
-      again_few nfa accepted v u inside,
+      reopened_few nfa accepted v u inside,
       working_few nfa accepted v u inside,
       tries_of-bound nfa (accepted_sound nfa accepted) (has (have_after (tables_of nfa) u)) (targets nfa kind v u)
           (targets_resolve nfa accepted kind v u),

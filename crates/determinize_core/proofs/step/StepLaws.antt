@@ -18,7 +18,7 @@ use Rattle.determinize_below.specs.Captures.{HasNoCaptureCycle}
 use Rattle.ordered_reach.proofs.graph.SameSearch.{roots_closed}
 use Rattle.determinize_core.specs.Laws.{DeadStays, EachFutureFollows, EachReachGoesOn, EachStateHasOneKind}
 use Rattle.determinize_core.specs.Laws.{LeftmostGivesOne, NoNeedNoHave}
-use Rattle.determinize_core.proofs.step.RedoTest.{unneeded}
+use Rattle.determinize_core.proofs.step.Reopening.{unneeded}
 
 pub each_reach_goes_on : EachReachGoesOn
 each_reach_goes_on nfa accepted holds roots root =
@@ -26,6 +26,8 @@ each_reach_goes_on nfa accepted holds roots root =
 
 pub each_state_has_one_kind : EachStateHasOneKind
 each_state_has_one_kind nfa holds u s = (length-target nfa u s, edges-or-target nfa holds u s)
+
+pub ruleset search_laws = (each_reach_goes_on, each_state_has_one_kind)
 
 drop-future : (nfa : Nfa) (kind : MatchKind) (us : List (Option ℕ)) (v w : Value) (j : ℕ)
     → slice_get (future nfa kind v us) j ≡ Some w → drop j (future nfa kind v us) ≡ future nfa kind w (drop j us)

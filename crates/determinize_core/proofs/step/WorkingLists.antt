@@ -1,7 +1,7 @@
 -- One step: the working list against the search under what is true.
 -- Main statements: IsEntered, reach_is, working_is.
 -- Used by: WalkValues.
--- Idea: closing again under more assertions, or not, gives the closure under the true ones.
+-- Idea: the closure, reopened under more assertions or not, is the closure under the true ones.
 use Rattle.determinize_core.proofs.Common.{accepted_sound, ap, arith, Assertion, Bool, by_test, distinct_states}
 use Rattle.determinize_core.proofs.Common.{each_look, edges, ends, false, from_word_after, half_crlf_after, has}
 use Rattle.determinize_core.proofs.Common.{is_capture, is_reopened, IsAccepted, IsSound, IsTested, joined, length, List}
@@ -62,18 +62,18 @@ module _ (nfa : Nfa) (accepted : IsAccepted nfa) (m : ℕ) (b u : Option ℕ) (v
       → (has v.look_have l || opened_by nfa v u l) ≡ truth nfa b u l
   together l q h f = rw (h, f.0, f.1) (opened_truth nfa accepted b u l q)
 
-  -- where the closure is redone, it is redone under what is true
-  redo_same : is_reopened nfa v u ≡ true
+  -- where the closure is reopened, it is reopened under what is true
+  reopened_same : is_reopened nfa v u ≡ true
       → reach nfa (joined (has v.look_have) (opened_by nfa v u)) (distinct_states v)
       ≡ listing nfa m (truth nfa b u) v.states
-  redo_same r =
-      let again : Assertion → Bool = joined (has v.look_have) (opened_by nfa v u) in
+  reopened_same r =
+      let more : Assertion → Bool = joined (has v.look_have) (opened_by nfa v u) in
       list_any_some (λ l. opened_by nfa v u l && has v.look_need l && not (has v.look_have l)) each_look r (λ k z.
       let needed : has v.look_need k ≡ true = grind arith in
       needs_some nfa v.states k (rw e.need at needed) (λ s i.
-      reach_is nfa sound m again (distinct_states v)
-      ∙ fresh-flat_map same_decides (ends nat_eq (edges nfa again) (fuel nfa m) none_held) none_held v.states
-      ∙ ap (λ g. ordered nat_eq g (fuel nfa m) none_held v.states) (edges-same nfa again (truth nfa b u)
+      reach_is nfa sound m more (distinct_states v)
+      ∙ fresh-flat_map same_decides (ends nat_eq (edges nfa more) (fuel nfa m) none_held) none_held v.states
+      ∙ ap (λ g. ordered nat_eq g (fuel nfa m) none_held v.states) (edges-same nfa more (truth nfa b u)
       (λ l q. together l q (e.have k needed l q) (e.flags s i)))))
 
   -- if it is not, it is the recorded list
@@ -102,5 +102,5 @@ module _ (nfa : Nfa) (accepted : IsAccepted nfa) (m : ℕ) (b u : Option ℕ) (v
   pub working_is : without (is_capture nfa) (working_list nfa v u)
       ≡ without (is_capture nfa) (listing nfa m (truth nfa b u) v.states)
   working_is = by_test (is_reopened nfa v u)
-      (λ r. rw r (ap (λ l. without (is_capture nfa) l) (redo_same r)))
+      (λ r. rw r (ap (λ l. without (is_capture nfa) l) (reopened_same r)))
       (λ r. rw r (kept_same r))

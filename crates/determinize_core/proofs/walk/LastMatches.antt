@@ -60,3 +60,5 @@ each_first_unit_unrolls nfa kind v u us =
 
 pub each_last_unit_unrolls : EachLastUnitUnrolls
 each_last_unit_unrolls nfa kind v us u = (value_after-push nfa kind v us u, last_match-push nfa kind v us u)
+
+pub ruleset last_match_laws = (each_first_unit_unrolls, each_last_unit_unrolls)

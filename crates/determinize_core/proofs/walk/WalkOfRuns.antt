@@ -29,7 +29,7 @@ use Rattle.determinize_core.proofs.walk.ValueWalks.{all_listed, FindsLeftmost, l
 use Rattle.determinize_core.specs.WalkStates.{IsPartKept}
 use Rattle.determinize_core.proofs.walk.AcceptedPatterns.{lists_accepted, matches_at}
 use Rattle.determinize_core.proofs.walk.WalkValues.{chain_is, chain_item, length-chain, patterns_at_is, recorded_by}
-use Rattle.determinize_core.proofs.walk.WalkValues.{redone_by, states_at_is, states_last, value_at}
+use Rattle.determinize_core.proofs.walk.WalkValues.{reopened_by, states_at_is, states_last, value_at}
 
 module _ (nfa : Nfa) where
   -- a position as the end of a match, with the pattern of the state there
@@ -69,7 +69,7 @@ module _ (nfa : Nfa) (accepted : IsAccepted nfa) (start : ℕ) (text : Text) whe
   })
 
   -- the patterns of what runs reach
-  listed_at : (i : ℕ) → ListsAccepted nfa text start i (patterns_of nfa (redone_by nfa All start text i))
+  listed_at : (i : ℕ) → ListsAccepted nfa text start i (patterns_of nfa (reopened_by nfa All start text i))
   listed_at i = rw patterns-without at
       (lists_accepted nfa (accepted_sound nfa accepted) text start i _ (walk.reached i))
 
@@ -82,11 +82,11 @@ module _ (nfa : Nfa) (accepted : IsAccepted nfa) (start : ℕ) (text : Text) whe
 
   -- the last accepting state of the cut lists
   abbrev last_cut : Option (ℕ × ℕ)
-  last_cut = last_accepting (redone_by nfa LeftmostFirst start text) (is_match nfa) (length text.bytes) 0
+  last_cut = last_accepting (reopened_by nfa LeftmostFirst start text) (is_match nfa) (length text.bytes) 0
 
   last_match_is : last_match (chain nfa LeftmostFirst start text) ≡ option_map (named nfa) last_cut
   last_match_is = rw chain_is (last_named nfa (value_at nfa LeftmostFirst start text)
-      (redone_by nfa LeftmostFirst start text) (length text.bytes) 0
+      (reopened_by nfa LeftmostFirst start text) (length text.bytes) 0
       (λ j l. patterns_at_is nfa LeftmostFirst start text accepted j (omega arith)))
 
   preferred_of : (o : Option (ℕ × ℕ)) → last_cut ≡ o → IsPreferredMatch nfa start text (option_map (named nfa) o)
@@ -102,10 +102,10 @@ module _ (nfa : Nfa) (accepted : IsAccepted nfa) (start : ℕ) (text : Text) whe
       )
 
   -- the first pattern of a cut list is accepted by some run
-  first_accepted : (i x : ℕ) → Contains (take 1 (patterns_of nfa (redone_by nfa LeftmostFirst start text i))) x
+  first_accepted : (i x : ℕ) → Contains (take 1 (patterns_of nfa (reopened_by nfa LeftmostFirst start text i))) x
       → (cs : List ℕ) × Accepts nfa text start cs i x
   first_accepted i x c =
-      let b : IsBeginning (redone_by nfa LeftmostFirst start text i) (redone_by nfa All start text i) =
+      let b : IsBeginning (reopened_by nfa LeftmostFirst start text i) (reopened_by nfa All start text i) =
       Beginning-ordered same_decides _ _ _ _ _ (walk.cut_begins i) in
       ((listed_at i).accepted x).0 (In_Contains same_decides _ x (rw (b.1, flat_map-append)
       (In_append_left x _ (patterns_of nfa b.0) (In_take_one _ x (Contains_In same_decides _ x c)))))

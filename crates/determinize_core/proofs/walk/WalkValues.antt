@@ -1,5 +1,5 @@
 -- The values of a chain record what the walk over positions records.
--- Main statements: value_at, recorded_by, redone_by, states_at_is, patterns_at_is, chain_is.
+-- Main statements: value_at, recorded_by, reopened_by, states_at_is, patterns_at_is, chain_is.
 -- Used by: WalkOfRuns, ReturnedWalk.
 -- Idea: induction over the positions, with WorkingLists for one step.
 use Rattle.determinize_core.proofs.Common.{[], add-one, after_at, ap, arith, before_at, begun, Bool, byte_edges, chain}
@@ -43,9 +43,9 @@ recorded_by nfa kind s text k =
     levels.recorded_by nat_eq (known_edges nfa text) (true_edges nfa text) (byte_edges nfa text) (is_capture nfa)
     (part_read kind (is_match nfa)) (fuel nfa (length text.bytes)) s k
 
--- the search redone at a position
-abbrev pub redone_by : Nfa → MatchKind → ℕ → Text → ℕ → List ℕ
-redone_by nfa kind s text k =
+-- the reopened search at a position
+abbrev pub reopened_by : Nfa → MatchKind → ℕ → Text → ℕ → List ℕ
+reopened_by nfa kind s text k =
     listing nfa (length text.bytes) (truth nfa (before_at text k) (after_at text k)) (recorded_by nfa kind s text k)
 
 -- the closure under a set that has, of the assertions of the NFA, those that are known
@@ -115,10 +115,10 @@ module _ (nfa : Nfa) (kind : MatchKind) (s : ℕ) (text : Text) where
         (recorded_entered nfa accepted (length text.bytes) _ _ _ (have_after (tables_of nfa) _) _ _
         (have_after_known nfa accepted (get_or text.bytes k 0)) (λ s i. rw (nonempty_member _ s i) (refl, refl)))
 
-    -- captures aside, the working list is the search redone at the position
+    -- captures aside, the working list is the reopened search at the position
     working_at : (k : ℕ) → k ≤ length text.bytes → (value_at k).states ≡ recorded_by nfa kind s text k
         → without (is_capture nfa) (working_list nfa (value_at k) (after_at text k))
-        ≡ without (is_capture nfa) (redone_by nfa kind s text k)
+        ≡ without (is_capture nfa) (reopened_by nfa kind s text k)
     working_at k l e = rw (← e) (working_is nfa accepted (length text.bytes) (before_at text k) (after_at text k)
         (value_at k) (roots_at k) (entered_at k l))
 
@@ -131,6 +131,6 @@ module _ (nfa : Nfa) (kind : MatchKind) (s : ℕ) (text : Text) where
 
     -- the patterns of a value are those of what was reached at the position before its unit
     pub patterns_at_is : (k : ℕ) → k ≤ length text.bytes
-        → (value_at (suc k)).patterns ≡ patterns_read kind (patterns_of nfa (redone_by nfa kind s text k))
+        → (value_at (suc k)).patterns ≡ patterns_read kind (patterns_of nfa (reopened_by nfa kind s text k))
     unfolding step
     patterns_at_is k l = grind (arith, patterns-without nfa, working_at k l (states_at_is k l))

@@ -1,4 +1,4 @@
--- The working list of a step: whether it is closed again, and the first pass over it.
+-- The working list of a step: whether the closure is reopened, and the first pass over the list.
 use Rattle.std.specs.Prelude.{◌≡◌, ℕ, ◌++◌, Bool, true, not, Option, None, Some, List, [], ◌∷◌, if◌then◌else◌, nat_eq}
 use Rattle.determinize_state.specs.Value.{Value, is_nonempty}
 use Rattle.determinize_below.specs.Members.{has_id}
@@ -14,8 +14,8 @@ use Rattle.determinize_core.specs.Private.Changes.{with_patterns}
 use Rattle.determinize_core.specs.declared.determinize.reading.Reading.{Reading}
 use Rattle.determinize_core.specs.declared.determinize.reading.Reading.TheVariants.{Nothing, Target, Match}
 
--- the working list is closed again, under the assertions of the set
-pub record IsClosedAgain (nfa : Nfa) (v : Value) (u : Option ℕ) (set : ℕ) : Type 0 where
+-- the unit reopens the closure, under the assertions of the set
+pub record IsReopened (nfa : Nfa) (v : Value) (u : Option ℕ) (set : ℕ) : Type 0 where
   pub reopened : is_reopened nfa v u ≡ true
   pub set_is : has set ≡ joined (has v.look_have) (opened_by nfa v u)
 

@@ -94,7 +94,8 @@ fn read_state<N: Allocator, A: Allocator>(
 pub(crate) trait Ids: Iterator<Item = StateID> + Drop {
     ghost left: { Self → List ℕ };
 
-    ghost gives: { (s t : Self) (id : Option ℕ) → Self.next_gives s id t → YieldsFirst left s id t };
+    ghost gives: { (s t : Self) (id : Option ℕ)
+        → Self.next_gives s id t → YieldsFirst left s id t };
 }
 
 impl<'a> Ids for NfaStateIds<'a> {

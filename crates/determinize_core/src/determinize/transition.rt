@@ -34,8 +34,8 @@ fn set_flags<A: Allocator>(
     has_targets: bool,
     builder: &mut StateBuilderNFA<A>,
 )
-    ensures { builder.new
-        ≡ with_flags builder.old (has_targets && look_behind.from_word) (has_targets && look_behind.half_crlf) }
+    ensures { builder.new ≡ with_flags builder.old
+        (has_targets && look_behind.from_word) (has_targets && look_behind.half_crlf) }
 {
     if has_targets && look_behind.from_word {
         builder.set_is_from_word();

@@ -25,7 +25,7 @@ use std::alloc::{AllocError, Allocator};
 ///
 /// The state has the look-behind for that byte and the epsilon closure of `start`. It lists no
 /// pattern, since matches are delayed by one unit. On error the builder is dropped.
-#[tactic(auto, using(crate::proofs::closure::EmptySearch::starting, crate::proofs::step::Resolving::start_resolves), unfolding(determinize_start::specs::LookTables::from_word_at_start, determinize_start::specs::LookTables::half_crlf_at_start, determinize_start::specs::LookTables::have_at_start))]
+#[tactic(auto, using(crate::proofs::step::Resolving::starting))]
 pub fn start_state<N: Allocator, A: Allocator>(
     nfa: &NFA<N>,
     start: StateID,

@@ -14,7 +14,7 @@ ghost use Rattle.determinize_core.specs.Tries.{tries_again};
 
 use crate::determinize::closure::explore;
 use crate::determinize::reading::read_states;
-use crate::determinize::reopening::look_again_over;
+use crate::determinize::reopening::reopened_under;
 use crate::determinize::steps::Counter;
 use determinize_below::{MatchKind, NFA, SparseSet, SparseSets, StateID, Unit};
 use determinize_state::state::{State, StateBuilderNFA};
@@ -43,7 +43,7 @@ fn collect_states<A: Allocator>(
 /// Reads the working list: adds its patterns to the builder and pushes its targets, under
 /// `MatchKind::LeftmostFirst` up to the first match.
 #[inline(always)]
-#[tactic(auto, using(crate::proofs::step::RepeatedClosure::tried_again))]
+#[tactic(auto, using(crate::proofs::step::ReopenedClosure::reopened_tries))]
 pub(crate) fn read_working_list<N: Allocator, A: Allocator, C: Counter>(
     nfa: &NFA<N>,
     match_kind: MatchKind,
@@ -71,7 +71,7 @@ pub(crate) fn read_working_list<N: Allocator, A: Allocator, C: Counter>(
         ≤ C.total counter.old + tries_again nfa.now state.now (byte_of unit) }
 {
     let SparseSets { set1, set2 } = sparses;
-    let Some(look_have) = look_again_over(nfa, state, unit) else {
+    let Some(look_have) = reopened_under(nfa, state, unit) else {
         let ids = state.iter_nfa_state_ids();
         return read_states(nfa, match_kind, ids, unit, set1, stack, builder);
     };

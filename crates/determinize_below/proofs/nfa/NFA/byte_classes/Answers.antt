@@ -7,7 +7,7 @@ pub loop-byte-preserved-then-not-boundaries-byte : goal.loop-byte-preserved-then
 loop-byte-preserved-then-not-boundaries-byte g c =
     let before : c.loop-byte.byte - 1 + 1 ≡ c.loop-byte.byte = omega arith in
     sorted_held _ _ _ _ _ c.loop-byte.invariant c.loop-byte-test.true _ (c.loop-byte.byte - 1) (omega arith) refl
-    (rw before at (c.boundaries_of-boundaries.ensures (c.loop-byte.byte - 1) (omega arith)
+    (rw before at (c.boundaries_of-boundaries.ensures.marks (c.loop-byte.byte - 1) (omega arith)
     (rw before c.if-not-boundaries-byte.true)))
 
 pub loop-byte-preserved : goal.loop-byte-preserved
@@ -24,7 +24,10 @@ pub returns : goal.returns
 returns g c =
     let all : c.loop-byte.byte ≡ 256 = omega (arith, c.loop-byte-test.false, c.loop-byte.auto.byte-end) in
     let sorted = rw all at c.loop-byte.invariant in
-    rw c.from_parts.ensures record {
-      alike = λ x y h k. (sorted.same x h y k).0;
-      coarsest = λ x y h k. (sorted.same x h y k).1;
+    record {
+      classes = rw c.from_parts.ensures record {
+        alike = λ x y h k. (sorted.same x h y k).0;
+        coarsest = λ x y h k. (sorted.same x h y k).1;
+      };
+      accepted = c.boundaries_of-boundaries.ensures.accepted;
     }

@@ -1,5 +1,5 @@
 use Rattle.determinize_core.proofs.Common.{All-rest, arith, ◌<◌}
-use Rattle.determinize_core.proofs.step.RepeatedClosure.{distinct-push}
+use Rattle.determinize_core.proofs.step.ReopenedClosure.{distinct-push}
 use Rattle.determinize_core.proofs.determinize.working_list.collect_states.Goals as goal
 
 pub loop-id-preserved : goal.loop-id-preserved

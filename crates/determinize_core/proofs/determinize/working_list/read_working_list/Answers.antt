@@ -1,7 +1,7 @@
 use Rattle.determinize_core.proofs.Common.{All-from_member, length, same_decides, ◌<◌}
 use Rattle.ordered_reach.proofs.graph.FiniteGraphs.{fresh_below}
 use Rattle.determinize_core.proofs.step.StepParts.{member-below}
-use Rattle.determinize_core.proofs.step.RepeatedClosure.{reached_again}
+use Rattle.determinize_core.proofs.step.ReopenedClosure.{reopened_list}
 use Rattle.determinize_core.proofs.determinize.working_list.read_working_list.Goals as goal
 
 pub explore-requires-clause-resolve : goal.explore-requires-clause-resolve
@@ -13,7 +13,7 @@ explore-requires-clause-resolve g c =
 pub returns-clause-ok : goal.returns-clause-ok
 returns-clause-ok g c =
     rw (
-      ← reached_again c.in-Some.ensures.some c.requires.second_empty c.in_ok-collect_states.ensures.ok,
+      ← reopened_list c.in-Some.ensures.some c.requires.second_empty c.in_ok-collect_states.ensures.ok,
       ← c.in_ok-explore.ensures.ids,
       ← c.iter.ensures.ids,
     ) c.in_ok-read_states.ensures.ok

@@ -5,7 +5,7 @@ use Rattle.determinize_start.proofs.look_tables.LookTables.after.Goals as goal
 pub returns-then-is_empty : goal.returns-then-is_empty
 returns-then-is_empty c =
     let none = sym (ap (λ (t : Tables). t.any) c.self.view_is) ∙ eqb-true c.self.inside.any 0
-    (sym c.is_empty.ensures ∙ c.if-is_empty.true) in
+    (sym c.is_empty.ensures.value ∙ c.if-is_empty.true) in
     let after = after-nothing c.args.self (byte_of c.args.unit) none in
     record {
       looks = c.nothing.ensures.looks ∙ after.0;

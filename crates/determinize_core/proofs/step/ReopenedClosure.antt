@@ -1,9 +1,9 @@
 -- The working list of a step: the recorded states, each once, and their closure.
--- Main statements: distinct-push, reached_again, tried_again.
+-- Main statements: distinct-push, reopened_list, reopened_tries.
 -- Used by: `collect_states`, `read_working_list`.
 -- Idea: a set that was empty collects the list.
 use Rattle.determinize_core.proofs.Common.{[], append-nil, arith, distinct, distinct_states, has, has_id, if◌then◌else◌}
-use Rattle.determinize_core.proofs.Common.{IsClosedAgain, List, Nfa, none_held, Option, reach, reach_past, refl}
+use Rattle.determinize_core.proofs.Common.{IsReopened, List, Nfa, none_held, Option, reach, reach_past, refl}
 use Rattle.determinize_core.proofs.Common.{same_decides, tries_again, tries_left, Value, working_list, ℕ, ◌++◌, ◌∷◌}
 use Rattle.determinize_core.proofs.Common.{◌≡◌}
 use Rattle.ordered_reach.proofs.lists.NewNodes.{fresh-append, fresh-fresh, member-fresh}
@@ -21,14 +21,14 @@ distinct-push xs x = grind (
   fresh-append same_decides none_held xs (x ∷ []),
 )
 
-module _ {nfa : Nfa} {v : Value} {u : Option ℕ} {set : ℕ} {held roots : List ℕ} (again : IsClosedAgain nfa v u set)
+module _ {nfa : Nfa} {v : Value} {u : Option ℕ} {set : ℕ} {held roots : List ℕ} (opened : IsReopened nfa v u set)
     (empty : held ≡ []) (all : roots ≡ distinct_states v) where
   -- a search into an empty set, from the recorded states, makes the working list
-  pub reached_again : distinct (held ++ reach_past nfa (has set) held roots) ≡ working_list nfa v u
+  pub reopened_list : distinct (held ++ reach_past nfa (has set) held roots) ≡ working_list nfa v u
   unfolding reach
-  reached_again = rw (empty, all, reach_past-empty, again.set_is, again.reopened)
+  reopened_list = rw (empty, all, reach_past-empty, opened.set_is, opened.reopened)
       (fresh-fresh same_decides none_held none_held _ (λ x m. m))
 
   -- by these tries
-  pub tried_again : tries_left nfa (has set) held roots ≡ tries_again nfa v u
-  tried_again = rw (empty, all, tries_left-empty, again.set_is, again.reopened) refl
+  pub reopened_tries : tries_left nfa (has set) held roots ≡ tries_again nfa v u
+  reopened_tries = rw (empty, all, tries_left-empty, opened.set_is, opened.reopened) refl

@@ -1,14 +1,14 @@
 use Rattle.determinize_core.proofs.Common.{arith, byte_of}
-use Rattle.determinize_core.proofs.step.RedoTest.{closed_again, unneeded}
-use Rattle.determinize_core.proofs.determinize.reopening.look_again_over.Goals as goal
+use Rattle.determinize_core.proofs.step.Reopening.{reopened_under, unneeded}
+use Rattle.determinize_core.proofs.determinize.reopening.reopened_under.Goals as goal
 
 pub returns : goal.returns
 returns g c =
     rw (c.then_some.ensures, c.union.ensures, c.look_have-have.ensures)
-    (closed_again c.args.nfa.now c.args.state.now (byte_of c.args.unit) c.opened-found.result c.is_redone.result
+    (reopened_under c.args.nfa.now c.args.state.now (byte_of c.args.unit) c.opened-found.result c.reopens.result
     (λ look. rw (c.of-tables.ensures.tables, c.is_from_word-from_word.ensures, c.is_half_crlf.ensures)
     at (c.opened-found.ensures look))
-    (rw (c.look_have-have.ensures, c.look_need-need.ensures) at c.is_redone.ensures))
+    (rw (c.look_have-have.ensures, c.look_need-need.ensures) at c.reopens.ensures))
 
 pub returns-then-is_empty-clause-none : goal.returns-then-is_empty-clause-none
 returns-then-is_empty-clause-none g c = unneeded c.args.nfa.now c.args.state.now _ (grind arith)
