@@ -86,7 +86,7 @@ impl<'n, N: Allocator, A: Allocator + Copy> Lazy<'n, N, A> {
         ensures nfa { result.nfa ≡ nfa.now }
         ensures kind { result.kind ≡ match_kind }
     {
-        // For the proof: a call says that the NFA has passed its checks.
+        // Only for the proof: the contract of `len` says that the NFA is valid.
         let _ = nfa.len();
         Lazy {
             alloc,

@@ -1,5 +1,5 @@
-//! Facts about start configurations and look-behind, as contracts of public functions. Except the
-//! first, the functions compute nothing.
+//! Facts about start configurations and look-behind, as contracts of public functions. All but the
+//! first have empty bodies.
 
 ghost use Rattle.std.specs.Prelude.{◌≡◌, ◌≤◌, Bool, true, false, ◌||◌, IfOk, IsOk, Option, Some};
 ghost use Rattle.determinize_below.specs.Look.{has};

@@ -126,7 +126,7 @@ pub fn words_opened(from_word: bool, unit: Unit) -> LookSet
     word_set(from_word, unit.is_word_byte())
 }
 
-/// The configuration of an NFA that look-behind depends on.
+/// The facts of an NFA on which look-behind depends.
 #[derive(Clone, Copy, Debug)]
 pub struct LookTables {
     /// Whether the NFA scans in reverse.
@@ -148,7 +148,7 @@ impl Model for LookTables {
 }
 
 impl LookTables {
-    /// Returns the configuration of an NFA.
+    /// Returns these facts of an NFA.
     pub fn of<N: Allocator>(nfa: &NFA<N>) -> LookTables
         ensures tables { result ≡ tables_of nfa.now }
         ensures accepted { IsAccepted nfa.now }

@@ -3,7 +3,7 @@
 //! The first state of a search depends on the NFA and on the byte before the search in reading
 //! order. Bytes that satisfy the same assertions have the same first state, so there are only six
 //! kinds of start, numbered from 0: a table of first states needs six entries instead of 257.
-//! `StartByteMap` maps a byte to its kind, and no byte is `Start::Text`.
+//! `StartByteMap` maps a byte to its kind. No byte has the kind `Start::Text`.
 
 ghost use Rattle.std.specs.Prelude.{◌≡◌, ℕ, ◌<◌, get_or, length, slice_get};
 ghost use Rattle.determinize_start.specs.StartKinds as kinds;

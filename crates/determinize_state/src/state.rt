@@ -25,7 +25,7 @@
 //! A state is built in three phases, and each phase has a type: `StateBuilderEmpty`, then
 //! `StateBuilderMatches` for flags, look-have and pattern ids, then `StateBuilderNFA` for NFA
 //! states and both sets. The last also takes flags and, before the first NFA state, pattern ids, so
-//! that a transition needs one builder. So nothing is ever inserted.
+//! that a transition needs one builder. So bytes are appended or overwritten, never inserted.
 
 mod builders;
 mod bytes;

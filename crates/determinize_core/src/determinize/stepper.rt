@@ -23,7 +23,7 @@ use std::mem::size_of;
 /// calls. After an error a stepper can be used as before.
 ///
 /// The first `start` or `next` allocates the sets. The builder's memory is lost on error, and goes
-/// with a state of `next_lent`. A stepper is seen as its NFA and its match kind.
+/// with a state of `next_lent`. In contracts a stepper is its NFA and its match kind.
 #[derive(Drop)]
 pub struct Stepper<'n, N: Allocator = Global, A: Allocator = Global> {
     alloc: A,

@@ -48,8 +48,8 @@ fn set_flags<A: Allocator>(
 /// Builds the next state in an empty builder. On error the stack is not cleared.
 ///
 /// All parts of a transition are inlined into this function, and it is not inlined itself, so it is
-/// as fast for each caller. It changes the builder in place, since a move just after a write has to
-/// wait for the write.
+/// as fast for each caller. It changes the builder in place: moving it just after a write to it
+/// stalls until the write is done.
 #[inline(never)]
 fn transition<N: Allocator, A: Allocator, C: Counter>(
     nfa: &NFA<N>,

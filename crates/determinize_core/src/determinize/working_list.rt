@@ -1,8 +1,7 @@
 //! The working list of a transition.
 //!
-//! It is the NFA states of a DFA state, each once, or their closure if the unit satisfies an
-//! assertion that they need and that is not in look-have. Without the closure no list is made: the
-//! recorded ids are read as they are decoded, and repeats are skipped.
+//! It is the NFA states of a DFA state, each once, or their closure if the unit reopens it. If not,
+//! no list is made: the recorded ids are read as they are decoded, and repeats are skipped.
 
 ghost use Rattle.std.specs.Prelude.{◌≡◌, IsTrue, ◌+◌, ◌<◌, ◌≤◌, [], All, OnOk};
 ghost use Rattle.determinize_below.specs.Nfa.{AllResolve, IsAccepted};

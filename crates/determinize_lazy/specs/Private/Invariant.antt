@@ -8,8 +8,8 @@ use Rattle.determinize_table.specs.Rows.{StoredTable, table_of}
 use Rattle.determinize_lazy.specs.Private.Starts.{AreStarts}
 use Rattle.determinize_table.specs.Table.{IsTable}
 
--- an NFA that has passed every check, a table of its steps with at most `limit` states, a count of
--- 64 bits, and the start states
+-- a valid NFA, a table of its steps with at most `limit` states, a count of 64 bits, and the start
+-- states
 pub record IsLazy (nfa : Nfa) (kind : MatchKind) (limit computed : ℕ)
     (stored : StoredTable) : Type 0 where
   pub accepted : IsAccepted nfa

@@ -16,8 +16,8 @@ pub record IsFailedStep (old : Cache) (v : Value) (u : Option ℕ) (new : Cache)
   pub table : (new.table ≡ empty) ⊎ (new.table ≡ old.table)
   pub counted : (new.computed ≡ old.computed) ⊎ (new.computed ≡ (after_step old v u).computed)
 
--- what is true of every cache: the NFA has passed its checks, the table is one of its steps, and
--- the count has 64 bits
+-- what is true of every cache: the NFA is valid, the table is one of its steps, and the count has
+-- 64 bits
 pub record IsSound (c : Cache) : Type 0 where
   pub accepted : IsAccepted c.nfa
   pub table : IsTable (step_of c) c.table

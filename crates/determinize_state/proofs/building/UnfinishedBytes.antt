@@ -18,37 +18,34 @@ pub built : (bytes : List ℕ) (last : ℕ) (v : Value) → IsValue v → last �
 built bytes last v h ends e =
     let back = respelled bytes v h e in (record { is = back.0; last = rw back.1 ends }, back.1)
 
+-- a change of the bytes that is one of the value
+changed : {bytes : List ℕ} (change : List ℕ → List ℕ) (v : Value) → IsSpelled bytes → IsValue v
+    → spell v ≡ change (spell (value_of bytes)) → IsSpelled (change bytes) × (value_of (change bytes) ≡ v)
+changed change v h valid e = respelled _ v valid (e ∙ ap change h.spelled)
+
 pub have_written : (bytes : List ℕ) (set : ℕ) → IsSpelled bytes → set < 262144 →
     IsSpelled (with_word bytes 1 set) × (value_of (with_word bytes 1 set) ≡ record (value_of bytes) { look_have = set })
 unfolding spell
 have_written bytes set h small =
-    respelled _ (record (value_of bytes) { look_have = set }) (assumption (small, h.valid))
-    (ap (λ (b : List ℕ). with_word b 1 set) h.spelled)
+    changed (λ b. with_word b 1 set) (record (value_of bytes) { look_have = set }) h (assumption (small, h.valid)) refl
 
 pub need_written : (bytes : List ℕ) (set : ℕ) → IsSpelled bytes → set < 262144 →
     IsSpelled (with_word bytes 5 set) × (value_of (with_word bytes 5 set) ≡ record (value_of bytes) { look_need = set })
 unfolding spell
 need_written bytes set h small =
-    respelled _ (record (value_of bytes) { look_need = set }) (assumption (small, h.valid))
-    (ap (λ (b : List ℕ). with_word b 5 set) h.spelled)
+    changed (λ b. with_word b 5 set) (record (value_of bytes) { look_need = set }) h (assumption (small, h.valid)) refl
 
 pub from_word_set : (bytes : List ℕ) → IsSpelled bytes →
     IsSpelled (with_bit bytes 4) × (value_of (with_bit bytes 4) ≡ record (value_of bytes) { from_word = true })
 unfolding spell
 from_word_set bytes h =
-    let v : Value = value_of bytes in
-    let same : spell (record v { from_word = true }) ≡ with_bit (spell v) 4 = grind arith in
-    respelled _ (record v { from_word = true }) (assumption h.valid)
-    (same ∙ ap (λ (b : List ℕ). with_bit b 4) h.spelled)
+    changed (λ b. with_bit b 4) (record (value_of bytes) { from_word = true }) h (assumption h.valid) (grind arith)
 
 pub half_crlf_set : (bytes : List ℕ) → IsSpelled bytes →
     IsSpelled (with_bit bytes 8) × (value_of (with_bit bytes 8) ≡ record (value_of bytes) { half_crlf = true })
 unfolding spell
 half_crlf_set bytes h =
-    let v : Value = value_of bytes in
-    let same : spell (record v { half_crlf = true }) ≡ with_bit (spell v) 8 = grind arith in
-    respelled _ (record v { half_crlf = true }) (assumption h.valid)
-    (same ∙ ap (λ (b : List ℕ). with_bit b 8) h.spelled)
+    changed (λ b. with_bit b 8) (record (value_of bytes) { half_crlf = true }) h (assumption h.valid) (grind arith)
 
 spell-pushed : (v : Value) (id : ℕ) → spell (with_state v id) ≡ spell v ++ varint (zigzag (last_id 0 v.states) id)
 unfolding spell

@@ -3,11 +3,11 @@
 //! `StateBuilderEmpty` has an empty buffer, or the nine bytes of an empty header. From
 //! `into_matches` on, the bytes encode the value of the builder: flags and sets are written in
 //! place, patterns and NFA states are appended. `clear` keeps the buffer, so that a walk needs one
-//! for all its states. `into_state` makes it the memory
-//! of a state, and `from_state` takes it back, so that a state can be looked up without a copy.
+//! for all its states. `into_state` makes it the memory of a state, and `from_state` takes it back,
+//! so that a state can be looked up without a copy.
 //!
-//! `clear` leaves an empty header, so `into_matches` writes one for the first state only: a builder
-//! that is moved just after a write has to wait for the write.
+//! `clear` leaves an empty header, so `into_matches` writes one for the first state only: moving a
+//! builder just after a write to it stalls until the write is done.
 #![tactic(auto, using(crate::proofs::building::UnfinishedBytes::building))]
 
 ghost use Rattle.std.specs.Prelude.{◌≡◌, ℕ, [], true, false, nat_eq, IfOk, OnOk, OnErr, IsOk};

@@ -91,8 +91,8 @@ pub(crate) fn set_flag<A: Allocator>(bytes: &mut Vec<u8, A>, flag: u8)
     bytes[0] |= flag;
 }
 
-/// Adds a pattern to bytes without NFA states. If `ZERO` is the first, only its flag is set, and it
-/// is made explicit when another pattern follows.
+/// Adds a pattern to bytes without NFA states. `ZERO` as the first stays implicit until another
+/// pattern follows.
 pub(crate) fn add_pattern<A: Allocator>(bytes: &mut Vec<u8, A>, id: u32) -> Result<(), AllocError>
     requires { IsSpelled bytes.old.items }
     ensures ok { OnOk result (bytes.new.items ≡ with_pattern_bytes bytes.old.items id) }
