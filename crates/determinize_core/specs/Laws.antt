@@ -82,8 +82,8 @@ abbrev pub EachFutureFollows : Type 0
 EachFutureFollows = (nfa : Nfa) (kind : MatchKind) (s : ℕ) (text : Text)
     → FollowsItself nfa kind text (chain nfa kind s text)
 
--- the dead value stays; a step of a valid NFA without cycles of captures only that gives no pattern
--- and no NFA state gives the dead value
+-- the dead value stays; and if no cycle of a valid NFA consists of captures only, a step that gives
+-- no pattern and no NFA state gives the dead value
 abbrev pub DeadStays : Type 0
 DeadStays = (nfa : Nfa) (kind : MatchKind) (u : Option ℕ)
     → (step nfa kind dead u ≡ dead)

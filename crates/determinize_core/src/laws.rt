@@ -53,9 +53,9 @@ pub fn search_law()
 {}
 
 /// From each of its values a walk continues as a walk that starts there. A step from the dead value
-/// gives the dead value. If no cycle of the NFA consists of captures, so does each step that gives
-/// no pattern and no NFA state. A recorded value with empty look-need has
-/// empty look-have. Under `MatchKind::LeftmostFirst` a transition gives at most one pattern.
+/// gives the dead value. If no cycle of the NFA consists of captures only, so does each step that
+/// gives no pattern and no NFA state. A recorded value with empty look-need has empty look-have.
+/// Under `MatchKind::LeftmostFirst` a transition gives at most one pattern.
 pub fn step_law()
     ensures future { EachFutureFollows }
     ensures dead { DeadStays }

@@ -75,7 +75,7 @@ impl Config {
     {
         Config {
             look_behind: byte,
-            anchored: self.anchored,
+            ..self
         }
     }
 
@@ -83,10 +83,7 @@ impl Config {
     pub fn anchored(self, anchored: Anchored) -> Config
         ensures { result ≡ record self { anchored = anchored } }
     {
-        Config {
-            look_behind: self.look_behind,
-            anchored,
-        }
+        Config { anchored, ..self }
     }
 
     /// Returns the byte behind the start, or `None` if there is none.

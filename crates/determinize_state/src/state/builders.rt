@@ -240,8 +240,7 @@ impl<A: Allocator> StateBuilderNFA<A> {
         ensures err { OnErr result (self.new ≡ self.old) }
         ensures first { self.old.patterns ≡ [] → id ≡ 0 → IsOk result }
     {
-        bytes::add_pattern(&mut self.bytes, id.as_u32())?;
-        Ok(())
+        bytes::add_pattern(&mut self.bytes, id.as_u32())
     }
 
     /// Adds an assertion to look-need, which may contain it already.
