@@ -4,12 +4,19 @@
 //! the difference of two ids fits an `i32`. They share one type, whose parameter has no values and
 //! takes no bytes, so an id of one kind is not an id of the other.
 
+ghost use Rattle.determinize_below.specs.declared.primitives.TheConstants.{MAX_ID};
 ghost use Rattle.std.specs.Prelude.{◌≡◌, ℕ, ◌≤◌, IfErr};
 ghost use Rattle.std.specs.Result.{OkIff};
 
 use std::error::Error;
 use std::fmt;
 use std::marker::{Model, PhantomData};
+
+/// The greatest id, of a state or of a pattern: 2147483646.
+pub const MAX_ID: usize = 2147483646;
+
+/// The number of ids, and so the greatest number of states of an NFA: 2147483647.
+pub const ID_LIMIT: usize = MAX_ID + 1;
 
 /// The id of an NFA state, from 0 to 2147483646.
 pub type StateID = SmallIndex<OfState>;
@@ -38,7 +45,7 @@ impl<K> Model for SmallIndex<K> {
 
     ghost view = { λ s. s.0 };
 
-    ghost invariant = { λ s. s.0 ≤ 2147483646 };
+    ghost invariant = { λ s. s.0 ≤ MAX_ID };
 
     ghost inverse = { λ n. record { 0 = n; 1 = record {} } };
 }
@@ -47,10 +54,10 @@ impl<K> SmallIndex<K> {
     /// Returns the id with this number, or an error that contains the number if it is above
     /// 2147483646.
     pub fn new(id: usize) -> Result<SmallIndex<K>, SmallIndexError<K>>
-        ensures ok { OkIff result (id ≤ 2147483646) id }
+        ensures ok { OkIff result (id ≤ MAX_ID) id }
         ensures err { IfErr result (λ e. e ≡ id) }
     {
-        if id <= 2147483646 {
+        if id <= MAX_ID {
             Ok(SmallIndex(id as u32, PhantomData))
         } else {
             Err(SmallIndexError(id as u64, PhantomData))
@@ -59,7 +66,7 @@ impl<K> SmallIndex<K> {
 
     /// Returns the id with this number, which must be at most 2147483646.
     pub fn must(id: usize) -> SmallIndex<K>
-        requires { id ≤ 2147483646 }
+        requires { id ≤ MAX_ID }
         ensures { result ≡ id }
     {
         SmallIndex(id as u32, PhantomData)
@@ -68,7 +75,7 @@ impl<K> SmallIndex<K> {
     /// Returns the id as a `u32`.
     pub fn as_u32(self) -> u32
         ensures value { result ≡ self }
-        ensures small { self ≤ 2147483646 }
+        ensures small { self ≤ MAX_ID }
     {
         let SmallIndex(number, _) = self;
         number
@@ -77,7 +84,7 @@ impl<K> SmallIndex<K> {
     /// Returns the id as a `usize`, for indexing.
     pub fn as_usize(self) -> usize
         ensures value { result ≡ self }
-        ensures small { self ≤ 2147483646 }
+        ensures small { self ≤ MAX_ID }
     {
         let SmallIndex(index, _) = self;
         index as usize
@@ -101,7 +108,7 @@ impl StateID {
     pub const ZERO: StateID = SmallIndex(0, PhantomData);
 
     /// The greatest id, 2147483646.
-    pub const MAX: StateID = SmallIndex(2147483646, PhantomData);
+    pub const MAX: StateID = SmallIndex(MAX_ID as u32, PhantomData);
 
     /// The size of an id in bytes, 4.
     pub const SIZE: usize = 4;
@@ -118,7 +125,7 @@ impl PatternID {
     pub const ZERO: PatternID = SmallIndex(0, PhantomData);
 
     /// The greatest id, 2147483646.
-    pub const MAX: PatternID = SmallIndex(2147483646, PhantomData);
+    pub const MAX: PatternID = SmallIndex(MAX_ID as u32, PhantomData);
 
     /// The size of an encoded id in bytes, 4.
     pub const SIZE: usize = 4;
@@ -130,7 +137,7 @@ impl fmt::Debug for PatternID {
     }
 }
 
-/// An error: a number is above `2147483646`.
+/// An error from `SmallIndex::new`: the number is above 2147483646.
 #[derive_where(Clone, Copy, PartialEq, Eq)]
 pub struct SmallIndexError<K>(u64, #[derive_where(skip)] PhantomData<K>);
 

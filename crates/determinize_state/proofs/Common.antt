@@ -16,6 +16,7 @@ pub use Rattle.std.specs.List.{Any, Contains, list_any}
 pub use Rattle.determinize_below.specs.Edges.{assertion_of, is_capture}
 pub use Rattle.determinize_below.specs.Look.{bit_of, has}
 pub use Rattle.determinize_below.specs.Semantics.{Nfa}
+pub use Rattle.determinize_below.specs.declared.primitives.TheConstants.{ID_LIMIT, MAX_ID}
 pub use Rattle.determinize_state.specs.Building.{IsBuilding}
 pub use Rattle.determinize_state.specs.Equality.{by_bytes, Decides-same, parts, same}
 pub use Rattle.determinize_state.specs.Private.Groups.{read}

@@ -2,7 +2,7 @@
 -- Main statements: built, have_written, state_written, built_zeros.
 -- Used by: the calls of the builders, `State::dead`, RestoredMarks, AddedPatterns.
 -- Idea: the bytes are a header and a list that grows at its end.
-use Rattle.determinize_state.proofs.Common.{◌≡◌, ℕ, true, ◌<◌, ◌≤◌, List, [], ◌∷◌, ◌++◌, refl, arith, sym, ap, ◌∙◌, append-nil, append_assoc, subst, All-push, Value, IsValue, dead, with_state, varint, zigzag, last_id, with_word, value_of, IsSpelled, with_bit, IsBuilding}
+use Rattle.determinize_state.proofs.Common.{◌≡◌, ℕ, true, ◌<◌, ◌≤◌, List, [], ◌∷◌, ◌++◌, refl, arith, sym, ap, ◌∙◌, append-nil, append_assoc, subst, All-push, Value, IsValue, dead, with_state, varint, zigzag, last_id, with_word, value_of, IsSpelled, with_bit, IsBuilding, MAX_ID}
 use Rattle.determinize_state.specs.Spelling.{spell}
 use Rattle.determinize_state.proofs.encoding.Varints.{deltas-append}
 use Rattle.determinize_state.proofs.encoding.ReadBytes.{laid_out_in}
@@ -58,12 +58,12 @@ pub last-push : (from : ℕ) (ids : List ℕ) (id : ℕ) → last_id from (ids +
 last-push from [] id = refl
 last-push from (i ∷ ids) id = last-push i ids id
 
-pub state_written : (bytes : List ℕ) (from id : ℕ) → IsBuilding bytes from → id ≤ 2147483646 →
+pub state_written : (bytes : List ℕ) (from id : ℕ) → IsBuilding bytes from → id ≤ MAX_ID →
     IsSpelled (bytes ++ varint (zigzag from id))
     × (value_of (bytes ++ varint (zigzag from id)) ≡ with_state (value_of bytes) id)
 state_written bytes from id h small =
     let v : Value = value_of bytes in
-    let all = All-push (λ k. k ≤ 2147483646) v.states id h.is.valid.state_ids small in
+    let all = All-push (λ k. k ≤ MAX_ID) v.states id h.is.valid.state_ids small in
     respelled _ (with_state v id) (assumption (all, h.is.valid)) (spell-pushed v id ∙ rw (h.is.spelled, h.last))
 
 -- nine zero bytes are the encoding of the dead value

@@ -2,7 +2,7 @@
 -- Main statements: laid_out, value_of-spell, spelled, spell_tells.
 -- Used by: all that reads or writes the bytes of a state.
 -- Idea: the header has fixed places, and the lengths of the parts are in it.
-use Rattle.determinize_state.proofs.Common.{eqb-true, ◌≡◌, ℕ, ◌+◌, ◌*◌, ◌<◌, ◌≤◌, true, List, [], ◌∷◌, length, All, nat_eq, refl, arith, sym, ap, ◌∙◌, take, drop, subst, length-append, All-head, All-tail, Value, IsValue, dead, is_nonempty, deltas, is_explicit, words, number_at, numbers_in, has_flag, start_in, patterns_in, IsSpelled, drop-drop, drop-append_seam, take-append_seam, by_test}
+use Rattle.determinize_state.proofs.Common.{eqb-true, ◌≡◌, ℕ, ◌+◌, ◌*◌, ◌<◌, ◌≤◌, true, List, [], ◌∷◌, length, All, nat_eq, refl, arith, sym, ap, ◌∙◌, take, drop, subst, length-append, All-head, All-tail, Value, IsValue, dead, is_nonempty, deltas, is_explicit, words, number_at, numbers_in, has_flag, start_in, patterns_in, IsSpelled, drop-drop, drop-append_seam, take-append_seam, by_test, ID_LIMIT, MAX_ID}
 use Rattle.std.specs.List.{IsDistinct}
 use Rattle.std.proofs.lemmas.Nat.{from_le_bytes-to_le_bytes_4}
 use Rattle.std.proofs.lemmas.Map.Steps.{length-le_from_distinct_below}
@@ -18,19 +18,19 @@ pub length-words : (ns : List ℕ) → length (words ns) ≡ 4 * length ns
 length-words [] = refl
 length-words (n ∷ ns) = omega (arith, length-words ns)
 
-pub numbers_in-words : (ns : List ℕ) → All (λ n. n ≤ 2147483646) ns → numbers_in (words ns) ≡ ns
+pub numbers_in-words : (ns : List ℕ) → All (λ n. n ≤ MAX_ID) ns → numbers_in (words ns) ≡ ns
 numbers_in-words [] all = refl
 numbers_in-words (n ∷ ns) all =
     rw (
-      from_le_bytes-to_le_bytes_4 n (omega (arith, All-head (λ k. k ≤ 2147483646) n ns all)),
-      numbers_in-words ns (All-tail (λ k. k ≤ 2147483646) n ns all),
+      from_le_bytes-to_le_bytes_4 n (omega (arith, All-head (λ k. k ≤ MAX_ID) n ns all)),
+      numbers_in-words ns (All-tail (λ k. k ≤ MAX_ID) n ns all),
     )
 
 -- distinct ids are at most as numerous as all ids
-pub few : (ids : List ℕ) → IsDistinct nat_eq ids → All (λ id. id ≤ 2147483646) ids → length ids ≤ 2147483647
-few ids distinct all = length-le_from_distinct_below ids 2147483647 distinct (λ id h.
+pub few : (ids : List ℕ) → IsDistinct nat_eq ids → All (λ id. id ≤ MAX_ID) ids → length ids ≤ ID_LIMIT
+few ids distinct all = length-le_from_distinct_below ids ID_LIMIT distinct (λ id h.
     let at = Contains-from_any {eq = nat_eq} eqb-true id ids h in
-    subst (λ m. m < 2147483647) at.2 (omega (arith, all at.0 id at.1)))
+    subst (λ m. m < ID_LIMIT) at.2 (omega (arith, all at.0 id at.1)))
 
 -- explicit patterns: their number, and the patterns themselves
 pub record AreListed (ids bytes : List ℕ) : Type 0 where
@@ -41,7 +41,7 @@ pub record AreListed (ids bytes : List ℕ) : Type 0 where
 -- where the parts of the value are in the bytes
 pub record IsLaidOut (v : Value) (bytes : List ℕ) : Type 0 where
   pub long : 9 ≤ length bytes
-  pub few : length v.patterns ≤ 2147483647
+  pub few : length v.patterns ≤ ID_LIMIT
   pub matches : has_flag bytes 1 ≡ is_nonempty v.patterns
   pub explicit : has_flag bytes 2 ≡ is_explicit v.patterns
   pub listed : is_explicit v.patterns ≡ true → AreListed v.patterns bytes
@@ -50,7 +50,7 @@ pub record IsLaidOut (v : Value) (bytes : List ℕ) : Type 0 where
 listed_in : (v : Value) → IsValue v → is_explicit v.patterns ≡ true → AreListed v.patterns (spell v)
 unfolding spell
 listed_in v h e =
-    let few_ids : length v.patterns ≤ 2147483647 = few v.patterns h.distinct h.pattern_ids in
+    let few_ids : length v.patterns ≤ ID_LIMIT = few v.patterns h.distinct h.pattern_ids in
     let size = length-words v.patterns in
     rw e record {
       count = from_le_bytes-to_le_bytes_4 (length v.patterns) (omega arith);
