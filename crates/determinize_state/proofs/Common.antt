@@ -25,6 +25,8 @@ pub use Rattle.determinize_state.specs.Recording.{added, added_one, IsGrown, nee
 pub use Rattle.determinize_state.specs.Spelling.{has_flag, is_explicit, IsSpelled, number_at, numbers_in, patterns_in}
 pub use Rattle.determinize_state.specs.Spelling.{spell, start_in, value_of, with_word, word, words}
 pub use Rattle.determinize_state.specs.Value.{dead, is_nonempty, IsValue, Value, with_pattern, with_state}
+pub use Rattle.determinize_state.specs.declared.state.bytes.TheConstants.{COUNT, EXPLICIT, FROM_WORD, HALF_CRLF, LOOK_HAVE}
+pub use Rattle.determinize_state.specs.declared.state.bytes.TheConstants.{LOOK_NEED, MATCH, PATTERNS}
 pub use Rattle.determinize_state.specs.Varint.{deltas, groups, ids_from, IsDeltas, last_id, unzigzag, varint, zigzag}
 pub use Rattle.ordered_reach.proofs.Cases.{by_test}
 pub use Rattle.ordered_reach.specs.Runs.{without}

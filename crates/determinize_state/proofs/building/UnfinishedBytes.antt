@@ -2,15 +2,19 @@
 -- Main statements: built, have_written, state_written, built_zeros.
 -- Used by: the calls of the builders, `State::dead`, RestoredMarks, AddedPatterns.
 -- Idea: the bytes are a header and a list that grows at its end.
-use Rattle.determinize_state.proofs.Common.{◌≡◌, ℕ, true, ◌<◌, ◌≤◌, List, [], ◌∷◌, ◌++◌, refl, arith, sym, ap, ◌∙◌, append-nil, append_assoc, subst, All-push, Value, IsValue, dead, with_state, varint, zigzag, last_id, with_word, value_of, IsSpelled, with_bit, IsBuilding, MAX_ID}
+use Rattle.determinize_state.proofs.Common.{◌≡◌, ℕ, true, ◌<◌, ◌≤◌, List, [], ◌∷◌, ◌++◌, refl, arith, sym, ap, ◌∙◌, append-nil, append_assoc, subst, All-push, Value, IsValue, dead, with_state, varint, zigzag, last_id, with_word, value_of, IsSpelled, with_bit, IsBuilding, MAX_ID, FROM_WORD, HALF_CRLF, LOOK_HAVE, LOOK_NEED}
 use Rattle.determinize_state.specs.Spelling.{spell}
 use Rattle.determinize_state.proofs.encoding.Varints.{deltas-append}
 use Rattle.determinize_state.proofs.encoding.ReadBytes.{laid_out_in}
 use Rattle.determinize_state.proofs.values.TestedSets.{insert-had}
 use Rattle.determinize_state.proofs.encoding.RoundTrip.{dead_valid, value_of-spell, spelled}
 
+-- the bytes are the encoding of this value
+abbrev pub Encodes : List ℕ → Value → Type 0
+Encodes bytes v = IsSpelled bytes × (value_of bytes ≡ v)
+
 -- the encoding of a value has this value
-pub respelled : (bytes : List ℕ) (v : Value) → IsValue v → spell v ≡ bytes → IsSpelled bytes × (value_of bytes ≡ v)
+pub respelled : (bytes : List ℕ) (v : Value) → IsValue v → spell v ≡ bytes → Encodes bytes v
 respelled bytes v h e = (subst IsSpelled e (spelled v h), ap value_of (sym e) ∙ value_of-spell v h)
 
 pub built : (bytes : List ℕ) (last : ℕ) (v : Value) → IsValue v → last ≡ last_id 0 v.states → spell v ≡ bytes →
@@ -18,37 +22,37 @@ pub built : (bytes : List ℕ) (last : ℕ) (v : Value) → IsValue v → last �
 built bytes last v h ends e =
     let back = respelled bytes v h e in (record { is = back.0; last = rw back.1 ends }, back.1)
 
-pub have_written : (bytes : List ℕ) (set : ℕ) → IsSpelled bytes → set < 262144 →
-    IsSpelled (with_word bytes 1 set) × (value_of (with_word bytes 1 set) ≡ record (value_of bytes) { look_have = set })
+pub have_written : (bytes : List ℕ) (set : ℕ) → IsSpelled bytes → set < 262144
+    → Encodes (with_word bytes LOOK_HAVE set) (record (value_of bytes) { look_have = set })
 unfolding spell
 have_written bytes set h small =
     respelled _ (record (value_of bytes) { look_have = set }) (assumption (small, h.valid))
-    (ap (λ (b : List ℕ). with_word b 1 set) h.spelled)
+    (ap (λ (b : List ℕ). with_word b LOOK_HAVE set) h.spelled)
 
-pub need_written : (bytes : List ℕ) (set : ℕ) → IsSpelled bytes → set < 262144 →
-    IsSpelled (with_word bytes 5 set) × (value_of (with_word bytes 5 set) ≡ record (value_of bytes) { look_need = set })
+pub need_written : (bytes : List ℕ) (set : ℕ) → IsSpelled bytes → set < 262144
+    → Encodes (with_word bytes LOOK_NEED set) (record (value_of bytes) { look_need = set })
 unfolding spell
 need_written bytes set h small =
     respelled _ (record (value_of bytes) { look_need = set }) (assumption (small, h.valid))
-    (ap (λ (b : List ℕ). with_word b 5 set) h.spelled)
+    (ap (λ (b : List ℕ). with_word b LOOK_NEED set) h.spelled)
 
-pub from_word_set : (bytes : List ℕ) → IsSpelled bytes →
-    IsSpelled (with_bit bytes 4) × (value_of (with_bit bytes 4) ≡ record (value_of bytes) { from_word = true })
+pub from_word_set : (bytes : List ℕ) → IsSpelled bytes
+    → Encodes (with_bit bytes FROM_WORD) (record (value_of bytes) { from_word = true })
 unfolding spell
 from_word_set bytes h =
     let v : Value = value_of bytes in
-    let same : spell (record v { from_word = true }) ≡ with_bit (spell v) 4 = grind arith in
+    let same : spell (record v { from_word = true }) ≡ with_bit (spell v) FROM_WORD = grind arith in
     respelled _ (record v { from_word = true }) (assumption h.valid)
-    (same ∙ ap (λ (b : List ℕ). with_bit b 4) h.spelled)
+    (same ∙ ap (λ (b : List ℕ). with_bit b FROM_WORD) h.spelled)
 
-pub half_crlf_set : (bytes : List ℕ) → IsSpelled bytes →
-    IsSpelled (with_bit bytes 8) × (value_of (with_bit bytes 8) ≡ record (value_of bytes) { half_crlf = true })
+pub half_crlf_set : (bytes : List ℕ) → IsSpelled bytes
+    → Encodes (with_bit bytes HALF_CRLF) (record (value_of bytes) { half_crlf = true })
 unfolding spell
 half_crlf_set bytes h =
     let v : Value = value_of bytes in
-    let same : spell (record v { half_crlf = true }) ≡ with_bit (spell v) 8 = grind arith in
+    let same : spell (record v { half_crlf = true }) ≡ with_bit (spell v) HALF_CRLF = grind arith in
     respelled _ (record v { half_crlf = true }) (assumption h.valid)
-    (same ∙ ap (λ (b : List ℕ). with_bit b 8) h.spelled)
+    (same ∙ ap (λ (b : List ℕ). with_bit b HALF_CRLF) h.spelled)
 
 spell-pushed : (v : Value) (id : ℕ) → spell (with_state v id) ≡ spell v ++ varint (zigzag (last_id 0 v.states) id)
 unfolding spell
@@ -58,9 +62,8 @@ pub last-push : (from : ℕ) (ids : List ℕ) (id : ℕ) → last_id from (ids +
 last-push from [] id = refl
 last-push from (i ∷ ids) id = last-push i ids id
 
-pub state_written : (bytes : List ℕ) (from id : ℕ) → IsBuilding bytes from → id ≤ MAX_ID →
-    IsSpelled (bytes ++ varint (zigzag from id))
-    × (value_of (bytes ++ varint (zigzag from id)) ≡ with_state (value_of bytes) id)
+pub state_written : (bytes : List ℕ) (from id : ℕ) → IsBuilding bytes from → id ≤ MAX_ID
+    → Encodes (bytes ++ varint (zigzag from id)) (with_state (value_of bytes) id)
 state_written bytes from id h small =
     let v : Value = value_of bytes in
     let all = All-push (λ k. k ≤ MAX_ID) v.states id h.is.valid.state_ids small in

@@ -2,7 +2,7 @@
 -- Main statements: laid_out_in, rest_valid, number_of.
 -- Used by: the calls that read a state, UnfinishedBytes, AddedPatterns.
 -- Idea: the bytes are those of a value, so each place has that part of the value.
-use Rattle.determinize_state.proofs.Common.{◌≡◌, ℕ, ◌*◌, ◌<◌, ◌≤◌, List, [], length, All, suc, zero, refl, arith, sym, take, drop, lit≤, subst, slice_index, All-head, All-tail, ◌∷◌, from_le_bytes, w32, IsDeltas, words, number_at, numbers_in, has_flag, start_in, IsSpelled, ids_from, patterns_in, MAX_ID}
+use Rattle.determinize_state.proofs.Common.{◌≡◌, ℕ, ◌*◌, ◌<◌, ◌≤◌, List, [], length, All, suc, zero, refl, arith, sym, take, drop, lit≤, subst, slice_index, All-head, All-tail, ◌∷◌, from_le_bytes, w32, IsDeltas, words, number_at, numbers_in, has_flag, start_in, IsSpelled, ids_from, patterns_in, MAX_ID, FROM_WORD, HALF_CRLF, LOOK_HAVE, LOOK_NEED}
 use Rattle.determinize_state.specs.Spelling.{value_of}
 pub use Rattle.determinize_state.proofs.encoding.RoundTrip.{AreListed, IsLaidOut, few, laid_out, length-words, numbers_in-words}
 use Rattle.std.proofs.lemmas.Nat.{from_le_bytes-to_le_bytes_4}
@@ -18,9 +18,10 @@ unfolding value_of
 rest_valid bytes h = record { small = lit≤ tt; ids = h.valid.state_ids; spelled = sym (laid_out_in bytes h).rest }
 
 -- the parts of the value, where the bytes have them
-pub parts_of : (bytes : List ℕ) → ((value_of bytes).from_word ≡ has_flag bytes 4)
-    × ((value_of bytes).half_crlf ≡ has_flag bytes 8) × ((value_of bytes).look_have ≡ number_at bytes 1)
-    × ((value_of bytes).look_need ≡ number_at bytes 5) × ((value_of bytes).patterns ≡ patterns_in bytes)
+pub parts_of : (bytes : List ℕ) → ((value_of bytes).from_word ≡ has_flag bytes FROM_WORD)
+    × ((value_of bytes).half_crlf ≡ has_flag bytes HALF_CRLF)
+    × ((value_of bytes).look_have ≡ number_at bytes LOOK_HAVE)
+    × ((value_of bytes).look_need ≡ number_at bytes LOOK_NEED) × ((value_of bytes).patterns ≡ patterns_in bytes)
     × ((value_of bytes).states ≡ ids_from 0 0 1 (drop (start_in bytes) bytes))
 unfolding value_of
 parts_of bytes = (refl, refl, refl, refl, refl, refl)
