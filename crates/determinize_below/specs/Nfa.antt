@@ -8,6 +8,7 @@ use Rattle.determinize_below.specs.Transition.{is_ascending}
 use Rattle.determinize_below.specs.Look as looks
 use Rattle.determinize_below.specs.declared.nfa.BuildError.{BuildError}
 use Rattle.determinize_below.specs.declared.nfa.BuildError.TheVariants as errors
+use Rattle.determinize_below.specs.declared.primitives.TheConstants.{ID_LIMIT}
 
 -- whether each id in the state is below the number of states
 abbrev pub resolves : ℕ → Node → Bool
@@ -71,7 +72,7 @@ states_failure count earlier index (node ∷ rest) =
 -- the first error of all
 abbrev pub failure : List Node → ℕ → ℕ → Option BuildError
 failure states anchored unanchored =
-    if nat_lt 2147483647 (length states) then Some errors.TooManyStates
+    if nat_lt ID_LIMIT (length states) then Some errors.TooManyStates
     else (if not (nat_lt anchored (length states) && nat_lt unanchored (length states))
     then Some errors.UnresolvedStart
     else states_failure (length states) [] 0 states)

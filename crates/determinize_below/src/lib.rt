@@ -21,6 +21,6 @@ pub mod sparse_set;
 pub use alphabet::{ByteClasses, Unit};
 pub use look::{Look, LookMatcher, LookSet};
 pub use nfa::{BuildError, DenseTransitions, NFA, SparseTransitions, Transition};
-pub use primitives::{PatternID, PatternIDError, StateID, StateIDError};
+pub use primitives::{ID_LIMIT, MAX_ID, PatternID, PatternIDError, StateID, StateIDError};
 pub use search::{Anchored, HalfMatch, Input, Match, MatchKind};
 pub use sparse_set::{SparseSet, SparseSetIter, SparseSets};

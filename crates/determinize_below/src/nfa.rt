@@ -16,7 +16,7 @@ ghost use Rattle.determinize_below.specs.Node.{node_of};
 ghost use Rattle.determinize_below.specs.Nfa.{failure, is_dense_sound, is_sparse_sound, looks_of};
 
 use crate::look::{LookMatcher, LookSet};
-use crate::primitives::{StateID, StateIDError};
+use crate::primitives::{ID_LIMIT, StateID, StateIDError};
 use std::alloc::{AllocError, AllocFailed, Allocator, Global};
 use std::error::Error;
 use std::fmt;
@@ -173,13 +173,13 @@ impl<A: Allocator> NFA<A> {
         ensures err { IfErr result (λ e.
             (failure (map node_of states.items) start_anchored start_unanchored ≡ Some e)
             ⊎ (e ≡ BuildError.OutOfMemory)) }
-        ensures limit { 2147483647 < vec_len states → IsErrOf result BuildError.TooManyStates }
-        ensures starts { vec_len states ≤ 2147483647
+        ensures limit { ID_LIMIT < vec_len states → IsErrOf result BuildError.TooManyStates }
+        ensures starts { vec_len states ≤ ID_LIMIT
             → (vec_len states ≤ start_anchored) ⊎ (vec_len states ≤ start_unanchored)
             → IsErrOf result BuildError.UnresolvedStart }
     {
         let count = states.len();
-        if count > 2147483647 {
+        if count > ID_LIMIT {
             return Err(BuildError::TooManyStates);
         }
         if start_anchored.as_usize() >= count || start_unanchored.as_usize() >= count {
@@ -200,7 +200,7 @@ impl<A: Allocator> NFA<A> {
     /// Returns the number of states, at most 2147483647.
     pub fn len(&self) -> usize
         ensures count { result ≡ length self.now.states }
-        ensures limit { result ≤ 2147483647 }
+        ensures limit { result ≤ ID_LIMIT }
         ensures accepted { IsAccepted self.now }
     {
         self.states.len()

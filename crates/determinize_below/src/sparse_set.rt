@@ -15,7 +15,7 @@ ghost use Rattle.determinize_below.specs.Private.Clearing.{IsCleared};
 ghost use Rattle.determinize_below.specs.Private.Sparse.{has_bit};
 ghost use Rattle.determinize_below.specs.Members.{has_id};
 
-use crate::primitives::StateID;
+use crate::primitives::{ID_LIMIT, StateID};
 use std::alloc::{AllocError, Allocator, Global};
 use std::marker::Model;
 
@@ -45,7 +45,7 @@ impl<A: Allocator + Clone> SparseSet<A> {
     /// all memory that the set will ever need, and none is kept on error.
     #[tactic(auto, using(crate::proofs::sets::SparseSets::emptying))]
     pub fn new(alloc: A, capacity: usize) -> Result<SparseSet<A>, AllocError>
-        requires { capacity ≤ 2147483647 }
+        requires { capacity ≤ ID_LIMIT }
         ensures { IfOk result (λ s. s ≡ record { ids = []; capacity = capacity }) }
     {
         let ids = Vec::with_capacity(alloc.clone()?, capacity)?;
@@ -242,7 +242,7 @@ impl<A: Allocator + Copy> SparseSets<A> {
     /// Returns two empty sets for ids below the capacity, which must be at most 2147483647. Nothing
     /// is kept on error.
     pub fn new(alloc: A, capacity: usize) -> Result<SparseSets<A>, AllocError>
-        requires { capacity ≤ 2147483647 }
+        requires { capacity ≤ ID_LIMIT }
         ensures first { IfOk result (λ s. s.set1 ≡ record { ids = []; capacity = capacity }) }
         ensures second { IfOk result (λ s. s.set2 ≡ record { ids = []; capacity = capacity }) }
     {

@@ -16,6 +16,7 @@ pub use Rattle.std.specs.List.{Any, Contains, list_any}
 pub use Rattle.determinize_below.specs.Edges.{assertion_of, is_capture}
 pub use Rattle.determinize_below.specs.Look.{bit_of, has}
 pub use Rattle.determinize_below.specs.Semantics.{Nfa}
+pub use Rattle.determinize_below.specs.declared.primitives.TheConstants.{ID_LIMIT, MAX_ID}
 pub use Rattle.determinize_state.specs.Building.{IsBuilding}
 pub use Rattle.determinize_state.specs.Equality.{by_bytes, Decides-same, parts, same}
 pub use Rattle.determinize_state.specs.Private.Groups.{read}
@@ -24,6 +25,8 @@ pub use Rattle.determinize_state.specs.Recording.{added, added_one, IsGrown, nee
 pub use Rattle.determinize_state.specs.Spelling.{has_flag, is_explicit, IsSpelled, number_at, numbers_in, patterns_in}
 pub use Rattle.determinize_state.specs.Spelling.{spell, start_in, value_of, with_word, word, words}
 pub use Rattle.determinize_state.specs.Value.{dead, is_nonempty, IsValue, Value, with_pattern, with_state}
+pub use Rattle.determinize_state.specs.declared.state.bytes.TheConstants.{COUNT, EXPLICIT, FROM_WORD, HALF_CRLF, LOOK_HAVE}
+pub use Rattle.determinize_state.specs.declared.state.bytes.TheConstants.{LOOK_NEED, MATCH, PATTERNS}
 pub use Rattle.determinize_state.specs.Varint.{deltas, groups, ids_from, IsDeltas, last_id, unzigzag, varint, zigzag}
 pub use Rattle.ordered_reach.proofs.Cases.{by_test}
 pub use Rattle.ordered_reach.specs.Runs.{without}

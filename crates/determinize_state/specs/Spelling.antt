@@ -1,8 +1,10 @@
--- The byte encoding of a state. It is canonical: each value has exactly one.
+-- The byte encoding of a state. It is canonical: each value has exactly one. The bits of its first
+-- byte and the offsets in its header are the constants of src/state/bytes.rt.
 use Rattle.std.specs.Prelude.{◌≡◌, ℕ, ◌+◌, ◌*◌, ◌/◌, ◌%◌, Bool, true, false, not, List, [], ◌∷◌, ◌++◌, bit_and, nat_eq, zero, length, take, drop, slice_index, slice_set, if◌then◌else◌}
 use Rattle.std.specs.Int.{to_le_bytes, from_le_bytes, w32}
 use Rattle.determinize_state.specs.Value.{Value, IsValue, is_nonempty}
 use Rattle.determinize_state.specs.Varint.{deltas, ids_from}
+use Rattle.determinize_state.specs.declared.state.bytes.TheConstants.{COUNT, EXPLICIT, FROM_WORD, HALF_CRLF, LOOK_HAVE, LOOK_NEED, MATCH, PATTERNS}
 
 -- the weight if the flag is set, otherwise 0
 abbrev pub bit : Bool → ℕ → ℕ
@@ -18,8 +20,8 @@ is_explicit _ = true
 -- flags
 abbrev pub flags : Value → ℕ
 flags value =
-    bit (is_nonempty value.patterns) 1 + bit (is_explicit value.patterns) 2
-    + bit value.from_word 4 + bit value.half_crlf 8
+    bit (is_nonempty value.patterns) MATCH + bit (is_explicit value.patterns) EXPLICIT
+    + bit value.from_word FROM_WORD + bit value.half_crlf HALF_CRLF
 
 -- a number in four bytes, little-endian
 abbrev pub word : ℕ → List ℕ
@@ -62,22 +64,22 @@ has_flag bytes weight = not (nat_eq (bit_and (slice_index bytes 0) weight) 0)
 
 -- the offset of the NFA states, after the patterns
 abbrev pub start_in : List ℕ → ℕ
-start_in bytes = if has_flag bytes 2 then 13 + 4 * number_at bytes 9 else 9
+start_in bytes = if has_flag bytes EXPLICIT then PATTERNS + 4 * number_at bytes COUNT else COUNT
 
 -- the patterns of the bytes: the explicit ones, or 0 only if they are implicit and some pattern
 -- matches
 abbrev pub patterns_in : List ℕ → List ℕ
 patterns_in bytes =
-    if has_flag bytes 2 then numbers_in (take (4 * number_at bytes 9) (drop 13 bytes))
-    else (if has_flag bytes 1 then 0 ∷ [] else [])
+    if has_flag bytes EXPLICIT then numbers_in (take (4 * number_at bytes COUNT) (drop PATTERNS bytes))
+    else (if has_flag bytes MATCH then 0 ∷ [] else [])
 
 -- the value that the bytes encode
 unfoldable pub value_of : List ℕ → Value
 value_of bytes = record {
-  from_word = has_flag bytes 4;
-  half_crlf = has_flag bytes 8;
-  look_have = number_at bytes 1;
-  look_need = number_at bytes 5;
+  from_word = has_flag bytes FROM_WORD;
+  half_crlf = has_flag bytes HALF_CRLF;
+  look_have = number_at bytes LOOK_HAVE;
+  look_need = number_at bytes LOOK_NEED;
   patterns = patterns_in bytes;
   states = ids_from 0 0 1 (drop (start_in bytes) bytes);
 }

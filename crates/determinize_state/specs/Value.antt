@@ -2,6 +2,7 @@
 use Rattle.std.specs.Prelude.{ℕ, ◌<◌, ◌≤◌, ◌^◌, Bool, true, false, Option, Some, None, List, [], ◌∷◌, ◌++◌, All, nat_eq, bit_or}
 use mathlib.Core.Bool.{◌||◌}
 use Rattle.std.specs.List.{IsDistinct}
+use Rattle.determinize_below.specs.declared.primitives.TheConstants.{MAX_ID}
 
 -- the two flags, the two sets of assertions as bits, the patterns that match, and the NFA states
 pub record Value : Type 0 where
@@ -28,8 +29,8 @@ pub record IsValue (value : Value) : Type 0 where
   pub have : value.look_have < 2 ^ 18
   pub need : value.look_need < 2 ^ 18
   pub distinct : IsDistinct nat_eq value.patterns
-  pub pattern_ids : All (λ id. id ≤ 2147483646) value.patterns
-  pub state_ids : All (λ id. id ≤ 2147483646) value.states
+  pub pattern_ids : All (λ id. id ≤ MAX_ID) value.patterns
+  pub state_ids : All (λ id. id ≤ MAX_ID) value.states
 
 -- whether the list is not empty
 abbrev pub is_nonempty : List ℕ → Bool

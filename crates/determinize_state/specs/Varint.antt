@@ -1,5 +1,6 @@
 -- The encoding of NFA states: the differences of consecutive ids as zigzag varints.
 use Rattle.std.specs.Prelude.{◌≡◌, ℕ, ◌+◌, ◌-◌, ◌*◌, ◌/◌, ◌%◌, ◌≤◌, List, [], ◌∷◌, ◌++◌, All, nat_lt, nat_le, nat_eq, suc, zero, if◌then◌else◌}
+use Rattle.determinize_below.specs.declared.primitives.TheConstants.{MAX_ID}
 
 -- the difference of two ids as a number: 2d for d of 0 or more, 2d - 1 if the second is d less
 abbrev pub zigzag : ℕ → ℕ → ℕ
@@ -41,6 +42,6 @@ ids_from from low weight (byte ∷ bytes) =
 
 -- the bytes encode ids in range, after `from`
 pub record IsDeltas (from : ℕ) (bytes : List ℕ) : Type 0 where
-  pub small : from ≤ 2147483646
-  pub ids : All (λ id. id ≤ 2147483646) (ids_from from 0 1 bytes)
+  pub small : from ≤ MAX_ID
+  pub ids : All (λ id. id ≤ MAX_ID) (ids_from from 0 1 bytes)
   pub spelled : deltas from (ids_from from 0 1 bytes) ≡ bytes

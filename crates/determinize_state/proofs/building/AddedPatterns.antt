@@ -2,12 +2,12 @@
 -- Main statements: pattern_written, unlisted.
 -- Used by: `add_match_pattern_id`.
 -- Idea: the one pattern 0 takes no bytes until another comes.
-use Rattle.determinize_state.proofs.Common.{◌≡◌, ℕ, ◌+◌, ◌≤◌, true, false, List, [], ◌∷◌, ◌++◌, nat_eq, suc, zero, refl, arith, ap, ◌∙◌, length-append, list_any, nat_eq_equiv, nat_tests, All-push, Value, IsValue, with_pattern, is_nonempty, is_explicit, words, word, with_word, value_of, number_at, IsSpelled, has_flag}
+use Rattle.determinize_state.proofs.Common.{◌≡◌, ℕ, ◌+◌, ◌≤◌, true, false, List, [], ◌∷◌, ◌++◌, nat_eq, suc, zero, refl, arith, ap, ◌∙◌, length-append, list_any, nat_eq_equiv, nat_tests, All-push, Value, IsValue, with_pattern, is_nonempty, is_explicit, words, word, with_word, value_of, number_at, IsSpelled, has_flag, MAX_ID, COUNT, EXPLICIT, MATCH}
 use Rattle.std.proofs.Common.{append-nil}
 use Rattle.std.proofs.lemmas.Map.Keys.{IsDistinct-push}
 use Rattle.determinize_state.specs.Private.PatternBytes.{with_pattern_bytes}
 use Rattle.determinize_state.specs.Spelling.{spell}
-use Rattle.determinize_state.proofs.building.UnfinishedBytes.{respelled}
+use Rattle.determinize_state.proofs.building.UnfinishedBytes.{Encodes, respelled}
 use Rattle.determinize_state.proofs.encoding.ReadBytes.{laid_out_in}
 use Rattle.determinize_state.proofs.encoding.RoundTrip.{laid_out}
 
@@ -17,7 +17,7 @@ words-append (n ∷ ns) ms = rw (words-append ns ms)
 
 -- the cases of adding a pattern before the first NFA state
 pushed-more : (v : Value) (id : ℕ) → IsValue v → v.states ≡ [] → is_explicit v.patterns ≡ true
-    → spell (with_pattern v id) ≡ with_word (spell v ++ word id) 9 (number_at (spell v) 9 + 1)
+    → spell (with_pattern v id) ≡ with_word (spell v ++ word id) COUNT (number_at (spell v) COUNT + 1)
 unfolding spell
 pushed-more v id h none e =
     let more : is_explicit (v.patterns ++ id ∷ []) ≡ true = grind arith in
@@ -37,19 +37,18 @@ pushed v id ids h none e =
     rw ((laid_out v h).explicit ∙ ap is_explicit e) (pushed-more v id h none (ap is_explicit e))
 
 pub pattern_written : (bytes : List ℕ) (id : ℕ) → IsSpelled bytes → (value_of bytes).states ≡ []
-    → id ≤ 2147483646 → list_any (nat_eq id) (value_of bytes).patterns ≡ false →
-    IsSpelled (with_pattern_bytes bytes id)
-    × (value_of (with_pattern_bytes bytes id) ≡ with_pattern (value_of bytes) id)
+    → id ≤ MAX_ID → list_any (nat_eq id) (value_of bytes).patterns ≡ false
+    → Encodes (with_pattern_bytes bytes id) (with_pattern (value_of bytes) id)
 pattern_written bytes id h none small new =
     let v : Value = value_of bytes in
     let distinct = IsDistinct-push nat_eq_equiv v.patterns id h.valid.distinct new in
-    let all = All-push (λ k. k ≤ 2147483646) v.patterns id h.valid.pattern_ids small in
+    let all = All-push (λ k. k ≤ MAX_ID) v.patterns id h.valid.pattern_ids small in
     respelled _ (with_pattern v id) (assumption (distinct, all, h.valid))
     (pushed v id v.patterns h.valid none refl ∙ ap (λ (b : List ℕ). with_pattern_bytes b id) h.spelled)
 
 -- the bits of the first byte if there is no pattern
-pub unlisted : (bytes : List ℕ) → IsSpelled bytes → (value_of bytes).patterns ≡ [] → (has_flag bytes 1 ≡ false)
-    × (has_flag bytes 2 ≡ false)
+pub unlisted : (bytes : List ℕ) → IsSpelled bytes → (value_of bytes).patterns ≡ []
+    → (has_flag bytes MATCH ≡ false) × (has_flag bytes EXPLICIT ≡ false)
 unlisted bytes h none =
     let at = laid_out_in bytes h in (at.matches ∙ ap is_nonempty none, at.explicit ∙ ap is_explicit none)
 

@@ -2,7 +2,7 @@
 -- Main statements: cut_back, grown_back.
 -- Used by: `restore`.
 -- Idea: bytes only grow, so cutting them and writing the sets is enough.
-use Rattle.determinize_state.proofs.Common.{length-append, ◌≡◌, ℕ, ◌≤◌, List, ◌++◌, length, All, arith, sym, ap, ◌∙◌, take, append_assoc, take-append_seam, Value, IsValue, deltas, last_id, value_of, IsSpelled, IsBuilding, IsGrown}
+use Rattle.determinize_state.proofs.Common.{length-append, ◌≡◌, ℕ, ◌≤◌, List, ◌++◌, length, All, arith, sym, ap, ◌∙◌, take, append_assoc, take-append_seam, Value, IsValue, deltas, last_id, value_of, IsSpelled, IsBuilding, IsGrown, MAX_ID}
 use Rattle.std.proofs.Math.ListN.{get_or-append}
 use Rattle.determinize_state.specs.Spelling.{spell}
 use Rattle.determinize_state.specs.Private.Marking.{IsMarkOf}
@@ -30,7 +30,7 @@ cut_back v w bytes mark h is m g =
     let more = deltas (last_id 0 v.states) g.states.0 in
     let valid : IsValue w = rw is at h.valid in
     let whole : bytes ≡ spell (kept v w) ++ more = sym h.spelled ∙ rw is (encoding-grown v w g) in
-    let small : All (λ id. id ≤ 2147483646) v.states =
+    let small : All (λ id. id ≤ MAX_ID) v.states =
     grind (arith, get_or-append, length-append v.states g.states.0, g.states.1, valid.state_ids) in
     built _ mark.last (kept v w) (assumption (small, valid)) m.last
     (rw (m.bytes ∙ size_same v w g) (sym (ap (take (length (spell (kept v w)))) whole

@@ -2,15 +2,19 @@
 -- Main statements: built, have_written, state_written, built_zeros.
 -- Used by: the calls of the builders, `State::dead`, RestoredMarks, AddedPatterns.
 -- Idea: the bytes are a header and a list that grows at its end.
-use Rattle.determinize_state.proofs.Common.{◌≡◌, ℕ, true, ◌<◌, ◌≤◌, List, [], ◌∷◌, ◌++◌, refl, arith, sym, ap, ◌∙◌, append-nil, append_assoc, subst, All-push, Value, IsValue, dead, with_state, varint, zigzag, last_id, with_word, value_of, IsSpelled, with_bit, IsBuilding}
+use Rattle.determinize_state.proofs.Common.{◌≡◌, ℕ, true, ◌<◌, ◌≤◌, List, [], ◌∷◌, ◌++◌, refl, arith, sym, ap, ◌∙◌, append-nil, append_assoc, subst, All-push, Value, IsValue, dead, with_state, varint, zigzag, last_id, with_word, value_of, IsSpelled, with_bit, IsBuilding, MAX_ID, FROM_WORD, HALF_CRLF, LOOK_HAVE, LOOK_NEED}
 use Rattle.determinize_state.specs.Spelling.{spell}
 use Rattle.determinize_state.proofs.encoding.Varints.{deltas-append}
 use Rattle.determinize_state.proofs.encoding.ReadBytes.{laid_out_in}
 use Rattle.determinize_state.proofs.values.TestedSets.{insert-had}
 use Rattle.determinize_state.proofs.encoding.RoundTrip.{dead_valid, value_of-spell, spelled}
 
+-- the bytes are the encoding of this value
+abbrev pub Encodes : List ℕ → Value → Type 0
+Encodes bytes v = IsSpelled bytes × (value_of bytes ≡ v)
+
 -- the encoding of a value has this value
-pub respelled : (bytes : List ℕ) (v : Value) → IsValue v → spell v ≡ bytes → IsSpelled bytes × (value_of bytes ≡ v)
+pub respelled : (bytes : List ℕ) (v : Value) → IsValue v → spell v ≡ bytes → Encodes bytes v
 respelled bytes v h e = (subst IsSpelled e (spelled v h), ap value_of (sym e) ∙ value_of-spell v h)
 
 pub built : (bytes : List ℕ) (last : ℕ) (v : Value) → IsValue v → last ≡ last_id 0 v.states → spell v ≡ bytes →
@@ -20,32 +24,36 @@ built bytes last v h ends e =
 
 -- a change of the bytes that is one of the value
 changed : {bytes : List ℕ} (change : List ℕ → List ℕ) (v : Value) → IsSpelled bytes → IsValue v
-    → spell v ≡ change (spell (value_of bytes)) → IsSpelled (change bytes) × (value_of (change bytes) ≡ v)
+    → spell v ≡ change (spell (value_of bytes)) → Encodes (change bytes) v
 changed change v h valid e = respelled _ v valid (e ∙ ap change h.spelled)
 
-pub have_written : (bytes : List ℕ) (set : ℕ) → IsSpelled bytes → set < 262144 →
-    IsSpelled (with_word bytes 1 set) × (value_of (with_word bytes 1 set) ≡ record (value_of bytes) { look_have = set })
+pub have_written : (bytes : List ℕ) (set : ℕ) → IsSpelled bytes → set < 262144
+    → Encodes (with_word bytes LOOK_HAVE set) (record (value_of bytes) { look_have = set })
 unfolding spell
 have_written bytes set h small =
-    changed (λ b. with_word b 1 set) (record (value_of bytes) { look_have = set }) h (assumption (small, h.valid)) refl
+    changed (λ b. with_word b LOOK_HAVE set) (record (value_of bytes) { look_have = set }) h
+    (assumption (small, h.valid)) refl
 
-pub need_written : (bytes : List ℕ) (set : ℕ) → IsSpelled bytes → set < 262144 →
-    IsSpelled (with_word bytes 5 set) × (value_of (with_word bytes 5 set) ≡ record (value_of bytes) { look_need = set })
+pub need_written : (bytes : List ℕ) (set : ℕ) → IsSpelled bytes → set < 262144
+    → Encodes (with_word bytes LOOK_NEED set) (record (value_of bytes) { look_need = set })
 unfolding spell
 need_written bytes set h small =
-    changed (λ b. with_word b 5 set) (record (value_of bytes) { look_need = set }) h (assumption (small, h.valid)) refl
+    changed (λ b. with_word b LOOK_NEED set) (record (value_of bytes) { look_need = set }) h
+    (assumption (small, h.valid)) refl
 
-pub from_word_set : (bytes : List ℕ) → IsSpelled bytes →
-    IsSpelled (with_bit bytes 4) × (value_of (with_bit bytes 4) ≡ record (value_of bytes) { from_word = true })
+pub from_word_set : (bytes : List ℕ) → IsSpelled bytes
+    → Encodes (with_bit bytes FROM_WORD) (record (value_of bytes) { from_word = true })
 unfolding spell
 from_word_set bytes h =
-    changed (λ b. with_bit b 4) (record (value_of bytes) { from_word = true }) h (assumption h.valid) (grind arith)
+    changed (λ b. with_bit b FROM_WORD) (record (value_of bytes) { from_word = true }) h
+    (assumption h.valid) (grind arith)
 
-pub half_crlf_set : (bytes : List ℕ) → IsSpelled bytes →
-    IsSpelled (with_bit bytes 8) × (value_of (with_bit bytes 8) ≡ record (value_of bytes) { half_crlf = true })
+pub half_crlf_set : (bytes : List ℕ) → IsSpelled bytes
+    → Encodes (with_bit bytes HALF_CRLF) (record (value_of bytes) { half_crlf = true })
 unfolding spell
 half_crlf_set bytes h =
-    changed (λ b. with_bit b 8) (record (value_of bytes) { half_crlf = true }) h (assumption h.valid) (grind arith)
+    changed (λ b. with_bit b HALF_CRLF) (record (value_of bytes) { half_crlf = true }) h
+    (assumption h.valid) (grind arith)
 
 spell-pushed : (v : Value) (id : ℕ) → spell (with_state v id) ≡ spell v ++ varint (zigzag (last_id 0 v.states) id)
 unfolding spell
@@ -55,12 +63,11 @@ pub last-push : (from : ℕ) (ids : List ℕ) (id : ℕ) → last_id from (ids +
 last-push from [] id = refl
 last-push from (i ∷ ids) id = last-push i ids id
 
-pub state_written : (bytes : List ℕ) (from id : ℕ) → IsBuilding bytes from → id ≤ 2147483646 →
-    IsSpelled (bytes ++ varint (zigzag from id))
-    × (value_of (bytes ++ varint (zigzag from id)) ≡ with_state (value_of bytes) id)
+pub state_written : (bytes : List ℕ) (from id : ℕ) → IsBuilding bytes from → id ≤ MAX_ID
+    → Encodes (bytes ++ varint (zigzag from id)) (with_state (value_of bytes) id)
 state_written bytes from id h small =
     let v : Value = value_of bytes in
-    let all = All-push (λ k. k ≤ 2147483646) v.states id h.is.valid.state_ids small in
+    let all = All-push (λ k. k ≤ MAX_ID) v.states id h.is.valid.state_ids small in
     respelled _ (with_state v id) (assumption (all, h.is.valid)) (spell-pushed v id ∙ rw (h.is.spelled, h.last))
 
 -- nine zero bytes are the encoding of the dead value

@@ -2,7 +2,7 @@
 -- Main statements: ids_from-deltas, first_read, varint-more.
 -- Used by: RoundTrip, the functions that read and write a varint.
 -- Idea: seven bits at a time; a zigzag number is even or odd with its sign.
-use Rattle.determinize_state.proofs.Common.{◌≡◌, ℕ, ◌+◌, ◌-◌, ◌*◌, ◌/◌, ◌%◌, ◌<◌, ◌≤◌, Option, Some, None, IfNone, IfSome, List, [], ◌∷◌, ◌++◌, All, nat_lt, suc, zero, refl, arith, sym, ap, ◌∙◌, append_assoc, zero-add, lit≤, length, drop, IsDeltas, zigzag, unzigzag, groups, deltas, ids_from, last_id, All-head, All-tail, nat_tests, read}
+use Rattle.determinize_state.proofs.Common.{◌≡◌, ℕ, ◌+◌, ◌-◌, ◌*◌, ◌/◌, ◌%◌, ◌<◌, ◌≤◌, Option, Some, None, IfNone, IfSome, List, [], ◌∷◌, ◌++◌, All, nat_lt, suc, zero, refl, arith, sym, ap, ◌∙◌, append_assoc, zero-add, lit≤, length, drop, IsDeltas, zigzag, unzigzag, groups, deltas, ids_from, last_id, All-head, All-tail, nat_tests, read, MAX_ID}
 use Rattle.determinize_state.specs.Varint.{varint}
 use Rattle.std.proofs.Math.Nat.{one-mul, mul-le-mul_left}
 
@@ -35,7 +35,7 @@ read-groups (suc more) n low weight rest small fits =
     grind (arith, nat_tests, next, low_group low weight n)
 
 -- the first of the ids
-read-deltas : (from id : ℕ) (ids : List ℕ) → from ≤ 2147483646 → id ≤ 2147483646
+read-deltas : (from id : ℕ) (ids : List ℕ) → from ≤ MAX_ID → id ≤ MAX_ID
     → read 0 1 (deltas from (id ∷ ids)) ≡ Some (zigzag from id, deltas id ids)
 unfolding varint
 read-deltas from id ids small here =
@@ -51,13 +51,13 @@ ids_from-read from low weight (byte ∷ bytes) number after e =
     grind (arith, nat_tests, ids_from-read from (low + weight * (byte - 128)) (weight * 128) bytes number after)
 
 -- decoding the encoding of ids gives the ids
-pub ids_from-deltas : (from : ℕ) (ids : List ℕ) → from ≤ 2147483646 → All (λ i. i ≤ 2147483646) ids
+pub ids_from-deltas : (from : ℕ) (ids : List ℕ) → from ≤ MAX_ID → All (λ i. i ≤ MAX_ID) ids
     → ids_from from 0 1 (deltas from ids) ≡ ids
 ids_from-deltas from [] small all = refl
 ids_from-deltas from (id ∷ ids) small all =
-    let here : id ≤ 2147483646 = All-head (λ i. i ≤ 2147483646) id ids all in
+    let here : id ≤ MAX_ID = All-head (λ i. i ≤ MAX_ID) id ids all in
     ids_from-read from 0 1 (deltas from (id ∷ ids)) _ _ (read-deltas from id ids small here)
-    ∙ rw (unzigzag-zigzag from id, ids_from-deltas id ids here (All-tail (λ i. i ≤ 2147483646) id ids all))
+    ∙ rw (unzigzag-zigzag from id, ids_from-deltas id ids here (All-tail (λ i. i ≤ MAX_ID) id ids all))
 
 -- the bytes after the first varint, by their number
 pub read_rest : (low weight : ℕ) (bytes : List ℕ) → (read low weight bytes ≡ read low weight bytes)
@@ -72,18 +72,18 @@ read_rest low weight (byte ∷ bytes) =
 
 -- the first of these ids has this number, and the bytes after it encode the others
 pub record IsFirst (from : ℕ) (ids : List ℕ) (id number : ℕ) (after : List ℕ) : Type 0 where
-  pub small : id ≤ 2147483646
+  pub small : id ≤ MAX_ID
   pub back : number ≡ zigzag from id
   pub first : ids ≡ id ∷ ids_from id 0 1 after
   pub rest : IsDeltas id after
 
-first_of : (from : ℕ) (ids : List ℕ) → from ≤ 2147483646 → All (λ i. i ≤ 2147483646) ids
+first_of : (from : ℕ) (ids : List ℕ) → from ≤ MAX_ID → All (λ i. i ≤ MAX_ID) ids
     → IfSome (read 0 1 (deltas from ids)) (λ r. IsFirst from ids (unzigzag from r.0) r.0 r.1)
     × IfNone (read 0 1 (deltas from ids)) (ids ≡ [])
 first_of from [] small all = (tt, refl)
 first_of from (id ∷ ids) small all =
-    let here : id ≤ 2147483646 = All-head (λ i. i ≤ 2147483646) id ids all in
-    let others : All (λ i. i ≤ 2147483646) ids = All-tail (λ i. i ≤ 2147483646) id ids all in
+    let here : id ≤ MAX_ID = All-head (λ i. i ≤ MAX_ID) id ids all in
+    let others : All (λ i. i ≤ MAX_ID) ids = All-tail (λ i. i ≤ MAX_ID) id ids all in
     let back = ids_from-deltas id ids here others in
     rw (read-deltas from id ids small here, unzigzag-zigzag from id) (
       record {

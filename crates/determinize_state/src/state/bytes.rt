@@ -42,7 +42,7 @@ pub(crate) const PATTERNS: usize = 13;
 /// Truncates the bytes to the header, and zeroes it.
 #[inline(always)]
 pub(crate) fn clear<A: Allocator>(bytes: &mut Vec<u8, A>)
-    requires { 9 ≤ vec_len bytes.old }
+    requires { COUNT ≤ vec_len bytes.old }
     ensures { bytes.new.items ≡ header }
 {
     bytes.truncate(COUNT);
@@ -97,8 +97,8 @@ pub(crate) fn add_pattern<A: Allocator>(bytes: &mut Vec<u8, A>, id: u32) -> Resu
     requires { IsSpelled bytes.old.items }
     ensures ok { OnOk result (bytes.new.items ≡ with_pattern_bytes bytes.old.items id) }
     ensures err { OnErr result (bytes.new.items ≡ bytes.old.items) }
-    ensures first { has_flag bytes.old.items 1 ≡ false → has_flag bytes.old.items 2 ≡ false
-        → id ≡ 0 → IsOk result }
+    ensures first { has_flag bytes.old.items MATCH ≡ false
+        → has_flag bytes.old.items EXPLICIT ≡ false → id ≡ 0 → IsOk result }
 {
     // What may fail comes first, so that the bytes are unchanged on error.
     let [a, b, c, d] = id.to_le_bytes();

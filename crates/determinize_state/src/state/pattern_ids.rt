@@ -4,7 +4,7 @@ ghost use Rattle.std.specs.Prelude.{◌≡◌, ℕ, ◌≤◌, All};
 ghost use Rattle.std.specs.Iterator.{YieldsFirst, item_count};
 ghost use Rattle.determinize_state.specs.Spelling.{numbers_in};
 
-use determinize_below::PatternID;
+use determinize_below::{MAX_ID, PatternID};
 use std::fmt;
 use std::marker::Model;
 
@@ -15,6 +15,7 @@ pub(crate) struct PatternIds<'a> {
 }
 
 impl<'a> Model for PatternIds<'a> {
+    ghost use Rattle.determinize_below.specs.declared.primitives.TheConstants.{MAX_ID};
     ghost use Rattle.std.specs.Prelude.{List, ℕ, All, ◌≤◌};
     ghost use Rattle.determinize_state.specs.Spelling.{numbers_in};
 
@@ -22,13 +23,13 @@ impl<'a> Model for PatternIds<'a> {
 
     ghost view = { λ s. numbers_in s.words.now };
 
-    ghost invariant = { λ s. All (λ id. id ≤ 2147483646) (numbers_in s.words.now) };
+    ghost invariant = { λ s. All (λ id. id ≤ MAX_ID) (numbers_in s.words.now) };
 }
 
 impl<'a> PatternIds<'a> {
     /// Returns an iterator over the patterns in these bytes.
     pub(crate) fn new(words: &'a [u8]) -> PatternIds<'a>
-        requires { All (λ id. id ≤ 2147483646) (numbers_in words.now) }
+        requires { All (λ id. id ≤ MAX_ID) (numbers_in words.now) }
         ensures { result ≡ numbers_in words.now }
     {
         PatternIds { words }

@@ -10,7 +10,7 @@ ghost use Rattle.determinize_state.specs.Varint as format;
 ghost use Rattle.determinize_state.specs.Private.Groups.{read};
 ghost use Rattle.determinize_state.specs.Varint.{unzigzag};
 
-use determinize_below::StateID;
+use determinize_below::{MAX_ID, StateID};
 use std::alloc::{AllocError, Allocator};
 
 /// Returns the difference between two ids as an unsigned number: even for a difference of 0 or
@@ -18,7 +18,7 @@ use std::alloc::{AllocError, Allocator};
 #[inline(always)]
 pub(crate) fn zigzag(from: StateID, to: StateID) -> u32
     ensures value { result ≡ format.zigzag from to }
-    ensures small { to ≤ 2147483646 }
+    ensures small { to ≤ MAX_ID }
 {
     let from = from.as_u32();
     let to = to.as_u32();
@@ -152,8 +152,8 @@ fn read_groups(bytes: &[u8]) -> Option<(u64, &[u8])>
 /// Returns the id whose difference to `from` is this number.
 #[inline(always)]
 pub(crate) fn id_after(from: u32, number: u64) -> StateID
-    requires from { from ≤ 2147483646 }
-    requires small { unzigzag from number ≤ 2147483646 }
+    requires from { from ≤ MAX_ID }
+    requires small { unzigzag from number ≤ MAX_ID }
     requires back { number ≡ format.zigzag from (unzigzag from number) }
     ensures { result ≡ unzigzag from number }
 {
