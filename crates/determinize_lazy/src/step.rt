@@ -21,7 +21,7 @@ use crate::lazy::Lazy;
 use determinize_below::{NFA, StateID, Unit};
 use determinize_core::start::{Start, start_kind_of};
 use determinize_core::state::State;
-use determinize_table::{Cursor, LazyStateId, StateTag};
+use determinize_table::{Cursor, LazyStateId, STARTS, StateTag};
 use std::alloc::{AllocError, Allocator};
 
 /// Returns where the id of a start state is kept: 0 to 5, by the kind of start, for the anchored
@@ -29,7 +29,7 @@ use std::alloc::{AllocError, Allocator};
 /// is not kept.
 fn start_index<N: Allocator>(nfa: &NFA<N>, start: StateID, look_behind: Option<u8>) -> Option<usize>
     ensures value { result ≡ start_index nfa.now start look_behind }
-    ensures limit { IfSome result (λ index. index < 12) }
+    ensures limit { IfSome result (λ index. index < STARTS) }
 {
     let first = if start == nfa.start_anchored() {
         0
@@ -88,7 +88,7 @@ impl<'n, N: Allocator, A: Allocator + Copy> Lazy<'n, N, A> {
         ensures { IsStarted self.old (start_value self.old.nfa start look_behind) result self.new }
     {
         let state = self.start_state(start, look_behind)?;
-        let Some(id) = self.table.find(&state) else {
+        let Some(id) = self.table.find(&state, None) else {
             return Ok(Cursor::Uncached(state));
         };
         if let Some(index) = start_index(self.stepper.nfa(), start, look_behind) {
@@ -116,7 +116,7 @@ impl<'n, N: Allocator, A: Allocator + Copy> Lazy<'n, N, A> {
         ensures at { IfOk result (λ cursor. IsAt self.now.states cursor state.now) }
         ensures sound { IsSound (cache self.now) }
     {
-        match self.table.find(state) {
+        match self.table.find(state, None) {
             Some(id) => Ok(Cursor::Cached(id)),
             None => Ok(Cursor::Uncached(state.clone()?)),
         }

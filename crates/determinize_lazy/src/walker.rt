@@ -52,6 +52,7 @@ impl<'n, N: Allocator, A: Allocator + Copy> Lazy<'n, N, A> {
     /// - `look_behind` is the byte just before the text, if any.
     ///
     /// Returns `AllocError` if an allocation fails.
+    #[tactic(auto, using(crate::proofs::walking::CachedWalks::walked_steps))]
     pub fn walker(
         &mut self,
         start: StateID,
@@ -76,6 +77,7 @@ impl<'n, N: Allocator, A: Allocator + Copy> Lazy<'n, N, A> {
     /// begun with it. The states are those of one walk if the match kind is the same, too.
     ///
     /// After an error the walker is unchanged, and may take the same step again.
+    #[tactic(auto, using(crate::proofs::walking::CachedWalks::walked_steps))]
     pub fn next(&mut self, walker: &mut Walker<A>, unit: Option<u8>) -> Result<(), AllocError>
         requires { AllResolve self.old.nfa walker.old.states }
         ensures value { OnOk result
@@ -92,7 +94,7 @@ impl<'n, N: Allocator, A: Allocator + Copy> Lazy<'n, N, A> {
             (IsCutOff (cache self.old) walker.old (unit ∷ []) (cache self.new)) }
         ensures grows { Grows (cache self.old) (cache self.new) }
     {
-        let cursor = self.cursor_at(&walker.state, walker.id)?;
+        let cursor = self.cursor_at(walker)?;
         let next = self.step(cursor, unit)?;
         let id = next.id();
         walker.state = self.table.into_state(next)?;
@@ -100,13 +102,13 @@ impl<'n, N: Allocator, A: Allocator + Copy> Lazy<'n, N, A> {
         Ok(())
     }
 
-    /// Returns the cursor of a state, of which `id` may be the id.
-    fn cursor_at(&self, state: &State<A>, id: Option<LazyStateId>) -> Result<Cursor<A>, AllocError>
-        ensures { IfOk result (λ cursor. IsAt self.now.states cursor state.now) }
+    /// Returns the cursor of the state of a walker.
+    fn cursor_at(&self, walker: &Walker<A>) -> Result<Cursor<A>, AllocError>
+        ensures { IfOk result (λ cursor. IsAt self.now.states cursor walker.now) }
     {
-        match id {
-            Some(id) if self.table.has(id, state) => Ok(Cursor::Cached(id)),
-            _ => self.cursor_of(state),
+        match self.table.find(&walker.state, walker.id) {
+            Some(id) => Ok(Cursor::Cached(id)),
+            None => Ok(Cursor::Uncached(walker.state.clone()?)),
         }
     }
 }

@@ -3,6 +3,7 @@ use Rattle.std.specs.Prelude.{◌≡◌, ℕ, ◌+◌, ◌*◌, ◌<◌, Option,
 use Rattle.std.specs.Prelude.{slice_index, slice_index_or}
 use Rattle.determinize_engine.specs.States.{EachApart}
 use Rattle.determinize_core.specs.Value.{Value}
+use Rattle.determinize_table.specs.declared.state_id.TheConstants.{COLUMNS, UNITS}
 use Rattle.determinize_table.specs.Stored.{entry_at, is_unit, table_in, target_in}
 use Rattle.determinize_table.specs.Table.{Table, empty, with_value}
 use Rattle.determinize_table.specs.Tags.{tag_in, tag_of}
@@ -11,21 +12,21 @@ use Rattle.determinize_table.specs.Tags.{tag_in, tag_of}
 -- of no row
 abbrev pub Leads : List Value → ℕ → Option Value → Type 0
 Leads states entry None = entry ≡ 1
-Leads states entry (Some w) = (p : ℕ) × (entry ≡ p * 258) × (slice_get states p ≡ Some w)
+Leads states entry (Some w) = (p : ℕ) × (entry ≡ p * COLUMNS) × (slice_get states p ≡ Some w)
 
 -- a row for each of the states, of which no two are equal: in the column of a unit it has the
 -- target of the transition, and in the last one the tag of the state; there are no other
 -- transitions
 pub record AreRows (states : List Value) (rows : List ℕ)
     (target : Value → Option ℕ → Option Value) : Type 0 where
-  pub size : length rows ≡ length states * 258
+  pub size : length rows ≡ length states * COLUMNS
   pub apart : EachApart states
   pub entries : (p : ℕ) (v : Value) (u : Option ℕ) → slice_get states p ≡ Some v → is_unit u ≡ true
       → Leads states (entry_at rows p u) (target v u)
   pub others : (v : Value) (u : Option ℕ)
       → ((p : ℕ) → slice_get states p ≡ Some v → is_unit u ≡ true → ⊥) → target v u ≡ None
   pub tags : (p : ℕ) (v : Value) → slice_get states p ≡ Some v
-      → tag_in (slice_index rows (p * 258 + 257)) ≡ tag_of v
+      → tag_in (slice_index rows (p * COLUMNS + UNITS)) ≡ tag_of v
 
 -- the same of the table that they store
 abbrev pub IsStored : List Value → List ℕ → Type 0

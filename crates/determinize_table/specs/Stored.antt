@@ -2,6 +2,7 @@
 use Rattle.std.specs.Prelude.{ℕ, ◌+◌, ◌*◌, ◌/◌, Bool, true, cond, Option, Some, None, List, nat_eq, nat_lt, slice_get}
 use Rattle.std.specs.Prelude.{slice_index}
 use Rattle.determinize_core.specs.Value.{Value}
+use Rattle.determinize_table.specs.declared.state_id.TheConstants.{COLUMNS}
 use Rattle.determinize_table.specs.Table.{Table, index_in}
 
 -- the column of a unit in a row
@@ -16,12 +17,12 @@ is_unit None = true
 
 -- the entry of a unit in the row of the state at an index
 abbrev pub entry_at : List ℕ → ℕ → Option ℕ → ℕ
-entry_at rows p u = slice_index rows (p * 258 + column u)
+entry_at rows p u = slice_index rows (p * COLUMNS + column u)
 
 -- the state to which an entry leads: the one whose row has this offset; none for 1, the offset of
 -- no row
 abbrev pub state_at : List Value → ℕ → Option Value
-state_at states entry = cond (nat_eq entry 1) None (slice_get states (entry / 258))
+state_at states entry = cond (nat_eq entry 1) None (slice_get states (entry / COLUMNS))
 
 -- the target in the row of the state at an index, if there is such a state
 abbrev pub target_from : List Value → List ℕ → Option ℕ → Option ℕ → Option Value

@@ -4,6 +4,7 @@ use Rattle.std.specs.Prelude.{option_map, slice_get}
 use Rattle.determinize_below.specs.declared.search.HalfMatch.{HalfMatch}
 use Rattle.determinize_core.specs.Value.{Value, is_nonempty}
 use Rattle.determinize_table.specs.declared.tag.LastMatch.{LastMatch}
+use Rattle.determinize_table.specs.declared.tag.TheConstants.{DEAD}
 
 -- the first pattern of a state, and whether the state is dead
 pub record Tag : Type 0 where
@@ -20,7 +21,7 @@ packed_pattern n = cond (nat_eq n 0) None (Some (n - 1))
 
 -- a tag in a number: the highest of 32 bits for a dead state, the pattern in the others
 abbrev pub tag_in : ℕ → Tag
-tag_in n = record { pattern = packed_pattern (n % 2147483648); is_dead = nat_le 2147483648 n }
+tag_in n = record { pattern = packed_pattern (n % DEAD); is_dead = nat_le DEAD n }
 
 -- whether a search ends at a state with this tag
 abbrev pub is_last_tag : Bool → Tag → Bool

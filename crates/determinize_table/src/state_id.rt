@@ -22,14 +22,16 @@ pub struct LazyStateId {
 
 impl Model for LazyStateId {
     ghost use Rattle.std.specs.Prelude.{◌≡◌, ℕ, ◌*◌, ◌/◌, ◌≤◌};
+    ghost use Rattle.std.below.core.specs.declared.int.u32.TheConstants.{MAX};
+    ghost use Rattle.determinize_table.specs.declared.state_id.TheConstants.{COLUMNS};
 
     ghost Value = { ℕ };
 
-    ghost view = { λ id. id.row / 258 };
+    ghost view = { λ id. id.row / COLUMNS };
 
-    ghost invariant = { λ id. (id.row ≡ id.row / 258 * 258) × (id.row ≤ 4294967295) };
+    ghost invariant = { λ id. (id.row ≡ id.row / COLUMNS * COLUMNS) × (id.row ≤ MAX) };
 
-    ghost inverse = { λ n. record { row = n * 258 } };
+    ghost inverse = { λ n. record { row = n * COLUMNS } };
 }
 
 impl LazyStateId {
@@ -46,8 +48,8 @@ impl LazyStateId {
     /// Returns the id of the state whose row has this offset.
     #[inline(always)]
     pub(crate) fn from_row(row: u32) -> LazyStateId
-        requires { row ≡ row / 258 * 258 }
-        ensures { result ≡ row / 258 }
+        requires { row ≡ row / COLUMNS * COLUMNS }
+        ensures { result ≡ row / COLUMNS }
     {
         LazyStateId { row: row as usize }
     }
@@ -64,14 +66,14 @@ impl LazyStateId {
     /// Returns the offset of the state's row.
     #[inline(always)]
     pub(crate) fn row(self) -> usize
-        ensures { result ≡ self * 258 }
+        ensures { result ≡ self * COLUMNS }
     {
         self.row
     }
 
     /// Returns the offset of the state's row as it is stored in a row.
     pub(crate) fn entry(self) -> u32
-        ensures { result ≡ self * 258 }
+        ensures { result ≡ self * COLUMNS }
     {
         self.row as u32
     }

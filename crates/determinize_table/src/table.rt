@@ -26,7 +26,7 @@ use std::mem::size_of;
 const UNKNOWN: u32 = 1;
 
 /// How many start states can be kept: two start states of the NFA, each with six kinds of start.
-const STARTS: usize = 12;
+pub const STARTS: usize = 12;
 
 /// Where a walk or a search is.
 #[derive(Drop)]
@@ -74,7 +74,7 @@ impl<A: Allocator> Model for TransitionTable<A> {
 #[inline(always)]
 fn column(unit: Option<u8>) -> usize
     ensures value { result ≡ column unit }
-    ensures limit { result < 257 }
+    ensures limit { result < UNITS }
     ensures is_unit { is_unit unit ≡ true }
 {
     match unit {
@@ -105,7 +105,7 @@ impl<A: Allocator + Copy> TransitionTable<A> {
         self.starts = starts;
     }
 
-    /// Returns the number of cached states, at most 16647160.
+    /// Returns the number of cached states.
     #[inline(always)]
     pub fn len(&self) -> usize
         ensures value { result ≡ length self.now.states }
@@ -122,12 +122,20 @@ impl<A: Allocator + Copy> TransitionTable<A> {
         rows.saturating_add(self.states.memory_usage())
     }
 
-    /// Returns the id of a state, or `None` if it is not cached.
-    pub fn find(&self, state: &State<A>) -> Option<LazyStateId>
+    /// Returns the id of a state, or `None` if it is not cached. Compares the state with the one at
+    /// the id `likely` first, which needs no hash. That id may be one from before a clear.
+    #[inline(always)]
+    #[tactic(auto, using(crate::proofs::Changes::caching))]
+    pub fn find(&self, state: &State<A>, likely: Option<LazyStateId>) -> Option<LazyStateId>
         ensures { IsIndex self.now.states state.now result }
     {
-        let index = self.states.find(state)?;
-        Some(LazyStateId::from_index(index))
+        match likely {
+            Some(id) if id.index() < self.len() && self.get(id) == state => Some(id),
+            _ => {
+                let index = self.states.find(state)?;
+                Some(LazyStateId::from_index(index))
+            }
+        }
     }
 
     /// Returns the cached state with this id.
@@ -137,15 +145,6 @@ impl<A: Allocator + Copy> TransitionTable<A> {
         ensures { slice_get self.now.states id ≡ Some result.now }
     {
         self.states.get(id.index())
-    }
-
-    /// Returns `true` only if a state is cached with this id.
-    #[inline(always)]
-    #[tactic(auto, using(crate::proofs::Changes::caching))]
-    pub fn has(&self, id: LazyStateId, state: &State<A>) -> bool
-        ensures { result ≡ true → slice_get self.now.states id ≡ Some state.now }
-    {
-        id.index() < self.states.len() && self.get(id) == state
     }
 
     /// Returns the state at a cursor.
@@ -192,7 +191,7 @@ impl<A: Allocator + Copy> TransitionTable<A> {
 
     /// Returns the kept start at an index.
     pub fn start(&self, index: usize) -> Option<LazyStateId>
-        requires { index < 12 }
+        requires { index < STARTS }
         ensures { result ≡ slice_index_or self.now.starts index None }
     {
         self.starts[index]
@@ -200,7 +199,7 @@ impl<A: Allocator + Copy> TransitionTable<A> {
 
     /// Keeps the id of a start state at an index.
     pub fn set_start(&mut self, index: usize, id: LazyStateId)
-        requires { index < 12 }
+        requires { index < STARTS }
         ensures { self.new
             ≡ record self.old { starts = slice_set self.old.starts index (Some id) } }
     {
@@ -311,7 +310,8 @@ impl<A: Allocator + Copy> TransitionTable<A> {
         ensures { IsKept self.old (keep limit (table_of self.old)
             (cursor_value self.old.states source) unit following) following result self.new }
     {
-        let found = self.find(&following);
+        // Most transitions that are computed lead back to their source.
+        let found = self.find(&following, source.id());
         if self.fits(&source, &following, found, limit) {
             return self.insert(source, unit, following, found);
         }

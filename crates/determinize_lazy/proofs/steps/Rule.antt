@@ -3,10 +3,10 @@
 -- Used by: `compute`, `step`, `kept_start`; the general laws by searches and `determinize_find`, too.
 -- Idea: a step leaves the table that the rule keeps or, if it fails, the one before or none.
 use Rattle.determinize_lazy.proofs.Common.{arith, by_cases, by_test, Cache, cache, count_after, empty, Err, false, fits}
-use Rattle.determinize_lazy.proofs.Common.{Grows, IfOk, inr, IsAccepted, is_cached, IsKept, IsLazy, IsSound, IsStepped}
+use Rattle.determinize_lazy.proofs.Common.{Grows, inr, IsAccepted, is_cached, IsKept, IsLazy, IsSound, IsStepped}
 use Rattle.determinize_lazy.proofs.Common.{IsTable, keep, LazyValue, length, MatchKind, Nfa, Ok, OnErr, on_err_weaker}
-use Rattle.determinize_lazy.proofs.Common.{OnOk, on_ok_weaker, Option, refl, Result, step_of, StoredTable, subst, Table}
-use Rattle.determinize_lazy.proofs.Common.{table_of, Value, ℕ, ◌∙◌, ◌≡◌, ◌≤◌}
+use Rattle.determinize_lazy.proofs.Common.{on_ok_weaker, Option, refl, Result, step_of, StoredTable, Table, table_of}
+use Rattle.determinize_lazy.proofs.Common.{Value, ℕ, ◌∙◌, ◌≡◌, ◌≤◌}
 use Rattle.determinize_core.specs.Step.{step}
 use Rattle.determinize_core.proofs.step.Resolving.{step_resolves}
 use Rattle.determinize_table.specs.declared.table.Cursor.{Cursor}
@@ -30,10 +30,12 @@ pub lazy-kept : {A E : Type 0} {nfa : Nfa} {kind : MatchKind} {limit count count
     → IsLazy nfa kind limit counted t'
 lazy-kept {A} {E} {nfa} {kind} {limit} {t = t} {t' = t'} {w} {r} v u is w_is small kept =
     let f : Value → Option ℕ → Value = step nfa kind in
-    let (table, within) = keep-is f limit (table_of t) v u w is.table w_is in record {
-      accepted = is.accepted;
-      table = by r (IsTable f) kept table is.table (empty-is f);
-      small = small;
+    let (table, within) = keep-is f limit (table_of t) v u w is.sound.table w_is in record {
+      sound = record {
+        accepted = is.sound.accepted;
+        table = by r (IsTable f) kept table is.sound.table (empty-is f);
+        small = small;
+      };
       within = by r (λ (x : Table). length x.states ≤ limit) kept within is.within (omega arith);
       starts = starts-stay nfa t t' is.starts kept.starts;
     }
@@ -62,8 +64,7 @@ pub lazy-sound : {nfa : Nfa} {kind : MatchKind} {limit count : ℕ} {t : StoredT
     → IsLazy nfa kind limit count t
     → record { nfa = nfa; kind = kind; limit = limit; states = t.states; rows = t.rows; computed = count } ≡ x
     → IsSound (cache x)
-lazy-sound is view_is =
-    rw (← view_is) record { accepted = is.accepted; table = is.table; small = is.small }
+lazy-sound is view_is = rw (← view_is) is.sound
 
 pub grows-more : {old now new : Cache} → Grows old now → Grows now new → Grows old new
 grows-more g h = record {
@@ -77,14 +78,3 @@ grows-more g h = record {
 pub of_err : {T E : Type 0} (r : Result T E) {P : Type 0} → P → OnErr r P
 of_err (Ok x) p = tt
 of_err (Err x) p = p
-
--- what follows from a value holds if there is one
-pub on_ok : {T E : Type 0} (r : Result T E) {P : T → Type 0} {Q : Type 0} → ((x : T) → P x → Q) → IfOk r P → OnOk r Q
-on_ok (Ok x) f h = f x h
-on_ok (Err x) f h = tt
-
--- what is said of three things is said of three that are equal to them
-pub along : {X Y Z : Type 0} {x x' : X} {y y' : Y} {z z' : Z} → x ≡ x' → y ≡ y' → z ≡ z'
-    → (P : X → Y → Z → Type 0) → P x y z → P x' y' z'
-along {x' = x'} {y = y} {y' = y'} {z = z} {z' = z'} e f g P h =
-    subst (λ w. P x' y' w) g (subst (λ w. P x' w z) f (subst (λ w. P w y z) e h))

@@ -45,15 +45,7 @@ module _ {old : Cache} {v : Value} {us : List (Option ℕ)} {new : Cache} where
     counted = rw (add-one (suc f.steps)) (rw (add-one f.steps) at f.counted);
   }
 
--- a walk begins, and takes a step
-pub walks-none : (old : Cache) {first v : Value} (us : List (Option ℕ)) → v ≡ first
-    → IsWalking old first us (first ∷ []) old v us
-walks-none old {first} us is = rw is record {
-  values = rw (future_is old.nfa old.kind first us) refl;
-  after = refl;
-  failed = λ new f. f;
-}
-
+-- a walk takes a step
 pub walks-on : {old : Cache} {first : Value} {us : List (Option ℕ)} {done : List Value} {now : Cache} {v : Value}
     {u : Option ℕ} {rest : List (Option ℕ)} {w : Value} {new : Cache} → IsWalking old first us done now v (u ∷ rest)
     → w ≡ step_of now v u → new ≡ after_step now v u → IsWalking old first us (done ++ w ∷ []) new w rest
@@ -96,3 +88,6 @@ each_walk_computes_few c v (u ∷ us) small =
     let one = counted (is_cached c.table v u) c.computed small in
     let rest = each_walk_computes_few (after_step c v u) (step_of c v u) us one.2 in
     (omega (arith, one.0, rest.0), omega (arith, one.1, rest.1))
+
+-- the steps of a walker
+pub ruleset walked_steps = (cut_off-first, cut_off-whole, walked-none, walked-next)

@@ -1,19 +1,20 @@
 -- What is true of every cache.
 use Rattle.std.specs.Prelude.{ℕ, ◌≤◌, length}
-use Rattle.determinize_below.specs.Nfa.{IsAccepted}
 use Rattle.determinize_below.specs.Semantics.{Nfa}
 use Rattle.determinize_below.specs.declared.search.MatchKind.{MatchKind}
-use Rattle.determinize_core.specs.Step.{step}
 use Rattle.determinize_table.specs.Rows.{StoredTable, table_of}
 use Rattle.determinize_lazy.specs.Private.Starts.{AreStarts}
-use Rattle.determinize_table.specs.Table.{IsTable}
+use Rattle.determinize_lazy.specs.Private.Steps.{IsSound}
 
--- a valid NFA, a table of its steps with at most `limit` states, a count of 64 bits, and the start
--- states
+-- a sound cache of at most `limit` states, and its start states
 pub record IsLazy (nfa : Nfa) (kind : MatchKind) (limit computed : ℕ)
     (stored : StoredTable) : Type 0 where
-  pub accepted : IsAccepted nfa
-  pub table : IsTable (step nfa kind) (table_of stored)
-  pub small : computed ≤ 18446744073709551615
+  pub sound : IsSound record {
+    nfa = nfa;
+    kind = kind;
+    limit = limit;
+    table = table_of stored;
+    computed = computed;
+  }
   pub within : length stored.states ≤ limit
   pub starts : AreStarts nfa stored

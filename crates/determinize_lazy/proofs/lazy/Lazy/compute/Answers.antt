@@ -17,7 +17,7 @@ returns-in_err-following g c =
     let e : c.from_residual.result ≡ Err c.in_err-following.field-0.0 = search rules in
     rw (e, c.in_err-following.ensures.unchanged, ← c.self.view_is) record {
       at = tt;
-      resolve = step_resolves _ c.self.invariant.accepted _ _ c.args.unit;
+      resolve = step_resolves _ c.self.invariant.sound.accepted _ _ c.args.unit;
       after = tt;
       failed = record { table = inr refl; counted = inl refl };
       grows = record { nfa = refl; kind = refl; limit = refl; computed = omega arith };
@@ -30,5 +30,5 @@ returns g c =
     let counted : c.saturating_add-self-inside.result ≡ count_after c.self.inside.computed 1 = search rules in
     let absent = rw (← c.self.view_is) at (absent-at (cache c.args.self.now) c.args.cursor c.args.unit
     (lazy-sound c.self.invariant c.self.view_is).table c.requires.cursor c.requires.uncached) in
-    rw (c.in_ok-following.ensures.unchanged, ← c.self.view_is, counted) (stepped _ c.args.unit c.self.invariant.accepted
-    c.self.invariant.small absent refl (rw following at c.keep.ensures))
+    rw (c.in_ok-following.ensures.unchanged, ← c.self.view_is, counted) (stepped _ c.args.unit c.self.invariant.sound.accepted
+    c.self.invariant.sound.small absent refl (rw following at c.keep.ensures))

@@ -6,9 +6,11 @@ use Rattle.determinize_lazy.proofs.lazy.Lazy.new.Goals as goal
 
 pub invariant_of-result : goal.invariant_of-result
 invariant_of-result g c = rw c.new.ensures record {
-  accepted = c.len.ensures.accepted;
-  table = rw c.new-2.ensures.table (empty-is (step c.args.nfa.now c.args.match_kind));
-  small = omega arith;
+  sound = record {
+    accepted = c.len.ensures.accepted;
+    table = rw c.new-2.ensures.table (empty-is (step c.args.nfa.now c.args.match_kind));
+    small = omega arith;
+  };
   within = omega (arith, ap (λ (t : Table). length t.states) c.new-2.ensures.table);
-  starts = λ i id v kept is. not_none (sym kept ∙ c.new-2.ensures.starts i);
+  starts = λ s p i id of kept. not_none (sym kept ∙ c.new-2.ensures.starts i);
 }

@@ -1,41 +1,20 @@
-use Rattle.determinize_lazy.proofs.Common.{[], ap, cursor_value, LazyValue, ◌∙◌, ◌∷◌, ◌≡◌}
+use Rattle.determinize_lazy.proofs.Common.{[], arith, ◌∷◌, ◌≡◌}
+use Rattle.std.proofs.lemmas.Grind.{common_steps}
 use Rattle.determinize_core.specs.Step.{step}
 use Rattle.determinize_lazy.proofs.steps.Rule.{of_err}
-use Rattle.determinize_lazy.proofs.walking.CachedWalks.{cut_off-first, cut_off-whole, walked-next}
-use Rattle.determinize_lazy.proofs.lazy.Lazy.next.Given.{Over}
-use Rattle.determinize_lazy.proofs.lazy.Lazy.next.Goals.{In_ok-walker-inside}
+use Rattle.determinize_lazy.proofs.walking.CachedWalks.{cut_off-whole, walked-next}
 use Rattle.determinize_lazy.proofs.lazy.Lazy.next.Goals as goal
-
-pub returns-in_err-next-clause-failed : goal.returns-in_err-next-clause-failed
-returns-in_err-next-clause-failed g c =
-    of_err _ (cut_off-first (rw (c.in_ok-cursor.ensures.value, c.walker.view_is) at c.in_err-next.ensures.failed))
-
-pub returns-in_err-walker-inside-clause-resolve : goal.returns-in_err-walker-inside-clause-resolve
-returns-in_err-walker-inside-clause-resolve g c = rw c.in_ok-next.ensures.grows.nfa c.requires
 
 pub returns-in_err-walker-inside-clause-failed : goal.returns-in_err-walker-inside-clause-failed
 returns-in_err-walker-inside-clause-failed g c = of_err _ (cut_off-whole {us = c.args.unit ∷ []}
-    (rw (c.in_ok-cursor.ensures.value, c.walker.view_is) at c.in_ok-next.ensures.after))
-
--- the state after the step
-value : (g : Over) (c : In_ok-walker-inside g) → c.in_ok-walker-inside.field-0
-    ≡ step c.args.self.now.nfa c.args.self.now.kind c.args.walker.now c.args.unit
-value g c = c.in_ok-walker-inside.ensures
-    ∙ ap (λ (x : LazyValue). cursor_value x.states c.in_ok-next.next) c.self.view_is
-    ∙ rw (c.in_ok-cursor.ensures.value, c.walker.view_is) at c.in_ok-next.ensures.at.value
-
-pub returns-clause-value : goal.returns-clause-value
-returns-clause-value g c = value g (goal.at.returns-clause-value g c).In_ok-walker-inside
+    (rw c.in_ok-cursor.ensures.value at c.in_ok-next.ensures.after))
 
 pub returns-clause-walked : goal.returns-clause-walked
 returns-clause-walked g c start index text at here =
-    walked-next c.args.self.now.nfa c.args.self.now.kind start text index at here
-    (value g (goal.at.returns-clause-walked g c).In_ok-walker-inside)
+    walked-next c.args.self.now.nfa c.args.self.now.kind start text index at here (grind (arith, common_steps))
 
 pub returns-clause-resolve : goal.returns-clause-resolve
 returns-clause-resolve g c =
-    rw (c.in_ok-next.ensures.grows.nfa, value g (goal.at.returns-clause-resolve g c).In_ok-walker-inside)
-    (rw (c.in_ok-cursor.ensures.value, c.walker.view_is) at c.in_ok-next.ensures.resolve)
-
-pub returns-clause-after : goal.returns-clause-after
-returns-clause-after g c = rw (c.in_ok-cursor.ensures.value, c.walker.view_is) at c.in_ok-next.ensures.after
+    let value : c.in_ok-walker-inside.field-0 ≡ step c.args.self.now.nfa c.args.self.now.kind c.args.walker.now
+    c.args.unit = grind (arith, common_steps) in
+    rw (c.in_ok-next.ensures.grows.nfa, value) (rw c.in_ok-cursor.ensures.value at c.in_ok-next.ensures.resolve)
