@@ -34,9 +34,9 @@ pub use Rattle.determinize_table.specs.Cursors.{cursor_value, IsAt, IsCursor}
 pub use Rattle.determinize_lazy.specs.Private.Invariant.{IsLazy}
 pub use Rattle.determinize_table.specs.Rows.{IsTarget, StartsStay, StoredTable, table_of}
 pub use Rattle.determinize_table.specs.Changes.{IsKept}
-pub use Rattle.determinize_lazy.specs.Private.Searched.{cached_place, Fails, GoesTo, GoesToCached, IsCachedPosition}
-pub use Rattle.determinize_lazy.specs.Private.Searched.{IsFailed, IsNext, IsOver, IsOverText, IsPosition, IsReached}
-pub use Rattle.determinize_lazy.specs.Private.Searched.{IsSearched, next_place, Place, place, reported, units_ahead}
+pub use Rattle.determinize_lazy.specs.Private.Searched.{cached_place, ends_at, Fails, first_place, GoesTo, GoesToCached}
+pub use Rattle.determinize_lazy.specs.Private.Searched.{HasCome, IsCachedPosition, IsCutOffAt, IsNext, IsOver}
+pub use Rattle.determinize_lazy.specs.Private.Searched.{IsOverText, IsPosition, next_place, Place, place, reported}
 pub use Rattle.determinize_lazy.specs.Private.Starts.{AreStarts, start_index}
 pub use Rattle.determinize_lazy.specs.Private.Steps.{IsFailedStep, IsFollowed, IsSound, IsStepped, IsWalking}
 pub use Rattle.determinize_table.specs.Tags.{is_last_tag, match_of, match_reported, Tag, tag_in, tag_of}

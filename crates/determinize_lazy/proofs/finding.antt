@@ -1,3 +1,2 @@
 -- Searches over the cache: what they find and leave, in a haystack and in pieces.
-mod Reached
 pub mod Searching

@@ -13,10 +13,10 @@
 //! Matches are delayed by one unit: a state lists the patterns that match before the unit that led
 //! to it. So a search also reads the unit ahead of its text, and a start state is no match state.
 
-ghost use Rattle.std.specs.Prelude.{Decides, ◌≡◌, ◌<◌, ◌≤◌, ℕ, Bool, false, true, List, Option, length, slice_get, slice_index_or, IfOk, OnErr, OnOk, Ok, None, Some};
+ghost use Rattle.std.specs.Prelude.{Decides, ◌≡◌, ◌<◌, ◌≤◌, ℕ, false, true, Option, drop, length, slice_index_or, IfOk, OnErr, OnOk, Ok, None, Some};
 ghost use Rattle.std.specs.Option.{IfNone, IfSome};
 ghost use Rattle.determinize_below.specs.Nfa.{AllResolve};
-ghost use Rattle.determinize_below.specs.Semantics.{Text as TextValue, between};
+ghost use Rattle.determinize_below.specs.Semantics.{between};
 ghost use Rattle.determinize_below.specs.Search.{is_done};
 ghost use Rattle.determinize_below.specs.declared.search.MatchKind.TheVariants as kinds;
 ghost use Rattle.determinize_core.specs.Chain.{units};
@@ -24,7 +24,7 @@ ghost use Rattle.determinize_core.specs.Step.{start_value};
 ghost use Rattle.determinize_core.specs.Value.{Value, dead};
 ghost use Rattle.determinize_lazy.specs.Cache.{Cache, Grows, IsCutOff, LazyValue, cache};
 ghost use Rattle.determinize_table.specs.Cursors.{IsCursor, cursor_value};
-ghost use Rattle.determinize_lazy.specs.Private.Searched.{Fails, GoesTo, GoesToCached, HasStopped, IsCachedPosition, IsNext, IsOver, IsOverText, IsPosition, IsSearched, cached_place, place, with_cursor};
+ghost use Rattle.determinize_lazy.specs.Private.Searched.{Fails, GoesTo, GoesToCached, HasCome, HasStopped, IsCachedPosition, IsNext, IsOver, IsOverText, IsPosition, cached_place, first_place, place, with_cursor};
 ghost use Rattle.determinize_lazy.specs.Private.Steps.{IsFailedStep, IsSound};
 ghost use Rattle.determinize_engine.specs.Searches.{HasMatch, IsFarthestIn, IsPreferredIn, IsSearch, has_start, last_in, start_for, text_of};
 ghost use Rattle.determinize_lazy.specs.CachedSearches.{IsCutOffIn, IsPlenty, IsPlentyIn, after_input, after_is_match, after_search, units_searched};
@@ -49,9 +49,8 @@ impl<A: Allocator> Position<A> {
     pub(crate) fn start(cursor: Cursor<A>) -> Position<A>
         ensures position { (c : LazyValue) → IsCursor c.states cursor
             → AllResolve c.nfa (cursor_value c.states cursor).states → IsPosition c result }
-        ensures searched { (earliest : Bool) (us : List (Option ℕ)) (c : LazyValue) (v : Value)
-            → cursor_value c.states cursor ≡ v
-            → IsSearched earliest (cache c) v us (place c result) }
+        ensures place { (c : LazyValue) (v : Value) → cursor_value c.states cursor ≡ v
+            → place c result ≡ first_place (cache c) v }
         ensures read { result.read ≡ 0 }
     {
         Position {
@@ -118,12 +117,12 @@ impl<'n, N: Allocator, A: Allocator + Copy> Lazy<'n, N, A> {
     /// search ends.
     #[inline(always)]
     fn follow_to_end(&self, start: LazyStateId, text: &Text<'_>, earliest: bool) -> CachedPosition
-        requires { (v : Value) × (slice_get self.now.states start ≡ Some v)
-            × AllResolve self.now.nfa v.states }
+        requires cached { start < length self.now.states }
+        requires resolve { AllResolve self.now.nfa
+            (slice_index_or self.now.states start dead).states }
         ensures position { IsCachedPosition self.now result }
-        ensures searched { (v : Value) → slice_get self.now.states start ≡ Some v
-            → IsSearched earliest (cache self.now) v (units text.now)
-            (cached_place self.now result) }
+        ensures come { HasCome earliest (units text.now) (first_place (cache self.now)
+            (slice_index_or self.now.states start dead)) (cached_place self.now result) }
     {
         let first = CachedPosition {
             id: start,
@@ -239,10 +238,8 @@ impl<'n, N: Allocator, A: Allocator + Copy> Lazy<'n, N, A> {
     ) -> Result<Option<HalfMatch>, AllocError>
         requires position { IsPosition self.old from }
         requires read { from.read ≤ length text.now.bytes }
-        ensures over { (t : TextValue) → text.now ≡ t → (old : Cache) (first : Value)
-            → IsSearched earliest old first (units t) (place self.old from)
-            → IsOver earliest old first (units t) result (cache self.new) }
-        ensures grows { Grows (cache self.old) (cache self.new) }
+        ensures { IsOver earliest (drop from.read (units text.now)) (place self.old from) result
+            (cache self.new) }
     {
         let at = self.search_bytes(from, text, earliest)?;
         if self.tag_at(&at.cursor).is_last(earliest) {
@@ -262,8 +259,7 @@ impl<'n, N: Allocator, A: Allocator + Copy> Lazy<'n, N, A> {
         earliest: bool,
     ) -> Result<Option<HalfMatch>, AllocError>
         requires { start < length self.old.nfa.states }
-        ensures { (t : TextValue) → text.now ≡ t
-            → IsOverText earliest (cache self.old) start t result (cache self.new) }
+        ensures { IsOverText earliest (cache self.old) start text.now result (cache self.new) }
     {
         let cursor = self.find_start(start, text.behind())?;
         self.search_from(Position::start(cursor), text, earliest)

@@ -1,31 +1,26 @@
 -- A search, one unit more at a time, and what it finds and leaves.
--- Main statements: searched-next, over-at, next-cached, last-read, search-is.
+-- Main statements: come-next, over-at, next-cached, last-is, search-is.
 -- Used by: the functions of `search.rt` and `scan.rt`.
--- Idea: what a search has read, followed by what is ahead of it, is all that it reads; so its match and what it leaves
--- are those of the walk over the units that it reads.
-use Rattle.determinize_lazy.proofs.Common.{[], after_step, ap, append-nil, arith, Asked, Bool, by_test, Cache, cache}
-use Rattle.determinize_lazy.proofs.Common.{cached_place, cursor_value, dead, Decides, drop, drop_all, ended_at, Err}
-use Rattle.determinize_lazy.proofs.Common.{false, future, GoesTo, Grows, HalfMatch, HasMatch, inl, inr, is_last}
-use Rattle.determinize_lazy.proofs.Common.{is_last_tag, is_nonempty, is_some, IsAccepted, IsAt, IsCachedPosition}
-use Rattle.determinize_lazy.proofs.Common.{IsFailed, IsFailedStep, IsNext, IsOver, IsOverText, IsReached, IsSearch}
-use Rattle.determinize_lazy.proofs.Common.{IsSearched, IsSound, IsTarget, last_match, LazyValue, length, length-map}
-use Rattle.determinize_lazy.proofs.Common.{length-take-le, List, map, match_of, match_reported, MatchKind, next_place}
-use Rattle.determinize_lazy.proofs.Common.{Nfa, None, Ok, Option, option_or, place, Place, refl, reported, Result}
+-- Idea: where a search ends depends only on the place where it is and on the units that are left; and the place where
+-- it ends has the last match and the cache of the walk over the units that it reads.
+use Rattle.determinize_lazy.proofs.Common.{[], after_step, after_walk, ap, arith, Asked, Bool, by_test, Cache, cache}
+use Rattle.determinize_lazy.proofs.Common.{cached_place, cursor_value, dead, Decides, drop, drop_all, ended_at}
+use Rattle.determinize_lazy.proofs.Common.{ends_at, false, first_place, future, GoesTo, Grows, HalfMatch, HasCome}
+use Rattle.determinize_lazy.proofs.Common.{HasMatch, inl, inr, is_last, is_last_tag, is_nonempty, is_some, IsAccepted}
+use Rattle.determinize_lazy.proofs.Common.{IsAt, IsCachedPosition, IsCutOffAt, IsFailedStep, IsNext, IsOver}
+use Rattle.determinize_lazy.proofs.Common.{IsOverText, IsSearch, IsSound, IsTarget, last_match, LazyValue, length}
+use Rattle.determinize_lazy.proofs.Common.{length-map, List, map, match_of, match_reported, next_place, None, Ok}
+use Rattle.determinize_lazy.proofs.Common.{on_err_weaker, Option, option_or, Place, place, refl, reported, Result}
 use Rattle.determinize_lazy.proofs.Common.{slice_get, slice_get-get_or, slice_get_within, slice_index_or, Some}
-use Rattle.determinize_lazy.proofs.Common.{start_for, start_value, step_of, subst, suc, sym, tag_in, tag_of, take, Text}
-use Rattle.determinize_lazy.proofs.Common.{text_of, true, true≢false, units, units_ahead, units_read, Value, zero, ℕ}
-use Rattle.determinize_lazy.proofs.Common.{◌+◌, ◌∙◌, ◌∷◌, ◌≡◌, ◌≤◌, ◌⊎◌}
-use Rattle.std.proofs.Common.{add-one}
-use Rattle.std.proofs.lemmas.List.{take-append-drop}
-use Rattle.determinize_core.proofs.walk.LastMatches.{last_match-push}
+use Rattle.determinize_lazy.proofs.Common.{start_for, start_value, step_of, subst, sym, tag_in, tag_of, Text, text_of}
+use Rattle.determinize_lazy.proofs.Common.{true, true≢false, units, units_read, Value, value_after, ℕ, ◌+◌, ◌∙◌, ◌∷◌}
+use Rattle.determinize_lazy.proofs.Common.{◌≡◌, ◌≤◌, ◌⊎◌}
 use Rattle.determinize_core.specs.Step.{step}
 use Rattle.determinize_engine.proofs.Later.{last_from-first, last_from-next, last_from-over, none_left}
-use Rattle.determinize_engine.proofs.Scanning.{read_none}
 use Rattle.determinize_engine.specs.Private.Later.{last_from}
 use Rattle.determinize_lazy.specs.declared.search.Position.{Position}
 use Rattle.determinize_lazy.proofs.steps.Rule.{grows-more}
-use Rattle.determinize_lazy.proofs.finding.Reached.{cut_off-step, follows, reached-push, take-one}
-use Rattle.determinize_lazy.proofs.walking.CachedWalks.{drop-one}
+use Rattle.determinize_lazy.proofs.walking.CachedWalks.{cut_off-first, cut_off-later, drop-one}
 use Rattle.determinize_core.specs.Chain.{chain}
 use Rattle.determinize_engine.proofs.Headline.{is-search}
 use Rattle.determinize_engine.proofs.Ranges.{match-decides}
@@ -45,14 +40,6 @@ tag-last earliest bits v tag told is = grind (arith, tag, told, is)
 reported-next : (n : ℕ) (patterns : List ℕ) → match_reported (n + 1) (slice_get patterns 0) ≡ ended_at n patterns
 reported-next n patterns = grind arith
 
--- an element, and the list after it
-drop-starts : {K : Type 0} (xs : List K) (i : ℕ) (x : K) (rest : List K) → drop i xs ≡ x ∷ rest
-    → (slice_get xs i ≡ Some x) × (drop (i + 1) xs ≡ rest)
-drop-starts [] zero x rest e = absurd (let no : ⊥ = (cc) in no)
-drop-starts [] (suc i) x rest e = absurd (let no : ⊥ = (cc) in no)
-drop-starts (y ∷ ys) zero x rest e = (cc, cc)
-drop-starts (y ∷ ys) (suc i) x rest e = rw add-one (rw add-one at (drop-starts ys i x rest e))
-
 -- the place after a step
 pub next-place : (p : Place) (u : Option ℕ) {w : Value} {last : Option HalfMatch} {new : Cache}
     → w ≡ step_of p.cache p.value u → last ≡ p.last → new ≡ after_step p.cache p.value u
@@ -60,81 +47,81 @@ pub next-place : (p : Place) (u : Option ℕ) {w : Value} {last : Option HalfMat
     ≡ next_place p u
 next-place p u w_is last_is new_is = rw (w_is, last_is, new_is) refl
 
--- before the first unit
-pub searched-none : (earliest : Bool) (c : Cache) (v : Value) (us : List (Option ℕ))
-    → IsSearched earliest c v us (record { read = 0; value = v; last = None; cache = c })
-searched-none earliest c v us = record {
-  reached = record { end = refl; after = refl };
-  ahead = refl;
-  last = refl;
-  grows = record { nfa = refl; kind = refl; limit = refl; computed = omega arith };
-}
+-- what is so of a place and a text is so of those that are equal to them
+pub over-same : {E : Type 0} {earliest : Bool} {p q : Place} {t t' : Text} {r : Result (Option HalfMatch) E} {new : Cache}
+    → p ≡ q → t ≡ t' → IsOver earliest (drop p.read (units t)) p r new → IsOver earliest (drop q.read (units t')) q r new
+over-same {earliest = earliest} {q = q} {t} {r = r} {new} at is o =
+    subst (λ (t : Text). IsOver earliest (drop q.read (units t)) q r new) is
+    (subst (λ (p : Place). IsOver earliest (drop p.read (units t)) p r new) at o)
 
--- what is so of a text is so of one that is equal to it
 pub over-text : {E : Type 0} {earliest : Bool} {old : Cache} {s s' : ℕ} {t t' : Text} {r : Result (Option HalfMatch) E}
     {new : Cache} → s ≡ s' → t ≡ t' → IsOverText earliest old s t r new → IsOverText earliest old s' t' r new
-over-text {earliest = earliest} {old} {s' = s'} {t} {r = r} {new} s_is t_is o =
-    subst (λ (t : Text). IsOverText earliest old s' t r new) t_is
-    (subst (λ s. IsOverText earliest old s t r new) s_is o)
+over-text {old = old} {s' = s'} {t = t} s_is is o = over-same (ap (λ s. first_place old (start_value old.nfa s t.behind)) s_is
+    ∙ ap (λ (t : Text). first_place old (start_value old.nfa s' t.behind)) is) is o
 
--- what a search returns and leaves if it fails
-pub over-err : {E : Type 0} {r : Result (Option HalfMatch) E} (e : E) {earliest : Bool} {old : Cache} {first : Value}
-    {us : List (Option ℕ)} {new : Cache} → r ≡ Err e → IsFailed earliest old first us new
-    → IsOver earliest old first us r new
-over-err e is f = rw is (record { last = tt; after = tt; failed = f.cut_off; grows = f.grows })
+-- the cache and the value where a search ends are those after a walk over the units that it reads
+pub end-is : (earliest : Bool) (us : List (Option ℕ)) (p : Place)
+    → ((ends_at earliest p us).cache
+    ≡ after_walk p.cache p.value (units_read (step_of p.cache) earliest p.value us))
+    × ((ends_at earliest p us).value
+    ≡ value_after p.cache.nfa p.cache.kind p.value (units_read (step_of p.cache) earliest p.value us))
+end-is earliest [] p = (refl, refl)
+end-is earliest (u ∷ us) p = by_test (is_last earliest p.value) (λ over. rw over (refl, refl))
+    (λ more. rw more (end-is earliest us (next_place p u)))
 
-module _ {earliest : Bool} {old : Cache} {first : Value} {us : List (Option ℕ)} {p : Place}
-    (s : IsSearched earliest old first us p) where
-  abbrev all : List (Option ℕ)
-  all = units_ahead earliest old first us
-
-  -- the next unit
+module _ {earliest : Bool} {us : List (Option ℕ)} {p : Place} where
+  -- a unit more
   module _ {u : Option ℕ} (at : slice_get us p.read ≡ Some u) (more : is_last earliest p.value ≡ false) where
-    starts : (slice_get all p.read ≡ Some u) × (drop (p.read + 1) all
-        ≡ units_ahead earliest old (step_of old p.value u) (drop (p.read + 1) us))
-    starts = drop-starts all p.read u _ (s.ahead ∙ rw (drop-one us p.read u at, more) refl)
-
-    pub searched-next : {q : Place} → q ≡ next_place p u → Grows p.cache q.cache → IsSearched earliest old first us q
-    searched-next {q} is grows = rw is (record {
-      reached = r;
-      ahead = rw (← follows s.reached starts.0) at starts.1;
-      last =
-          let within = slice_get_within all p.read u starts.0 in
-          let count : length (take p.read all) ≡ p.read = length-take-le p.read all (omega arith) in
-          let v_is = rw (take-one all p.read u starts.0) at r.end in
-          let push = last_match-push old.nfa old.kind first (take p.read all) u in
-          rw (take-one all p.read u starts.0, push, ← v_is, count, ← s.last)
-          (ap (λ m. option_or m p.last) (reported-next p.read (step_of p.cache p.value u).patterns));
-      grows = grows-more s.grows (rw is at grows);
-    })
-      where
-        r : IsReached old first all (p.read + 1) (step_of p.cache p.value u) (next_place p u).cache
-        r = reached-push s.reached starts.0
-
-    pub fails-next : {new : Cache} → IsFailedStep p.cache p.value u new → Grows p.cache new
-        → IsFailed earliest old first us new
-    fails-next failed grows =
-        record { cut_off = cut_off-step s.reached starts.0 failed; grows = grows-more s.grows grows }
-
-  -- a search that has stopped has read all
-  module _ (stopped : (length us ≤ p.read) ⊎ (is_last earliest p.value ≡ true)) where
-    pub searched-all : take p.read all ≡ all
-    searched-all = rw (stop, append-nil) at (take-append-drop p.read all)
-      where
-        stop : drop p.read all ≡ []
-        stop = s.ahead ∙ elim stopped [
-          | inl none ↦ rw (drop_all p.read us none) refl
-          | inr last ↦ read_none (step_of old) earliest p.value (drop p.read us) last
-        ]
-
-    pub over-at : {E : Type 0} {found : Option HalfMatch} → found ≡ p.last
-        → IsOver {E = E} earliest old first us (Ok found) p.cache
-    over-at is = record {
-      last = is ∙ (rw searched-all at s.last);
-      after = rw searched-all at s.reached.after;
-      failed = tt;
-      grows = s.grows;
+    pub come-next : {q : Place} → q ≡ next_place p u → Grows p.cache q.cache → HasCome earliest us p q
+    come-next is grows = record {
+      ends = rw (is, drop-one us p.read u at, more) refl;
+      failed = λ new f. rw (drop-one us p.read u at, more) (cut_off-later (rw is at f));
+      grows = grows;
     }
+
+  module _ {q : Place} (h : HasCome earliest us p q) where
+    pub come_twice : {r : Place} → HasCome earliest us q r → HasCome earliest us p r
+    come_twice k = record {
+      ends = k.ends ∙ h.ends;
+      failed = λ new f. h.failed new (k.failed new f);
+      grows = grows-more h.grows k.grows;
+    }
+
+    -- what is left if the next step fails
+    pub fails-next : {u : Option ℕ} {new : Cache} → slice_get us q.read ≡ Some u → is_last earliest q.value ≡ false
+        → IsFailedStep q.cache q.value u new → IsCutOffAt earliest p (drop p.read us) new
+    fails-next {u} at more failed = h.failed _ (rw (drop-one us q.read u at, more) (cut_off-first failed))
+
+    -- what a search from there returns and leaves
+    pub over-more : {E : Type 0} {r : Result (Option HalfMatch) E} {new : Cache}
+        → IsOver earliest (drop q.read us) q r new → IsOver earliest (drop p.read us) p r new
+    over-more {r = r} o = record {
+      last = rw (← h.ends) o.last;
+      after = rw (← (end-is earliest (drop p.read us) p).0, ← h.ends, (end-is earliest (drop q.read us) q).0) o.after;
+      failed = on_err_weaker r (h.failed _) o.failed;
+      grows = grows-more h.grows o.grows;
+    }
+
+    -- a search that has stopped
+    module _ (stopped : (length us ≤ q.read) ⊎ (is_last earliest q.value ≡ true)) where
+      pub end-here : ends_at earliest p (drop p.read us) ≡ q
+      end-here = sym h.ends ∙ elim stopped [
+        | inl none ↦ rw (drop_all q.read us none) refl
+        | inr last ↦ stays (drop q.read us) last
+      ]
+        where
+          stays : (us : List (Option ℕ)) → is_last earliest q.value ≡ true → ends_at earliest q us ≡ q
+          stays [] last = refl
+          stays (u ∷ us) last = rw last refl
+
+      pub over-at : {E : Type 0} {found : Option HalfMatch} → found ≡ q.last
+          → IsOver {E = E} earliest (drop p.read us) p (Ok found) q.cache
+      over-at is = record {
+        last = rw end-here is;
+        after = rw end-here at (end-is earliest (drop p.read us) p).0;
+        failed = tt;
+        grows = h.grows;
+      }
 
 -- a search that takes a step over a byte, and one that continues twice
 module _ {A B : Type 0} {earliest : Bool} {text : Text} {p : Place} {c : LazyValue} {at : Position A}
@@ -143,12 +130,13 @@ module _ {A B : Type 0} {earliest : Bool} {text : Text} {p : Place} {c : LazyVal
       → is_last earliest (cursor_value c.states at.cursor) ≡ false → IsNext (place c at) (Some b) d next
       → GoesTo earliest text p d next
   goes-next {b} byte more n =
-      let within = rw length-map at (slice_get_within (map Some text.bytes) at.read (Some b) byte) in record {
+      let within = rw length-map at (slice_get_within (map Some text.bytes) at.read (Some b) byte) in
+      let read_is : next.read ≡ at.read + 1 = ap (λ (p : Place). p.read) n.place in record {
         position = n.position;
-        forward = omega (arith, g.forward, n.read);
-        within = omega (arith, within, n.read);
-        searched = λ us begins old first s.
-            searched-next (g.searched us begins old first s) (begins at.read b byte) more n.place n.grows;
+        forward = omega (arith, g.forward, read_is);
+        within = omega (arith, within, read_is);
+        come = λ us begins.
+            come_twice (g.come us begins) (come-next (begins at.read b byte) more n.place n.grows);
         grows = grows-more g.grows n.grows;
       }
 
@@ -157,49 +145,9 @@ module _ {A B : Type 0} {earliest : Bool} {text : Text} {p : Place} {c : LazyVal
     position = h.position;
     forward = omega (arith, g.forward, h.forward);
     within = h.within;
-    searched = λ us begins old first s. h.searched us begins old first (g.searched us begins old first s);
+    come = λ us begins. come_twice (g.come us begins) (h.come us begins);
     grows = grows-more g.grows h.grows;
   }
-
--- the last match of what a search reads
-module _ (nfa : Nfa) (kind : MatchKind) where
-  -- is that of all units
-  last_from-read : (us : List (Option ℕ)) (n : ℕ) (last : Option HalfMatch) (v : Value)
-      → last_from nfa kind n last v (units_read (step nfa kind) false v us) ≡ last_from nfa kind n last v us
-  last_from-read [] n last v = refl
-  last_from-read (u ∷ us) n last v = by_test (is_last false v)
-      (λ over. rw over (sym (last_from-over nfa kind n last v (u ∷ us) (none_left v.states over))))
-      (λ more. rw (more, last_from-next nfa kind n last v u us, last_from-next nfa kind n last v u)
-      (last_from-read us (n + 1) _ (step nfa kind v u)))
-
-  pub last-read : (v : Value) (us : List (Option ℕ))
-      → last_match (future nfa kind v (units_read (step nfa kind) false v us)) ≡ last_match (future nfa kind v us)
-  last-read v us = rw (← last_from-first nfa kind v us, ← last_from-first nfa kind v) (last_from-read us 0 None v)
-
-  -- and is found where there is one, if the search is for the earliest
-  some_from-read : (us : List (Option ℕ)) (n : ℕ) (last : Option HalfMatch) (v : Value)
-      → (is_nonempty v.patterns ≡ true → is_some last ≡ true)
-      → is_some (last_from nfa kind n last v (units_read (step nfa kind) true v us))
-      ≡ is_some (last_from nfa kind n last v us)
-  some_from-read [] n last v seen = refl
-  some_from-read (u ∷ us) n last v seen = by_test (is_last true v)
-      (λ over. rw over (by_test (is_nonempty v.patterns)
-      (λ some. rw (seen some, found _ last (seen some)))
-      (λ none. rw (last_from-over nfa kind n last v (u ∷ us) (none_left v.states (rw none at over))))))
-      (λ more. rw (more, last_from-next nfa kind n last v u us, last_from-next nfa kind n last v u)
-      (some_from-read us (n + 1) _ (step nfa kind v u) (reports (step nfa kind v u).patterns)))
-    where
-      found : (o last : Option HalfMatch) → is_some last ≡ true → is_some (option_or o last) ≡ true
-      found o last h = grind arith
-
-      reports : (ps : List ℕ) → is_nonempty ps ≡ true → is_some (option_or (ended_at n ps) last) ≡ true
-      reports ps h = grind arith
-
-  pub some-read : (v : Value) (us : List (Option ℕ)) → v.patterns ≡ []
-      → is_some (last_match (future nfa kind v (units_read (step nfa kind) true v us)))
-      ≡ is_some (last_match (future nfa kind v us))
-  some-read v us none = rw (← last_from-first nfa kind v us, ← last_from-first nfa kind v)
-      (some_from-read us 0 None v (λ some. absurd (true≢false (sym some ∙ ap is_nonempty none))))
 
 -- from what a lookup, the tag and the last match say
 pub next-cached : (x : LazyValue) → IsSound (cache x) → (at : CachedPosition) → IsCachedPosition x at → (u : Option ℕ)
@@ -222,28 +170,70 @@ next-cached x is at position u id looked bits tagged earliest told more last fou
           resolve = rw w.value (step_resolves x.nfa is.accepted x.kind v u);
           unmatched = λ e. absurd (omega arith);
         };
-        read = refl;
         place = next-place (cached_place x at) u w.value (let last_is = found position.unmatched in
             cc (tagged v there)) (cached_step (cache x) v u id is.table (looked v there));
         grows = record { nfa = refl; kind = refl; limit = refl; computed = omega arith };
       },
     )
 
--- the last match of what the search reads, from an NFA state over a text
-abbrev pub last_of : Bool → Cache → ℕ → Text → Option HalfMatch
-last_of earliest old start text = last_match (future old.nfa old.kind (start_value old.nfa start text.behind)
-    (units_ahead earliest old (start_value old.nfa start text.behind) (units text)))
+-- the last match where a search ends is that of the walk over all units
+pub last-is : (us : List (Option ℕ)) (p : Place)
+    → (ends_at false p us).last ≡ last_from p.cache.nfa p.cache.kind p.read p.last p.value us
+last-is [] p = refl
+last-is (u ∷ us) p = by_test (is_last false p.value)
+    (λ over. rw over (sym (last_from-over p.cache.nfa p.cache.kind p.read p.last p.value (u ∷ us)
+    (none_left p.value.states over))))
+    (λ more. rw (
+      more,
+      last_from-next p.cache.nfa p.cache.kind p.read p.last p.value u us,
+      ← reported-next p.read (step_of p.cache p.value u).patterns,
+    ) (last-is us (next_place p u)))
+
+-- and one for the earliest match finds one if there is any
+some-is : (us : List (Option ℕ)) (p : Place) → (is_nonempty p.value.patterns ≡ true → is_some p.last ≡ true)
+    → is_some (ends_at true p us).last ≡ is_some (last_from p.cache.nfa p.cache.kind p.read p.last p.value us)
+some-is [] p seen = refl
+some-is (u ∷ us) p seen = by_test (is_last true p.value)
+    (λ over. rw over (by_test (is_nonempty p.value.patterns)
+    (λ some. rw (seen some, found _ p.last (seen some)))
+    (λ none. rw (last_from-over p.cache.nfa p.cache.kind p.read p.last p.value (u ∷ us)
+    (none_left p.value.states (rw none at over))))))
+    (λ more. rw (
+      more,
+      last_from-next p.cache.nfa p.cache.kind p.read p.last p.value u us,
+      ← reported-next p.read (step_of p.cache p.value u).patterns,
+    )
+    (some-is us (next_place p u) (reports (step_of p.cache p.value u).patterns)))
+  where
+    found : (o last : Option HalfMatch) → is_some last ≡ true → is_some (option_or o last) ≡ true
+    found o last h = grind arith
+
+    reports : (ps : List ℕ) → is_nonempty ps ≡ true
+        → is_some (option_or (match_reported (p.read + 1) (slice_get ps 0)) p.last) ≡ true
+    reports ps h = grind arith
+
+-- the match that a search from the start finds
+pub last-found : (c : Cache) (v : Value) (us : List (Option ℕ))
+    → (ends_at false (first_place c v) us).last ≡ last_match (future c.nfa c.kind v us)
+last-found c v us = last-is us (first_place c v) ∙ last_from-first c.nfa c.kind v us
 
 pub search-is : (old : Cache) (start : ℕ) (text : Text) {found : Option HalfMatch} → IsAccepted old.nfa
-    → found ≡ last_of false old start text → IsSearch old.nfa old.kind start text found
+    → found ≡ (ends_at false (first_place old (start_value old.nfa start text.behind)) (units text)).last
+    → IsSearch old.nfa old.kind start text found
 unfolding chain
 search-is old start text {found} accepted is = is-search old.nfa old.kind start text found accepted
-    (is ∙ last-read old.nfa old.kind (start_value old.nfa start text.behind) (units text))
+    (is ∙ last-found old (start_value old.nfa start text.behind) (units text))
 
 -- some run accepts exactly where the earliest match is found
 pub decides : (old : Cache) (asked : Asked) {found : Option HalfMatch} → IsAccepted old.nfa
-    → found ≡ last_of true old (start_for old.nfa asked.anchored) (text_of old.nfa.reverse asked)
+    → let text : Text = text_of old.nfa.reverse asked in
+    let first : Value = start_value old.nfa (start_for old.nfa asked.anchored) text.behind in
+    found ≡ (ends_at true (first_place old first) (units text)).last
     → Decides (is_some found) (HasMatch old.nfa asked)
 unfolding chain
-decides old asked accepted is = match-decides old.nfa old.kind asked accepted
-    (ap is_some is ∙ some-read old.nfa old.kind _ (units (text_of old.nfa.reverse asked)) refl)
+decides old asked accepted is =
+    let text : Text = text_of old.nfa.reverse asked in
+    let first : Value = start_value old.nfa (start_for old.nfa asked.anchored) text.behind in
+    match-decides old.nfa old.kind asked accepted (ap is_some is
+    ∙ some-is (units text) (first_place old first) (λ some. absurd (true≢false (sym some)))
+    ∙ ap is_some (last_from-first old.nfa old.kind first (units text)))

@@ -1,6 +1,6 @@
--- How far a walk or a search has come, and what a search finds and leaves.
-use Rattle.std.specs.Prelude.{◌≡◌, ℕ, ◌+◌, ◌≤◌, ◌⊎◌, Bool, true, false, Option, Some, None, List}
-use Rattle.std.specs.Prelude.{drop, length, map, slice_get, take, IfOk, OnErr, OnOk, Result}
+-- How far a search has come, and what it finds and leaves.
+use Rattle.std.specs.Prelude.{◌≡◌, ℕ, ◌+◌, ◌≤◌, ◌⊎◌, Bool, true, false, Option, Some, None, List, ◌∷◌, []}
+use Rattle.std.specs.Prelude.{cond, drop, length, map, slice_get, IfOk, OnErr, OnOk, Result}
 use Rattle.std.specs.Option.{option_or}
 use Rattle.determinize_below.specs.Nfa.{AllResolve}
 use Rattle.determinize_below.specs.Semantics.{Text}
@@ -18,13 +18,6 @@ use Rattle.determinize_table.specs.Tags.{match_of, match_reported, tag_of}
 use Rattle.determinize_lazy.specs.declared.search.CachedPosition.{CachedPosition}
 use Rattle.determinize_lazy.specs.declared.search.Position.{Position}
 use Rattle.determinize_table.specs.declared.table.Cursor.TheVariants.{Cached}
-
--- a walk from a value over units, of which it has read some: the value where it is, and the cache
-pub record IsReached (old : Cache) (first : Value) (us : List (Option ℕ)) (read : ℕ) (v : Value)
-    (new : Cache) : Type 0
-  where
-    pub end : v ≡ value_after old.nfa old.kind first (take read us)
-    pub after : new ≡ after_walk old first (take read us)
 
 -- the match that a value reports which is entered after n units
 abbrev pub reported : ℕ → Value → Option HalfMatch
@@ -83,69 +76,62 @@ next_place p u = record {
 pub record IsNext {A : Type 0} (p : Place) (u : Option ℕ) (c : LazyValue) (at : Position A) : Type 0
   where
     pub position : IsPosition c at
-    pub read : at.read ≡ p.read + 1
     pub place : place c at ≡ next_place p u
     pub grows : Grows p.cache (cache c)
 
--- the units that a search from a value reads, of these
-abbrev pub units_ahead : Bool → Cache → Value → List (Option ℕ) → List (Option ℕ)
-units_ahead earliest c v us = units_read (step_of c) earliest v us
+-- the place at which a search over units ends
+abbrev pub ends_at : Bool → Place → List (Option ℕ) → Place
+ends_at earliest p [] = p
+ends_at earliest p (u ∷ us) =
+    cond (is_last earliest p.value) p (ends_at earliest (next_place p u) us)
 
--- a search over units has come from a value to a place: what it has read, followed by what is ahead
--- of it, is all that it reads
-pub record IsSearched (earliest : Bool) (old : Cache) (first : Value) (us : List (Option ℕ))
-    (p : Place) : Type 0 where
-  pub reached : IsReached old first (units_ahead earliest old first us) p.read p.value p.cache
-  pub ahead : drop p.read (units_ahead earliest old first us)
-      ≡ units_ahead earliest old p.value (drop p.read us)
-  pub last : p.last
-      ≡ last_match (future old.nfa old.kind first (take p.read (units_ahead earliest old first us)))
-  pub grows : Grows old p.cache
+-- what a search over units leaves if it fails: what a walk over the units that it reads leaves
+abbrev pub IsCutOffAt : Bool → Place → List (Option ℕ) → Cache → Type 0
+IsCutOffAt earliest p us new =
+    IsCutOff p.cache p.value (units_read (step_of p.cache) earliest p.value us) new
 
--- what a search over units leaves if it fails: what a walk over the units that it reads leaves if
--- it fails
-pub record IsFailed (earliest : Bool) (old : Cache) (first : Value) (us : List (Option ℕ))
-    (new : Cache) : Type 0 where
-  pub cut_off : IsCutOff old first (units_ahead earliest old first us) new
-  pub grows : Grows old new
+-- a search over units has come from one place to another: it ends as a search of the rest does
+-- from there, and what that leaves if it fails is what this one leaves
+pub record HasCome (earliest : Bool) (us : List (Option ℕ)) (p q : Place) : Type 0 where
+  pub ends : ends_at earliest q (drop q.read us) ≡ ends_at earliest p (drop p.read us)
+  pub failed : (new : Cache) → IsCutOffAt earliest q (drop q.read us) new
+      → IsCutOffAt earliest p (drop p.read us) new
+  pub grows : Grows p.cache q.cache
 
--- what a search over units returns and leaves: the last match of what it reads, and the cache
-pub record IsOver {E : Type 0} (earliest : Bool) (old : Cache) (first : Value)
-    (us : List (Option ℕ)) (result : Result (Option HalfMatch) E) (new : Cache) : Type 0 where
-  pub last : IfOk result (λ found. found
-      ≡ last_match (future old.nfa old.kind first (units_ahead earliest old first us)))
-  pub after : OnOk result (new ≡ after_walk old first (units_ahead earliest old first us))
-  pub failed : OnErr result (IsCutOff old first (units_ahead earliest old first us) new)
-  pub grows : Grows old new
+-- what a search over units from a place returns and leaves: the last match of what it reads, and
+-- the cache
+pub record IsOver {E : Type 0} (earliest : Bool) (us : List (Option ℕ)) (p : Place)
+    (result : Result (Option HalfMatch) E) (new : Cache) : Type 0 where
+  pub last : IfOk result (λ found. found ≡ (ends_at earliest p us).last)
+  pub after : OnOk result (new
+      ≡ after_walk p.cache p.value (units_read (step_of p.cache) earliest p.value us))
+  pub failed : OnErr result (IsCutOffAt earliest p us new)
+  pub grows : Grows p.cache new
 
 -- the same of a search from an NFA state over a text
 abbrev pub IsOverText : {E : Type 0} → Bool → Cache → ℕ → Text → Result (Option HalfMatch) E
     → Cache → Type 0
 IsOverText earliest old start text result new =
-    IsOver earliest old (start_value old.nfa start text.behind) (units text) result new
+    IsOver earliest (units text) (first_place old (start_value old.nfa start text.behind)) result new
 
 -- units that begin with the bytes of a text
 abbrev pub Begins : Text → List (Option ℕ) → Type 0
 Begins text us = (i b : ℕ) → slice_get (map Some text.bytes) i ≡ Some (Some b)
     → slice_get us i ≡ Some (Some b)
 
--- a search over such units that has come to one place comes to another, over bytes of the text
-abbrev pub GoesOn : Bool → Text → Place → Place → Type 0
-GoesOn earliest text p q = (us : List (Option ℕ)) → Begins text us → (old : Cache) (first : Value)
-    → IsSearched earliest old first us p → IsSearched earliest old first us q
-
--- or fails there
+-- each search at the place whose units begin with them fails there and leaves this
 abbrev pub Fails : Bool → Text → Place → Cache → Type 0
-Fails earliest text p new = (us : List (Option ℕ)) → Begins text us → (old : Cache) (first : Value)
-    → IsSearched earliest old first us p → IsFailed earliest old first us new
+Fails earliest text p new =
+    (us : List (Option ℕ)) → Begins text us → IsCutOffAt earliest p (drop p.read us) new
 
--- each search at the place comes to this position, which is not before it, and within the text
+-- each search at the place whose units begin with the bytes of the text comes to this position,
+-- which is not before the place, and within the text
 pub record GoesTo {A : Type 0} (earliest : Bool) (text : Text) (p : Place) (c : LazyValue)
     (at : Position A) : Type 0 where
   pub position : IsPosition c at
   pub forward : p.read ≤ at.read
   pub within : at.read ≤ length text.bytes
-  pub searched : GoesOn earliest text p (place c at)
+  pub come : (us : List (Option ℕ)) → Begins text us → HasCome earliest us p (place c at)
   pub grows : Grows p.cache (cache c)
 
 -- the same at a cached state
@@ -160,8 +146,9 @@ HasStopped earliest n p = (n ≤ p.read) ⊎ (is_last earliest p.value ≡ true)
 -- its length, and the cache
 pub record IsPieceRead (old : Cache) (first : Value) (piece : List ℕ) (s : Scanned) (new : Cache)
     : Type 0 where
-  pub state : s.state
-      ≡ value_after old.nfa old.kind first (units_ahead false old first (map Some piece))
+  pub state : s.state ≡ value_after old.nfa old.kind first
+      (units_read (step_of old) false first (map Some piece))
   pub last : s.last ≡ last_match (future old.nfa old.kind first (map Some piece))
   pub read : s.read ≡ length piece
-  pub after : new ≡ after_walk old first (units_ahead false old first (map Some piece))
+  pub after : new
+      ≡ after_walk old first (units_read (step_of old) false first (map Some piece))

@@ -1,5 +1,7 @@
-use Rattle.determinize_lazy.proofs.Common.{[], ap, arith, between, cache, false, future, IfOk, IfOk-weaker, IsOver}
+use Rattle.determinize_lazy.proofs.Common.{[], ap, arith, between, cache, false, first_place, future, IfOk, IsOver}
 use Rattle.determinize_lazy.proofs.Common.{last_match, option_map, option_or, rules, ◌∙◌, ◌∷◌, ◌≡◌, ◌≤◌}
+use Rattle.determinize_lazy.proofs.finding.Searching.{last-found, over-same}
+use Rattle.determinize_lazy.proofs.steps.Rule.{of_err}
 use Rattle.determinize_core.specs.Chain.{chain}
 use Rattle.determinize_engine.specs.Private.Later.{later_by}
 use Rattle.determinize_engine.specs.Scans.{Scanned}
@@ -7,8 +9,6 @@ use Rattle.determinize_engine.proofs.Headline.{is-search}
 use Rattle.determinize_engine.proofs.LastUnits.{last_match-within}
 use Rattle.determinize_engine.proofs.Later.{later-within}
 use Rattle.determinize_engine.proofs.Scanning.{last-whole}
-use Rattle.determinize_lazy.proofs.finding.Searching.{last-read}
-use Rattle.determinize_lazy.proofs.steps.Rule.{of_err}
 use Rattle.determinize_lazy.proofs.lazy.Lazy.finish.Given.{Over}
 use Rattle.determinize_lazy.proofs.lazy.Lazy.finish.Goals.{After-search_from}
 use Rattle.determinize_lazy.proofs.lazy.Lazy.finish.Goals as goal
@@ -19,15 +19,14 @@ search_from-requires-clause-position g c =
     c.start.ensures.position c.args.self.now c.in_ok-start.ensures.at.cursor_is (rw state_is c.requires)
 
 -- the search of the unit ahead, from the state of the scan
-over : (g : Over) (c : After-search_from g) → IsOver false (cache c.args.self.now) c.args.scan.now.state
-    (c.args.look_ahead ∷ []) c.search_from.result (cache c.search_from.new.self)
-over g c = c.search_from.ensures.over _ c.new-text.ensures _ _ (c.start.ensures.searched false _ c.args.self.now _
-    (c.in_ok-start.ensures.at.value ∙ ap (λ (s : Scanned). s.state) c.scan.view_is))
+over : (g : Over) (c : After-search_from g) → IsOver false (c.args.look_ahead ∷ [])
+    (first_place (cache c.args.self.now) c.args.scan.now.state) c.search_from.result (cache c.search_from.new.self)
+over g c = over-same (c.start.ensures.place c.args.self.now _ (c.in_ok-start.ensures.at.value
+    ∙ ap (λ (s : Scanned). s.state) c.scan.view_is)) c.new-text.ensures c.search_from.ensures
 
 last : (g : Over) (c : After-search_from g) → IfOk c.search_from.result (λ found. found
     ≡ last_match (future c.args.self.now.nfa c.args.self.now.kind c.args.scan.now.state (c.args.look_ahead ∷ [])))
-last g c = IfOk-weaker c.search_from.result _ _
-    (λ found is. is ∙ last-read _ _ c.args.scan.now.state (c.args.look_ahead ∷ [])) (over g c).last
+last g c = rw (last-found (cache c.args.self.now) c.args.scan.now.state (c.args.look_ahead ∷ [])) at (over g c).last
 
 pub or_later-requires : goal.or_later-requires
 or_later-requires g c =

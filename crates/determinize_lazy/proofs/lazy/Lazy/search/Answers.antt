@@ -1,6 +1,6 @@
 use Rattle.determinize_lazy.proofs.Common.{cache, IfOk-weaker, on_ok_weaker, refl}
+use Rattle.determinize_lazy.proofs.finding.Searching.{search-is, over-text}
 use Rattle.determinize_lazy.specs.CachedSearches.{after_search}
-use Rattle.determinize_lazy.proofs.finding.Searching.{over-text, search-is}
 use Rattle.determinize_lazy.proofs.walking.Plenty.{keeps_all}
 use Rattle.determinize_lazy.proofs.lazy.Lazy.search.Goals as goal
 

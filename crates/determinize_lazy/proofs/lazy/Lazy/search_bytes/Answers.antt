@@ -14,9 +14,8 @@ more g c = tag-last c.args.earliest c.tag_at.result.bits (cursor_value c.loop-at
 pub returns-in_err-next-clause-failed : goal.returns-in_err-next-clause-failed
 returns-in_err-next-clause-failed g c =
     of_err _ {P = Fails c.args.earliest c.args.text.now (place c.args.self.now c.args.from) (cache c.advance.new.self)}
-    (λ us begins old first s. fails-next (c.loop-at.invariant.searched us begins old first s)
-    (begins _ _ c.byte-byte.ensures) (more g (goal.at.returns-in_err-next-clause-failed g c).After-byte-byte)
-    c.in_err-next.ensures.failed c.in_err-next.ensures.grows)
+    (λ us begins. fails-next (c.loop-at.invariant.come us begins) (begins _ _ c.byte-byte.ensures)
+    (more g (goal.at.returns-in_err-next-clause-failed g c).After-byte-byte) c.in_err-next.ensures.failed)
 
 pub loop-at-preserved : goal.loop-at-preserved
 loop-at-preserved g c =

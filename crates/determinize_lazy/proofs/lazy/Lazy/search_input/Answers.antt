@@ -1,7 +1,8 @@
-use Rattle.determinize_lazy.proofs.Common.{cache, false, is_done, IsSearch, rules, start_for, sym, text_of, ◌∙◌, ◌≡◌}
+use Rattle.determinize_lazy.proofs.Common.{cache, false, is_done, IsSearch, rules, start_for, sym, text_of, ◌∙◌}
+use Rattle.determinize_lazy.proofs.Common.{◌≡◌}
+use Rattle.determinize_lazy.proofs.finding.Searching.{search-is}
 use Rattle.determinize_engine.proofs.Ranges.{is-answer, IsAnswer, last-done, offset-within}
 use Rattle.determinize_lazy.specs.CachedSearches.{after_input, after_search}
-use Rattle.determinize_lazy.proofs.finding.Searching.{search-is}
 use Rattle.determinize_lazy.proofs.walking.Plenty.{keeps_all}
 use Rattle.determinize_lazy.proofs.lazy.Lazy.search_input.Given.{Over}
 use Rattle.determinize_lazy.proofs.lazy.Lazy.search_input.Goals.{In_ok-found}

@@ -1,25 +1,33 @@
-use Rattle.determinize_lazy.proofs.Common.{ap, arith, cache, cached_place, dead, inl, inr, IsSearched, LazyValue}
-use Rattle.determinize_lazy.proofs.Common.{match_of, match_reported, option_or, slice_get, slice_get-get_or}
-use Rattle.determinize_lazy.proofs.Common.{slice_index_or, start_value, Tag, tag_in, tag_of, units, Value, ◌∙◌, ◌≡◌}
+use Rattle.determinize_lazy.proofs.Common.{ap, arith, cache, cached_place, dead, first_place}
+use Rattle.determinize_lazy.proofs.Common.{get_or_from_slice_get, HasCome, inl, inr, LazyValue, match_of}
+use Rattle.determinize_lazy.proofs.Common.{match_reported, option_or, refl, slice_get, slice_get-get_or}
+use Rattle.determinize_lazy.proofs.Common.{slice_get_within, slice_index_or, start_value, Tag, tag_in, tag_of}
+use Rattle.determinize_lazy.proofs.Common.{units, Value, ◌∙◌, ◌≡◌}
+use Rattle.determinize_lazy.proofs.finding.Searching.{over-at, tag-last, over-text, over-same, over-more}
 use Rattle.determinize_engine.proofs.Texts.{all_read}
-use Rattle.determinize_lazy.proofs.finding.Searching.{over-at, tag-last}
 use Rattle.determinize_lazy.proofs.lazy.Lazy.search_text.Given.{Over}
-use Rattle.determinize_lazy.proofs.lazy.Lazy.search_text.Goals.{After-len, In-Some}
+use Rattle.determinize_lazy.proofs.lazy.Lazy.search_text.Goals.{After-len}
 use Rattle.determinize_lazy.proofs.lazy.Lazy.search_text.Goals.{then-at-len-via-else-at-len+then-is_last}
 use Rattle.determinize_lazy.proofs.lazy.Lazy.search_text.Goals.{then-at-len-via-then-at-len}
 use Rattle.determinize_lazy.proofs.lazy.Lazy.search_text.Goals as goal
 
-pub follow_to_end-at-requires : goal.follow_to_end-at-requires
-follow_to_end-at-requires g c = (_, c.in-Some.ensures.at, c.kept_start.ensures.resolve)
+pub follow_to_end-at-requires-clause-cached : goal.follow_to_end-at-requires-clause-cached
+follow_to_end-at-requires-clause-cached g c =
+    slice_get_within c.args.self.now.states c.in-Some.id _ c.in-Some.ensures.at
+
+pub follow_to_end-at-requires-clause-resolve : goal.follow_to_end-at-requires-clause-resolve
+follow_to_end-at-requires-clause-resolve g c =
+    rw (get_or_from_slice_get c.args.self.now.states c.in-Some.id _ dead c.in-Some.ensures.at) c.kept_start.ensures.resolve
 
 -- the search of what is cached
-cached : (g : Over) (c : After-len g) → IsSearched c.args.earliest (cache c.args.self.now)
-    (start_value c.args.self.now.nfa c.args.start c.args.text.now.behind) (units c.args.text.now)
+cached : (g : Over) (c : After-len g) → HasCome c.args.earliest (units c.args.text.now)
+    (first_place (cache c.args.self.now) (start_value c.args.self.now.nfa c.args.start c.args.text.now.behind))
     (cached_place c.args.self.now c.follow_to_end-at.result)
-cached g c = rw c.behind.ensures at (c.follow_to_end-at.ensures.searched _ c.in-Some.ensures.at)
+cached g c = rw (get_or_from_slice_get c.args.self.now.states c.in-Some.id _ dead
+    (rw c.behind.ensures at c.in-Some.ensures.at)) at c.follow_to_end-at.ensures.come
 
 pub returns-in_default-clause-over : goal.returns-in_default-clause-over
-returns-in_default-clause-over g c = c.search_anew.ensures _ c.copied-text.ensures
+returns-in_default-clause-over g c = over-text refl c.copied-text.ensures c.search_anew.ensures
 
 pub returns-then-at-len-clause-over : goal.returns-then-at-len-clause-over
 returns-then-at-len-clause-over g c =
@@ -42,5 +50,5 @@ search_from-requires-clause-read g c = rw (c.copied-text-2.ensures, c.with_curso
 
 pub returns-clause-over : goal.returns-clause-over
 returns-clause-over g c =
-    (rw c.with_cursor.ensures at c.search_from.ensures.over) _ c.copied-text-2.ensures _ _
-    (cached g (goal.at.returns-clause-over g c).After-len)
+    over-more (cached g (goal.at.returns-clause-over g c).After-len)
+    (over-same refl c.copied-text-2.ensures (rw c.with_cursor.ensures at c.search_from.ensures))
