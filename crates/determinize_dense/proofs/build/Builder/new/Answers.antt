@@ -40,5 +40,5 @@ invariant_of-result g c =
       next = [];
     }) (sym values)
     (building-first c.args.nfa.now c.args.match_kind c.byte_classes-classes.result c.min-limit.result
-    c.byte_classes-classes.ensures.accepted c.byte_classes-classes.ensures.classes c.alphabet_len.ensures.sound (grind (arith, apart))
-    (grind (arith, least)))))
+    c.byte_classes-classes.ensures.accepted c.byte_classes-classes.ensures.classes c.alphabet_len.ensures.sound
+    (grind (arith, apart)) (grind (arith, least)))))
