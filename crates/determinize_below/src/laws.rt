@@ -5,7 +5,7 @@ ghost use Rattle.std.specs.Prelude.{◌≡◌, IfOk, IsOk};
 ghost use Rattle.determinize_below.specs.ReachLaws.{EachNfaReachIsInOrder, EachNfaReachIsOne, EachNfaReachIsInTurn, EachReachIsPastNothing};
 
 use crate::look::LookMatcher;
-use crate::primitives::{MAX_ID, PatternID, StateID};
+use crate::primitives::{PatternID, StateID};
 use crate::search::Input;
 pub use ordered_reach::laws::reach_law;
 use std::alloc::AllocError;
@@ -22,7 +22,7 @@ pub fn nfa_reach_law()
 /// Returns the smallest id of a state, the greatest id, and the size of an id in bytes.
 pub fn state_id_law() -> (StateID, StateID, usize)
     ensures zero { result.0 ≡ 0 }
-    ensures max { result.1 ≡ MAX_ID }
+    ensures max { result.1 ≡ 2147483646 }
     ensures size { result.2 ≡ 4 }
 {
     (StateID::ZERO, StateID::MAX, StateID::SIZE)
@@ -31,7 +31,7 @@ pub fn state_id_law() -> (StateID, StateID, usize)
 /// Returns the smallest id of a pattern, the greatest id, and the size of an encoded id in bytes.
 pub fn pattern_id_law() -> (PatternID, PatternID, usize)
     ensures zero { result.0 ≡ 0 }
-    ensures max { result.1 ≡ MAX_ID }
+    ensures max { result.1 ≡ 2147483646 }
     ensures size { result.2 ≡ 4 }
 {
     (PatternID::ZERO, PatternID::MAX, PatternID::SIZE)

@@ -77,8 +77,7 @@ impl<K> SmallIndex<K> {
         ensures value { result ≡ self }
         ensures small { self ≤ MAX_ID }
     {
-        let SmallIndex(number, _) = self;
-        number
+        self.0
     }
 
     /// Returns the id as a `usize`, for indexing.
@@ -86,8 +85,7 @@ impl<K> SmallIndex<K> {
         ensures value { result ≡ self }
         ensures small { self ≤ MAX_ID }
     {
-        let SmallIndex(index, _) = self;
-        index as usize
+        self.0 as usize
     }
 }
 
