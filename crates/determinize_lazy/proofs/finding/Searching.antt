@@ -66,13 +66,13 @@ end-is earliest (u ∷ us) p = by_test (is_last earliest p.value) (λ over. rw o
 
 module _ {earliest : Bool} {us : List (Option ℕ)} {p : Place} where
   -- a unit more
-  module _ {u : Option ℕ} (at : slice_get us p.read ≡ Some u) (more : is_last earliest p.value ≡ false) where
-    pub come-next : {q : Place} → q ≡ next_place p u → Grows p.cache q.cache → HasCome earliest us p q
-    come-next is grows = record {
-      ends = rw (is, drop-one us p.read u at, more) refl;
-      failed = λ new f. rw (drop-one us p.read u at, more) (cut_off-later (rw is at f));
-      grows = grows;
-    }
+  pub come-next : {u : Option ℕ} {q : Place} → slice_get us p.read ≡ Some u → is_last earliest p.value ≡ false
+      → q ≡ next_place p u → Grows p.cache q.cache → HasCome earliest us p q
+  come-next {u} at more is grows = record {
+    ends = rw (is, drop-one us p.read u at, more) refl;
+    failed = λ new f. rw (drop-one us p.read u at, more) (cut_off-later (rw is at f));
+    grows = grows;
+  }
 
   module _ {q : Place} (h : HasCome earliest us p q) where
     pub come_twice : {r : Place} → HasCome earliest us q r → HasCome earliest us p r

@@ -8,11 +8,10 @@ returns-clause-next g c = record {
     resolve = rw (c.in_ok-cursor.ensures.grows.nfa, c.in_ok-cursor.ensures.at.value) c.in_ok-cursor.ensures.resolve;
     unmatched = λ e. absurd (omega arith);
   };
-  place = rw (
-    c.in_ok-cursor.ensures.at.value,
-    c.or_match-last.ensures c.requires.position.unmatched
-        ∙ ap (λ (t : Tag). option_or (match_reported c.args.at.read t.pattern) (match_of c.args.at.last)) c.tag_at.ensures,
-    c.in_ok-cursor.ensures.after,
-  ) refl;
+  place =
+      let last_is = c.or_match-last.ensures c.requires.position.unmatched
+      ∙ ap (λ (t : Tag). option_or (match_reported c.args.at.read t.pattern) (match_of c.args.at.last))
+      c.tag_at.ensures in
+      rw (c.in_ok-cursor.ensures.at.value, last_is, c.in_ok-cursor.ensures.after) refl;
   grows = c.in_ok-cursor.ensures.grows;
 }
