@@ -2,8 +2,7 @@
 pub use Rattle.std.proofs.Common.{[], ◌&&◌, ◌++◌, ◌+◌, ◌-◌, ◌<◌, ◌||◌, ◌∙◌, ◌∷◌, ◌≡◌, ◌≤◌, ◌⊎◌, ap, arith, Bool, cond}
 pub use Rattle.std.proofs.Common.{drop, false, get_or, inl, inr, is_some, length, List, map, None, not, Option, refl}
 pub use Rattle.std.proofs.Common.{rules, Some, subst, suc, sym, take, true, zero, ℕ}
-pub use Rattle.std.proofs.lemmas.List.{append-nil, append_assoc, drop_all, length-map, take_all, length-take-le}
-pub use Rattle.std.proofs.lemmas.List.{take_more}
+pub use Rattle.std.proofs.lemmas.List.{append-nil, append_assoc, drop_all, length-map, take_all}
 pub use Rattle.std.proofs.lemmas.Option.{get_or_from_slice_get, slice_get-get_or, slice_get_within}
 pub use Rattle.std.proofs.lemmas.Map.Views.{list_any-from_Contains}
 pub use Rattle.std.proofs.lemmas.Result.{IfOk-weaker, on_err_weaker, on_ok_weaker}
@@ -34,9 +33,9 @@ pub use Rattle.determinize_table.specs.Cursors.{cursor_value, IsAt, IsCursor}
 pub use Rattle.determinize_lazy.specs.Private.Invariant.{IsLazy}
 pub use Rattle.determinize_table.specs.Rows.{IsTarget, StartsStay, StoredTable, table_of}
 pub use Rattle.determinize_table.specs.Changes.{IsKept}
-pub use Rattle.determinize_lazy.specs.Private.Searched.{cached_place, ends_at, Fails, first_place, GoesTo, GoesToCached}
-pub use Rattle.determinize_lazy.specs.Private.Searched.{HasCome, IsCachedPosition, IsCutOffAt, IsNext, IsOver}
-pub use Rattle.determinize_lazy.specs.Private.Searched.{IsOverText, IsPosition, next_place, Place, place, reported}
+pub use Rattle.determinize_lazy.specs.Private.Searched.{cached_place, ends_at, Fails, first_place, GoesTo}
+pub use Rattle.determinize_lazy.specs.Private.Searched.{GoesToCached, HasCome, IsCachedPosition, IsCutOffAt, IsNext}
+pub use Rattle.determinize_lazy.specs.Private.Searched.{IsOver, IsOverText, next_place, Place, place}
 pub use Rattle.determinize_lazy.specs.Private.Starts.{AreStarts, start_index}
 pub use Rattle.determinize_lazy.specs.Private.Steps.{IsFailedStep, IsFollowed, IsSound, IsStepped, IsWalking}
 pub use Rattle.determinize_table.specs.Tags.{is_last_tag, match_of, match_reported, Tag, tag_in, tag_of}

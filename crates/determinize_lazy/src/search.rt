@@ -367,7 +367,7 @@ impl<'n, N: Allocator, A: Allocator + Copy> Lazy<'n, N, A> {
     /// The bytes just before and after the range are only peeked at, by assertions, but the byte
     /// ahead is a unit that may be computed and cached as any other. If the range starts past its
     /// end, nothing is read and the result is `Ok(None)`.
-    #[tactic(auto, unfolding(crate::specs::CachedSearches::after_input, crate::specs::CachedSearches::after_search))]
+    #[tactic(auto, unfolding(crate::specs::CachedSearches::after_input))]
     pub fn search_input(&mut self, input: &Input<'_>) -> Result<Option<HalfMatch>, AllocError>
         requires { has_start input.now.anchored ≡ true }
         ensures last { IfOk result
@@ -401,7 +401,7 @@ impl<'n, N: Allocator, A: Allocator + Copy> Lazy<'n, N, A> {
     /// Stops at the first match state, and at a state that records no NFA states. Over cached
     /// transitions the cache is only read. If the range starts past its end, nothing is read and
     /// the result is `Ok(false)`. `Anchored::Pattern` is not accepted.
-    #[tactic(auto, unfolding(crate::specs::CachedSearches::after_is_match, crate::specs::CachedSearches::after_first_match))]
+    #[tactic(auto, unfolding(crate::specs::CachedSearches::after_is_match))]
     pub fn is_match(&mut self, input: &Input<'_>) -> Result<bool, AllocError>
         requires { has_start input.now.anchored ≡ true }
         ensures accepts { is_done input.now ≡ false → IfOk result

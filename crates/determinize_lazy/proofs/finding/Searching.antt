@@ -3,18 +3,18 @@
 -- Used by: the functions of `search.rt` and `scan.rt`.
 -- Idea: where a search ends depends only on the place where it is and on the units that are left; and the place where
 -- it ends has the last match and the cache of the walk over the units that it reads.
-use Rattle.determinize_lazy.proofs.Common.{[], after_step, after_walk, ap, arith, Asked, Bool, by_test, Cache, cache}
-use Rattle.determinize_lazy.proofs.Common.{cached_place, cursor_value, dead, Decides, drop, drop_all, ended_at}
-use Rattle.determinize_lazy.proofs.Common.{ends_at, false, first_place, future, GoesTo, Grows, HalfMatch, HasCome}
-use Rattle.determinize_lazy.proofs.Common.{HasMatch, inl, inr, is_last, is_last_tag, is_nonempty, is_some, IsAccepted}
-use Rattle.determinize_lazy.proofs.Common.{IsAt, IsCachedPosition, IsCutOffAt, IsFailedStep, IsNext, IsOver}
-use Rattle.determinize_lazy.proofs.Common.{IsOverText, IsSearch, IsSound, IsTarget, last_match, LazyValue, length}
-use Rattle.determinize_lazy.proofs.Common.{length-map, List, map, match_of, match_reported, next_place, None, Ok}
-use Rattle.determinize_lazy.proofs.Common.{on_err_weaker, Option, option_or, Place, place, refl, reported, Result}
-use Rattle.determinize_lazy.proofs.Common.{slice_get, slice_get-get_or, slice_get_within, slice_index_or, Some}
-use Rattle.determinize_lazy.proofs.Common.{start_for, start_value, step_of, subst, sym, tag_in, tag_of, Text, text_of}
-use Rattle.determinize_lazy.proofs.Common.{true, true≢false, units, units_read, Value, value_after, ℕ, ◌+◌, ◌∙◌, ◌∷◌}
-use Rattle.determinize_lazy.proofs.Common.{◌≡◌, ◌≤◌, ◌⊎◌}
+use Rattle.determinize_lazy.proofs.Common.{[], after_walk, ap, arith, Asked, Bool, by_test, Cache, cache, cached_place}
+use Rattle.determinize_lazy.proofs.Common.{cursor_value, dead, Decides, drop, drop_all, ended_at, ends_at, false}
+use Rattle.determinize_lazy.proofs.Common.{first_place, future, GoesTo, Grows, HalfMatch, HasCome, HasMatch, inl, inr}
+use Rattle.determinize_lazy.proofs.Common.{is_last, is_last_tag, is_nonempty, is_some, IsAccepted, IsAt}
+use Rattle.determinize_lazy.proofs.Common.{IsCachedPosition, IsCutOffAt, IsFailedStep, IsNext, IsOver, IsOverText}
+use Rattle.determinize_lazy.proofs.Common.{IsSearch, IsSound, IsTarget, last_match, LazyValue, length, length-map}
+use Rattle.determinize_lazy.proofs.Common.{List, map, match_of, match_reported, next_place, None, Ok, on_err_weaker}
+use Rattle.determinize_lazy.proofs.Common.{Option, option_or, Place, place, refl, Result, same, slice_get}
+use Rattle.determinize_lazy.proofs.Common.{slice_get-get_or, slice_get_within, slice_index_or, Some, start_for}
+use Rattle.determinize_lazy.proofs.Common.{start_value, step_of, subst, sym, tag_in, tag_of, Text, text_of, true}
+use Rattle.determinize_lazy.proofs.Common.{true≢false, units, units_read, Value, value_after, ℕ, ◌+◌, ◌∙◌, ◌∷◌, ◌≡◌}
+use Rattle.determinize_lazy.proofs.Common.{◌≤◌, ◌⊎◌}
 use Rattle.determinize_core.specs.Step.{step}
 use Rattle.determinize_engine.proofs.Later.{last_from-first, last_from-next, last_from-over, none_left}
 use Rattle.determinize_engine.specs.Private.Later.{last_from}
@@ -40,24 +40,19 @@ tag-last earliest bits v tag told is = grind (arith, tag, told, is)
 reported-next : (n : ℕ) (patterns : List ℕ) → match_reported (n + 1) (slice_get patterns 0) ≡ ended_at n patterns
 reported-next n patterns = grind arith
 
--- the place after a step
-pub next-place : (p : Place) (u : Option ℕ) {w : Value} {last : Option HalfMatch} {new : Cache}
-    → w ≡ step_of p.cache p.value u → last ≡ p.last → new ≡ after_step p.cache p.value u
-    → record { read = p.read + 1; value = w; last = option_or (reported (p.read + 1) w) last; cache = new }
-    ≡ next_place p u
-next-place p u w_is last_is new_is = rw (w_is, last_is, new_is) refl
-
 -- what is so of a place and a text is so of those that are equal to them
-pub over-same : {E : Type 0} {earliest : Bool} {p q : Place} {t t' : Text} {r : Result (Option HalfMatch) E} {new : Cache}
-    → p ≡ q → t ≡ t' → IsOver earliest (drop p.read (units t)) p r new → IsOver earliest (drop q.read (units t')) q r new
+pub over-same : {E : Type 0} {earliest : Bool} {p q : Place} {t t' : Text} {r : Result (Option HalfMatch) E}
+    {new : Cache} → p ≡ q → t ≡ t' → IsOver earliest (drop p.read (units t)) p r new
+    → IsOver earliest (drop q.read (units t')) q r new
 over-same {earliest = earliest} {q = q} {t} {r = r} {new} at is o =
     subst (λ (t : Text). IsOver earliest (drop q.read (units t)) q r new) is
     (subst (λ (p : Place). IsOver earliest (drop p.read (units t)) p r new) at o)
 
 pub over-text : {E : Type 0} {earliest : Bool} {old : Cache} {s s' : ℕ} {t t' : Text} {r : Result (Option HalfMatch) E}
     {new : Cache} → s ≡ s' → t ≡ t' → IsOverText earliest old s t r new → IsOverText earliest old s' t' r new
-over-text {old = old} {s' = s'} {t = t} s_is is o = over-same (ap (λ s. first_place old (start_value old.nfa s t.behind)) s_is
-    ∙ ap (λ (t : Text). first_place old (start_value old.nfa s' t.behind)) is) is o
+over-text {old = old} {s' = s'} {t = t} s_is is =
+    over-same (ap (λ s. first_place old (start_value old.nfa s t.behind)) s_is
+    ∙ ap (λ (t : Text). first_place old (start_value old.nfa s' t.behind)) is) is
 
 -- the cache and the value where a search ends are those after a walk over the units that it reads
 pub end-is : (earliest : Bool) (us : List (Option ℕ)) (p : Place)
@@ -71,13 +66,13 @@ end-is earliest (u ∷ us) p = by_test (is_last earliest p.value) (λ over. rw o
 
 module _ {earliest : Bool} {us : List (Option ℕ)} {p : Place} where
   -- a unit more
-  module _ {u : Option ℕ} (at : slice_get us p.read ≡ Some u) (more : is_last earliest p.value ≡ false) where
-    pub come-next : {q : Place} → q ≡ next_place p u → Grows p.cache q.cache → HasCome earliest us p q
-    come-next is grows = record {
-      ends = rw (is, drop-one us p.read u at, more) refl;
-      failed = λ new f. rw (drop-one us p.read u at, more) (cut_off-later (rw is at f));
-      grows = grows;
-    }
+  pub come-next : {u : Option ℕ} {q : Place} → slice_get us p.read ≡ Some u → is_last earliest p.value ≡ false
+      → q ≡ next_place p u → Grows p.cache q.cache → HasCome earliest us p q
+  come-next {u} at more is grows = record {
+    ends = rw (is, drop-one us p.read u at, more) refl;
+    failed = λ new f. rw (drop-one us p.read u at, more) (cut_off-later (rw is at f));
+    grows = grows;
+  }
 
   module _ {q : Place} (h : HasCome earliest us p q) where
     pub come_twice : {r : Place} → HasCome earliest us q r → HasCome earliest us p r
@@ -170,8 +165,10 @@ next-cached x is at position u id looked bits tagged earliest told more last fou
           resolve = rw w.value (step_resolves x.nfa is.accepted x.kind v u);
           unmatched = λ e. absurd (omega arith);
         };
-        place = next-place (cached_place x at) u w.value (let last_is = found position.unmatched in
-            cc (tagged v there)) (cached_step (cache x) v u id is.table (looked v there));
+        place =
+            let last_is = found position.unmatched in
+            let same = cached_step (cache x) v u id is.table (looked v there) in
+            cc (tagged v there, w.value);
         grows = record { nfa = refl; kind = refl; limit = refl; computed = omega arith };
       },
     )

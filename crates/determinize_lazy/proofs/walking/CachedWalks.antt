@@ -38,7 +38,8 @@ module _ {old : Cache} {v : Value} {us : List (Option ℕ)} {new : Cache} where
   pub cut_off-first : {u : Option ℕ} → IsFailedStep old v u new → IsCutOff old v (u ∷ us) new
   cut_off-first failed = record { steps = 0; table = failed.table; counted = failed.counted }
 
-  pub cut_off-later : {u : Option ℕ} → IsCutOff (after_step old v u) (step_of old v u) us new → IsCutOff old v (u ∷ us) new
+  pub cut_off-later : {u : Option ℕ} → IsCutOff (after_step old v u) (step_of old v u) us new
+      → IsCutOff old v (u ∷ us) new
   cut_off-later f = record {
     steps = suc f.steps;
     table = f.table;

@@ -111,8 +111,8 @@ pub record IsOver {E : Type 0} (earliest : Bool) (us : List (Option ℕ)) (p : P
 -- the same of a search from an NFA state over a text
 abbrev pub IsOverText : {E : Type 0} → Bool → Cache → ℕ → Text → Result (Option HalfMatch) E
     → Cache → Type 0
-IsOverText earliest old start text result new =
-    IsOver earliest (units text) (first_place old (start_value old.nfa start text.behind)) result new
+IsOverText earliest old start text result new = IsOver earliest (units text)
+    (first_place old (start_value old.nfa start text.behind)) result new
 
 -- units that begin with the bytes of a text
 abbrev pub Begins : Text → List (Option ℕ) → Type 0

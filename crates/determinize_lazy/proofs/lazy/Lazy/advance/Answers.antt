@@ -1,5 +1,4 @@
-use Rattle.determinize_lazy.proofs.Common.{ap, arith, match_of, match_reported, option_or, place, Tag, ◌∙◌}
-use Rattle.determinize_lazy.proofs.finding.Searching.{next-place}
+use Rattle.determinize_lazy.proofs.Common.{ap, arith, match_of, match_reported, option_or, place, refl, Tag, ◌∙◌}
 use Rattle.determinize_lazy.proofs.lazy.Lazy.advance.Goals as goal
 
 pub returns-clause-next : goal.returns-clause-next
@@ -9,9 +8,10 @@ returns-clause-next g c = record {
     resolve = rw (c.in_ok-cursor.ensures.grows.nfa, c.in_ok-cursor.ensures.at.value) c.in_ok-cursor.ensures.resolve;
     unmatched = λ e. absurd (omega arith);
   };
-  place = next-place (place c.args.self.now c.args.at) c.args.unit c.in_ok-cursor.ensures.at.value
-      (c.or_match-last.ensures c.requires.position.unmatched
+  place =
+      let last_is = c.or_match-last.ensures c.requires.position.unmatched
       ∙ ap (λ (t : Tag). option_or (match_reported c.args.at.read t.pattern) (match_of c.args.at.last))
-      c.tag_at.ensures) c.in_ok-cursor.ensures.after;
+      c.tag_at.ensures in
+      rw (c.in_ok-cursor.ensures.at.value, last_is, c.in_ok-cursor.ensures.after) refl;
   grows = c.in_ok-cursor.ensures.grows;
 }

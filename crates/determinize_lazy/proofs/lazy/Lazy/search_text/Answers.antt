@@ -17,7 +17,8 @@ follow_to_end-at-requires-clause-cached g c =
 
 pub follow_to_end-at-requires-clause-resolve : goal.follow_to_end-at-requires-clause-resolve
 follow_to_end-at-requires-clause-resolve g c =
-    rw (get_or_from_slice_get c.args.self.now.states c.in-Some.id _ dead c.in-Some.ensures.at) c.kept_start.ensures.resolve
+    rw (get_or_from_slice_get c.args.self.now.states c.in-Some.id _ dead c.in-Some.ensures.at)
+    c.kept_start.ensures.resolve
 
 -- the search of what is cached
 cached : (g : Over) (c : After-len g) → HasCome c.args.earliest (units c.args.text.now)
