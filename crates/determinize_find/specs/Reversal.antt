@@ -4,6 +4,7 @@ use Rattle.std.specs.List.{count_by, sum_by}
 use Rattle.determinize_below.specs.Semantics.{Nfa, Node, ByteRange, Sparse, Dense, Look, Accepts, Text, after_at, before_at, between}
 use Rattle.determinize_below.specs.declared.nfa.BuildError.{BuildError}
 use Rattle.determinize_below.specs.declared.nfa.BuildError.TheVariants.{OutOfMemory, TooManyStates}
+use Rattle.determinize_below.specs.declared.primitives.TheConstants.{ID_LIMIT}
 use Rattle.determinize_find.specs.Leftmost.{AcceptsFrom}
 
 -- the text in the other direction
@@ -45,4 +46,4 @@ most_states nfa = length nfa.states + sum_by reads_in nfa.states + 2
 
 -- an allocation failed, or there are too many states
 abbrev pub IsTooLarge : ℕ → BuildError → Type 0
-IsTooLarge count e = (e ≡ OutOfMemory) ⊎ ((e ≡ TooManyStates) × (2147483647 < count))
+IsTooLarge count e = (e ≡ OutOfMemory) ⊎ ((e ≡ TooManyStates) × (ID_LIMIT < count))

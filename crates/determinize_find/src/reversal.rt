@@ -16,7 +16,7 @@ ghost use Rattle.determinize_find.specs.Reversal.{IsReverseOf, IsTooLarge, most_
 
 use crate::reached::reached;
 use determinize_below::nfa::{BuildError, State, Transition};
-use determinize_below::{NFA, PatternID, StateID};
+use determinize_below::{ID_LIMIT, NFA, PatternID, StateID};
 use std::alloc::{AllocError, Allocator};
 use std::marker::Model;
 
@@ -74,7 +74,7 @@ impl<A: Allocator + Copy> Turned<A> {
     /// to it.
     fn add_state(&mut self, from: StateID, state: State<A>) -> Result<(), BuildError>
         requires from { from < length self.old.into }
-        requires small { length self.old.into ≤ 2147483647 }
+        requires small { length self.old.into ≤ ID_LIMIT }
         ensures turned { OnOk result (self.new ≡ turning.with_state self.old from (node_of state)) }
         ensures err { IfErr result (λ e.
             IsTooLarge (turning.total self.old + 1) e) }
@@ -88,7 +88,7 @@ impl<A: Allocator + Copy> Turned<A> {
     /// Adds the transition over a range of bytes, reversed.
     fn add_range(&mut self, state: StateID, range: Transition) -> Result<(), BuildError>
         requires next { range.next < length self.old.into }
-        requires small { length self.old.into ≤ 2147483647 }
+        requires small { length self.old.into ≤ ID_LIMIT }
         ensures turned { OnOk result
             (self.new ≡ turning.with_state self.old range.next (turning.range_to state range)) }
         ensures err { IfErr result (λ e.
@@ -106,7 +106,7 @@ impl<A: Allocator + Copy> Turned<A> {
     /// Adds the transitions of a sparse state, reversed.
     fn add_ranges(&mut self, state: StateID, ranges: &[Transition]) -> Result<(), BuildError>
         requires next { All (λ r. r.next < length self.old.into) ranges.now }
-        requires small { length self.old.into ≤ 2147483647 }
+        requires small { length self.old.into ≤ ID_LIMIT }
         ensures turned { OnOk result (self.new ≡ turning.with_ranges self.old state ranges.now) }
         ensures err { IfErr result (λ e.
             IsTooLarge (turning.total self.old + length ranges.now) e) }
@@ -121,7 +121,7 @@ impl<A: Allocator + Copy> Turned<A> {
     fn add_table(&mut self, state: StateID, targets: &[StateID]) -> Result<(), BuildError>
         requires next { All (λ id. id < length self.old.into) targets.now }
         requires whole { length targets.now ≡ 256 }
-        requires small { length self.old.into ≤ 2147483647 }
+        requires small { length self.old.into ≤ ID_LIMIT }
         ensures turned { OnOk result (self.new ≡ turning.with_table self.old state 0 targets.now) }
         ensures err { IfErr result (λ e.
             IsTooLarge (turning.total self.old + reads_in (nodes.Dense targets.now)) e) }
@@ -150,7 +150,7 @@ impl<A: Allocator + Copy> Turned<A> {
     fn add_node<N: Allocator>(&mut self, id: StateID, state: &State<N>) -> Result<(), BuildError>
         requires resolves { resolves (length self.old.into) (node_of state.now) ≡ true }
         requires whole { is_dense_sound (node_of state.now) ≡ true }
-        requires small { length self.old.into ≤ 2147483647 }
+        requires small { length self.old.into ≤ ID_LIMIT }
         ensures turned { OnOk result
             (self.new ≡ turning.with_node self.old id (node_of state.now)) }
         ensures err { IfErr result (λ e.

@@ -14,6 +14,7 @@ use Rattle.std.proofs.lemmas.Map.Keys.{IsDistinct-head, IsDistinct-tail}
 use Rattle.determinize_below.specs.Semantics.{state_at, Nfa, Node, ByteRange, Sparse, Dense, Look, Union, Fail, Match}
 use Rattle.determinize_below.specs.Look.{reversed}
 use Rattle.determinize_below.specs.declared.nfa.BuildError.{BuildError}
+use Rattle.determinize_below.specs.declared.primitives.TheConstants.{ID_LIMIT}
 use Rattle.determinize_below.specs.declared.nfa.transitions.Transition.{Transition}
 use Rattle.ordered_reach.proofs.Cases.{by_cases, by_test}
 use Rattle.determinize_find.specs.Private.Gathered.{gathered, states_of}
@@ -220,4 +221,4 @@ total_table s ids b old h n w l f =
 pub larger : (m n : ℕ) (e : BuildError) → m ≤ n → IsTooLarge m e → IsTooLarge n e
 larger m n e l f = by_cases f
     (λ o. inl o)
-    (λ k. let j : 2147483647 < m = k.1 in inr (k.0, omega (arith, j, l)))
+    (λ k. let j : ID_LIMIT < m = k.1 in inr (k.0, omega (arith, j, l)))

@@ -9,6 +9,7 @@ use Rattle.determinize_below.specs.Edges.{is_match_node}
 use Rattle.determinize_below.specs.Semantics.{Nfa, Node, Match}
 use Rattle.determinize_below.specs.declared.nfa.BuildError.{BuildError}
 use Rattle.determinize_below.specs.declared.nfa.BuildError.TheVariants.{OutOfMemory}
+use Rattle.determinize_below.specs.declared.primitives.TheConstants.{ID_LIMIT}
 use Rattle.ordered_reach.proofs.lists.Elements.{In}
 use Rattle.ordered_reach.proofs.Cases.{by_cases}
 use Rattle.determinize_find.specs.Private.Closed.{IsClosed}
@@ -51,7 +52,7 @@ pub made_error : (nfa : Nfa) (met : List ℕ) (h : Turned) → IsAccepted nfa �
     → (failure (states_of h) start start ≡ Some e) ⊎ (e ≡ OutOfMemory) → IsTooLarge (most_states nfa) e
 made_error nfa met h accepted closed below d is start e z f = by_cases f
     (λ k. let r = only_size nfa h recorded.sound plain start e z k in
-    let l : 2147483647 < length (states_of h) = r.1 in
+    let l : ID_LIMIT < length (states_of h) = r.1 in
     let m = length-states_most nfa met h d is recorded.sound.count in inr (r.0, omega (arith, l, m)))
     (λ k. inl k)
   where

@@ -14,6 +14,7 @@ use Rattle.determinize_below.specs.Edges.{pattern_in}
 use Rattle.determinize_below.specs.Nfa.{failure, is_dense_sound, is_match_of, is_repeated, is_sparse_sound, resolves, state_failure, states_failure}
 use Rattle.determinize_below.specs.declared.nfa.BuildError.{BuildError}
 use Rattle.determinize_below.specs.declared.nfa.BuildError.TheVariants.{TooManyStates, UnresolvedStart}
+use Rattle.determinize_below.specs.declared.primitives.TheConstants.{ID_LIMIT}
 use Rattle.ordered_reach.proofs.lists.Elements.{In, In_append_cases, In_cases, In_head, In_map_from, In_tail}
 use Rattle.ordered_reach.proofs.Cases.{by_cases, by_test, some_injective}
 use Rattle.determinize_find.specs.Private.Gathered.{gathered, states_of}
@@ -187,8 +188,8 @@ module _ (nfa : Nfa) (h : Turned) (sound : IsSound nfa h)
 
   -- the only error that validation finds
   pub only_size : (start : ℕ) (e : BuildError) → start ≡ suc (length nfa.states)
-      → failure (states_of h) start start ≡ Some e → (e ≡ TooManyStates) × (2147483647 < length (states_of h))
-  only_size start e z k = by_test (nat_lt 2147483647 (length (states_of h)))
+      → failure (states_of h) start start ≡ Some e → (e ≡ TooManyStates) × (ID_LIMIT < length (states_of h))
+  only_size start e z k = by_test (nat_lt ID_LIMIT (length (states_of h)))
       (λ t. (
         sym (some_injective TooManyStates e (subst (λ b. cond b (Some TooManyStates) rest_of ≡ Some e) t k)),
         above t,
@@ -206,5 +207,5 @@ module _ (nfa : Nfa) (h : Turned) (sound : IsSound nfa h)
       fine : rest_of ≡ None
       fine = rw within passes
 
-      above : nat_lt 2147483647 (length (states_of h)) ≡ true → 2147483647 < length (states_of h)
+      above : nat_lt ID_LIMIT (length (states_of h)) ≡ true → ID_LIMIT < length (states_of h)
       above t = grind (arith, nat_tests)
