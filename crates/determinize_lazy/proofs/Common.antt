@@ -1,5 +1,5 @@
 -- The names that the proofs of this crate have in common: of std, of the definitions, and of the crates below.
-pub use Rattle.std.proofs.Common.{[], ◌&&◌, ◌++◌, ◌+◌, ◌-◌, ◌<◌, ◌||◌, ◌∙◌, ◌∷◌, ◌≡◌, ◌≤◌, ◌⊎◌, ap, arith, Bool, cond}
+pub use Rattle.std.proofs.Common.{[], ◌++◌, ◌+◌, ◌-◌, ◌<◌, ◌∙◌, ◌∷◌, ◌≡◌, ◌≤◌, ◌⊎◌, ap, arith, Bool, cond}
 pub use Rattle.std.proofs.Common.{drop, false, get_or, inl, inr, is_some, length, List, map, None, not, Option, refl}
 pub use Rattle.std.proofs.Common.{rules, Some, subst, suc, sym, take, true, zero, ℕ}
 pub use Rattle.std.proofs.lemmas.List.{append-nil, append_assoc, drop_all, length-map, take_all}
@@ -7,9 +7,9 @@ pub use Rattle.std.proofs.lemmas.Option.{get_or_from_slice_get, slice_get-get_or
 pub use Rattle.std.proofs.lemmas.Map.Views.{list_any-from_Contains}
 pub use Rattle.std.proofs.lemmas.Result.{IfOk-weaker, on_err_weaker, on_ok_weaker}
 pub use Rattle.std.specs.List.{list_any}
-pub use Rattle.std.specs.Option.{IfSome, option_or}
-pub use Rattle.std.specs.Prelude.{Decides, Err, IfOk, nat_eq, Ok, OnErr, OnOk, option_map, Result, slice_get}
-pub use Rattle.std.specs.Prelude.{slice_index_or, slice_set, nat_le, ⊤}
+pub use Rattle.std.specs.Option.{option_or}
+pub use Rattle.std.specs.Prelude.{Decides, Err, IfOk, nat_eq, Ok, OnErr, option_map, Result, slice_get}
+pub use Rattle.std.specs.Prelude.{slice_index_or, slice_set}
 pub use mathlib.Core.Bool.{true≢false}
 pub use Rattle.ordered_reach.proofs.Cases.{by_cases, by_test}
 pub use Rattle.determinize_below.specs.Nfa.{AllResolve, IsAccepted}
@@ -26,7 +26,7 @@ pub use Rattle.determinize_core.specs.Equality.{same}
 pub use Rattle.determinize_engine.specs.Searches.{HasMatch, IsSearch, start_for, text_of}
 pub use Rattle.determinize_lazy.specs.Cache.{after_step, after_walk, Cache, cache, count_after, Grows, IsCutOff}
 pub use Rattle.determinize_lazy.specs.Cache.{LazyValue, step_of}
-pub use Rattle.determinize_table.specs.Table.{fits, keep, empty, is_cached, IsTable, Table, with_transition, with_value}
+pub use Rattle.determinize_table.specs.Table.{fits, keep, empty, is_cached, IsTable, Table, with_value}
 pub use Rattle.determinize_table.specs.Table.{with_values}
 pub use Rattle.determinize_lazy.specs.Plenty.{HasRoom, KeepsAll, missing, with_step, with_walk}
 pub use Rattle.determinize_table.specs.Cursors.{cursor_value, IsAt, IsCursor}

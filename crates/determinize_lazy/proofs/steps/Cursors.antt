@@ -1,17 +1,23 @@
 -- A step over a cached transition: what a lookup returns is the state that follows.
--- Main statements: cached_target, cached_step, stepped_at, followed-next.
+-- Main statements: at-found, cached_target, cached_step, stepped_at, followed-next.
 -- Used by: `step`, `compute`, `follow_units`, and searches of what is cached.
 -- Idea: each cached transition is a step of the DFA, and the step over it changes nothing.
 use Rattle.determinize_lazy.proofs.Common.{[], after_step, ap, arith, cache, Cache, cursor_value, dead, false, get_or}
 use Rattle.determinize_lazy.proofs.Common.{get_or_from_slice_get, is_cached, is_some, IsAt, IsCursor, IsFollowed}
 use Rattle.determinize_lazy.proofs.Common.{IsSound, IsStepped, IsTable, IsTarget, LazyValue, List, Ok, Option, refl}
-use Rattle.determinize_lazy.proofs.Common.{slice_get, slice_get-get_or, Some, step_of, true, Value, ℕ, ◌++◌, ◌+◌, ◌∙◌}
-use Rattle.determinize_lazy.proofs.Common.{◌∷◌, ◌≡◌}
+use Rattle.determinize_lazy.proofs.Common.{slice_get, slice_get-get_or, slice_get_within, Some, step_of, true, Value, ℕ}
+use Rattle.determinize_lazy.proofs.Common.{◌++◌, ◌+◌, ◌∙◌, ◌∷◌, ◌≡◌}
 use Rattle.determinize_lazy.proofs.walking.CachedWalks.{drop-one, walks-on}
 use Rattle.determinize_core.proofs.step.Resolving.{step_resolves}
 use Rattle.determinize_table.specs.declared.table.Cursor.{Cursor}
 use Rattle.determinize_table.specs.declared.table.Cursor.TheVariants.{Cached, Uncached}
 use Rattle.determinize_table.proofs.Transitions.{not_source}
+
+-- the cursor of the id of a state
+pub at-found : {A : Type 0} (states : List Value) (id : ℕ) (v : Value) → slice_get states id ≡ Some v
+    → IsAt {A = A} states (Cached id) v
+at-found states id v at =
+    record { cursor_is = slice_get_within states id v at; value = get_or_from_slice_get states id v dead at }
 
 module _ (c : Cache) (v : Value) (u : Option ℕ) (id : ℕ) (is : IsTable (step_of c) c.table)
     (target : IsTarget c.table v u (Some id)) where
