@@ -5,7 +5,7 @@ ghost use Rattle.std.specs.Prelude.{◌≡◌, IfOk, IsOk};
 ghost use Rattle.determinize_below.specs.ReachLaws.{EachNfaReachIsInOrder, EachNfaReachIsOne, EachNfaReachIsInTurn, EachReachIsPastNothing};
 
 use crate::look::LookMatcher;
-use crate::primitives::{PatternID, StateID};
+use crate::primitives::{ID_LIMIT, PatternID, StateID};
 use crate::search::Input;
 pub use ordered_reach::laws::reach_law;
 use std::alloc::AllocError;
@@ -26,6 +26,13 @@ pub fn state_id_law() -> (StateID, StateID, usize)
     ensures size { result.2 ≡ 4 }
 {
     (StateID::ZERO, StateID::MAX, StateID::SIZE)
+}
+
+/// Returns the number of ids, which is the greatest number of states of an NFA.
+pub fn id_limit_law() -> usize
+    ensures { result ≡ 2147483647 }
+{
+    ID_LIMIT
 }
 
 /// Returns the smallest id of a pattern, the greatest id, and the size of an encoded id in bytes.

@@ -1,13 +1,14 @@
 //! Identifiers of NFA states and of patterns: small integers in 32 bits.
 //!
-//! Both kinds have the same limit, 2147483646. So the number of states of an NFA fits 31 bits, and
-//! the difference of two ids fits an `i32`. They share one type, whose parameter has no values and
-//! takes no bytes, so an id of one kind is not an id of the other.
+//! Both kinds have the same limit, 2147483646. So the number of states of an NFA fits in 31 bits,
+//! and the difference of two ids in an `i32`. Both are a `SmallIndex<K>`: `K` is a type without
+//! values that keeps the kinds apart and takes no space.
 
 ghost use Rattle.determinize_below.specs.declared.primitives.TheConstants.{MAX_ID};
 ghost use Rattle.std.specs.Prelude.{◌≡◌, ℕ, ◌≤◌, IfErr};
 ghost use Rattle.std.specs.Result.{OkIff};
 
+use std::alloc::AllocError;
 use std::error::Error;
 use std::fmt;
 use std::marker::{Model, PhantomData};
@@ -36,8 +37,8 @@ pub enum OfState {}
 /// The kind of a `PatternID`.
 pub enum OfPattern {}
 
-/// The id of something of kind `K`, from 0 to 2147483646.
-#[derive_where(Clone, Copy, PartialEq, Eq, PartialOrd, Ord, Hash)]
+/// An id of kind `K`, from 0 to 2147483646.
+#[derive_where(Copy, PartialEq, Eq, PartialOrd, Ord, Hash)]
 pub struct SmallIndex<K>(u32, #[derive_where(skip)] PhantomData<K>);
 
 impl<K> Model for SmallIndex<K> {
@@ -89,6 +90,14 @@ impl<K> SmallIndex<K> {
     }
 }
 
+impl<K> Clone for SmallIndex<K> {
+    ghost is_clone = { λ a b. b ≡ a };
+
+    fn clone(&self) -> Result<SmallIndex<K>, AllocError> {
+        Ok(SmallIndex(self.0, PhantomData))
+    }
+}
+
 /// Writes the id in decimal.
 impl<K> fmt::Display for SmallIndex<K> {
     ghost use Rattle.std.specs.Prelude.{Some, decimal};
@@ -136,7 +145,7 @@ impl fmt::Debug for PatternID {
 }
 
 /// An error from `SmallIndex::new`: the number is above 2147483646.
-#[derive_where(Clone, Copy, PartialEq, Eq)]
+#[derive_where(Copy, PartialEq, Eq)]
 pub struct SmallIndexError<K>(u64, #[derive_where(skip)] PhantomData<K>);
 
 impl<K> Model for SmallIndexError<K> {
@@ -145,6 +154,14 @@ impl<K> Model for SmallIndexError<K> {
     ghost view = { λ e. e.0 };
 
     ghost inverse = { λ n. record { 0 = n; 1 = record {} } };
+}
+
+impl<K> Clone for SmallIndexError<K> {
+    ghost is_clone = { λ a b. b ≡ a };
+
+    fn clone(&self) -> Result<SmallIndexError<K>, AllocError> {
+        Ok(SmallIndexError(self.0, PhantomData))
+    }
 }
 
 impl<K> SmallIndexError<K> {

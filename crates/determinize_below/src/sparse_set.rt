@@ -227,8 +227,8 @@ impl<'a> Iterator for SparseSetIter<'a> {
     }
 }
 
-/// Two sparse sets of the same capacity: a transition reads NFA states from one and adds their
-/// successors to the other.
+/// Two sparse sets of the same capacity, the scratch of a transition: the NFA states that were read
+/// and the epsilon closure that is computed.
 #[derive(Drop)]
 #[derive_where(Debug)]
 pub struct SparseSets<A: Allocator = Global> {

@@ -17,13 +17,13 @@
 //! An assertion such as `\b` depends on the byte before a position and on the unit after it, and a
 //! state is computed when only the byte before is known. So a state also has look-have, the
 //! assertions known to hold for any next unit, look-need, the assertions that its NFA states test,
-//! and two flags about the byte before. Its closure is computed under look-have. When the state is
-//! left over a unit that satisfies a further assertion of look-need, the closure is first reopened:
+//! and two flags about the byte before. Its closure is computed under look-have. Before a
+//! transition over a unit that satisfies a further assertion of look-need, the closure is reopened:
 //! computed again, from the recorded states and with that assertion.
 //!
 //! For the same reason matches are delayed by one unit: the patterns that match at a position are
-//! listed by the state after it, once the unit after the position is known. So each text ends with
-//! a transition over EOI.
+//! listed by the state after it, once the unit after the position is known. So a walk
+//! makes one more transition after the last byte: over EOI, or over the byte ahead of the text.
 
 pub mod closure;
 pub mod lookbehind;

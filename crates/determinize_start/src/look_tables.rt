@@ -202,7 +202,7 @@ impl LookTables {
         let line = self.any.contains_anchor_line();
         let crlf = self.any.contains_anchor_crlf();
         // In reverse a CRLF is read from `\n` to `\r`, so the two kinds swap their roles. The
-        // classes are those that the original tests: they decide the bytes of the first state.
+        // classes tested are those of the original, since look-have is part of a state's bytes.
         match kind {
             Start::NonWordByte => self.words(false),
             Start::WordByte => self.words(true),
@@ -254,7 +254,7 @@ impl LookTables {
         }
     }
 
-    /// Returns whether the unit satisfies no haystack or line assertion, as most units do.
+    /// Returns true only if the unit satisfies no haystack or line assertion, as most units do.
     fn is_inside_line(self, half_crlf: bool, unit: Unit) -> bool
         ensures { result ≡ not (half_crlf || is_none (byte_of unit)
             || is (byte_of unit) self.terminator || is (byte_of unit) (crlf_first self.reverse)
@@ -272,7 +272,7 @@ impl LookTables {
     fn line_set(self, half_crlf: bool, unit: Unit) -> LookSet
         ensures { result ≡ sets.line_set self half_crlf (byte_of unit) }
     {
-        // Only for speed: for most units the code below returns the same.
+        // Only for speed: for these units the code below returns the empty set, too.
         if self.is_inside_line(half_crlf, unit) {
             return LookSet::empty();
         }

@@ -1,8 +1,9 @@
 //! The start configuration of a search, and start kinds.
 //!
-//! The first state of a search depends on the NFA and on the byte before the search in reading
-//! order. Bytes that satisfy the same assertions have the same first state, so there are only six
-//! kinds of start, numbered from 0: a table of first states needs six entries instead of 257.
+//! Given the NFA state to start from, the first state of a search depends on the byte before the
+//! search in reading order. Bytes that satisfy the same assertions have the same first state, so
+//! there are only six kinds of start, numbered from 0: a table of first states needs six entries
+//! for each NFA state to start from, instead of 257.
 //! `StartByteMap` maps a byte to its kind. No byte has the kind `Start::Text`.
 
 ghost use Rattle.std.specs.Prelude.{◌≡◌, ℕ, ◌<◌, get_or, length, slice_get};

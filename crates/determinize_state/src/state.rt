@@ -1,6 +1,6 @@
 //! DFA states as bytes, and the builders of them.
 //!
-//! During determinization a DFA state is known by its value: two flags and two sets of assertions
+//! During determinization a DFA state is identified by its value: two flags and two sets of assertions
 //! about its position, the ids of the patterns that match, and an ordered list of NFA states. Two
 //! states with the same value are the same state. A DFA builder looks up a state for each
 //! transition that it computes, so a state is stored as bytes in a canonical encoding, in which

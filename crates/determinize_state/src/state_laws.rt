@@ -2,7 +2,7 @@
 //! makes the calls that its clauses relate. The clauses of the last one are example encodings.
 #![tactic(auto, using(crate::proofs::encoding::EqualBytes::comparisons))]
 
-ghost use Rattle.std.specs.Prelude.{◌≡◌, ◌↔◌, [], ◌∷◌, length, option_map, slice_get, IfOk};
+ghost use Rattle.std.specs.Prelude.{◌≡◌, ◌↔◌, [], ◌∷◌, length, option_map, slice_get, IfOk, true};
 ghost use Rattle.std.specs.Bool.{Decides};
 ghost use Rattle.determinize_state.specs.Value.{dead, is_nonempty, listed};
 ghost use Rattle.determinize_state.specs.Spelling.{spell};
@@ -81,11 +81,15 @@ pub fn nfa_states_read<A: Allocator, B: Allocator>(
     state.iter_nfa_state_ids().collect(alloc)
 }
 
-/// Gives the encodings of the dead value, of four values with patterns and of three with NFA
-/// states.
+/// Gives the encodings of the dead value, of two with a flag and a set of assertions, of four with
+/// patterns and of three with NFA states.
 #[tactic(auto, unfolding(crate::specs::Spelling::spell, crate::specs::Varint::varint))]
 pub fn worked_spellings()
     ensures dead { spell dead ≡ 0 ∷ 0 ∷ 0 ∷ 0 ∷ 0 ∷ 0 ∷ 0 ∷ 0 ∷ 0 ∷ [] }
+    ensures from_word { spell (record dead { from_word = true; look_have = 0x14000 }) ≡
+        4 ∷ 0 ∷ 0x40 ∷ 1 ∷ 0 ∷ 0 ∷ 0 ∷ 0 ∷ 0 ∷ [] }
+    ensures half_crlf { spell (record dead { half_crlf = true; look_need = 0x40 }) ≡
+        8 ∷ 0 ∷ 0 ∷ 0 ∷ 0 ∷ 0x40 ∷ 0 ∷ 0 ∷ 0 ∷ [] }
     ensures zero { spell (record dead { patterns = 0 ∷ [] }) ≡
         1 ∷ 0 ∷ 0 ∷ 0 ∷ 0 ∷ 0 ∷ 0 ∷ 0 ∷ 0 ∷ [] }
     ensures zero_two { spell (record dead { patterns = 0 ∷ 2 ∷ [] }) ≡

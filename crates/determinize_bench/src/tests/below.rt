@@ -21,6 +21,17 @@ fn texts_of_ids_and_units(rt: HostRuntime) -> Result<(), Fail> {
     Ok(())
 }
 
+#[test]
+fn texts_of_errors_of_ids(rt: HostRuntime) -> Result<(), Fail> {
+    let state = StateID::new(2_147_483_647).err();
+    let pattern = PatternID::new(3_000_000_000).err();
+    let text = format!(in rt.alloc(); "{state:?} {pattern:?}")?;
+    let wanted =
+        "Some(StateIDError { attempted: 2147483647 }) Some(PatternIDError { attempted: 3000000000 })";
+    same(&rt, text.as_str(), wanted);
+    Ok(())
+}
+
 /// Returns the id of a state with this number, or the error of an NFA that has too many states.
 fn state_id(number: usize) -> Result<StateID, BuildError> {
     Ok(StateID::new(number)?)

@@ -1,8 +1,8 @@
 //! Epsilon closure: the NFA states reachable without input, in order of preference.
 //!
-//! One loop, [`explore`], searches depth first. The current list has what remains of the edges of
-//! the last state that had any, the stack what remains of earlier ones. No state of the set is
-//! visited again, so cycles end. A [`Recorder`] receives each new state, a [`Counter`] each try.
+//! One loop, [`explore`], searches depth first. The current list has the remaining edges of the
+//! state that was expanded last, the stack those of the states before it. No state of the set is
+//! expanded again, so cycles end. A [`Recorder`] receives each new state, a [`Counter`] each try.
 
 ghost use Rattle.std.specs.Prelude.{◌≡◌, ◌+◌, ◌<◌, ◌≤◌, ℕ, List, [], ◌∷◌, ◌++◌, ◌⊎◌, None, IsTrue, drop, false, fold, length, reverse, IfNone, IfSome, IfOk, OnOk, OnErr, IsOk};
 ghost use Rattle.determinize_below.specs.Edges.{edges, reach_past};
@@ -59,8 +59,8 @@ fn push_reversed<A: Allocator>(
     Ok(())
 }
 
-/// Records a state and returns the next current list: its epsilon targets, or the first of them,
-/// with what remains pushed; `others` if it has none, as most states, which is tested first.
+/// Records a state and returns the next current list: its epsilon targets, or the first of them.
+/// Other targets and `others` are pushed. Returns `others` if it has none, as most states.
 #[inline(always)]
 #[tactic(auto, using(crate::proofs::closure::ClosureSteps::following))]
 fn record_and_follow<'a, N: Allocator, A: Allocator, W: Recorder>(
@@ -188,7 +188,7 @@ pub(crate) fn explore<N: Allocator, A: Allocator, W: Recorder, C: Counter>(
 ///
 /// The states are added after those of the set, in order of preference: depth first, the earlier
 /// alternates of a union first. A `Look` state is followed only if its assertion is in `look_have`,
-/// a state of the set is not. Only the stack allocates, and not if `start` is no epsilon state. It
+/// and a state that is in the set already is not followed. Only the stack allocates, and not if `start` is no epsilon state. It
 /// is empty afterwards, also on error; then the set has a prefix of what was to be added.
 #[tactic(auto, using(crate::proofs::closure::ClosureSteps::leaf_search))]
 pub fn epsilon_closure<N: Allocator, A: Allocator>(

@@ -22,8 +22,8 @@ use std::mem::size_of;
 /// The states depend on the NFA, the match kind and the arguments of the call only, not on earlier
 /// calls. After an error a stepper can be used as before.
 ///
-/// The first `start` or `next` allocates the sets. The builder's memory is lost on error, and goes
-/// with a state of `next_lent`. In contracts a stepper is its NFA and its match kind.
+/// The first `start` or `next` allocates the sets. An error drops the builder's memory, and a state
+/// of `next_lent` takes it along. In contracts a stepper is its NFA and its match kind.
 #[derive(Drop)]
 pub struct Stepper<'n, N: Allocator = Global, A: Allocator = Global> {
     alloc: A,

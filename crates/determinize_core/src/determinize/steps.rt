@@ -1,4 +1,4 @@
-//! A count of tries, of size 0.
+//! A zero-sized count of tries.
 //!
 //! The loop of a closure counts each try to add a state to a set, by a [`Counter`]: [`Steps`] in
 //! `next_counted`, and `()`, which counts nothing, in all other calls.
@@ -8,7 +8,7 @@ ghost use Rattle.std.specs.Prelude.{◌≡◌, ℕ, ◌+◌, ◌<◌, Bool, true
 use std::marker::Model;
 use std::sync::ledger::{Blank, Book, Ledger, Share};
 
-/// The number of tries of epsilon closures to add a state to a set, also states that are in it.
+/// The number of tries of epsilon closures to add a state to a set, also one that is in it.
 ///
 /// It has size 0 and no program can read it: only contracts use it. Only the closures of this crate
 /// increment it. The parameter is the ledger of the count (`std::sync::ledger`), which a `Blank`

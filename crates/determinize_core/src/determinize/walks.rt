@@ -73,10 +73,10 @@ pub fn walk<N: Allocator, A: Allocator + Copy>(
 ///
 /// - `start` is the NFA state to start from, below the number of states. It may be any state, and
 ///   is mostly one of the two start states.
-/// - `text` is the bytes in scan order: a reverse NFA takes them from the end of the haystack.
-/// - `look_behind` is the byte before the text in scan order, `None` at an end of the haystack.
-/// - `look_ahead` is the byte after the text in scan order, `None` at an end of the haystack. It is
-///   only peeked: no match contains it.
+/// - `text` is the bytes in reading order: a reverse NFA takes them from the end of the haystack.
+/// - `look_behind` is the byte before the text in reading order, `None` at an end of the haystack.
+/// - `look_ahead` is the byte after the text in reading order, `None` at an end of the haystack. It
+///   is only peeked: no match contains it.
 ///
 /// There are `text.len() + 2` states. Matches are delayed by one unit: the state at index `j` lists
 /// the patterns that match at position `j - 1` of the text, and the start state lists none. Under
