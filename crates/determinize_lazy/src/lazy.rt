@@ -1,8 +1,8 @@
 //! A bounded cache of transitions, and walks over it.
 //!
-//! The cache is cleared as a whole: by `clear`, by a computed transition that does not fit, and by
-//! an error while one is added. No single state or transition is ever removed, so between two
-//! clears the id of a cached state stays the same.
+//! The cache is cleared as a whole: by `clear`, by a computed transition that does not fit, and if
+//! the target of one that is added cannot be cached. No single state or transition is ever removed,
+//! so between two clears the id of a cached state stays the same.
 
 ghost use Rattle.std.specs.Prelude.{◌≡◌, ◌<◌, ◌≤◌, ◌*◌, length, IfOk, OnErr, OnOk};
 ghost use Rattle.determinize_below.specs.Nfa.{AllResolve, IsAccepted};
@@ -24,15 +24,15 @@ use std::marker::Model;
 
 /// A lazy DFA: an NFA with a bounded cache of the transitions of its DFA.
 ///
-/// A state is cached where it is the source or the target of a cached transition. A transition that
+/// A state is cached if it is the source or the target of a cached transition. A transition that
 /// was computed is cached if the cached states, its source and its target are together at most
 /// `limit` states. If they are more, the cache is cleared, and the transition is cached if its two
 /// states alone are at most `limit`. If they are not, nothing is cached.
 ///
 /// A walk or a search returns `AllocError` if an allocation fails, or if more than 16647160 states
-/// would be cached, since the ids of states have 32 bits. After an error the cache is empty or as
-/// it was after some of the steps of the call, and `computed` is as it was after these steps or
-/// after one more; the NFA, the match kind and the limit are unchanged.
+/// would be cached, since rows have the offsets of rows in 32 bits. After an error the cache is
+/// empty or as it was after some of the steps of the call, and `computed` is as it was after these
+/// steps or after one more; the NFA, the match kind and the limit are unchanged.
 pub struct Lazy<'n, N: Allocator = Global, A: Allocator = Global> {
     pub(crate) alloc: A,
     pub(crate) stepper: Stepper<'n, N, A>,
@@ -41,7 +41,8 @@ pub struct Lazy<'n, N: Allocator = Global, A: Allocator = Global> {
     pub(crate) table: TransitionTable<A>,
 }
 
-// Takes the fields apart in one call, so that a function that owns a cache drops it in one step.
+// Derived code is proved at each exit of each function that owns a cache, and takes three times as
+// long.
 impl<'n, N: Allocator, A: Allocator> Drop for Lazy<'n, N, A> {
     fn drop(self) {
         let Lazy {
@@ -112,7 +113,7 @@ impl<'n, N: Allocator, A: Allocator + Copy> Lazy<'n, N, A> {
         self.stepper.match_kind()
     }
 
-    /// Returns the limit: how many states are cached at most.
+    /// Returns the limit, the greatest number of cached states.
     pub fn limit(&self) -> usize
         ensures { result ≡ self.now.limit }
     {

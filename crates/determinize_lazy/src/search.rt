@@ -4,8 +4,8 @@
 //! transitions from row to row; else the start state is computed and looked up (`search_anew`). For
 //! each byte `follow` reads two numbers in the row of the current state: the entry of the byte,
 //! which is the offset of the next row, and the tag. It neither allocates nor hashes, and computes
-//! no state. Where a transition is not cached, `search_from` (its loop is `search_bytes`) takes one
-//! step, which is computed if it is not cached, and follows cached transitions again.
+//! no state. From the first transition that is not cached, `search_from` continues (its loop is
+//! `search_bytes`): it computes that step and follows cached transitions again.
 //!
 //! A search ends after the unit ahead of its text, at a dead state (one that records no NFA states)
 //! and, in `is_match`, at the first match state.
@@ -296,7 +296,8 @@ impl<'n, N: Allocator, A: Allocator + Copy> Lazy<'n, N, A> {
         self.search_from(at.with_cursor(), &text, earliest)
     }
 
-    /// Searches the text of an input. The match is one of that text, and not of the haystack.
+    /// Searches the text of an input. The offset of the match counts from the start of that text, in
+    /// reading order.
     #[inline(always)]
     fn search_range(
         &mut self,
@@ -364,9 +365,9 @@ impl<'n, N: Allocator, A: Allocator + Copy> Lazy<'n, N, A> {
     /// search for one pattern only, give the pattern a start state in the NFA, and call `search`
     /// with the id of that state.
     ///
-    /// The bytes just before and after the range are only peeked at, by assertions, but the byte
-    /// ahead is a unit that may be computed and cached as any other. If the range starts past its
-    /// end, nothing is read and the result is `Ok(None)`.
+    /// No match includes the bytes next to the range. The byte behind decides the start state only;
+    /// the byte ahead is read as the last unit, and its transition may be computed and cached. If
+    /// the range starts past its end, nothing is read and the result is `Ok(None)`.
     #[tactic(auto, unfolding(crate::specs::CachedSearches::after_input))]
     pub fn search_input(&mut self, input: &Input<'_>) -> Result<Option<HalfMatch>, AllocError>
         requires { has_start input.now.anchored ≡ true }

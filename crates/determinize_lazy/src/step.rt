@@ -2,8 +2,8 @@
 //!
 //! The start states of searches are kept by the kind of their start, which is all that they depend
 //! on besides the NFA state. Only starts from the two start states of the NFA are kept, and the
-//! table drops them when it is cleared. A search computes its start state anew as long as that is
-//! not cached.
+//! table drops them when it is cleared. A search computes its start state if no id of it is kept:
+//! from any other NFA state always, and else until a search has found the state cached.
 
 ghost use Rattle.std.specs.Prelude.{◌≡◌, ◌<◌, ℕ, false, length, slice_get, IfOk, Some};
 ghost use Rattle.std.specs.Option.{IfSome};
@@ -59,8 +59,8 @@ impl<'n, N: Allocator, A: Allocator + Copy> Lazy<'n, N, A> {
         self.stepper.start(start, look_behind)
     }
 
-    /// Returns where a search begins. If the start state is cached, its id is kept, so that the
-    /// next search from it computes and looks up nothing.
+    /// Returns where a search begins. If `start` is one of the two start states of the NFA and the
+    /// start state is cached, its id is kept: the next search from it computes and looks up nothing.
     #[inline(always)]
     pub(crate) fn start(
         &mut self,

@@ -24,7 +24,7 @@ use std::marker::Model;
 pub struct Walker<A: Allocator = Global> {
     state: State<A>,
     /// The id of the state when the last step was taken, if it was cached then. The cache may have
-    /// been cleared since.
+    /// been cleared since, or the next step is taken through another one.
     id: Option<LazyStateId>,
 }
 

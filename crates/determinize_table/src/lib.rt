@@ -7,7 +7,7 @@
 //!   column is the tag of the state.
 //! - The *id* of a state (`state_id`) is the offset of its row; contracts see it as the index of
 //!   the state. So a search goes from one state to the next by one addition and one read.
-//! - The *tag* (`tag`) is what a search asks of a state: its first pattern, and whether it is dead
+//! - The *tag* (`tag`) is what a search needs to know of a state: its first pattern, and whether it is dead
 //!   (records no NFA states, so that no match follows). So a search over cached transitions reads
 //!   two numbers a byte, and no state.
 //! - A *cursor* is a place of a walk or a search: the id of a cached state, or a state that is not
@@ -19,7 +19,7 @@
 //! may just have been added and would be in no transition. No single state or transition is
 //! removed, so between two clears an id stays that of its state.
 //!
-//! All is public for `determinize_lazy` only.
+//! Everything here is public for `determinize_lazy` only.
 //!
 //! A `Result` is `Err` if an allocation fails or more than 16647160 states would be cached.
 #![tactic(auto)]

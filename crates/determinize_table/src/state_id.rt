@@ -13,7 +13,7 @@ pub(crate) const COLUMNS: usize = UNITS + 1;
 
 /// The id of a cached state, seen as the state's index.
 ///
-/// It is premultiplied: stored is the offset of the state's row, so that a search only adds the
+/// It is premultiplied: it stores the offset of the state's row, so that a search only adds the
 /// column of a unit to it to find the next id.
 #[derive(Clone, Copy)]
 pub struct LazyStateId {

@@ -52,7 +52,7 @@ impl<A: Allocator> Cursor<A> {
 pub struct TransitionTable<A: Allocator = Global> {
     states: StateTable<A>,
     rows: Vec<u32, A>,
-    // The ids of start states, by `start_index` of `step`. `clear` removes them.
+    // The ids of start states, by `start_index` of `determinize_lazy`. `clear` removes them.
     starts: [Option<LazyStateId>; STARTS],
 }
 
@@ -101,6 +101,7 @@ impl<A: Allocator + Copy> TransitionTable<A> {
     {
         self.states.clear();
         self.rows.clear();
+        // The borrow checker does not cover an array that is assigned to a field as it is made.
         let starts = [None; STARTS];
         self.starts = starts;
     }
@@ -123,7 +124,7 @@ impl<A: Allocator + Copy> TransitionTable<A> {
     }
 
     /// Returns the id of a state, or `None` if it is not cached. Compares the state with the one at
-    /// the id `likely` first, which needs no hash. That id may be one from before a clear.
+    /// the id `likely` first, which needs no hash. That id may be stale, or of another table.
     #[inline(always)]
     #[tactic(auto, using(crate::proofs::Changes::caching))]
     pub fn find(&self, state: &State<A>, likely: Option<LazyStateId>) -> Option<LazyStateId>

@@ -30,5 +30,6 @@ returns g c =
     let counted : c.saturating_add-self-inside.result ≡ count_after c.self.inside.computed 1 = search rules in
     let absent = rw (← c.self.view_is) at (absent-at (cache c.args.self.now) c.args.cursor c.args.unit
     (lazy-sound c.self.invariant c.self.view_is).table c.requires.cursor c.requires.uncached) in
-    rw (c.in_ok-following.ensures.unchanged, ← c.self.view_is, counted) (stepped _ c.args.unit c.self.invariant.sound.accepted
-    c.self.invariant.sound.small absent refl (rw following at c.keep.ensures))
+    rw (c.in_ok-following.ensures.unchanged, ← c.self.view_is, counted)
+    (stepped _ c.args.unit c.self.invariant.sound.accepted c.self.invariant.sound.small absent refl
+    (rw following at c.keep.ensures))
