@@ -44,8 +44,8 @@ step_of c = step c.nfa c.kind
 abbrev pub count_after : ℕ → ℕ → ℕ
 count_after computed n = min (computed + n) 18446744073709551615
 
--- the cache after one step from a value over a unit: a transition that is not cached is computed,
--- which is counted, and kept by this rule
+-- the cache after one step from a value over a unit: a transition that is not cached is computed
+-- and counted, and cached by the rule `keep`
 abbrev pub after_step : Cache → Value → Option ℕ → Cache
 after_step c v u = record c {
   table = cond (is_cached c.table v u) c.table (keep c.limit c.table v u (step_of c v u));

@@ -225,7 +225,7 @@ impl<'n, N: Allocator, A: Allocator + Copy> Lazy<'n, N, A> {
     /// - `start` is the id of the NFA state to start from, below the number of states.
     /// - `look_behind` is the byte just before the text, if any.
     ///
-    /// The text is in the order of reading: for an NFA that reads backward, from the last byte on.
+    /// The text is in reading order: for a reverse NFA from the last byte on.
     pub fn walk(
         &mut self,
         start: StateID,

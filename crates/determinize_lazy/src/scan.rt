@@ -170,7 +170,7 @@ impl<'n, N: Allocator, A: Allocator + Copy> Lazy<'n, N, A> {
         })
     }
 
-    /// Reads the next piece of the text of a scan, in the order of reading. A piece may be empty.
+    /// Reads the next piece of the text of a scan, in reading order. A piece may be empty.
     ///
     /// The ids in the state of the scan must be states of the NFA, as they are if the scan was
     /// begun with it. The match is that of one search if the match kind is the same, too.

@@ -311,7 +311,7 @@ impl<A: Allocator + Copy> TransitionTable<A> {
         ensures { IsKept self.old (keep limit (table_of self.old)
             (cursor_value self.old.states source) unit following) following result self.new }
     {
-        // Most transitions that are computed lead back to their source.
+        // A loop over many bytes leads back to its source over each of them.
         let found = self.find(&following, source.id());
         if self.fits(&source, &following, found, limit) {
             return self.insert(source, unit, following, found);
