@@ -148,8 +148,8 @@ pub fn last_match_law()
 {}
 
 /// If the next state of each capture has a greater id than the capture, no cycle consists of
-/// captures only. The NFA of the rows `25` is an example. That of row `12` has a capture whose next state
-/// is itself.
+/// captures only. The NFA of the rows `25` is an example. That of row `12` has a capture whose next
+/// state is itself.
 #[tactic(auto, using(crate::proofs::closure::CaptureCycles::capture_laws))]
 pub fn capture_law()
     ensures ascending { AscendingCapturesHaveNoCycle }

@@ -34,7 +34,7 @@ abbrev pub start_for : Nfa → Anchored → ℕ
 start_for nfa No = nfa.start_unanchored
 start_for nfa _ = nfa.start_anchored
 
--- bytes in the order of reading: from the last to the first where they are read backward
+-- bytes in reading order: from the last to the first where they are read backward
 abbrev pub in_order : Bool → List ℕ → List ℕ
 in_order false bytes = bytes
 in_order true bytes = reverse bytes

@@ -12,7 +12,7 @@ use determinize_below::{HalfMatch, Input};
 use determinize_start::start::{look_ahead_forward, look_ahead_reverse};
 use std::marker::Model;
 
-/// A text in the order of reading, seen as its bytes with the byte behind and the byte ahead.
+/// A text in reading order, seen as its bytes with the byte behind and the byte ahead.
 #[derive(Drop)]
 pub struct Text<'h> {
     behind: Option<u8>,

@@ -296,7 +296,7 @@ impl<'n, N: Allocator, A: Allocator + Copy> Lazy<'n, N, A> {
         self.search_from(at.with_cursor(), &text, earliest)
     }
 
-    /// Searches the text of an input. The offset of the match counts from the start of that text, in
+    /// Searches the text of an input. The offset of the match counts from the start of the text in
     /// reading order.
     #[inline(always)]
     fn search_range(

@@ -60,7 +60,8 @@ impl<'n, N: Allocator, A: Allocator + Copy> Lazy<'n, N, A> {
     }
 
     /// Returns where a search begins. If `start` is one of the two start states of the NFA and the
-    /// start state is cached, its id is kept: the next search from it computes and looks up nothing.
+    /// start state is cached, its id is kept: the next search from it looks up and computes nothing
+    /// to begin.
     #[inline(always)]
     pub(crate) fn start(
         &mut self,

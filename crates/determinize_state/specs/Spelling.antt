@@ -70,7 +70,8 @@ start_in bytes = if has_flag bytes EXPLICIT then PATTERNS + 4 * number_at bytes 
 -- matches
 abbrev pub patterns_in : List ℕ → List ℕ
 patterns_in bytes =
-    if has_flag bytes EXPLICIT then numbers_in (take (4 * number_at bytes COUNT) (drop PATTERNS bytes))
+    if has_flag bytes EXPLICIT
+    then numbers_in (take (4 * number_at bytes COUNT) (drop PATTERNS bytes))
     else (if has_flag bytes MATCH then 0 ∷ [] else [])
 
 -- the value that the bytes encode

@@ -1,10 +1,10 @@
 //! DFA states as bytes, and the builders of them.
 //!
-//! During determinization a DFA state is identified by its value: two flags and two sets of assertions
-//! about its position, the ids of the patterns that match, and an ordered list of NFA states. Two
-//! states with the same value are the same state. A DFA builder looks up a state for each
-//! transition that it computes, so a state is stored as bytes in a canonical encoding, in which
-//! equal values have equal bytes, and is compared and hashed by its bytes.
+//! During determinization a DFA state is identified by its value: two flags and two sets of
+//! assertions about its position, the ids of the patterns that match, and an ordered list of NFA
+//! states. Two states with the same value are the same state. A DFA builder looks up a state for
+//! each transition that it computes, so a state is stored as bytes in a canonical encoding, in
+//! which equal values have equal bytes, and is compared and hashed by its bytes.
 //!
 //! - The first byte has flags: 1 if some pattern matches, 2 if the pattern ids are explicit, 4 if
 //!   the byte before the state is a word byte (from-word), 8 if it may be the first half of a CRLF

@@ -7,9 +7,9 @@
 //!   column is the tag of the state.
 //! - The *id* of a state (`state_id`) is the offset of its row; contracts see it as the index of
 //!   the state. So a search goes from one state to the next by one addition and one read.
-//! - The *tag* (`tag`) is what a search needs to know of a state: its first pattern, and whether it is dead
-//!   (records no NFA states, so that no match follows). So a search over cached transitions reads
-//!   two numbers a byte, and no state.
+//! - The *tag* (`tag`) is what a search needs to know of a state: its first pattern, and whether it
+//!   is dead (records no NFA states, so that no match follows). So a search over cached transitions
+//!   reads two numbers a byte, and no state.
 //! - A *cursor* is a place of a walk or a search: the id of a cached state, or a state that is not
 //!   cached.
 //!

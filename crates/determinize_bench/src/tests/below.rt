@@ -25,10 +25,18 @@ fn texts_of_ids_and_units(rt: HostRuntime) -> Result<(), Fail> {
 fn texts_of_errors_of_ids(rt: HostRuntime) -> Result<(), Fail> {
     let state = StateID::new(2_147_483_647).err();
     let pattern = PatternID::new(3_000_000_000).err();
-    let text = format!(in rt.alloc(); "{state:?} {pattern:?}")?;
-    let wanted =
-        "Some(StateIDError { attempted: 2147483647 }) Some(PatternIDError { attempted: 3000000000 })";
-    same(&rt, text.as_str(), wanted);
+    let text = format!(in rt.alloc(); "{state:?}")?;
+    same(
+        &rt,
+        text.as_str(),
+        "Some(StateIDError { attempted: 2147483647 })",
+    );
+    let text = format!(in rt.alloc(); "{pattern:?}")?;
+    same(
+        &rt,
+        text.as_str(),
+        "Some(PatternIDError { attempted: 3000000000 })",
+    );
     Ok(())
 }
 

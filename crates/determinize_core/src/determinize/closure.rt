@@ -187,9 +187,9 @@ pub(crate) fn explore<N: Allocator, A: Allocator, W: Recorder, C: Counter>(
 /// Adds the epsilon closure of `start` to the set: `start` and what it reaches without input.
 ///
 /// The states are added after those of the set, in order of preference: depth first, the earlier
-/// alternates of a union first. A `Look` state is followed only if its assertion is in `look_have`,
-/// and a state that is in the set already is not followed. Only the stack allocates, and not if `start` is no epsilon state. It
-/// is empty afterwards, also on error; then the set has a prefix of what was to be added.
+/// alternates of a union first. A state of the set is not followed, and a `Look` state only if its
+/// assertion is in `look_have`. Only the stack allocates, and not if `start` is no epsilon state.
+/// It is empty afterwards, also on error; then the set has a prefix of what was to be added.
 #[tactic(auto, using(crate::proofs::closure::ClosureSteps::leaf_search))]
 pub fn epsilon_closure<N: Allocator, A: Allocator>(
     nfa: &NFA<N>,
