@@ -1,5 +1,4 @@
-//! A lazy DFA as an engine. The clauses are those of the trait, and what the methods of `Lazy` say of
-//! the cache.
+//! A lazy DFA as an engine. The clauses are those of the trait, and those of `Lazy` on the cache.
 
 ghost use Rattle.std.specs.Prelude.{Decides, ◌≡◌, ◌≤◌, None, Ok, false, true, IfOk, OnErr, OnOk};
 ghost use Rattle.std.specs.Option.{IfNone, IfSome};
