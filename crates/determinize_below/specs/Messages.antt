@@ -1,7 +1,7 @@
 -- The texts that the errors print.
 use Rattle.std.specs.Prelude.{ℕ, List, ◌++◌, codes, decimal}
 use Rattle.determinize_below.specs.declared.nfa.BuildError.{BuildError}
-use Rattle.determinize_below.specs.declared.nfa.BuildError.TheVariants.{TooManyStates, UnresolvedStart, UnresolvedId, BadSparse, BadDense, RepeatedPattern, OutOfMemory}
+use Rattle.determinize_below.specs.declared.nfa.BuildError.TheVariants.{TooManyStates, UnresolvedStart, UnresolvedId, BadSparse, BadDense, RepeatedPattern, NotPatchable, OutOfMemory}
 
 -- the text of a `StateIDError`
 abbrev pub state_id_message : ℕ → List ℕ
@@ -19,4 +19,5 @@ build_message (UnresolvedId i) = codes "state " ++ decimal i ++ codes " leads to
 build_message (BadSparse i) = codes "state " ++ decimal i ++ codes " has a range out of order"
 build_message (BadDense i) = codes "state " ++ decimal i ++ codes " has not 256 targets"
 build_message (RepeatedPattern i) = codes "state " ++ decimal i ++ codes " repeats a pattern"
+build_message (NotPatchable i) = codes "state " ++ decimal i ++ codes " has no target to set"
 build_message OutOfMemory = codes "out of memory"

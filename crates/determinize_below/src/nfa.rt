@@ -31,7 +31,8 @@ pub mod transitions;
 pub use state::State;
 pub use transitions::{DenseTransitions, SparseTransitions, Transition};
 
-/// An error from `NFA::from_parts`. The number, if any, is the index of the invalid state.
+/// An error from `NFA::from_parts` or from a builder of NFAs. The number, if any, is the index of
+/// the state.
 #[derive(Clone, Copy, Debug, PartialEq, Eq)]
 pub enum BuildError {
     /// There are more than 2147483647 states.
@@ -46,7 +47,9 @@ pub enum BuildError {
     BadDense(usize),
     /// The pattern of this `Match` state is also that of an earlier state.
     RepeatedPattern(usize),
-    /// An allocation during validation failed.
+    /// A builder was to set a target of this state, which has none that can be set.
+    NotPatchable(usize),
+    /// An allocation failed.
     OutOfMemory,
 }
 
@@ -94,6 +97,7 @@ impl fmt::Display for BuildError {
             BuildError::BadSparse(index) => write!(f, "state {index} has a range out of order"),
             BuildError::BadDense(index) => write!(f, "state {index} has not 256 targets"),
             BuildError::RepeatedPattern(index) => write!(f, "state {index} repeats a pattern"),
+            BuildError::NotPatchable(index) => write!(f, "state {index} has no target to set"),
             BuildError::OutOfMemory => write!(f, "out of memory"),
         }
     }

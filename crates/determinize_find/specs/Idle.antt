@@ -2,7 +2,8 @@
 use Rattle.std.specs.Prelude.{◌≡◌, ◌<◌, ℕ, List, None, Some, slice_get}
 use Rattle.determinize_below.specs.Semantics.{Nfa, Text}
 use Rattle.determinize_engine.specs.Scans.{Scanned}
-use Rattle.determinize_find.specs.Leftmost.{IsRunFrom, NothingFrom}
+use Rattle.determinize_nfa.specs.Runs.{IsRunFrom}
+use Rattle.determinize_nfa.specs.Leftmost.{NothingFrom}
 
 -- there is no match so far, and the first NFA state is the unanchored start
 pub record IsIdle (nfa : Nfa) (s : Scanned) : Type 0 where

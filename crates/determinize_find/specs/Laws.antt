@@ -1,5 +1,6 @@
 -- Laws of the leftmost match.
-use Rattle.std.specs.Prelude.{◌≡◌, ◌<◌, ◌≤◌, ◌+◌, ◌++◌, ◌↔◌, ℕ, All, List, None, Option, Some, false, length, option_map, slice_get}
+pub use Rattle.determinize_nfa.specs.Laws.{EachReadingIsMirrored, EachRunMoves, EachRunReadsForward}
+use Rattle.std.specs.Prelude.{◌≡◌, ◌≤◌, ◌++◌, ℕ, All, List, None, Option, Some, false, length, option_map, slice_get}
 use Rattle.std.specs.List.{Contains}
 use Rattle.determinize_below.specs.Nfa.{IsAccepted}
 use Rattle.determinize_below.specs.Semantics.{Nfa, Text, between}
@@ -10,12 +11,10 @@ use Rattle.determinize_below.specs.declared.search.MatchKind.TheVariants.{Leftmo
 use Rattle.determinize_core.specs.LastMatch.{IsPreferredMatch}
 use Rattle.determinize_engine.specs.Scans.{IsScan, Scanned}
 use Rattle.determinize_find.specs.Idle.{HasBegun, IsIdle, NothingBefore}
-use Rattle.determinize_find.specs.Leftmost.{AcceptsFrom, IsLeftmost}
+use Rattle.determinize_nfa.specs.Leftmost.{IsLeftmost}
 use Rattle.determinize_find.specs.LeftmostIn.{IsLeftmostIn, is_anchored}
 use Rattle.determinize_find.specs.Matches.{AreApart, AreMatches, BeginsAt, Covers}
-use Rattle.determinize_find.specs.Prefix.{HasPrefix, HasPrefixApart}
-use Rattle.determinize_find.specs.Reversal.{IsMirrored, turned, upto}
-use Rattle.determinize_find.specs.Since.{since}
+use Rattle.determinize_nfa.specs.Prefix.{HasPrefix, HasPrefixApart}
 
 -- a text has at most one leftmost match
 abbrev pub EachLeftmostIsOne : Type 0
@@ -38,22 +37,6 @@ abbrev pub EachAnchoredIsLeftmost : Type 0
 EachAnchoredIsLeftmost = (nfa : Nfa) (text : Text) (found : Option HalfMatch)
     → IsPreferredMatch nfa nfa.start_anchored text found
     → (m : Option Match) × IsLeftmost nfa text 0 m × (found ≡ option_map end_of m)
-
--- runs from position k + j are runs from position j of the text since k, with the same choices
-abbrev pub EachRunMoves : Type 0
-EachRunMoves = (nfa : Nfa) (text : Text) (k j start : ℕ) (cs : List ℕ) (i pattern : ℕ)
-    → (AcceptsFrom nfa text (k + j) start cs (k + i) pattern)
-    ↔ (AcceptsFrom nfa (since text k) j start cs i pattern)
-
--- a run does not accept before the position where it begins
-abbrev pub EachRunReadsForward : Type 0
-EachRunReadsForward = (nfa : Nfa) (text : Text) (k start : ℕ) (cs : List ℕ) (i pattern : ℕ)
-    → AcceptsFrom nfa text k start cs i pattern → k ≤ i
-
--- the text up to a position, in the other direction, is its mirror image
-abbrev pub EachReadingIsMirrored : Type 0
-EachReadingIsMirrored = (text : Text) (j : ℕ) → j ≤ length text.bytes
-    → IsMirrored text (turned (upto text j)) j
 
 -- an input has at most one leftmost match
 abbrev pub EachLeftmostInIsOne : Type 0

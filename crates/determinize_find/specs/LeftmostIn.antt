@@ -6,7 +6,7 @@ use Rattle.determinize_below.specs.declared.search.Anchored.{Anchored}
 use Rattle.determinize_below.specs.declared.search.Anchored.TheVariants.{No, Pattern, Yes}
 use Rattle.determinize_below.specs.declared.search.Match.{Match}
 use Rattle.determinize_engine.specs.Searches.{text_of}
-use Rattle.determinize_find.specs.Leftmost.{IsLeftmost}
+use Rattle.determinize_nfa.specs.Leftmost.{IsLeftmost}
 
 -- a match in a text, as a match in the haystack where the text starts at an index
 abbrev pub moved : ℕ → Match → Match

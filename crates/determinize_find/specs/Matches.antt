@@ -5,7 +5,7 @@ use Rattle.determinize_below.specs.Semantics.{Nfa}
 use Rattle.determinize_below.specs.Search.{Asked}
 use Rattle.determinize_below.specs.declared.search.Match.{Match}
 use Rattle.determinize_engine.specs.Searches.{text_of}
-use Rattle.determinize_find.specs.Leftmost.{AcceptsFrom}
+use Rattle.determinize_nfa.specs.Runs.{AcceptsFrom}
 use Rattle.determinize_find.specs.LeftmostIn.{IsLeftmostIn}
 
 -- the input whose range starts at this index

@@ -1,11 +1,7 @@
-pub mod AnyByte
 pub mod Begins
 pub mod BestAt
-pub mod Closed
-pub mod Gathered
 pub mod Left
 pub mod Pairs
 pub mod Places
 pub mod Touching
-pub mod Turning
 pub mod Windows

@@ -13,7 +13,7 @@ use Rattle.determinize_core.specs.Value.{is_nonempty}
 use Rattle.determinize_engine.specs.Scans.{IsScan, Scanned}
 use Rattle.determinize_find.specs.Idle.{IsIdle}
 use Rattle.determinize_find.specs.Matches.{AreMatches, from}
-use Rattle.determinize_find.specs.Prefix.{HasPrefix, HasPrefixApart}
+use Rattle.determinize_nfa.specs.Prefix.{HasPrefix, HasPrefixApart}
 
 -- what a `Pieces` is seen as: the bytes that it keeps, how many it dropped before them, the index
 -- in the kept bytes where the search for the next match begins, whether a match ended there, and

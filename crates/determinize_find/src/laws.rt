@@ -1,6 +1,7 @@
 //! Laws of the leftmost match, as public functions with empty bodies.
 
-ghost use Rattle.determinize_find.specs.Laws.{EachAnchoredIsLeftmost, EachBusyHasBegun, EachIdleIsFresh, EachLeftmostInIsOne, EachLeftmostIsOne, EachMatchesAreApart, EachMatchesAreOne, EachPreferredIsLeftmost, EachReadingIsMirrored, EachRunMoves, EachRunReadsForward, EachStartIsCovered};
+ghost use Rattle.determinize_nfa.specs.Laws.{EachReadingIsMirrored, EachRunMoves, EachRunReadsForward};
+ghost use Rattle.determinize_find.specs.Laws.{EachAnchoredIsLeftmost, EachBusyHasBegun, EachIdleIsFresh, EachLeftmostInIsOne, EachLeftmostIsOne, EachMatchesAreApart, EachMatchesAreOne, EachPreferredIsLeftmost, EachStartIsCovered};
 
 /// A text has at most one leftmost match.
 pub fn leftmost_law()
@@ -13,19 +14,6 @@ pub fn leftmost_law()
 pub fn prefix_law()
     ensures unanchored { EachPreferredIsLeftmost }
     ensures anchored { EachAnchoredIsLeftmost }
-{}
-
-/// The runs of an NFA from a position of a text are its runs over the rest of the text, with the
-/// same choices. A run does not accept before the position where it begins.
-pub fn shift_law()
-    ensures moves { EachRunMoves }
-    ensures forward { EachRunReadsForward }
-{}
-
-/// A text up to a position, read in the other direction, has before and after each of its positions
-/// what the text has after and before the same place.
-pub fn mirror_law()
-    ensures { EachReadingIsMirrored }
 {}
 
 /// An input has at most one leftmost match, and its matches are at most one list. They are in the

@@ -4,22 +4,17 @@
 //! states. The caches stay usable: later results are the same.
 #![tactic(auto)]
 
-pub mod builder;
 pub mod idle;
 pub mod iter;
 pub mod laws;
 pub mod pieces;
 pub mod plain;
-pub mod prefix;
-mod reached;
 pub mod regex;
-pub mod reversal;
 
-pub use builder::Builder;
 pub use determinize_below::search::Match;
+pub use determinize_nfa::{Builder, builder, prefix, reversal};
+pub use determinize_nfa::{has_prefix, has_prefix_apart, reversed};
 pub use idle::is_idle;
 pub use iter::Searcher;
 pub use pieces::Pieces;
-pub use prefix::{has_prefix, has_prefix_apart};
 pub use regex::{LazyRegex, Regex};
-pub use reversal::reversed;

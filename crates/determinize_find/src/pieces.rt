@@ -7,7 +7,7 @@ ghost use Rattle.determinize_below.specs.declared.search.Match.{Match as Found};
 ghost use Rattle.determinize_start.specs.StartKinds.{byte_before};
 ghost use Rattle.determinize_find.specs.Idle.{IsIdle};
 ghost use Rattle.determinize_find.specs.LeftmostIn.{moved};
-ghost use Rattle.determinize_find.specs.Prefix.{HasPrefixApart};
+ghost use Rattle.determinize_nfa.specs.Prefix.{HasPrefixApart};
 ghost use Rattle.determinize_find.specs.Private.Windows.{IsCertain, left_in, unsearched};
 ghost use Rattle.determinize_find.specs.Private.Windows.{with_bytes, without_first};
 ghost use Rattle.determinize_find.specs.Streams.{IsEndScan, IsFed, IsFeeding, IsFinished};

@@ -12,10 +12,10 @@ ghost use Rattle.determinize_find.specs.Idle.{IsIdle};
 ghost use Rattle.determinize_find.specs.LeftmostIn.{IsLeftmostIn};
 ghost use Rattle.determinize_find.specs.Cursors.{after_match};
 ghost use Rattle.determinize_find.specs.Matches.{AreMatches, IsNext};
-ghost use Rattle.determinize_find.specs.Prefix.{HasPrefix, HasPrefixApart};
+ghost use Rattle.determinize_nfa.specs.Prefix.{HasPrefix, HasPrefixApart};
 ghost use Rattle.determinize_find.specs.Private.Begins.{HasReverse, IsBeginOf, IsEndOf, IsEnding, asked_of};
 ghost use Rattle.determinize_find.specs.Private.Windows.{IsCertain, IsFresh};
-ghost use Rattle.determinize_find.specs.Reversal.{IsReverseOf};
+ghost use Rattle.determinize_nfa.specs.Reversal.{IsReverseOf};
 ghost use Rattle.determinize_find.specs.Streams.{IsEndScan, IsUnsettled};
 
 use crate::idle::is_idle;

@@ -3,10 +3,13 @@ pub mod FiniteGraphs
 pub mod FiniteReach
 pub mod Fuel
 pub mod LeastPaths
+pub mod LoopFree
 pub mod PathLists
+pub mod PathMaps
 pub mod RepeatedSearch
 pub mod RootByRoot
 pub mod SameSearch
 pub mod SearchBound
 pub mod StackSearch
 pub mod UniqueOrder
+pub mod VisitedNodes

@@ -10,16 +10,16 @@ use Rattle.determinize_below.specs.Semantics.{Nfa, Text, between}
 use Rattle.determinize_below.specs.declared.look.Look.{Look as Assertion}
 use Rattle.ordered_reach.specs.Paths.{Before, IsPath}
 use Rattle.ordered_reach.proofs.lists.Elements.{Contains_In}
-use Rattle.ordered_reach.proofs.lists.Lexicographic.{Before-asym}
+use Rattle.ordered_reach.proofs.lists.Lexicographic.{Before-asym, Before-trans}
 use Rattle.ordered_reach.proofs.graph.FiniteGraphs.{same_decides}
 use Rattle.ordered_reach.proofs.Cases.{by_cases, some_injective}
 use Rattle.determinize_find.specs.Laws.{EachBusyHasBegun}
-use Rattle.determinize_find.specs.Prefix.{HasPrefix}
-use Rattle.determinize_find.specs.Reversal.{upto}
+use Rattle.determinize_nfa.specs.Prefix.{HasPrefix}
+use Rattle.determinize_nfa.specs.Reversal.{upto}
 use Rattle.determinize_find.proofs.idling.Recorded.{ListsKnown, inside, recorded, small_up_to}
-use Rattle.determinize_find.proofs.prefixes.AfterPrefix.{parted, pass_all}
-use Rattle.determinize_find.proofs.prefixes.Skips.{Before-trans, pass, pass_first}
-use Rattle.determinize_find.proofs.runs.Choices.{choices_under}
+use Rattle.determinize_nfa.proofs.prefixes.AfterPrefix.{parted, pass_all}
+use Rattle.determinize_nfa.proofs.prefixes.Skips.{pass, pass_first}
+use Rattle.determinize_nfa.proofs.runs.Choices.{choices_under}
 use Rattle.determinize_find.proofs.runs.Cuts.{known_there, true_path}
 
 module _ (nfa : Nfa) (has : HasPrefix nfa) (text : Text) (small : All (λ b. b < 256) text.bytes) (end : ℕ)

@@ -12,22 +12,22 @@ use Rattle.determinize_below.specs.declared.look.Look.{Look as Assertion}
 use Rattle.determinize_below.specs.declared.search.MatchKind.TheVariants.{LeftmostFirst}
 use Rattle.ordered_reach.specs.Paths.{Before, IsPath}
 use Rattle.ordered_reach.proofs.lists.Elements.{Contains_In}
-use Rattle.ordered_reach.proofs.lists.Lexicographic.{Before-asym}
+use Rattle.ordered_reach.proofs.lists.Lexicographic.{Before-asym, Before-trans}
 use Rattle.ordered_reach.proofs.graph.FiniteGraphs.{same_decides}
 use Rattle.ordered_reach.proofs.Cases.{by_cases, by_test, some_injective}
 use Rattle.determinize_engine.specs.Scans.{IsScan, Scanned}
 use Rattle.determinize_find.specs.Idle.{IsIdle}
 use Rattle.determinize_find.specs.Laws.{EachIdleIsFresh}
-use Rattle.determinize_find.specs.Leftmost.{AcceptsFrom}
-use Rattle.determinize_find.specs.Prefix.{HasPrefix, HasPrefixApart}
-use Rattle.determinize_find.specs.Reversal.{upto}
+use Rattle.determinize_nfa.specs.Runs.{AcceptsFrom}
+use Rattle.determinize_nfa.specs.Prefix.{HasPrefix, HasPrefixApart}
+use Rattle.determinize_nfa.specs.Reversal.{upto}
 use Rattle.determinize_find.proofs.idling.Recorded.{ListsKnown, inside, none_yet, recorded, small_up_to}
 use Rattle.determinize_find.proofs.leftmost.PreferredRun.{from_start}
-use Rattle.determinize_find.proofs.prefixes.AfterPrefix.{none_leaves, parted, stays_out, u_not_a, u_not_x, unshape}
-use Rattle.determinize_find.proofs.prefixes.Skips.{Before-trans, pass, skip, skip_before}
-use Rattle.determinize_find.proofs.runs.Choices.{choices_under, true_at}
+use Rattle.determinize_nfa.proofs.prefixes.AfterPrefix.{none_leaves, parted, stays_out, u_not_a, u_not_x, unshape}
+use Rattle.determinize_nfa.proofs.prefixes.Skips.{pass, skip, skip_before}
+use Rattle.determinize_nfa.proofs.runs.Choices.{choices_under, true_at}
 use Rattle.determinize_find.proofs.runs.Cuts.{cut_path, known_there, passes}
-use Rattle.determinize_find.proofs.runs.Shifts.{each_run_reads_forward}
+use Rattle.determinize_nfa.proofs.runs.Shifts.{each_run_reads_forward}
 
 module _ (nfa : Nfa) (apart : HasPrefixApart nfa) (text : Text) (small : All (λ b. b < 256) text.bytes) (end : ℕ)
     (inside : end ≤ length text.bytes) where

@@ -24,10 +24,10 @@ use Rattle.determinize_core.proofs.walk.WalkOfRuns.{each_chain_reaches}
 use Rattle.determinize_engine.specs.Scans.{IsScan, Scanned}
 use Rattle.determinize_engine.specs.UnitsRead.{units_read}
 use Rattle.determinize_engine.proofs.Headline.{none_accepts}
-use Rattle.determinize_find.specs.Reversal.{upto}
-use Rattle.determinize_find.proofs.runs.Choices.{choices_under}
+use Rattle.determinize_nfa.specs.Reversal.{upto}
+use Rattle.determinize_nfa.proofs.runs.Choices.{choices_under}
 use Rattle.determinize_find.proofs.runs.Cuts.{known_is, known_there}
-use Rattle.determinize_find.proofs.runs.Mirrors.{or_some}
+use Rattle.determinize_nfa.proofs.runs.Mirrors.{or_some}
 
 -- a list with an element
 has_first : (xs : List ℕ) (x : ℕ) → slice_get xs 0 ≡ Some x → is_nonempty xs ≡ true

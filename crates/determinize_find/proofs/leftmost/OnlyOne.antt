@@ -10,7 +10,8 @@ use Rattle.ordered_reach.proofs.Cases.{by_cases, some_injective}
 use Rattle.ordered_reach.proofs.graph.UniqueOrder.{one_end}
 use Rattle.ordered_reach.proofs.lists.Lexicographic.{same_least}
 use Rattle.determinize_find.specs.Laws.{EachLeftmostIsOne}
-use Rattle.determinize_find.specs.Leftmost.{AcceptsFrom, IsLeftmostMatch}
+use Rattle.determinize_nfa.specs.Runs.{AcceptsFrom}
+use Rattle.determinize_nfa.specs.Leftmost.{IsLeftmostMatch}
 use Rattle.determinize_below.specs.declared.search.Match.{Match}
 
 same_match : (m n : Match) → m.pattern ≡ n.pattern → m.start ≡ n.start → m.end ≡ n.end → m ≡ n

@@ -10,12 +10,13 @@ use Rattle.determinize_below.specs.declared.search.HalfMatch.{HalfMatch}
 use Rattle.ordered_reach.proofs.Cases.{by_cases}
 use Rattle.ordered_reach.proofs.lists.Lexicographic.{Before-asym}
 use Rattle.determinize_find.specs.Laws.{EachAnchoredIsLeftmost, EachPreferredIsLeftmost, end_of}
-use Rattle.determinize_find.specs.Leftmost.{AcceptsFrom, IsLeftmost}
-use Rattle.determinize_find.specs.Prefix.{HasPrefix}
+use Rattle.determinize_nfa.specs.Runs.{AcceptsFrom}
+use Rattle.determinize_nfa.specs.Leftmost.{IsLeftmost}
+use Rattle.determinize_nfa.specs.Prefix.{HasPrefix}
 use Rattle.determinize_below.specs.declared.search.Match.{Match}
-use Rattle.determinize_find.proofs.runs.Choices.{true_at}
-use Rattle.determinize_find.proofs.prefixes.AfterPrefix.{IsSkip, shape, unshape}
-use Rattle.determinize_find.proofs.prefixes.Skips.{skip, skip_before, skip_same}
+use Rattle.determinize_nfa.proofs.runs.Choices.{true_at}
+use Rattle.determinize_nfa.proofs.prefixes.AfterPrefix.{IsSkip, shape, unshape}
+use Rattle.determinize_nfa.proofs.prefixes.Skips.{skip, skip_before, skip_same}
 
 module _ (nfa : Nfa) (text : Text) (has : HasPrefix nfa) (small : All (λ b. b < 256) text.bytes) where
   -- a run from the anchored start at a position is one from the unanchored start

@@ -16,14 +16,15 @@ use Rattle.ordered_reach.proofs.Cases.{by_cases}
 use Rattle.determinize_start.specs.StartKinds.{byte_before}
 use Rattle.determinize_core.specs.LastMatch.{IsPreferredMatch}
 use Rattle.determinize_engine.specs.Searches.{HasMatch, IsPreferredIn, in_haystack, text_of}
-use Rattle.determinize_find.specs.Leftmost.{AcceptsFrom, IsLeftmost, NothingFrom}
+use Rattle.determinize_nfa.specs.Runs.{AcceptsFrom}
+use Rattle.determinize_nfa.specs.Leftmost.{IsLeftmost, NothingFrom}
 use Rattle.determinize_find.specs.LeftmostIn.{IsLeftmostIn, is_anchored, latest, moved}
 use Rattle.determinize_find.specs.Private.BestAt.{IsBestAt, IsBestIn, from_index}
-use Rattle.determinize_find.specs.Since.{since}
+use Rattle.determinize_nfa.specs.Runs.{since}
 use Rattle.determinize_below.specs.declared.search.Match.{Match}
 use Rattle.determinize_find.proofs.leftmost.Inputs.{IsFoundIn, found_in_text}
-use Rattle.determinize_find.proofs.runs.Mirrors.{slice_get-take}
-use Rattle.determinize_find.proofs.runs.Shifts.{each_run_reads_forward, each_run_moves, slice_get-drop}
+use Rattle.determinize_nfa.proofs.runs.Mirrors.{slice_get-take}
+use Rattle.determinize_nfa.proofs.runs.Shifts.{each_run_reads_forward, each_run_moves, slice_get-drop}
 
 drop-nil : {A : Type 0} (m : ℕ) → ◌≡◌ {A = List A} (drop m []) []
 drop-nil zero = refl

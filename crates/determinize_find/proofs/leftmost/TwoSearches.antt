@@ -23,18 +23,19 @@ use Rattle.determinize_core.specs.LastMatch.{IsFarthestMatch, IsPreferredMatch}
 use Rattle.determinize_engine.specs.Searches.{HasMatch, IsFarthestIn, IsPreferredIn, has_start, in_haystack, index_after}
 use Rattle.determinize_engine.specs.Searches.{start_for, text_of}
 use Rattle.determinize_find.specs.Laws.{end_of}
-use Rattle.determinize_find.specs.Leftmost.{AcceptsFrom, IsLeftmost, IsLeftmostMatch, NothingFrom}
+use Rattle.determinize_nfa.specs.Runs.{AcceptsFrom}
+use Rattle.determinize_nfa.specs.Leftmost.{IsLeftmost, IsLeftmostMatch, NothingFrom}
 use Rattle.determinize_find.specs.LeftmostIn.{IsLeftmostIn, is_anchored, latest, moved}
-use Rattle.determinize_find.specs.Prefix.{HasPrefix, leads_to}
+use Rattle.determinize_nfa.specs.Prefix.{HasPrefix, leads_to}
 use Rattle.determinize_find.specs.Private.Begins.{IsBeginOf, IsEndOf, IsEnded, IsEnding}
-use Rattle.determinize_find.specs.Reversal.{IsReverseOf, turned, upto}
+use Rattle.determinize_nfa.specs.Reversal.{IsReverseOf, turned, upto}
 use Rattle.determinize_find.proofs.matches.OneList.{LiesIn, length-range, lies, path_within}
 use Rattle.determinize_find.proofs.leftmost.Inputs.{IsFoundIn, found_in_text}
-use Rattle.determinize_find.proofs.runs.Choices.{true_at}
-use Rattle.determinize_find.proofs.runs.Mirrors.{or_some, slice_get-take}
+use Rattle.determinize_nfa.proofs.runs.Choices.{true_at}
+use Rattle.determinize_nfa.proofs.runs.Mirrors.{or_some, slice_get-take}
 use Rattle.determinize_find.proofs.leftmost.PreferredRun.{each_anchored_is_leftmost, each_preferred_is_leftmost}
-use Rattle.determinize_find.proofs.prefixes.AfterPrefix.{IsSkip, shape}
-use Rattle.determinize_find.proofs.runs.Shifts.{each_run_reads_forward, slice_get-drop}
+use Rattle.determinize_nfa.proofs.prefixes.AfterPrefix.{IsSkip, shape}
+use Rattle.determinize_nfa.proofs.runs.Shifts.{each_run_reads_forward, slice_get-drop}
 
 -- with the usual prefix the starts are two states
 pub starts_differ : (nfa : Nfa) → HasPrefix nfa → nat_eq nfa.start_unanchored nfa.start_anchored ≡ false

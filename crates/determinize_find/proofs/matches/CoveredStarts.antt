@@ -13,13 +13,14 @@ use Rattle.determinize_below.specs.declared.search.Match.{Match}
 use Rattle.ordered_reach.proofs.Cases.{by_cases, by_test, some_injective}
 use Rattle.determinize_engine.specs.Searches.{text_of}
 use Rattle.determinize_find.specs.Laws.{EachStartIsCovered}
-use Rattle.determinize_find.specs.Leftmost.{AcceptsFrom, IsLeftmost}
+use Rattle.determinize_nfa.specs.Runs.{AcceptsFrom}
+use Rattle.determinize_nfa.specs.Leftmost.{IsLeftmost}
 use Rattle.determinize_find.specs.LeftmostIn.{IsLeftmostIn, is_anchored, latest, moved}
 use Rattle.determinize_find.specs.Matches.{AreMatches, BeginsAt, Covers, IsEmptyAt, IsNext, IsTaken, from, touches}
-use Rattle.determinize_find.specs.Since.{since}
+use Rattle.determinize_nfa.specs.Runs.{since}
 use Rattle.determinize_find.proofs.matches.OneList.{IsLater, next_lies}
 use Rattle.determinize_find.proofs.leftmost.SearchInTurn.{not_past, text-since}
-use Rattle.determinize_find.proofs.runs.Shifts.{each_run_moves, each_run_reads_forward}
+use Rattle.determinize_nfa.proofs.runs.Shifts.{each_run_moves, each_run_reads_forward}
 
 -- a run that begins in a range begins in the range from a later start on
 begins_by : (nfa : Nfa) (asked : Asked) (at start d : ℕ) → start ≡ asked.start + d → start ≤ at → start ≤ asked.end

@@ -15,13 +15,13 @@ use Rattle.determinize_below.proofs.nfas.Edges.{target-end}
 use Rattle.ordered_reach.proofs.Cases.{by_cases, by_option, by_test, some_injective}
 use Rattle.determinize_engine.specs.Searches.{text_of}
 use Rattle.determinize_find.specs.Laws.{EachLeftmostInIsOne, EachMatchesAreApart, EachMatchesAreOne}
-use Rattle.determinize_find.specs.Leftmost.{IsLeftmost}
+use Rattle.determinize_nfa.specs.Leftmost.{IsLeftmost}
 use Rattle.determinize_find.specs.LeftmostIn.{IsLeftmostIn, is_anchored, latest, moved}
 use Rattle.determinize_find.specs.Matches.{AreApart, AreMatches, IsNext, IsTaken, from, touches}
 use Rattle.determinize_below.specs.declared.search.Match.{Match}
-use Rattle.determinize_find.proofs.runs.Choices.{choice_cases}
+use Rattle.determinize_nfa.proofs.runs.Choices.{choice_cases}
 use Rattle.determinize_find.proofs.leftmost.OnlyOne.{each_leftmost_is_one}
-use Rattle.determinize_find.proofs.runs.Shifts.{each_run_reads_forward}
+use Rattle.determinize_nfa.proofs.runs.Shifts.{each_run_reads_forward}
 
 pub each_leftmost_in_is_one : EachLeftmostInIsOne
 each_leftmost_in_is_one nfa asked found other a b = by_test (is_done asked)

@@ -19,10 +19,11 @@ use Rattle.ordered_reach.specs.Paths.{IsPath}
 use Rattle.ordered_reach.specs.Runs.{placed}
 use Rattle.ordered_reach.proofs.lists.Elements.{In_cases}
 use Rattle.ordered_reach.proofs.Cases.{by_cases, by_test}
-use Rattle.determinize_find.specs.Reversal.{upto}
-use Rattle.determinize_find.proofs.runs.Choices.{choice_cases, choice_later, choices_under, true_at, under_later}
-use Rattle.determinize_find.proofs.runs.Mirrors.{or_some, slice_get-take}
-use Rattle.determinize_find.proofs.runs.SameChoices.{capture_same, free_more, one_choice, path_agree, same_choices}
+use Rattle.determinize_nfa.specs.Reversal.{upto}
+use Rattle.determinize_nfa.proofs.runs.Choices.{choice_cases, choice_later, choices_under, true_at, under_later}
+use Rattle.determinize_nfa.proofs.runs.Mirrors.{or_some, slice_get-take}
+use Rattle.determinize_nfa.proofs.runs.SameChoices.{capture_same, free_more, one_choice, same_choices}
+use Rattle.ordered_reach.proofs.graph.PathMaps.{path_agree}
 
 -- the edges under one of two sets
 under_one : (nfa : Nfa) (b : Bool) (h g : Assertion → Bool) (s : ℕ)

@@ -21,17 +21,18 @@ use Rattle.determinize_engine.specs.Scans.{IsScan, IsSettled, Scanned}
 use Rattle.determinize_engine.proofs.Headline.{preferred}
 use Rattle.determinize_engine.proofs.LastUnits.{last_match-within}
 use Rattle.determinize_find.specs.Laws.{end_of}
-use Rattle.determinize_find.specs.Leftmost.{AcceptsFrom, IsLeftmost, IsLeftmostMatch}
+use Rattle.determinize_nfa.specs.Runs.{AcceptsFrom}
+use Rattle.determinize_nfa.specs.Leftmost.{IsLeftmost, IsLeftmostMatch}
 use Rattle.determinize_find.specs.LeftmostIn.{IsLeftmostIn, moved}
 use Rattle.determinize_find.specs.Matches.{from}
-use Rattle.determinize_find.specs.Prefix.{HasPrefix}
+use Rattle.determinize_nfa.specs.Prefix.{HasPrefix}
 use Rattle.determinize_find.specs.Private.Begins.{IsBeginOf, IsEndOf, IsEnded}
 use Rattle.determinize_find.specs.Private.Windows.{IsCertain}
-use Rattle.determinize_find.specs.Reversal.{IsReverseOf, turned, upto}
+use Rattle.determinize_nfa.specs.Reversal.{IsReverseOf, turned, upto}
 use Rattle.determinize_find.specs.Streams.{IsEndScan, whole}
 use Rattle.determinize_find.proofs.leftmost.PreferredRun.{each_preferred_is_leftmost}
 use Rattle.determinize_find.proofs.matches.OneList.{LiesIn, lies}
-use Rattle.determinize_find.proofs.runs.Shifts.{each_run_reads_forward}
+use Rattle.determinize_nfa.proofs.runs.Shifts.{each_run_reads_forward}
 use Rattle.determinize_find.proofs.streams.Rests.{in_whole, rest, rest-append, slice_get-append}
 
 -- up to a position within the first bytes, texts that begin with them are one text

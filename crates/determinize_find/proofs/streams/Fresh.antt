@@ -8,7 +8,7 @@ use Rattle.determinize_below.specs.Semantics.{Nfa}
 use Rattle.determinize_start.specs.StartKinds.{byte_before}
 use Rattle.determinize_engine.specs.Scans.{Scanned}
 use Rattle.determinize_find.specs.Idle.{IsIdle}
-use Rattle.determinize_find.specs.Prefix.{HasPrefixApart}
+use Rattle.determinize_nfa.specs.Prefix.{HasPrefixApart}
 use Rattle.determinize_find.specs.Private.Windows.{IsFresh}
 use Rattle.determinize_find.specs.Streams.{IsEndScan}
 use Rattle.determinize_find.proofs.idling.Fresh.{each_idle_is_fresh}

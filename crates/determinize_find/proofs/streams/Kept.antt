@@ -21,7 +21,7 @@ use Rattle.determinize_core.specs.Step.{start_value}
 use Rattle.determinize_core.specs.Value.{is_nonempty}
 use Rattle.determinize_engine.specs.Scans.{Scanned}
 use Rattle.determinize_find.specs.Idle.{IsIdle}
-use Rattle.determinize_find.specs.Prefix.{HasPrefixApart}
+use Rattle.determinize_nfa.specs.Prefix.{HasPrefixApart}
 use Rattle.determinize_find.specs.Private.Windows.{unsearched, with_bytes, without_first}
 use Rattle.determinize_find.specs.Streams.{IsEndScan, IsFed, IsPartFed, IsSearching, IsUnsettled, KeepsFew}
 use Rattle.determinize_find.specs.Streams.{KeptFewAt, KeptFewInBlocks, Streamed}

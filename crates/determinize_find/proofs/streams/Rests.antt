@@ -13,15 +13,16 @@ use Rattle.determinize_below.specs.declared.search.Match.{Match}
 use Rattle.ordered_reach.proofs.Cases.{by_cases}
 use Rattle.determinize_start.specs.StartKinds.{byte_before}
 use Rattle.determinize_engine.specs.Searches.{text_of}
-use Rattle.determinize_find.specs.Leftmost.{AcceptsFrom, IsLeftmost, NothingFrom}
+use Rattle.determinize_nfa.specs.Runs.{AcceptsFrom}
+use Rattle.determinize_nfa.specs.Leftmost.{IsLeftmost, NothingFrom}
 use Rattle.determinize_find.specs.LeftmostIn.{IsLeftmostIn, is_anchored, latest, moved}
 use Rattle.determinize_find.specs.Matches.{from}
-use Rattle.determinize_find.specs.Prefix.{HasPrefix}
-use Rattle.determinize_find.specs.Since.{since}
+use Rattle.determinize_nfa.specs.Prefix.{HasPrefix}
+use Rattle.determinize_nfa.specs.Runs.{since}
 use Rattle.determinize_find.specs.Streams.{whole}
 use Rattle.determinize_find.proofs.leftmost.SearchInTurn.{not_past, text-since}
 use Rattle.determinize_find.proofs.leftmost.TwoSearches.{starts_differ}
-use Rattle.determinize_find.proofs.runs.Shifts.{each_run_moves, each_run_reads_forward, slice_get-drop}
+use Rattle.determinize_nfa.proofs.runs.Shifts.{each_run_moves, each_run_reads_forward, slice_get-drop}
 
 -- the bytes from an index on, behind the byte before it
 abbrev pub rest : List ℕ → ℕ → Text

@@ -16,7 +16,7 @@ use Rattle.determinize_below.specs.declared.search.Match.{Match}
 use Rattle.ordered_reach.proofs.Cases.{by_test}
 use Rattle.determinize_start.specs.StartKinds.{byte_before}
 use Rattle.determinize_engine.specs.Scans.{Scanned}
-use Rattle.determinize_find.specs.Leftmost.{NothingFrom}
+use Rattle.determinize_nfa.specs.Leftmost.{NothingFrom}
 use Rattle.determinize_find.specs.LeftmostIn.{IsLeftmostIn, moved}
 use Rattle.determinize_find.specs.Matches.{AreMatches, IsNext, IsTaken, from, touches}
 use Rattle.determinize_find.specs.Private.Windows.{IsCertain, IsFresh, unsearched, with_bytes, without_first}

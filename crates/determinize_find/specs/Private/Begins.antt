@@ -7,7 +7,7 @@ use Rattle.determinize_below.specs.declared.search.HalfMatch.{HalfMatch}
 use Rattle.determinize_below.specs.declared.search.Match.{Match}
 use Rattle.determinize_find.specs.Laws.{end_of}
 use Rattle.determinize_find.specs.LeftmostIn.{IsLeftmostIn}
-use Rattle.determinize_find.specs.Reversal.{IsReverseOf}
+use Rattle.determinize_nfa.specs.Reversal.{IsReverseOf}
 
 -- the range of a haystack
 abbrev pub asked_of : List ℕ → ℕ → ℕ → Anchored → Asked

@@ -6,7 +6,8 @@ use Rattle.determinize_below.specs.Search.{Asked}
 use Rattle.determinize_below.specs.declared.search.HalfMatch.{HalfMatch}
 use Rattle.determinize_below.specs.declared.search.Match.{Match}
 use Rattle.determinize_engine.specs.Searches.{text_of}
-use Rattle.determinize_find.specs.Leftmost.{AcceptsFrom, NothingFrom}
+use Rattle.determinize_nfa.specs.Runs.{AcceptsFrom}
+use Rattle.determinize_nfa.specs.Leftmost.{NothingFrom}
 use Rattle.determinize_find.specs.LeftmostIn.{moved}
 
 -- of the runs from a position this is the most preferred that accepts

@@ -5,8 +5,8 @@ use Rattle.std.specs.Option.{IfSome}
 use Rattle.determinize_below.specs.Semantics.{Nfa}
 use Rattle.determinize_below.specs.declared.search.MatchKind.TheVariants.{All, LeftmostFirst}
 use Rattle.determinize_engine.specs.Engines.{EngineValue}
-use Rattle.determinize_find.specs.Prefix.{HasPrefix, HasPrefixApart}
-use Rattle.determinize_find.specs.Reversal.{IsReverseOf}
+use Rattle.determinize_nfa.specs.Prefix.{HasPrefix, HasPrefixApart}
+use Rattle.determinize_nfa.specs.Reversal.{IsReverseOf}
 
 -- the flag, if it is set, says whether the prefix of the NFA is apart
 pub record IsFlag (is_apart : Option Bool) (nfa : Nfa) : Type 0 where

@@ -7,7 +7,7 @@ use Rattle.determinize_start.specs.StartKinds.{byte_before}
 use Rattle.determinize_find.specs.Idle.{NothingBefore}
 use Rattle.determinize_find.specs.LeftmostIn.{IsLeftmostIn}
 use Rattle.determinize_find.specs.Matches.{from}
-use Rattle.determinize_find.specs.Prefix.{HasPrefix}
+use Rattle.determinize_nfa.specs.Prefix.{HasPrefix}
 use Rattle.determinize_find.specs.Streams.{Streamed, whole}
 
 -- the search begins in the kept bytes, the byte before it is kept, and what was read has a count

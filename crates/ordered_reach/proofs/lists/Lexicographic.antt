@@ -1,6 +1,6 @@
 -- The lexicographic order of lists of numbers, by the first number of each.
--- Main statements: Before-first, Before-rest, Before-parts, Before-asym, same_least.
--- Used by: PathLists, UniqueOrder, MostPreferred, RunLists.
+-- Main statements: Before-first, Before-rest, Before-parts, Before-asym, Before-trans, same_least.
+-- Used by: PathLists, UniqueOrder, MostPreferred, RunLists, and runs after the prefix of an NFA.
 -- Idea: the first numbers decide unless they are equal.
 use Rattle.ordered_reach.proofs.Common.{[], arith, Before, by_cases, List, sym, ℕ, ◌<◌, ◌∷◌, ◌≡◌, ◌⊎◌}
 use Rattle.std.proofs.lemmas.Bool.Decides.{nat_tests}
@@ -20,6 +20,19 @@ Before-asym [] ds a b = grind arith
 Before-asym (c ∷ cs) [] a b = grind arith
 Before-asym (c ∷ cs) (d ∷ ds) a b =
     grind (arith, Before-parts c d cs ds a, Before-parts d c ds cs b, Before-asym cs ds)
+
+pub Before-trans : (xs ys zs : List ℕ) → Before xs ys → Before ys zs → Before xs zs
+Before-trans [] [] zs p q = grind arith
+Before-trans (x ∷ xs) [] zs p q = grind arith
+Before-trans xs (y ∷ ys) [] p q = grind arith
+Before-trans [] (y ∷ ys) (z ∷ zs) p q = grind arith
+Before-trans (x ∷ xs) (y ∷ ys) (z ∷ zs) p q = by_cases (Before-parts x y xs ys p)
+    (λ l. by_cases (Before-parts y z ys zs q)
+    (λ m. Before-first x z xs zs (omega arith))
+    (λ m. Before-first x z xs zs (omega (arith, m.0))))
+    (λ l. by_cases (Before-parts y z ys zs q)
+    (λ m. Before-first x z xs zs (omega (arith, l.0)))
+    (λ m. rw (l.0, m.0) (Before-rest z xs zs (Before-trans xs ys zs l.1 m.1))))
 
 -- two lists, neither of which is after the other, are equal
 pub same_least : (cs ds : List ℕ) → (cs ≡ ds) ⊎ Before cs ds → (ds ≡ cs) ⊎ Before ds cs → cs ≡ ds

@@ -1,12 +1,13 @@
 -- A depth-first search over positions, split into a search at each position.
--- Main statements: pair_eq, states_at, runs_are_listed, runs_own, states_at-ordered_next.
+-- Main statements: pair_eq, same_pairs, states_at, runs_are_listed, runs_own, states_at-ordered_next.
 -- Used by: CutLists, LastAccepting, RunFuel, RunLists, Automata.
 -- Idea: runs list each state that they reach at their position, and behind it the runs over its bytes.
-use Rattle.ordered_reach.proofs.Common.{true, [], ap, arith, Bool, by_test, cond, Decides, ends, eqb-true, false, flat_map, flat_map-append, flat_map-map, fresh, fun_ext, List, map, map-append, member, none_held, ordered, placed, refl, run_edges, suc, sym, with_node, zero, ℕ, ◌&&◌, ◌++◌, ◌+◌, ◌<◌, ◌==◌, ◌||◌, ◌∙◌, ◌∷◌, ◌≡◌, ◌≤◌, nat_lt, ◌-◌}
+use Rattle.ordered_reach.proofs.Common.{true, [], ap, arith, Bool, by_test, cond, Decides, ends, eqb-true, false, flat_map, flat_map-append, flat_map-map, fresh, fun_ext, List, map, map-append, member, none_held, ordered, placed, refl, run_edges, suc, sym, with_node, zero, ℕ, ◌&&◌, ◌++◌, ◌+◌, ◌<◌, ◌==◌, ◌||◌, ◌∙◌, ◌∷◌, ◌≡◌, ◌≤◌, nat_eq, nat_lt, ◌-◌}
 use Rattle.std.proofs.lemmas.Bool.Decides.{Decides-and, Decides-eqb, Decides-like, nat_tests}
 use Rattle.ordered_reach.proofs.graph.ClosedSets.{IsClosed, IsEnough, IsEnough-from_none, ends-enough, ends_agree, ends_within}
 use Rattle.ordered_reach.proofs.lists.Pieces.{flat_map-flat_map, flat_map-same, flat_map_none}
 use Rattle.ordered_reach.proofs.lists.NewNodes.{flat_map-agree, flat_map-member, fresh-flat_map, member-append}
+use Rattle.ordered_reach.proofs.graph.FiniteGraphs.{same_decides}
 
 -- whether two pairs are equal
 abbrev pub pair_eq : {N : Type 0} → (N → N → Bool) → ℕ × N → ℕ × N → Bool
@@ -17,6 +18,9 @@ pub Decides-pair_eq : {N : Type 0} {eq : N → N → Bool} → ((a b : N) → De
 Decides-pair_eq {N} {eq} dec p q =
     Decides-like (pair_eq eq p q) (λ h. λ i. (h.0 i, h.1 i)) (λ e. (ap (λ x. x.0) e, ap (λ x. x.1) e))
     (Decides-and (p.0 == q.0) (eq p.1 q.1) (Decides-eqb p.0 q.0) (dec p.1 q.1))
+
+pub same_pairs : (p q : ℕ × ℕ) → Decides (pair_eq nat_eq p q) (p ≡ q)
+same_pairs = Decides-pair_eq same_decides
 
 -- the state of a pair, if it is at the position
 abbrev pub state_at : {N : Type 0} → ℕ → ℕ × N → List N

@@ -2,7 +2,7 @@ use Rattle.std.proofs.Common.{rules, ◌≡◌, ◌≤◌, ◌-◌, ◌∙◌, S
 use Rattle.determinize_start.specs.StartKinds.{byte_before}
 use Rattle.determinize_lazy.proofs.steps.Rule.{of_err}
 use Rattle.determinize_find.specs.Idle.{IsIdle}
-use Rattle.determinize_find.specs.Prefix.{HasPrefixApart}
+use Rattle.determinize_nfa.specs.Prefix.{HasPrefixApart}
 use Rattle.determinize_find.specs.Private.Windows.{without_first}
 use Rattle.determinize_find.specs.Regexes.{RegexValue}
 use Rattle.determinize_find.specs.Streams.{IsEndScan, IsFed, IsSearching, Streamed}

@@ -2,7 +2,7 @@ use Rattle.std.proofs.Common.{◌∙◌, ap, Bool, Option, subst}
 use Rattle.std.specs.Bool.{Decides}
 use Rattle.std.specs.Option.{IfSome}
 use Rattle.determinize_below.specs.Semantics.{Nfa}
-use Rattle.determinize_find.specs.Prefix.{HasPrefixApart}
+use Rattle.determinize_nfa.specs.Prefix.{HasPrefixApart}
 use Rattle.determinize_find.specs.Regexes.{RegexValue}
 use Rattle.determinize_find.proofs.regex.LazyRegex+N+B+A.is_apart.Goals as goal
 

@@ -1,7 +1,7 @@
 use Rattle.std.proofs.Common.{◌∙◌, ap, subst, sym}
 use Rattle.determinize_below.specs.Semantics.{Nfa}
-use Rattle.determinize_find.specs.Prefix.{HasPrefix, HasPrefixApart}
-use Rattle.determinize_find.specs.Reversal.{IsReverseOf}
+use Rattle.determinize_nfa.specs.Prefix.{HasPrefix, HasPrefixApart}
+use Rattle.determinize_nfa.specs.Reversal.{IsReverseOf}
 use Rattle.determinize_find.proofs.regex.LazyRegex+N+B+A.new.Goals as goal
 
 pub invariant_of-result : goal.invariant_of-result

@@ -1,5 +1,0 @@
-use Rattle.std.proofs.Common.{◌≡◌, [], map, replicate}
-use Rattle.determinize_find.proofs.reversal.Turned.new.Given as goal
-
-abbrev pub invariant-loop : goal.invariant-loop
-invariant-loop g l = map (λ v. v.items) l.into.items ≡ replicate l.counter []

@@ -1,6 +1,0 @@
-use Rattle.determinize_find.specs.Private.Turning.{turned_over}
-use Rattle.determinize_find.proofs.reversing.Steps.{IsOver}
-use Rattle.determinize_find.proofs.reversal.reversed.Given as goal
-
-abbrev pub invariant-loop-id : goal.invariant-loop-id
-invariant-loop-id g l = IsOver l.nfa (turned_over l.nfa l.id-items) l.turned l.id-items l.id-index

@@ -1,0 +1,4 @@
+pub mod building
+pub mod prefixes
+pub mod reversing
+pub mod runs

@@ -1,0 +1,215 @@
+-- What a builder adds, and that the prefix which it puts before a start is the usual one. Main statements: the record
+-- IsMade, made_of. `Builder::patch` and `build_with_prefix` rest on them. The idea: no state before the prefix has a
+-- transition to it, so only the skip has one to its start.
+use Rattle.std.specs.List.{position, position_or_len}
+use Rattle.std.specs.Prelude.{nat_eq, nat_lt}
+use Rattle.std.proofs.Common.{◌≡◌, ◌<◌, ◌≤◌, ◌+◌, ◌-◌, ◌++◌, ◌⊎◌, ◌||◌, ◌∙◌, ◌∷◌, ℕ, Bool, List, None, Option, Some, [], ap, arith, cond, false, get_or, inl, inr, length, map, refl, set, subst, suc, sym, true, zero}
+use Rattle.std.proofs.Math.Seq.{map-set_same}
+use Rattle.std.proofs.lemmas.Bool.{cases_lt, false≢true}
+use Rattle.std.proofs.lemmas.Bool.Decides.{nat_tests}
+use Rattle.std.proofs.lemmas.List.{append_assoc, get_or-append-add, get_or-map, get_or_append_left, length-map, map-set}
+use Rattle.std.proofs.lemmas.List.Quantifiers.{position-Some}
+use Rattle.std.proofs.lemmas.List.Sums.{fails_before_first}
+use Rattle.determinize_below.specs.Semantics.{Nfa, Node, BinaryUnion, ByteRange, Fail}
+use Rattle.determinize_below.specs.Nfa.{failure, looks_of}
+use Rattle.determinize_below.specs.declared.nfa.BuildError.{BuildError}
+use Rattle.determinize_below.specs.declared.nfa.BuildError.TheVariants.{OutOfMemory, UnresolvedId}
+use Rattle.ordered_reach.proofs.Cases.{by_cases, by_test}
+use Rattle.determinize_nfa.specs.Builder.{BuilderValue, IsApart, IsUnfit, has_transition_to, built, prefixed}
+use Rattle.determinize_nfa.specs.Prefix.{HasPrefix, HasPrefixApart, leads_to}
+
+-- one state of a list is changed
+module _ {V : Type 0} (f : V → Node) (xs : List V) (i : ℕ) where
+  pub node_there : (old : V) → i < length xs → old ≡ get_or xs i old → f old ≡ get_or (map f xs) i Fail
+  node_there old l e = ap f e ∙ sym (get_or-map f xs i old Fail l)
+
+  module _ (new : V) (patterns terminator : ℕ) where
+    pub set_is : (node : Node) → f new ≡ node → ◌≡◌ {A = BuilderValue}
+        record { states = map f (set xs i new); patterns = patterns; terminator = terminator }
+        record { states = set (map f xs) i node; patterns = patterns; terminator = terminator }
+    set_is node n = rw (map-set f xs i new, n) refl
+
+    pub set_none : (old : V) → old ≡ get_or xs i old → f new ≡ f old → ◌≡◌ {A = BuilderValue}
+        record { states = map f (set xs i new); patterns = patterns; terminator = terminator }
+        record { states = map f xs; patterns = patterns; terminator = terminator }
+    set_none old e n = rw (map-set_same f xs i new old (n ∙ ap f e)) refl
+
+-- the first state that passes a test
+module _ {V : Type 0} (f : V → Node) (p : Node → Bool) where
+  len-map : (xs : List V) → position_or_len (λ x. p (f x)) xs ≡ position_or_len p (map f xs)
+  len-map [] = refl
+  len-map (x ∷ xs) = let h = len-map xs in rw h refl
+
+  position-map : (xs : List V) → position (λ x. p (f x)) xs ≡ position p (map f xs)
+  position-map xs =
+      ap (λ w. cond (nat_lt w (length xs)) (Some w) None) (len-map xs)
+      ∙ ap (λ w. cond (nat_lt (position_or_len p (map f xs)) w) (Some (position_or_len p (map f xs))) None)
+      (sym (length-map xs f))
+
+  pub first_passes : (xs : List V) (i : ℕ) → position (λ x. p (f x)) xs ≡ Some i → p (get_or (map f xs) i Fail) ≡ true
+  first_passes xs i e = (position-Some p (map f xs) i Fail (sym (position-map xs) ∙ e)).1
+
+  pub none_passes : (xs : List V) → position (λ x. p (f x)) xs ≡ None
+      → (s : ℕ) → s < length (map f xs) → p (get_or (map f xs) s Fail) ≡ false
+  none_passes xs e s l = by_test (nat_lt n (length (map f xs)))
+      (λ t. absurd (let k : Some n ≡ None = subst (λ w. cond w (Some n) None ≡ None) t none in cc))
+      (λ t. let k : length (map f xs) ≤ n = past n (length (map f xs)) t in
+      fails_before_first p (map f xs) s Fail (omega arith))
+    where
+      n : ℕ
+      n = position_or_len p (map f xs)
+
+      none : cond (nat_lt n (length (map f xs))) (Some n) None ≡ None
+      none = sym (position-map xs) ∙ e
+
+      past : (a b : ℕ) → nat_lt a b ≡ false → b ≤ a
+      past a b e = grind (arith, nat_tests)
+
+-- the prefix of a start
+module _ (b : BuilderValue) (start : ℕ) where
+  abbrev last_two : List Node
+  last_two = BinaryUnion start (suc (length b.states))
+      ∷ ByteRange record { start = 0; end = 255; next = length b.states } ∷ []
+
+  at : (k s : ℕ) → s ≡ length b.states + k → get_or (b.states ++ last_two) s Fail ≡ get_or last_two k Fail
+  at k s e = ap (λ w. get_or (b.states ++ last_two) w Fail) e ∙ get_or-append-add b.states last_two k Fail
+
+  has_prefix : start < length b.states
+      → ((s : ℕ) → s < length b.states → leads_to (length b.states) (get_or b.states s Fail) ≡ false)
+      → HasPrefix (built (prefixed b start) start (length b.states))
+  has_prefix l none = record {
+    skip = suc (length b.states);
+    first = at 0 (length b.states) (omega arith);
+    any = at 1 (suc (length b.states)) (omega arith);
+    alone = λ s h. by_cases (cases_lt s (length b.states))
+        (λ k. absurd (false≢true (sym (none s k)
+        ∙ ap (leads_to (length b.states)) (sym (get_or_append_left b.states last_two Fail s k)) ∙ h)))
+        (λ k. let z : s ≡ length b.states + (s - length b.states) = omega arith in
+        last s (s - length b.states) z
+        (ap (leads_to (length b.states)) (sym (at (s - length b.states) s z)) ∙ h));
+  }
+    where
+      other : (n : ℕ) → start < n → (nat_eq n start || nat_eq n (suc n)) ≡ false
+      other n k = grind (arith, nat_tests)
+
+      last : (s k : ℕ) → s ≡ length b.states + k → leads_to (length b.states) (get_or last_two k Fail) ≡ true
+          → s ≡ suc (length b.states)
+      last s zero e h = absurd (false≢true (sym (other (length b.states) l) ∙ h))
+      last s (suc zero) e h = omega arith
+      last s (suc (suc k)) e h = absurd (false≢true h)
+
+  pub has_prefix_apart : start < length b.states → IsApart b
+      → HasPrefixApart (built (prefixed b start) start (length b.states))
+  unfolding has_prefix
+  has_prefix_apart l is = record {
+    prefix = has_prefix l is.union;
+    apart = λ s h. by_cases (cases_lt s (length b.states))
+        (λ k. absurd (false≢true (sym (is.skip s k)
+        ∙ ap (leads_to (suc (length b.states))) (sym (get_or_append_left b.states last_two Fail s k)) ∙ h)))
+        (λ k. let z : s ≡ length b.states + (s - length b.states) = omega arith in
+        last s (s - length b.states) z
+        (ap (leads_to (suc (length b.states))) (sym (at (s - length b.states) s z)) ∙ h));
+  }
+    where
+      other : (n : ℕ) → nat_eq (suc n) n ≡ false
+      other n = grind (arith, nat_tests)
+
+      last : (s k : ℕ) → s ≡ length b.states + k → leads_to (suc (length b.states)) (get_or last_two k Fail) ≡ true
+          → s ≡ length b.states
+      last s zero e h = omega arith
+      last s (suc zero) e h = absurd (false≢true (sym (other (length b.states)) ∙ h))
+      last s (suc (suc k)) e h = absurd (false≢true h)
+
+-- neither of two tests
+neither_first : (x y : Bool) → (x || y) ≡ false → x ≡ false
+neither_first false y h = refl
+neither_first true y h = h
+
+neither_second : (x y : Bool) → (x || y) ≡ false → y ≡ false
+neither_second false y h = h
+neither_second true y h = absurd (false≢true (sym h))
+
+one_of : (x y : Bool) → (x || y) ≡ true → (x ≡ true) ⊎ (y ≡ true)
+one_of true y h = inl refl
+one_of false y h = inr h
+
+-- as the program finds a state with a transition to the prefix, if any
+module _ {V : Type 0} (f : V → Node) (xs ys : List V) (b : BuilderValue) (union skip : ℕ) (found : Option ℕ)
+    (is : map f xs ≡ b.states) (e : union ≡ length b.states) (k : skip ≡ suc (length b.states)) (same : ys ≡ xs)
+    (first : found ≡ position (λ x. has_transition_to union skip (f x)) ys) where
+  at_first : position (λ x. has_transition_to union skip (f x)) xs ≡ found
+  at_first = ap (λ w. position (λ x. has_transition_to union skip (f x)) w) (sym same) ∙ sym first
+
+  pub is_ahead : (start i : ℕ) → found ≡ Some i → IsUnfit b start (UnresolvedId i)
+  is_ahead start i p = by_cases
+      (one_of (leads_to union (get_or b.states i Fail)) (leads_to skip (get_or b.states i Fail))
+      (subst (λ ns. has_transition_to union skip (get_or ns i Fail) ≡ true) is
+      (first_passes f (has_transition_to union skip) xs i (at_first ∙ p))))
+      (λ h. inr (inl (inr (i, union, refl, omega (arith, e), h))))
+      (λ h. inr (inl (inr (i, skip, refl, omega (arith, k), h))))
+
+  none_to : found ≡ None → (s : ℕ) → s < length b.states → has_transition_to union skip (get_or b.states s Fail) ≡ false
+  none_to p s l =
+      subst (λ ns. (s : ℕ) → s < length ns → has_transition_to union skip (get_or ns s Fail) ≡ false) is
+      (none_passes f (has_transition_to union skip) xs (at_first ∙ p)) s l
+
+  pub none_ahead : found ≡ None → IsApart b
+  none_ahead p = record {
+    union = λ s l. subst (λ w. leads_to w (get_or b.states s Fail) ≡ false) e (neither_first
+        (leads_to union (get_or b.states s Fail)) (leads_to skip (get_or b.states s Fail)) (none_to p s l));
+    skip = λ s l. subst (λ w. leads_to w (get_or b.states s Fail) ≡ false) k (neither_second
+        (leads_to union (get_or b.states s Fail)) (leads_to skip (get_or b.states s Fail)) (none_to p s l));
+  }
+
+-- the states and the prefix, as the program puts them together
+pub record IsMade (b : BuilderValue) (start : ℕ) (states : List Node) (union terminator : ℕ) : Type 0 where
+  pub all : states ≡ (prefixed b start).states
+  pub first : union ≡ length b.states
+  pub same : terminator ≡ b.terminator
+
+pub made_of : (b : BuilderValue) (start : ℕ) (items states : List Node) (union skip patterns terminator : ℕ)
+    → ◌≡◌ {A = BuilderValue} record { states = items; patterns = patterns; terminator = terminator } b
+    → union ≡ length items → skip ≡ suc (length items)
+    → states ≡ (items ++ BinaryUnion start skip ∷ []) ++ ByteRange record { start = 0; end = 255; next = union } ∷ []
+    → IsMade b start states union terminator
+made_of b start items states union skip patterns terminator e u k w =
+    let i : items ≡ b.states = ap (λ (c : BuilderValue). c.states) e in
+    let n : union ≡ length b.states = u ∙ ap length i in
+    let m : skip ≡ suc (length b.states) = k ∙ ap (λ xs. suc (length xs)) i in
+    record {
+      all = w ∙ append_assoc items (BinaryUnion start skip ∷ [])
+          (ByteRange record { start = 0; end = 255; next = union } ∷ [])
+          ∙ ap (λ xs. xs ++ BinaryUnion start skip ∷ ByteRange record { start = 0; end = 255; next = union } ∷ []) i
+          ∙ ap (λ x. b.states ++ BinaryUnion start x ∷ ByteRange record { start = 0; end = 255; next = union } ∷ []) m
+          ∙ ap (λ x. b.states ++ BinaryUnion start (suc (length b.states))
+          ∷ ByteRange record { start = 0; end = 255; next = x } ∷ []) n;
+      first = n;
+      same = ap (λ (c : BuilderValue). c.terminator) e;
+    }
+
+module _ (b : BuilderValue) (start : ℕ) (states : List Node) (union terminator : ℕ)
+    (m : IsMade b start states union terminator) where
+  pub made_is : (nfa : Nfa)
+      → nfa ≡ record {
+        states = states;
+        start_anchored = start;
+        start_unanchored = union;
+        reverse = false;
+        terminator = terminator;
+        look_set_any = looks_of states;
+      }
+      → nfa ≡ built (prefixed b start) start (length b.states)
+  made_is nfa e = e ∙ (λ i. record {
+    states = m.all i;
+    start_anchored = start;
+    start_unanchored = m.first i;
+    reverse = false;
+    terminator = m.same i;
+    look_set_any = looks_of (m.all i);
+  })
+
+  pub made_unfit : (e : BuildError) → (failure states start union ≡ Some e) ⊎ (e ≡ OutOfMemory) → IsUnfit b start e
+  made_unfit e d = by_cases d
+      (λ f. inl (ap (λ ys. failure ys start (length b.states)) (sym m.all) ∙ ap (failure states start) (sym m.first)
+      ∙ f))
+      (λ f. inr (inr f))

@@ -1,0 +1,68 @@
+use Rattle.std.proofs.Common.{rules, ◌≡◌, ◌<◌, ◌+◌, ℕ, List, None, Some, [], arith, length, subst, sym, true}
+use Rattle.std.specs.List.{IsDistinct}
+use Rattle.std.specs.Prelude.{nat_eq, slice_get}
+use Rattle.determinize_below.specs.Nfa.{resolves}
+use Rattle.determinize_below.specs.Node.{node_of}
+use Rattle.determinize_below.proofs.nfas.SoundNfa.{each_passes}
+use Rattle.determinize_nfa.specs.Private.Closed.{IsClosed, all_visited, targets_in, visited}
+use Rattle.determinize_nfa.proofs.reversing.FoundStates.{IsFound, found_all, found_index, found_more, found_start}
+use Rattle.determinize_nfa.proofs.reached.reached.Goals as goal
+
+pub loop-id-init : goal.loop-id-init
+loop-id-init g c =
+    let ids : c.visit.new.self.ids ≡ visited [] c.args.nfa.now.start_anchored = search rules in
+    let below : c.args.nfa.now.start_anchored < length c.args.nfa.now.states
+    = omega (arith, c.start_anchored.ensures.value, c.start_anchored.ensures.resolves) in
+    record {
+      capacity = search rules;
+      found = subst (λ (xs : List ℕ). IsFound c.args.nfa.now xs 0) (sym ids) (found_start c.args.nfa.now below);
+    }
+
+pub state-requires : goal.state-requires
+state-requires g c =
+    let is : slice_get c.loop-id.found.ids c.loop-id.index ≡ Some c.in-Some.id = search rules in
+    (found_index c.args.nfa.now c.loop-id.found.ids c.loop-id.index c.in-Some.id c.loop-id.invariant.found is).1
+
+pub visit_targets-requires : goal.visit_targets-requires
+visit_targets-requires g c =
+    subst (λ (n : ℕ). resolves n (node_of c.state.result.now) ≡ true) (sym c.loop-id.invariant.capacity)
+    (each_passes c.args.nfa.now c.state.ensures.accepted c.in-Some.id
+    (node_of c.state.result.now) c.state.ensures.state).resolves
+
+pub overflow_add-index : goal.overflow_add-index
+overflow_add-index g c =
+    let is : slice_get c.loop-id.found.ids c.loop-id.index ≡ Some c.in-Some.id = search rules in
+    let low = (found_index c.args.nfa.now c.loop-id.found.ids c.loop-id.index c.in-Some.id c.loop-id.invariant.found
+    is).0 in
+    omega (arith, low, c.len.ensures.count, c.len.ensures.limit)
+
+pub loop-id-smaller : goal.loop-id-smaller
+loop-id-smaller g c =
+    let is : slice_get c.loop-id.found.ids c.loop-id.index ≡ Some c.in-Some.id = search rules in
+    let low = (found_index c.args.nfa.now c.loop-id.found.ids c.loop-id.index c.in-Some.id c.loop-id.invariant.found
+    is).0 in
+    omega (arith, low)
+
+pub loop-id-preserved : goal.loop-id-preserved
+loop-id-preserved g c =
+    let is : slice_get c.loop-id.found.ids c.loop-id.index ≡ Some c.in-Some.id = search rules in
+    let ids : c.visit_targets.new.self.ids
+    ≡ all_visited c.loop-id.found.ids (targets_in (node_of c.state.result.now)) = search rules in
+    record {
+      capacity = search rules;
+      found = subst (λ (xs : List ℕ). IsFound c.args.nfa.now xs (c.loop-id.index + 1)) (sym ids)
+          (found_more c.args.nfa.now c.state.ensures.accepted c.loop-id.found.ids c.loop-id.index c.in-Some.id
+          (node_of c.state.result.now) c.loop-id.invariant.found is c.state.ensures.state);
+    }
+
+pub returns-clause-closed : goal.returns-clause-closed
+returns-clause-closed g c =
+    let none : slice_get c.loop-id.found.ids c.loop-id.index ≡ None = search rules in
+    let items : c.found-in-loop-id.inside.order.items ≡ c.loop-id.found.ids = search rules in
+    subst (λ (xs : List ℕ). IsClosed c.args.nfa.now xs) (sym items)
+    (found_all c.args.nfa.now c.loop-id.found.ids c.loop-id.index c.loop-id.invariant.found none)
+
+pub returns-clause-distinct : goal.returns-clause-distinct
+returns-clause-distinct g c =
+    let items : c.found-in-loop-id.inside.order.items ≡ c.loop-id.found.ids = search rules in
+    subst (λ (xs : List ℕ). IsDistinct nat_eq xs) (sym items) c.loop-id.invariant.found.distinct

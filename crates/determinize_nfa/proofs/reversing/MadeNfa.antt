@@ -1,0 +1,70 @@
+-- The NFA that is made of the recorded transitions is the reverse, its one match state, and which errors making it has.
+-- Main statements: made_of_all, made_match, made_error. `reversed` rests on them. The idea: the loop has recorded each
+-- state that is reached (RecordedStates), so both directions of runs (BothWays) and the validation (Validation) apply.
+use Rattle.std.specs.List.{IsDistinct, filter}
+use Rattle.std.specs.Prelude.{All, nat_eq}
+use Rattle.std.proofs.Common.{◌≡◌, ◌<◌, ◌⊎◌, ◌∙◌, ◌∷◌, ℕ, List, Some, [], ap, arith, inl, inr, length, subst, suc, sym}
+use Rattle.determinize_below.specs.Nfa.{IsAccepted, failure}
+use Rattle.determinize_below.specs.Edges.{is_match_node}
+use Rattle.determinize_below.specs.Semantics.{Nfa, Node, Match}
+use Rattle.determinize_below.specs.declared.nfa.BuildError.{BuildError}
+use Rattle.determinize_below.specs.declared.nfa.BuildError.TheVariants.{OutOfMemory}
+use Rattle.determinize_below.specs.declared.primitives.TheConstants.{ID_LIMIT}
+use Rattle.ordered_reach.proofs.lists.Elements.{In}
+use Rattle.ordered_reach.proofs.Cases.{by_cases}
+use Rattle.determinize_nfa.specs.Private.Closed.{IsClosed}
+use Rattle.determinize_nfa.specs.Private.Turning.{Turned, turned_over}
+use Rattle.determinize_nfa.specs.Private.Gathered.{states_of}
+use Rattle.determinize_nfa.specs.Reversal.{IsReverseOf, IsTooLarge, most_states}
+use Rattle.determinize_nfa.proofs.reversing.FoundStates.{In_below}
+use Rattle.determinize_nfa.proofs.reversing.Recorded.{IsRecorded}
+use Rattle.determinize_nfa.proofs.reversing.BothWays.{IsMadeOf, made_reverse}
+use Rattle.determinize_nfa.proofs.reversing.Counts.{length-states, length-states_most, rest_over}
+use Rattle.determinize_nfa.proofs.reversing.OnePattern.{one_match}
+use Rattle.determinize_nfa.proofs.reversing.RecordedStates.{all_recorded}
+use Rattle.determinize_nfa.proofs.reversing.Validation.{IsPlain, each_plain, only_size}
+
+pub made_of_all : (nfa backward : Nfa) (met : List ℕ) (h : Turned) → IsAccepted nfa → IsClosed nfa met
+    → All (λ s. s < length nfa.states) met → turned_over nfa met ≡ h → IsMadeOf nfa backward h
+    → IsReverseOf backward nfa
+made_of_all nfa backward met h accepted closed below is made =
+    made_reverse nfa backward met h made
+    (subst (λ t. IsRecorded nfa met t) is
+    (all_recorded nfa accepted met closed (λ s k. In_below (length nfa.states) met s below k)))
+
+-- what was recorded of the states of a list is a state that reads or tests, with ids below the count
+plain_rest : (nfa : Nfa) (count : ℕ) (met : List ℕ) (h : Turned) → ((s : ℕ) → In s met → s < count)
+    → turned_over nfa met ≡ h → (x : Node) → In x h.rest → IsPlain count x
+plain_rest nfa count met h below is x k = each_plain nfa count met below x
+    (subst (λ w. In x w) (ap (λ (t : Turned). t.rest) (sym is) ∙ rest_over nfa met) k)
+
+-- the NFA has one match state
+pub made_match : (nfa backward : Nfa) (met : List ℕ) (h : Turned) → All (λ s. s < length nfa.states) met
+    → turned_over nfa met ≡ h → IsMadeOf nfa backward h → filter is_match_node backward.states ≡ Match 0 ∷ []
+made_match nfa backward met h below is made = ap (λ ns. filter is_match_node ns) made.states
+    ∙ one_match h (λ x k.
+    (plain_rest nfa (length nfa.states) met h (λ s j. In_below (length nfa.states) met s below j) is x k).pattern)
+
+-- what is wrong with the NFA, if anything, is that it is too large
+pub made_error : (nfa : Nfa) (met : List ℕ) (h : Turned) → IsAccepted nfa → IsClosed nfa met
+    → All (λ s. s < length nfa.states) met → IsDistinct nat_eq met → turned_over nfa met ≡ h
+    → (start : ℕ) (e : BuildError) → start ≡ suc (length nfa.states)
+    → (failure (states_of h) start start ≡ Some e) ⊎ (e ≡ OutOfMemory) → IsTooLarge (most_states nfa) e
+made_error nfa met h accepted closed below d is start e z f = by_cases f
+    (λ k. let r = only_size nfa h recorded.sound plain start e z k in
+    let l : ID_LIMIT < length (states_of h) = r.1 in
+    let m = length-states_most nfa met h d is recorded.sound.count in inr (r.0, omega (arith, l, m)))
+    (λ k. inl k)
+  where
+    inside : (s : ℕ) → In s met → s < length nfa.states
+    inside s k = In_below (length nfa.states) met s below k
+
+    recorded : IsRecorded nfa met h
+    recorded = subst (λ t. IsRecorded nfa met t) is (all_recorded nfa accepted met closed inside)
+
+    plain : (x : Node) → In x h.rest → IsPlain (length (states_of h)) x
+    plain x k = plain_rest nfa (length (states_of h)) met h
+        (λ s i. let l : s < length nfa.states = inside s i in
+        let a = length-states h in
+        let b : length h.into ≡ length nfa.states = recorded.sound.count in omega (arith, l, a, b))
+        is x k

@@ -1,0 +1,206 @@
+-- What the recorded transitions say of the NFA: each is a transition of it, and those of the states so far are there.
+-- Main statements: the records IsSound and IsRecorded, grown_then, arcs_stay. All of this folder rests on them. The
+-- idea: what is recorded only grows, and an entry keeps its place, so a fact of one entry stays true.
+use Rattle.std.specs.Prelude.{slice_get, slice_set}
+use Rattle.std.proofs.Common.{◌≡◌, ◌<◌, ◌+◌, ◌++◌, ◌⊎◌, ◌∙◌, ◌∷◌, ℕ, Bool, List, None, Some, [], ap, arith, get_or, inl, inr, length, refl, subst, suc, sym, true, zero}
+use Rattle.std.proofs.lemmas.Bool.{cases_eq}
+use Rattle.std.proofs.lemmas.List.{get_or-set_other, get_or-set_same, length-set}
+use Rattle.determinize_below.specs.Semantics.{edges_of, state_at, target_of, Nfa, Node, ByteRange, Look}
+use Rattle.determinize_below.specs.Edges.{pattern_in}
+use Rattle.determinize_below.specs.Edges.{pattern_of}
+use Rattle.determinize_below.specs.Look.{reversed}
+use Rattle.determinize_below.specs.Transition.{matches}
+use Rattle.determinize_below.specs.declared.look.Look.{Look as Assertion}
+use Rattle.determinize_below.specs.declared.nfa.transitions.Transition.{Transition}
+use Rattle.ordered_reach.proofs.lists.Elements.{In, In_append_cases, In_append_left, In_append_right}
+use Rattle.ordered_reach.proofs.Cases.{by_cases}
+use Rattle.determinize_nfa.specs.Private.Closed.{IsClosed}
+use Rattle.determinize_nfa.specs.Private.Turning.{Turned, added, range_to, sources, with_state}
+
+-- the id of a state that reads a byte or tests an assertion
+abbrev pub id_of : Nfa → ℕ → ℕ
+id_of nfa i = length nfa.states + 2 + i
+
+-- the state is a transition of the NFA to t, reversed
+abbrev pub IsArc : Nfa → ℕ → Node → Type 0
+IsArc nfa t (ByteRange r) = (b : ℕ) → matches r b ≡ true → target_of (Some b) (state_at nfa r.next) ≡ Some t
+IsArc nfa t (Look look next) = state_at nfa next ≡ Look (reversed look) t
+IsArc nfa t _ = ⊥
+
+-- the id is that of a state with a transition to t without input, of the match state if t is the
+-- anchored start, or of a reversed transition to t
+abbrev pub IsSource : Nfa → List Node → ℕ → ℕ → Type 0
+IsSource nfa rest t y =
+    ((y < length nfa.states) × ((holds : Assertion → Bool) → In t (edges_of holds (state_at nfa y))))
+    ⊎ (((y ≡ length nfa.states) × (t ≡ nfa.start_anchored))
+    ⊎ ((i : ℕ) × (node : Node) × (y ≡ id_of nfa i) × (slice_get rest i ≡ Some node) × IsArc nfa t node))
+
+-- all that is recorded is of the NFA
+pub record IsSound (nfa : Nfa) (h : Turned) : Type 0 where
+  pub count : length h.into ≡ length nfa.states
+  pub into : (t y : ℕ) → In y (sources h t) → IsSource nfa h.rest t y
+  pub ends : (s : ℕ) → In s h.ends → (pattern : ℕ) × (pattern_of nfa s ≡ Some pattern)
+
+-- the transition over the bytes of r, from t back to s, is recorded
+abbrev pub HasRange : Nfa → Turned → ℕ → ℕ → Transition → Type 0
+HasRange nfa h s t r = (i : ℕ) × In (id_of nfa i) (sources h t) × (slice_get h.rest i ≡ Some (range_to s r))
+
+-- the reversed assertion, from t back to s, is recorded
+abbrev pub HasLook : Nfa → Turned → ℕ → ℕ → Assertion → Type 0
+HasLook nfa h s t look = (i : ℕ) × In (id_of nfa i) (sources h t) × (slice_get h.rest i ≡ Some (Look (reversed look) s))
+
+-- every transition of the state s, which is this one, is recorded
+pub record HasArcs (nfa : Nfa) (h : Turned) (s : ℕ) (node : Node) : Type 0 where
+  pub ends : (pattern : ℕ) → pattern_in node ≡ Some pattern → In s h.ends
+  pub free : (holds : Assertion → Bool) (t : ℕ) → In t (edges_of holds node)
+      → In s (sources h t) ⊎ ((look : Assertion) × HasLook nfa h s t look × (holds look ≡ true))
+  pub bytes : (b t : ℕ) → target_of (Some b) node ≡ Some t
+      → (r : Transition) × HasRange nfa h s t r × (matches r b ≡ true)
+
+-- what was recorded stays
+pub record IsGrown (old new : Turned) : Type 0 where
+  pub into : (t y : ℕ) → In y (sources old t) → In y (sources new t)
+  pub rest : (i : ℕ) (node : Node) → slice_get old.rest i ≡ Some node → slice_get new.rest i ≡ Some node
+  pub ends : (s : ℕ) → In s old.ends → In s new.ends
+
+-- the transitions of a closed list of states are recorded, and no others
+pub record IsRecorded (nfa : Nfa) (met : List ℕ) (h : Turned) : Type 0 where
+  pub closed : IsClosed nfa met
+  pub sound : IsSound nfa h
+  pub begins : In (length nfa.states) (sources h nfa.start_anchored)
+  pub arcs : (s : ℕ) → In s met → HasArcs nfa h s (state_at nfa s)
+
+pub grown_self : (h : Turned) → IsGrown h h
+grown_self h = record { into = λ t y k. k; rest = λ i node k. k; ends = λ s k. k }
+
+pub grown_then : (a b c : Turned) → IsGrown a b → IsGrown b c → IsGrown a c
+grown_then a b c f g = record {
+  into = λ t y k. g.into t y (f.into t y k);
+  rest = λ i node k. g.rest i node (f.rest i node k);
+  ends = λ s k. g.ends s (f.ends s k);
+}
+
+-- what was recorded of a state stays
+pub arcs_stay : (nfa : Nfa) (old new : Turned) (s : ℕ) (node : Node) → IsGrown old new → HasArcs nfa old s node
+    → HasArcs nfa new s node
+arcs_stay nfa old new s node g a = record {
+  ends = λ pattern e. g.ends s (a.ends pattern e);
+  free = λ holds t k. by_cases (a.free holds t k)
+      (λ d. inl (g.into t s d))
+      (λ d. inr (d.0, (d.1.0, g.into t (id_of nfa d.1.0) d.1.1, g.rest d.1.0 (Look (reversed d.0) s) d.1.2), d.2));
+  bytes = λ b t k. let d = a.bytes b t k in
+      (d.0, (d.1.0, g.into t (id_of nfa d.1.0) d.1.1, g.rest d.1.0 (range_to s d.0) d.1.2), d.2);
+}
+
+-- an id that goes to the end of one list: there, and elsewhere
+module _ (into : List (List ℕ)) (t y : ℕ) (l : t < length into) where
+  abbrev longer : List (List ℕ)
+  longer = slice_set into t (get_or into t [] ++ y ∷ [])
+
+  pub same_there : get_or longer t [] ≡ get_or into t [] ++ y ∷ []
+  same_there = get_or-set_same into t (get_or into t [] ++ y ∷ []) [] l
+
+  pub stays_in : (u z : ℕ) → In z (get_or into u []) → In z (get_or longer u [])
+  stays_in u z k = by_cases (cases_eq u t)
+      (λ e. subst (λ w. In z (get_or longer w [])) (sym e) (subst (λ w. In z w) (sym same_there)
+      (In_append_left z (get_or into t []) (y ∷ []) (subst (λ w. In z (get_or into w [])) e k))))
+      (λ n. subst (λ w. In z w) (sym (get_or-set_other into t u (get_or into t [] ++ y ∷ []) [] n)) k)
+
+  pub is_there : In y (get_or longer t [])
+  is_there = subst (λ w. In y w) (sym same_there) (In_append_right y (get_or into t []) (y ∷ []) (0, refl))
+
+  pub came_in : {P : Type 0} (u z : ℕ) → In z (get_or longer u []) → (In z (get_or into u []) → P)
+      → (u ≡ t → z ≡ y → P) → P
+  came_in u z k f g = by_cases (cases_eq u t)
+      (λ e. In_append_cases z (get_or into t []) (y ∷ [])
+      (subst (λ w. In z w) same_there (subst (λ w. In z (get_or longer w [])) e k))
+      (λ d. f (subst (λ w. In z (get_or into w [])) (sym e) d))
+      (λ d. g e (one d)))
+      (λ n. f (subst (λ w. In z w) (get_or-set_other into t u (get_or into t [] ++ y ∷ []) [] n) k))
+    where
+      one : In z (y ∷ []) → z ≡ y
+      one d = go d.0 d.1
+        where
+          go : (i : ℕ) → slice_get (y ∷ []) i ≡ Some z → z ≡ y
+          go zero e = (let k : y ≡ z = cc in sym k)
+          go (suc i) e = absurd (let k : None ≡ Some z = e in cc)
+
+pub slice_get-left : {A : Type 0} (xs ys : List A) (i : ℕ) (x : A) → slice_get xs i ≡ Some x
+    → slice_get (xs ++ ys) i ≡ Some x
+slice_get-left {A} xs ys i x e = go xs i e
+  where
+    go : (xs : List A) (i : ℕ) → slice_get xs i ≡ Some x → slice_get (xs ++ ys) i ≡ Some x
+    go [] i e = absurd (let k : None ≡ Some x = e in cc)
+    go (z ∷ xs) zero e = e
+    go (z ∷ xs) (suc i) e = go xs i e
+
+slice_get-last : (xs : List Node) (x : Node) → slice_get (xs ++ x ∷ []) (length xs) ≡ Some x
+slice_get-last [] x = refl
+slice_get-last (z ∷ xs) x = slice_get-last xs x
+
+-- sources stay sources where states are added
+source_stays : (nfa : Nfa) (rest more : List Node) (t y : ℕ) → IsSource nfa rest t y → IsSource nfa (rest ++ more) t y
+source_stays nfa rest more t y d = by_cases d (λ f. inl f) (λ f. by_cases f (λ g. inr (inl g))
+    (λ g. inr (inr (g.0, g.1, g.2, slice_get-left rest more g.0 g.1 g.3, g.4))))
+
+module _ (nfa : Nfa) (h : Turned) (sound : IsSound nfa h) where
+  within : (t : ℕ) → t < length nfa.states → t < length h.into
+  within t l = let c : length h.into ≡ length nfa.states = sound.count in omega arith
+
+  -- a transition without input
+  pub grown_added : (t y : ℕ) → t < length nfa.states → IsGrown h (added h t y)
+  grown_added t y l = record {
+    into = stays_in h.into t y (within t l);
+    rest = λ i node k. k;
+    ends = λ s k. k;
+  }
+
+  pub sound_added : (t y : ℕ) → t < length nfa.states → IsSource nfa h.rest t y → IsSound nfa (added h t y)
+  sound_added t y l d = record {
+    count = length-set h.into t (sources h t ++ y ∷ []) ∙ sound.count;
+    into = λ u z k. came_in h.into t y (within t l) u z k (λ f. sound.into u z f)
+        (λ e f. subst (λ w. IsSource nfa h.rest w z) (sym e) (subst (λ w. IsSource nfa h.rest t w) (sym f) d));
+    ends = sound.ends;
+  }
+
+  pub there_added : (t y : ℕ) → t < length nfa.states → In y (sources (added h t y) t)
+  there_added t y l = is_there h.into t y (within t l)
+
+  -- a transition over a byte or an assertion
+  abbrev pub last_id : ℕ
+  last_id = length h.into + 2 + length h.rest
+
+  last_is : last_id ≡ id_of nfa (length h.rest)
+  last_is = ap (λ c. c + 2 + length h.rest) sound.count
+
+  pub grown_state : (t : ℕ) (node : Node) → t < length nfa.states → IsGrown h (with_state h t node)
+  grown_state t node l = record {
+    into = stays_in h.into t last_id (within t l);
+    rest = slice_get-left h.rest (node ∷ []);
+    ends = λ s k. k;
+  }
+
+  pub sound_state : (t : ℕ) (node : Node) → t < length nfa.states → IsArc nfa t node → IsSound nfa (with_state h t node)
+  sound_state t node l arc = record {
+    count = length-set h.into t (sources h t ++ last_id ∷ []) ∙ sound.count;
+    into = λ u z k. came_in h.into t last_id (within t l) u z k
+        (λ f. source_stays nfa h.rest (node ∷ []) u z (sound.into u z f))
+        (λ e f. inr (inr (
+          length h.rest,
+          node,
+          f
+              ∙ last_is,
+          slice_get-last h.rest node,
+          subst (λ w. IsArc nfa w node) (sym e) arc,
+        )));
+    ends = sound.ends;
+  }
+
+  pub there_state : (t : ℕ) (node : Node) → t < length nfa.states
+      → (i : ℕ) × In (id_of nfa i) (sources (with_state h t node) t)
+      × (slice_get (with_state h t node).rest i ≡ Some node)
+  there_state t node l = (
+    length h.rest,
+    subst (λ w. In w (sources (with_state h t node) t)) last_is (is_there h.into t last_id (within t l)),
+    slice_get-last h.rest node,
+  )

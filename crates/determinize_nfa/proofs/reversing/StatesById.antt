@@ -1,0 +1,99 @@
+-- The states of a reversed NFA by their ids: gathering states, the match, the start, and then those that read. Main
+-- statements: laid_out, edges-gathered, target-gathered, sources_within. BothWays and Validation cite them. The idea: a
+-- state that gathers has the same edges whichever kind it is, and ids are places in a list of four parts.
+use Rattle.std.specs.Prelude.{slice_get}
+use Rattle.std.proofs.Common.{◌≡◌, ◌<◌, ◌+◌, ◌++◌, ◌∙◌, ◌∷◌, ℕ, Bool, List, None, Option, Some, [], ap, arith, get_or, length, map, refl, subst, suc, sym, zero}
+use Rattle.std.proofs.lemmas.Bool.{cases_lt}
+use Rattle.std.proofs.lemmas.Option.{get_or_from_slice_get}
+use Rattle.determinize_below.specs.Semantics.{edges_of, state_at, target_of, Nfa, Node, Fail, Match, Union}
+use Rattle.determinize_below.specs.Edges.{pattern_in}
+use Rattle.determinize_below.specs.Edges.{pattern_of}
+use Rattle.determinize_below.specs.declared.look.Look.{Look as Assertion}
+use Rattle.determinize_below.proofs.nfas.Edges.{state_past}
+use Rattle.ordered_reach.proofs.lists.Elements.{In}
+use Rattle.ordered_reach.proofs.Cases.{by_cases}
+use Rattle.determinize_nfa.specs.Private.Gathered.{gathered, states_of}
+use Rattle.determinize_nfa.specs.Private.Turning.{Turned, sources}
+
+-- a gathering state has its list of transitions, none over a byte, and no pattern
+pub edges-gathered : (holds : Assertion → Bool) (xs : List ℕ) → edges_of holds (gathered xs) ≡ xs
+edges-gathered holds [] = refl
+edges-gathered holds (x ∷ []) = refl
+edges-gathered holds (x ∷ y ∷ zs) = refl
+
+pub target-gathered : (u : Option ℕ) (xs : List ℕ) → target_of u (gathered xs) ≡ None
+target-gathered u [] = refl
+target-gathered u (x ∷ []) = refl
+target-gathered u (x ∷ y ∷ zs) = refl
+
+pub pattern-gathered : (xs : List ℕ) → pattern_in (gathered xs) ≡ None
+pattern-gathered [] = refl
+pattern-gathered (x ∷ []) = refl
+pattern-gathered (x ∷ y ∷ zs) = refl
+
+get_or-gathered : (into : List (List ℕ)) (more : List Node) (x : ℕ) → x < length into
+    → get_or (map gathered into ++ more) x Fail ≡ gathered (get_or into x [])
+get_or-gathered [] more x l = absurd (omega arith)
+get_or-gathered (ids ∷ into) more zero l = refl
+get_or-gathered (ids ∷ into) more (suc x) l = get_or-gathered into more x (omega arith)
+
+get_or-after : (into : List (List ℕ)) (more : List Node) (x : ℕ)
+    → get_or (map gathered into ++ more) (length into + x) Fail ≡ get_or more x Fail
+get_or-after [] more x = let z : 0 + x ≡ x = omega arith in ap (λ w. get_or more w Fail) z
+get_or-after (ids ∷ into) more x =
+    let z : suc (length into) + x ≡ suc (length into + x) = omega arith in
+    ap (λ w. get_or (gathered ids ∷ (map gathered into ++ more)) w Fail) z ∙ get_or-after into more x
+
+-- which state is where
+pub record IsLaid (backward : Nfa) (h : Turned) (n : ℕ) : Type 0 where
+  pub gathers : (x : ℕ) → x < n → state_at backward x ≡ gathered (sources h x)
+  pub match : state_at backward n ≡ Match 0
+  pub starts : state_at backward (suc n) ≡ Union h.ends
+  pub others : (i : ℕ) (node : Node) → slice_get h.rest i ≡ Some node → state_at backward (n + 2 + i) ≡ node
+
+pub laid_out : (backward : Nfa) (h : Turned) (n : ℕ) → backward.states ≡ states_of h → length h.into ≡ n
+    → IsLaid backward h n
+laid_out backward h n e l = record {
+  gathers = λ x k. at x ∙ get_or-gathered h.into (Match 0 ∷ Union h.ends ∷ h.rest) x (omega arith);
+  match = at n ∙ after n 0 (omega arith);
+  starts = at (suc n) ∙ after (suc n) 1 (omega arith);
+  others = λ i node k. at (n + 2 + i) ∙ after (n + 2 + i) (suc (suc i)) (omega arith)
+      ∙ get_or_from_slice_get h.rest i node Fail k;
+}
+  where
+    at : (x : ℕ) → state_at backward x ≡ get_or (states_of h) x Fail
+    at x = ap (λ s. get_or s x Fail) e
+
+    after : (x y : ℕ) → length h.into + y ≡ x
+        → get_or (states_of h) x Fail ≡ get_or (Match 0 ∷ Union h.ends ∷ h.rest) y Fail
+    after x y k =
+        ap (λ z. get_or (states_of h) z Fail) (sym k) ∙ get_or-after h.into (Match 0 ∷ Union h.ends ∷ h.rest) y
+
+-- an id in the list of a state is in one of the lists
+pub sources_within : (h : Turned) (t y : ℕ) → In y (sources h t) → t < length h.into
+sources_within h t y k = go h.into t k
+  where
+    go : (into : List (List ℕ)) (t : ℕ) → In y (get_or into t []) → t < length into
+    go [] t k = absurd (let e : Some y ≡ None = sym k.1 in cc)
+    go (ids ∷ into) zero k = omega arith
+    go (ids ∷ into) (suc t) k = let l : t < length into = go into t k in omega arith
+
+module _ (nfa : Nfa) (s : ℕ) where
+  is_state : {P : Type 0} → (state_at nfa s ≡ Fail → P) → (s < length nfa.states → P) → P
+  is_state f g = by_cases (cases_lt s (length nfa.states)) g (λ l. f (state_past nfa s l))
+
+  -- an id with a pattern, or with a transition over a byte, is that of a state
+  pub pattern_within : (pattern : ℕ) → pattern_of nfa s ≡ Some pattern → s < length nfa.states
+  pattern_within pattern e = is_state
+      (λ z. absurd (let k : None ≡ Some pattern = subst (λ w. pattern_in w ≡ Some pattern) z e in cc))
+      (λ l. l)
+
+  pub target_within : (u : Option ℕ) (t : ℕ) → target_of u (state_at nfa s) ≡ Some t → s < length nfa.states
+  target_within u t e = is_state
+      (λ z. absurd (let k : None ≡ Some t = subst (λ w. target_of u w ≡ Some t) z e in cc))
+      (λ l. l)
+
+  pub edge_within : (holds : Assertion → Bool) (t : ℕ) → In t (edges_of holds (state_at nfa s)) → s < length nfa.states
+  edge_within holds t k = is_state
+      (λ z. absurd (let e : Some t ≡ None = sym (subst (λ w. In t (edges_of holds w)) z k).1 in cc))
+      (λ l. l)

@@ -1,0 +1,76 @@
+-- One more recorded transition, and one more reached state, as the program records them. Main statements: added_is,
+-- count-node, over_more, over_all. `Turned::add` and the loop of `reversed` rest on them. The idea: a push to one list
+-- of a list of lists is the definition of `added`.
+use Rattle.std.specs.Prelude.{slice_get}
+use Rattle.std.proofs.Common.{◌≡◌, ◌<◌, ◌≤◌, ◌+◌, ◌++◌, ◌∙◌, ◌∷◌, ℕ, List, Some, [], ap, arith, drop, get_or, length, map, refl, set, suc, sym, zero}
+use Rattle.std.proofs.Math.Seq.{drop-cons}
+use Rattle.std.proofs.lemmas.List.{get_or-map, length-set, map-set}
+use Rattle.determinize_below.specs.Semantics.{Nfa, Node, ByteRange, Sparse, Dense, Look, Union, BinaryUnion, Capture}
+use Rattle.determinize_below.specs.declared.nfa.transitions.Transition.{Transition}
+use Rattle.determinize_nfa.specs.Private.Turning.{Turned, added, range_to, sources, with_frees, with_node, with_nodes, with_ranges, runs, with_state}
+use Rattle.determinize_nfa.proofs.prefixes.Parts.{state_is}
+
+-- an id goes to the end of one of some lists
+pushed : {V : Type 0} (items : V → List ℕ) (lists : List V) (i : ℕ) (old new : V) (y : ℕ) → i < length lists
+    → old ≡ get_or lists i old → items new ≡ items old ++ y ∷ []
+    → map items (set lists i new) ≡ set (map items lists) i (get_or (map items lists) i [] ++ y ∷ [])
+pushed items lists i old new y l e n =
+    let o : items old ≡ get_or (map items lists) i [] = ap items e ∙ sym (get_or-map items lists i old [] l) in
+    map-set items lists i new ∙ ap (λ w. set (map items lists) i w) (n ∙ ap (λ w. w ++ y ∷ []) o)
+
+pub added_is : {V : Type 0} (items : V → List ℕ) (lists : List V) (rest : List Node) (ends : List ℕ) (i : ℕ)
+    (old new : V) (y : ℕ) → i < length lists → old ≡ get_or lists i old → items new ≡ items old ++ y ∷ []
+    → ◌≡◌ {A = Turned} record { into = map items (set lists i new); rest = rest; ends = ends }
+    (added record { into = map items lists; rest = rest; ends = ends } i y)
+added_is items lists rest ends i old new y l e n =
+    λ k. record { into = pushed items lists i old new y l e n k; rest = rest; ends = ends }
+
+-- there is one list for each state
+count-ranges : (s : ℕ) (rs : List Transition) (h : Turned) → length (with_ranges h s rs).into ≡ length h.into
+count-ranges s [] h = refl
+count-ranges s (r ∷ rs) h =
+    count-ranges s rs (with_state h r.next (range_to s r))
+    ∙ length-set h.into r.next (sources h r.next ++ (length h.into + 2 + length h.rest) ∷ [])
+
+count-frees : (s : ℕ) (ids : List ℕ) (h : Turned) → length (with_frees h s ids).into ≡ length h.into
+count-frees s [] h = refl
+count-frees s (id ∷ ids) h = count-frees s ids (added h id s) ∙ length-set h.into id (sources h id ++ s ∷ [])
+
+pub count-node : (s : ℕ) (node : Node) (h : Turned) → length (with_node h s node).into ≡ length h.into
+count-node s (ByteRange r) h = count-ranges s (r ∷ []) h
+count-node s (Sparse rs) h = count-ranges s rs h
+count-node s (Dense ids) h = count-ranges s (runs 0 0 ids) h
+count-node s (Look look next) h = length-set h.into next (sources h next ++ (length h.into + 2 + length h.rest) ∷ [])
+count-node s (Union ids) h = count-frees s ids h
+count-node s (BinaryUnion a b) h = count-frees s (a ∷ b ∷ []) h
+count-node s (Capture next) h = count-frees s (next ∷ []) h
+count-node s l h = refl
+
+-- the states of a list, one by one
+pub record IsOver (nfa : Nfa) (whole h : Turned) (met : List ℕ) (k : ℕ) : Type 0 where
+  pub count : length h.into ≡ length nfa.states
+  pub rest : whole ≡ with_nodes nfa h (drop k met)
+
+pub over_more : (nfa : Nfa) (whole h new : Turned) (met : List ℕ) (k s : ℕ) (node : Node) → IsOver nfa whole h met k
+    → k < length met → get_or met k 0 ≡ s → slice_get nfa.states s ≡ Some node → new ≡ with_node h s node
+    → IsOver nfa whole new met (k + 1)
+over_more nfa whole h new met k s node o l e n w =
+    let z : suc k ≡ k + 1 = omega arith in
+    let items : drop k met ≡ s ∷ drop (k + 1) met
+    = drop-cons met k 0 l ∙ ap (λ x. x ∷ drop (suc k) met) e ∙ ap (λ x. s ∷ drop x met) z in
+    record {
+      count = ap (λ (t : Turned). length t.into) w ∙ count-node s node h ∙ o.count;
+      rest = o.rest ∙ ap (λ x. with_nodes nfa h x) items
+          ∙ ap (λ x. with_nodes nfa (with_node h s x) (drop (k + 1) met)) (state_is nfa s node n)
+          ∙ ap (λ t. with_nodes nfa t (drop (k + 1) met)) (sym w);
+    }
+
+pub over_all : (nfa : Nfa) (whole h : Turned) (met : List ℕ) (k : ℕ) → IsOver nfa whole h met k → length met ≤ k
+    → whole ≡ h
+over_all nfa whole h met k o l = o.rest ∙ ap (λ x. with_nodes nfa h x) (none_left met k l)
+  where
+    none_left : (xs : List ℕ) (k : ℕ) → length xs ≤ k → ◌≡◌ {A = List ℕ} (drop k xs) []
+    none_left [] zero l = refl
+    none_left [] (suc k) l = refl
+    none_left (x ∷ xs) zero l = absurd (omega arith)
+    none_left (x ∷ xs) (suc k) l = none_left xs k (omega arith)

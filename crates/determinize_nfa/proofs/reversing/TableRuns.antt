@@ -1,0 +1,146 @@
+-- The ranges of a table: each has bytes with one target, and each byte with a target is in one.
+-- Main statements: run_target, byte_run, run_end, runs_end, length-runs.
+-- Used by: RecordedStates, Counts.
+-- Idea: induction on the rest of the table; the first run has begun at an earlier byte, with the same target since.
+use Rattle.std.specs.Prelude.{nat_eq}
+use Rattle.std.proofs.Common.{◌≡◌, ◌<◌, ◌≤◌, ◌+◌, ◌∙◌, ◌∷◌, ℕ, List, None, Some, [], ap, arith, drop, false, get_or, length, refl, suc, sym, true}
+use Rattle.std.proofs.Math.Seq.{drop-cons}
+use Rattle.std.proofs.lemmas.Bool.{cases_lt, eqb-true, false≢true}
+use Rattle.std.proofs.lemmas.Bool.Decides.{nat_tests}
+use Rattle.std.proofs.lemmas.List.{get_or_past}
+use Rattle.determinize_below.specs.Transition.{dense_target, matches}
+use Rattle.determinize_below.specs.declared.nfa.transitions.Transition.{Transition}
+use Rattle.ordered_reach.proofs.lists.Elements.{In, In_cases, In_head, In_none, In_tail}
+use Rattle.ordered_reach.proofs.Cases.{by_cases, by_test, some_injective}
+use Rattle.determinize_nfa.specs.Private.Turning.{runs, with_run}
+use Rattle.determinize_nfa.specs.Reversal.{is_first, runs_in}
+
+-- the range of the bytes from a to b with a target
+abbrev range : ℕ → ℕ → ℕ → Transition
+range a b id = record { start = a; end = b; next = id }
+
+first_is : (id : ℕ) (ids : List ℕ) → is_first id ids ≡ true → get_or ids 0 0 ≡ id
+first_is id [] e = absurd (false≢true e)
+first_is id (x ∷ xs) e = sym (eqb-true id x e)
+
+first_some : (id : ℕ) (ids : List ℕ) → is_first id ids ≡ true → 0 < length ids
+first_some id [] e = absurd (false≢true e)
+first_some id (x ∷ xs) e = omega arith
+
+-- the rest of a table from byte b on, and a run that began at byte a
+record IsAt (target : ℕ → ℕ) (ids : List ℕ) (a b : ℕ) : Type 0 where
+  begun : a ≤ b
+  rest : (k : ℕ) → get_or ids k 0 ≡ target (b + k)
+  one : (c : ℕ) → a ≤ c → c < b → target c ≡ target b
+
+module _ (target : ℕ → ℕ) where
+  here : (id : ℕ) (ids : List ℕ) (a b : ℕ) → IsAt target (id ∷ ids) a b → target b ≡ id
+  here id ids a b at = let z : b + 0 ≡ b = omega arith in rw z at (sym (at.rest 0))
+
+  in_run : (id : ℕ) (ids : List ℕ) (a b c : ℕ) → IsAt target (id ∷ ids) a b → a ≤ c → c ≤ b → target c ≡ id
+  in_run id ids a b c at l h = by_cases (cases_lt c b)
+      (λ k. at.one c l k ∙ here id ids a b at)
+      (λ k. let e : c ≡ b = omega arith in rw e (here id ids a b at))
+
+  after : (id : ℕ) (ids : List ℕ) (a b k : ℕ) → IsAt target (id ∷ ids) a b → get_or ids k 0 ≡ target (suc b + k)
+  after id ids a b k at = let z : b + suc k ≡ suc b + k = omega arith in rw z at (at.rest (suc k))
+
+  -- the run goes on
+  onward : (id : ℕ) (ids : List ℕ) (a b : ℕ) → is_first id ids ≡ true → IsAt target (id ∷ ids) a b
+      → IsAt target ids a (suc b)
+  onward id ids a b z at =
+      let e : suc b + 0 ≡ suc b = omega arith in
+      let next : target (suc b) ≡ id = rw e at (sym (after id ids a b 0 at) ∙ first_is id ids z) in record {
+        begun = omega (arith, at.begun);
+        rest = λ k. after id ids a b k at;
+        one = λ c l h. in_run id ids a b c at l (omega (arith, h)) ∙ sym next;
+      }
+
+  -- another run begins
+  anew : (id : ℕ) (ids : List ℕ) (a b : ℕ) → IsAt target (id ∷ ids) a b → IsAt target ids (suc b) (suc b)
+  anew id ids a b at = record {
+    begun = omega arith;
+    rest = λ k. after id ids a b k at;
+    one = λ c l h. absurd (omega (arith, l, h));
+  }
+
+  run_of : (ids : List ℕ) (a b : ℕ) → IsAt target ids a b → (r : Transition) → In r (runs a b ids)
+      → (nat_eq r.next 0 ≡ false) × (r.start ≤ r.end) × ((c : ℕ) → r.start ≤ c → c ≤ r.end → target c ≡ r.next)
+  run_of [] a b at r k = In_none r k
+  run_of (id ∷ ids) a b at r k = by_test (is_first id ids)
+      (λ z. run_of ids a (suc b) (onward id ids a b z at) r (rw z at k))
+      (λ z. by_test (nat_eq id 0)
+      (λ y. run_of ids (suc b) (suc b) (anew id ids a b at) r (rw (z, y) at k))
+      (λ y. In_cases r (range a b id) (runs (suc b) (suc b) ids) (rw (z, y) at k)
+      (λ e. rw e (y, at.begun, λ c l h. in_run id ids a b c at l h))
+      (λ j. run_of ids (suc b) (suc b) (anew id ids a b at) r j)))
+
+  run_with : (ids : List ℕ) (a b c : ℕ) → IsAt target ids a b → (length ids ≡ 0 → a ≡ b) → a ≤ c → c < b + length ids
+      → nat_eq (target c) 0 ≡ false
+      → (r : Transition) × In r (runs a b ids) × (r.next ≡ target c) × (r.start ≤ c) × (c ≤ r.end)
+  run_with [] a b c at f l h n = absurd (let e : a ≡ b = f refl in omega arith)
+  run_with (id ∷ ids) a b c at f l h n = by_test (is_first id ids)
+      (λ z. rw z (run_with ids a (suc b) c (onward id ids a b z at)
+      (λ e. absurd (omega (arith, first_some id ids z, e))) l (omega (arith, h)) n))
+      (λ z. by_cases (cases_lt b c)
+      (λ k. let d = run_with ids (suc b) (suc b) c (anew id ids a b at) (λ e. refl) k (omega (arith, h)) n in
+      by_test (nat_eq id 0)
+      (λ y. rw (z, y) d)
+      (λ y. rw (z, y) (d.0, In_tail d.0 (range a b id) _ d.1, d.2, d.3, d.4)))
+      (λ k. let e : target c ≡ id = in_run id ids a b c at l k in
+      let y : nat_eq id 0 ≡ false = rw e at n in
+      rw (z, y) (range a b id, In_head (range a b id) _, sym e, l, k)))
+
+whole : (ids : List ℕ) → IsAt (λ c. get_or ids c 0) ids 0 0
+whole ids = record {
+  begun = omega arith;
+  rest = λ k. let z : 0 + k ≡ k = omega arith in rw z refl;
+  one = λ c l h. absurd (omega (arith, h));
+}
+
+within : (r : Transition) (b : ℕ) → matches r b ≡ true → (r.start ≤ b) × (b ≤ r.end)
+within r b m = (grind (arith, nat_tests), grind (arith, nat_tests))
+
+-- each byte of a range has its target in the table
+pub run_target : (ids : List ℕ) (r : Transition) → In r (runs 0 0 ids) → (b : ℕ) → matches r b ≡ true
+    → dense_target ids b ≡ Some r.next
+run_target ids r k b m =
+    let d = run_of (λ c. get_or ids c 0) ids 0 0 (whole ids) r k in
+    let l = within r b m in
+    let e : get_or ids b 0 ≡ r.next = d.2 b l.0 l.1 in
+    rw (e, d.0) refl
+
+-- the last byte of a range is in it
+pub run_end : (ids : List ℕ) (r : Transition) → In r (runs 0 0 ids) → matches r r.end ≡ true
+run_end ids r k =
+    let d = run_of (λ c. get_or ids c 0) ids 0 0 (whole ids) r k in
+    let l : r.start ≤ r.end = d.1 in grind (arith, nat_tests)
+
+-- each byte with a target is in a range with this target
+pub byte_run : (ids : List ℕ) (b t : ℕ) → dense_target ids b ≡ Some t
+    → (r : Transition) × In r (runs 0 0 ids) × (r.next ≡ t) × (matches r b ≡ true)
+byte_run ids b t e = by_test (nat_eq (get_or ids b 0) 0)
+    (λ z. absurd (let k : None ≡ Some t = rw z at e in cc))
+    (λ z. let k : get_or ids b 0 ≡ t = some_injective (get_or ids b 0) t (rw z at e) in
+    by_cases (cases_lt b (length ids))
+    (λ l. let d = run_with (λ c. get_or ids c 0) ids 0 0 b (whole ids) (λ y. refl) (omega arith) (omega (arith, l)) z in
+    let low : d.0.start ≤ b = d.3 in let high : b ≤ d.0.end = d.4 in
+    (d.0, d.1, d.2 ∙ k, grind (arith, nat_tests)))
+    (λ l. absurd (false≢true (sym z ∙ ap (λ w. nat_eq w 0) (get_or_past ids b 0 l)))))
+
+-- where a run ends, its range is the first
+pub runs_end : (ids : List ℕ) (a b : ℕ) → b < length ids → is_first (get_or ids b 0) (drop (b + 1) ids) ≡ false
+    → runs a b (drop b ids) ≡ with_run a b (get_or ids b 0) (runs (b + 1) (b + 1) (drop (b + 1) ids))
+runs_end ids a b l f =
+    let z : b + 1 ≡ suc b = omega arith in
+    rw (drop-cons ids b 0 l, z) (let g : is_first (get_or ids b 0) (drop (suc b) ids) ≡ false = rw z at f in rw g refl)
+
+pub length-runs : (ids : List ℕ) (a b : ℕ) → length (runs a b ids) ≡ runs_in ids
+length-runs [] a b = refl
+length-runs (id ∷ ids) a b = by_test (is_first id ids)
+    (λ z. by_test (nat_eq id 0)
+    (λ y. rw (z, y) (length-runs ids a (suc b)))
+    (λ y. rw (z, y) (length-runs ids a (suc b))))
+    (λ z. by_test (nat_eq id 0)
+    (λ y. rw (z, y) (length-runs ids (suc b) (suc b)))
+    (λ y. rw (z, y) (ap suc (length-runs ids (suc b) (suc b)))))

@@ -1,0 +1,4 @@
+pub mod Choices
+pub mod Mirrors
+pub mod SameChoices
+pub mod Shifts

@@ -1,0 +1,67 @@
+-- Where two texts, with two sets of assertions, give a run the same choices. Main statements: same_choices, free_more,
+-- capture_same, path_agree. Runs over a text up to a position (Cuts) rest on them. The idea: the choices at a pair
+-- depend on the next byte and on the assertions there, and no state has transitions of both kinds.
+use Rattle.std.specs.Prelude.{slice_get}
+use Rattle.std.proofs.Common.{◌≡◌, ◌++◌, ◌∙◌, ◌∷◌, ℕ, Bool, List, None, Option, Some, [], ap, arith, map, subst, suc, sym, true}
+use Rattle.determinize_below.specs.Edges.{edges, is_capture, target}
+use Rattle.determinize_below.specs.Semantics.{edges_of, state_at, Nfa, Node, Look, Text}
+use Rattle.determinize_below.specs.declared.look.Look.{Look as Assertion}
+use Rattle.determinize_below.proofs.nfas.Edges.{edges-capture, edges-or-target, next_of, target-capture}
+use Rattle.ordered_reach.specs.Runs.{placed}
+use Rattle.ordered_reach.proofs.lists.Elements.{In, In_none}
+use Rattle.ordered_reach.proofs.Cases.{by_cases, by_test}
+use Rattle.determinize_nfa.proofs.runs.Choices.{choices_under, under_cases}
+
+-- with more assertions an epsilon transition keeps its number
+edges_at : (holds others : Assertion → Bool) (node : Node) (i c : ℕ) (q : ℕ × ℕ)
+    → ((look : Assertion) → holds look ≡ true → others look ≡ true)
+    → slice_get (map (placed i) (edges_of holds node)) c ≡ Some q
+    → slice_get (map (placed i) (edges_of others node)) c ≡ Some q
+edges_at holds others (Look look next) i c q m e = by_test (holds look)
+    (λ y. rw (m look y) (rw y at e))
+    (λ y. absurd (let z : None ≡ Some q = rw y at e in cc))
+edges_at holds others node i c q m e = e
+
+-- the choices at a pair, by its two kinds of transitions
+abbrev joined : ℕ × ℕ → List ℕ → List ℕ → List (ℕ × ℕ)
+joined p bytes free = map (placed (suc p.0)) bytes ++ map (placed p.0) free
+
+-- a capture has one choice
+pub one_choice : (nfa : Nfa) (text : Text) (h : ℕ → Assertion → Bool) (p : ℕ × ℕ) → is_capture nfa p.1 ≡ true
+    → choices_under nfa text h p ≡ (p.0, next_of nfa p.1) ∷ []
+one_choice nfa text h p e =
+    ap (λ l. joined p l (edges nfa (h p.0) p.1)) (target-capture nfa (slice_get text.bytes p.0) p.1 e)
+    ∙ ap (λ l. joined p [] l) (edges-capture nfa (h p.0) p.1 e)
+
+module _ (nfa : Nfa) (text other : Text) (h g : ℕ → Assertion → Bool) where
+  -- where the next bytes and the assertions are the same
+  pub same_choices : (p : ℕ × ℕ) → slice_get text.bytes p.0 ≡ slice_get other.bytes p.0 → h p.0 ≡ g p.0
+      → choices_under nfa text h p ≡ choices_under nfa other g p
+  same_choices p b e =
+      ap (λ o. joined p (target nfa o p.1) (edges nfa (h p.0) p.1)) b
+      ∙ ap (λ (w : Assertion → Bool). joined p (target nfa (slice_get other.bytes p.0) p.1) (edges nfa w p.1)) e
+
+  -- a choice without input is one where more assertions hold
+  pub free_more : (p q : ℕ × ℕ) (c : ℕ) → q.0 ≡ p.0
+      → ((look : Assertion) → h p.0 look ≡ true → g p.0 look ≡ true)
+      → slice_get (choices_under nfa text h p) c ≡ Some q → slice_get (choices_under nfa other g p) c ≡ Some q
+  free_more p q c z m e = under_cases nfa text h p q c e (λ s t. absurd (omega arith)) (λ s f. free f)
+    where
+      no_target : In q.1 (edges nfa (h p.0) p.1) → (o : Option ℕ) → target nfa o p.1 ≡ []
+      no_target f o = by_cases (edges-or-target nfa (h p.0) o p.1)
+          (λ n. In_none q.1 (subst (λ l. In q.1 l) n f))
+          (λ n. n)
+
+      free : In q.1 (edges nfa (h p.0) p.1) → slice_get (choices_under nfa other g p) c ≡ Some q
+      free f =
+          let k : slice_get (joined p [] (edges nfa (h p.0) p.1)) c ≡ Some q
+          = subst (λ l. slice_get (joined p l (edges nfa (h p.0) p.1)) c ≡ Some q)
+          (no_target f (slice_get text.bytes p.0)) e in
+          subst (λ l. slice_get (joined p l (edges nfa (g p.0) p.1)) c ≡ Some q)
+          (sym (no_target f (slice_get other.bytes p.0)))
+          (edges_at (h p.0) (g p.0) (state_at nfa p.1) p.0 c q m k)
+
+  -- and at a capture
+  pub capture_same : (p : ℕ × ℕ) → is_capture nfa p.1 ≡ true
+      → choices_under nfa text h p ≡ choices_under nfa other g p
+  capture_same p e = one_choice nfa text h p e ∙ sym (one_choice nfa other g p e)

@@ -1,0 +1,4 @@
+pub mod AnyByte
+pub mod Closed
+pub mod Gathered
+pub mod Turning
