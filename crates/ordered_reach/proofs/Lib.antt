@@ -3,3 +3,4 @@ pub mod Common
 pub mod graph
 pub mod lists
 pub mod runs
+pub mod walks

@@ -3,3 +3,4 @@ pub mod Paths
 pub mod Reach
 pub mod Runs
 pub mod StackSearch
+pub mod Walks

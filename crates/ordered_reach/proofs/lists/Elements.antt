@@ -1,8 +1,8 @@
 -- Elements of lists as indices, and their order in the list.
--- Main statements: In, Earlier, same_by_order, In_Contains, Contains_In.
--- Used by: PathLists, LeastPaths, UniqueOrder, the folder runs, and the crates above.
+-- Main statements: In, Earlier, same_by_order, In_flat_map, In_Contains, Contains_In.
+-- Used by: PathLists, LeastPaths, UniqueOrder, the folders runs and walks, and the crates above.
 -- Idea: two lists with the same elements in the same strict order are equal (same_by_order).
-use Rattle.ordered_reach.proofs.Common.{[], option_map, ap, arith, Bool, by_test, Contains, Decides, false, false≢true, List, map, member, None, or_left, or_right, refl, slice_get, Some, suc, sym, true, without, zero, ℕ, ◌++◌, ◌<◌, ◌∙◌, ◌∷◌, ◌≡◌, All, take, get_or_from_slice_get, slice_get-get_or, slice_get-map, slice_get_within, All-cons, All-nil}
+use Rattle.ordered_reach.proofs.Common.{[], option_map, ap, arith, Bool, by_test, Contains, Decides, false, false≢true, List, map, member, None, or_left, or_right, refl, slice_get, Some, suc, sym, true, without, zero, ℕ, ◌++◌, ◌<◌, ◌∙◌, ◌∷◌, ◌≡◌, All, take, flat_map, get_or_from_slice_get, slice_get-get_or, slice_get-map, slice_get_within, All-cons, All-nil}
 use Rattle.ordered_reach.proofs.lists.NewNodes.{eq-self}
 
 -- an element of a list
@@ -59,6 +59,35 @@ without-In cap (x ∷ xs) s h c = by_test (cap x)
 pub In_take_one : {A : Type 0} (ps : List A) (x : A) → In x (take 1 ps) → In x ps
 In_take_one [] x h = h
 In_take_one (y ∷ ps) x h = In_append_left x (y ∷ []) ps h
+
+pub In_flat_map : {A B : Type 0} (f : A → List B) (ys : List A) (y : A) (x : B) → In y ys → In x (f y)
+    → In x (flat_map f ys)
+In_flat_map f [] y x h k = In_none y h
+In_flat_map f (z ∷ ys) y x h k = In_cases y z ys h
+    (λ e. In_append_left x (f z) (flat_map f ys) (rw e at k))
+    (λ l. In_append_right x (f z) (flat_map f ys) (In_flat_map f ys y x l k))
+
+pub In_flat_map_from : {A B P : Type 0} (f : A → List B) (ys : List A) (x : B) → In x (flat_map f ys)
+    → ((y : A) → In y ys → In x (f y) → P) → P
+In_flat_map_from f [] x h g = In_none x h
+In_flat_map_from f (z ∷ ys) x h g = In_append_cases x (f z) (flat_map f ys) h
+    (λ k. g z (In_head z ys) k)
+    (λ k. In_flat_map_from f ys x k (λ y l m. g y (In_tail y z ys l) m))
+
+pub flat_map_same : {A B : Type 0} (f g : A → List B) (xs : List A) → ((x : A) → In x xs → f x ≡ g x)
+    → flat_map f xs ≡ flat_map g xs
+flat_map_same f g [] h = refl
+flat_map_same f g (x ∷ xs) h =
+    cc (h x (In_head x xs), flat_map_same f g xs (λ y k. h y (In_tail y x xs k)))
+
+pub Contains_from_In : {A : Type 0} (xs : List A) (x : A) → In x xs → Contains xs x
+Contains_from_In xs x h = (h.0, slice_get_within xs h.0 x h.1, get_or_from_slice_get xs h.0 x x h.1)
+
+pub In_from_Contains : {A : Type 0} (xs : List A) (x : A) → Contains xs x → In x xs
+In_from_Contains xs x h = (h.0, slice_get-get_or xs h.0 x h.1 ∙ ap Some h.2)
+
+pub All_at : {A : Type 0} (P : A → Type 0) (xs : List A) → All P xs → (x : A) → In x xs → P x
+All_at P xs h x k = rw (get_or_from_slice_get xs k.0 x x k.1) at (h k.0 x (slice_get_within xs k.0 x k.1))
 
 -- x precedes y in a list
 abbrev pub Earlier : {A : Type 0} → List A → A → A → Type 0
@@ -121,7 +150,7 @@ module _ {N : Type 0} {eq : N → N → Bool} (dec : (a b : N) → Decides (eq a
       (λ k. or_right (eq y x) (member eq xs x) (In_member xs x k))
 
   pub In_Contains : (xs : List N) (x : N) → In x xs → Contains xs x
-  In_Contains xs x h = (h.0, slice_get_within xs h.0 x h.1, get_or_from_slice_get xs h.0 x x h.1)
+  In_Contains = Contains_from_In
 
   pub Contains_In : (xs : List N) (x : N) → Contains xs x → In x xs
-  Contains_In xs x h = (h.0, slice_get-get_or xs h.0 x h.1 ∙ ap Some h.2)
+  Contains_In = In_from_Contains

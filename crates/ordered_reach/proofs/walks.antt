@@ -1,0 +1,3 @@
+pub mod FirstLabels
+pub mod LoopFreeWalks
+pub mod Steps
