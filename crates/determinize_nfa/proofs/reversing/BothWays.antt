@@ -25,7 +25,8 @@ use Rattle.determinize_nfa.proofs.runs.Choices.{byte_choice, choice_cases, choic
 use Rattle.determinize_nfa.proofs.reversing.StatesById.{IsLaid, edges-gathered, edge_within, laid_out, pattern-gathered, pattern_within, sources_within, target-gathered, target_within}
 use Rattle.determinize_nfa.proofs.runs.Mirrors.{each_reading_is_mirrored}
 use Rattle.determinize_nfa.proofs.reversing.Recorded.{IsArc, IsRecorded, IsSource}
-use Rattle.ordered_reach.proofs.graph.LoopFree.{IsWalk, Leads, leads_by, leads_here, leads_then, path_of_walk, walk_of_path}
+use Rattle.ordered_reach.specs.Walks.{IsGraphWalk}
+use Rattle.ordered_reach.proofs.graph.LoopFree.{Leads, leads_by, leads_here, leads_then, path_of_walk, walk_of_path}
 
 -- the NFA has the states that were recorded
 pub record IsMadeOf (nfa backward : Nfa) (h : Turned) : Type 0 where
@@ -124,18 +125,18 @@ module _ (nfa backward : Nfa) (met : List ℕ) (h : Turned) (made : IsMadeOf nfa
   met_step : (p q : ℕ × ℕ) (c : ℕ) → slice_get (choices nfa text p) c ≡ Some q → In p.1 met → In q.1 met
   met_step p q c e m = recorded.closed.further p.1 q.1 m (choice_leads nfa text p q c e)
 
-  met_walk : (cs : List ℕ) (p q : ℕ × ℕ) → IsWalk (choices nfa text) p cs q → In p.1 met → In q.1 met
+  met_walk : (cs : List ℕ) (p q : ℕ × ℕ) → IsGraphWalk (choices nfa text) p cs q → In p.1 met → In q.1 met
   met_walk [] p q w m = subst (λ z. In z.1 met) (sym w) m
   met_walk (c ∷ cs) p q w m = met_walk cs w.0 q w.2 (met_step p w.0 c w.1 m)
 
-  walk_later : (cs : List ℕ) (p q : ℕ × ℕ) → IsWalk (choices nfa text) p cs q → p.0 ≤ q.0
+  walk_later : (cs : List ℕ) (p q : ℕ × ℕ) → IsGraphWalk (choices nfa text) p cs q → p.0 ≤ q.0
   walk_later [] p q w = let z : q.0 ≡ p.0 = ap (λ y. y.0) w in omega arith
   walk_later (c ∷ cs) p q w =
       let a : p.0 ≤ w.0.0 = choice_later nfa text p w.0 c w.1 in
       let b : w.0.0 ≤ q.0 = walk_later cs w.0 q w.2 in omega arith
 
   -- a walk of the NFA to position j, from its end to its beginning
-  forth : (cs : List ℕ) (p q : ℕ × ℕ) (r : ℕ) → r + p.0 ≡ j → q.0 ≡ j → In p.1 met → IsWalk (choices nfa text) p cs q
+  forth : (cs : List ℕ) (p q : ℕ × ℕ) (r : ℕ) → r + p.0 ≡ j → q.0 ≡ j → In p.1 met → IsGraphWalk (choices nfa text) p cs q
       → Leads (choices backward back) (0, q.1) (r, p.1)
   forth [] p q r e l m w =
       let a : q.0 ≡ p.0 = ap (λ y. y.0) w in
@@ -161,7 +162,7 @@ module _ (nfa backward : Nfa) (met : List ℕ) (h : Turned) (made : IsMadeOf nfa
       → AcceptsFrom nfa text k nfa.start_anchored cs j pattern
       → (ds : List ℕ) × (other : ℕ) × Accepts backward back backward.start_anchored ds (j - k) other
   reversed_run k l cs pattern acc =
-      let w : IsWalk (choices nfa text) (k, nfa.start_anchored) cs (j, acc.0)
+      let w : IsGraphWalk (choices nfa text) (k, nfa.start_anchored) cs (j, acc.0)
       = walk_of_path (choices nfa text) cs [] (k, nfa.start_anchored) (j, acc.0) acc.1 in
       let m : In acc.0 met = met_walk cs (k, nfa.start_anchored) (j, acc.0) w recorded.closed.start in
       let first : In (0, acc.0) (choices backward back (0, suc n)) = free_choice backward back 0 (suc n) acc.0
@@ -302,7 +303,7 @@ module _ (nfa backward : Nfa) (met : List ℕ) (h : Turned) (made : IsMadeOf nfa
       (λ w. from_match p.0 p.1 q c w.0 k)
       (λ w. from_arc p.0 d.0 p.1 w.0 w.1 q c d.1 w.2 w.3 w.4 k)))
 
-  read_all : (cs : List ℕ) (p q : ℕ × ℕ) → IsWalk (choices backward back) p cs q → HasReadAt p → HasReadAt q
+  read_all : (cs : List ℕ) (p q : ℕ × ℕ) → IsGraphWalk (choices backward back) p cs q → HasReadAt p → HasReadAt q
   read_all [] p q w d = subst (λ v. HasReadAt v) (sym w) d
   read_all (c ∷ cs) p q w d = read_all cs w.0 q w.2 (read_on p w.0 c d w.1)
 
@@ -315,7 +316,7 @@ module _ (nfa backward : Nfa) (met : List ℕ) (h : Turned) (made : IsMadeOf nfa
       → Accepts backward back backward.start_anchored cs (j - k) other
       → (ds : List ℕ) × (pattern : ℕ) × AcceptsFrom nfa text k nfa.start_anchored ds j pattern
   run_reversed k l cs other acc =
-      let w : IsWalk (choices backward back) (0, backward.start_anchored) cs (j - k, acc.0)
+      let w : IsGraphWalk (choices backward back) (0, backward.start_anchored) cs (j - k, acc.0)
       = walk_of_path (choices backward back) cs [] (0, backward.start_anchored) (j - k, acc.0) acc.1 in
       let z : 0 + j ≡ j = omega arith in
       let d : HasReadAt (j - k, acc.0)

@@ -1,22 +1,24 @@
--- A walk may meet a node twice; to the end of each walk there is a loop-free path too. Main statements: walk_of_path,
--- path_of_walk, leads_then. The runs of a reversed NFA (BothWays) cite them. The idea: the ends of loop-free paths are
--- closed under steps, as a step to a node of the path is cut off there.
+-- A walk may meet a node twice; to the end of each walk there is a loop-free path, too.
+-- Main statements: walk_of_path, walk_append, path_of_walk, leads_then.
+-- Used by: LoopFreeWalks, and the runs of a reversed NFA.
+-- Idea: the ends of loop-free paths are closed under steps, as a step to a node of the path is cut off there.
 use Rattle.std.specs.Bool.{Decides}
-use Rattle.std.specs.Prelude.{Contains, slice_get}
-use Rattle.std.proofs.Common.{◌≡◌, ◌∙◌, ◌∷◌, ℕ, Bool, List, None, Some, [], false, refl, subst, sym}
+use Rattle.std.specs.Prelude.{Contains}
+use Rattle.std.proofs.Common.{◌≡◌, ◌++◌, ◌∙◌, ◌∷◌, ℕ, Bool, List, None, Some, [], false, refl, subst, sym}
 use Rattle.std.proofs.lemmas.Bool.{true≢false}
 use Rattle.ordered_reach.specs.Paths.{IsPath}
+use Rattle.ordered_reach.specs.Walks.{IsGraphWalk}
 use Rattle.ordered_reach.proofs.lists.Elements.{Contains_In, In, In_Contains, In_cases}
 use Rattle.ordered_reach.proofs.Cases.{by_test}
 
--- the numbers of edges lead from r to s
-abbrev pub IsWalk : {N : Type 0} → (N → List N) → N → List ℕ → N → Type 0
-IsWalk edges r [] s = s ≡ r
-IsWalk {N} edges r (c ∷ cs) s = (t : N) × (slice_get (edges r) c ≡ Some t) × IsWalk edges t cs s
+pub walk_append : {N : Type 0} (edges : N → List N) (cs ds : List ℕ) (r s t : N) → IsGraphWalk edges r cs s
+    → IsGraphWalk edges s ds t → IsGraphWalk edges r (cs ++ ds) t
+walk_append edges [] ds r s t w v = rw w at v
+walk_append edges (c ∷ cs) ds r s t w v = (w.0, w.1, walk_append edges cs ds w.0 s t w.2 v)
 
 -- some walk leads from r to s
 abbrev pub Leads : {N : Type 0} → (N → List N) → N → N → Type 0
-Leads edges r s = (cs : List ℕ) × IsWalk edges r cs s
+Leads edges r s = (cs : List ℕ) × IsGraphWalk edges r cs s
 
 pub leads_here : {N : Type 0} (edges : N → List N) (r : N) → Leads edges r r
 leads_here edges r = ([], refl)
@@ -27,14 +29,10 @@ leads_by edges r s t e h = (e.0 ∷ h.0, (s, e.1, h.1))
 
 -- so are two walks
 pub leads_then : {N : Type 0} (edges : N → List N) (r s t : N) → Leads edges r s → Leads edges s t → Leads edges r t
-leads_then {N} edges r s t h k = go h.0 r h.1
-  where
-    go : (cs : List ℕ) (r : N) → IsWalk edges r cs s → Leads edges r t
-    go [] r w = subst (λ x. Leads edges x t) w k
-    go (c ∷ cs) r w = leads_by edges r w.0 t (c, w.1) (go cs w.0 w.2)
+leads_then edges r s t h k = (h.0 ++ k.0, walk_append edges h.0 k.0 r s t h.1 k.1)
 
 pub walk_of_path : {N : Type 0} (edges : N → List N) (cs : List ℕ) (held : List N) (r s : N)
-    → IsPath edges held r cs s → IsWalk edges r cs s
+    → IsPath edges held r cs s → IsGraphWalk edges r cs s
 walk_of_path edges [] held r s p = p.1
 walk_of_path edges (c ∷ cs) held r s p = (p.1.0, p.1.1, walk_of_path edges cs (r ∷ held) p.1.0 s p.1.2)
 
@@ -60,7 +58,7 @@ module _ {N : Type 0} {eq : N → N → Bool} (dec : (a b : N) → Decides (eq a
       = one_more cs (r ∷ held) p.1.0 s t p.1.2 e (apart held r t z n) in
       (c ∷ q.0, (p.0, (p.1.0, p.1.1, q.1))))
 
-  further : (cs : List ℕ) (r s t : N) → (ds : List ℕ) × IsPath edges [] r ds s → IsWalk edges s cs t
+  further : (cs : List ℕ) (r s t : N) → (ds : List ℕ) × IsPath edges [] r ds s → IsGraphWalk edges s cs t
       → (ds : List ℕ) × IsPath edges [] r ds t
   further [] r s t p w = subst (λ x. (ds : List ℕ) × IsPath edges [] r ds x) (sym w) p
   further (c ∷ cs) r s t p w =

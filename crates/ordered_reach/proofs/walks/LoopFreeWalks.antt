@@ -4,6 +4,7 @@
 -- Idea: a walk that came back could be repeated, and would be longer than the bound.
 use Rattle.ordered_reach.proofs.Common.{[], arith, IsPath, length, length-append, List, refl, some_injective, suc, sym, zero, ℕ, ◌++◌, ◌+◌, ◌<◌, ◌∙◌, ◌∷◌, ◌≡◌, ◌≤◌}
 use Rattle.std.specs.Prelude.{◌↔◌}
+use Rattle.ordered_reach.proofs.graph.LoopFree.{walk_append, walk_of_path}
 use Rattle.ordered_reach.proofs.lists.Elements.{All_at, In, In_cases, In_from_Contains, In_none}
 use Rattle.ordered_reach.specs.Walks.{IsGraphWalk, ListsLabels, Settles}
 
@@ -14,11 +15,6 @@ module _ {N : Type 0} (next : N → List N) where
   walk_short (suc n) r h (c ∷ cs) s w =
       omega (arith, walk_short n w.0 (All_at (Settles next n) (next r) h w.0 (c, w.1)) cs s w.2)
 
-  walk_append : (cs ds : List ℕ) (r s t : N) → IsGraphWalk next r cs s → IsGraphWalk next s ds t
-      → IsGraphWalk next r (cs ++ ds) t
-  walk_append [] ds r s t w v = rw w at v
-  walk_append (c ∷ cs) ds r s t w v = (w.0, w.1, walk_append cs ds w.0 s t w.2 v)
-
   -- a walk back to its start, repeated m times or more
   repeated : (r : N) (c : ℕ) (cs : List ℕ) → IsGraphWalk next r (c ∷ cs) r → (m : ℕ)
       → (ds : List ℕ) × IsGraphWalk next r ds r × (m ≤ length ds)
@@ -26,7 +22,7 @@ module _ {N : Type 0} (next : N → List N) where
   repeated r c cs w (suc m) =
       let h = repeated r c cs w m in
       let l : length ((c ∷ cs) ++ h.0) ≡ length (c ∷ cs) + length h.0 = length-append (c ∷ cs) h.0 in
-      ((c ∷ cs) ++ h.0, walk_append (c ∷ cs) h.0 r r r w h.1, omega (arith, h.2))
+      ((c ∷ cs) ++ h.0, walk_append next (c ∷ cs) h.0 r r r w h.1, omega (arith, h.2))
 
   no_way_back : (n : ℕ) (r : N) → Settles next n r → (c : ℕ) (cs : List ℕ) → IsGraphWalk next r (c ∷ cs) r → ⊥
   no_way_back n r h c cs w =
@@ -51,11 +47,7 @@ module _ {N : Type 0} (next : N → List N) where
       on t k = In_cases t r held k
           (λ e. (c, [], rw e (w.0, w.1, refl)))
           (λ m. let back = l t m in
-          (back.0, back.1 ++ c ∷ [], walk_append (back.0 ∷ back.1) (c ∷ []) t r w.0 back.2 (w.0, w.1, refl)))
-
-  walk_from_path : (cs : List ℕ) (held : List N) (r s : N) → IsPath next held r cs s → IsGraphWalk next r cs s
-  walk_from_path [] held r s p = p.1
-  walk_from_path (c ∷ cs) held r s p = (p.1.0, p.1.1, walk_from_path cs (r ∷ held) p.1.0 s p.1.2)
+          (back.0, back.1 ++ c ∷ [], walk_append next (back.0 ∷ back.1) (c ∷ []) t r w.0 back.2 (w.0, w.1, refl)))
 
   pub one_end : (cs : List ℕ) (r s t : N) → IsGraphWalk next r cs s → IsGraphWalk next r cs t → s ≡ t
   one_end [] r s t w v = w ∙ sym v
@@ -66,5 +58,5 @@ pub walk_is_path : {N A : Type 0} (next : N → List N) (labels : N → List A) 
     → ListsLabels next labels r xs → (cs : List ℕ) (s : N) → IsGraphWalk next r cs s ↔ IsPath next [] r cs s
 walk_is_path next labels r xs l cs s = (
   λ w. path_from_walk next cs l.0 r l.1 [] (λ t k. In_none t k) s w,
-  λ p. walk_from_path next cs [] r s p,
+  λ p. walk_of_path next cs [] r s p,
 )
