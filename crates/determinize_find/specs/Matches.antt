@@ -18,22 +18,34 @@ touches None m = false
 touches (Some end) m = nat_eq m.start m.end && nat_eq m.end end
 
 -- the leftmost match; if it touches the one before, the leftmost match from one byte further on
-abbrev pub IsTaken : Nfa → Asked → Option ℕ → Option Match → Option Match → Type 0
-IsTaken nfa asked before None found = found ≡ None
-IsTaken nfa asked before (Some m) found =
-    (touches before m ≡ true → IsLeftmostIn nfa (from asked (asked.start + 1)) found)
+abbrev pub IsTakenBy : (Asked → Option Match → Type 0) → Asked → Option ℕ → Option Match
+    → Option Match → Type 0
+IsTakenBy IsFirst asked before None found = found ≡ None
+IsTakenBy IsFirst asked before (Some m) found =
+    (touches before m ≡ true → IsFirst (from asked (asked.start + 1)) found)
     × (touches before m ≡ false → found ≡ Some m)
 
 -- the match after one that ended at `before`
-abbrev pub IsNext : Nfa → Asked → Option ℕ → Option Match → Type 0
-IsNext nfa asked before found =
-    (first : Option Match) × IsLeftmostIn nfa asked first × IsTaken nfa asked before first found
+abbrev pub IsNextBy : (Asked → Option Match → Type 0) → Asked → Option ℕ → Option Match → Type 0
+IsNextBy IsFirst asked before found =
+    (first : Option Match) × IsFirst asked first × IsTakenBy IsFirst asked before first found
 
--- these are the matches from the start of the range on, and there are no more
+-- these are the matches from the start of the range on, and there are no more, where `IsFirst` says
+-- which match of an input is the leftmost one
+abbrev pub AreMatchesBy : (Asked → Option Match → Type 0) → Asked → Option ℕ → List Match → Type 0
+AreMatchesBy IsFirst asked before [] = IsNextBy IsFirst asked before None
+AreMatchesBy IsFirst asked before (m ∷ ms) =
+    IsNextBy IsFirst asked before (Some m) × AreMatchesBy IsFirst (from asked m.end) (Some m.end) ms
+
+-- the same of the runs of an NFA
+abbrev pub IsTaken : Nfa → Asked → Option ℕ → Option Match → Option Match → Type 0
+IsTaken nfa = IsTakenBy (IsLeftmostIn nfa)
+
+abbrev pub IsNext : Nfa → Asked → Option ℕ → Option Match → Type 0
+IsNext nfa = IsNextBy (IsLeftmostIn nfa)
+
 abbrev pub AreMatches : Nfa → Asked → Option ℕ → List Match → Type 0
-AreMatches nfa asked before [] = IsNext nfa asked before None
-AreMatches nfa asked before (m ∷ ms) =
-    IsNext nfa asked before (Some m) × AreMatches nfa (from asked m.end) (Some m.end) ms
+AreMatches nfa = AreMatchesBy (IsLeftmostIn nfa)
 
 -- some run from the anchored start that accepts begins at this index of the haystack
 abbrev pub BeginsAt : Nfa → Asked → ℕ → Type 0

@@ -1,6 +1,7 @@
--- Where the first NFA state of a scan is not the unanchored start, some run that began before is in it. Main statement:
--- each_busy_has_begun, for `laws::idle_law`. The idea: the least run to the first state is before the one that passes
--- over all bytes, so it left the prefix earlier.
+-- Where the first NFA state of a scan is not the unanchored start, some run that began before is in it.
+-- Main statements: each_busy_has_begun.
+-- Used by: `laws::idle_law`.
+-- Idea: the least run to the first state is before the one that passes over all bytes, so it left the prefix earlier.
 use Rattle.std.specs.Prelude.{All, slice_get}
 use Rattle.std.proofs.Common.{◌≡◌, ◌<◌, ◌≤◌, ◌+◌, ◌++◌, ◌∙◌, ℕ, Bool, List, Some, [], ap, arith, length, subst, suc, sym, take, zero}
 use Rattle.std.proofs.lemmas.Bool.{cases_lt}

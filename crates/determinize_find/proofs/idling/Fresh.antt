@@ -1,6 +1,8 @@
--- At an idle place of a scan no run that began before accepts. Main statement: each_idle_is_fresh, for
--- `laws::idle_law`. The idea: a run that passes the place is there in some state, by a run from the unanchored start
--- that is before the only one to the unanchored start itself; so this could not be the first of the list (Recorded).
+-- At an idle place of a scan no run that began before accepts.
+-- Main statements: each_idle_is_fresh.
+-- Used by: `laws::idle_law`.
+-- Idea: a run that passes the place is there in some state, by a run from the unanchored start that is before the only
+-- one to the unanchored start itself; so this could not be the first of the list (Recorded).
 use Rattle.std.specs.Prelude.{All, nat_eq, slice_get}
 use Rattle.std.proofs.Common.{◌≡◌, ◌<◌, ◌≤◌, ◌+◌, ◌-◌, ◌++◌, ◌∙◌, ℕ, Bool, List, Option, Some, [], ap, arith, false, length, refl, subst, suc, sym, take, zero}
 use Rattle.std.proofs.lemmas.Bool.{cases_lt, eq-eqb, eqb-true, true≢false}

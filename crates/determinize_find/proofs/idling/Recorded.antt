@@ -1,6 +1,8 @@
--- What the value of a scan records, and that no run accepts before its last match. Main statements: recorded, none_yet.
--- The laws of idle scans (Fresh, Busy) rest on them. The idea: a scan whose value has an NFA state has read all bytes,
--- so its value is the one of a walk over the text up to there.
+-- What the value of a scan records, and that no run accepts before its last match.
+-- Main statements: recorded, none_yet.
+-- Used by: the laws of idle scans (Fresh, Busy).
+-- Idea: a scan whose value has an NFA state has read all bytes, so its value is the one of a walk over the text up to
+-- there.
 use Rattle.std.specs.Prelude.{All, slice_get}
 use Rattle.std.proofs.Common.{◌≡◌, ◌<◌, ◌≤◌, ◌+◌, ◌++◌, ◌∙◌, ◌∷◌, ℕ, Bool, List, None, Option, Some, [], ap, arith, cond, false, get_or, length, length-append, map, not, refl, subst, suc, sym, take, true}
 use Rattle.std.proofs.Math.Seq.{take-suc}

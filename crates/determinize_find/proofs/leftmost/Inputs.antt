@@ -1,6 +1,7 @@
--- What a search of an input finds, as a match of the text of its range. Main statement: found_in_text. Both ways to the
--- leftmost match turn the contract of `Lazy::search_input` into it. The idea: the match in the text and the same match
--- in the haystack are in one record.
+-- What a search of an input finds, as a match of the text of its range.
+-- Main statements: found_in_text.
+-- Used by: both ways to the leftmost match.
+-- Idea: the match in the text and the same match in the haystack are in one record.
 use Rattle.std.specs.Option.{IfNone, IfSome}
 use Rattle.std.specs.Prelude.{option_map}
 use Rattle.std.proofs.Common.{◌≡◌, None, Option, Some, ap, refl}

@@ -1,6 +1,7 @@
--- A text has at most one leftmost match. Main statement: each_leftmost_is_one, for `laws::leftmost_law`. That an input
--- has one list of matches rests on it. The idea: neither of two may begin before the other, and of the runs from one
--- position the least accepting one is one.
+-- A text has at most one leftmost match.
+-- Main statements: each_leftmost_is_one.
+-- Used by: `laws::leftmost_law`, and that an input has one list of matches.
+-- Idea: neither of two may begin before the other, and of the runs from one position the least accepting one is one.
 use Rattle.std.proofs.Common.{◌≡◌, ◌⊎◌, ◌∙◌, ℕ, List, None, Some, [], ap, arith, refl, subst, sym}
 use Rattle.std.proofs.lemmas.Bool.{cases_lt}
 use Rattle.determinize_below.specs.Edges.{pattern_in}

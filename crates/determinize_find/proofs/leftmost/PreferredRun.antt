@@ -1,6 +1,7 @@
--- The preferred match from a start state has the pattern and the end of the leftmost match. Main statements:
--- each_preferred_is_leftmost, each_anchored_is_leftmost, for `laws::prefix_law`. The search forward rests on it. The
--- idea: after the prefix a run that skips fewer bytes is preferred, so the preferred run begins leftmost.
+-- The preferred match from a start state has the pattern and the end of the leftmost match.
+-- Main statements: each_preferred_is_leftmost, each_anchored_is_leftmost.
+-- Used by: `laws::prefix_law`, and the search forward.
+-- Idea: after the prefix a run that skips fewer bytes is preferred, so the preferred run begins leftmost.
 use Rattle.std.specs.Prelude.{All, option_map}
 use Rattle.std.proofs.Common.{◌≡◌, ◌<◌, ◌≤◌, ◌+◌, ◌⊎◌, ◌∷◌, ℕ, List, None, Option, Some, [], ap, arith, length, refl, subst, sym}
 use Rattle.determinize_below.specs.Edges.{pattern_in}

@@ -1,6 +1,8 @@
--- Anchored searches from one index after another find the leftmost match. Main statements: best_in, found_here,
--- found_last. `plain::find` and `plain::find_at` rest on them. The idea: the text from a later index is the rest of the
--- text (Shifts), and the first index with a match is the least one where a run accepts.
+-- Anchored searches from one index after another find the leftmost match.
+-- Main statements: best_in, found_here, found_last.
+-- Used by: `plain::find` and `plain::find_at`.
+-- Idea: the text from a later index is the rest of the text (Shifts), and the first index with a match is the least one
+-- where a run accepts.
 use Rattle.std.specs.Prelude.{option_map, slice_get, nat_lt}
 use Rattle.std.specs.List.{slice_range}
 use Rattle.std.proofs.Common.{◌≡◌, ◌<◌, ◌≤◌, ◌+◌, ◌-◌, ◌⊎◌, ◌∙◌, ◌∷◌, ℕ, Bool, List, None, Option, Some, [], ap, arith, cond, drop, false, refl, subst, suc, sym, take, true, zero}

@@ -1,6 +1,8 @@
--- A search forward finds the end of the leftmost match, and one backward its start. Main statements: leftmost_end,
--- begin_found, found_or_none, whole_match. The calls of `Regex` rest on them. The idea: runs of any pattern that end
--- where the leftmost match ends begin where it does or later, so the farthest backward is its start.
+-- A search forward finds the end of the leftmost match, and one backward its start.
+-- Main statements: leftmost_end, begin_found, found_or_none, whole_match.
+-- Used by: the calls of `Regex`.
+-- Idea: runs of any pattern that end where the leftmost match ends begin where it does or later, so the farthest
+-- backward is its start.
 use Rattle.std.specs.Bool.{Decides}
 use Rattle.std.specs.List.{slice_range}
 use Rattle.std.specs.Option.{IfNone, IfSome, option_or}

@@ -1,8 +1,10 @@
 -- No match is passed over: where a run begins that accepts, a match of the list contains the index, or ends there
--- before an empty one. Main statement: each_start_is_covered, for `laws::matches_law`. The idea: the next match is a
--- leftmost one, so no run begins before it; where the first leftmost match is skipped, it is empty and begins where the
--- range does, and the next one is leftmost from one byte further on. Runs keep their choices when the range begins
--- later (Shifts).
+-- before an empty one.
+-- Main statements: each_start_is_covered.
+-- Used by: `laws::matches_law`.
+-- Idea: the next match is a leftmost one, so no run begins before it; where the first leftmost match is skipped, it is
+-- empty and begins where the range does, and the next one is leftmost from one byte further on. Runs keep their
+-- choices when the range begins later (Shifts).
 use Rattle.std.specs.Prelude.{nat_eq, option_map}
 use Rattle.std.specs.List.{Contains}
 use Rattle.std.proofs.Common.{◌≡◌, ◌<◌, ◌≤◌, ◌+◌, ◌-◌, ◌&&◌, ◌∙◌, ◌∷◌, ◌⊎◌, ℕ, Bool, List, None, Option, Some, [], ap, arith, cond, false, inl, inr, length, refl, subst, suc, sym, true}

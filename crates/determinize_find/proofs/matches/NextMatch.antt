@@ -1,7 +1,7 @@
--- The next match is one of two leftmost ones, and one more match keeps what was found a prefix of the list. Main
--- statements: next_plain, next_further, next_none, after_one, after_all. `next_match`, `Searcher::advance` and both
--- `find_all` rest on them. The idea: a list of all matches from the cursor on, after what was found, is the list of all
--- matches.
+-- The next match is one of two leftmost ones, and one more match keeps what was found a prefix of the list.
+-- Main statements: next_plain, next_further, next_none, after_one, after_all.
+-- Used by: `next_match`, `Searcher::advance` and both `find_all`.
+-- Idea: a list of all matches from the cursor on, after what was found, is the list of all matches.
 use Rattle.std.proofs.Common.{◌≡◌, ◌<◌, ◌≤◌, ◌+◌, ◌++◌, ◌∙◌, ◌∷◌, ℕ, List, None, Option, Some, [], append-nil, ap}
 use Rattle.std.proofs.Common.{append_assoc, arith, false, length, refl, subst, sym, true}
 use Rattle.std.proofs.lemmas.Bool.{false≢true, true≢false}

@@ -1,6 +1,7 @@
--- All matches of an input are one list; they lie in the range, do not overlap, and end one after another. Main
--- statements: each_matches_are_one, each_matches_are_apart, lies, next_lies, for `laws::matches_law`. Loops over all
--- matches rest on next_lies. The idea: each match is determined by the end of the one before (OnlyOne).
+-- All matches of an input are one list; they lie in the range, do not overlap, and end one after another.
+-- Main statements: each_matches_are_one, each_matches_are_apart, lies, next_lies.
+-- Used by: `laws::matches_law`, and loops over all matches.
+-- Idea: each match is determined by the end of the one before (OnlyOne).
 use Rattle.std.specs.Prelude.{nat_eq, option_map, slice_get}
 use Rattle.std.specs.List.{slice_range}
 use Rattle.std.specs.Option.{option_to_list}

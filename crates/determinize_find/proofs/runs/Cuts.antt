@@ -1,6 +1,8 @@
--- Runs over a text and over its beginning up to a position. Main statements: cut_path, true_path, passes. The laws of
--- idle scans rest on them. The idea: up to the position both texts have the same units around each position, and at it
--- the assertions that are known are among those that are true (SameChoices).
+-- Runs over a text and over its beginning up to a position.
+-- Main statements: cut_path, true_path, passes.
+-- Used by: the laws of idle scans.
+-- Idea: up to the position both texts have the same units around each position, and at it the assertions that are known
+-- are among those that are true (SameChoices).
 use Rattle.std.specs.Option.{option_or}
 use Rattle.std.specs.Prelude.{Contains, slice_get, ◌==◌}
 use Rattle.std.proofs.Common.{◌≡◌, ◌<◌, ◌≤◌, ◌++◌, ◌∙◌, ◌∷◌, ℕ, Bool, List, None, Some, [], ap, arith, cond, false, length, map, refl, subst, suc, sym, true, zero}

@@ -1,6 +1,8 @@
--- The match of a search that is over is the leftmost one, regardless of what follows. Main statements: is_ended,
--- certain_match, end_scan. `Regex::certain` rests on them. The idea: the last match of the walk stays the same, so its
--- pattern and end do; and where it begins is seen in reverse from its end, before anything that follows.
+-- The match of a search that is over is the leftmost one, regardless of what follows.
+-- Main statements: is_ended, certain_match, end_scan.
+-- Used by: `Regex::certain`.
+-- Idea: the last match of the walk stays the same, so its pattern and end do; and where it begins is seen in reverse
+-- from its end, before anything that follows.
 use Rattle.std.specs.Option.{IfSome, option_or}
 use Rattle.std.specs.Prelude.{All, Err, IfOk, Ok, Result, option_map, slice_get}
 use Rattle.std.proofs.Common.{◌≡◌, ◌<◌, ◌≤◌, ◌+◌, ◌++◌, ◌-◌, ◌∙◌, ℕ, List, None, Option, Some, [], ap, append-nil}

@@ -1,6 +1,7 @@
--- The matches of the kept bytes from the start on are those that are left of the whole text. Main statements:
--- shift_matches, finished. `Pieces::finish` rests on them. The idea: each leftmost match is the same, as much later as
--- bytes were dropped.
+-- The matches of the kept bytes from the start on are those that are left of the whole text.
+-- Main statements: shift_matches, finished.
+-- Used by: `Pieces::finish`.
+-- Idea: each leftmost match is the same, as much later as bytes were dropped.
 use Rattle.std.specs.Prelude.{map, option_map}
 use Rattle.std.proofs.Common.{◌≡◌, ◌<◌, ◌≤◌, ◌+◌, ◌++◌, ◌-◌, ◌∙◌, ◌∷◌, ℕ, Bool, List, None, Option, Some, [], ap}
 use Rattle.std.proofs.Common.{append-nil, append_assoc, arith, cond, drop, false, length, subst, sym, true}

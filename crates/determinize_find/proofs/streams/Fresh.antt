@@ -1,5 +1,7 @@
--- Where a search is idle, no match begins in the bytes that it read. Main statement: fresh, for `Regex::is_idle`. The
--- idea: the search is one of the rest of a haystack, of which the law of idle places says it.
+-- Where a search is idle, no match begins in the bytes that it read.
+-- Main statements: fresh.
+-- Used by: `Regex::is_idle`.
+-- Idea: the search is one of the rest of a haystack, of which the law of idle places says it.
 use Rattle.std.specs.Prelude.{All}
 use Rattle.std.proofs.Common.{◌≡◌, ◌<◌, ◌-◌, ℕ, List, None, arith, drop, length}
 use Rattle.std.proofs.lemmas.List.{length-drop}

@@ -1,6 +1,7 @@
--- What `Pieces` keeps: few bytes, and a search that has not ended with a match. Main statements: unread_unsettled,
--- few_kept, read_more, all_few. `Pieces::read_block` and `Pieces::feed` rest on them. The idea: what was so at the end
--- of a block stays so, as more blocks are read.
+-- What `Pieces` keeps: few bytes, and a search that has not ended with a match.
+-- Main statements: unread_unsettled, few_kept, read_more, all_few.
+-- Used by: `Pieces::read_block` and `Pieces::feed`.
+-- Idea: what was so at the end of a block stays so, as more blocks are read.
 use Rattle.std.specs.Option.{IfSome}
 use Rattle.std.specs.Prelude.{map, min}
 use Rattle.std.proofs.Common.{◌≡◌, ◌*◌, ◌<◌, ◌≤◌, ◌+◌, ◌++◌, ◌-◌, ◌⊎◌, ◌∙◌, ℕ, Bool, List, None, Option, Some, [], ap}

@@ -1,6 +1,8 @@
 -- Leftmost matches from an index on: of a haystack without its first bytes, and from a later index before which no
--- match begins. Main statements: in_whole, of_whole, shift_leftmost, skip_leftmost. The steps of `Pieces` rest on them.
--- The idea: the rest of a haystack is one text, regardless of what was dropped before the byte behind it.
+-- match begins.
+-- Main statements: in_whole, of_whole, shift_leftmost, skip_leftmost.
+-- Used by: the steps of `Pieces`.
+-- Idea: the rest of a haystack is one text, regardless of what was dropped before the byte behind it.
 use Rattle.std.specs.Prelude.{option_map, slice_get}
 use Rattle.std.proofs.Common.{◌≡◌, ◌<◌, ◌≤◌, ◌+◌, ◌++◌, ◌-◌, ◌∙◌, ◌∷◌, ℕ, List, None, Option, Some, [], ap, arith, cond}
 use Rattle.std.proofs.Common.{drop, false, length, refl, subst, suc, sym, zero}

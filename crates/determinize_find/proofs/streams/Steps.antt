@@ -1,6 +1,7 @@
--- What each step of `Pieces` leaves: bytes kept or dropped, a match added or skipped, a later start. Main statements:
--- joined, kept_fed, fed_match, fed_skipped, fed_later, ended_fed, part_fed. The calls of `Pieces` rest on them.
--- The idea: the matches from the new place on, after what was added, are those from the old place on.
+-- What each step of `Pieces` leaves: bytes kept or dropped, a match added or skipped, a later start.
+-- Main statements: joined, kept_fed, fed_match, fed_skipped, fed_later, ended_fed, part_fed.
+-- Used by: the calls of `Pieces`.
+-- Idea: the matches from the new place on, after what was added, are those from the old place on.
 use Rattle.std.specs.Option.{IfSome}
 use Rattle.std.specs.Prelude.{All, nat_eq, option_map}
 use mathlib.Core.Bool.{◌&&◌}

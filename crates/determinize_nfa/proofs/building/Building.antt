@@ -1,6 +1,7 @@
--- What a builder adds, and that the prefix which it puts before a start is the usual one. Main statements: the record
--- IsMade, made_of. `Builder::patch` and `build_with_prefix` rest on them. The idea: no state before the prefix has a
--- transition to it, so only the skip has one to its start.
+-- What a builder adds, and that the prefix which it puts before a start is the usual one.
+-- Main statements: the record IsMade, made_of, set_is.
+-- Used by: `Builder::patch` and `build_with_prefix`.
+-- Idea: no state before the prefix has a transition to it, so only the skip has one to its start.
 use Rattle.std.specs.List.{position, position_or_len}
 use Rattle.std.specs.Prelude.{nat_eq, nat_lt}
 use Rattle.std.proofs.Common.{◌≡◌, ◌<◌, ◌≤◌, ◌+◌, ◌-◌, ◌++◌, ◌⊎◌, ◌||◌, ◌∙◌, ◌∷◌, ℕ, Bool, List, None, Option, Some, [], ap, arith, cond, false, get_or, inl, inr, length, map, refl, set, subst, suc, sym, true, zero}

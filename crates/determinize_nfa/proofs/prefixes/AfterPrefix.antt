@@ -1,8 +1,9 @@
 -- A run from the unanchored start with the usual prefix passes over some bytes, and then is one from the anchored
--- start, or has not left the prefix. Main statements: parted, shape, unshape, over the records IsSkip and IsOnPrefix,
--- and stays_out. PreferredRun and the laws of idle scans rest on them. The idea: only the skip has a transition to the
--- start, and it reads a byte, so of the same_pairs that a run has visited only those of the prefix lie in the way
--- (VisitedPairs).
+-- start, or has not left the prefix.
+-- Main statements: parted, shape, unshape, over the records IsSkip and IsOnPrefix, and stays_out.
+-- Used by: PreferredRun and the laws of idle scans.
+-- Idea: only the skip has a transition to the start, and it reads a byte, so of the pairs that a run has visited only
+-- those of the prefix lie in the way (VisitedNodes).
 use Rattle.std.specs.Prelude.{All, Contains, nat_eq, slice_get}
 use Rattle.std.proofs.Common.{◌≡◌, ◌<◌, ◌≤◌, ◌+◌, ◌⊎◌, ◌∙◌, ◌∷◌, ℕ, Bool, List, None, Some, [], ap, arith, get_or, inl, inr, length, refl, subst, suc, sym, true, zero}
 use Rattle.std.proofs.lemmas.Bool.{eq-eqb, eqb-true, or_cases, or_left}

@@ -1,6 +1,7 @@
--- An NFA has the usual prefix exactly where its parts are in place. Main statements: state_is, start_is, any_read, the
--- two directions, and Decides-apart. `has_prefix` and `has_prefix_apart` rest on them. The idea: each part of
--- `HasPrefix` is an equation of states, which the code decides by comparing their targets and bytes.
+-- An NFA has the usual prefix exactly where its parts are in place.
+-- Main statements: state_is, start_is, any_read, the two directions, and Decides-apart.
+-- Used by: `has_prefix` and `has_prefix_apart`.
+-- Idea: each part of `HasPrefix` is an equation of states, which the code decides by comparing their targets and bytes.
 use Rattle.std.specs.Bool.{Decides}
 use Rattle.std.specs.Prelude.{nat_eq, slice_get}
 use Rattle.std.proofs.Common.{◌≡◌, ◌<◌, ◌&&◌, ◌∙◌, ◌||◌, ℕ, Bool, Some, ap, false, length, refl, subst, sym, true}

@@ -1,6 +1,7 @@
--- The transitions of the single states of which a reversed NFA is made. Main statements: look_edge_is, range_target_is,
--- In_none, no_end. BothWays and RecordedStates cite them. The idea: each is the definition of `edges_of` or of
--- `target_of` at one kind of state.
+-- The transitions of the single states of which a reversed NFA is made.
+-- Main statements: look_edge_is, range_target_is, no_end.
+-- Used by: BothWays and RecordedStates.
+-- Idea: each is the definition of `edges_of` or of `target_of` at one kind of state.
 use Rattle.std.proofs.Common.{◌≡◌, ◌∷◌, ℕ, Bool, None, Option, Some, [], cond, refl, subst, sym, true}
 use Rattle.determinize_below.specs.Semantics.{edges_of, target_of, Node, ByteRange, Look}
 use Rattle.determinize_below.specs.Transition.{matches}

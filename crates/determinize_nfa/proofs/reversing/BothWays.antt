@@ -1,6 +1,8 @@
--- The runs of a reversed NFA are the runs of the NFA, in the other direction. Main statement: made_reverse, the
--- `IsReverseOf` of what was recorded. MadeNfa rests on it. The idea: each step of one NFA is one or two steps of the
--- other at the mirrored position (Mirrors), and a walk gives a loop-free run (LoopFree).
+-- The runs of a reversed NFA are the runs of the NFA, in the other direction.
+-- Main statements: made_reverse, the `IsReverseOf` of what was recorded.
+-- Used by: MadeNfa.
+-- Idea: each step of one NFA is one or two steps of the other at the mirrored position (Mirrors), and a walk gives a
+-- loop-free run (LoopFree).
 use Rattle.std.specs.Prelude.{slice_get}
 use Rattle.std.proofs.Common.{◌≡◌, ◌<◌, ◌≤◌, ◌+◌, ◌-◌, ◌⊎◌, ◌∙◌, ◌∷◌, ℕ, Bool, List, None, Option, Some, [], ap, arith, inl, inr, length, not, refl, subst, suc, sym, true, zero}
 use Rattle.determinize_below.specs.Semantics.{edges_of, state_at, target_of, Nfa, Node, ByteRange, Sparse, Dense, Look, Union, BinaryUnion, Capture, Fail, Match, Accepts, Text, after_at, before_at, choices}

@@ -1,6 +1,7 @@
--- The states of a reversed NFA that read a byte or test an assertion, in their order, and how many there are. Main
--- statements: length-states, length-states_most, total_most. The clause `size` of `reversed` rests on them. The idea:
--- each reached state adds the number that `reads_in` counts, and each state is reached once.
+-- The states of a reversed NFA that read a byte or test an assertion, in their order, and how many there are.
+-- Main statements: length-states, length-states_most, total_most.
+-- Used by: the clause `size` of `reversed`.
+-- Idea: each reached state adds the number that `reads_in` counts, and each state is reached once.
 use Rattle.std.specs.List.{AllByRecursion, IsDistinct, flat_map, sum_by}
 use Rattle.std.specs.Prelude.{nat_eq, slice_get}
 use Rattle.std.proofs.Common.{◌≡◌, ◌≤◌, ◌+◌, ◌++◌, ◌∙◌, ◌∷◌, ◌<◌, ℕ, List, Some, [], ap, arith, append-nil, append_assoc, drop, false, get_or, inl, inr, length, map, refl, set, suc, sym, zero}

@@ -1,6 +1,8 @@
--- The states that are reached are found one after another, and their list is closed in the end. Main statements:
--- found_start, found_all, found_count, found_index, over the record IsFound. `reached` rests on them. The idea: the
--- targets of the states visited so far are in the list, which has no element twice and so cannot grow for ever.
+-- The states that are reached are found one after another, and their list is closed in the end.
+-- Main statements: found_start, found_all, found_count, found_index, over the record IsFound.
+-- Used by: `reached`.
+-- Idea: the targets of the states visited so far are in the list, which has no element twice and so cannot grow for
+-- ever.
 use Rattle.std.specs.List.{IsDistinct, filter, list_any}
 use Rattle.std.specs.Prelude.{All, nat_eq, slice_get}
 use Rattle.std.proofs.Common.{◌≡◌, ◌<◌, ◌≤◌, ◌+◌, ◌++◌, ◌∙◌, ◌∷◌, ◌||◌, ℕ, Bool, List, None, Some, [], ap, arith, append-nil, append_assoc, cond, false, get_or, length, map, not, refl, subst, sym, true}

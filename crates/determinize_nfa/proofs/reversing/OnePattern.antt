@@ -1,5 +1,7 @@
--- A reversed NFA has one match state, that of pattern 0. Main statement: one_match. MadeNfa rests on it. The idea: a
--- state that gathers has no pattern, nor has one that reads a byte or tests an assertion.
+-- A reversed NFA has one match state, that of pattern 0.
+-- Main statements: one_match.
+-- Used by: MadeNfa.
+-- Idea: a state that gathers has no pattern, nor has one that reads a byte or tests an assertion.
 use Rattle.std.specs.List.{filter}
 use Rattle.std.proofs.Common.{◌≡◌, ◌++◌, ◌∙◌, ◌∷◌, ℕ, List, None, [], ap, map, refl}
 use Rattle.std.proofs.lemmas.List.Elements.{filter-append}

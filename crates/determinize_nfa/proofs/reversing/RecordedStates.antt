@@ -1,6 +1,8 @@
--- Reversing the transitions of a state records them, and nothing else. Main statements: the record IsMore,
--- resolves_leads, any_by. FoundStates and MadeNfa cite them. The idea: by the nine kinds of states; each kind adds its
--- targets to what was recorded, and what was there stays (Recorded).
+-- Reversing the transitions of a state records them, and nothing else.
+-- Main statements: the record IsMore, resolves_leads, any_by.
+-- Used by: FoundStates and MadeNfa.
+-- Idea: by the nine kinds of states; each kind adds its targets to what was recorded, and what was there stays
+-- (Recorded).
 use Rattle.std.specs.List.{find, list_all, list_any}
 use Rattle.std.specs.Prelude.{nat_eq, nat_lt, option_map}
 use Rattle.std.proofs.Common.{◌≡◌, ◌<◌, ◌≤◌, ◌||◌, ◌∙◌, ◌∷◌, ℕ, Bool, List, None, Some, [], ap, arith, cond, false, inl, inr, length, not, refl, replicate, subst, suc, sym, true}

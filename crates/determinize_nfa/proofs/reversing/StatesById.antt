@@ -1,6 +1,7 @@
--- The states of a reversed NFA by their ids: gathering states, the match, the start, and then those that read. Main
--- statements: laid_out, edges-gathered, target-gathered, sources_within. BothWays and Validation cite them. The idea: a
--- state that gathers has the same edges whichever kind it is, and ids are places in a list of four parts.
+-- The states of a reversed NFA by their ids: gathering states, the match, the start, and then those that read.
+-- Main statements: laid_out, edges-gathered, target-gathered, sources_within.
+-- Used by: BothWays and Validation.
+-- Idea: a state that gathers has the same edges whichever kind it is, and ids are places in a list of four parts.
 use Rattle.std.specs.Prelude.{slice_get}
 use Rattle.std.proofs.Common.{◌≡◌, ◌<◌, ◌+◌, ◌++◌, ◌∙◌, ◌∷◌, ℕ, Bool, List, None, Option, Some, [], ap, arith, get_or, length, map, refl, subst, suc, sym, zero}
 use Rattle.std.proofs.lemmas.Bool.{cases_lt}

@@ -1,6 +1,7 @@
--- One more recorded transition, and one more reached state, as the program records them. Main statements: added_is,
--- count-node, over_more, over_all. `Turned::add` and the loop of `reversed` rest on them. The idea: a push to one list
--- of a list of lists is the definition of `added`.
+-- One more recorded transition, and one more reached state, as the program records them.
+-- Main statements: added_is, count-node, over_more, over_all.
+-- Used by: `Turned::add` and the loop of `reversed`.
+-- Idea: a push to one list of a list of lists is the definition of `added`.
 use Rattle.std.specs.Prelude.{slice_get}
 use Rattle.std.proofs.Common.{◌≡◌, ◌<◌, ◌≤◌, ◌+◌, ◌++◌, ◌∙◌, ◌∷◌, ℕ, List, Some, [], ap, arith, drop, get_or, length, map, refl, set, suc, sym, zero}
 use Rattle.std.proofs.Math.Seq.{drop-cons}

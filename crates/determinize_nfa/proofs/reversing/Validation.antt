@@ -1,6 +1,7 @@
--- The states of a reversed NFA pass validation, if there are not too many. Main statements: each_plain, plain_before,
--- over the record IsPlain. MadeNfa rests on them. The idea: all ids are below the count, no state is sparse or dense,
--- and only one is a match.
+-- The states of a reversed NFA pass validation, if there are not too many.
+-- Main statements: each_plain, plain_before, over the record IsPlain.
+-- Used by: MadeNfa.
+-- Idea: all ids are below the count, no state is sparse or dense, and only one is a match.
 use Rattle.std.specs.List.{list_all, list_any}
 use Rattle.std.specs.Option.{option_or}
 use Rattle.std.specs.Prelude.{nat_lt}

@@ -1,7 +1,8 @@
 -- Where a choice of a run leads: over a byte to the next position, without input to the same one, and always to a state
--- that the state has a transition to. Main statements: choice_cases, choice_later, choice_leads, and the same under any
--- assertions (choices_under). All that follows a run step by step cites it. The idea: the choices at a pair are the
--- byte transitions, then the epsilon ones (`run_edges`).
+-- that the state has a transition to.
+-- Main statements: choice_cases, choice_later, choice_leads, and the same under any assertions (choices_under).
+-- Used by: all that follows a run step by step.
+-- Idea: the choices at a pair are the byte transitions, then the epsilon ones (`run_edges`).
 use Rattle.std.specs.List.{find, list_any}
 use Rattle.std.specs.Option.{option_to_list}
 use Rattle.std.specs.Prelude.{nat_eq, option_map, slice_get}

@@ -1,6 +1,7 @@
 -- A text up to a position, read in the other direction, is its mirror image.
--- Main statement: each_reading_is_mirrored, for `laws::mirror_law`. The search backward and the runs of a reversed NFA
--- rest on it. The idea: an element of a reversed list is the one as far from the other end.
+-- Main statements: each_reading_is_mirrored.
+-- Used by: `laws::mirror_law`, and the search backward and the runs of a reversed NFA.
+-- Idea: an element of a reversed list is the one as far from the other end.
 use Rattle.std.specs.Option.{option_or}
 use Rattle.std.specs.Prelude.{reverse, slice_get}
 use Rattle.std.proofs.Common.{◌≡◌, ◌<◌, ◌≤◌, ◌+◌, ◌-◌, ◌∙◌, ◌∷◌, ℕ, List, None, Option, Some, [], ap, arith, get_or, length, refl, suc, sym, take, zero}

@@ -1,6 +1,8 @@
--- Where two texts, with two sets of assertions, give a run the same choices. Main statements: same_choices, free_more,
--- capture_same, path_agree. Runs over a text up to a position (Cuts) rest on them. The idea: the choices at a pair
--- depend on the next byte and on the assertions there, and no state has transitions of both kinds.
+-- Where two texts, with two sets of assertions, give a run the same choices.
+-- Main statements: same_choices, free_more, capture_same.
+-- Used by: runs over a text up to a position (Cuts).
+-- Idea: the choices at a pair depend on the next byte and on the assertions there, and no state has transitions of both
+-- kinds.
 use Rattle.std.specs.Prelude.{slice_get}
 use Rattle.std.proofs.Common.{◌≡◌, ◌++◌, ◌∙◌, ◌∷◌, ℕ, Bool, List, None, Option, Some, [], ap, arith, map, subst, suc, sym, true}
 use Rattle.determinize_below.specs.Edges.{edges, is_capture, target}

@@ -1,6 +1,7 @@
--- Runs from a position on are the runs over the rest of the text, with the same choices. Main statements:
--- each_run_moves, each_run_reads_forward, for `laws::shift_law`. Anchored searches from a later index rest on it. The
--- idea: positions of the rest are positions of the text, so much later, and see the same units (PathMaps).
+-- Runs from a position on are the runs over the rest of the text, with the same choices.
+-- Main statements: each_run_moves, each_run_reads_forward.
+-- Used by: `laws::shift_law`, and anchored searches from a later index.
+-- Idea: positions of the rest are positions of the text, so much later, and see the same units (PathMaps).
 use Rattle.std.specs.Option.{option_or}
 use Rattle.std.specs.Prelude.{slice_get}
 use Rattle.std.proofs.Common.{◌≡◌, ◌≤◌, ◌+◌, ◌++◌, ◌∙◌, ◌∷◌, ℕ, List, [], ap, arith, drop, map, refl, subst, suc, sym, zero}

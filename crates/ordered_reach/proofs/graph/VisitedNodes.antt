@@ -1,6 +1,7 @@
--- Visited nodes that a path cannot come to are irrelevant to it: it is a path with them and without. Main statements:
--- path_forget, path_remember, path_stays. Runs after the usual prefix (AfterPrefix) cite them. The idea: induction on
--- the choices, with the nodes that the path itself has visited in front.
+-- Visited nodes that a path cannot come to are irrelevant to it: it is a path with them and without.
+-- Main statements: path_forget, path_remember, path_stays.
+-- Used by: runs after the usual prefix (AfterPrefix).
+-- Idea: induction on the choices, with the nodes that the path itself has visited in front.
 use Rattle.std.specs.Bool.{Decides}
 use Rattle.std.specs.Prelude.{slice_get}
 use Rattle.std.proofs.Common.{◌≡◌, ◌++◌, ◌∷◌, ℕ, Bool, List, Some, [], subst, sym}
