@@ -5,10 +5,10 @@ ghost use Rattle.determinize_below.specs.ByteClasses.{AreClassesOf};
 ghost use Rattle.determinize_below.specs.Nfa.{IsAccepted};
 ghost use Rattle.determinize_dense.specs.Dfa.{HasMoreStates, HasStates, IsDfaOf};
 ghost use Rattle.determinize_dense.specs.Least.{HasRows, IsLeast};
-ghost use Rattle.determinize_dense.specs.declared.error.BuildError.TheVariants.{TooManyStates};
+ghost use Rattle.determinize_dense.specs.declared.error.DfaError.TheVariants.{TooManyStates};
 
 use crate::build::Builder;
-use crate::error::BuildError;
+use crate::error::DfaError;
 use crate::rows::Rows;
 use determinize_below::alphabet::ByteClasses;
 use determinize_below::{MatchKind, NFA};
@@ -65,7 +65,7 @@ impl<'n, N: Allocator, A: Allocator + Copy> Dfa<'n, N, A> {
         nfa: &'n NFA<N>,
         match_kind: MatchKind,
         limit: usize,
-    ) -> Result<Dfa<'n, N, A>, BuildError>
+    ) -> Result<Dfa<'n, N, A>, DfaError>
         ensures nfa { IfOk result (λ dfa. dfa.nfa ≡ nfa.now) }
         ensures kind { IfOk result (λ dfa. dfa.kind ≡ match_kind) }
         ensures means { IfOk result (λ dfa. IsDfaOf dfa.nfa dfa.kind dfa.table) }

@@ -21,4 +21,4 @@ mod rows;
 mod search;
 
 pub use crate::dfa::Dfa;
-pub use crate::error::BuildError;
+pub use crate::error::DfaError;
