@@ -27,11 +27,13 @@ use std::convert::Infallible;
 
 /// Returns whether a search in this anchored mode starts at the anchored start.
 fn is_anchored(anchored: Anchored) -> bool
+    requires { has_start anchored ≡ true }
     ensures { result ≡ dfas.is_anchored anchored }
 {
     match anchored {
         Anchored::No => false,
-        _ => true,
+        Anchored::Yes => true,
+        Anchored::Pattern(_) => unreachable!(),
     }
 }
 
