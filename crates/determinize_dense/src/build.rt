@@ -139,7 +139,7 @@ fn offsets_of<A: Allocator + Copy>(
     rows: &[u32],
     columns: usize,
 ) -> Result<Vec<u32, A>, AllocError>
-    requires rows { All (λ row. row < 16647160) rows.now }
+    requires rows { All (λ row. row < MAX_STATES) rows.now }
     requires columns { columns ≤ 257 }
     ensures { IfOk result (λ offsets. offsets.items ≡ map (λ row. row * columns) rows.now) }
 {
@@ -160,10 +160,10 @@ impl<'n, N: Allocator, A: Allocator + Copy> Builder<'n, N, A> {
     ) -> Result<Builder<'n, N, A>, DfaError>
         ensures nfa { IfOk result (λ builder. builder.nfa ≡ nfa.now) }
         ensures kind { IfOk result (λ builder. builder.kind ≡ match_kind) }
-        ensures limit { IfOk result (λ builder. builder.limit ≡ min limit 16647160) }
+        ensures limit { IfOk result (λ builder. builder.limit ≡ min limit MAX_STATES) }
         ensures next { IfOk result (λ builder. builder.next ≡ []) }
         ensures many { result ≡ Err TooManyStates
-            → HasMoreStates nfa.now match_kind (min limit 16647160) }
+            → HasMoreStates nfa.now match_kind (min limit MAX_STATES) }
     {
         let limit = limit.min(MAX_STATES);
         if limit == 0 {

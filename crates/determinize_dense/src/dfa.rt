@@ -12,6 +12,7 @@ use crate::error::DfaError;
 use crate::rows::Rows;
 use determinize_below::alphabet::ByteClasses;
 use determinize_below::{MatchKind, NFA};
+use determinize_engine::state_table::MAX_STATES;
 use std::alloc::{AllocError, Allocator, Global};
 use std::fmt;
 use std::marker::Model;
@@ -71,9 +72,9 @@ impl<'n, N: Allocator, A: Allocator + Copy> Dfa<'n, N, A> {
         ensures means { IfOk result (λ dfa. IsDfaOf dfa.nfa dfa.kind dfa.table) }
         ensures states { IfOk result
             (λ dfa. HasStates nfa.now match_kind (length dfa.table.patterns)) }
-        ensures few { IfOk result (λ dfa. length dfa.table.patterns ≤ min limit 16647160) }
+        ensures few { IfOk result (λ dfa. length dfa.table.patterns ≤ min limit MAX_STATES) }
         ensures many { result ≡ Err TooManyStates
-            → HasMoreStates nfa.now match_kind (min limit 16647160) }
+            → HasMoreStates nfa.now match_kind (min limit MAX_STATES) }
     {
         let mut builder = Builder::new(alloc, nfa, match_kind, limit)?;
         let starts = builder.starts()?;
