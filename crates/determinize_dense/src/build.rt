@@ -164,6 +164,7 @@ impl<'n, N: Allocator, A: Allocator + Copy> Builder<'n, N, A> {
         ensures next { IfOk result (λ builder. builder.next ≡ []) }
         ensures many { result ≡ Err TooManyStates
             → HasMoreStates nfa.now match_kind (min limit MAX_STATES) }
+        ensures zero { limit ≡ 0 → result ≡ Err TooManyStates }
     {
         let limit = limit.min(MAX_STATES);
         if limit == 0 {

@@ -1,10 +1,11 @@
 //! A whole DFA, and what can be asked of it besides searches.
 
-ghost use Rattle.std.specs.Prelude.{◌≡◌, ◌+◌, ◌*◌, ◌<◌, ◌≤◌, Err, IfOk, length, min};
+ghost use Rattle.std.specs.Prelude.{◌≡◌, ◌+◌, ◌*◌, ◌<◌, ◌≤◌, Err, IfOk, IsErr, length, min};
 ghost use Rattle.determinize_below.specs.ByteClasses.{AreClassesOf};
 ghost use Rattle.determinize_below.specs.Nfa.{IsAccepted};
 ghost use Rattle.determinize_dense.specs.Dfa.{HasMoreStates, HasStates, IsDfaOf};
 ghost use Rattle.determinize_dense.specs.Least.{HasRows, IsLeast};
+ghost use Rattle.determinize_dense.specs.Table.{bytes_of};
 ghost use Rattle.determinize_dense.specs.declared.error.DfaError.TheVariants.{TooManyStates};
 
 use crate::build::Builder;
@@ -58,9 +59,10 @@ impl<'n, N: Allocator, A: Allocator + Copy> Dfa<'n, N, A> {
     ///
     /// - `limit` is the greatest number of states, and there are never more than 16647160.
     ///
-    /// Returns `TooManyStates` only if more states than that are reached, and a DFA only if they
-    /// are not. Returns `OutOfMemory` if an allocation fails. Under `MatchKind::All` the number of
-    /// states may be exponential in the size of the NFA.
+    /// Returns a DFA only if at most that many states are reached, and `TooManyStates` only if more
+    /// are. Returns `OutOfMemory` if an allocation fails, also where more states are reached; at
+    /// limit 0 nothing is allocated. Under `MatchKind::All` the number of states may be exponential
+    /// in the size of the NFA.
     pub fn build(
         alloc: A,
         nfa: &'n NFA<N>,
@@ -75,6 +77,8 @@ impl<'n, N: Allocator, A: Allocator + Copy> Dfa<'n, N, A> {
         ensures few { IfOk result (λ dfa. length dfa.table.patterns ≤ min limit MAX_STATES) }
         ensures many { result ≡ Err TooManyStates
             → HasMoreStates nfa.now match_kind (min limit MAX_STATES) }
+        ensures more { HasMoreStates nfa.now match_kind (min limit MAX_STATES) → IsErr result }
+        ensures zero { limit ≡ 0 → result ≡ Err TooManyStates }
     {
         let mut builder = Builder::new(alloc, nfa, match_kind, limit)?;
         let starts = builder.starts()?;
@@ -132,10 +136,11 @@ impl<'n, N: Allocator, A: Allocator + Copy> Dfa<'n, N, A> {
         self.rows.byte_classes()
     }
 
-    /// Returns the heap memory of the DFA in bytes, without spare capacity.
+    /// Returns the heap memory of the DFA in bytes, without spare capacity: four bytes for each
+    /// entry, and for each row 24 bytes and four for each pattern that it lists. An allocator that
+    /// has a size is not counted, although each row has a copy of it.
     pub fn memory_usage(&self) -> usize
-        ensures entries { length self.now.table.patterns * (self.now.table.class_count + 1) * 4
-            ≤ result }
+        ensures { result ≡ min (bytes_of self.now.table) usize.MAX }
     {
         self.rows.memory_usage()
     }

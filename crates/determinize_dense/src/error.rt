@@ -11,7 +11,7 @@ use std::fmt;
 pub enum DfaError {
     /// More states are reached than the limit, or than 16647160.
     TooManyStates,
-    /// An allocation failed.
+    /// An allocation failed. More states than the limit may be reached, or not.
     OutOfMemory,
 }
 

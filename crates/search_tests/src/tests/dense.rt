@@ -268,6 +268,20 @@ fn dense_patterns(rt: HostRuntime) -> Result<(), Fail> {
     Ok(())
 }
 
+/// The rows have three entries: for word bytes, for other bytes and for EOI. A row takes 12 bytes
+/// for these and 24 for its list. One row lists a pattern: that after a word.
+#[test]
+fn dense_size_and_text(rt: HostRuntime) -> Result<(), Fail> {
+    let nfa = nfa(rt.alloc(), ROWS[0].states, StateID::ZERO)?;
+    let dfa = Dfa::build(rt.alloc(), &nfa, MatchKind::All, 5)?;
+    same(&rt, dfa.memory_usage(), 5 * 36 + 4);
+    same(&rt, dfa.minimize(rt.alloc())?.memory_usage(), 4 * 36 + 4);
+    let text = format!(in rt.alloc(); "{dfa:?}")?;
+    let wanted = "Dfa { match_kind: All, len: 5, alphabet_len: 3, .. }";
+    same(&rt, text.as_str(), wanted);
+    Ok(())
+}
+
 /// Minimizes a DFA of five states, which leaves four.
 fn minimize<R: Abort, A: Allocator + Copy>(
     rt: &R,
