@@ -87,11 +87,13 @@ impl<'n, N: Allocator, A: Allocator + Copy> Dfa<'n, N, A> {
         Ok(rows.arranged(alloc)?)
     }
 
-    /// Returns the DFA with the fewest states among those that mean the same.
+    /// Returns the DFA with the fewest states among those that list the same patterns along all
+    /// units, also along units behind the end of input (EOI).
     ///
-    /// States are merged if they match the same patterns along all units, the end of input (EOI)
-    /// among them. A few passes over the table suffice mostly; for a chain of states the time is
-    /// quadratic in their number, and it is never more.
+    /// States are merged if they list the same patterns along all units. A text has no unit behind
+    /// EOI, so a table that agrees with this DFA after each text may have fewer states. A few
+    /// passes over the table suffice mostly; for a chain of states the time is quadratic in their
+    /// number, and it is never more.
     pub fn minimize(&self, alloc: A) -> Result<Dfa<'n, N, A>, AllocError>
         ensures nfa { IfOk result (λ dfa. dfa.nfa ≡ self.now.nfa) }
         ensures kind { IfOk result (λ dfa. dfa.kind ≡ self.now.kind) }

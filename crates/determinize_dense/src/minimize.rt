@@ -16,7 +16,7 @@ use determinize_below::PatternID;
 use std::alloc::{AllocError, Allocator};
 
 impl<'n, N: Allocator, A: Allocator + Copy> Rows<'n, N, A> {
-    /// Returns the fewest rows with the same meaning.
+    /// Returns the fewest rows that list the same patterns along all units.
     pub(crate) fn minimized(&self, alloc: A) -> Result<Rows<'n, N, A>, AllocError>
         ensures nfa { IfOk result (λ rows. rows.nfa ≡ self.now.nfa) }
         ensures kind { IfOk result (λ rows. rows.kind ≡ self.now.kind) }

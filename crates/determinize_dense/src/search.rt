@@ -13,6 +13,7 @@ ghost use Rattle.determinize_engine.specs.Searches.{HasMatch, IsFarthestIn, IsPr
 ghost use Rattle.determinize_core.specs.Walk.{ListsAccepted};
 ghost use Rattle.determinize_dense.specs.Dfa as dfas;
 ghost use Rattle.determinize_dense.specs.Dfa.{value_from};
+ghost use Rattle.determinize_dense.specs.Meaning.{ListsPreferred};
 ghost use Rattle.determinize_dense.specs.Private.Rows.{IsOffset, IsRowAt};
 ghost use Rattle.determinize_dense.specs.Table.{patterns_at};
 ghost use Rattle.determinize_dense.specs.Private.Searching.{FindsFrom, IsFound, IsMatch, StaysOver};
@@ -43,8 +44,9 @@ impl<'n, N: Allocator, A: Allocator + Copy> Dfa<'n, N, A> {
     ///
     /// The parameters are those of `search`. For the patterns at an offset of a longer text, take
     /// its bytes up to there, and ahead of them its next byte. Each pattern of the list has a match
-    /// that ends there. Under `MatchKind::All` the list has all of these, and under
-    /// `MatchKind::LeftmostFirst` at most one. Does not allocate.
+    /// that ends there. Under `MatchKind::All` the list has all of these. Under
+    /// `MatchKind::LeftmostFirst` it is the pattern of the most preferred accepting run if this run
+    /// ends there, and else empty. Does not allocate.
     pub fn patterns_after(
         &self,
         anchored: Anchored,
@@ -57,6 +59,9 @@ impl<'n, N: Allocator, A: Allocator + Copy> Dfa<'n, N, A> {
             (dfas.is_anchored anchored) look_behind
             (units (between look_behind text.now look_ahead))).patterns }
         ensures all { self.now.kind ≡ kinds.All → ListsAccepted self.now.nfa
+            (between look_behind text.now look_ahead) (start_for self.now.nfa anchored)
+            (length text.now) result.now }
+        ensures preferred { self.now.kind ≡ kinds.LeftmostFirst → ListsPreferred self.now.nfa
             (between look_behind text.now look_ahead) (start_for self.now.nfa anchored)
             (length text.now) result.now }
         ensures accepted { (pattern : ℕ) → Contains result.now pattern → (cs : List ℕ)
