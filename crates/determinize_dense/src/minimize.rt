@@ -6,9 +6,8 @@
 
 ghost use Rattle.std.specs.Prelude.{◌≡◌, ◌<◌, ◌≤◌, ◌+◌, IfOk, OnOk, bytes_eq, length, map};
 ghost use Rattle.std.specs.HashMap.{get_by};
-ghost use Rattle.determinize_dense.specs.Dfa.{IsDfaOf};
-ghost use Rattle.determinize_dense.specs.Least.{HasRows, IsLeast};
-ghost use Rattle.determinize_dense.specs.Private.Minimizing.{AreFirstAlike, AreFirsts, AreMergedLists, AreMergedRows, AreMergedStarts, AreTargets, IsFirstAlike, IsGrouping, IsMerged, IsPartition, IsRefined, IsSplitBy, IsStable, entry};
+ghost use Rattle.determinize_dense.specs.Least.{IsLeast};
+ghost use Rattle.determinize_dense.specs.Private.Minimizing.{AreFirstAlike, AreFirsts, AreMergedLists, AreMergedRows, AreMergedStarts, AreTargets, IsFirstAlike, IsGrouping, IsMerged, IsPartition, IsRefined, IsSplitBy, IsStable};
 ghost use Rattle.determinize_dense.specs.Private.Rows.{IsFilled};
 
 use crate::partition::Partition;
@@ -32,26 +31,6 @@ impl<'n, N: Allocator, A: Allocator + Copy> Rows<'n, N, A> {
     {
         let parts = self.partition(alloc)?;
         self.merged(alloc, &parts)
-    }
-
-    /// Returns the number of rows.
-    pub(crate) fn len(&self) -> usize
-        ensures value { result ≡ length self.now.table.patterns }
-        ensures means { IsDfaOf self.now.nfa self.now.kind self.now.table }
-        ensures rows { HasRows self.now.nfa self.now.table }
-    {
-        self.patterns.len()
-    }
-
-    /// Returns the row after a row, in a column.
-    pub(crate) fn entry(&self, row: usize, column: usize) -> usize
-        requires row { row < length self.now.table.patterns }
-        requires column { column < self.now.table.class_count + 1 }
-        ensures value { result ≡ entry self.now.table row column }
-        ensures limit { result < length self.now.table.patterns }
-    {
-        let columns = self.classes.alphabet_len();
-        self.next[row * columns + column] as usize / columns
     }
 
     /// Returns the first row that lists the same patterns as a row.

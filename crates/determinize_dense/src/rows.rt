@@ -3,6 +3,9 @@
 ghost use Rattle.std.specs.Prelude.{◌≡◌, ◌+◌, ◌<◌, length, min};
 ghost use Rattle.determinize_below.specs.ByteClasses.{AreClassesOf};
 ghost use Rattle.determinize_below.specs.Truth.{IsUnit};
+ghost use Rattle.determinize_dense.specs.Dfa.{IsDfaOf};
+ghost use Rattle.determinize_dense.specs.Least.{HasRows};
+ghost use Rattle.determinize_dense.specs.Private.Minimizing.{entry};
 ghost use Rattle.determinize_dense.specs.Private.Rows.{IsDfa, IsNext, IsOffset, offset_of};
 ghost use Rattle.determinize_dense.specs.Table.{bytes_of, column_of, patterns_at, start_row};
 
@@ -79,6 +82,26 @@ impl<'n, N: Allocator, A: Allocator> Model for Rows<'n, N, A> {
 }
 
 impl<'n, N: Allocator, A: Allocator + Copy> Rows<'n, N, A> {
+    /// Returns the number of rows.
+    pub(crate) fn len(&self) -> usize
+        ensures value { result ≡ length self.now.table.patterns }
+        ensures means { IsDfaOf self.now.nfa self.now.kind self.now.table }
+        ensures rows { HasRows self.now.nfa self.now.table }
+    {
+        self.patterns.len()
+    }
+
+    /// Returns the row after a row, in a column.
+    pub(crate) fn entry(&self, row: usize, column: usize) -> usize
+        requires row { row < length self.now.table.patterns }
+        requires column { column < self.now.table.class_count + 1 }
+        ensures value { result ≡ entry self.now.table row column }
+        ensures limit { result < length self.now.table.patterns }
+    {
+        let columns = self.classes.alphabet_len();
+        self.next[row * columns + column] as usize / columns
+    }
+
     /// Returns the offset of the row of a start behind a byte, or behind nothing.
     pub(crate) fn start_row(&self, is_anchored: bool, look_behind: Option<u8>) -> usize
         ensures value { result ≡ offset_of self.now.table
