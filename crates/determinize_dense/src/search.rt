@@ -3,7 +3,7 @@
 //! Matches are delayed by one unit: a row lists the patterns that match before the unit that led to
 //! it. So a search also reads the unit ahead of its text, and a start state is no match state.
 
-ghost use Rattle.std.specs.Prelude.{[], Bool, Decides, ◌≡◌, ◌≤◌, ℕ, List, Contains, false, length, true, None};
+ghost use Rattle.std.specs.Prelude.{[], Bool, Decides, ◌≡◌, ◌<◌, ◌≤◌, ℕ, List, Contains, false, length, true, None};
 ghost use Rattle.std.specs.Option.{IfNone, IfSome};
 ghost use Rattle.determinize_below.specs.Semantics.{Accepts, between};
 ghost use Rattle.determinize_below.specs.Search.{is_done};
@@ -16,7 +16,7 @@ ghost use Rattle.determinize_dense.specs.Dfa.{value_from};
 ghost use Rattle.determinize_dense.specs.Meaning.{ListsPreferred};
 ghost use Rattle.determinize_dense.specs.Private.Rows.{IsOffset, IsRowAt};
 ghost use Rattle.determinize_dense.specs.Table.{patterns_at};
-ghost use Rattle.determinize_dense.specs.Private.Searching.{FindsFrom, IsFound, IsMatch, StaysOver};
+ghost use Rattle.determinize_dense.specs.Private.Searching.{FindsFrom, IsFound, IsMatch, IsRead, StaysOver};
 
 use crate::dfa::{Dfa, SCALE};
 use crate::pauses::{FIRST, Pauses};
@@ -102,6 +102,31 @@ impl<'n, N: Allocator, A: Allocator + Copy> Dfa<'n, N, A> {
         Some(HalfMatch { pattern, offset })
     }
 
+    /// Returns the offset of the row after a row over the byte at an index of a text.
+    ///
+    /// - `row` is the offset of the row.
+    #[inline(always)]
+    fn over_byte(&self, row: usize, text: &Text<'_>, index: usize) -> usize
+        requires row { IsOffset self.now.table row }
+        requires index { index < length text.now.bytes }
+        ensures read { IsRead self.now.table text.now index row result }
+        ensures offset { IsOffset self.now.table result }
+    {
+        self.rows.row_over(row, Some(text.byte(index)))
+    }
+
+    /// Returns the offset of the row after a row over the unit ahead of a text.
+    ///
+    /// - `row` is the offset of the row.
+    #[inline(always)]
+    fn over_ahead(&self, row: usize, text: &Text<'_>) -> usize
+        requires row { IsOffset self.now.table row }
+        ensures read { IsRead self.now.table text.now (length text.now.bytes) row result }
+        ensures offset { IsOffset self.now.table result }
+    {
+        self.rows.row_over(row, text.ahead())
+    }
+
     /// Searches a text. The search ends at row 0 and, if `is_earliest`, at the first row that lists
     /// a pattern. Returns the last match of the rows that it enters.
     ///
@@ -122,7 +147,7 @@ impl<'n, N: Allocator, A: Allocator + Copy> Dfa<'n, N, A> {
         let (mut matched, mut offset, mut read) = (0, 0, 0);
         let until = text.len().min(FIRST);
         while read < until {
-            row = self.rows.row_over(row, Some(text.byte(read)));
+            row = self.over_byte(row, text, read);
             if row == 0 {
                 return self.match_of(matched, offset);
             }
@@ -172,7 +197,7 @@ impl<'n, N: Allocator, A: Allocator + Copy> Dfa<'n, N, A> {
                 (self.last_special, text.len())
             };
             while read < until {
-                row = self.rows.row_over(row, Some(text.byte(read)));
+                row = self.over_byte(row, text, read);
                 read += 1;
                 if row <= stop {
                     if row > self.last_match {
@@ -214,7 +239,7 @@ impl<'n, N: Allocator, A: Allocator + Copy> Dfa<'n, N, A> {
         ensures { (earliest : Bool) → FindsFrom self.now earliest text.now
             (length text.now.bytes) row matched offset result }
     {
-        let end = self.rows.row_over(row, text.ahead());
+        let end = self.over_ahead(row, text);
         if end == 0 || end > self.last_match {
             return self.match_of(matched, offset);
         }
@@ -233,7 +258,7 @@ impl<'n, N: Allocator, A: Allocator + Copy> Dfa<'n, N, A> {
         ensures within { result ≤ length text.now.bytes }
     {
         let mut read = read;
-        while read < text.len() && self.rows.row_over(row, Some(text.byte(read))) == row {
+        while read < text.len() && self.over_byte(row, text, read) == row {
             read += 1;
         }
         read
