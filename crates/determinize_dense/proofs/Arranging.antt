@@ -6,7 +6,7 @@ use Rattle.std.specs.Prelude.{◌/◌, ◌^◌}
 use Rattle.std.proofs.Math.Nat.{mul-le-mul_left, mul-le-mul_right}
 use Rattle.determinize_dense.proofs.Offsets.{inverse-room, inverse-row, offset-less}
 use Rattle.determinize_dense.proofs.Searching.{none-zero}
-use Rattle.determinize_dense.proofs.Splitting.{below_or}
+use Rattle.std.proofs.lemmas.Bool.{cases_lt}
 use Rattle.determinize_dense.specs.Least.{IsLeast}
 use Rattle.determinize_dense.specs.Private.Minimizing.{entry, IsGrouping, IsMerged}
 use Rattle.determinize_dense.specs.Private.Order.{AreRanks, IsOrdered}
@@ -75,7 +75,7 @@ module _ (v : DfaValue) {ranks : List ℕ} {p : Blocks} (are : AreRanks v.table 
 
     -- only block 0 has row 0
     later : (b : ℕ) → 0 < b → b < length p.members → 0 < slice_index p.members b
-    later b some h = elim (below_or 0 (slice_index p.members b)) [
+    later b some h = elim (cases_lt 0 (slice_index p.members b)) [
       | inl k ↦ k
       | inr k ↦
           let zero : slice_index p.members b ≡ 0 = omega (arith, k) in
@@ -89,7 +89,7 @@ module _ (v : DfaValue) {ranks : List ℕ} {p : Blocks} (are : AreRanks v.table 
 
     -- a row up to the offset of another is not behind it
     not-behind : (b last : ℕ) → offset_of w.table b ≤ offset_of v.table last → b ≤ last
-    not-behind b last h = elim (below_or last b) [
+    not-behind b last h = elim (cases_lt last b) [
       | inl k ↦
           let less : offset_of w.table last < offset_of w.table b = offset-less w.table k in
           let same : offset_of w.table last ≡ offset_of v.table last = ap (λ n. last * (n + 1)) m.columns in
@@ -98,7 +98,7 @@ module _ (v : DfaValue) {ranks : List ℕ} {p : Blocks} (are : AreRanks v.table 
     ]
 
     behind : (b last : ℕ) → offset_of v.table last < offset_of w.table b → last < b
-    behind b last h = elim (below_or last b) [
+    behind b last h = elim (cases_lt last b) [
       | inl k ↦ k
       | inr k ↦
           let upto : b * (w.table.class_count + 1) ≤ last * (w.table.class_count + 1) =
@@ -127,7 +127,7 @@ module _ (v : DfaValue) {ranks : List ℕ} {p : Blocks} (are : AreRanks v.table 
           ∙ (are.each (slice_index p.members b) (inside (slice_index p.members b) r)).none
           (lists.past b (behind b first (subst (λ n. n < offset_of w.table b) match_is l)) i);
       more =
-          let upto : first ≤ second = elim (below_or second first) [
+          let upto : first ≤ second = elim (cases_lt second first) [
             | inl k ↦
                 let a : rank first ≤ 1 = lists.upto first (omega arith) in
                 let b : 2 < rank first = scans.past first k lists.there in

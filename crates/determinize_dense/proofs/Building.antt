@@ -14,6 +14,7 @@ use Rattle.std.proofs.lemmas.Nat.{row-Below}
 use Rattle.std.proofs.lemmas.Option.{slice_get_read}
 use Rattle.determinize_dense.proofs.Reached.{reached-dead}
 use Rattle.determinize_engine.proofs.Places.{apart-push, get_more, get_push, not_both, not_none}
+use Rattle.determinize_engine.specs.declared.state_table.TheConstants.{MAX_STATES}
 
 -- nothing changes
 pub stays-same : (b : Building) → Stays b b
@@ -195,7 +196,7 @@ more-than-none nfa kind none = (
 
 -- a builder with the dead value only
 pub building-first : (nfa : Nfa) (kind : MatchKind) (classes : Classes) (limit : ℕ) → IsAccepted nfa
-    → AreClassesOf nfa classes → AreClasses classes → 0 < limit → limit ≤ 16647160
+    → AreClassesOf nfa classes → AreClasses classes → 0 < limit → limit ≤ MAX_STATES
     → IsBuilding record { nfa = nfa; kind = kind; classes = classes; limit = limit; values = dead ∷ []; next = [] }
 building-first nfa kind classes limit accepted of sound some few = record {
   accepted = accepted;

@@ -10,7 +10,7 @@ use Rattle.determinize_engine.proofs.Places.{not_both}
 use Rattle.determinize_dense.specs.Private.Minimizing.{AreMergedEntries, entry, merged_entry}
 use Rattle.determinize_dense.specs.Private.Partition.{Blocks}
 use Rattle.determinize_dense.specs.Private.Rows.{offset_of}
-use Rattle.determinize_dense.proofs.Splitting.{below_or}
+use Rattle.std.proofs.lemmas.Bool.{cases_lt}
 
 pub get_end : {X : Type 0} (d : X) (xs : List X) (x : X) → get_or (xs ++ x ∷ []) (length xs) d ≡ x
 get_end d [] x = refl
@@ -20,7 +20,7 @@ get_end d (y ∷ ys) x = get_end d ys x
 pub each-push : {X : Type 0} (d : X) (P : ℕ → X → Type 0) (xs : List X) (x : X)
     → ((i : ℕ) → i < length xs → P i (get_or xs i d)) → P (length xs) x
     → (i : ℕ) → i < length (xs ++ x ∷ []) → P i (get_or (xs ++ x ∷ []) i d)
-each-push d P xs x each new i h = elim (below_or i (length xs)) [
+each-push d P xs x each new i h = elim (cases_lt i (length xs)) [
   | inl l ↦ subst (λ y. P i y) (sym (get_or_append_left xs (x ∷ []) d i l)) (each i l)
   | inr l ↦
       let n : length (xs ++ x ∷ []) ≡ length xs + 1 = length_push xs x in

@@ -3,6 +3,7 @@ mod Building
 mod Collecting
 mod Common
 mod Counting
+mod FirstRows
 mod Inputs
 mod Least
 mod Listing

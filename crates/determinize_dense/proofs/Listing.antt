@@ -1,10 +1,22 @@
 -- The patterns that match where a text ends, in words of runs.
-use Rattle.determinize_core.proofs.Common.{Accepts, after_at, ap, Contains, future, IsAccepted, length, LeftmostFirst}
-use Rattle.determinize_core.proofs.Common.{List, MatchKind, Nfa, Option, refl, slice_get, Some, start_value, subst}
-use Rattle.determinize_core.proofs.Common.{suc, sym, Text, units, Value, value_after, ℕ, [], ◌∙◌, ◌∷◌, ◌≡◌}
-use Rattle.determinize_core.specs.Step.{step}
-use Rattle.determinize_below.specs.declared.search.MatchKind.TheVariants.{All}
-use Rattle.determinize_core.specs.Chain.{chain}
+-- Main statements: list-all, list-preferred, each-accepted, each_text_is_listed.
+-- Used by: `patterns_after` and the law of what a table means.
+-- Idea: the last value of a walk is that over the unit ahead. Under `LeftmostFirst` it lists a pattern exactly if the
+-- last match of the walk, which is the preferred one, ends with the text.
+use Rattle.determinize_core.proofs.Common.{Accepts, after_at, All, ap, arith, chain, Contains, ended_at, false, future}
+use Rattle.determinize_core.proofs.Common.{HalfMatch, IfSome, IsAccepted, IsPreferredMatch, last_match, LeftmostFirst}
+use Rattle.determinize_core.proofs.Common.{length, length-map, List, map, MatchKind, Nfa, None, Option, option_or, refl}
+use Rattle.determinize_core.proofs.Common.{slice_get, Some, start_value, step, subst, suc, sym, Text, units, Value}
+use Rattle.determinize_core.proofs.Common.{value_after, ℕ, [], ◌<◌, ◌∙◌, ◌∷◌, ◌≡◌, ◌≤◌}
+use Rattle.determinize_core.proofs.step.StepLaws.{one_pattern}
+use Rattle.determinize_core.proofs.walk.AcceptedPatterns.{each_answer_is_one}
+use Rattle.determinize_core.proofs.walk.LastMatches.{last_match-push}
+use Rattle.determinize_core.proofs.walk.UnitLists.{chain_is_future}
+use Rattle.determinize_core.proofs.walk.WalkLoops.{value_after-push}
+use Rattle.determinize_dense.specs.Meaning.{EachTextIsListed, ListsPreferred}
+use Rattle.determinize_engine.proofs.LastUnits.{last_match-within}
+use Rattle.determinize_engine.proofs.TextUnits.{text_units}
+use Rattle.determinize_engine.proofs.Texts.{units_listed}
 use Rattle.determinize_core.specs.Walk.{ListsAccepted}
 use Rattle.determinize_core.proofs.walk.WalkOfRuns.{leftmost_walk, walk_of_all}
 use Rattle.std.proofs.lemmas.List.FromFn.{length-map-range_with_len}
@@ -39,6 +51,66 @@ module _ (nfa : Nfa) (accepted : IsAccepted nfa) (start : ℕ) (text : Text) whe
       (leftmost_walk nfa accepted start text).matches (length text.bytes) (last_value LeftmostFirst)
       (chain-last LeftmostFirst) x listed
 
+-- a list of one
+one_listed : (y x : ℕ) → Contains (y ∷ []) x → y ≡ x
+one_listed y x c = grind arith
+
+module _ (nfa : Nfa) (accepted : IsAccepted nfa) (start : ℕ) (text : Text) where
+  -- the value after the bytes
+  abbrev before_last : Value
+  before_last = value_after nfa LeftmostFirst (start_value nfa start text.behind) (map Some text.bytes)
+
+  abbrev match_before : Option HalfMatch
+  match_before = last_match (future nfa LeftmostFirst (start_value nfa start text.behind) (map Some text.bytes))
+
+  last_value-step : last_value nfa accepted start text LeftmostFirst ≡ step nfa LeftmostFirst before_last text.ahead
+  last_value-step = rw (units_listed text)
+      (value_after-push nfa LeftmostFirst (start_value nfa start text.behind) (map Some text.bytes) text.ahead)
+
+  last_match-ends : last_match (chain nfa LeftmostFirst start text)
+      ≡ option_or (ended_at (length text.bytes) (last_value nfa accepted start text LeftmostFirst).patterns)
+      match_before
+  last_match-ends =
+      let over = rw (length-map text.bytes Some) at (last_match-push nfa LeftmostFirst
+      (start_value nfa start text.behind) (map Some text.bytes) text.ahead) in
+      rw (units_listed text)
+      (ap last_match (chain_is_future nfa LeftmostFirst start text.behind text.ahead text.bytes) ∙ over)
+
+  -- of a list of one pattern at most, and a match that ends before
+  preferred_of : (xs : List ℕ) → length xs ≤ 1 → (m : Option HalfMatch)
+      → IfSome m (λ found. found.offset < length text.bytes)
+      → IsPreferredMatch nfa start text (option_or (ended_at (length text.bytes) xs) m)
+      → ListsPreferred nfa text start (length text.bytes) xs
+  preferred_of [] few None before none = record {
+    preferred = λ x. (λ c. absurd (omega (arith, c.1)), λ r. absurd (none r.0 (length text.bytes) x r.1.accepts));
+    few = few;
+  }
+  preferred_of [] few (Some m) before p = record {
+    preferred = λ x. (
+      λ c. absurd (omega (arith, c.1)),
+      λ r.
+          let e = (each_answer_is_one nfa text start).1 _ _ _ _ _ _ r.1 p.1 in
+          absurd (let no : ⊥ = omega (arith, e.0, before) in no),
+    );
+    few = few;
+  }
+  preferred_of (y ∷ []) few m before p = record {
+    preferred = λ x. (
+      λ c. rw (← one_listed y x c) p,
+      λ r. (0, omega arith, sym ((each_answer_is_one nfa text start).1 _ _ _ _ _ _ r.1 p.1).1),
+    );
+    few = few;
+  }
+  preferred_of (y ∷ z ∷ ys) few m before p = absurd (let no : ⊥ = omega (arith, few) in no)
+
+  preferred-listed : ListsPreferred nfa text start (length text.bytes)
+      (last_value nfa accepted start text LeftmostFirst).patterns
+  preferred-listed = preferred_of _
+      (one_pattern nfa LeftmostFirst before_last text.ahead refl _ last_value-step) match_before
+      (rw length-map at (last_match-within nfa LeftmostFirst (start_value nfa start text.behind)
+      (map Some text.bytes)))
+      (rw last_match-ends at (leftmost_walk nfa accepted start text).found)
+
 module _ (nfa : Nfa) (kind : MatchKind) (s start : ℕ) (text : Text) {list : List ℕ} (accepted : IsAccepted nfa) where
   -- the same of a list that is that of the value
   pub list-all : kind ≡ All → s ≡ start
@@ -48,8 +120,24 @@ module _ (nfa : Nfa) (kind : MatchKind) (s start : ℕ) (text : Text) {list : Li
       (sym (is ∙ ap (λ k. (value_after nfa k (start_value nfa s text.behind) (units text)).patterns) all
       ∙ ap (λ n. (last_value nfa accepted n text All).patterns) same)) (all-listed nfa accepted start text)
 
+  pub list-preferred : kind ≡ LeftmostFirst → s ≡ start
+      → list ≡ (value_after nfa kind (start_value nfa s text.behind) (units text)).patterns
+      → ListsPreferred nfa text start (length text.bytes) list
+  list-preferred first same is = subst (λ ps. ListsPreferred nfa text start (length text.bytes) ps)
+      (sym (is ∙ ap (λ k. (value_after nfa k (start_value nfa s text.behind) (units text)).patterns) first
+      ∙ ap (λ n. (last_value nfa accepted n text LeftmostFirst).patterns) same))
+      (preferred-listed nfa accepted start text)
+
   pub each-accepted : s ≡ start
       → list ≡ (value_after nfa kind (start_value nfa s text.behind) (units text)).patterns
       → (x : ℕ) → Contains list x → (cs : List ℕ) × Accepts nfa text start cs (length text.bytes) x
   each-accepted same is x listed = listed-accepted nfa accepted start text kind x
       (subst (λ ps. Contains ps x) (is ∙ ap (λ n. (last_value nfa accepted n text kind).patterns) same) listed)
+
+pub each_text_is_listed : EachTextIsListed
+each_text_is_listed nfa kind d accepted is anchored text behind bytes ahead =
+    let same = is anchored text.behind (units text) behind
+    (text_units text.behind false text.bytes text.ahead bytes ahead) in (
+      λ all. list-all nfa kind _ _ text accepted all refl same,
+      λ first. list-preferred nfa kind _ _ text accepted first refl same,
+    )

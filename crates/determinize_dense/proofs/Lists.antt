@@ -1,17 +1,6 @@
 -- Lists of patterns, one for each state.
-use Rattle.determinize_core.proofs.Common.{ap, get_or, length, List, map, None, refl, Some, sym, take, take_more}
+use Rattle.determinize_core.proofs.Common.{ap, get_or, length, List, map, refl, sym, take, take_more}
 use Rattle.determinize_core.proofs.Common.{Value, ℕ, [], ◌++◌, ◌+◌, ◌<◌, ◌∙◌, ◌∷◌, ◌≡◌}
-use Rattle.determinize_core.specs.Value.{listed}
-use Rattle.determinize_engine.proofs.Places.{not_none, of_some}
-
--- what is listed
-pub listed-some : (ps xs : List ℕ) → Some xs ≡ listed ps → xs ≡ ps
-listed-some [] xs e = not_none e
-listed-some (p ∷ ps) xs e = of_some e
-
-pub listed-none : (ps : List ℕ) → None ≡ listed ps → [] ≡ ps
-listed-none [] e = refl
-listed-none (p ∷ ps) e = not_none (sym e)
 
 pub map-push : {A B : Type 0} (f : A → B) (xs : List A) (x : A) → map f (xs ++ x ∷ []) ≡ map f xs ++ f x ∷ []
 map-push f [] x = refl

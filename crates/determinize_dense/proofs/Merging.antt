@@ -20,6 +20,7 @@ use Rattle.determinize_dense.specs.Private.Minimizing.{IsMerged, IsPartition, me
 use Rattle.determinize_dense.specs.Private.Partition.{Blocks}
 use Rattle.determinize_dense.specs.Private.Rows.{IsStored, offset_of, rows_at}
 use Rattle.determinize_dense.proofs.Offsets.{row-divided, rows_at-index}
+use Rattle.determinize_engine.specs.declared.state_table.TheConstants.{MAX_STATES}
 
 -- a DFA with other rows
 abbrev pub with_rows : DfaValue → List ℕ → List ℕ → List (List ℕ) → DfaValue
@@ -203,7 +204,7 @@ module _ (v : DfaValue) (is : IsDfa v) (p : Blocks) (part : IsGrouping v.table p
         (subst (λ n. block (row_over d (member b) u) < n) (sym count)
         (block-below (row_over d (member b) u) (is.table.within (member b) u (member-below b l) unit)));
     few = let k : length lists ≤ length d.patterns = merged-fewer in
-        let n : length d.patterns ≤ 16647160 = is.table.few in omega (arith, k, n);
+        let n : length d.patterns ≤ MAX_STATES = is.table.few in omega (arith, k, n);
   }
 
   merged-dfa : IsDfa merged

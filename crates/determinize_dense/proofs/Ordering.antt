@@ -10,7 +10,8 @@ use Rattle.std.proofs.Math.Nat.{mul-le-mul_right, mul_comm}
 use Rattle.std.proofs.lemmas.Nat.{div-mul-add, mod-mul-add, mul-add-lt}
 use Rattle.determinize_dense.proofs.Collecting.{each-push, get_end}
 use Rattle.determinize_dense.proofs.Pigeonhole.{pigeonhole}
-use Rattle.determinize_dense.proofs.Splitting.{below_or, few_blocks}
+use Rattle.determinize_dense.proofs.Splitting.{few_blocks}
+use Rattle.std.proofs.lemmas.Bool.{cases_lt}
 use Rattle.determinize_dense.specs.Private.Partition.{AreBlocks, Blocks, IsByRank, IsLastUpto, IsOrdering, turn_of}
 
 -- one turn is that of one rank and one number
@@ -22,7 +23,7 @@ same_turn a b n x y h l e = (
 
 -- an earlier turn has no greater rank
 rank_of_turn : (a b n x y : ℕ) → y < n → a * n + x < b * n + y → a ≤ b
-rank_of_turn a b n x y l h = elim (below_or b a) [
+rank_of_turn a b n x y l h = elim (cases_lt b a) [
   | inl less ↦
       let more : (b + 1) * n ≤ a * n = mul-le-mul_right n (let k : b + 1 ≤ a = omega (arith, less) in k) in
       let split : (b + 1) * n ≡ b * n + n = omega arith in
@@ -129,7 +130,7 @@ module _ {ranks numbers members : List ℕ} (rank row : ℕ)
                   ap (λ n. slice_index more n) (other r differ) ∙ old (slice_index numbers r) k.0 ∙ k.1,
                 )
           ] refl;
-      ascend = λ b c l m. elim (below_or c (length members)) [
+      ascend = λ b c l m. elim (cases_lt c (length members)) [
         | inl k ↦
             let i : b < length members = omega (arith, l, k) in
             subst (λ n. n < turn_of ranks (slice_index more c)) (ap (λ n. turn_of ranks n) (sym (old b i)))
@@ -159,7 +160,7 @@ module _ {ranks numbers members : List ℕ} (is : IsOrdering ranks (4 * length r
 
   -- row 0 has the first turn
   first-block : slice_index numbers 0 ≡ 0
-  first-block = elim (below_or 0 (slice_index numbers 0)) [
+  first-block = elim (cases_lt 0 (slice_index numbers 0)) [
     | inl later ↦
         let k = all 0 some in
         let less : turn_of ranks (slice_index members 0) < turn_of ranks (slice_index members (slice_index numbers 0)) =
@@ -206,7 +207,7 @@ last-upto {ranks} {p} {rank} {last} is there upto next = record {
   upto = upto;
   past = λ b h l.
       let k : rank < slice_index ranks (slice_index p.members (last + 1)) = next (omega (arith, h, l)) in
-      elim (below_or (last + 1) b) [
+      elim (cases_lt (last + 1) b) [
         | inl m ↦
             let a : slice_index ranks (slice_index p.members (last + 1)) ≤ slice_index ranks (slice_index p.members b) =
             is.ascend (last + 1) b m l in omega (arith, k, a)
@@ -221,7 +222,7 @@ pub upto-more : (ranks : List ℕ) (p : Blocks) (rank last : ℕ)
     → ((b : ℕ) → b ≤ last → slice_index ranks (slice_index p.members b) ≤ rank)
     → slice_index ranks (slice_index p.members (last + 1)) ≤ rank
     → (b : ℕ) → b ≤ last + 1 → slice_index ranks (slice_index p.members b) ≤ rank
-upto-more ranks p rank last upto next b h = elim (below_or last b) [
+upto-more ranks p rank last upto next b h = elim (cases_lt last b) [
   | inl m ↦ let same : last + 1 ≡ b = omega (arith, m, h) in
       subst (λ c. slice_index ranks (slice_index p.members c) ≤ rank) same next
   | inr m ↦ upto b m

@@ -6,7 +6,8 @@ use Rattle.determinize_core.proofs.Common.{◌≡◌, ◌≤◌}
 use Rattle.determinize_dense.proofs.Common.{All, IsFilled, IsUnit, Table, column_of, patterns_at, row_after, row_over}
 use Rattle.std.specs.Prelude.{suc, zero}
 use Rattle.determinize_dense.proofs.Reached.{no_units}
-use Rattle.determinize_dense.proofs.Splitting.{below_or, few_blocks}
+use Rattle.determinize_dense.proofs.Splitting.{few_blocks}
+use Rattle.std.proofs.lemmas.Bool.{cases_lt}
 use Rattle.determinize_dense.specs.Least.{AreApart}
 use Rattle.determinize_dense.specs.Private.Minimizing.{AreFirstAlike, AreTargets, entry, IsPartition, IsRefined}
 use Rattle.determinize_dense.specs.Private.Minimizing.{IsSettled}
@@ -21,9 +22,9 @@ not_equal : {X : Type 0} (a b : ℕ) → nat_eq a b ≡ false → a ≡ b → X
 not_equal a b f e = absurd (let no : ⊥ = grind (arith, f, e) in no)
 
 neither : (a b : ℕ) → (a < b → ⊥) → (b < a → ⊥) → a ≡ b
-neither a b f g = elim (below_or a b) [
+neither a b f g = elim (cases_lt a b) [
   | inl h ↦ absurd (f h)
-  | inr h ↦ elim (below_or b a) [
+  | inr h ↦ elim (cases_lt b a) [
     | inl k ↦ absurd (g k)
     | inr k ↦ let e : a ≡ b = omega (arith, h, k) in e
   ]

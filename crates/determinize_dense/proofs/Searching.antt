@@ -2,12 +2,12 @@
 use Rattle.determinize_core.proofs.Common.{[], ap, append-nil, append_assoc, arith, Bool, drop, ended_at, future}
 use Rattle.determinize_core.proofs.Common.{get_or, get_or_from_slice_get, HalfMatch, inl, inr, is_nonempty, is_some}
 use Rattle.determinize_core.proofs.Common.{last_match, length, length-append, length-map, length-take-le, List, map}
-use Rattle.determinize_core.proofs.Common.{None, Option, option_or, refl, slice_get, slice_get-get_or, slice_get_within}
+use Rattle.determinize_core.proofs.Common.{Option, option_or, refl, slice_get_within}
 use Rattle.determinize_core.proofs.Common.{Some, start_value, subst, suc, sym, take, take-append-drop, take_all}
 use Rattle.determinize_core.proofs.Common.{take_more, Text, true, true≢false, units, Value, value_after, zero, ℕ, ◌*◌}
 use Rattle.determinize_core.proofs.Common.{◌++◌, ◌+◌, ◌-◌, ◌<◌, ◌∙◌, ◌∷◌, ◌≡◌, ◌≤◌}
 use Rattle.determinize_dense.proofs.Common.{All, DfaValue, IsDfa, IsFound, IsRowFrom, IsSearched, IsUnit, patterns_at}
-use Rattle.determinize_dense.proofs.Common.{row_after, row_over, start_in, start_row, value_from}
+use Rattle.determinize_dense.proofs.Common.{row_after, row_over, start_in, start_row, Table, value_from}
 use Rattle.determinize_dense.proofs.Lists.{map-push}
 use Rattle.determinize_core.specs.Chain.{chain}
 use Rattle.std.proofs.lemmas.List.Elements.{All-append, All-drop}
@@ -15,10 +15,10 @@ use Rattle.determinize_engine.proofs.LastUnits.{longer}
 use Rattle.determinize_engine.proofs.Texts.{units_listed}
 use Rattle.determinize_dense.proofs.Offsets.{offset-zero, same-offset}
 use Rattle.determinize_dense.proofs.Reached.{head_unit, no_units, one_unit, tail_units}
-use Rattle.determinize_dense.proofs.Splitting.{below_or}
+use Rattle.std.proofs.lemmas.Bool.{cases_lt}
 use Rattle.determinize_dense.specs.Private.Order.{IsOrdered}
 use Rattle.determinize_dense.specs.Private.Rows.{IsNext, IsRowAt, IsOffset, offset_of}
-use Rattle.determinize_dense.specs.Private.Searching.{IsMatch, StaysOver}
+use Rattle.determinize_dense.specs.Private.Searching.{IsMatch, IsRead, StaysOver}
 use Rattle.determinize_core.proofs.walk.LastMatches.{last_match-push}
 
 -- the rows along units, one more
@@ -72,10 +72,9 @@ module _ {d : DfaValue} {anchored : Bool} {p : Option ℕ} where
         ∙ is.tells anchored p us at.behind at.units
 
 -- the next row has an offset
-pub next-offset : (d : DfaValue) {row next : ℕ} (u : Option ℕ) → IsOffset d.table row → IsNext d.table row u next
-    → IsOffset d.table next
-next-offset d {row} {next} u at goes =
-    let k = goes at.0 at.1 at.2 in (row_over d.table at.0 u, k.0, k.1)
+pub next-offset : {d : Table} {text : Text} {index row next : ℕ} → IsOffset d row → IsRead d text index row next
+    → IsOffset d next
+next-offset {d} at r = let k = r.goes at.0 at.1 at.2 in (row_over d at.0 r.unit, k.0, k.1)
 
 -- no pattern is listed by row 0
 pub none-zero : (d : DfaValue) → IsDfa d → 0 < length d.table.patterns → patterns_at d.table 0 ≡ []
@@ -181,33 +180,31 @@ takes end [] last some = absurd (true≢false (sym some))
 takes end (x ∷ ps) last some = refl
 
 module _ {d : DfaValue} {anchored : Bool} {text : Text} {read row matched end : ℕ} (is : IsDfa d)
-    (s : IsSearched d anchored text read row matched end) {u : Option ℕ} {next : ℕ}
-    (at : slice_get (units text) read ≡ Some u) (unit : IsUnit u) (goes : IsNext d.table row u next)
-    {last_match last_special : ℕ} (o : IsOrdered d.table last_match last_special) where
-  there : IsRowFrom d anchored text.behind (take read (units text) ++ u ∷ []) next
-  there = row-push s.at u unit goes
+    (s : IsSearched d anchored text read row matched end) {next : ℕ} (r : IsRead d.table text read row next) where
+  there : IsRowFrom d anchored text.behind (take read (units text) ++ r.unit ∷ []) next
+  there = row-push s.at r.unit r.is_unit r.goes
 
   -- its row
   abbrev now : ℕ
-  now = row_after d.table (start_row d.nfa d.table anchored text.behind) (take read (units text) ++ u ∷ [])
+  now = row_after d.table (start_row d.nfa d.table anchored text.behind) (take read (units text) ++ r.unit ∷ [])
 
-  taken : take (read + 1) (units text) ≡ take read (units text) ++ u ∷ []
-  taken = take_more (units text) read u (slice_get_within (units text) read u at)
-      ∙ ap (λ y. take read (units text) ++ y ∷ []) (get_or_from_slice_get (units text) read u u at)
+  taken : take (read + 1) (units text) ≡ take read (units text) ++ r.unit ∷ []
+  taken = take_more (units text) read r.unit (slice_get_within (units text) read r.unit r.at)
+      ∙ ap (λ y. take read (units text) ++ y ∷ []) (get_or_from_slice_get (units text) read r.unit r.unit r.at)
 
   count : length (take read (units text)) ≡ read
   count =
-      let within : read < length (units text) = slice_get_within (units text) read u at in
+      let within : read < length (units text) = slice_get_within (units text) read r.unit r.at in
       length-take-le read (units text) (let k : read ≤ length (units text) = omega (arith, within) in k)
 
   -- the last match of the values so far and of one more
   last_is : last_of d anchored text (take (read + 1) (units text))
       ≡ option_or (ended_at read (patterns_at d.table now)) (last_of d anchored text (take read (units text)))
   last_is = ap (λ us. last_of d anchored text us) taken
-      ∙ last_match-push d.nfa d.kind (first d anchored text) (take read (units text)) u
+      ∙ last_match-push d.nfa d.kind (first d anchored text) (take read (units text)) r.unit
       ∙ ap (λ ps. option_or (ended_at (length (take read (units text))) ps)
       (last_of d anchored text (take read (units text))))
-      (sym (is.tells anchored text.behind (take read (units text) ++ u ∷ []) there.behind there.units))
+      (sym (is.tells anchored text.behind (take read (units text) ++ r.unit ∷ []) there.behind there.units))
       ∙ ap (λ n. option_or (ended_at n (patterns_at d.table now)) (last_of d anchored text (take read (units text))))
       count
 
@@ -222,57 +219,54 @@ module _ {d : DfaValue} {anchored : Bool} {text : Text} {read row matched end : 
         s.so_far;
   }
 
-  -- it is behind those that list some
-  pub searched-none : last_match < next → IsSearched d anchored text (read + 1) next matched end
-  searched-none h = keeps (o.none now there.below (subst (λ n. last_match < n) there.reached h))
-
-  -- or row 0
+  -- it is row 0
   pub searched-dead : next ≡ 0 → IsSearched d anchored text (read + 1) next matched end
   searched-dead dead =
       let zero : now ≡ 0 = offset-zero d.table (sym there.reached ∙ dead) in
       keeps (ap (λ r. patterns_at d.table r) zero
       ∙ none-zero d is (subst (λ n. n < length d.table.patterns) zero there.below))
 
-  -- or one of them
-  lists_some : (next ≡ 0 → ⊥) → next ≤ last_match → is_nonempty (patterns_at d.table now) ≡ true
-  lists_some not upto = o.some now (elim (below_or 0 now) [
-    | inl k ↦ k
-    | inr k ↦
-        let zero : now ≡ 0 = omega (arith, k) in
-        absurd (not (there.reached ∙ ap (λ r. offset_of d.table r) zero
-        ∙ (let z : 0 * (d.table.class_count + 1) ≡ 0 = omega arith in z)))
-  ]) there.below (subst (λ n. n ≤ last_match) there.reached upto)
+  module _ {last_match last_special : ℕ} (o : IsOrdered d.table last_match last_special) where
+    -- or behind those that list some
+    pub searched-none : last_match < next → IsSearched d anchored text (read + 1) next matched end
+    searched-none h = keeps (o.none now there.below (subst (λ n. last_match < n) there.reached h))
 
-  pub searched-some : (next ≡ 0 → ⊥) → next ≤ last_match → IsSearched d anchored text (read + 1) next next read
-  searched-some not upto = record {
-    at = subst (λ us. IsRowFrom d anchored text.behind us next) (sym taken) there;
-    listing = row-offset there;
-    so_far = λ r h e.
-        let same : now ≡ r = same-offset d.table (sym there.reached ∙ e) in
-        last_is ∙ takes read (patterns_at d.table now) (last_of d anchored text (take read (units text)))
-        (lists_some not upto) ∙ ap (λ n. ended_at read (patterns_at d.table n)) same;
-  }
+    -- or one of them
+    lists_some : (next ≡ 0 → ⊥) → next ≤ last_match → is_nonempty (patterns_at d.table now) ≡ true
+    lists_some not upto = o.some now (elim (cases_lt 0 now) [
+      | inl k ↦ k
+      | inr k ↦
+          let zero : now ≡ 0 = omega (arith, k) in
+          absurd (not (there.reached ∙ ap (λ r. offset_of d.table r) zero
+          ∙ (let z : 0 * (d.table.class_count + 1) ≡ 0 = omega arith in z)))
+    ]) there.below (subst (λ n. n ≤ last_match) there.reached upto)
 
-  -- which has a match
-  pub match-some : (next ≡ 0 → ⊥) → next ≤ last_match → {found : Option HalfMatch} → IsMatch d.table next read found
-      → is_some found ≡ true
-  match-some not upto f = ap is_some (f now there.below there.reached)
-      ∙ some_ended read (patterns_at d.table now) (lists_some not upto)
+    pub searched-some : (next ≡ 0 → ⊥) → next ≤ last_match → IsSearched d anchored text (read + 1) next next read
+    searched-some not upto = record {
+      at = subst (λ us. IsRowFrom d anchored text.behind us next) (sym taken) there;
+      listing = row-offset there;
+      so_far = λ m h e.
+          let same : now ≡ m = same-offset d.table (sym there.reached ∙ e) in
+          last_is ∙ takes read (patterns_at d.table now) (last_of d anchored text (take read (units text)))
+          (lists_some not upto) ∙ ap (λ n. ended_at read (patterns_at d.table n)) same;
+    }
+
+    -- which has a match
+    pub match-some : (next ≡ 0 → ⊥) → next ≤ last_match → {found : Option HalfMatch} → IsMatch d.table next read found
+        → is_some found ≡ true
+    match-some not upto f = ap is_some (f now there.below there.reached)
+        ∙ some_ended read (patterns_at d.table now) (lists_some not upto)
 
 -- units that lead a row to itself
 module _ {d : DfaValue} {anchored : Bool} {text : Text} {row matched end to last_match last_special : ℕ} (is : IsDfa d)
-    (units_are : All IsUnit (units text)) (o : IsOrdered d.table last_match last_special) (past : last_match < row)
-    (within : to ≤ length (units text)) where
+    (o : IsOrdered d.table last_match last_special) (past : last_match < row) where
   stays-more : (more read : ℕ) → read + more ≡ to → StaysOver d.table row text read to
       → IsSearched d anchored text read row matched end → IsSearched d anchored text to row matched end
   stays-more zero read e stays s =
       subst (λ n. IsSearched d anchored text n row matched end) (let k : read ≡ to = omega (arith, e) in k) s
   stays-more (suc more) read e stays s =
-      let inside : read < length (units text) = omega (arith, e, within) in
-      let u : Option ℕ = get_or (units text) read None in
-      let at : slice_get (units text) read ≡ Some u = slice_get-get_or (units text) read None inside in
       let next : IsSearched d anchored text (read + 1) row matched end =
-      searched-none is s at (units_are read None inside) (stays read (omega arith) (omega (arith, e)) u at) o past in
+      searched-none is s (stays read (omega arith) (omega (arith, e))) o past in
       stays-more more (read + 1) (omega (arith, e)) (λ i h l. stays i (omega (arith, h)) l) next
 
   pub searched-stays : {read : ℕ} → read ≤ to → StaysOver d.table row text read to

@@ -21,6 +21,7 @@ use Rattle.determinize_core.proofs.step.AlikeBytes.{each_class_steps}
 use Rattle.determinize_core.proofs.step.StepLaws.{dead_stays}
 use Rattle.determinize_engine.proofs.Places.{of_some}
 use Rattle.determinize_dense.proofs.Reached.{head_unit, reached-tested, start-number, tail_units}
+use Rattle.determinize_engine.specs.declared.state_table.TheConstants.{MAX_STATES}
 
 -- units after units
 after-more : (nfa : Nfa) (kind : MatchKind) (us rest : List (Option ℕ)) (v : Value)
@@ -135,9 +136,9 @@ module _ (b : Building) (is : IsBuilding b) (whole : length b.next ≡ length b.
         | false ↦ λ e. (None, tt, let k : length b.classes.firsts ≡ c = grind (arith, e, h) in k)
       ] refl
 
-  few : length table.patterns ≤ 16647160
+  few : length table.patterns ≤ MAX_STATES
   few = let n : length b.values ≤ b.limit = is.few in
-      let m : b.limit ≤ 16647160 = is.limit in omega (arith, n, m, count)
+      let m : b.limit ≤ MAX_STATES = is.limit in omega (arith, n, m, count)
 
   -- each row is reached
   row-reached : (r : ℕ) → r < length table.patterns → IsReachedRow b.nfa table r
@@ -242,11 +243,11 @@ module _ (b : Building) (is : IsBuilding b) (whole : length b.next ≡ length b.
   )
 
 -- each entry is the number of a row
-pub rows-few : (b : Building) → IsBuilding b → All (λ row. row < 16647160) b.next
+pub rows-few : (b : Building) → IsBuilding b → All (λ row. row < MAX_STATES) b.next
 rows-few b is e d h =
     let at : slice_get b.next e ≡ Some (get_or b.next e d) = slice_get-get_or b.next e d h in
     let k = is.entries e (get_or b.next e d) at in
     let below : get_or b.next e d < length b.values = slice_get_within b.values (get_or b.next e d) _ k.2 in
     let few : length b.values ≤ b.limit = is.few in
-    let limit : b.limit ≤ 16647160 = is.limit in
+    let limit : b.limit ≤ MAX_STATES = is.limit in
     omega (arith, below, few, limit)

@@ -1,38 +1,22 @@
 -- How the blocks of a partition are split, one row at a time.
+-- Main statements: few_blocks, row-kept, row-split, splitting-split.
+-- Used by: `split`, `by_rank`, Refining, Ordering.
+-- Idea: a row stays in its block if it has the value of the member; else its block and value are a key of a new number.
 use Rattle.std.proofs.Common.{[], ◌++◌, ◌+◌, ◌<◌, ◌∙◌, ◌∷◌, ◌≡◌, ◌≤◌, ◌⊎◌, ap, arith, cond, false}
 use Rattle.std.proofs.Common.{inl, inr, length, List, None, Option, refl, Some, subst, sym, true, ℕ}
+use Rattle.std.proofs.lemmas.Bool.{cases_lt}
 use Rattle.std.proofs.lemmas.List.{get_or_append_left, length_push}
 use Rattle.std.proofs.lemmas.Grind.{same_number_lists}
-use Rattle.std.specs.Prelude.{Decides, nat_eq, nat_lt, slice_index, unwrap_or}
-use Rattle.std.proofs.lemmas.Bool.Decides.{Decides-and}
+use Rattle.std.specs.Prelude.{slice_index}
+use Rattle.ordered_reach.proofs.Cases.{some_injective}
+use Rattle.ordered_reach.proofs.graph.FiniteGraphs.{same_decides}
+use Rattle.ordered_reach.proofs.runs.ByPosition.{Decides-pair_eq}
 use Rattle.determinize_dense.proofs.Pigeonhole.{pigeonhole}
 use Rattle.determinize_dense.specs.Private.Partition.{AreBlocks, AreEqual, Blocks, IsNumbered, IsSplit, IsSplitting}
 use Rattle.determinize_dense.specs.Private.Partition.{pair_of, same_pair}
 
-pub below_or : (a b : ℕ) → (a < b) ⊎ (b ≤ a)
-below_or a b = elim (nat_lt a b) as (λ t. nat_lt a b ≡ t → (a < b) ⊎ (b ≤ a)) [
-  | true ↦ λ e. inl (grind (arith, e))
-  | false ↦ λ e. inr (grind (arith, e))
-] refl
-
-pub Decides-nat : (a b : ℕ) → Decides (nat_eq a b) (a ≡ b)
-Decides-nat a b = (
-  λ e. let r : a ≡ b = grind (arith, e) in r,
-  λ e. let r : nat_eq a b ≡ true = grind (arith, e) in r,
-)
-
--- pairs are equal if both parts are
-Decides-pair : (p q : ℕ × ℕ) → Decides (same_pair p q) ((p.0 ≡ q.0) × (p.1 ≡ q.1))
-Decides-pair p q = Decides-and (nat_eq p.0 q.0) (nat_eq p.1 q.1) (Decides-nat p.0 q.0) (Decides-nat p.1 q.1)
-
 pair_is : (p q : ℕ × ℕ) → (p.0 ≡ q.0) × (p.1 ≡ q.1) → p ≡ q
 pair_is p q e = ap (λ x. (x, p.1)) e.0 ∙ ap (λ y. (q.0, y)) e.1
-
-of_some : {A : Type 0} {x y : A} → Some x ≡ Some y → x ≡ y
-of_some {A} {x} e = ap (λ (o : Option A). unwrap_or o x) e
-
-not_none : {A X : Type 0} {x : A} → Some x ≡ None → X
-not_none e = absurd (let no : ⊥ = (cc) in no)
 
 before : (xs : List ℕ) (x i : ℕ) → i < length xs → slice_index (xs ++ x ∷ []) i ≡ slice_index xs i
 before xs x i h = get_or_append_left xs (x ∷ []) 0 i h
@@ -45,7 +29,7 @@ at_end (y ∷ ys) x = at_end ys x
 at_push : (xs : List ℕ) (x i : ℕ) → i < length (xs ++ x ∷ [])
     → ((i < length xs) × (slice_index (xs ++ x ∷ []) i ≡ slice_index xs i))
     ⊎ ((i ≡ length xs) × (slice_index (xs ++ x ∷ []) i ≡ x))
-at_push xs x i l = elim (below_or i (length xs)) [
+at_push xs x i l = elim (cases_lt i (length xs)) [
   | inl h ↦ inl (h, get_or_append_left xs (x ∷ []) 0 i h)
   | inr h ↦
       let n : length (xs ++ x ∷ []) ≡ length xs + 1 = length_push xs x in
@@ -62,20 +46,6 @@ abbrev blocks_of : List ℕ → List ℕ → Blocks
 blocks_of numbers members = record { numbers = numbers; members = members }
 
 module _ {p : Blocks} {values : List ℕ} (are : AreBlocks p) where
-  -- nothing is split
-  pub splitting-first : {find : ℕ × ℕ → Option ℕ} → ((q : ℕ × ℕ) → find q ≡ None)
-      → IsSplitting p values [] p.members find
-  splitting-first {find} none = record {
-    rows = are.rows;
-    more = omega arith;
-    old = λ b h. refl;
-    within = λ r h. absurd (let no : ⊥ = omega (arith, h) in no);
-    pairs = λ r h. absurd (let no : ⊥ = omega (arith, h) in no);
-    found = λ q b e. not_none (sym e ∙ none q);
-    listed = λ b h l. absurd (let no : ⊥ = omega (arith, h, l) in no);
-    apart = λ b h l. absurd (let no : ⊥ = omega (arith, h, l) in no);
-  }
-
   module _ {numbers members : List ℕ} {find : ℕ × ℕ → Option ℕ} (s : IsSplitting p values numbers members find) where
     -- a row more, whose pair has a block
     pub splitting-push : (number : ℕ) → number < length members
@@ -132,12 +102,12 @@ module _ {p : Blocks} {values : List ℕ} (are : AreBlocks p) where
           → (length p.members ≤ b) × (b < length (members ++ row ∷ []))
           × (pair_of p values (slice_index (members ++ row ∷ []) b) ≡ q)) [
             | true ↦ λ same at.
-                let b_is : length members ≡ b = of_some at in (
+                let b_is : length members ≡ b = some_injective _ _ at in (
                   omega (arith, at_most, b_is),
                   omega (arith, count, b_is),
                   ap (λ n. pair_of p values (slice_index (members ++ row ∷ []) n)) (sym b_is)
                       ∙ ap (pair_of p values) (at_end members row)
-                      ∙ pair_is (pair_of p values row) q ((Decides-pair (pair_of p values row) q).0 same),
+                      ∙ (Decides-pair_eq same_decides (pair_of p values row) q).0 same,
                 )
             | false ↦ λ other at.
                 let k = s.found q b at in
@@ -150,7 +120,7 @@ module _ {p : Blocks} {values : List ℕ} (are : AreBlocks p) where
             (other b h k.0) ∙ s.listed b h k.0
         | inr k ↦ ap (λ r. next (pair_of p values r)) k.1 ∙ is (pair_of p values row)
             ∙ ap (λ t. cond t (Some (length members)) (find (pair_of p values row)))
-            ((Decides-pair (pair_of p values row) (pair_of p values row)).1 (refl, refl)) ∙ ap Some (sym k.0)
+            ((Decides-pair_eq same_decides (pair_of p values row) (pair_of p values row)).1 refl) ∙ ap Some (sym k.0)
       ];
       apart = λ b h l. elim (at_push members row b l) [
         | inl k ↦ subst (λ r. AreEqual values r (slice_index p.members (slice_index p.numbers r)) → ⊥) (sym k.1)
@@ -170,10 +140,11 @@ module _ {p : Blocks} {values : List ℕ} (are : AreBlocks p) where
             → same_pair (pair_of p values row) (pair_of p values (slice_index members b)) ≡ false
         other b h l = elim (same_pair (pair_of p values row) (pair_of p values (slice_index members b))) as
             (λ t. same_pair (pair_of p values row) (pair_of p values (slice_index members b)) ≡ t → t ≡ false) [
-              | true ↦ λ same. not_none (sym (s.listed b h l)
-                  ∙ ap find (sym (pair_is (pair_of p values row) (pair_of p values (slice_index members b))
-                  ((Decides-pair (pair_of p values row) (pair_of p values (slice_index members b))).0 same)))
-                  ∙ none)
+              | true ↦ λ same.
+                  let one = (Decides-pair_eq same_decides (pair_of p values row)
+                  (pair_of p values (slice_index members b))).0 same in
+                  let found : Some b ≡ None = sym (s.listed b h l) ∙ ap find (sym one) ∙ none in
+                  absurd (let no : ⊥ = (cc) in no)
               | false ↦ λ _. refl
             ] refl
 
@@ -256,15 +227,15 @@ module _ {p : Blocks} {values : List ℕ} (are : AreBlocks p) where
     -- members with one pair are one
     one_pair : (b c : ℕ) → b < length members → c < length members
         → pair_of p values (slice_index members b) ≡ pair_of p values (slice_index members c) → b ≡ c
-    one_pair b c h k e = elim (below_or b (length p.members)) [
-      | inl i ↦ elim (below_or c (length p.members)) [
+    one_pair b c h k e = elim (cases_lt b (length p.members)) [
+      | inl i ↦ elim (cases_lt c (length p.members)) [
         | inl j ↦ sym (are.own b i) ∙ ap (λ r. slice_index p.numbers r) (sym (s.old b i))
             ∙ ap (λ (q : ℕ × ℕ). q.0) e ∙ ap (λ r. slice_index p.numbers r) (s.old c j) ∙ are.own c j
         | inr j ↦ absurd (old_new b c i h k j e)
       ]
-      | inr i ↦ elim (below_or c (length p.members)) [
+      | inr i ↦ elim (cases_lt c (length p.members)) [
         | inl j ↦ absurd (old_new c b j k h i (sym e))
-        | inr j ↦ of_some (sym (s.listed b i h) ∙ ap find e ∙ s.listed c j k)
+        | inr j ↦ some_injective _ _ (sym (s.listed b i h) ∙ ap find e ∙ s.listed c j k)
       ]
     ]
       where

@@ -15,11 +15,6 @@ entry-at d is r c h l = subst (λ n. r * (d.class_count + 1) + c < n)
     (mul_comm (d.class_count + 1) (length d.patterns) ∙ sym is.size)
     (mul-add-lt r (d.class_count + 1) c (length d.patterns) h l)
 
--- and so for each unit
-pub entry-there : (d : Table) → IsFilled d → (r : ℕ) (u : Option ℕ) → r < length d.patterns → IsUnit u
-    → r * (d.class_count + 1) + column_of d u < length d.next
-entry-there d is r u h unit = entry-at d is r (column_of d u) h (is.column u unit)
-
 -- as an offset, in a column
 pub entry-stored : (v : DfaValue) (offsets : List ℕ) → IsStored v offsets → (r c : ℕ) → r < length v.table.patterns
     → c < v.table.class_count + 1

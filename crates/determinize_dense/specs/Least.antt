@@ -1,4 +1,5 @@
--- The fewest rows that a table with the same meaning can have.
+-- The fewest rows of all tables that list the same patterns along all units. A unit may follow the
+-- end of input, so some tables that agree where texts end have fewer.
 use Rattle.std.specs.Prelude.{◌≡◌, ◌<◌, ◌≤◌, ℕ, All, Bool, Option, List, length}
 use Rattle.determinize_below.specs.Semantics.{Nfa}
 use Rattle.determinize_below.specs.Truth.{IsUnit}
@@ -29,7 +30,7 @@ pub record HasRows (nfa : Nfa) (d : Table) : Type 0 where
   pub rows : (r : ℕ) (u : Option ℕ) → r < length d.patterns → IsUnit u
       → row_over d r u < length d.patterns
 
--- no table with the same meaning has fewer rows
+-- no table that lists the same patterns along all units has fewer rows
 abbrev pub LeastIsLeast : Type 0
 LeastIsLeast = (nfa : Nfa) (kind : MatchKind) (d e : Table) → IsDfaOf nfa kind d → IsLeast nfa d
     → IsDfaOf nfa kind e → HasRows nfa e → length d.patterns ≤ length e.patterns

@@ -1,4 +1,5 @@
 pub mod Dfa
 pub mod Least
+pub mod Meaning
 pub mod Private
 pub mod Table

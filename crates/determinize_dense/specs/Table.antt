@@ -1,7 +1,7 @@
 -- The table of a DFA: a row for each state, in it a column for each class of bytes, and last one
 -- for the end of input.
 use Rattle.std.specs.Prelude.{ℕ, ◌+◌, ◌*◌, Bool, cond, Option, Some, None, List, [], ◌∷◌, get_or}
-use Rattle.std.specs.Prelude.{slice_index}
+use Rattle.std.specs.Prelude.{length, slice_index, sum_by}
 use Rattle.determinize_below.specs.Semantics.{Nfa}
 use Rattle.determinize_below.specs.declared.search.MatchKind.{MatchKind}
 use Rattle.determinize_start.specs.StartKinds.{number_of, start_kind_of}
@@ -46,3 +46,8 @@ start_row nfa d anchored p = slice_index d.starts (start_number nfa anchored p)
 -- the patterns that a row lists
 abbrev pub patterns_at : Table → ℕ → List ℕ
 patterns_at d r = get_or d.patterns r []
+
+-- four bytes for each entry, and for each row 24 bytes and four for each pattern that it lists
+abbrev pub bytes_of : Table → ℕ
+bytes_of d = length d.patterns * (d.class_count + 1) * 4
+    + sum_by (λ list. 24 + length list * 4) d.patterns

@@ -13,9 +13,9 @@ ghost use Rattle.determinize_below.specs.Nfa.{AllResolve};
 ghost use Rattle.determinize_core.specs.Value.{Value as StateValue};
 ghost use Rattle.determinize_dense.specs.Dfa.{HasMoreStates, HasStates, IsReachedValue, start_in};
 ghost use Rattle.determinize_dense.specs.Private.Building.{AreStarts, IsStart, Stays, columns_of, unit_at};
-ghost use Rattle.determinize_dense.specs.declared.error.BuildError.TheVariants.{TooManyStates};
+ghost use Rattle.determinize_dense.specs.declared.error.DfaError.TheVariants.{TooManyStates};
 
-use crate::error::BuildError;
+use crate::error::DfaError;
 use crate::rows::{Rows, STARTS};
 use determinize_below::alphabet::ByteClasses;
 use determinize_below::{MatchKind, NFA, PatternID, StateID, Unit};
@@ -139,7 +139,7 @@ fn offsets_of<A: Allocator + Copy>(
     rows: &[u32],
     columns: usize,
 ) -> Result<Vec<u32, A>, AllocError>
-    requires rows { All (λ row. row < 16647160) rows.now }
+    requires rows { All (λ row. row < MAX_STATES) rows.now }
     requires columns { columns ≤ 257 }
     ensures { IfOk result (λ offsets. offsets.items ≡ map (λ row. row * columns) rows.now) }
 {
@@ -157,17 +157,18 @@ impl<'n, N: Allocator, A: Allocator + Copy> Builder<'n, N, A> {
         nfa: &'n NFA<N>,
         match_kind: MatchKind,
         limit: usize,
-    ) -> Result<Builder<'n, N, A>, BuildError>
+    ) -> Result<Builder<'n, N, A>, DfaError>
         ensures nfa { IfOk result (λ builder. builder.nfa ≡ nfa.now) }
         ensures kind { IfOk result (λ builder. builder.kind ≡ match_kind) }
-        ensures limit { IfOk result (λ builder. builder.limit ≡ min limit 16647160) }
+        ensures limit { IfOk result (λ builder. builder.limit ≡ min limit MAX_STATES) }
         ensures next { IfOk result (λ builder. builder.next ≡ []) }
         ensures many { result ≡ Err TooManyStates
-            → HasMoreStates nfa.now match_kind (min limit 16647160) }
+            → HasMoreStates nfa.now match_kind (min limit MAX_STATES) }
+        ensures zero { limit ≡ 0 → result ≡ Err TooManyStates }
     {
         let limit = limit.min(MAX_STATES);
         if limit == 0 {
-            return Err(BuildError::TooManyStates);
+            return Err(DfaError::TooManyStates);
         }
         let classes = nfa.byte_classes();
         let next = Vec::with_capacity(alloc, classes.alphabet_len())?;
@@ -185,7 +186,7 @@ impl<'n, N: Allocator, A: Allocator + Copy> Builder<'n, N, A> {
     /// Returns the row of a state, a new one if it was not found before.
     ///
     /// - `likely` is the row that is compared first. A match of it saves the hash of the state.
-    fn place(&mut self, state: &State<A>, likely: u32) -> Result<u32, BuildError>
+    fn place(&mut self, state: &State<A>, likely: u32) -> Result<u32, DfaError>
         requires reached { IsReachedValue self.old.nfa self.old.kind state.now }
         requires resolve { AllResolve self.old.nfa state.now.states }
         requires likely { likely < length self.old.values }
@@ -202,14 +203,14 @@ impl<'n, N: Allocator, A: Allocator + Copy> Builder<'n, N, A> {
             return Ok(row_of(index));
         }
         if self.states.len() == self.limit {
-            return Err(BuildError::TooManyStates);
+            return Err(DfaError::TooManyStates);
         }
         let found = state.clone()?;
         Ok(row_of(self.states.intern(found)?))
     }
 
     /// Returns the row of the start with this number, or 0 if no start has it.
-    fn start(&mut self, number: usize) -> Result<u32, BuildError>
+    fn start(&mut self, number: usize) -> Result<u32, DfaError>
         requires { number < 12 }
         ensures at { IfOk result (λ row. IsStart self.old.nfa self.new.values number row) }
         ensures within { IfOk result (λ row. row < length self.new.values) }
@@ -228,7 +229,7 @@ impl<'n, N: Allocator, A: Allocator + Copy> Builder<'n, N, A> {
     }
 
     /// Returns the rows of all starts.
-    pub(crate) fn starts(&mut self) -> Result<[u32; STARTS], BuildError>
+    pub(crate) fn starts(&mut self) -> Result<[u32; STARTS], DfaError>
         ensures starts { IfOk result (λ starts. AreStarts self.old.nfa self.new.values 12 starts) }
         ensures stays { OnOk result (Stays self.old self.new) }
         ensures next { self.new.next ≡ self.old.next }
@@ -265,7 +266,7 @@ impl<'n, N: Allocator, A: Allocator + Copy> Builder<'n, N, A> {
     }
 
     /// Computes the next entry. Often it is the entry above.
-    fn add_entry(&mut self) -> Result<(), BuildError>
+    fn add_entry(&mut self) -> Result<(), DfaError>
         requires { length self.old.next < length self.old.values * columns_of self.old.classes }
         ensures next { OnOk result (length self.new.next ≡ length self.old.next + 1) }
         ensures stays { OnOk result (Stays self.old self.new) }
@@ -283,7 +284,7 @@ impl<'n, N: Allocator, A: Allocator + Copy> Builder<'n, N, A> {
     }
 
     /// Computes the entries of all rows, also of those that are found meanwhile.
-    pub(crate) fn fill(&mut self) -> Result<(), BuildError>
+    pub(crate) fn fill(&mut self) -> Result<(), DfaError>
         ensures whole { OnOk result
             (length self.new.next ≡ length self.new.values * columns_of self.new.classes) }
         ensures stays { OnOk result (Stays self.old self.new) }

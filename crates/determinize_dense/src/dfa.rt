@@ -1,17 +1,19 @@
 //! A whole DFA, and what can be asked of it besides searches.
 
-ghost use Rattle.std.specs.Prelude.{◌≡◌, ◌+◌, ◌*◌, ◌<◌, ◌≤◌, Err, IfOk, length, min};
+ghost use Rattle.std.specs.Prelude.{◌≡◌, ◌+◌, ◌*◌, ◌<◌, ◌≤◌, Err, IfOk, IsErr, length, min};
 ghost use Rattle.determinize_below.specs.ByteClasses.{AreClassesOf};
 ghost use Rattle.determinize_below.specs.Nfa.{IsAccepted};
 ghost use Rattle.determinize_dense.specs.Dfa.{HasMoreStates, HasStates, IsDfaOf};
 ghost use Rattle.determinize_dense.specs.Least.{HasRows, IsLeast};
-ghost use Rattle.determinize_dense.specs.declared.error.BuildError.TheVariants.{TooManyStates};
+ghost use Rattle.determinize_dense.specs.Table.{bytes_of};
+ghost use Rattle.determinize_dense.specs.declared.error.DfaError.TheVariants.{TooManyStates};
 
 use crate::build::Builder;
-use crate::error::BuildError;
+use crate::error::DfaError;
 use crate::rows::Rows;
 use determinize_below::alphabet::ByteClasses;
 use determinize_below::{MatchKind, NFA};
+use determinize_engine::state_table::MAX_STATES;
 use std::alloc::{AllocError, Allocator, Global};
 use std::fmt;
 use std::marker::Model;
@@ -57,23 +59,26 @@ impl<'n, N: Allocator, A: Allocator + Copy> Dfa<'n, N, A> {
     ///
     /// - `limit` is the greatest number of states, and there are never more than 16647160.
     ///
-    /// Returns `TooManyStates` only if more states than that are reached, and a DFA only if they
-    /// are not. Returns `OutOfMemory` if an allocation fails. Under `MatchKind::All` the number of
-    /// states may be exponential in the size of the NFA.
+    /// Returns a DFA only if at most that many states are reached, and `TooManyStates` only if more
+    /// are. Returns `OutOfMemory` if an allocation fails, also where more states are reached; at
+    /// limit 0 nothing is allocated. Under `MatchKind::All` the number of states may be exponential
+    /// in the size of the NFA.
     pub fn build(
         alloc: A,
         nfa: &'n NFA<N>,
         match_kind: MatchKind,
         limit: usize,
-    ) -> Result<Dfa<'n, N, A>, BuildError>
+    ) -> Result<Dfa<'n, N, A>, DfaError>
         ensures nfa { IfOk result (λ dfa. dfa.nfa ≡ nfa.now) }
         ensures kind { IfOk result (λ dfa. dfa.kind ≡ match_kind) }
         ensures means { IfOk result (λ dfa. IsDfaOf dfa.nfa dfa.kind dfa.table) }
         ensures states { IfOk result
             (λ dfa. HasStates nfa.now match_kind (length dfa.table.patterns)) }
-        ensures few { IfOk result (λ dfa. length dfa.table.patterns ≤ min limit 16647160) }
+        ensures few { IfOk result (λ dfa. length dfa.table.patterns ≤ min limit MAX_STATES) }
         ensures many { result ≡ Err TooManyStates
-            → HasMoreStates nfa.now match_kind (min limit 16647160) }
+            → HasMoreStates nfa.now match_kind (min limit MAX_STATES) }
+        ensures more { HasMoreStates nfa.now match_kind (min limit MAX_STATES) → IsErr result }
+        ensures zero { limit ≡ 0 → result ≡ Err TooManyStates }
     {
         let mut builder = Builder::new(alloc, nfa, match_kind, limit)?;
         let starts = builder.starts()?;
@@ -82,11 +87,13 @@ impl<'n, N: Allocator, A: Allocator + Copy> Dfa<'n, N, A> {
         Ok(rows.arranged(alloc)?)
     }
 
-    /// Returns the DFA with the fewest states among those that mean the same.
+    /// Returns the DFA with the fewest states among those that list the same patterns along all
+    /// units, also along units behind the end of input (EOI).
     ///
-    /// States are merged if they match the same patterns along all units, the end of input (EOI)
-    /// among them. A few passes over the table suffice mostly; for a chain of states the time is
-    /// quadratic in their number, and it is never more.
+    /// States are merged if they list the same patterns along all units. A text has no unit behind
+    /// EOI, so a table that agrees with this DFA after each text may have fewer states. A few
+    /// passes over the table suffice mostly; for a chain of states the time is quadratic in their
+    /// number, and it is never more.
     pub fn minimize(&self, alloc: A) -> Result<Dfa<'n, N, A>, AllocError>
         ensures nfa { IfOk result (λ dfa. dfa.nfa ≡ self.now.nfa) }
         ensures kind { IfOk result (λ dfa. dfa.kind ≡ self.now.kind) }
@@ -131,10 +138,11 @@ impl<'n, N: Allocator, A: Allocator + Copy> Dfa<'n, N, A> {
         self.rows.byte_classes()
     }
 
-    /// Returns the heap memory of the DFA in bytes, without spare capacity.
+    /// Returns the heap memory of the DFA in bytes, without spare capacity: four bytes for each
+    /// entry, and for each row 24 bytes and four for each pattern that it lists. An allocator that
+    /// has a size is not counted, although each row has a copy of it.
     pub fn memory_usage(&self) -> usize
-        ensures entries { length self.now.table.patterns * (self.now.table.class_count + 1) * 4
-            ≤ result }
+        ensures { result ≡ min (bytes_of self.now.table) usize.MAX }
     {
         self.rows.memory_usage()
     }

@@ -6,7 +6,8 @@
 //!
 //! - `dfa`: the type. `rows`: its table. `build`: its construction, with `error`. `search`:
 //!   searches, with `pauses`. `minimize`: the fewest rows, by `partition`. `order`: the order of
-//!   rows. `laws`: that no DFA has fewer states, and that the number of states is one.
+//!   rows. `laws`: what a DFA lists where a text ends, that no table which lists the same along all
+//!   units has fewer rows, and that the number of states is one.
 #![tactic(auto)]
 
 mod build;
@@ -21,4 +22,4 @@ mod rows;
 mod search;
 
 pub use crate::dfa::Dfa;
-pub use crate::error::BuildError;
+pub use crate::error::DfaError;

@@ -4,19 +4,24 @@
 //! block by the blocks of its entries in the column. When a cycle of passes over all columns splits
 //! no block, each block becomes one row.
 
-ghost use Rattle.std.specs.Prelude.{◌≡◌, ◌<◌, ◌≤◌, ◌+◌, IfOk, length, map};
-ghost use Rattle.determinize_dense.specs.Dfa.{IsDfaOf};
-ghost use Rattle.determinize_dense.specs.Least.{HasRows, IsLeast};
-ghost use Rattle.determinize_dense.specs.Private.Minimizing.{AreFirstAlike, AreMergedLists, AreMergedRows, AreMergedStarts, AreTargets, IsFirstAlike, IsGrouping, IsMerged, IsPartition, IsRefined, IsSplitBy, IsStable, entry};
+ghost use Rattle.std.specs.Prelude.{◌≡◌, ◌<◌, ◌≤◌, ◌+◌, IfOk, OnOk, bytes_eq, length, map};
+ghost use Rattle.std.specs.HashMap.{get_by};
+ghost use Rattle.determinize_dense.specs.Least.{IsLeast};
+ghost use Rattle.determinize_dense.specs.Private.Minimizing.{AreFirstAlike, AreFirsts, AreMergedLists, AreMergedRows, AreMergedStarts, AreTargets, IsFirstAlike, IsGrouping, IsMerged, IsPartition, IsRefined, IsSplitBy, IsStable};
 ghost use Rattle.determinize_dense.specs.Private.Rows.{IsFilled};
 
 use crate::partition::Partition;
 use crate::rows::{Rows, STARTS};
 use determinize_below::PatternID;
 use std::alloc::{AllocError, Allocator};
+use std::collections::HashMap;
+use std::hash::{BuildHasherDefault, FoldHasher};
+
+/// The first row that has each list of patterns.
+type Firsts<'l, A> = HashMap<&'l [PatternID], usize, BuildHasherDefault<FoldHasher>, A>;
 
 impl<'n, N: Allocator, A: Allocator + Copy> Rows<'n, N, A> {
-    /// Returns the fewest rows with the same meaning.
+    /// Returns the fewest rows that list the same patterns along all units.
     pub(crate) fn minimized(&self, alloc: A) -> Result<Rows<'n, N, A>, AllocError>
         ensures nfa { IfOk result (λ rows. rows.nfa ≡ self.now.nfa) }
         ensures kind { IfOk result (λ rows. rows.kind ≡ self.now.kind) }
@@ -28,38 +33,28 @@ impl<'n, N: Allocator, A: Allocator + Copy> Rows<'n, N, A> {
         self.merged(alloc, &parts)
     }
 
-    /// Returns the number of rows.
-    pub(crate) fn len(&self) -> usize
-        ensures value { result ≡ length self.now.table.patterns }
-        ensures means { IsDfaOf self.now.nfa self.now.kind self.now.table }
-        ensures rows { HasRows self.now.nfa self.now.table }
-    {
-        self.patterns.len()
-    }
-
-    /// Returns the row after a row, in a column.
-    pub(crate) fn entry(&self, row: usize, column: usize) -> usize
+    /// Returns the first row that lists the same patterns as a row.
+    ///
+    /// - `firsts` is the first row of each list that an earlier row has, and then also that of the
+    ///   list of this row.
+    fn first_alike<'l>(
+        &'l self,
+        firsts: &mut Firsts<'l, A>,
+        row: usize,
+    ) -> Result<usize, AllocError>
         requires row { row < length self.now.table.patterns }
-        requires column { column < self.now.table.class_count + 1 }
-        ensures value { result ≡ entry self.now.table row column }
-        ensures limit { result < length self.now.table.patterns }
+        requires firsts { AreFirsts self.now.table row
+            (λ list. get_by (λ key. bytes_eq list key.now) firsts.old) }
+        ensures first { IfOk result (λ first. IsFirstAlike self.now.table row first) }
+        ensures firsts { OnOk result (AreFirsts self.now.table (row + 1)
+            (λ list. get_by (λ key. bytes_eq list key.now) firsts.new)) }
     {
-        let columns = self.classes.alphabet_len();
-        self.next[row * columns + column] as usize / columns
-    }
-
-    /// Returns the first row that lists the same patterns as this row.
-    fn first_alike(&self, row: usize) -> usize
-        requires { row < length self.now.table.patterns }
-        ensures first { IsFirstAlike self.now.table row result }
-        ensures limit { result ≤ row }
-    {
-        for first in 0..row {
-            if self.patterns[first] == self.patterns[row] {
-                return first;
-            }
+        let list = self.patterns(row);
+        if let Some(first) = firsts.get(list) {
+            return Ok(*first);
         }
-        row
+        firsts.insert(list, row)?;
+        Ok(row)
     }
 
     /// Returns for each row the first row that lists the same patterns.
@@ -67,8 +62,9 @@ impl<'n, N: Allocator, A: Allocator + Copy> Rows<'n, N, A> {
         ensures { IfOk result (λ values. AreFirstAlike self.now.table values.items) }
     {
         let mut values = Vec::with_capacity(alloc, self.len())?;
+        let mut firsts = HashMap::new(alloc);
         for row in 0..self.len() {
-            values.push(self.first_alike(row))?;
+            values.push(self.first_alike(&mut firsts, row)?)?;
         }
         Ok(values)
     }

@@ -71,7 +71,7 @@ impl<A: Allocator + Copy> Partition<A> {
     pub(crate) fn by_rank(alloc: A, ranks: &[usize]) -> Result<Partition<A>, AllocError>
         requires some { 0 < length ranks.now }
         requires first { slice_index ranks.now 0 ≡ 0 }
-        requires few { All (λ rank. rank < 4) ranks.now }
+        requires few { All (λ rank. rank < RANKS) ranks.now }
         ensures { IfOk result (λ p. IsByRank ranks.now p) }
     {
         let rows = ranks.len();

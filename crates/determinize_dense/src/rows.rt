@@ -1,10 +1,13 @@
 //! The rows of a DFA: its table, and how its entries are read.
 
-ghost use Rattle.std.specs.Prelude.{◌≡◌, ◌+◌, ◌*◌, ◌<◌, ◌≤◌, length};
+ghost use Rattle.std.specs.Prelude.{◌≡◌, ◌+◌, ◌<◌, length, min};
 ghost use Rattle.determinize_below.specs.ByteClasses.{AreClassesOf};
 ghost use Rattle.determinize_below.specs.Truth.{IsUnit};
+ghost use Rattle.determinize_dense.specs.Dfa.{IsDfaOf};
+ghost use Rattle.determinize_dense.specs.Least.{HasRows};
+ghost use Rattle.determinize_dense.specs.Private.Minimizing.{entry};
 ghost use Rattle.determinize_dense.specs.Private.Rows.{IsDfa, IsNext, IsOffset, offset_of};
-ghost use Rattle.determinize_dense.specs.Table.{column_of, patterns_at, start_row};
+ghost use Rattle.determinize_dense.specs.Table.{bytes_of, column_of, patterns_at, start_row};
 
 use determinize_below::alphabet::ByteClasses;
 use determinize_below::{MatchKind, NFA, PatternID};
@@ -15,6 +18,9 @@ use std::mem::{size_of, size_of_val};
 
 /// The number of start states: one for each kind of start, anchored and unanchored.
 pub(crate) const STARTS: usize = 12;
+
+/// The bytes of a list of patterns itself, with an allocator of no size.
+const LIST: usize = size_of::<Vec<PatternID>>();
 
 /// The rows of a DFA, in any order but that row 0 is that of the dead state.
 ///
@@ -76,6 +82,26 @@ impl<'n, N: Allocator, A: Allocator> Model for Rows<'n, N, A> {
 }
 
 impl<'n, N: Allocator, A: Allocator + Copy> Rows<'n, N, A> {
+    /// Returns the number of rows.
+    pub(crate) fn len(&self) -> usize
+        ensures value { result ≡ length self.now.table.patterns }
+        ensures means { IsDfaOf self.now.nfa self.now.kind self.now.table }
+        ensures rows { HasRows self.now.nfa self.now.table }
+    {
+        self.patterns.len()
+    }
+
+    /// Returns the row after a row, in a column.
+    pub(crate) fn entry(&self, row: usize, column: usize) -> usize
+        requires row { row < length self.now.table.patterns }
+        requires column { column < self.now.table.class_count + 1 }
+        ensures value { result ≡ entry self.now.table row column }
+        ensures limit { result < length self.now.table.patterns }
+    {
+        let columns = self.classes.alphabet_len();
+        self.next[row * columns + column] as usize / columns
+    }
+
     /// Returns the offset of the row of a start behind a byte, or behind nothing.
     pub(crate) fn start_row(&self, is_anchored: bool, look_behind: Option<u8>) -> usize
         ensures value { result ≡ offset_of self.now.table
@@ -142,13 +168,12 @@ impl<'n, N: Allocator, A: Allocator + Copy> Rows<'n, N, A> {
 
     /// Returns the heap memory of the rows in bytes, without spare capacity.
     pub(crate) fn memory_usage(&self) -> usize
-        ensures entries { length self.now.table.patterns * (self.now.table.class_count + 1) * 4
-            ≤ result }
+        ensures { result ≡ min (bytes_of self.now.table) usize.MAX }
     {
-        let entries = size_of_val(self.next.as_slice());
-        let mut bytes = entries.saturating_add(size_of_val(self.patterns.as_slice()));
+        let mut bytes = size_of_val(self.next.as_slice());
         for list in &self.patterns {
-            bytes = bytes.saturating_add(list.len().saturating_mul(size_of::<PatternID>()));
+            let patterns = list.len().saturating_mul(size_of::<PatternID>());
+            bytes = bytes.saturating_add(LIST).saturating_add(patterns);
         }
         bytes
     }

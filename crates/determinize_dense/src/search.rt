@@ -3,7 +3,7 @@
 //! Matches are delayed by one unit: a row lists the patterns that match before the unit that led to
 //! it. So a search also reads the unit ahead of its text, and a start state is no match state.
 
-ghost use Rattle.std.specs.Prelude.{[], Bool, Decides, ◌≡◌, ◌≤◌, ℕ, List, Contains, false, length, true, None};
+ghost use Rattle.std.specs.Prelude.{[], Bool, Decides, ◌≡◌, ◌<◌, ◌≤◌, ℕ, List, Contains, false, length, true, None};
 ghost use Rattle.std.specs.Option.{IfNone, IfSome};
 ghost use Rattle.determinize_below.specs.Semantics.{Accepts, between};
 ghost use Rattle.determinize_below.specs.Search.{is_done};
@@ -13,9 +13,10 @@ ghost use Rattle.determinize_engine.specs.Searches.{HasMatch, IsFarthestIn, IsPr
 ghost use Rattle.determinize_core.specs.Walk.{ListsAccepted};
 ghost use Rattle.determinize_dense.specs.Dfa as dfas;
 ghost use Rattle.determinize_dense.specs.Dfa.{value_from};
+ghost use Rattle.determinize_dense.specs.Meaning.{ListsPreferred};
 ghost use Rattle.determinize_dense.specs.Private.Rows.{IsOffset, IsRowAt};
 ghost use Rattle.determinize_dense.specs.Table.{patterns_at};
-ghost use Rattle.determinize_dense.specs.Private.Searching.{FindsFrom, IsFound, IsMatch, StaysOver};
+ghost use Rattle.determinize_dense.specs.Private.Searching.{FindsFrom, IsFound, IsMatch, IsRead, StaysOver};
 
 use crate::dfa::{Dfa, SCALE};
 use crate::pauses::{FIRST, Pauses};
@@ -27,11 +28,13 @@ use std::convert::Infallible;
 
 /// Returns whether a search in this anchored mode starts at the anchored start.
 fn is_anchored(anchored: Anchored) -> bool
+    requires { has_start anchored ≡ true }
     ensures { result ≡ dfas.is_anchored anchored }
 {
     match anchored {
         Anchored::No => false,
-        _ => true,
+        Anchored::Yes => true,
+        Anchored::Pattern(_) => unreachable!(),
     }
 }
 
@@ -41,8 +44,9 @@ impl<'n, N: Allocator, A: Allocator + Copy> Dfa<'n, N, A> {
     ///
     /// The parameters are those of `search`. For the patterns at an offset of a longer text, take
     /// its bytes up to there, and ahead of them its next byte. Each pattern of the list has a match
-    /// that ends there. Under `MatchKind::All` the list has all of these, and under
-    /// `MatchKind::LeftmostFirst` at most one. Does not allocate.
+    /// that ends there. Under `MatchKind::All` the list has all of these. Under
+    /// `MatchKind::LeftmostFirst` it is the pattern of the most preferred accepting run if this run
+    /// ends there, and else empty. Does not allocate.
     pub fn patterns_after(
         &self,
         anchored: Anchored,
@@ -55,6 +59,9 @@ impl<'n, N: Allocator, A: Allocator + Copy> Dfa<'n, N, A> {
             (dfas.is_anchored anchored) look_behind
             (units (between look_behind text.now look_ahead))).patterns }
         ensures all { self.now.kind ≡ kinds.All → ListsAccepted self.now.nfa
+            (between look_behind text.now look_ahead) (start_for self.now.nfa anchored)
+            (length text.now) result.now }
+        ensures preferred { self.now.kind ≡ kinds.LeftmostFirst → ListsPreferred self.now.nfa
             (between look_behind text.now look_ahead) (start_for self.now.nfa anchored)
             (length text.now) result.now }
         ensures accepted { (pattern : ℕ) → Contains result.now pattern → (cs : List ℕ)
@@ -95,6 +102,31 @@ impl<'n, N: Allocator, A: Allocator + Copy> Dfa<'n, N, A> {
         Some(HalfMatch { pattern, offset })
     }
 
+    /// Returns the offset of the row after a row over the byte at an index of a text.
+    ///
+    /// - `row` is the offset of the row.
+    #[inline(always)]
+    fn over_byte(&self, row: usize, text: &Text<'_>, index: usize) -> usize
+        requires row { IsOffset self.now.table row }
+        requires index { index < length text.now.bytes }
+        ensures read { IsRead self.now.table text.now index row result }
+        ensures offset { IsOffset self.now.table result }
+    {
+        self.rows.row_over(row, Some(text.byte(index)))
+    }
+
+    /// Returns the offset of the row after a row over the unit ahead of a text.
+    ///
+    /// - `row` is the offset of the row.
+    #[inline(always)]
+    fn over_ahead(&self, row: usize, text: &Text<'_>) -> usize
+        requires row { IsOffset self.now.table row }
+        ensures read { IsRead self.now.table text.now (length text.now.bytes) row result }
+        ensures offset { IsOffset self.now.table result }
+    {
+        self.rows.row_over(row, text.ahead())
+    }
+
     /// Searches a text. The search ends at row 0 and, if `is_earliest`, at the first row that lists
     /// a pattern. Returns the last match of the rows that it enters.
     ///
@@ -115,7 +147,7 @@ impl<'n, N: Allocator, A: Allocator + Copy> Dfa<'n, N, A> {
         let (mut matched, mut offset, mut read) = (0, 0, 0);
         let until = text.len().min(FIRST);
         while read < until {
-            row = self.rows.row_over(row, Some(text.byte(read)));
+            row = self.over_byte(row, text, read);
             if row == 0 {
                 return self.match_of(matched, offset);
             }
@@ -165,7 +197,7 @@ impl<'n, N: Allocator, A: Allocator + Copy> Dfa<'n, N, A> {
                 (self.last_special, text.len())
             };
             while read < until {
-                row = self.rows.row_over(row, Some(text.byte(read)));
+                row = self.over_byte(row, text, read);
                 read += 1;
                 if row <= stop {
                     if row > self.last_match {
@@ -207,7 +239,7 @@ impl<'n, N: Allocator, A: Allocator + Copy> Dfa<'n, N, A> {
         ensures { (earliest : Bool) → FindsFrom self.now earliest text.now
             (length text.now.bytes) row matched offset result }
     {
-        let end = self.rows.row_over(row, text.ahead());
+        let end = self.over_ahead(row, text);
         if end == 0 || end > self.last_match {
             return self.match_of(matched, offset);
         }
@@ -226,7 +258,7 @@ impl<'n, N: Allocator, A: Allocator + Copy> Dfa<'n, N, A> {
         ensures within { result ≤ length text.now.bytes }
     {
         let mut read = read;
-        while read < text.len() && self.rows.row_over(row, Some(text.byte(read))) == row {
+        while read < text.len() && self.over_byte(row, text, read) == row {
             read += 1;
         }
         read

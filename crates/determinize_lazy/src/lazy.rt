@@ -9,6 +9,7 @@ ghost use Rattle.determinize_below.specs.Nfa.{AllResolve, IsAccepted};
 ghost use Rattle.determinize_below.specs.Semantics.{between};
 ghost use Rattle.determinize_core.specs.Chain.{future, units};
 ghost use Rattle.determinize_core.specs.WholeWalk.{IsWalk};
+ghost use Rattle.determinize_engine.specs.declared.state_table.TheConstants.{MAX_STATES};
 ghost use Rattle.determinize_lazy.specs.Cache.{Grows, IsCutOff, IsCutOffText, after_text, after_walk, cache, step_of};
 ghost use Rattle.determinize_lazy.specs.Plenty.{IsPlentyText};
 ghost use Rattle.determinize_lazy.specs.Private.Steps.{IsFollowed};
@@ -120,12 +121,12 @@ impl<'n, N: Allocator, A: Allocator + Copy> Lazy<'n, N, A> {
         self.limit
     }
 
-    /// Returns the number of cached states, at most 16647160.
+    /// Returns the number of cached states, at most `MAX_STATES`, which is 16647160.
     pub fn states_kept(&self) -> usize
         ensures value { result ≡ length self.now.states }
         ensures table { IsTable (step_of (cache self.now)) (cache self.now).table }
         ensures limit { result ≤ self.now.limit }
-        ensures few { result ≤ 16647160 }
+        ensures few { result ≤ MAX_STATES }
     {
         self.table.len()
     }

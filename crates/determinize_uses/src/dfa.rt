@@ -7,7 +7,7 @@ ghost use Rattle.determinize_core.specs.Walk.{ListsAccepted};
 ghost use Rattle.determinize_dense.specs.Least.{IsLeast};
 
 use determinize_below::{Anchored, MatchKind, NFA, PatternID};
-use determinize_dense::{BuildError, Dfa};
+use determinize_dense::{Dfa, DfaError};
 use std::alloc::Allocator;
 
 /// Returns the smallest DFA of an NFA. Building it takes up to `limit` states.
@@ -16,7 +16,7 @@ pub fn smallest<'n, N: Allocator, A: Allocator + Copy>(
     nfa: &'n NFA<N>,
     kind: MatchKind,
     limit: usize,
-) -> Result<Dfa<'n, N, A>, BuildError>
+) -> Result<Dfa<'n, N, A>, DfaError>
     ensures nfa { IfOk result (λ dfa. dfa.nfa ≡ nfa.now) }
     ensures kind { IfOk result (λ dfa. dfa.kind ≡ kind) }
     ensures least { IfOk result (λ dfa. IsLeast dfa.nfa dfa.table) }

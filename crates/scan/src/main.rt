@@ -8,8 +8,45 @@ ghost use Rattle.determinize_find.specs.Prefix.{HasPrefix};
 use determinize_below::nfa::BuildError;
 use determinize_below::{NFA, StateID, Transition};
 use determinize_find::{Builder, Match, Pieces, Regex, reversed};
-use std::alloc::Allocator;
-use std::io::{Print, Read};
+use std::alloc::{AllocError, Allocator};
+use std::fmt;
+use std::io::{self, Print, Read};
+
+/// An error that ends the program.
+#[derive(Drop)]
+enum Error {
+    /// The NFA was not built.
+    Build(BuildError),
+    /// An allocation failed, or the input or the output.
+    Io(io::Error),
+}
+
+impl fmt::Debug for Error {
+    fn fmt<W: fmt::Write>(&self, f: &mut fmt::Formatter<W>) -> fmt::Result {
+        match self {
+            Error::Build(error) => write!(f, "{error}"),
+            Error::Io(error) => write!(f, "{error}"),
+        }
+    }
+}
+
+impl From<BuildError> for Error {
+    fn from(error: BuildError) -> Error {
+        Error::Build(error)
+    }
+}
+
+impl From<AllocError> for Error {
+    fn from(error: AllocError) -> Error {
+        Error::Io(io::Error::from(error))
+    }
+}
+
+impl From<io::Error> for Error {
+    fn from(error: io::Error) -> Error {
+        Error::Io(error)
+    }
+}
 
 /// Returns the transition to `next` on each byte from `start` to `end`.
 fn range(start: u8, end: u8, next: StateID) -> Transition {
@@ -32,14 +69,14 @@ fn strings<A: Allocator + Copy>(alloc: A) -> Result<NFA<A>, BuildError>
 }
 
 /// Prints the ends of each match.
-fn print(rt: &impl Print, found: &[Match]) -> anyhow::Result<()> {
+fn print(rt: &impl Print, found: &[Match]) -> io::Result<()> {
     for found in found {
         println!(rt; "{}..{}", found.start, found.end)?;
     }
     Ok(())
 }
 
-fn main(rt: HostRuntime) -> anyhow::Result<()> {
+fn main(rt: HostRuntime) -> Result<(), Error> {
     let nfa = strings(rt.alloc())?;
     let backward = reversed(rt.alloc(), &nfa)?;
     let mut regex = Regex::new(rt.alloc(), &nfa, &backward, 1000);
@@ -56,5 +93,6 @@ fn main(rt: HostRuntime) -> anyhow::Result<()> {
         found.clear();
     }
     pieces.finish(&mut regex, &mut found)?;
-    print(&rt, found.as_slice())
+    print(&rt, found.as_slice())?;
+    Ok(())
 }

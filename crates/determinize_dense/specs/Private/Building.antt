@@ -8,6 +8,7 @@ use Rattle.determinize_below.specs.Semantics.{Nfa}
 use Rattle.determinize_below.specs.Truth.{IsUnit}
 use Rattle.determinize_below.specs.declared.search.MatchKind.{MatchKind}
 use Rattle.determinize_engine.specs.States.{EachApart}
+use Rattle.determinize_engine.specs.declared.state_table.TheConstants.{MAX_STATES}
 use Rattle.determinize_core.specs.Step.{start_value, step}
 use Rattle.determinize_core.specs.Value.{Value, dead}
 use Rattle.determinize_dense.specs.Dfa.{IsReachedValue, start_in}
@@ -48,7 +49,7 @@ pub record IsBuilding (b : Building) : Type 0 where
   pub entries : (e r : ℕ) → slice_get b.next e ≡ Some r → IsEntry b e r
   pub within : length b.next ≤ length b.values * columns_of b.classes
   pub few : length b.values ≤ b.limit
-  pub limit : b.limit ≤ 16647160
+  pub limit : b.limit ≤ MAX_STATES
 
 -- what a call leaves: each value that was found stays at its place
 pub record Stays (old new : Building) : Type 0 where

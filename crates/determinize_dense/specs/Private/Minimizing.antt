@@ -1,5 +1,5 @@
 -- Blocks of rows of a table, and the table of the blocks.
-use Rattle.std.specs.Prelude.{◌≡◌, ◌<◌, ◌≤◌, ◌+◌, ◌*◌, ◌/◌, ◌%◌, ℕ, List, [], get_or, length}
+use Rattle.std.specs.Prelude.{◌≡◌, ◌<◌, ◌≤◌, ◌+◌, ◌*◌, ◌/◌, ◌%◌, ℕ, List, None, Option, Some, [], get_or, length}
 use Rattle.std.specs.Prelude.{slice_index}
 use Rattle.determinize_dense.specs.Dfa.{IsDfaOf}
 use Rattle.determinize_dense.specs.Least.{AreApart, IsReachedRow}
@@ -24,6 +24,12 @@ pub record IsPartition (d : Table) (p : Blocks) : Type 0 where
 pub record IsFirstAlike (d : Table) (row first : ℕ) : Type 0 where
   pub same : patterns_at d first ≡ patterns_at d row
   pub least : (r : ℕ) → r < first → patterns_at d r ≡ patterns_at d row → ⊥
+
+-- for each list, the first of the first n rows that lists these patterns
+pub record AreFirsts (d : Table) (n : ℕ) (find : List ℕ → Option ℕ) : Type 0 where
+  pub found : (xs : List ℕ) (r : ℕ) → find xs ≡ Some r
+      → (patterns_at d r ≡ xs) × ((s : ℕ) → s < r → patterns_at d s ≡ xs → ⊥)
+  pub none : (xs : List ℕ) → find xs ≡ None → (r : ℕ) → r < n → patterns_at d r ≡ xs → ⊥
 
 -- the same for each row
 pub record AreFirstAlike (d : Table) (values : List ℕ) : Type 0 where

@@ -3,6 +3,7 @@ use Rattle.std.specs.Prelude.{◌≡◌, ◌<◌, ◌≤◌, ℕ, List, [], leng
 use Rattle.determinize_state.specs.Value.{is_nonempty}
 use Rattle.determinize_dense.specs.Private.Rows.{offset_of}
 use Rattle.determinize_dense.specs.Table.{Table, patterns_at}
+use Rattle.determinize_dense.specs.declared.partition.TheConstants.{RANKS}
 
 -- behind row 0 and up to the last match, and only there, the rows list patterns
 pub record IsOrdered (d : Table) (last_match last_special : ℕ) : Type 0 where
@@ -17,7 +18,7 @@ pub record IsRank (d : Table) (r rank : ℕ) : Type 0 where
   pub first : r ≡ 0 → rank ≡ 0
   pub some : 0 < r → rank ≤ 1 → is_nonempty (patterns_at d r) ≡ true
   pub none : 1 < rank → patterns_at d r ≡ []
-  pub few : rank < 4
+  pub few : rank < RANKS
 
 -- the rank of each row
 pub record AreRanks (d : Table) (ranks : List ℕ) : Type 0 where

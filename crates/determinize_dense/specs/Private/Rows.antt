@@ -4,6 +4,7 @@ use Rattle.std.specs.Prelude.{length, map, slice_index}
 use Rattle.determinize_below.specs.ByteClasses.{AreClassesOf, Classes}
 use Rattle.determinize_below.specs.Nfa.{IsAccepted}
 use Rattle.determinize_below.specs.Truth.{IsUnit}
+use Rattle.determinize_engine.specs.declared.state_table.TheConstants.{MAX_STATES}
 use Rattle.determinize_dense.specs.Dfa.{IsDfaOf, value_from}
 use Rattle.determinize_dense.specs.Least.{IsReachedRow}
 use Rattle.determinize_dense.specs.Table.{DfaValue, Table, column_of, row_after}
@@ -18,7 +19,7 @@ pub record IsFilled (d : Table) : Type 0 where
   pub units : (c : ℕ) → c < d.class_count + 1 → (u : Option ℕ) × IsUnit u × (column_of d u ≡ c)
   pub within : (r : ℕ) (u : Option ℕ) → r < length d.patterns → IsUnit u → row_over d r u
       < length d.patterns
-  pub few : length d.patterns ≤ 16647160
+  pub few : length d.patterns ≤ MAX_STATES
 
 -- a table of this NFA, which is valid, and of this match kind; the classes of bytes are those of the
 -- NFA, each row is reached, and no match follows row 0

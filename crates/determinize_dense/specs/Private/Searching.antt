@@ -37,10 +37,16 @@ abbrev pub IsMatch : Table → ℕ → ℕ → Option HalfMatch → Type 0
 IsMatch d row end found = (r : ℕ) → r < length d.patterns → row ≡ offset_of d r
     → found ≡ ended_at end (patterns_at d r)
 
+-- the unit at an index of a text leads from the row at an offset to that at the next offset
+pub record IsRead (d : Table) (text : Text) (index row next : ℕ) : Type 0 where
+  pub unit : Option ℕ
+  pub at : slice_get (units text) index ≡ Some unit
+  pub is_unit : IsUnit unit
+  pub goes : IsNext d row unit next
+
 -- the row at an offset does not change over the bytes of a text from one index up to another
 abbrev pub StaysOver : Table → ℕ → Text → ℕ → ℕ → Type 0
-StaysOver d row text from to = (i : ℕ) → from ≤ i → i < to → (u : Option ℕ)
-    → slice_get (units text) i ≡ Some u → IsNext d row u row
+StaysOver d row text from to = (i : ℕ) → from ≤ i → i < to → IsRead d text i row row
 
 -- a search that has read some units: the offset of the row where it is, and that of the row that
 -- lists the last match of the values so far, which ends here

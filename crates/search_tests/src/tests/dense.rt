@@ -7,7 +7,7 @@ use crate::tests::stored_walks::STORED;
 use crate::tests::{ended, same};
 use determinize_below::{Anchored, Input, LookMatcher, MatchKind, NFA, PatternID, StateID};
 use determinize_core::state::State;
-use determinize_dense::{BuildError, Dfa};
+use determinize_dense::{Dfa, DfaError};
 use determinize_replay::error::JobError;
 use determinize_replay::examples::examples;
 use determinize_replay::job::Job;
@@ -87,8 +87,8 @@ pub fn nfa(alloc: Global, states: &str, start_anchored: StateID) -> Result<NFA, 
 
 /// Returns the number of states of a DFA that was built.
 fn count<A: Allocator + Copy>(
-    built: Result<Dfa<'_, Global, A>, BuildError>,
-) -> Result<usize, BuildError> {
+    built: Result<Dfa<'_, Global, A>, DfaError>,
+) -> Result<usize, DfaError> {
     Ok(built?.len())
 }
 
@@ -103,7 +103,7 @@ fn expect_counts<R: Abort + AllocGlobal>(
 ) -> Result<(), Fail> {
     let fewer = wanted.saturating_sub(1);
     for (limit, wanted) in [
-        (fewer, Err(BuildError::TooManyStates)),
+        (fewer, Err(DfaError::TooManyStates)),
         (wanted, Ok(wanted)),
         (wanted.saturating_add(1), Ok(wanted)),
     ] {
@@ -210,7 +210,7 @@ fn expect_job<R: Abort + AllocGlobal>(rt: &R, line: &str, last: &str) -> Result<
     match Dfa::build(rt.alloc(), &nfa, job.match_kind()?, 1000) {
         Ok(dfa) => expect_walk(rt, &job, &dfa, last)?,
         Err(error) => {
-            same(rt, error, BuildError::TooManyStates);
+            same(rt, error, DfaError::TooManyStates);
             return Ok(false);
         }
     }
@@ -243,7 +243,7 @@ fn expect_patterns<R: Abort + AllocGlobal>(
     text: &[u8],
     look_ahead: Option<u8>,
     wanted: &[PatternID],
-) -> Result<(), BuildError> {
+) -> Result<(), DfaError> {
     let dfa = Dfa::build(rt.alloc(), nfa, kind, 100)?;
     same(
         rt,
@@ -268,6 +268,20 @@ fn dense_patterns(rt: HostRuntime) -> Result<(), Fail> {
     Ok(())
 }
 
+/// The rows have three entries: for word bytes, for other bytes and for EOI. A row takes 12 bytes
+/// for these and 24 for its list. One row lists a pattern: that after a word.
+#[test]
+fn dense_size_and_text(rt: HostRuntime) -> Result<(), Fail> {
+    let nfa = nfa(rt.alloc(), ROWS[0].states, StateID::ZERO)?;
+    let dfa = Dfa::build(rt.alloc(), &nfa, MatchKind::All, 5)?;
+    same(&rt, dfa.memory_usage(), 5 * 36 + 4);
+    same(&rt, dfa.minimize(rt.alloc())?.memory_usage(), 4 * 36 + 4);
+    let text = format!(in rt.alloc(); "{dfa:?}")?;
+    let wanted = "Dfa { match_kind: All, len: 5, alphabet_len: 3, .. }";
+    same(&rt, text.as_str(), wanted);
+    Ok(())
+}
+
 /// Minimizes a DFA of five states, which leaves four.
 fn minimize<R: Abort, A: Allocator + Copy>(
     rt: &R,
@@ -288,7 +302,7 @@ pub fn build_and_minimize<R: Abort + AllocGlobal, A: Allocator + Copy>(
     match Dfa::build(alloc, &nfa, MatchKind::All, 5) {
         Ok(dfa) => minimize(rt, alloc, &dfa),
         Err(error) => {
-            same(rt, error, BuildError::OutOfMemory);
+            same(rt, error, DfaError::OutOfMemory);
             Err(JobError::OutOfMemory)
         }
     }

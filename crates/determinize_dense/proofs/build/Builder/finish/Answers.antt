@@ -3,6 +3,7 @@ use Rattle.determinize_dense.proofs.Common.{All, AreStarts, Building, columns_of
 use Rattle.determinize_dense.proofs.Simulation.{has_states, is_stored, rows-few}
 use Rattle.determinize_dense.specs.Private.Rows.{IsStored, rows_at}
 use Rattle.determinize_dense.proofs.build.Builder.finish.Goals as goal
+use Rattle.determinize_engine.specs.declared.state_table.TheConstants.{MAX_STATES}
 
 pub invariant_of-result : goal.invariant_of-result
 invariant_of-result g c =
@@ -56,7 +57,7 @@ invariant_of-result g c =
 
 pub offsets_of-requires-clause-rows : goal.offsets_of-requires-clause-rows
 offsets_of-requires-clause-rows g c =
-    subst (λ ns. All (λ row. row < 16647160) ns) (sym c.as_slice-2.ensures.value) (rows-few _ c.self.invariant)
+    subst (λ ns. All (λ row. row < MAX_STATES) ns) (sym c.as_slice-2.ensures.value) (rows-few _ c.self.invariant)
 
 pub returns-clause-states : goal.returns-clause-states
 returns-clause-states g c =

@@ -3,6 +3,7 @@ use Rattle.determinize_dense.proofs.Common.{IsBuilding}
 use Rattle.determinize_core.specs.Stepper.{StepperValue}
 use Rattle.determinize_dense.proofs.Building.{building-first, more-than-none}
 use Rattle.determinize_dense.proofs.build.Builder.new.Goals as goal
+use Rattle.determinize_engine.specs.declared.state_table.TheConstants.{MAX_STATES}
 
 pub returns-then-limit-eq0-clause-many : goal.returns-then-limit-eq0-clause-many
 returns-then-limit-eq0-clause-many g c = λ _.
@@ -14,7 +15,7 @@ invariant_of-result g c =
     c.in_ok-intern.ensures.states ∙ ap (λ vs. vs ++ c.in_ok-dead.field-0 ∷ []) c.new-states.ensures
     ∙ ap (λ v. v ∷ []) c.in_ok-dead.ensures.value in
     let apart : c.min-limit.result ≡ 0 → ⊥ = c.if-limit-eq0.false in
-    let least : c.min-limit.result ≡ min c.args.limit 16647160 = c.min-limit.ensures in
+    let least : c.min-limit.result ≡ min c.args.limit MAX_STATES = c.min-limit.ensures in
     subst (λ (s : StepperValue). IsBuilding record {
       nfa = s.nfa;
       kind = s.kind;

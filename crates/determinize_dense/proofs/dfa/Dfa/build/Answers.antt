@@ -1,6 +1,8 @@
-use Rattle.determinize_core.proofs.Common.{ap, Err, rules, subst, sym, ◌∙◌, ◌≡◌}
+use Rattle.determinize_core.proofs.Common.{ap, arith, Err, length, min, rules, subst, sym, ◌<◌, ◌∙◌, ◌≡◌}
 use Rattle.determinize_dense.proofs.Common.{AreStarts, HasStates}
 use Rattle.determinize_dense.proofs.Building.{same_err, more-as, more-before, starts-stay, states-as}
+use Rattle.determinize_dense.proofs.Counting.{each_count_is_one}
+use Rattle.determinize_engine.specs.declared.state_table.TheConstants.{MAX_STATES}
 use Rattle.determinize_dense.proofs.dfa.Dfa.build.Goals as goal
 
 pub returns-in_err-starts-clause-many : goal.returns-in_err-starts-clause-many
@@ -27,3 +29,17 @@ returns-clause-states g c =
     (states-as (c.in_ok-fill.ensures.stays.nfa ∙ c.in_ok-starts.ensures.stays.nfa ∙ c.in_ok-builder.ensures.nfa)
     (c.in_ok-fill.ensures.stays.kind ∙ c.in_ok-starts.ensures.stays.kind ∙ c.in_ok-builder.ensures.kind)
     c.in_ok-rows.ensures.states)
+
+pub returns-clause-more : goal.returns-clause-more
+returns-clause-more g c = λ more.
+    let states = states-as
+    (c.in_ok-fill.ensures.stays.nfa ∙ c.in_ok-starts.ensures.stays.nfa ∙ c.in_ok-builder.ensures.nfa)
+    (c.in_ok-fill.ensures.stays.kind ∙ c.in_ok-starts.ensures.stays.kind ∙ c.in_ok-builder.ensures.kind)
+    c.in_ok-rows.ensures.states in
+    let fewer : min c.args.limit MAX_STATES < length c.in_ok-rows.rows.table.patterns =
+    (each_count_is_one c.args.nfa.now c.args.match_kind _ _ states).1 more in
+    let few = c.in_ok-rows.ensures.few in
+    let filled = c.in_ok-fill.ensures.stays.limit in
+    let started = c.in_ok-starts.ensures.stays.limit in
+    let begun = c.in_ok-builder.ensures.limit in
+    absurd (let no : ⊥ = omega (arith, fewer, few, filled, started, begun) in no)

@@ -4,7 +4,7 @@ use Rattle.determinize_core.proofs.Common.{◌<◌, ◌∷◌, ◌≡◌}
 use Rattle.determinize_dense.proofs.Common.{DfaValue, is_anchored, IsDfa, IsRowFrom, patterns_at, start_row, value_from}
 use Rattle.determinize_core.proofs.walk.UnitLists.{units_are}
 use Rattle.determinize_dense.proofs.Inputs.{start_is}
-use Rattle.determinize_dense.proofs.Listing.{each-accepted, list-all}
+use Rattle.determinize_dense.proofs.Listing.{each-accepted, list-all, list-preferred}
 use Rattle.determinize_dense.proofs.Searching.{patterns-are, row-byte, row-push, row-start}
 use Rattle.determinize_dense.specs.Private.Rows.{IsNext, offset_of}
 use Rattle.determinize_dense.proofs.dfa.Dfa.patterns_after.Given.{Over}
@@ -56,6 +56,12 @@ returns-clause-all g c = λ all. list-all c.args.self.now.nfa c.args.self.now.ki
     (between c.args.look_behind c.args.text.now c.args.look_ahead)
     (subst (λ (x : DfaValue). IsAccepted x.nfa) c.self.view_is c.start_row-row.ensures.sound.accepted) all
     (start_is c.args.self.now.nfa c.args.anchored) (listed g (goal.at.returns-clause-all g c).After-patterns)
+
+pub returns-clause-preferred : goal.returns-clause-preferred
+returns-clause-preferred g c = λ first. list-preferred c.args.self.now.nfa c.args.self.now.kind _ _
+    (between c.args.look_behind c.args.text.now c.args.look_ahead)
+    (subst (λ (x : DfaValue). IsAccepted x.nfa) c.self.view_is c.start_row-row.ensures.sound.accepted) first
+    (start_is c.args.self.now.nfa c.args.anchored) (listed g (goal.at.returns-clause-preferred g c).After-patterns)
 
 pub returns-clause-accepted : goal.returns-clause-accepted
 returns-clause-accepted g c = each-accepted c.args.self.now.nfa c.args.self.now.kind _ _

@@ -1,31 +1,18 @@
-use Rattle.determinize_core.proofs.Common.{ap, arith, length, slice_get, Some, subst, sym, units, ℕ, ◌+◌, ◌-◌}
+use Rattle.determinize_core.proofs.Common.{ap, arith, length, subst, ℕ, ◌+◌, ◌-◌}
 use Rattle.determinize_core.proofs.Common.{◌<◌, ◌≡◌, ◌≤◌}
-use Rattle.determinize_dense.proofs.Common.{DfaValue, IsSearched}
-use Rattle.determinize_engine.proofs.Texts.{unit-here}
-use Rattle.determinize_dense.proofs.Searching.{found-dead, found-first, match-some, next-offset, searched-dead}
-use Rattle.determinize_dense.proofs.Searching.{searched-none, searched-some, searched-stays, units-count}
+use Rattle.determinize_dense.proofs.Common.{IsSearched}
+use Rattle.determinize_dense.proofs.Searching.{found-dead, found-first, match-some, searched-dead}
+use Rattle.determinize_dense.proofs.Searching.{searched-none, searched-some, searched-stays}
 use Rattle.determinize_dense.specs.Private.Order.{IsOrdered}
-use Rattle.determinize_dense.specs.Private.Rows.{IsNext}
 use Rattle.determinize_dense.specs.Private.Searching.{HasCome, IsMatch}
 use Rattle.determinize_dense.proofs.dfa.Dfa.search_rest.Given.{Over}
-use Rattle.determinize_dense.proofs.dfa.Dfa.search_rest.Goals.{After-row_over-row, After-scan-read}
+use Rattle.determinize_dense.proofs.dfa.Dfa.search_rest.Goals.{After-over_byte-row, After-scan-read}
 use Rattle.determinize_dense.proofs.dfa.Dfa.search_rest.Goals.{else-read-pauses, then-read-pauses}
 use Rattle.determinize_dense.proofs.dfa.Dfa.search_rest.Goals as goal
 
-order : (g : Over) (c : After-row_over-row g)
+order : (g : Over) (c : After-over_byte-row g)
     → IsOrdered c.args.self.now.table c.self.inside.last_match c.self.inside.last_special
-order g c = subst (λ (x : DfaValue). IsOrdered x.table c.self.inside.last_match c.self.inside.last_special)
-    c.self.view_is c.self.invariant.0
-
--- the next row has the offset that is read
-goes : (g : Over) (c : After-row_over-row g)
-    → IsNext c.args.self.now.table c.loop-read-2.row (Some c.byte.result) c.row_over-row.result
-goes g c = subst (λ (x : DfaValue). IsNext x.table c.loop-read-2.row (Some c.byte.result) c.row_over-row.result)
-    c.self.view_is c.row_over-row.ensures.value
-
-here : (g : Over) (c : After-row_over-row g)
-    → slice_get (units c.args.text.now) c.loop-read-2.read ≡ Some (Some c.byte.result)
-here g c = unit-here c.args.text.now c.loop-read-2.read c.byte.result c.byte.ensures
+order g c = rw c.self.view_is at c.self.invariant.0
 
 pub loop-read-init : goal.loop-read-init
 loop-read-init g c = record {
@@ -79,39 +66,36 @@ loop-read-preserved-in-loop-read-2 g c = record {
 }
 
 -- one byte more is read
-one_more : (g : Over) (c : After-row_over-row g) → c.loop-read-2.read + 1 ≤ length c.args.text.now.bytes
+one_more : (g : Over) (c : After-over_byte-row g) → c.loop-read-2.read + 1 ≤ length c.args.text.now.bytes
 one_more g c =
     let room = c.loop-read-2-test.true in let upto = c.loop-read-2.invariant.upto in omega (arith, room, upto)
 
 -- the search has come so far
-abbrev Come : (g : Over) → After-row_over-row g → ℕ → ℕ → ℕ → ℕ → Type 0
+abbrev Come : (g : Over) → After-over_byte-row g → ℕ → ℕ → ℕ → ℕ → Type 0
 Come g c = HasCome c.args.self.now c.args.text.now c.args.read c.args.row c.args.matched c.args.offset
 
 -- a row that lists no patterns
-plain : (g : Over) (c : After-row_over-row g) → c.self.inside.last_match < c.row_over-row.result
-    → Come g c (c.loop-read-2.read + 1) c.row_over-row.result c.loop-read-2.matched c.loop-read-2.offset
+plain : (g : Over) (c : After-over_byte-row g) → c.self.inside.last_match < c.over_byte-row.result
+    → Come g c (c.loop-read-2.read + 1) c.over_byte-row.result c.loop-read-2.matched c.loop-read-2.offset
 plain g c past = record {
-  at = next-offset c.args.self.now (Some c.byte.result) c.loop-read-2.invariant.come.at (goes g c);
+  at = c.over_byte-row.ensures.offset;
   listing = c.loop-read-2.invariant.come.listing;
-  searched = λ anchored sound s. searched-none sound (c.loop-read-2.invariant.come.searched anchored sound s) (here g c)
-      c.row_over-row.ensures.unit (goes g c) (order g c) past;
+  searched = λ anchored sound s. searched-none sound (c.loop-read-2.invariant.come.searched anchored sound s)
+      c.over_byte-row.ensures.read (order g c) past;
 }
 
 -- a scan out of it
 scanned : (g : Over) (c : After-scan-read g)
     → HasCome c.args.self.now c.args.text.now c.args.read c.args.row c.args.matched c.args.offset
-    c.scan-read.result c.row_over-row.result c.loop-read-2.matched c.loop-read-2.offset
+    c.scan-read.result c.over_byte-row.result c.loop-read-2.matched c.loop-read-2.offset
 scanned g c =
-    let at : After-row_over-row g = (goal.at.After-scan-read g c).After-row_over-row in
-    let count : length (units c.args.text.now) ≡ length c.args.text.now.bytes + 1 = units-count c.args.text.now in
-    let within : c.scan-read.result ≤ length c.args.text.now.bytes = c.scan-read.ensures.within in
+    let at : After-over_byte-row g = (goal.at.After-scan-read g c).After-over_byte-row in
     let before = plain g at c.if-row-self.true in
     record {
       at = before.at;
       listing = before.listing;
-      searched = λ anchored sound s. searched-stays sound c.len.ensures.units (order g at) c.if-row-self.true
-          (omega (arith, count, within)) c.scan-read.ensures.more c.scan-read.ensures.stays
-          (before.searched anchored sound s);
+      searched = λ anchored sound s. searched-stays sound (order g at) c.if-row-self.true c.scan-read.ensures.more
+          c.scan-read.ensures.stays (before.searched anchored sound s);
     }
 
 pub loop-read-smaller : goal.loop-read-smaller
@@ -141,9 +125,8 @@ loop-read-2-preserved-else-record g c =
 
 pub returns-then-row-eq0 : goal.returns-then-row-eq0
 returns-then-row-eq0 g c = λ anchored sound s.
-    let at : After-row_over-row g = (goal.at.returns-then-row-eq0 g c).After-row_over-row in
-    found-dead sound (searched-dead sound (c.loop-read-2.invariant.come.searched anchored sound s) (here g at)
-    c.row_over-row.ensures.unit (goes g at) (order g at) c.if-row-eq0.true) c.match_of.ensures c.len.ensures.units
+    found-dead sound (searched-dead sound (c.loop-read-2.invariant.come.searched anchored sound s)
+    c.over_byte-row.ensures.read c.if-row-eq0.true) c.match_of.ensures c.len.ensures.units
     c.if-row-eq0.true c.args.is_earliest
 
 same_end : (n : ℕ) → n + 1 - 1 ≡ n
@@ -151,32 +134,28 @@ same_end n = omega arith
 
 pub returns-then-is_earliest : goal.returns-then-is_earliest
 returns-then-is_earliest g c = λ anchored sound s.
-    let at : After-row_over-row g = (goal.at.returns-then-is_earliest g c).After-row_over-row in
+    let at : After-over_byte-row g = (goal.at.returns-then-is_earliest g c).After-over_byte-row in
     let before = c.loop-read-2.invariant.come.searched anchored sound s in
-    let found : IsMatch c.args.self.now.table c.row_over-row.result c.loop-read-2.read
+    let found : IsMatch c.args.self.now.table c.over_byte-row.result c.loop-read-2.read
     c.match_of-then-is_earliest.result =
-    subst (λ n. IsMatch c.args.self.now.table c.row_over-row.result n c.match_of-then-is_earliest.result)
-    (same_end c.loop-read-2.read) c.match_of-then-is_earliest.ensures in
-    found-first sound (searched-some sound before (here g at) c.row_over-row.ensures.unit (goes g at) (order g at)
-    c.if-row-eq0.false c.if-row-self.false) found
-    (match-some sound before (here g at) c.row_over-row.ensures.unit (goes g at) (order g at) c.if-row-eq0.false
-    c.if-row-self.false found) c.if-is_earliest.true
+    rw same_end at c.match_of-then-is_earliest.ensures in
+    found-first sound (searched-some sound before c.over_byte-row.ensures.read (order g at) c.if-row-eq0.false
+    c.if-row-self.false) found
+    (match-some sound before c.over_byte-row.ensures.read (order g at) c.if-row-eq0.false c.if-row-self.false found)
+    c.if-is_earliest.true
 
 pub loop-read-2-preserved-else-is_earliest : goal.loop-read-2-preserved-else-is_earliest
 loop-read-2-preserved-else-is_earliest g c =
-    let at : After-row_over-row g = (goal.at.loop-read-2-preserved-else-is_earliest g c).After-row_over-row in
+    let at : After-over_byte-row g = (goal.at.loop-read-2-preserved-else-is_earliest g c).After-over_byte-row in
     let since : c.loop-read.read ≤ c.loop-read-2.read = c.loop-read-2.invariant.since in
-    let there = next-offset c.args.self.now (Some c.byte.result) c.loop-read-2.invariant.come.at (goes g at) in
     record {
       within = one_more g at;
-      come = subst (λ n. Come g at (c.loop-read-2.read + 1) c.row_over-row.result c.row_over-row.result n)
-          (sym (same_end c.loop-read-2.read)) record {
-            at = there;
-            listing = there;
-            searched = λ anchored sound s. searched-some sound
-                (c.loop-read-2.invariant.come.searched anchored sound s) (here g at) c.row_over-row.ensures.unit
-                (goes g at) (order g at) c.if-row-eq0.false c.if-row-self.false;
-          };
+      come = rw same_end record {
+        at = c.over_byte-row.ensures.offset;
+        listing = c.over_byte-row.ensures.offset;
+        searched = λ anchored sound s. searched-some sound (c.loop-read-2.invariant.come.searched anchored sound s)
+            c.over_byte-row.ensures.read (order g at) c.if-row-eq0.false c.if-row-self.false;
+      };
       upto = c.loop-read-2.invariant.upto;
       past = c.loop-read-2.invariant.past;
       since = omega (arith, since);
@@ -185,10 +164,10 @@ loop-read-2-preserved-else-is_earliest g c =
 
 pub loop-read-2-preserved : goal.loop-read-2-preserved
 loop-read-2-preserved g c =
-    let at : After-row_over-row g = (goal.at.loop-read-2-preserved g c).After-row_over-row in
+    let at : After-over_byte-row g = (goal.at.loop-read-2-preserved g c).After-over_byte-row in
     let since : c.loop-read.read ≤ c.loop-read-2.read = c.loop-read-2.invariant.since in
     let past : c.self.inside.last_match ≤ c.if-read-pauses.stop.0 = c.loop-read-2.invariant.past in
-    let behind : c.if-read-pauses.stop.0 < c.row_over-row.result = c.if-row-stop.false in
+    let behind : c.if-read-pauses.stop.0 < c.over_byte-row.result = c.if-row-stop.false in
     record {
       within = one_more g at;
       come = plain g at (omega (arith, past, behind));

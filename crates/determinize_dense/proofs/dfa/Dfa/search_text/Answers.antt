@@ -1,13 +1,12 @@
-use Rattle.determinize_core.proofs.Common.{[], ap, arith, length, slice_get, Some, subst, sym, units, ◌+◌}
+use Rattle.determinize_core.proofs.Common.{[], ap, arith, length, subst}
 use Rattle.determinize_core.proofs.Common.{◌<◌, ◌∙◌, ◌≡◌}
 use Rattle.determinize_dense.proofs.Common.{DfaValue, IsDfa, IsRowFrom, IsSearched, IsUnit, start_row}
-use Rattle.determinize_engine.proofs.Texts.{unit-here}
 use Rattle.determinize_dense.proofs.Searching.{found-dead, found-first, match-some, row-start, searched-dead}
 use Rattle.determinize_dense.proofs.Searching.{searched-none, searched-some, searched-start}
 use Rattle.determinize_dense.specs.Private.Order.{IsOrdered}
-use Rattle.determinize_dense.specs.Private.Rows.{IsNext, offset_of}
+use Rattle.determinize_dense.specs.Private.Rows.{offset_of}
 use Rattle.determinize_dense.proofs.dfa.Dfa.search_text.Given.{Over}
-use Rattle.determinize_dense.proofs.dfa.Dfa.search_text.Goals.{After-row_over-row, After-start_row-row, else-row-self}
+use Rattle.determinize_dense.proofs.dfa.Dfa.search_text.Goals.{After-start_row-row, else-row-self}
 use Rattle.determinize_dense.proofs.dfa.Dfa.search_text.Goals.{then-row-self+else-is_earliest}
 use Rattle.determinize_dense.proofs.dfa.Dfa.search_text.Goals as goal
 
@@ -16,18 +15,7 @@ sound g c = subst (λ (x : DfaValue). IsDfa x) c.self.view_is c.start_row-row.en
 
 order : (g : Over) (c : After-start_row-row g)
     → IsOrdered c.args.self.now.table c.self.inside.last_match c.self.inside.last_special
-order g c = subst (λ (x : DfaValue). IsOrdered x.table c.self.inside.last_match c.self.inside.last_special)
-    c.self.view_is c.self.invariant.0
-
--- the next row has the offset that is read
-goes : (g : Over) (c : After-row_over-row g)
-    → IsNext c.args.self.now.table c.loop-read.row (Some c.byte.result) c.row_over-row.result
-goes g c = subst (λ (x : DfaValue). IsNext x.table c.loop-read.row (Some c.byte.result) c.row_over-row.result)
-    c.self.view_is c.row_over-row.ensures.value
-
-here : (g : Over) (c : After-row_over-row g)
-    → slice_get (units c.args.text.now) c.loop-read.read ≡ Some (Some c.byte.result)
-here g c = unit-here c.args.text.now c.loop-read.read c.byte.result c.byte.ensures
+order g c = rw c.self.view_is at c.self.invariant.0
 
 pub loop-read-init : goal.loop-read-init
 loop-read-init g c = record {
@@ -45,45 +33,33 @@ loop-read-init g c = record {
 
 pub returns-then-row-eq0 : goal.returns-then-row-eq0
 returns-then-row-eq0 g c =
-    let at : After-row_over-row g = (goal.at.returns-then-row-eq0 g c).After-row_over-row in
     let start : After-start_row-row g = (goal.at.returns-then-row-eq0 g c).After-start_row-row in
-    found-dead (sound g start) (searched-dead (sound g start) c.loop-read.invariant.searched (here g at)
-    c.row_over-row.ensures.unit (goes g at) (order g start) c.if-row-eq0.true) c.match_of.ensures c.len.ensures.units
+    found-dead (sound g start) (searched-dead (sound g start) c.loop-read.invariant.searched
+    c.over_byte-row.ensures.read c.if-row-eq0.true) c.match_of.ensures c.len.ensures.units
     c.if-row-eq0.true c.args.is_earliest
 
 pub returns-then-is_earliest : goal.returns-then-is_earliest
 returns-then-is_earliest g c =
-    let at : After-row_over-row g = (goal.at.returns-then-is_earliest g c).After-row_over-row in
     let start : After-start_row-row g = (goal.at.returns-then-is_earliest g c).After-start_row-row in
     let found = c.match_of-then-is_earliest.ensures in
-    found-first (sound g start) (searched-some (sound g start) c.loop-read.invariant.searched (here g at)
-    c.row_over-row.ensures.unit (goes g at) (order g start) c.if-row-eq0.false c.if-row-self.true) found
-    (match-some (sound g start) c.loop-read.invariant.searched (here g at)
-    c.row_over-row.ensures.unit (goes g at) (order g start) c.if-row-eq0.false c.if-row-self.true found)
-    c.if-is_earliest.true
+    found-first (sound g start) (searched-some (sound g start) c.loop-read.invariant.searched
+    c.over_byte-row.ensures.read (order g start) c.if-row-eq0.false c.if-row-self.true) found
+    (match-some (sound g start) c.loop-read.invariant.searched c.over_byte-row.ensures.read (order g start)
+    c.if-row-eq0.false c.if-row-self.true found) c.if-is_earliest.true
 
 pub loop-read-preserved : goal.loop-read-preserved
 loop-read-preserved g c =
-    let at : After-row_over-row g = (goal.at.loop-read-preserved g c).After-row_over-row in
     let start : After-start_row-row g = (goal.at.loop-read-preserved g c).After-start_row-row in
     let room = c.loop-read-test.true in
     record {
       within = omega (arith, room);
       searched = elim c.if-row-self.branch [
-        | then-row-self+else-is_earliest w ↦
-            subst (λ n. IsSearched c.args.self.now c.args.is_anchored c.args.text.now (c.loop-read.read + 1)
-            c.row_over-row.result n c.if-row-self.offset) (sym w.matched-is)
-            (subst (λ n. IsSearched c.args.self.now c.args.is_anchored c.args.text.now (c.loop-read.read + 1)
-            c.row_over-row.result c.row_over-row.result n) (sym w.offset-is)
-            (searched-some (sound g start) c.loop-read.invariant.searched (here g at) c.row_over-row.ensures.unit
-            (goes g at) (order g start) c.if-row-eq0.false w.if-row-self.true))
-        | else-row-self w ↦
-            subst (λ n. IsSearched c.args.self.now c.args.is_anchored c.args.text.now (c.loop-read.read + 1)
-            c.row_over-row.result n c.if-row-self.offset) (sym w.matched-is)
-            (subst (λ n. IsSearched c.args.self.now c.args.is_anchored c.args.text.now (c.loop-read.read + 1)
-            c.row_over-row.result c.loop-read.matched n) (sym w.offset-is)
-            (searched-none (sound g start) c.loop-read.invariant.searched (here g at) c.row_over-row.ensures.unit
-            (goes g at) (order g start) w.if-row-self.false))
+        | then-row-self+else-is_earliest w ↦ rw (w.matched-is, w.offset-is)
+            (searched-some (sound g start) c.loop-read.invariant.searched c.over_byte-row.ensures.read (order g start)
+            c.if-row-eq0.false w.if-row-self.true)
+        | else-row-self w ↦ rw (w.matched-is, w.offset-is)
+            (searched-none (sound g start) c.loop-read.invariant.searched c.over_byte-row.ensures.read (order g start)
+            w.if-row-self.false)
       ];
     }
 

@@ -1,10 +1,13 @@
 use Rattle.determinize_core.proofs.Common.{length, slice_index, ℕ, ◌<◌, ◌≡◌, ◌≤◌}
-use Rattle.determinize_dense.specs.Private.Minimizing.{IsFirstAlike}
+use Rattle.std.specs.HashMap.{get_by}
+use Rattle.std.specs.Prelude.{bytes_eq}
+use Rattle.determinize_dense.specs.Private.Minimizing.{AreFirsts, IsFirstAlike}
 use Rattle.determinize_dense.proofs.rows.Rows.first_rows.Given as goal
 
 abbrev pub invariant-loop-row : goal.invariant-loop-row
 invariant-loop-row g l = record {
   count : length l.values.items ≡ l.row;
   below : l.row ≤ length l.fn.self.table.patterns;
+  known : AreFirsts l.fn.self.table l.row (λ list. get_by (λ key. bytes_eq list key.now) l.firsts);
   firsts : (r : ℕ) → r < length l.values.items → IsFirstAlike l.fn.self.table r (slice_index l.values.items r);
 }

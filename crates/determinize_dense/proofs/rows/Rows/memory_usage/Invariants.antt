@@ -1,5 +1,8 @@
-use Rattle.determinize_core.proofs.Common.{length, ◌*◌, ◌+◌, ◌≤◌}
+use Rattle.determinize_core.proofs.Common.{length, min, take, ◌*◌, ◌+◌, ◌≡◌}
+use Rattle.std.below.core.specs.declared.int.usize.TheConstants.{MAX}
+use Rattle.std.specs.Prelude.{sum_by}
 use Rattle.determinize_dense.proofs.rows.Rows.memory_usage.Given as goal
 
 abbrev pub invariant-loop-list : goal.invariant-loop-list
-invariant-loop-list g l = length l.fn.self.table.patterns * (l.fn.self.table.class_count + 1) * 4 ≤ l.bytes
+invariant-loop-list g l = l.bytes ≡ min (length l.fn.self.table.patterns * (l.fn.self.table.class_count + 1) * 4
+    + sum_by (λ list. 24 + length list * 4) (take l.list-index l.fn.self.table.patterns)) MAX

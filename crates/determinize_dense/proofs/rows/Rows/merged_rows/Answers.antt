@@ -9,6 +9,7 @@ use Rattle.determinize_dense.specs.Private.Minimizing.{AreMergedEntries, entry}
 use Rattle.determinize_dense.proofs.rows.Rows.merged_rows.Given.{Over}
 use Rattle.determinize_dense.proofs.rows.Rows.merged_rows.Goals.{After-block-block}
 use Rattle.determinize_dense.proofs.rows.Rows.merged_rows.Goals as goal
+use Rattle.determinize_engine.specs.declared.state_table.TheConstants.{MAX_STATES}
 
 -- the offset of a block is small
 small : (g : Over) (c : After-block-block g) → c.block-block.result * c.alphabet_len-columns.result < 2 ^ 32
@@ -16,11 +17,11 @@ small g c =
     let below : c.block-block.result < length c.args.parts.now.members = c.block-block.ensures.below in
     let few : length c.args.parts.now.members ≤ length c.args.parts.now.numbers = few_blocks c.requires.blocks in
     let count : length c.args.parts.now.numbers ≡ length c.args.self.now.table.patterns = c.requires.count in
-    let limit : length c.args.self.now.table.patterns ≤ 16647160 =
-    subst (λ (x : DfaValue). length x.table.patterns ≤ 16647160) c.self.view_is c.self.invariant.dfa.table.few in
+    let limit : length c.args.self.now.table.patterns ≤ MAX_STATES =
+    subst (λ (x : DfaValue). length x.table.patterns ≤ MAX_STATES) c.self.view_is c.self.invariant.dfa.table.few in
     let columns : c.alphabet_len-columns.result ≤ 257 = c.alphabet_len-columns.ensures.limit in
-    let rows : c.block-block.result ≤ 16647160 = omega (arith, below, few, count, limit) in
-    let less : c.block-block.result * c.alphabet_len-columns.result ≤ 16647160 * c.alphabet_len-columns.result =
+    let rows : c.block-block.result ≤ MAX_STATES = omega (arith, below, few, count, limit) in
+    let less : c.block-block.result * c.alphabet_len-columns.result ≤ MAX_STATES * c.alphabet_len-columns.result =
     mul-le-mul_right c.alphabet_len-columns.result rows in
     omega (arith, less, columns)
 

@@ -3,6 +3,7 @@ use Rattle.determinize_dense.proofs.Common.{DfaValue}
 use Rattle.determinize_dense.proofs.Collecting.{each-set}
 use Rattle.determinize_dense.proofs.Splitting.{few_blocks}
 use Rattle.determinize_dense.proofs.rows.Rows.merged_starts.Goals as goal
+use Rattle.determinize_engine.specs.declared.state_table.TheConstants.{MAX_STATES}
 
 pub loop-number-init : goal.loop-number-init
 loop-number-init g c = record {
@@ -22,8 +23,8 @@ overflow_cast-starts g c =
     let below : c.block.result < length c.args.parts.now.members = c.block.ensures.below in
     let few : length c.args.parts.now.members ≤ length c.args.parts.now.numbers = few_blocks c.requires.blocks in
     let count : length c.args.parts.now.numbers ≡ length c.args.self.now.table.patterns = c.requires.count in
-    let limit : length c.args.self.now.table.patterns ≤ 16647160 =
-    subst (λ (x : DfaValue). length x.table.patterns ≤ 16647160) c.self.view_is c.self.invariant.dfa.table.few in
+    let limit : length c.args.self.now.table.patterns ≤ MAX_STATES =
+    subst (λ (x : DfaValue). length x.table.patterns ≤ MAX_STATES) c.self.view_is c.self.invariant.dfa.table.few in
     omega (arith, below, few, count, limit)
 
 pub loop-number-preserved : goal.loop-number-preserved

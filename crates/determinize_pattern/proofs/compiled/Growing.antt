@@ -1,0 +1,96 @@
+-- A builder that grows keeps its states.
+-- Main statements: extends_then, continues_old, grown, is_new, adds_none, adds_more, adds_all.
+-- Used by: the files compiled.
+-- Idea: each statement is about every NFA that has the states, so nothing is said of ranges of ids.
+use Rattle.std.specs.Prelude.{nat_lt, slice_index, slice_index_or}
+use Rattle.std.proofs.Common.{◌≡◌, ◌+◌, ◌<◌, ◌≤◌, ◌++◌, ◌∙◌, ◌∷◌, ℕ, Bool, List, [], ap, arith, false, get_or-set_other, get_or-set_same, length, length-set, ltb-false, ltb-true, refl, set, suc, sym, true}
+use Rattle.std.proofs.lemmas.List.{get_or_append_left, get_or_push, length_push}
+use Rattle.ordered_reach.proofs.Cases.{by_test}
+use Rattle.determinize_below.specs.Semantics.{Fail, Match, Nfa, Node, Union, state_at}
+use Rattle.determinize_nfa.specs.Builder.{BuilderValue, with_match, with_node}
+use Rattle.determinize_pattern.specs.Private.Compiling.{AddsEach, Continues, Extends}
+use Rattle.determinize_pattern.specs.Private.Entries.{in_order}
+
+pub extends_same : (b : BuilderValue) → Extends b b
+extends_same b = record { longer = omega arith; kept = λ q l. refl; terminator = refl }
+
+pub extends_then : (a b c : BuilderValue) → Extends a b → Extends b c → Extends a c
+extends_then a b c f g = record {
+  longer = omega (arith, f.longer, g.longer);
+  kept = λ q l. g.kept q (omega (arith, f.longer)) ∙ f.kept q l;
+  terminator = g.terminator ∙ f.terminator;
+}
+
+pub continues_old : (old new : BuilderValue) → Extends old new → (nfa : Nfa) → Continues new nfa → Continues old nfa
+continues_old old new f nfa h = record {
+  states = λ q l w. h.states q (omega (arith, f.longer)) (λ z. w (sym (f.kept q l) ∙ z)) ∙ f.kept q l;
+  terminator = h.terminator ∙ f.terminator;
+  forward = h.forward;
+}
+
+pub grown : (b : BuilderValue) (node : Node) → Extends b (with_node b node)
+grown b node = record {
+  longer = omega (arith, length_push b.states node);
+  kept = λ q l. get_or_append_left b.states (node ∷ []) Fail q l;
+  terminator = refl;
+}
+
+-- the number of patterns is irrelevant
+pub match_grown : (b : BuilderValue) → Extends b (with_match b)
+match_grown b =
+    let g = grown b (Match b.patterns) in
+    record { longer = g.longer; kept = g.kept; terminator = g.terminator }
+
+pub continues_match : (b : BuilderValue) (nfa : Nfa) → Continues (with_match b) nfa
+    → Continues (with_node b (Match b.patterns)) nfa
+continues_match b nfa h = record { states = h.states; terminator = h.terminator; forward = h.forward }
+
+pub is_new : (b : BuilderValue) (node : Node) (nfa : Nfa) → Continues (with_node b node) nfa → (node ≡ Union [] → ⊥)
+    → (s : ℕ) → s ≡ length b.states → state_at nfa s ≡ node
+is_new b node nfa h w s i =
+    let e : slice_index_or (b.states ++ node ∷ []) (length b.states) Fail ≡ node
+    = get_or_push b.states node Fail (length b.states) refl in
+    rw i (h.states (length b.states) (omega (arith, length_push b.states node)) (λ z. w (sym e ∙ z)) ∙ e)
+
+-- the first n entries are new states
+pub record AddsBelow (old new : BuilderValue) (ids entries : List ℕ) (n : ℕ) (node : ℕ → Node) : Type 0 where
+  pub extends : Extends old new
+  pub len : length entries ≡ length ids
+  pub left : (k : ℕ) → n ≤ k → slice_index entries k ≡ slice_index ids k
+  pub each : (nfa : Nfa) → Continues new nfa → (k : ℕ) → k < n → state_at nfa (slice_index entries k) ≡ node k
+
+pub adds_none : (b : BuilderValue) (ids : List ℕ) (node : ℕ → Node) → AddsBelow b b ids ids 0 node
+adds_none b ids node = record {
+  extends = extends_same b;
+  len = refl;
+  left = λ k l. refl;
+  each = λ nfa h k l. absurd (omega (arith, l));
+}
+
+pub adds_more : (old mid new : BuilderValue) (ids entries : List ℕ) (n s : ℕ) (node : ℕ → Node)
+    → AddsBelow old mid ids entries n node → n < length ids → s ≡ length mid.states → new ≡ with_node mid (node n)
+    → (node n ≡ Union [] → ⊥) → AddsBelow old new ids (set entries n s) (n + 1) node
+adds_more old mid new ids entries n s node h l e g w = rw g (record {
+  extends = extends_then old mid (with_node mid (node n)) h.extends (grown mid (node n));
+  len = length-set entries n s ∙ h.len;
+  left = λ k m. get_or-set_other entries n k s 0 (omega (arith, m)) ∙ h.left k (omega (arith, m));
+  each = λ nfa c k m. at nfa c k m;
+})
+  where
+    at : (nfa : Nfa) → Continues (with_node mid (node n)) nfa → (k : ℕ) → k < n + 1
+        → state_at nfa (slice_index (set entries n s) k) ≡ node k
+    at nfa c k m = by_test (nat_lt k n)
+        (λ z. let q : k < n = ltb-true k n z in
+        rw (get_or-set_other entries n k s 0 (omega (arith, q)))
+        (h.each nfa (continues_old mid (with_node mid (node n)) (grown mid (node n)) nfa c) k q))
+        (λ z. let q : k ≡ n = omega (arith, m, ltb-false k n z) in
+        rw (q, get_or-set_same entries n s 0 (omega (arith, l, h.len))) (is_new mid (node n) nfa c w s e))
+
+pub adds_all : (old new : BuilderValue) (ids entries : List ℕ) (n : ℕ) (node : ℕ → Node)
+    → AddsBelow old new ids entries n node → length ids ≤ n → AddsEach old new ids entries node
+adds_all old new ids entries n node h l =
+    record { extends = h.extends; len = h.len; each = λ nfa c k m. h.each nfa c k (omega (arith, l, m)) }
+
+pub is_written : (first_wins : Bool) (s t : ℕ) → Union (in_order first_wins s t) ≡ Union [] → ⊥
+is_written true s t y = let z : Union (s ∷ t ∷ []) ≡ Union [] = y in cc
+is_written false s t y = let z : Union (t ∷ s ∷ []) ≡ Union [] = y in cc

@@ -1,0 +1,165 @@
+use Rattle.std.proofs.Common.{add-one, ◌≡◌, ◌+◌, ◌-◌, ◌∙◌, ◌∷◌, ap, arith, false, drop, length, map, refl, slice_index, sym}
+use Rattle.std.proofs.lemmas.Grind.{common_steps, get_or_default_zero}
+use Rattle.std.proofs.lemmas.List.{drop_all, drop_more, map-append, take_all, take_more, take_rest}
+use Rattle.std.proofs.lemmas.Result.{IfOk-weaker, on_ok_weaker}
+use Rattle.determinize_pattern.specs.Patterns.{meaning}
+use Rattle.determinize_pattern.proofs.compiled.Branching.{begun_branches, branches_more, branches_none}
+use Rattle.determinize_pattern.proofs.compiled.Looping.{again_begun, plus_compiled}
+use Rattle.determinize_pattern.proofs.compiled.Compiling.{begun_of, choice_compiled, compiled_after, empty_compiled, look_compiled, nothing_compiled, one_compiled, only_compiled, optional_compiled, precedes_more, precedes_none, repeated_some, then_compiled}
+use Rattle.determinize_pattern.proofs.compiled.Patterns.{meaning-Empty, meaning-Look}
+use Rattle.determinize_pattern.proofs.compiler.Compiler.+part.Goals as goal
+
+pub part-returns-then-always_reads-clause-compiled : goal.part-returns-then-always_reads-clause-compiled
+part-returns-then-always_reads-clause-compiled g t c =
+    let first : c.index-ids-0.result ≡ slice_index c.args.ids.now 0
+    = c.index-ids-0.is ∙ get_or_default_zero c.args.ids.now 0 _ (omega (arith, c.requires)) in
+    let node = rw first at c.in_ok-node.ensures.compiled in
+    compiled_after _ _ _ _ _ _ c.spend.ensures.kept
+    (one_compiled _ _ _ _ _ _ (c.always_reads.ensures c.if-always_reads.true) (begun_of _ _ _ _ _ node)
+    (rw (get_or_default_zero c.node.new.ids 0 c.index-only-0.result (omega (arith, c.in_ok-node.ensures.compiled.len)))
+    at c.set_each.ensures))
+
+pub node-returns-in-Empty-clause-compiled : goal.node-returns-in-Empty-clause-compiled
+node-returns-in-Empty-clause-compiled g t c = rw (c.in-Empty.is, meaning-Empty) (empty_compiled _ _)
+
+pub node-returns-in-Look-clause-compiled : goal.node-returns-in-Look-clause-compiled
+node-returns-in-Look-clause-compiled g t c =
+    on_ok_weaker c.look_each.result
+    (λ each. rw (c.in-Look.is, meaning-Look) (look_compiled _ _ _ _ _ each)) c.look_each.ensures.added
+
+pub concat-loop-i-init : goal.concat-loop-i-init
+concat-loop-i-init g t c =
+    (rw (drop_all (length c.args.subs.now) c.args.subs.now (omega arith)) (empty_compiled _ _), omega arith)
+
+pub concat-loop-i-preserved : goal.concat-loop-i-preserved
+concat-loop-i-preserved g t c =
+    let i = c.loop-i.i in
+    let back : i - 1 + 1 ≡ i = omega arith in
+    let sub = c.index-subs-i.result in (
+      rw (drop_more c.args.subs.now (i - 1) sub (omega arith), back, ← c.index-subs-i.is)
+          (then_compiled _ _ _ _ _ _ _ _ c.requires c.loop-i.invariant.0 c.in_ok-part.ensures.compiled),
+      omega (arith, c.loop-i.invariant.1, c.in_ok-part.ensures.paid),
+    )
+
+pub alternation-loop-i-init : goal.alternation-loop-i-init
+alternation-loop-i-init g t c = (
+  rw (drop_all (length c.args.subs.now) c.args.subs.now (omega arith))
+      (nothing_compiled _ _ _ _ _ c.in_ok-fail.ensures.id c.in_ok-fail.ensures.added c.set_each.ensures),
+  c.in_ok-branch.ensures.len ∙ sym c.in_ok-targets.ensures.len,
+  omega (arith, c.in_ok-fail.ensures.paid),
+)
+
+pub alternation-loop-i-preserved : goal.alternation-loop-i-preserved
+alternation-loop-i-preserved g t c =
+    let i = c.loop-i.i in
+    let back : i - 1 + 1 ≡ i = omega arith in
+    let sub = c.index-subs-i.result in
+    let targets : c.deref_mut.result.now ≡ c.args.ids.now =
+    c.deref_mut.ensures.value ∙ c.copy_from_slice.ensures.items ∙ c.deref.ensures.value ∙ c.in_ok-targets.ensures.items in
+    let entries : c.deref-in-loop-i.result.now ≡ c.part.new.ids = grind (arith, common_steps) in (
+      rw (drop_more c.args.subs.now (i - 1) sub (omega arith), back, ← c.index-subs-i.is)
+          (choice_compiled false _ _ _ _ _ _ _ _ _ _ c.loop-i.invariant.0 (rw targets at c.in_ok-part.ensures.compiled)
+          (rw entries at c.in_ok-choose_each.ensures.added)),
+      grind (arith, common_steps),
+      omega (arith, c.loop-i.invariant.2, c.in_ok-part.ensures.paid, c.in_ok-choose_each.ensures.paid),
+    )
+
+pub alternation-returns-then-ids-eq1-clause-compiled : goal.alternation-returns-then-ids-eq1-clause-compiled
+alternation-returns-then-ids-eq1-clause-compiled g t c =
+    let first : c.index-ids-0.result ≡ slice_index c.args.ids.now 0
+    = c.index-ids-0.is ∙ get_or_default_zero c.args.ids.now 0 _ (omega (arith, c.requires)) in
+    only_compiled _ _ _ c.args.ids.now c.args.ids.now _ c.if-ids-eq1.true refl (rw first at c.in_ok-ids.ensures.begun)
+
+pub branches-loop-i-init : goal.branches-loop-i-init
+branches-loop-i-init g t c = (rw c.no_ids-starts.ensures (branches_none _ _), omega arith)
+
+pub branches-loop-i-preserved : goal.branches-loop-i-preserved
+branches-loop-i-preserved g t c =
+    let i = c.loop-i.i in
+    let sub = c.index-subs-i.result in
+    let entry = get_or_default_zero c.part.new.ids 0 c.index-ids-0.result (omega (arith, c.in_ok-part.ensures.compiled.len)) in (
+      rw (take_more c.args.subs.now i sub (omega arith), ← c.index-subs-i.is, map-append, c.in_ok-push.ensures.items, entry)
+          (branches_more _ _ _ _ _ _ _ _ c.loop-i.invariant.0 (begun_of _ _ _ _ _ c.in_ok-part.ensures.compiled)),
+      omega (arith, c.loop-i.invariant.1, c.in_ok-part.ensures.paid),
+    )
+
+pub branches-returns-clause-begun : goal.branches-returns-clause-begun
+branches-returns-clause-begun g t c = IfOk-weaker c.join.result _ _
+    (λ s h. begun_branches _ _ _ (map meaning c.args.subs.now) _ _ s
+    (rw (take_all c.loop-i.i c.args.subs.now (omega arith)) at c.loop-i.invariant.0) (rw c.deref.ensures.value at h))
+    c.join.ensures.branch
+
+pub plus-returns-clause-compiled : goal.plus-returns-clause-compiled
+plus-returns-clause-compiled g t c =
+    let targets : c.deref_mut.result.now ≡ c.in_ok-again.again ∷ c.in_ok-unread.unread ∷ c.args.ids.now =
+    c.deref_mut.ensures.value ∙ c.in_ok-body.ensures in
+    let entries : c.deref.result.now ≡ c.part.new.ids = grind (arith, common_steps) in
+    let round : c.index.result.now ≡ slice_index c.part.new.ids 1 = grind (arith, common_steps) in
+    let first : c.index-ids-0.result ≡ slice_index c.args.ids.now 0
+    = c.index-ids-0.is ∙ get_or_default_zero c.args.ids.now 0 _ (omega (arith, c.requires)) in
+    plus_compiled c.args.greedy _ _ _ _ _ _ _ _ _ _ c.requires c.in_ok-again.ensures.id
+    c.in_ok-again.ensures.added c.in_ok-unread.ensures.unread (rw targets at c.in_ok-part.ensures.compiled)
+    (rw (round, first) at c.in_ok-close.ensures.closed) _
+    (c.copy_from_slice.ensures.after ∙ take_rest _ 2 ∙ ap (drop 2) entries)
+
+pub plus-returns-clause-again : goal.plus-returns-clause-again
+plus-returns-clause-again g t c =
+    let targets : c.deref_mut.result.now ≡ c.in_ok-again.again ∷ c.in_ok-unread.unread ∷ c.args.ids.now =
+    c.deref_mut.ensures.value ∙ c.in_ok-body.ensures in
+    let round : c.index.result.now ≡ slice_index c.part.new.ids 1 = grind (arith, common_steps) in
+    let first : c.index-ids-0.result ≡ slice_index c.args.ids.now 0
+    = c.index-ids-0.is ∙ get_or_default_zero c.args.ids.now 0 _ (omega (arith, c.requires)) in
+    again_begun c.args.greedy _ _ _ _ _ _ _ _ _ _ c.requires c.in_ok-again.ensures.id
+    c.in_ok-again.ensures.added c.in_ok-unread.ensures.unread (rw targets at c.in_ok-part.ensures.compiled)
+    (rw (round, first) at c.in_ok-close.ensures.closed)
+
+pub copies-loop-done-init : goal.copies-loop-done-init
+copies-loop-done-init g t c = (precedes_none _ (meaning c.args.sub.now) _, c.requires, omega arith)
+
+pub copies-loop-done-preserved : goal.copies-loop-done-preserved
+copies-loop-done-preserved g t c = (
+  rw add-one (precedes_more _ _ _ _ _ _ _ _ c.loop-done.invariant.0 c.in_ok-part.ensures.compiled),
+  omega (arith, c.loop-done.invariant.1, c.in_ok-part.ensures.compiled.len),
+  omega (arith, c.loop-done.invariant.2, c.in_ok-part.ensures.paid),
+)
+
+pub copies-returns-clause-front : goal.copies-returns-clause-front
+copies-returns-clause-front g t c = let all : c.loop-done.done ≡ c.args.count = omega arith in rw all at c.loop-done.invariant.0
+
+pub up_to-loop-done-init : goal.up_to-loop-done-init
+up_to-loop-done-init g t c = (empty_compiled _ _, omega arith)
+
+pub up_to-loop-done-preserved : goal.up_to-loop-done-preserved
+up_to-loop-done-preserved g t c = (
+  rw add-one (optional_compiled c.args.greedy _ _ _ _ _ _ _ _ (c.deref.ensures.value ∙ c.in_ok-targets.ensures.items)
+      (then_compiled _ _ _ _ _ _ _ _ c.requires c.loop-done.invariant.0 c.in_ok-part.ensures.compiled)
+      c.in_ok-choose_each.ensures.added),
+  omega (arith, c.loop-done.invariant.1, c.in_ok-part.ensures.paid, c.in_ok-choose_each.ensures.paid),
+)
+
+pub up_to-returns-clause-compiled : goal.up_to-returns-clause-compiled
+up_to-returns-clause-compiled g t c =
+    let all : c.loop-done.done ≡ c.args.count = omega arith in rw all at c.loop-done.invariant.0
+
+pub star-returns-clause-compiled : goal.star-returns-clause-compiled
+star-returns-clause-compiled g t c =
+    on_ok_weaker c.choose_each.result
+    (optional_compiled c.args.greedy _ _ _ _ _ _ _ _ (c.deref.ensures.value ∙ c.in_ok-targets.ensures.items)
+    c.in_ok-again.ensures.compiled) c.choose_each.ensures.added
+
+pub star-returns-then-always_reads-clause-compiled : goal.star-returns-then-always_reads-clause-compiled
+star-returns-then-always_reads-clause-compiled g t c = only_compiled _ _ _ c.args.ids.now c.plus.new.ids _ (omega (arith, c.if-ids-eq1.true, c.in_ok-again.ensures.compiled.len))
+    c.in_ok-again.ensures.compiled.len (c.in_ok-again.ensures.again (c.always_reads.ensures c.if-always_reads.true))
+
+pub repetition-returns-in_ok-up_to-in-Some-clause-compiled : goal.repetition-returns-in_ok-up_to-in-Some-clause-compiled
+repetition-returns-in_ok-up_to-in-Some-clause-compiled g t c = on_ok_weaker c.copies.result
+    (λ front. rw (c.in-Some.is, ← c.saturating_sub.ensures)
+    (front _ _ _ c.requires c.in_ok-up_to-in-Some.ensures.compiled)) c.copies.ensures.front
+
+pub repetition-returns-in-None-clause-compiled : goal.repetition-returns-in-None-clause-compiled
+repetition-returns-in-None-clause-compiled g t c = on_ok_weaker c.star.result (λ star. rw (c.in-None.is, c.if-min-eq0.true) star) c.star.ensures.compiled
+
+pub repetition-returns-in_ok-plus-in-None-2-clause-compiled : goal.repetition-returns-in_ok-plus-in-None-2-clause-compiled
+repetition-returns-in_ok-plus-in-None-2-clause-compiled g t c = on_ok_weaker c.copies-in-None-2.result
+    (λ front. rw (c.in-None.is, repeated_some _ _ _ c.if-min-eq0.false)
+    (front _ _ _ c.requires c.in_ok-plus-in-None-2.ensures.compiled)) c.copies-in-None-2.ensures.front

@@ -1,0 +1,32 @@
+use Rattle.std.proofs.Common.{◌≡◌, ◌<◌, drop, length, map, take, vec_len}
+use Rattle.determinize_pattern.specs.Private.Compiling.{IsCompiled, Precedes}
+use Rattle.determinize_pattern.specs.Patterns.{choice, sequence, copies, meaning, up_to}
+use Rattle.determinize_pattern.proofs.compiled.Branching.{Branches}
+use Rattle.determinize_pattern.specs.Private.Compiling.{Paid}
+use Rattle.determinize_pattern.proofs.compiler.Compiler.+part.Given as goal
+
+abbrev pub invariant-alternation-loop-i : goal.invariant-alternation-loop-i
+invariant-alternation-loop-i g l =
+    IsCompiled l.fn.self.builder l.self.builder (choice (map meaning (drop l.i l.subs))) l.fn.ids l.ids
+    × (vec_len l.branch ≡ vec_len l.targets)
+    × Paid l.fn.self.builder l.fn.self.left l.self.builder l.self.left
+
+abbrev pub invariant-concat-loop-i : goal.invariant-concat-loop-i
+invariant-concat-loop-i g l =
+    IsCompiled l.fn.self.builder l.self.builder (sequence (map meaning (drop l.i l.subs))) l.fn.ids l.ids
+    × Paid l.fn.self.builder l.fn.self.left l.self.builder l.self.left
+
+abbrev pub invariant-copies-loop-done : goal.invariant-copies-loop-done
+invariant-copies-loop-done g l =
+    Precedes l.fn.self.builder l.self.builder (copies l.done (meaning l.sub)) l.fn.ids l.ids × (0 < length l.ids)
+    × Paid l.fn.self.builder l.fn.self.left l.self.builder l.self.left
+
+abbrev pub invariant-up_to-loop-done : goal.invariant-up_to-loop-done
+invariant-up_to-loop-done g l =
+    IsCompiled l.fn.self.builder l.self.builder (up_to l.greedy l.done (meaning l.sub)) l.fn.ids l.ids
+    × Paid l.fn.self.builder l.fn.self.left l.self.builder l.self.left
+
+abbrev pub invariant-branches-loop-i : goal.invariant-branches-loop-i
+invariant-branches-loop-i g l =
+    Branches l.fn.self.builder l.self.builder (map meaning (take l.i l.subs)) l.fn.next l.starts.items
+    × Paid l.fn.self.builder l.fn.self.left l.self.builder l.self.left

@@ -1,0 +1,18 @@
+use Rattle.std.proofs.Common.{◌≡◌, ◌∙◌, arith}
+use Rattle.determinize_pattern.proofs.compiled.Compiling.{class_none, class_one, ok_both, sparse_begun}
+use Rattle.determinize_pattern.proofs.compiler.Compiler.class_to.Goals as goal
+
+pub returns-in-0-clause-begun : goal.returns-in-0-clause-begun
+returns-in-0-clause-begun g c = ok_both c.fail.result c.fail.ensures.id c.fail.ensures.added
+    (λ s e k. class_none _ _ _ c.args.class.now c.args.next s
+    (rw c.ranges-2.ensures at c.in_ok-transitions.ensures) (omega arith) e k)
+
+pub returns-in-1-clause-begun : goal.returns-in-1-clause-begun
+returns-in-1-clause-begun g c = ok_both c.range.result c.range.ensures.id c.range.ensures.added
+    (λ s e k. class_one _ _ c.in_ok-transitions.transitions.items _ c.args.class.now c.args.next s
+    (rw c.ranges-2.ensures at c.in_ok-transitions.ensures) (omega arith) c.index.ensures e k)
+
+pub returns-clause-begun : goal.returns-clause-begun
+returns-clause-begun g c = ok_both c.sparse.result c.sparse.ensures.id c.sparse.ensures.added
+    (λ s e k. sparse_begun _ _ c.args.class.now c.args.next s e
+    (rw (c.deref.ensures.value, c.in_ok-transitions.ensures, c.ranges-2.ensures) at k))

@@ -1,0 +1,10 @@
+use Rattle.std.proofs.Common.{drop}
+use Rattle.determinize_pattern.specs.Private.Compiling.{IsBegun}
+use Rattle.determinize_pattern.specs.Patterns.{literal}
+use Rattle.determinize_pattern.specs.Private.Compiling.{Paid}
+use Rattle.determinize_pattern.proofs.compiler.Compiler.literal_to.Given as goal
+
+abbrev pub invariant-loop-i : goal.invariant-loop-i
+invariant-loop-i g l =
+    IsBegun l.initial.self.builder l.self.builder (literal (drop l.i l.bytes)) l.fn.next l.entry
+    × Paid l.fn.self.builder l.fn.self.left l.self.builder l.self.left

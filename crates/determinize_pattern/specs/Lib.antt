@@ -1,0 +1,7 @@
+pub mod Classes
+pub mod Compiled
+pub mod Laws
+pub mod LeftmostOf
+pub mod Meaning
+pub mod Patterns
+pub mod Private

@@ -1,0 +1,2 @@
+pub mod Compiling
+pub mod Entries

@@ -1,0 +1,98 @@
+-- What the calls of the compiler add to a builder: statements on each NFA that has its states.
+use Rattle.std.specs.Prelude.{◌≡◌, ◌+◌, ◌<◌, ◌≤◌, ◌⊎◌, ℕ, Contains, List, [], false, length, slice_index, slice_index_or}
+use Rattle.determinize_below.specs.Semantics.{Fail, Match, Nfa, Node, Text, Union, state_at}
+use Rattle.determinize_nfa.specs.Builder.{BuilderValue}
+use Rattle.determinize_pattern.specs.LeftmostOf.{all_ends}
+use Rattle.determinize_pattern.specs.Meaning.{Re, ends}
+use Rattle.determinize_pattern.specs.Patterns.{choice}
+use Rattle.determinize_pattern.specs.Private.Entries.{AreBranches, AreStarts, Finds, IsEntry}
+
+-- the NFA has each state of the builder that is written: a union without alternates holds the place
+-- of the state of a loop
+pub record Continues (b : BuilderValue) (nfa : Nfa) : Type 0 where
+  pub states : (q : ℕ) → q < length b.states → (slice_index_or b.states q Fail ≡ Union [] → ⊥)
+      → state_at nfa q ≡ slice_index_or b.states q Fail
+  pub terminator : nfa.terminator ≡ b.terminator
+  pub forward : nfa.reverse ≡ false
+
+-- the new builder has the states of the old one
+pub record Extends (old new : BuilderValue) : Type 0 where
+  pub longer : length old.states ≤ length new.states
+  pub kept : (q : ℕ) → q < length old.states
+      → slice_index_or new.states q Fail ≡ slice_index_or old.states q Fail
+  pub terminator : new.terminator ≡ old.terminator
+
+-- for each state that was added, one of what was left was spent
+abbrev pub Paid : BuilderValue → ℕ → BuilderValue → ℕ → Type 0
+Paid old before new after = length new.states + after ≤ length old.states + before
+
+-- entry k begins the pattern, which continues at the first id if it has read a byte, and at id k if
+-- not
+pub record IsCompiled (old new : BuilderValue) (re : Re) (ids entries : List ℕ) : Type 0 where
+  pub extends : Extends old new
+  pub len : length entries ≡ length ids
+  pub each : (nfa : Nfa) → Continues new nfa → (text : Text) → (k : ℕ) → k < length ids
+      → IsEntry nfa text re (slice_index ids 0) (slice_index ids k) (slice_index entries k)
+
+-- what was added is in front of any pattern that was compiled before
+abbrev pub Precedes : BuilderValue → BuilderValue → (Re → Re) → List ℕ → List ℕ → Type 0
+Precedes mid new front ids entries = (old : BuilderValue) (re : Re) (targets : List ℕ)
+    → 0 < length targets → IsCompiled old mid re targets ids
+    → IsCompiled old new (front re) targets entries
+
+-- the state begins the pattern, which continues at `next` whether or not it has read a byte
+pub record IsBegun (old new : BuilderValue) (re : Re) (next s : ℕ) : Type 0 where
+  pub extends : Extends old new
+  pub entry : (nfa : Nfa) → Continues new nfa → (text : Text)
+      → IsEntry nfa text re next next s
+
+-- each entry is a new state
+pub record AddsEach (old new : BuilderValue) (ids entries : List ℕ)
+    (node : ℕ → Node) : Type 0 where
+  pub extends : Extends old new
+  pub len : length entries ≡ length ids
+  pub each : (nfa : Nfa) → Continues new nfa → (k : ℕ) → k < length ids
+      → state_at nfa (slice_index entries k) ≡ node k
+
+-- each match of the pattern reads a byte
+abbrev pub AlwaysReads : Re → Type 0
+AlwaysReads re = (t : ℕ) (text : Text) (i j : ℕ) → Contains (ends t text re i) j → i < j
+
+-- the state fails, or each match of the pattern reads a byte
+pub record IsUnread (old new : BuilderValue) (re : Re) (id : ℕ) : Type 0 where
+  pub extends : Extends old new
+  pub fails : AlwaysReads re
+      ⊎ ((nfa : Nfa) → Continues new nfa → state_at nfa id ≡ Fail)
+
+-- from the state begins a choice between patterns that begin at these
+pub record IsBranch (old new : BuilderValue) (starts : List ℕ) (s : ℕ) : Type 0 where
+  pub extends : Extends old new
+  pub entry : (nfa : Nfa) → Continues new nfa → (text : Text) (res : List Re) (next : ℕ)
+      → AreBranches nfa text res next starts → IsEntry nfa text (choice res) next next s
+
+-- each of these states is the `Match` of its number
+pub record AddsMatches (old new : BuilderValue) (ids : List ℕ) : Type 0 where
+  pub extends : Extends old new
+  pub patterns : new.patterns ≡ length ids
+  pub each : (nfa : Nfa) → Continues new nfa → (n : ℕ) → n < length ids
+      → state_at nfa (slice_index ids n) ≡ Match n
+
+-- each pattern begins at the state of its number, before its `Match` state
+pub record BeginsEach (old new : BuilderValue) (matches : List ℕ) (res : List Re)
+    (starts : List ℕ) : Type 0 where
+  pub extends : Extends old new
+  pub begins : (nfa : Nfa) → Continues new nfa
+      → ((n : ℕ) → n < length matches → state_at nfa (slice_index matches n) ≡ Match n)
+      → AreStarts nfa 0 res starts
+
+-- from the state begin the patterns that begin at these
+pub record IsStart (old new : BuilderValue) (starts : List ℕ) (s : ℕ) : Type 0 where
+  pub extends : Extends old new
+  pub finds : (nfa : Nfa) → Continues new nfa → (text : Text) (res : List Re)
+      → AreStarts nfa 0 res starts
+      → (k : ℕ) → Finds nfa text s k (all_ends nfa.terminator text 0 res k)
+
+-- from the state the runs find all patterns
+abbrev pub FindsAll : BuilderValue → List Re → ℕ → Type 0
+FindsAll b res s = (nfa : Nfa) → Continues b nfa → (text : Text) (k : ℕ)
+    → Finds nfa text s k (all_ends nfa.terminator text 0 res k)

@@ -1,0 +1,245 @@
+//! A builder under a limit, and what is done to each entry of a part of a pattern.
+
+ghost use Rattle.std.specs.Prelude.{◌≡◌, ◌<◌, ◌+◌, IfOk, OnOk, [], ◌∷◌, length, replicate, slice_index, vec_len};
+ghost use Rattle.determinize_below.specs.Semantics as nodes;
+ghost use Rattle.determinize_nfa.specs.Builder.{closed, with_match, with_node};
+ghost use Rattle.determinize_pattern.specs.Classes.{pairs};
+ghost use Rattle.determinize_pattern.specs.Private.Compiling.{AddsEach, IsBranch, IsStart, Paid};
+ghost use Rattle.determinize_pattern.specs.Private.Entries as entries;
+ghost use Rattle.determinize_pattern.specs.Private.Entries.{leading};
+
+use crate::class::ClassBytesRange;
+use crate::nfa::{CompileError, Config};
+use determinize_below::nfa::Transition;
+use determinize_below::{Look, StateID};
+use determinize_nfa::Builder;
+use std::alloc::Allocator;
+
+/// A builder of an NFA, and how many states and calls may still be made.
+#[derive(Drop)]
+pub struct Compiler<A: Allocator> {
+    alloc: A,
+    pub builder: Builder<A>,
+    pub left: usize,
+}
+
+impl<A: Allocator + Copy> Compiler<A> {
+    /// Returns a compiler that has added no state.
+    pub fn new(alloc: A, config: Config) -> Compiler<A>
+        ensures left { result.left ≡ config.state_limit }
+        ensures builder { result.builder
+            ≡ record { states = []; patterns = 0; terminator = config.look_matcher } }
+    {
+        let mut builder = Builder::new(alloc);
+        builder.set_look_matcher(config.look_matcher);
+        Compiler {
+            alloc,
+            builder,
+            left: config.state_limit,
+        }
+    }
+
+    /// Returns a list without ids.
+    pub fn no_ids(&self) -> Vec<StateID, A>
+        ensures { result.items ≡ [] }
+    {
+        Vec::new(self.alloc)
+    }
+
+    /// Returns a list of these ids.
+    pub fn copy(&self, ids: &[StateID]) -> Result<Vec<StateID, A>, CompileError>
+        ensures items { IfOk result (λ v. v.items ≡ ids.now) }
+        ensures len { IfOk result (λ v. vec_len v ≡ length ids.now) }
+    {
+        Ok(Vec::from_slice(self.alloc, ids)?)
+    }
+
+    /// Returns a list of two ids and then the others.
+    pub fn list(
+        &self,
+        first: StateID,
+        second: StateID,
+        rest: &[StateID],
+    ) -> Result<Vec<StateID, A>, CompileError>
+        ensures { IfOk result (λ v. v.items ≡ first ∷ second ∷ rest.now) }
+    {
+        let mut ids = vec![in self.alloc; first, second]?;
+        ids.extend_from_slice(rest)?;
+        Ok(ids)
+    }
+
+    /// Returns transitions on the ranges to a state.
+    pub fn transitions(
+        &self,
+        ranges: &[ClassBytesRange],
+        next: StateID,
+    ) -> Result<Vec<Transition, A>, CompileError>
+        ensures { IfOk result (λ v. v.items ≡ leading next (pairs ranges.now)) }
+    {
+        let mut transitions = Vec::new(self.alloc);
+        for i in 0..ranges.len() {
+            let (start, end) = (ranges[i].start, ranges[i].end);
+            transitions.push(Transition { start, end, next })?;
+        }
+        Ok(transitions)
+    }
+
+    /// Spends what a call costs, or returns an error if less is left.
+    pub fn spend(&mut self, cost: usize) -> Result<(), CompileError>
+        ensures kept { self.new.builder ≡ self.old.builder }
+        ensures spent { OnOk result (self.new.left + cost ≡ self.old.left) }
+    {
+        if cost > self.left {
+            return Err(CompileError::ExceededSizeLimit);
+        }
+        self.left -= cost;
+        Ok(())
+    }
+
+    pub fn range(&mut self, trans: Transition) -> Result<StateID, CompileError>
+        ensures id { IfOk result (λ id. id ≡ length self.old.builder.states) }
+        ensures added { OnOk result
+            (self.new.builder ≡ with_node self.old.builder (nodes.ByteRange trans)) }
+        ensures paid { OnOk result
+            (Paid self.old.builder self.old.left self.new.builder self.new.left) }
+    {
+        self.spend(1)?;
+        Ok(self.builder.add_range(trans)?)
+    }
+
+    pub fn sparse(&mut self, transitions: &[Transition]) -> Result<StateID, CompileError>
+        ensures id { IfOk result (λ id. id ≡ length self.old.builder.states) }
+        ensures added { OnOk result
+            (self.new.builder ≡ with_node self.old.builder (nodes.Sparse transitions.now)) }
+        ensures paid { OnOk result
+            (Paid self.old.builder self.old.left self.new.builder self.new.left) }
+    {
+        self.spend(1)?;
+        Ok(self.builder.add_sparse(transitions)?)
+    }
+
+    pub fn look(&mut self, look: Look, next: StateID) -> Result<StateID, CompileError>
+        ensures id { IfOk result (λ id. id ≡ length self.old.builder.states) }
+        ensures added { OnOk result
+            (self.new.builder ≡ with_node self.old.builder (nodes.Look look next)) }
+        ensures paid { OnOk result
+            (Paid self.old.builder self.old.left self.new.builder self.new.left) }
+    {
+        self.spend(1)?;
+        Ok(self.builder.add_look(next, look)?)
+    }
+
+    pub fn union(&mut self, alternates: &[StateID]) -> Result<StateID, CompileError>
+        ensures id { IfOk result (λ id. id ≡ length self.old.builder.states) }
+        ensures added { OnOk result
+            (self.new.builder ≡ with_node self.old.builder (nodes.Union alternates.now)) }
+        ensures paid { OnOk result
+            (Paid self.old.builder self.old.left self.new.builder self.new.left) }
+    {
+        self.spend(1)?;
+        Ok(self.builder.add_union(alternates)?)
+    }
+
+    pub fn fail(&mut self) -> Result<StateID, CompileError>
+        ensures id { IfOk result (λ id. id ≡ length self.old.builder.states) }
+        ensures added { OnOk result
+            (self.new.builder ≡ with_node self.old.builder nodes.Fail) }
+        ensures paid { OnOk result
+            (Paid self.old.builder self.old.left self.new.builder self.new.left) }
+    {
+        self.spend(1)?;
+        Ok(self.builder.add_fail()?)
+    }
+
+    pub fn match_state(&mut self) -> Result<StateID, CompileError>
+        ensures id { IfOk result (λ id. id ≡ length self.old.builder.states) }
+        ensures added { OnOk result (self.new.builder ≡ with_match self.old.builder) }
+        ensures paid { OnOk result
+            (Paid self.old.builder self.old.left self.new.builder self.new.left) }
+    {
+        self.spend(1)?;
+        Ok(self.builder.add_match()?)
+    }
+
+    /// Writes the state of a loop, whose place is held.
+    pub fn close(
+        &mut self,
+        again: StateID,
+        greedy: bool,
+        more: StateID,
+        stop: StateID,
+    ) -> Result<(), CompileError>
+        requires { again < length self.old.builder.states }
+        ensures closed { OnOk result
+            (self.new.builder ≡ closed self.old.builder again (entries.in_order greedy more stop)) }
+        ensures paid { OnOk result
+            (Paid self.old.builder self.old.left self.new.builder self.new.left) }
+    {
+        let alternates = in_order(greedy, more, stop);
+        Ok(self.builder.close(again, &alternates)?)
+    }
+
+    /// Adds a union of the starts, unless there is one, and returns where they begin.
+    pub fn join(&mut self, starts: &[StateID]) -> Result<StateID, CompileError>
+        ensures start { IfOk result (λ s. IsStart self.old.builder self.new.builder starts.now s) }
+        ensures branch { IfOk result (λ s. IsBranch self.old.builder self.new.builder starts.now s) }
+        ensures paid { OnOk result
+            (Paid self.old.builder self.old.left self.new.builder self.new.left) }
+    {
+        match starts.len() {
+            0 => self.fail(),
+            1 => Ok(starts[0]),
+            _ => self.union(starts),
+        }
+    }
+
+    /// Puts an assertion in front of each entry.
+    pub fn look_each(&mut self, look: Look, ids: &mut [StateID]) -> Result<(), CompileError>
+        ensures added { OnOk result (AddsEach self.old.builder self.new.builder ids.old ids.new
+            (λ k. nodes.Look look (slice_index ids.old k))) }
+        ensures paid { OnOk result
+            (Paid self.old.builder self.old.left self.new.builder self.new.left) }
+    {
+        for k in 0..ids.len() {
+            ids[k] = self.look(look, ids[k])?;
+        }
+        Ok(())
+    }
+
+    /// Makes each entry a choice between itself and the state at its place in `others`.
+    pub fn choose_each(
+        &mut self,
+        first_wins: bool,
+        ids: &mut [StateID],
+        others: &[StateID],
+    ) -> Result<(), CompileError>
+        requires { length others.now ≡ length ids.old }
+        ensures added { OnOk result (AddsEach self.old.builder self.new.builder ids.old ids.new
+            (λ k. nodes.Union
+            (entries.in_order first_wins (slice_index ids.old k) (slice_index others.now k)))) }
+        ensures paid { OnOk result
+            (Paid self.old.builder self.old.left self.new.builder self.new.left) }
+    {
+        for k in 0..ids.len() {
+            let alternates = in_order(first_wins, ids[k], others[k]);
+            ids[k] = self.union(&alternates)?;
+        }
+        Ok(())
+    }
+}
+
+/// Makes each entry the same state.
+pub fn set_each(ids: &mut [StateID], id: StateID)
+    ensures { ids.new ≡ replicate (length ids.old) id }
+{
+    for k in 0..ids.len() {
+        ids[k] = id;
+    }
+}
+
+/// Returns one more round and the end of a loop in order of preference.
+fn in_order(greedy: bool, more: StateID, stop: StateID) -> [StateID; 2]
+    ensures { result ≡ entries.in_order greedy more stop }
+{
+    if greedy { [more, stop] } else { [stop, more] }
+}

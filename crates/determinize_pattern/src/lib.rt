@@ -1,0 +1,23 @@
+//! Patterns as values, and their compilation to an NFA that is proved to have their meaning.
+//!
+//! - [`pattern`] is the type of patterns, with a constructor for each kind.
+//! - [`class`] is that of classes of bytes.
+//! - [`nfa`] compiles several patterns, of which the first is preferred, to one NFA.
+//! - [`laws`] are laws of the meaning and of compiled NFAs that callers may use in addition to the
+//!   contracts.
+//!
+//! The meaning of a pattern is the list of the positions where its matches end, most preferred
+//! first: `ends` in `specs/Meaning.antt`.
+#![tactic(auto)]
+
+mod always_reads;
+pub mod class;
+mod compiler;
+pub mod laws;
+pub mod nfa;
+mod parts;
+pub mod pattern;
+
+pub use class::{ClassBytes, ClassBytesRange};
+pub use nfa::{CompileError, Config, compile};
+pub use pattern::Pattern;

@@ -1,0 +1,145 @@
+//! The NFA of several patterns.
+
+ghost use Rattle.std.specs.Prelude.{◌≡◌, ◌+◌, ◌≤◌, IfOk, OnOk, false, length, map, vec_len};
+ghost use Rattle.determinize_nfa.specs.Prefix.{HasPrefix, HasPrefixApart};
+ghost use Rattle.determinize_pattern.specs.Compiled.{IsNfaOf};
+ghost use Rattle.determinize_pattern.specs.Patterns.{meaning};
+ghost use Rattle.determinize_pattern.specs.Private.Compiling.{AddsMatches, BeginsEach, FindsAll, Paid};
+
+use crate::compiler::Compiler;
+use crate::pattern::Pattern;
+use determinize_below::{BuildError, LookMatcher, NFA, StateID};
+use std::alloc::{AllocError, AllocFailed, Allocator};
+use std::fmt;
+
+/// The options of `compile`.
+#[derive(Debug, Drop)]
+pub struct Config {
+    /// At most this number of states is added, and of calls made, for the patterns together.
+    pub state_limit: usize,
+    /// The line terminator of `StartLF` and `EndLF`.
+    pub look_matcher: LookMatcher,
+}
+
+impl Config {
+    /// Returns the usual options: 100,000 states, and `\n` as the line terminator.
+    pub fn new() -> Config
+        ensures limit { result.state_limit ≡ 100000 }
+        ensures terminator { result.look_matcher ≡ 10 }
+    {
+        Config {
+            state_limit: 100_000,
+            look_matcher: LookMatcher::new(),
+        }
+    }
+}
+
+/// An error from `compile`.
+#[derive(Clone, Copy, Debug, PartialEq, Eq)]
+pub enum CompileError {
+    /// The patterns need more states, or more calls, than the limit allows.
+    ExceededSizeLimit,
+    /// The NFA was not built. Of patterns only `OutOfMemory` and `TooManyStates` are expected, but
+    /// no contract says so.
+    Build(BuildError),
+}
+
+impl fmt::Display for CompileError {
+    fn fmt<W: fmt::Write>(&self, f: &mut fmt::Formatter<W>) -> fmt::Result {
+        match self {
+            CompileError::ExceededSizeLimit => write!(f, "the patterns exceed the size limit"),
+            CompileError::Build(error) => write!(f, "{error}"),
+        }
+    }
+}
+
+impl From<BuildError> for CompileError {
+    fn from(error: BuildError) -> CompileError {
+        CompileError::Build(error)
+    }
+}
+
+impl From<AllocError> for CompileError {
+    fn from(_error: AllocError) -> CompileError {
+        CompileError::Build(BuildError::OutOfMemory)
+    }
+}
+
+impl<T: Drop> From<AllocFailed<T>> for CompileError {
+    fn from(_error: AllocFailed<T>) -> CompileError {
+        CompileError::Build(BuildError::OutOfMemory)
+    }
+}
+
+/// Returns the NFA of the patterns, with the usual prefix as its unanchored start. The first
+/// pattern is pattern 0, and is preferred.
+pub fn compile<A: Allocator + Copy>(
+    alloc: A,
+    patterns: &[Pattern],
+    config: Config,
+) -> Result<NFA<A>, CompileError>
+    ensures means { IfOk result (λ nfa. IsNfaOf (map meaning patterns.now) nfa) }
+    ensures prefix { IfOk result (λ nfa. HasPrefix nfa) }
+    ensures separate { IfOk result (λ nfa. HasPrefixApart nfa) }
+    ensures forward { IfOk result (λ nfa. nfa.reverse ≡ false) }
+    ensures terminator { IfOk result (λ nfa. nfa.terminator ≡ config.look_matcher) }
+    ensures few { IfOk result (λ nfa. length nfa.states ≤ config.state_limit + 2) }
+{
+    let mut compiler = Compiler::new(alloc, config);
+    let start = compiler.all(patterns)?;
+    Ok(compiler.builder.build_with_prefix(start)?)
+}
+
+impl<A: Allocator + Copy> Compiler<A> {
+    /// Adds the states of all patterns, and returns where they begin.
+    fn all(&mut self, patterns: &[Pattern]) -> Result<StateID, CompileError>
+        requires { self.old.builder.patterns ≡ 0 }
+        ensures finds { IfOk result (λ s. FindsAll self.new.builder (map meaning patterns.now) s) }
+        ensures terminator { OnOk result
+            (self.new.builder.terminator ≡ self.old.builder.terminator) }
+        ensures paid { OnOk result
+            (Paid self.old.builder self.old.left self.new.builder self.new.left) }
+    {
+        let matches = self.matches(patterns.len())?;
+        let starts = self.starts(patterns, &matches)?;
+        self.join(&starts)
+    }
+
+    /// Adds a match state for each pattern, and returns their ids.
+    fn matches(&mut self, count: usize) -> Result<Vec<StateID, A>, CompileError>
+        requires { self.old.builder.patterns ≡ 0 }
+        ensures added { IfOk result
+            (λ v. AddsMatches self.old.builder self.new.builder v.items) }
+        ensures len { IfOk result (λ v. vec_len v ≡ count) }
+        ensures paid { OnOk result
+            (Paid self.old.builder self.old.left self.new.builder self.new.left) }
+    {
+        let mut ids = self.no_ids();
+        for n in 0..count {
+            let id = self.match_state()?;
+            ids.push(id)?;
+        }
+        Ok(ids)
+    }
+
+    /// Adds the states of each pattern in front of its match state, and returns where they begin.
+    fn starts(
+        &mut self,
+        patterns: &[Pattern],
+        matches: &[StateID],
+    ) -> Result<Vec<StateID, A>, CompileError>
+        requires { length matches.now ≡ length patterns.now }
+        ensures begins { IfOk result (λ v. BeginsEach self.old.builder self.new.builder
+            matches.now (map meaning patterns.now) v.items) }
+        ensures paid { OnOk result
+            (Paid self.old.builder self.old.left self.new.builder self.new.left) }
+    {
+        let mut starts = self.no_ids();
+        for i in 0..patterns.len() {
+            let mut ids = [matches[i]];
+            self.part(&patterns[i], &mut ids)?;
+            starts.push(ids[0])?;
+        }
+        Ok(starts)
+    }
+}

@@ -1,0 +1,307 @@
+//! The states of the parts of a pattern. A pattern is compiled from its end to its start, so that
+//! what follows a part has its state before the part is compiled.
+//!
+//! A round of a loop that reads nothing must not go back to the loop. So a part is compiled for
+//! several targets, the slice `ids`: it continues at `ids[0]` if it has read a byte, and at `ids[k]`
+//! if it was entered by entry `k` and has read nothing. On return `ids[k]` is that entry.
+
+ghost use Rattle.std.specs.Prelude.{◌≡◌, ◌<◌, IfOk, OnOk, length, map, slice_index};
+ghost use Rattle.determinize_pattern.specs.Meaning as meanings;
+ghost use Rattle.determinize_pattern.specs.Patterns as patterns;
+ghost use Rattle.determinize_pattern.specs.Patterns.{at_least, choice, meaning, repeated, sequence};
+ghost use Rattle.determinize_pattern.specs.Private.Compiling.{AlwaysReads, IsBegun, IsCompiled, IsUnread, Paid, Precedes};
+
+use crate::always_reads::always_reads;
+use crate::class::ClassBytes;
+use crate::compiler::{Compiler, set_each};
+use crate::nfa::CompileError;
+use crate::pattern::Pattern;
+use determinize_below::StateID;
+use determinize_below::nfa::Transition;
+use std::alloc::Allocator;
+
+impl<A: Allocator + Copy> Compiler<A> {
+    /// Adds the states of a pattern. One that reads has one entry for all targets.
+    #[cycle(part)]
+    pub fn part(&mut self, pattern: &Pattern, ids: &mut [StateID]) -> Result<(), CompileError>
+        requires { 0 < length ids.old }
+        ensures compiled { OnOk result
+            (IsCompiled self.old.builder self.new.builder (meaning pattern.now) ids.old ids.new) }
+        ensures paid { OnOk result
+            (Paid self.old.builder self.old.left self.new.builder self.new.left) }
+    {
+        self.spend(ids.len())?;
+        if ids.len() > 1 && always_reads(pattern) {
+            let mut only = [ids[0]];
+            self.node(pattern, &mut only)?;
+            set_each(ids, only[0]);
+            return Ok(());
+        }
+        self.node(pattern, ids)
+    }
+
+    #[cycle(part)]
+    fn node(&mut self, pattern: &Pattern, ids: &mut [StateID]) -> Result<(), CompileError>
+        requires { 0 < length ids.old }
+        ensures compiled { OnOk result
+            (IsCompiled self.old.builder self.new.builder (meaning pattern.now) ids.old ids.new) }
+        ensures paid { OnOk result
+            (Paid self.old.builder self.old.left self.new.builder self.new.left) }
+    {
+        match pattern {
+            Pattern::Empty => Ok(()),
+            Pattern::Literal(bytes) => self.literal(bytes, ids),
+            Pattern::Class(class) => self.class(class, ids),
+            Pattern::Look(look) => self.look_each(*look, ids),
+            Pattern::Repetition {
+                min,
+                max,
+                greedy,
+                sub,
+            } => self.repetition(*min, *max, *greedy, sub, ids),
+            Pattern::Capture(sub) => self.part(sub, ids),
+            Pattern::Concat(subs) => self.concat(subs, ids),
+            Pattern::Alternation(subs) => self.alternation(subs, ids),
+        }
+    }
+
+    fn literal(&mut self, bytes: &[u8], ids: &mut [StateID]) -> Result<(), CompileError>
+        requires { 0 < length ids.old }
+        ensures compiled { OnOk result (IsCompiled self.old.builder self.new.builder
+            (patterns.literal bytes.now) ids.old ids.new) }
+        ensures paid { OnOk result
+            (Paid self.old.builder self.old.left self.new.builder self.new.left) }
+    {
+        if bytes.is_empty() {
+            return Ok(());
+        }
+        let entry = self.literal_to(bytes, ids[0])?;
+        set_each(ids, entry);
+        Ok(())
+    }
+
+    fn literal_to(&mut self, bytes: &[u8], next: StateID) -> Result<StateID, CompileError>
+        ensures begun { IfOk result
+            (λ s. IsBegun self.old.builder self.new.builder (patterns.literal bytes.now) next s) }
+        ensures paid { OnOk result
+            (Paid self.old.builder self.old.left self.new.builder self.new.left) }
+    {
+        let mut entry = next;
+        for i in (0..bytes.len()).rev() {
+            let byte = bytes[i];
+            entry = self.range(Transition {
+                start: byte,
+                end: byte,
+                next: entry,
+            })?;
+        }
+        Ok(entry)
+    }
+
+    fn class(&mut self, class: &ClassBytes, ids: &mut [StateID]) -> Result<(), CompileError>
+        requires { 0 < length ids.old }
+        ensures compiled { OnOk result (IsCompiled self.old.builder self.new.builder
+            (meanings.Byte class.now) ids.old ids.new) }
+        ensures paid { OnOk result
+            (Paid self.old.builder self.old.left self.new.builder self.new.left) }
+    {
+        let entry = self.class_to(class, ids[0])?;
+        set_each(ids, entry);
+        Ok(())
+    }
+
+    fn class_to(&mut self, class: &ClassBytes, next: StateID) -> Result<StateID, CompileError>
+        ensures begun { IfOk result (λ s. IsBegun self.old.builder self.new.builder
+            (meanings.Byte class.now) next s) }
+        ensures paid { OnOk result
+            (Paid self.old.builder self.old.left self.new.builder self.new.left) }
+    {
+        let transitions = self.transitions(class.ranges(), next)?;
+        match transitions.len() {
+            0 => self.fail(),
+            1 => self.range(transitions[0]),
+            _ => self.sparse(&transitions),
+        }
+    }
+
+    #[cycle(part)]
+    fn concat(&mut self, subs: &[Pattern], ids: &mut [StateID]) -> Result<(), CompileError>
+        requires { 0 < length ids.old }
+        ensures compiled { OnOk result (IsCompiled self.old.builder self.new.builder
+            (sequence (map meaning subs.now)) ids.old ids.new) }
+        ensures paid { OnOk result
+            (Paid self.old.builder self.old.left self.new.builder self.new.left) }
+    {
+        for i in (0..subs.len()).rev() {
+            self.part(&subs[i], ids)?;
+        }
+        Ok(())
+    }
+
+    #[cycle(part)]
+    fn alternation(&mut self, subs: &[Pattern], ids: &mut [StateID]) -> Result<(), CompileError>
+        requires { 0 < length ids.old }
+        ensures compiled { OnOk result (IsCompiled self.old.builder self.new.builder
+            (choice (map meaning subs.now)) ids.old ids.new) }
+        ensures paid { OnOk result
+            (Paid self.old.builder self.old.left self.new.builder self.new.left) }
+    {
+        if ids.len() == 1 {
+            ids[0] = self.branches(subs, ids[0])?;
+            return Ok(());
+        }
+        let targets = self.copy(ids)?;
+        let mut branch = self.copy(ids)?;
+        let fail = self.fail()?;
+        set_each(ids, fail);
+        for i in (0..subs.len()).rev() {
+            branch.copy_from_slice(&targets);
+            self.part(&subs[i], &mut branch)?;
+            self.choose_each(false, ids, &branch)?;
+        }
+        Ok(())
+    }
+
+    /// Adds one union of all branches, if there are several.
+    #[cycle(part)]
+    fn branches(&mut self, subs: &[Pattern], next: StateID) -> Result<StateID, CompileError>
+        ensures begun { IfOk result (λ s. IsBegun self.old.builder self.new.builder
+            (choice (map meaning subs.now)) next s) }
+        ensures paid { OnOk result
+            (Paid self.old.builder self.old.left self.new.builder self.new.left) }
+    {
+        let mut starts = self.no_ids();
+        for i in 0..subs.len() {
+            let mut ids = [next];
+            self.part(&subs[i], &mut ids)?;
+            starts.push(ids[0])?;
+        }
+        self.join(&starts)
+    }
+
+    #[cycle(part)]
+    fn repetition(
+        &mut self,
+        min: u32,
+        max: Option<u32>,
+        greedy: bool,
+        sub: &Pattern,
+        ids: &mut [StateID],
+    ) -> Result<(), CompileError>
+        requires { 0 < length ids.old }
+        ensures compiled { OnOk result (IsCompiled self.old.builder self.new.builder
+            (repeated min max greedy (meaning sub.now)) ids.old ids.new) }
+        ensures paid { OnOk result
+            (Paid self.old.builder self.old.left self.new.builder self.new.left) }
+    {
+        match max {
+            Some(max) => {
+                self.up_to(greedy, max.saturating_sub(min), sub, ids)?;
+                self.copies(min, sub, ids)
+            }
+            None if min == 0 => self.star(greedy, sub, ids),
+            None => {
+                self.plus(greedy, sub, ids)?;
+                self.copies(min - 1, sub, ids)
+            }
+        }
+    }
+
+    /// Puts copies in front of what was compiled before.
+    #[cycle(part)]
+    fn copies(&mut self, count: u32, sub: &Pattern, ids: &mut [StateID]) -> Result<(), CompileError>
+        requires { 0 < length ids.old }
+        ensures front { OnOk result
+            (Precedes self.old.builder self.new.builder
+            (patterns.copies count (meaning sub.now)) ids.old ids.new) }
+        ensures paid { OnOk result
+            (Paid self.old.builder self.old.left self.new.builder self.new.left) }
+    {
+        for done in 0..count {
+            self.part(sub, ids)?;
+        }
+        Ok(())
+    }
+
+    #[cycle(part)]
+    fn up_to(
+        &mut self,
+        greedy: bool,
+        count: u32,
+        sub: &Pattern,
+        ids: &mut [StateID],
+    ) -> Result<(), CompileError>
+        requires { 0 < length ids.old }
+        ensures compiled { OnOk result (IsCompiled self.old.builder self.new.builder
+            (patterns.up_to greedy count (meaning sub.now)) ids.old ids.new) }
+        ensures paid { OnOk result
+            (Paid self.old.builder self.old.left self.new.builder self.new.left) }
+    {
+        let targets = self.copy(ids)?;
+        for done in 0..count {
+            self.part(sub, ids)?;
+            self.choose_each(greedy, ids, &targets)?;
+        }
+        Ok(())
+    }
+
+    /// The state of a loop whose body reads is also the choice between a first round and none.
+    #[cycle(part)]
+    fn star(&mut self, greedy: bool, sub: &Pattern, ids: &mut [StateID]) -> Result<(), CompileError>
+        requires { 0 < length ids.old }
+        ensures compiled { OnOk result (IsCompiled self.old.builder self.new.builder
+            (at_least greedy 0 (meaning sub.now)) ids.old ids.new) }
+        ensures paid { OnOk result
+            (Paid self.old.builder self.old.left self.new.builder self.new.left) }
+    {
+        let targets = self.copy(ids)?;
+        let again = self.plus(greedy, sub, ids)?;
+        if ids.len() == 1 && always_reads(sub) {
+            ids[0] = again;
+            return Ok(());
+        }
+        self.choose_each(greedy, ids, &targets)
+    }
+
+    /// The body has one entry for the first round at each target, where reading nothing leaves the
+    /// loop, and one for the later rounds, where it fails. Returns the state of the loop.
+    #[cycle(part)]
+    fn plus(
+        &mut self,
+        greedy: bool,
+        sub: &Pattern,
+        ids: &mut [StateID],
+    ) -> Result<StateID, CompileError>
+        requires { 0 < length ids.old }
+        ensures compiled { OnOk result (IsCompiled self.old.builder self.new.builder
+            (meanings.Plus greedy (meaning sub.now)) ids.old ids.new) }
+        ensures again { IfOk result (λ s. AlwaysReads (meaning sub.now)
+            → IsBegun self.old.builder self.new.builder (at_least greedy 0 (meaning sub.now))
+            (slice_index ids.old 0) s) }
+        ensures paid { OnOk result
+            (Paid self.old.builder self.old.left self.new.builder self.new.left) }
+    {
+        let again = self.union(&[])?;
+        let unread = self.unread(sub, again)?;
+        let mut body = self.list(again, unread, ids)?;
+        self.part(sub, &mut body)?;
+        self.close(again, greedy, body[1], ids[0])?;
+        ids.copy_from_slice(&body[2..]);
+        Ok(again)
+    }
+
+    /// Returns where a later round goes on that reads nothing: it fails, but if there is none, any
+    /// state will do.
+    fn unread(&mut self, sub: &Pattern, any: StateID) -> Result<StateID, CompileError>
+        ensures unread { IfOk result
+            (λ id. IsUnread self.old.builder self.new.builder (meaning sub.now) id) }
+        ensures paid { OnOk result
+            (Paid self.old.builder self.old.left self.new.builder self.new.left) }
+    {
+        if always_reads(sub) {
+            Ok(any)
+        } else {
+            self.fail()
+        }
+    }
+}
