@@ -12,8 +12,9 @@ pub mod plain;
 pub mod regex;
 
 pub use determinize_below::search::Match;
-pub use determinize_nfa::{Builder, builder, prefix, reversal};
-pub use determinize_nfa::{has_prefix, has_prefix_apart, reversed};
+pub use determinize_nfa::{
+    Builder, builder, has_prefix, has_prefix_apart, prefix, reversal, reversed,
+};
 pub use idle::is_idle;
 pub use iter::Searcher;
 pub use pieces::Pieces;

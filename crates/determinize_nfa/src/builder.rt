@@ -23,8 +23,8 @@ use std::marker::Model;
 
 /// A builder of an NFA that reads forward.
 ///
-/// If a call returns an error, the builder is as before. An id that is that of no state, or a sparse
-/// state that is not sorted, is an error when the NFA is built.
+/// If a call returns an error, the builder is as before. An id that is that of no state, or a
+/// sparse state that is not sorted, is an error when the NFA is built.
 #[derive(Drop)]
 pub struct Builder<A: Allocator> {
     alloc: A,

@@ -1,6 +1,8 @@
 -- The NFA that is made of the recorded transitions is the reverse, its one match state, and which errors making it has.
--- Main statements: made_of_all, made_match, made_error. `reversed` rests on them. The idea: the loop has recorded each
--- state that is reached (RecordedStates), so both directions of runs (BothWays) and the validation (Validation) apply.
+-- Main statements: made_of_all, made_match, made_error.
+-- Used by: `reversed`.
+-- Idea: the loop has recorded each state that is reached (RecordedStates), so both directions of runs (BothWays) and
+-- the validation (Validation) apply.
 use Rattle.std.specs.List.{IsDistinct, filter}
 use Rattle.std.specs.Prelude.{All, nat_eq}
 use Rattle.std.proofs.Common.{◌≡◌, ◌<◌, ◌⊎◌, ◌∙◌, ◌∷◌, ℕ, List, Some, [], ap, arith, inl, inr, length, subst, suc, sym}

@@ -1,6 +1,7 @@
 -- What the recorded transitions say of the NFA: each is a transition of it, and those of the states so far are there.
--- Main statements: the records IsSound and IsRecorded, grown_then, arcs_stay. All of this folder rests on them. The
--- idea: what is recorded only grows, and an entry keeps its place, so a fact of one entry stays true.
+-- Main statements: the records IsSound and IsRecorded, grown_then, arcs_stay.
+-- Used by: all of this folder.
+-- Idea: what is recorded only grows, and an entry keeps its place, so a fact of one entry stays true.
 use Rattle.std.specs.Prelude.{slice_get, slice_set}
 use Rattle.std.proofs.Common.{◌≡◌, ◌<◌, ◌+◌, ◌++◌, ◌⊎◌, ◌∙◌, ◌∷◌, ℕ, Bool, List, None, Some, [], ap, arith, get_or, inl, inr, length, refl, subst, suc, sym, true, zero}
 use Rattle.std.proofs.lemmas.Bool.{cases_eq}

@@ -22,8 +22,8 @@ returns-in-Some-clause-err g c =
     = union ∙ sym (length-map c.self.inside.states.items node_of) ∙ ap length states in
     let skip : c.in_ok-skip.skip ≡ length c.self.inside.states.items + 1 = search rules in
     let after : c.in_ok-skip.skip ≡ suc (length c.args.self.now.states) = omega (arith, skip, union, count) in
-    is_ahead node_of c.self.inside.states.items c.as_slice.result.now c.args.self.now c.in_ok-union.union c.in_ok-skip.skip
-    c.first_to.result states count after c.as_slice.ensures.value c.first_to.ensures c.args.start_anchored
+    is_ahead node_of c.self.inside.states.items c.as_slice.result.now c.args.self.now c.in_ok-union.union
+    c.in_ok-skip.skip c.first_to.result states count after c.as_slice.ensures.value c.first_to.ensures c.args.start_anchored
     c.in-Some.index c.in-Some.is
 
 made : (g : _) (c : goal.After-from_parts g) → IsMade c.args.self.now c.args.start_anchored
@@ -36,7 +36,8 @@ made g c =
     = c.in_ok-states.ensures ∙ ap (map node_of) c.as_slice-2.ensures.value in
     let all : map node_of c.push-2.new.self.items
     ≡ (map node_of c.self.inside.states.items ++ BinaryUnion c.args.start_anchored c.in_ok-skip.skip ∷ [])
-    ++ ByteRange record { start = 0; end = 255; next = c.in_ok-union.union } ∷ [] = grind (arith, common_steps, copied) in
+    ++ ByteRange record { start = 0; end = 255; next = c.in_ok-union.union } ∷ []
+    = grind (arith, common_steps, copied) in
     made_of c.args.self.now c.args.start_anchored (map node_of c.self.inside.states.items)
     (map node_of c.push-2.new.self.items) c.in_ok-union.union c.in_ok-skip.skip c.self.inside.patterns
     c.self.inside.look_matcher

@@ -14,14 +14,16 @@ use Rattle.determinize_nfa.proofs.reversal.Turned.add_table.Goals.{then-ne+in_ok
 
 -- the list behind a byte, as the code takes it
 behind : (targets : List ℕ) (id next b : ℕ) (is : Bool) → id ≡ next
-    → is_first id (take (length targets - (b + 1)) (drop (b + 1) targets)) ≡ is → is_first next (drop (b + 1) targets) ≡ is
+    → is_first id (take (length targets - (b + 1)) (drop (b + 1) targets)) ≡ is
+    → is_first next (drop (b + 1) targets) ≡ is
 behind targets id next b is e f = rw (take_rest targets (b + 1), e) at f
 
 pub returns-in_err-add_range-clause-err : goal.returns-in_err-add_range-clause-err
 returns-in_err-add_range-clause-err g c =
     let low : c.loop-byte.byte < length c.args.targets.now = search rules in
     let item : c.index-targets-byte.result ≡ get_or c.args.targets.now c.loop-byte.byte 0
-    = c.index-targets-byte.is ∙ get_or_default_zero c.args.targets.now c.loop-byte.byte c.index-targets-byte.result low in
+    = c.index-targets-byte.is
+    ∙ get_or_default_zero c.args.targets.now c.loop-byte.byte c.index-targets-byte.result low in
     let last = behind c.args.targets.now c.index-targets-byte.result (get_or c.args.targets.now c.loop-byte.byte 0)
     c.loop-byte.byte false item (sym c.is_first.ensures ∙ c.if-is_first.false) in
     let here : nat_eq c.index-targets-byte.result 0 ≡ false = search rules in
@@ -40,7 +42,8 @@ pub loop-byte-preserved : goal.loop-byte-preserved
 loop-byte-preserved g c =
     let low : c.loop-byte.byte < length c.args.targets.now = search rules in
     let item : c.index-targets-byte.result ≡ get_or c.args.targets.now c.loop-byte.byte 0
-    = c.index-targets-byte.is ∙ get_or_default_zero c.args.targets.now c.loop-byte.byte c.index-targets-byte.result low in
+    = c.index-targets-byte.is
+    ∙ get_or_default_zero c.args.targets.now c.loop-byte.byte c.index-targets-byte.result low in
     let last = behind c.args.targets.now c.index-targets-byte.result (get_or c.args.targets.now c.loop-byte.byte 0)
     c.loop-byte.byte false item (sym c.is_first.ensures ∙ c.if-is_first.false) in
     let next = runs_end c.args.targets.now c.loop-byte.start c.loop-byte.byte low last in
