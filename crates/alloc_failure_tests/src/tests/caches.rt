@@ -138,8 +138,8 @@ fn step<A: Allocator + Copy>(
     Ok(is_taken)
 }
 
-/// Walks over the text of a walk by steps. A step that failed is taken again. Each state must be that
-/// of the walk.
+/// Walks over the text of a walk by steps. A step that failed is taken again. Each state must be
+/// that of the walk.
 pub fn walk_by_steps<R: Abort, A: Allocator + Copy>(
     rt: &R,
     alloc: A,

@@ -40,8 +40,8 @@ fn scan(
     lazy.finish(&scan, around.look_ahead)
 }
 
-/// Asserts that a text has the same match in all pieces as in one. Where the first piece or the last
-/// one is empty, there are two.
+/// Asserts that a text has the same match in all pieces as in one. Where the first piece or the
+/// last one is empty, there are two.
 fn expect_same<R: Abort>(rt: &R, lazy: &mut Lazy<'_>, around: &Around<'_>) -> Result<(), Fail> {
     let start = lazy.nfa().start_anchored();
     let (behind, ahead) = (around.look_behind, around.look_ahead);

@@ -35,8 +35,8 @@ pub struct Row {
 pub const WORDS: &str =
     "BU:2,1 B:00-ff>0 L:WordAscii>3 S:30-39>4,41-5a>4,5f-5f>4,61-7a>4 BU:3,5 L:WordAscii>6 M:0";
 
-/// `a*`, `|b`, `b|`, `(?mR)^a*$` and, as patterns 0 and 1, `b` and `ab`; `a+b|a`, where after an `a`
-/// a match is only certain when the run of `a` ends; and words.
+/// `a*`, `|b`, `b|`, `(?mR)^a*$` and, as patterns 0 and 1, `b` and `ab`; `a+b|a`, where after an
+/// `a` a match is only certain when the run of `a` ends; and words.
 static ROWS: [Row; 9] = [
     Row {
         states: "BU:2,1 B:00-ff>0 BU:3,4 B:61>2 M:0",
@@ -382,8 +382,8 @@ fn expect_row<R: Abort + AllocGlobal>(rt: &R, row: &Row) -> Result<(), Fail> {
     Ok(())
 }
 
-/// Whole DFAs find the same matches as lazy ones, and so do scans of a text in pieces, however it is
-/// cut.
+/// Whole DFAs find the same matches as lazy ones, and so do scans of a text in pieces, however it
+/// is cut.
 #[test]
 fn whole_dfas_and_pieces(rt: HostRuntime) -> Result<(), Fail> {
     for row in &ROWS {
