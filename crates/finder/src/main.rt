@@ -1,56 +1,58 @@
-//! Prints all matches of two patterns in standard input, one on a line: the pattern, where the
-//! match begins and where it ends.
+//! Prints all matches of two patterns in standard input: the pattern and both ends, one on a line.
 #![tactic(auto)]
 
-ghost use Rattle.std.specs.Prelude.{◌≡◌, false, IfOk};
-ghost use Rattle.determinize_find.specs.Prefix.{HasPrefix};
-
 use determinize_below::nfa::BuildError;
-use determinize_below::{Input, NFA, StateID, Transition};
-use determinize_find::{Builder, Regex, reversed};
-use std::alloc::Allocator;
-use std::io::Read;
+use determinize_below::Input;
+use determinize_find::{Regex, reversed};
+use determinize_pattern::{CompileError, Config, Pattern, compile};
+use std::alloc::AllocError;
+use std::io::{self, Read};
 
-/// Returns the transition to `next` on each byte from `start` to `end`.
-fn range(start: u8, end: u8, next: StateID) -> Transition {
-    Transition { start, end, next }
+/// An error that ends the program.
+#[derive(Debug, Drop)]
+enum Error {
+    /// The NFA of the patterns, or its reverse, was not built.
+    Compile(CompileError),
+    /// An allocation failed, or the input or the output.
+    Io(io::Error),
 }
 
-/// Adds states that read any number of bytes from `start` to `end`, preferably more, and then match
-/// the next pattern. Returns the first of them.
-fn add_many<A: Allocator + Copy>(
-    builder: &mut Builder<A>,
-    start: u8,
-    end: u8,
-) -> Result<StateID, BuildError> {
-    let byte = builder.add_range(range(start, end, StateID::ZERO))?;
-    let done = builder.add_match()?;
-    let many = builder.add_union(&[byte, done])?;
-    builder.patch(byte, many)?;
-    Ok(many)
+impl From<CompileError> for Error {
+    fn from(error: CompileError) -> Error {
+        Error::Compile(error)
+    }
 }
 
-/// Returns the NFA of the patterns `[0-9]+`, which is pattern 0, and `[A-Z][a-z]*`, pattern 1.
-fn patterns<A: Allocator + Copy>(alloc: A) -> Result<NFA<A>, BuildError>
-    ensures prefix { IfOk result (λ nfa. HasPrefix nfa) }
-    ensures forward { IfOk result (λ nfa. nfa.reverse ≡ false) }
-{
-    let mut builder = Builder::new(alloc);
-    let digits = add_many(&mut builder, b'0', b'9')?;
-    let digit = builder.add_range(range(b'0', b'9', digits))?;
-    let letters = add_many(&mut builder, b'a', b'z')?;
-    let capital = builder.add_range(range(b'A', b'Z', letters))?;
-    let start = builder.add_union(&[digit, capital])?;
-    builder.build_with_prefix(start)
+impl From<BuildError> for Error {
+    fn from(error: BuildError) -> Error {
+        Error::Compile(CompileError::from(error))
+    }
 }
 
-fn main(rt: HostRuntime) -> anyhow::Result<()> {
-    let mut text = Vec::new(rt.alloc());
+impl From<AllocError> for Error {
+    fn from(error: AllocError) -> Error {
+        Error::Io(io::Error::from(error))
+    }
+}
+
+impl From<io::Error> for Error {
+    fn from(error: io::Error) -> Error {
+        Error::Io(error)
+    }
+}
+
+fn main(rt: HostRuntime) -> Result<(), Error> {
+    let alloc = rt.alloc();
+    // `[0-9]+`, which is pattern 0, and `[A-Z][a-z]*`, pattern 1
+    let number = Pattern::digit(alloc)?.plus(alloc)?;
+    let (first, rest) = (Pattern::range(alloc, b'A', b'Z')?, Pattern::range(alloc, b'a', b'z')?);
+    let name = Pattern::concat(vec![in alloc; first, rest.star(alloc)?]?);
+    let nfa = compile(alloc, &[number, name], Config::new())?;
+    let backward = reversed(alloc, &nfa)?;
+    let mut regex = Regex::new(alloc, &nfa, &backward, 1000);
+    let mut text = Vec::new(alloc);
     rt.reader().read_to_end(&mut text)?;
-    let nfa = patterns(rt.alloc())?;
-    let backward = reversed(rt.alloc(), &nfa)?;
-    let mut regex = Regex::new(rt.alloc(), &nfa, &backward, 1000);
-    for found in regex.find_all(rt.alloc(), &Input::new(text.as_slice()))? {
+    for found in regex.find_all(alloc, &Input::new(text.as_slice()))? {
         let pattern = found.pattern.as_usize();
         println!(rt; "{pattern}: {}..{}", found.start, found.end)?;
     }
