@@ -1,8 +1,8 @@
 //! Prints all matches of two patterns in standard input: the pattern and both ends, one on a line.
 #![tactic(auto)]
 
-use determinize_below::nfa::BuildError;
 use determinize_below::Input;
+use determinize_below::nfa::BuildError;
 use determinize_find::{Regex, reversed};
 use determinize_pattern::{CompileError, Config, Pattern, compile};
 use std::alloc::AllocError;
@@ -45,7 +45,10 @@ fn main(rt: HostRuntime) -> Result<(), Error> {
     let alloc = rt.alloc();
     // `[0-9]+`, which is pattern 0, and `[A-Z][a-z]*`, pattern 1
     let number = Pattern::digit(alloc)?.plus(alloc)?;
-    let (first, rest) = (Pattern::range(alloc, b'A', b'Z')?, Pattern::range(alloc, b'a', b'z')?);
+    let (first, rest) = (
+        Pattern::range(alloc, b'A', b'Z')?,
+        Pattern::range(alloc, b'a', b'z')?,
+    );
     let name = Pattern::concat(vec![in alloc; first, rest.star(alloc)?]?);
     let nfa = compile(alloc, &[number, name], Config::new())?;
     let backward = reversed(alloc, &nfa)?;
