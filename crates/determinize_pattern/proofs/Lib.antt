@@ -1,2 +1,3 @@
+mod classes
 mod compiled
 mod entries

@@ -1,5 +1,6 @@
 pub mod Classes
 pub mod Compiled
+pub mod Examples
 pub mod Laws
 pub mod LeftmostOf
 pub mod Meaning

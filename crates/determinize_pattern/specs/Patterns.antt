@@ -1,5 +1,6 @@
 -- What a pattern of the program stands for.
-use Rattle.std.specs.Prelude.{◌-◌, ℕ, Bool, List, None, Option, Some, [], ◌∷◌, cond, map, suc, zero}
+use Rattle.std.specs.Prelude.{◌≡◌, ◌-◌, ℕ, Bool, List, None, Option, Some, [], ◌∷◌, cond, suc, zero}
+use Rattle.determinize_pattern.specs.Classes.{HasBytes}
 use Rattle.determinize_pattern.specs.Meaning.{Byte, Empty, Look, Or, Plus, Re, Then}
 use Rattle.determinize_pattern.specs.declared.pattern.Pattern.{Pattern}
 use Rattle.determinize_pattern.specs.declared.pattern.Pattern.TheOpen.{Pattern-F}
@@ -58,3 +59,7 @@ node_meaning (Pattern-F.Alternation subs) = choice subs.items
 -- the meaning of a pattern
 abbrev pub meaning : Pattern → Re
 meaning = fold-Pattern Re node_meaning
+
+-- one byte of a class, whose bytes are those that pass the test
+abbrev pub IsClass : (ℕ → Bool) → Re → Type 0
+IsClass test re = (class : List (ℕ × ℕ)) × (re ≡ Byte class) × HasBytes test class

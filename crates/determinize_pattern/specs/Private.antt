@@ -1,2 +1,3 @@
 pub mod Compiling
 pub mod Entries
+pub mod Scanning

@@ -182,7 +182,8 @@ impl<A: Allocator + Copy> Compiler<A> {
     /// Adds a union of the starts, unless there is one, and returns where they begin.
     pub fn join(&mut self, starts: &[StateID]) -> Result<StateID, CompileError>
         ensures start { IfOk result (λ s. IsStart self.old.builder self.new.builder starts.now s) }
-        ensures branch { IfOk result (λ s. IsBranch self.old.builder self.new.builder starts.now s) }
+        ensures branch { IfOk result
+            (λ s. IsBranch self.old.builder self.new.builder starts.now s) }
         ensures paid { OnOk result
             (Paid self.old.builder self.old.left self.new.builder self.new.left) }
     {

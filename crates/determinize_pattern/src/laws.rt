@@ -1,5 +1,7 @@
 //! Laws of the ends of patterns and of compiled NFAs, as contracts of public functions.
 
+ghost use Rattle.std.specs.Prelude.{◌≡◌, Some};
+ghost use Rattle.determinize_pattern.specs.Examples.{a_or_lazy_star, a_or_nothing, a_then_lazy_b, boundary_or_a, first_end, lazy_star_inside, nothing_or_a, star_of_lazy, star_of_lazy_inside, star_of_star, star_or_b, text_aa, text_aab, text_ab, text_abb};
 ghost use Rattle.determinize_pattern.specs.Laws.{EachEndMatches, EachLeftmostIsOf};
 
 /// States that the ends of a pattern are the positions to which it matches in some way.
@@ -10,4 +12,20 @@ pub fn ends_law()
 /// States that over an NFA of patterns the leftmost match of the runs is that of the patterns.
 pub fn leftmost_of_law()
     ensures { EachLeftmostIsOf }
+{}
+
+/// States the end of the preferred match for loops whose body may read nothing, where engines
+/// differ.
+#[tactic(auto, unfolding(determinize_below::specs::Semantics::is_word_byte))]
+pub fn loops_law()
+    ensures a_or_nothing { first_end text_aab a_or_nothing ≡ Some 2 }
+    ensures nothing_or_a { first_end text_aa nothing_or_a ≡ Some 0 }
+    ensures star_of_star { first_end text_aa star_of_star ≡ Some 2 }
+    ensures star_of_lazy { first_end text_aa star_of_lazy ≡ Some 0 }
+    ensures boundary_or_a { first_end text_aa boundary_or_a ≡ Some 0 }
+    ensures star_or_b { first_end text_ab star_or_b ≡ Some 2 }
+    ensures a_or_lazy_star { first_end text_abb a_or_lazy_star ≡ Some 3 }
+    ensures a_then_lazy_b { first_end text_ab a_then_lazy_b ≡ Some 2 }
+    ensures lazy_star_inside { first_end text_aab lazy_star_inside ≡ Some 2 }
+    ensures star_of_lazy_inside { first_end text_aab star_of_lazy_inside ≡ Some 2 }
 {}

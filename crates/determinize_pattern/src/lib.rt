@@ -13,6 +13,7 @@
 mod always_reads;
 pub mod class;
 mod compiler;
+mod display;
 pub mod laws;
 pub mod nfa;
 mod parts;

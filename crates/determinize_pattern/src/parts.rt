@@ -2,8 +2,8 @@
 //! what follows a part has its state before the part is compiled.
 //!
 //! A round of a loop that reads nothing must not go back to the loop. So a part is compiled for
-//! several targets, the slice `ids`: it continues at `ids[0]` if it has read a byte, and at `ids[k]`
-//! if it was entered by entry `k` and has read nothing. On return `ids[k]` is that entry.
+//! several targets, the slice `ids`: it continues at `ids[0]` if it has read a byte, and at
+//! `ids[k]` if it was entered by entry `k` and has read nothing. On return `ids[k]` is that entry.
 
 ghost use Rattle.std.specs.Prelude.{◌≡◌, ◌<◌, IfOk, OnOk, length, map, slice_index};
 ghost use Rattle.determinize_pattern.specs.Meaning as meanings;

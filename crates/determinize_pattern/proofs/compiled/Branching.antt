@@ -3,8 +3,8 @@
 -- Used by: the proofs of `part` and `join`.
 -- Idea: a union finds what its alternates find, in order.
 use Rattle.std.specs.List.{flat_map}
-use Rattle.std.specs.Prelude.{Contains, cond, map, nat_lt, slice_get, slice_index_or}
-use Rattle.std.proofs.Common.{◌≡◌, ◌<◌, ◌++◌, ◌∙◌, ◌∷◌, ℕ, List, None, Option, Some, [], ap, arith, length, refl, suc, sym}
+use Rattle.std.specs.Prelude.{Contains, cond, map, slice_get, slice_index_or}
+use Rattle.std.proofs.Common.{◌≡◌, ◌<◌, ◌++◌, ◌∷◌, ℕ, List, None, Option, Some, [], arith, length, refl, suc}
 use Rattle.std.proofs.lemmas.List.{append-nil}
 use Rattle.std.proofs.lemmas.List.Concat.{flat_map-append}
 use Rattle.ordered_reach.proofs.lists.Elements.{Contains_from_In, In_append_left, In_append_right, In_from_Contains}
@@ -79,7 +79,8 @@ branch_none old new [] s l e g = rw g (record {
         (is_new old Fail nfa c (λ y. let w : Fail ≡ Union [] = y in cc) s e) i
     go nfa c text (p ∷ res) next b = absurd b
 
-pub branch_one : (b : BuilderValue) (ss : List ℕ) (s : ℕ) → length ss ≡ 1 → s ≡ slice_index_or ss 0 s → IsBranch b b ss s
+pub branch_one : (b : BuilderValue) (ss : List ℕ) (s : ℕ) → length ss ≡ 1 → s ≡ slice_index_or ss 0 s
+    → IsBranch b b ss s
 branch_one b [] s l e = absurd (omega (arith, l))
 branch_one b (t ∷ u ∷ ss) s l e = absurd (omega (arith, l))
 branch_one b (t ∷ []) s l e =

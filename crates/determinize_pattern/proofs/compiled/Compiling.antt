@@ -2,8 +2,8 @@
 -- Main statements: empty_compiled, one_compiled, look_compiled, then_compiled, choice_compiled, optional_compiled.
 -- Used by: Looping, Branching and the proofs of `part`.
 -- Idea: a part that reads needs no target for nothing read, and one that reads nothing none for bytes read.
-use Rattle.std.specs.Prelude.{Contains, cond, slice_index, slice_index_or}
-use Rattle.std.proofs.Common.{◌≡◌, ◌+◌, ◌-◌, ◌<◌, ◌∙◌, ◌∷◌, ℕ, Bool, Err, IfOk, List, None, Ok, OnOk, Result, [], ap, arith, false, inr, length, refl, replicate, set, suc, sym, true, zero, get_or-set_same, length-set}
+use Rattle.std.specs.Prelude.{cond, slice_index, slice_index_or}
+use Rattle.std.proofs.Common.{◌≡◌, ◌-◌, ◌<◌, ◌∙◌, ◌∷◌, ℕ, Bool, Err, IfOk, List, None, Ok, OnOk, Result, [], ap, arith, false, inr, length, refl, replicate, set, suc, true, zero, get_or-set_same, length-set}
 use Rattle.std.proofs.lemmas.List.{get_or-replicate, length-replicate}
 use Rattle.determinize_below.specs.Semantics.{ByteRange, Fail, Look, Nfa, Node, Sparse, Text, Union, state_at}
 use Rattle.determinize_below.specs.declared.look.Look.{Look as Assertion}
@@ -16,8 +16,8 @@ use Rattle.determinize_pattern.proofs.entries.Parts.{if_moved, if_stayed, or_ent
 use Rattle.determinize_pattern.specs.Meaning as re
 use Rattle.determinize_pattern.specs.Meaning.{Re, ends}
 use Rattle.determinize_pattern.specs.Patterns.{copies, optional, repeated}
-use Rattle.determinize_pattern.specs.Private.Compiling.{AddsEach, AlwaysReads, Continues, Extends, IsBegun, IsCompiled, IsUnread, Precedes}
-use Rattle.determinize_pattern.specs.Private.Entries.{Finds, IsEntry, in_order, leading}
+use Rattle.determinize_pattern.specs.Private.Compiling.{AddsEach, AlwaysReads, IsBegun, IsCompiled, IsUnread, Precedes}
+use Rattle.determinize_pattern.specs.Private.Entries.{IsEntry, in_order, leading}
 use Rattle.determinize_pattern.specs.declared.nfa.CompileError.{CompileError}
 
 -- an entry of a pattern that reads does not need the target for nothing read
@@ -54,12 +54,13 @@ one_compiled old new p ids es s r h e = record {
   len = ap length e ∙ length-replicate (length ids) s;
   each = λ nfa c text k l.
       let is : slice_index es k ≡ s = rw e (get_or-replicate (length ids) k s 0 l) in
-      rw is (reading_entry nfa text p (slice_index ids 0) (slice_index ids 0) (slice_index ids k) s r (h.entry nfa c text));
+      rw is (reading_entry nfa text p (slice_index ids 0) (slice_index ids 0) (slice_index ids k) s r
+      (h.entry nfa c text));
 }
 
 -- with one id, one entry is enough
-pub only_compiled : (old new : BuilderValue) (p : Re) (ids xs : List ℕ) (s : ℕ) → length ids ≡ 1 → length xs ≡ length ids
-    → IsBegun old new p (slice_index ids 0) s → IsCompiled old new p ids (set xs 0 s)
+pub only_compiled : (old new : BuilderValue) (p : Re) (ids xs : List ℕ) (s : ℕ) → length ids ≡ 1
+    → length xs ≡ length ids → IsBegun old new p (slice_index ids 0) s → IsCompiled old new p ids (set xs 0 s)
 only_compiled old new p ids xs s l d h = record {
   extends = h.extends;
   len = length-set xs 0 s ∙ d;
@@ -113,7 +114,8 @@ pub class_one : (old new : BuilderValue) (ts : List Transition) (t : Transition)
     → new ≡ with_node old (ByteRange t) → IsBegun old new (re.Byte ranges) next s
 class_one old new ts t [] next s d l i e g = absurd (omega (arith, l, ap length d))
 class_one old new ts t (r ∷ []) next s d l i e g =
-    let is : t ≡ record { start = r.0; end = r.1; next = next } = i ∙ ap (λ (w : List Transition). slice_index_or w 0 t) d in
+    let is : t ≡ record { start = r.0; end = r.1; next = next }
+    = i ∙ ap (λ (w : List Transition). slice_index_or w 0 t) d in
     byte_begun old new (record { start = r.0; end = r.1; next = next }) s e
     (g ∙ ap (λ (w : Transition). with_node old (ByteRange w)) is)
 class_one old new ts t (r ∷ q ∷ rest) next s d l i e g = absurd (omega (arith, l, ap length d))

@@ -3,7 +3,7 @@
 -- Used by: the files compiled.
 -- Idea: each statement is about every NFA that has the states, so nothing is said of ranges of ids.
 use Rattle.std.specs.Prelude.{nat_lt, slice_index, slice_index_or}
-use Rattle.std.proofs.Common.{◌≡◌, ◌+◌, ◌<◌, ◌≤◌, ◌++◌, ◌∙◌, ◌∷◌, ℕ, Bool, List, [], ap, arith, false, get_or-set_other, get_or-set_same, length, length-set, ltb-false, ltb-true, refl, set, suc, sym, true}
+use Rattle.std.proofs.Common.{◌≡◌, ◌+◌, ◌<◌, ◌≤◌, ◌++◌, ◌∙◌, ◌∷◌, ℕ, Bool, List, [], arith, false, get_or-set_other, get_or-set_same, length, length-set, ltb-false, ltb-true, refl, set, sym, true}
 use Rattle.std.proofs.lemmas.List.{get_or_append_left, get_or_push, length_push}
 use Rattle.ordered_reach.proofs.Cases.{by_test}
 use Rattle.determinize_below.specs.Semantics.{Fail, Match, Nfa, Node, Union, state_at}

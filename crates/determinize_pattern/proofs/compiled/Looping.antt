@@ -3,7 +3,7 @@
 -- Used by: the proofs of `part`.
 -- Idea: the place of the state of the loop is not written until its body is, so nothing is said of it before.
 use Rattle.std.specs.Prelude.{slice_index, slice_index_or}
-use Rattle.std.proofs.Common.{◌≡◌, ◌+◌, ◌<◌, ◌⊎◌, ◌∙◌, ◌∷◌, ℕ, Bool, List, [], ap, arith, drop, false, get_or-drop, get_or-set_other, get_or-set_same, length, length-drop, length-set, refl, suc, sym, true}
+use Rattle.std.proofs.Common.{◌≡◌, ◌+◌, ◌<◌, ◌∙◌, ◌∷◌, ℕ, Bool, List, [], ap, arith, drop, false, get_or-drop, get_or-set_other, get_or-set_same, length, length-drop, length-set, suc, sym, true}
 use Rattle.std.proofs.lemmas.List.{get_or_past, get_or_push, length_push}
 use Rattle.ordered_reach.proofs.Cases.{by_cases}
 use Rattle.determinize_below.specs.Semantics.{Fail, Nfa, Text, Union, state_at}
@@ -119,7 +119,8 @@ module _ (greedy : Bool) (a : Re) (old held mid body new : BuilderValue) (ids bs
         (reading_entry nfa text a again r.0 next later q r.2));
   })
     where
-      choose : (w : Bool) (nfa : Nfa) (text : Text) (next later : ℕ) → state_at nfa again ≡ Union (in_order w later next)
+      choose : (w : Bool) (nfa : Nfa) (text : Text) (next later : ℕ)
+          → state_at nfa again ≡ Union (in_order w later next)
           → IsEntry nfa text (re.Plus greedy a) next next later
           → IsEntry nfa text (optional w (re.Plus greedy a)) next next again
       choose true nfa text next later e f =

@@ -4,7 +4,7 @@
 -- Idea: a match ends where it begins, or later.
 use Rattle.std.specs.List.{flat_map}
 use Rattle.std.specs.Prelude.{Contains, cond, nat_lt, slice_get}
-use Rattle.std.proofs.Common.{◌≡◌, ◌-◌, ◌<◌, ◌≤◌, ◌⊎◌, ◌++◌, ◌∷◌, ℕ, Bool, List, None, Option, Some, [], arith, length, refl, suc, zero}
+use Rattle.std.proofs.Common.{◌≡◌, ◌-◌, ◌<◌, ◌++◌, ◌∷◌, ℕ, Bool, List, None, Option, Some, [], arith, length, refl, suc, zero}
 use Rattle.ordered_reach.proofs.Cases.{by_cases}
 use Rattle.ordered_reach.proofs.lists.Elements.{In_append_cases, In_none}
 use Rattle.determinize_below.specs.Semantics.{Text}
@@ -31,19 +31,22 @@ stays_empty t text i j h = In_one j i (In_from_Contains (i ∷ []) j h) (λ e. e
 
 pub stays_look : (look : Assertion) → AlwaysStays (re.Look look)
 stays_look look t text i j h =
-    In_cond (holds_at t text i look) j (i ∷ []) [] (In_from_Contains _ j h) (λ e k. In_one j i k (λ z. z)) (λ e k. In_none j k)
+    In_cond (holds_at t text i look) j (i ∷ []) [] (In_from_Contains _ j h)
+    (λ e k. In_one j i k (λ z. z)) (λ e k. In_none j k)
 
 later : (text : Text) (i l j : ℕ) → i < l → Onward text l j → i < j
 later text i l j h k = by_cases k (λ e. omega arith) (λ m. omega (arith, m.0))
 
 pub reads_first : (a b : Re) → AlwaysReads a → AlwaysReads (re.Then a b)
 reads_first a b r t text i j h =
-    In_flat_map_from (ends t text b) (ends t text a i) j (In_from_Contains (flat_map (ends t text b) (ends t text a i)) j h)
+    In_flat_map_from (ends t text b) (ends t text a i) j
+    (In_from_Contains (flat_map (ends t text b) (ends t text a i)) j h)
     (λ l k m. later text i l j (r t text i l (Contains_from_In (ends t text a i) l k)) (ends_onward t text b l j m))
 
 pub reads_rest : (a b : Re) → AlwaysReads b → AlwaysReads (re.Then a b)
 reads_rest a b r t text i j h =
-    In_flat_map_from (ends t text b) (ends t text a i) j (In_from_Contains (flat_map (ends t text b) (ends t text a i)) j h)
+    In_flat_map_from (ends t text b) (ends t text a i) j
+    (In_from_Contains (flat_map (ends t text b) (ends t text a i)) j h)
     (λ l k m. let n : l < j = r t text l j (Contains_from_In (ends t text b l) j m) in
     by_cases (ends_onward t text a i l k) (λ e. omega arith) (λ y. omega (arith, y.0)))
 

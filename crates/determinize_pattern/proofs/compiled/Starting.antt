@@ -3,7 +3,7 @@
 -- Used by: the proofs of `compile` and of the calls that it makes.
 -- Idea: the prefix adds two states, and the NFA has those of the builder.
 use Rattle.std.specs.Prelude.{map, nat_lt, slice_index, slice_index_or}
-use Rattle.std.proofs.Common.{◌≡◌, ◌+◌, ◌<◌, ◌++◌, ◌∙◌, ◌∷◌, ℕ, List, [], arith, length, ltb-false, ltb-true, refl, suc, sym}
+use Rattle.std.proofs.Common.{◌≡◌, ◌+◌, ◌<◌, ◌++◌, ◌∙◌, ◌∷◌, ℕ, List, [], arith, length, ltb-false, ltb-true, refl, suc}
 use Rattle.std.proofs.lemmas.List.{append-nil, get_or_append_left, get_or_push, length_push}
 use Rattle.ordered_reach.proofs.Cases.{by_test}
 use Rattle.determinize_below.specs.Semantics.{BinaryUnion, ByteRange, Fail, Match, Nfa, Text, Union, state_at}

@@ -2,9 +2,8 @@
 -- Main statements: In_prefer, In_cond, In_one, ends_onward, rounds_onward.
 -- Used by: the files entries and compiled.
 -- Idea: an end is the start of its match, or after it and in the text.
-use Rattle.std.specs.List.{flat_map}
 use Rattle.std.specs.Prelude.{cond, nat_lt, slice_get}
-use Rattle.std.proofs.Common.{◌≡◌, ◌+◌, ◌-◌, ◌<◌, ◌≤◌, ◌⊎◌, ◌++◌, ◌∙◌, ◌∷◌, ℕ, Bool, List, None, Option, Some, [], arith, false, inl, inr, length, ltb-false, ltb-true, refl, suc, sym, true, zero}
+use Rattle.std.proofs.Common.{◌≡◌, ◌-◌, ◌<◌, ◌≤◌, ◌⊎◌, ◌∷◌, ℕ, Bool, List, [], arith, false, inl, inr, length, ltb-false, ltb-true, refl, suc, true, zero}
 use Rattle.std.proofs.lemmas.Option.{slice_get_within}
 use Rattle.std.proofs.lemmas.Bool.{false≢true}
 use Rattle.ordered_reach.proofs.Cases.{by_cases, by_option, by_test}

@@ -3,15 +3,15 @@
 -- Used by: ends_law.
 -- Idea: a round that reads nothing changes nothing, so it can be left out.
 use Rattle.std.specs.List.{flat_map}
-use Rattle.std.specs.Prelude.{Contains, cond, nat_lt, slice_get}
-use Rattle.std.proofs.Common.{◌≡◌, ◌+◌, ◌-◌, ◌<◌, ◌≤◌, ◌⊎◌, ◌++◌, ◌∙◌, ◌∷◌, ℕ, Bool, List, [], ap, arith, false, inl, inr, length, refl, subst, suc, sym, true, zero, ltb-true, ltb-false}
+use Rattle.std.specs.Prelude.{cond, nat_lt, slice_get}
+use Rattle.std.proofs.Common.{◌≡◌, ◌-◌, ◌<◌, ◌≤◌, ◌∷◌, ℕ, Bool, List, [], arith, false, inl, inr, length, suc, true, zero, ltb-true, ltb-false}
 use Rattle.ordered_reach.proofs.Cases.{by_cases, by_test}
 use Rattle.ordered_reach.proofs.lists.Elements.{In, In_append_cases, In_append_left, In_append_right, In_head, In_none}
 use Rattle.determinize_below.specs.Semantics.{Text}
-use Rattle.determinize_pattern.proofs.entries.Ends.{In_cond, In_one, In_more, In_prefer, In_stop, Onward, ends_onward, lt_false, lt_true}
+use Rattle.determinize_pattern.proofs.entries.Ends.{In_cond, In_one, In_more, In_prefer, In_stop, ends_onward, lt_true}
 use Rattle.ordered_reach.proofs.lists.Elements.{In_flat_map, In_flat_map_from, Contains_from_In, In_from_Contains}
 use Rattle.determinize_pattern.specs.Laws.{EachEndMatches}
-use Rattle.determinize_pattern.specs.Meaning.{Byte, Empty, Look, Matches, Or, Plus, Re, Rounds, Then, ends, holds_at, is_in, more_rounds, one_round, prefer, rounds}
+use Rattle.determinize_pattern.specs.Meaning.{Byte, Empty, Look, Matches, Or, Plus, Re, Rounds, Then, ends, holds_at, is_in, more_rounds, one_round, rounds}
 
 if_true : (b : Bool) (m : ℕ) (xs ys : List ℕ) → b ≡ true → In m xs → In m (cond b xs ys)
 if_true b m xs ys e h = rw e h

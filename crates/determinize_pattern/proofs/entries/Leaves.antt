@@ -3,9 +3,8 @@
 -- Used by: the files compiled.
 -- Idea: the state has one edge, or none.
 use Rattle.std.specs.List.{find, flat_map, list_any}
-use Rattle.std.specs.Option.{option_to_list}
-use Rattle.std.specs.Prelude.{Contains, cond, map, nat_lt, option_map, slice_get}
-use Rattle.std.proofs.Common.{◌≡◌, ◌∙◌, ◌∷◌, ◌||◌, ℕ, Bool, List, None, Option, Some, [], arith, false, refl, suc, sym, true}
+use Rattle.std.specs.Prelude.{Contains, cond, nat_lt, option_map, slice_get}
+use Rattle.std.proofs.Common.{◌≡◌, ◌∙◌, ◌∷◌, ◌||◌, ℕ, Bool, List, None, Option, Some, [], false, refl, suc, true}
 use Rattle.std.proofs.lemmas.List.{append-nil}
 use Rattle.ordered_reach.proofs.Cases.{by_test}
 use Rattle.ordered_reach.proofs.lists.Elements.{Contains_from_In, In, In_head}

@@ -3,16 +3,14 @@
 -- Used by: Starting and leftmost_of_law.
 -- Idea: the first label is that of the first walk, and two runs that are preferred to each other are one.
 use Rattle.std.specs.Prelude.{Contains, slice_get, ◌↔◌}
-use Rattle.std.proofs.Common.{◌≡◌, ◌<◌, ◌≤◌, ◌⊎◌, ◌∙◌, ◌∷◌, ℕ, List, None, Option, Some, [], ap, refl, sym}
-use Rattle.ordered_reach.specs.Paths.{Before, IsPath}
+use Rattle.std.proofs.Common.{◌≡◌, ◌∙◌, ◌∷◌, ℕ, List, None, Option, Some, [], ap, refl, sym}
 use Rattle.ordered_reach.specs.Walks.{IsGraphWalk}
 use Rattle.ordered_reach.proofs.Cases.{by_option, some_injective}
-use Rattle.ordered_reach.proofs.lists.Elements.{Contains_from_In, In, In_from_Contains, In_none}
+use Rattle.ordered_reach.proofs.lists.Elements.{Contains_from_In, In_from_Contains, In_none}
 use Rattle.ordered_reach.proofs.lists.Lexicographic.{same_least}
 use Rattle.ordered_reach.proofs.walks.FirstLabels.{first_preferred, label_listed}
 use Rattle.ordered_reach.proofs.walks.LoopFreeWalks.{one_end, walk_is_path}
 use Rattle.determinize_below.proofs.nfas.SoundNfa.{match_in}
-use Rattle.determinize_below.specs.Edges.{pattern_of}
 use Rattle.determinize_below.specs.Semantics.{Match, Nfa, Text, choices, state_at}
 use Rattle.determinize_below.specs.declared.search.Match.{Match as Found}
 use Rattle.determinize_nfa.specs.Leftmost.{IsLeftmost, NothingFrom}
@@ -32,7 +30,8 @@ module _ (nfa : Nfa) (text : Text) (start k : ℕ) (xs : List (ℕ × ℕ)) (lis
       → AcceptsFrom nfa text k start cs x.1 x.0
   accepts_label cs q x w c =
       let l = label_is nfa text q x (In_from_Contains (matched nfa q) x c) in
-      (q.1, rw l.1 at ((walk_is_path next (matched nfa) (k, start) xs lists cs q).0 w), match_in (state_at nfa q.1) x.0 l.0)
+      let run = rw l.1 at ((walk_is_path next (matched nfa) (k, start) xs lists cs q).0 w) in
+      (q.1, run, match_in (state_at nfa q.1) x.0 l.0)
 
   -- and an accepting run leads to a labelled pair
   label_accepted : (cs : List ℕ) (j p : ℕ) (a : AcceptsFrom nfa text k start cs j p)

@@ -4,7 +4,7 @@
 -- Idea: each later round reads a byte, so there are at most as many as bytes are left.
 use Rattle.std.specs.List.{flat_map}
 use Rattle.std.specs.Prelude.{Contains, cond, nat_lt}
-use Rattle.std.proofs.Common.{◌≡◌, ◌+◌, ◌-◌, ◌<◌, ◌≤◌, ◌⊎◌, ◌++◌, ◌∙◌, ◌∷◌, ℕ, Bool, List, [], arith, false, length, refl, suc, sym, true, zero}
+use Rattle.std.proofs.Common.{◌≡◌, ◌-◌, ◌<◌, ◌≤◌, ◌∷◌, ℕ, Bool, List, [], arith, false, length, refl, suc, true, zero}
 use Rattle.std.proofs.lemmas.List.{append-nil}
 use Rattle.std.proofs.lemmas.List.Concat.{flat_map-append}
 use Rattle.ordered_reach.proofs.Cases.{by_cases}

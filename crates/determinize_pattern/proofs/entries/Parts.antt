@@ -5,10 +5,10 @@
 use Rattle.std.specs.List.{flat_map}
 use Rattle.std.specs.Option.{option_to_list}
 use Rattle.std.specs.Prelude.{Contains, cond, map, nat_lt, option_map, slice_get}
-use Rattle.std.proofs.Common.{◌≡◌, ◌+◌, ◌<◌, ◌++◌, ◌∙◌, ◌∷◌, ℕ, Bool, List, None, Option, Some, [], ap, arith, false, refl, suc, sym, true}
+use Rattle.std.proofs.Common.{◌≡◌, ◌<◌, ◌++◌, ◌∙◌, ◌∷◌, ℕ, Bool, List, None, Option, Some, [], ap, arith, false, refl, suc, sym, true}
 use Rattle.std.proofs.lemmas.List.Concat.{flat_map-append}
 use Rattle.std.proofs.lemmas.List.Concat.{flat_map_single}
-use Rattle.ordered_reach.proofs.Cases.{by_cases, by_test, some_injective}
+use Rattle.ordered_reach.proofs.Cases.{by_cases, by_test}
 use Rattle.ordered_reach.proofs.lists.Elements.{Contains_from_In, In, In_append_left, In_append_right, In_cases, In_flat_map, In_from_Contains, In_head, In_none}
 use Rattle.ordered_reach.proofs.walks.Steps.{list_none, list_two}
 use Rattle.determinize_below.specs.Edges.{pattern_in, pattern_of}
@@ -115,7 +115,8 @@ module _ (nfa : Nfa) (text : Text) where
   label_is q x h = go (pattern_of nfa q.1) refl h
     where
       go : (o : Option ℕ) → pattern_of nfa q.1 ≡ o
-          → In x (option_to_list (option_map (λ pattern. (pattern, q.0)) o)) → (pattern_of nfa q.1 ≡ Some x.0) × (q.0 ≡ x.1)
+          → In x (option_to_list (option_map (λ pattern. (pattern, q.0)) o))
+          → (pattern_of nfa q.1 ≡ Some x.0) × (q.0 ≡ x.1)
       go None e k = In_none x k
       go (Some p) e k = In_cases x (p, q.0) [] k
           (λ z. (e ∙ ap Some (sym (ap (λ w. w.0) z)), sym (ap (λ w. w.1) z))) (λ l. In_none x l)

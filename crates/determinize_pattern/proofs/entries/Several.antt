@@ -4,13 +4,13 @@
 -- Idea: a union finds what its alternates find, in order.
 use Rattle.std.specs.List.{flat_map}
 use Rattle.std.specs.Prelude.{map}
-use Rattle.std.proofs.Common.{◌≡◌, ◌++◌, ◌∷◌, ℕ, List, [], refl, suc}
+use Rattle.std.proofs.Common.{◌≡◌, ◌∷◌, ℕ, List, [], refl, suc}
 use Rattle.ordered_reach.proofs.walks.Steps.{EachLists, list_each}
 use Rattle.determinize_below.specs.Semantics.{Nfa, Text, Union, choices, state_at}
 use Rattle.determinize_pattern.proofs.entries.Parts.{next_of, pattern_found, unlabelled}
 use Rattle.determinize_pattern.specs.LeftmostOf.{all_ends}
 use Rattle.determinize_pattern.specs.Meaning.{Re, ends}
-use Rattle.determinize_pattern.specs.Private.Entries.{AreStarts, Finds, IsEntry, matched}
+use Rattle.determinize_pattern.specs.Private.Entries.{AreStarts, Finds, matched}
 
 module _ (nfa : Nfa) (text : Text) (k : ℕ) where
   -- what each start finds

@@ -3,7 +3,7 @@ use Rattle.std.specs.List.{flat_map}
 use Rattle.std.specs.Option.{option_to_list}
 use Rattle.std.specs.Prelude.{◌≡◌, ℕ, Bool, Contains, List, [], ◌∷◌, cond, map, nat_lt, option_map, suc}
 use Rattle.determinize_below.specs.Edges.{pattern_of}
-use Rattle.determinize_below.specs.Semantics.{Match, Nfa, Node, Text, choices, state_at}
+use Rattle.determinize_below.specs.Semantics.{Match, Nfa, Text, choices, state_at}
 use Rattle.determinize_below.specs.declared.nfa.transitions.Transition.{Transition}
 use Rattle.determinize_pattern.specs.Meaning.{Re, ends}
 use Rattle.ordered_reach.specs.Walks.{ListsLabels}

@@ -1,32 +1,31 @@
-use Rattle.std.proofs.Common.{◌≡◌, ◌+◌, ◌-◌, ◌<◌, ◌∙◌, ap, arith, drop, length, map, subst, sym, true}
+use Rattle.std.proofs.Common.{◌≡◌, ◌+◌, ◌-◌, ◌<◌, arith, drop, length, map}
 use Rattle.std.proofs.lemmas.Grind.{common_steps}
 use Rattle.std.proofs.lemmas.List.{drop_more}
 use Rattle.determinize_pattern.specs.Patterns.{choice, sequence, meaning}
-use Rattle.determinize_pattern.specs.Private.Compiling.{AlwaysReads}
 use Rattle.determinize_pattern.proofs.compiled.Reads.{reads_either, reads_first, reads_repeated, reads_rest, reads_some_literal}
-use Rattle.determinize_pattern.proofs.compiled.Patterns.{meaning-Alternation, meaning-Capture, meaning-Concat, meaning-Literal, meaning-Repetition}
+use Rattle.determinize_pattern.proofs.compiled.Patterns.{meaning_alternation, meaning_capture, meaning_concat, meaning_literal, meaning_repetition}
 use Rattle.determinize_pattern.proofs.always_reads.+always_reads.Goals as goal
 
 pub always_reads-returns-in-Concat : goal.always_reads-returns-in-Concat
 always_reads-returns-in-Concat t c = λ h.
-    rw (c.in-Concat.is, meaning-Concat) (rw c.deref-in-Concat.ensures.value at (c.some_reads.ensures h))
+    rw (c.in-Concat.is, meaning_concat) (rw c.deref-in-Concat.ensures.value at (c.some_reads.ensures h))
 
 pub always_reads-returns-in-Alternation : goal.always_reads-returns-in-Alternation
 always_reads-returns-in-Alternation t c = λ h.
-    rw (c.in-Alternation.is, meaning-Alternation) (rw c.deref-in-Alternation.ensures.value at (c.each_reads.ensures h))
+    rw (c.in-Alternation.is, meaning_alternation) (rw c.deref-in-Alternation.ensures.value at (c.each_reads.ensures h))
 
 pub always_reads-returns-in-Capture : goal.always_reads-returns-in-Capture
 always_reads-returns-in-Capture t c = λ h.
-    rw (c.in-Capture.is, meaning-Capture) (rw c.deref-in-Capture.ensures at (c.always_reads-in-Capture.ensures h))
+    rw (c.in-Capture.is, meaning_capture) (rw c.deref-in-Capture.ensures at (c.always_reads-in-Capture.ensures h))
 
 pub always_reads-returns-in-Literal : goal.always_reads-returns-in-Literal
 always_reads-returns-in-Literal t c = λ h.
     let some : 0 < length c.in-Literal.bytes.items = grind (arith, common_steps, h) in
-    rw (c.in-Literal.is, meaning-Literal) (reads_some_literal c.in-Literal.bytes.items some)
+    rw (c.in-Literal.is, meaning_literal) (reads_some_literal c.in-Literal.bytes.items some)
 
 pub always_reads-returns-then-min-gt0 : goal.always_reads-returns-then-min-gt0
 always_reads-returns-then-min-gt0 t c = λ h.
-    rw (c.in-Repetition.is, meaning-Repetition)
+    rw (c.in-Repetition.is, meaning_repetition)
     (reads_repeated c.in-Repetition.min c.in-Repetition.max c.in-Repetition.greedy (meaning c.in-Repetition.sub.value)
     c.if-min-gt0.true (rw c.deref.ensures at (c.always_reads.ensures h)))
 
@@ -36,7 +35,8 @@ each_reads-loop-i-preserved-then-always_reads t c = λ h.
     let back : i - 1 + 1 ≡ i = omega arith in
     let sub = c.index-subs-i.result in
     rw (drop_more c.args.subs.now (i - 1) sub (omega arith), back, ← c.index-subs-i.is)
-    (reads_either (meaning sub) (choice (map meaning (drop i c.args.subs.now))) (c.always_reads.ensures c.if-always_reads.true)
+    (reads_either (meaning sub) (choice (map meaning (drop i c.args.subs.now)))
+    (c.always_reads.ensures c.if-always_reads.true)
     (c.loop-i.invariant h))
 
 pub each_reads-returns : goal.each_reads-returns

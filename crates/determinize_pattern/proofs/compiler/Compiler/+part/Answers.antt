@@ -6,7 +6,7 @@ use Rattle.determinize_pattern.specs.Patterns.{meaning}
 use Rattle.determinize_pattern.proofs.compiled.Branching.{begun_branches, branches_more, branches_none}
 use Rattle.determinize_pattern.proofs.compiled.Looping.{again_begun, plus_compiled}
 use Rattle.determinize_pattern.proofs.compiled.Compiling.{begun_of, choice_compiled, compiled_after, empty_compiled, look_compiled, nothing_compiled, one_compiled, only_compiled, optional_compiled, precedes_more, precedes_none, repeated_some, then_compiled}
-use Rattle.determinize_pattern.proofs.compiled.Patterns.{meaning-Empty, meaning-Look}
+use Rattle.determinize_pattern.proofs.compiled.Patterns.{meaning_empty, meaning_look}
 use Rattle.determinize_pattern.proofs.compiler.Compiler.+part.Goals as goal
 
 pub part-returns-then-always_reads-clause-compiled : goal.part-returns-then-always_reads-clause-compiled
@@ -20,12 +20,12 @@ part-returns-then-always_reads-clause-compiled g t c =
     at c.set_each.ensures))
 
 pub node-returns-in-Empty-clause-compiled : goal.node-returns-in-Empty-clause-compiled
-node-returns-in-Empty-clause-compiled g t c = rw (c.in-Empty.is, meaning-Empty) (empty_compiled _ _)
+node-returns-in-Empty-clause-compiled g t c = rw (c.in-Empty.is, meaning_empty) (empty_compiled _ _)
 
 pub node-returns-in-Look-clause-compiled : goal.node-returns-in-Look-clause-compiled
 node-returns-in-Look-clause-compiled g t c =
     on_ok_weaker c.look_each.result
-    (λ each. rw (c.in-Look.is, meaning-Look) (look_compiled _ _ _ _ _ each)) c.look_each.ensures.added
+    (λ each. rw (c.in-Look.is, meaning_look) (look_compiled _ _ _ _ _ each)) c.look_each.ensures.added
 
 pub concat-loop-i-init : goal.concat-loop-i-init
 concat-loop-i-init g t c =
@@ -54,8 +54,9 @@ alternation-loop-i-preserved g t c =
     let i = c.loop-i.i in
     let back : i - 1 + 1 ≡ i = omega arith in
     let sub = c.index-subs-i.result in
-    let targets : c.deref_mut.result.now ≡ c.args.ids.now =
-    c.deref_mut.ensures.value ∙ c.copy_from_slice.ensures.items ∙ c.deref.ensures.value ∙ c.in_ok-targets.ensures.items in
+    let targets : c.deref_mut.result.now ≡ c.args.ids.now
+    = rw (c.deref_mut.ensures.value, c.copy_from_slice.ensures.items, c.deref.ensures.value)
+    c.in_ok-targets.ensures.items in
     let entries : c.deref-in-loop-i.result.now ≡ c.part.new.ids = grind (arith, common_steps) in (
       rw (drop_more c.args.subs.now (i - 1) sub (omega arith), back, ← c.index-subs-i.is)
           (choice_compiled false _ _ _ _ _ _ _ _ _ _ c.loop-i.invariant.0 (rw targets at c.in_ok-part.ensures.compiled)
@@ -77,8 +78,15 @@ pub branches-loop-i-preserved : goal.branches-loop-i-preserved
 branches-loop-i-preserved g t c =
     let i = c.loop-i.i in
     let sub = c.index-subs-i.result in
-    let entry = get_or_default_zero c.part.new.ids 0 c.index-ids-0.result (omega (arith, c.in_ok-part.ensures.compiled.len)) in (
-      rw (take_more c.args.subs.now i sub (omega arith), ← c.index-subs-i.is, map-append, c.in_ok-push.ensures.items, entry)
+    let entry = get_or_default_zero c.part.new.ids 0 c.index-ids-0.result
+    (omega (arith, c.in_ok-part.ensures.compiled.len)) in (
+      rw (
+        take_more c.args.subs.now i sub (omega arith),
+        ← c.index-subs-i.is,
+        map-append,
+        c.in_ok-push.ensures.items,
+        entry,
+      )
           (branches_more _ _ _ _ _ _ _ _ c.loop-i.invariant.0 (begun_of _ _ _ _ _ c.in_ok-part.ensures.compiled)),
       omega (arith, c.loop-i.invariant.1, c.in_ok-part.ensures.paid),
     )
@@ -91,8 +99,8 @@ branches-returns-clause-begun g t c = IfOk-weaker c.join.result _ _
 
 pub plus-returns-clause-compiled : goal.plus-returns-clause-compiled
 plus-returns-clause-compiled g t c =
-    let targets : c.deref_mut.result.now ≡ c.in_ok-again.again ∷ c.in_ok-unread.unread ∷ c.args.ids.now =
-    c.deref_mut.ensures.value ∙ c.in_ok-body.ensures in
+    let targets : c.deref_mut.result.now ≡ c.in_ok-again.again ∷ c.in_ok-unread.unread ∷ c.args.ids.now
+    = rw c.deref_mut.ensures.value c.in_ok-body.ensures in
     let entries : c.deref.result.now ≡ c.part.new.ids = grind (arith, common_steps) in
     let round : c.index.result.now ≡ slice_index c.part.new.ids 1 = grind (arith, common_steps) in
     let first : c.index-ids-0.result ≡ slice_index c.args.ids.now 0
@@ -104,8 +112,8 @@ plus-returns-clause-compiled g t c =
 
 pub plus-returns-clause-again : goal.plus-returns-clause-again
 plus-returns-clause-again g t c =
-    let targets : c.deref_mut.result.now ≡ c.in_ok-again.again ∷ c.in_ok-unread.unread ∷ c.args.ids.now =
-    c.deref_mut.ensures.value ∙ c.in_ok-body.ensures in
+    let targets : c.deref_mut.result.now ≡ c.in_ok-again.again ∷ c.in_ok-unread.unread ∷ c.args.ids.now
+    = rw c.deref_mut.ensures.value c.in_ok-body.ensures in
     let round : c.index.result.now ≡ slice_index c.part.new.ids 1 = grind (arith, common_steps) in
     let first : c.index-ids-0.result ≡ slice_index c.args.ids.now 0
     = c.index-ids-0.is ∙ get_or_default_zero c.args.ids.now 0 _ (omega (arith, c.requires)) in
@@ -124,7 +132,8 @@ copies-loop-done-preserved g t c = (
 )
 
 pub copies-returns-clause-front : goal.copies-returns-clause-front
-copies-returns-clause-front g t c = let all : c.loop-done.done ≡ c.args.count = omega arith in rw all at c.loop-done.invariant.0
+copies-returns-clause-front g t c =
+    let all : c.loop-done.done ≡ c.args.count = omega arith in rw all at c.loop-done.invariant.0
 
 pub up_to-loop-done-init : goal.up_to-loop-done-init
 up_to-loop-done-init g t c = (empty_compiled _ _, omega arith)
@@ -148,7 +157,9 @@ star-returns-clause-compiled g t c =
     c.in_ok-again.ensures.compiled) c.choose_each.ensures.added
 
 pub star-returns-then-always_reads-clause-compiled : goal.star-returns-then-always_reads-clause-compiled
-star-returns-then-always_reads-clause-compiled g t c = only_compiled _ _ _ c.args.ids.now c.plus.new.ids _ (omega (arith, c.if-ids-eq1.true, c.in_ok-again.ensures.compiled.len))
+star-returns-then-always_reads-clause-compiled g t c =
+    only_compiled _ _ _ c.args.ids.now c.plus.new.ids _
+    (omega (arith, c.if-ids-eq1.true, c.in_ok-again.ensures.compiled.len))
     c.in_ok-again.ensures.compiled.len (c.in_ok-again.ensures.again (c.always_reads.ensures c.if-always_reads.true))
 
 pub repetition-returns-in_ok-up_to-in-Some-clause-compiled : goal.repetition-returns-in_ok-up_to-in-Some-clause-compiled
@@ -157,9 +168,11 @@ repetition-returns-in_ok-up_to-in-Some-clause-compiled g t c = on_ok_weaker c.co
     (front _ _ _ c.requires c.in_ok-up_to-in-Some.ensures.compiled)) c.copies.ensures.front
 
 pub repetition-returns-in-None-clause-compiled : goal.repetition-returns-in-None-clause-compiled
-repetition-returns-in-None-clause-compiled g t c = on_ok_weaker c.star.result (λ star. rw (c.in-None.is, c.if-min-eq0.true) star) c.star.ensures.compiled
+repetition-returns-in-None-clause-compiled g t c =
+    on_ok_weaker c.star.result (λ star. rw (c.in-None.is, c.if-min-eq0.true) star) c.star.ensures.compiled
 
-pub repetition-returns-in_ok-plus-in-None-2-clause-compiled : goal.repetition-returns-in_ok-plus-in-None-2-clause-compiled
+pub repetition-returns-in_ok-plus-in-None-2-clause-compiled
+    : goal.repetition-returns-in_ok-plus-in-None-2-clause-compiled
 repetition-returns-in_ok-plus-in-None-2-clause-compiled g t c = on_ok_weaker c.copies-in-None-2.result
     (λ front. rw (c.in-None.is, repeated_some _ _ _ c.if-min-eq0.false)
     (front _ _ _ c.requires c.in_ok-plus-in-None-2.ensures.compiled)) c.copies-in-None-2.ensures.front

@@ -1,4 +1,4 @@
-use Rattle.std.proofs.Common.{◌≡◌, map}
+use Rattle.std.proofs.Common.{map}
 use Rattle.std.proofs.lemmas.Result.{IfOk-weaker}
 use Rattle.determinize_pattern.proofs.compiled.Starting.{finds_all}
 use Rattle.determinize_pattern.specs.Patterns.{meaning}

@@ -1,6 +1,5 @@
-use Rattle.std.proofs.Common.{◌≡◌, ◌∙◌, [], arith, slice_index}
+use Rattle.std.proofs.Common.{◌≡◌, ◌∙◌, arith, slice_index}
 use Rattle.std.proofs.lemmas.Grind.{get_or_default_zero}
-use Rattle.determinize_below.specs.Semantics.{Union}
 use Rattle.determinize_pattern.proofs.compiled.Growing.{adds_all, adds_more, adds_none, is_written}
 use Rattle.determinize_pattern.proofs.compiler.Compiler.choose_each.Goals as goal
 

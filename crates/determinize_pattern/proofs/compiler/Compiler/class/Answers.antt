@@ -7,5 +7,6 @@ use Rattle.determinize_pattern.proofs.compiler.Compiler.class.Goals as goal
 pub returns-clause-compiled : goal.returns-clause-compiled
 returns-clause-compiled g c =
     let first : c.index-ids-0.result ≡ slice_index c.args.ids.now 0
-    = c.index-ids-0.is ∙ get_or_default_zero c.args.ids.now 0 _ (omega (arith, c.requires)) in one_compiled _ _ _ _ _ _ (reads_byte c.args.class.now)
+    = c.index-ids-0.is ∙ get_or_default_zero c.args.ids.now 0 _ (omega (arith, c.requires)) in
+    one_compiled _ _ _ _ _ _ (reads_byte c.args.class.now)
     (rw first at c.in_ok-entry.ensures.begun) c.set_each.ensures

@@ -1,4 +1,4 @@
-use Rattle.std.proofs.Common.{◌≡◌, ◌∙◌, arith}
+use Rattle.std.proofs.Common.{arith}
 use Rattle.determinize_pattern.proofs.compiled.Compiling.{class_none, class_one, ok_both, sparse_begun}
 use Rattle.determinize_pattern.proofs.compiler.Compiler.class_to.Goals as goal
 

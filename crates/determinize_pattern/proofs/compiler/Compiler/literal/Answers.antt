@@ -5,10 +5,12 @@ use Rattle.determinize_pattern.proofs.compiled.Reads.{empty_literal, reads_some_
 use Rattle.determinize_pattern.proofs.compiler.Compiler.literal.Goals as goal
 
 pub returns-then-is_empty-clause-compiled : goal.returns-then-is_empty-clause-compiled
-returns-then-is_empty-clause-compiled g c = rw (empty_literal c.args.bytes.now (grind (arith, common_steps))) (empty_compiled _ _)
+returns-then-is_empty-clause-compiled g c =
+    rw (empty_literal c.args.bytes.now (grind (arith, common_steps))) (empty_compiled _ _)
 
 pub returns-clause-compiled : goal.returns-clause-compiled
 returns-clause-compiled g c =
     let first : c.index-ids-0.result ≡ slice_index c.args.ids.now 0
-    = c.index-ids-0.is ∙ get_or_default_zero c.args.ids.now 0 _ (omega (arith, c.requires)) in one_compiled _ _ _ _ _ _ (reads_some_literal c.args.bytes.now (grind (arith, common_steps)))
+    = c.index-ids-0.is ∙ get_or_default_zero c.args.ids.now 0 _ (omega (arith, c.requires)) in
+    one_compiled _ _ _ _ _ _ (reads_some_literal c.args.bytes.now (grind (arith, common_steps)))
     (rw first at c.in_ok-entry.ensures.begun) c.set_each.ensures

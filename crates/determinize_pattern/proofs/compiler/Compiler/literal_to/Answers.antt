@@ -5,7 +5,8 @@ use Rattle.determinize_pattern.specs.Meaning as re
 use Rattle.determinize_pattern.proofs.compiler.Compiler.literal_to.Goals as goal
 
 pub loop-i-init : goal.loop-i-init
-loop-i-init g c = (rw (drop_all (length c.args.bytes.now) c.args.bytes.now (omega arith)) (empty_begun _ _), omega arith)
+loop-i-init g c =
+    (rw (drop_all (length c.args.bytes.now) c.args.bytes.now (omega arith)) (empty_begun _ _), omega arith)
 
 pub loop-i-preserved : goal.loop-i-preserved
 loop-i-preserved g c =

@@ -1,5 +1,5 @@
-use Rattle.std.proofs.Common.{◌≡◌, ◌+◌, ◌∙◌, arith, length, map, slice_index, take}
-use Rattle.std.proofs.lemmas.Grind.{common_steps, get_or_default_zero}
+use Rattle.std.proofs.Common.{◌≡◌, ◌∙◌, arith, length, map, slice_index, take}
+use Rattle.std.proofs.lemmas.Grind.{get_or_default_zero}
 use Rattle.std.proofs.lemmas.List.{length-map, length-take-le, map-append, take_all, take_more}
 use Rattle.determinize_pattern.specs.Patterns.{meaning}
 use Rattle.determinize_pattern.proofs.compiled.Compiling.{begun_of}
@@ -17,8 +17,15 @@ loop-i-preserved g c =
     = c.index-matches-i.is ∙ get_or_default_zero c.args.matches.now i _ (omega (arith, c.requires)) in
     let long : length (map meaning (take i c.args.patterns.now)) ≡ i
     = length-map (take i c.args.patterns.now) meaning ∙ length-take-le i c.args.patterns.now (omega arith) in
-    let entry = get_or_default_zero c.part.new.ids 0 c.index-ids-0.result (omega (arith, c.in_ok-part.ensures.compiled.len)) in (
-      rw (take_more c.args.patterns.now i sub (omega arith), ← c.index-patterns-i.is, map-append, c.in_ok-push.ensures.items, entry)
+    let entry = get_or_default_zero c.part.new.ids 0 c.index-ids-0.result
+    (omega (arith, c.in_ok-part.ensures.compiled.len)) in (
+      rw (
+        take_more c.args.patterns.now i sub (omega arith),
+        ← c.index-patterns-i.is,
+        map-append,
+        c.in_ok-push.ensures.items,
+        entry,
+      )
           (begins_more _ _ _ _ _ _ _ i _ c.loop-i.invariant.0 long (omega (arith, c.requires))
           (begun_of _ _ _ _ _ (rw m at c.in_ok-part.ensures.compiled))),
       omega (arith, c.loop-i.invariant.1, c.in_ok-part.ensures.paid),

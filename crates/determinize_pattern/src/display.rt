@@ -1,0 +1,215 @@
+//! The text of a pattern, in the syntax of regex-syntax.
+//!
+//! It is the text of a pattern over bytes, to be read with the flag `(?-u)`. A byte that is no
+//! printable ASCII character is written `\xHH`.
+
+use crate::class::ClassBytes;
+use crate::pattern::Pattern;
+use determinize_below::Look;
+use std::fmt;
+
+/// Writes the pattern as text, with groups where they are needed.
+impl fmt::Display for Pattern {
+    fn fmt<W: fmt::Write>(&self, f: &mut fmt::Formatter<W>) -> fmt::Result {
+        write_bare(f, self)
+    }
+}
+
+/// Writes the same text as `Display`.
+impl fmt::Debug for Pattern {
+    fn fmt<W: fmt::Write>(&self, f: &mut fmt::Formatter<W>) -> fmt::Result {
+        write_bare(f, self)
+    }
+}
+
+/// The place of a part in the text: which parts need a group there.
+#[derive(Clone, Copy, Debug, PartialEq, Eq)]
+enum Place {
+    /// A branch of an alternation, or a part of a concatenation.
+    Branch,
+    /// In front of an operator.
+    Operand,
+}
+
+#[cycle(write_bare)]
+fn write_part<W: fmt::Write>(
+    f: &mut fmt::Formatter<W>,
+    pattern: &Pattern,
+    place: Place,
+) -> fmt::Result {
+    if !needs_group(pattern, place) {
+        return write_bare(f, pattern);
+    }
+    write!(f, "(?:")?;
+    write_bare(f, pattern)?;
+    write!(f, ")")
+}
+
+fn needs_group(pattern: &Pattern, place: Place) -> bool {
+    match pattern {
+        Pattern::Alternation(subs) => !subs.is_empty(),
+        Pattern::Literal(bytes) => place == Place::Operand && bytes.len() > 1,
+        Pattern::Concat(subs) => place == Place::Operand && !subs.is_empty(),
+        Pattern::Repetition { .. } => place == Place::Operand,
+        _ => false,
+    }
+}
+
+#[cycle(write_bare)]
+fn write_bare<W: fmt::Write>(f: &mut fmt::Formatter<W>, pattern: &Pattern) -> fmt::Result {
+    match pattern {
+        Pattern::Empty => write!(f, "(?:)"),
+        Pattern::Literal(bytes) => write_literal(f, bytes),
+        Pattern::Class(class) => write_class(f, class),
+        Pattern::Look(look) => write_look(f, *look),
+        Pattern::Repetition {
+            min,
+            max,
+            greedy,
+            sub,
+        } => {
+            write_part(f, sub, Place::Operand)?;
+            write_operator(f, *min, *max)?;
+            if *greedy { Ok(()) } else { write!(f, "?") }
+        }
+        Pattern::Capture(sub) => {
+            write!(f, "(")?;
+            write_bare(f, sub)?;
+            write!(f, ")")
+        }
+        Pattern::Concat(subs) => write_all(f, subs, ""),
+        Pattern::Alternation(subs) => write_choice(f, subs),
+    }
+}
+
+#[cycle(write_bare)]
+fn write_choice<W: fmt::Write>(f: &mut fmt::Formatter<W>, subs: &[Pattern]) -> fmt::Result {
+    if subs.is_empty() {
+        return write_none(f);
+    }
+    write_all(f, subs, "|")
+}
+
+#[cycle(write_bare)]
+fn write_all<W: fmt::Write>(
+    f: &mut fmt::Formatter<W>,
+    subs: &[Pattern],
+    separator: &str,
+) -> fmt::Result {
+    if subs.is_empty() {
+        return write!(f, "(?:)");
+    }
+    for i in 0..subs.len() {
+        if i > 0 {
+            write!(f, "{separator}")?;
+        }
+        write_part(f, &subs[i], Place::Branch)?;
+    }
+    Ok(())
+}
+
+/// Writes the class without bytes.
+fn write_none<W: fmt::Write>(f: &mut fmt::Formatter<W>) -> fmt::Result {
+    write!(f, "[^\\x00-\\xFF]")
+}
+
+fn write_literal<W: fmt::Write>(f: &mut fmt::Formatter<W>, bytes: &[u8]) -> fmt::Result {
+    if bytes.is_empty() {
+        return write!(f, "(?:)");
+    }
+    for byte in bytes {
+        write_byte(f, *byte)?;
+    }
+    Ok(())
+}
+
+fn write_class<W: fmt::Write>(f: &mut fmt::Formatter<W>, class: &ClassBytes) -> fmt::Result {
+    let ranges = class.ranges();
+    if ranges.is_empty() {
+        return write_none(f);
+    }
+    write!(f, "[")?;
+    for range in ranges {
+        write_byte(f, range.start)?;
+        if range.start != range.end {
+            write!(f, "-")?;
+            write_byte(f, range.end)?;
+        }
+    }
+    write!(f, "]")
+}
+
+fn write_byte<W: fmt::Write>(f: &mut fmt::Formatter<W>, byte: u8) -> fmt::Result {
+    if byte < 32 || byte > 126 {
+        return write!(f, "\\x{byte:02X}");
+    }
+    if is_meta(byte) {
+        write!(f, "\\")?;
+    }
+    let character = char::from(byte);
+    write!(f, "{character}")
+}
+
+/// Returns whether the byte has a meaning of its own in the syntax.
+fn is_meta(byte: u8) -> bool {
+    matches!(
+        byte,
+        b'\\'
+            | b'.'
+            | b'+'
+            | b'*'
+            | b'?'
+            | b'('
+            | b')'
+            | b'|'
+            | b'['
+            | b']'
+            | b'{'
+            | b'}'
+            | b'^'
+            | b'$'
+            | b'#'
+            | b'&'
+            | b'-'
+            | b'~'
+    )
+}
+
+fn write_operator<W: fmt::Write>(
+    f: &mut fmt::Formatter<W>,
+    min: u32,
+    max: Option<u32>,
+) -> fmt::Result {
+    match max {
+        None if min == 0 => write!(f, "*"),
+        None if min == 1 => write!(f, "+"),
+        None => write!(f, "{{{min},}}"),
+        Some(max) if min == 0 && max == 1 => write!(f, "?"),
+        Some(max) if max <= min => write!(f, "{{{min}}}"),
+        Some(max) => write!(f, "{{{min},{max}}}"),
+    }
+}
+
+fn write_look<W: fmt::Write>(f: &mut fmt::Formatter<W>, look: Look) -> fmt::Result {
+    let text = match look {
+        Look::Start => "\\A",
+        Look::End => "\\z",
+        Look::StartLF => "(?m:^)",
+        Look::EndLF => "(?m:$)",
+        Look::StartCRLF => "(?mR:^)",
+        Look::EndCRLF => "(?mR:$)",
+        Look::WordAscii => "\\b",
+        Look::WordAsciiNegate => "\\B",
+        Look::WordUnicode => "(?u:\\b)",
+        Look::WordUnicodeNegate => "(?u:\\B)",
+        Look::WordStartAscii => "\\b{start}",
+        Look::WordEndAscii => "\\b{end}",
+        Look::WordStartUnicode => "(?u:\\b{start})",
+        Look::WordEndUnicode => "(?u:\\b{end})",
+        Look::WordStartHalfAscii => "\\b{start-half}",
+        Look::WordEndHalfAscii => "\\b{end-half}",
+        Look::WordStartHalfUnicode => "(?u:\\b{start-half})",
+        Look::WordEndHalfUnicode => "(?u:\\b{end-half})",
+    };
+    write!(f, "{text}")
+}
