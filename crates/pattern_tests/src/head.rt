@@ -1,0 +1,60 @@
+//! The first line of a job: what is said of its NFA, and its patterns.
+
+use crate::error::JobError;
+use determinize_pattern::Config;
+use determinize_replay::values;
+
+/// The first line of a job.
+#[derive(Clone, Copy)]
+pub struct Head<'a> {
+    /// The number of states of the NFA without the prefix.
+    pub states: Option<usize>,
+    /// The greatest number of states. The patterns of a job with a limit may exceed it.
+    pub limit: Option<usize>,
+    /// The line terminator.
+    pub terminator: u8,
+    /// The patterns.
+    pub words: &'a str,
+}
+
+impl<'a> Head<'a> {
+    /// Parses a line without its mark `>`.
+    pub fn read(line: &'a str) -> Result<Head<'a>, JobError> {
+        let Some((keys, words)) = line.split_once("| ") else {
+            return Err(JobError::Malformed("keys and patterns"));
+        };
+        let mut head = Head {
+            states: None,
+            limit: None,
+            terminator: b'\n',
+            words,
+        };
+        for word in keys.split(' ') {
+            if !word.is_empty() {
+                head.set(word)?;
+            }
+        }
+        Ok(head)
+    }
+
+    /// Sets the value of a word `key=value`.
+    fn set(&mut self, word: &str) -> Result<(), JobError> {
+        match word.split_once('=') {
+            Some(("states", value)) => self.states = Some(values::number(value)?),
+            Some(("limit", value)) => self.limit = Some(values::number(value)?),
+            Some(("term", value)) => self.terminator = values::byte(value)?,
+            _ => return Err(JobError::Malformed("a key with a value")),
+        }
+        Ok(())
+    }
+
+    /// Returns how the patterns are compiled.
+    pub fn config(&self) -> Config {
+        let mut config = Config::new();
+        config.look_matcher.set_line_terminator(self.terminator);
+        if let Some(limit) = self.limit {
+            config.state_limit = limit;
+        }
+        config
+    }
+}

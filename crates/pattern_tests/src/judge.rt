@@ -1,0 +1,134 @@
+//! Compiles the patterns of a job, searches its texts, and reports what is not as expected.
+
+ghost use Rattle.std.specs.Prelude.{◌≡◌, false};
+ghost use Rattle.determinize_nfa.specs.Prefix.{HasPrefix};
+ghost use Rattle.determinize_nfa.specs.Reversal.{IsReverseOf};
+
+use crate::error::JobError;
+use crate::head::Head;
+use crate::notation;
+use determinize_below::{BuildError, Input, NFA};
+use determinize_find::{Match, Regex};
+use determinize_nfa::reversed;
+use determinize_pattern::{CompileError, compile};
+use determinize_replay::values;
+use std::alloc::{AllocError, Global};
+
+/// The greatest number of states of a cache.
+const CACHE_LIMIT: usize = 1000;
+
+/// The number of states of the prefix, with which a match begins anywhere.
+const PREFIX_STATES: usize = 2;
+
+/// The outcome of a job.
+#[derive(Drop)]
+pub struct Judged {
+    /// The number of texts that were searched.
+    pub texts: u64,
+    /// The number of matches that were found in them.
+    pub matches: u64,
+    /// What is not as expected, a line for each difference.
+    pub report: String,
+}
+
+/// Judges a job: its first line without the mark, and the lines of its texts.
+pub fn judge(alloc: Global, head: &str, texts: &[String]) -> Result<Judged, JobError> {
+    let head = Head::read(head)?;
+    let patterns = notation::patterns(alloc, head.words)?;
+    let mut judged = Judged {
+        texts: 0,
+        matches: 0,
+        report: String::new(alloc),
+    };
+    match compile(alloc, patterns.as_slice(), head.config()) {
+        Ok(nfa) => {
+            judged.judge_states(&head, nfa.len())?;
+            if !texts.is_empty() {
+                let backward = reversed(alloc, &nfa)?;
+                judged.judge_texts(alloc, &nfa, &backward, texts)?;
+            }
+        }
+        Err(CompileError::Build(BuildError::OutOfMemory)) => return Err(JobError::OutOfMemory),
+        Err(_) if head.limit.is_some() => {}
+        Err(error) => writeln!(judged.report, "{error}")?,
+    }
+    Ok(judged)
+}
+
+impl Judged {
+    /// Compares the number of states with the one that is expected, and with the limit.
+    fn judge_states(&mut self, head: &Head<'_>, states: usize) -> Result<(), AllocError> {
+        let states = states.saturating_sub(PREFIX_STATES);
+        if let Some(wanted) = head.states {
+            if states != wanted {
+                writeln!(self.report, "{states} states, and not {wanted}")?;
+            }
+        }
+        if let Some(limit) = head.limit {
+            if states > limit {
+                writeln!(self.report, "{states} states, and the limit is {limit}")?;
+            }
+        }
+        Ok(())
+    }
+
+    /// Finds all matches of each text, and compares them with the expected ones.
+    fn judge_texts(
+        &mut self,
+        alloc: Global,
+        nfa: &NFA,
+        backward: &NFA,
+        lines: &[String],
+    ) -> Result<(), JobError>
+        requires forward { nfa.now.reverse ≡ false }
+        requires prefix { HasPrefix nfa.now }
+        requires reverse { IsReverseOf backward.now nfa.now }
+    {
+        let mut regex = Regex::new(alloc, nfa, backward, CACHE_LIMIT);
+        for line in lines {
+            let Some((text, wanted)) = line.as_str().split_once(' ') else {
+                return Err(JobError::Malformed("a text and its matches"));
+            };
+            let bytes = values::bytes(alloc, text)?;
+            let found = regex.find_all(alloc, &Input::new(bytes.as_slice()))?;
+            self.judge_matches(alloc, text, found.as_slice(), wanted)?;
+        }
+        Ok(())
+    }
+
+    /// Compares the matches of a text with the expected ones.
+    fn judge_matches(
+        &mut self,
+        alloc: Global,
+        text: &str,
+        found: &[Match],
+        wanted: &str,
+    ) -> Result<(), AllocError> {
+        self.texts = self.texts.saturating_add(1);
+        for _ in found {
+            self.matches = self.matches.saturating_add(1);
+        }
+        let shown = shown(alloc, found)?;
+        if shown.as_str() != wanted {
+            let shown = shown.as_str();
+            writeln!(self.report, "{text}: {shown}, and not {wanted}")?;
+        }
+        Ok(())
+    }
+}
+
+/// Returns the text of matches: pattern, start and end of each, as in `0:1-3,0:4-5`, or `-`.
+fn shown(alloc: Global, found: &[Match]) -> Result<String, AllocError> {
+    let mut text = String::new(alloc);
+    for found in found {
+        if !text.is_empty() {
+            text.push(',')?;
+        }
+        let pattern = found.pattern.as_usize();
+        write!(text, "{pattern}:{}-{}", found.start, found.end)?;
+    }
+    if text.is_empty() {
+        text.push('-')?;
+    }
+    Ok(text)
+}

@@ -1,0 +1,120 @@
+//! Parses patterns in prefix notation.
+//!
+//! The words are read from the last one to the first one, with a stack of the patterns to the right
+//! of the word: so its parts are on top of the stack, the first of them topmost.
+
+use crate::error::JobError;
+use determinize_pattern::{ClassBytes, ClassBytesRange, Pattern};
+use determinize_replay::values;
+use std::alloc::Global;
+
+/// Returns the patterns of words that are separated by spaces.
+pub fn patterns(alloc: Global, words: &str) -> Result<Vec<Pattern>, JobError> {
+    let mut stack = Vec::new(alloc);
+    for word in words.rsplit(' ') {
+        push_all(alloc, &mut stack, word)?;
+    }
+    stack.reverse();
+    Ok(stack)
+}
+
+/// Pushes the pattern of a word, or several if it has a number, as in `E*3`.
+fn push_all(alloc: Global, stack: &mut Vec<Pattern>, word: &str) -> Result<(), JobError> {
+    let (word, count) = match word.split_once('*') {
+        Some((word, count)) => (word, values::number(count)?),
+        None => (word, 1),
+    };
+    for _ in 0..count {
+        let pattern = pattern(alloc, stack, word)?;
+        stack.push(pattern)?;
+    }
+    Ok(())
+}
+
+/// Returns the pattern of a word, whose parts are taken from the stack.
+fn pattern(alloc: Global, stack: &mut Vec<Pattern>, word: &str) -> Result<Pattern, JobError> {
+    let (kind, value) = word.split_once(':').unwrap_or((word, ""));
+    match kind {
+        "E" => Ok(Pattern::Empty),
+        "L" => Ok(Pattern::Literal(values::bytes(alloc, value)?)),
+        "C" => class(alloc, value),
+        "K" => Ok(Pattern::Look(values::look(value)?)),
+        "G" => Ok(Pattern::Capture(part(alloc, stack)?)),
+        "R" => repetition(value, part(alloc, stack)?),
+        "S" => Ok(Pattern::Concat(parts(alloc, stack, value)?)),
+        "A" => Ok(Pattern::Alternation(parts(alloc, stack, value)?)),
+        _ => Err(JobError::Malformed("a word of a pattern")),
+    }
+}
+
+/// Takes the topmost pattern of the stack.
+fn pop(stack: &mut Vec<Pattern>) -> Result<Pattern, JobError> {
+    match stack.pop() {
+        Some(pattern) => Ok(pattern),
+        None => Err(JobError::Malformed("as many patterns as its words need")),
+    }
+}
+
+/// Takes the topmost pattern of the stack into a box.
+fn part(alloc: Global, stack: &mut Vec<Pattern>) -> Result<Box<Pattern>, JobError> {
+    Ok(Box::new(alloc, pop(stack)?)?)
+}
+
+/// Takes this number of patterns from the stack.
+fn parts(alloc: Global, stack: &mut Vec<Pattern>, count: &str) -> Result<Vec<Pattern>, JobError> {
+    let mut found = Vec::new(alloc);
+    for _ in 0..values::number(count)? {
+        let next = pop(stack)?;
+        found.push(next)?;
+    }
+    Ok(found)
+}
+
+/// Returns the class of ranges such as `30-39,61-7a`.
+fn class(alloc: Global, value: &str) -> Result<Pattern, JobError> {
+    let mut ranges = Vec::new(alloc);
+    if !value.is_empty() {
+        for word in value.split(',') {
+            let next = range(word)?;
+            ranges.push(next)?;
+        }
+    }
+    Ok(Pattern::Class(ClassBytes::new(alloc, ranges.as_slice())?))
+}
+
+/// Returns the range of a word such as `61-7a`.
+fn range(word: &str) -> Result<ClassBytesRange, JobError> {
+    match word.split_once('-') {
+        Some((start, end)) => Ok(ClassBytesRange {
+            start: values::byte(start)?,
+            end: values::byte(end)?,
+        }),
+        None => Err(JobError::Malformed("a range of bytes")),
+    }
+}
+
+/// Returns the repetition of counts such as `1,-,g`.
+fn repetition(value: &str, sub: Box<Pattern>) -> Result<Pattern, JobError> {
+    let Some((min, rest)) = value.split_once(',') else {
+        return Err(JobError::Malformed("the counts of a repetition"));
+    };
+    let (max, greedy) = match rest.split_once(',') {
+        Some((max, "g")) => (max, true),
+        Some((max, "l")) => (max, false),
+        _ => return Err(JobError::Malformed("a greedy or a lazy repetition")),
+    };
+    Ok(Pattern::Repetition {
+        min: count(min)?,
+        max: if max == "-" { None } else { Some(count(max)?) },
+        greedy,
+        sub,
+    })
+}
+
+/// Returns a number of rounds.
+fn count(text: &str) -> Result<u32, JobError> {
+    match u32::try_from(values::number(text)?) {
+        Ok(count) => Ok(count),
+        Err(_) => Err(JobError::Malformed("a number of rounds")),
+    }
+}

@@ -1,0 +1,139 @@
+//! Takes the lines of the input one by one, and judges each job when its last line is known.
+
+ghost use Rattle.std.specs.Prelude.{◌≡◌, ◌≤◌};
+
+use crate::error::ReplayError;
+use crate::judge::{Judged, judge};
+use std::alloc::Global;
+use std::fmt;
+use std::io::Write;
+
+/// The counts of a replay.
+#[derive(Clone, Copy)]
+pub struct Tally {
+    /// The number of jobs.
+    pub jobs: u64,
+    /// The number of texts that were searched.
+    pub texts: u64,
+    /// The number of matches that were found in them.
+    pub matches: u64,
+    /// The number of jobs whose NFA or matches are not the expected ones.
+    pub differ: u64,
+}
+
+impl Tally {
+    /// Returns the exit status of the counts: 0 if no job differs, otherwise 1.
+    pub fn status(self) -> u8
+        ensures { result ≤ 1 }
+    {
+        if self.differ == 0 { 0 } else { 1 }
+    }
+}
+
+impl fmt::Display for Tally {
+    fn fmt<W: fmt::Write>(&self, f: &mut fmt::Formatter<W>) -> fmt::Result {
+        let Tally {
+            jobs,
+            texts,
+            matches,
+            differ,
+        } = *self;
+        write!(
+            f,
+            "{jobs} jobs, {texts} texts, {matches} matches, {differ} differ"
+        )
+    }
+}
+
+/// A job whose lines are still being read.
+#[derive(Drop)]
+struct Pending {
+    line: u64,
+    head: String,
+    texts: Vec<String>,
+}
+
+/// A replay in progress.
+#[derive(Drop)]
+pub struct Replay {
+    alloc: Global,
+    line: u64,
+    job: Option<Pending>,
+    tally: Tally,
+}
+
+impl Replay {
+    /// Returns a replay that has read no line.
+    pub fn new(alloc: Global) -> Replay {
+        Replay {
+            alloc,
+            line: 0,
+            job: None,
+            tally: Tally {
+                jobs: 0,
+                texts: 0,
+                matches: 0,
+                differ: 0,
+            },
+        }
+    }
+
+    /// Takes one more line: the first one of a job, a text of the job, or a comment.
+    ///
+    /// The first line of a job ends the job before, which is judged then: what differs is written
+    /// to `out`.
+    pub fn take_line<W: Write>(&mut self, text: &str, out: &mut W) -> Result<(), ReplayError> {
+        self.line = self.line.saturating_add(1);
+        if text.starts_with('#') {
+            return Ok(());
+        }
+        if let Some(head) = text.strip_prefix("> ") {
+            self.judge(out)?;
+            self.job = Some(Pending {
+                line: self.line,
+                head: String::from_str(self.alloc, head)?,
+                texts: Vec::new(self.alloc),
+            });
+            return Ok(());
+        }
+        match self.job.as_mut() {
+            Some(job) => job.texts.push(String::from_str(self.alloc, text)?)?,
+            None => return Err(ReplayError::NoJob(self.line)),
+        }
+        Ok(())
+    }
+
+    /// Judges the last job and returns the counts.
+    pub fn finish<W: Write>(mut self, out: &mut W) -> Result<Tally, ReplayError> {
+        self.judge(out)?;
+        Ok(self.tally)
+    }
+
+    /// Judges the current job, if there is one, and clears it.
+    fn judge<W: Write>(&mut self, out: &mut W) -> Result<(), ReplayError> {
+        let Some(job) = self.job.take() else {
+            return Ok(());
+        };
+        let judged = match judge(self.alloc, job.head.as_str(), job.texts.as_slice()) {
+            Ok(judged) => judged,
+            Err(error) => return Err(ReplayError::of_job(job.line, error)),
+        };
+        self.count(&judged);
+        if !judged.report.is_empty() {
+            let (line, report) = (job.line, judged.report.as_str());
+            write!(out, "job at line {line}:\n{report}")?;
+        }
+        Ok(())
+    }
+
+    /// Adds a job to the counts.
+    fn count(&mut self, judged: &Judged) {
+        let tally = &mut self.tally;
+        tally.jobs = tally.jobs.saturating_add(1);
+        tally.texts = tally.texts.saturating_add(judged.texts);
+        tally.matches = tally.matches.saturating_add(judged.matches);
+        if !judged.report.is_empty() {
+            tally.differ = tally.differ.saturating_add(1);
+        }
+    }
+}
