@@ -257,6 +257,11 @@ module _ {d : DfaValue} {anchored : Bool} {text : Text} {read row matched end : 
     match-some not upto f = ap is_some (f now there.below there.reached)
         ∙ some_ended read (patterns_at d.table now) (lists_some not upto)
 
+-- the order of rows, of what a DFA is seen as
+pub ordered : {v d : DfaValue} {last_match last_special : ℕ} → v ≡ d → IsOrdered v.table last_match last_special
+    → IsOrdered d.table last_match last_special
+ordered e o = rw e at o
+
 -- units that lead a row to itself
 module _ {d : DfaValue} {anchored : Bool} {text : Text} {row matched end to last_match last_special : ℕ} (is : IsDfa d)
     (o : IsOrdered d.table last_match last_special) (past : last_match < row) where

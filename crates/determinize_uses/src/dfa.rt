@@ -10,7 +10,8 @@ use determinize_below::{Anchored, MatchKind, NFA, PatternID};
 use determinize_dense::{Dfa, DfaError};
 use std::alloc::Allocator;
 
-/// Returns the smallest DFA of an NFA. Building it takes up to `limit` states.
+/// Returns the smallest DFA of an NFA, in the sense of `Dfa::minimize`. Building it takes up to
+/// `limit` states.
 pub fn smallest<'n, N: Allocator, A: Allocator + Copy>(
     alloc: A,
     nfa: &'n NFA<N>,

@@ -1,6 +1,6 @@
 use Rattle.determinize_core.proofs.Common.{arith, length, refl, units, ◌+◌, ◌≤◌}
 use Rattle.determinize_engine.proofs.Texts.{all_read}
-use Rattle.determinize_dense.proofs.Searching.{found-all, searched-dead, searched-none, searched-some}
+use Rattle.determinize_dense.proofs.Searching.{found-all, ordered, searched-dead, searched-none, searched-some}
 use Rattle.determinize_dense.proofs.dfa.Dfa.last_of.Given.{Over}
 use Rattle.determinize_dense.proofs.dfa.Dfa.last_of.Goals.{After-over_ahead-end}
 use Rattle.determinize_dense.proofs.dfa.Dfa.last_of.Goals.{then-end-eq0-via-else-end-eq0+then-end-self}
@@ -19,12 +19,12 @@ returns-then-end-eq0 g c = λ earliest anchored sound searched.
           c.match_of.ensures (all g at) earliest
       | then-end-eq0-via-else-end-eq0+then-end-self w ↦
           found-all sound (searched-none sound searched c.over_ahead-end.ensures.read
-          (rw c.self.view_is at c.self.invariant.0) w.if-end-self.true) c.match_of.ensures (all g at) earliest
+          (ordered c.self.view_is c.self.invariant.0) w.if-end-self.true) c.match_of.ensures (all g at) earliest
     ]
 
 pub returns : goal.returns
 returns g c = λ earliest anchored sound searched.
     let at : After-over_ahead-end g = (goal.at.returns g c).After-over_ahead-end in
     found-all sound (searched-some sound searched c.over_ahead-end.ensures.read
-    (rw c.self.view_is at c.self.invariant.0) c.if-end-eq0.false c.if-end-self.false)
+    (ordered c.self.view_is c.self.invariant.0) c.if-end-eq0.false c.if-end-self.false)
     (rw c.len.ensures.value at c.match_of-2.ensures) (all g at) earliest

@@ -1,18 +1,13 @@
 use Rattle.determinize_core.proofs.Common.{ap, arith, length, subst, ℕ, ◌+◌, ◌-◌}
 use Rattle.determinize_core.proofs.Common.{◌<◌, ◌≡◌, ◌≤◌}
 use Rattle.determinize_dense.proofs.Common.{IsSearched}
-use Rattle.determinize_dense.proofs.Searching.{found-dead, found-first, match-some, searched-dead}
+use Rattle.determinize_dense.proofs.Searching.{found-dead, found-first, match-some, ordered, searched-dead}
 use Rattle.determinize_dense.proofs.Searching.{searched-none, searched-some, searched-stays}
-use Rattle.determinize_dense.specs.Private.Order.{IsOrdered}
 use Rattle.determinize_dense.specs.Private.Searching.{HasCome, IsMatch}
 use Rattle.determinize_dense.proofs.dfa.Dfa.search_rest.Given.{Over}
 use Rattle.determinize_dense.proofs.dfa.Dfa.search_rest.Goals.{After-over_byte-row, After-scan-read}
 use Rattle.determinize_dense.proofs.dfa.Dfa.search_rest.Goals.{else-read-pauses, then-read-pauses}
 use Rattle.determinize_dense.proofs.dfa.Dfa.search_rest.Goals as goal
-
-order : (g : Over) (c : After-over_byte-row g)
-    → IsOrdered c.args.self.now.table c.self.inside.last_match c.self.inside.last_special
-order g c = rw c.self.view_is at c.self.invariant.0
 
 pub loop-read-init : goal.loop-read-init
 loop-read-init g c = record {
@@ -77,12 +72,14 @@ Come g c = HasCome c.args.self.now c.args.text.now c.args.read c.args.row c.args
 -- a row that lists no patterns
 plain : (g : Over) (c : After-over_byte-row g) → c.self.inside.last_match < c.over_byte-row.result
     → Come g c (c.loop-read-2.read + 1) c.over_byte-row.result c.loop-read-2.matched c.loop-read-2.offset
-plain g c past = record {
-  at = c.over_byte-row.ensures.offset;
-  listing = c.loop-read-2.invariant.come.listing;
-  searched = λ anchored sound s. searched-none sound (c.loop-read-2.invariant.come.searched anchored sound s)
-      c.over_byte-row.ensures.read (order g c) past;
-}
+plain g c past =
+    let order = ordered c.self.view_is c.self.invariant.0 in
+    record {
+      at = c.over_byte-row.ensures.offset;
+      listing = c.loop-read-2.invariant.come.listing;
+      searched = λ anchored sound s. searched-none sound (c.loop-read-2.invariant.come.searched anchored sound s)
+          c.over_byte-row.ensures.read order past;
+    }
 
 -- a scan out of it
 scanned : (g : Over) (c : After-scan-read g)
@@ -91,10 +88,11 @@ scanned : (g : Over) (c : After-scan-read g)
 scanned g c =
     let at : After-over_byte-row g = (goal.at.After-scan-read g c).After-over_byte-row in
     let before = plain g at c.if-row-self.true in
+    let order = ordered c.self.view_is c.self.invariant.0 in
     record {
       at = before.at;
       listing = before.listing;
-      searched = λ anchored sound s. searched-stays sound (order g at) c.if-row-self.true c.scan-read.ensures.more
+      searched = λ anchored sound s. searched-stays sound order c.if-row-self.true c.scan-read.ensures.more
           c.scan-read.ensures.stays (before.searched anchored sound s);
     }
 
@@ -134,19 +132,20 @@ same_end n = omega arith
 
 pub returns-then-is_earliest : goal.returns-then-is_earliest
 returns-then-is_earliest g c = λ anchored sound s.
-    let at : After-over_byte-row g = (goal.at.returns-then-is_earliest g c).After-over_byte-row in
     let before = c.loop-read-2.invariant.come.searched anchored sound s in
+    let order = ordered c.self.view_is c.self.invariant.0 in
     let found : IsMatch c.args.self.now.table c.over_byte-row.result c.loop-read-2.read
     c.match_of-then-is_earliest.result =
     rw same_end at c.match_of-then-is_earliest.ensures in
-    found-first sound (searched-some sound before c.over_byte-row.ensures.read (order g at) c.if-row-eq0.false
+    found-first sound (searched-some sound before c.over_byte-row.ensures.read order c.if-row-eq0.false
     c.if-row-self.false) found
-    (match-some sound before c.over_byte-row.ensures.read (order g at) c.if-row-eq0.false c.if-row-self.false found)
+    (match-some sound before c.over_byte-row.ensures.read order c.if-row-eq0.false c.if-row-self.false found)
     c.if-is_earliest.true
 
 pub loop-read-2-preserved-else-is_earliest : goal.loop-read-2-preserved-else-is_earliest
 loop-read-2-preserved-else-is_earliest g c =
     let at : After-over_byte-row g = (goal.at.loop-read-2-preserved-else-is_earliest g c).After-over_byte-row in
+    let order = ordered c.self.view_is c.self.invariant.0 in
     let since : c.loop-read.read ≤ c.loop-read-2.read = c.loop-read-2.invariant.since in
     record {
       within = one_more g at;
@@ -154,7 +153,7 @@ loop-read-2-preserved-else-is_earliest g c =
         at = c.over_byte-row.ensures.offset;
         listing = c.over_byte-row.ensures.offset;
         searched = λ anchored sound s. searched-some sound (c.loop-read-2.invariant.come.searched anchored sound s)
-            c.over_byte-row.ensures.read (order g at) c.if-row-eq0.false c.if-row-self.false;
+            c.over_byte-row.ensures.read order c.if-row-eq0.false c.if-row-self.false;
       };
       upto = c.loop-read-2.invariant.upto;
       past = c.loop-read-2.invariant.past;

@@ -1,9 +1,8 @@
 use Rattle.determinize_core.proofs.Common.{[], ap, arith, length, subst}
 use Rattle.determinize_core.proofs.Common.{◌<◌, ◌∙◌, ◌≡◌}
 use Rattle.determinize_dense.proofs.Common.{DfaValue, IsDfa, IsRowFrom, IsSearched, IsUnit, start_row}
-use Rattle.determinize_dense.proofs.Searching.{found-dead, found-first, match-some, row-start, searched-dead}
-use Rattle.determinize_dense.proofs.Searching.{searched-none, searched-some, searched-start}
-use Rattle.determinize_dense.specs.Private.Order.{IsOrdered}
+use Rattle.determinize_dense.proofs.Searching.{found-dead, found-first, match-some, ordered, row-start}
+use Rattle.determinize_dense.proofs.Searching.{searched-dead, searched-none, searched-some, searched-start}
 use Rattle.determinize_dense.specs.Private.Rows.{offset_of}
 use Rattle.determinize_dense.proofs.dfa.Dfa.search_text.Given.{Over}
 use Rattle.determinize_dense.proofs.dfa.Dfa.search_text.Goals.{After-start_row-row, else-row-self}
@@ -12,10 +11,6 @@ use Rattle.determinize_dense.proofs.dfa.Dfa.search_text.Goals as goal
 
 sound : (g : Over) (c : After-start_row-row g) → IsDfa c.args.self.now
 sound g c = subst (λ (x : DfaValue). IsDfa x) c.self.view_is c.start_row-row.ensures.sound
-
-order : (g : Over) (c : After-start_row-row g)
-    → IsOrdered c.args.self.now.table c.self.inside.last_match c.self.inside.last_special
-order g c = rw c.self.view_is at c.self.invariant.0
 
 pub loop-read-init : goal.loop-read-init
 loop-read-init g c = record {
@@ -42,23 +37,25 @@ pub returns-then-is_earliest : goal.returns-then-is_earliest
 returns-then-is_earliest g c =
     let start : After-start_row-row g = (goal.at.returns-then-is_earliest g c).After-start_row-row in
     let found = c.match_of-then-is_earliest.ensures in
+    let order = ordered c.self.view_is c.self.invariant.0 in
     found-first (sound g start) (searched-some (sound g start) c.loop-read.invariant.searched
-    c.over_byte-row.ensures.read (order g start) c.if-row-eq0.false c.if-row-self.true) found
-    (match-some (sound g start) c.loop-read.invariant.searched c.over_byte-row.ensures.read (order g start)
+    c.over_byte-row.ensures.read order c.if-row-eq0.false c.if-row-self.true) found
+    (match-some (sound g start) c.loop-read.invariant.searched c.over_byte-row.ensures.read order
     c.if-row-eq0.false c.if-row-self.true found) c.if-is_earliest.true
 
 pub loop-read-preserved : goal.loop-read-preserved
 loop-read-preserved g c =
     let start : After-start_row-row g = (goal.at.loop-read-preserved g c).After-start_row-row in
     let room = c.loop-read-test.true in
+    let order = ordered c.self.view_is c.self.invariant.0 in
     record {
       within = omega (arith, room);
       searched = elim c.if-row-self.branch [
         | then-row-self+else-is_earliest w ↦ rw (w.matched-is, w.offset-is)
-            (searched-some (sound g start) c.loop-read.invariant.searched c.over_byte-row.ensures.read (order g start)
+            (searched-some (sound g start) c.loop-read.invariant.searched c.over_byte-row.ensures.read order
             c.if-row-eq0.false w.if-row-self.true)
         | else-row-self w ↦ rw (w.matched-is, w.offset-is)
-            (searched-none (sound g start) c.loop-read.invariant.searched c.over_byte-row.ensures.read (order g start)
+            (searched-none (sound g start) c.loop-read.invariant.searched c.over_byte-row.ensures.read order
             w.if-row-self.false)
       ];
     }
