@@ -5,7 +5,7 @@ use determinize_below::Input;
 use determinize_below::nfa::BuildError;
 use determinize_find::{Regex, reversed};
 use determinize_pattern::{CompileError, Config, Pattern, compile};
-use std::alloc::AllocError;
+use std::alloc::{AllocError, Global};
 use std::io::{self, Read};
 
 /// An error that ends the program.
@@ -41,16 +41,18 @@ impl From<io::Error> for Error {
     }
 }
 
+/// Returns `[0-9]+`, which is pattern 0, and `[A-Z][a-z]*`, pattern 1.
+fn patterns(alloc: Global) -> Result<Vec<Pattern>, CompileError> {
+    let number = Pattern::digit(alloc)?.plus(alloc)?;
+    let capital = Pattern::range(alloc, b'A', b'Z')?;
+    let letters = Pattern::range(alloc, b'a', b'z')?.star(alloc)?;
+    let name = Pattern::concat(vec![in alloc; capital, letters]?);
+    Ok(vec![in alloc; number, name]?)
+}
+
 fn main(rt: HostRuntime) -> Result<(), Error> {
     let alloc = rt.alloc();
-    // `[0-9]+`, which is pattern 0, and `[A-Z][a-z]*`, pattern 1
-    let number = Pattern::digit(alloc)?.plus(alloc)?;
-    let (first, rest) = (
-        Pattern::range(alloc, b'A', b'Z')?,
-        Pattern::range(alloc, b'a', b'z')?,
-    );
-    let name = Pattern::concat(vec![in alloc; first, rest.star(alloc)?]?);
-    let nfa = compile(alloc, &[number, name], Config::new())?;
+    let nfa = compile(alloc, &patterns(alloc)?, Config::new())?;
     let backward = reversed(alloc, &nfa)?;
     let mut regex = Regex::new(alloc, &nfa, &backward, 1000);
     let mut text = Vec::new(alloc);
