@@ -4,4 +4,5 @@ pub mod Leaves
 pub mod Leftmost
 pub mod Loops
 pub mod Parts
+pub mod RunsInOrder
 pub mod Several

@@ -1,1 +1,2 @@
 pub mod FoundOfPatterns
+pub mod ListsOfPatterns

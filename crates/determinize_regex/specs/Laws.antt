@@ -1,14 +1,16 @@
 -- Laws of searches over the NFA of patterns.
-use Rattle.std.specs.Prelude.{◌↔◌, ℕ, List, Option}
+use Rattle.std.specs.Prelude.{◌<◌, ◌↔◌, ℕ, All, List, Option, length}
 use Rattle.determinize_below.specs.Search.{Asked}
-use Rattle.determinize_below.specs.Semantics.{Nfa}
+use Rattle.determinize_below.specs.Semantics.{Nfa, Text}
 use Rattle.determinize_below.specs.declared.search.Match.{Match}
+use Rattle.determinize_core.specs.Walk.{ListsAccepted}
 use Rattle.determinize_find.specs.LeftmostIn.{IsLeftmostIn}
 use Rattle.determinize_find.specs.Matches.{AreMatches}
 use Rattle.determinize_nfa.specs.Prefix.{HasPrefix}
 use Rattle.determinize_pattern.specs.Compiled.{IsNfaOf}
 use Rattle.determinize_pattern.specs.Meaning.{Re}
 use Rattle.determinize_regex.specs.PatternMatches.{AreMatchesOf, IsLeftmostOfIn}
+use Rattle.determinize_regex.specs.PatternsAt.{ArePatternsAt}
 
 -- the leftmost match of an input over the NFA of patterns is that of the patterns
 abbrev pub EachLeftmostInIsOf : Type 0
@@ -21,3 +23,17 @@ abbrev pub EachMatchesAreOf : Type 0
 EachMatchesAreOf = (res : List Re) (nfa : Nfa) → IsNfaOf res nfa → HasPrefix nfa
     → (asked : Asked) (before : Option ℕ) (found : List Match)
     → AreMatches nfa asked before found ↔ AreMatchesOf nfa.terminator res asked before found
+
+-- what a walk from the anchored start lists at a position is what the patterns match from the start
+-- of the text
+abbrev pub EachAnchoredListIsOf : Type 0
+EachAnchoredListIsOf = (res : List Re) (nfa : Nfa) → IsNfaOf res nfa
+    → (text : Text) (i : ℕ) (xs : List ℕ) → ListsAccepted nfa text nfa.start_anchored i xs
+    → ArePatternsAt nfa.terminator res text 0 i xs
+
+-- and from the unanchored start, what they match from any position
+abbrev pub EachListIsOf : Type 0
+EachListIsOf = (res : List Re) (nfa : Nfa) → IsNfaOf res nfa → HasPrefix nfa
+    → (text : Text) → All (λ b. b < 256) text.bytes
+    → (i : ℕ) (xs : List ℕ) → ListsAccepted nfa text nfa.start_unanchored i xs
+    → ArePatternsAt nfa.terminator res text (length text.bytes) i xs

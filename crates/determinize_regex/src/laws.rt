@@ -1,10 +1,20 @@
 //! Laws of searches over the NFA of patterns, as contracts of public functions.
 
-ghost use Rattle.determinize_regex.specs.Laws.{EachLeftmostInIsOf, EachMatchesAreOf};
+ghost use Rattle.determinize_regex.specs.Laws.{EachAnchoredListIsOf, EachLeftmostInIsOf, EachListIsOf, EachMatchesAreOf};
 
 /// States that over the NFA of patterns, with the usual prefix, the leftmost match of an input is
 /// that of the patterns, and all its matches are those of the patterns.
 pub fn matches_of_law()
     ensures leftmost { EachLeftmostInIsOf }
     ensures all { EachMatchesAreOf }
+{}
+
+/// States that over the NFA of patterns the list of a walk under `All` at a position, as of
+/// `Dfa::patterns_after`, has the patterns with a match that ends there: from the anchored start
+/// those that match from the start of the text, from the unanchored one those that match from any
+/// position. The one whose match begins earliest is first, and of those that begin at one position
+/// the earlier pattern.
+pub fn patterns_at_law()
+    ensures anchored { EachAnchoredListIsOf }
+    ensures unanchored { EachListIsOf }
 {}

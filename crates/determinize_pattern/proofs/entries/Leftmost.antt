@@ -1,9 +1,10 @@
 -- The preferred run of an NFA, and its leftmost match, are those of its patterns.
--- Main statements: first_from_run, run_from_first, nfa_of, leftmost_is_of.
+-- Main statements: first_from_run, run_from_first, in_order, nfa_of, leftmost_is_of.
 -- Used by: Starting and leftmost_of_law.
 -- Idea: the first label is that of the first walk, and two runs that are preferred to each other are one.
 use Rattle.std.specs.Prelude.{Contains, slice_get, ◌↔◌}
-use Rattle.std.proofs.Common.{◌≡◌, ◌∙◌, ◌∷◌, ℕ, List, None, Option, Some, [], ap, refl, sym}
+use Rattle.std.proofs.Common.{◌≡◌, ◌<◌, ◌∙◌, ◌∷◌, ℕ, List, None, Option, Some, [], ap, arith, refl, sym}
+use Rattle.ordered_reach.specs.Paths.{Before}
 use Rattle.ordered_reach.specs.Walks.{IsGraphWalk}
 use Rattle.ordered_reach.proofs.Cases.{by_option, some_injective}
 use Rattle.ordered_reach.proofs.lists.Elements.{Contains_from_In, In_from_Contains, In_none}
@@ -16,6 +17,7 @@ use Rattle.determinize_below.specs.declared.search.Match.{Match as Found}
 use Rattle.determinize_nfa.specs.Leftmost.{IsLeftmost, NothingFrom}
 use Rattle.determinize_nfa.specs.Runs.{AcceptsFrom}
 use Rattle.determinize_pattern.proofs.entries.Parts.{label_is, label_of}
+use Rattle.determinize_pattern.proofs.entries.RunsInOrder.{AscendsByPattern, earlier_first, ends_ascend}
 use Rattle.determinize_pattern.specs.Compiled.{IsNfaOf, IsPreferredFrom}
 use Rattle.determinize_pattern.specs.LeftmostOf.{IsLeftmostOf, all_ends}
 use Rattle.determinize_pattern.specs.Meaning.{Re}
@@ -87,6 +89,18 @@ module _ (nfa : Nfa) (text : Text) (start k : ℕ) (xs : List (ℕ × ℕ)) (lis
       none [] z e c = In_none (p, j) (In_from_Contains [] (p, j) (rw z at c))
       none (y ∷ ys) z e c = absurd (let q : Some y ≡ None = rw z at e in cc)
 
+  -- a run that accepts an earlier pattern is before one that accepts a later one
+  in_order : AscendsByPattern xs → (cs ds : List ℕ) (i j p q : ℕ) → p < q → AcceptsFrom nfa text k start cs i p
+      → AcceptsFrom nfa text k start ds j q → Before cs ds
+  in_order ascends cs ds i j p q l a b =
+      let v = label_accepted cs i p a in
+      let w = label_accepted ds j q b in
+      earlier_first next (matched nfa) (λ y. y.0) (k, start) xs lists ascends cs ds (i, a.0) (j, b.0) (p, i) (q, j)
+      v.0 v.1 w.0 w.1 l (λ e.
+      let end : (i, a.0) ≡ (j, b.0) = one_end next ds (k, start) _ _ (rw e at v.0) w.0 in
+      let match : Match p ≡ Match q = sym a.2 ∙ ap (λ y. state_at nfa y.1) end ∙ b.2 in
+      let same : p ≡ q = cc in omega (arith, l, same))
+
 module _ (nfa : Nfa) (res : List Re) where
   pub nfa_of : ((text : Text) (k : ℕ) → Finds nfa text nfa.start_anchored k (all_ends nfa.terminator text 0 res k))
       → IsNfaOf res nfa
@@ -96,6 +110,8 @@ module _ (nfa : Nfa) (res : List Re) where
       λ h. first_from_run nfa text nfa.start_anchored k _ (finds text k) h.0 j p h.1,
       λ e. run_from_first nfa text nfa.start_anchored k _ (finds text k) j p e,
     );
+    order = λ text k cs ds i j p q l a b. in_order nfa text nfa.start_anchored k _ (finds text k)
+        (ends_ascend nfa.terminator text res 0 k) cs ds i j p q l a b;
   }
 
   module _ (is : IsNfaOf res nfa) (text : Text) where

@@ -1,0 +1,145 @@
+-- What a walk under `All` lists over the NFA of patterns is what the patterns match.
+-- Main statements: each_anchored_list_is_of, each_list_is_of.
+-- Used by: `laws::patterns_at_law`.
+-- Idea: a run from the unanchored start skips bytes and is then one from the anchored start; fewer skipped bytes are
+-- preferred, and of the runs from one position those that accept an earlier pattern.
+use Rattle.std.specs.Prelude.{All, Contains}
+use Rattle.std.proofs.Common.{◌≡◌, ◌<◌, ◌≤◌, ◌+◌, ◌⊎◌, ◌∷◌, ℕ, List, [], ap, arith, inl, inr, length, refl, suc, sym, zero}
+use Rattle.std.proofs.lemmas.Bool.{cases_lt}
+use Rattle.determinize_below.specs.Edges.{pattern_in}
+use Rattle.determinize_below.specs.Semantics.{Accepts, IsBestRun, Nfa, Text}
+use Rattle.determinize_core.specs.Walk.{ListsAccepted}
+use Rattle.determinize_find.proofs.leftmost.PreferredRun.{from_start}
+use Rattle.determinize_nfa.proofs.prefixes.AfterPrefix.{IsSkip, shape}
+use Rattle.determinize_nfa.proofs.prefixes.Skips.{pass, skip, skip_before}
+use Rattle.determinize_nfa.proofs.runs.Choices.{true_at}
+use Rattle.determinize_nfa.specs.Prefix.{HasPrefix}
+use Rattle.determinize_nfa.specs.Runs.{AcceptsFrom}
+use Rattle.determinize_pattern.specs.Compiled.{IsNfaOf}
+use Rattle.determinize_pattern.specs.LeftmostOf.{all_ends}
+use Rattle.determinize_pattern.specs.Meaning.{Re}
+use Rattle.determinize_regex.specs.Laws.{EachAnchoredListIsOf, EachListIsOf}
+use Rattle.determinize_regex.specs.PatternsAt.{ArePatternsAt, IsBetterAt}
+use Rattle.ordered_reach.proofs.Cases.{by_cases}
+use Rattle.ordered_reach.proofs.lists.Lexicographic.{Before-asym, Before-rest, Before-trans, same_least}
+use Rattle.ordered_reach.proofs.lists.Pairs.{pairs_at, pairs_from}
+use Rattle.ordered_reach.specs.Paths.{Before}
+
+-- the best run of one pattern is not before itself, so two patterns in order differ
+not_same : (nfa : Nfa) (text : Text) (start i x y : ℕ) (cs ds : List ℕ) → IsBestRun nfa text start cs i x
+    → IsBestRun nfa text start ds i y → Before cs ds → ¬ (x ≡ y)
+not_same nfa text start i x y cs ds a b l e =
+    let d : IsBestRun nfa text start ds i x = rw e b in
+    let same : cs ≡ ds = same_least cs ds (a.best ds d.accepts) (d.best cs a.accepts) in
+    Before-asym ds ds (rw same at l) (rw same at l)
+
+-- runs that skip the same bytes are in the order of what follows
+skip_keeps : (d : ℕ) (cs ds : List ℕ) → Before cs ds → Before (skip d cs) (skip d ds)
+skip_keeps zero cs ds b = Before-rest 0 cs ds b
+skip_keeps (suc d) cs ds b = Before-rest 1 _ _ (Before-rest 0 _ _ (skip_keeps d cs ds b))
+
+module _ (res : List Re) (nfa : Nfa) (is : IsNfaOf res nfa) (text : Text) where
+  abbrev found : ℕ → List (ℕ × ℕ)
+  found k = all_ends nfa.terminator text 0 res k
+
+  anchored_pair : (i x y : ℕ) (cs ds : List ℕ) → IsBestRun nfa text nfa.start_anchored cs i x
+      → IsBestRun nfa text nfa.start_anchored ds i y → Before cs ds → IsBetterAt nfa.terminator res text 0 i x y
+  anchored_pair i x y cs ds a b l = (
+    0,
+    omega arith,
+    (is.each text 0 i x).0 (cs, a.accepts),
+    λ k low c.
+        let z : k ≡ 0 = omega arith in
+        inr (
+          sym z,
+          by_cases (cases_lt x y)
+              (λ m. m)
+              (λ m. by_cases (cases_lt y x)
+              (λ n. absurd (Before-asym cs ds l (is.order text 0 ds cs i i y x n b.accepts a.accepts)))
+              (λ n. absurd (not_same nfa text nfa.start_anchored i x y cs ds a b l (omega arith)))),
+        ),
+  )
+
+  pub anchored_list : (i : ℕ) (xs : List ℕ) → ListsAccepted nfa text nfa.start_anchored i xs
+      → ArePatternsAt nfa.terminator res text 0 i xs
+  anchored_list i xs h = record {
+    accepted = λ x. (
+      λ c. let a = (h.accepted x).0 c in (0, omega arith, (is.each text 0 i x).0 a),
+      λ c. let z : c.0 ≡ 0 = omega (arith, c.1) in
+          (h.accepted x).1 ((is.each text 0 i x).1 (rw z at c.2)),
+    );
+    best_first = pairs_from (IsBetterAt nfa.terminator res text 0 i) xs (λ j k x y l p q.
+        let b = pairs_at _ xs h.best_first j k x y l p q in anchored_pair i x y b.0 b.1 b.2 b.3 b.4);
+  }
+
+  module _ (has : HasPrefix nfa) (small : All (λ b. b < 256) text.bytes) where
+    -- a run from the unanchored start skips bytes, and then accepts from the anchored one
+    record Skipped (cs : List ℕ) (i x : ℕ) : Type 0 where
+      over : ℕ
+      then : List ℕ
+      is_skip : cs ≡ skip over then
+      within : over ≤ length text.bytes
+      accepts : AcceptsFrom nfa text over nfa.start_anchored then i x
+
+    skipped : (cs : List ℕ) (i x : ℕ) → Accepts nfa text nfa.start_unanchored cs i x → Skipped cs i x
+    skipped cs i x a =
+        let s : IsSkip nfa text (true_at nfa text) has small 0 cs (i, a.0)
+        = shape nfa text (true_at nfa text) has small cs 0 (i, a.0) x (omega arith) (ap pattern_in a.2) a.1 in
+        let z : 0 + s.over ≡ s.over = omega arith in record {
+          over = s.over;
+          then = s.choices_then;
+          is_skip = s.is;
+          within = omega (arith, s.within);
+          accepts = (a.0, rw z at s.run, a.2);
+        }
+
+    list_pair : (i x y : ℕ) (cs ds : List ℕ) → IsBestRun nfa text nfa.start_unanchored cs i x
+        → IsBestRun nfa text nfa.start_unanchored ds i y → Before cs ds
+        → IsBetterAt nfa.terminator res text (length text.bytes) i x y
+    list_pair i x y cs ds a b l =
+        let s = skipped cs i x a.accepts in
+        (s.over, s.within, (is.each text s.over i x).0 (s.then, s.accepts), better s)
+      where
+        better : (s : Skipped cs i x) (k : ℕ) → k ≤ length text.bytes → Contains (found k) (y, i)
+            → (s.over < k) ⊎ ((s.over ≡ k) × (x < y))
+        better s k low c =
+            let r = (is.each text k i y).1 c in
+            let run : Accepts nfa text nfa.start_unanchored (skip k r.0) i y
+            = from_start nfa text has small k r.0 i y low r.1 in
+            let first : Before cs (skip k r.0) = by_cases (b.best (skip k r.0) run)
+            (λ e. rw e at l)
+            (λ m. Before-trans cs ds (skip k r.0) l m) in
+            by_cases (cases_lt s.over k)
+            (λ m. inl m)
+            (λ m. by_cases (cases_lt k s.over)
+            (λ n. absurd (Before-asym cs (skip k r.0) first
+            (rw s.is_skip (skip_before k s.over r.0 (0 ∷ s.then) n))))
+            (λ n. let e : k ≡ s.over = omega arith in
+            inr (
+              sym e,
+              by_cases (cases_lt x y)
+                  (λ o. o)
+                  (λ o. by_cases (cases_lt y x)
+                  (λ w. absurd (Before-asym cs (skip k r.0) first (rw (s.is_skip, e)
+                  (skip_keeps s.over r.0 s.then (is.order text s.over r.0 s.then i i y x w (rw e at r.1) s.accepts)))))
+                  (λ w. absurd (not_same nfa text nfa.start_unanchored i x y cs ds a b l (omega arith)))),
+            )))
+
+    pub list_is_of : (i : ℕ) (xs : List ℕ) → ListsAccepted nfa text nfa.start_unanchored i xs
+        → ArePatternsAt nfa.terminator res text (length text.bytes) i xs
+    list_is_of i xs h = record {
+      accepted = λ x. (
+        λ c. let a = (h.accepted x).0 c in
+            let s = skipped a.0 i x a.1 in (s.over, s.within, (is.each text s.over i x).0 (s.then, s.accepts)),
+        λ c. let r = (is.each text c.0 i x).1 c.2 in
+            (h.accepted x).1 (skip c.0 r.0, from_start nfa text has small c.0 r.0 i x c.1 r.1),
+      );
+      best_first = pairs_from (IsBetterAt nfa.terminator res text (length text.bytes) i) xs (λ j k x y l p q.
+          let b = pairs_at _ xs h.best_first j k x y l p q in list_pair i x y b.0 b.1 b.2 b.3 b.4);
+    }
+
+pub each_anchored_list_is_of : EachAnchoredListIsOf
+each_anchored_list_is_of res nfa is text i xs h = anchored_list res nfa is text i xs h
+
+pub each_list_is_of : EachListIsOf
+each_list_is_of res nfa is has text small i xs h = list_is_of res nfa is text has small i xs h
