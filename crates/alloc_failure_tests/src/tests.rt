@@ -16,15 +16,15 @@ mod values;
 mod without;
 
 use crate::tests::trial::{OfWalk, Trial};
-use determinize_below::{Anchored, HalfMatch, Input, MatchKind, NFA, StateID};
+use determinize_below::{Anchored, HalfMatch, Input, MatchKind, NFA};
 use determinize_core::determinize;
 use determinize_core::state::State;
 use determinize_lazy::Lazy;
-use determinize_replay::error::JobError;
-use determinize_replay::examples::examples;
-use determinize_replay::job::Job;
-use determinize_replay::key::Key;
-use determinize_replay::{nfas, values as read};
+use determinize_replay::outputs::output_of;
+use example_walks::error::TextError;
+use example_walks::examples::examples;
+use example_walks::fields::Fields;
+use example_walks::values::bytes;
 use failing_alloc::{FailingAllocator, Outcome, fail_each_allocation};
 use std::alloc::{AllocError, Allocator, Global};
 use std::fmt::Debug;
@@ -49,23 +49,23 @@ fn has_run<R: Abort + AllocGlobal>(
     rt: &R,
     heap: &Heap,
     trial: &Trial<'_>,
-) -> Result<bool, JobError> {
+) -> Result<bool, TextError> {
     heap.begin();
     let outcome = trial.run(rt, heap);
     heap.end();
     match outcome {
         Ok(()) => Ok(true),
-        Err(JobError::OutOfMemory) => Ok(false),
+        Err(TextError::OutOfMemory) => Ok(false),
         Err(error) => Err(error),
     }
 }
 
 /// Returns the error of a failed allocation, if a call of a trial failed and was made again.
-pub fn succeed_if(is_sound: bool) -> Result<(), JobError> {
+pub fn succeed_if(is_sound: bool) -> Result<(), TextError> {
     if is_sound {
         Ok(())
     } else {
-        Err(JobError::OutOfMemory)
+        Err(TextError::OutOfMemory)
     }
 }
 
@@ -78,19 +78,12 @@ pub fn fail_each_in_turn<R: Abort + AllocGlobal>(rt: &R, trial: &Trial<'_>) -> R
     Ok(())
 }
 
-/// Returns the NFA of a job with this start state, anchored and unanchored.
-pub fn nfa_from(alloc: Global, job: &Job<'_>, start: StateID) -> Result<NFA, JobError> {
-    let states = nfas::states(alloc, job.states())?;
-    let (is_reverse, matcher) = (job.is_reverse()?, nfas::matcher(job)?);
-    Ok(NFA::from_parts(alloc, states, start, start, is_reverse, matcher)?)
-}
-
 /// Parses the states of the lines of an output, whose last line is the match.
-fn read_states(alloc: Global, output: &str) -> Result<Vec<Vec<u8>>, JobError> {
+fn read_states(alloc: Global, output: &str) -> Result<Vec<Vec<u8>>, TextError> {
     let mut states = Vec::new(alloc);
     if let Some((lines, _)) = output.trim_end().rsplit_once('\n') {
         for line in lines.lines() {
-            let bytes = read::bytes(alloc, line)?;
+            let bytes = bytes(alloc, line)?;
             states.push(bytes)?;
         }
     }
@@ -112,15 +105,13 @@ pub struct Row {
 
 impl Row {
     /// Returns the walk of a job, given the lines of its output, whose last line is the match.
-    fn of(alloc: Global, job: &Job<'_>, output: &str) -> Result<Row, JobError> {
-        let kind = job.match_kind()?;
-        let start = read::state_id(job.value(Key::Start).unwrap_or("0"))?;
-        let look_behind = read::optional_byte(job.value_or_none(Key::LookBehind))?;
-        let look_ahead = read::optional_byte(job.value_or_none(Key::After))?;
-        let text = read::bytes(alloc, job.value_or_none(Key::Text))?;
+    fn of(alloc: Global, fields: &Fields<'_>, output: &str) -> Result<Row, TextError> {
+        let (kind, start) = (fields.match_kind()?, fields.start()?);
+        let (look_behind, look_ahead) = (fields.look_behind()?, fields.look_ahead()?);
+        let text = fields.text(alloc)?;
         let states = read_states(alloc, output)?;
         Ok(Row {
-            nfa: nfa_from(alloc, job, start)?,
+            nfa: fields.nfa_from(alloc, start)?,
             kind,
             look_behind,
             text,
@@ -181,7 +172,7 @@ impl Row {
 pub fn rows(alloc: Global) -> Result<Vec<Row>, Fail> {
     let mut rows = Vec::new(alloc);
     for example in examples() {
-        let mut row = Row::of(alloc, &Job::read(example.job)?, example.output)?;
+        let mut row = Row::of(alloc, &example.fields(), output_of(example.name))?;
         row.found = row.search(alloc)?;
         rows.push(row)?;
     }

@@ -22,9 +22,10 @@ mod texts;
 mod worked;
 
 use determinize_below::{HalfMatch, PatternID};
-use determinize_replay::examples::{Example, examples};
 use determinize_replay::job::Job;
+use determinize_replay::outputs::output_of;
 use determinize_replay::verbs;
+use example_walks::examples::{Example, examples};
 use std::fmt::Debug;
 use std::process::Abort;
 use std::test::Fail;
@@ -57,7 +58,7 @@ pub fn ended(offset: usize) -> Option<HalfMatch> {
 /// Runs the job of an example and compares its output.
 fn replay<R: Abort + AllocGlobal>(rt: &R, example: &Example) -> Result<(), Fail> {
     let output = verbs::output(rt.alloc(), &Job::read(example.job)?)?;
-    same_at(rt, example.name, output.as_str(), example.output);
+    same_at(rt, example.name, output.as_str(), output_of(example.name));
     Ok(())
 }
 

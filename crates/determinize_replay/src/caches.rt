@@ -3,14 +3,13 @@
 //! A `Lazy` borrows its NFA. So the whole input is read first, and the NFAs of all walks are made
 //! before the first cache.
 
-use crate::error::JobError;
 use crate::job::Job;
-use crate::key::Key;
 use crate::mode::Operation;
-use crate::nfas;
 use crate::verb::Verb;
 use determinize_below::{MatchKind, NFA};
 use determinize_lazy::Lazy;
+use example_walks::error::TextError;
+use example_walks::fields::Fields;
 use std::alloc::{AllocError, Global};
 use std::collections::HashMap;
 
@@ -34,16 +33,16 @@ impl Automata {
 
     /// Adds the NFA of a job, unless the job is no walk or the NFA is present. Returns an error for
     /// a walk whose NFA or match kind is malformed.
-    pub fn take(&mut self, job: &Job<'_>) -> Result<(), JobError> {
+    pub fn take(&mut self, job: &Job<'_>) -> Result<(), TextError> {
         if job.verb() != Verb::Walk {
             return Ok(());
         }
-        let name = name(self.alloc, job)?;
+        let name = name(self.alloc, job.fields())?;
         if self.places.contains_key(&name) {
             return Ok(());
         }
-        let nfa = nfas::nfa(self.alloc, job)?;
-        let kind = job.match_kind()?;
+        let nfa = job.fields().nfa(self.alloc)?;
+        let kind = job.fields().match_kind()?;
         self.places.insert(name, self.automata.len())?;
         self.automata.push((nfa, kind))?;
         Ok(())
@@ -82,10 +81,10 @@ impl<'n> Caches<'n> {
 
     /// Returns the cache for a job, or `None` if the job is no walk or its NFA is not present.
     pub fn of(&mut self, job: &Job<'_>) -> Result<Option<&mut Lazy<'n>>, AllocError> {
-        if job.verb() != Verb::Walk {
+        if self.caches.is_empty() || job.verb() != Verb::Walk {
             return Ok(None);
         }
-        let name = name(self.alloc, job)?;
+        let name = name(self.alloc, job.fields())?;
         match self.places.get(&name) {
             Some(place) => Ok(self.caches.get_mut(*place)),
             None => Ok(None),
@@ -94,10 +93,10 @@ impl<'n> Caches<'n> {
 }
 
 /// Returns the text that identifies the NFA and the match kind of a job.
-fn name(alloc: Global, job: &Job<'_>) -> Result<String, AllocError> {
-    let kind = job.value_or_none(Key::Kind);
-    let direction = job.value_or_none(Key::Direction);
-    let terminator = job.value_or_none(Key::Terminator);
-    let states = job.states();
+fn name(alloc: Global, fields: &Fields<'_>) -> Result<String, AllocError> {
+    let kind = fields.value_or_none("kind");
+    let direction = fields.value_or_none("dir");
+    let terminator = fields.value_or_none("term");
+    let states = fields.states.unwrap_or("");
     format!(in alloc; "{kind} {direction} {terminator} {states}")
 }

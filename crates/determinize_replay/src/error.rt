@@ -1,138 +1,8 @@
-//! The errors of a job, of its text, of a line of input and of a replay.
+//! The errors of the text of a job, of a line of input and of a replay.
 
-use crate::key::Key;
-use determinize_below::BuildError;
+use example_walks::error::TextError;
 use std::alloc::{AllocError, AllocFailed, Global};
-use std::num::ParseIntError;
 use std::{fmt, io};
-
-/// The part of a job that is malformed or that the preconditions of its call exclude.
-#[derive(Clone, Copy, Debug)]
-pub enum Part {
-    /// The match kind.
-    MatchKind,
-    /// The direction.
-    Direction,
-    /// A range of a haystack.
-    Range,
-    /// The number of a state of a walk.
-    Position,
-    /// A start kind.
-    StartKind,
-    /// A decimal number.
-    Number,
-    /// A flag.
-    Flag,
-    /// Two hexadecimal digits.
-    Digit,
-    /// An id of an NFA state.
-    StateId,
-    /// An id that is not below the number of states.
-    Unresolved,
-    /// An id of a pattern.
-    PatternId,
-    /// The name of an assertion.
-    Look,
-    /// An NFA state.
-    State,
-    /// A transition.
-    Transition,
-    /// A range of bytes whose first is above its last.
-    ByteRange,
-    /// A union of two states.
-    Union,
-}
-
-impl fmt::Display for Part {
-    fn fmt<W: fmt::Write>(&self, f: &mut fmt::Formatter<W>) -> fmt::Result {
-        f.write_str(match *self {
-            Part::MatchKind => "a match kind",
-            Part::Direction => "a direction",
-            Part::Range => "a range of the haystack",
-            Part::Position => "the number of a state of the walk",
-            Part::StartKind => "a start kind",
-            Part::Number => "a decimal number",
-            Part::Flag => "a flag",
-            Part::Digit => "two hexadecimal digits",
-            Part::StateId => "the id of a state",
-            Part::Unresolved => "the id of a state of the NFA",
-            Part::PatternId => "the id of a pattern",
-            Part::Look => "an assertion",
-            Part::State => "an NFA state",
-            Part::Transition => "a transition",
-            Part::ByteRange => "a range of bytes, the least first",
-            Part::Union => "a union of two states",
-        })
-    }
-}
-
-/// An error from a job whose words are known.
-#[derive(Clone, Copy, Debug)]
-pub enum JobError {
-    /// An allocation failed.
-    OutOfMemory,
-    /// The key is repeated.
-    RepeatedKey(Key),
-    /// The verb needs the key, and it is missing.
-    MissingKey(Key),
-    /// The states of the NFA are missing.
-    NoStates,
-    /// There are states, and the verb takes none.
-    UnwantedStates,
-    /// A pattern is repeated in a list.
-    RepeatedPattern,
-    /// A value is malformed, or the preconditions of the call exclude it.
-    Malformed(Part),
-    /// `NFA::from_parts` returns this error for the states.
-    Refused(BuildError),
-}
-
-impl From<AllocError> for JobError {
-    fn from(_: AllocError) -> JobError {
-        JobError::OutOfMemory
-    }
-}
-
-impl<T: Drop> From<AllocFailed<T>> for JobError {
-    fn from(_: AllocFailed<T>) -> JobError {
-        JobError::OutOfMemory
-    }
-}
-
-impl From<BuildError> for JobError {
-    fn from(error: BuildError) -> JobError {
-        match error {
-            BuildError::OutOfMemory => JobError::OutOfMemory,
-            _ => JobError::Refused(error),
-        }
-    }
-}
-
-impl From<ParseIntError> for JobError {
-    fn from(_: ParseIntError) -> JobError {
-        JobError::Malformed(Part::Number)
-    }
-}
-
-/// Writes a key before a message about it.
-fn write_key<W: fmt::Write>(f: &mut fmt::Formatter<W>, key: Key, words: &str) -> fmt::Result {
-    write!(f, "key {key} {words}")
-}
-
-impl fmt::Display for JobError {
-    fn fmt<W: fmt::Write>(&self, f: &mut fmt::Formatter<W>) -> fmt::Result {
-        match self {
-            JobError::OutOfMemory => f.write_str("out of memory"),
-            JobError::RepeatedKey(key) => write_key(f, *key, "stands twice"),
-            JobError::MissingKey(key) => write_key(f, *key, "is missing"),
-            JobError::NoStates => f.write_str("the states of the NFA are missing"),
-            JobError::UnwantedStates => f.write_str("the verb takes no states"),
-            JobError::RepeatedPattern => f.write_str("a pattern stands twice"),
-            JobError::Malformed(part) => write!(f, "not {part}"),
-            JobError::Refused(error) => write!(f, "the states make no NFA: {error}"),
-        }
-    }
-}
 
 /// An error from the text of a job.
 #[derive(Clone, Copy, Debug)]
@@ -143,13 +13,21 @@ pub enum ReadError<'a> {
     NoValue(&'a str),
     /// The verb does not take a key of this name.
     UnknownKey(&'a str),
-    /// The words are known, and the job has this error.
-    Job(JobError),
+    /// The key is repeated.
+    RepeatedKey(&'a str),
+    /// The verb needs the key, and it is missing.
+    MissingKey(&'a str),
+    /// The states of the NFA are missing.
+    NoStates,
+    /// There are states, and the verb takes none.
+    UnwantedStates,
+    /// The words are known, and a value or the states have this error.
+    Text(TextError),
 }
 
-impl From<JobError> for ReadError<'_> {
-    fn from(error: JobError) -> Self {
-        ReadError::Job(error)
+impl From<TextError> for ReadError<'_> {
+    fn from(error: TextError) -> Self {
+        ReadError::Text(error)
     }
 }
 
@@ -159,7 +37,11 @@ impl fmt::Display for ReadError<'_> {
             ReadError::UnknownVerb(name) => write!(f, "unknown verb {name:?}"),
             ReadError::NoValue(word) => write!(f, "no key and value: {word:?}"),
             ReadError::UnknownKey(name) => write!(f, "unknown key {name:?}"),
-            ReadError::Job(error) => write!(f, "{error}"),
+            ReadError::RepeatedKey(key) => write!(f, "key {key} stands twice"),
+            ReadError::MissingKey(key) => write!(f, "key {key} is missing"),
+            ReadError::NoStates => f.write_str("the states of the NFA are missing"),
+            ReadError::UnwantedStates => f.write_str("the verb takes no states"),
+            ReadError::Text(error) => write!(f, "{error}"),
         }
     }
 }
@@ -203,7 +85,7 @@ pub enum ReplayError {
 impl ReplayError {
     /// Returns the error for the job of this line.
     pub fn of_job(alloc: Global, number: u64, error: ReadError<'_>) -> ReplayError {
-        if let ReadError::Job(JobError::OutOfMemory) = error {
+        if let ReadError::Text(TextError::OutOfMemory) = error {
             return ReplayError::OutOfMemory;
         }
         match format!(in alloc; "{error}") {

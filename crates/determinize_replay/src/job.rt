@@ -1,17 +1,17 @@
-//! A job: a verb, its keys with their values, and the states of an NFA.
+//! A job: a verb, and its fields.
 
-use crate::error::{JobError, Part, ReadError};
-use crate::key::Key;
+use crate::error::ReadError;
 use crate::values;
 use crate::verb::Verb;
-use determinize_below::MatchKind;
+use example_walks::error::TextError;
+use example_walks::fields::Fields;
+use example_walks::values::number;
 
 /// A parsed job.
 #[derive(Clone, Copy)]
 pub struct Job<'a> {
     verb: Verb,
-    words: &'a str,
-    states: &'a str,
+    fields: Fields<'a>,
 }
 
 impl<'a> Job<'a> {
@@ -22,76 +22,62 @@ impl<'a> Job<'a> {
     /// number, a `fix` that is not a flag, states if the verb takes none, or no states if it takes
     /// some.
     pub fn read(line: &'a str) -> Result<Job<'a>, ReadError<'a>> {
-        let (line, states) = match line.split_once(" | ") {
-            Some((line, states)) => (line, Some(states)),
-            None => (line, None),
-        };
-        let (name, words) = match line.split_once(' ') {
-            Some((name, words)) => (name, Some(words)),
-            None => (line, None),
-        };
+        let (name, fields) = Fields::split(line);
         let Some(verb) = Verb::named(name) else {
             return Err(ReadError::UnknownVerb(name));
         };
-        let job = Job {
-            verb,
-            words: words.unwrap_or(""),
-            states: states.unwrap_or(""),
-        };
-        if words.is_some() {
-            job.check_words()?;
-        }
-        job.check_keys()?;
-        match (verb.has_nfa(), states.is_some()) {
-            (true, false) => Err(ReadError::Job(JobError::NoStates)),
-            (false, true) => Err(ReadError::Job(JobError::UnwantedStates)),
-            _ => Ok(job),
+        let job = Job { verb, fields };
+        job.check()?;
+        Ok(job)
+    }
+
+    /// Checks the words, then the values that have no effect on the output, then the states.
+    fn check(&self) -> Result<(), ReadError<'a>> {
+        self.check_words()?;
+        self.check_needed()?;
+        self.check_marks()?;
+        match (self.verb.has_nfa(), self.fields.states.is_some()) {
+            (true, false) => Err(ReadError::NoStates),
+            (false, true) => Err(ReadError::UnwantedStates),
+            _ => Ok(()),
         }
     }
 
     /// Checks that each word is `key=value` with a key that the verb takes, each key once.
     fn check_words(&self) -> Result<(), ReadError<'a>> {
-        for word in self.words.split(' ') {
-            let Some((name, _)) = word.split_once('=') else {
+        let Some(words) = self.fields.words else {
+            return Ok(());
+        };
+        for word in words.split(' ') {
+            let Some((key, _)) = word.split_once('=') else {
                 return Err(ReadError::NoValue(word));
             };
-            let key = match Key::named(name) {
-                Some(key) if self.verb.takes(key) => key,
-                _ => return Err(ReadError::UnknownKey(name)),
-            };
-            if self.count(key) > 1 {
-                return Err(ReadError::Job(JobError::RepeatedKey(key)));
+            if !self.verb.takes(key) {
+                return Err(ReadError::UnknownKey(key));
+            }
+            if count(words, key) > 1 {
+                return Err(ReadError::RepeatedKey(key));
             }
         }
         Ok(())
     }
 
-    /// Returns the number of words with this key.
-    fn count(&self, key: Key) -> usize {
-        let mut count = 0usize;
-        for word in self.words.split(' ') {
-            if key.value_in(word).is_some() {
-                count = count.saturating_add(1);
+    /// Checks that the job has each key that its verb needs.
+    fn check_needed(&self) -> Result<(), ReadError<'a>> {
+        for key in self.verb.needed() {
+            if self.fields.value(key).is_none() {
+                return Err(ReadError::MissingKey(key));
             }
         }
-        count
-    }
-
-    /// Checks that the job has each key that its verb needs, and the values that say where the job
-    /// comes from, which have no effect on its output.
-    fn check_keys(&self) -> Result<(), JobError> {
-        for key in self.verb.needed() {
-            self.needed(*key)?;
-        }
-        self.check_marks()
+        Ok(())
     }
 
     /// Checks the values that say where the job comes from.
-    fn check_marks(&self) -> Result<(), JobError> {
-        if let Some(text) = self.value(Key::Id) {
-            values::number(text)?;
+    fn check_marks(&self) -> Result<(), TextError> {
+        if let Some(text) = self.fields.value("id") {
+            number(text)?;
         }
-        if let Some(text) = self.value(Key::Fix) {
+        if let Some(text) = self.fields.value("fix") {
             values::flag(text)?;
         }
         Ok(())
@@ -102,48 +88,21 @@ impl<'a> Job<'a> {
         self.verb
     }
 
-    /// Returns the states of the NFA, one word each.
-    pub fn states(&self) -> &'a str {
-        self.states
+    /// Returns the fields.
+    pub fn fields(&self) -> &Fields<'a> {
+        &self.fields
     }
+}
 
-    /// Returns the value of a key, or `None` if the job does not have it.
-    pub fn value(&self, key: Key) -> Option<&'a str> {
-        for word in self.words.split(' ') {
-            if let Some(value) = key.value_in(word) {
-                return Some(value);
+/// Returns the number of words with this key.
+fn count(words: &str, key: &str) -> usize {
+    let mut count = 0usize;
+    for word in words.split(' ') {
+        if let Some((name, _)) = word.split_once('=') {
+            if name == key {
+                count = count.saturating_add(1);
             }
         }
-        None
     }
-
-    /// Returns the value of a key, or `-` if the job does not have it.
-    pub fn value_or_none(&self, key: Key) -> &'a str {
-        self.value(key).unwrap_or("-")
-    }
-
-    /// Returns the value of a key, or an error if the job does not have it.
-    pub fn needed(&self, key: Key) -> Result<&'a str, JobError> {
-        self.value(key).ok_or(JobError::MissingKey(key))
-    }
-
-    /// Returns the match kind, by default `All`.
-    pub fn match_kind(&self) -> Result<MatchKind, JobError> {
-        match self.value(Key::Kind) {
-            None => Ok(MatchKind::All),
-            Some("all") => Ok(MatchKind::All),
-            Some("leftmost-first") => Ok(MatchKind::LeftmostFirst),
-            Some(_) => Err(JobError::Malformed(Part::MatchKind)),
-        }
-    }
-
-    /// Returns whether the direction is reverse; by default it is forward.
-    pub fn is_reverse(&self) -> Result<bool, JobError> {
-        match self.value(Key::Direction) {
-            None => Ok(false),
-            Some("fwd") => Ok(false),
-            Some("rev") => Ok(true),
-            Some(_) => Err(JobError::Malformed(Part::Direction)),
-        }
-    }
+    count
 }

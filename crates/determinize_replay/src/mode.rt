@@ -1,7 +1,7 @@
 //! The arguments of the program.
 
 use crate::error::ReplayError;
-use crate::values;
+use example_walks::values::number;
 
 /// What is done with a walk through a cache.
 #[derive(Clone, Copy)]
@@ -38,7 +38,7 @@ impl Mode {
             "search" => Operation::Search,
             _ => return Err(ReplayError::Arguments),
         };
-        match values::number(limit.as_str()) {
+        match number(limit.as_str()) {
             Ok(limit) => Ok(Mode::Cached(operation, limit)),
             Err(_) => Err(ReplayError::Arguments),
         }

@@ -1,80 +1,70 @@
 //! Builds the record of a job, the value of a state, and writes the results of its readers.
 
-ghost use Rattle.std.specs.Prelude.{◌≡◌, ℕ, ◌<◌, ◌≤◌, [], All, IsTrue, IfOk, OnOk, nat_eq};
-ghost use Rattle.std.specs.HashSet.{contains};
-ghost use Rattle.std.specs.List.{list_any};
-ghost use Rattle.determinize_core.specs.Value.{dead};
+ghost use Rattle.std.specs.Prelude.{◌≡◌, ◌<◌, ◌≤◌, [], All, IsTrue, IfOk};
 
-use crate::error::{JobError, Part};
-use crate::job::Job;
-use crate::key::Key;
 use crate::values;
 use determinize_below::{LookSet, PatternID, SparseSet, StateID};
 use determinize_core::state::{State, StateBuilderEmpty, StateBuilderMatches, StateBuilderNFA};
+use example_walks::error::{Part, TextError};
+use example_walks::fields::Fields;
+use example_walks::values::state_ids;
 use std::alloc::{AllocError, Allocator, Global};
-use std::collections::HashSet;
-use std::hash::{BuildHasherDefault, FoldHasher};
 
 /// Returns a builder with the flags, look-have and patterns of the job's record.
-fn matches_builder(alloc: Global, job: &Job<'_>) -> Result<StateBuilderMatches, JobError> {
-    let ids = values::pattern_ids(alloc, job.value_or_none(Key::Patterns))?;
+fn matches_builder(alloc: Global, fields: &Fields<'_>) -> Result<StateBuilderMatches, TextError> {
+    let ids = values::pattern_ids(alloc, fields.value_or_none("pids"))?;
     let mut builder = with_patterns(alloc, ids.as_slice())?;
-    set_flags(&mut builder, job)?;
+    set_flags(&mut builder, fields)?;
     Ok(builder)
 }
 
 /// Sets the flags and look-have of the job's record.
-fn set_flags(builder: &mut StateBuilderMatches, job: &Job<'_>) -> Result<(), JobError> {
-    if values::flag(job.needed(Key::FromWord)?)? {
+fn set_flags(builder: &mut StateBuilderMatches, fields: &Fields<'_>) -> Result<(), TextError> {
+    if values::flag(fields.value_or_none("fw"))? {
         builder.set_is_from_word();
     }
-    if values::flag(job.needed(Key::HalfCrlf)?)? {
+    if values::flag(fields.value_or_none("half"))? {
         builder.set_is_half_crlf();
     }
-    let have = values::look_set(job.value_or_none(Key::LookHave))?;
+    let have = values::look_set(fields.value_or_none("have"))?;
     builder.set_look_have(|_| have);
     Ok(())
 }
 
 /// Returns a builder with the whole record of the job.
-pub fn builder(alloc: Global, job: &Job<'_>) -> Result<StateBuilderNFA, JobError> {
-    let mut builder = matches_builder(alloc, job)?.into_nfa();
-    let need = values::look_set(job.value_or_none(Key::LookNeed))?;
+pub fn builder(alloc: Global, fields: &Fields<'_>) -> Result<StateBuilderNFA, TextError> {
+    let mut builder = matches_builder(alloc, fields)?.into_nfa();
+    let need = values::look_set(fields.value_or_none("need"))?;
     builder.set_look_need(|_| need);
-    for id in values::state_ids(alloc, job.value_or_none(Key::Ids))?.iter() {
+    for id in state_ids(alloc, fields.value_or_none("ids"))?.iter() {
         builder.add_nfa_state_id(*id)?;
     }
     Ok(builder)
 }
 
 /// Returns a builder with these patterns, or an error if one of them is repeated.
-pub fn with_patterns(alloc: Global, ids: &[PatternID]) -> Result<StateBuilderMatches, JobError> {
+pub fn with_patterns(alloc: Global, ids: &[PatternID]) -> Result<StateBuilderMatches, TextError> {
     let mut builder = StateBuilderEmpty::new(alloc).into_matches()?;
-    let mut seen = HashSet::new(alloc);
-    for id in ids {
-        add_pattern(&mut builder, &mut seen, *id)?;
-    }
+    add_patterns(alloc, &mut builder, ids)?;
     Ok(builder)
 }
 
-/// The patterns of a builder.
-type Patterns = HashSet<PatternID, BuildHasherDefault<FoldHasher>>;
-
-/// Adds a pattern to a builder and to the set of its patterns. Returns `RepeatedPattern` if the set
-/// contains it.
-fn add_pattern(
-    builder: &mut StateBuilderMatches,
-    seen: &mut Patterns,
-    id: PatternID,
-) -> Result<(), JobError>
-    requires { (q : ℕ) → contains nat_eq seen.old q ≡ list_any (nat_eq q) builder.old.patterns }
-    ensures { OnOk result
-        ((q : ℕ) → contains nat_eq seen.new q ≡ list_any (nat_eq q) builder.new.patterns) }
+/// Adds these patterns to a builder that has none. Returns an error if one is repeated.
+pub fn add_patterns<A: Allocator>(
+    alloc: A,
+    builder: &mut StateBuilderMatches<A>,
+    ids: &[PatternID],
+) -> Result<(), TextError>
+    requires { builder.old.patterns ≡ [] }
 {
-    if !seen.insert(id)? {
-        return Err(JobError::RepeatedPattern);
+    let mut patterns = Vec::new(alloc);
+    for id in ids {
+        if patterns.contains(id) {
+            return Err(TextError::RepeatedPattern);
+        }
+        builder.add_match_pattern_id(*id)?;
+        patterns.push(*id)?;
     }
-    builder.add_match_pattern_id(id)?;
     Ok(())
 }
 
@@ -83,14 +73,14 @@ pub fn set<A: Allocator + Clone>(
     alloc: A,
     capacity: usize,
     ids: &[StateID],
-) -> Result<SparseSet<A>, JobError>
+) -> Result<SparseSet<A>, TextError>
     requires { capacity ≤ 2147483647 }
     ensures { IfOk result (λ set. set.capacity ≡ capacity) }
 {
     let mut set = SparseSet::new(alloc, capacity)?;
     for id in ids {
         if id.as_usize() >= set.capacity() {
-            return Err(JobError::Malformed(Part::Unresolved));
+            return Err(TextError::Malformed(Part::Unresolved));
         }
         set.insert(*id);
     }

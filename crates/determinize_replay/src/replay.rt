@@ -7,11 +7,13 @@
 ghost use Rattle.std.specs.Prelude.{◌≡◌, ◌≤◌, ◌↔◌, IsTrue};
 
 use crate::caches::Caches;
-use crate::error::{JobError, LineError, ReadError, ReplayError};
+use crate::error::{LineError, ReadError, ReplayError};
 use crate::job::Job;
 use crate::mode::Operation;
 use crate::verbs;
 use determinize_lazy::Lazy;
+use example_walks::error::TextError;
+use example_walks::fields::Fields;
 use std::alloc::{AllocError, Global};
 use std::io::Write;
 use std::{fmt, io};
@@ -65,23 +67,48 @@ struct Output {
 }
 
 impl Output {
+    /// Returns the output of the job of this text.
+    fn of_text<'t>(
+        alloc: Global,
+        caches: &mut Caches<'_>,
+        text: &'t str,
+    ) -> Result<Output, ReadError<'t>> {
+        let job = Job::read(text)?;
+        let output = Output::of(alloc, caches, &job)?;
+        Ok(output)
+    }
+
+    /// Returns the output of a job.
+    fn of(alloc: Global, caches: &mut Caches<'_>, job: &Job<'_>) -> Result<Output, TextError> {
+        let operation = caches.operation();
+        match caches.of(job)? {
+            Some(cache) => Output::through(alloc, job.fields(), operation, cache),
+            None => Output::whole(verbs::output(alloc, job)),
+        }
+    }
+
     /// Returns the output of a walk through a cache, or the last line of it from a search.
     fn through(
         alloc: Global,
-        job: &Job<'_>,
+        fields: &Fields<'_>,
         operation: Operation,
         cache: &mut Lazy<'_>,
-    ) -> Result<Output, JobError> {
+    ) -> Result<Output, TextError> {
         match operation {
-            Operation::Walk => Ok(Output {
-                text: verbs::cached_output(alloc, job, cache)?,
-                is_whole: true,
-            }),
+            Operation::Walk => Output::whole(verbs::cached_output(alloc, fields, cache)),
             Operation::Search => Ok(Output {
-                text: verbs::search_output(alloc, job, cache)?,
+                text: verbs::search_output(alloc, fields, cache)?,
                 is_whole: false,
             }),
         }
+    }
+
+    /// Returns an output of all lines.
+    fn whole(text: Result<String, TextError>) -> Result<Output, TextError> {
+        Ok(Output {
+            text: text?,
+            is_whole: true,
+        })
     }
 
     /// Returns whether the output is the expected one, or its last line.
@@ -97,22 +124,19 @@ impl Output {
 
 /// A replay in progress: the current job and the lines of its expected output so far.
 #[derive(Drop)]
-pub struct Replay<'n> {
+pub struct Replay {
     alloc: Global,
-    caches: Option<Caches<'n>>,
     line: u64,
     job: Option<Pending>,
     expected: String,
     tally: Tally,
 }
 
-impl<'n> Replay<'n> {
-    /// Returns a replay that has read no line. If caches are given, walks or searches go through
-    /// them.
-    pub fn new(alloc: Global, caches: Option<Caches<'n>>) -> Replay<'n> {
+impl Replay {
+    /// Returns a replay that has read no line.
+    pub fn new(alloc: Global) -> Replay {
         Replay {
             alloc,
-            caches,
             line: 1,
             job: None,
             expected: String::new(alloc),
@@ -128,17 +152,22 @@ impl<'n> Replay<'n> {
     /// Takes one more line: a job, a line of expected output, or a comment.
     ///
     /// A job ends the expected output of the previous job, which is run and judged then: if its
-    /// output differs, the job and both outputs are written to `out`. Returns an error for a line
-    /// of output before the first job, or if the previous job cannot be run. After an error the
-    /// results of further calls are unspecified.
-    pub fn take_line<W: Write>(&mut self, text: &str, out: &mut W) -> Result<(), ReplayError> {
+    /// output differs, the job and both outputs are written to `out`. A walk whose NFA has a cache
+    /// goes through it. Returns an error for a line of output before the first job, or if the
+    /// previous job cannot be run. After an error the results of further calls are unspecified.
+    pub fn take_line<W: Write>(
+        &mut self,
+        caches: &mut Caches<'_>,
+        text: &str,
+        out: &mut W,
+    ) -> Result<(), ReplayError> {
         let line = self.line;
         self.line = line.saturating_add(1);
         if text.starts_with('#') {
             return Ok(());
         }
         if let Some(job) = text.strip_prefix("> ") {
-            self.judge(out)?;
+            self.judge(caches, out)?;
             let text = String::from_str(self.alloc, job)?;
             self.job = Some(Pending { line, text });
             return Ok(());
@@ -157,24 +186,33 @@ impl<'n> Replay<'n> {
     }
 
     /// Judges the last job and returns the counts.
-    pub fn finish<W: Write>(mut self, out: &mut W) -> Result<Tally, ReplayError> {
-        self.judge(out)?;
+    pub fn finish<W: Write>(
+        &mut self,
+        caches: &mut Caches<'_>,
+        out: &mut W,
+    ) -> Result<Tally, ReplayError> {
+        self.judge(caches, out)?;
         Ok(self.tally)
     }
 
     /// Judges the current job, if there is one, and clears it.
-    fn judge<W: Write>(&mut self, out: &mut W) -> Result<(), ReplayError> {
+    fn judge<W: Write>(&mut self, caches: &mut Caches<'_>, out: &mut W) -> Result<(), ReplayError> {
         if let Some(job) = self.job.take() {
             self.tally.jobs = self.tally.jobs.saturating_add(1);
-            self.judge_job(&job, out)?;
+            self.judge_job(caches, &job, out)?;
         }
         self.expected.clear();
         Ok(())
     }
 
     /// Runs a job and compares its output with the expected one.
-    fn judge_job<W: Write>(&mut self, job: &Pending, out: &mut W) -> Result<(), ReplayError> {
-        match self.run(job.text.as_str()) {
+    fn judge_job<W: Write>(
+        &mut self,
+        caches: &mut Caches<'_>,
+        job: &Pending,
+        out: &mut W,
+    ) -> Result<(), ReplayError> {
+        match Output::of_text(self.alloc, caches, job.text.as_str()) {
             Ok(output) => self.judge_output(job.text.as_str(), &output, out),
             Err(error) => Err(ReplayError::of_job(self.alloc, job.line, error)),
         }
@@ -191,26 +229,6 @@ impl<'n> Replay<'n> {
             self.report(job, output.text.as_str(), out)?;
         }
         Ok(())
-    }
-
-    /// Returns the output of the job of this text.
-    fn run<'t>(&mut self, text: &'t str) -> Result<Output, ReadError<'t>> {
-        let output = self.run_job(&Job::read(text)?)?;
-        Ok(output)
-    }
-
-    /// Returns the output of a job.
-    fn run_job(&mut self, job: &Job<'_>) -> Result<Output, JobError> {
-        if let Some(caches) = self.caches.as_mut() {
-            let operation = caches.operation();
-            if let Some(cache) = caches.of(job)? {
-                return Output::through(self.alloc, job, operation, cache);
-            }
-        }
-        Ok(Output {
-            text: verbs::output(self.alloc, job)?,
-            is_whole: true,
-        })
     }
 
     /// Counts and prints a job that differs.

@@ -2,11 +2,12 @@
 
 ghost use Rattle.std.specs.Prelude.{◌≡◌, ◌≤◌, ◌↔◌, IfOk, OnErr};
 
-use crate::caches::Automata;
-use crate::error::{JobError, ReplayError};
+use crate::caches::{Automata, Caches};
+use crate::error::ReplayError;
 use crate::job::Job;
 use crate::mode::{Mode, Operation};
 use crate::replay::{Replay, Tally};
+use example_walks::error::TextError;
 use std::alloc::Global;
 use std::io::{self, BufRead, BufReader, Read, Write};
 
@@ -73,21 +74,24 @@ fn replay_single<I: BufRead + Drop, W: Write>(
     input: I,
     out: &mut W,
 ) -> Result<Tally, ReplayError> {
-    let mut replay = Replay::new(alloc, None);
+    let automata = Automata::new(alloc);
+    let mut caches = automata.caches(Operation::Walk, 0)?;
+    let mut replay = Replay::new(alloc);
     for line in input.lines(alloc) {
-        take_read_line(&mut replay, line, out)?;
+        take_read_line(&mut replay, &mut caches, line, out)?;
     }
-    finish(replay, out)
+    finish(&mut replay, &mut caches, out)
 }
 
 /// Takes one more line, or returns the error if it could not be read.
 fn take_read_line<W: Write>(
-    replay: &mut Replay<'_>,
+    replay: &mut Replay,
+    caches: &mut Caches<'_>,
     line: io::Result<String>,
     out: &mut W,
 ) -> Result<(), ReplayError> {
     match line {
-        Ok(line) => replay.take_line(line.as_str(), out),
+        Ok(line) => replay.take_line(caches, line.as_str(), out),
         Err(error) => Err(ReplayError::of_reading(replay.line(), &error)),
     }
 }
@@ -102,8 +106,8 @@ fn replay_cached<I: BufRead + Drop, W: Write>(
 ) -> Result<Tally, ReplayError> {
     let lines = lines(alloc, input)?;
     let automata = automata(alloc, lines.as_slice())?;
-    let replay = Replay::new(alloc, Some(automata.caches(operation, limit)?));
-    replay_lines(replay, lines.as_slice(), out)
+    let mut caches = automata.caches(operation, limit)?;
+    replay_lines(alloc, &mut caches, lines.as_slice(), out)
 }
 
 /// Returns all lines of the input.
@@ -120,16 +124,18 @@ fn lines<I: BufRead + Drop>(alloc: Global, input: I) -> Result<Vec<String>, Repl
     Ok(lines)
 }
 
-/// Replays all lines.
+/// Replays all lines through caches.
 fn replay_lines<W: Write>(
-    mut replay: Replay<'_>,
+    alloc: Global,
+    caches: &mut Caches<'_>,
     lines: &[String],
     out: &mut W,
 ) -> Result<Tally, ReplayError> {
+    let mut replay = Replay::new(alloc);
     for line in lines {
-        replay.take_line(line.as_str(), out)?;
+        replay.take_line(caches, line.as_str(), out)?;
     }
-    finish(replay, out)
+    finish(&mut replay, caches, out)
 }
 
 /// Returns the NFAs of all walks. A job that cannot be parsed is skipped here: the replay reports
@@ -143,7 +149,7 @@ fn automata(alloc: Global, lines: &[String]) -> Result<Automata, ReplayError> {
         let Ok(job) = Job::read(text) else {
             continue;
         };
-        if let Err(JobError::OutOfMemory) = automata.take(&job) {
+        if let Err(TextError::OutOfMemory) = automata.take(&job) {
             return Err(ReplayError::OutOfMemory);
         }
     }
@@ -151,8 +157,12 @@ fn automata(alloc: Global, lines: &[String]) -> Result<Automata, ReplayError> {
 }
 
 /// Judges the last job and writes the counts.
-fn finish<W: Write>(replay: Replay<'_>, out: &mut W) -> Result<Tally, ReplayError> {
-    let tally = replay.finish(out)?;
+fn finish<W: Write>(
+    replay: &mut Replay,
+    caches: &mut Caches<'_>,
+    out: &mut W,
+) -> Result<Tally, ReplayError> {
+    let tally = replay.finish(caches, out)?;
     writeln!(out, "{tally}")?;
     if tally.is_empty() {
         return Err(ReplayError::Nothing);

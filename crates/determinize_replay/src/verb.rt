@@ -1,7 +1,5 @@
 //! The verbs of jobs, and the keys that each takes and needs.
 
-use crate::key::Key;
-
 /// What a job computes.
 #[derive(Clone, Copy, PartialEq)]
 pub enum Verb {
@@ -60,49 +58,46 @@ impl Verb {
         }
     }
 
-    /// Returns whether a job with this verb makes a walk.
-    fn has_walk(self) -> bool {
-        self == Verb::Walk || self == Verb::Readers
-    }
-
-    /// Returns whether a job with this verb has a record.
-    fn has_record(self) -> bool {
-        self == Verb::Build || self == Verb::Next || self == Verb::AddStates
-    }
-
-    /// Returns whether a job with this verb may have the key.
-    pub fn takes(self, key: Key) -> bool {
-        match key {
-            Key::Id | Key::Fix => true,
-            Key::Direction => self.has_nfa() || self == Verb::Start,
-            Key::Terminator => self.has_nfa() || self == Verb::Start || self == Verb::ByteMap,
-            Key::Kind => self.has_walk() || self == Verb::LookBehind || self == Verb::Next,
-            Key::Start | Key::LookBehind | Key::Text | Key::After => self.has_walk(),
-            Key::At => self == Verb::Readers,
-            Key::From | Key::Look | Key::Held => self == Verb::Closure,
-            Key::Haystack | Key::Range => self == Verb::Start,
-            Key::Byte => self == Verb::ByteMap,
-            Key::Number => self == Verb::FromUsize,
-            Key::FromWord | Key::HalfCrlf | Key::LookHave => self.has_record(),
-            Key::LookNeed | Key::Patterns | Key::Ids => self.has_record(),
-            Key::Unit | Key::Set1 | Key::Set2 => self == Verb::Next,
-            Key::Set => self == Verb::AddStates,
-            Key::States | Key::Matches => self == Verb::Size,
+    /// Returns the keys that a job with this verb may have, joined by spaces.
+    fn keys(self) -> &'static str {
+        match self {
+            Verb::Walk => "id fix dir term kind start lb text after",
+            Verb::Readers => "id fix dir term kind start lb text after at",
+            Verb::Closure => "id fix dir term from look held",
+            Verb::LookBehind => "id fix dir term kind",
+            Verb::Next => "id fix dir term kind fw half have need pids ids unit set1 set2",
+            Verb::AddStates => "id fix dir term fw half have need pids ids set",
+            Verb::Start => "id fix dir term hay range",
+            Verb::ByteMap => "id fix term byte",
+            Verb::FromUsize => "id fix n",
+            Verb::Dead => "id fix",
+            Verb::Build => "id fix fw half have need pids ids",
+            Verb::Size => "id fix states matches",
         }
     }
 
+    /// Returns whether a job with this verb may have the key.
+    pub fn takes(self, key: &str) -> bool {
+        for taken in self.keys().split(' ') {
+            if taken == key {
+                return true;
+            }
+        }
+        false
+    }
+
     /// Returns the keys that a job with this verb must have.
-    pub fn needed(self) -> &'static [Key] {
+    pub fn needed(self) -> &'static [&'static str] {
         match self {
             Verb::Walk | Verb::ByteMap | Verb::Dead => &[],
-            Verb::Readers => &[Key::At],
-            Verb::Closure => &[Key::From],
-            Verb::LookBehind => &[Key::Kind],
-            Verb::Next => &[Key::FromWord, Key::HalfCrlf, Key::Unit],
-            Verb::AddStates | Verb::Build => &[Key::FromWord, Key::HalfCrlf],
-            Verb::Start => &[Key::Range],
-            Verb::FromUsize => &[Key::Number],
-            Verb::Size => &[Key::States, Key::Matches],
+            Verb::Readers => &["at"],
+            Verb::Closure => &["from"],
+            Verb::LookBehind => &["kind"],
+            Verb::Next => &["fw", "half", "unit"],
+            Verb::AddStates | Verb::Build => &["fw", "half"],
+            Verb::Start => &["range"],
+            Verb::FromUsize => &["n"],
+            Verb::Size => &["states", "matches"],
         }
     }
 }

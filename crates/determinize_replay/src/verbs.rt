@@ -3,23 +3,15 @@
 mod automata;
 mod small;
 
-use crate::error::JobError;
 use crate::job::Job;
 use crate::verb::Verb;
-use determinize_core::state::State;
 use determinize_lazy::Lazy;
-use std::alloc::{Allocator, Global};
-
-/// Returns the states of a walk.
-pub fn walk_states<A: Allocator + Copy>(
-    alloc: A,
-    job: &Job<'_>,
-) -> Result<Vec<State<A>, A>, JobError> {
-    automata::states(alloc, job)
-}
+use example_walks::error::TextError;
+use example_walks::fields::Fields;
+use std::alloc::Global;
 
 /// Returns the output of a job.
-pub fn output(alloc: Global, job: &Job<'_>) -> Result<String, JobError> {
+pub fn output(alloc: Global, job: &Job<'_>) -> Result<String, TextError> {
     let mut text = String::new(alloc);
     write_output(alloc, job, &mut text)?;
     Ok(text)
@@ -28,39 +20,40 @@ pub fn output(alloc: Global, job: &Job<'_>) -> Result<String, JobError> {
 /// Returns the output of a walk through a cache.
 pub fn cached_output(
     alloc: Global,
-    job: &Job<'_>,
+    fields: &Fields<'_>,
     cache: &mut Lazy<'_>,
-) -> Result<String, JobError> {
+) -> Result<String, TextError> {
     let mut text = String::new(alloc);
-    automata::cached_walk(alloc, job, cache, &mut text)?;
+    automata::cached_walk(alloc, fields, cache, &mut text)?;
     Ok(text)
 }
 
 /// Returns the last line of the output of a walk, from a search through a cache.
 pub fn search_output(
     alloc: Global,
-    job: &Job<'_>,
+    fields: &Fields<'_>,
     cache: &mut Lazy<'_>,
-) -> Result<String, JobError> {
+) -> Result<String, TextError> {
     let mut text = String::new(alloc);
-    automata::search(alloc, job, cache, &mut text)?;
+    automata::search(alloc, fields, cache, &mut text)?;
     Ok(text)
 }
 
 /// Writes the output of a job.
-fn write_output(alloc: Global, job: &Job<'_>, text: &mut String) -> Result<(), JobError> {
+fn write_output(alloc: Global, job: &Job<'_>, text: &mut String) -> Result<(), TextError> {
+    let fields = job.fields();
     match job.verb() {
-        Verb::Walk => automata::walk(alloc, job, text),
-        Verb::Readers => automata::readers(alloc, job, text),
-        Verb::Closure => automata::closure(alloc, job, text),
-        Verb::LookBehind => automata::lookbehind(alloc, job, text),
-        Verb::Next => automata::next_state(alloc, job, text),
-        Verb::AddStates => automata::addstates(alloc, job, text),
-        Verb::Start => small::start(alloc, job, text),
-        Verb::ByteMap => small::bytemap(job, text),
-        Verb::FromUsize => small::fromusize(job, text),
+        Verb::Walk => automata::walk(alloc, fields, text),
+        Verb::Readers => automata::readers(alloc, fields, text),
+        Verb::Closure => automata::closure(alloc, fields, text),
+        Verb::LookBehind => automata::lookbehind(alloc, fields, text),
+        Verb::Next => automata::next_state(alloc, fields, text),
+        Verb::AddStates => automata::addstates(alloc, fields, text),
+        Verb::Start => small::start(alloc, fields, text),
+        Verb::ByteMap => small::bytemap(fields, text),
+        Verb::FromUsize => small::fromusize(fields, text),
         Verb::Dead => small::dead(alloc, text),
-        Verb::Build => small::build(alloc, job, text),
-        Verb::Size => small::size(alloc, job, text),
+        Verb::Build => small::build(alloc, fields, text),
+        Verb::Size => small::size(alloc, fields, text),
     }
 }

@@ -1,7 +1,7 @@
 //! The errors of a job and of a replay.
 
 use determinize_below::BuildError;
-use determinize_replay::error as values;
+use example_walks::error::TextError;
 use std::alloc::{AllocError, AllocFailed};
 use std::{fmt, io};
 
@@ -26,10 +26,10 @@ impl<T: Drop> From<AllocFailed<T>> for JobError {
     }
 }
 
-impl From<values::JobError> for JobError {
-    fn from(error: values::JobError) -> JobError {
+impl From<TextError> for JobError {
+    fn from(error: TextError) -> JobError {
         match error {
-            values::JobError::OutOfMemory => JobError::OutOfMemory,
+            TextError::OutOfMemory => JobError::OutOfMemory,
             _ => JobError::Malformed("a value"),
         }
     }

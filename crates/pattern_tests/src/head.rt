@@ -2,7 +2,7 @@
 
 use crate::error::JobError;
 use determinize_pattern::Config;
-use determinize_replay::values;
+use example_walks::values;
 
 /// The first line of a job.
 #[derive(Clone, Copy)]

@@ -11,7 +11,7 @@ use determinize_below::{BuildError, Input, NFA};
 use determinize_find::{Match, Regex};
 use determinize_nfa::reversed;
 use determinize_pattern::{CompileError, compile};
-use determinize_replay::values;
+use example_walks::values;
 use std::alloc::{AllocError, Global};
 
 /// The greatest number of states of a cache.

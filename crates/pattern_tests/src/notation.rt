@@ -5,7 +5,7 @@
 
 use crate::error::JobError;
 use determinize_pattern::{ClassBytes, ClassBytesRange, Pattern};
-use determinize_replay::values;
+use example_walks::values;
 use std::alloc::Global;
 
 /// Returns the patterns of words that are separated by spaces.

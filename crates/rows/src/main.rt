@@ -1,8 +1,8 @@
 //! `rows N` prints the states of an example walk, and its last match.
 #![tactic(auto)]
 
-use determinize_replay::arguments::arguments;
-use determinize_replay::rows::{RowError, report, run_rows};
+use example_walks::arguments::arguments;
+use example_walks::rows::{RowError, report, run_rows};
 use std::io;
 use std::process::ExitCode;
 

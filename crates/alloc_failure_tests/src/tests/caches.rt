@@ -9,8 +9,8 @@ use determinize_below::{LookMatcher, MatchKind, NFA, StateID};
 use determinize_core::determinize::last_match;
 use determinize_core::state::State;
 use determinize_lazy::{Lazy, Scan, Walker};
-use determinize_replay::error::JobError;
-use determinize_replay::nfas;
+use example_walks::error::TextError;
+use example_walks::states;
 use failing_alloc::FailingAllocator;
 use std::alloc::{AllocError, Allocator, Global};
 use std::process::Abort;
@@ -37,7 +37,7 @@ pub fn walk<R: Abort, A: Allocator + Copy>(
     alloc: A,
     row: &Row,
     limit: usize,
-) -> Result<(), JobError> {
+) -> Result<(), TextError> {
     let mut lazy = Lazy::new(alloc, &row.nfa, row.kind, limit);
     let first = walked(&mut lazy, row);
     let second = walked(&mut lazy, row)?;
@@ -53,7 +53,7 @@ pub fn search<R: Abort, A: Allocator + Copy>(
     alloc: A,
     row: &Row,
     limit: usize,
-) -> Result<(), JobError> {
+) -> Result<(), TextError> {
     let mut lazy = Lazy::new(alloc, &row.nfa, row.kind, limit);
     let (start, text) = (row.nfa.start_anchored(), row.text.as_slice());
     let first = lazy.search(start, row.look_behind, text, row.look_ahead);
@@ -70,7 +70,7 @@ pub fn search_input<R: Abort, A: Allocator + Copy>(
     alloc: A,
     row: &Row,
     limit: usize,
-) -> Result<(), JobError> {
+) -> Result<(), TextError> {
     let mut lazy = Lazy::new(alloc, &row.nfa, row.kind, limit);
     let first = lazy.search_input(&row.input());
     let second = lazy.search_input(&row.input())?;
@@ -109,7 +109,7 @@ pub fn scan<R: Abort, A: Allocator + Copy>(
     alloc: A,
     row: &Row,
     limit: usize,
-) -> Result<(), JobError> {
+) -> Result<(), TextError> {
     let mut lazy = Lazy::new(alloc, &row.nfa, row.kind, limit);
     let mut scan = lazy.scan(row.nfa.start_anchored(), row.look_behind)?;
     let mut is_sound = true;
@@ -145,7 +145,7 @@ pub fn walk_by_steps<R: Abort, A: Allocator + Copy>(
     alloc: A,
     row: &Row,
     limit: usize,
-) -> Result<(), JobError> {
+) -> Result<(), TextError> {
     let mut lazy = Lazy::new(alloc, &row.nfa, row.kind, limit);
     let mut walker = lazy.walker(row.nfa.start_anchored(), row.look_behind)?;
     let mut is_sound = true;
@@ -208,7 +208,7 @@ fn walk_twice<R: Abort, A: Allocator + Copy>(
 /// each step would make 3000 requests.
 #[test]
 fn growths_of_long_walks(rt: HostRuntime) -> Result<(), Fail> {
-    let states = nfas::states(rt.alloc(), "B:61>1 B:62>2 B:63>0")?;
+    let states = states::states(rt.alloc(), "B:61>1 B:62>2 B:63>0")?;
     let (first, matcher) = (StateID::ZERO, LookMatcher::new());
     let nfa = NFA::from_parts(rt.alloc(), states, first, first, false, matcher)?;
     let mut text = Vec::new(rt.alloc());

@@ -5,7 +5,7 @@ ghost use Rattle.determinize_below.specs.Nfa.{AllResolve};
 ghost use Rattle.determinize_core.specs.Scratch.{IsScratch};
 
 use crate::tests::trial::{OfWalk, Trial};
-use crate::tests::{Row, fail_each_in_turn, fail_each_over_walks, holds, nfa_from, same};
+use crate::tests::{Row, fail_each_in_turn, fail_each_over_walks, holds, same};
 use determinize_below::{Look, LookSet, NFA, SparseSet, SparseSets, StateID, Unit};
 use determinize_core::determinize::{
     Steps, add_nfa_states, epsilon_closure, next, next_counted, set_lookbehind_from_start,
@@ -14,12 +14,14 @@ use determinize_core::determinize::{
 use determinize_core::recording::add_state;
 use determinize_core::start::{Start, StartByteMap};
 use determinize_core::state::{State, StateBuilderEmpty, StateBuilderNFA};
-use determinize_replay::error::JobError;
-use determinize_replay::examples::examples;
 use determinize_replay::job::Job;
-use determinize_replay::key::Key;
-use determinize_replay::rows::run_rows;
+use determinize_replay::outputs::output_of;
 use determinize_replay::{records, values};
+use example_walks::error::TextError;
+use example_walks::examples::examples;
+use example_walks::fields::Fields;
+use example_walks::rows::run_rows;
+use example_walks::values::{state_id, state_ids};
 use std::alloc::{AllocError, Allocator, Global};
 use std::marker::Brand;
 use std::process::Abort;
@@ -59,12 +61,12 @@ pub struct Closing {
 
 impl Closing {
     /// Returns the closure of a job.
-    fn of(alloc: Global, job: &Job<'_>) -> Result<Closing, JobError> {
-        let start = values::state_id(job.needed(Key::From)?)?;
-        let have = values::look_set(job.value_or_none(Key::Look))?;
-        let held = values::state_ids(alloc, job.value_or_none(Key::Held))?;
+    fn of(alloc: Global, fields: &Fields<'_>) -> Result<Closing, TextError> {
+        let start = state_id(fields.value_or_none("from"))?;
+        let have = values::look_set(fields.value_or_none("look"))?;
+        let held = state_ids(alloc, fields.value_or_none("held"))?;
         Ok(Closing {
-            nfa: nfa_from(alloc, job, start)?,
+            nfa: fields.nfa_from(alloc, start)?,
             have,
             held,
         })
@@ -77,7 +79,7 @@ fn closed<A: Allocator + Copy>(
     nfa: &NFA,
     have: LookSet,
     held: &[StateID],
-) -> Result<SparseSet<A>, JobError>
+) -> Result<SparseSet<A>, TextError>
     ensures { IfOk result (λ set. AllResolve nfa.now set.ids) }
 {
     let mut set = records::set(alloc, nfa.len(), held)?;
@@ -92,7 +94,7 @@ pub fn close<R: Abort, A: Allocator + Copy>(
     alloc: A,
     closing: &Closing,
     wanted: &[StateID],
-) -> Result<(), JobError> {
+) -> Result<(), TextError> {
     let set = closed(alloc, &closing.nfa, closing.have, closing.held.as_slice())?;
     holds(rt, set.iter().eq(wanted.iter().copied()));
     Ok(())
@@ -101,8 +103,8 @@ pub fn close<R: Abort, A: Allocator + Copy>(
 #[test]
 fn closures(rt: HostRuntime) -> Result<(), Fail> {
     for (line, wanted) in &CLOSURES {
-        let closing = Closing::of(rt.alloc(), &Job::read(line)?)?;
-        let wanted = values::state_ids(rt.alloc(), wanted)?;
+        let closing = Closing::of(rt.alloc(), Job::read(line)?.fields())?;
+        let wanted = state_ids(rt.alloc(), wanted)?;
         fail_each_in_turn(&rt, &Trial::Close(&closing, wanted.as_slice()))?;
     }
     Ok(())
@@ -117,7 +119,7 @@ pub fn start_kind(row: &Row) -> Start {
 }
 
 /// Records the first closure of a walk.
-pub fn record<R: Abort, A: Allocator + Copy>(rt: &R, alloc: A, row: &Row) -> Result<(), JobError> {
+pub fn record<R: Abort, A: Allocator + Copy>(rt: &R, alloc: A, row: &Row) -> Result<(), TextError> {
     let mut matches = StateBuilderEmpty::new(alloc).into_matches()?;
     set_lookbehind_from_start(&row.nfa, &start_kind(row), &mut matches);
     let set = closed(alloc, &row.nfa, matches.look_have(), &[])?;
@@ -140,7 +142,7 @@ pub fn record_one<R: Abort, A: Allocator + Copy>(
     rt: &R,
     alloc: A,
     row: &Row,
-) -> Result<(), JobError> {
+) -> Result<(), TextError> {
     let id = row.nfa.start_anchored();
     let (mut wanted, mut builder) = (after_start(alloc)?, after_start(alloc)?);
     let set = records::set(alloc, row.nfa.len(), &[id])?;
@@ -204,7 +206,7 @@ pub fn walk<R: Abort, A: Allocator + Copy>(
     alloc: A,
     row: &Row,
     is_counted: bool,
-) -> Result<(), JobError> {
+) -> Result<(), TextError> {
     let (nfa, start) = (&row.nfa, row.nfa.start_anchored());
     let mut sparses = SparseSets::new(alloc, nfa.len())?;
     let (mut stack, empty) = (Vec::new(alloc), StateBuilderEmpty::new(alloc));
@@ -223,7 +225,7 @@ pub fn walk_at_once<R: Abort, A: Allocator + Copy>(
     rt: &R,
     alloc: A,
     row: &Row,
-) -> Result<(), JobError> {
+) -> Result<(), TextError> {
     let states = row.walk(alloc)?;
     row.expect(rt, states.as_slice());
     Ok(())
@@ -249,14 +251,14 @@ pub fn print<R: Abort + AllocGlobal, A: Allocator + Copy>(
     alloc: A,
     words: &[String],
     lines: &str,
-) -> Result<(), JobError> {
+) -> Result<(), TextError> {
     let (mut out, mut err) = (Vec::new(rt.alloc()), Vec::new(rt.alloc()));
     let status = run_rows(alloc, words, &mut out, &mut err);
     if status != 0 {
         same(rt, status, 1);
         same(rt, err.as_slice(), b"out of memory\n".as_slice());
         holds(rt, lines.as_bytes().starts_with(out.as_slice()));
-        return Err(JobError::OutOfMemory);
+        return Err(TextError::OutOfMemory);
     }
     same(rt, out.as_slice(), lines.as_bytes());
     same(rt, err.as_slice(), [].as_slice());
@@ -267,7 +269,10 @@ pub fn print<R: Abort + AllocGlobal, A: Allocator + Copy>(
 fn prints_each_walk_or_fails_to_allocate(rt: HostRuntime) -> Result<(), Fail> {
     for example in examples() {
         let words = vec![in rt.alloc(); String::from_str(rt.alloc(), example.name)?]?;
-        fail_each_in_turn(&rt, &Trial::Print(words.as_slice(), example.output))?;
+        fail_each_in_turn(
+            &rt,
+            &Trial::Print(words.as_slice(), output_of(example.name)),
+        )?;
     }
     Ok(())
 }

@@ -2,7 +2,7 @@
 
 use crate::tests::{Row, caches, steps, values};
 use determinize_below::StateID;
-use determinize_replay::error::JobError;
+use example_walks::error::TextError;
 use std::alloc::Allocator;
 use std::process::Abort;
 
@@ -50,7 +50,7 @@ impl Trial<'_> {
         &self,
         rt: &R,
         alloc: A,
-    ) -> Result<(), JobError> {
+    ) -> Result<(), TextError> {
         match *self {
             Trial::OfWalk(trial, row) => trial.run(rt, alloc, row),
             Trial::StateOfLen(len) => values::make_and_clone(rt, alloc, len),
@@ -67,7 +67,7 @@ impl OfWalk {
         rt: &R,
         alloc: A,
         row: &Row,
-    ) -> Result<(), JobError> {
+    ) -> Result<(), TextError> {
         match self {
             OfWalk::CopyStates => values::copy_states(rt, alloc, row),
             OfWalk::Record => steps::record(rt, alloc, row),

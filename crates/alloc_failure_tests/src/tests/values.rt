@@ -1,40 +1,20 @@
 //! Builders, and the states that they build.
 
-ghost use Rattle.std.specs.Prelude.{◌≡◌, []};
-
 use crate::tests::trial::{OfWalk, Trial};
 use crate::tests::{Row, fail_each_in_turn, fail_each_over_walks, same};
-use determinize_below::{PatternID, StateID};
+use determinize_below::StateID;
 use determinize_core::state::{State, StateBuilderEmpty, StateBuilderMatches, StateBuilderNFA};
-use determinize_replay::error::JobError;
+use determinize_replay::records::add_patterns;
+use example_walks::error::TextError;
 use std::alloc::{AllocError, Allocator};
 use std::process::Abort;
 use std::test::Fail;
-
-/// Adds these patterns to a builder that has none. Returns an error if one is repeated.
-fn add_patterns<A: Allocator + Copy>(
-    alloc: A,
-    builder: &mut StateBuilderMatches<A>,
-    ids: &[PatternID],
-) -> Result<(), JobError>
-    requires { builder.old.patterns ≡ [] }
-{
-    let mut patterns = Vec::new(alloc);
-    for id in ids {
-        if patterns.contains(id) {
-            return Err(JobError::RepeatedPattern);
-        }
-        builder.add_match_pattern_id(*id)?;
-        patterns.push(*id)?;
-    }
-    Ok(())
-}
 
 /// Returns a builder with the patterns of a state.
 fn with_patterns<A: Allocator + Copy>(
     alloc: A,
     state: &State<A>,
-) -> Result<StateBuilderMatches<A>, JobError> {
+) -> Result<StateBuilderMatches<A>, TextError> {
     let mut builder = StateBuilderEmpty::new(alloc).clone()?.into_matches()?;
     if let Some(ids) = state.match_pattern_ids()? {
         add_patterns(alloc, &mut builder, ids.as_slice())?;
@@ -73,7 +53,7 @@ fn copy<R: Abort, A: Allocator + Copy>(
     alloc: A,
     state: &State<A>,
     bytes: &[u8],
-) -> Result<(), JobError> {
+) -> Result<(), TextError> {
     let mut matches = with_patterns(alloc, state)?;
     set_flags(&mut matches, state);
     let mut builder = matches.clone()?.into_nfa();
@@ -88,7 +68,7 @@ pub fn copy_states<R: Abort, A: Allocator + Copy>(
     rt: &R,
     alloc: A,
     row: &Row,
-) -> Result<(), JobError> {
+) -> Result<(), TextError> {
     let states = row.walk(alloc)?;
     for (state, bytes) in states.iter().zip(row.states.iter()) {
         copy(rt, alloc, state, bytes.as_slice())?;
@@ -115,7 +95,7 @@ pub fn make_and_clone<R: Abort, A: Allocator + Copy>(
     rt: &R,
     alloc: A,
     len: u8,
-) -> Result<(), JobError> {
+) -> Result<(), TextError> {
     let builder = builder_of(alloc, len)?;
     let state = clone_of(&builder)?;
     same(rt, state.as_bytes(), builder.as_bytes());

@@ -5,7 +5,7 @@ use determinize_below::{Anchored, Input, LookMatcher, MatchKind, NFA, StateID};
 use determinize_core::determinize::{last_match, walk_between};
 use determinize_core::state::State;
 use determinize_lazy::Lazy;
-use determinize_replay::nfas;
+use example_walks::states::states as read_states;
 use std::process::Abort;
 use std::test::Fail;
 
@@ -34,7 +34,7 @@ pub const WORDS: &str = "L:WordAscii>1 S:30-39>2,41-5a>2,5f-5f>2,61-7a>2 BU:1,3 
 
 /// Returns the NFA of these states, which starts in the first one, for forward or reverse scans.
 pub fn nfa<R: Abort + AllocGlobal>(rt: &R, states: &str, is_backward: bool) -> Result<NFA, Fail> {
-    let states = nfas::states(rt.alloc(), states)?;
+    let states = read_states(rt.alloc(), states)?;
     let zero = StateID::ZERO;
     let matcher = LookMatcher::new();
     Ok(NFA::from_parts(rt.alloc(), states, zero, zero, is_backward, matcher)?)

@@ -8,7 +8,7 @@ use determinize_core::state::{State, StateBuilderNFA};
 use determinize_core::state_laws::{
     are_equal, is_built, nfa_states_read, patterns_read, same_built_bytes, same_bytes,
 };
-use determinize_replay::values;
+use example_walks::values;
 use std::process::Abort;
 use std::test::Fail;
 

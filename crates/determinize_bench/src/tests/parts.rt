@@ -3,7 +3,7 @@
 use crate::tests::{holds, same, same_at};
 use determinize_below::nfa::State;
 use determinize_below::{BuildError, DenseTransitions, Look, LookMatcher, LookSet, NFA, StateID};
-use determinize_replay::nfas;
+use example_walks::states;
 use std::alloc::AllocError;
 use std::process::Abort;
 use std::test::Fail;
@@ -29,7 +29,7 @@ fn rejects_a_short_table(rt: HostRuntime) -> Result<(), Fail> {
 fn start_behind_the_last_state(rt: HostRuntime) -> Result<(), Fail> {
     let (first, behind) = (StateID::ZERO, StateID::new(2)?);
     for (anchored, unanchored) in [(behind, first), (first, behind)] {
-        let states = nfas::states(rt.alloc(), "C:1 M:0")?;
+        let states = states::states(rt.alloc(), "C:1 M:0")?;
         let matcher = LookMatcher::new();
         let made = NFA::from_parts(rt.alloc(), states, anchored, unanchored, false, matcher);
         same(&rt, made.err(), Some(BuildError::UnresolvedStart));
@@ -59,7 +59,7 @@ fn expect_readers<R: Abort + AllocGlobal>(
 
 #[test]
 fn readers_of_an_nfa(rt: HostRuntime) -> Result<(), Fail> {
-    let states = nfas::states(rt.alloc(), "L:WordAscii>1 M:7 L:End>1")?;
+    let states = states::states(rt.alloc(), "L:WordAscii>1 M:7 L:End>1")?;
     let mut matcher = LookMatcher::new();
     matcher.set_line_terminator(b';');
     let first = StateID::new(1)?;

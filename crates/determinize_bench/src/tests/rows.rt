@@ -2,7 +2,7 @@
 
 use crate::tests::runs::{Failing, words};
 use crate::tests::{same, same_at};
-use determinize_replay::rows::run_rows;
+use example_walks::rows::run_rows;
 use std::test::Fail;
 
 /// Unknown names, one per line.

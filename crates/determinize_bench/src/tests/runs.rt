@@ -1,8 +1,9 @@
 //! The work of the program: its exit statuses, and readers and writers that fail.
 
 use crate::tests::{same, same_at};
-use determinize_replay::error::{JobError, ReadError, ReplayError};
+use determinize_replay::error::{ReadError, ReplayError};
 use determinize_replay::run::{report, run};
+use example_walks::error::TextError;
 use std::alloc::AllocError;
 use std::io;
 use std::io::{Read, Write};
@@ -342,7 +343,7 @@ fn tells_of_each_error(rt: HostRuntime) {
         (ReplayError::of_reading(3, &memory), "out of memory\n"),
         (ReplayError::of_arguments(&memory), "out of memory\n"),
         (
-            ReplayError::of_job(rt.alloc(), 3, ReadError::from(JobError::from(AllocError))),
+            ReplayError::of_job(rt.alloc(), 3, ReadError::from(TextError::from(AllocError))),
             "out of memory\n",
         ),
         (ReplayError::of_arguments(&other), NOT_TAKEN),

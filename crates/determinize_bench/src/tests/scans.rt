@@ -5,10 +5,8 @@ ghost use Rattle.std.specs.Prelude.{◌<◌, ◌≤◌, length};
 use crate::tests::same;
 use determinize_below::{HalfMatch, StateID};
 use determinize_lazy::Lazy;
-use determinize_replay::examples::examples;
-use determinize_replay::job::Job;
-use determinize_replay::key::Key;
-use determinize_replay::{nfas, values};
+use example_walks::examples::examples;
+use example_walks::fields::Fields;
 use std::alloc::AllocError;
 use std::process::Abort;
 use std::test::Fail;
@@ -55,25 +53,29 @@ fn expect_same<R: Abort>(rt: &R, lazy: &mut Lazy<'_>, around: &Around<'_>) -> Re
     Ok(())
 }
 
-/// Asserts it of the text of a job, through a cache of at most `limit` states.
-fn expect_job<R: Abort + AllocGlobal>(rt: &R, job: &Job<'_>, limit: usize) -> Result<(), Fail> {
-    let nfa = nfas::nfa(rt.alloc(), job)?;
-    let text = values::bytes(rt.alloc(), job.value_or_none(Key::Text))?;
+/// Asserts it of the text of a walk, through a cache of at most `limit` states.
+fn expect_walk<R: Abort + AllocGlobal>(
+    rt: &R,
+    fields: &Fields<'_>,
+    limit: usize,
+) -> Result<(), Fail> {
+    let nfa = fields.nfa(rt.alloc())?;
+    let text = fields.text(rt.alloc())?;
     let around = Around {
-        look_behind: values::optional_byte(job.value_or_none(Key::LookBehind))?,
+        look_behind: fields.look_behind()?,
         text: text.as_slice(),
-        look_ahead: values::optional_byte(job.value_or_none(Key::After))?,
+        look_ahead: fields.look_ahead()?,
     };
-    let mut lazy = Lazy::new(rt.alloc(), &nfa, job.match_kind()?, limit);
+    let mut lazy = Lazy::new(rt.alloc(), &nfa, fields.match_kind()?, limit);
     expect_same(rt, &mut lazy, &around)
 }
 
 #[test]
 fn each_text_in_pieces(rt: HostRuntime) -> Result<(), Fail> {
     for example in examples() {
-        let job = Job::read(example.job)?;
-        expect_job(&rt, &job, 1)?;
-        expect_job(&rt, &job, 64)?;
+        let fields = example.fields();
+        expect_walk(&rt, &fields, 1)?;
+        expect_walk(&rt, &fields, 64)?;
     }
     Ok(())
 }

@@ -8,7 +8,7 @@ use std::test::Fail;
 
 /// Returns the builder of a job of the verb `build`.
 pub fn built(alloc: Global, line: &str) -> Result<StateBuilderNFA, Fail> {
-    Ok(records::builder(alloc, &Job::read(line)?)?)
+    Ok(records::builder(alloc, Job::read(line)?.fields())?)
 }
 
 /// Returns the state of a job of the verb `build`.

@@ -3,136 +3,74 @@
 ghost use Rattle.std.specs.Prelude.{◌≡◌, ◌<◌, length, IfOk};
 ghost use Rattle.determinize_below.specs.Nfa.{AllResolve};
 
-use crate::error::{JobError, Part};
-use crate::job::Job;
-use crate::key::Key;
-use crate::values::LastMatch;
-use crate::{nfas, records, values};
+use crate::{records, values};
 use determinize_below::{HalfMatch, MatchKind, NFA, SparseSet, SparseSets, StateID, Unit};
 use determinize_core::determinize;
 use determinize_core::start::Start;
 use determinize_core::state::{State, StateBuilderEmpty, StateBuilderNFA};
 use determinize_lazy::Lazy;
-use std::alloc::{AllocError, Allocator, Global};
-
-/// Returns the id of a state of the NFA, or an error if it is out of range.
-fn resolved<A: Allocator>(nfa: &NFA<A>, text: &str) -> Result<StateID, JobError>
-    ensures { IfOk result (λ id. id < length nfa.now.states) }
-{
-    let id = values::state_id(text)?;
-    if id.as_usize() < nfa.len() {
-        Ok(id)
-    } else {
-        Err(JobError::Malformed(Part::Unresolved))
-    }
-}
-
-/// The text of a walk: its bytes, and the optional bytes behind and ahead of them.
-#[derive(Drop)]
-struct Text<A: Allocator = Global> {
-    look_behind: Option<u8>,
-    bytes: Vec<u8, A>,
-    look_ahead: Option<u8>,
-}
-
-impl<A: Allocator> Text<A> {
-    /// Returns the text of a walk.
-    fn read(alloc: A, job: &Job<'_>) -> Result<Text<A>, JobError> {
-        Ok(Text {
-            look_behind: values::optional_byte(job.value_or_none(Key::LookBehind))?,
-            bytes: values::bytes(alloc, job.value_or_none(Key::Text))?,
-            look_ahead: values::optional_byte(job.value_or_none(Key::After))?,
-        })
-    }
-}
-
-/// Returns the states of a walk.
-pub fn states<A: Allocator + Copy>(alloc: A, job: &Job<'_>) -> Result<Vec<State<A>, A>, JobError> {
-    states_over(alloc, job, &nfas::nfa(alloc, job)?)
-}
-
-/// Returns the states of a walk over an NFA.
-fn states_over<A: Allocator + Copy>(
-    alloc: A,
-    job: &Job<'_>,
-    nfa: &NFA<A>,
-) -> Result<Vec<State<A>, A>, JobError> {
-    let start = resolved(nfa, job.value(Key::Start).unwrap_or("0"))?;
-    let text = Text::read(alloc, job)?;
-    let states = determinize::walk_between(
-        alloc,
-        nfa,
-        job.match_kind()?,
-        start,
-        text.look_behind,
-        text.bytes.as_slice(),
-        text.look_ahead,
-    )?;
-    Ok(states)
-}
+use example_walks::error::{Part, TextError};
+use example_walks::fields::Fields;
+use example_walks::values::{LastMatch, byte, number, state_id, state_ids};
+use example_walks::walk;
+use std::alloc::{AllocError, Global};
 
 /// Runs `walk`: writes the bytes of each state, and the last match.
-pub fn walk(alloc: Global, job: &Job<'_>, text: &mut String) -> Result<(), JobError> {
-    write_states(text, states(alloc, job)?.as_slice())
+pub fn walk(alloc: Global, fields: &Fields<'_>, text: &mut String) -> Result<(), TextError> {
+    write_states(text, walk::walk(alloc, fields)?.as_slice())
 }
 
 /// Returns the states of a walk through a cache.
 fn cached_states(
     alloc: Global,
-    job: &Job<'_>,
+    fields: &Fields<'_>,
     cache: &mut Lazy<'_>,
-) -> Result<Vec<State>, JobError> {
-    let start = resolved(cache.nfa(), job.value(Key::Start).unwrap_or("0"))?;
-    let text = Text::read(alloc, job)?;
-    let states = cache.walk_between(
-        start,
-        text.look_behind,
-        text.bytes.as_slice(),
-        text.look_ahead,
-    )?;
+) -> Result<Vec<State>, TextError> {
+    let start = walk::resolved(cache.nfa(), fields.start()?)?;
+    let behind = fields.look_behind()?;
+    let text = fields.text(alloc)?;
+    let ahead = fields.look_ahead()?;
+    let states = cache.walk_between(start, behind, text.as_slice(), ahead)?;
     Ok(states)
 }
 
 /// Runs `walk` through a cache.
 pub fn cached_walk(
     alloc: Global,
-    job: &Job<'_>,
+    fields: &Fields<'_>,
     cache: &mut Lazy<'_>,
     text: &mut String,
-) -> Result<(), JobError> {
-    write_states(text, cached_states(alloc, job, cache)?.as_slice())
+) -> Result<(), TextError> {
+    write_states(text, cached_states(alloc, fields, cache)?.as_slice())
 }
 
 /// Runs `walk` by a search through a cache: writes only the last match.
 pub fn search(
     alloc: Global,
-    job: &Job<'_>,
+    fields: &Fields<'_>,
     cache: &mut Lazy<'_>,
     text: &mut String,
-) -> Result<(), JobError> {
-    write_match(text, found(alloc, job, cache)?)?;
+) -> Result<(), TextError> {
+    write_match(text, found(alloc, fields, cache)?)?;
     Ok(())
 }
 
 /// Returns the last match of a walk, by a search through a cache.
 fn found(
     alloc: Global,
-    job: &Job<'_>,
+    fields: &Fields<'_>,
     cache: &mut Lazy<'_>,
-) -> Result<Option<HalfMatch>, JobError> {
-    let start = resolved(cache.nfa(), job.value(Key::Start).unwrap_or("0"))?;
-    let text = Text::read(alloc, job)?;
-    let found = cache.search(
-        start,
-        text.look_behind,
-        text.bytes.as_slice(),
-        text.look_ahead,
-    )?;
+) -> Result<Option<HalfMatch>, TextError> {
+    let start = walk::resolved(cache.nfa(), fields.start()?)?;
+    let behind = fields.look_behind()?;
+    let text = fields.text(alloc)?;
+    let ahead = fields.look_ahead()?;
+    let found = cache.search(start, behind, text.as_slice(), ahead)?;
     Ok(found)
 }
 
 /// Writes the bytes of each state, and the last match.
-fn write_states(text: &mut String, states: &[State]) -> Result<(), JobError> {
+fn write_states(text: &mut String, states: &[State]) -> Result<(), TextError> {
     for state in states {
         values::write_bytes(text, state.as_bytes())?;
     }
@@ -147,44 +85,44 @@ fn write_match(text: &mut String, found: Option<HalfMatch>) -> Result<(), AllocE
 }
 
 /// Runs `readers`: writes the results of the readers of one state of a walk.
-pub fn readers(alloc: Global, job: &Job<'_>, text: &mut String) -> Result<(), JobError> {
-    write_readers(alloc, text, job, states(alloc, job)?.as_slice())
+pub fn readers(alloc: Global, fields: &Fields<'_>, text: &mut String) -> Result<(), TextError> {
+    write_readers(alloc, text, fields, walk::walk(alloc, fields)?.as_slice())
 }
 
 /// Writes the results of the readers of the state that the job selects.
 fn write_readers(
     alloc: Global,
     text: &mut String,
-    job: &Job<'_>,
+    fields: &Fields<'_>,
     states: &[State],
-) -> Result<(), JobError> {
-    let Some(state) = states.get(values::number(job.needed(Key::At)?)?) else {
-        return Err(JobError::Malformed(Part::Position));
+) -> Result<(), TextError> {
+    let Some(state) = states.get(number(fields.value_or_none("at"))?) else {
+        return Err(TextError::Malformed(Part::Position));
     };
     records::write_readers(alloc, text, state)?;
     Ok(())
 }
 
 /// Returns the set of a key of the job, with the capacity of the NFA.
-fn set(alloc: Global, job: &Job<'_>, key: Key, nfa: &NFA) -> Result<SparseSet, JobError>
+fn set(alloc: Global, fields: &Fields<'_>, key: &str, nfa: &NFA) -> Result<SparseSet, TextError>
     ensures { IfOk result (λ set. set.capacity ≡ length nfa.now.states) }
 {
-    let ids = values::state_ids(alloc, job.value_or_none(key))?;
+    let ids = state_ids(alloc, fields.value_or_none(key))?;
     records::set(alloc, nfa.len(), ids.as_slice())
 }
 
 /// Runs `closure`: writes the set after the call.
-pub fn closure(alloc: Global, job: &Job<'_>, text: &mut String) -> Result<(), JobError> {
-    let set = closed_set(alloc, job, &nfas::nfa(alloc, job)?)?;
+pub fn closure(alloc: Global, fields: &Fields<'_>, text: &mut String) -> Result<(), TextError> {
+    let set = closed_set(alloc, fields, &fields.nfa(alloc)?)?;
     write_set(alloc, text, &set)?;
     Ok(())
 }
 
 /// Returns the set of the job after the closure.
-fn closed_set(alloc: Global, job: &Job<'_>, nfa: &NFA) -> Result<SparseSet, JobError> {
-    let start = resolved(nfa, job.needed(Key::From)?)?;
-    let look_have = values::look_set(job.value_or_none(Key::Look))?;
-    let mut set = set(alloc, job, Key::Held, nfa)?;
+fn closed_set(alloc: Global, fields: &Fields<'_>, nfa: &NFA) -> Result<SparseSet, TextError> {
+    let start = walk::resolved(nfa, state_id(fields.value_or_none("from"))?)?;
+    let look_have = values::look_set(fields.value_or_none("look"))?;
+    let mut set = set(alloc, fields, "held", nfa)?;
     let mut stack = Vec::new(alloc);
     determinize::epsilon_closure(nfa, start, look_have, &mut stack, &mut set)?;
     Ok(set)
@@ -199,7 +137,7 @@ fn write_set(alloc: Global, text: &mut String, set: &SparseSet) -> Result<(), Al
 }
 
 /// Returns the start kind of this name.
-fn start_kind(text: &str) -> Result<Start, JobError> {
+fn start_kind(text: &str) -> Result<Start, TextError> {
     match text {
         "NonWordByte" => Ok(Start::NonWordByte),
         "WordByte" => Ok(Start::WordByte),
@@ -207,23 +145,23 @@ fn start_kind(text: &str) -> Result<Start, JobError> {
         "LineLF" => Ok(Start::LineLF),
         "LineCR" => Ok(Start::LineCR),
         "CustomLineTerminator" => Ok(Start::CustomLineTerminator),
-        _ => Err(JobError::Malformed(Part::StartKind)),
+        _ => Err(TextError::Malformed(Part::StartKind)),
     }
 }
 
 /// Runs `lookbehind`: writes the bytes of an empty record with the look-behind of its start.
-pub fn lookbehind(alloc: Global, job: &Job<'_>, text: &mut String) -> Result<(), JobError> {
-    write_lookbehind(alloc, text, job, &nfas::nfa(alloc, job)?)
+pub fn lookbehind(alloc: Global, fields: &Fields<'_>, text: &mut String) -> Result<(), TextError> {
+    write_lookbehind(alloc, text, fields, &fields.nfa(alloc)?)
 }
 
 /// Writes the bytes of an empty record with the look-behind of its start under an NFA.
 fn write_lookbehind(
     alloc: Global,
     text: &mut String,
-    job: &Job<'_>,
+    fields: &Fields<'_>,
     nfa: &NFA,
-) -> Result<(), JobError> {
-    let kind = start_kind(job.needed(Key::Kind)?)?;
+) -> Result<(), TextError> {
+    let kind = start_kind(fields.value_or_none("kind"))?;
     let mut builder = StateBuilderEmpty::new(alloc).into_matches()?;
     determinize::set_lookbehind_from_start(nfa, &kind, &mut builder);
     values::write_bytes(text, builder.into_nfa().as_bytes())?;
@@ -231,33 +169,33 @@ fn write_lookbehind(
 }
 
 /// Returns the unit of a byte or of `eoi`.
-fn unit(text: &str) -> Result<Unit, JobError> {
+fn unit(text: &str) -> Result<Unit, TextError> {
     if text == "eoi" {
         Ok(Unit::eoi(256))
     } else {
-        Ok(Unit::u8(values::byte(text)?))
+        Ok(Unit::u8(byte(text)?))
     }
 }
 
 /// Returns the state of the job's record, or an error if one of its ids is not a state of the NFA.
-fn resolved_state(alloc: Global, job: &Job<'_>, nfa: &NFA) -> Result<State, JobError>
+fn resolved_state(alloc: Global, fields: &Fields<'_>, nfa: &NFA) -> Result<State, TextError>
     ensures { IfOk result (λ state. AllResolve nfa.now state.states) }
 {
-    let state = records::builder(alloc, job)?.to_state()?;
+    let state = records::builder(alloc, fields)?.to_state()?;
     if records::resolves(&state, nfa.len()) {
         Ok(state)
     } else {
-        Err(JobError::Malformed(Part::Unresolved))
+        Err(TextError::Malformed(Part::Unresolved))
     }
 }
 
 /// Returns the two sets of the job, with the capacity of the NFA.
-fn sparse_sets(alloc: Global, job: &Job<'_>, nfa: &NFA) -> Result<SparseSets, JobError>
+fn sparse_sets(alloc: Global, fields: &Fields<'_>, nfa: &NFA) -> Result<SparseSets, TextError>
     ensures set1 { IfOk result (λ sparses. sparses.set1.capacity ≡ length nfa.now.states) }
     ensures set2 { IfOk result (λ sparses. sparses.set2.capacity ≡ length nfa.now.states) }
 {
-    let held1 = values::state_ids(alloc, job.value_or_none(Key::Set1))?;
-    let held2 = values::state_ids(alloc, job.value_or_none(Key::Set2))?;
+    let held1 = state_ids(alloc, fields.value_or_none("set1"))?;
+    let held2 = state_ids(alloc, fields.value_or_none("set2"))?;
     filled_sets(alloc, nfa, held1.as_slice(), held2.as_slice())
 }
 
@@ -267,7 +205,7 @@ fn filled_sets(
     nfa: &NFA,
     held1: &[StateID],
     held2: &[StateID],
-) -> Result<SparseSets, JobError>
+) -> Result<SparseSets, TextError>
     ensures set1 { IfOk result (λ sparses. sparses.set1.capacity ≡ length nfa.now.states) }
     ensures set2 { IfOk result (λ sparses. sparses.set2.capacity ≡ length nfa.now.states) }
 {
@@ -281,13 +219,13 @@ fn filled_sets(
 fn write_next(
     alloc: Global,
     text: &mut String,
-    job: &Job<'_>,
+    fields: &Fields<'_>,
     nfa: &NFA,
     kind: MatchKind,
     unit: Unit,
-) -> Result<(), JobError> {
-    let state = resolved_state(alloc, job, nfa)?;
-    let mut sparses = sparse_sets(alloc, job, nfa)?;
+) -> Result<(), TextError> {
+    let state = resolved_state(alloc, fields, nfa)?;
+    let mut sparses = sparse_sets(alloc, fields, nfa)?;
     let next = next_after(alloc, nfa, kind, &mut sparses, &state, unit)?;
     values::write_bytes(text, next.as_bytes())?;
     Ok(())
@@ -312,23 +250,27 @@ fn next_after(
 }
 
 /// Runs `next`: writes the bytes of the next state after the job's record.
-pub fn next_state(alloc: Global, job: &Job<'_>, text: &mut String) -> Result<(), JobError> {
-    let kind = job.match_kind()?;
-    let unit = unit(job.needed(Key::Unit)?)?;
-    write_next(alloc, text, job, &nfas::nfa(alloc, job)?, kind, unit)
+pub fn next_state(alloc: Global, fields: &Fields<'_>, text: &mut String) -> Result<(), TextError> {
+    let kind = fields.match_kind()?;
+    let unit = unit(fields.value_or_none("unit"))?;
+    write_next(alloc, text, fields, &fields.nfa(alloc)?, kind, unit)
 }
 
 /// Runs `addstates`: writes the bytes of the job's record with the states of a set added.
-pub fn addstates(alloc: Global, job: &Job<'_>, text: &mut String) -> Result<(), JobError> {
-    let builder = added_states(alloc, job, &nfas::nfa(alloc, job)?)?;
+pub fn addstates(alloc: Global, fields: &Fields<'_>, text: &mut String) -> Result<(), TextError> {
+    let builder = added_states(alloc, fields, &fields.nfa(alloc)?)?;
     values::write_bytes(text, builder.as_bytes())?;
     Ok(())
 }
 
 /// Returns the job's record with the states of a set added.
-fn added_states(alloc: Global, job: &Job<'_>, nfa: &NFA) -> Result<StateBuilderNFA, JobError> {
-    let mut builder = records::builder(alloc, job)?;
-    let set = set(alloc, job, Key::Set, nfa)?;
+fn added_states(
+    alloc: Global,
+    fields: &Fields<'_>,
+    nfa: &NFA,
+) -> Result<StateBuilderNFA, TextError> {
+    let mut builder = records::builder(alloc, fields)?;
+    let set = set(alloc, fields, "set", nfa)?;
     determinize::add_nfa_states(nfa, &set, &mut builder)?;
     Ok(builder)
 }

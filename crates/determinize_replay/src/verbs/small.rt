@@ -1,30 +1,30 @@
 //! The verbs without an NFA.
 
-use crate::error::{JobError, Part};
-use crate::job::Job;
-use crate::key::Key;
-use crate::{nfas, records, values};
+use crate::{records, values};
 use determinize_below::{Input, LookMatcher, NFA, PatternID, StateID, nfa};
 use determinize_core::start::{Config, Start, StartByteMap};
 use determinize_core::state::State;
+use example_walks::error::{Part, TextError};
+use example_walks::fields::Fields;
+use example_walks::values::{bytes, number, optional_byte};
 use std::alloc::{AllocError, Global};
 
 /// Runs `start`: writes the start kind and the look-behind byte of a range of a haystack.
-pub fn start(alloc: Global, job: &Job<'_>, text: &mut String) -> Result<(), JobError> {
-    let haystack = values::bytes(alloc, job.value_or_none(Key::Haystack))?;
-    let look_behind = look_behind(job, haystack.as_slice())?;
-    write_start(text, &nfas::matcher(job)?, look_behind)?;
+pub fn start(alloc: Global, fields: &Fields<'_>, text: &mut String) -> Result<(), TextError> {
+    let haystack = bytes(alloc, fields.value_or_none("hay"))?;
+    let look_behind = look_behind(fields, haystack.as_slice())?;
+    write_start(text, &fields.matcher()?, look_behind)?;
     Ok(())
 }
 
 /// Returns the look-behind byte of the job's range of a haystack, in the job's direction.
-fn look_behind(job: &Job<'_>, haystack: &[u8]) -> Result<Option<u8>, JobError> {
-    let (start, end) = range(job.needed(Key::Range)?)?;
+fn look_behind(fields: &Fields<'_>, haystack: &[u8]) -> Result<Option<u8>, TextError> {
+    let (start, end) = range(fields.value_or_none("range"))?;
     if end > haystack.len() || start > end + 1 {
-        return Err(JobError::Malformed(Part::Range));
+        return Err(TextError::Malformed(Part::Range));
     }
     let input = Input::new(haystack).range(start..end);
-    let config = if job.is_reverse()? {
+    let config = if fields.is_reverse()? {
         Config::from_input_reverse(&input)
     } else {
         Config::from_input_forward(&input)
@@ -33,11 +33,11 @@ fn look_behind(job: &Job<'_>, haystack: &[u8]) -> Result<Option<u8>, JobError> {
 }
 
 /// Returns the start and the end of a range such as `0..3`.
-fn range(text: &str) -> Result<(usize, usize), JobError> {
+fn range(text: &str) -> Result<(usize, usize), TextError> {
     let Some((start, end)) = text.split_once("..") else {
-        return Err(JobError::Malformed(Part::Range));
+        return Err(TextError::Malformed(Part::Range));
     };
-    Ok((values::number(start)?, values::number(end)?))
+    Ok((number(start)?, number(end)?))
 }
 
 /// Writes the start kind of a look-behind byte, and the byte.
@@ -59,9 +59,9 @@ fn write_start(
 }
 
 /// Runs `bytemap`: writes the start kind of a byte, or of each.
-pub fn bytemap(job: &Job<'_>, text: &mut String) -> Result<(), JobError> {
-    let map = StartByteMap::new(&nfas::matcher(job)?);
-    let asked = values::optional_byte(job.value_or_none(Key::Byte))?;
+pub fn bytemap(fields: &Fields<'_>, text: &mut String) -> Result<(), TextError> {
+    let map = StartByteMap::new(&fields.matcher()?);
+    let asked = optional_byte(fields.value_or_none("byte"))?;
     for byte in 0..=255 {
         if asked.unwrap_or(byte) == byte {
             let kind = map.get(byte);
@@ -72,8 +72,8 @@ pub fn bytemap(job: &Job<'_>, text: &mut String) -> Result<(), JobError> {
 }
 
 /// Runs `fromusize`: writes the start kind with a number.
-pub fn fromusize(job: &Job<'_>, text: &mut String) -> Result<(), JobError> {
-    match Start::from_usize(values::number(job.needed(Key::Number)?)?) {
+pub fn fromusize(fields: &Fields<'_>, text: &mut String) -> Result<(), TextError> {
+    match Start::from_usize(number(fields.value_or_none("n"))?) {
         Some(kind) => writeln!(text, "some {kind:?}")?,
         None => text.push_str("none\n")?,
     }
@@ -81,15 +81,15 @@ pub fn fromusize(job: &Job<'_>, text: &mut String) -> Result<(), JobError> {
 }
 
 /// Runs `dead`: writes the bytes of the dead state.
-pub fn dead(alloc: Global, text: &mut String) -> Result<(), JobError> {
+pub fn dead(alloc: Global, text: &mut String) -> Result<(), TextError> {
     let state = State::dead(alloc)?;
     values::write_bytes(text, state.as_bytes())?;
     Ok(())
 }
 
 /// Runs `build`: writes the bytes of the job's record, and the results of its readers.
-pub fn build(alloc: Global, job: &Job<'_>, text: &mut String) -> Result<(), JobError> {
-    let builder = records::builder(alloc, job)?;
+pub fn build(alloc: Global, fields: &Fields<'_>, text: &mut String) -> Result<(), TextError> {
+    let builder = records::builder(alloc, fields)?;
     values::write_bytes(text, builder.as_bytes())?;
     let state = builder.to_state()?;
     records::write_readers(alloc, text, &state)?;
@@ -98,9 +98,9 @@ pub fn build(alloc: Global, job: &Job<'_>, text: &mut String) -> Result<(), JobE
 
 /// Runs `size`: writes the number of states of an NFA of `states` states, of which the first
 /// `matches` are `Match` states.
-pub fn size(alloc: Global, job: &Job<'_>, text: &mut String) -> Result<(), JobError> {
-    let count = values::number(job.needed(Key::States)?)?;
-    let matches = values::number(job.needed(Key::Matches)?)?;
+pub fn size(alloc: Global, fields: &Fields<'_>, text: &mut String) -> Result<(), TextError> {
+    let count = number(fields.value_or_none("states"))?;
+    let matches = number(fields.value_or_none("matches"))?;
     let states = states(alloc, count, matches)?;
     let matcher = LookMatcher::new();
     let nfa = NFA::from_parts(alloc, states, StateID::ZERO, StateID::ZERO, false, matcher)?;

@@ -8,12 +8,12 @@ use crate::tests::{ended, same};
 use determinize_below::{Anchored, Input, LookMatcher, MatchKind, NFA, PatternID, StateID};
 use determinize_core::state::State;
 use determinize_dense::{Dfa, DfaError};
-use determinize_replay::error::JobError;
-use determinize_replay::examples::examples;
-use determinize_replay::job::Job;
-use determinize_replay::key::Key;
-use determinize_replay::values::LastMatch;
-use determinize_replay::{nfas, values, verbs};
+use determinize_replay::outputs::output_of;
+use example_walks::error::TextError;
+use example_walks::examples::examples;
+use example_walks::fields::Fields;
+use example_walks::values::LastMatch;
+use example_walks::{states, walk};
 use failing_alloc::FailingAllocator;
 use std::alloc::{Allocator, Global};
 use std::process::Abort;
@@ -76,10 +76,10 @@ static ROWS: [Row; 5] = [
 ];
 
 /// Returns the NFA of these states, which reads forward and whose unanchored start is 0.
-pub fn nfa(alloc: Global, states: &str, start_anchored: StateID) -> Result<NFA, JobError>
+pub fn nfa(alloc: Global, states: &str, start_anchored: StateID) -> Result<NFA, TextError>
     ensures { IfOk result (λ nfa. nfa.reverse ≡ false) }
 {
-    let states = nfas::states(alloc, states)?;
+    let states = states::states(alloc, states)?;
     let matcher = LookMatcher::new();
     let nfa = NFA::from_parts(alloc, states, start_anchored, StateID::ZERO, false, matcher)?;
     Ok(nfa)
@@ -126,15 +126,6 @@ fn dense_counts(rt: HostRuntime) -> Result<(), Fail> {
     Ok(())
 }
 
-/// Returns the NFA of a job, with the start of the job as both of its starts.
-fn nfa_of_job(alloc: Global, job: &Job<'_>) -> Result<NFA, JobError> {
-    let states = nfas::states(alloc, job.states())?;
-    let start = values::state_id(job.value(Key::Start).unwrap_or("0"))?;
-    let matcher = nfas::matcher(job)?;
-    let nfa = NFA::from_parts(alloc, states, start, start, job.is_reverse()?, matcher)?;
-    Ok(nfa)
-}
-
 /// The text of a walk, and the bytes around it.
 #[derive(Clone, Copy)]
 struct Around<'t> {
@@ -176,7 +167,7 @@ fn expect_both<R: Abort + AllocGlobal>(
 }
 
 /// Returns the patterns of the last of these states.
-fn last_patterns(alloc: Global, states: &[State]) -> Result<Vec<PatternID>, JobError> {
+fn last_patterns(alloc: Global, states: &[State]) -> Result<Vec<PatternID>, TextError> {
     let Some(last) = states.last() else {
         return Ok(Vec::new(alloc));
     };
@@ -187,17 +178,17 @@ fn last_patterns(alloc: Global, states: &[State]) -> Result<Vec<PatternID>, JobE
 /// match, and that the patterns where the text ends are those of its last state.
 fn expect_walk<R: Abort + AllocGlobal>(
     rt: &R,
-    job: &Job<'_>,
+    fields: &Fields<'_>,
     dfa: &Dfa<'_>,
     last: &str,
 ) -> Result<(), Fail> {
-    let text = values::bytes(rt.alloc(), job.value_or_none(Key::Text))?;
+    let text = fields.text(rt.alloc())?;
     let around = Around {
-        look_behind: values::optional_byte(job.value_or_none(Key::LookBehind))?,
+        look_behind: fields.look_behind()?,
         text: text.as_slice(),
-        look_ahead: values::optional_byte(job.value_or_none(Key::After))?,
+        look_ahead: fields.look_ahead()?,
     };
-    let states = verbs::walk_states(rt.alloc(), job)?;
+    let states = walk::walk(rt.alloc(), fields)?;
     let patterns = last_patterns(rt.alloc(), states.as_slice())?;
     expect_both(rt, dfa, &around, last, patterns.as_slice())
 }
@@ -205,10 +196,10 @@ fn expect_walk<R: Abort + AllocGlobal>(
 /// Builds the DFA of a walk, of at most 1000 states, and asserts it of both. Returns whether there
 /// are so few.
 fn expect_job<R: Abort + AllocGlobal>(rt: &R, line: &str, last: &str) -> Result<bool, Fail> {
-    let job = Job::read(line)?;
-    let nfa = nfa_of_job(rt.alloc(), &job)?;
-    match Dfa::build(rt.alloc(), &nfa, job.match_kind()?, 1000) {
-        Ok(dfa) => expect_walk(rt, &job, &dfa, last)?,
+    let (_, fields) = Fields::split(line);
+    let nfa = fields.nfa_from(rt.alloc(), fields.start()?)?;
+    match Dfa::build(rt.alloc(), &nfa, fields.match_kind()?, 1000) {
+        Ok(dfa) => expect_walk(rt, &fields, &dfa, last)?,
         Err(error) => {
             same(rt, error, DfaError::TooManyStates);
             return Ok(false);
@@ -222,7 +213,7 @@ fn expect_job<R: Abort + AllocGlobal>(rt: &R, line: &str, last: &str) -> Result<
 fn dense_walks(rt: HostRuntime) -> Result<(), Fail> {
     let mut count = 0u32;
     for example in examples() {
-        let last = example.output.lines().last().unwrap_or("");
+        let last = output_of(example.name).lines().last().unwrap_or("");
         same(&rt, expect_job(&rt, example.job, last)?, true);
         count = count.saturating_add(1);
     }
@@ -287,7 +278,7 @@ fn minimize<R: Abort, A: Allocator + Copy>(
     rt: &R,
     alloc: A,
     dfa: &Dfa<'_, Global, A>,
-) -> Result<(), JobError> {
+) -> Result<(), TextError> {
     let smallest = dfa.minimize(alloc)?;
     same(rt, (dfa.len(), smallest.len()), (5, 4));
     Ok(())
@@ -297,13 +288,13 @@ fn minimize<R: Abort, A: Allocator + Copy>(
 pub fn build_and_minimize<R: Abort + AllocGlobal, A: Allocator + Copy>(
     rt: &R,
     alloc: A,
-) -> Result<(), JobError> {
+) -> Result<(), TextError> {
     let nfa = nfa(rt.alloc(), ROWS[0].states, StateID::ZERO)?;
     match Dfa::build(alloc, &nfa, MatchKind::All, 5) {
         Ok(dfa) => minimize(rt, alloc, &dfa),
         Err(error) => {
             same(rt, error, DfaError::OutOfMemory);
-            Err(JobError::OutOfMemory)
+            Err(TextError::OutOfMemory)
         }
     }
 }

@@ -14,9 +14,9 @@ use determinize_below::{Input, LookMatcher, MatchKind, NFA, StateID};
 use determinize_dense::Dfa;
 use determinize_find::{LazyRegex, Match, Pieces, Regex, Searcher, has_prefix, plain, reversed};
 use determinize_lazy::Lazy;
-use determinize_replay::error::JobError;
-use determinize_replay::nfas;
 use determinize_uses::steady;
+use example_walks::error::{Part, TextError};
+use example_walks::states;
 use std::alloc::{AllocError, Allocator, Global};
 use std::process::Abort;
 use std::test::Fail;
@@ -86,17 +86,17 @@ static ROWS: [Row; 9] = [
 ];
 
 /// Returns an NFA that reads forward, with the usual prefix in its first two states.
-pub fn nfa(alloc: Global, states: &str) -> Result<NFA, JobError>
+pub fn nfa(alloc: Global, states: &str) -> Result<NFA, TextError>
     ensures forward { IfOk result (λ nfa. nfa.reverse ≡ false) }
     ensures prefix { IfOk result (λ nfa. HasPrefix nfa) }
 {
-    let states = nfas::states(alloc, states)?;
+    let states = states::states(alloc, states)?;
     let (anchored, matcher) = (StateID::must(2), LookMatcher::new());
     let nfa = NFA::from_parts(alloc, states, anchored, StateID::ZERO, false, matcher)?;
     if has_prefix(&nfa) {
         Ok(nfa)
     } else {
-        Err(JobError::NoStates)
+        Err(TextError::Malformed(Part::State))
     }
 }
 
@@ -289,7 +289,7 @@ pub fn search_plain<R: Abort + AllocGlobal, A: Allocator + Copy>(
     row: &Row,
     limit: usize,
     search: PlainSearch,
-) -> Result<(), JobError> {
+) -> Result<(), TextError> {
     let nfa = nfa(rt.alloc(), row.states)?;
     let mut lazy = Lazy::new(alloc, &nfa, MatchKind::LeftmostFirst, limit);
     find_plain(rt, alloc, &mut lazy, row, search)?;
@@ -303,7 +303,7 @@ pub fn search_regex<R: Abort + AllocGlobal, A: Allocator + Copy>(
     row: &Row,
     limit: usize,
     search: Search,
-) -> Result<(), JobError> {
+) -> Result<(), TextError> {
     let nfa = nfa(rt.alloc(), row.states)?;
     let backward = reversed(alloc, &nfa)?;
     let mut regex = Regex::new(alloc, &nfa, &backward, limit);

@@ -11,11 +11,11 @@ use determinize_below::nfa::State;
 use determinize_below::{Anchored, HalfMatch, Input, MatchKind, NFA, StateID, Transition};
 use determinize_find::{LazyRegex, Match, Regex, plain, prefix, reversed};
 use determinize_lazy::Lazy;
-use determinize_replay::examples::examples;
 use determinize_replay::job::Job;
-use determinize_replay::key::Key;
-use determinize_replay::values::LastMatch;
-use determinize_replay::{nfas, values};
+use example_walks::examples::examples;
+use example_walks::fields::Fields;
+use example_walks::states;
+use example_walks::values::LastMatch;
 use std::alloc::{AllocError, Global};
 use std::process::Abort;
 use std::test::Fail;
@@ -76,16 +76,16 @@ struct Place {
 }
 
 impl Place {
-    /// Returns the place of the text of a job.
-    fn of(alloc: Global, job: &Job<'_>) -> Result<Place, Fail> {
+    /// Returns the place of the text of a walk.
+    fn of(alloc: Global, fields: &Fields<'_>) -> Result<Place, Fail> {
         let mut haystack = Vec::new(alloc);
-        if let Some(byte) = values::optional_byte(job.value_or_none(Key::LookBehind))? {
+        if let Some(byte) = fields.look_behind()? {
             haystack.push(byte)?;
         }
         let start = haystack.len();
-        haystack.extend_from_slice(values::bytes(alloc, job.value_or_none(Key::Text))?.as_slice())?;
+        haystack.extend_from_slice(fields.text(alloc)?.as_slice())?;
         let end = haystack.len();
-        if let Some(byte) = values::optional_byte(job.value_or_none(Key::After))? {
+        if let Some(byte) = fields.look_ahead()? {
             haystack.push(byte)?;
         }
         Ok(Place {
@@ -126,14 +126,14 @@ fn add_prefix(states: &mut Vec<State>, start: StateID) -> Result<StateID, Fail> 
     Ok(any)
 }
 
-/// Returns the NFA of a job for forward scans, with the usual prefix before its start.
-fn prefixed(alloc: Global, job: &Job<'_>) -> Result<NFA, Fail>
+/// Returns the NFA of a walk for forward scans, with the usual prefix before its start.
+fn prefixed(alloc: Global, fields: &Fields<'_>) -> Result<NFA, Fail>
     ensures forward { IfOk result (λ nfa. nfa.reverse ≡ false) }
     ensures prefix { IfOk result (λ nfa. HasPrefix nfa) }
 {
-    let start = values::state_id(job.value(Key::Start).unwrap_or("0"))?;
-    let matcher = nfas::matcher(job)?;
-    let mut states = nfas::states(alloc, job.states())?;
+    let start = fields.start()?;
+    let matcher = fields.matcher()?;
+    let mut states = states::states(alloc, fields.states.unwrap_or(""))?;
     let any = add_prefix(&mut states, start)?;
     let nfa = NFA::from_parts(alloc, states, start, any, false, matcher)?;
     if prefix::has_prefix(&nfa) {
@@ -201,18 +201,22 @@ fn expect_in<R: Abort + AllocGlobal>(
     expect_place(rt, &mut lazy, &mut regex, place)
 }
 
-/// Returns the match of the text of a job by [`expect_place`].
-fn expect_job<R: Abort + AllocGlobal>(rt: &R, job: &Job<'_>) -> Result<Option<Match>, Fail> {
-    let nfa = prefixed(rt.alloc(), job)?;
-    let place = Place::of(rt.alloc(), job)?;
+/// Returns the match of the text of a walk by [`expect_place`].
+fn expect_walk<R: Abort + AllocGlobal>(rt: &R, fields: &Fields<'_>) -> Result<Option<Match>, Fail> {
+    let nfa = prefixed(rt.alloc(), fields)?;
+    let place = Place::of(rt.alloc(), fields)?;
     expect_in(rt, &nfa, &place)
 }
 
 /// Asserts that the leftmost match that begins with the text is the last match of the walk. Under
 /// `All` that may be another match, so then only that there is one.
-fn expect_stored<R: Abort + AllocGlobal>(rt: &R, job: &Job<'_>, last: &str) -> Result<(), Fail> {
-    let found = expect_job(rt, job)?;
-    if job.match_kind()? == MatchKind::All {
+fn expect_stored<R: Abort + AllocGlobal>(
+    rt: &R,
+    fields: &Fields<'_>,
+    last: &str,
+) -> Result<(), Fail> {
+    let found = expect_walk(rt, fields)?;
+    if fields.match_kind()? == MatchKind::All {
         same(rt, found.is_none(), last == "none");
         return Ok(());
     }
@@ -225,13 +229,13 @@ fn expect_stored<R: Abort + AllocGlobal>(rt: &R, job: &Job<'_>, last: &str) -> R
 #[test]
 fn stored_walks(rt: HostRuntime) -> Result<(), Fail> {
     for example in examples() {
-        expect_job(&rt, &Job::read(example.job)?)?;
+        expect_walk(&rt, &example.fields())?;
     }
     for line in STORED.lines() {
         let Some((job, last)) = line.split_once(" = ") else {
             return Err(Fail::new("a line has a job and a match"));
         };
-        expect_stored(&rt, &Job::read(job)?, last)?;
+        expect_stored(&rt, Job::read(job)?.fields(), last)?;
     }
     Ok(())
 }

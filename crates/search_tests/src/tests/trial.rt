@@ -1,7 +1,7 @@
 //! What is done while each allocation fails in turn.
 
 use crate::tests::{dense, find, same, uses};
-use determinize_replay::error::JobError;
+use example_walks::error::TextError;
 use failing_alloc::{FailingAllocator, Outcome, fail_each_allocation};
 use std::alloc::{AllocError, Allocator, Global};
 use std::process::Abort;
@@ -26,7 +26,7 @@ impl Trial<'_> {
         &self,
         rt: &R,
         alloc: A,
-    ) -> Result<(), JobError> {
+    ) -> Result<(), TextError> {
         match *self {
             Trial::Build => uses::build(rt, alloc),
             Trial::SearchPlain(row, limit, search) => {
@@ -43,13 +43,13 @@ fn has_run<R: Abort + AllocGlobal>(
     rt: &R,
     heap: &FailingAllocator<Global>,
     trial: &Trial<'_>,
-) -> Result<bool, JobError> {
+) -> Result<bool, TextError> {
     heap.begin();
     let outcome = trial.run(rt, heap);
     heap.end();
     match outcome {
         Ok(()) => Ok(true),
-        Err(JobError::OutOfMemory) => Ok(false),
+        Err(TextError::OutOfMemory) => Ok(false),
         Err(error) => Err(error),
     }
 }

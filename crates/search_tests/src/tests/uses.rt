@@ -11,8 +11,8 @@ use determinize_below::{
 use determinize_core::start::Start;
 use determinize_find::Builder;
 use determinize_lazy::Lazy;
-use determinize_replay::error::JobError;
 use determinize_uses::{built, cache, input, lexer, nfa, scanner, search, values, walk};
+use example_walks::error::TextError;
 use std::alloc::{AllocError, Allocator};
 use std::process::Abort;
 use std::test::Fail;
@@ -145,7 +145,7 @@ fn expect_lines<R: Abort + AllocGlobal, A: Allocator + Copy>(
 pub fn build<R: Abort + AllocGlobal, A: Allocator + Copy>(
     rt: &R,
     alloc: A,
-) -> Result<(), JobError> {
+) -> Result<(), TextError> {
     expect_lines(rt, alloc, true)?;
     expect_lines(rt, alloc, false)?;
     Ok(())

@@ -1,8 +1,8 @@
 -- A test of the names of examples is a test of the examples.
 use Rattle.std.proofs.Common.{◌≡◌, ◌∷◌, ◌||◌, [], refl, ap, ℕ, Bool, List, map, bytes_eq}
 use Rattle.std.specs.List.{list_any}
-use Rattle.determinize_replay.specs.Names.{has_name, names_of}
-use Rattle.determinize_replay.specs.declared.examples.Example.{Example}
+use Rattle.example_walks.specs.Names.{has_name, names_of}
+use Rattle.example_walks.specs.declared.examples.Example.{Example}
 
 -- a test of images
 any_map : {A B : Type 0} (p : B → Bool) (f : A → B) (xs : List A) → list_any (λ x. p (f x)) xs ≡ list_any p (map f xs)

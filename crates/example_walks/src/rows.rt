@@ -1,13 +1,12 @@
 //! The work of the program `rows`, over any two writers.
 
 ghost use Rattle.std.specs.Prelude.{◌≡◌, ◌≤◌, ◌↔◌, ◌⊎◌, false, IfErr, IsErrOf, IsOk};
-ghost use Rattle.determinize_replay.specs.Names.{are_name};
+ghost use Rattle.example_walks.specs.Names.{are_name};
 
-use crate::error::JobError;
+use crate::error::TextError;
 use crate::examples::{Example, named};
-use crate::job::Job;
 use crate::values::{Hex, LastMatch};
-use crate::verbs;
+use crate::walk;
 use determinize_core::determinize;
 use determinize_core::state::State;
 use std::alloc::Allocator;
@@ -46,24 +45,24 @@ impl RowError {
     }
 }
 
-impl From<JobError> for RowError {
-    ghost use Rattle.determinize_replay.specs.declared.rows.RowError.TheVariants.{
+impl From<TextError> for RowError {
+    ghost use Rattle.example_walks.specs.declared.rows.RowError.TheVariants.{
       NoWalk,
       OutOfMemory,
     };
 
     ghost from_gives = { λ _ e. (e ≡ OutOfMemory) ⊎ (e ≡ NoWalk) };
 
-    fn from(error: JobError) -> RowError {
+    fn from(error: TextError) -> RowError {
         match error {
-            JobError::OutOfMemory => RowError::OutOfMemory,
+            TextError::OutOfMemory => RowError::OutOfMemory,
             _ => RowError::NoWalk,
         }
     }
 }
 
 impl From<io::Error> for RowError {
-    ghost use Rattle.determinize_replay.specs.declared.rows.RowError.TheVariants.{Output};
+    ghost use Rattle.example_walks.specs.declared.rows.RowError.TheVariants.{Output};
 
     ghost from_gives = { λ _ e. e ≡ Output };
 
@@ -139,10 +138,7 @@ fn print_row<A: Allocator + Copy, W: Write>(
 fn states_of<A: Allocator + Copy>(alloc: A, example: &Example) -> Result<Vec<State<A>, A>, RowError>
     ensures { IfErr result (λ error. ¬ (error ≡ RowError.NoSuchRow)) }
 {
-    let Ok(job) = Job::read(example.job) else {
-        return Err(RowError::NoWalk);
-    };
-    let states = verbs::walk_states(alloc, &job)?;
+    let states = walk::walk(alloc, &example.fields())?;
     Ok(states)
 }
 

@@ -1,39 +1,13 @@
-//! Parses the NFA of a job.
+//! Reads the states of an NFA.
 
-use crate::error::{JobError, Part};
-use crate::job::Job;
-use crate::key::Key;
+use crate::error::{Part, TextError};
 use crate::values;
 use determinize_below::nfa::State;
-use determinize_below::{
-    DenseTransitions, LookMatcher, NFA, SparseTransitions, StateID, Transition,
-};
+use determinize_below::{DenseTransitions, SparseTransitions, StateID, Transition};
 use std::alloc::Allocator;
 
-/// Returns the matcher with the job's line terminator.
-pub fn matcher(job: &Job<'_>) -> Result<LookMatcher, JobError> {
-    let mut matcher = LookMatcher::new();
-    if let Some(text) = job.value(Key::Terminator) {
-        matcher.set_line_terminator(values::byte(text)?);
-    }
-    Ok(matcher)
-}
-
-/// Returns the NFA of the job. Both start states are state 0.
-pub fn nfa<A: Allocator + Copy>(alloc: A, job: &Job<'_>) -> Result<NFA<A>, JobError> {
-    let nfa = NFA::from_parts(
-        alloc,
-        states(alloc, job.states())?,
-        StateID::ZERO,
-        StateID::ZERO,
-        job.is_reverse()?,
-        matcher(job)?,
-    )?;
-    Ok(nfa)
-}
-
 /// Returns the states of a text, one word each.
-pub fn states<A: Allocator + Copy>(alloc: A, text: &str) -> Result<Vec<State<A>, A>, JobError> {
+pub fn states<A: Allocator + Copy>(alloc: A, text: &str) -> Result<Vec<State<A>, A>, TextError> {
     let mut states = Vec::new(alloc);
     for word in text.split(' ') {
         if !word.is_empty() {
@@ -45,7 +19,7 @@ pub fn states<A: Allocator + Copy>(alloc: A, text: &str) -> Result<Vec<State<A>,
 }
 
 /// Returns the state of a word such as `BU:4,1`.
-fn state<A: Allocator + Copy>(alloc: A, word: &str) -> Result<State<A>, JobError> {
+fn state<A: Allocator + Copy>(alloc: A, word: &str) -> Result<State<A>, TextError> {
     let (kind, parts) = word.split_once(':').unwrap_or((word, ""));
     match kind {
         "B" => byte_range(parts),
@@ -57,14 +31,14 @@ fn state<A: Allocator + Copy>(alloc: A, word: &str) -> Result<State<A>, JobError
         "C" => capture(parts),
         "F" => Ok(State::Fail),
         "M" => matching(parts),
-        _ => Err(JobError::Malformed(Part::State)),
+        _ => Err(TextError::Malformed(Part::State)),
     }
 }
 
 /// Returns the transition of a text such as `61-7a>1` or `61>1`.
-fn transition(text: &str) -> Result<Transition, JobError> {
+fn transition(text: &str) -> Result<Transition, TextError> {
     let Some((range, next)) = text.split_once('>') else {
-        return Err(JobError::Malformed(Part::Transition));
+        return Err(TextError::Malformed(Part::Transition));
     };
     let (start, end) = ends(range)?;
     Ok(Transition {
@@ -75,20 +49,20 @@ fn transition(text: &str) -> Result<Transition, JobError> {
 }
 
 /// Returns the first and the last byte of a range such as `61-7a` or `61`.
-fn ends(range: &str) -> Result<(u8, u8), JobError> {
+fn ends(range: &str) -> Result<(u8, u8), TextError> {
     let (start, end) = range.split_once('-').unwrap_or((range, range));
     Ok((values::byte(start)?, values::byte(end)?))
 }
 
 /// Returns a state with one transition.
-fn byte_range<A: Allocator>(parts: &str) -> Result<State<A>, JobError> {
+fn byte_range<A: Allocator>(parts: &str) -> Result<State<A>, TextError> {
     Ok(State::ByteRange {
         trans: transition(parts)?,
     })
 }
 
 /// Returns a sparse state.
-fn sparse<A: Allocator + Copy>(alloc: A, parts: &str) -> Result<State<A>, JobError> {
+fn sparse<A: Allocator + Copy>(alloc: A, parts: &str) -> Result<State<A>, TextError> {
     let mut transitions = Vec::new(alloc);
     if !parts.is_empty() {
         for part in parts.split(',') {
@@ -101,13 +75,13 @@ fn sparse<A: Allocator + Copy>(alloc: A, parts: &str) -> Result<State<A>, JobErr
 
 /// Returns a dense state. Returns an error for a range whose first byte is above its last, since it
 /// would write nothing.
-fn dense<A: Allocator + Copy>(alloc: A, parts: &str) -> Result<State<A>, JobError> {
+fn dense<A: Allocator + Copy>(alloc: A, parts: &str) -> Result<State<A>, TextError> {
     let mut table = [StateID::ZERO; 256];
     if !parts.is_empty() {
         for part in parts.split(',') {
             let read = transition(part)?;
             if read.start > read.end {
-                return Err(JobError::Malformed(Part::ByteRange));
+                return Err(TextError::Malformed(Part::ByteRange));
             }
             write_range(&mut table, read);
         }
@@ -124,9 +98,9 @@ fn write_range(table: &mut [StateID; 256], transition: Transition) {
 }
 
 /// Returns a `Look` state.
-fn look<A: Allocator>(parts: &str) -> Result<State<A>, JobError> {
+fn look<A: Allocator>(parts: &str) -> Result<State<A>, TextError> {
     let Some((name, next)) = parts.split_once('>') else {
-        return Err(JobError::Malformed(Part::Look));
+        return Err(TextError::Malformed(Part::Look));
     };
     Ok(State::Look {
         look: values::look(name)?,
@@ -135,16 +109,16 @@ fn look<A: Allocator>(parts: &str) -> Result<State<A>, JobError> {
 }
 
 /// Returns a union.
-fn union<A: Allocator + Copy>(alloc: A, parts: &str) -> Result<State<A>, JobError> {
+fn union<A: Allocator + Copy>(alloc: A, parts: &str) -> Result<State<A>, TextError> {
     Ok(State::Union {
         alternates: values::state_ids(alloc, parts)?,
     })
 }
 
 /// Returns a union of two states.
-fn binary_union<A: Allocator>(parts: &str) -> Result<State<A>, JobError> {
+fn binary_union<A: Allocator>(parts: &str) -> Result<State<A>, TextError> {
     let Some((first, second)) = parts.split_once(',') else {
-        return Err(JobError::Malformed(Part::Union));
+        return Err(TextError::Malformed(Part::Union));
     };
     Ok(State::BinaryUnion {
         alt1: values::state_id(first)?,
@@ -153,14 +127,14 @@ fn binary_union<A: Allocator>(parts: &str) -> Result<State<A>, JobError> {
 }
 
 /// Returns a capture.
-fn capture<A: Allocator>(parts: &str) -> Result<State<A>, JobError> {
+fn capture<A: Allocator>(parts: &str) -> Result<State<A>, TextError> {
     Ok(State::Capture {
         next: values::state_id(parts)?,
     })
 }
 
 /// Returns a `Match` state.
-fn matching<A: Allocator>(parts: &str) -> Result<State<A>, JobError> {
+fn matching<A: Allocator>(parts: &str) -> Result<State<A>, TextError> {
     Ok(State::Match {
         pattern_id: values::pattern_id(parts)?,
     })

@@ -1,7 +1,7 @@
 -- The names of the example walks.
 use Rattle.std.specs.Prelude.{ℕ, Bool, false, List, [], ◌∷◌, String, bytes_eq, codes, map, string_bytes}
 use Rattle.std.specs.List.{list_any}
-use Rattle.determinize_replay.specs.declared.examples.Example.{Example}
+use Rattle.example_walks.specs.declared.examples.Example.{Example}
 
 -- the names of these examples
 unfoldable pub names_of : List Example → List (List ℕ)

@@ -1,0 +1,124 @@
+//! The fields of a job, and what those of a walk mean.
+
+use crate::error::{Part, TextError};
+use crate::{states, values};
+use determinize_below::{LookMatcher, MatchKind, NFA, StateID};
+use std::alloc::Allocator;
+
+/// The fields of a job: words `key=value`, and the states of an NFA.
+#[derive(Clone, Copy)]
+pub struct Fields<'t> {
+    /// The words, joined by spaces, if there are any.
+    pub words: Option<&'t str>,
+    /// The states of the NFA, joined by spaces, if there are any.
+    pub states: Option<&'t str>,
+}
+
+impl<'t> Fields<'t> {
+    /// Returns the first word of a job, which is its verb, and its fields.
+    pub fn split(job: &'t str) -> (&'t str, Fields<'t>) {
+        let (line, states) = match job.split_once(" | ") {
+            Some((line, states)) => (line, Some(states)),
+            None => (job, None),
+        };
+        match line.split_once(' ') {
+            Some((verb, words)) => (
+                verb,
+                Fields {
+                    words: Some(words),
+                    states,
+                },
+            ),
+            None => (
+                line,
+                Fields {
+                    words: None,
+                    states,
+                },
+            ),
+        }
+    }
+
+    /// Returns the value of a key, or `None` if there is none.
+    pub fn value(&self, key: &str) -> Option<&'t str> {
+        for word in self.words.unwrap_or("").split(' ') {
+            if let Some((name, value)) = word.split_once('=') {
+                if name == key {
+                    return Some(value);
+                }
+            }
+        }
+        None
+    }
+
+    /// Returns the value of a key, or `-` if there is none.
+    pub fn value_or_none(&self, key: &str) -> &'t str {
+        self.value(key).unwrap_or("-")
+    }
+
+    /// Returns the match kind, by default `All`.
+    pub fn match_kind(&self) -> Result<MatchKind, TextError> {
+        match self.value("kind") {
+            None => Ok(MatchKind::All),
+            Some("all") => Ok(MatchKind::All),
+            Some("leftmost-first") => Ok(MatchKind::LeftmostFirst),
+            Some(_) => Err(TextError::Malformed(Part::MatchKind)),
+        }
+    }
+
+    /// Returns whether the direction is reverse; by default it is forward.
+    pub fn is_reverse(&self) -> Result<bool, TextError> {
+        match self.value("dir") {
+            None => Ok(false),
+            Some("fwd") => Ok(false),
+            Some("rev") => Ok(true),
+            Some(_) => Err(TextError::Malformed(Part::Direction)),
+        }
+    }
+
+    /// Returns the matcher with the line terminator.
+    pub fn matcher(&self) -> Result<LookMatcher, TextError> {
+        let mut matcher = LookMatcher::new();
+        if let Some(text) = self.value("term") {
+            matcher.set_line_terminator(values::byte(text)?);
+        }
+        Ok(matcher)
+    }
+
+    /// Returns the id of the state that a walk starts from, by default 0.
+    pub fn start(&self) -> Result<StateID, TextError> {
+        values::state_id(self.value("start").unwrap_or("0"))
+    }
+
+    /// Returns the byte behind the text of a walk.
+    pub fn look_behind(&self) -> Result<Option<u8>, TextError> {
+        values::optional_byte(self.value_or_none("lb"))
+    }
+
+    /// Returns the text of a walk.
+    pub fn text<A: Allocator>(&self, alloc: A) -> Result<Vec<u8, A>, TextError> {
+        values::bytes(alloc, self.value_or_none("text"))
+    }
+
+    /// Returns the byte after the text of a walk.
+    pub fn look_ahead(&self) -> Result<Option<u8>, TextError> {
+        values::optional_byte(self.value_or_none("after"))
+    }
+
+    /// Returns the NFA. Both start states are state 0.
+    pub fn nfa<A: Allocator + Copy>(&self, alloc: A) -> Result<NFA<A>, TextError> {
+        self.nfa_from(alloc, StateID::ZERO)
+    }
+
+    /// Returns the NFA with this state as both start states.
+    pub fn nfa_from<A: Allocator + Copy>(
+        &self,
+        alloc: A,
+        start: StateID,
+    ) -> Result<NFA<A>, TextError> {
+        let states = states::states(alloc, self.states.unwrap_or(""))?;
+        let (is_reverse, matcher) = (self.is_reverse()?, self.matcher()?);
+        let nfa = NFA::from_parts(alloc, states, start, start, is_reverse, matcher)?;
+        Ok(nfa)
+    }
+}

@@ -1,0 +1,165 @@
+//! Reads and writes the values of texts: bytes, ids and assertions.
+
+ghost use Rattle.std.specs.Prelude.{◌<◌, IfSome};
+
+use crate::error::{Part, TextError};
+use determinize_below::{HalfMatch, Look, PatternID, StateID};
+use std::alloc::Allocator;
+use std::fmt;
+
+/// The assertions and their names. Only [`looks`] names this table: a proof reads the whole table at
+/// each mention.
+static LOOKS: [(&str, Look); 18] = [
+    ("Start", Look::Start),
+    ("End", Look::End),
+    ("StartLF", Look::StartLF),
+    ("EndLF", Look::EndLF),
+    ("StartCRLF", Look::StartCRLF),
+    ("EndCRLF", Look::EndCRLF),
+    ("WordAscii", Look::WordAscii),
+    ("WordAsciiNegate", Look::WordAsciiNegate),
+    ("WordUnicode", Look::WordUnicode),
+    ("WordUnicodeNegate", Look::WordUnicodeNegate),
+    ("WordStartAscii", Look::WordStartAscii),
+    ("WordEndAscii", Look::WordEndAscii),
+    ("WordStartUnicode", Look::WordStartUnicode),
+    ("WordEndUnicode", Look::WordEndUnicode),
+    ("WordStartHalfAscii", Look::WordStartHalfAscii),
+    ("WordEndHalfAscii", Look::WordEndHalfAscii),
+    ("WordStartHalfUnicode", Look::WordStartHalfUnicode),
+    ("WordEndHalfUnicode", Look::WordEndHalfUnicode),
+];
+
+/// Returns the assertions with their names, in the order of their bits.
+pub fn looks() -> &'static [(&'static str, Look)] {
+    LOOKS.as_slice()
+}
+
+/// Returns whether the text is that of no value or of an empty list.
+pub fn is_none(text: &str) -> bool {
+    text.is_empty() || text == "-"
+}
+
+/// Returns the value of a lower-case hexadecimal digit.
+fn digit(byte: u8) -> Option<u8>
+    ensures { IfSome result (λ value. value < 16) }
+{
+    match byte {
+        b'0'..=b'9' => Some(byte - b'0'),
+        b'a'..=b'f' => Some(byte - b'a' + 10),
+        _ => None,
+    }
+}
+
+/// Returns the byte of two hexadecimal digits.
+fn pair(digits: &[u8]) -> Result<u8, TextError> {
+    let [high, low] = digits else {
+        return Err(TextError::Malformed(Part::Digit));
+    };
+    match (digit(*high), digit(*low)) {
+        (Some(high), Some(low)) => Ok(high * 16 + low),
+        _ => Err(TextError::Malformed(Part::Digit)),
+    }
+}
+
+/// Returns the byte of a text of two hexadecimal digits.
+pub fn byte(text: &str) -> Result<u8, TextError> {
+    pair(text.as_bytes())
+}
+
+/// Returns an optional byte.
+pub fn optional_byte(text: &str) -> Result<Option<u8>, TextError> {
+    if is_none(text) {
+        return Ok(None);
+    }
+    Ok(Some(byte(text)?))
+}
+
+/// Returns the bytes of a text of hexadecimal digits.
+pub fn bytes<A: Allocator>(alloc: A, text: &str) -> Result<Vec<u8, A>, TextError> {
+    let mut found = Vec::new(alloc);
+    if is_none(text) {
+        return Ok(found);
+    }
+    for digits in text.as_bytes().chunks(2) {
+        let value = pair(digits)?;
+        found.push(value)?;
+    }
+    Ok(found)
+}
+
+/// Returns a decimal number, which has digits only.
+pub fn number(text: &str) -> Result<usize, TextError> {
+    if text.starts_with('+') {
+        return Err(TextError::Malformed(Part::Number));
+    }
+    Ok(text.parse::<usize>()?)
+}
+
+/// Returns the id of an NFA state.
+pub fn state_id(text: &str) -> Result<StateID, TextError> {
+    match StateID::new(number(text)?) {
+        Ok(id) => Ok(id),
+        Err(_) => Err(TextError::Malformed(Part::StateId)),
+    }
+}
+
+/// Returns the id of a pattern.
+pub fn pattern_id(text: &str) -> Result<PatternID, TextError> {
+    match PatternID::new(number(text)?) {
+        Ok(id) => Ok(id),
+        Err(_) => Err(TextError::Malformed(Part::PatternId)),
+    }
+}
+
+/// Returns a list of ids of NFA states.
+pub fn state_ids<A: Allocator>(alloc: A, text: &str) -> Result<Vec<StateID, A>, TextError> {
+    let mut ids = Vec::new(alloc);
+    if is_none(text) {
+        return Ok(ids);
+    }
+    for word in text.split(',') {
+        let id = state_id(word)?;
+        ids.push(id)?;
+    }
+    Ok(ids)
+}
+
+/// Returns the assertion of this name.
+pub fn look(text: &str) -> Result<Look, TextError> {
+    for (name, look) in looks() {
+        if *name == text {
+            return Ok(*look);
+        }
+    }
+    Err(TextError::Malformed(Part::Look))
+}
+
+/// Bytes, written as lower-case hexadecimal digits.
+#[derive(Clone, Copy)]
+pub struct Hex<'a>(pub &'a [u8]);
+
+impl fmt::Display for Hex<'_> {
+    fn fmt<W: fmt::Write>(&self, f: &mut fmt::Formatter<W>) -> fmt::Result {
+        for byte in self.0 {
+            write!(f, "{byte:02x}")?;
+        }
+        Ok(())
+    }
+}
+
+/// The last match of a walk, written as `match P E` with its pattern and its end, or as `none`.
+#[derive(Clone, Copy)]
+pub struct LastMatch(pub Option<HalfMatch>);
+
+impl fmt::Display for LastMatch {
+    fn fmt<W: fmt::Write>(&self, f: &mut fmt::Formatter<W>) -> fmt::Result {
+        match self.0 {
+            Some(HalfMatch { pattern, offset }) => {
+                let pattern = pattern.as_u32();
+                write!(f, "match {pattern} {offset}")
+            }
+            None => f.write_str("none"),
+        }
+    }
+}
