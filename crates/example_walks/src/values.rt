@@ -7,8 +7,8 @@ use determinize_below::{HalfMatch, Look, PatternID, StateID};
 use std::alloc::Allocator;
 use std::fmt;
 
-/// The assertions and their names. Only [`looks`] names this table: a proof reads the whole table at
-/// each mention.
+/// The assertions and their names. Only [`looks`] names this table: a proof reads the whole table
+/// at each mention.
 static LOOKS: [(&str, Look); 18] = [
     ("Start", Look::Start),
     ("End", Look::End),
