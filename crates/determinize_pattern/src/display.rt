@@ -50,7 +50,7 @@ fn needs_group(pattern: &Pattern, place: Place) -> bool {
         Pattern::Alternation(subs) => !subs.is_empty(),
         Pattern::Literal(bytes) => place == Place::Operand && bytes.len() > 1,
         Pattern::Concat(subs) => place == Place::Operand && !subs.is_empty(),
-        Pattern::Repetition { .. } => place == Place::Operand,
+        Pattern::Look(_) | Pattern::Repetition { .. } => place == Place::Operand,
         _ => false,
     }
 }

@@ -4,7 +4,7 @@
 //! of the word: so its parts are on top of the stack, the first of them topmost.
 
 use crate::error::JobError;
-use determinize_pattern::{ClassBytes, ClassBytesRange, Pattern};
+use determinize_pattern::{ClassBytesRange, Pattern};
 use example_walks::values;
 use std::alloc::Global;
 
@@ -79,7 +79,7 @@ fn class(alloc: Global, value: &str) -> Result<Pattern, JobError> {
             ranges.push(next)?;
         }
     }
-    Ok(Pattern::Class(ClassBytes::new(alloc, ranges.as_slice())?))
+    Ok(Pattern::class(alloc, ranges.as_slice())?)
 }
 
 /// Returns the range of a word such as `61-7a`.

@@ -1,5 +1,5 @@
 -- A scan of all bytes finds the ranges of those that pass a test.
--- Main statements: in_some, chosen_is, scanned_none, scanned_more, scanned_closed, all_scanned, all_apart.
+-- Main statements: in_some, chosen_is, scanned_more, scanned_closed, all_scanned, all_apart.
 -- Used by: the proofs of `collect` and `negated`.
 -- Idea: each range ends before a byte that does not pass.
 use Rattle.std.specs.List.{list_any}
@@ -103,12 +103,3 @@ module _ (test : ℕ → Bool) (xs : List (ℕ × ℕ)) (start i : ℕ) (h : IsS
           let out : within start (i - 1) i ≡ false = grind (arith, nat_tests) in
           rw (z, in_push xs start (i - 1) i, old, out) refl)
           (λ z. rw z (not_after 0 xs i h.apart (omega (arith, h.after, h.begun))))
-
-pub scanned_none : (test : ℕ → Bool) → IsScanned test [] 0 0
-scanned_none test = record {
-  apart = refl;
-  after = omega arith;
-  begun = omega arith;
-  below = λ b l. absurd (omega (arith, l));
-  unbroken = λ b l m. absurd (omega (arith, m));
-}
