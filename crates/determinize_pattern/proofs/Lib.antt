@@ -1,3 +1,3 @@
 mod classes
 mod compiled
-mod entries
+pub mod entries

@@ -25,6 +25,11 @@ use Rattle.ordered_reach.proofs.lists.Lexicographic.{Before-asym, Before-rest, B
 use Rattle.ordered_reach.proofs.lists.Pairs.{pairs_at, pairs_from}
 use Rattle.ordered_reach.specs.Paths.{Before}
 
+-- the best runs of two patterns in the order of a list
+abbrev AreBestRuns : Nfa → Text → ℕ → ℕ → ℕ → ℕ → Type 0
+AreBestRuns nfa text start i x y = (cs : List ℕ) × (ds : List ℕ) × IsBestRun nfa text start cs i x
+    × IsBestRun nfa text start ds i y × Before cs ds
+
 -- the best run of one pattern is not before itself, so two patterns in order differ
 not_same : (nfa : Nfa) (text : Text) (start i x y : ℕ) (cs ds : List ℕ) → IsBestRun nfa text start cs i x
     → IsBestRun nfa text start ds i y → Before cs ds → ¬ (x ≡ y)
@@ -36,7 +41,8 @@ not_same nfa text start i x y cs ds a b l e =
 -- runs that skip the same bytes are in the order of what follows
 skip_keeps : (d : ℕ) (cs ds : List ℕ) → Before cs ds → Before (skip d cs) (skip d ds)
 skip_keeps zero cs ds b = Before-rest 0 cs ds b
-skip_keeps (suc d) cs ds b = Before-rest 1 _ _ (Before-rest 0 _ _ (skip_keeps d cs ds b))
+skip_keeps (suc d) cs ds b = Before-rest 1 (0 ∷ skip d cs) (0 ∷ skip d ds)
+    (Before-rest 0 (skip d cs) (skip d ds) (skip_keeps d cs ds b))
 
 module _ (res : List Re) (nfa : Nfa) (is : IsNfaOf res nfa) (text : Text) where
   abbrev found : ℕ → List (ℕ × ℕ)
@@ -69,7 +75,8 @@ module _ (res : List Re) (nfa : Nfa) (is : IsNfaOf res nfa) (text : Text) where
           (h.accepted x).1 ((is.each text 0 i x).1 (rw z at c.2)),
     );
     best_first = pairs_from (IsBetterAt nfa.terminator res text 0 i) xs (λ j k x y l p q.
-        let b = pairs_at _ xs h.best_first j k x y l p q in anchored_pair i x y b.0 b.1 b.2 b.3 b.4);
+        let b = pairs_at (AreBestRuns nfa text nfa.start_anchored i) xs h.best_first j k x y l p q in
+        anchored_pair i x y b.0 b.1 b.2 b.3 b.4);
   }
 
   module _ (has : HasPrefix nfa) (small : All (λ b. b < 256) text.bytes) where
@@ -93,6 +100,25 @@ module _ (res : List Re) (nfa : Nfa) (is : IsNfaOf res nfa) (text : Text) where
           accepts = (a.0, rw z at s.run, a.2);
         }
 
+    -- a run of pattern x that is before one of y from position k began earlier, or there, with x < y
+    begun_first : (i x y : ℕ) (cs : List ℕ) (s : Skipped cs i x) → ¬ (x ≡ y) → (k : ℕ) (es : List ℕ)
+        → AcceptsFrom nfa text k nfa.start_anchored es i y → Before cs (skip k es)
+        → (s.over < k) ⊎ ((s.over ≡ k) × (x < y))
+    begun_first i x y cs s other k es a first = by_cases (cases_lt s.over k)
+        (λ m. inl m)
+        (λ m. by_cases (cases_lt k s.over)
+        (λ n. absurd (Before-asym cs (skip k es) first (rw s.is_skip (skip_before k s.over es (0 ∷ s.then) n))))
+        (λ n. let e : k ≡ s.over = omega arith in inr (
+          sym e,
+          by_cases (cases_lt x y)
+              (λ o. o)
+              (λ o. by_cases (cases_lt y x)
+              (λ w. let run : AcceptsFrom nfa text s.over nfa.start_anchored es i y = rw e at a in
+              let there = skip_keeps s.over es s.then (is.order text s.over es s.then i i y x w run s.accepts) in
+              absurd (Before-asym cs (skip k es) first (rw (e, s.is_skip) there)))
+              (λ w. absurd (other (omega arith)))),
+        )))
+
     list_pair : (i x y : ℕ) (cs ds : List ℕ) → IsBestRun nfa text nfa.start_unanchored cs i x
         → IsBestRun nfa text nfa.start_unanchored ds i y → Before cs ds
         → IsBetterAt nfa.terminator res text (length text.bytes) i x y
@@ -106,24 +132,10 @@ module _ (res : List Re) (nfa : Nfa) (is : IsNfaOf res nfa) (text : Text) where
             let r = (is.each text k i y).1 c in
             let run : Accepts nfa text nfa.start_unanchored (skip k r.0) i y
             = from_start nfa text has small k r.0 i y low r.1 in
-            let first : Before cs (skip k r.0) = by_cases (b.best (skip k r.0) run)
+            begun_first i x y cs s (not_same nfa text nfa.start_unanchored i x y cs ds a b l) k r.0 r.1
+            (by_cases (b.best (skip k r.0) run)
             (λ e. rw e at l)
-            (λ m. Before-trans cs ds (skip k r.0) l m) in
-            by_cases (cases_lt s.over k)
-            (λ m. inl m)
-            (λ m. by_cases (cases_lt k s.over)
-            (λ n. absurd (Before-asym cs (skip k r.0) first
-            (rw s.is_skip (skip_before k s.over r.0 (0 ∷ s.then) n))))
-            (λ n. let e : k ≡ s.over = omega arith in
-            inr (
-              sym e,
-              by_cases (cases_lt x y)
-                  (λ o. o)
-                  (λ o. by_cases (cases_lt y x)
-                  (λ w. absurd (Before-asym cs (skip k r.0) first (rw (s.is_skip, e)
-                  (skip_keeps s.over r.0 s.then (is.order text s.over r.0 s.then i i y x w (rw e at r.1) s.accepts)))))
-                  (λ w. absurd (not_same nfa text nfa.start_unanchored i x y cs ds a b l (omega arith)))),
-            )))
+            (λ m. Before-trans cs ds (skip k r.0) l m))
 
     pub list_is_of : (i : ℕ) (xs : List ℕ) → ListsAccepted nfa text nfa.start_unanchored i xs
         → ArePatternsAt nfa.terminator res text (length text.bytes) i xs
@@ -135,7 +147,8 @@ module _ (res : List Re) (nfa : Nfa) (is : IsNfaOf res nfa) (text : Text) where
             (h.accepted x).1 (skip c.0 r.0, from_start nfa text has small c.0 r.0 i x c.1 r.1),
       );
       best_first = pairs_from (IsBetterAt nfa.terminator res text (length text.bytes) i) xs (λ j k x y l p q.
-          let b = pairs_at _ xs h.best_first j k x y l p q in list_pair i x y b.0 b.1 b.2 b.3 b.4);
+          let b = pairs_at (AreBestRuns nfa text nfa.start_unanchored i) xs h.best_first j k x y l p q in
+          list_pair i x y b.0 b.1 b.2 b.3 b.4);
     }
 
 pub each_anchored_list_is_of : EachAnchoredListIsOf
