@@ -1,13 +1,14 @@
 pub use Rattle.determinize_nfa.specs.Builder
-pub use Rattle.determinize_nfa.specs.Leftmost
 pub use Rattle.determinize_nfa.specs.Prefix
 pub use Rattle.determinize_nfa.specs.Reversal
 pub use Rattle.determinize_nfa.specs.Runs
 pub mod Cursors
 pub mod Idle
 pub mod Laws
+pub mod Leftmost
 pub mod LeftmostIn
 pub mod Matches
 pub mod Private
 pub mod Regexes
+pub mod Since
 pub mod Streams

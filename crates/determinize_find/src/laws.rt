@@ -1,7 +1,8 @@
 //! Laws of the leftmost match, as public functions with empty bodies.
 
-ghost use Rattle.determinize_nfa.specs.Laws.{EachReadingIsMirrored, EachRunMoves, EachRunReadsForward};
 ghost use Rattle.determinize_find.specs.Laws.{EachAnchoredIsLeftmost, EachBusyHasBegun, EachIdleIsFresh, EachLeftmostInIsOne, EachLeftmostIsOne, EachMatchesAreApart, EachMatchesAreOne, EachPreferredIsLeftmost, EachStartIsCovered};
+
+pub use determinize_nfa::laws::{mirror_law, shift_law};
 
 /// A text has at most one leftmost match.
 pub fn leftmost_law()

@@ -11,7 +11,7 @@ abbrev pub sequence : List Re → Re
 sequence [] = Empty
 sequence (a ∷ rest) = Then a (sequence rest)
 
--- the first that matches; with none, nothing matches
+-- one of these, the earlier preferred; without branches nothing matches
 abbrev pub choice : List Re → Re
 choice [] = Byte []
 choice (a ∷ rest) = Or a (choice rest)

@@ -64,7 +64,8 @@ impl ClassBytes {
         collect(alloc, &self.ranges, true)
     }
 
-    /// Returns the class with these ranges, which are sorted, not empty and apart.
+    /// Returns the class with these ranges, which are sorted and not empty, with a
+    /// byte between any two.
     pub fn from_sorted(alloc: Global, ranges: &[ClassBytesRange]) -> Result<ClassBytes, AllocError>
         requires { is_apart 0 (pairs ranges.now) ≡ true }
         ensures { IfOk result (λ c. c ≡ pairs ranges.now) }

@@ -15,14 +15,16 @@ use std::fmt;
 /// The options of `compile`.
 #[derive(Debug, Drop)]
 pub struct Config {
-    /// At most this number of states is added, and of calls made, for the patterns together.
+    /// The budget of `compile`, for the patterns together: each state costs one, and so does each
+    /// part of a pattern each time that it is compiled, once for each place where it may be
+    /// entered. The two states of the prefix are free.
     pub state_limit: usize,
     /// The line terminator of `StartLF` and `EndLF`.
     pub look_matcher: LookMatcher,
 }
 
 impl Config {
-    /// Returns the usual options: 100,000 states, and `\n` as the line terminator.
+    /// Returns the usual options: a budget of 100,000, and `\n` as the line terminator.
     pub fn new() -> Config
         ensures limit { result.state_limit ≡ 100000 }
         ensures terminator { result.look_matcher ≡ 10 }
@@ -73,6 +75,9 @@ impl<T: Drop> From<AllocFailed<T>> for CompileError {
 
 /// Returns the NFA of the patterns, with the usual prefix as its unanchored start. The first
 /// pattern is pattern 0, and is preferred.
+///
+/// Returns `ExceededSizeLimit` if the budget of `config` does not suffice, and `Build` if an
+/// allocation fails or there are too many states.
 pub fn compile<A: Allocator + Copy>(
     alloc: A,
     patterns: &[Pattern],

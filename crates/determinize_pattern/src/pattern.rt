@@ -22,8 +22,9 @@ pub enum Pattern {
     /// An assertion.
     Look(Look),
     /// The pattern `min` to `max` times in a row, or `min` times or more. If it is greedy, more
-    /// rounds are preferred to fewer. In a loop without a maximum a round that reads nothing is
-    /// the first one and the last. A maximum below `min` counts as `min`.
+    /// rounds are preferred to fewer. A maximum below `min` counts as `min`. Without a maximum
+    /// `a{3,}` is `aaa+`, and in the `a+` only the first round may read nothing, and is then the
+    /// last.
     Repetition {
         min: u32,
         max: Option<u32>,
@@ -47,7 +48,8 @@ impl Pattern {
         Ok(Pattern::Literal(Vec::from_slice(alloc, bytes)?))
     }
 
-    /// Returns the pattern of a byte from `start` to `end`.
+    /// Returns the pattern of a byte from `start` to `end`, of which `start` may not be above
+    /// `end`.
     pub fn range(alloc: Global, start: u8, end: u8) -> Result<Pattern, AllocError>
         requires { start ≤ end }
         ensures { IfOk result (λ p. meaning p ≡ meanings.Byte ((start, end) ∷ [])) }
@@ -147,28 +149,28 @@ impl Pattern {
         Ok(Pattern::Capture(Box::new(alloc, self)?))
     }
 
-    /// Returns `a*`: the pattern any number of times, as often as it can.
+    /// Returns `a*`: the pattern any number of times, preferring more.
     pub fn star(self, alloc: Global) -> Result<Pattern, AllocError>
         ensures { IfOk result (λ p. meaning p ≡ at_least true 0 (meaning self)) }
     {
         self.repeated(alloc, 0, None, true)
     }
 
-    /// Returns `a*?`: the pattern any number of times, as seldom as it can.
+    /// Returns `a*?`: the pattern any number of times, preferring fewer.
     pub fn star_lazy(self, alloc: Global) -> Result<Pattern, AllocError>
         ensures { IfOk result (λ p. meaning p ≡ at_least false 0 (meaning self)) }
     {
         self.repeated(alloc, 0, None, false)
     }
 
-    /// Returns `a+`: the pattern once or more, as often as it can.
+    /// Returns `a+`: the pattern once or more, preferring more.
     pub fn plus(self, alloc: Global) -> Result<Pattern, AllocError>
         ensures { IfOk result (λ p. meaning p ≡ meanings.Plus true (meaning self)) }
     {
         self.repeated(alloc, 1, None, true)
     }
 
-    /// Returns `a+?`: the pattern once or more, as seldom as it can.
+    /// Returns `a+?`: the pattern once or more, preferring fewer.
     pub fn plus_lazy(self, alloc: Global) -> Result<Pattern, AllocError>
         ensures { IfOk result (λ p. meaning p ≡ meanings.Plus false (meaning self)) }
     {
@@ -189,14 +191,14 @@ impl Pattern {
         self.repeated(alloc, 0, Some(1), false)
     }
 
-    /// Returns `a{min,max}`, or `a{min,}`: the pattern as often as it can.
+    /// Returns `a{min,max}`, or `a{min,}`: the pattern so many times, preferring more.
     pub fn repeat(self, alloc: Global, min: u32, max: Option<u32>) -> Result<Pattern, AllocError>
         ensures { IfOk result (λ p. meaning p ≡ repeated min max true (meaning self)) }
     {
         self.repeated(alloc, min, max, true)
     }
 
-    /// Returns `a{min,max}?`, or `a{min,}?`: the pattern as seldom as it can.
+    /// Returns `a{min,max}?`, or `a{min,}?`: the pattern so many times, preferring fewer.
     pub fn repeat_lazy(
         self,
         alloc: Global,
