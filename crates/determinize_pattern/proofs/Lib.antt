@@ -1,3 +1,4 @@
 mod classes
 mod compiled
 pub mod entries
+mod levels

@@ -14,8 +14,8 @@ pub record IsPreferredFrom (nfa : Nfa) (text : Text) (k start : ℕ) (cs : List 
       → (cs ≡ ds) ⊎ Before cs ds
 
 -- at each position of each text the runs from the anchored start accept the ends of the patterns,
--- the first of these is that of the most preferred run, and a run that accepts an earlier pattern is
--- preferred to one that accepts a later one
+-- the first of these is that of the most preferred run, and a run that accepts an earlier pattern
+-- is preferred to one that accepts a later one
 pub record IsNfaOf (res : List Re) (nfa : Nfa) : Type 0 where
   pub each : (text : Text) (k j pattern : ℕ)
       → ((cs : List ℕ) × AcceptsFrom nfa text k nfa.start_anchored cs j pattern)

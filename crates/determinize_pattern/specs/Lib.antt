@@ -4,5 +4,6 @@ pub mod Examples
 pub mod Laws
 pub mod LeftmostOf
 pub mod Meaning
+pub mod Nesting
 pub mod Patterns
 pub mod Private

@@ -1,4 +1,4 @@
--- What a pattern of the program stands for.
+-- The meaning of a pattern of the program.
 use Rattle.std.specs.Prelude.{◌≡◌, ◌-◌, ℕ, Bool, List, None, Option, Some, [], ◌∷◌, cond, suc, zero}
 use Rattle.determinize_pattern.specs.Classes.{HasBytes}
 use Rattle.determinize_pattern.specs.Meaning.{Byte, Empty, Look, Or, Plus, Re, Then}

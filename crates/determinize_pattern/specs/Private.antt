@@ -1,3 +1,4 @@
 pub mod Compiling
+pub mod Dropping
 pub mod Entries
 pub mod Scanning

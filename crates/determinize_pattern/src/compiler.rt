@@ -1,12 +1,13 @@
 //! A builder under a limit, and what is done to each entry of a part of a pattern.
 
-ghost use Rattle.std.specs.Prelude.{◌≡◌, ◌<◌, ◌+◌, IfOk, OnOk, [], ◌∷◌, length, replicate, slice_index, vec_len};
+ghost use Rattle.std.specs.Prelude.{◌≡◌, ◌<◌, ◌+◌, IfErr, IfOk, OnErr, OnOk, [], ◌∷◌, length, replicate, slice_index, vec_len};
 ghost use Rattle.determinize_below.specs.Semantics as nodes;
 ghost use Rattle.determinize_nfa.specs.Builder.{closed, with_match, with_node};
 ghost use Rattle.determinize_pattern.specs.Classes.{pairs};
 ghost use Rattle.determinize_pattern.specs.Private.Compiling.{AddsEach, IsBranch, IsStart, Paid};
 ghost use Rattle.determinize_pattern.specs.Private.Entries as entries;
 ghost use Rattle.determinize_pattern.specs.Private.Entries.{leading};
+ghost use Rattle.determinize_pattern.specs.declared.nfa.CompileError.TheVariants.{ExceededSizeLimit};
 
 use crate::class::ClassBytesRange;
 use crate::nfa::{CompileError, Config};
@@ -84,10 +85,12 @@ impl<A: Allocator + Copy> Compiler<A> {
         Ok(transitions)
     }
 
-    /// Spends what a call costs, or returns an error if less is left.
+    /// Subtracts a cost from what is left, or returns `ExceededSizeLimit` if less is left.
     pub fn spend(&mut self, cost: usize) -> Result<(), CompileError>
         ensures kept { self.new.builder ≡ self.old.builder }
         ensures spent { OnOk result (self.new.left + cost ≡ self.old.left) }
+        ensures over { OnErr result (self.old.left < cost) }
+        ensures err { IfErr result (λ error. error ≡ ExceededSizeLimit) }
     {
         if cost > self.left {
             return Err(CompileError::ExceededSizeLimit);
@@ -96,6 +99,7 @@ impl<A: Allocator + Copy> Compiler<A> {
         Ok(())
     }
 
+    /// Adds a state with one transition, and returns its id.
     pub fn range(&mut self, trans: Transition) -> Result<StateID, CompileError>
         ensures id { IfOk result (λ id. id ≡ length self.old.builder.states) }
         ensures added { OnOk result
@@ -107,6 +111,7 @@ impl<A: Allocator + Copy> Compiler<A> {
         Ok(self.builder.add_range(trans)?)
     }
 
+    /// Adds a state with these transitions, and returns its id.
     pub fn sparse(&mut self, transitions: &[Transition]) -> Result<StateID, CompileError>
         ensures id { IfOk result (λ id. id ≡ length self.old.builder.states) }
         ensures added { OnOk result
@@ -118,6 +123,7 @@ impl<A: Allocator + Copy> Compiler<A> {
         Ok(self.builder.add_sparse(transitions)?)
     }
 
+    /// Adds a state with an assertion, and returns its id.
     pub fn look(&mut self, look: Look, next: StateID) -> Result<StateID, CompileError>
         ensures id { IfOk result (λ id. id ≡ length self.old.builder.states) }
         ensures added { OnOk result
@@ -129,6 +135,7 @@ impl<A: Allocator + Copy> Compiler<A> {
         Ok(self.builder.add_look(next, look)?)
     }
 
+    /// Adds a union of these states, most preferred first, and returns its id.
     pub fn union(&mut self, alternates: &[StateID]) -> Result<StateID, CompileError>
         ensures id { IfOk result (λ id. id ≡ length self.old.builder.states) }
         ensures added { OnOk result
@@ -140,6 +147,7 @@ impl<A: Allocator + Copy> Compiler<A> {
         Ok(self.builder.add_union(alternates)?)
     }
 
+    /// Adds a state without transitions, and returns its id.
     pub fn fail(&mut self) -> Result<StateID, CompileError>
         ensures id { IfOk result (λ id. id ≡ length self.old.builder.states) }
         ensures added { OnOk result
@@ -151,6 +159,7 @@ impl<A: Allocator + Copy> Compiler<A> {
         Ok(self.builder.add_fail()?)
     }
 
+    /// Adds the match state of the next pattern, and returns its id.
     pub fn match_state(&mut self) -> Result<StateID, CompileError>
         ensures id { IfOk result (λ id. id ≡ length self.old.builder.states) }
         ensures added { OnOk result (self.new.builder ≡ with_match self.old.builder) }
@@ -161,7 +170,7 @@ impl<A: Allocator + Copy> Compiler<A> {
         Ok(self.builder.add_match()?)
     }
 
-    /// Writes the state of a loop, whose place is held.
+    /// Sets the alternates of the state of a loop, which was added without any.
     pub fn close(
         &mut self,
         again: StateID,

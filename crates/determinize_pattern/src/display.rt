@@ -150,7 +150,7 @@ fn write_byte<W: fmt::Write>(f: &mut fmt::Formatter<W>, byte: u8) -> fmt::Result
     write!(f, "{character}")
 }
 
-/// Returns whether the byte has a meaning of its own in the syntax.
+/// Returns whether the byte is an operator of the syntax.
 fn is_meta(byte: u8) -> bool {
     matches!(
         byte,

@@ -15,6 +15,7 @@ pub mod class;
 mod compiler;
 mod display;
 pub mod laws;
+mod nesting;
 pub mod nfa;
 mod parts;
 pub mod pattern;

@@ -1,12 +1,15 @@
 //! The NFA of several patterns.
 
-ghost use Rattle.std.specs.Prelude.{◌≡◌, ◌+◌, ◌≤◌, IfOk, OnOk, false, length, map, vec_len};
+ghost use Rattle.std.specs.Prelude.{◌≡◌, ◌+◌, ◌<◌, ◌≤◌, Err, IfOk, OnOk, false, length, map, vec_len};
 ghost use Rattle.determinize_nfa.specs.Prefix.{HasPrefix, HasPrefixApart};
 ghost use Rattle.determinize_pattern.specs.Compiled.{IsNfaOf};
+ghost use Rattle.determinize_pattern.specs.Nesting.{deepest};
 ghost use Rattle.determinize_pattern.specs.Patterns.{meaning};
 ghost use Rattle.determinize_pattern.specs.Private.Compiling.{AddsMatches, BeginsEach, FindsAll, Paid};
+ghost use Rattle.determinize_pattern.specs.declared.nfa.CompileError.TheVariants.{NestLimitExceeded};
 
 use crate::compiler::Compiler;
+use crate::nesting::are_within;
 use crate::pattern::Pattern;
 use determinize_below::{BuildError, LookMatcher, NFA, StateID};
 use std::alloc::{AllocError, AllocFailed, Allocator};
@@ -19,18 +22,23 @@ pub struct Config {
     /// part of a pattern each time that it is compiled, once for each place where it may be
     /// entered. The two states of the prefix are free.
     pub state_limit: usize,
+    /// The greatest depth of a pattern. The recursion of `compile` is as deep.
+    pub nest_limit: u32,
     /// The line terminator of `StartLF` and `EndLF`.
     pub look_matcher: LookMatcher,
 }
 
 impl Config {
-    /// Returns the usual options: a budget of 100,000, and `\n` as the line terminator.
+    /// Returns the usual options: a budget of 100,000, a depth of at most 250, and `\n` as the line
+    /// terminator.
     pub fn new() -> Config
         ensures limit { result.state_limit ≡ 100000 }
+        ensures depth { result.nest_limit ≡ 250 }
         ensures terminator { result.look_matcher ≡ 10 }
     {
         Config {
             state_limit: 100_000,
+            nest_limit: 250,
             look_matcher: LookMatcher::new(),
         }
     }
@@ -41,6 +49,8 @@ impl Config {
 pub enum CompileError {
     /// The patterns need more states, or more calls, than the limit allows.
     ExceededSizeLimit,
+    /// A pattern is nested deeper than this limit of the options.
+    NestLimitExceeded(u32),
     /// The NFA was not built. Of patterns only `OutOfMemory` and `TooManyStates` are expected, but
     /// no contract says so.
     Build(BuildError),
@@ -50,24 +60,41 @@ impl fmt::Display for CompileError {
     fn fmt<W: fmt::Write>(&self, f: &mut fmt::Formatter<W>) -> fmt::Result {
         match self {
             CompileError::ExceededSizeLimit => write!(f, "the patterns exceed the size limit"),
+            CompileError::NestLimitExceeded(limit) => {
+                write!(f, "a pattern is nested deeper than {limit} levels")
+            }
             CompileError::Build(error) => write!(f, "{error}"),
         }
     }
 }
 
 impl From<BuildError> for CompileError {
+    ghost use Rattle.determinize_pattern.specs.declared.nfa.CompileError.TheVariants.{Build};
+
+    ghost from_gives = { λ error e. e ≡ Build error };
+
     fn from(error: BuildError) -> CompileError {
         CompileError::Build(error)
     }
 }
 
 impl From<AllocError> for CompileError {
+    ghost use Rattle.determinize_below.specs.declared.nfa.BuildError.TheVariants.{OutOfMemory};
+    ghost use Rattle.determinize_pattern.specs.declared.nfa.CompileError.TheVariants.{Build};
+
+    ghost from_gives = { λ _ e. e ≡ Build OutOfMemory };
+
     fn from(_error: AllocError) -> CompileError {
         CompileError::Build(BuildError::OutOfMemory)
     }
 }
 
 impl<T: Drop> From<AllocFailed<T>> for CompileError {
+    ghost use Rattle.determinize_below.specs.declared.nfa.BuildError.TheVariants.{OutOfMemory};
+    ghost use Rattle.determinize_pattern.specs.declared.nfa.CompileError.TheVariants.{Build};
+
+    ghost from_gives = { λ _ e. e ≡ Build OutOfMemory };
+
     fn from(_error: AllocFailed<T>) -> CompileError {
         CompileError::Build(BuildError::OutOfMemory)
     }
@@ -76,8 +103,9 @@ impl<T: Drop> From<AllocFailed<T>> for CompileError {
 /// Returns the NFA of the patterns, with the usual prefix as its unanchored start. The first
 /// pattern is pattern 0, and is preferred.
 ///
-/// Returns `ExceededSizeLimit` if the budget of `config` does not suffice, and `Build` if an
-/// allocation fails or there are too many states.
+/// Returns `NestLimitExceeded` if a pattern is nested deeper than the limit of `config`,
+/// `ExceededSizeLimit` if the budget does not suffice, and `Build` if an allocation fails or there
+/// are too many states.
 pub fn compile<A: Allocator + Copy>(
     alloc: A,
     patterns: &[Pattern],
@@ -89,7 +117,12 @@ pub fn compile<A: Allocator + Copy>(
     ensures forward { IfOk result (λ nfa. nfa.reverse ≡ false) }
     ensures terminator { IfOk result (λ nfa. nfa.terminator ≡ config.look_matcher) }
     ensures few { IfOk result (λ nfa. length nfa.states ≤ config.state_limit + 2) }
+    ensures nested { config.nest_limit < deepest patterns.now
+        → result ≡ Err (NestLimitExceeded config.nest_limit) }
 {
+    if !are_within(patterns, config.nest_limit) {
+        return Err(CompileError::NestLimitExceeded(config.nest_limit));
+    }
     let mut compiler = Compiler::new(alloc, config);
     let start = compiler.all(patterns)?;
     Ok(compiler.builder.build_with_prefix(start)?)

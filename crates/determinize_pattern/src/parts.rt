@@ -5,7 +5,7 @@
 //! several targets, the slice `ids`: it continues at `ids[0]` if it has read a byte, and at
 //! `ids[k]` if it was entered by entry `k` and has read nothing. On return `ids[k]` is that entry.
 
-ghost use Rattle.std.specs.Prelude.{◌≡◌, ◌<◌, IfOk, OnOk, length, map, slice_index};
+ghost use Rattle.std.specs.Prelude.{◌≡◌, ◌+◌, ◌<◌, ◌≤◌, IfOk, OnOk, length, map, slice_index};
 ghost use Rattle.determinize_pattern.specs.Meaning as meanings;
 ghost use Rattle.determinize_pattern.specs.Patterns as patterns;
 ghost use Rattle.determinize_pattern.specs.Patterns.{at_least, choice, meaning, repeated, sequence};
@@ -21,12 +21,14 @@ use determinize_below::nfa::Transition;
 use std::alloc::Allocator;
 
 impl<A: Allocator + Copy> Compiler<A> {
-    /// Adds the states of a pattern. One that reads has one entry for all targets.
+    /// Adds the states of a pattern, at a cost of one for each target. One that reads has one entry
+    /// for all targets.
     #[cycle(part)]
     pub fn part(&mut self, pattern: &Pattern, ids: &mut [StateID]) -> Result<(), CompileError>
         requires { 0 < length ids.old }
         ensures compiled { OnOk result
             (IsCompiled self.old.builder self.new.builder (meaning pattern.now) ids.old ids.new) }
+        ensures charged { OnOk result (self.new.left + length ids.old ≤ self.old.left) }
         ensures paid { OnOk result
             (Paid self.old.builder self.old.left self.new.builder self.new.left) }
     {
@@ -290,8 +292,8 @@ impl<A: Allocator + Copy> Compiler<A> {
         Ok(again)
     }
 
-    /// Returns where a later round goes on that reads nothing: it fails, but if there is none, any
-    /// state will do.
+    /// Returns the state at which a later round continues that reads nothing: one that fails, or
+    /// any if no round reads nothing.
     fn unread(&mut self, sub: &Pattern, any: StateID) -> Result<StateID, CompileError>
         ensures unread { IfOk result
             (λ id. IsUnread self.old.builder self.new.builder (meaning sub.now) id) }

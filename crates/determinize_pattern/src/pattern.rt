@@ -1,17 +1,17 @@
 //! Patterns as values: what a regular expression says, without its text.
 
-ghost use Rattle.std.specs.Prelude.{◌≡◌, ◌∷◌, ◌≤◌, None, Some, IfOk, [], false, map, true};
+ghost use Rattle.std.specs.Prelude.{◌≡◌, ◌∷◌, ◌<◌, ◌≤◌, None, Some, IfOk, IfSome, [], false, map, true};
 ghost use Rattle.determinize_pattern.specs.Classes.{HasBytes, is_chosen, pairs};
 ghost use Rattle.determinize_pattern.specs.Meaning as meanings;
 ghost use Rattle.determinize_pattern.specs.Patterns as patterns;
 ghost use Rattle.determinize_pattern.specs.Patterns.{IsClass, at_least, choice, meaning, repeated, sequence};
+ghost use Rattle.determinize_pattern.specs.Private.Dropping.{left_around, sizes, weight};
 
 use crate::class::{ClassBytes, ClassBytesRange};
 use determinize_below::Look;
 use std::alloc::{AllocError, Global};
 
 /// A pattern over bytes.
-#[derive(Drop)]
 pub enum Pattern {
     /// The empty text.
     Empty,
@@ -39,7 +39,68 @@ pub enum Pattern {
     Alternation(Vec<Pattern>),
 }
 
-#[tactic(auto, using(crate::proofs::compiled::Patterns::meaning_literal, crate::proofs::compiled::Patterns::meaning_class, crate::proofs::compiled::Patterns::meaning_repetition, crate::proofs::compiled::Patterns::meaning_capture, crate::proofs::compiled::Patterns::meaning_concat, crate::proofs::compiled::Patterns::meaning_alternation))]
+/// Frees the pattern by a loop, since a recursion as deep as the pattern could exhaust the stack,
+/// and without an allocation: the list of the outer parts that are left takes the place of the part
+/// that is taken from it.
+impl Drop for Pattern {
+    fn drop(self) {
+        let Some(mut parts) = self.into_parts() else {
+            return;
+        };
+        let mut around = Pattern::Empty;
+        loop {
+            match parts.pop() {
+                Some(part) => {
+                    if let Some(inner) = part.into_parts() {
+                        parts.push_reserved(around);
+                        around = Pattern::Concat(parts);
+                        parts = inner;
+                    }
+                }
+                None => {
+                    parts.destroy_empty();
+                    let Some(outer) = around.into_parts() else {
+                        return;
+                    };
+                    parts = outer;
+                    around = match parts.pop() {
+                        Some(next) => next,
+                        None => Pattern::Empty,
+                    };
+                }
+            }
+        }
+    }
+}
+
+impl Pattern {
+    /// Returns the list of the parts of a concatenation or an alternation, also if it is in groups
+    /// and repetitions, and frees the rest.
+    fn into_parts(mut self) -> Option<Vec<Pattern>>
+        ensures size { IfSome result
+            (λ parts. sizes (map weight parts.items) < (weight self).size) }
+        ensures around { IfSome result
+            (λ parts. left_around (map weight parts.items) < (weight self).around) }
+    {
+        loop {
+            match self {
+                Pattern::Empty | Pattern::Literal(_) | Pattern::Class(_) | Pattern::Look(_) => {
+                    return None;
+                }
+                Pattern::Capture(sub)
+                | Pattern::Repetition {
+                    min: _,
+                    max: _,
+                    greedy: _,
+                    sub,
+                } => self = Box::into_inner(sub),
+                Pattern::Concat(parts) | Pattern::Alternation(parts) => return Some(parts),
+            }
+        }
+    }
+}
+
+#[tactic(auto, using(crate::proofs::compiled::Patterns::meanings))]
 impl Pattern {
     /// Returns the pattern of these bytes in a row.
     pub fn literal(alloc: Global, bytes: &[u8]) -> Result<Pattern, AllocError>
@@ -191,14 +252,14 @@ impl Pattern {
         self.repeated(alloc, 0, Some(1), false)
     }
 
-    /// Returns `a{min,max}`, or `a{min,}`: the pattern so many times, preferring more.
+    /// Returns `a{min,max}`, or `a{min,}`: the pattern `min` to `max` times, preferring more.
     pub fn repeat(self, alloc: Global, min: u32, max: Option<u32>) -> Result<Pattern, AllocError>
         ensures { IfOk result (λ p. meaning p ≡ repeated min max true (meaning self)) }
     {
         self.repeated(alloc, min, max, true)
     }
 
-    /// Returns `a{min,max}?`, or `a{min,}?`: the pattern so many times, preferring fewer.
+    /// Returns `a{min,max}?`, or `a{min,}?`: the pattern `min` to `max` times, preferring fewer.
     pub fn repeat_lazy(
         self,
         alloc: Global,

@@ -197,6 +197,10 @@ pub ok_both : {P : ℕ → Type 0} {Q : Type 0} {R : ℕ → Type 0} (r : Result
 ok_both (Ok s) p q f = f s p q
 ok_both (Err e) p q f = tt
 
+pub on_both : {P Q R : Type 0} (r : Result (Unit {0}) CompileError) → OnOk r P → OnOk r Q → (P → Q → R) → OnOk r R
+on_both (Ok s) p q f = f p q
+on_both (Err e) p q f = tt
+
 pub unread_fails : (old new : BuilderValue) (p : Re) (r : Result ℕ CompileError) → IfOk r (λ s. s ≡ length old.states)
     → OnOk r (new ≡ with_node old Fail) → IfOk r (λ s. IsUnread old new p s)
 unread_fails old new p (Ok s) e g = rw g (record {

@@ -1,15 +1,19 @@
 -- A builder that grows keeps its states.
--- Main statements: extends_then, continues_old, grown, is_new, adds_none, adds_more, adds_all.
+-- Main statements: map_take_more, extends_then, continues_old, grown, is_new, adds_none to adds_all.
 -- Used by: the files compiled.
 -- Idea: each statement is about every NFA that has the states, so nothing is said of ranges of ids.
 use Rattle.std.specs.Prelude.{nat_lt, slice_index, slice_index_or}
-use Rattle.std.proofs.Common.{◌≡◌, ◌+◌, ◌<◌, ◌≤◌, ◌++◌, ◌∙◌, ◌∷◌, ℕ, Bool, List, [], arith, false, get_or-set_other, get_or-set_same, length, length-set, ltb-false, ltb-true, refl, set, sym, true}
-use Rattle.std.proofs.lemmas.List.{get_or_append_left, get_or_push, length_push}
+use Rattle.std.proofs.Common.{◌≡◌, ◌+◌, ◌<◌, ◌≤◌, ◌++◌, ◌∙◌, ◌∷◌, ℕ, Bool, List, [], arith, false, get_or-set_other, get_or-set_same, length, length-set, ltb-false, ltb-true, map, refl, set, sym, take, true}
+use Rattle.std.proofs.lemmas.List.{get_or_append_left, get_or_push, get_or_read, length_push, map-append, take_more}
 use Rattle.ordered_reach.proofs.Cases.{by_test}
 use Rattle.determinize_below.specs.Semantics.{Fail, Match, Nfa, Node, Union, state_at}
 use Rattle.determinize_nfa.specs.Builder.{BuilderValue, with_match, with_node}
-use Rattle.determinize_pattern.specs.Private.Compiling.{AddsEach, Continues, Extends}
+use Rattle.determinize_pattern.specs.Private.Compiling.{AddsEach, Continues, Extends, Paid}
 use Rattle.determinize_pattern.specs.Private.Entries.{in_order}
+
+pub map_take_more : {X Y : Type 0} (f : X → Y) (xs : List X) (i : ℕ) (x : X) → i < length xs
+    → x ≡ slice_index_or xs i x → map f (take (i + 1) xs) ≡ map f (take i xs) ++ f x ∷ []
+map_take_more f xs i x h e = rw (take_more xs i x h, ← e, map-append) refl
 
 pub extends_same : (b : BuilderValue) → Extends b b
 extends_same b = record { longer = omega arith; kept = λ q l. refl; terminator = refl }
@@ -20,6 +24,10 @@ extends_then a b c f g = record {
   kept = λ q l. g.kept q (omega (arith, f.longer)) ∙ f.kept q l;
   terminator = g.terminator ∙ f.terminator;
 }
+
+pub less_left : (old new : BuilderValue) (before after : ℕ) → Extends old new → Paid old before new after
+    → after ≤ before
+less_left old new before after f paid = omega (arith, f.longer, paid)
 
 pub continues_old : (old new : BuilderValue) → Extends old new → (nfa : Nfa) → Continues new nfa → Continues old nfa
 continues_old old new f nfa h = record {
@@ -85,6 +93,13 @@ adds_more old mid new ids entries n s node h l e g w = rw g (record {
         (h.each nfa (continues_old mid (with_node mid (node n)) (grown mid (node n)) nfa c) k q))
         (λ z. let q : k ≡ n = omega (arith, m, ltb-false k n z) in
         rw (q, get_or-set_same entries n s 0 (omega (arith, l, h.len))) (is_new mid (node n) nfa c w s e))
+
+-- an entry that is read before it is set
+pub left_entry : (old new : BuilderValue) (ids entries : List ℕ) (n : ℕ) (node : ℕ → Node) (k id : ℕ)
+    → AddsBelow old new ids entries n node → n ≤ k → k < length ids → id ≡ slice_index_or entries k id
+    → id ≡ slice_index ids k
+left_entry old new ids entries n node k id h l m e =
+    get_or_read entries k id (omega (arith, m, h.len)) e 0 ∙ h.left k l
 
 pub adds_all : (old new : BuilderValue) (ids entries : List ℕ) (n : ℕ) (node : ℕ → Node)
     → AddsBelow old new ids entries n node → length ids ≤ n → AddsEach old new ids entries node

@@ -1,5 +1,5 @@
 -- The meaning of each kind of pattern, written out.
--- Main statements: meaning_empty to meaning_alternation.
+-- Main statements: meaning_empty to meaning_repetition, the ruleset meanings.
 -- Used by: the proofs of `part` and `always_reads`.
 -- Idea: a fold of a constructor is the fold of its parts.
 use Rattle.std.proofs.Common.{◌≡◌, ◌∙◌, ℕ, Bool, Box, Global, List, Option, Vec, ap, map, sym}
@@ -42,3 +42,12 @@ pub meaning_repetition : (min : ℕ) (max : Option ℕ) (greedy : Bool) (sub : B
     → meaning (patterns.Repetition min max greedy sub) ≡ repeated min max greedy (meaning sub.value)
 meaning_repetition min max greedy sub = ap meaning (sym (patterns.rolls-Repetition min max greedy sub))
     ∙ fold-roll-Pattern Re node_meaning (Pattern-F.Repetition min max greedy sub)
+
+pub ruleset meanings = (
+  meaning_literal,
+  meaning_class,
+  meaning_repetition,
+  meaning_capture,
+  meaning_concat,
+  meaning_alternation,
+)

@@ -1,7 +1,7 @@
 -- The states at which a loop begins.
 -- Main statements: plus_entry.
 -- Used by: the files compiled.
--- Idea: each later round reads a byte, so there are at most as many as bytes are left.
+-- Idea: each later round reads a byte, so their number is at most that of the bytes that are left.
 use Rattle.std.specs.List.{flat_map}
 use Rattle.std.specs.Prelude.{Contains, cond, nat_lt}
 use Rattle.std.proofs.Common.{◌≡◌, ◌-◌, ◌<◌, ◌≤◌, ◌∷◌, ℕ, Bool, List, [], arith, false, length, refl, suc, true, zero}

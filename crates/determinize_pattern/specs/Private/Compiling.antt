@@ -7,8 +7,8 @@ use Rattle.determinize_pattern.specs.Meaning.{Re, ends}
 use Rattle.determinize_pattern.specs.Patterns.{choice}
 use Rattle.determinize_pattern.specs.Private.Entries.{AreBranches, AreStarts, Finds, IsEntry}
 
--- the NFA has each state of the builder that is written: a union without alternates holds the place
--- of the state of a loop
+-- the NFA has the states of the builder, except for unions without alternates: such a union is the
+-- state of a loop whose alternates are set later
 pub record Continues (b : BuilderValue) (nfa : Nfa) : Type 0 where
   pub states : (q : ℕ) → q < length b.states → (slice_index_or b.states q Fail ≡ Union [] → ⊥)
       → state_at nfa q ≡ slice_index_or b.states q Fail

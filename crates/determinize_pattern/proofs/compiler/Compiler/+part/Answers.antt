@@ -1,23 +1,33 @@
 use Rattle.std.proofs.Common.{add-one, ◌≡◌, ◌+◌, ◌-◌, ◌∙◌, ◌∷◌, ap, arith, false, drop, length, map, refl, slice_index, sym}
 use Rattle.std.proofs.lemmas.Grind.{common_steps, get_or_default_zero}
-use Rattle.std.proofs.lemmas.List.{drop_all, drop_more, map-append, take_all, take_more, take_rest}
+use Rattle.std.proofs.lemmas.List.{drop_all, drop_more, get_or_read, take_all, take_rest}
 use Rattle.std.proofs.lemmas.Result.{IfOk-weaker, on_ok_weaker}
 use Rattle.determinize_pattern.specs.Patterns.{meaning}
 use Rattle.determinize_pattern.proofs.compiled.Branching.{begun_branches, branches_more, branches_none}
 use Rattle.determinize_pattern.proofs.compiled.Looping.{again_begun, plus_compiled}
-use Rattle.determinize_pattern.proofs.compiled.Compiling.{begun_of, choice_compiled, compiled_after, empty_compiled, look_compiled, nothing_compiled, one_compiled, only_compiled, optional_compiled, precedes_more, precedes_none, repeated_some, then_compiled}
+use Rattle.determinize_pattern.proofs.compiled.Compiling.{begun_of, choice_compiled, compiled_after, empty_compiled, look_compiled, nothing_compiled, on_both, one_compiled, only_compiled, optional_compiled, precedes_more, precedes_none, repeated_some, then_compiled}
+use Rattle.determinize_pattern.proofs.compiled.Growing.{less_left, map_take_more}
 use Rattle.determinize_pattern.proofs.compiled.Patterns.{meaning_empty, meaning_look}
 use Rattle.determinize_pattern.proofs.compiler.Compiler.+part.Goals as goal
 
 pub part-returns-then-always_reads-clause-compiled : goal.part-returns-then-always_reads-clause-compiled
 part-returns-then-always_reads-clause-compiled g t c =
     let first : c.index-ids-0.result ≡ slice_index c.args.ids.now 0
-    = c.index-ids-0.is ∙ get_or_default_zero c.args.ids.now 0 _ (omega (arith, c.requires)) in
+    = get_or_read c.args.ids.now 0 _ c.requires c.index-ids-0.is 0 in
     let node = rw first at c.in_ok-node.ensures.compiled in
     compiled_after _ _ _ _ _ _ c.spend.ensures.kept
     (one_compiled _ _ _ _ _ _ (c.always_reads.ensures c.if-always_reads.true) (begun_of _ _ _ _ _ node)
     (rw (get_or_default_zero c.node.new.ids 0 c.index-only-0.result (omega (arith, c.in_ok-node.ensures.compiled.len)))
     at c.set_each.ensures))
+
+pub part-returns-then-always_reads-clause-charged : goal.part-returns-then-always_reads-clause-charged
+part-returns-then-always_reads-clause-charged g t c =
+    let node = c.in_ok-node.ensures in
+    omega (arith, c.in_ok-spend.ensures.spent, less_left _ _ _ _ node.compiled.extends node.paid)
+
+pub part-returns-clause-charged : goal.part-returns-clause-charged
+part-returns-clause-charged g t c = on_both c.node-2.result c.node-2.ensures.compiled c.node-2.ensures.paid
+    (λ compiled paid. omega (arith, c.in_ok-spend.ensures.spent, less_left _ _ _ _ compiled.extends paid))
 
 pub node-returns-in-Empty-clause-compiled : goal.node-returns-in-Empty-clause-compiled
 node-returns-in-Empty-clause-compiled g t c = rw (c.in-Empty.is, meaning_empty) (empty_compiled _ _)
@@ -68,7 +78,7 @@ alternation-loop-i-preserved g t c =
 pub alternation-returns-then-ids-eq1-clause-compiled : goal.alternation-returns-then-ids-eq1-clause-compiled
 alternation-returns-then-ids-eq1-clause-compiled g t c =
     let first : c.index-ids-0.result ≡ slice_index c.args.ids.now 0
-    = c.index-ids-0.is ∙ get_or_default_zero c.args.ids.now 0 _ (omega (arith, c.requires)) in
+    = get_or_read c.args.ids.now 0 _ c.requires c.index-ids-0.is 0 in
     only_compiled _ _ _ c.args.ids.now c.args.ids.now _ c.if-ids-eq1.true refl (rw first at c.in_ok-ids.ensures.begun)
 
 pub branches-loop-i-init : goal.branches-loop-i-init
@@ -80,13 +90,7 @@ branches-loop-i-preserved g t c =
     let sub = c.index-subs-i.result in
     let entry = get_or_default_zero c.part.new.ids 0 c.index-ids-0.result
     (omega (arith, c.in_ok-part.ensures.compiled.len)) in (
-      rw (
-        take_more c.args.subs.now i sub (omega arith),
-        ← c.index-subs-i.is,
-        map-append,
-        c.in_ok-push.ensures.items,
-        entry,
-      )
+      rw (map_take_more meaning c.args.subs.now i sub (omega arith) c.index-subs-i.is, c.in_ok-push.ensures.items, entry)
           (branches_more _ _ _ _ _ _ _ _ c.loop-i.invariant.0 (begun_of _ _ _ _ _ c.in_ok-part.ensures.compiled)),
       omega (arith, c.loop-i.invariant.1, c.in_ok-part.ensures.paid),
     )
@@ -104,7 +108,7 @@ plus-returns-clause-compiled g t c =
     let entries : c.deref.result.now ≡ c.part.new.ids = grind (arith, common_steps) in
     let round : c.index.result.now ≡ slice_index c.part.new.ids 1 = grind (arith, common_steps) in
     let first : c.index-ids-0.result ≡ slice_index c.args.ids.now 0
-    = c.index-ids-0.is ∙ get_or_default_zero c.args.ids.now 0 _ (omega (arith, c.requires)) in
+    = get_or_read c.args.ids.now 0 _ c.requires c.index-ids-0.is 0 in
     plus_compiled c.args.greedy _ _ _ _ _ _ _ _ _ _ c.requires c.in_ok-again.ensures.id
     c.in_ok-again.ensures.added c.in_ok-unread.ensures.unread (rw targets at c.in_ok-part.ensures.compiled)
     (rw (round, first) at c.in_ok-close.ensures.closed) _
@@ -116,7 +120,7 @@ plus-returns-clause-again g t c =
     = rw c.deref_mut.ensures.value c.in_ok-body.ensures in
     let round : c.index.result.now ≡ slice_index c.part.new.ids 1 = grind (arith, common_steps) in
     let first : c.index-ids-0.result ≡ slice_index c.args.ids.now 0
-    = c.index-ids-0.is ∙ get_or_default_zero c.args.ids.now 0 _ (omega (arith, c.requires)) in
+    = get_or_read c.args.ids.now 0 _ c.requires c.index-ids-0.is 0 in
     again_begun c.args.greedy _ _ _ _ _ _ _ _ _ _ c.requires c.in_ok-again.ensures.id
     c.in_ok-again.ensures.added c.in_ok-unread.ensures.unread (rw targets at c.in_ok-part.ensures.compiled)
     (rw (round, first) at c.in_ok-close.ensures.closed)

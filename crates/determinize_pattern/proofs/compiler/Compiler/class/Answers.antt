@@ -1,5 +1,5 @@
-use Rattle.std.proofs.Common.{◌≡◌, ◌∙◌, arith, slice_index}
-use Rattle.std.proofs.lemmas.Grind.{get_or_default_zero}
+use Rattle.std.proofs.Common.{◌≡◌, slice_index}
+use Rattle.std.proofs.lemmas.List.{get_or_read}
 use Rattle.determinize_pattern.proofs.compiled.Compiling.{one_compiled}
 use Rattle.determinize_pattern.proofs.compiled.Reads.{reads_byte}
 use Rattle.determinize_pattern.proofs.compiler.Compiler.class.Goals as goal
@@ -7,6 +7,6 @@ use Rattle.determinize_pattern.proofs.compiler.Compiler.class.Goals as goal
 pub returns-clause-compiled : goal.returns-clause-compiled
 returns-clause-compiled g c =
     let first : c.index-ids-0.result ≡ slice_index c.args.ids.now 0
-    = c.index-ids-0.is ∙ get_or_default_zero c.args.ids.now 0 _ (omega (arith, c.requires)) in
+    = get_or_read c.args.ids.now 0 _ c.requires c.index-ids-0.is 0 in
     one_compiled _ _ _ _ _ _ (reads_byte c.args.class.now)
     (rw first at c.in_ok-entry.ensures.begun) c.set_each.ensures

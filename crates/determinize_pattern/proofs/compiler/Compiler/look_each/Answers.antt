@@ -1,7 +1,6 @@
-use Rattle.std.proofs.Common.{◌≡◌, ◌∙◌, [], arith, slice_index}
-use Rattle.std.proofs.lemmas.Grind.{get_or_default_zero}
+use Rattle.std.proofs.Common.{◌≡◌, [], arith}
 use Rattle.determinize_below.specs.Semantics.{Look, Union}
-use Rattle.determinize_pattern.proofs.compiled.Growing.{adds_all, adds_more, adds_none}
+use Rattle.determinize_pattern.proofs.compiled.Growing.{adds_all, adds_more, adds_none, left_entry}
 use Rattle.determinize_pattern.proofs.compiler.Compiler.look_each.Goals as goal
 
 pub loop-k-init : goal.loop-k-init
@@ -10,9 +9,7 @@ loop-k-init g c = (adds_none _ _ _, omega arith)
 pub loop-k-preserved : goal.loop-k-preserved
 loop-k-preserved g c =
     let k = c.loop-k.k in
-    let here : c.index-ids-k.result ≡ slice_index c.args.ids.now k
-    = c.index-ids-k.is ∙ get_or_default_zero c.loop-k.ids k _ (omega (arith, c.loop-k.invariant.0.len))
-    ∙ c.loop-k.invariant.0.left k (omega arith) in (
+    let here = left_entry _ _ _ _ _ _ k _ c.loop-k.invariant.0 (omega arith) (omega arith) c.index-ids-k.is in (
       adds_more _ _ _ _ _ _ _ _ c.loop-k.invariant.0 (omega arith) c.in_ok-ids.ensures.id
           (rw here at c.in_ok-ids.ensures.added)
           (λ z. let y : Look _ _ ≡ Union [] = z in cc),

@@ -1,8 +1,9 @@
 use Rattle.std.proofs.Common.{◌≡◌, ◌∙◌, arith, length, map, slice_index, take}
 use Rattle.std.proofs.lemmas.Grind.{get_or_default_zero}
-use Rattle.std.proofs.lemmas.List.{length-map, length-take-le, map-append, take_all, take_more}
+use Rattle.std.proofs.lemmas.List.{get_or_read, length-map, length-take-le, take_all}
 use Rattle.determinize_pattern.specs.Patterns.{meaning}
 use Rattle.determinize_pattern.proofs.compiled.Compiling.{begun_of}
+use Rattle.determinize_pattern.proofs.compiled.Growing.{map_take_more}
 use Rattle.determinize_pattern.proofs.compiled.Starting.{begins_more, begins_none}
 use Rattle.determinize_pattern.proofs.compiler.Compiler.starts.Goals as goal
 
@@ -14,18 +15,12 @@ loop-i-preserved g c =
     let i = c.loop-i.i in
     let sub = c.index-patterns-i.result in
     let m : c.index-matches-i.result ≡ slice_index c.args.matches.now i
-    = c.index-matches-i.is ∙ get_or_default_zero c.args.matches.now i _ (omega (arith, c.requires)) in
+    = get_or_read c.args.matches.now i _ (omega (arith, c.requires)) c.index-matches-i.is 0 in
     let long : length (map meaning (take i c.args.patterns.now)) ≡ i
     = length-map (take i c.args.patterns.now) meaning ∙ length-take-le i c.args.patterns.now (omega arith) in
     let entry = get_or_default_zero c.part.new.ids 0 c.index-ids-0.result
     (omega (arith, c.in_ok-part.ensures.compiled.len)) in (
-      rw (
-        take_more c.args.patterns.now i sub (omega arith),
-        ← c.index-patterns-i.is,
-        map-append,
-        c.in_ok-push.ensures.items,
-        entry,
-      )
+      rw (map_take_more meaning c.args.patterns.now i sub (omega arith) c.index-patterns-i.is, c.in_ok-push.ensures.items, entry)
           (begins_more _ _ _ _ _ _ _ i _ c.loop-i.invariant.0 long (omega (arith, c.requires))
           (begun_of _ _ _ _ _ (rw m at c.in_ok-part.ensures.compiled))),
       omega (arith, c.loop-i.invariant.1, c.in_ok-part.ensures.paid),
