@@ -213,7 +213,44 @@ def job(shown, patterns, lines, term=10):
     keys = [] if any(map(model.has_empty_loop, patterns)) else ['states=%d' % model.states_of(patterns)]
     keys += ['term=%02x' % term] if term != 10 else []
     head = ' '.join(['>'] + keys + ['|', words])
-    return '\n'.join([comment(pattern) for pattern in shown] + [head] + lines)
+    texts = ['= ' + model.printed_whole(p) for p in patterns]
+    return '\n'.join([comment(pattern) for pattern in shown] + [head] + texts + lines)
+
+
+def flat(line):
+    """a value, with the parts of each concatenation in place of it in another, and adjacent literals joined"""
+    def flatten(p):
+        if p[0] not in ('repetition', 'capture', 'concat', 'alternation'):
+            return p
+        if p[0] in ('repetition', 'capture'):
+            return p[:-1] + (flatten(p[-1]),)
+        subs = [flatten(sub) for sub in p[1]]
+        if p[0] == 'concat':
+            parts = [part for sub in subs for part in (sub[1] if sub[0] == 'concat' else [sub])]
+            subs = []
+            for part in parts:
+                if part[0] == 'literal' and subs and subs[-1][0] == 'literal':
+                    part = ('literal', subs.pop()[1] + part[1])
+                subs.append(part)
+            if len(subs) == 1:
+                return subs[0]
+        return p[0], tuple(subs)
+    return line if line == 'none' else flatten(model.read(line)[0])
+
+
+def check_printed(jobs):
+    """Checks that regex-syntax reads each printed text as the grouped one, if it knows the assertions, and no class in
+    it is empty"""
+    lines = [line for text in jobs for line in text.split('\n') if line[0] in '>=']
+    texts = [line[2:] for line in lines if line[0] == '='][:-len(PRINTED)]
+    heads = [line for line, after in zip(lines, lines[1:]) if line[0] == '>' and after[0] == '=' and '*' not in line]
+    patterns = [p for head in heads for p in model.read(head.partition('| ')[2])]
+    ours = peer('values', [text.encode().hex() for text in texts])
+    grouped = peer('values', [model.show(p).encode().hex() for p in patterns])
+    for p, one, other in zip(patterns, ours, grouped):
+        assert one == 'none' or flat(one) == flat(other), (p, one, other)
+    known = [line for line in ours if line != 'none']
+    print('texts: %d, of %d patterns, read back: %d' % (len(texts), len(patterns), len(known)), file=sys.stderr)
 
 
 def leave_out(shown, text, reason):
@@ -359,39 +396,76 @@ def of_loops(rng, jobs, count, more):
     return (found + jobs.finish())[:count]
 
 
+# Patterns, and the limits for which the compiler has enough, if it counts as the page says.
 HOSTILE = [
-    (r'a{1000}{1000}', 'R:1000,1000,g R:1000,1000,g L:61'),
-    (r'((){1000}){1000}', 'R:1000,1000,g G R:1000,1000,g G E'),
-    (r'(?:)* in counted loops', 'R:1000,1000,g R:1000,1000,g R:0,-,g E'),
-    (r'a{0,4294967295}', 'R:0,4294967295,g L:61'),
-    (r'a{4294967295}', 'R:4294967295,4294967295,g L:61'),
-    (r'a{4294967295,}', 'R:4294967295,-,l L:61'),
-    (r'a?{4294967295,}', 'R:4294967295,-,g R:0,1,g L:61'),
-    (r'(?:){0,4294967295}', 'R:0,4294967295,l E'),
-    ('a greatest number below the least one', 'R:3,2,g L:61'),
-    ('no class, in loops', 'R:4294967295,-,g C:'),
-    ('100000 parts in a row', 'S:100000 L:61*100000'),
-    ('100000 empty parts in a row', 'S:100000 E*100000'),
-    ('100000 branches', 'A:100000 L:61*100000'),
-    ('100000 empty branches in a loop', 'R:0,-,g A:100000 E*100000'),
-    ('100000 branches in a loop over what may read nothing', 'R:0,-,g A:100001 E L:61*100000'),
-    ('20 counted loops of 4294967295, one in another', 'R:4294967295,4294967295,g*20 K:Start'),
-    ('50 lazy loops over loops', 'R:1,-,l*50 R:0,1,g L:61'),
-    ('1000 captures, one in another', 'G*1000 L:61'),
-    ('1000 counted loops, one in another', 'R:1,1,g*1000 L:61'),
-    ('1000 loops over what may read nothing', 'R:0,-,g*1000 R:0,1,g L:61'),
-    ('2000 assertions in a loop', 'R:2,-,g S:2000 K:WordAscii*2000'),
+    (r'a{1000}{1000}', 'R:1000,1000,g R:1000,1000,g L:61', ()),
+    (r'((){1000}){1000}', 'R:1000,1000,g G R:1000,1000,g G E', ()),
+    (r'(?:)* in counted loops', 'R:1000,1000,g R:1000,1000,g R:0,-,g E', ()),
+    (r'a{0,4294967295}', 'R:0,4294967295,g L:61', ()),
+    (r'a{4294967295}', 'R:4294967295,4294967295,g L:61', ()),
+    (r'a{4294967295,}', 'R:4294967295,-,l L:61', ()),
+    (r'a?{4294967295,}', 'R:4294967295,-,g R:0,1,g L:61', ()),
+    (r'(?:){0,4294967295}', 'R:0,4294967295,l E', ()),
+    ('a greatest number below the least one', 'R:3,2,g L:61', (1000, 100000)),
+    ('no class, in loops', 'R:4294967295,-,g C:', ()),
+    ('100000 parts in a row', 'S:100000 L:61*100000', ()),
+    ('100000 empty parts in a row', 'S:100000 E*100000', ()),
+    ('100000 branches', 'A:100000 L:61*100000', ()),
+    ('100000 empty branches in a loop', 'R:0,-,g A:100000 E*100000', ()),
+    ('100000 branches in a loop over what may read nothing', 'R:0,-,g A:100001 E L:61*100000', ()),
+    ('20 counted loops of 4294967295, one in another', 'R:4294967295,4294967295,g*20 K:Start', ()),
+    ('50 lazy loops over loops', 'R:1,-,l*50 R:0,1,g L:61', (100000,)),
+    ('1000 captures, one in another', 'G*1000 L:61', (100000,)),
+    ('1000 counted loops, one in another', 'R:1,1,g*1000 L:61', (100000,)),
+    ('1000 loops over what may read nothing', 'R:0,-,g*1000 R:0,1,g L:61', ()),
+    ('2000 assertions in a loop', 'R:2,-,g S:2000 K:WordAscii*2000', (100000,)),
+]
+
+# Patterns by depth: the greatest depth, if it is not the usual one, whether it suffices, and the patterns.
+DEEP = [
+    (None, True, 'G*250 L:61'), (None, False, 'G*251 L:61'), (None, True, 'R:1,1,g*250 L:61'),
+    (None, False, 'R:1,1,g*251 L:61'), (None, True, 'S:1*250 L:61'), (None, False, 'S:1*251 L:61'),
+    (None, True, 'A:1*250 L:61'), (None, False, 'A:1*251 L:61'), (None, False, 'L:61 L:61 G*251 L:61'),
+    (0, True, 'L:6162'), (0, True, 'C:61-7a'), (0, True, 'K:Start'), (0, True, 'E'), (0, False, 'S:0'), (0, False, 'A:0'),
+    (0, False, 'G E'), (0, False, 'R:0,-,g L:61'), (1, True, 'S:2 L:61 L:62'), (1, False, 'S:2 L:61 G L:62'),
+    (3, True, 'A:3 L:61 S:2 L:61 G L:62 L:63'), (2, False, 'A:3 L:61 S:2 L:61 G L:62 L:63'),
+    (None, False, 'G*100000 L:61'), (None, False, 'R:1,-,g*100000 L:61'), (None, False, 'S:1*100000 L:61'),
+    (None, False, 'A:1*100000 L:61'), (None, False, 'S:2*100000 E*100001'), (None, False, 'A:3*50000 L:61*100001'),
 ]
 
 
 def of_hostile():
     found = []
-    for shown, words in HOSTILE:
+    for shown, words, enough in HOSTILE:
+        nest = 'nest=1001 ' if '*1000 ' in words else ''
         for limit in (0, 1000, 100000):
-            found.append('> limit=%d | %s' % (limit, words))
+            error = '' if limit in enough else 'error=size '
+            found.append('> limit=%d %s%s| %s' % (limit, nest, error, words))
             if limit == 0:
                 found[-1] = '# ' + shown + '\n' + found[-1]
+    for shown, words, _ in HOSTILE[:2]:
+        found.append('# %s, with the usual limit\n> error=size | %s' % (shown, words))
     return found
+
+
+# Patterns of 1000 levels, which are printed.
+PRINTED = ['G*1000 L:61', 'R:0,-,l*1000 L:61', 'S:2*1000 L:61*1001', 'A:2*1000 L:61*1001', 'A:1*1000 R:1,1,g K:Start']
+
+
+def of_deep():
+    found = []
+    for nest, is_within, words in DEEP:
+        keys = ([] if nest is None else ['nest=%d' % nest]) + ([] if is_within else ['error=nest'])
+        found.append(' '.join(['>'] + keys + ['|', words]))
+    for words in PRINTED:
+        found.append('> error=nest | %s\n= %s' % (words, model.printed_whole(model.read(repeated(words))[0])))
+    return found
+
+
+def repeated(words):
+    """the words, each as often as its number says"""
+    split = [word.partition('*') for word in words.split(' ')]
+    return ' '.join(word for word, _, count in split for _ in range(int(count or 1)))
 
 
 def main():
@@ -406,14 +480,16 @@ def main():
     ]
     groups += [
         ('Loops whose body may read nothing, where regex 1.7.1 differs: by the rule of this project', jobs.loops[:35]),
-        ('Sizes: an error, or at most this number of states and the prefix', of_hostile()),
+        ('Sizes: the error, or at most this number of states and the prefix', of_hostile()),
+        ('Depths: the error, or an NFA', of_deep()),
     ]
     for title, found in groups:
         print('# %s: %d jobs.' % (title, len(found)))
         for text in found:
             print(text)
-        lines = [line for text in found for line in text.split('\n') if line[0] not in '#>']
+        lines = [line for text in found for line in text.split('\n') if line[0] not in '#>=']
         print(title, len(found), len(lines), sum(line.count(':') for line in lines), file=sys.stderr)
+    check_printed([text for _, found in groups for text in found])
 
 
 main()

@@ -112,6 +112,56 @@ def show_byte(byte):
     return chr(byte) if chr(byte).isalnum() and byte < 128 else '\\n' if byte == 10 else '\\x%02x' % byte
 
 
+def printed(p, is_operand=False):
+    """the text that `Display` writes of a pattern, which is in front of an operator if `is_operand` is set"""
+    kind = p[0]
+    if kind == 'look':
+        bare, is_grouped = REGEX_LOOKS[p[1]], is_operand
+    elif kind == 'literal':
+        bare, is_grouped = ''.join(map(printed_byte, p[1])) or '(?:)', is_operand and len(p[1]) > 1
+    elif kind == 'class':
+        ranges = [printed_byte(a) + ('-' + printed_byte(b) if a < b else '') for a, b in merged(p[1])]
+        bare, is_grouped = '[%s]' % ''.join(ranges) if ranges else r'[^\x00-\xFF]', False
+    elif kind == 'capture':
+        bare, is_grouped = '(%s)' % printed_whole(p[1]), False
+    elif kind == 'concat':
+        bare, is_grouped = ''.join(map(printed, p[1])) or '(?:)', is_operand and bool(p[1])
+    elif kind == 'alternation':
+        return '(?:%s)' % printed_whole(p) if p[1] else printed_whole(p)
+    elif kind == 'repetition':
+        low, high, greedy, sub = p[1:]
+        counts = '{%d}' % low if high is not None and high <= low else '{%d,%s}' % (low, '' if high is None else high)
+        sign = {(0, None): '*', (1, None): '+', (0, 1): '?'}.get((low, high), counts)
+        bare, is_grouped = printed(sub, True) + sign + ('' if greedy else '?'), is_operand
+    else:
+        bare, is_grouped = '(?:)', False
+    return '(?:%s)' % bare if is_grouped else bare
+
+
+def printed_whole(p):
+    """the same of a whole pattern, or of what is in a group"""
+    if p[0] == 'alternation':
+        return '|'.join(map(printed, p[1])) if p[1] else r'[^\x00-\xFF]'
+    return printed(p)
+
+
+def merged(ranges):
+    """the ranges in order, with those joined that meet"""
+    found = []
+    for a, b in sorted(ranges):
+        if found and a <= found[-1][1] + 1:
+            found[-1] = (found[-1][0], max(b, found[-1][1]))
+        else:
+            found.append((a, b))
+    return found
+
+
+def printed_byte(byte):
+    if not 32 <= byte <= 126:
+        return '\\x%02X' % byte
+    return ('\\' if chr(byte) in r'\.+*?()|[]{}^$#&-~' else '') + chr(byte)
+
+
 # ---- what a pattern matches ---------------------------------------------------------------------------------------
 
 

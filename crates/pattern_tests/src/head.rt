@@ -1,6 +1,7 @@
 //! The first line of a job: what is said of its NFA, and its patterns.
 
 use crate::error::JobError;
+use crate::notation;
 use determinize_pattern::Config;
 use example_walks::values;
 
@@ -9,8 +10,12 @@ use example_walks::values;
 pub struct Head<'a> {
     /// The number of states of the NFA without the prefix.
     pub states: Option<usize>,
-    /// The greatest number of states. The patterns of a job with a limit may exceed it.
+    /// The greatest number of states.
     pub limit: Option<usize>,
+    /// The greatest depth of the patterns.
+    pub nest: Option<u32>,
+    /// The error that `compile` returns: `size` or `nest`.
+    pub error: Option<&'a str>,
     /// The line terminator.
     pub terminator: u8,
     /// The patterns.
@@ -26,6 +31,8 @@ impl<'a> Head<'a> {
         let mut head = Head {
             states: None,
             limit: None,
+            nest: None,
+            error: None,
             terminator: b'\n',
             words,
         };
@@ -38,10 +45,12 @@ impl<'a> Head<'a> {
     }
 
     /// Sets the value of a word `key=value`.
-    fn set(&mut self, word: &str) -> Result<(), JobError> {
+    fn set(&mut self, word: &'a str) -> Result<(), JobError> {
         match word.split_once('=') {
             Some(("states", value)) => self.states = Some(values::number(value)?),
             Some(("limit", value)) => self.limit = Some(values::number(value)?),
+            Some(("nest", value)) => self.nest = Some(notation::count(value)?),
+            Some(("error", value)) => self.error = Some(value),
             Some(("term", value)) => self.terminator = values::byte(value)?,
             _ => return Err(JobError::Malformed("a key with a value")),
         }
@@ -54,6 +63,9 @@ impl<'a> Head<'a> {
         config.look_matcher.set_line_terminator(self.terminator);
         if let Some(limit) = self.limit {
             config.state_limit = limit;
+        }
+        if let Some(nest) = self.nest {
+            config.nest_limit = nest;
         }
         config
     }

@@ -10,7 +10,7 @@ use crate::notation;
 use determinize_below::{BuildError, Input, NFA};
 use determinize_find::{Match, Regex};
 use determinize_nfa::reversed;
-use determinize_pattern::{CompileError, compile};
+use determinize_pattern::{CompileError, Pattern, compile};
 use example_walks::values;
 use std::alloc::{AllocError, Global};
 
@@ -31,8 +31,14 @@ pub struct Judged {
     pub report: String,
 }
 
-/// Judges a job: its first line without the mark, and the lines of its texts.
-pub fn judge(alloc: Global, head: &str, texts: &[String]) -> Result<Judged, JobError> {
+/// Judges a job: its first line without the mark, the expected text of each of its first patterns,
+/// and the lines of its texts.
+pub fn judge(
+    alloc: Global,
+    head: &str,
+    printed: &[String],
+    texts: &[String],
+) -> Result<Judged, JobError> {
     let head = Head::read(head)?;
     let patterns = notation::patterns(alloc, head.words)?;
     let mut judged = Judged {
@@ -40,8 +46,10 @@ pub fn judge(alloc: Global, head: &str, texts: &[String]) -> Result<Judged, JobE
         matches: 0,
         report: String::new(alloc),
     };
+    judged.judge_printed(alloc, &patterns, printed)?;
     match compile(alloc, patterns.as_slice(), head.config()) {
         Ok(nfa) => {
+            judged.judge_no_error(&head)?;
             judged.judge_states(&head, nfa.len())?;
             if !texts.is_empty() {
                 let backward = reversed(alloc, &nfa)?;
@@ -49,13 +57,52 @@ pub fn judge(alloc: Global, head: &str, texts: &[String]) -> Result<Judged, JobE
             }
         }
         Err(CompileError::Build(BuildError::OutOfMemory)) => return Err(JobError::OutOfMemory),
-        Err(_) if head.limit.is_some() => {}
-        Err(error) => writeln!(judged.report, "{error}")?,
+        Err(error) => judged.judge_error(&head, error)?,
     }
     Ok(judged)
 }
 
 impl Judged {
+    /// Compares the texts of the first patterns with the expected ones.
+    fn judge_printed(
+        &mut self,
+        alloc: Global,
+        patterns: &[Pattern],
+        printed: &[String],
+    ) -> Result<(), AllocError> {
+        for (pattern, wanted) in patterns.iter().zip(printed.iter()) {
+            let mut text = String::new(alloc);
+            write!(text, "{pattern} {pattern:?}")?;
+            let mut twice = String::new(alloc);
+            write!(twice, "{wanted} {wanted}")?;
+            if text.as_str() != twice.as_str() {
+                writeln!(self.report, "{text}, and not {wanted}")?;
+            }
+        }
+        Ok(())
+    }
+
+    /// Reports that the patterns of a job with an expected error were compiled.
+    fn judge_no_error(&mut self, head: &Head<'_>) -> Result<(), AllocError> {
+        if let Some(wanted) = head.error {
+            writeln!(self.report, "an NFA, and not the error {wanted}")?;
+        }
+        Ok(())
+    }
+
+    /// Compares the error of `compile` with the expected one.
+    fn judge_error(&mut self, head: &Head<'_>, error: CompileError) -> Result<(), AllocError> {
+        let name = match error {
+            CompileError::ExceededSizeLimit => "size",
+            CompileError::NestLimitExceeded(limit) if limit == head.config().nest_limit => "nest",
+            _ => "another error",
+        };
+        match head.error {
+            Some(wanted) if wanted == name => Ok(()),
+            _ => writeln!(self.report, "{error}"),
+        }
+    }
+
     /// Compares the number of states with the one that is expected, and with the limit.
     fn judge_states(&mut self, head: &Head<'_>, states: usize) -> Result<(), AllocError> {
         let states = states.saturating_sub(PREFIX_STATES);

@@ -111,10 +111,10 @@ fn repetition(value: &str, sub: Box<Pattern>) -> Result<Pattern, JobError> {
     })
 }
 
-/// Returns a number of rounds.
-fn count(text: &str) -> Result<u32, JobError> {
+/// Returns a number of rounds or of levels.
+pub fn count(text: &str) -> Result<u32, JobError> {
     match u32::try_from(values::number(text)?) {
         Ok(count) => Ok(count),
-        Err(_) => Err(JobError::Malformed("a number of rounds")),
+        Err(_) => Err(JobError::Malformed("a number of rounds or of levels")),
     }
 }

@@ -50,6 +50,7 @@ impl fmt::Display for Tally {
 struct Pending {
     line: u64,
     head: String,
+    printed: Vec<String>,
     texts: Vec<String>,
 }
 
@@ -78,7 +79,8 @@ impl Replay {
         }
     }
 
-    /// Takes one more line: the first one of a job, a text of the job, or a comment.
+    /// Takes one more line: the first one of a job, the expected text of a pattern of the job, a
+    /// text that is searched, or a comment.
     ///
     /// The first line of a job ends the job before, which is judged then: what differs is written
     /// to `out`.
@@ -92,13 +94,17 @@ impl Replay {
             self.job = Some(Pending {
                 line: self.line,
                 head: String::from_str(self.alloc, head)?,
+                printed: Vec::new(self.alloc),
                 texts: Vec::new(self.alloc),
             });
             return Ok(());
         }
-        match self.job.as_mut() {
-            Some(job) => job.texts.push(String::from_str(self.alloc, text)?)?,
-            None => return Err(ReplayError::NoJob(self.line)),
+        let Some(job) = self.job.as_mut() else {
+            return Err(ReplayError::NoJob(self.line));
+        };
+        match text.strip_prefix("= ") {
+            Some(printed) => job.printed.push(String::from_str(self.alloc, printed)?)?,
+            None => job.texts.push(String::from_str(self.alloc, text)?)?,
         }
         Ok(())
     }
@@ -114,7 +120,7 @@ impl Replay {
         let Some(job) = self.job.take() else {
             return Ok(());
         };
-        let judged = match judge(self.alloc, job.head.as_str(), job.texts.as_slice()) {
+        let judged = match judge(self.alloc, job.head.as_str(), &job.printed, &job.texts) {
             Ok(judged) => judged,
             Err(error) => return Err(ReplayError::of_job(job.line, error)),
         };
