@@ -1,8 +1,9 @@
 //! Uses of the libraries, to read and to copy. Each module is one use, and its contracts are
-//! proved. `search_tests` runs all but [`counted`].
+//! proved. `search_tests` runs all but [`counted`] and [`patterns`].
 //!
 //! - [`values`] makes one value of each small type: sets, start kinds, closures, states.
 //! - [`nfa`] makes an NFA by hand, and [`built`] one by a `Builder`.
+//! - [`patterns`] finds the leftmost match of patterns, in words of the patterns only.
 //! - [`scanner`] finds all matches of a haystack, and [`lexer`] the longest token at each position.
 //!   [`steady`] finds all matches and never allocates while it runs.
 //! - [`input`] finds whether a haystack has a match, and both ends of the preferred one.
@@ -18,6 +19,7 @@ pub mod dfa;
 pub mod input;
 pub mod lexer;
 pub mod nfa;
+pub mod patterns;
 pub mod scanner;
 pub mod search;
 pub mod steady;
