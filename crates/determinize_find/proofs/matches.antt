@@ -1,3 +1,4 @@
 pub mod CoveredStarts
+pub mod InputMatches
 pub mod NextMatch
 pub mod OneList

@@ -10,6 +10,7 @@ use Rattle.determinize_below.specs.declared.search.Match.{Match}
 use Rattle.determinize_below.specs.declared.search.MatchKind.TheVariants.{LeftmostFirst}
 use Rattle.determinize_core.specs.LastMatch.{IsPreferredMatch}
 use Rattle.determinize_engine.specs.Scans.{IsScan, Scanned}
+use Rattle.determinize_find.specs.Certain.{certain_match}
 use Rattle.determinize_find.specs.Idle.{HasBegun, IsIdle, NothingBefore}
 use Rattle.determinize_nfa.specs.Leftmost.{IsLeftmost}
 use Rattle.determinize_find.specs.LeftmostIn.{IsLeftmostIn, is_anchored}
@@ -77,3 +78,19 @@ EachBusyHasBegun = (nfa : Nfa) → IsAccepted nfa → HasPrefix nfa
     → (state : ℕ) → slice_get s.state.states 0 ≡ Some state → ¬ (state ≡ nfa.start_unanchored)
     → (more : List ℕ) (ahead : Option ℕ)
     → HasBegun nfa (between behind (bytes ++ more) ahead) (length bytes) state
+
+-- where the match of a scan is certain, it is the preferred match of each text that
+-- begins with the bytes
+abbrev pub EachCertainIsPreferred : Type 0
+EachCertainIsPreferred = (nfa : Nfa) → IsAccepted nfa
+    → (start : ℕ) (behind : Option ℕ) (bytes : List ℕ) (s : Scanned)
+    → IsScan nfa LeftmostFirst start behind bytes s
+    → (m : HalfMatch) → certain_match nfa s ≡ Some m → (more : List ℕ) (ahead : Option ℕ)
+    → IsPreferredMatch nfa start (between behind (bytes ++ more) ahead) (Some m)
+
+-- each input has a list of all of its matches, behind a match that ended where its range starts too
+abbrev pub EachInputHasMatches : Type 0
+EachInputHasMatches = (nfa : Nfa) → IsAccepted nfa → (asked : Asked) (before : Option ℕ)
+    → asked.end ≤ length asked.haystack
+    → ((last : ℕ) → before ≡ Some last → last ≡ asked.start)
+    → (ms : List Match) × AreMatches nfa asked before ms

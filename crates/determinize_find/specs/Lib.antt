@@ -2,6 +2,7 @@ pub use Rattle.determinize_nfa.specs.Builder
 pub use Rattle.determinize_nfa.specs.Prefix
 pub use Rattle.determinize_nfa.specs.Reversal
 pub use Rattle.determinize_nfa.specs.Runs
+pub mod Certain
 pub mod Cursors
 pub mod Idle
 pub mod Laws

@@ -2,7 +2,9 @@
 use Rattle.std.specs.Prelude.{ℕ}
 use Rattle.determinize_below.specs.Semantics.{Nfa}
 
--- the NFA that reads forward, and the greatest number of states of either DFA
+-- the NFA that reads forward, and the greatest numbers of states of the DFA that finds ends and of
+-- the one that finds starts
 pub record RegexValue : Type 0 where
   pub nfa : Nfa
   pub limit : ℕ
+  pub limit_backward : ℕ

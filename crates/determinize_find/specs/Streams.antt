@@ -1,6 +1,6 @@
 -- All matches of a text that comes in pieces.
 use Rattle.std.specs.Prelude.{◌≡◌, ◌*◌, ◌+◌, ◌<◌, ◌≤◌, ◌++◌, ◌⊎◌, ℕ, All, Bool, List, None, OnErr}
-use Rattle.std.specs.Prelude.{OnOk, Option, Result, Some, cond, drop, length, take, true}
+use Rattle.std.specs.Prelude.{OnOk, Option, Result, Some, cond, drop, length, take}
 use Rattle.std.specs.Option.{IfSome}
 use Rattle.determinize_below.specs.Nfa.{AllResolve, IsAccepted}
 use Rattle.determinize_below.specs.Semantics.{Nfa}
@@ -9,8 +9,8 @@ use Rattle.determinize_below.specs.declared.search.Anchored.TheVariants.{No}
 use Rattle.determinize_below.specs.declared.search.Match.{Match}
 use Rattle.determinize_below.specs.declared.search.MatchKind.TheVariants.{LeftmostFirst}
 use Rattle.determinize_start.specs.StartKinds.{byte_before}
-use Rattle.determinize_core.specs.Value.{is_nonempty}
 use Rattle.determinize_engine.specs.Scans.{IsScan, Scanned}
+use Rattle.determinize_find.specs.Certain.{IsUnsettled}
 use Rattle.determinize_find.specs.Idle.{IsIdle}
 use Rattle.determinize_find.specs.Matches.{AreMatches, from}
 use Rattle.determinize_nfa.specs.Prefix.{HasPrefix, HasPrefixApart}
@@ -52,14 +52,13 @@ pub record IsEndScan (nfa : Nfa) (behind : Option ℕ) (bytes : List ℕ) (s : S
   pub resolve : AllResolve nfa s.state.states
   pub scan : IsScan nfa LeftmostFirst nfa.start_unanchored behind bytes s
 
--- the search has read the kept bytes from its start on
-abbrev pub IsSearching : Nfa → Streamed → Type 0
-IsSearching nfa s = IfSome s.scan
-    (λ scan. IsEndScan nfa (byte_before s.kept s.start) (drop s.start s.kept) scan)
+-- the search has read the kept bytes from the start on
+abbrev pub IsKeptScan : Nfa → Streamed → Scanned → Type 0
+IsKeptScan nfa s scan = IsEndScan nfa (byte_before s.kept s.start) (drop s.start s.kept) scan
 
--- the search has not ended with a match: where it knows one, an NFA state is left
-abbrev pub IsUnsettled : Scanned → Type 0
-IsUnsettled s = IfSome s.last (λ m. is_nonempty s.state.states ≡ true)
+-- so has the one that is under way
+abbrev pub IsSearching : Nfa → Streamed → Type 0
+IsSearching nfa s = IfSome s.scan (λ scan. IsKeptScan nfa s scan)
 
 -- these bytes were read and these matches were found: all matches of each text that begins with the
 -- bytes are these matches, and then those from the place on
@@ -94,13 +93,13 @@ pub record IsFeeding {T E : Type 0} (nfa : Nfa) (old new : Streamed) (piece : Li
   pub failed : OnErr result (IsPartFed nfa old new piece list after)
   pub searching : IsSearching nfa new
 
--- the search of the kept bytes from the start on is under way, and has not ended with a match; at
+-- the search of the kept bytes from the start on is under way, and no match of it is certain; at
 -- most one byte before its start is kept, and no other where it is idle
 pub record KeepsFew (nfa : Nfa) (s : Streamed) : Type 0 where
   pub scan : Scanned
   pub search : s.scan ≡ Some scan
   pub searching : IsSearching nfa s
-  pub unsettled : IsUnsettled scan
+  pub unsettled : IsUnsettled nfa scan
   pub behind : s.start ≤ 1
   pub idle : HasPrefixApart nfa → IsIdle nfa scan → count_kept s ≤ 1
 

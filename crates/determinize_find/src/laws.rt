@@ -1,6 +1,6 @@
 //! Laws of the leftmost match, as public functions with empty bodies.
 
-ghost use Rattle.determinize_find.specs.Laws.{EachAnchoredIsLeftmost, EachBusyHasBegun, EachIdleIsFresh, EachLeftmostInIsOne, EachLeftmostIsOne, EachMatchesAreApart, EachMatchesAreOne, EachPreferredIsLeftmost, EachStartIsCovered};
+ghost use Rattle.determinize_find.specs.Laws.{EachAnchoredIsLeftmost, EachBusyHasBegun, EachCertainIsPreferred, EachIdleIsFresh, EachInputHasMatches, EachLeftmostInIsOne, EachLeftmostIsOne, EachMatchesAreApart, EachMatchesAreOne, EachPreferredIsLeftmost, EachStartIsCovered};
 
 pub use determinize_nfa::laws::{mirror_law, shift_law};
 
@@ -17,13 +17,14 @@ pub fn prefix_law()
     ensures anchored { EachAnchoredIsLeftmost }
 {}
 
-/// An input has at most one leftmost match, and its matches are at most one list. They are in the
+/// An input has at most one leftmost match, and its matches are exactly one list. They are in the
 /// range, do not overlap, and each ends later than the one before. In an input that is not anchored
 /// none is passed over: where a run begins that accepts, a match of the list contains the index, or
 /// ends there and the leftmost match from there on is empty.
 pub fn matches_law()
     ensures leftmost { EachLeftmostInIsOne }
     ensures one { EachMatchesAreOne }
+    ensures exists { EachInputHasMatches }
     ensures apart { EachMatchesAreApart }
     ensures covered { EachStartIsCovered }
 {}
@@ -35,4 +36,10 @@ pub fn matches_law()
 pub fn idle_law()
     ensures fresh { EachIdleIsFresh }
     ensures busy { EachBusyHasBegun }
+{}
+
+/// Where the match of a scan is certain (`certain_match`), it is the preferred match of each text
+/// that begins with the bytes that were scanned: nothing that follows changes its pattern or end.
+pub fn certain_law()
+    ensures { EachCertainIsPreferred }
 {}

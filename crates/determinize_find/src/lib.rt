@@ -4,6 +4,7 @@
 //! states. The caches stay usable: later results are the same.
 #![tactic(auto)]
 
+pub mod certain;
 pub mod idle;
 pub mod iter;
 pub mod laws;
@@ -11,6 +12,7 @@ pub mod pieces;
 pub mod plain;
 pub mod regex;
 
+pub use certain::certain_match;
 pub use determinize_below::search::Match;
 pub use determinize_nfa::{
     Builder, builder, has_prefix, has_prefix_apart, prefix, reversal, reversed,

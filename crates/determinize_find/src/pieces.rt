@@ -4,14 +4,14 @@ ghost use Rattle.std.specs.Prelude.{◌≡◌, ◌-◌, ◌<◌, ◌≤◌, ◌�
 ghost use Rattle.std.specs.Prelude.{length, take, IfOk, OnErr, OnOk};
 ghost use Rattle.determinize_below.specs.Semantics.{Nfa};
 ghost use Rattle.determinize_below.specs.declared.search.Match.{Match as Found};
-ghost use Rattle.determinize_start.specs.StartKinds.{byte_before};
+ghost use Rattle.determinize_find.specs.Certain.{IsUnsettled};
 ghost use Rattle.determinize_find.specs.Idle.{IsIdle};
 ghost use Rattle.determinize_find.specs.LeftmostIn.{moved};
 ghost use Rattle.determinize_nfa.specs.Prefix.{HasPrefixApart};
-ghost use Rattle.determinize_find.specs.Private.Windows.{IsCertain, left_in, unsearched};
+ghost use Rattle.determinize_find.specs.Private.Windows.{IsCertain, IsInside, left_in, unsearched};
 ghost use Rattle.determinize_find.specs.Private.Windows.{with_bytes, without_first};
-ghost use Rattle.determinize_find.specs.Streams.{IsEndScan, IsFed, IsFeeding, IsFinished};
-ghost use Rattle.determinize_find.specs.Streams.{IsSearching, IsStream, IsUnsettled, KeepsFew};
+ghost use Rattle.determinize_find.specs.Streams.{IsFed, IsFeeding, IsFinished, IsKeptScan};
+ghost use Rattle.determinize_find.specs.Streams.{IsSearching, IsStream, KeepsFew};
 ghost use Rattle.determinize_find.specs.Streams.{KeptFewInBlocks, count_kept, count_read};
 
 use crate::iter::{Searcher, touches};
@@ -27,9 +27,10 @@ const BLOCK: usize = 4096;
 /// A search for all matches of a text that comes in pieces: `feed` reads the next piece, and
 /// `finish` says that the text ends.
 ///
-/// A piece is read in blocks of 4096 bytes. At the end of a block each match is added whose search
-/// has ended: no NFA state is left, so no byte that follows can change it. The positions of a match
-/// count from the beginning of the text.
+/// A piece is read in blocks of 4096 bytes. At the end of a block each match is added that is
+/// certain (`certain_match`): no NFA state is left, or the first one is a `Match`, so no byte that
+/// follows can change it. So a line, as a match of `[^\n]*\n`, is added with its last byte. The
+/// positions of a match count from the beginning of the text.
 ///
 /// If the search is idle at the end of a block (`is_idle`), and the prefix of the NFA is apart
 /// (`has_prefix_apart`), a new one begins there. The bytes before a search are dropped, but for the
@@ -57,7 +58,7 @@ impl<A: Allocator> Model for Pieces<A> {
       scan = p.scan;
     } };
 
-    ghost invariant = { λ p. IsWindow p.kept.items p.dropped p.start };
+    ghost invariant = { λ p. IsWindow p.kept.items p.dropped p.start p.scan };
 }
 
 /// Removes the first bytes.
@@ -113,12 +114,13 @@ impl<A: Allocator + Copy> Pieces<A> {
         regex: &mut LazyRegex<'_, N, B, A>,
         block: &[u8],
     ) -> Result<Scan<A>, AllocError>
-        requires { IsSearching regex.old.nfa self.old }
         ensures kept { OnOk result (self.new ≡ with_bytes block.now self.old) }
         ensures failed { OnErr result ((self.new ≡ unsearched self.old)
             ⊎ (self.new ≡ with_bytes block.now self.old)) }
-        ensures scan { IfOk result (λ scan. IsEndScan regex.old.nfa
-            (byte_before self.new.kept self.new.start) (drop self.new.start self.new.kept) scan) }
+        ensures scan { IsSearching regex.old.nfa self.old
+            → IfOk result (λ scan. IsKeptScan regex.old.nfa self.new scan) }
+        ensures read { IfOk result
+            (λ scan. scan.read ≡ length self.new.kept - self.new.start) }
         ensures same { regex.new ≡ regex.old }
     {
         let scan = self.scan.take();
@@ -140,9 +142,8 @@ impl<A: Allocator + Copy> Pieces<A> {
         next: Match,
         found: &mut Vec<Match, C>,
     ) -> Result<(), AllocError>
-        requires start { self.old.start ≤ next.start }
-        requires order { next.start ≤ next.end }
-        requires end { next.end < length self.old.kept }
+        requires none { self.old.scan ≡ None }
+        requires inside { IsInside (length self.old.kept) self.old.start next }
         ensures fed { (nfa : Nfa) → IsCertain nfa self.old.kept self.old.start next
             → IsFed nfa self.old self.new [] found.old.items found.new.items }
         ensures fewer { OnOk result (left_in self.new < left_in self.old) }
@@ -183,21 +184,24 @@ impl<A: Allocator + Copy> Pieces<A> {
     }
 
     /// Moves the start to the end of the kept bytes, if no match begins before. Returns the search
-    /// from the start on, which has not ended with a match.
+    /// from the start on, of which no match is certain.
     fn skip_idle<N: Allocator, B: Allocator>(
         &mut self,
         regex: &mut LazyRegex<'_, N, B, A>,
         scan: Scan<A>,
     ) -> Result<Scan<A>, AllocError>
-        requires scan { IsEndScan regex.old.nfa (byte_before self.old.kept self.old.start)
-            (drop self.old.start self.old.kept) scan }
-        requires unsettled { IsUnsettled scan }
-        ensures fed { (list : List Found) → IsFed regex.old.nfa self.old self.new [] list list }
-        ensures scan { IfOk result (λ scan. IsEndScan regex.old.nfa
-            (byte_before self.new.kept self.new.start) (drop self.new.start self.new.kept) scan) }
-        ensures unsettled { IfOk result (λ scan. IsUnsettled scan) }
-        ensures idle { IfOk result (λ scan. HasPrefixApart regex.old.nfa
-            → IsIdle regex.old.nfa scan → self.new.start ≡ count_kept self.new) }
+        requires none { self.old.scan ≡ None }
+        requires read { scan.read ≡ length self.old.kept - self.old.start }
+        ensures fed { IsKeptScan regex.old.nfa self.old scan → (list : List Found)
+            → IsFed regex.old.nfa self.old self.new [] list list }
+        ensures scan { IsKeptScan regex.old.nfa self.old scan
+            → IfOk result (λ rest. IsKeptScan regex.old.nfa self.new rest) }
+        ensures unsettled { IsUnsettled regex.old.nfa scan
+            → IfOk result (λ rest. IsUnsettled regex.old.nfa rest) }
+        ensures idle { IfOk result (λ rest. HasPrefixApart regex.old.nfa
+            → IsIdle regex.old.nfa rest → self.new.start ≡ count_kept self.new) }
+        ensures read { IfOk result
+            (λ rest. rest.read ≡ length self.new.kept - self.new.start) }
         ensures taken { self.new.scan ≡ self.old.scan }
         ensures same { regex.new ≡ regex.old }
     {
@@ -209,17 +213,18 @@ impl<A: Allocator + Copy> Pieces<A> {
         regex.scan(self.kept.as_slice(), self.start)
     }
 
-    /// Reads the next bytes, and adds each match whose search has ended.
+    /// Reads the next bytes, and adds each match that is certain.
     fn read_block<N: Allocator, B: Allocator, C: Allocator>(
         &mut self,
         regex: &mut LazyRegex<'_, N, B, A>,
         block: &[u8],
         found: &mut Vec<Match, C>,
     ) -> Result<(), AllocError>
-        requires { IsSearching regex.old.nfa self.old }
-        ensures read { IsFeeding regex.old.nfa self.old self.new block.now
+        ensures read { IsSearching regex.old.nfa self.old
+            → IsFeeding regex.old.nfa self.old self.new block.now
             found.old.items found.new.items result }
-        ensures few { OnOk result (KeepsFew regex.old.nfa self.new) }
+        ensures few { IsSearching regex.old.nfa self.old
+            → OnOk result (KeepsFew regex.old.nfa self.new) }
         ensures same { regex.new ≡ regex.old }
     {
         let mut scan = self.keep(regex, block)?;
@@ -233,27 +238,29 @@ impl<A: Allocator + Copy> Pieces<A> {
         Ok(())
     }
 
-    /// Reads the next piece of the text, and adds matches, in order. A piece may be empty. Each
-    /// must be fed through a `Regex` of the same NFA.
+    /// Reads the next piece of the text, and adds matches, in order. A piece may be empty. Through
+    /// a `Regex` of another NFA than the pieces before, the matches may be any.
     ///
-    /// At the end of each block of 4096 bytes, and at the end of the piece, no match is left whose
-    /// search has ended. At most one byte before the search that is then under way is kept, and no
-    /// other if that search is idle and the prefix of the NFA is apart. `bytes_kept` never grows by
-    /// more than the bytes that are read.
+    /// At the end of each block of 4096 bytes, and at the end of the piece, no match is left that is
+    /// certain (`certain_match`). At most one byte before the search that is then under way is kept,
+    /// and no other if that search is idle and the prefix of the NFA is apart. `bytes_kept` never
+    /// grows by more than the bytes that are read.
     ///
     /// Returns `AllocError` if an allocation fails, if a cache would need more than 16647160
-    /// states, or if the pieces have more than `usize::MAX` bytes together. The first bytes of the
-    /// piece may have been read (`bytes_read`), and matches added. To continue, feed the rest.
+    /// states, if the pieces have more than `usize::MAX` bytes together, or if the pieces before
+    /// were fed through a `Regex` of another NFA and this is seen. The first bytes of the piece may
+    /// have been read (`bytes_read`), and matches added. To continue, feed the rest.
     pub fn feed<N: Allocator, B: Allocator, C: Allocator>(
         &mut self,
         regex: &mut LazyRegex<'_, N, B, A>,
         piece: &[u8],
         found: &mut Vec<Match, C>,
     ) -> Result<(), AllocError>
-        requires { IsSearching regex.old.nfa self.old }
-        ensures read { IsFeeding regex.old.nfa self.old self.new piece.now
+        ensures read { IsSearching regex.old.nfa self.old
+            → IsFeeding regex.old.nfa self.old self.new piece.now
             found.old.items found.new.items result }
-        ensures few { OnOk result (KeptFewInBlocks regex.old.nfa self.old self.new piece.now
+        ensures few { IsSearching regex.old.nfa self.old
+            → OnOk result (KeptFewInBlocks regex.old.nfa self.old self.new piece.now
             found.old.items found.new.items) }
         ensures same { regex.new ≡ regex.old }
     {

@@ -18,7 +18,7 @@ use determinize_lazy::Lazy;
 use std::alloc::{AllocError, Allocator};
 
 /// Returns whether a match may begin only where the search starts.
-fn is_anchored<N: Allocator>(nfa: &NFA<N>, anchored: Anchored) -> bool
+fn begins_at_start_only<N: Allocator>(nfa: &NFA<N>, anchored: Anchored) -> bool
     ensures { result ≡ inputs.is_anchored nfa.now anchored }
 {
     match anchored {
@@ -32,7 +32,7 @@ fn latest_start<N: Allocator>(nfa: &NFA<N>, input: &Input<'_>) -> usize
     ensures { result ≡ cond (inputs.is_anchored nfa.now input.now.anchored)
         input.now.start input.now.end }
 {
-    if is_anchored(nfa, input.get_anchored()) {
+    if begins_at_start_only(nfa, input.get_anchored()) {
         input.start()
     } else {
         input.end()

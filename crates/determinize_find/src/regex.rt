@@ -1,23 +1,25 @@
 //! The leftmost match by two searches: one forward for its end, and one backward for its start.
 
-ghost use Rattle.std.specs.Prelude.{◌≡◌, ◌+◌, ◌++◌, ◌<◌, ◌≤◌, ℕ, List, None, Option, [], drop, false};
-ghost use Rattle.std.specs.Prelude.{length, max, true, IfOk, OnErr, OnOk};
+ghost use Rattle.std.specs.Prelude.{◌≡◌, ◌+◌, ◌++◌, ◌-◌, ◌<◌, ◌≤◌, ℕ, List, None, Option, [], drop};
+ghost use Rattle.std.specs.Prelude.{false, length, true, IfOk, IsSome, Ok, OnErr, OnOk};
 ghost use Rattle.std.specs.Bool.{Decides};
 ghost use Rattle.std.specs.Option.{IfNone, IfSome};
-ghost use Rattle.determinize_below.specs.Nfa.{AllResolve};
+ghost use Rattle.determinize_below.specs.Search.{is_done};
 ghost use Rattle.determinize_below.specs.declared.search.MatchKind.TheVariants as kinds;
 ghost use Rattle.determinize_start.specs.StartKinds.{byte_before};
-ghost use Rattle.determinize_engine.specs.Searches.{has_start};
+ghost use Rattle.determinize_engine.specs.Searches.{HasMatch, has_start};
+ghost use Rattle.determinize_find.specs.Certain.{IsUnsettled};
 ghost use Rattle.determinize_find.specs.Idle.{IsIdle};
 ghost use Rattle.determinize_find.specs.LeftmostIn.{IsLeftmostIn};
 ghost use Rattle.determinize_find.specs.Cursors.{after_match};
 ghost use Rattle.determinize_find.specs.Matches.{AreMatches, IsNext};
 ghost use Rattle.determinize_nfa.specs.Prefix.{HasPrefix, HasPrefixApart};
 ghost use Rattle.determinize_find.specs.Private.Begins.{HasReverse, IsBeginOf, IsEndOf, IsEnding, asked_of};
-ghost use Rattle.determinize_find.specs.Private.Windows.{IsCertain, IsFresh};
+ghost use Rattle.determinize_find.specs.Private.Windows.{IsCertain, IsFresh, IsInside};
 ghost use Rattle.determinize_nfa.specs.Reversal.{IsReverseOf};
-ghost use Rattle.determinize_find.specs.Streams.{IsEndScan, IsUnsettled};
+ghost use Rattle.determinize_find.specs.Streams.{IsEndScan};
 
+use crate::certain::certain_match;
 use crate::idle::is_idle;
 use crate::iter::Searcher;
 use crate::prefix::has_prefix_apart;
@@ -41,7 +43,6 @@ pub struct Regex<F: Engine, B: Engine<Error = F::Error>> {
 pub type LazyRegex<'n, N = Global, B = Global, A = Global> = Regex<Lazy<'n, N, A>, Lazy<'n, B, A>>;
 
 impl<F: Engine, B: Engine<Error = F::Error>> Model for Regex<F, B> {
-    ghost use Rattle.std.specs.Prelude.{max};
     ghost use Rattle.determinize_find.specs.Regexes.{RegexValue};
     ghost use Rattle.determinize_find.specs.Private.Pairs.{IsPair};
 
@@ -49,7 +50,8 @@ impl<F: Engine, B: Engine<Error = F::Error>> Model for Regex<F, B> {
 
     ghost view = { λ r. record {
       nfa = (F.engine r.forward).nfa;
-      limit = max (F.engine r.forward).limit (B.engine r.backward).limit;
+      limit = (F.engine r.forward).limit;
+      limit_backward = (B.engine r.backward).limit;
     } };
 
     ghost invariant = { λ r. IsPair (F.engine r.forward) (B.engine r.backward) r.is_apart };
@@ -79,7 +81,8 @@ impl<F: Engine, B: Engine<Error = F::Error>> Regex<F, B> {
         requires reverse { IsReverseOf (B.engine backward).nfa (F.engine forward).nfa }
         ensures { result ≡ record {
           nfa = (F.engine forward).nfa;
-          limit = max (F.engine forward).limit (B.engine backward).limit;
+          limit = (F.engine forward).limit;
+          limit_backward = (B.engine backward).limit;
         } }
     {
         Regex {
@@ -107,19 +110,42 @@ impl<F: Engine, B: Engine<Error = F::Error>> Regex<F, B> {
         self.forward.search_input(&input)
     }
 
-    /// Returns the start of the leftmost match of a haystack from an index on that has this end.
-    fn find_start(&mut self, haystack: &[u8], start: usize, end: usize) -> Result<usize, F::Error>
-        requires { IsEndOf self.old.nfa haystack.now start end }
-        ensures start { IfOk result
-            (λ begin. IsBeginOf self.old.nfa haystack.now start end begin) }
+    /// Returns the farthest index, not before `start`, at which a match begins that has this end.
+    fn search_start(
+        &mut self,
+        haystack: &[u8],
+        start: usize,
+        end: usize,
+    ) -> Result<Option<usize>, F::Error>
+        requires order { start ≤ end }
+        requires within { end ≤ length haystack.now }
+        ensures some { IsEndOf self.old.nfa haystack.now start end
+            → IfOk result (λ found. IsSome found) }
+        ensures start { IfOk result (λ found. IfSome found
+            (λ begin. IsBeginOf self.old.nfa haystack.now start end begin)) }
+        ensures inside { IfOk result (λ found. IfSome found
+            (λ begin. (start ≤ begin) × (begin ≤ end))) }
         ensures reverse { HasReverse self.old.nfa }
         ensures same { self.new ≡ self.old }
     {
         let before = Input::new(haystack)
             .range(start..end)
             .anchored(Anchored::Yes);
-        match self.backward.search_input(&before)? {
-            Some(begin) => Ok(begin.offset),
+        let Some(begin) = self.backward.search_input(&before)? else {
+            return Ok(None);
+        };
+        Ok(Some(begin.offset))
+    }
+
+    /// Returns the start of the leftmost match of a haystack from an index on that has this end.
+    fn find_start(&mut self, haystack: &[u8], start: usize, end: usize) -> Result<usize, F::Error>
+        requires { IsEndOf self.old.nfa haystack.now start end }
+        ensures start { IfOk result
+            (λ begin. IsBeginOf self.old.nfa haystack.now start end begin) }
+        ensures same { self.new ≡ self.old }
+    {
+        match self.search_start(haystack, start, end)? {
+            Some(begin) => Ok(begin),
             None => unreachable!(),
         }
     }
@@ -165,17 +191,26 @@ impl<F: Engine, B: Engine<Error = F::Error>> Regex<F, B> {
         ensures found { IfOk result (λ found. Decides found
             (IsLeftmostIn self.old.nfa (asked_of haystack.now range.start range.end anchored) None
             → ⊥)) }
+        ensures accepts { is_done (asked_of haystack.now range.start range.end anchored) ≡ false
+            → IfOk result (λ found. Decides found
+            (HasMatch self.old.nfa (asked_of haystack.now range.start range.end anchored))) }
+        ensures done { is_done (asked_of haystack.now range.start range.end anchored) ≡ true
+            → result ≡ Ok false }
         ensures same { self.new ≡ self.old }
     {
         let input = Input::new(haystack).range(range).anchored(anchored);
         self.forward.is_match(&input)
     }
 
-    /// Returns whether an input has a match. Stops where the end of one is found.
+    /// Returns whether an input has a match. Stops where the end of one is found. If the range
+    /// starts past its end, the result is `Ok(false)`.
     pub fn is_match(&mut self, input: &Input<'_>) -> Result<bool, F::Error>
         requires start { has_start input.now.anchored ≡ true }
         ensures found { IfOk result
             (λ found. Decides found (IsLeftmostIn self.old.nfa input.now None → ⊥)) }
+        ensures accepts { is_done input.now ≡ false → IfOk result
+            (λ found. Decides found (HasMatch self.old.nfa input.now)) }
+        ensures done { is_done input.now ≡ true → result ≡ Ok false }
         ensures same { self.new ≡ self.old }
     {
         let range = input.start()..input.end();
@@ -233,7 +268,7 @@ impl<'n, N: Allocator, B: Allocator, A: Allocator + Copy> LazyRegex<'n, N, B, A>
         requires forward { nfa.now.reverse ≡ false }
         requires prefix { HasPrefix nfa.now }
         requires reverse { IsReverseOf backward.now nfa.now }
-        ensures { result ≡ record { nfa = nfa.now; limit = limit } }
+        ensures { result ≡ record { nfa = nfa.now; limit = limit; limit_backward = limit } }
     {
         Regex {
             forward: Lazy::new(alloc, nfa, MatchKind::LeftmostFirst, limit),
@@ -248,6 +283,7 @@ impl<'n, N: Allocator, B: Allocator, A: Allocator + Copy> LazyRegex<'n, N, B, A>
         requires { start ≤ length haystack.now }
         ensures scan { IfOk result (λ scan. IsEndScan self.old.nfa
             (byte_before haystack.now start) (drop start haystack.now) scan) }
+        ensures read { IfOk result (λ scan. scan.read ≡ length haystack.now - start) }
         ensures same { self.new ≡ self.old }
     {
         let unanchored = self.forward.nfa().start_unanchored();
@@ -259,18 +295,19 @@ impl<'n, N: Allocator, B: Allocator, A: Allocator + Copy> LazyRegex<'n, N, B, A>
     /// Reads the next piece of the text of such a search. If the result is an error, the search is
     /// unchanged.
     pub(crate) fn feed(&mut self, scan: &mut Scan<A>, piece: &[u8]) -> Result<(), AllocError>
-        requires { AllResolve self.old.nfa scan.old.state.states }
         ensures fed { (behind : Option ℕ) (bytes : List ℕ)
             → IsEndScan self.old.nfa behind bytes scan.old
             → OnOk result (IsEndScan self.old.nfa behind (bytes ++ piece.now) scan.new) }
+        ensures read { OnOk result (scan.new.read ≡ scan.old.read + length piece.now) }
         ensures failed { OnErr result (scan.new ≡ scan.old) }
         ensures same { self.new ≡ self.old }
     {
         self.forward.feed(scan, piece)
     }
 
-    /// Returns the leftmost match of a haystack from an index on, if `scan`, the search of those
-    /// bytes, has ended: then nothing that follows the haystack can change it.
+    /// Returns the leftmost match of a haystack from an index on, if it is certain by `scan`, the
+    /// search of those bytes: then nothing that follows the haystack can change it. It begins
+    /// before the end. If no match that ends there does, the scan is one of another NFA.
     pub(crate) fn certain(
         &mut self,
         haystack: &[u8],
@@ -278,21 +315,27 @@ impl<'n, N: Allocator, B: Allocator, A: Allocator + Copy> LazyRegex<'n, N, B, A>
         scan: &Scan<A>,
     ) -> Result<Option<Match>, AllocError>
         requires within { start ≤ length haystack.now }
-        requires scan { IsEndScan self.old.nfa (byte_before haystack.now start)
-            (drop start haystack.now) scan.now }
-        ensures certain { IfOk result (λ found. IfSome found
+        requires read { scan.now.read ≡ length haystack.now - start }
+        ensures certain { IsEndScan self.old.nfa (byte_before haystack.now start)
+            (drop start haystack.now) scan.now → IfOk result (λ found. IfSome found
             (λ m. IsCertain self.old.nfa haystack.now start m)) }
-        ensures unsettled { IfOk result (λ found. IfNone found (IsUnsettled scan.now)) }
+        ensures unsettled { IsEndScan self.old.nfa (byte_before haystack.now start)
+            (drop start haystack.now) scan.now → IfOk result (λ found. IfNone found
+            (IsUnsettled self.old.nfa scan.now)) }
+        ensures inside { IfOk result (λ found. IfSome found
+            (λ m. IsInside (length haystack.now) start m)) }
         ensures same { self.new ≡ self.old }
     {
-        if !scan.is_over() {
-            return Ok(None);
-        }
-        let Some(half) = scan.last() else {
+        let Some(half) = certain_match(self.forward.nfa(), scan) else {
             return Ok(None);
         };
         let end = start + half.offset;
-        let begin = self.find_start(haystack, start, end)?;
+        let Some(begin) = self.search_start(haystack, start, end)? else {
+            return Ok(None);
+        };
+        if begin >= haystack.len() {
+            return Ok(None);
+        }
         Ok(Some(Match {
             pattern: half.pattern,
             start: begin,
@@ -315,9 +358,9 @@ impl<'n, N: Allocator, B: Allocator, A: Allocator + Copy> LazyRegex<'n, N, B, A>
     /// them, regardless of what follows.
     pub(crate) fn is_idle(&self, haystack: &[u8], start: usize, scan: &Scan<A>) -> bool
         requires within { start ≤ length haystack.now }
-        requires scan { IsEndScan self.now.nfa (byte_before haystack.now start)
-            (drop start haystack.now) scan.now }
-        ensures fresh { result ≡ true → IsFresh self.now.nfa haystack.now start }
+        ensures fresh { IsEndScan self.now.nfa (byte_before haystack.now start)
+            (drop start haystack.now) scan.now → result ≡ true
+            → IsFresh self.now.nfa haystack.now start }
         ensures idle { HasPrefixApart self.now.nfa → IsIdle self.now.nfa scan.now
             → start < length haystack.now → result ≡ true }
     {

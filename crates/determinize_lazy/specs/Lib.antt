@@ -8,5 +8,6 @@ pub mod Cache
 pub mod CachedSearches
 pub mod Plenty
 pub mod Private
+pub mod Scanning
 pub mod Walkers
 pub mod WorkedRows

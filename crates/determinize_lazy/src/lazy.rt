@@ -203,7 +203,7 @@ impl<'n, N: Allocator, A: Allocator + Copy> Lazy<'n, N, A> {
         ensures grows { Grows (cache self.old) (cache self.new) }
     {
         let mut states = Vec::with_capacity(self.alloc, text.len() + 2)?;
-        let mut cursor = self.cursor_of(&first)?;
+        let mut cursor = self.cursor_of(&first, None)?;
         states.push(first)?;
         let mut read = 0;
         while read <= text.len() {

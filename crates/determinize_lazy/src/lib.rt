@@ -9,7 +9,9 @@
 //! - The transition table and the rule of what is cached are in the crate `determinize_table`,
 //!   which also says what a row is.
 //!
-//! A `Result` is `Err` if an allocation fails or more than 16647160 states would be cached.
+//! A `Result` is `Err` if an allocation fails or more than 16647160 states would be cached. `feed`
+//! also returns an error past `usize::MAX` bytes, and `feed`, `finish` and `next` do for a scan or
+//! a walker of another NFA, if that has an id which is not one of a state of this NFA.
 #![tactic(auto)]
 
 mod debug;

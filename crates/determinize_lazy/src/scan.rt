@@ -13,6 +13,7 @@ ghost use Rattle.determinize_core.specs.Value.{is_nonempty};
 ghost use Rattle.determinize_lazy.specs.Cache.{Grows, IsCutOff, after_step, after_walk, cache};
 ghost use Rattle.determinize_table.specs.Cursors.{IsCursor, cursor_value};
 ghost use Rattle.determinize_lazy.specs.Private.Searched.{IsPieceRead};
+ghost use Rattle.determinize_lazy.specs.Scanning.{EndsBefore, IsFoundBeforeLast, IsFoundInEach};
 ghost use Rattle.determinize_engine.specs.Private.Later.{later_by};
 ghost use Rattle.determinize_engine.specs.Scans.{IsScan, IsSettled};
 ghost use Rattle.determinize_lazy.specs.CachedSearches.{units_begun, units_fed, units_last};
@@ -41,10 +42,13 @@ pub struct Scan<A: Allocator = Global> {
 
 impl<A: Allocator> Model for Scan<A> {
     ghost use Rattle.determinize_engine.specs.Scans.{Scanned};
+    ghost use Rattle.determinize_lazy.specs.Scanning.{EndsBefore};
 
     ghost Value = { Scanned };
 
     ghost view = { λ s. record { state = s.state; last = s.last; read = s.read } };
+
+    ghost invariant = { λ s. EndsBefore s.last s.read };
 }
 
 impl<A: Allocator> Scan<A> {
@@ -57,9 +61,12 @@ impl<A: Allocator> Scan<A> {
     }
 
     /// Returns the last match that the states so far have reported, or `None`. Matches are delayed
-    /// by one unit, so one that ends where the last piece ends is not among them.
+    /// by one unit, so one that ends where the last piece ends is not among them: it is the match
+    /// that a search finds of the bytes before the last one, which it sees ahead of them.
     pub fn last(&self) -> Option<HalfMatch>
-        ensures { result ≡ self.now.last }
+        ensures value { result ≡ self.now.last }
+        ensures within { EndsBefore result self.now.read }
+        ensures search { IsFoundBeforeLast self.now }
     {
         self.last
     }
@@ -78,6 +85,7 @@ impl<A: Allocator> Scan<A> {
         ensures settled { result ≡ true → (nfa : Nfa) (kind : Kind) (start : ℕ) (behind : Option ℕ)
             (bytes : List ℕ) → IsScan nfa kind start behind bytes self.now
             → IsSettled nfa kind start behind bytes self.now.last }
+        ensures search { result ≡ true → IsFoundInEach self.now }
     {
         self.state.iter_nfa_state_ids().next().is_none()
     }
@@ -172,17 +180,18 @@ impl<'n, N: Allocator, A: Allocator + Copy> Lazy<'n, N, A> {
 
     /// Reads the next piece of the text of a scan, in reading order. A piece may be empty.
     ///
-    /// The ids in the state of the scan must be states of the NFA, as they are if the scan was
-    /// begun with it. The match is that of one search if the match kind is the same, too.
+    /// The match is that of one search if the scan was begun with this NFA and match kind.
     ///
-    /// Returns `AllocError` also if the pieces have more than `usize::MAX` bytes together. After an
-    /// error the scan is unchanged, and the piece may be fed again.
+    /// Returns `AllocError` also if the pieces have more than `usize::MAX` bytes together, or if an
+    /// id in the state of the scan is not that of a state of the NFA. After an error the scan is
+    /// unchanged, and the piece may be fed again.
     pub fn feed(&mut self, scan: &mut Scan<A>, piece: &[u8]) -> Result<(), AllocError>
-        requires { AllResolve self.old.nfa scan.old.state.states }
         ensures fed { (start : ℕ) (behind : Option ℕ) (bytes : List ℕ)
             → IsScan self.old.nfa self.old.kind start behind bytes scan.old → OnOk result
             (IsScan self.old.nfa self.old.kind start behind (bytes ++ piece.now) scan.new) }
-        ensures resolve { AllResolve self.new.nfa scan.new.state.states }
+        ensures resolve { AllResolve self.old.nfa scan.old.state.states
+            → AllResolve self.new.nfa scan.new.state.states }
+        ensures read { OnOk result (scan.new.read ≡ scan.old.read + length piece.now) }
         ensures same { OnErr result (scan.new ≡ scan.old) }
         ensures after { OnOk result (cache self.new ≡ after_walk (cache self.old) scan.old.state
             (units_fed (cache self.old) scan.old.state piece.now)) }
@@ -193,7 +202,7 @@ impl<'n, N: Allocator, A: Allocator + Copy> Lazy<'n, N, A> {
         let Some(read) = scan.read.checked_add(piece.len()) else {
             return Err(AllocError);
         };
-        let start = self.cursor_of(&scan.state)?;
+        let start = self.cursor_of(&scan.state, None)?;
         let rest = self.read_piece(start, piece)?;
         scan.last = or_later(scan.last, scan.read, rest.last);
         scan.state = rest.state;
@@ -206,13 +215,13 @@ impl<'n, N: Allocator, A: Allocator + Copy> Lazy<'n, N, A> {
     ///
     /// - `look_ahead` is the byte just after the text, or `None` if the input ends there.
     ///
-    /// The scan must be one for this NFA and match kind, as for `feed`.
+    /// The match is that of one search if the scan was begun with this NFA and match kind. Returns
+    /// `AllocError` also if an id in the state of the scan is not that of a state of the NFA.
     pub fn finish(
         &mut self,
         scan: &Scan<A>,
         look_ahead: Option<u8>,
     ) -> Result<Option<HalfMatch>, AllocError>
-        requires { AllResolve self.old.nfa scan.now.state.states }
         ensures search { (start : ℕ) (behind : Option ℕ) (bytes : List ℕ)
             → IsScan self.old.nfa self.old.kind start behind bytes scan.now
             → IfOk result (λ found. IsSearch self.old.nfa self.old.kind start
@@ -223,7 +232,7 @@ impl<'n, N: Allocator, A: Allocator + Copy> Lazy<'n, N, A> {
             (units_last (cache self.old) scan.now.state look_ahead) (cache self.new)) }
         ensures grows { Grows (cache self.old) (cache self.new) }
     {
-        let start = self.cursor_of(&scan.state)?;
+        let start = self.cursor_of(&scan.state, None)?;
         let text = Text::new(None, &[], look_ahead);
         let found = self.search_from(Position::start(start), &text, false)?;
         Ok(or_later(scan.last, scan.read, found))

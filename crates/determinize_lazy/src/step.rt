@@ -5,7 +5,7 @@
 //! table drops them when it is cleared. A search computes its start state if no id of it is kept:
 //! from any other NFA state always, and else until a search has found the state cached.
 
-ghost use Rattle.std.specs.Prelude.{◌≡◌, ◌<◌, ℕ, false, length, slice_get, IfOk, Some};
+ghost use Rattle.std.specs.Prelude.{Decides, ◌≡◌, ◌<◌, ℕ, false, length, slice_get, IfOk, OnOk, Some};
 ghost use Rattle.std.specs.Option.{IfSome};
 ghost use Rattle.determinize_below.specs.Nfa.{AllResolve};
 ghost use Rattle.determinize_core.specs.Step.{start_value};
@@ -40,6 +40,14 @@ fn start_index<N: Allocator>(nfa: &NFA<N>, start: StateID, look_behind: Option<u
     };
     let terminator = nfa.look_matcher().get_line_terminator();
     Some(first + start_kind_of(terminator, look_behind).as_usize())
+}
+
+/// Returns whether each id in a state is that of a state of the NFA.
+fn resolves<N: Allocator, A: Allocator>(nfa: &NFA<N>, state: &State<A>) -> bool
+    ensures { Decides result (AllResolve nfa.now state.now.states) }
+{
+    let count = nfa.len();
+    state.iter_nfa_state_ids().all(|id| id.as_usize() < count)
 }
 
 impl<'n, N: Allocator, A: Allocator + Copy> Lazy<'n, N, A> {
@@ -112,14 +120,24 @@ impl<'n, N: Allocator, A: Allocator + Copy> Lazy<'n, N, A> {
         self.table.start(index)
     }
 
-    /// Returns the cursor of a borrowed state: a copy of it, if it is not cached.
-    pub(crate) fn cursor_of(&self, state: &State<A>) -> Result<Cursor<A>, AllocError>
+    /// Returns the cursor of a borrowed state: a copy of it, if it is not cached. `likely` is an id
+    /// that it may have.
+    ///
+    /// Returns `AllocError` also if an id in the state is not that of a state of the NFA. There is
+    /// no such id in a state that is cached.
+    pub(crate) fn cursor_of(
+        &self,
+        state: &State<A>,
+        likely: Option<LazyStateId>,
+    ) -> Result<Cursor<A>, AllocError>
         ensures at { IfOk result (λ cursor. IsAt self.now.states cursor state.now) }
+        ensures resolve { OnOk result (AllResolve self.now.nfa state.now.states) }
         ensures sound { IsSound (cache self.now) }
     {
-        match self.table.find(state, None) {
+        match self.table.find(state, likely) {
             Some(id) => Ok(Cursor::Cached(id)),
-            None => Ok(Cursor::Uncached(state.clone()?)),
+            None if resolves(self.stepper.nfa(), state) => Ok(Cursor::Uncached(state.clone()?)),
+            None => Err(AllocError),
         }
     }
 

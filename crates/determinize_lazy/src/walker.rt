@@ -6,13 +6,12 @@ ghost use Rattle.determinize_below.specs.Semantics.{Text as TextValue};
 ghost use Rattle.determinize_core.specs.Chain.{units};
 ghost use Rattle.determinize_core.specs.Step.{start_value, step};
 ghost use Rattle.determinize_lazy.specs.Cache.{Grows, IsCutOff, after_step, cache};
-ghost use Rattle.determinize_table.specs.Cursors.{IsAt, IsCursor, cursor_value};
 ghost use Rattle.determinize_lazy.specs.Walkers.{IsWalkedTo};
 
 use crate::lazy::Lazy;
 use determinize_below::StateID;
 use determinize_core::state::State;
-use determinize_table::{Cursor, LazyStateId};
+use determinize_table::LazyStateId;
 use std::alloc::{AllocError, Allocator, Global};
 use std::marker::Model;
 
@@ -73,20 +72,20 @@ impl<'n, N: Allocator, A: Allocator + Copy> Lazy<'n, N, A> {
     /// Takes a step of a walk over a byte, or over the end of input (EOI) for `None`: the walker is
     /// then at the next state of the walk.
     ///
-    /// The ids in the state of the walker must be states of the NFA, as they are if the walker was
-    /// begun with it. The states are those of one walk if the match kind is the same, too.
+    /// The states are those of one walk if the walker was begun with this NFA and match kind.
     ///
-    /// After an error the walker is unchanged, and may take the same step again.
+    /// Returns `AllocError` also if an id in the state of the walker is not that of a state of the
+    /// NFA. After an error the walker is unchanged, and may take the same step again.
     #[tactic(auto, using(crate::proofs::walking::CachedWalks::walked_steps))]
     pub fn next(&mut self, walker: &mut Walker<A>, unit: Option<u8>) -> Result<(), AllocError>
-        requires { AllResolve self.old.nfa walker.old.states }
         ensures value { OnOk result
             (walker.new ≡ step self.old.nfa self.old.kind walker.old unit) }
         ensures walked { (start index : ℕ) (text : TextValue)
             → IsWalkedTo self.old.nfa self.old.kind start text index walker.old
             → slice_get (units text) index ≡ Some unit → OnOk result
             (IsWalkedTo self.old.nfa self.old.kind start text (index + 1) walker.new) }
-        ensures resolve { AllResolve self.new.nfa walker.new.states }
+        ensures resolve { AllResolve self.old.nfa walker.old.states
+            → AllResolve self.new.nfa walker.new.states }
         ensures same { OnErr result (walker.new ≡ walker.old) }
         ensures after { OnOk result
             (cache self.new ≡ after_step (cache self.old) walker.old unit) }
@@ -94,21 +93,11 @@ impl<'n, N: Allocator, A: Allocator + Copy> Lazy<'n, N, A> {
             (IsCutOff (cache self.old) walker.old (unit ∷ []) (cache self.new)) }
         ensures grows { Grows (cache self.old) (cache self.new) }
     {
-        let cursor = self.cursor_at(walker)?;
+        let cursor = self.cursor_of(&walker.state, walker.id)?;
         let next = self.step(cursor, unit)?;
         let id = next.id();
         walker.state = self.table.into_state(next)?;
         walker.id = id;
         Ok(())
-    }
-
-    /// Returns the cursor of the state of a walker.
-    fn cursor_at(&self, walker: &Walker<A>) -> Result<Cursor<A>, AllocError>
-        ensures { IfOk result (λ cursor. IsAt self.now.states cursor walker.now) }
-    {
-        match self.table.find(&walker.state, walker.id) {
-            Some(id) => Ok(Cursor::Cached(id)),
-            None => Ok(Cursor::Uncached(walker.state.clone()?)),
-        }
     }
 }

@@ -1,6 +1,10 @@
-//! Prints where each string in double quotes in standard input begins and ends, one on a line. The
-//! input is read in pieces of 64 KB, and a string may lie in several.
+//! Prints where each string in double quotes in standard input begins and ends, one on a line, as
+//! soon as its closing quote is read. The input is read in pieces of at most 64 KB, and a string may
+//! lie in several.
 #![tactic(auto)]
+
+#[cfg(test)]
+mod tests;
 
 ghost use Rattle.std.specs.Prelude.{◌≡◌, false, IfOk};
 ghost use Rattle.determinize_find.specs.Prefix.{HasPrefix};
@@ -8,7 +12,7 @@ ghost use Rattle.determinize_find.specs.Prefix.{HasPrefix};
 use determinize_below::nfa::BuildError;
 use determinize_below::{NFA, StateID, Transition};
 use determinize_find::{Builder, Match, Pieces, Regex, reversed};
-use std::alloc::{AllocError, Allocator};
+use std::alloc::{AllocError, Allocator, Global};
 use std::fmt;
 use std::io::{self, Print, Read};
 
@@ -76,23 +80,28 @@ fn print(rt: &impl Print, found: &[Match]) -> io::Result<()> {
     Ok(())
 }
 
-fn main(rt: HostRuntime) -> Result<(), Error> {
-    let nfa = strings(rt.alloc())?;
-    let backward = reversed(rt.alloc(), &nfa)?;
-    let mut regex = Regex::new(rt.alloc(), &nfa, &backward, 1000);
-    let mut pieces = Pieces::new(rt.alloc());
-    let mut found = Vec::new(rt.alloc());
-    let mut buffer = Vec::from_elem(rt.alloc(), 0u8, 65536)?;
+/// Prints the ends of each string of an input.
+fn scan(alloc: Global, input: &mut impl Read, output: &impl Print) -> Result<(), Error> {
+    let nfa = strings(alloc)?;
+    let backward = reversed(alloc, &nfa)?;
+    let mut regex = Regex::new(alloc, &nfa, &backward, 1000);
+    let mut pieces = Pieces::new(alloc);
+    let mut found = Vec::new(alloc);
+    let mut buffer = Vec::from_elem(alloc, 0u8, 65536)?;
     for _ in 0..u64::MAX {
-        let count = rt.reader().read(buffer.as_mut_slice())?;
+        let count = input.read(buffer.as_mut_slice())?;
         if count == 0 {
             break;
         }
         pieces.feed(&mut regex, &buffer[..count], &mut found)?;
-        print(&rt, found.as_slice())?;
+        print(output, found.as_slice())?;
         found.clear();
     }
     pieces.finish(&mut regex, &mut found)?;
-    print(&rt, found.as_slice())?;
+    print(output, found.as_slice())?;
     Ok(())
+}
+
+fn main(rt: HostRuntime) -> Result<(), Error> {
+    scan(rt.alloc(), &mut rt.reader(), &rt)
 }

@@ -1,6 +1,6 @@
 -- The next match is one of two leftmost ones, and one more match keeps what was found a prefix of the list.
--- Main statements: next_plain, next_further, next_none, after_one, after_all.
--- Used by: `next_match`, `Searcher::advance` and both `find_all`.
+-- Main statements: next_plain, next_further, fewer, after_one, after_all.
+-- Used by: `next_match`, `Searcher::advance`, both `find_all` and InputMatches.
 -- Idea: a list of all matches from the cursor on, after what was found, is the list of all matches.
 use Rattle.std.proofs.Common.{◌≡◌, ◌<◌, ◌≤◌, ◌+◌, ◌++◌, ◌∙◌, ◌∷◌, ℕ, List, None, Option, Some, [], append-nil, ap}
 use Rattle.std.proofs.Common.{append_assoc, arith, false, length, refl, subst, sym, true}
@@ -15,7 +15,6 @@ use Rattle.determinize_find.specs.Private.Touching.{is_touching}
 use Rattle.determinize_below.specs.declared.search.Match.{Match}
 use Rattle.determinize_find.specs.Private.Left.{left}
 use Rattle.determinize_find.proofs.matches.OneList.{IsLater, next_lies}
-use Rattle.determinize_find.proofs.leftmost.SearchInTurn.{found_past}
 
 pub next_plain : (nfa : Nfa) (asked : Asked) (before : Option ℕ) (first : Option Match) → IsLeftmostIn nfa asked first
     → is_touching before first ≡ false → IsNext nfa asked before first
@@ -32,12 +31,6 @@ next_further nfa now asked further before (Some m) found n f x t y =
     = subst (λ w. IsLeftmostIn w (from asked (asked.start + 1)) found) n
     (subst (λ w. IsLeftmostIn now w found) f y) in
     (Some m, x, (λ e. z, λ e. absurd (true≢false (sym t ∙ e))))
-
-pub next_none : (nfa : Nfa) (asked : Asked) (before : Option ℕ) (first : Option Match) → asked.end ≤ asked.start
-    → IsLeftmostIn nfa asked first → is_touching before first ≡ true → IsNext nfa asked before None
-next_none nfa asked before first l x t =
-    next_further nfa nfa asked (from asked (asked.start + 1)) before first None refl refl x t
-    (found_past nfa (from asked (asked.start + 1)) (omega arith))
 
 -- each match leaves fewer indices
 pub fewer : (nfa now : Nfa) (asked rest : Asked) (start : ℕ) (before : Option ℕ) (m : Match) → now ≡ nfa

@@ -1,14 +1,14 @@
--- The match of a search that is over is the leftmost one, regardless of what follows.
--- Main statements: is_ended, certain_match, end_scan.
--- Used by: `Regex::certain`.
--- Idea: the last match of the walk stays the same, so its pattern and end do; and where it begins is seen in reverse
--- from its end, before anything that follows.
-use Rattle.std.specs.Option.{IfSome, option_or}
+-- The match of a search that is certain is the leftmost one, regardless of what follows.
+-- Main statements: is_ended, certain_is, end_scan, scan_read.
+-- Used by: `Regex::scan` and `certain`.
+-- Idea: the last match of each walk is the same (FirstMatch), so its pattern and end are; and where it begins is seen in
+-- reverse from its end, before anything that follows, or is the same for the first state.
+use Rattle.std.specs.Option.{option_or}
 use Rattle.std.specs.Prelude.{All, Err, IfOk, Ok, Result, option_map, slice_get}
-use Rattle.std.proofs.Common.{◌≡◌, ◌<◌, ◌≤◌, ◌+◌, ◌++◌, ◌-◌, ◌∙◌, ℕ, List, None, Option, Some, [], ap, append-nil}
-use Rattle.std.proofs.Common.{arith, drop, length, map, refl, subst, sym, take}
+use Rattle.std.proofs.Common.{◌≡◌, ◌<◌, ◌≤◌, ◌+◌, ◌++◌, ◌-◌, ◌⊎◌, ◌∙◌, ℕ, List, None, Option, Some, [], ap, append-nil}
+use Rattle.std.proofs.Common.{arith, drop, length, refl, subst, sym, take}
 use Rattle.std.proofs.lemmas.Bool.{cases_lt}
-use Rattle.std.proofs.lemmas.List.{length-append, length-drop, length-map, take-append-le}
+use Rattle.std.proofs.lemmas.List.{length-append, length-drop, take-append-le}
 use Rattle.std.proofs.lemmas.List.Elements.{All-append, All-drop, All-nil}
 use Rattle.determinize_below.specs.Nfa.{AllResolve, IsAccepted}
 use Rattle.determinize_below.specs.Semantics.{Nfa, Accepts, Text, between}
@@ -18,10 +18,9 @@ use Rattle.determinize_below.specs.declared.search.MatchKind.{MatchKind}
 use Rattle.determinize_below.specs.declared.search.MatchKind.TheVariants.{LeftmostFirst}
 use Rattle.ordered_reach.proofs.Cases.{by_cases, some_injective}
 use Rattle.determinize_start.specs.StartKinds.{byte_before}
-use Rattle.determinize_core.specs.Step.{start_value}
-use Rattle.determinize_engine.specs.Scans.{IsScan, IsSettled, Scanned}
+use Rattle.determinize_engine.specs.Scans.{IsScan, Scanned}
 use Rattle.determinize_engine.proofs.Headline.{preferred}
-use Rattle.determinize_engine.proofs.LastUnits.{last_match-within}
+use Rattle.determinize_find.specs.Certain.{certain_match}
 use Rattle.determinize_find.specs.Laws.{end_of}
 use Rattle.determinize_nfa.specs.Runs.{AcceptsFrom}
 use Rattle.determinize_nfa.specs.Leftmost.{IsLeftmost, IsLeftmostMatch}
@@ -35,6 +34,8 @@ use Rattle.determinize_find.specs.Streams.{IsEndScan, whole}
 use Rattle.determinize_find.proofs.leftmost.PreferredRun.{each_preferred_is_leftmost}
 use Rattle.determinize_find.proofs.matches.OneList.{LiesIn, lies}
 use Rattle.determinize_nfa.proofs.runs.Shifts.{each_run_reads_forward}
+use Rattle.determinize_find.proofs.streams.FirstMatch.{IsFirst, begins_before, certain_within, one_start as first_start}
+use Rattle.determinize_find.proofs.streams.FirstMatch.{settled_certain}
 use Rattle.determinize_find.proofs.streams.Rests.{in_whole, rest, rest-append, slice_get-append}
 
 -- up to a position within the first bytes, texts that begin with them are one text
@@ -89,27 +90,19 @@ end_scan nfa own kind start byte behind bytes (Ok s) e k z b accepted prefix res
       (subst (λ w. IsScan nfa w start byte bytes s) k (subst (λ n. IsScan n kind start byte bytes s) e is)));
 }
 
--- a search over the bytes of a haystack from an index on, that is over with a match
-pub record IsOverWith (nfa : Nfa) (xs : List ℕ) (start : ℕ) (s : Scanned) (h : HalfMatch) : Type 0 where
+-- how many bytes it has read
+pub scan_read : (nfa : Nfa) (kind : MatchKind) (start : ℕ) (behind : Option ℕ) (bytes : List ℕ) {E : Type 0}
+    (r : Result Scanned E) {n : ℕ} → length bytes ≡ n → IfOk r (λ s. IsScan nfa kind start behind bytes s)
+    → IfOk r (λ s. s.read ≡ n)
+scan_read nfa kind start behind bytes (Err _) e is = tt
+scan_read nfa kind start behind bytes (Ok s) e is = is.read ∙ e
+
+-- a search over the bytes of a haystack from an index on, of which a match is certain
+pub record HasCertain (nfa : Nfa) (xs : List ℕ) (start : ℕ) (s : Scanned) (h : HalfMatch) : Type 0 where
   pub within : start ≤ length xs
   pub small : All (λ b. b < 256) xs
   pub scan : IsEndScan nfa (byte_before xs start) (drop start xs) s
-  pub last : s.last ≡ Some h
-  pub settled : IsSettled nfa LeftmostFirst nfa.start_unanchored (byte_before xs start) (drop start xs) s.last
-
-pub over_with : (nfa : Nfa) (xs : List ℕ) (start : ℕ) (s : Scanned) (h : HalfMatch) (last : Option HalfMatch)
-    → start ≤ length xs → All (λ b. b < 256) xs → IsEndScan nfa (byte_before xs start) (drop start xs) s
-    → last ≡ s.last → last ≡ Some h
-    → ((other : Nfa) (kind : MatchKind) (from : ℕ) (behind : Option ℕ) (bytes : List ℕ)
-    → IsScan other kind from behind bytes s → IsSettled other kind from behind bytes s.last)
-    → IsOverWith nfa xs start s h
-over_with nfa xs start s h last within small scan e f settled = record {
-  within = within;
-  small = small;
-  scan = scan;
-  last = sym e ∙ f;
-  settled = settled nfa LeftmostFirst nfa.start_unanchored (byte_before xs start) (drop start xs) scan.scan;
-}
+  pub certain : certain_match nfa s ≡ Some h
 
 -- the text from an index on, with more bytes
 abbrev text_with : List ℕ → ℕ → List ℕ → Text
@@ -122,24 +115,27 @@ record IsMatchWith (nfa : Nfa) (text : Text) (h : HalfMatch) : Type 0 where
   pattern : match.pattern ≡ h.pattern
   end : match.end ≡ h.offset
 
-module _ {nfa : Nfa} {xs : List ℕ} {start : ℕ} {s : Scanned} {h : HalfMatch} (is : IsOverWith nfa xs start s h) where
-  -- the match ends before the last byte
-  pub ends_before : start + h.offset < length xs
-  ends_before =
+module _ {nfa : Nfa} {xs : List ℕ} {start : ℕ} {s : Scanned} {h : HalfMatch} (is : HasCertain nfa xs start s h) where
+  few : All (λ b. b < 256) (drop start xs)
+  few = All-drop (λ b. b < 256) start xs is.small
+
+  -- it ends before the last byte, or it is that of the first state
+  where_ends : (h.offset < length (drop start xs)) ⊎ IsFirst is.scan.scan h
+  where_ends = certain_within is.scan.scan h is.certain
+
+  -- so it ends in the haystack
+  pub ends_within : start + h.offset ≤ length xs
+  ends_within =
       let n : length (drop start xs) ≡ length xs - start = length-drop start xs in
-      let k : length (map Some (drop start xs)) ≡ length (drop start xs) = length-map (drop start xs) Some in
-      let w : h.offset < length (map Some (drop start xs))
-      = subst (λ o. IfSome o (λ m. m.offset < length (map Some (drop start xs)))) (sym is.scan.scan.last ∙ is.last)
-      (last_match-within nfa LeftmostFirst (start_value nfa nfa.start_unanchored (byte_before xs start))
-      (map Some (drop start xs))) in
-      let l : start ≤ length xs = is.within in omega arith
+      let l : start ≤ length xs = is.within in
+      by_cases where_ends (λ k. omega arith) (λ f. let e : h.offset ≡ length (drop start xs) = f.end in omega arith)
 
   match_with : (more : List ℕ) → All (λ b. b < 256) more → IsMatchWith nfa (text_with xs start more) h
   match_with more small =
       let p = preferred nfa LeftmostFirst nfa.start_unanchored (text_with xs start more) (Some h) is.scan.accepted refl
-      (sym is.last ∙ is.settled more None) in
+      (settled_certain is.scan.scan h is.certain more None) in
       let r = each_preferred_is_leftmost nfa is.scan.prefix (text_with xs start more)
-      (All-append (λ b. b < 256) (drop start xs) more (All-drop (λ b. b < 256) start xs is.small) small) (Some h) p in
+      (All-append (λ b. b < 256) (drop start xs) more few small) (Some h) p in
       found r.0 r.1 r.2
     where
       found : (o : Option Match) → IsLeftmost nfa (text_with xs start more) (length (drop start xs ++ more)) o
@@ -184,11 +180,26 @@ module _ {nfa : Nfa} {xs : List ℕ} {start : ℕ} {s : Scanned} {h : HalfMatch}
   pub is_ended : IsEndOf nfa xs start (start + h.offset)
   is_ended = (from (whole xs) start, moved start first, ended)
 
+  begins_inside : start + first.start < length xs
+  begins_inside =
+      let n : length (drop start xs) ≡ length xs - start = length-drop start xs in
+      let l : start ≤ length xs = is.within in
+      let k : LiesIn (from (whole xs) start) (moved start first)
+      = lies nfa (from (whole xs) start) (moved start first) (let k : length xs ≤ length xs = omega arith in k)
+      ended.leftmost in
+      let o : start + first.start ≤ start + first.end = k.order in
+      let e : first.end ≡ h.offset = (match_with [] none).end in
+      by_cases where_ends
+      (λ j. omega arith)
+      (λ f. let b : first.start < length (drop start xs)
+      = begins_before nfa is.scan.accepted is.scan.prefix few is.scan.scan f [] first (match_with [] none).left.1 in
+      omega arith)
+
   -- and the match begins at the same index, regardless of what follows
-  pub certain_match : (backward : Nfa) → IsReverseOf backward nfa → (begin : ℕ)
+  pub certain_is : (backward : Nfa) → IsReverseOf backward nfa → (begin : ℕ)
       → IsBeginOf nfa xs start (start + h.offset) begin
       → IsCertain nfa xs start record { pattern = h.pattern; start = begin; end = start + h.offset }
-  certain_match backward reverse begin at =
+  certain_is backward reverse begin at =
       let z : start + first.start ≡ begin = at (from (whole xs) start) (moved start first) ended in
       let l : LiesIn (from (whole xs) start) (moved start first)
       = lies nfa (from (whole xs) start) (moved start first) (let k : length xs ≤ length xs = omega arith in k)
@@ -199,9 +210,7 @@ module _ {nfa : Nfa} {xs : List ℕ} {start : ℕ} {s : Scanned} {h : HalfMatch}
       let low : start ≤ begin = omega arith in
       let order : begin ≤ start + h.offset = omega arith in
       record {
-        low = low;
-        order = order;
-        high = ends_before;
+        inside = record { low = low; order = order; high = ends_within; some = subst (λ n. n < length xs) z begins_inside };
         leftmost = λ more small.
             let m = match_with more small in
             let p : start + m.match.start ≡ begin = ap (λ n. start + n) (one_start more small) ∙ z in
@@ -211,11 +220,10 @@ module _ {nfa : Nfa} {xs : List ℕ} {start : ℕ} {s : Scanned} {h : HalfMatch}
             (in_haystack_with more small);
       }
     where
-      one_start : (more : List ℕ) (small : All (λ b. b < 256) more) → (match_with more small).match.start ≡ first.start
-      one_start more small =
+      before_end : (more : List ℕ) (small : All (λ b. b < 256) more) → h.offset < length (drop start xs)
+          → (match_with more small).match.start ≡ first.start
+      before_end more small l =
           let m = match_with more small in
-          let n : length (drop start xs) ≡ length xs - start = length-drop start xs in
-          let e : start + h.offset < length xs = ends_before in
           let k : length (drop start xs ++ more) ≡ length (drop start xs) + length more
           = length-append (drop start xs) more in
           let o : length (drop start xs ++ []) ≡ length (drop start xs) = ap length (append-nil (drop start xs)) in
@@ -224,3 +232,10 @@ module _ {nfa : Nfa} {xs : List ℕ} {start : ℕ} {s : Scanned} {h : HalfMatch}
           one_begin nfa backward reverse h.offset (text_with xs start more) (text_with xs start []) m.match first
           (upto-append (byte_before xs start) (drop start xs) more [] h.offset (omega arith)) x y m.left.1
           (match_with [] none).left.1 m.end (match_with [] none).end
+
+      one_start : (more : List ℕ) (small : All (λ b. b < 256) more) → (match_with more small).match.start ≡ first.start
+      one_start more small = by_cases where_ends
+          (λ l. before_end more small l)
+          (λ f. first_start nfa is.scan.accepted is.scan.prefix few is.scan.scan f more [] (match_with more small).match
+          first (match_with more small).left.1 (match_with [] none).left.1 ((match_with more small).end ∙ f.end)
+          ((match_with [] none).end ∙ f.end))

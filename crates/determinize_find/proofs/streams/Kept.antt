@@ -1,30 +1,33 @@
--- What `Pieces` keeps: few bytes, and a search that has not ended with a match.
+-- What `Pieces` keeps: few bytes, and a search of which no match is certain.
 -- Main statements: unread_unsettled, few_kept, read_more, all_few.
 -- Used by: `Pieces::read_block` and `Pieces::feed`.
 -- Idea: what was so at the end of a block stays so, as more blocks are read.
 use Rattle.std.specs.Option.{IfSome}
-use Rattle.std.specs.Prelude.{map, min}
-use Rattle.std.proofs.Common.{◌≡◌, ◌*◌, ◌<◌, ◌≤◌, ◌+◌, ◌++◌, ◌-◌, ◌⊎◌, ◌∙◌, ℕ, Bool, List, None, Option, Some, [], ap}
+use Rattle.std.specs.Prelude.{map, min, slice_get}
+use Rattle.std.proofs.Common.{◌≡◌, ◌*◌, ◌<◌, ◌≤◌, ◌+◌, ◌++◌, ◌-◌, ◌⊎◌, ◌∙◌, ℕ, Bool, List, None, Option, Some, [], ◌∷◌, add-one, ap}
 use Rattle.std.proofs.Common.{append-nil, append_assoc, arith, drop, false, inl, inr, length, refl, subst, sym}
 use Rattle.std.proofs.Common.{true}
 use Rattle.std.proofs.Math.Nat.{min-eq_left, min-eq_right}
 use Rattle.std.proofs.lemmas.Bool.{cases_lt, true≢false}
 use Rattle.std.proofs.lemmas.List.{drop-append-le, drop_all, length-append, length-drop, nil_from_length}
 use Rattle.std.proofs.lemmas.List.{take-append-le, take_all}
+use Rattle.determinize_below.specs.Edges.{is_capture, pattern_in, pattern_of, reach, tests_capture}
 use Rattle.determinize_below.specs.Semantics.{Nfa}
+use Rattle.determinize_below.specs.declared.search.HalfMatch.{HalfMatch}
 use Rattle.determinize_below.specs.declared.search.Match.{Match}
 use Rattle.determinize_below.specs.declared.search.MatchKind.TheVariants.{LeftmostFirst}
-use Rattle.ordered_reach.proofs.Cases.{by_cases}
+use Rattle.ordered_reach.proofs.Cases.{by_cases, some_injective}
 use Rattle.determinize_start.specs.StartKinds.{byte_before}
-use Rattle.determinize_core.specs.Chain.{future}
-use Rattle.determinize_core.specs.LastMatch.{last_match}
-use Rattle.determinize_core.specs.Step.{start_value}
-use Rattle.determinize_core.specs.Value.{is_nonempty}
+use Rattle.determinize_core.specs.Chain.{value_after}
+use Rattle.determinize_core.specs.Step.{start_value, step}
+use Rattle.determinize_core.specs.Value.{Value}
 use Rattle.determinize_engine.specs.Scans.{Scanned}
+use Rattle.determinize_engine.specs.UnitsRead.{units_read}
+use Rattle.determinize_find.specs.Certain.{IsUnsettled, certain_after}
 use Rattle.determinize_find.specs.Idle.{IsIdle}
-use Rattle.determinize_nfa.specs.Prefix.{HasPrefixApart}
+use Rattle.determinize_nfa.specs.Prefix.{HasPrefix, HasPrefixApart}
 use Rattle.determinize_find.specs.Private.Windows.{unsearched, with_bytes, without_first}
-use Rattle.determinize_find.specs.Streams.{IsEndScan, IsFed, IsPartFed, IsSearching, IsUnsettled, KeepsFew}
+use Rattle.determinize_find.specs.Streams.{IsEndScan, IsFed, IsPartFed, IsSearching, KeepsFew}
 use Rattle.determinize_find.specs.Streams.{KeptFewAt, KeptFewInBlocks, Streamed}
 use Rattle.determinize_find.proofs.streams.Steps.{fed_nothing, joined, part_fed, with_scan}
 
@@ -42,15 +45,30 @@ pub failed_searching : (nfa : Nfa) (old new : Streamed) (block : List ℕ)
 failed_searching nfa old new block (inl e) = subst (λ s. IsSearching nfa s) (sym e) tt
 failed_searching nfa old new block (inr e) = subst (λ s. IsSearching nfa s) (sym e) tt
 
--- a search that has read nothing has not ended with a match
+-- before the first unit, the first state is the unanchored start
+start_first : (nfa : Nfa) (behind : Option ℕ) → HasPrefix nfa
+    → slice_get (start_value nfa nfa.start_unanchored behind).states 0 ≡ Some nfa.start_unanchored
+unfolding reach
+start_first nfa behind has =
+    let plain : is_capture nfa nfa.start_unanchored ≡ false = ap tests_capture has.first in rw (add-one, plain) refl
+
+-- which is no match
+prefix_unsettled : (nfa : Nfa) (read : ℕ) (last : Option HalfMatch) (states : List ℕ) → HasPrefix nfa
+    → slice_get states 0 ≡ Some nfa.start_unanchored → certain_after nfa read last states ≡ None
+prefix_unsettled nfa read last [] has e = absurd (let z : None ≡ Some nfa.start_unanchored = e in cc)
+prefix_unsettled nfa read last (x ∷ xs) has e =
+    let z : x ≡ nfa.start_unanchored = some_injective x nfa.start_unanchored e in
+    let none : pattern_of nfa x ≡ None = ap (λ s. pattern_of nfa s) z ∙ ap pattern_in has.first in rw none refl
+
+-- so no match is certain where nothing was read
 pub unread_unsettled : {nfa : Nfa} {behind : Option ℕ} {bytes : List ℕ} {s : Scanned} → bytes ≡ []
-    → IsEndScan nfa behind bytes s → IsUnsettled s
+    → IsEndScan nfa behind bytes s → IsUnsettled nfa s
 unread_unsettled {nfa} {behind} {bytes} {s} unread is =
-    subst (λ o. IfSome o (λ m. is_nonempty s.state.states ≡ true)) (sym none) tt
-  where
-    none : s.last ≡ None
-    none = is.scan.last ∙ ap (λ bs. last_match (future nfa LeftmostFirst (start_value nfa nfa.start_unanchored behind)
-        (map Some bs))) unread
+    let begun : s.state ≡ start_value nfa nfa.start_unanchored behind
+    = is.scan.state ∙ ap (λ bs. value_after nfa LeftmostFirst (start_value nfa nfa.start_unanchored behind)
+    (units_read (step nfa LeftmostFirst) false (start_value nfa nfa.start_unanchored behind) (map Some bs))) unread in
+    prefix_unsettled nfa s.read s.last s.state.states is.prefix
+    (ap (λ (v : Value). slice_get v.states 0) begun ∙ start_first nfa behind is.prefix)
 
 -- a search that would have been reported as idle, and was not, begins at the end
 pub at_end : {A B : Type 0} {told : Bool} (start end : ℕ) → start ≤ end → (A → B → start < end → told ≡ true)
@@ -61,7 +79,7 @@ at_end start end within h e a b = by_cases (cases_lt start end)
 
 -- after the bytes before the search were dropped, but for the last
 pub few_kept : (nfa : Nfa) (now new : Streamed) (scan : Scanned) → now.start ≤ length now.kept
-    → IsUnsettled scan → (HasPrefixApart nfa → IsIdle nfa scan → now.start ≡ length now.kept)
+    → IsUnsettled nfa scan → (HasPrefixApart nfa → IsIdle nfa scan → now.start ≡ length now.kept)
     → new ≡ without_first (now.start - 1) (with_scan (Some scan) now) → IsSearching nfa new → KeepsFew nfa new
 few_kept nfa now new scan within unsettled idle e searching = subst (λ s. KeepsFew nfa s) (sym e) record {
   scan = scan;

@@ -2,7 +2,7 @@
 -- Main statements: joined, kept_fed, fed_match, fed_skipped, fed_later, ended_fed, part_fed.
 -- Used by: the calls of `Pieces`.
 -- Idea: the matches from the new place on, after what was added, are those from the old place on.
-use Rattle.std.specs.Option.{IfSome}
+use Rattle.std.specs.Option.{IfNone, IfSome}
 use Rattle.std.specs.Prelude.{All, nat_eq, option_map}
 use mathlib.Core.Bool.{◌&&◌}
 use Rattle.std.proofs.Common.{◌≡◌, ◌<◌, ◌≤◌, ◌+◌, ◌++◌, ◌-◌, ◌⊎◌, ◌∙◌, ◌∷◌, ℕ, Bool, List, None, Option, Some, [], ap}
@@ -21,8 +21,9 @@ use Rattle.determinize_nfa.specs.Leftmost.{NothingFrom}
 use Rattle.determinize_find.specs.LeftmostIn.{IsLeftmostIn, moved}
 use Rattle.determinize_find.specs.Matches.{AreMatches, IsNext, IsTaken, from, touches}
 use Rattle.determinize_find.specs.Private.Windows.{IsCertain, IsFresh, unsearched, with_bytes, without_first}
-use Rattle.determinize_find.specs.Streams.{IsEndScan, IsFed, IsPartFed, IsSearching, IsStream, Streamed, before}
-use Rattle.determinize_find.specs.Streams.{count_read, place, whole}
+use Rattle.determinize_find.specs.Certain.{IsUnsettled}
+use Rattle.determinize_find.specs.Streams.{IsEndScan, IsFed, IsKeptScan, IsPartFed, IsSearching, IsStream, Streamed}
+use Rattle.determinize_find.specs.Streams.{before, count_read, place, whole}
 use Rattle.determinize_find.proofs.matches.OneList.{LiesIn, lies}
 use Rattle.determinize_find.proofs.streams.Rests.{rest, rest-append, rest-drop, shift_leftmost, skip_leftmost}
 
@@ -389,16 +390,28 @@ scan_more nfa s block scan xs i e z within h =
     subst (λ w. IsEndScan nfa w.behind w.bytes scan) t h
 
 -- the same of equal values
-pub certain_at : {nfa own : Nfa} {xs : List ℕ} {i : ℕ} {m : Match} {found : Option Match} (s : Streamed)
-    → own ≡ nfa → xs ≡ s.kept → i ≡ s.start → found ≡ Some m → IfSome found (λ n. IsCertain own xs i n)
-    → IsCertain nfa s.kept s.start m
-certain_at {nfa} {own} {xs} {i} {m} {found} s e k z is h =
-    subst (λ n. IsCertain n s.kept s.start m) e (subst (λ ys. IsCertain own ys s.start m) k
-    (subst (λ j. IsCertain own xs j m) z (subst (λ o. IfSome o (λ n. IsCertain own xs i n)) is h)))
-
 pub scan_at : (nfa own : Nfa) (xs kept : List ℕ) (i start : ℕ) (s : Scanned) → own ≡ nfa → xs ≡ kept → i ≡ start
     → IsEndScan own (byte_before xs i) (drop i xs) s → IsEndScan nfa (byte_before kept start) (drop start kept) s
 scan_at nfa own xs kept i start s e k z h =
     subst (λ n. IsEndScan n (byte_before kept start) (drop start kept) s) e
     (subst (λ ys. IsEndScan own (byte_before ys start) (drop start ys) s) k
     (subst (λ j. IsEndScan own (byte_before xs j) (drop j xs) s) z h))
+
+-- what is said of the search of the kept bytes: which match is certain, or that none is
+module _ {nfa own : Nfa} {xs : List ℕ} {i : ℕ} {scan : Scanned} (s : Streamed) (e : own ≡ nfa)
+    (k : xs ≡ s.kept) (z : i ≡ s.start) (searching : IsKeptScan nfa s scan) where
+  there : IsEndScan own (byte_before xs i) (drop i xs) scan
+  there = scan_at own nfa s.kept xs s.start i scan (sym e) (sym k) (sym z) searching
+
+  pub certain_at : {found : Option Match} {m : Match} → found ≡ Some m
+      → (IsEndScan own (byte_before xs i) (drop i xs) scan → IfSome found (λ n. IsCertain own xs i n))
+      → IsCertain nfa s.kept s.start m
+  certain_at {found} {m} is h =
+      subst (λ n. IsCertain n s.kept s.start m) e (subst (λ ys. IsCertain own ys s.start m) k
+      (subst (λ j. IsCertain own xs j m) z (subst (λ o. IfSome o (λ n. IsCertain own xs i n)) is (h there))))
+
+  pub unsettled_at : {found : Option Match} → found ≡ None
+      → (IsEndScan own (byte_before xs i) (drop i xs) scan → IfNone found (IsUnsettled own scan))
+      → IsUnsettled nfa scan
+  unsettled_at {found} is h =
+      subst (λ n. IsUnsettled n scan) e (subst (λ o. IfNone o (IsUnsettled own scan)) is (h there))

@@ -1,26 +1,36 @@
 -- What is true of every `Pieces`, and of the match that it is sure of.
-use Rattle.std.specs.Prelude.{◌≡◌, ◌*◌, ◌+◌, ◌++◌, ◌-◌, ◌<◌, ◌≤◌, ℕ, All, List, None, Some, cond}
+use Rattle.std.specs.Prelude.{◌≡◌, ◌*◌, ◌+◌, ◌++◌, ◌-◌, ◌<◌, ◌≤◌, ℕ, All, List, None, Option, Some, cond}
 use Rattle.std.specs.Prelude.{drop, length}
+use Rattle.std.specs.Option.{IfSome}
 use Rattle.determinize_below.specs.Semantics.{Nfa, between}
 use Rattle.determinize_below.specs.declared.search.Match.{Match}
 use Rattle.determinize_start.specs.StartKinds.{byte_before}
+use Rattle.determinize_engine.specs.Scans.{Scanned}
 use Rattle.determinize_find.specs.Idle.{NothingBefore}
 use Rattle.determinize_find.specs.LeftmostIn.{IsLeftmostIn}
 use Rattle.determinize_find.specs.Matches.{from}
 use Rattle.determinize_nfa.specs.Prefix.{HasPrefix}
 use Rattle.determinize_find.specs.Streams.{Streamed, whole}
 
--- the search begins in the kept bytes, the byte before it is kept, and what was read has a count
-pub record IsWindow (kept : List ℕ) (dropped start : ℕ) : Type 0 where
+-- the search begins in the kept bytes and has read the rest of them, the byte before it is kept, and
+-- what was read has a count
+pub record IsWindow (kept : List ℕ) (dropped start : ℕ) (scan : Option Scanned) : Type 0 where
   pub within : start ≤ length kept
+  pub read : IfSome scan (λ s. s.read ≡ length kept - start)
   pub behind : start ≡ 0 → dropped ≡ 0
   pub count : dropped + length kept ≤ 18446744073709551615
 
--- the leftmost match from an index on, regardless of what follows the haystack
-pub record IsCertain (nfa : Nfa) (haystack : List ℕ) (start : ℕ) (m : Match) : Type 0 where
+-- a match from an index on, which begins before the end of a haystack of this size, and ends there
+-- or before
+pub record IsInside (size start : ℕ) (m : Match) : Type 0 where
   pub low : start ≤ m.start
   pub order : m.start ≤ m.end
-  pub high : m.end < length haystack
+  pub high : m.end ≤ size
+  pub some : m.start < size
+
+-- the leftmost match from an index on, regardless of what follows the haystack
+pub record IsCertain (nfa : Nfa) (haystack : List ℕ) (start : ℕ) (m : Match) : Type 0 where
+  pub inside : IsInside (length haystack) start m
   pub leftmost : (more : List ℕ) → All (λ b. b < 256) more
       → IsLeftmostIn nfa (from (whole (haystack ++ more)) start) (Some m)
 

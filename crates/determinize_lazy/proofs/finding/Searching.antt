@@ -10,7 +10,7 @@ use Rattle.determinize_lazy.proofs.Common.{is_last, is_last_tag, is_nonempty, is
 use Rattle.determinize_lazy.proofs.Common.{IsCachedPosition, IsCutOffAt, IsFailedStep, IsNext, IsOver, IsOverText}
 use Rattle.determinize_lazy.proofs.Common.{IsSearch, IsSound, IsTarget, last_match, LazyValue, length, length-map}
 use Rattle.determinize_lazy.proofs.Common.{List, map, match_of, match_reported, next_place, None, Ok, on_err_weaker}
-use Rattle.determinize_lazy.proofs.Common.{Option, option_or, Place, place, refl, Result, same, slice_get}
+use Rattle.determinize_lazy.proofs.Common.{Option, option_or, Place, place, refl, Result, slice_get}
 use Rattle.determinize_lazy.proofs.Common.{slice_get-get_or, slice_get_within, slice_index_or, Some, start_for}
 use Rattle.determinize_lazy.proofs.Common.{start_value, step_of, subst, sym, tag_in, tag_of, Text, text_of, true}
 use Rattle.determinize_lazy.proofs.Common.{true≢false, units, units_read, Value, value_after, ℕ, ◌+◌, ◌∙◌, ◌∷◌, ◌≡◌}

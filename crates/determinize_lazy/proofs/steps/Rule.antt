@@ -2,16 +2,33 @@
 -- Main statements: lazy-kept, stepped, lazy-sound.
 -- Used by: `compute`, `step`, `kept_start`; the general laws by searches and `determinize_find`, too.
 -- Idea: a step leaves the table that the rule keeps or, if it fails, the one before or none.
-use Rattle.determinize_lazy.proofs.Common.{arith, by_cases, by_test, Cache, cache, count_after, empty, Err, false, fits}
-use Rattle.determinize_lazy.proofs.Common.{Grows, inr, IsAccepted, is_cached, IsKept, IsLazy, IsSound, IsStepped}
-use Rattle.determinize_lazy.proofs.Common.{IsTable, keep, LazyValue, length, MatchKind, Nfa, Ok, OnErr, on_err_weaker}
-use Rattle.determinize_lazy.proofs.Common.{on_ok_weaker, Option, refl, Result, step_of, StoredTable, Table, table_of}
-use Rattle.determinize_lazy.proofs.Common.{Value, ℕ, ◌∙◌, ◌≡◌, ◌≤◌}
+use Rattle.determinize_lazy.proofs.Common.{[], AllResolve, arith, by_cases, by_test, Cache, cache, count_after, empty}
+use Rattle.determinize_lazy.proofs.Common.{Err, false, fits, Grows, inr, IsAccepted, is_cached, IsKept, IsLazy}
+use Rattle.determinize_lazy.proofs.Common.{IsSound, IsStepped, IsTable, keep, LazyValue, length, List, list_any}
+use Rattle.determinize_lazy.proofs.Common.{MatchKind, Nfa, Ok, OnErr, on_err_weaker, on_ok_weaker, Option, refl}
+use Rattle.determinize_lazy.proofs.Common.{Result, same, step_of, StoredTable, Table, table_of, Value, with_value, ℕ}
+use Rattle.determinize_lazy.proofs.Common.{◌∙◌, ◌≡◌, ◌≤◌}
+use Rattle.std.proofs.lemmas.List.Elements.{All-nil, All-push}
+use Rattle.std.specs.Prelude.{All as Each}
 use Rattle.determinize_core.specs.Step.{step}
 use Rattle.determinize_core.proofs.step.Resolving.{step_resolves}
 use Rattle.determinize_table.specs.declared.table.Cursor.{Cursor}
 use Rattle.determinize_table.proofs.Transitions.{empty-is, with_transition-is}
 use Rattle.determinize_lazy.proofs.steps.Starts.{starts-stay}
+
+-- what is so of the values of a table and of two more is so of those that the rule keeps
+All-with_value : (P : Value → Type 0) (values : List Value) (v : Value) → Each P values → P v
+    → Each P (with_value values v)
+All-with_value P values v each one =
+    by_test (list_any (same v) values) (λ e. rw e each) (λ e. rw e (All-push P values v each one))
+
+All-kept : (P : Value → Type 0) (limit : ℕ) (t : Table) (v : Value) (u : Option ℕ) (w : Value) → Each P t.states
+    → P v → P w → Each P (keep limit t v u w).states
+All-kept P limit t v u w each source next =
+    let both = λ (values : List Value) (e : Each P values).
+    All-with_value P (with_value values v) w (All-with_value P values v e source) next in
+    by_test (fits limit t v u w) (λ e. rw e (both t.states each))
+    (λ e. rw e (by_test (fits limit empty v u w) (λ k. rw k (both [] (All-nil P))) (λ k. rw k (All-nil P))))
 
 -- the rule keeps a table of steps with at most `limit` states
 keep-is : (f : Value → Option ℕ → Value) (limit : ℕ) (t : Table) (v : Value) (u : Option ℕ) (w : Value) → IsTable f t
@@ -26,10 +43,12 @@ keep-is f limit t v u w is w_is = (
 -- after a transition was computed
 pub lazy-kept : {A E : Type 0} {nfa : Nfa} {kind : MatchKind} {limit count counted : ℕ} {t t' : StoredTable} {w : Value}
     {r : Result (Cursor A) E} (v : Value) (u : Option ℕ) → IsLazy nfa kind limit count t → w ≡ step nfa kind v u
-    → counted ≤ 18446744073709551615 → IsKept t (keep limit (table_of t) v u w) w r t'
-    → IsLazy nfa kind limit counted t'
-lazy-kept {A} {E} {nfa} {kind} {limit} {t = t} {t' = t'} {w} {r} v u is w_is small kept =
+    → AllResolve nfa v.states → counted ≤ 18446744073709551615
+    → IsKept t (keep limit (table_of t) v u w) w r t' → IsLazy nfa kind limit counted t'
+lazy-kept {A} {E} {nfa} {kind} {limit} {t = t} {t' = t'} {w} {r} v u is w_is source small kept =
     let f : Value → Option ℕ → Value = step nfa kind in
+    let Resolves : Value → Type 0 = λ x. AllResolve nfa x.states in
+    let next : Resolves w = rw w_is (step_resolves nfa is.sound.accepted kind v u) in
     let (table, within) = keep-is f limit (table_of t) v u w is.sound.table w_is in record {
       sound = record {
         accepted = is.sound.accepted;
@@ -37,6 +56,8 @@ lazy-kept {A} {E} {nfa} {kind} {limit} {t = t} {t' = t'} {w} {r} v u is w_is sma
         small = small;
       };
       within = by r (λ (x : Table). length x.states ≤ limit) kept within is.within (omega arith);
+      resolve = by r (λ (x : Table). Each Resolves x.states) kept
+          (All-kept Resolves limit (table_of t) v u w is.resolve source next) is.resolve (All-nil Resolves);
       starts = starts-stay nfa t t' is.starts kept.starts;
     }
   where

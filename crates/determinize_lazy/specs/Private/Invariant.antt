@@ -1,12 +1,14 @@
 -- What is true of every cache.
-use Rattle.std.specs.Prelude.{ℕ, ◌≤◌, length}
+use Rattle.std.specs.Prelude.{ℕ, ◌≤◌, All, length}
+use Rattle.determinize_below.specs.Nfa.{AllResolve}
 use Rattle.determinize_below.specs.Semantics.{Nfa}
 use Rattle.determinize_below.specs.declared.search.MatchKind.{MatchKind}
+use Rattle.determinize_core.specs.Value.{Value}
 use Rattle.determinize_table.specs.Rows.{StoredTable, table_of}
 use Rattle.determinize_lazy.specs.Private.Starts.{AreStarts}
 use Rattle.determinize_lazy.specs.Private.Steps.{IsSound}
 
--- a sound cache of at most `limit` states, and its start states
+-- a sound cache of at most `limit` states, whose ids are states of the NFA, and its start states
 pub record IsLazy (nfa : Nfa) (kind : MatchKind) (limit computed : ℕ)
     (stored : StoredTable) : Type 0 where
   pub sound : IsSound record {
@@ -17,4 +19,5 @@ pub record IsLazy (nfa : Nfa) (kind : MatchKind) (limit computed : ℕ)
     computed = computed;
   }
   pub within : length stored.states ≤ limit
+  pub resolve : All (λ (v : Value). AllResolve nfa v.states) stored.states
   pub starts : AreStarts nfa stored

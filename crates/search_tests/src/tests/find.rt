@@ -5,7 +5,6 @@ ghost use Rattle.std.specs.Prelude.{◌≡◌, IfOk, false, true};
 ghost use Rattle.determinize_below.specs.declared.search.MatchKind.TheVariants as kinds;
 ghost use Rattle.determinize_find.specs.Prefix.{HasPrefix};
 ghost use Rattle.determinize_find.specs.Reversal.{IsReverseOf};
-ghost use Rattle.determinize_find.specs.Streams.{IsSearching};
 ghost use Rattle.determinize_engine.specs.Searches.{has_start};
 
 use crate::tests::trial::{Trial, fail_each_in_turn, succeed_if};
@@ -218,8 +217,6 @@ fn feed_piece<B: Allocator, A: Allocator + Copy>(
     piece: &[u8],
     found: &mut Vec<Match, A>,
 ) -> Result<bool, AllocError>
-    requires { IsSearching regex.old.nfa stream.old }
-    ensures { IsSearching regex.new.nfa stream.new }
 {
     let begin = stream.bytes_read();
     if stream.feed(regex, piece, found).is_ok() {

@@ -1,10 +1,19 @@
-//! A long text in pieces, of which few bytes are kept.
+//! A text in pieces: each match is found with its last byte, and few bytes are kept.
 
 use crate::tests::find::{WORDS, nfa};
 use crate::tests::{holds, same};
 use determinize_find::{LazyRegex, Pieces, Regex, reversed};
 use std::process::Abort;
 use std::test::Fail;
+
+/// `[^\n]*\n`, a line.
+const LINE: &str = "BU:2,1 B:00-ff>0 BU:3,4 S:00-09>2,0b-ff>2 B:0a>5 M:0";
+
+/// Lines, of which the last does not end.
+const LINES: &[u8] = b"ab\n\nc d\n\n\ne";
+
+/// The same, line by line.
+static EACH_LINE: [&[u8]; 6] = [b"ab\n", b"\n", b"c d\n", b"\n", b"\n", b"e"];
 
 /// The words from one to ten, in 64 bytes. `seven` begins at their end and ends at their beginning.
 const TEN_WORDS: &[u8] = b"ven; one, two, three, four, five, six; eight, nine, ten...   sev";
@@ -42,5 +51,37 @@ fn hundred_megabytes(rt: HostRuntime) -> Result<(), Fail> {
     let mut regex = Regex::new(rt.alloc(), &nfa, &backward, 100);
     let count = count_matches(&rt, &mut regex, block.as_slice(), 1600)?;
     same(&rt, count, 1600 * 1024 * 10 + 1);
+    Ok(())
+}
+
+/// Feeds a text in pieces. After each piece there must be a match for each line that has ended.
+fn expect_lines<'t, R: Abort + AllocGlobal>(
+    rt: &R,
+    regex: &mut LazyRegex<'_>,
+    pieces: impl Iterator<Item = &'t [u8]>,
+) -> Result<(), Fail> {
+    let mut stream = Pieces::new(rt.alloc());
+    let mut found = Vec::new(rt.alloc());
+    let mut count = 0usize;
+    for piece in pieces {
+        stream.feed(regex, piece, &mut found)?;
+        count = count.saturating_add(piece.iter().filter(|byte| **byte == b'\n').count());
+        same(rt, found.len(), count);
+    }
+    stream.finish(regex, &mut found)?;
+    same(rt, found.len(), count);
+    Ok(())
+}
+
+/// Line by line, and in pieces of one byte to all bytes.
+#[test]
+fn each_line_at_its_last_byte(rt: HostRuntime) -> Result<(), Fail> {
+    let nfa = nfa(rt.alloc(), LINE)?;
+    let backward = reversed(rt.alloc(), &nfa)?;
+    let mut regex = Regex::new(rt.alloc(), &nfa, &backward, 100);
+    expect_lines(&rt, &mut regex, EACH_LINE.iter().copied())?;
+    for size in 1..=LINES.len() {
+        expect_lines(&rt, &mut regex, LINES.chunks(size))?;
+    }
     Ok(())
 }

@@ -8,6 +8,7 @@ abbrev pub invariant-loop-block : goal.invariant-loop-block
 invariant-loop-block g l =
     (goal.iterator-loop-block g).can_next l.block-iterator
     × (goal.iterator-loop-block g).is_finite l.block-iterator
-    × (l.regex ≡ l.fn.regex) × IsSearching l.regex.nfa l.self
+    × (l.regex ≡ l.fn.regex)
+    × (IsSearching l.fn.regex.nfa l.fn.self → IsSearching l.fn.regex.nfa l.self
     × HasRead l.fn.regex.nfa l.fn.self l.self l.fn.piece (chunks_rest l.block-iterator) (chunks_size l.block-iterator)
-    l.fn.found.items l.found.items
+    l.fn.found.items l.found.items)

@@ -1,15 +1,16 @@
-use Rattle.std.proofs.Common.{◌≡◌, None, drop}
-use Rattle.determinize_start.specs.StartKinds.{byte_before}
+use Rattle.std.proofs.Common.{◌≡◌, ◌-◌, None, length}
 use Rattle.determinize_find.specs.Private.Windows.{left_in}
-use Rattle.determinize_find.specs.Streams.{IsEndScan, IsFed}
+use Rattle.determinize_find.specs.Streams.{IsFed, IsKeptScan, IsSearching}
 use Rattle.determinize_find.proofs.pieces.Pieces.read_block.Given as goal
 
 abbrev pub invariant-loop-scan : goal.invariant-loop-scan
 invariant-loop-scan g l = record {
   same : l.regex ≡ l.fn.regex;
-  fed : IsFed l.fn.regex.nfa l.fn.self l.self l.fn.block l.fn.found.items l.found.items;
   none : l.self.scan ≡ None;
-  scan : IsEndScan l.fn.regex.nfa (byte_before l.self.kept l.self.start) (drop l.self.start l.self.kept) l.scan;
+  read : l.scan.read ≡ length l.self.kept - l.self.start;
+  fed : IsSearching l.fn.regex.nfa l.fn.self
+      → IsFed l.fn.regex.nfa l.fn.self l.self l.fn.block l.fn.found.items l.found.items;
+  scan : IsSearching l.fn.regex.nfa l.fn.self → IsKeptScan l.fn.regex.nfa l.self l.scan;
 }
 
 abbrev pub decreases-loop-scan : goal.decreases-loop-scan

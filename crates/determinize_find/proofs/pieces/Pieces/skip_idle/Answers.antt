@@ -1,19 +1,23 @@
-use Rattle.std.proofs.Common.{rules, ◌≡◌, ◌∙◌, ℕ, List, [], ap, drop, false, length, subst, sym}
+use Rattle.std.proofs.Common.{rules, ◌≡◌, ◌∙◌, ℕ, List, [], ap, drop, false, length, refl, subst, sym}
 use Rattle.std.proofs.lemmas.List.{drop_all}
 use Rattle.std.proofs.lemmas.Result.{IfOk-weaker}
 use Rattle.determinize_find.specs.Private.Windows.{IsFresh}
 use Rattle.determinize_find.specs.Streams.{IsFed, Streamed}
 use Rattle.determinize_find.proofs.streams.Kept.{unread_unsettled}
-use Rattle.determinize_find.proofs.streams.Steps.{fed_later, to_end}
+use Rattle.determinize_find.proofs.streams.Steps.{fed_later, scan_at, to_end}
 use Rattle.determinize_find.proofs.pieces.Pieces.skip_idle.Goals as goal
 
 pub returns-clause-fed : goal.returns-clause-fed
-returns-clause-fed g c list =
+returns-clause-fed g c searching list =
     let count : length c.self.inside.kept.items ≡ c.len-self-inside.result = search rules in
+    let there = scan_at c.args.regex.now.nfa c.args.regex.now.nfa c.args.self.now.kept c.as_slice.result.now
+    c.args.self.now.start c.self.inside.start c.args.scan refl
+    (sym (c.as_slice.ensures.value ∙ ap (λ (s : Streamed). s.kept) c.self.view_is))
+    (sym (ap (λ (s : Streamed). s.start) c.self.view_is)) searching in
     let fresh : IsFresh c.args.regex.now.nfa c.args.self.now.kept c.args.self.now.start
     = subst (λ (s : Streamed). IsFresh c.args.regex.now.nfa s.kept s.start) c.self.view_is
     (subst (λ (xs : List ℕ). IsFresh c.args.regex.now.nfa xs c.self.inside.start) c.as_slice.ensures.value
-    (c.is_idle.ensures.fresh c.if-not-is_idle.false)) in
+    (c.is_idle.ensures.fresh there c.if-not-is_idle.false)) in
     subst (λ (s : Streamed). IsFed c.args.regex.now.nfa c.args.self.now s [] list list)
     (ap to_end (sym c.self.view_is) ∙ (λ i. record {
       kept = c.self.inside.kept.items;
@@ -26,7 +30,7 @@ returns-clause-fed g c list =
     (subst (λ (s : Streamed). s.start ≡ 0 → s.dropped ≡ 0) c.self.view_is c.self.invariant.behind) fresh)
 
 pub returns-clause-unsettled : goal.returns-clause-unsettled
-returns-clause-unsettled g c =
+returns-clause-unsettled g c _ =
     let unread : drop c.len-self-inside.result c.as_slice-2.result.now ≡ []
     = drop_all c.len-self-inside.result c.as_slice-2.result.now (search rules) in
     IfOk-weaker c.scan-2.result _ _ (λ scan is. unread_unsettled unread is) c.scan-2.ensures.scan

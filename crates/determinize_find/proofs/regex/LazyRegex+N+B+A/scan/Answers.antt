@@ -1,11 +1,11 @@
 use Rattle.std.proofs.Common.{rules, ◌≡◌, IfOk, ℕ, List, ap, drop, subst}
-use Rattle.std.proofs.lemmas.List.{take_rest}
+use Rattle.std.proofs.lemmas.List.{length-drop, take_rest}
 use Rattle.determinize_below.specs.Nfa.{AllResolve}
 use Rattle.determinize_below.specs.Semantics.{Nfa}
 use Rattle.determinize_start.specs.StartKinds.{byte_before}
 use Rattle.determinize_engine.specs.Scans.{IsScan, Scanned}
 use Rattle.determinize_find.specs.Regexes.{RegexValue}
-use Rattle.determinize_find.proofs.streams.Certain.{end_scan}
+use Rattle.determinize_find.proofs.streams.Certain.{end_scan, scan_read}
 use Rattle.determinize_find.proofs.regex.LazyRegex+N+B+A.scan.Goals as goal
 
 pub returns-clause-scan : goal.returns-clause-scan
@@ -17,6 +17,14 @@ returns-clause-scan g c =
     c.self.invariant.kind start c.look_behind-behind.ensures c.nfa.ensures.accepted c.self.invariant.prefix
     (subst (λ (n : Nfa). IfOk c.scan_text.result (λ (s : Scanned). AllResolve n s.state.states))
     c.scan_text.ensures.grows.nfa c.scan_text.ensures.resolve)
+    (subst (λ (bytes : List ℕ). IfOk c.scan_text.result (λ (s : Scanned). IsScan c.self.inside.forward.nfa
+    c.self.inside.forward.kind c.start_unanchored-unanchored.result c.look_behind-behind.result bytes s))
+    (take_rest c.args.haystack.now c.args.start) c.scan_text.ensures.begun)
+
+pub returns-clause-read : goal.returns-clause-read
+returns-clause-read g c =
+    scan_read c.self.inside.forward.nfa c.self.inside.forward.kind c.start_unanchored-unanchored.result
+    c.look_behind-behind.result (drop c.args.start c.args.haystack.now) c.scan_text.result (length-drop c.args.start c.args.haystack.now)
     (subst (λ (bytes : List ℕ). IfOk c.scan_text.result (λ (s : Scanned). IsScan c.self.inside.forward.nfa
     c.self.inside.forward.kind c.start_unanchored-unanchored.result c.look_behind-behind.result bytes s))
     (take_rest c.args.haystack.now c.args.start) c.scan_text.ensures.begun)

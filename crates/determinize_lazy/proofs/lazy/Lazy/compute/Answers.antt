@@ -10,7 +10,8 @@ invariant_of-self-2 g c =
     let following : c.in_ok-following.following ≡ step c.self.inside.stepper.nfa c.self.inside.stepper.kind
     (cursor_value c.self.inside.table.states c.args.cursor) c.args.unit = search rules in
     rw c.in_ok-following.ensures.unchanged
-    (lazy-kept _ c.args.unit c.self.invariant following (search rules) c.keep.ensures)
+    (lazy-kept _ c.args.unit c.self.invariant following
+    (rw (← c.self.view_is) at c.requires.resolve) (search rules) c.keep.ensures)
 
 pub returns-in_err-following : goal.returns-in_err-following
 returns-in_err-following g c =

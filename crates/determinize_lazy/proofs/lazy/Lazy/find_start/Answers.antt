@@ -10,6 +10,7 @@ invariant_of-self g c =
     let index_is = rw c.nfa.ensures at (sym c.in-Some-start_index.ensures.value) in rw c.set_start.ensures record {
       sound = c.self.invariant.sound;
       within = c.self.invariant.within;
+      resolve = c.self.invariant.resolve;
       starts = starts-set _ c.self.inside.table _ _ _ _ c.self.invariant.starts index_is
           (rw state_is at c.in-Some.ensures);
     }

@@ -15,8 +15,8 @@ use Rattle.determinize_lazy.proofs.lazy.Lazy.finish.Goals as goal
 
 pub search_from-requires-clause-position : goal.search_from-requires-clause-position
 search_from-requires-clause-position g c =
-    let state_is = c.in_ok-start.ensures.at.value ∙ ap (λ (s : Scanned). s.state) c.scan.view_is in
-    c.start.ensures.position c.args.self.now c.in_ok-start.ensures.at.cursor_is (rw state_is c.requires)
+    c.start.ensures.position c.args.self.now c.in_ok-start.ensures.at.cursor_is
+    (rw c.in_ok-start.ensures.at.value c.in_ok-start.ensures.resolve)
 
 -- the search of the unit ahead, from the state of the scan
 over : (g : Over) (c : After-search_from g) → IsOver false (c.args.look_ahead ∷ [])

@@ -1,4 +1,5 @@
 use Rattle.determinize_lazy.proofs.Common.{ap, arith, length, sym, Table, ◌∙◌}
+use Rattle.std.proofs.lemmas.List.Elements.{All-nil}
 use Rattle.determinize_engine.proofs.Places.{not_none}
 use Rattle.determinize_core.specs.Step.{step}
 use Rattle.determinize_table.proofs.Transitions.{empty-is}
@@ -12,5 +13,7 @@ invariant_of-result g c = rw c.new.ensures record {
     small = omega arith;
   };
   within = omega (arith, ap (λ (t : Table). length t.states) c.new-2.ensures.table);
+  resolve =
+      let none = ap (λ (t : Table). t.states) c.new-2.ensures.table in rw none (All-nil _);
   starts = λ s p i id of kept. not_none (sym kept ∙ c.new-2.ensures.starts i);
 }

@@ -1,6 +1,7 @@
 use Rattle.determinize_lazy.proofs.Common.{after_walk, ap, cache, cursor_value, ends_at, Fails, false, first_place}
-use Rattle.determinize_lazy.proofs.Common.{HasCome, LazyValue, length-map, List, map, Option, Place, place, refl}
+use Rattle.determinize_lazy.proofs.Common.{future, HasCome, last_match, LazyValue, length-map, List, map, Option, Place, place, refl}
 use Rattle.determinize_lazy.proofs.Common.{rules, Some, step_of, subst, sym, units_read, ℕ, ◌∙◌, ◌≡◌}
+use Rattle.determinize_engine.proofs.LastUnits.{last_match-within}
 use Rattle.determinize_lazy.proofs.finding.Searching.{end-here, end-is, last-found}
 use Rattle.determinize_lazy.proofs.steps.Rule.{of_err}
 use Rattle.determinize_lazy.proofs.walking.CachedWalks.{cut_off-whole}
@@ -35,6 +36,19 @@ pub returns-in_err-state-clause-failed : goal.returns-in_err-state-clause-failed
 returns-in_err-state-clause-failed g c =
     of_err _ (cut_off-whole (after g (goal.at.returns-in_err-state-clause-failed g c).After-found-last))
 
+-- the last match is that of the piece
+last_is : (g : Over) (c : After-found-last g) → c.found-last.result
+    ≡ last_match (future c.args.self.now.nfa c.args.self.now.kind
+    (cursor_value c.args.self.now.states c.args.start) (map Some c.args.piece.now))
+last_is g c = c.found-last.ensures ∙ ap (λ (q : Place). q.last) (sym (end g c))
+    ∙ last-found (cache c.args.self.now) (cursor_value c.args.self.now.states c.args.start) (map Some c.args.piece.now)
+
+pub invariant_of-result : goal.invariant_of-result
+invariant_of-result g c =
+    rw (last_is g (goal.at.invariant_of-result g c).After-found-last, ← length-map c.args.piece.now Some)
+    (last_match-within c.args.self.now.nfa c.args.self.now.kind (cursor_value c.args.self.now.states c.args.start)
+    (map Some c.args.piece.now))
+
 pub returns : goal.returns
 returns g c =
     let d = (goal.at.returns g c).After-found-last in
@@ -44,7 +58,7 @@ returns g c =
     ∙ ap (λ (x : LazyValue). cursor_value x.states c.in_ok-at.at.cursor) c.self.view_is in record {
       read = record {
         state = is ∙ (rw (end g d) at (end-is false us p).1);
-        last = c.found-last.ensures ∙ ap (λ (q : Place). q.last) (sym (end g d)) ∙ last-found p.cache p.value us;
+        last = last_is g d;
         read = search rules;
         after = after g d;
       };

@@ -1,0 +1,18 @@
+-- The last match of a scan is what a search finds of the bytes before the last one.
+-- Main statements: found-before_last.
+-- Used by: `Scan::last`.
+-- Idea: the units that were read are those of the text before the last byte, which is the unit ahead of it.
+use Rattle.determinize_lazy.proofs.Common.{[], ap, between, future, last_match}
+use Rattle.determinize_lazy.proofs.Common.{Some, start_value, sym}
+use Rattle.determinize_lazy.proofs.Common.{◌∙◌, ◌∷◌}
+use Rattle.std.proofs.lemmas.List.{map-append}
+use Rattle.determinize_core.proofs.walk.UnitLists.{chain_is_future}
+use Rattle.determinize_engine.specs.Scans.{Scanned}
+use Rattle.determinize_engine.proofs.Headline.{is-search}
+use Rattle.determinize_lazy.specs.Scanning.{IsFoundBeforeLast}
+
+pub found-before_last : (s : Scanned) → IsFoundBeforeLast s
+found-before_last s nfa kind start behind bytes last accepted is =
+    is-search nfa kind start (between behind bytes (Some last)) s.last accepted
+    (is.last ∙ ap (λ us. last_match (future nfa kind (start_value nfa start behind) us)) (map-append Some bytes (last ∷ []))
+    ∙ sym (ap last_match (chain_is_future nfa kind start behind (Some last) bytes)))
