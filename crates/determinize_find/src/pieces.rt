@@ -241,10 +241,10 @@ impl<A: Allocator + Copy> Pieces<A> {
     /// Reads the next piece of the text, and adds matches, in order. A piece may be empty. Through
     /// a `Regex` of another NFA than the pieces before, the matches may be any.
     ///
-    /// At the end of each block of 4096 bytes, and at the end of the piece, no match is left that is
-    /// certain (`certain_match`). At most one byte before the search that is then under way is kept,
-    /// and no other if that search is idle and the prefix of the NFA is apart. `bytes_kept` never
-    /// grows by more than the bytes that are read.
+    /// At the end of each block of 4096 bytes, and at the end of the piece, no match is left that
+    /// is certain (`certain_match`). At most one byte before the search that is then under way is
+    /// kept, and no other if that search is idle and the prefix of the NFA is apart. `bytes_kept`
+    /// never grows by more than the bytes that are read.
     ///
     /// Returns `AllocError` if an allocation fails, if a cache would need more than 16647160
     /// states, if the pieces have more than `usize::MAX` bytes together, or if the pieces before

@@ -1,6 +1,6 @@
 //! Prints where each string in double quotes in standard input begins and ends, one on a line, as
-//! soon as its closing quote is read. The input is read in pieces of at most 64 KB, and a string may
-//! lie in several.
+//! soon as its closing quote is read. The input is read in pieces of at most 64 KB, and a string
+//! may lie in several.
 #![tactic(auto)]
 
 #[cfg(test)]
