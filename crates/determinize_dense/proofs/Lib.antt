@@ -1,3 +1,4 @@
+mod Along
 mod Arranging
 mod Building
 mod Collecting
@@ -17,4 +18,5 @@ mod Refining
 mod Searching
 mod Simulation
 mod Splitting
+mod Stepping
 mod Tables

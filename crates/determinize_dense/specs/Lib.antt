@@ -2,4 +2,5 @@ pub mod Dfa
 pub mod Least
 pub mod Meaning
 pub mod Private
+pub mod Reading
 pub mod Table

@@ -5,9 +5,10 @@
 //! serves any number of searches. The matches are those of `determinize_lazy::Lazy`.
 //!
 //! - `dfa`: the type. `rows`: its table. `build`: its construction, with `error`. `search`:
-//!   searches, with `pauses`. `minimize`: the fewest rows, by `partition`. `order`: the order of
-//!   rows. `laws`: what a DFA lists where a text ends, that no table which lists the same along all
-//!   units has fewer rows, and that the number of states is one.
+//!   searches, with `pauses`. `reading`: steps by hand. `overlapping`: all patterns at each
+//!   position. `minimize`: the fewest rows, by `partition`. `order`: the order of rows. `laws`:
+//!   what a DFA lists where a text ends, that no table which lists the same along all units has
+//!   fewer rows, and that the number of states is one.
 #![tactic(auto)]
 
 mod build;
@@ -16,10 +17,14 @@ pub mod error;
 pub mod laws;
 mod minimize;
 mod order;
+pub mod overlapping;
 mod partition;
 mod pauses;
+pub mod reading;
 mod rows;
 mod search;
 
 pub use crate::dfa::Dfa;
 pub use crate::error::DfaError;
+pub use crate::overlapping::Overlapping;
+pub use crate::reading::{RowId, RowIds};

@@ -27,7 +27,7 @@ use std::alloc::Allocator;
 use std::convert::Infallible;
 
 /// Returns whether a search in this anchored mode starts at the anchored start.
-fn is_anchored(anchored: Anchored) -> bool
+pub(crate) fn is_anchored(anchored: Anchored) -> bool
     requires { has_start anchored ≡ true }
     ensures { result ≡ dfas.is_anchored anchored }
 {
@@ -78,7 +78,7 @@ impl<'n, N: Allocator, A: Allocator + Copy> Dfa<'n, N, A> {
 
     /// Returns the number of the row at an offset.
     #[inline(always)]
-    fn row_number(&self, offset: usize) -> usize
+    pub(crate) fn row_number(&self, offset: usize) -> usize
         requires { IsOffset self.now.table offset }
         ensures row { IsRowAt self.now.table offset result }
         ensures dead { patterns_at self.now.table 0 ≡ [] }
