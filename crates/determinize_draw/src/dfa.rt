@@ -1,0 +1,137 @@
+//! The graph of a whole DFA.
+
+use crate::targets::{NO_BYTE, Targets, UNITS, write_edges, write_head};
+use determinize_below::{Anchored, PatternID};
+use determinize_core::start::Config;
+use determinize_dense::{Dfa, RowId};
+use std::alloc::{Allocator, Global};
+use std::fmt;
+
+/// The graph of a whole DFA, which `Display` writes.
+///
+/// Rows that list patterns have a double border and name them. Matches are delayed by one unit, so
+/// the patterns match before the byte of the edge to the row, or before the end of input, which is
+/// `EOI`. The edges from `anchored` and `unanchored` go to the rows where searches start; if that
+/// depends on the byte behind the start, their labels have the bytes. The dead row and the edges to
+/// it are left out.
+#[derive(Drop)]
+pub struct DfaGraph<'d, 'n, N: Allocator = Global, A: Allocator = Global> {
+    dfa: &'d Dfa<'n, N, A>,
+}
+
+impl<'d, 'n, N: Allocator, A: Allocator> DfaGraph<'d, 'n, N, A> {
+    /// Returns the graph of a DFA.
+    pub fn new(dfa: &'d Dfa<'n, N, A>) -> DfaGraph<'d, 'n, N, A> {
+        DfaGraph { dfa }
+    }
+}
+
+impl<'d, 'n, N: Allocator, A: Allocator + Copy> fmt::Display for DfaGraph<'d, 'n, N, A> {
+    fn fmt<W: fmt::Write>(&self, f: &mut fmt::Formatter<W>) -> fmt::Result {
+        write_head(f, "dfa")?;
+        write_starts(f, self.dfa, true)?;
+        write_starts(f, self.dfa, false)?;
+        for row in self.dfa.rows() {
+            write_row(f, self.dfa, row)?;
+        }
+        write!(f, "}}\n")
+    }
+}
+
+/// Returns the number of a row, or `None` for the dead row.
+fn number<N: Allocator, A: Allocator + Copy>(dfa: &Dfa<'_, N, A>, row: RowId) -> Option<usize> {
+    if dfa.is_dead_state(row) {
+        None
+    } else {
+        Some(row.as_usize())
+    }
+}
+
+/// Returns the rows after a row.
+fn targets<N: Allocator, A: Allocator + Copy>(dfa: &Dfa<'_, N, A>, row: RowId) -> Targets {
+    let mut targets = [None; UNITS];
+    for byte in 0..=u8::MAX {
+        targets[usize::from(byte)] = number(dfa, dfa.next_state(row, byte));
+    }
+    targets[NO_BYTE] = number(dfa, dfa.next_eoi_state(row));
+    targets
+}
+
+/// Returns the row where anchored searches start, or unanchored ones, behind a byte or nothing.
+pub(crate) fn start<N: Allocator, A: Allocator + Copy>(
+    dfa: &Dfa<'_, N, A>,
+    is_anchored: bool,
+    look_behind: Option<u8>,
+) -> RowId {
+    let config = Config::new().look_behind(look_behind);
+    if is_anchored {
+        dfa.start_state(&config.anchored(Anchored::Yes))
+    } else {
+        dfa.start_state(&config.anchored(Anchored::No))
+    }
+}
+
+/// Returns the rows where searches start, behind each byte and behind nothing.
+fn starts<N: Allocator, A: Allocator + Copy>(dfa: &Dfa<'_, N, A>, is_anchored: bool) -> Targets {
+    let mut targets = [None; UNITS];
+    for byte in 0..=u8::MAX {
+        targets[usize::from(byte)] = number(dfa, start(dfa, is_anchored, Some(byte)));
+    }
+    targets[NO_BYTE] = number(dfa, start(dfa, is_anchored, None));
+    targets
+}
+
+/// Writes the edges to the rows where searches start, from the name of the anchored mode.
+pub(crate) fn write_starts<N: Allocator, A: Allocator + Copy, W: fmt::Write>(
+    f: &mut fmt::Formatter<W>,
+    dfa: &Dfa<'_, N, A>,
+    is_anchored: bool,
+) -> fmt::Result {
+    let name = if is_anchored {
+        "anchored"
+    } else {
+        "unanchored"
+    };
+    write!(f, "  {name} [shape=plaintext];\n")?;
+    let targets = starts(dfa, is_anchored);
+    let first = targets[NO_BYTE];
+    if targets.iter().any(|target| *target != first) {
+        return write_edges(f, &name, &targets, "after ", "nothing");
+    }
+    match first {
+        Some(row) => write!(f, "  {name} -> {row};\n"),
+        None => Ok(()),
+    }
+}
+
+/// Writes a row and the edges that leave it, unless it is the dead row.
+pub(crate) fn write_row<N: Allocator, A: Allocator + Copy, W: fmt::Write>(
+    f: &mut fmt::Formatter<W>,
+    dfa: &Dfa<'_, N, A>,
+    row: RowId,
+) -> fmt::Result {
+    if dfa.is_dead_state(row) {
+        return Ok(());
+    }
+    write_node(f, row, dfa.match_patterns(row))?;
+    write_edges(f, &row, &targets(dfa, row), "", "EOI")
+}
+
+/// Writes the node of a row, with the patterns that it lists.
+fn write_node<W: fmt::Write>(
+    f: &mut fmt::Formatter<W>,
+    row: RowId,
+    patterns: &[PatternID],
+) -> fmt::Result {
+    let Some((first, others)) = patterns.split_first() else {
+        return write!(f, "  {row};\n");
+    };
+    write!(
+        f,
+        "  {row} [shape=doublecircle, label=\"{row}\\nmatch {first}"
+    )?;
+    for pattern in others {
+        write!(f, ", {pattern}")?;
+    }
+    write!(f, "\"];\n")
+}

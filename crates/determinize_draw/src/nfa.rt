@@ -1,0 +1,123 @@
+//! The graph of an NFA.
+
+use crate::targets::{Targets, UNITS, write_edges, write_head, write_range};
+use determinize_below::nfa::{State, Transition};
+use determinize_below::{NFA, StateID};
+use std::alloc::{Allocator, Global};
+use std::fmt;
+
+/// The graph of an NFA, which `Display` writes.
+///
+/// Edges on bytes have solid lines, and epsilon edges dashed ones. The edges of a union have
+/// numbers as labels, and 0 is preferred. The edge of an assertion has its name. A state that
+/// matches has a double border and names its pattern. Edges from `anchored` and `unanchored` go
+/// to the two start states.
+#[derive(Drop)]
+pub struct NfaGraph<'a, A: Allocator = Global> {
+    nfa: &'a NFA<A>,
+}
+
+impl<'a, A: Allocator> NfaGraph<'a, A> {
+    /// Returns the graph of an NFA.
+    pub fn new(nfa: &'a NFA<A>) -> NfaGraph<'a, A> {
+        NfaGraph { nfa }
+    }
+}
+
+impl<'a, A: Allocator> fmt::Display for NfaGraph<'a, A> {
+    fn fmt<W: fmt::Write>(&self, f: &mut fmt::Formatter<W>) -> fmt::Result {
+        let nfa = self.nfa;
+        let (anchored, unanchored) = (nfa.start_anchored(), nfa.start_unanchored());
+        write_head(f, "nfa")?;
+        write!(
+            f,
+            "  anchored [shape=plaintext];\n  anchored -> {anchored};\n"
+        )?;
+        write!(
+            f,
+            "  unanchored [shape=plaintext];\n  unanchored -> {unanchored};\n"
+        )?;
+        for index in 0..nfa.len() {
+            let id = StateID::must(index);
+            write_state(f, id, nfa.state(id))?;
+        }
+        write!(f, "}}\n")
+    }
+}
+
+/// Writes the node of a state and the edges that leave it.
+fn write_state<A: Allocator, W: fmt::Write>(
+    f: &mut fmt::Formatter<W>,
+    id: StateID,
+    state: &State<A>,
+) -> fmt::Result {
+    match state {
+        State::ByteRange { trans } => write_transition(f, id, trans),
+        State::Sparse(sparse) => {
+            write_edges(f, &id, &of_ranges(sparse.transitions.as_slice()), "", "")
+        }
+        State::Dense(dense) => {
+            write_edges(f, &id, &of_table(dense.transitions.as_slice()), "", "")
+        }
+        State::Look { look, next } => {
+            write!(f, "  {id} -> {next} [style=dashed, label=\"{look:?}\"];\n")
+        }
+        State::Union { alternates } => write_union(f, id, alternates.as_slice()),
+        State::BinaryUnion { alt1, alt2 } => write_union(f, id, &[*alt1, *alt2]),
+        State::Capture { next } => write!(f, "  {id} -> {next} [style=dashed];\n"),
+        State::Fail => write!(f, "  {id} [label=\"{id}\\nfail\"];\n"),
+        State::Match { pattern_id } => write!(
+            f,
+            "  {id} [shape=doublecircle, label=\"{id}\\nmatch {pattern_id}\"];\n"
+        ),
+    }
+}
+
+/// Writes the edge on a range of bytes, unless the range is empty.
+fn write_transition<W: fmt::Write>(
+    f: &mut fmt::Formatter<W>,
+    id: StateID,
+    trans: &Transition,
+) -> fmt::Result {
+    let Transition { start, end, next } = *trans;
+    if start > end {
+        return Ok(());
+    }
+    write!(f, "  {id} -> {next} [label=\"")?;
+    write_range(f, start, end)?;
+    write!(f, "\"];\n")
+}
+
+/// Writes the edges of a union, most preferred first.
+fn write_union<W: fmt::Write>(
+    f: &mut fmt::Formatter<W>,
+    id: StateID,
+    alternates: &[StateID],
+) -> fmt::Result {
+    for (index, next) in alternates.iter().enumerate() {
+        write!(f, "  {id} -> {next} [style=dashed, label=\"{index}\"];\n")?;
+    }
+    Ok(())
+}
+
+/// Returns the target of each byte in ranges.
+fn of_ranges(transitions: &[Transition]) -> Targets {
+    let mut targets = [None; UNITS];
+    for trans in transitions {
+        for byte in trans.start..=trans.end {
+            targets[usize::from(byte)] = Some(trans.next.as_usize());
+        }
+    }
+    targets
+}
+
+/// Returns the target of each byte in a table, in which 0 is no target.
+fn of_table(table: &[StateID]) -> Targets {
+    let mut targets = [None; UNITS];
+    for (target, next) in targets.iter_mut().zip(table) {
+        if *next != StateID::ZERO {
+            *target = Some(next.as_usize());
+        }
+    }
+    targets
+}
