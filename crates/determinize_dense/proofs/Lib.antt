@@ -18,5 +18,5 @@ mod Refining
 mod Searching
 mod Simulation
 mod Splitting
-mod Stepping
+pub mod Stepping
 mod Tables

@@ -10,6 +10,7 @@
 //! - [`search`] and [`cache`] search and walk many texts through one cache.
 //! - [`walk`] finds the preferred match without a cache, and [`counted`] makes one counted step.
 //! - [`dfa`] builds the smallest whole DFA, and lists the patterns that match at a position.
+//!   [`steps`] reads one: it steps by hand, and lists all matches of a haystack.
 #![tactic(auto)]
 
 pub mod built;
@@ -23,5 +24,6 @@ pub mod patterns;
 pub mod scanner;
 pub mod search;
 pub mod steady;
+pub mod steps;
 pub mod values;
 pub mod walk;
