@@ -1,0 +1,59 @@
+-- Sets of bytes and ranges that have them.
+-- Main statements: class_of, in_some, has_more.
+-- Used by: the proofs of classes and of brackets.
+-- Idea: one more range adds its bytes.
+use Rattle.std.proofs.Common.{◌≡◌, ◌<◌, ◌∷◌, ◌++◌, ◌∙◌, ◌&&◌, ◌||◌, ◌⊎◌, inl, inr, nat_eq, [], arith, Bool, List, Some, ap, false, nat_lt, refl, ◌+◌, true, ℕ}
+use Rattle.std.specs.Prelude.{◌==◌}
+use Rattle.std.specs.List.{list_any}
+use Rattle.determinize_below.specs.Semantics.{within}
+use Rattle.determinize_pattern.specs.Classes.{pairs}
+use Rattle.determinize_pattern.specs.Meaning.{Re, is_in}
+use Rattle.determinize_pattern.specs.Patterns.{IsClass}
+use Rattle.determinize_pattern.specs.declared.class.ClassBytesRange.{ClassBytesRange}
+use Rattle.determinize_syntax.specs.Private.Sets.{HasBelow, has}
+use Rattle.determinize_syntax.specs.Words.{Set}
+
+-- a class of one set is one of a set with the same bytes
+pub class_of : (s t : Set) (re : Re) → IsClass s re → ((b : ℕ) → b < 256 → s b ≡ t b) → IsClass t re
+class_of s t re h same = (h.0, h.1, λ b small. h.2 b small ∙ same b small)
+
+pub in_some : (ranges : List ClassBytesRange) (b : ℕ)
+    → list_any (λ (r : ClassBytesRange). within r.start r.end b) ranges ≡ has ranges b
+in_some [] b = refl
+in_some (r ∷ rs) b = ap (λ x. within r.start r.end b || x) (in_some rs b)
+
+pub has_more : (ranges more : List ClassBytesRange) (b : ℕ) → has (ranges ++ more) b ≡ (has ranges b || has more b)
+has_more [] more b = refl
+has_more (r ∷ rs) more b = ap (λ x. within r.start r.end b || x) (has_more rs more b) ∙ assoc (within r.start r.end b) _ _ where
+  assoc : (x y z : Bool) → (x || (y || z)) ≡ ((x || y) || z)
+  assoc true y z = refl
+  assoc false y z = refl
+
+nat_eq_cases : (b i : ℕ) → (b ≡ i) ⊎ (b ≡ i → ⊥)
+nat_eq_cases b i = by_test (nat_eq b i) refl where
+  by_test : (q : Bool) → nat_eq b i ≡ q → (b ≡ i) ⊎ (b ≡ i → ⊥)
+  by_test true e = inl (grind (arith, e))
+  by_test false e = inr (λ h. grind (arith, e, h))
+
+within_one : (b c : ℕ) → within b b c ≡ (c == b)
+within_one b c = grind (arith)
+
+step_with : (x : Bool) (b i : ℕ) → (b ≡ i → x ≡ true)
+    → ((nat_lt b i && x) || (within i i b || false)) ≡ (nat_lt b (i + 1) && x)
+step_with true b i t = grind (arith)
+step_with false b i t = elim (nat_eq_cases b i) [ inl e ↦ absurd (let f = t e in (cc)) | inr n ↦ grind (arith, n) ]
+
+step_without : (x : Bool) (b i : ℕ) → (b ≡ i → x ≡ false) → (nat_lt b i && x) ≡ (nat_lt b (i + 1) && x)
+step_without true b i t = elim (nat_eq_cases b i) [ inl e ↦ absurd (let f = t e in (cc)) | inr n ↦ grind (arith, n) ]
+step_without false b i t = grind (arith)
+
+-- the next byte, if it is in the set
+pub below_with : (s : Set) (i : ℕ) (ranges more : List ClassBytesRange) (r : ClassBytesRange) → HasBelow s i ranges
+    → more ≡ ranges ++ r ∷ [] → pairs (r ∷ []) ≡ (i, i) ∷ [] → s i ≡ true → HasBelow s (i + 1) more
+below_with s i ranges more r h e p t b =
+    ap (λ l. has l b) e ∙ has_more ranges (r ∷ []) b ∙ ap (λ x. x || has (r ∷ []) b) (h b)
+    ∙ ap (λ l. (nat_lt b i && s b) || is_in l (Some b)) p ∙ step_with (s b) b i (λ q. ap s q ∙ t)
+
+pub below_without : (s : Set) (i : ℕ) (ranges : List ClassBytesRange) → HasBelow s i ranges → s i ≡ false
+    → HasBelow s (i + 1) ranges
+below_without s i ranges h f b = h b ∙ step_without (s b) b i (λ q. ap s q ∙ f)

@@ -1,0 +1,9 @@
+use Rattle.std.proofs.Common.{◌∙◌, refl, sym}
+use Rattle.determinize_syntax.specs.Private.Reading.{IsFlag}
+use Rattle.determinize_syntax.proofs.Parts.{took}
+use Rattle.determinize_syntax.proofs.flags.letter.Goals as goal
+
+pub returns-clause-read : goal.returns-clause-read
+returns-clause-read c =
+    took (IsFlag c.args.seen.now c.args.flags c.args.on c.in-Some-set_flag.set) (c.take.ensures.read c.if-not-take.false)
+    (c.in-Some.letter, refl, sym c.contains.ensures.value ∙ c.if-contains.false, sym c.set_flag.ensures ∙ c.in-Some-set_flag.is)

@@ -1,0 +1,145 @@
+use Rattle.std.proofs.Common.{◌≡◌, ◌<◌, ◌≤◌, length, ◌∷◌, ◌∙◌, ◌&&◌, [], Bool, IfNone, IfSome, OnSome, arith, false, ap, map, not, refl, subst, sym, true}
+use Rattle.std.specs.Char.{is_ascii}
+use Rattle.determinize_pattern.specs.Patterns.{meaning, repeated}
+use Rattle.determinize_syntax.specs.Private.Reading.{IsNotAt, IsSetting, Part, Reads, rest}
+use Rattle.determinize_syntax.specs.Spells.{Atom, Branches, Items, Operator, Repeated, dot, escaped, SpellsUnder, line_end, line_start, no_branch, no_item, once, plain}
+use Rattle.determinize_syntax.specs.Words.{◌∈◌}
+use Rattle.determinize_syntax.proofs.Parts.{again_read, branch_read, choice_read, group_read, item_read, prefixed, renamed, set_read, shorter, took}
+use Rattle.determinize_syntax.proofs.parser.+parser.Goals as goal
+
+pub atom-returns-then-take-2-clause-read : goal.atom-returns-then-take-2-clause-read
+atom-returns-then-take-2-clause-read t c =
+    took (Atom c.args.flags (meaning c.line_start.result))
+    (ap rest (sym (c.take.ensures.left c.if-take.false)) ∙ c.take-2.ensures.read c.if-take-2.true)
+    (subst (λ re. Atom c.args.flags re (0x5E ∷ [])) (sym c.line_start.ensures) (line_start c.args.flags))
+
+pub atom-returns-then-take-3-clause-read : goal.atom-returns-then-take-3-clause-read
+atom-returns-then-take-3-clause-read t c =
+    took (Atom c.args.flags (meaning c.line_end.result))
+    (ap rest (sym (c.take-2.ensures.left c.if-take-2.false ∙ c.take.ensures.left c.if-take.false))
+    ∙ c.take-3.ensures.read c.if-take-3.true)
+    (subst (λ re. Atom c.args.flags re (0x24 ∷ [])) (sym c.line_end.ensures) (line_end c.args.flags))
+
+pub atom-returns-then-take-4-clause-read : goal.atom-returns-then-take-4-clause-read
+atom-returns-then-take-4-clause-read t c =
+    took (Atom c.args.flags (meaning c.in_ok-dot.field-0))
+    (ap rest (sym (c.take-3.ensures.left c.if-take-3.false ∙ c.take-2.ensures.left c.if-take-2.false
+    ∙ c.take.ensures.left c.if-take.false)) ∙ c.take-4.ensures.read c.if-take-4.true)
+    (dot c.args.flags (meaning c.in_ok-dot.field-0) c.in_ok-dot.ensures)
+
+pub atom-returns-then-take-5-clause-read : goal.atom-returns-then-take-5-clause-read
+atom-returns-then-take-5-clause-read t c =
+    let f = c.args.flags in
+    let re = meaning c.in_ok-byte.field-0 in
+    let start = c.take-4.ensures.left c.if-take-4.false ∙ c.take-3.ensures.left c.if-take-3.false
+    ∙ c.take-2.ensures.left c.if-take-2.false ∙ c.take.ensures.left c.if-take.false in
+    prefixed (Atom f re) (ap rest (sym start) ∙ c.take-5.ensures.read c.if-take-5.true)
+    (renamed _ (λ v. Atom f re (0x5C ∷ v)) c.in_ok-escaped.ensures.read
+    (λ v h. escaped f c.in_ok-escaped.escaped re (0x5C ∷ v) h c.in_ok-byte.ensures))
+
+pub atom-returns-clause-read : goal.atom-returns-clause-read
+atom-returns-clause-read t c =
+    let b = c.in-Some.next in
+    let no : (b ∈ "\\.+*?()|[{^$") ≡ false = sym c.is_special.ensures ∙ c.if-is_special.false in
+    let low : is_ascii b ≡ true = sym c.is_ascii.ensures ∙ c.if-not-is_ascii.false in
+    let re = meaning c.in_ok-byte-2.field-0 in
+    let start = c.take-5.ensures.left c.if-take-5.false ∙ c.take-4.ensures.left c.if-take-4.false
+    ∙ c.take-3.ensures.left c.if-take-3.false ∙ c.take-2.ensures.left c.if-take-2.false
+    ∙ c.take.ensures.left c.if-take.false in
+    took (Atom c.args.flags re)
+    (ap rest (sym start) ∙ c.take-else-is_special.ensures.read c.if-not-take.false)
+    (plain c.args.flags b re (ap (λ x. is_ascii b && not x) no ∙ ap (λ x. x && true) low) c.in_ok-byte-2.ensures)
+
+pub choice-loop-branches-init : goal.choice-loop-branches-init
+choice-loop-branches-init t c = (
+  [],
+  refl,
+  subst (λ l. Branches c.args.flags c.args.flags (map meaning l) []) (sym c.new-branches.ensures.items)
+      (no_branch c.args.flags),
+)
+
+pub choice-loop-branches-preserved : goal.choice-loop-branches-preserved
+choice-loop-branches-preserved t c =
+    branch_read c.args.flags c.loop-branches.flags c.items.new.flags c.loop-branches.branches.items c.push.new.self.items
+    c.sequence.result (map meaning c.in_ok-items.items.items) c.loop-branches.invariant c.in_ok-items.ensures.read
+    (c.take.ensures.read c.if-not-take.false) c.in_ok-push.ensures.items c.sequence.ensures
+
+pub choice-returns : goal.choice-returns
+choice-returns t c =
+    let read = choice_read c.args.flags c.loop-branches.flags c.items.new.flags c.loop-branches.branches.items
+    c.push.new.self.items c.sequence.result c.alternatives.result (map meaning c.in_ok-items.items.items)
+    c.loop-branches.invariant c.in_ok-items.ensures.read c.in_ok-push.ensures.items c.sequence.ensures
+    c.alternatives.ensures in
+    record {
+      read = subst (λ y. Part (rest c.args.cursor.now) (rest y) (SpellsUnder c.args.flags (meaning c.alternatives.result)))
+          (sym (c.take.ensures.left c.if-not-take.true)) read;
+    }
+
+pub group-returns-then-opening : goal.group-returns-then-opening
+group-returns-then-opening t c = record {
+  read = subst (λ re. Part (rest c.args.cursor.now) (rest c.take.new.self) (λ v. Atom c.args.flags re (0x28 ∷ v)))
+      (sym c.in_ok-capture.ensures)
+      (group_read c.args.flags c.in_ok-opening.opening.flags (meaning c.in_ok-sub.sub) c.in_ok-opening.ensures.read
+      c.in_ok-sub.ensures.read (c.take.ensures.read c.if-not-take.false));
+}
+
+pub group-returns : goal.group-returns
+group-returns t c = record {
+  read = group_read c.args.flags c.in_ok-opening.opening.flags (meaning c.in_ok-sub.sub) c.in_ok-opening.ensures.read
+      c.in_ok-sub.ensures.read (c.take.ensures.read c.if-not-take.false);
+}
+
+pub items-loop-cursor-init : goal.items-loop-cursor-init
+items-loop-cursor-init t c = (
+  [],
+  refl,
+  subst (λ l. Items c.args.flags.now c.args.flags.now (map meaning l) []) (sym c.new-items.ensures.items)
+      (no_item c.args.flags.now),
+)
+
+pub items-loop-cursor-preserved-in-Some-2 : goal.items-loop-cursor-preserved-in-Some-2
+items-loop-cursor-preserved-in-Some-2 t c =
+    let set : Reads c.loop-cursor.cursor c.setting.new.cursor (IsSetting c.loop-cursor.flags c.in-Some-2.set) =
+    subst (λ o. IfSome o (λ g. Reads c.loop-cursor.cursor c.setting.new.cursor (IsSetting c.loop-cursor.flags g)))
+    c.in-Some-2.is c.in_ok-set.ensures.read in
+    set_read c.args.flags.now c.loop-cursor.flags c.in-Some-2.set (map meaning c.loop-cursor.items.items)
+    c.loop-cursor.invariant set
+
+pub items-loop-cursor-preserved : goal.items-loop-cursor-preserved
+items-loop-cursor-preserved t c =
+    let same : c.setting.new.cursor ≡ c.loop-cursor.cursor =
+    subst (λ o. IfNone o (c.setting.new.cursor ≡ c.loop-cursor.cursor)) c.in_default.is c.in_ok-set.ensures.none in
+    let read = subst (λ y. Part (rest y) (rest c.repeated.new.cursor)
+    (λ v. (e : Bool) × Repeated c.loop-cursor.flags e (meaning c.in_ok-item.item) v)) same c.in_ok-item.ensures.read in
+    item_read c.args.flags.now c.loop-cursor.flags c.loop-cursor.items.items c.push.new.self.items c.in_ok-item.item
+    c.loop-cursor.invariant read c.in_ok-push.ensures.items
+
+pub repeated-loop-pattern-init : goal.repeated-loop-pattern-init
+repeated-loop-pattern-init t c =
+    let f = c.args.flags in
+    let re = meaning c.in_ok-pattern.pattern in (
+      renamed (Atom f re) (λ v. (e : Bool) × Repeated f e re v × (e ≡ true → IsNotAt 0x3F c.atom.new.cursor))
+          c.in_ok-pattern.ensures.read (λ v h. (false, once f re v h, λ e. absurd (cc))),
+      c.in_ok-pattern.ensures.progress,
+    )
+
+pub repeated-loop-pattern-preserved : goal.repeated-loop-pattern-preserved
+repeated-loop-pattern-preserved t c =
+    let b = c.in-Some.bounds in
+    let read : Reads c.loop-pattern.cursor c.operator.new.cursor (Operator b.min b.max) =
+    subst (λ o. IfSome o (λ b. Reads c.loop-pattern.cursor c.operator.new.cursor (Operator b.min b.max))) c.in-Some.is
+    c.in_ok-bounds.ensures.read in
+    let less : length (rest c.operator.new.cursor) < length (rest c.loop-pattern.cursor) =
+    subst (λ o. OnSome o (length (rest c.operator.new.cursor) < length (rest c.loop-pattern.cursor))) c.in-Some.is
+    c.in_ok-bounds.ensures.progress in
+    let short : length (rest c.take.new.self) ≤ length (rest c.operator.new.cursor) =
+    shorter (rest c.operator.new.cursor) (rest c.take.new.self) c.take.result c.take.ensures.read
+    (λ e. ap rest (c.take.ensures.left e)) in
+    let before : length (rest c.loop-pattern.cursor) < length (rest c.args.cursor.now) = c.loop-pattern.invariant.1 in
+    let re = meaning c.loop-pattern.pattern in (
+      again_read (rest c.args.cursor.now) (rest c.loop-pattern.cursor) (rest c.operator.new.cursor) (rest c.take.new.self)
+          c.args.flags re (meaning c.in_ok-pattern-2.pattern) b.min b.max c.take.result c.loop-pattern.invariant.0 read
+          c.take.ensures.read (λ e. ap rest (c.take.ensures.left e)) c.take.ensures.other
+          (c.in_ok-pattern-2.ensures ∙ ap (λ x. repeated b.min b.max x re) c.is_greedy-greedy.ensures),
+      omega arith,
+    )

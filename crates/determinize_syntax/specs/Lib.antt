@@ -1,0 +1,3 @@
+pub mod Private
+pub mod Spells
+pub mod Words

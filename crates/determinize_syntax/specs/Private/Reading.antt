@@ -1,0 +1,52 @@
+-- Places in a text, and the parts between them.
+use Rattle.std.specs.Prelude.{◌≡◌, ◌-◌, ◌++◌, ◌∷◌, ◌==◌, [], ℕ, Bool, List, Some, codes, false, slice_get, true}
+use Rattle.std.specs.Char.{is_ascii_digit}
+use Rattle.std.specs.List.{list_any}
+use Rattle.determinize_pattern.specs.Meaning.{Re}
+use Rattle.determinize_syntax.specs.Spells.{Atom, Sets, SpellsUnder}
+use Rattle.determinize_syntax.specs.Words.{is_name, set_flag}
+use Rattle.determinize_syntax.specs.declared.flags.Flags.{Flags}
+use Rattle.determinize_syntax.specs.declared.cursor.Cursor.{Cursor}
+
+-- what is still to read
+abbrev pub rest : Cursor → List ℕ
+rest c = c.rest.now
+
+-- the first text is the second after a part of which P holds
+abbrev pub Part : List ℕ → List ℕ → (List ℕ → Type 0) → Type 0
+Part old new P = (t : List ℕ) × (old ≡ t ++ new) × P t
+
+-- a part of the text was read, of which P holds
+abbrev pub Reads : Cursor → Cursor → (List ℕ → Type 0) → Type 0
+Reads old new P = Part (rest old) (rest new) P
+
+-- another byte comes next, or none
+abbrev pub IsNotAt : ℕ → Cursor → Type 0
+IsNotAt b c = slice_get (rest c) 0 ≡ Some b → ⊥
+
+-- one digit, of this value
+abbrev pub IsDigit : ℕ → List ℕ → Type 0
+IsDigit n t = (d : ℕ) × (t ≡ d ∷ []) × (is_ascii_digit d ≡ true) × (n ≡ d - 48)
+
+-- one letter that sets or clears a flag, and is not among those seen
+abbrev pub IsFlag : List ℕ → Flags → Bool → Flags → List ℕ → Type 0
+IsFlag seen f on g t = (c : ℕ) × (t ≡ c ∷ []) × (list_any (λ d. d == c) seen ≡ false)
+    × (set_flag f c on ≡ Some g)
+
+-- flags after those that were seen
+abbrev pub SetsMore : List ℕ → Bool → Flags → Bool → Flags → List ℕ → Type 0
+SetsMore seen on g later h t = (f : Flags) → Sets f on g seen → Sets f later h (seen ++ t)
+
+-- `(?flags)`, which makes g of f
+abbrev pub IsSetting : Flags → Flags → List ℕ → Type 0
+IsSetting f g t = (on : Bool) × (c : ℕ) × (n : List ℕ) × (t ≡ codes "(?" ++ c ∷ n ++ codes ")")
+    × Sets f on g (c ∷ n)
+
+-- the name of a group, and its end
+abbrev pub IsNamed : List ℕ → Type 0
+IsNamed t = (n : List ℕ) × (is_name n ≡ true) × (t ≡ n ++ codes ">")
+
+-- what opens a group after its parenthesis, with the flags inside
+abbrev pub Opens : Flags → Flags → List ℕ → Type 0
+Opens f g t = (re : Re) (u : List ℕ) → SpellsUnder g re u
+    → Atom f re (0x28 ∷ (t ++ (u ++ 0x29 ∷ [])))

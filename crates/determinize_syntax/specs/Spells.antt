@@ -1,0 +1,177 @@
+-- The text of a pattern: which texts stand for which pattern, rule by rule. A text is the list of its
+-- bytes.
+use Rattle.std.specs.Prelude.{◌≡◌, ◌<◌, ◌≤◌, ◌^◌, ◌++◌, ℕ, Bool, List, None, Option, Some, [], ◌∷◌, ◌==◌, ◌&&◌, codes, false, not, true}
+use Rattle.std.specs.Char.{IsScalar, encode_utf8, is_ascii}
+use Rattle.std.specs.Int.{is_in_range}
+use Rattle.std.specs.List.{list_any}
+use Rattle.determinize_below.specs.declared.look.Look.TheVariants.{Start, End, StartLF, EndLF, StartCRLF, EndCRLF}
+use Rattle.determinize_pattern.specs.Meaning.{Look, Re}
+use Rattle.determinize_pattern.specs.Patterns as patterns
+use Rattle.determinize_pattern.specs.Patterns.{IsClass, literal, repeated}
+use Rattle.determinize_syntax.specs.Words.{Set, ◌∈◌, assertion, at_line, complement, dot_set, escaped_byte, folded, is_name, joined, named_class, no_flags, number, only, perl_class, set_flag}
+use Rattle.determinize_syntax.specs.declared.flags.Flags.{Flags}
+
+abbrev pub Text : Type 0
+Text = List ℕ
+
+-- patterns one after the other; one alone is itself
+abbrev pub sequence : List Re → Re
+sequence (re ∷ []) = re
+sequence res = patterns.sequence res
+
+-- a choice between patterns; one alone is itself
+abbrev pub choice : List Re → Re
+choice (re ∷ []) = re
+choice res = patterns.choice res
+
+-- a character beyond ASCII
+abbrev pub IsWide : ℕ → Type 0
+IsWide c = (128 ≤ c) × IsScalar c
+
+-- one byte by an escape: `\n`, `\*`, `\x41`, `\x{41}`
+pub data Escaped : ℕ → Text → Type 0 where
+  letter : (c b : ℕ) → escaped_byte c ≡ Some b → Escaped b (0x5C ∷ c ∷ [])
+  two_digits : (c d b : ℕ) → number 16 (c ∷ d ∷ []) ≡ Some b
+      → Escaped b (codes "\\x" ++ c ∷ d ∷ [])
+  braces : (t : Text) (b : ℕ) → number 16 t ≡ Some b → b < 128
+      → Escaped b (codes "\\x{" ++ t ++ codes "}")
+
+-- what stands before a place in brackets: nothing or hyphens, a range or name, a class, a hyphen, a
+-- byte and whether it is escaped
+pub data Before : Type 0 where
+  first after_range after_class after_hyphen : Before
+  after_byte : Bool → ℕ → Before
+
+-- the byte stands for itself; `&&` and `~~` do not
+abbrev pub stands : Before → ℕ → Bool
+stands (after_byte false b) c =
+    is_ascii c && not (c ∈ "[]\\-") && not (b == c && c ∈ "&~")
+stands _ c = is_ascii c && not (c ∈ "[]\\-")
+
+-- a hyphen may be the last before the bracket closes
+abbrev pub may_end : Before → Bool
+may_end after_class = true
+may_end (after_byte _ _) = true
+may_end _ = false
+
+-- what stands in brackets, and the bytes that it lists
+pub data Lists (f : Flags) : Before → Set → Text → Type 0 where
+  nothing : Lists f first (λ c. false) []
+  closing : Lists f after_range (only 0x5D) (codes "]")
+  hyphens : (s : Set) (t : Text) → Lists f first s t
+      → Lists f first (joined s (only 0x2D)) (t ++ codes "-")
+  hyphen : (s : Set) (t : Text) → Lists f after_range s t
+      → Lists f after_hyphen (joined s (only 0x2D)) (t ++ codes "-")
+  byte : (p : Before) (s : Set) (t : Text) (c : ℕ) → Lists f p s t → stands p c ≡ true
+      → Lists f (after_byte false c) (joined s (only c)) (t ++ c ∷ [])
+  escaped : (p : Before) (s : Set) (t u : Text) (b : ℕ) → Lists f p s t → Escaped b u
+      → Lists f (after_byte true b) (joined s (only b)) (t ++ u)
+  class : (p : Before) (s : Set) (t : Text) (c : ℕ) (k : Set) → Lists f p s t
+      → perl_class c ≡ Some k → Lists f after_class (joined s k) (t ++ 0x5C ∷ c ∷ [])
+  name : (p : Before) (s : Set) (t n : Text) (k : Set) → Lists f p s t
+      → named_class n ≡ Some k
+      → Lists f after_range (joined s (folded f k)) (t ++ codes "[:" ++ n ++ codes ":]")
+  other_name : (p : Before) (s : Set) (t n : Text) (k : Set) → Lists f p s t
+      → named_class n ≡ Some k → Lists f after_range
+      (joined s (complement (folded f k))) (t ++ codes "[:^" ++ n ++ codes ":]")
+  range : (e : Bool) (low high : ℕ) (s : Set) (t : Text) → Lists f (after_byte e low) s t
+      → low ≤ high → (is_ascii high && not (high ∈ "]\\-")) ≡ true
+      → Lists f after_range (joined s (is_in_range low high)) (t ++ 0x2D ∷ high ∷ [])
+  range_escaped : (e : Bool) (low high : ℕ) (s : Set) (t u : Text)
+      → Lists f (after_byte e low) s t → low ≤ high → Escaped high u
+      → Lists f after_range (joined s (is_in_range low high)) (t ++ codes "-" ++ u)
+
+-- the whole inside of brackets: not empty, and the last may be a hyphen
+pub data Inside (f : Flags) : Set → Text → Type 0 where
+  closed : (p : Before) (s : Set) (c : ℕ) (t : Text) → Lists f p s (c ∷ t) → Inside f s (c ∷ t)
+  hyphen_last : (p : Before) (s : Set) (t : Text) → Lists f p s t → may_end p ≡ true
+      → Inside f (joined s (only 0x2D)) (t ++ codes "-")
+
+-- the flags that letters make of those of f: none comes twice; from a `-` on they are cleared
+pub data Sets (f : Flags) : Bool → Flags → Text → Type 0 where
+  no_letter : Sets f true f []
+  flag : (on : Bool) (g h : Flags) (t : Text) (c : ℕ) → Sets f on g t
+      → list_any (λ d. d == c) t ≡ false → set_flag g c on ≡ Some h → Sets f on h (t ++ c ∷ [])
+  first_cleared : (g h : Flags) (t : Text) (c : ℕ) → Sets f true g t
+      → list_any (λ d. d == c) t ≡ false → set_flag g c false ≡ Some h
+      → Sets f false h (t ++ 0x2D ∷ c ∷ [])
+
+-- the operator of a repetition
+pub data Operator : ℕ → Option ℕ → Text → Type 0 where
+  star : Operator 0 None (codes "*")
+  plus : Operator 1 None (codes "+")
+  query : Operator 0 (Some 1) (codes "?")
+  exactly : (n : ℕ) (t : Text) → number 10 t ≡ Some n → n < 2 ^ 32
+      → Operator n (Some n) (codes "{" ++ t ++ codes "}")
+  at_least : (n : ℕ) (t : Text) → number 10 t ≡ Some n → n < 2 ^ 32
+      → Operator n None (codes "{" ++ t ++ codes ",}")
+  between : (n m : ℕ) (t u : Text) → number 10 t ≡ Some n → number 10 u ≡ Some m → n ≤ m
+      → m < 2 ^ 32 → Operator n (Some m) (codes "{" ++ t ++ codes "," ++ u ++ codes "}")
+
+-- the levels of a pattern; flags hold to the end of their group
+mutual
+  pub data Atom : Flags → Re → Text → Type 0 where
+    plain : (f : Flags) (c : ℕ) (re : Re)
+        → (is_ascii c && not (c ∈ "\\.+*?()|[{^$")) ≡ true → IsClass (folded f (only c)) re
+        → Atom f re (c ∷ [])
+    character : (f : Flags) (c : ℕ) → IsWide c → Atom f (literal (encode_utf8 c)) (encode_utf8 c)
+    character_by_number : (f : Flags) (c : ℕ) (t : Text) → number 16 t ≡ Some c → IsWide c
+        → Atom f (literal (encode_utf8 c)) (codes "\\x{" ++ t ++ codes "}")
+    dot : (f : Flags) (re : Re) → IsClass (dot_set f) re → Atom f re (codes ".")
+    line_start : (f : Flags) → Atom f (Look (at_line f Start StartLF StartCRLF)) (codes "^")
+    line_end : (f : Flags) → Atom f (Look (at_line f End EndLF EndCRLF)) (codes "$")
+    escaped : (f : Flags) (b : ℕ) (re : Re) (t : Text) → Escaped b t
+        → IsClass (folded f (only b)) re → Atom f re t
+    class : (f : Flags) (c : ℕ) (s : Set) (re : Re) → perl_class c ≡ Some s → IsClass s re
+        → Atom f re (0x5C ∷ c ∷ [])
+    asserted : (f : Flags) (t : Text) (look : _) → assertion t ≡ Some look
+        → Atom f (Look look) (0x5C ∷ t)
+    brackets : (f : Flags) (s : Set) (re : Re) (c : ℕ) (t : Text) → Inside f s (c ∷ t)
+        → not (c ∈ "^") ≡ true → IsClass (folded f s) re
+        → Atom f re (codes "[" ++ c ∷ t ++ codes "]")
+    other_brackets : (f : Flags) (s : Set) (re : Re) (t : Text) → Inside f s t
+        → IsClass (complement (folded f s)) re → Atom f re (codes "[^" ++ t ++ codes "]")
+    capture : (f g : Flags) (re : Re) (t : Text) → Choice f g re t
+        → Atom f re (codes "(" ++ t ++ codes ")")
+    named : (f g : Flags) (re : Re) (n t : Text) → is_name n ≡ true → Choice f g re t
+        → Atom f re (codes "(?<" ++ n ++ codes ">" ++ t ++ codes ")")
+    named_p : (f g : Flags) (re : Re) (n t : Text) → is_name n ≡ true → Choice f g re t
+        → Atom f re (codes "(?P<" ++ n ++ codes ">" ++ t ++ codes ")")
+    group : (f g h : Flags) (on : Bool) (re : Re) (n t : Text) → Sets f on g n → Choice g h re t
+        → Atom f re (codes "(?" ++ n ++ codes ":" ++ t ++ codes ")")
+
+  -- an atom and its operators; the flag says that a `?` would belong to the last operator
+  pub data Repeated : Flags → Bool → Re → Text → Type 0 where
+    once : (f : Flags) (re : Re) (t : Text) → Atom f re t → Repeated f false re t
+    greedy : (f : Flags) (e : Bool) (re : Re) (t u : Text) (min : ℕ) (max : Option ℕ)
+        → Repeated f e re t → Operator min max u → (e ≡ true → u ≡ codes "?" → ⊥)
+        → Repeated f true (repeated min max (not f.swap_greed) re) (t ++ u)
+    lazy : (f : Flags) (e : Bool) (re : Re) (t u : Text) (min : ℕ) (max : Option ℕ)
+        → Repeated f e re t → Operator min max u → (e ≡ true → u ≡ codes "?" → ⊥)
+        → Repeated f false (repeated min max f.swap_greed re) (t ++ u ++ codes "?")
+
+  -- items one after the other, with the flags at the end
+  pub data Items : Flags → Flags → List Re → Text → Type 0 where
+    no_item : (f : Flags) → Items f f [] []
+    item : (f g : Flags) (e : Bool) (res : List Re) (re : Re) (t u : Text) → Items f g res t
+        → Repeated g e re u → Items f g (res ++ re ∷ []) (t ++ u)
+    setting : (f g h : Flags) (on : Bool) (res : List Re) (t n : Text) (c : ℕ) → Items f g res t
+        → Sets g on h (c ∷ n) → Items f h res (t ++ codes "(?" ++ c ∷ n ++ codes ")")
+
+  -- branches, each with its bar
+  pub data Branches : Flags → Flags → List Re → Text → Type 0 where
+    no_branch : (f : Flags) → Branches f f [] []
+    branch : (f g h : Flags) (bs res : List Re) (t u : Text) → Branches f g bs t
+        → Items g h res u → Branches f h (bs ++ sequence res ∷ []) (t ++ u ++ codes "|")
+
+  pub data Choice : Flags → Flags → Re → Text → Type 0 where
+    branches : (f g h : Flags) (bs res : List Re) (t u : Text) → Branches f g bs t
+        → Items g h res u → Choice f h (choice (bs ++ sequence res ∷ [])) (t ++ u)
+
+-- the text stands for the pattern, with these flags at its beginning
+abbrev pub SpellsUnder : Flags → Re → Text → Type 0
+SpellsUnder f re text = (g : Flags) × Choice f g re text
+
+-- the text stands for the pattern
+abbrev pub Spells : Re → Text → Type 0
+Spells = SpellsUnder no_flags

@@ -1,0 +1,77 @@
+//! Classes of bytes, with both cases of letters.
+
+ghost use Rattle.std.specs.Prelude.{◌≡◌, IfOk};
+ghost use Rattle.std.specs.List.{list_any};
+ghost use Rattle.determinize_below.specs.Semantics.{within};
+ghost use Rattle.determinize_pattern.specs.Classes.{HasBytes, is_chosen, pairs};
+ghost use Rattle.determinize_syntax.specs.Private.Sets.{either_case, has, turned};
+ghost use Rattle.determinize_syntax.specs.Words.{folded};
+
+use crate::flags::Flags;
+use determinize_pattern::{ClassBytes, ClassBytesRange};
+use std::alloc::{AllocError, Global};
+
+/// Returns the class of the bytes of the ranges, under `i` in both cases, or that of all other
+/// bytes if `negated` is set.
+pub fn class(
+    alloc: Global,
+    ranges: &[ClassBytesRange],
+    flags: Flags,
+    negated: bool,
+) -> Result<ClassBytes, AllocError>
+    ensures { IfOk result (λ c. HasBytes (turned negated (folded flags (has ranges.now))) c) }
+{
+    if !flags.case_insensitive {
+        return collected(alloc, ranges, negated);
+    }
+    let cases = with_cases(alloc, ranges)?;
+    collected(alloc, &cases, negated)
+}
+
+/// Returns the class of the bytes of the ranges, or that of all other bytes if `negated` is set.
+fn collected(
+    alloc: Global,
+    ranges: &[ClassBytesRange],
+    negated: bool,
+) -> Result<ClassBytes, AllocError>
+    ensures { IfOk result (λ c. HasBytes (is_chosen (pairs ranges.now) negated) c) }
+{
+    if negated {
+        ClassBytes::none_of(alloc, ranges)
+    } else {
+        ClassBytes::new(alloc, ranges)
+    }
+}
+
+/// Returns the bytes of which one case is in the ranges.
+fn with_cases(alloc: Global, ranges: &[ClassBytesRange]) -> Result<Vec<ClassBytesRange>, AllocError>
+    ensures { IfOk result (λ v. HasBytes (either_case (has ranges.now)) (pairs v.items)) }
+{
+    let mut cases = Vec::new(alloc);
+    for i in 0..256_usize {
+        let byte = i as u8;
+        if has_case(ranges, byte) {
+            let range = ClassBytesRange {
+                start: byte,
+                end: byte,
+            };
+            cases.push(range)?;
+        }
+    }
+    Ok(cases)
+}
+
+/// Returns whether one case of the byte is in the ranges.
+fn has_case(ranges: &[ClassBytesRange], byte: u8) -> bool
+    ensures { result ≡ either_case (has ranges.now) byte }
+{
+    let (lower, upper) = (byte.to_ascii_lowercase(), byte.to_ascii_uppercase());
+    is_in_some(ranges, lower) || is_in_some(ranges, upper)
+}
+
+/// Returns whether the byte is in one of the ranges.
+fn is_in_some(ranges: &[ClassBytesRange], byte: u8) -> bool
+    ensures { result ≡ list_any (λ r. within r.start r.end byte) ranges.now }
+{
+    ranges.iter().any(|range| range.contains(byte))
+}

@@ -1,0 +1,93 @@
+//! A place in the text of a pattern.
+
+ghost use Rattle.std.specs.Prelude.{◌≡◌, ◌++◌, ◌∷◌, ℕ, List, false, slice_get, true};
+ghost use Rattle.determinize_syntax.specs.Private.Reading.{IsNotAt, rest};
+
+use crate::error::{ErrorKind, ParseError};
+
+/// The place up to which the bytes of a text were read.
+#[derive(Clone, Copy)]
+pub struct Cursor<'a> {
+    /// The bytes that are still to be read.
+    pub rest: &'a [u8],
+    /// The length of the whole text.
+    pub len: usize,
+}
+
+impl<'a> Cursor<'a> {
+    /// Returns the beginning of the text.
+    pub fn new(text: &'a str) -> Cursor<'a>
+        ensures { rest result ≡ text.now }
+    {
+        let rest = text.as_bytes();
+        Cursor {
+            rest,
+            len: rest.len(),
+        }
+    }
+
+    /// Returns the number of bytes that were read.
+    pub fn pos(&self) -> usize {
+        self.len.saturating_sub(self.rest.len())
+    }
+
+    /// Returns the next byte.
+    pub fn peek(&self) -> Option<u8>
+        ensures { result ≡ slice_get (rest self.now) 0 }
+    {
+        self.rest.first().copied()
+    }
+
+    /// Passes the byte if it is the next one.
+    pub fn take(&mut self, byte: u8) -> bool
+        ensures read { result ≡ true → rest self.old ≡ byte ∷ rest self.new }
+        ensures left { result ≡ false → self.new ≡ self.old }
+        ensures other { result ≡ false → IsNotAt byte self.old }
+    {
+        match self.peek() {
+            Some(next) if next == byte => {
+                self.rest = &self.rest[1..];
+                true
+            }
+            _ => false,
+        }
+    }
+
+    /// Returns the bytes that were read since `start`.
+    pub fn since(&self, start: Cursor<'a>) -> &'a [u8]
+        ensures { (t : List ℕ) → rest start.entry ≡ t ++ rest self.now → result.now ≡ t }
+    {
+        let len = start.rest.len().saturating_sub(self.rest.len());
+        &start.rest[..len]
+    }
+
+    /// Returns an error from `start` to the next byte.
+    pub fn error_since(&self, start: Cursor<'a>, kind: ErrorKind) -> ParseError {
+        ParseError::new(kind, start.pos(), self.pos())
+    }
+
+    /// Returns an error at the next character, or at the end of the text.
+    pub fn error_here(&self, kind: ErrorKind) -> ParseError {
+        let width = match self.peek() {
+            None => 0,
+            Some(byte) => width(byte),
+        };
+        let start = self.pos();
+        ParseError::new(kind, start, start.saturating_add(width))
+    }
+
+    /// Returns an error between this byte and the one before.
+    pub fn error_before(&self, kind: ErrorKind) -> ParseError {
+        self.error_since(*self, kind)
+    }
+}
+
+/// Returns how many bytes the character has in UTF-8 that begins with the byte.
+pub fn width(byte: u8) -> usize {
+    match byte {
+        0..=0x7F => 1,
+        0x80..=0xDF => 2,
+        0xE0..=0xEF => 3,
+        _ => 4,
+    }
+}

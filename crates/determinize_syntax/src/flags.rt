@@ -1,0 +1,163 @@
+//! The flags of patterns.
+
+ghost use Rattle.std.specs.Prelude.{◌≡◌, ◌<◌, Bool, IfNone, IfOk, IfSome, OnOk, OnSome, length};
+ghost use Rattle.determinize_syntax.specs.Private.Reading.{IsFlag, IsSetting, Reads, SetsMore, rest};
+ghost use Rattle.determinize_syntax.specs.Spells.{Sets};
+ghost use Rattle.determinize_syntax.specs.Words as words;
+ghost use Rattle.determinize_syntax.specs.Words.{no_flags};
+
+use crate::cursor::Cursor;
+use crate::error::{ErrorKind, ParseError};
+
+/// The flags that hold at a place of a pattern.
+#[derive(Clone, Copy, Debug, PartialEq, Eq)]
+pub struct Flags {
+    /// `i`: an ASCII letter also reads its other case.
+    pub case_insensitive: bool,
+    /// `m`: `^` and `$` are the ends of lines too.
+    pub multi_line: bool,
+    /// `s`: `.` reads the ends of lines too.
+    pub dot_matches_new_line: bool,
+    /// `U`: operators are lazy, and with a `?` greedy.
+    pub swap_greed: bool,
+    /// `R`: lines end with `\n`, `\r` or `\r\n`.
+    pub crlf: bool,
+}
+
+impl Flags {
+    /// Returns the flags of which none is set.
+    pub fn new() -> Flags
+        ensures { result ≡ no_flags }
+    {
+        Flags {
+            case_insensitive: false,
+            multi_line: false,
+            dot_matches_new_line: false,
+            swap_greed: false,
+            crlf: false,
+        }
+    }
+}
+
+/// Reads `(?flags)`, if it is next, and returns the flags that it makes of these.
+pub fn setting(cursor: &mut Cursor<'_>, flags: Flags) -> Result<Option<Flags>, ParseError>
+    ensures read { IfOk result (λ o. IfSome o (λ g. Reads cursor.old cursor.new (IsSetting flags g))) }
+    ensures progress { IfOk result (λ o. OnSome o
+        (length (rest cursor.new) < length (rest cursor.old))) }
+    ensures none { IfOk result (λ o. IfNone o (cursor.new ≡ cursor.old)) }
+{
+    let mut ahead = *cursor;
+    if !ahead.take(b'(') || !ahead.take(b'?') || begins_other(&ahead) {
+        return Ok(None);
+    }
+    if ahead.peek().is_none() {
+        return Err(cursor.error_here(ErrorKind::GroupUnclosed));
+    }
+    if ahead.take(b')') {
+        return Err(ahead.error_before(ErrorKind::RepetitionMissing));
+    }
+    let set = letters(&mut ahead, flags)?;
+    if !ahead.take(b')') {
+        return Ok(None);
+    }
+    *cursor = ahead;
+    Ok(Some(set))
+}
+
+/// Returns whether no flags follow a `(?`, but a name, or what looks ahead or behind.
+fn begins_other(cursor: &Cursor<'_>) -> bool {
+    match cursor.rest {
+        [b'<' | b'=' | b'!', ..] | [b'P', b'<', ..] => true,
+        _ => false,
+    }
+}
+
+/// Reads letters of flags up to a `:` or `)`, and returns the flags that they make of these.
+pub fn letters(cursor: &mut Cursor<'_>, flags: Flags) -> Result<Flags, ParseError>
+    ensures read { IfOk result (λ g. Reads cursor.old cursor.new
+        (λ t. (on : Bool) × Sets flags on g t)) }
+{
+    let start = *cursor;
+    let mut flags = flags;
+    let mut on = true;
+    loop {
+        match cursor.peek() {
+            None => return Err(cursor.error_here(ErrorKind::FlagUnexpectedEof)),
+            Some(b':' | b')') => break,
+            Some(_) => {}
+        }
+        let seen = cursor.since(start);
+        (flags, on) = next_flag(cursor, seen, flags, on)?;
+    }
+    Ok(flags)
+}
+
+/// Reads the letter of a flag, or a `-` and a letter, and returns the flags that it makes of these,
+/// and whether the next letter sets a flag.
+fn next_flag(
+    cursor: &mut Cursor<'_>,
+    seen: &[u8],
+    flags: Flags,
+    on: bool,
+) -> Result<(Flags, bool), ParseError>
+    ensures read { IfOk result (λ r. Reads cursor.old cursor.new
+        (SetsMore seen.now on flags r.1 r.0)) }
+    ensures progress { OnOk result (length (rest cursor.new) < length (rest cursor.old)) }
+{
+    let place = *cursor;
+    if !cursor.take(b'-') {
+        let set = letter(cursor, seen, flags, on)?;
+        return Ok((set, on));
+    }
+    if !on {
+        return Err(place.error_here(ErrorKind::FlagRepeatedNegation));
+    }
+    if let Some(b':' | b')') = cursor.peek() {
+        return Err(place.error_here(ErrorKind::FlagDanglingNegation));
+    }
+    let set = letter(cursor, seen, flags, false)?;
+    Ok((set, false))
+}
+
+/// Reads the letter of a flag that is not yet among the letters seen, and sets or clears it.
+fn letter(cursor: &mut Cursor<'_>, seen: &[u8], flags: Flags, on: bool) -> Result<Flags, ParseError>
+    ensures read { IfOk result (λ g. Reads cursor.old cursor.new (IsFlag seen.now flags on g)) }
+    ensures progress { OnOk result (length (rest cursor.new) < length (rest cursor.old)) }
+{
+    let Some(letter) = cursor.peek() else {
+        return Err(cursor.error_here(ErrorKind::FlagUnexpectedEof));
+    };
+    if letter == b'-' {
+        return Err(cursor.error_here(ErrorKind::FlagRepeatedNegation));
+    }
+    if seen.contains(&letter) {
+        return Err(cursor.error_here(ErrorKind::FlagDuplicate));
+    }
+    let Some(set) = set_flag(flags, letter, on) else {
+        return Err(cursor.error_here(match letter {
+            b'x' | b'u' => ErrorKind::FlagUnsupported,
+            _ => ErrorKind::FlagUnrecognized,
+        }));
+    };
+    if !cursor.take(letter) {
+        return Err(cursor.error_here(ErrorKind::FlagUnrecognized));
+    }
+    Ok(set)
+}
+
+/// Returns the flags once the letter has set or cleared one, if it is the letter of a flag.
+fn set_flag(flags: Flags, letter: u8, on: bool) -> Option<Flags>
+    ensures { result ≡ words.set_flag flags letter on }
+{
+    let mut set = flags;
+    match letter {
+        b'i' => set.case_insensitive = on,
+        b'm' => set.multi_line = on,
+        b's' => set.dot_matches_new_line = on,
+        b'U' => set.swap_greed = on,
+        b'R' => set.crlf = on,
+        b'u' if !on => {}
+        _ => return None,
+    }
+    Some(set)
+}

@@ -1,0 +1,15 @@
+//! Patterns from text, in a subset of the syntax of regex-syntax 0.8 in byte mode.
+#![tactic(auto)]
+
+mod class;
+mod cursor;
+pub mod error;
+mod escape;
+pub mod flags;
+mod group;
+pub mod parser;
+mod repetition;
+
+pub use error::{ErrorKind, ParseError};
+pub use flags::Flags;
+pub use parser::{parse, parse_with};

@@ -1,0 +1,320 @@
+//! The levels of a pattern, from its choices down to its atoms.
+
+ghost use Rattle.std.specs.Prelude.{◌≡◌, ◌<◌, ◌∷◌, Bool, IfOk, OnOk, cond, length, map, not};
+ghost use Rattle.determinize_below.specs.declared.look.Look.TheVariants as looks;
+ghost use Rattle.determinize_pattern.specs.Meaning as meanings;
+ghost use Rattle.determinize_pattern.specs.Patterns.{IsClass, meaning, repeated};
+ghost use Rattle.determinize_syntax.specs.Private.Reading.{Reads, rest};
+ghost use Rattle.determinize_syntax.specs.Spells as spells;
+ghost use Rattle.determinize_syntax.specs.Spells.{Atom, Choice, Items, Repeated, Spells, SpellsUnder};
+ghost use Rattle.determinize_syntax.specs.Words.{◌∈◌, at_line, dot_set, folded, only};
+
+use crate::class::class;
+use crate::cursor::Cursor;
+use crate::error::{ErrorKind, ParseError};
+use crate::escape::escape;
+use crate::flags::{Flags, setting};
+use crate::group::{Context, read_opening};
+use crate::repetition::{Bounds, operator};
+use determinize_below::Look;
+use determinize_pattern::{ClassBytesRange, Pattern};
+use std::alloc::{AllocError, Global};
+
+/// How deep groups and operators may be.
+const NEST_LIMIT: u8 = 250;
+
+/// Returns the pattern that the text stands for.
+pub fn parse(alloc: Global, text: &str) -> Result<Pattern, ParseError>
+    ensures spells { IfOk result (λ p. Spells (meaning p) text.now) }
+{
+    parse_with(alloc, text, Flags::new())
+}
+
+/// Returns the pattern that the text stands for, with these flags at its beginning.
+pub fn parse_with(alloc: Global, text: &str, flags: Flags) -> Result<Pattern, ParseError>
+    ensures spells { IfOk result (λ p. SpellsUnder flags (meaning p) text.now) }
+{
+    let mut cursor = Cursor::new(text);
+    let mut context = Context::new(alloc);
+    let pattern = choice(&mut context, &mut cursor, flags, NEST_LIMIT)?;
+    if cursor.peek().is_some() {
+        return Err(cursor.error_here(ErrorKind::GroupUnopened));
+    }
+    Ok(pattern)
+}
+
+/// Reads branches up to the end of a group or of the text.
+#[cycle(parser)]
+fn choice<'a>(
+    context: &mut Context<'a>,
+    cursor: &mut Cursor<'a>,
+    flags: Flags,
+    levels: u8,
+) -> Result<Pattern, ParseError>
+    ensures read { IfOk result (λ p. Reads cursor.old cursor.new
+        (SpellsUnder flags (meaning p))) }
+{
+    let mut flags = flags;
+    let mut depth = 0;
+    let mut branches = Vec::new(context.alloc);
+    loop {
+        let items = items(context, cursor, &mut flags, levels)?;
+        branches.push(sequence(items))?;
+        depth = context.depth.max(depth);
+        if !cursor.take(b'|') {
+            break;
+        }
+    }
+    context.depth = depth;
+    Ok(alternatives(branches))
+}
+
+/// Reads the items of a branch, and sets the flags that they set.
+#[cycle(parser)]
+fn items<'a>(
+    context: &mut Context<'a>,
+    cursor: &mut Cursor<'a>,
+    flags: &mut Flags,
+    levels: u8,
+) -> Result<Vec<Pattern>, ParseError>
+    ensures read { IfOk result (λ ps. Reads cursor.old cursor.new
+        (Items flags.old flags.new (map meaning ps.items))) }
+{
+    let mut depth = 0;
+    let mut items = Vec::new(context.alloc);
+    loop {
+        match cursor.peek() {
+            None | Some(b'|' | b')') => break,
+            Some(_) => {}
+        }
+        if let Some(set) = setting(cursor, *flags)? {
+            *flags = set;
+            continue;
+        }
+        let item = repeated(context, cursor, *flags, levels)?;
+        items.push(item)?;
+        depth = context.depth.max(depth);
+    }
+    context.depth = depth;
+    Ok(items)
+}
+
+/// Reads an atom and its operators.
+#[cycle(parser)]
+fn repeated<'a>(
+    context: &mut Context<'a>,
+    cursor: &mut Cursor<'a>,
+    flags: Flags,
+    levels: u8,
+) -> Result<Pattern, ParseError>
+    ensures read { IfOk result (λ p. Reads cursor.old cursor.new
+        (λ t. (e : Bool) × Repeated flags e (meaning p) t)) }
+    ensures progress { OnOk result (length (rest cursor.new) < length (rest cursor.old)) }
+{
+    let mut pattern = atom(context, cursor, flags, levels)?;
+    let mut start = *cursor;
+    while let Some(bounds) = operator(cursor)? {
+        if context.depth >= NEST_LIMIT {
+            return Err(start.error_here(ErrorKind::NestLimitExceeded));
+        }
+        context.depth += 1;
+        let greedy = is_greedy(cursor.take(b'?'), flags);
+        pattern = repetition(context.alloc, bounds, greedy, pattern)?;
+        start = *cursor;
+    }
+    Ok(pattern)
+}
+
+/// Reads what can be repeated.
+#[cycle(parser)]
+fn atom<'a>(
+    context: &mut Context<'a>,
+    cursor: &mut Cursor<'a>,
+    flags: Flags,
+    levels: u8,
+) -> Result<Pattern, ParseError>
+    ensures read { IfOk result (λ p. Reads cursor.old cursor.new (Atom flags (meaning p))) }
+    ensures progress { OnOk result (length (rest cursor.new) < length (rest cursor.old)) }
+{
+    let start = *cursor;
+    if cursor.take(b'(') {
+        return group(context, cursor, start, flags, levels);
+    }
+    context.depth = 0;
+    let alloc = context.alloc;
+    if cursor.take(b'^') {
+        return Ok(line_start(flags));
+    }
+    if cursor.take(b'$') {
+        return Ok(line_end(flags));
+    }
+    if cursor.take(b'.') {
+        return Ok(dot(alloc, flags)?);
+    }
+    if cursor.take(b'\\') {
+        let escaped = escape(cursor, start)?;
+        return Ok(byte(alloc, escaped, flags)?);
+    }
+    let Some(next) = cursor.peek() else {
+        return Err(cursor.error_before(ErrorKind::RepetitionMissing));
+    };
+    if !next.is_ascii() || is_special(next) || !cursor.take(next) {
+        return Err(cursor.error_before(ErrorKind::RepetitionMissing));
+    }
+    Ok(byte(alloc, next, flags)?)
+}
+
+/// Reads a group after its parenthesis, which is at `start`.
+#[cycle(parser)]
+fn group<'a>(
+    context: &mut Context<'a>,
+    cursor: &mut Cursor<'a>,
+    start: Cursor<'a>,
+    flags: Flags,
+    levels: u8,
+) -> Result<Pattern, ParseError>
+    ensures read { IfOk result (λ p. Reads cursor.old cursor.new
+        (λ t. Atom flags (meaning p) (0x28 ∷ t))) }
+{
+    let opening = read_opening(context, cursor, start, flags)?;
+    if levels == 0 {
+        return Err(start.error_here(ErrorKind::NestLimitExceeded));
+    }
+    let sub = choice(context, cursor, opening.flags, levels - 1)?;
+    if !cursor.take(b')') {
+        return Err(start.error_here(ErrorKind::GroupUnclosed));
+    }
+    if context.depth >= NEST_LIMIT {
+        return Err(start.error_here(ErrorKind::NestLimitExceeded));
+    }
+    context.depth += 1;
+    if opening.captures {
+        return Ok(sub.capture(context.alloc)?);
+    }
+    Ok(sub)
+}
+
+/// Returns the patterns one after the other, or the one alone.
+fn sequence(mut items: Vec<Pattern>) -> Pattern
+    ensures { meaning result ≡ spells.sequence (map meaning items.items) }
+{
+    if items.len() == 1 {
+        if let Some(item) = items.pop() {
+            return item;
+        }
+    }
+    Pattern::concat(items)
+}
+
+/// Returns a choice between the patterns, or the one alone.
+fn alternatives(mut branches: Vec<Pattern>) -> Pattern
+    ensures { meaning result ≡ spells.choice (map meaning branches.items) }
+{
+    if branches.len() == 1 {
+        if let Some(branch) = branches.pop() {
+            return branch;
+        }
+    }
+    Pattern::alternation(branches)
+}
+
+/// Returns whether an operator is greedy that has a `?` if `marked` is set.
+fn is_greedy(marked: bool, flags: Flags) -> bool
+    ensures { result ≡ cond marked flags.swap_greed (not flags.swap_greed) }
+{
+    marked == flags.swap_greed
+}
+
+/// Returns the pattern repeated within the bounds.
+fn repetition(
+    alloc: Global,
+    bounds: Bounds,
+    greedy: bool,
+    sub: Pattern,
+) -> Result<Pattern, AllocError>
+    ensures { IfOk result (λ p. meaning p ≡ repeated bounds.min bounds.max greedy (meaning sub)) }
+{
+    if greedy {
+        sub.repeat(alloc, bounds.min, bounds.max)
+    } else {
+        sub.repeat_lazy(alloc, bounds.min, bounds.max)
+    }
+}
+
+/// Returns the pattern of `^`.
+fn line_start(flags: Flags) -> Pattern
+    ensures { meaning result ≡ meanings.Look (at_line flags looks.Start looks.StartLF looks.StartCRLF) }
+{
+    let look = match (flags.multi_line, flags.crlf) {
+        (false, _) => Look::Start,
+        (true, false) => Look::StartLF,
+        (true, true) => Look::StartCRLF,
+    };
+    Pattern::Look(look)
+}
+
+/// Returns the pattern of `$`.
+fn line_end(flags: Flags) -> Pattern
+    ensures { meaning result ≡ meanings.Look (at_line flags looks.End looks.EndLF looks.EndCRLF) }
+{
+    let look = match (flags.multi_line, flags.crlf) {
+        (false, _) => Look::End,
+        (true, false) => Look::EndLF,
+        (true, true) => Look::EndCRLF,
+    };
+    Pattern::Look(look)
+}
+
+/// Returns the pattern of `.`.
+fn dot(alloc: Global, flags: Flags) -> Result<Pattern, AllocError>
+    ensures { IfOk result (λ p. IsClass (dot_set flags) (meaning p)) }
+{
+    if flags.dot_matches_new_line {
+        return Pattern::any(alloc);
+    }
+    if !flags.crlf {
+        return Pattern::dot(alloc);
+    }
+    let ends = [
+        ClassBytesRange {
+            start: b'\n',
+            end: b'\n',
+        },
+        ClassBytesRange {
+            start: b'\r',
+            end: b'\r',
+        },
+    ];
+    Pattern::none_of(alloc, &ends)
+}
+
+/// Returns the pattern of one byte, under `i` of both cases of a letter.
+fn byte(alloc: Global, byte: u8, flags: Flags) -> Result<Pattern, AllocError>
+    ensures { IfOk result (λ p. IsClass (folded flags (only byte)) (meaning p)) }
+{
+    if flags.case_insensitive && byte.is_ascii_alphabetic() {
+        return both_cases(alloc, byte, flags);
+    }
+    Pattern::range(alloc, byte, byte)
+}
+
+/// Returns the pattern of both cases of a letter.
+fn both_cases(alloc: Global, byte: u8, flags: Flags) -> Result<Pattern, AllocError>
+    ensures { IfOk result (λ p. IsClass (folded flags (only byte)) (meaning p)) }
+{
+    let range = ClassBytesRange {
+        start: byte,
+        end: byte,
+    };
+    Ok(Pattern::Class(class(alloc, &[range], flags, false)?))
+}
+
+/// Returns whether the byte has a meaning of its own outside brackets.
+fn is_special(byte: u8) -> bool
+    ensures { result ≡ (byte ∈ "\\.+*?()|[{^$") }
+{
+    matches!(
+        byte,
+        b'\\' | b'.' | b'+' | b'*' | b'?' | b'(' | b')' | b'|' | b'[' | b'{' | b'^' | b'$'
+    )
+}

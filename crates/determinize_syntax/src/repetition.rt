@@ -1,0 +1,118 @@
+//! Operators of repetitions.
+
+ghost use Rattle.std.specs.Prelude.{◌≡◌, ◌<◌, ◌∷◌, IfNone, IfOk, IfSome, OnOk, OnSome, Some, length};
+ghost use Rattle.determinize_syntax.specs.Private.Reading.{IsDigit, Reads, rest};
+ghost use Rattle.determinize_syntax.specs.Spells.{Operator};
+ghost use Rattle.determinize_syntax.specs.Words.{number};
+
+use crate::cursor::Cursor;
+use crate::error::{ErrorKind, ParseError};
+
+/// How often a pattern is repeated.
+#[derive(Clone, Copy, Debug, PartialEq, Eq)]
+pub struct Bounds {
+    pub min: u32,
+    pub max: Option<u32>,
+}
+
+/// Reads an operator, if there is one.
+pub fn operator(cursor: &mut Cursor<'_>) -> Result<Option<Bounds>, ParseError>
+    ensures read { IfOk result (λ o. IfSome o (λ b.
+        Reads cursor.old cursor.new (Operator b.min b.max))) }
+    ensures progress { IfOk result (λ o. OnSome o
+        (length (rest cursor.new) < length (rest cursor.old))) }
+    ensures none { IfOk result (λ o. IfNone o (cursor.new ≡ cursor.old)) }
+{
+    let start = *cursor;
+    if cursor.take(b'*') {
+        return Ok(Some(Bounds { min: 0, max: None }));
+    }
+    if cursor.take(b'+') {
+        return Ok(Some(Bounds { min: 1, max: None }));
+    }
+    if cursor.take(b'?') {
+        return Ok(Some(Bounds {
+            min: 0,
+            max: Some(1),
+        }));
+    }
+    if cursor.take(b'{') {
+        let bounds = counts(cursor, start)?;
+        return Ok(Some(bounds));
+    }
+    Ok(None)
+}
+
+/// Reads counts after their brace, which is at `start`.
+fn counts<'a>(cursor: &mut Cursor<'a>, start: Cursor<'a>) -> Result<Bounds, ParseError>
+    ensures read { IfOk result (λ b.
+        Reads cursor.old cursor.new (λ t. Operator b.min b.max (0x7B ∷ t))) }
+{
+    let min = decimal(cursor, start)?;
+    if cursor.take(b'}') {
+        return Ok(Bounds {
+            min,
+            max: Some(min),
+        });
+    }
+    if !cursor.take(b',') {
+        return Err(cursor.error_since(start, ErrorKind::RepetitionCountUnclosed));
+    }
+    if cursor.take(b'}') {
+        return Ok(Bounds { min, max: None });
+    }
+    let max = decimal(cursor, start)?;
+    if !cursor.take(b'}') {
+        return Err(cursor.error_since(start, ErrorKind::RepetitionCountUnclosed));
+    }
+    if max < min {
+        let _ = cursor.take(b'?');
+        return Err(cursor.error_since(start, ErrorKind::RepetitionCountInvalid));
+    }
+    Ok(Bounds {
+        min,
+        max: Some(max),
+    })
+}
+
+/// Reads a number of the counts whose brace is at `start`.
+fn decimal<'a>(cursor: &mut Cursor<'a>, start: Cursor<'a>) -> Result<u32, ParseError>
+    ensures read { IfOk result (λ n. Reads cursor.old cursor.new (λ t. number 10 t ≡ Some n)) }
+{
+    let first = *cursor;
+    let Some(mut value) = digit(cursor) else {
+        return Err(match cursor.peek() {
+            None => cursor.error_since(start, ErrorKind::RepetitionCountUnclosed),
+            Some(_) => cursor.error_before(ErrorKind::RepetitionCountDecimalEmpty),
+        });
+    };
+    while let Some(next) = digit(cursor) {
+        let Some(tenfold) = value.checked_mul(10) else {
+            return Err(too_large(cursor, first));
+        };
+        let Some(grown) = tenfold.checked_add(next) else {
+            return Err(too_large(cursor, first));
+        };
+        value = grown;
+    }
+    Ok(value)
+}
+
+/// Passes a digit and returns its value.
+fn digit(cursor: &mut Cursor<'_>) -> Option<u32>
+    ensures read { IfSome result (λ n.
+        Reads cursor.old cursor.new (IsDigit n)) }
+    ensures none { IfNone result (cursor.new ≡ cursor.old) }
+{
+    let next = cursor.peek()?;
+    if !next.is_ascii_digit() || !cursor.take(next) {
+        return None;
+    }
+    Some(u32::from(next - b'0'))
+}
+
+/// Passes the digits that are left, and returns the error of the number that begins at `first`.
+fn too_large<'a>(cursor: &mut Cursor<'a>, first: Cursor<'a>) -> ParseError {
+    while let Some(_) = digit(cursor) {}
+    cursor.error_since(first, ErrorKind::DecimalInvalid)
+}
