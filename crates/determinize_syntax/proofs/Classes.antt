@@ -4,14 +4,17 @@
 -- Idea: one more range adds its bytes.
 use Rattle.std.proofs.Common.{◌≡◌, ◌<◌, ◌∷◌, ◌++◌, ◌∙◌, ◌&&◌, ◌||◌, ◌⊎◌, inl, inr, nat_eq, [], arith, Bool, List, Some, ap, false, nat_lt, refl, ◌+◌, true, ℕ}
 use Rattle.std.specs.Prelude.{◌==◌}
+use Rattle.std.specs.Prelude.{cond, not}
+use Rattle.std.specs.Char.{to_ascii_lowercase, to_ascii_uppercase}
 use Rattle.std.specs.List.{list_any}
 use Rattle.determinize_below.specs.Semantics.{within}
-use Rattle.determinize_pattern.specs.Classes.{pairs}
+use Rattle.determinize_pattern.specs.Classes.{HasBytes, pairs}
 use Rattle.determinize_pattern.specs.Meaning.{Re, is_in}
 use Rattle.determinize_pattern.specs.Patterns.{IsClass}
 use Rattle.determinize_pattern.specs.declared.class.ClassBytesRange.{ClassBytesRange}
-use Rattle.determinize_syntax.specs.Private.Sets.{HasBelow, has}
-use Rattle.determinize_syntax.specs.Words.{Set}
+use Rattle.determinize_syntax.specs.Private.Sets.{HasBelow, has, turned}
+use Rattle.determinize_syntax.specs.Words.{Set, folded}
+use Rattle.determinize_syntax.specs.declared.flags.Flags.{Flags}
 
 -- a class of one set is one of a set with the same bytes
 pub class_of : (s t : Set) (re : Re) → IsClass s re → ((b : ℕ) → b < 256 → s b ≡ t b) → IsClass t re
@@ -57,3 +60,22 @@ below_with s i ranges more r h e p t b =
 pub below_without : (s : Set) (i : ℕ) (ranges : List ClassBytesRange) → HasBelow s i ranges → s i ≡ false
     → HasBelow s (i + 1) ranges
 below_without s i ranges h f b = h b ∙ step_without (s b) b i (λ q. ap s q ∙ f)
+
+lower_small : (b : ℕ) → b < 256 → to_ascii_lowercase b < 256
+lower_small b h = grind (arith, h)
+
+upper_small : (b : ℕ) → b < 256 → to_ascii_uppercase b < 256
+upper_small b h = grind (arith, h)
+
+-- the cases of two sets with the same bytes
+folded_same : (f : Flags) (r s : Set) → ((b : ℕ) → b < 256 → r b ≡ s b) → (b : ℕ) → b < 256 → folded f r b ≡ folded f s b
+folded_same f r s h b small = both f.case_insensitive where
+  both : (x : Bool) → cond x (r (to_ascii_lowercase b) || r (to_ascii_uppercase b)) (r b)
+      ≡ cond x (s (to_ascii_lowercase b) || s (to_ascii_uppercase b)) (s b)
+  both true = ap (λ y. y || r (to_ascii_uppercase b)) (h (to_ascii_lowercase b) (lower_small b small))
+      ∙ ap (λ y. s (to_ascii_lowercase b) || y) (h (to_ascii_uppercase b) (upper_small b small))
+  both false = h b small
+
+pub kind_class : (f : Flags) (n : Bool) (s : Set) (ranges : List ClassBytesRange) (class : List (ℕ × ℕ))
+    → HasBytes s (pairs ranges) → HasBytes (turned n (folded f (has ranges))) class → HasBytes (turned n (folded f s)) class
+kind_class f n s ranges class h k b small = k b small ∙ ap (λ x. cond n (not x) x) (folded_same f (has ranges) s h b small)

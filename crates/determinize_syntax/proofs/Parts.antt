@@ -2,22 +2,28 @@
 -- Main statements: took, onward, closed, and a lemma for each rule.
 -- Used by: the proofs of the parser.
 -- Idea: a part after a part is a part; what ends with a byte is a part and the byte.
-use Rattle.std.proofs.Common.{◌≡◌, ◌<◌, ◌≤◌, ◌+◌, ◌*◌, ◌∷◌, ◌++◌, ◌∙◌, ◌^◌, ◌&&◌, [], arith, Bool, List, None, Option, Some, ap, cond, false, length, map, not, refl, slice_get, subst, sym, true, ℕ, IfOk}
+use Rattle.std.proofs.Common.{◌≡◌, ◌<◌, ◌≤◌, ◌+◌, ◌*◌, ◌∷◌, ◌++◌, ◌∙◌, ◌^◌, ◌&&◌, [], arith, inl, inr, Bool, List, None, Option, Some, ap, cond, false, length, map, not, refl, slice_get, subst, sym, true, ℕ, IfOk}
 use Rattle.std.specs.Prelude.{Err, Ok, Result, codes, is_some}
+use Rattle.std.specs.Bool.{⊤}
 use Rattle.std.specs.List.{list_all}
+use Rattle.determinize_below.specs.declared.look.Look.{Look}
 use Rattle.std.proofs.lemmas.List.Folds.{list_all-append}
 use Rattle.std.proofs.lemmas.List.{append_assoc, append-nil, map-append}
 use Rattle.determinize_pattern.specs.Meaning.{Re}
 use Rattle.determinize_pattern.specs.Patterns.{meaning, repeated}
 use Rattle.determinize_pattern.specs.declared.pattern.Pattern.{Pattern}
-use Rattle.determinize_syntax.specs.Private.Reading.{IsDigit, IsFlag, IsNamed, IsSetting, Opens, Part, SetsMore}
+use Rattle.determinize_syntax.specs.Private.Reading.{IsDigit, IsDigits, IsEscape, IsFlag, IsHexDigit, IsNamed, IsSetting, Opens, Part, SetsMore}
 use Rattle.determinize_syntax.proofs.Numbers.{is_decimal, number_more, number_one, value_of}
 use Rattle.determinize_syntax.specs.Spells as s
-use Rattle.determinize_syntax.specs.Spells.{Atom, Branches, Choice, Items, Operator, Repeated, Sets, SpellsUnder, sequence}
-use Rattle.determinize_syntax.specs.Words.{begins_name, is_in_name, is_name, number}
+use Rattle.determinize_syntax.specs.Spells.{Atom, Branches, Choice, Escaped, Items, Operator, Repeated, Sets, SpellsUnder, sequence}
+use Rattle.determinize_syntax.specs.Words.{assertion, begins_name, is_in_name, is_name, number}
+use Rattle.determinize_syntax.specs.declared.escape.Escape.TheVariants.{Wide}
 use Rattle.determinize_syntax.specs.declared.flags.Flags.{Flags}
+use Rattle.std.specs.Char.{InScalarRange, IsScalar, digit_value, encode_utf8, len_utf8}
+use Rattle.std.proofs.lemmas.Str.{length-encode}
+use Rattle.std.proofs.lemmas.List.{length-append}
 
-abbrev Text : Type 0
+abbrev pub Text : Type 0
 Text = List ℕ
 
 pub ok_then : {A E : Type 0} (P Q : A → Type 0) (r : Result A E) → IfOk r P → ((a : A) → P a → Q a) → IfOk r Q
@@ -50,7 +56,7 @@ pub prefixed : {a b d : Text} {c : ℕ} (P : Text → Type 0) → a ≡ c ∷ b 
 prefixed {a} {b} {d} {c} P r k = (c ∷ k.0, r ∙ ap (λ w. c ∷ w) k.1, k.2)
 
 -- what ends with one more byte
-abbrev Ended : (Text → Type 0) → ℕ → Text → Type 0
+abbrev pub Ended : (Text → Type 0) → ℕ → Text → Type 0
 Ended P c v = (u : Text) × P u × (v ≡ u ++ c ∷ [])
 
 pub closed : {b d x : Text} {c : ℕ} (P : Text → Type 0) → Part b d P → d ≡ c ∷ x → Part b x (Ended P c)
@@ -287,3 +293,62 @@ none_of (Some b) e = absurd (cc)
 -- the whole text
 pub whole_read : (a b : Text) (P : Text → Type 0) → Part a b P → slice_get b 0 ≡ None → P a
 whole_read a b P h e = subst P (sym (h.1 ∙ ap (λ w. h.0 ++ w) (at_end b e) ∙ append-nil h.0)) h.2
+
+-- the boundary of this name
+pub boundary_read : {a b d x : Text} (look : Look) (name : Text) → a ≡ 0x7B ∷ b → Part b d (λ t. ⊤)
+    → ((t : Text) → b ≡ t ++ d → name ≡ t) → d ≡ 0x7D ∷ x → assertion (codes "b{" ++ name ++ codes "}") ≡ Some look
+    → Part a x (λ t. assertion (0x62 ∷ t) ≡ Some look)
+boundary_read {a} {b} {d} {x} look name r1 h is r2 e =
+    (0x7B ∷ (h.0 ++ 0x7D ∷ []),
+    r1 ∙ ap (λ w. 0x7B ∷ w) (h.1 ∙ ap (λ w. h.0 ++ w) r2 ∙ sym (append_assoc h.0 (0x7D ∷ []) x)),
+    subst (λ w. assertion (0x62 ∷ 0x7B ∷ (w ++ 0x7D ∷ [])) ≡ Some look) (is h.0 h.1) e)
+
+-- hexadecimal digits
+pub digits_begun : {a b : Text} (n : ℕ) → Part a b (IsHexDigit n) → Part a b (IsDigits n)
+digits_begun n h = renamed (IsHexDigit n) (IsDigits n) h
+    (λ t z _. subst (λ w. number 16 w ≡ Some n) (sym z.1) (number_one 16 z.0 z.2 ∙ ap Some (sym z.3)))
+
+pub digits_grown : {a b d : Text} (v n w : ℕ) → Part a b (IsDigits v) → Part b d (IsHexDigit n)
+    → (w ≤ 0x10_FFFF → (v ≤ 0x10_FFFF) × (w ≡ v * 16 + n)) → Part a d (IsDigits w)
+digits_grown v n w h k grows =
+    onward (IsDigits v) (IsHexDigit n) (IsDigits w) h k
+    (λ t u digits z small. let both = grows small in
+    subst (λ q. number 16 (t ++ q) ≡ Some w) (sym z.1)
+    (number_more 16 t v z.0 (digits both.0) z.2 ∙ ap Some (ap (λ x. v * 16 + x) (sym z.3) ∙ sym both.1)))
+
+-- two hexadecimal digits
+pub two_read : {a b d : Text} (n m : ℕ) → Part a b (IsHexDigit n) → Part b d (IsHexDigit m)
+    → Part a d (λ t. Escaped (n * 16 + m) (0x5C ∷ 0x78 ∷ t))
+two_read n m h k =
+    onward (IsHexDigit n) (IsHexDigit m) (λ t. Escaped (n * 16 + m) (0x5C ∷ 0x78 ∷ t)) h k
+    (λ t u y z. subst (λ w. Escaped (n * 16 + m) (0x5C ∷ 0x78 ∷ (w ++ u))) (sym y.1)
+    (subst (λ w. Escaped (n * 16 + m) (0x5C ∷ 0x78 ∷ y.0 ∷ w)) (sym z.1)
+    (s.two_digits y.0 z.0 (n * 16 + m) (number_more 16 (y.0 ∷ []) (digit_value y.0) z.0 (number_one 16 y.0 y.2) z.2
+    ∙ ap (λ x. Some (x * 16 + digit_value z.0)) (sym y.3) ∙ ap (λ x. Some (n * 16 + x)) (sym z.3)))))
+
+-- a number in braces
+pub braced_read : {a d x : Text} (n : ℕ) → Part a d (IsDigits n) → d ≡ 0x7D ∷ x → n < 128
+    → Part a x (λ t. Escaped n (0x5C ∷ 0x78 ∷ 0x7B ∷ t))
+braced_read n h r small =
+    renamed (Ended (IsDigits n) 0x7D) (λ t. Escaped n (0x5C ∷ 0x78 ∷ 0x7B ∷ t)) (closed (IsDigits n) h r)
+    (λ v z. subst (λ w. Escaped n (0x5C ∷ 0x78 ∷ 0x7B ∷ w)) (sym z.2) (s.braces z.0 n (z.1 (omega arith)) small))
+
+scalar_small : (n : ℕ) → InScalarRange n → n ≤ 0x10_FFFF
+scalar_small n (inl h) = omega arith
+scalar_small n (inr h) = h.1
+
+pub wide_read : {a d x : Text} (n : ℕ) → Part a d (IsDigits n) → d ≡ 0x7D ∷ x → 128 ≤ n → IsScalar n → InScalarRange n
+    → Part a x (λ t. IsEscape (Wide n) (0x5C ∷ 0x78 ∷ 0x7B ∷ t))
+wide_read n h r large is range =
+    renamed (Ended (IsDigits n) 0x7D) (λ t. IsEscape (Wide n) (0x5C ∷ 0x78 ∷ 0x7B ∷ t)) (closed (IsDigits n) h r)
+    (λ v z. ((large, is), (z.0, z.1 (scalar_small n range), ap (λ w. 0x5C ∷ 0x78 ∷ 0x7B ∷ w) z.2)))
+
+at_least_one : (c : ℕ) → 1 ≤ len_utf8 c
+at_least_one c = grind (arith)
+
+pub shorter_by_character : (c : ℕ) (a b : Text) → a ≡ encode_utf8 c ++ b → length b < length a
+shorter_by_character c a b e =
+    let one : 1 ≤ len_utf8 c = at_least_one c in
+    let len : length a ≡ len_utf8 c + length b = ap length e ∙ length-append (encode_utf8 c) b
+        ∙ ap (λ n. n + length b) (length-encode c) in
+    omega arith

@@ -1,7 +1,8 @@
 //! A place in the text of a pattern.
 
-ghost use Rattle.std.specs.Prelude.{◌≡◌, ◌++◌, ◌∷◌, ℕ, List, false, slice_get, true};
+ghost use Rattle.std.specs.Prelude.{◌≡◌, ◌++◌, ◌∷◌, ℕ, IfSome, List, encode_utf8, false, slice_get, true};
 ghost use Rattle.determinize_syntax.specs.Private.Reading.{IsNotAt, rest};
+ghost use Rattle.determinize_syntax.specs.Spells.{IsWide};
 
 use crate::error::{ErrorKind, ParseError};
 
@@ -51,6 +52,28 @@ impl<'a> Cursor<'a> {
             }
             _ => false,
         }
+    }
+
+    /// Passes a character beyond ASCII and returns it.
+    pub fn take_wide(&mut self) -> Option<char>
+        ensures read { IfSome result (λ c.
+            IsWide c × (rest self.old ≡ encode_utf8 c ++ rest self.new)) }
+    {
+        let width = width(self.peek()?);
+        if self.rest.len() < width {
+            return None;
+        }
+        let (front, back) = self.rest.split_at(width);
+        let Ok(text) = str::from_utf8(front) else {
+            return None;
+        };
+        let mut chars = text.chars();
+        let character = chars.next()?;
+        if (character as u32) < 128 || !chars.as_str().is_empty() {
+            return None;
+        }
+        self.rest = back;
+        Some(character)
     }
 
     /// Returns the bytes that were read since `start`.

@@ -1,12 +1,70 @@
 //! What follows a backslash.
 
-ghost use Rattle.std.specs.Prelude.{◌≡◌, ◌∷◌, IfOk};
-ghost use Rattle.determinize_syntax.specs.Private.Reading.{Reads};
-ghost use Rattle.determinize_syntax.specs.Spells.{Escaped};
+ghost use Rattle.std.specs.Prelude.{◌≡◌, ◌*◌, ◌+◌, ◌<◌, ◌≤◌, ◌++◌, ◌∷◌, [], IfNone, IfOk, IfSome, OnOk, Some, codes, length, ⊤};
+ghost use Rattle.determinize_syntax.specs.Private.Reading.{IsDigits, IsEscape, IsHexDigit, Reads, rest};
+ghost use Rattle.determinize_syntax.specs.Words as words;
 ghost use Rattle.determinize_syntax.specs.Words.{escaped_byte};
 
 use crate::cursor::Cursor;
 use crate::error::{ErrorKind, ParseError};
+use crate::kind::perl;
+use determinize_below::Look;
+use determinize_pattern::ClassBytes;
+use std::alloc::Global;
+
+/// What an escape stands for.
+#[derive(Drop)]
+pub enum Escape {
+    /// A byte, as `\n`.
+    Byte(u8),
+    /// A character beyond ASCII, as `\x{E9}`.
+    Wide(char),
+    /// A class, as `\d`.
+    Class(ClassBytes),
+    /// An assertion, as `\b`.
+    Look(Look),
+}
+
+/// Reads an escape after its backslash, which is at `start`.
+pub fn read_escape<'a>(
+    alloc: Global,
+    cursor: &mut Cursor<'a>,
+    start: Cursor<'a>,
+) -> Result<Escape, ParseError>
+    ensures read { IfOk result (λ e.
+        Reads cursor.old cursor.new (λ t. IsEscape e (0x5C ∷ t))) }
+{
+    if cursor.take(b'x') {
+        return hex(cursor);
+    }
+    if let Some(look) = assertion(cursor)? {
+        return Ok(Escape::Look(look));
+    }
+    let Some(next) = cursor.peek() else {
+        return Err(cursor.error_since(start, ErrorKind::EscapeUnexpectedEof));
+    };
+    if let Some(byte) = escaped(next) {
+        if !cursor.take(next) {
+            return Err(start.error_here(ErrorKind::EscapeUnrecognized));
+        }
+        return Ok(Escape::Byte(byte));
+    }
+    match perl(alloc, next)? {
+        Some(class) if cursor.take(next) => Ok(Escape::Class(class)),
+        _ => Err(unrecognized(cursor, start, next)),
+    }
+}
+
+/// Returns the error of an escape that has no meaning, whose byte after the backslash is `next`.
+fn unrecognized<'a>(cursor: &Cursor<'a>, start: Cursor<'a>, next: u8) -> ParseError {
+    let kind = match next {
+        b'0'..=b'9' => ErrorKind::UnsupportedBackreference,
+        b'u' | b'U' | b'p' | b'P' => ErrorKind::UnicodeNotAllowed,
+        _ => ErrorKind::EscapeUnrecognized,
+    };
+    let here = cursor.error_here(kind);
+    ParseError::new(kind, start.pos(), here.end)
+}
 
 /// Returns the byte that a backslash and this one stand for.
 fn escaped(byte: u8) -> Option<u8>
@@ -25,19 +83,178 @@ fn escaped(byte: u8) -> Option<u8>
     }
 }
 
-/// Reads an escape after its backslash, which is at `start`.
-pub fn escape<'a>(cursor: &mut Cursor<'a>, start: Cursor<'a>) -> Result<u8, ParseError>
-    ensures read { IfOk result (λ b.
-        Reads cursor.old cursor.new (λ t. Escaped b (0x5C ∷ t))) }
+/// Reads the rest of an assertion after its backslash, if there is one.
+fn assertion(cursor: &mut Cursor<'_>) -> Result<Option<Look>, ParseError>
+    ensures read { IfOk result (λ o. IfSome o (λ l.
+        Reads cursor.old cursor.new (λ t. words.assertion t ≡ Some l))) }
+    ensures none { IfOk result (λ o. IfNone o (cursor.new ≡ cursor.old)) }
+{
+    if cursor.take(b'b') {
+        let look = boundary(cursor)?;
+        return Ok(Some(look));
+    }
+    let Some(next) = cursor.peek() else {
+        return Ok(None);
+    };
+    match look_of(next) {
+        Some(look) if cursor.take(next) => Ok(Some(look)),
+        _ => Ok(None),
+    }
+}
+
+/// Returns the assertion of a backslash and the byte, but for `\b`.
+fn look_of(byte: u8) -> Option<Look>
+    ensures { IfSome result (λ l. words.assertion (byte ∷ []) ≡ Some l) }
+{
+    match byte {
+        b'A' => Some(Look::Start),
+        b'z' => Some(Look::End),
+        b'B' => Some(Look::WordAsciiNegate),
+        b'<' => Some(Look::WordStartAscii),
+        b'>' => Some(Look::WordEndAscii),
+        _ => None,
+    }
+}
+
+/// Reads the rest of a boundary after `\b`.
+fn boundary(cursor: &mut Cursor<'_>) -> Result<Look, ParseError>
+    ensures read { IfOk result (λ l.
+        Reads cursor.old cursor.new (λ t. words.assertion (0x62 ∷ t) ≡ Some l)) }
+{
+    let brace = *cursor;
+    let mut ahead = *cursor;
+    if !ahead.take(b'{') {
+        return Ok(Look::WordAscii);
+    }
+    if ahead.peek().is_none() {
+        return Err(ahead.error_since(brace, ErrorKind::SpecialWordOrRepetitionUnexpectedEof));
+    }
+    let first = ahead;
+    pass_letters(&mut ahead);
+    let name = ahead.since(first);
+    if name.is_empty() {
+        return Ok(Look::WordAscii);
+    }
+    let last = ahead;
+    if !ahead.take(b'}') {
+        return Err(ahead.error_since(brace, ErrorKind::SpecialWordBoundaryUnclosed));
+    }
+    let Some(look) = boundary_of(name) else {
+        return Err(last.error_since(first, ErrorKind::SpecialWordBoundaryUnrecognized));
+    };
+    *cursor = ahead;
+    Ok(look)
+}
+
+/// Passes letters and hyphens.
+fn pass_letters(cursor: &mut Cursor<'_>)
+    ensures read { Reads cursor.old cursor.new (λ t. ⊤) }
+{
+    while let Some(next) = cursor.peek() {
+        if !is_in_boundary(next) || !cursor.take(next) {
+            break;
+        }
+    }
+}
+
+/// Returns whether the byte is a letter or a hyphen.
+fn is_in_boundary(byte: u8) -> bool {
+    byte.is_ascii_alphabetic() || byte == b'-'
+}
+
+/// Returns the boundary of this name.
+fn boundary_of(name: &[u8]) -> Option<Look>
+    ensures { IfSome result (λ l.
+        words.assertion (codes "b{" ++ name.now ++ codes "}") ≡ Some l) }
+{
+    match name {
+        b"start" => Some(Look::WordStartAscii),
+        b"end" => Some(Look::WordEndAscii),
+        b"start-half" => Some(Look::WordStartHalfAscii),
+        b"end-half" => Some(Look::WordEndHalfAscii),
+        _ => None,
+    }
+}
+
+/// Reads what follows `\x`.
+fn hex(cursor: &mut Cursor<'_>) -> Result<Escape, ParseError>
+    ensures read { IfOk result (λ e.
+        Reads cursor.old cursor.new (λ t. IsEscape e (0x5C ∷ 0x78 ∷ t))) }
+{
+    let brace = *cursor;
+    if cursor.take(b'{') {
+        return braces(cursor, brace);
+    }
+    let high = hex_digit(cursor, brace)?;
+    let place = *cursor;
+    let low = hex_digit(cursor, place)?;
+    Ok(Escape::Byte((high * 16 + low) as u8))
+}
+
+/// Reads a number after the brace of `\x{`, which is at `brace`.
+fn braces<'a>(cursor: &mut Cursor<'a>, brace: Cursor<'a>) -> Result<Escape, ParseError>
+    ensures read { IfOk result (λ e.
+        Reads cursor.old cursor.new (λ t. IsEscape e (0x5C ∷ 0x78 ∷ 0x7B ∷ t))) }
+{
+    let first = *cursor;
+    if cursor.take(b'}') {
+        return Err(cursor.error_since(brace, ErrorKind::EscapeHexEmpty));
+    }
+    let value = hex_number(cursor, brace)?;
+    let last = *cursor;
+    if !cursor.take(b'}') {
+        return Err(cursor.error_since(brace, ErrorKind::EscapeUnexpectedEof));
+    }
+    if value < 128 {
+        return Ok(Escape::Byte(value as u8));
+    }
+    match char::from_u32(value) {
+        Some(character) => Ok(Escape::Wide(character)),
+        None => Err(last.error_since(first, ErrorKind::EscapeHexInvalid)),
+    }
+}
+
+/// Reads digits up to a brace. A number that is too large for a character is returned as some
+/// other such number.
+fn hex_number<'a>(cursor: &mut Cursor<'a>, brace: Cursor<'a>) -> Result<u32, ParseError>
+    ensures read { IfOk result (λ n. Reads cursor.old cursor.new (IsDigits n)) }
+{
+    let mut value = hex_digit(cursor, brace)?;
+    loop {
+        if let Some(b'}') = cursor.peek() {
+            break;
+        }
+        let digit = hex_digit(cursor, brace)?;
+        value = with_digit(value, digit);
+    }
+    Ok(value)
+}
+
+/// Returns the number with one more digit, or itself if it is too large for a character.
+fn with_digit(value: u32, digit: u32) -> u32
+    requires { digit < 16 }
+    ensures { result ≤ 0x10_FFFF → (value ≤ 0x10_FFFF) × (result ≡ value * 16 + digit) }
+{
+    if value > 0x10_FFFF {
+        return value;
+    }
+    value * 16 + digit
+}
+
+/// Reads a digit. If the text ends here, the error is from `from` to its end.
+fn hex_digit<'a>(cursor: &mut Cursor<'a>, from: Cursor<'a>) -> Result<u32, ParseError>
+    ensures read { IfOk result (λ n. Reads cursor.old cursor.new (IsHexDigit n)) }
+    ensures small { IfOk result (λ n. n < 16) }
+    ensures progress { OnOk result (length (rest cursor.new) < length (rest cursor.old)) }
 {
     let Some(next) = cursor.peek() else {
-        return Err(cursor.error_since(start, ErrorKind::EscapeUnexpectedEof));
+        return Err(cursor.error_since(from, ErrorKind::EscapeUnexpectedEof));
     };
-    let Some(byte) = escaped(next) else {
-        return Err(cursor.error_here(ErrorKind::EscapeUnrecognized));
+    let Some(digit) = char::from(next).to_digit(16) else {
+        return Err(cursor.error_here(ErrorKind::EscapeHexInvalidDigit));
     };
     if !cursor.take(next) {
-        return Err(cursor.error_here(ErrorKind::EscapeUnrecognized));
+        return Err(cursor.error_here(ErrorKind::EscapeHexInvalidDigit));
     }
-    Ok(byte)
+    Ok(digit)
 }

@@ -7,6 +7,7 @@ pub mod error;
 mod escape;
 pub mod flags;
 mod group;
+mod kind;
 pub mod parser;
 mod repetition;
 

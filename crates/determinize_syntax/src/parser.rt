@@ -1,9 +1,9 @@
 //! The levels of a pattern, from its choices down to its atoms.
 
-ghost use Rattle.std.specs.Prelude.{◌≡◌, ◌<◌, ◌∷◌, Bool, IfOk, OnOk, cond, length, map, not};
+ghost use Rattle.std.specs.Prelude.{◌≡◌, ◌<◌, ◌∷◌, Bool, IfOk, OnOk, cond, encode_utf8, length, map, not};
 ghost use Rattle.determinize_below.specs.declared.look.Look.TheVariants as looks;
 ghost use Rattle.determinize_pattern.specs.Meaning as meanings;
-ghost use Rattle.determinize_pattern.specs.Patterns.{IsClass, meaning, repeated};
+ghost use Rattle.determinize_pattern.specs.Patterns.{IsClass, literal, meaning, repeated};
 ghost use Rattle.determinize_syntax.specs.Private.Reading.{Reads, rest};
 ghost use Rattle.determinize_syntax.specs.Spells as spells;
 ghost use Rattle.determinize_syntax.specs.Spells.{Atom, Choice, Items, Repeated, Spells, SpellsUnder};
@@ -12,12 +12,12 @@ ghost use Rattle.determinize_syntax.specs.Words.{◌∈◌, at_line, dot_set, fo
 use crate::class::class;
 use crate::cursor::Cursor;
 use crate::error::{ErrorKind, ParseError};
-use crate::escape::escape;
+use crate::escape::{Escape, read_escape};
 use crate::flags::{Flags, setting};
 use crate::group::{Context, read_opening};
 use crate::repetition::{Bounds, operator};
 use determinize_below::Look;
-use determinize_pattern::{ClassBytesRange, Pattern};
+use determinize_pattern::{ClassBytes, ClassBytesRange, Pattern};
 use std::alloc::{AllocError, Global};
 
 /// How deep groups and operators may be.
@@ -152,13 +152,48 @@ fn atom<'a>(
         return Ok(dot(alloc, flags)?);
     }
     if cursor.take(b'\\') {
-        let escaped = escape(cursor, start)?;
-        return Ok(byte(alloc, escaped, flags)?);
+        return escaped_atom(alloc, cursor, start, flags);
     }
+    literal_atom(alloc, cursor, flags)
+}
+
+/// Reads an escape after its backslash, which is at `start`, where it can be repeated.
+fn escaped_atom<'a>(
+    alloc: Global,
+    cursor: &mut Cursor<'a>,
+    start: Cursor<'a>,
+    flags: Flags,
+) -> Result<Pattern, ParseError>
+    ensures read { IfOk result (λ p. Reads cursor.old cursor.new
+        (λ t. Atom flags (meaning p) (0x5C ∷ t))) }
+{
+    match read_escape(alloc, cursor, start)? {
+        Escape::Byte(escaped) => Ok(byte(alloc, escaped, flags)?),
+        Escape::Wide(character) => Ok(wide(alloc, character)?),
+        Escape::Class(class) => Ok(one_of(class)),
+        Escape::Look(look) => Ok(assertion(look)),
+    }
+}
+
+/// Reads a character that stands for itself.
+fn literal_atom(
+    alloc: Global,
+    cursor: &mut Cursor<'_>,
+    flags: Flags,
+) -> Result<Pattern, ParseError>
+    ensures read { IfOk result (λ p. Reads cursor.old cursor.new (Atom flags (meaning p))) }
+    ensures progress { OnOk result (length (rest cursor.new) < length (rest cursor.old)) }
+{
     let Some(next) = cursor.peek() else {
         return Err(cursor.error_before(ErrorKind::RepetitionMissing));
     };
-    if !next.is_ascii() || is_special(next) || !cursor.take(next) {
+    if !next.is_ascii() {
+        let Some(character) = cursor.take_wide() else {
+            return Err(cursor.error_here(ErrorKind::UnicodeNotAllowed));
+        };
+        return Ok(wide(alloc, character)?);
+    }
+    if is_special(next) || !cursor.take(next) {
         return Err(cursor.error_before(ErrorKind::RepetitionMissing));
     }
     Ok(byte(alloc, next, flags)?)
@@ -241,6 +276,20 @@ fn repetition(
     }
 }
 
+/// Returns the pattern of one byte of the class.
+fn one_of(class: ClassBytes) -> Pattern
+    ensures { meaning result ≡ meanings.Byte class }
+{
+    Pattern::Class(class)
+}
+
+/// Returns the pattern of the assertion.
+fn assertion(look: Look) -> Pattern
+    ensures { meaning result ≡ meanings.Look look }
+{
+    Pattern::Look(look)
+}
+
 /// Returns the pattern of `^`.
 fn line_start(flags: Flags) -> Pattern
     ensures { meaning result ≡ meanings.Look (at_line flags looks.Start looks.StartLF looks.StartCRLF) }
@@ -307,6 +356,15 @@ fn both_cases(alloc: Global, byte: u8, flags: Flags) -> Result<Pattern, AllocErr
         end: byte,
     };
     Ok(Pattern::Class(class(alloc, &[range], flags, false)?))
+}
+
+/// Returns the pattern of the bytes of a character.
+fn wide(alloc: Global, character: char) -> Result<Pattern, AllocError>
+    ensures { IfOk result (λ p. meaning p ≡ literal (encode_utf8 character)) }
+{
+    let mut bytes = [0; 4];
+    let text = character.encode_utf8(&mut bytes);
+    Pattern::literal(alloc, text.as_bytes())
 }
 
 /// Returns whether the byte has a meaning of its own outside brackets.

@@ -1,10 +1,13 @@
 -- Places in a text, and the parts between them.
-use Rattle.std.specs.Prelude.{◌≡◌, ◌-◌, ◌++◌, ◌∷◌, ◌==◌, [], ℕ, Bool, List, Some, codes, false, slice_get, true}
-use Rattle.std.specs.Char.{is_ascii_digit}
+use Rattle.std.specs.Prelude.{◌≡◌, ◌-◌, ◌<◌, ◌≤◌, ◌++◌, ◌∷◌, ◌==◌, [], ℕ, Bool, List, Some, codes, false, slice_get, true}
+use Rattle.std.specs.Char.{digit_value, is_ascii_digit, is_digit}
 use Rattle.std.specs.List.{list_any}
 use Rattle.determinize_pattern.specs.Meaning.{Re}
-use Rattle.determinize_syntax.specs.Spells.{Atom, Sets, SpellsUnder}
-use Rattle.determinize_syntax.specs.Words.{is_name, set_flag}
+use Rattle.determinize_pattern.specs.Classes.{HasBytes}
+use Rattle.determinize_syntax.specs.Spells.{Atom, Escaped, IsWide, Sets, SpellsUnder}
+use Rattle.determinize_syntax.specs.Words.{Set, assertion, is_name, number, perl_class, set_flag}
+use Rattle.determinize_syntax.specs.declared.escape.Escape.{Escape}
+use Rattle.determinize_syntax.specs.declared.escape.Escape.TheVariants.{Byte, Class, Look, Wide}
 use Rattle.determinize_syntax.specs.declared.flags.Flags.{Flags}
 use Rattle.determinize_syntax.specs.declared.cursor.Cursor.{Cursor}
 
@@ -50,3 +53,20 @@ IsNamed t = (n : List ℕ) × (is_name n ≡ true) × (t ≡ n ++ codes ">")
 abbrev pub Opens : Flags → Flags → List ℕ → Type 0
 Opens f g t = (re : Re) (u : List ℕ) → SpellsUnder g re u
     → Atom f re (0x28 ∷ (t ++ (u ++ 0x29 ∷ [])))
+
+-- one hexadecimal digit, of this value
+abbrev pub IsHexDigit : ℕ → List ℕ → Type 0
+IsHexDigit n t = (d : ℕ) × (t ≡ d ∷ []) × (is_digit d 16 ≡ true) × (n ≡ digit_value d)
+
+-- hexadecimal digits, of this value if it is small enough for a character
+abbrev pub IsDigits : ℕ → List ℕ → Type 0
+IsDigits n t = n ≤ 0x10_FFFF → number 16 t ≡ Some n
+
+-- the text of an escape, with its backslash
+abbrev pub IsEscape : Escape → List ℕ → Type 0
+IsEscape (Byte b) t = Escaped b t
+IsEscape (Wide c) t = IsWide c × ((u : List ℕ) × (number 16 u ≡ Some c)
+    × (t ≡ codes "\\x{" ++ u ++ codes "}"))
+IsEscape (Class k) t = (c : ℕ) × (s : Set) × (perl_class c ≡ Some s) × HasBytes s k
+    × (t ≡ 0x5C ∷ c ∷ [])
+IsEscape (Look l) t = (u : List ℕ) × (assertion u ≡ Some l) × (t ≡ 0x5C ∷ u)

@@ -1,10 +1,13 @@
 -- Sets of bytes as ranges.
 use Rattle.std.specs.Prelude.{◌&&◌, ◌||◌, ◌≡◌, ℕ, Bool, List, Some, cond, nat_lt, not}
-use Rattle.std.specs.Char.{to_ascii_lowercase, to_ascii_uppercase}
+use Rattle.std.specs.Char.{is_ascii, is_ascii_alphabetic, is_ascii_alphanumeric, is_ascii_control, is_ascii_digit, is_ascii_graphic, is_ascii_hexdigit, is_ascii_lowercase, is_ascii_punctuation, is_ascii_uppercase, to_ascii_lowercase, to_ascii_uppercase}
+use Rattle.std.specs.Int.{is_in_range}
 use Rattle.determinize_pattern.specs.Classes.{pairs}
 use Rattle.determinize_pattern.specs.Meaning.{is_in}
 use Rattle.determinize_pattern.specs.declared.class.ClassBytesRange.{ClassBytesRange}
-use Rattle.determinize_syntax.specs.Words.{Set}
+use Rattle.determinize_syntax.specs.Words.{Set, ◌∈◌, is_space, is_word}
+use Rattle.determinize_syntax.specs.declared.kind.ClassKind.{ClassKind}
+use Rattle.determinize_syntax.specs.declared.kind.ClassKind.TheVariants.{Alnum, Alpha, Ascii, Blank, Cntrl, Digit, Graph, Lower, Print, Punct, Space, Upper, Word, Xdigit}
 
 -- the bytes of the ranges
 abbrev pub has : List ClassBytesRange → Set
@@ -21,3 +24,20 @@ turned negated s b = cond negated (not (s b)) (s b)
 -- of the bytes below i, the ranges have those of the set
 abbrev pub HasBelow : Set → ℕ → List ClassBytesRange → Type 0
 HasBelow s i ranges = (b : ℕ) → has ranges b ≡ (nat_lt b i && s b)
+
+-- the bytes of a class that has a name
+abbrev pub set_of : ClassKind → Set
+set_of Alnum = is_ascii_alphanumeric
+set_of Alpha = is_ascii_alphabetic
+set_of Ascii = is_ascii
+set_of Blank = λ c. c ∈ "\t "
+set_of Cntrl = is_ascii_control
+set_of Digit = is_ascii_digit
+set_of Graph = is_ascii_graphic
+set_of Lower = is_ascii_lowercase
+set_of Print = is_in_range 0x20 0x7E
+set_of Punct = is_ascii_punctuation
+set_of Space = is_space
+set_of Upper = is_ascii_uppercase
+set_of Word = is_word
+set_of Xdigit = is_ascii_hexdigit

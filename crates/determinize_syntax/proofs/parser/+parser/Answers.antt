@@ -27,29 +27,6 @@ atom-returns-then-take-4-clause-read t c =
     ∙ c.take.ensures.left c.if-take.false)) ∙ c.take-4.ensures.read c.if-take-4.true)
     (dot c.args.flags (meaning c.in_ok-dot.field-0) c.in_ok-dot.ensures)
 
-pub atom-returns-then-take-5-clause-read : goal.atom-returns-then-take-5-clause-read
-atom-returns-then-take-5-clause-read t c =
-    let f = c.args.flags in
-    let re = meaning c.in_ok-byte.field-0 in
-    let start = c.take-4.ensures.left c.if-take-4.false ∙ c.take-3.ensures.left c.if-take-3.false
-    ∙ c.take-2.ensures.left c.if-take-2.false ∙ c.take.ensures.left c.if-take.false in
-    prefixed (Atom f re) (ap rest (sym start) ∙ c.take-5.ensures.read c.if-take-5.true)
-    (renamed _ (λ v. Atom f re (0x5C ∷ v)) c.in_ok-escaped.ensures.read
-    (λ v h. escaped f c.in_ok-escaped.escaped re (0x5C ∷ v) h c.in_ok-byte.ensures))
-
-pub atom-returns-clause-read : goal.atom-returns-clause-read
-atom-returns-clause-read t c =
-    let b = c.in-Some.next in
-    let no : (b ∈ "\\.+*?()|[{^$") ≡ false = sym c.is_special.ensures ∙ c.if-is_special.false in
-    let low : is_ascii b ≡ true = sym c.is_ascii.ensures ∙ c.if-not-is_ascii.false in
-    let re = meaning c.in_ok-byte-2.field-0 in
-    let start = c.take-5.ensures.left c.if-take-5.false ∙ c.take-4.ensures.left c.if-take-4.false
-    ∙ c.take-3.ensures.left c.if-take-3.false ∙ c.take-2.ensures.left c.if-take-2.false
-    ∙ c.take.ensures.left c.if-take.false in
-    took (Atom c.args.flags re)
-    (ap rest (sym start) ∙ c.take-else-is_special.ensures.read c.if-not-take.false)
-    (plain c.args.flags b re (ap (λ x. is_ascii b && not x) no ∙ ap (λ x. x && true) low) c.in_ok-byte-2.ensures)
-
 pub choice-loop-branches-init : goal.choice-loop-branches-init
 choice-loop-branches-init t c = (
   [],

@@ -1,0 +1,135 @@
+//! Classes that have a name or a letter.
+
+ghost use Rattle.std.specs.Prelude.{◌≡◌, IfOk, IfSome, Some};
+ghost use Rattle.determinize_pattern.specs.Classes.{HasBytes, pairs};
+ghost use Rattle.determinize_syntax.specs.Private.Sets.{set_of, turned};
+ghost use Rattle.determinize_syntax.specs.Words.{Set, folded, named_class, perl_class};
+
+use crate::class::class;
+use crate::flags::Flags;
+use determinize_pattern::{ClassBytes, ClassBytesRange};
+use std::alloc::{AllocError, Global};
+
+/// A class that has a name or a letter.
+#[derive(Clone, Copy, Debug, PartialEq, Eq)]
+pub enum ClassKind {
+    Alnum,
+    Alpha,
+    Ascii,
+    Blank,
+    Cntrl,
+    Digit,
+    Graph,
+    Lower,
+    Print,
+    Punct,
+    Space,
+    Upper,
+    Word,
+    Xdigit,
+}
+
+impl ClassKind {
+    /// Returns the class of this name, as in `[:alpha:]`.
+    pub fn from_name(name: &[u8]) -> Option<ClassKind>
+        ensures { IfSome result (λ k. named_class name.now ≡ Some (set_of k)) }
+    {
+        match name {
+            b"alnum" => Some(ClassKind::Alnum),
+            b"alpha" => Some(ClassKind::Alpha),
+            b"ascii" => Some(ClassKind::Ascii),
+            b"blank" => Some(ClassKind::Blank),
+            b"cntrl" => Some(ClassKind::Cntrl),
+            b"digit" => Some(ClassKind::Digit),
+            b"graph" => Some(ClassKind::Graph),
+            b"lower" => Some(ClassKind::Lower),
+            b"print" => Some(ClassKind::Print),
+            b"punct" => Some(ClassKind::Punct),
+            b"space" => Some(ClassKind::Space),
+            b"upper" => Some(ClassKind::Upper),
+            b"word" => Some(ClassKind::Word),
+            b"xdigit" => Some(ClassKind::Xdigit),
+            _ => None,
+        }
+    }
+
+    /// Returns whether the class has the byte.
+    fn contains(self, byte: u8) -> bool
+        ensures { result ≡ set_of self byte }
+    {
+        match self {
+            ClassKind::Alnum => byte.is_ascii_alphanumeric(),
+            ClassKind::Alpha => byte.is_ascii_alphabetic(),
+            ClassKind::Ascii => byte.is_ascii(),
+            ClassKind::Blank => byte == b'\t' || byte == b' ',
+            ClassKind::Cntrl => byte.is_ascii_control(),
+            ClassKind::Digit => byte.is_ascii_digit(),
+            ClassKind::Graph => byte.is_ascii_graphic(),
+            ClassKind::Lower => byte.is_ascii_lowercase(),
+            ClassKind::Print => byte >= b' ' && byte <= b'~',
+            ClassKind::Punct => byte.is_ascii_punctuation(),
+            ClassKind::Space => matches!(byte, 9..=13 | b' '),
+            ClassKind::Upper => byte.is_ascii_uppercase(),
+            ClassKind::Word => byte.is_ascii_alphanumeric() || byte == b'_',
+            ClassKind::Xdigit => byte.is_ascii_hexdigit(),
+        }
+    }
+
+    /// Returns the bytes of the class.
+    fn members(self, alloc: Global) -> Result<Vec<ClassBytesRange>, AllocError>
+        ensures { IfOk result (λ v. HasBytes (set_of self) (pairs v.items)) }
+    {
+        let mut members = Vec::new(alloc);
+        for i in 0..256_usize {
+            let byte = i as u8;
+            if self.contains(byte) {
+                let range = ClassBytesRange {
+                    start: byte,
+                    end: byte,
+                };
+                members.push(range)?;
+            }
+        }
+        Ok(members)
+    }
+
+    /// Returns the class, under `i` in both cases, or that of all other bytes if `negated` is set.
+    pub fn class(
+        self,
+        alloc: Global,
+        flags: Flags,
+        negated: bool,
+    ) -> Result<ClassBytes, AllocError>
+        ensures { IfOk result (λ c. HasBytes (turned negated (folded flags (set_of self))) c) }
+    {
+        let members = self.members(alloc)?;
+        class(alloc, &members, flags, negated)
+    }
+}
+
+/// Returns the class of a backslash and the letter, as `\d`.
+pub fn perl(alloc: Global, letter: u8) -> Result<Option<ClassBytes>, AllocError>
+    ensures { IfOk result (λ o. IfSome o (λ c.
+        (s : Set) × (perl_class letter ≡ Some s) × HasBytes s c)) }
+{
+    let Some((kind, negated)) = perl_kind(letter) else {
+        return Ok(None);
+    };
+    let class = kind.class(alloc, Flags::new(), negated)?;
+    Ok(Some(class))
+}
+
+/// Returns the class of the letter, and whether it has all other bytes.
+fn perl_kind(letter: u8) -> Option<(ClassKind, bool)>
+    ensures { IfSome result (λ r. perl_class letter ≡ Some (turned r.1 (set_of r.0))) }
+{
+    match letter {
+        b'd' => Some((ClassKind::Digit, false)),
+        b'D' => Some((ClassKind::Digit, true)),
+        b's' => Some((ClassKind::Space, false)),
+        b'S' => Some((ClassKind::Space, true)),
+        b'w' => Some((ClassKind::Word, false)),
+        b'W' => Some((ClassKind::Word, true)),
+        _ => None,
+    }
+}
