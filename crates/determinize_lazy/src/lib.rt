@@ -5,7 +5,8 @@
 //! of such a walk, also in a range of a haystack and in either direction.
 //!
 //! - `lazy`: the type, and walks. `search`: searches. `step`: one step of either. `scan`: searches
-//!   of texts in pieces. `walker`: walks by steps. `engine`: a lazy DFA as an `Engine`.
+//!   of texts in pieces. `walker`: walks by steps. `engine`: a lazy DFA as an `Engine`. `owned`: one
+//!   that owns its NFA.
 //! - The transition table and the rule of what is cached are in the crate `determinize_table`,
 //!   which also says what a row is.
 //!
@@ -18,12 +19,14 @@ mod debug;
 mod engine;
 pub mod laws;
 pub mod lazy;
+pub mod owned;
 mod scan;
 mod search;
 mod step;
 mod walker;
 
 pub use crate::lazy::Lazy;
+pub use crate::owned::OwnedLazy;
 pub use crate::scan::Scan;
 pub use crate::walker::Walker;
 pub use determinize_engine::engine::Engine;
