@@ -8,6 +8,7 @@ pub mod certain;
 pub mod idle;
 pub mod iter;
 pub mod laws;
+pub mod owned;
 pub mod pieces;
 pub mod plain;
 pub mod regex;
@@ -19,5 +20,6 @@ pub use determinize_nfa::{
 };
 pub use idle::is_idle;
 pub use iter::Searcher;
+pub use owned::OwnedRegex;
 pub use pieces::Pieces;
 pub use regex::{LazyRegex, Regex};

@@ -33,8 +33,8 @@ use std::ops::Range;
 /// its start. Either may be lazy, or built in advance (`determinize_dense`).
 #[derive(Drop)]
 pub struct Regex<F: Engine, B: Engine<Error = F::Error>> {
-    forward: F,
-    backward: B,
+    pub(crate) forward: F,
+    pub(crate) backward: B,
     // Whether the prefix of the NFA is apart (`has_prefix_apart`), if that is known.
     is_apart: Option<bool>,
 }
