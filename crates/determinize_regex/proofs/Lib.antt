@@ -1,2 +1,3 @@
+pub mod FoundByRegex
 pub mod FoundOfPatterns
 pub mod ListsOfPatterns

@@ -1,3 +1,5 @@
 pub mod Laws
 pub mod PatternMatches
 pub mod PatternsAt
+pub mod Private
+pub mod Regexes

@@ -1,4 +1,7 @@
-//! Patterns and their matches: what searches over the NFA of patterns find, in words of patterns.
+//! Patterns and their matches, from one crate: all that a program needs to search for patterns.
+//!
+//! A [`Regex`] is compiled once and then searches. A [`Matcher`] searches for the same patterns
+//! with caches of its own.
 //!
 //! `compile` of `determinize_pattern` makes the NFA, and `determinize_find` searches it. The
 //! [`laws`] join their contracts: the leftmost match that a search finds is that of the patterns,
@@ -6,3 +9,10 @@
 #![tactic(auto)]
 
 pub mod laws;
+pub mod matcher;
+pub mod regex;
+
+pub use determinize_below::{Anchored, Input, Match};
+pub use determinize_pattern::{CompileError, Config, Pattern};
+pub use matcher::Matcher;
+pub use regex::{Regex, RegexConfig};

@@ -1,0 +1,31 @@
+-- What a regex is seen as, and what it finds.
+use Rattle.std.specs.Prelude.{ℕ, List, None, Option, Some, map}
+use Rattle.determinize_below.specs.Search.{Asked}
+use Rattle.determinize_below.specs.declared.search.Match.{Match}
+use Rattle.determinize_pattern.specs.Meaning.{Re}
+use Rattle.determinize_pattern.specs.Patterns.{meaning}
+use Rattle.determinize_pattern.specs.declared.pattern.Pattern.{Pattern}
+use Rattle.determinize_regex.specs.PatternMatches.{AreMatchesOf, IsLeftmostOfIn}
+
+-- the patterns, the line terminator of their assertions, and the greatest number of states of each of
+-- the two caches
+pub record RegexValue : Type 0 where
+  pub patterns : List Pattern
+  pub terminator : ℕ
+  pub limit : ℕ
+
+-- the meanings of the patterns
+abbrev pub meanings : RegexValue → List Re
+meanings regex = map meaning regex.patterns
+
+-- the leftmost match of the patterns in the input
+abbrev pub IsFirst : RegexValue → Asked → Option Match → Type 0
+IsFirst regex = IsLeftmostOfIn regex.terminator (meanings regex)
+
+-- all matches of the patterns in the input, in their order
+abbrev pub AreAll : RegexValue → Asked → List Match → Type 0
+AreAll regex asked = AreMatchesOf regex.terminator (meanings regex) asked None
+
+-- the patterns have a match in the input
+abbrev pub HasFirst : RegexValue → Asked → Type 0
+HasFirst regex asked = (m : Match) × IsFirst regex asked (Some m)

@@ -1,0 +1,93 @@
+//! Searches for the patterns of a regex with caches of their own.
+
+ghost use Rattle.std.specs.Prelude.{◌≡◌, ◌≤◌, IfOk, true};
+ghost use Rattle.std.specs.Option.{IfSome};
+ghost use Rattle.determinize_engine.specs.Searches.{has_start};
+ghost use Rattle.determinize_regex.specs.Private.Searched.{IsSearched};
+ghost use Rattle.determinize_regex.specs.Regexes.{AreAll, IsFirst};
+
+use crate::regex::Regex;
+use determinize_below::{Input, Match};
+use determinize_find::{LazyRegex, OwnedRegex};
+use std::alloc::{AllocError, Allocator, Global};
+use std::marker::Model;
+
+/// A search for the patterns of a [`Regex`], with two caches of its own.
+#[derive(Drop)]
+pub struct Matcher<'r, A: Allocator + Copy = Global> {
+    regex: &'r Regex,
+    search: LazyRegex<'r, Global, Global, A>,
+}
+
+impl<'r, A: Allocator + Copy> Model for Matcher<'r, A> {
+    ghost use Rattle.std.specs.Coded.{codes};
+    ghost use Rattle.determinize_pattern.specs.contracts.pattern.Pattern as e;
+    ghost use Rattle.determinize_regex.specs.Private.Searched.{IsSearched};
+    ghost use Rattle.determinize_regex.specs.Regexes.{RegexValue};
+
+    ghost Value = { RegexValue };
+
+    ghost coded = { Prim.hlevel (codes, e.the_row.coded) };
+
+    ghost view = { λ m. record {
+      patterns = m.regex.now.patterns;
+      terminator = m.regex.now.terminator;
+      limit = m.search.limit;
+    } };
+
+    ghost invariant = { λ m. IsSearched m.regex.now.patterns m.regex.now.terminator m.search.nfa };
+}
+
+impl<'r, A: Allocator + Copy> Matcher<'r, A> {
+    /// Returns a matcher of a regex, by the NFAs of its search.
+    pub(crate) fn new(
+        alloc: A,
+        regex: &'r Regex,
+        search: &'r OwnedRegex,
+        limit: usize,
+    ) -> Matcher<'r, A>
+        requires { IsSearched regex.now.patterns regex.now.terminator search.now.nfa }
+        ensures { result ≡ record {
+          patterns = regex.now.patterns;
+          terminator = regex.now.terminator;
+          limit = limit;
+        } }
+    {
+        Matcher {
+            regex,
+            search: LazyRegex::new(alloc, search.nfa(), search.reverse(), limit),
+        }
+    }
+
+    /// Returns the regex.
+    pub fn regex(&self) -> &'r Regex
+        ensures patterns { result.now.patterns ≡ self.now.patterns }
+        ensures terminator { result.now.terminator ≡ self.now.terminator }
+    {
+        self.regex
+    }
+
+    /// Returns the leftmost match of an input, as `Regex::find`.
+    pub fn find(&mut self, input: &Input<'_>) -> Result<Option<Match>, AllocError>
+        requires start { has_start input.now.anchored ≡ true }
+        ensures leftmost { IfOk result (λ found. IsFirst self.old input.now found) }
+        ensures within { IfOk result (λ found. IfSome found (λ m.
+            (input.now.start ≤ m.start) × (m.start ≤ m.end) × (m.end ≤ input.now.end))) }
+        ensures same { self.new ≡ self.old }
+    {
+        self.search.find(input)
+    }
+
+    /// Returns all matches of an input, as `Regex::find_all`.
+    pub fn find_all<C: Allocator>(
+        &mut self,
+        alloc: C,
+        input: &Input<'_>,
+    ) -> Result<Vec<Match, C>, AllocError>
+        requires start { has_start input.now.anchored ≡ true }
+        ensures all { IfOk result (λ found. AreAll self.old input.now found.items) }
+        ensures same { self.new ≡ self.old }
+    {
+        self.search.find_all(alloc, input)
+    }
+}

@@ -1,0 +1,148 @@
+//! Patterns that are compiled once, and searched for.
+
+ghost use Rattle.std.specs.Prelude.{◌≡◌, ◌≤◌, IfOk, true};
+ghost use Rattle.std.specs.Option.{IfSome};
+ghost use Rattle.determinize_engine.specs.Searches.{has_start};
+ghost use Rattle.determinize_regex.specs.Regexes.{AreAll, IsFirst};
+
+use crate::matcher::Matcher;
+use determinize_below::{Input, Match, NFA};
+use determinize_find::OwnedRegex;
+use determinize_pattern::{CompileError, Config, Pattern, compile};
+use std::alloc::{AllocError, Allocator, Global};
+use std::marker::Model;
+
+/// The limits of a regex, and its line terminator.
+#[derive(Debug, Drop)]
+pub struct RegexConfig {
+    /// The options of `compile`.
+    pub compile: Config,
+    /// The most states in each of its two caches.
+    pub cache_limit: usize,
+}
+
+impl RegexConfig {
+    /// Returns the usual options: those of `Config::new`, and 10,000 states in each cache.
+    pub fn new() -> RegexConfig
+        ensures state_limit { result.compile.state_limit ≡ 100000 }
+        ensures terminator { result.compile.look_matcher ≡ 10 }
+        ensures cache_limit { result.cache_limit ≡ 10000 }
+    {
+        RegexConfig {
+            compile: Config::new(),
+            cache_limit: 10_000,
+        }
+    }
+}
+
+/// Patterns that are compiled once, and searched for. The first pattern is pattern 0, and is
+/// preferred.
+///
+/// It owns all its parts, so a function can return it, and a struct can hold it. Its caches are
+/// kept from one search to the next. To search with several caches, as one for each stream of text,
+/// make a [`Matcher`] for each.
+#[derive(Drop)]
+pub struct Regex {
+    patterns: Vec<Pattern>,
+    search: OwnedRegex,
+}
+
+impl Model for Regex {
+    ghost use Rattle.std.specs.Coded.{codes};
+    ghost use Rattle.determinize_pattern.specs.contracts.pattern.Pattern as e;
+    ghost use Rattle.determinize_regex.specs.Private.Searched.{IsSearched};
+    ghost use Rattle.determinize_regex.specs.Regexes.{RegexValue};
+
+    ghost Value = { RegexValue };
+
+    ghost coded = { Prim.hlevel (codes, e.the_row.coded) };
+
+    ghost view = { λ r. record {
+      patterns = r.patterns.items;
+      terminator = r.search.nfa.terminator;
+      limit = r.search.limit;
+    } };
+
+    ghost invariant = { λ r.
+        IsSearched r.patterns.items r.search.nfa.terminator r.search.nfa };
+}
+
+impl Regex {
+    /// Returns the patterns, compiled, with empty caches.
+    ///
+    /// Returns an error where `compile` does, or if the reverse of the NFA has too many states.
+    pub fn from_patterns(
+        alloc: Global,
+        patterns: Vec<Pattern>,
+        config: RegexConfig,
+    ) -> Result<Regex, CompileError>
+        ensures patterns { IfOk result (λ regex. regex.patterns ≡ patterns.items) }
+        ensures terminator { IfOk result
+            (λ regex. regex.terminator ≡ config.compile.look_matcher) }
+        ensures limit { IfOk result (λ regex. regex.limit ≡ config.cache_limit) }
+    {
+        let nfa = compile(alloc, &patterns, config.compile)?;
+        let search = OwnedRegex::from_nfa(alloc, nfa, config.cache_limit)?;
+        Ok(Regex { patterns, search })
+    }
+
+    /// Returns the patterns.
+    pub fn patterns(&self) -> &[Pattern]
+        ensures { result.now ≡ self.now.patterns }
+    {
+        &self.patterns
+    }
+
+    /// Returns the NFA of the patterns.
+    pub fn nfa(&self) -> &NFA
+        ensures { result.now.terminator ≡ self.now.terminator }
+    {
+        self.search.nfa()
+    }
+
+    /// Returns a matcher of these patterns with two empty caches of at most `limit` states each.
+    /// Does not allocate. Searches allocate from `alloc`.
+    pub fn matcher<A: Allocator + Copy>(&self, alloc: A, limit: usize) -> Matcher<'_, A>
+        ensures patterns { result.patterns ≡ self.now.patterns }
+        ensures terminator { result.terminator ≡ self.now.terminator }
+        ensures limit { result.limit ≡ limit }
+    {
+        Matcher::new(alloc, self, &self.search, limit)
+    }
+
+    /// Returns the leftmost match of an input, if any: no match begins before it, and of those that
+    /// begin at the same index it is the preferred one. Its ends are indices into the haystack.
+    ///
+    /// The bytes next to the range are seen by assertions. If the range starts past its end, the
+    /// result is `Ok(None)`. Returns an error if an allocation fails; the caches stay usable.
+    pub fn find(&mut self, input: &Input<'_>) -> Result<Option<Match>, AllocError>
+        requires start { has_start input.now.anchored ≡ true }
+        ensures leftmost { IfOk result (λ found. IsFirst self.old input.now found) }
+        ensures within { IfOk result (λ found. IfSome found (λ m.
+            (input.now.start ≤ m.start) × (m.start ≤ m.end) × (m.end ≤ input.now.end))) }
+        ensures same { self.new ≡ self.old }
+    {
+        self.search.find(input)
+    }
+
+    /// Returns all matches of an input, in their order: each is the leftmost one from the end of
+    /// the one before on, but no empty match begins there. The list is allocated from `alloc`.
+    pub fn find_all<C: Allocator>(
+        &mut self,
+        alloc: C,
+        input: &Input<'_>,
+    ) -> Result<Vec<Match, C>, AllocError>
+        requires start { has_start input.now.anchored ≡ true }
+        ensures all { IfOk result (λ found. AreAll self.old input.now found.items) }
+        ensures same { self.new ≡ self.old }
+    {
+        self.search.find_all(alloc, input)
+    }
+
+    /// Clears both caches.
+    pub fn clear(&mut self)
+        ensures same { self.new ≡ self.old }
+    {
+        self.search.clear();
+    }
+}
