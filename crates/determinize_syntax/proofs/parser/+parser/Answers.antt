@@ -91,8 +91,8 @@ items-loop-cursor-preserved t c =
     item_read c.args.flags.now c.loop-cursor.flags c.loop-cursor.items.items c.push.new.self.items c.in_ok-item.item
     c.loop-cursor.invariant read c.in_ok-push.ensures.items
 
-pub repeated-loop-pattern-init : goal.repeated-loop-pattern-init
-repeated-loop-pattern-init t c =
+pub repeated-loop-bounds-init : goal.repeated-loop-bounds-init
+repeated-loop-bounds-init t c =
     let f = c.args.flags in
     let re = meaning c.in_ok-pattern.pattern in (
       renamed (Atom f re) (λ v. (e : Bool) × Repeated f e re v × (e ≡ true → IsNotAt 0x3F c.atom.new.cursor))
@@ -100,22 +100,22 @@ repeated-loop-pattern-init t c =
       c.in_ok-pattern.ensures.progress,
     )
 
-pub repeated-loop-pattern-preserved : goal.repeated-loop-pattern-preserved
-repeated-loop-pattern-preserved t c =
+pub repeated-loop-bounds-preserved : goal.repeated-loop-bounds-preserved
+repeated-loop-bounds-preserved t c =
     let b = c.in-Some.bounds in
-    let read : Reads c.loop-pattern.cursor c.operator.new.cursor (Operator b.min b.max) =
-    subst (λ o. IfSome o (λ b. Reads c.loop-pattern.cursor c.operator.new.cursor (Operator b.min b.max))) c.in-Some.is
+    let read : Reads c.loop-bounds.cursor c.operator.new.cursor (Operator b.min b.max) =
+    subst (λ o. IfSome o (λ b. Reads c.loop-bounds.cursor c.operator.new.cursor (Operator b.min b.max))) c.in-Some.is
     c.in_ok-bounds.ensures.read in
-    let less : length (rest c.operator.new.cursor) < length (rest c.loop-pattern.cursor) =
-    subst (λ o. OnSome o (length (rest c.operator.new.cursor) < length (rest c.loop-pattern.cursor))) c.in-Some.is
+    let less : length (rest c.operator.new.cursor) < length (rest c.loop-bounds.cursor) =
+    subst (λ o. OnSome o (length (rest c.operator.new.cursor) < length (rest c.loop-bounds.cursor))) c.in-Some.is
     c.in_ok-bounds.ensures.progress in
     let short : length (rest c.take.new.self) ≤ length (rest c.operator.new.cursor) =
     shorter (rest c.operator.new.cursor) (rest c.take.new.self) c.take.result c.take.ensures.read
     (λ e. ap rest (c.take.ensures.left e)) in
-    let before : length (rest c.loop-pattern.cursor) < length (rest c.args.cursor.now) = c.loop-pattern.invariant.1 in
-    let re = meaning c.loop-pattern.pattern in (
-      again_read (rest c.args.cursor.now) (rest c.loop-pattern.cursor) (rest c.operator.new.cursor) (rest c.take.new.self)
-          c.args.flags re (meaning c.in_ok-pattern-2.pattern) b.min b.max c.take.result c.loop-pattern.invariant.0 read
+    let before : length (rest c.loop-bounds.cursor) < length (rest c.args.cursor.now) = c.loop-bounds.invariant.1 in
+    let re = meaning c.loop-bounds.pattern in (
+      again_read (rest c.args.cursor.now) (rest c.loop-bounds.cursor) (rest c.operator.new.cursor) (rest c.take.new.self)
+          c.args.flags re (meaning c.in_ok-pattern-2.pattern) b.min b.max c.take.result c.loop-bounds.invariant.0 read
           c.take.ensures.read (λ e. ap rest (c.take.ensures.left e)) c.take.ensures.other
           (c.in_ok-pattern-2.ensures ∙ ap (λ x. repeated b.min b.max x re) c.is_greedy-greedy.ensures),
       omega arith,

@@ -31,11 +31,11 @@ invariant-items-loop-cursor l = Reads l.fn.cursor l.cursor (Items l.fn.flags l.f
 abbrev pub decreases-items-loop-cursor : goal.decreases-items-loop-cursor
 decreases-items-loop-cursor l = length (rest l.cursor)
 
-abbrev pub invariant-repeated-loop-pattern : goal.invariant-repeated-loop-pattern
-invariant-repeated-loop-pattern l =
+abbrev pub invariant-repeated-loop-bounds : goal.invariant-repeated-loop-bounds
+invariant-repeated-loop-bounds l =
     Reads l.fn.cursor l.cursor
     (λ t. (e : Bool) × Repeated l.fn.flags e (meaning l.pattern) t × (e ≡ true → IsNotAt 0x3F l.cursor))
     × (length (rest l.cursor) < length (rest l.fn.cursor))
 
-abbrev pub decreases-repeated-loop-pattern : goal.decreases-repeated-loop-pattern
-decreases-repeated-loop-pattern l = length (rest l.cursor)
+abbrev pub decreases-repeated-loop-bounds : goal.decreases-repeated-loop-bounds
+decreases-repeated-loop-bounds l = length (rest l.cursor)
