@@ -1,3 +1,4 @@
 pub mod FoundByRegex
 pub mod FoundOfPatterns
 pub mod ListsOfPatterns
+pub mod Spelling

@@ -3,3 +3,4 @@ pub mod PatternMatches
 pub mod PatternsAt
 pub mod Private
 pub mod Regexes
+pub mod Spelled

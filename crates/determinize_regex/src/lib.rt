@@ -8,11 +8,14 @@
 //! and so are all matches.
 #![tactic(auto)]
 
+pub mod error;
 pub mod laws;
 pub mod matcher;
 pub mod regex;
 
 pub use determinize_below::{Anchored, Input, Match};
 pub use determinize_pattern::{CompileError, Config, Pattern};
+pub use determinize_syntax::{ErrorKind, Flags, ParseError};
+pub use error::Error;
 pub use matcher::Matcher;
 pub use regex::{Regex, RegexConfig};

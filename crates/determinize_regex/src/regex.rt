@@ -1,14 +1,19 @@
 //! Patterns that are compiled once, and searched for.
 
-ghost use Rattle.std.specs.Prelude.{◌≡◌, ◌≤◌, IfOk, true};
+ghost use Rattle.std.specs.Prelude.{◌≡◌, ◌≤◌, ◌∷◌, [], IfOk, map, true};
 ghost use Rattle.std.specs.Option.{IfSome};
 ghost use Rattle.determinize_engine.specs.Searches.{has_start};
+ghost use Rattle.determinize_pattern.specs.Patterns.{meaning};
 ghost use Rattle.determinize_regex.specs.Regexes.{AreAll, IsFirst};
+ghost use Rattle.determinize_regex.specs.Spelled.{AreSpelled};
+ghost use Rattle.determinize_syntax.specs.Words.{no_flags};
 
+use crate::error::Error;
 use crate::matcher::Matcher;
 use determinize_below::{Input, Match, NFA};
 use determinize_find::OwnedRegex;
 use determinize_pattern::{CompileError, Config, Pattern, compile};
+use determinize_syntax::{Flags, parse_with};
 use std::alloc::{AllocError, Allocator, Global};
 use std::marker::Model;
 
@@ -19,18 +24,22 @@ pub struct RegexConfig {
     pub compile: Config,
     /// The most states in each of its two caches.
     pub cache_limit: usize,
+    /// The flags that hold where the text of a pattern begins.
+    pub flags: Flags,
 }
 
 impl RegexConfig {
-    /// Returns the usual options: those of `Config::new`, and 10,000 states in each cache.
+    /// Returns the usual options: those of `Config::new`, 10,000 states in each cache, and no flag.
     pub fn new() -> RegexConfig
         ensures state_limit { result.compile.state_limit ≡ 100000 }
         ensures terminator { result.compile.look_matcher ≡ 10 }
         ensures cache_limit { result.cache_limit ≡ 10000 }
+        ensures flags { result.flags ≡ no_flags }
     {
         RegexConfig {
             compile: Config::new(),
             cache_limit: 10_000,
+            flags: Flags::new(),
         }
     }
 }
@@ -68,6 +77,34 @@ impl Model for Regex {
 }
 
 impl Regex {
+    /// Returns the pattern of a text, with the usual options.
+    ///
+    /// Returns `Parse` with index 0 if the text is not understood, and else an error where
+    /// `from_patterns` does.
+    pub fn new(alloc: Global, pattern: &str) -> Result<Regex, Error>
+        ensures spelled { IfOk result
+            (λ regex. AreSpelled no_flags (map meaning regex.patterns) (pattern.now ∷ [])) }
+        ensures terminator { IfOk result (λ regex. regex.terminator ≡ 10) }
+        ensures limit { IfOk result (λ regex. regex.limit ≡ 10000) }
+    {
+        Regex::new_many(alloc, &[pattern], RegexConfig::new())
+    }
+
+    /// Returns the patterns of texts. The first is pattern 0, and is preferred.
+    ///
+    /// Returns `Parse` with the index of the first text that is not understood, and else an error
+    /// where `from_patterns` does.
+    pub fn new_many(alloc: Global, patterns: &[&str], config: RegexConfig) -> Result<Regex, Error>
+        ensures spelled { IfOk result (λ regex.
+            AreSpelled config.flags (map meaning regex.patterns) (map (λ t. t.now) patterns.now)) }
+        ensures terminator { IfOk result
+            (λ regex. regex.terminator ≡ config.compile.look_matcher) }
+        ensures limit { IfOk result (λ regex. regex.limit ≡ config.cache_limit) }
+    {
+        let parsed = parse_all(alloc, patterns, config.flags)?;
+        Ok(Regex::from_patterns(alloc, parsed, config)?)
+    }
+
     /// Returns the patterns, compiled, with empty caches.
     ///
     /// Returns an error where `compile` does, or if the reverse of the NFA has too many states.
@@ -145,4 +182,19 @@ impl Regex {
     {
         self.search.clear();
     }
+}
+
+/// Returns the patterns of texts.
+fn parse_all(alloc: Global, texts: &[&str], flags: Flags) -> Result<Vec<Pattern>, Error>
+    ensures { IfOk result (λ patterns.
+        AreSpelled flags (map meaning patterns.items) (map (λ t. t.now) texts.now)) }
+{
+    let mut patterns = Vec::new(alloc);
+    for i in 0..texts.len() {
+        match parse_with(alloc, texts[i], flags) {
+            Ok(pattern) => patterns.push(pattern)?,
+            Err(error) => return Err(Error::Parse { index: i, error }),
+        }
+    }
+    Ok(patterns)
 }

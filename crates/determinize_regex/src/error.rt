@@ -1,0 +1,47 @@
+//! Why there is no regex.
+
+use determinize_below::BuildError;
+use determinize_pattern::CompileError;
+use determinize_syntax::ParseError;
+use std::alloc::{AllocError, AllocFailed};
+use std::fmt;
+
+/// An error from the patterns of a regex.
+#[derive(Clone, Copy, Debug, PartialEq, Eq)]
+pub enum Error {
+    /// The text of the pattern with this index is not understood.
+    Parse { index: usize, error: ParseError },
+    /// The patterns were not compiled.
+    Compile(CompileError),
+}
+
+impl fmt::Display for Error {
+    fn fmt<W: fmt::Write>(&self, f: &mut fmt::Formatter<W>) -> fmt::Result {
+        match self {
+            Error::Parse { index, error } => write!(
+                f,
+                "pattern {index}: {:?} at {}..{}",
+                error.kind, error.start, error.end
+            ),
+            Error::Compile(error) => write!(f, "{error}"),
+        }
+    }
+}
+
+impl From<CompileError> for Error {
+    fn from(error: CompileError) -> Error {
+        Error::Compile(error)
+    }
+}
+
+impl From<AllocError> for Error {
+    fn from(error: AllocError) -> Error {
+        Error::Compile(CompileError::from(error))
+    }
+}
+
+impl<T: Drop> From<AllocFailed<T>> for Error {
+    fn from(error: AllocFailed<T>) -> Error {
+        Error::Compile(CompileError::from(error))
+    }
+}
