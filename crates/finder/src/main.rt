@@ -1,65 +1,123 @@
-//! Prints all matches of two patterns in standard input: the pattern and both ends, one on a line.
+//! Prints the lines of files, or of standard input, in which a pattern matches.
 #![tactic(auto)]
 
-use determinize_below::Input;
-use determinize_below::nfa::BuildError;
-use determinize_find::{Regex, reversed};
-use determinize_pattern::{CompileError, Config, Pattern, compile};
-use std::alloc::{AllocError, Global};
-use std::io::{self, Read};
+mod error;
+mod lines;
+mod options;
 
-/// An error that ends the program.
-#[derive(Debug, Drop)]
-enum Error {
-    /// The NFA of the patterns, or its reverse, was not built.
-    Compile(CompileError),
-    /// An allocation failed, or the input or the output.
-    Io(io::Error),
+use crate::error::Error;
+use crate::lines::Lines;
+use crate::options::{Options, Shows};
+use determinize_regex::Regex;
+use std::io::{self, BufWriter, Write};
+use std::process::ExitCode;
+use std::{env, fs};
+
+/// The most states in a cache of a search.
+const LIMIT: usize = 10_000;
+
+const USAGE: &str = "usage: finder [-bcilnoqv] [-e PATTERN].. [PATTERN] [FILE]..
+Prints the lines in which a pattern matches, of the files or of standard input.
+  -e PATTERN  a pattern; if there are several, the first is preferred
+  -i          letters of the pattern match in both cases
+  -v          select the lines without a match
+  -o          print each match, and not the line; if there are several patterns, after its number
+  -c          print how many lines are selected
+  -l          print the names of the files with a selected line
+  -q          print nothing
+  -n, -b      print the number of the line, or the offset of what is printed, before it
+The exit status is 0 if a line is selected, 1 if none is, and 2 after an error.
+";
+
+/// What a search of all files has come to.
+#[derive(Clone, Copy, Debug, Default, PartialEq, Eq)]
+struct Outcome {
+    is_selected: bool,
+    is_failed: bool,
 }
 
-impl From<CompileError> for Error {
-    fn from(error: CompileError) -> Error {
-        Error::Compile(error)
+impl Outcome {
+    /// Returns the exit status. If nothing is printed, a selected line outweighs a file that could
+    /// not be read.
+    fn status(&self, shows: Shows) -> ExitCode {
+        let is_quiet = self.is_selected && shows == Shows::Nothing;
+        let status = match (self.is_failed, self.is_selected) {
+            (true, _) if !is_quiet => 2,
+            (_, true) => 0,
+            (_, false) => 1,
+        };
+        ExitCode::from(status)
     }
 }
 
-impl From<BuildError> for Error {
-    fn from(error: BuildError) -> Error {
-        Error::Compile(CompileError::from(error))
-    }
+/// Searches a file. One that cannot be opened is told on standard error.
+fn search_file<W: Write>(
+    rt: &HostRuntime,
+    lines: &mut Lines<'_>,
+    name: &str,
+    out: &mut W,
+) -> Result<Outcome, Error> {
+    let count = match fs::open(rt, name) {
+        Ok(file) => lines.read(name, file, out)?,
+        Err(error) => {
+            let _ = writeln!(rt.stderr(), "finder: {name}: {error}");
+            return Ok(Outcome {
+                is_selected: false,
+                is_failed: true,
+            });
+        }
+    };
+    Ok(Outcome {
+        is_selected: count > 0,
+        is_failed: false,
+    })
 }
 
-impl From<AllocError> for Error {
-    fn from(error: AllocError) -> Error {
-        Error::Io(io::Error::from(error))
-    }
-}
-
-impl From<io::Error> for Error {
-    fn from(error: io::Error) -> Error {
-        Error::Io(error)
-    }
-}
-
-/// Returns `[0-9]+`, which is pattern 0, and `[A-Z][a-z]*`, pattern 1.
-fn patterns(alloc: Global) -> Result<Vec<Pattern>, CompileError> {
-    let number = Pattern::digit(alloc)?.plus(alloc)?;
-    let capital = Pattern::range(alloc, b'A', b'Z')?;
-    let letters = Pattern::range(alloc, b'a', b'z')?.star(alloc)?;
-    let name = Pattern::concat(vec![in alloc; capital, letters]?);
-    Ok(vec![in alloc; number, name]?)
-}
-
-fn main(rt: HostRuntime) -> Result<(), Error> {
+/// Searches all files, or standard input if there is none.
+fn search<W: Write>(
+    rt: &HostRuntime,
+    options: &Options,
+    regex: &Regex,
+    out: &mut W,
+) -> Result<Outcome, Error> {
     let alloc = rt.alloc();
-    let nfa = compile(alloc, &patterns(alloc)?, Config::new())?;
-    let backward = reversed(alloc, &nfa)?;
-    let mut regex = Regex::new(alloc, &nfa, &backward, 1000);
-    let mut text = Vec::new(alloc);
-    rt.reader().read_to_end(&mut text)?;
-    for found in regex.find_all(alloc, &Input::new(text.as_slice()))? {
-        let pattern = found.pattern.as_usize();
-        println!(rt; "{pattern}: {}..{}", found.start, found.end)?;
+    let mut lines = Lines::new(alloc, options, regex.matcher(alloc, LIMIT));
+    let mut outcome = Outcome::default();
+    if options.files.is_empty() {
+        outcome.is_selected = lines.read("(standard input)", rt.reader(), out)? > 0;
     }
-    Ok(())
+    for name in &options.files {
+        let of_file = search_file(rt, &mut lines, name.as_str(), out)?;
+        outcome.is_selected = outcome.is_selected || of_file.is_selected;
+        outcome.is_failed = outcome.is_failed || of_file.is_failed;
+    }
+    Ok(outcome)
+}
+
+/// Does what the arguments ask for, and returns the exit status.
+fn run(rt: &HostRuntime) -> Result<ExitCode, Error> {
+    let alloc = rt.alloc();
+    let mut args = env::args(rt)?;
+    let _program = args.next();
+    let options = Options::read(alloc, args)?;
+    let mut out = BufWriter::new(alloc, io::writer(rt))?;
+    if options.helps {
+        out.write_all(USAGE.as_bytes())?;
+        out.flush()?;
+        return Ok(ExitCode::SUCCESS);
+    }
+    let regex = options.regex(alloc)?;
+    let outcome = search(rt, &options, &regex, &mut out)?;
+    out.flush()?;
+    Ok(outcome.status(options.shows))
+}
+
+fn main(rt: HostRuntime) -> ExitCode {
+    match run(&rt) {
+        Ok(status) => status,
+        Err(error) => {
+            let _ = writeln!(rt.stderr(), "finder: {error}");
+            ExitCode::from(2)
+        }
+    }
 }

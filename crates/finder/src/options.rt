@@ -1,0 +1,217 @@
+//! The arguments of the program.
+
+use determinize_regex::{Error as RegexError, Regex, RegexConfig};
+use std::alloc::{AllocError, AllocFailed, Global};
+use std::env::Args;
+use std::{fmt, io};
+
+/// What the arguments ask for.
+#[derive(Drop)]
+pub struct Options {
+    /// The texts of the patterns, of which the first is pattern 0.
+    pub patterns: Vec<String>,
+    /// The names of the files. Without one, standard input is read.
+    pub files: Vec<String>,
+    /// What is printed of each line that is selected.
+    pub shows: Shows,
+    /// Whether lines without a match are selected, and not those with one.
+    pub inverts: bool,
+    /// Whether the letters of the patterns stand for both of their cases.
+    pub ignores_case: bool,
+    /// Whether the number of each line is printed.
+    pub numbers: bool,
+    /// Whether the offset of each line or match is printed.
+    pub offsets: bool,
+    /// Whether the usage is printed, and nothing is searched.
+    pub helps: bool,
+}
+
+/// What is printed of the lines that are selected. Of two options the later one here counts.
+#[derive(Clone, Copy, Debug, PartialEq, Eq, PartialOrd, Ord)]
+pub enum Shows {
+    /// Each line.
+    Lines,
+    /// Each match of each line, and nothing else of it.
+    Matches,
+    /// Their number, for each file.
+    Count,
+    /// The name of each file that has one.
+    Names,
+    /// Nothing: only the exit status says whether there is one.
+    Nothing,
+}
+
+/// An error in the arguments.
+#[derive(Drop)]
+pub enum UsageError {
+    /// There is no such option.
+    UnknownOption(String),
+    /// The last option needs a pattern.
+    MissingPattern,
+    /// There is no pattern.
+    NoPattern,
+    /// The arguments could not be read, or an allocation failed.
+    Io(io::Error),
+}
+
+impl fmt::Display for UsageError {
+    fn fmt<W: fmt::Write>(&self, f: &mut fmt::Formatter<W>) -> fmt::Result {
+        match self {
+            UsageError::UnknownOption(option) => write!(f, "there is no option {option}"),
+            UsageError::MissingPattern => write!(f, "-e needs a pattern"),
+            UsageError::NoPattern => write!(f, "there is no pattern"),
+            UsageError::Io(error) => write!(f, "{error}"),
+        }
+    }
+}
+
+impl From<AllocError> for UsageError {
+    fn from(error: AllocError) -> UsageError {
+        UsageError::Io(io::Error::from(error))
+    }
+}
+
+impl<T: Drop> From<AllocFailed<T>> for UsageError {
+    fn from(error: AllocFailed<T>) -> UsageError {
+        UsageError::Io(io::Error::from(error))
+    }
+}
+
+impl From<io::Error> for UsageError {
+    fn from(error: io::Error) -> UsageError {
+        UsageError::Io(error)
+    }
+}
+
+/// What the next argument is taken for.
+#[derive(Clone, Copy, Debug, PartialEq, Eq)]
+enum Next {
+    /// An option, or else an operand.
+    Any,
+    /// The pattern of `-e`.
+    Pattern,
+    /// An operand: the options have ended.
+    Operand,
+}
+
+impl Options {
+    /// Returns the options of a program without arguments.
+    fn new(alloc: Global) -> Options {
+        Options {
+            patterns: Vec::new(alloc),
+            files: Vec::new(alloc),
+            shows: Shows::Lines,
+            inverts: false,
+            ignores_case: false,
+            numbers: false,
+            offsets: false,
+            helps: false,
+        }
+    }
+
+    /// Returns what the arguments ask for, without the name of the program. The first operand is the
+    /// pattern, unless `-e` gives one, and the others are files.
+    pub fn read(alloc: Global, args: Args) -> Result<Options, UsageError> {
+        let mut options = Options::new(alloc);
+        let mut operands = Vec::new(alloc);
+        let mut next = Next::Any;
+        for arg in args {
+            next = options.take(arg, next, &mut operands)?;
+        }
+        if next == Next::Pattern {
+            return Err(UsageError::MissingPattern);
+        }
+        options.take_operands(operands)?;
+        Ok(options)
+    }
+
+    /// Returns the patterns, compiled.
+    pub fn regex(&self, alloc: Global) -> Result<Regex, RegexError> {
+        let mut config = RegexConfig::new();
+        config.flags.case_insensitive = self.ignores_case;
+        let mut texts = Vec::new(alloc);
+        for pattern in &self.patterns {
+            texts.push(pattern.as_str())?;
+        }
+        Regex::new_many(alloc, texts.as_slice(), config)
+    }
+
+    /// Takes an argument, and returns what the next one is.
+    fn take(
+        &mut self,
+        arg: String,
+        next: Next,
+        operands: &mut Vec<String>,
+    ) -> Result<Next, UsageError> {
+        match next {
+            Next::Pattern => {
+                self.patterns.push(arg)?;
+                Ok(Next::Any)
+            }
+            Next::Operand => {
+                operands.push(arg)?;
+                Ok(Next::Operand)
+            }
+            Next::Any if is_operand(arg.as_str()) => {
+                operands.push(arg)?;
+                Ok(Next::Any)
+            }
+            Next::Any => self.take_option(arg),
+        }
+    }
+
+    /// Takes an option: `--help`, `--`, which ends the options, or letters after a hyphen.
+    fn take_option(&mut self, option: String) -> Result<Next, UsageError> {
+        if option.as_str() == "--" {
+            return Ok(Next::Operand);
+        }
+        if option.as_str() == "--help" {
+            self.helps = true;
+            return Ok(Next::Any);
+        }
+        let mut next = Next::Any;
+        for letter in option.as_bytes().iter().skip(1) {
+            if next == Next::Pattern || !self.set(*letter, &mut next) {
+                return Err(UsageError::UnknownOption(option));
+            }
+        }
+        Ok(next)
+    }
+
+    /// Sets the option of a letter. Returns whether there is one.
+    fn set(&mut self, letter: u8, next: &mut Next) -> bool {
+        match letter {
+            b'b' => self.offsets = true,
+            b'c' => self.shows = self.shows.max(Shows::Count),
+            b'e' => *next = Next::Pattern,
+            b'i' => self.ignores_case = true,
+            b'l' => self.shows = self.shows.max(Shows::Names),
+            b'n' => self.numbers = true,
+            b'o' => self.shows = self.shows.max(Shows::Matches),
+            b'q' => self.shows = Shows::Nothing,
+            b'v' => self.inverts = true,
+            _ => return false,
+        }
+        true
+    }
+
+    /// Takes the operands, once all options are known.
+    fn take_operands(&mut self, operands: Vec<String>) -> Result<(), UsageError> {
+        for operand in operands {
+            if self.patterns.is_empty() {
+                self.patterns.push(operand)?;
+            } else {
+                self.files.push(operand)?;
+            }
+        }
+        if self.patterns.is_empty() && !self.helps {
+            return Err(UsageError::NoPattern);
+        }
+        Ok(())
+    }
+}
+
+/// Returns whether an argument is an operand, and no option.
+fn is_operand(arg: &str) -> bool {
+    !arg.starts_with('-') || arg.len() == 1
+}
