@@ -5,8 +5,8 @@
 //! of such a walk, also in a range of a haystack and in either direction.
 //!
 //! - `lazy`: the type, and walks. `search`: searches. `step`: one step of either. `scan`: searches
-//!   of texts in pieces. `walker`: walks by steps. `engine`: a lazy DFA as an `Engine`. `owned`: one
-//!   that owns its NFA.
+//!   of texts in pieces. `walker`: walks by steps. `engine`: a lazy DFA as an `Engine`. `owned`:
+//!   one that owns its NFA.
 //! - The transition table and the rule of what is cached are in the crate `determinize_table`,
 //!   which also says what a row is.
 //!

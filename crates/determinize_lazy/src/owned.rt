@@ -1,5 +1,5 @@
-//! A lazy DFA that owns its NFA. For each search it lends NFA and cache to a [`Lazy`], and takes the
-//! cache back.
+//! A lazy DFA that owns its NFA. For each search it lends NFA and cache to a [`Lazy`], and takes
+//! the cache back.
 
 ghost use Rattle.std.specs.Prelude.{◌≡◌, ◌≤◌, length};
 ghost use Rattle.determinize_below.specs.Nfa.{IsAccepted};
@@ -18,8 +18,8 @@ use std::mem;
 
 /// A lazy DFA that owns its NFA, so a function can return it and a struct can hold it.
 ///
-/// The cache is kept from one search to the next, with at most `limit` states. The working memory of
-/// steps is not, and a search moves the cache twice, which takes a few nanoseconds.
+/// The cache is kept from one search to the next, with at most `limit` states. The working memory
+/// of steps is not, and a search moves the cache twice.
 #[derive(Drop)]
 pub struct OwnedLazy<N: Allocator = Global, A: Allocator = Global> {
     alloc: A,

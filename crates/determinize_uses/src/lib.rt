@@ -3,7 +3,8 @@
 //!
 //! - [`values`] makes one value of each small type: sets, start kinds, closures, states.
 //! - [`nfa`] makes an NFA by hand, and [`built`] one by a `Builder`.
-//! - [`patterns`] finds the leftmost match of patterns, in words of the patterns only.
+//! - [`words`] is a struct that owns patterns from their texts, and finds all their matches.
+//!   [`patterns`] finds the leftmost match of pattern values.
 //! - [`scanner`] finds all matches of a haystack, and [`lexer`] the longest token at each position.
 //!   [`steady`] finds all matches and never allocates while it runs.
 //! - [`input`] finds whether a haystack has a match, and both ends of the preferred one.
@@ -27,3 +28,4 @@ pub mod steady;
 pub mod steps;
 pub mod values;
 pub mod walk;
+pub mod words;

@@ -109,8 +109,8 @@ impl Options {
         }
     }
 
-    /// Returns what the arguments ask for, without the name of the program. The first operand is the
-    /// pattern, unless `-e` gives one, and the others are files.
+    /// Returns what the arguments ask for, without the name of the program. The first operand is
+    /// the pattern, unless `-e` gives one, and the others are files.
     pub fn read(alloc: Global, args: Args) -> Result<Options, UsageError> {
         let mut options = Options::new(alloc);
         let mut operands = Vec::new(alloc);
