@@ -1,32 +1,16 @@
--- The weight of each kind of pattern that has parts, and of several patterns.
--- Main statements: weight_repetition to weight_alternation, fewer_steps, fewer_inside, fewer_outside.
--- Used by: the proofs of `into_parts` and `drop`.
--- Idea: a fold of a constructor is the fold of its parts.
-use Rattle.std.proofs.Common.{◌≡◌, ◌∙◌, ◌++◌, ◌+◌, ◌*◌, ◌<◌, ℕ, Bool, Box, Global, List, Option, Vec, [], ◌∷◌, ap, arith, map, suc, sym}
+-- The weights of patterns: each step of the loop of `drop` leaves fewer.
+-- Main statements: fewer_steps, fewer_inside, fewer_outside, fewer_at_end.
+-- Used by: the proof of `drop`.
+-- Idea: each part is counted twice, once until it is taken and once until the loop is out of it.
+use Rattle.std.proofs.Common.{◌≡◌, ◌∙◌, ◌++◌, ◌+◌, ◌*◌, ◌<◌, ℕ, Global, List, Vec, [], ◌∷◌, ap, arith, map, suc, sym}
 use Rattle.determinize_pattern.specs.Private.Dropping.{Weight, left_around, node_weight, sizes, steps_left, weight, weight_of_all}
 use Rattle.determinize_pattern.specs.declared.pattern.Pattern.{Pattern, Pattern-F, fold-roll-Pattern, fold_out-Pattern}
 use Rattle.determinize_pattern.specs.declared.pattern.Pattern.TheVariants as patterns
-
-pub weight_repetition : (min : ℕ) (max : Option ℕ) (greedy : Bool) (sub : Box Pattern Global)
-    → weight (patterns.Repetition min max greedy sub)
-    ≡ record { size = suc (weight sub.value).size; around = (weight sub.value).around }
-weight_repetition min max greedy sub = ap weight (sym (patterns.rolls-Repetition min max greedy sub))
-    ∙ fold-roll-Pattern Weight node_weight (Pattern-F.Repetition min max greedy sub)
-
-pub weight_capture : (sub : Box Pattern Global) → weight (patterns.Capture sub)
-    ≡ record { size = suc (weight sub.value).size; around = (weight sub.value).around }
-weight_capture sub = ap weight (sym (patterns.rolls-Capture sub))
-    ∙ fold-roll-Pattern Weight node_weight (Pattern-F.Capture sub)
 
 pub weight_concat : (subs : Vec Pattern Global)
     → weight (patterns.Concat subs) ≡ weight_of_all (map weight subs.items)
 weight_concat subs = ap weight (sym (patterns.rolls-Concat subs))
     ∙ fold-roll-Pattern Weight node_weight (Pattern-F.Concat subs)
-
-pub weight_alternation : (subs : Vec Pattern Global)
-    → weight (patterns.Alternation subs) ≡ weight_of_all (map weight subs.items)
-weight_alternation subs = ap weight (sym (patterns.rolls-Alternation subs))
-    ∙ fold-roll-Pattern Weight node_weight (Pattern-F.Alternation subs)
 
 some_node_size : (f : Pattern-F Weight) → 0 < (node_weight f).size
 some_node_size Pattern-F.Empty = omega arith
