@@ -1,3 +1,4 @@
+pub mod Listing
 pub mod Classes
 pub mod Numbers
 pub mod Parts

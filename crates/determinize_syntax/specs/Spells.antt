@@ -9,6 +9,8 @@ use Rattle.determinize_pattern.specs.Meaning.{Look, Re}
 use Rattle.determinize_pattern.specs.Patterns as patterns
 use Rattle.determinize_pattern.specs.Patterns.{IsClass, literal, repeated}
 use Rattle.determinize_syntax.specs.Words.{Set, ◌∈◌, assertion, at_line, complement, dot_set, escaped_byte, folded, is_name, joined, named_class, no_flags, number, only, perl_class, set_flag}
+use Rattle.determinize_syntax.specs.declared.bracket.Before.{Before}
+use Rattle.determinize_syntax.specs.declared.bracket.Before.TheVariants.{AfterByte, AfterClass, AfterHyphen, AfterRange, First}
 use Rattle.determinize_syntax.specs.declared.flags.Flags.{Flags}
 
 abbrev pub Text : Type 0
@@ -36,50 +38,44 @@ pub data Escaped : ℕ → Text → Type 0 where
   braces : (t : Text) (b : ℕ) → number 16 t ≡ Some b → b < 128
       → Escaped b (codes "\\x{" ++ t ++ codes "}")
 
--- what stands before a place in brackets: nothing or hyphens, a range or name, a class, a hyphen, a
--- byte and whether it is escaped
-pub data Before : Type 0 where
-  first after_range after_class after_hyphen : Before
-  after_byte : Bool → ℕ → Before
-
 -- the byte stands for itself; `&&` and `~~` do not
 abbrev pub stands : Before → ℕ → Bool
-stands (after_byte false b) c =
+stands (AfterByte false b) c =
     is_ascii c && not (c ∈ "[]\\-") && not (b == c && c ∈ "&~")
 stands _ c = is_ascii c && not (c ∈ "[]\\-")
 
 -- a hyphen may be the last before the bracket closes
 abbrev pub may_end : Before → Bool
-may_end after_class = true
-may_end (after_byte _ _) = true
+may_end AfterClass = true
+may_end (AfterByte _ _) = true
 may_end _ = false
 
 -- what stands in brackets, and the bytes that it lists
 pub data Lists (f : Flags) : Before → Set → Text → Type 0 where
-  nothing : Lists f first (λ c. false) []
-  closing : Lists f after_range (only 0x5D) (codes "]")
-  hyphens : (s : Set) (t : Text) → Lists f first s t
-      → Lists f first (joined s (only 0x2D)) (t ++ codes "-")
-  hyphen : (s : Set) (t : Text) → Lists f after_range s t
-      → Lists f after_hyphen (joined s (only 0x2D)) (t ++ codes "-")
+  nothing : Lists f First (λ c. false) []
+  closing : Lists f AfterRange (only 0x5D) (codes "]")
+  hyphens : (s : Set) (t : Text) → Lists f First s t
+      → Lists f First (joined s (only 0x2D)) (t ++ codes "-")
+  hyphen : (s : Set) (t : Text) → Lists f AfterRange s t
+      → Lists f AfterHyphen (joined s (only 0x2D)) (t ++ codes "-")
   byte : (p : Before) (s : Set) (t : Text) (c : ℕ) → Lists f p s t → stands p c ≡ true
-      → Lists f (after_byte false c) (joined s (only c)) (t ++ c ∷ [])
+      → Lists f (AfterByte false c) (joined s (only c)) (t ++ c ∷ [])
   escaped : (p : Before) (s : Set) (t u : Text) (b : ℕ) → Lists f p s t → Escaped b u
-      → Lists f (after_byte true b) (joined s (only b)) (t ++ u)
+      → Lists f (AfterByte true b) (joined s (only b)) (t ++ u)
   class : (p : Before) (s : Set) (t : Text) (c : ℕ) (k : Set) → Lists f p s t
-      → perl_class c ≡ Some k → Lists f after_class (joined s k) (t ++ 0x5C ∷ c ∷ [])
+      → perl_class c ≡ Some k → Lists f AfterClass (joined s k) (t ++ 0x5C ∷ c ∷ [])
   name : (p : Before) (s : Set) (t n : Text) (k : Set) → Lists f p s t
       → named_class n ≡ Some k
-      → Lists f after_range (joined s (folded f k)) (t ++ codes "[:" ++ n ++ codes ":]")
+      → Lists f AfterRange (joined s (folded f k)) (t ++ codes "[:" ++ n ++ codes ":]")
   other_name : (p : Before) (s : Set) (t n : Text) (k : Set) → Lists f p s t
-      → named_class n ≡ Some k → Lists f after_range
+      → named_class n ≡ Some k → Lists f AfterRange
       (joined s (complement (folded f k))) (t ++ codes "[:^" ++ n ++ codes ":]")
-  range : (e : Bool) (low high : ℕ) (s : Set) (t : Text) → Lists f (after_byte e low) s t
+  range : (e : Bool) (low high : ℕ) (s : Set) (t : Text) → Lists f (AfterByte e low) s t
       → low ≤ high → (is_ascii high && not (high ∈ "]\\-")) ≡ true
-      → Lists f after_range (joined s (is_in_range low high)) (t ++ 0x2D ∷ high ∷ [])
+      → Lists f AfterRange (joined s (is_in_range low high)) (t ++ 0x2D ∷ high ∷ [])
   range_escaped : (e : Bool) (low high : ℕ) (s : Set) (t u : Text)
-      → Lists f (after_byte e low) s t → low ≤ high → Escaped high u
-      → Lists f after_range (joined s (is_in_range low high)) (t ++ codes "-" ++ u)
+      → Lists f (AfterByte e low) s t → low ≤ high → Escaped high u
+      → Lists f AfterRange (joined s (is_in_range low high)) (t ++ codes "-" ++ u)
 
 -- the whole inside of brackets: not empty, and the last may be a hyphen
 pub data Inside (f : Flags) : Set → Text → Type 0 where

@@ -93,6 +93,12 @@ impl ParseError {
     pub fn new(kind: ErrorKind, start: usize, end: usize) -> ParseError {
         ParseError { kind, start, end }
     }
+
+    /// Returns the error as it is written with its text: the line, carets under the place, and what
+    /// is wrong.
+    pub fn display(self, text: &str) -> Marked<'_> {
+        Marked { error: self, text }
+    }
 }
 
 impl From<AllocError> for ParseError {
@@ -105,4 +111,120 @@ impl<T: Drop> From<AllocFailed<T>> for ParseError {
     fn from(_error: AllocFailed<T>) -> ParseError {
         ParseError::new(ErrorKind::OutOfMemory, 0, 0)
     }
+}
+
+impl ErrorKind {
+    /// Returns what is wrong, in words.
+    fn words(self) -> &'static str {
+        match self {
+            ErrorKind::ClassEscapeInvalid => "an assertion in brackets",
+            ErrorKind::ClassNested => "brackets in brackets are not supported",
+            ErrorKind::ClassOperation => "an operation on classes is not supported",
+            ErrorKind::ClassRangeInvalid => "the end of the range is below its beginning",
+            ErrorKind::ClassRangeLiteral => "a range begins or ends with a class",
+            ErrorKind::ClassUnclosed => "the brackets are not closed",
+            ErrorKind::DecimalInvalid => "the number is too large",
+            ErrorKind::EscapeHexEmpty => "there are no digits",
+            ErrorKind::EscapeHexInvalid => "the number is no character",
+            ErrorKind::EscapeHexInvalidDigit => "this is no hexadecimal digit",
+            ErrorKind::EscapeUnexpectedEof => "the text ends in an escape",
+            ErrorKind::EscapeUnrecognized => "the escape has no meaning",
+            ErrorKind::FlagDanglingNegation => "no flag follows the hyphen",
+            ErrorKind::FlagDuplicate => "the flag comes twice",
+            ErrorKind::FlagRepeatedNegation => "there is a second hyphen",
+            ErrorKind::FlagUnexpectedEof => "the text ends in flags",
+            ErrorKind::FlagUnrecognized => "this is no flag",
+            _ => self.other_words(),
+        }
+    }
+
+    /// Returns what is wrong, of the kinds that `words` leaves to it.
+    fn other_words(self) -> &'static str {
+        match self {
+            ErrorKind::FlagUnsupported => "the flag is not supported",
+            ErrorKind::GroupNameDuplicate => "another group has the name",
+            ErrorKind::GroupNameEmpty => "the name is empty",
+            ErrorKind::GroupNameInvalid => "a name may not have this character",
+            ErrorKind::GroupNameUnexpectedEof => "the text ends in a name",
+            ErrorKind::GroupUnclosed => "the group is not closed",
+            ErrorKind::GroupUnopened => "no group is open here",
+            ErrorKind::NestLimitExceeded => "groups and operators are too deep",
+            ErrorKind::OutOfMemory => "out of memory",
+            ErrorKind::RepetitionCountDecimalEmpty => "there is no number",
+            ErrorKind::RepetitionCountInvalid => "the maximum is below the minimum",
+            ErrorKind::RepetitionCountUnclosed => "the braces are not closed",
+            ErrorKind::RepetitionMissing => "there is nothing to repeat",
+            ErrorKind::SpecialWordBoundaryUnclosed => "the name of the boundary is not closed",
+            ErrorKind::SpecialWordBoundaryUnrecognized => "no boundary has this name",
+            ErrorKind::SpecialWordOrRepetitionUnexpectedEof => "the text ends after the brace",
+            ErrorKind::UnicodeNotAllowed => "this is for Unicode patterns only",
+            ErrorKind::UnsupportedBackreference => "a reference to a group is not supported",
+            _ => "looking ahead or behind is not supported",
+        }
+    }
+}
+
+/// Writes what is wrong.
+impl fmt::Display for ErrorKind {
+    fn fmt<W: fmt::Write>(&self, f: &mut fmt::Formatter<W>) -> fmt::Result {
+        let words = self.words();
+        write!(f, "{words}")
+    }
+}
+
+/// Writes what is wrong, and the bytes that it is about.
+impl fmt::Display for ParseError {
+    fn fmt<W: fmt::Write>(&self, f: &mut fmt::Formatter<W>) -> fmt::Result {
+        let ParseError { kind, start, end } = *self;
+        write!(f, "{kind}, at {start}..{end}")
+    }
+}
+
+/// An error with its text.
+#[derive(Clone, Copy)]
+pub struct Marked<'a> {
+    error: ParseError,
+    text: &'a str,
+}
+
+/// Writes the line of the text that the error is about, carets under the place, and what is wrong.
+impl fmt::Display for Marked<'_> {
+    fn fmt<W: fmt::Write>(&self, f: &mut fmt::Formatter<W>) -> fmt::Result {
+        let ParseError { start, end, .. } = self.error;
+        let mut offset = 0_usize;
+        for line in self.text.split('\n') {
+            let line_end = offset.saturating_add(line.len());
+            if start <= line_end {
+                writeln!(f, "{line}")?;
+                write_carets(f, line, start.saturating_sub(offset), end.saturating_sub(offset))?;
+                break;
+            }
+            offset = line_end.saturating_add(1);
+        }
+        let error = self.error;
+        write!(f, "{error}")
+    }
+}
+
+/// Writes a line with carets under the characters from `start` to before `end`, at least one.
+fn write_carets<W: fmt::Write>(
+    f: &mut fmt::Formatter<W>,
+    line: &str,
+    start: usize,
+    end: usize,
+) -> fmt::Result {
+    let last = end.max(start.saturating_add(1));
+    let mut at = 0_usize;
+    for character in line.chars() {
+        if at >= last {
+            break;
+        }
+        let mark = if at < start { " " } else { "^" };
+        write!(f, "{mark}")?;
+        at = at.saturating_add(character.len_utf8());
+    }
+    if at <= start {
+        write!(f, "^")?;
+    }
+    writeln!(f, "")
 }

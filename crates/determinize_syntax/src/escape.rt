@@ -147,7 +147,7 @@ fn boundary(cursor: &mut Cursor<'_>) -> Result<Look, ParseError>
 }
 
 /// Passes letters and hyphens.
-fn pass_letters(cursor: &mut Cursor<'_>)
+pub fn pass_letters(cursor: &mut Cursor<'_>)
     ensures read { Reads cursor.old cursor.new (λ t. ⊤) }
 {
     while let Some(next) = cursor.peek() {

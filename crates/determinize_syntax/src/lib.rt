@@ -1,6 +1,7 @@
 //! Patterns from text, in a subset of the syntax of regex-syntax 0.8 in byte mode.
 #![tactic(auto)]
 
+mod bracket;
 mod class;
 mod cursor;
 pub mod error;

@@ -9,6 +9,7 @@ ghost use Rattle.determinize_syntax.specs.Spells as spells;
 ghost use Rattle.determinize_syntax.specs.Spells.{Atom, Choice, Items, Repeated, Spells, SpellsUnder};
 ghost use Rattle.determinize_syntax.specs.Words.{◌∈◌, at_line, dot_set, folded, only};
 
+use crate::bracket::bracket;
 use crate::class::class;
 use crate::cursor::Cursor;
 use crate::error::{ErrorKind, ParseError};
@@ -153,6 +154,9 @@ fn atom<'a>(
     }
     if cursor.take(b'\\') {
         return escaped_atom(alloc, cursor, start, flags);
+    }
+    if cursor.take(b'[') {
+        return Ok(one_of(bracket(alloc, cursor, start, flags)?));
     }
     literal_atom(alloc, cursor, flags)
 }

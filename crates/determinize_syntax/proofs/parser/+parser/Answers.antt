@@ -1,6 +1,7 @@
 use Rattle.std.proofs.Common.{◌≡◌, ◌<◌, ◌≤◌, length, ◌∷◌, ◌∙◌, ◌&&◌, [], Bool, IfNone, IfSome, OnSome, arith, false, ap, map, not, refl, subst, sym, true}
 use Rattle.std.specs.Char.{is_ascii}
 use Rattle.determinize_pattern.specs.Patterns.{meaning, repeated}
+use Rattle.determinize_syntax.specs.Private.Brackets.{IsBracketed}
 use Rattle.determinize_syntax.specs.Private.Reading.{IsNotAt, IsSetting, Part, Reads, rest}
 use Rattle.determinize_syntax.specs.Spells.{Atom, Branches, Items, Operator, Repeated, dot, escaped, SpellsUnder, line_end, line_start, no_branch, no_item, once, plain}
 use Rattle.determinize_syntax.specs.Words.{◌∈◌}
@@ -26,6 +27,16 @@ atom-returns-then-take-4-clause-read t c =
     (ap rest (sym (c.take-3.ensures.left c.if-take-3.false ∙ c.take-2.ensures.left c.if-take-2.false
     ∙ c.take.ensures.left c.if-take.false)) ∙ c.take-4.ensures.read c.if-take-4.true)
     (dot c.args.flags (meaning c.in_ok-dot.field-0) c.in_ok-dot.ensures)
+
+pub atom-returns-then-take-6-clause-read : goal.atom-returns-then-take-6-clause-read
+atom-returns-then-take-6-clause-read t c =
+    let f = c.args.flags in
+    let re = meaning c.one_of.result in
+    let start = c.take-5.ensures.left c.if-take-5.false ∙ c.take-4.ensures.left c.if-take-4.false
+        ∙ c.take-3.ensures.left c.if-take-3.false ∙ c.take-2.ensures.left c.if-take-2.false ∙ c.take.ensures.left c.if-take.false in
+    prefixed (Atom f re) (ap rest (sym start) ∙ c.take-6.ensures.read c.if-take-6.true)
+    (renamed (IsBracketed f c.in_ok-bracket.field-0) (λ v. Atom f re (0x5B ∷ v)) c.in_ok-bracket.ensures.read
+    (λ v h. h re c.one_of.ensures))
 
 pub choice-loop-branches-init : goal.choice-loop-branches-init
 choice-loop-branches-init t c = (

@@ -1,0 +1,30 @@
+use Rattle.std.proofs.Common.{rules, ◌≡◌, ◌<◌, ◌≤◌, ◌∷◌, ◌++◌, ◌∙◌, ◌&&◌, ◌||◌, ◌⊎◌, inl, inr, [], arith, Bool, IfOk, IfSome, List, OnOk, Some, ap, cond, false, length, map, not, refl, subst, sym, true, ℕ}
+use Rattle.std.specs.Char.{is_ascii}
+use Rattle.determinize_pattern.specs.Classes.{HasBytes, pairs}
+use Rattle.determinize_pattern.specs.Meaning.{is_in}
+use Rattle.determinize_syntax.specs.Private.Brackets.{Extends, IsBegun, IsBound, IsBracketed, IsInside}
+use Rattle.determinize_syntax.specs.Private.Reading.{IsEscape, IsNotAt, Part, Reads, rest}
+use Rattle.determinize_syntax.specs.Private.Sets.{has, set_of, turned}
+use Rattle.determinize_syntax.specs.Spells as s
+use Rattle.determinize_syntax.specs.Spells.{Lists}
+use Rattle.determinize_syntax.specs.Words.{Set, ◌∈◌, folded, only}
+use Rattle.determinize_syntax.specs.declared.bracket.Before.{Before}
+use Rattle.determinize_syntax.specs.declared.bracket.Before.TheVariants.{AfterByte, AfterClass, AfterHyphen, AfterRange, First}
+use Rattle.determinize_syntax.proofs.Listing.{any_bracket_read, any_name_read, begun_more, class_read, escaped_read, has_only, hyphen_read, hyphens_read, inside_closed, inside_hyphen, plain_read, range_read}
+use Rattle.determinize_syntax.proofs.Parts.{prefixed, renamed, took}
+use Rattle.determinize_syntax.proofs.bracket.front.Goals as goal
+
+pub returns-then-not-take : goal.returns-then-not-take
+returns-then-not-take c = record {
+  read = λ f. ([], ap rest (sym (c.take.ensures.left c.if-not-take.true)), ((λ b. false), s.nothing,
+      (λ b small. ap (λ l. is_in (pairs l) (Some b)) c.new.ensures.items),
+      λ e. subst (IsNotAt 0x5D) (sym (c.take.ensures.left c.if-not-take.true)) (c.take.ensures.other c.if-not-take.true)));
+}
+
+pub returns : goal.returns
+returns c = record {
+  read = λ f. (0x5D ∷ [], c.take.ensures.read c.if-not-take.false, (only 0x5D,
+      subst (λ q. Lists f q (only 0x5D) (0x5D ∷ [])) (sym c.in_ok-add.ensures.before) s.closing,
+      (λ b small. ap (λ l. is_in l (Some b)) (c.in_ok-add.ensures.ranges ∙ ap (λ l. pairs l ++ (0x5D, 0x5D) ∷ []) c.new.ensures.items)
+      ∙ has_only 0x5D b small), λ e. absurd (cc)));
+}

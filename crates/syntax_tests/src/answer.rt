@@ -1,0 +1,286 @@
+//! What a text is read as, in the notation of the rows.
+
+ghost use Rattle.std.specs.Prelude.{◌≡◌, ◌≤◌};
+
+use determinize_pattern::{ClassBytes, Pattern};
+use determinize_syntax::parse;
+use std::alloc::{AllocError, AllocFailed, Global};
+use std::fmt;
+use std::io::{self, Write};
+
+/// An error from a row.
+#[derive(Clone, Copy, Debug)]
+pub enum RowError {
+    /// An allocation failed.
+    OutOfMemory,
+    /// The input was not read.
+    Unreadable,
+    /// The output was not written.
+    Unwritten,
+    /// A row is malformed.
+    Malformed,
+}
+
+impl From<AllocError> for RowError {
+    fn from(_: AllocError) -> RowError {
+        RowError::OutOfMemory
+    }
+}
+
+impl<T: Drop> From<AllocFailed<T>> for RowError {
+    fn from(_: AllocFailed<T>) -> RowError {
+        RowError::OutOfMemory
+    }
+}
+
+impl From<io::Error> for RowError {
+    fn from(_: io::Error) -> RowError {
+        RowError::Unwritten
+    }
+}
+
+impl fmt::Display for RowError {
+    fn fmt<W: fmt::Write>(&self, f: &mut fmt::Formatter<W>) -> fmt::Result {
+        let text = match self {
+            RowError::OutOfMemory => "out of memory",
+            RowError::Unreadable => "the input was not read",
+            RowError::Unwritten => "the output was not written",
+            RowError::Malformed => "a row is malformed",
+        };
+        write!(f, "{text}")
+    }
+}
+
+/// The counts of the rows.
+#[derive(Clone, Copy)]
+pub struct Tally {
+    rows: u64,
+    errors: u64,
+    differ: u64,
+}
+
+impl Tally {
+    /// Returns the counts of no row.
+    pub fn new() -> Tally {
+        Tally {
+            rows: 0,
+            errors: 0,
+            differ: 0,
+        }
+    }
+
+    /// Returns the exit status: 0 if no row differs, otherwise 1.
+    pub fn status(self) -> u8
+        ensures { result ≤ 1 }
+    {
+        if self.differ == 0 { 0 } else { 1 }
+    }
+}
+
+impl fmt::Display for Tally {
+    fn fmt<W: fmt::Write>(&self, f: &mut fmt::Formatter<W>) -> fmt::Result {
+        let Tally {
+            rows,
+            errors,
+            differ,
+        } = *self;
+        write!(f, "{rows} texts, {errors} errors, {differ} differ")
+    }
+}
+
+/// Judges a row, whose first fields are a text in hexadecimal and the expected answer, and writes it
+/// if the answer differs.
+pub fn judge<W: Write>(
+    alloc: Global,
+    row: &str,
+    tally: &mut Tally,
+    out: &mut W,
+) -> Result<(), RowError> {
+    let Some((hex, rest)) = row.split_once('\t') else {
+        return Err(RowError::Malformed);
+    };
+    let Some((expected, _)) = rest.split_once('\t') else {
+        return Err(RowError::Malformed);
+    };
+    let bytes = decoded(alloc, hex)?;
+    let Ok(text) = str::from_utf8(&bytes) else {
+        return Err(RowError::Malformed);
+    };
+    let answer = answer(alloc, text)?;
+    tally.rows = tally.rows.saturating_add(1);
+    if answer.as_str().starts_with("error") {
+        tally.errors = tally.errors.saturating_add(1);
+    }
+    if answer.as_str() != expected {
+        tally.differ = tally.differ.saturating_add(1);
+        let answer = answer.as_str();
+        writeln!(out, "{text:?}: {answer}, and not {expected}")?;
+    }
+    Ok(())
+}
+
+/// Returns the bytes that are written in hexadecimal.
+fn decoded(alloc: Global, hex: &str) -> Result<Vec<u8>, RowError> {
+    let mut bytes = Vec::new(alloc);
+    let mut high = None;
+    for c in hex.chars() {
+        let Some(digit) = c.to_digit(16) else {
+            return Err(RowError::Malformed);
+        };
+        let digit = digit as u8;
+        high = match high {
+            None => Some(digit),
+            Some(first) => {
+                let first: u8 = first;
+                bytes.push(first.wrapping_mul(16).wrapping_add(digit))?;
+                None
+            }
+        };
+    }
+    Ok(bytes)
+}
+
+/// Returns what the text is read as.
+fn answer(alloc: Global, text: &str) -> Result<String, RowError> {
+    let mut out = String::new(alloc);
+    match parse(alloc, text) {
+        Ok(pattern) => write_tree(&mut out, &pattern)?,
+        Err(error) => {
+            let (kind, start, end) = (error.kind, error.start, error.end);
+            write!(out, "error {kind:?} {start} {end}")?;
+        }
+    }
+    Ok(out)
+}
+
+/// Writes the pattern, with its concatenations and alternations flattened.
+#[cycle(tree)]
+fn write_tree(out: &mut String, pattern: &Pattern) -> Result<(), AllocError> {
+    match pattern {
+        Pattern::Empty => write!(out, "empty"),
+        Pattern::Class(class) => write_class(out, class),
+        Pattern::Look(look) => write!(out, "{look:?}"),
+        Pattern::Capture(sub) => {
+            write!(out, "(cap ")?;
+            write_tree(out, sub)?;
+            write!(out, ")")
+        }
+        Pattern::Repetition {
+            min,
+            max,
+            greedy,
+            sub,
+        } => {
+            write_operator(out, *min, *max, *greedy)?;
+            write_tree(out, sub)?;
+            write!(out, ")")
+        }
+        Pattern::Literal(bytes) => {
+            write!(out, "(cat")?;
+            write_bytes(out, bytes)?;
+            write!(out, ")")
+        }
+        Pattern::Concat(subs) => match count_parts(pattern) {
+            0 => write!(out, "empty"),
+            1 => write_all(out, subs, ""),
+            _ => {
+                write!(out, "(cat")?;
+                write_all(out, subs, " ")?;
+                write!(out, ")")
+            }
+        },
+        Pattern::Alternation(subs) => {
+            write!(out, "(alt")?;
+            write_branches(out, subs)?;
+            write!(out, ")")
+        }
+    }
+}
+
+/// Writes the parts of the patterns, each after `space`.
+#[cycle(tree)]
+fn write_all(out: &mut String, subs: &[Pattern], space: &str) -> Result<(), AllocError> {
+    for i in 0..subs.len() {
+        match &subs[i] {
+            Pattern::Empty => {}
+            Pattern::Literal(bytes) => write_bytes(out, bytes)?,
+            Pattern::Concat(subs) => write_all(out, subs, space)?,
+            sub => {
+                write!(out, "{space}")?;
+                write_tree(out, sub)?;
+            }
+        }
+    }
+    Ok(())
+}
+
+/// Writes the branches of the patterns.
+#[cycle(tree)]
+fn write_branches(out: &mut String, subs: &[Pattern]) -> Result<(), AllocError> {
+    for i in 0..subs.len() {
+        match &subs[i] {
+            Pattern::Alternation(subs) => write_branches(out, subs)?,
+            sub => {
+                write!(out, " ")?;
+                write_tree(out, sub)?;
+            }
+        }
+    }
+    Ok(())
+}
+
+/// Returns the number of parts of the pattern once its concatenations are flattened, at most 2.
+#[cycle(count_parts)]
+fn count_parts(pattern: &Pattern) -> usize {
+    match pattern {
+        Pattern::Empty => 0,
+        Pattern::Literal(bytes) => bytes.len().min(2),
+        Pattern::Concat(subs) => count_all(subs),
+        _ => 1,
+    }
+}
+
+#[cycle(count_parts)]
+fn count_all(subs: &[Pattern]) -> usize {
+    let mut count = 0;
+    for i in 0..subs.len() {
+        count = count_parts(&subs[i]).saturating_add(count).min(2);
+    }
+    count
+}
+
+fn write_bytes(out: &mut String, bytes: &[u8]) -> Result<(), AllocError> {
+    for byte in bytes {
+        write!(out, " [{byte:02x}]")?;
+    }
+    Ok(())
+}
+
+fn write_operator(
+    out: &mut String,
+    min: u32,
+    max: Option<u32>,
+    greedy: bool,
+) -> Result<(), AllocError> {
+    let name = if greedy { "greedy" } else { "lazy" };
+    match max {
+        None => write!(out, "({name} {min} inf "),
+        Some(max) => write!(out, "({name} {min} {max} "),
+    }
+}
+
+/// Writes the ranges of a class.
+fn write_class(out: &mut String, class: &ClassBytes) -> Result<(), AllocError> {
+    write!(out, "[")?;
+    let mut space = "";
+    for range in class.ranges() {
+        let (start, end) = (range.start, range.end);
+        if start == end {
+            write!(out, "{space}{start:02x}")?;
+        } else {
+            write!(out, "{space}{start:02x}-{end:02x}")?;
+        }
+        space = " ";
+    }
+    write!(out, "]")
+}

@@ -1,0 +1,41 @@
+//! Parses the texts of the rows of standard input, and prints each row whose answer is not the
+//! expected one.
+#![tactic(auto)]
+
+mod answer;
+
+use crate::answer::{RowError, Tally, judge};
+use std::alloc::Global;
+use std::io::{self, BufRead, BufReader, Read, Write};
+use std::process::ExitCode;
+
+/// Judges the rows of the input, and writes the counts.
+fn run<R: Read + Drop, W: Write>(
+    alloc: Global,
+    input: R,
+    out: &mut W,
+) -> Result<Tally, RowError> {
+    let Ok(input) = BufReader::new(alloc, input) else {
+        return Err(RowError::OutOfMemory);
+    };
+    let mut tally = Tally::new();
+    for line in input.lines(alloc) {
+        match line {
+            Ok(line) => judge(alloc, line.as_str(), &mut tally, out)?,
+            Err(_) => return Err(RowError::Unreadable),
+        }
+    }
+    writeln!(out, "{tally}")?;
+    Ok(tally)
+}
+
+fn main(rt: HostRuntime) -> ExitCode {
+    let mut out = io::writer(&rt);
+    match run(rt.alloc(), rt.reader(), &mut out) {
+        Ok(tally) => ExitCode::from(tally.status()),
+        Err(error) => {
+            let _ = writeln!(rt.stderr(), "{error}");
+            ExitCode::from(2)
+        }
+    }
+}
