@@ -11,14 +11,20 @@ use determinize_lazy::Lazy;
 use example_walks::error::TextError;
 use example_walks::fields::Fields;
 use std::alloc::{AllocError, Global};
-use std::collections::HashMap;
 
-/// The NFAs of walks, once per match kind, by their text.
+/// The NFA of walks and their match kind, with the text that identifies both.
+#[derive(Drop)]
+struct Automaton {
+    name: String,
+    nfa: NFA,
+    kind: MatchKind,
+}
+
+/// The NFAs of walks, once per match kind.
 #[derive(Drop)]
 pub struct Automata {
     alloc: Global,
-    places: HashMap<String, usize>,
-    automata: Vec<(NFA, MatchKind)>,
+    automata: Vec<Automaton>,
 }
 
 impl Automata {
@@ -26,7 +32,6 @@ impl Automata {
     pub fn new(alloc: Global) -> Automata {
         Automata {
             alloc,
-            places: HashMap::new(alloc),
             automata: Vec::new(alloc),
         }
     }
@@ -38,13 +43,12 @@ impl Automata {
             return Ok(());
         }
         let name = name(self.alloc, job.fields())?;
-        if self.places.contains_key(&name) {
+        if place(self.automata.as_slice(), name.as_str()).is_some() {
             return Ok(());
         }
         let nfa = job.fields().nfa(self.alloc)?;
         let kind = job.fields().match_kind()?;
-        self.places.insert(name, self.automata.len())?;
-        self.automata.push((nfa, kind))?;
+        self.automata.push(Automaton { name, nfa, kind })?;
         Ok(())
     }
 
@@ -52,24 +56,24 @@ impl Automata {
     /// for searches.
     pub fn caches(&self, operation: Operation, limit: usize) -> Result<Caches<'_>, AllocError> {
         let mut caches = Vec::new(self.alloc);
-        for (nfa, kind) in self.automata.iter() {
-            caches.push(Lazy::new(self.alloc, nfa, *kind, limit))?;
+        for automaton in self.automata.iter() {
+            caches.push(Lazy::new(self.alloc, &automaton.nfa, automaton.kind, limit))?;
         }
         Ok(Caches {
             alloc: self.alloc,
             operation,
-            places: &self.places,
+            automata: self.automata.as_slice(),
             caches,
         })
     }
 }
 
-/// The caches, by the text of the NFA and its match kind.
+/// The caches, in the order of the NFAs.
 #[derive(Drop)]
 pub struct Caches<'n> {
     alloc: Global,
     operation: Operation,
-    places: &'n HashMap<String, usize>,
+    automata: &'n [Automaton],
     caches: Vec<Lazy<'n>>,
 }
 
@@ -85,11 +89,21 @@ impl<'n> Caches<'n> {
             return Ok(None);
         }
         let name = name(self.alloc, job.fields())?;
-        match self.places.get(&name) {
-            Some(place) => Ok(self.caches.get_mut(*place)),
+        match place(self.automata, name.as_str()) {
+            Some(place) => Ok(self.caches.get_mut(place)),
             None => Ok(None),
         }
     }
+}
+
+/// Returns the index of the NFA that this text identifies, if it is present.
+fn place(automata: &[Automaton], name: &str) -> Option<usize> {
+    for (index, automaton) in automata.iter().enumerate() {
+        if automaton.name.as_str() == name {
+            return Some(index);
+        }
+    }
+    None
 }
 
 /// Returns the text that identifies the NFA and the match kind of a job.

@@ -31,14 +31,24 @@ impl From<TextError> for ReadError<'_> {
     }
 }
 
+/// Writes a text, and then a word in quotes.
+fn quote<W: fmt::Write>(f: &mut fmt::Formatter<W>, text: &str, word: &str) -> fmt::Result {
+    write!(f, "{text} {word:?}")
+}
+
+/// Writes a key, and what is wrong with it.
+fn write_key<W: fmt::Write>(f: &mut fmt::Formatter<W>, key: &str, fault: &str) -> fmt::Result {
+    write!(f, "key {key} {fault}")
+}
+
 impl fmt::Display for ReadError<'_> {
     fn fmt<W: fmt::Write>(&self, f: &mut fmt::Formatter<W>) -> fmt::Result {
         match self {
-            ReadError::UnknownVerb(name) => write!(f, "unknown verb {name:?}"),
-            ReadError::NoValue(word) => write!(f, "no key and value: {word:?}"),
-            ReadError::UnknownKey(name) => write!(f, "unknown key {name:?}"),
-            ReadError::RepeatedKey(key) => write!(f, "key {key} stands twice"),
-            ReadError::MissingKey(key) => write!(f, "key {key} is missing"),
+            ReadError::UnknownVerb(name) => quote(f, "unknown verb", name),
+            ReadError::NoValue(word) => quote(f, "no key and value:", word),
+            ReadError::UnknownKey(name) => quote(f, "unknown key", name),
+            ReadError::RepeatedKey(key) => write_key(f, key, "stands twice"),
+            ReadError::MissingKey(key) => write_key(f, key, "is missing"),
             ReadError::NoStates => f.write_str("the states of the NFA are missing"),
             ReadError::UnwantedStates => f.write_str("the verb takes no states"),
             ReadError::Text(error) => write!(f, "{error}"),
@@ -60,8 +70,8 @@ pub enum LineError {
 impl fmt::Display for LineError {
     fn fmt<W: fmt::Write>(&self, f: &mut fmt::Formatter<W>) -> fmt::Result {
         match self {
-            LineError::Unreadable => write!(f, "can't be read"),
-            LineError::NoJob => write!(f, "an answer without a job"),
+            LineError::Unreadable => f.write_str("can't be read"),
+            LineError::NoJob => f.write_str("an answer without a job"),
             LineError::Job(reason) => write!(f, "{reason}"),
         }
     }
@@ -132,11 +142,11 @@ impl From<io::Error> for ReplayError {
 impl fmt::Display for ReplayError {
     fn fmt<W: fmt::Write>(&self, f: &mut fmt::Formatter<W>) -> fmt::Result {
         match self {
-            ReplayError::Arguments => write!(f, "arguments are not taken"),
+            ReplayError::Arguments => f.write_str("arguments are not taken"),
             ReplayError::Line(number, error) => write!(f, "line {number}: {error}"),
-            ReplayError::Nothing => write!(f, "no job was replayed"),
-            ReplayError::OutOfMemory => write!(f, "out of memory"),
-            ReplayError::Output => write!(f, "the output can't be written"),
+            ReplayError::Nothing => f.write_str("no job was replayed"),
+            ReplayError::OutOfMemory => f.write_str("out of memory"),
+            ReplayError::Output => f.write_str("the output can't be written"),
         }
     }
 }

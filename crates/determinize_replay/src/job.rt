@@ -2,7 +2,7 @@
 
 use crate::error::ReadError;
 use crate::values;
-use crate::verb::Verb;
+use crate::verb::{Verb, keys, takes};
 use example_walks::error::TextError;
 use example_walks::fields::Fields;
 use example_walks::values::number;
@@ -27,14 +27,15 @@ impl<'a> Job<'a> {
             return Err(ReadError::UnknownVerb(name));
         };
         let job = Job { verb, fields };
-        job.check()?;
+        job.check(keys(name))?;
         Ok(job)
     }
 
-    /// Checks the words, then the values that have no effect on the output, then the states.
-    fn check(&self) -> Result<(), ReadError<'a>> {
-        self.check_words()?;
-        self.check_needed()?;
+    /// Checks the words against the keys of the verb, then the values that have no effect on the
+    /// output, then the states.
+    fn check(&self, keys: &'static str) -> Result<(), ReadError<'a>> {
+        self.check_words(keys)?;
+        self.check_needed(keys)?;
         self.check_marks()?;
         match (self.verb.has_nfa(), self.fields.states.is_some()) {
             (true, false) => Err(ReadError::NoStates),
@@ -43,8 +44,8 @@ impl<'a> Job<'a> {
         }
     }
 
-    /// Checks that each word is `key=value` with a key that the verb takes, each key once.
-    fn check_words(&self) -> Result<(), ReadError<'a>> {
+    /// Checks that each word is `key=value` with one of these keys, each key once.
+    fn check_words(&self, keys: &str) -> Result<(), ReadError<'a>> {
         let Some(words) = self.fields.words else {
             return Ok(());
         };
@@ -52,7 +53,7 @@ impl<'a> Job<'a> {
             let Some((key, _)) = word.split_once('=') else {
                 return Err(ReadError::NoValue(word));
             };
-            if !self.verb.takes(key) {
+            if !takes(keys, key) {
                 return Err(ReadError::UnknownKey(key));
             }
             if count(words, key) > 1 {
@@ -62,11 +63,13 @@ impl<'a> Job<'a> {
         Ok(())
     }
 
-    /// Checks that the job has each key that its verb needs.
-    fn check_needed(&self) -> Result<(), ReadError<'a>> {
-        for key in self.verb.needed() {
-            if self.fields.value(key).is_none() {
-                return Err(ReadError::MissingKey(key));
+    /// Checks that the job has each of these keys that has a mark `!`.
+    fn check_needed(&self, keys: &'static str) -> Result<(), ReadError<'a>> {
+        for key in keys.split(' ') {
+            if let Some(needed) = key.strip_suffix('!') {
+                if self.fields.value(needed).is_none() {
+                    return Err(ReadError::MissingKey(needed));
+                }
             }
         }
         Ok(())

@@ -1,5 +1,44 @@
 //! The verbs of jobs, and the keys that each takes and needs.
 
+/// The keys that each verb takes, in a line that begins with its name. A job must have those with a
+/// mark `!`.
+const KEYS: &str = "\
+walk id fix dir term kind start lb text after
+readers id fix dir term kind start lb text after at!
+closure id fix dir term from! look held
+lookbehind id fix dir term kind!
+next id fix dir term kind fw! half! have need pids ids unit! set1 set2
+addstates id fix dir term fw! half! have need pids ids set
+start id fix dir term hay range!
+bytemap id fix term byte
+fromusize id fix n!
+dead id fix
+build id fix fw! half! have need pids ids
+size id fix states! matches!";
+
+/// Returns the keys that the verb of this name takes, joined by spaces, those that a job must have
+/// with a mark `!`.
+pub fn keys(name: &str) -> &'static str {
+    for line in KEYS.lines() {
+        if let Some((verb, keys)) = line.split_once(' ') {
+            if verb == name {
+                return keys;
+            }
+        }
+    }
+    ""
+}
+
+/// Returns whether a key is among those of a verb.
+pub fn takes(keys: &str, key: &str) -> bool {
+    for taken in keys.split(' ') {
+        if taken.strip_suffix('!').unwrap_or(taken) == key {
+            return true;
+        }
+    }
+    false
+}
+
 /// What a job computes.
 #[derive(Clone, Copy, PartialEq)]
 pub enum Verb {
@@ -55,49 +94,6 @@ impl Verb {
             Verb::Walk | Verb::Readers | Verb::Closure => true,
             Verb::LookBehind | Verb::Next | Verb::AddStates => true,
             _ => false,
-        }
-    }
-
-    /// Returns the keys that a job with this verb may have, joined by spaces.
-    fn keys(self) -> &'static str {
-        match self {
-            Verb::Walk => "id fix dir term kind start lb text after",
-            Verb::Readers => "id fix dir term kind start lb text after at",
-            Verb::Closure => "id fix dir term from look held",
-            Verb::LookBehind => "id fix dir term kind",
-            Verb::Next => "id fix dir term kind fw half have need pids ids unit set1 set2",
-            Verb::AddStates => "id fix dir term fw half have need pids ids set",
-            Verb::Start => "id fix dir term hay range",
-            Verb::ByteMap => "id fix term byte",
-            Verb::FromUsize => "id fix n",
-            Verb::Dead => "id fix",
-            Verb::Build => "id fix fw half have need pids ids",
-            Verb::Size => "id fix states matches",
-        }
-    }
-
-    /// Returns whether a job with this verb may have the key.
-    pub fn takes(self, key: &str) -> bool {
-        for taken in self.keys().split(' ') {
-            if taken == key {
-                return true;
-            }
-        }
-        false
-    }
-
-    /// Returns the keys that a job with this verb must have.
-    pub fn needed(self) -> &'static [&'static str] {
-        match self {
-            Verb::Walk | Verb::ByteMap | Verb::Dead => &[],
-            Verb::Readers => &["at"],
-            Verb::Closure => &["from"],
-            Verb::LookBehind => &["kind"],
-            Verb::Next => &["fw", "half", "unit"],
-            Verb::AddStates | Verb::Build => &["fw", "half"],
-            Verb::Start => &["range"],
-            Verb::FromUsize => &["n"],
-            Verb::Size => &["states", "matches"],
         }
     }
 }

@@ -20,18 +20,37 @@ pub fn walk(alloc: Global, fields: &Fields<'_>, text: &mut String) -> Result<(),
     write_states(text, walk::walk(alloc, fields)?.as_slice())
 }
 
+/// Where a walk starts, its text, and the bytes around it.
+#[derive(Drop)]
+struct Place {
+    start: StateID,
+    behind: Option<u8>,
+    text: Vec<u8>,
+    ahead: Option<u8>,
+}
+
+/// Returns the place of a walk over an NFA.
+fn place_of(alloc: Global, fields: &Fields<'_>, nfa: &NFA) -> Result<Place, TextError>
+    ensures { IfOk result (λ place. place.start < length nfa.now.states) }
+{
+    let start = walk::resolved(nfa, fields.start()?)?;
+    let (behind, ahead) = (fields.look_behind()?, fields.look_ahead()?);
+    Ok(Place {
+        start,
+        behind,
+        text: fields.text(alloc)?,
+        ahead,
+    })
+}
+
 /// Returns the states of a walk through a cache.
 fn cached_states(
     alloc: Global,
     fields: &Fields<'_>,
     cache: &mut Lazy<'_>,
 ) -> Result<Vec<State>, TextError> {
-    let start = walk::resolved(cache.nfa(), fields.start()?)?;
-    let behind = fields.look_behind()?;
-    let text = fields.text(alloc)?;
-    let ahead = fields.look_ahead()?;
-    let states = cache.walk_between(start, behind, text.as_slice(), ahead)?;
-    Ok(states)
+    let at = place_of(alloc, fields, cache.nfa())?;
+    Ok(cache.walk_between(at.start, at.behind, at.text.as_slice(), at.ahead)?)
 }
 
 /// Runs `walk` through a cache.
@@ -61,12 +80,8 @@ fn found(
     fields: &Fields<'_>,
     cache: &mut Lazy<'_>,
 ) -> Result<Option<HalfMatch>, TextError> {
-    let start = walk::resolved(cache.nfa(), fields.start()?)?;
-    let behind = fields.look_behind()?;
-    let text = fields.text(alloc)?;
-    let ahead = fields.look_ahead()?;
-    let found = cache.search(start, behind, text.as_slice(), ahead)?;
-    Ok(found)
+    let at = place_of(alloc, fields, cache.nfa())?;
+    Ok(cache.search(at.start, at.behind, at.text.as_slice(), at.ahead)?)
 }
 
 /// Writes the bytes of each state, and the last match.
