@@ -18,11 +18,7 @@ pub enum Error {
 impl fmt::Display for Error {
     fn fmt<W: fmt::Write>(&self, f: &mut fmt::Formatter<W>) -> fmt::Result {
         match self {
-            Error::Parse { index, error } => write!(
-                f,
-                "pattern {index}: {:?} at {}..{}",
-                error.kind, error.start, error.end
-            ),
+            Error::Parse { index, error } => write!(f, "pattern {index}: {error}"),
             Error::Compile(error) => write!(f, "{error}"),
         }
     }

@@ -1,8 +1,8 @@
 //! The errors that end the program.
 
 use crate::options::UsageError;
-use determinize_regex::Error as RegexError;
-use std::alloc::AllocError;
+use determinize_regex::{CompileError, ParseError};
+use std::alloc::{AllocError, AllocFailed};
 use std::{fmt, io};
 
 /// An error that ends the program.
@@ -10,8 +10,10 @@ use std::{fmt, io};
 pub enum Error {
     /// The arguments are not as the usage says.
     Usage(UsageError),
-    /// A pattern was not understood, or is too large.
-    Regex(RegexError),
+    /// The text of a pattern is not understood.
+    Parse { text: String, error: ParseError },
+    /// The patterns were not compiled.
+    Compile(CompileError),
     /// An allocation failed, or the input or the output.
     Io(io::Error),
 }
@@ -20,7 +22,11 @@ impl fmt::Display for Error {
     fn fmt<W: fmt::Write>(&self, f: &mut fmt::Formatter<W>) -> fmt::Result {
         match self {
             Error::Usage(error) => write!(f, "{error} (see finder --help)"),
-            Error::Regex(error) => write!(f, "{error}"),
+            Error::Parse { text, error } => {
+                let marked = error.display(text.as_str());
+                write!(f, "{marked}")
+            }
+            Error::Compile(error) => write!(f, "{error}"),
             Error::Io(error) => write!(f, "{error}"),
         }
     }
@@ -32,14 +38,14 @@ impl From<UsageError> for Error {
     }
 }
 
-impl From<RegexError> for Error {
-    fn from(error: RegexError) -> Error {
-        Error::Regex(error)
+impl From<AllocError> for Error {
+    fn from(error: AllocError) -> Error {
+        Error::Io(io::Error::from(error))
     }
 }
 
-impl From<AllocError> for Error {
-    fn from(error: AllocError) -> Error {
+impl<T: Drop> From<AllocFailed<T>> for Error {
+    fn from(error: AllocFailed<T>) -> Error {
         Error::Io(io::Error::from(error))
     }
 }

@@ -1,5 +1,6 @@
 //! The arguments of the program.
 
+use crate::error::Error;
 use determinize_regex::{Error as RegexError, Regex, RegexConfig};
 use std::alloc::{AllocError, AllocFailed, Global};
 use std::env::Args;
@@ -126,14 +127,22 @@ impl Options {
     }
 
     /// Returns the patterns, compiled.
-    pub fn regex(&self, alloc: Global) -> Result<Regex, RegexError> {
+    pub fn regex(&self, alloc: Global) -> Result<Regex, Error> {
         let mut config = RegexConfig::new();
         config.flags.case_insensitive = self.ignores_case;
         let mut texts = Vec::new(alloc);
         for pattern in &self.patterns {
             texts.push(pattern.as_str())?;
         }
-        Regex::new_many(alloc, texts.as_slice(), config)
+        match Regex::new_many(alloc, texts.as_slice(), config) {
+            Ok(regex) => Ok(regex),
+            Err(RegexError::Compile(error)) => Err(Error::Compile(error)),
+            Err(RegexError::Parse { index, error }) => {
+                let text = texts.get(index).copied().unwrap_or("");
+                let text = String::from_str(alloc, text)?;
+                Err(Error::Parse { text, error })
+            }
+        }
     }
 
     /// Takes an argument, and returns what the next one is.
