@@ -25,7 +25,11 @@ impl<A: Allocator + Copy> OwnedRegex<A, A> {
     pub fn from_nfa(alloc: A, nfa: NFA<A>, limit: usize) -> Result<OwnedRegex<A, A>, BuildError>
         requires forward { nfa.reverse ≡ false }
         requires prefix { HasPrefix nfa }
-        ensures value { IfOk result (λ regex. regex ≡ record { nfa = nfa; limit = limit }) }
+        ensures value { IfOk result (λ regex. regex ≡ record {
+          nfa = nfa;
+          limit = limit;
+          limit_backward = limit;
+        }) }
         ensures err { IfErr result (λ e. IsTooLarge (most_states nfa) e) }
     {
         let backward = reversed(alloc, &nfa)?;

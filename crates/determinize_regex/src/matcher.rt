@@ -3,7 +3,7 @@
 ghost use Rattle.std.specs.Prelude.{◌≡◌, ◌≤◌, IfOk, true};
 ghost use Rattle.std.specs.Option.{IfSome};
 ghost use Rattle.determinize_engine.specs.Searches.{has_start};
-ghost use Rattle.determinize_regex.specs.Private.Searched.{IsSearched};
+ghost use Rattle.determinize_regex.specs.Private.Searched.{IsSearchOf};
 ghost use Rattle.determinize_regex.specs.Regexes.{AreAll, IsFirst};
 
 use crate::regex::Regex;
@@ -22,7 +22,7 @@ pub struct Matcher<'r, A: Allocator + Copy = Global> {
 impl<'r, A: Allocator + Copy> Model for Matcher<'r, A> {
     ghost use Rattle.std.specs.Coded.{codes};
     ghost use Rattle.determinize_pattern.specs.contracts.pattern.Pattern as e;
-    ghost use Rattle.determinize_regex.specs.Private.Searched.{IsSearched};
+    ghost use Rattle.determinize_regex.specs.Private.Searched.{IsSearchOf};
     ghost use Rattle.determinize_regex.specs.Regexes.{RegexValue};
 
     ghost Value = { RegexValue };
@@ -35,7 +35,7 @@ impl<'r, A: Allocator + Copy> Model for Matcher<'r, A> {
       limit = m.search.limit;
     } };
 
-    ghost invariant = { λ m. IsSearched m.regex.now.patterns m.regex.now.terminator m.search.nfa };
+    ghost invariant = { λ m. IsSearchOf m.regex.now.patterns m.regex.now.terminator m.search };
 }
 
 impl<'r, A: Allocator + Copy> Matcher<'r, A> {
@@ -46,7 +46,7 @@ impl<'r, A: Allocator + Copy> Matcher<'r, A> {
         search: &'r OwnedRegex,
         limit: usize,
     ) -> Matcher<'r, A>
-        requires { IsSearched regex.now.patterns regex.now.terminator search.now.nfa }
+        requires { IsSearchOf regex.now.patterns regex.now.terminator search.now }
         ensures { result ≡ record {
           patterns = regex.now.patterns;
           terminator = regex.now.terminator;

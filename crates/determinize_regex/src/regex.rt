@@ -59,7 +59,7 @@ pub struct Regex {
 impl Model for Regex {
     ghost use Rattle.std.specs.Coded.{codes};
     ghost use Rattle.determinize_pattern.specs.contracts.pattern.Pattern as e;
-    ghost use Rattle.determinize_regex.specs.Private.Searched.{IsSearched};
+    ghost use Rattle.determinize_regex.specs.Private.Searched.{IsSearchOf};
     ghost use Rattle.determinize_regex.specs.Regexes.{RegexValue};
 
     ghost Value = { RegexValue };
@@ -72,8 +72,7 @@ impl Model for Regex {
       limit = r.search.limit;
     } };
 
-    ghost invariant = { λ r.
-        IsSearched r.patterns.items r.search.nfa.terminator r.search.nfa };
+    ghost invariant = { λ r. IsSearchOf r.patterns.items r.search.nfa.terminator r.search };
 }
 
 impl Regex {

@@ -1,13 +1,15 @@
--- The NFA that a regex searches.
+-- The search of a regex.
 use Rattle.std.specs.Prelude.{◌≡◌, ℕ, List, map}
-use Rattle.determinize_below.specs.Semantics.{Nfa}
+use Rattle.determinize_find.specs.Regexes.{RegexValue}
 use Rattle.determinize_nfa.specs.Prefix.{HasPrefix}
 use Rattle.determinize_pattern.specs.Compiled.{IsNfaOf}
 use Rattle.determinize_pattern.specs.Patterns.{meaning}
 use Rattle.determinize_pattern.specs.declared.pattern.Pattern.{Pattern}
 
--- it is an NFA of the patterns, with the usual prefix
-pub record IsSearched (patterns : List Pattern) (end : ℕ) (nfa : Nfa) : Type 0 where
-  pub means : IsNfaOf (map meaning patterns) nfa
-  pub prefix : HasPrefix nfa
-  pub terminator : nfa.terminator ≡ end
+-- it is one over an NFA of the patterns, with the usual prefix, and its two caches have one limit
+pub record IsSearchOf (patterns : List Pattern) (terminator : ℕ) (search : RegexValue)
+    : Type 0 where
+  pub means : IsNfaOf (map meaning patterns) search.nfa
+  pub prefix : HasPrefix search.nfa
+  pub ends : search.nfa.terminator ≡ terminator
+  pub limits : search.limit_backward ≡ search.limit

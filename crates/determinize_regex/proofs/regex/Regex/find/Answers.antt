@@ -4,6 +4,6 @@ use Rattle.determinize_regex.proofs.regex.Regex.find.Goals as goal
 
 pub returns-clause-leftmost : goal.returns-clause-leftmost
 returns-clause-leftmost c =
-    let is = searched_by c.self.inside.search.nfa _ c.args.self.now c.self.view_is c.self.invariant in
-    IfOk-weaker c.find.result _ _ (first_of c.args.self.now c.self.inside.search.nfa is c.args.input.now)
+    let is = searched_by c.self.inside.search _ c.args.self.now c.self.view_is c.self.invariant in
+    IfOk-weaker c.find.result _ _ (first_of c.args.self.now c.self.inside.search is c.args.input.now)
     c.find.ensures.leftmost
