@@ -10,6 +10,7 @@ ghost use Rattle.determinize_engine.specs.Searches.{has_start};
 
 mod caches;
 mod large;
+mod patterns;
 mod steps;
 mod trial;
 mod values;

@@ -1,7 +1,8 @@
 //! What is done while each allocation fails in turn.
 
-use crate::tests::{Row, caches, steps, values};
+use crate::tests::{Row, caches, patterns, steps, values};
 use determinize_below::StateID;
+use determinize_pattern::Pattern;
 use example_walks::error::TextError;
 use std::alloc::Allocator;
 use std::process::Abort;
@@ -17,6 +18,8 @@ pub enum Trial<'r> {
     Close(&'r steps::Closing, &'r [StateID]),
     /// Prints the example walk that the words name, in these lines.
     Print(&'r [String], &'r str),
+    /// Compiles patterns to an NFA of this number of states.
+    Compile(&'r [Pattern], usize),
 }
 
 /// A trial with an example walk.
@@ -56,6 +59,7 @@ impl Trial<'_> {
             Trial::StateOfLen(len) => values::make_and_clone(rt, alloc, len),
             Trial::Close(closing, wanted) => steps::close(rt, alloc, closing, wanted),
             Trial::Print(words, lines) => steps::print(rt, alloc, words, lines),
+            Trial::Compile(patterns, states) => patterns::compile_all(rt, alloc, patterns, states),
         }
     }
 }
