@@ -1,22 +1,28 @@
 -- What a search over the NFA of a regex finds.
--- Main statements: searched_by, first_of, all_of.
+-- Main statements: searched_by, first_of, all_of, matched_by.
 -- Used by: the searches of `Regex` and of `Matcher`.
 -- Idea: the NFA is that of the patterns, so its leftmost match and its matches are theirs.
-use Rattle.std.proofs.Common.{◌≡◌, List, None, Option, subst}
+use Rattle.std.specs.Bool.{Decides}
+use Rattle.std.proofs.Common.{◌≡◌, Bool, List, None, Option, Some, subst, sym}
 use Rattle.determinize_below.specs.Search.{Asked}
 use Rattle.determinize_below.specs.declared.search.Match.{Match}
 use Rattle.determinize_find.specs.LeftmostIn.{IsLeftmostIn}
 use Rattle.determinize_find.specs.Matches.{AreMatches}
 use Rattle.determinize_find.specs.Regexes.{RegexValue as Searched}
+use Rattle.determinize_find.proofs.matches.OneList.{each_leftmost_in_is_one}
+use Rattle.determinize_regex.proofs.LeftmostExists.{has_leftmost_of_in}
 use Rattle.determinize_regex.proofs.FoundOfPatterns.{each_leftmost_in_is_of, each_matches_are_of}
 use Rattle.determinize_regex.specs.Private.Searched.{IsSearchOf}
 use Rattle.determinize_regex.specs.PatternMatches.{AreMatchesOf, IsLeftmostOfIn}
-use Rattle.determinize_regex.specs.Regexes.{AreAll, IsFirst, RegexValue, meanings}
+use Rattle.determinize_regex.specs.Regexes.{AreAll, HasFirst, IsFirst, RegexValue, meanings}
 
 -- what is known of the fields is known of the value that clauses see
 pub searched_by : (search : Searched) (inside seen : RegexValue) → inside ≡ seen
     → IsSearchOf inside.patterns inside.terminator search → IsSearchOf seen.patterns seen.terminator search
 searched_by search inside seen same is = subst (λ v. IsSearchOf v.patterns v.terminator search) same is
+
+some_is_not_none : (m : Match) → ¬ (None ≡ Some m)
+some_is_not_none m e = cc
 
 module _ (regex : RegexValue) (search : Searched) (is : IsSearchOf regex.patterns regex.terminator search)
     (asked : Asked) where
@@ -31,3 +37,28 @@ module _ (regex : RegexValue) (search : Searched) (is : IsSearchOf regex.pattern
       let all : AreMatchesOf search.nfa.terminator (meanings regex) asked None found
       = (each_matches_are_of (meanings regex) search.nfa is.means is.prefix asked None found).0 h in
       rw is.ends at all
+
+  -- the runs of the NFA have no leftmost match where the patterns have none
+  none_of : IsFirst regex asked None → IsLeftmostIn search.nfa asked None
+  none_of h =
+      let none : IsLeftmostOfIn search.nfa.terminator (meanings regex) asked None = rw (sym is.ends) at h in
+      (each_leftmost_in_is_of (meanings regex) search.nfa is.means is.prefix asked None).1 none
+
+  not_none : (m : Match) → IsFirst regex asked (Some m) → ¬ IsLeftmostIn search.nfa asked None
+  not_none m h none =
+      let some : IsLeftmostOfIn search.nfa.terminator (meanings regex) asked (Some m) = rw (sym is.ends) at h in
+      let same : None ≡ Some m = each_leftmost_in_is_one search.nfa asked None (Some m) none
+      ((each_leftmost_in_is_of (meanings regex) search.nfa is.means is.prefix asked (Some m)).1 some) in
+      some_is_not_none m same
+
+  pub matched_by : (found : Bool) → Decides found (IsLeftmostIn search.nfa asked None → ⊥)
+      → Decides found (HasFirst regex asked)
+  matched_by found decides = (
+    λ yes. go (decides.0 yes) (has_leftmost_of_in regex.terminator (meanings regex) asked),
+    λ has. decides.1 (not_none has.0 has.1),
+  )
+    where
+      go : (IsLeftmostIn search.nfa asked None → ⊥) → ((m : Option Match) × IsFirst regex asked m)
+          → HasFirst regex asked
+      go some (None, h) = absurd (some (none_of h))
+      go some (Some m, h) = (m, h)

@@ -1,4 +1,5 @@
 pub mod FoundByRegex
 pub mod FoundOfPatterns
+pub mod LeftmostExists
 pub mod ListsOfPatterns
 pub mod Spelling

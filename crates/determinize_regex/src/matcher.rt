@@ -1,10 +1,11 @@
 //! Searches for the patterns of a regex with caches of their own.
 
 ghost use Rattle.std.specs.Prelude.{◌≡◌, ◌≤◌, IfOk, true};
+ghost use Rattle.std.specs.Bool.{Decides};
 ghost use Rattle.std.specs.Option.{IfSome};
 ghost use Rattle.determinize_engine.specs.Searches.{has_start};
 ghost use Rattle.determinize_regex.specs.Private.Searched.{IsSearchOf};
-ghost use Rattle.determinize_regex.specs.Regexes.{AreAll, IsFirst};
+ghost use Rattle.determinize_regex.specs.Regexes.{AreAll, HasFirst, IsFirst};
 
 use crate::regex::Regex;
 use determinize_below::{Input, Match};
@@ -76,6 +77,15 @@ impl<'r, A: Allocator + Copy> Matcher<'r, A> {
         ensures same { self.new ≡ self.old }
     {
         self.search.find(input)
+    }
+
+    /// Returns whether an input has a match, as `Regex::is_match`.
+    pub fn is_match(&mut self, input: &Input<'_>) -> Result<bool, AllocError>
+        requires start { has_start input.now.anchored ≡ true }
+        ensures found { IfOk result (λ found. Decides found (HasFirst self.old input.now)) }
+        ensures same { self.new ≡ self.old }
+    {
+        self.search.is_match(input)
     }
 
     /// Returns all matches of an input, as `Regex::find_all`.

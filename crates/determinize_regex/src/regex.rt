@@ -1,10 +1,11 @@
 //! Patterns that are compiled once, and searched for.
 
 ghost use Rattle.std.specs.Prelude.{◌≡◌, ◌≤◌, ◌∷◌, [], IfOk, map, true};
+ghost use Rattle.std.specs.Bool.{Decides};
 ghost use Rattle.std.specs.Option.{IfSome};
 ghost use Rattle.determinize_engine.specs.Searches.{has_start};
 ghost use Rattle.determinize_pattern.specs.Patterns.{meaning};
-ghost use Rattle.determinize_regex.specs.Regexes.{AreAll, IsFirst};
+ghost use Rattle.determinize_regex.specs.Regexes.{AreAll, HasFirst, IsFirst};
 ghost use Rattle.determinize_regex.specs.Spelled.{AreSpelled};
 ghost use Rattle.determinize_syntax.specs.Words.{no_flags};
 
@@ -159,6 +160,15 @@ impl Regex {
         ensures same { self.new ≡ self.old }
     {
         self.search.find(input)
+    }
+
+    /// Returns whether an input has a match. Stops where the end of one is found.
+    pub fn is_match(&mut self, input: &Input<'_>) -> Result<bool, AllocError>
+        requires start { has_start input.now.anchored ≡ true }
+        ensures found { IfOk result (λ found. Decides found (HasFirst self.old input.now)) }
+        ensures same { self.new ≡ self.old }
+    {
+        self.search.is_match(input)
     }
 
     /// Returns all matches of an input, in their order: each is the leftmost one from the end of
