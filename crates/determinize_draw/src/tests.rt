@@ -7,6 +7,7 @@ use determinize_below::{
 };
 use determinize_dense::Dfa;
 use std::alloc::Global;
+use std::process::Abort;
 use std::test::Fail;
 
 /// Returns the NFA of `\b[0-9]`, with a state for `[a-z]` that no match follows.
@@ -61,13 +62,19 @@ const DFA_TEXT: &str = r#"digraph dfa {
 }
 "#;
 
+/// Compares the graph of a DFA.
+fn expect_dfa<R: Abort + AllocGlobal>(rt: &R, dfa: &Dfa<'_>) -> Result<(), Fail> {
+    let graph = DfaGraph::new(dfa);
+    let text = format!(in rt.alloc(); "{graph}")?;
+    assert_eq!(rt; text.as_str(), DFA_TEXT);
+    Ok(())
+}
+
 #[test]
 fn graphs(rt: HostRuntime) -> Result<(), Fail> {
     let nfa = digit(rt.alloc())?;
     let text = format!(in rt.alloc(); "{}", NfaGraph::new(&nfa))?;
     assert_eq!(&rt; text.as_str(), NFA_TEXT);
     let dfa = Dfa::build(rt.alloc(), &nfa, MatchKind::All, 100)?.minimize(rt.alloc())?;
-    let text = format!(in rt.alloc(); "{}", DfaGraph::new(&dfa))?;
-    assert_eq!(&rt; text.as_str(), DFA_TEXT);
-    Ok(())
+    expect_dfa(&rt, &dfa)
 }
