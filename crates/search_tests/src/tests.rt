@@ -6,6 +6,7 @@ mod dfa;
 mod find;
 mod idle;
 mod pieces;
+mod reading;
 mod stored_walks;
 mod trial;
 mod uses;
