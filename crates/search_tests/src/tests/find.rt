@@ -216,8 +216,7 @@ fn feed_piece<B: Allocator, A: Allocator + Copy>(
     regex: &mut LazyRegex<'_, Global, B, A>,
     piece: &[u8],
     found: &mut Vec<Match, A>,
-) -> Result<bool, AllocError>
-{
+) -> Result<bool, AllocError> {
     let begin = stream.bytes_read();
     if stream.feed(regex, piece, found).is_ok() {
         return Ok(true);

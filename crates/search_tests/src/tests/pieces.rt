@@ -1,8 +1,10 @@
 //! A text in pieces: each match is found with its last byte, and few bytes are kept.
 
 use crate::tests::find::{WORDS, nfa};
-use crate::tests::{holds, same};
+use crate::tests::{ended, holds, same};
+use determinize_below::MatchKind;
 use determinize_find::{LazyRegex, Pieces, Regex, reversed};
+use determinize_lazy::Lazy;
 use std::process::Abort;
 use std::test::Fail;
 
@@ -55,10 +57,10 @@ fn hundred_megabytes(rt: HostRuntime) -> Result<(), Fail> {
 }
 
 /// Feeds a text in pieces. After each piece there must be a match for each line that has ended.
-fn expect_lines<'t, R: Abort + AllocGlobal>(
+fn expect_lines<R: Abort + AllocGlobal>(
     rt: &R,
     regex: &mut LazyRegex<'_>,
-    pieces: impl Iterator<Item = &'t [u8]>,
+    pieces: &[&[u8]],
 ) -> Result<(), Fail> {
     let mut stream = Pieces::new(rt.alloc());
     let mut found = Vec::new(rt.alloc());
@@ -79,9 +81,33 @@ fn each_line_at_its_last_byte(rt: HostRuntime) -> Result<(), Fail> {
     let nfa = nfa(rt.alloc(), LINE)?;
     let backward = reversed(rt.alloc(), &nfa)?;
     let mut regex = Regex::new(rt.alloc(), &nfa, &backward, 100);
-    expect_lines(&rt, &mut regex, EACH_LINE.iter().copied())?;
+    expect_lines(&rt, &mut regex, &EACH_LINE)?;
     for size in 1..=LINES.len() {
-        expect_lines(&rt, &mut regex, LINES.chunks(size))?;
+        let pieces: Vec<&[u8]> = LINES.chunks(size).collect(rt.alloc())?;
+        expect_lines(&rt, &mut regex, pieces.as_slice())?;
     }
+    Ok(())
+}
+
+/// A cache of another NFA, which has no such states, returns an error, and changes nothing.
+#[test]
+fn scans_of_another_nfa(rt: HostRuntime) -> Result<(), Fail> {
+    let (words, any) = (
+        nfa(rt.alloc(), WORDS)?,
+        nfa(rt.alloc(), "BU:2,1 B:00-ff>0 M:0")?,
+    );
+    let mut lazy = Lazy::new(rt.alloc(), &words, MatchKind::LeftmostFirst, 100);
+    let mut other = Lazy::new(rt.alloc(), &any, MatchKind::LeftmostFirst, 100);
+    let start = lazy.nfa().start_unanchored();
+    let mut scan = lazy.scan_text(start, None, b"a")?;
+    holds(&rt, other.feed(&mut scan, b"b").is_err());
+    holds(&rt, other.finish(&scan, None).is_err());
+    lazy.feed(&mut scan, b"b")?;
+    same(&rt, lazy.finish(&scan, None)?, ended(2));
+    let start = lazy.nfa().start_unanchored();
+    let mut walker = lazy.walker(start, None)?;
+    lazy.next(&mut walker, Some(b'a'))?;
+    holds(&rt, other.next(&mut walker, Some(b'b')).is_err());
+    lazy.next(&mut walker, Some(b'b'))?;
     Ok(())
 }
