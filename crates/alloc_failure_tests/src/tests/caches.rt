@@ -1,7 +1,6 @@
 //! Walks, searches and scans through a cache.
 
 ghost use Rattle.std.specs.Prelude.{◌≡◌};
-ghost use Rattle.determinize_below.specs.Nfa.{AllResolve};
 
 use crate::tests::trial::OfWalk;
 use crate::tests::{Row, fail_each_over_walks, holds, same, succeed_if};
@@ -91,10 +90,7 @@ fn feed<A: Allocator + Copy>(
     lazy: &mut Lazy<'_, Global, A>,
     scan: &mut Scan<A>,
     piece: &[u8],
-) -> Result<bool, AllocError>
-    requires { AllResolve lazy.old.nfa scan.old.state.states }
-    ensures { AllResolve lazy.new.nfa scan.new.state.states }
-{
+) -> Result<bool, AllocError> {
     let is_fed = lazy.feed(scan, piece).is_ok();
     if !is_fed {
         lazy.feed(scan, piece)?;
@@ -127,10 +123,7 @@ fn step<A: Allocator + Copy>(
     lazy: &mut Lazy<'_, Global, A>,
     walker: &mut Walker<A>,
     unit: Option<u8>,
-) -> Result<bool, AllocError>
-    requires { AllResolve lazy.old.nfa walker.old.states }
-    ensures { AllResolve lazy.new.nfa walker.new.states }
-{
+) -> Result<bool, AllocError> {
     let is_taken = lazy.next(walker, unit).is_ok();
     if !is_taken {
         lazy.next(walker, unit)?;
