@@ -62,8 +62,11 @@ pub escaped_read : {a b : Text} (f : Flags) (p : Before) (c : ℕ) (ranges all :
     → Part a b (λ t. Extends f p ranges (AfterByte true c) all (0x5C ∷ t))
 escaped_read f p c ranges all h e =
     renamed (λ t. Escaped c (0x5C ∷ t)) (λ t. Extends f p ranges (AfterByte true c) all (0x5C ∷ t)) h
-    (λ t x r u lists has. (joined r (only c), s.escaped p r u (0x5C ∷ t) c lists x,
-    has_joined r (only c) ranges ((c, c) ∷ []) all e has (has_only c)))
+    (λ t x r u lists has. (
+      joined r (only c),
+      s.escaped p r u (0x5C ∷ t) c lists x,
+      has_joined r (only c) ranges ((c, c) ∷ []) all e has (has_only c),
+    ))
 
 -- a class by a letter, after its backslash
 abbrev pub IsPerl : List (ℕ × ℕ) → Text → Type 0
@@ -73,18 +76,26 @@ pub class_read : {a b : Text} (f : Flags) (p : Before) (class ranges all : List 
     → all ≡ ranges ++ class → Part a b (λ t. Extends f p ranges AfterClass all (0x5C ∷ t))
 class_read f p class ranges all h e =
     renamed (λ t. IsPerl class (0x5C ∷ t)) (λ t. Extends f p ranges AfterClass all (0x5C ∷ t)) h
-    (λ t x r u lists has. (joined r x.1, subst (λ w. Lists f AfterClass (joined r x.1) (u ++ w)) (sym x.4)
-    (s.class p r u x.0 x.1 lists x.2), has_joined r x.1 ranges class all e has x.3))
+    (λ t x r u lists has. (
+      joined r x.1,
+      subst (λ w. Lists f AfterClass (joined r x.1) (u ++ w)) (sym x.4)
+          (s.class p r u x.0 x.1 lists x.2),
+      has_joined r x.1 ranges class all e has x.3,
+    ))
 
 -- the name of a class, after its bracket
 pub name_read : {a b d e g : Text} (f : Flags) (p : Before) (n : Text) (k : Set) (class ranges all : List (ℕ × ℕ))
     → a ≡ 0x3A ∷ b → b ≡ n ++ d → d ≡ 0x3A ∷ e → e ≡ 0x5D ∷ g → named_class n ≡ Some k → HasBytes (folded f k) class
     → all ≡ ranges ++ class → Part a g (λ t. Extends f p ranges AfterRange all (0x5B ∷ t))
-name_read {a} {b} {d} {e} {g} f p n k class ranges all r1 r2 r3 r4 is has more =
-    (0x3A ∷ (n ++ 0x3A ∷ 0x5D ∷ []),
-    r1 ∙ ap (λ w. 0x3A ∷ w) (r2 ∙ ap (λ w. n ++ w) (r3 ∙ ap (λ w. 0x3A ∷ w) r4) ∙ sym (append_assoc n (0x3A ∷ 0x5D ∷ []) g)),
-    λ r u lists h. (joined r (folded f k), subst (Lists f AfterRange (joined r (folded f k))) (text n u) (s.name p r u n k lists is),
-    has_joined r (folded f k) ranges class all more h has)) where
+name_read {a} {b} {d} {e} {g} f p n k class ranges all r1 r2 r3 r4 is has more = (
+  0x3A ∷ (n ++ 0x3A ∷ 0x5D ∷ []),
+  r1 ∙ ap (λ w. 0x3A ∷ w) (r2 ∙ ap (λ w. n ++ w) (r3 ∙ ap (λ w. 0x3A ∷ w) r4) ∙ sym (append_assoc n (0x3A ∷ 0x5D ∷ []) g)),
+  λ r u lists h. (
+    joined r (folded f k),
+    subst (Lists f AfterRange (joined r (folded f k))) (text n u) (s.name p r u n k lists is),
+    has_joined r (folded f k) ranges class all more h has,
+  ),
+) where
   text : (n u : Text) → u ++ codes "[:" ++ n ++ codes ":]" ≡ u ++ (0x5B ∷ 0x3A ∷ (n ++ 0x3A ∷ 0x5D ∷ []))
   text n u = append_assoc (u ++ codes "[:") n (codes ":]") ∙ append_assoc u (codes "[:") (n ++ codes ":]")
 
@@ -92,26 +103,43 @@ pub other_name_read : {a b c d e g : Text} (f : Flags) (p : Before) (n : Text) (
     → a ≡ 0x3A ∷ b → b ≡ 0x5E ∷ c → c ≡ n ++ d → d ≡ 0x3A ∷ e → e ≡ 0x5D ∷ g → named_class n ≡ Some k
     → HasBytes (complement (folded f k)) class
     → all ≡ ranges ++ class → Part a g (λ t. Extends f p ranges AfterRange all (0x5B ∷ t))
-other_name_read {a} {b} {c} {d} {e} {g} f p n k class ranges all r1 r0 r2 r3 r4 is has more =
-    (0x3A ∷ 0x5E ∷ (n ++ 0x3A ∷ 0x5D ∷ []),
-    r1 ∙ ap (λ w. 0x3A ∷ w) (r0 ∙ ap (λ w. 0x5E ∷ w)
-    (r2 ∙ ap (λ w. n ++ w) (r3 ∙ ap (λ w. 0x3A ∷ w) r4) ∙ sym (append_assoc n (0x3A ∷ 0x5D ∷ []) g))),
-    λ r u lists h. (joined r (complement (folded f k)),
+other_name_read {a} {b} {c} {d} {e} {g} f p n k class ranges all r1 r0 r2 r3 r4 is has more = (
+  0x3A ∷ 0x5E ∷ (n ++ 0x3A ∷ 0x5D ∷ []),
+  r1 ∙ ap (λ w. 0x3A ∷ w) (r0 ∙ ap (λ w. 0x5E ∷ w)
+      (r2 ∙ ap (λ w. n ++ w) (r3 ∙ ap (λ w. 0x3A ∷ w) r4) ∙ sym (append_assoc n (0x3A ∷ 0x5D ∷ []) g))),
+  λ r u lists h. (
+    joined r (complement (folded f k)),
     subst (Lists f AfterRange (joined r (complement (folded f k)))) (text n u) (s.other_name p r u n k lists is),
-    has_joined r (complement (folded f k)) ranges class all more h has)) where
+    has_joined r (complement (folded f k)) ranges class all more h has,
+  ),
+) where
   text : (n u : Text) → u ++ codes "[:^" ++ n ++ codes ":]" ≡ u ++ (0x5B ∷ 0x3A ∷ 0x5E ∷ (n ++ 0x3A ∷ 0x5D ∷ []))
   text n u = append_assoc (u ++ codes "[:^") n (codes ":]") ∙ append_assoc u (codes "[:^") (n ++ codes ":]")
 
 -- hyphens
 pub hyphens_read : {a : Text} (f : Flags) (ranges all : List (ℕ × ℕ)) → all ≡ ranges ++ (0x2D, 0x2D) ∷ []
     → Part a a (λ t. Extends f First ranges First all (0x2D ∷ t))
-hyphens_read f ranges all e = ([], refl, λ r u lists has. (joined r (only 0x2D), s.hyphens r u lists,
-    has_joined r (only 0x2D) ranges ((0x2D, 0x2D) ∷ []) all e has (has_only 0x2D)))
+hyphens_read f ranges all e = (
+  [],
+  refl,
+  λ r u lists has. (
+    joined r (only 0x2D),
+    s.hyphens r u lists,
+    has_joined r (only 0x2D) ranges ((0x2D, 0x2D) ∷ []) all e has (has_only 0x2D),
+  ),
+)
 
 pub hyphen_read : {a : Text} (f : Flags) (ranges all : List (ℕ × ℕ)) → all ≡ ranges ++ (0x2D, 0x2D) ∷ []
     → Part a a (λ t. Extends f AfterRange ranges AfterHyphen all (0x2D ∷ t))
-hyphen_read f ranges all e = ([], refl, λ r u lists has. (joined r (only 0x2D), s.hyphen r u lists,
-    has_joined r (only 0x2D) ranges ((0x2D, 0x2D) ∷ []) all e has (has_only 0x2D)))
+hyphen_read f ranges all e = (
+  [],
+  refl,
+  λ r u lists has. (
+    joined r (only 0x2D),
+    s.hyphen r u lists,
+    has_joined r (only 0x2D) ranges ((0x2D, 0x2D) ∷ []) all e has (has_only 0x2D),
+  ),
+)
 
 -- the end of a range
 pub range_read : {a b : Text} (f : Flags) (e : Bool) (low high : ℕ) (ranges all : List (ℕ × ℕ)) → Part a b (IsBound high) → low ≤ high
@@ -119,14 +147,17 @@ pub range_read : {a b : Text} (f : Flags) (e : Bool) (low high : ℕ) (ranges al
     → Part a b (λ t. Extends f (AfterByte e low) ranges AfterRange all (0x2D ∷ t))
 range_read f e low high ranges all h le more =
     renamed (IsBound high) (λ t. Extends f (AfterByte e low) ranges AfterRange all (0x2D ∷ t)) h
-    (λ t x r u lists has. (joined r (is_in_range low high), rule t x r u lists,
-    has_joined r (is_in_range low high) ranges ((low, high) ∷ []) all more has (has_range low high))) where
-  rule : (t : Text) → IsBound high t → (r : Set) (u : Text) → Lists f (AfterByte e low) r u
-      → Lists f AfterRange (joined r (is_in_range low high)) (u ++ 0x2D ∷ t)
-  rule t (inl x) r u lists = subst (λ w. Lists f AfterRange (joined r (is_in_range low high)) (u ++ 0x2D ∷ w)) (sym x.0)
-      (s.range e low high r u lists le x.1)
-  rule t (inr x) r u lists = subst (Lists f AfterRange (joined r (is_in_range low high))) (append_assoc u (codes "-") t)
-      (s.range_escaped e low high r u t lists le x)
+    (λ t x r u lists has. (
+      joined r (is_in_range low high),
+      rule t x r u lists,
+      has_joined r (is_in_range low high) ranges ((low, high) ∷ []) all more has (has_range low high),
+    )) where
+      rule : (t : Text) → IsBound high t → (r : Set) (u : Text) → Lists f (AfterByte e low) r u
+          → Lists f AfterRange (joined r (is_in_range low high)) (u ++ 0x2D ∷ t)
+      rule t (inl x) r u lists = subst (λ w. Lists f AfterRange (joined r (is_in_range low high)) (u ++ 0x2D ∷ w)) (sym x.0)
+          (s.range e low high r u lists le x.1)
+      rule t (inr x) r u lists = subst (Lists f AfterRange (joined r (is_in_range low high))) (append_assoc u (codes "-") t)
+          (s.range_escaped e low high r u t lists le x)
 
 -- what was begun and more
 abbrev pub Begun : Flags → Before → List (ℕ × ℕ) → Text → Text → Type 0
@@ -137,10 +168,10 @@ pub begun_more : {a b d : Text} (f : Flags) (p q : Before) (ranges all : List (�
 begun_more {a} {b} {d} f p q ranges all h k less =
     onward (Begun f p ranges b) (λ u. Extends f p ranges q all u × (b ≡ u ++ d)) (Begun f q all d) h (k.0, k.1, (k.2, k.1))
     (λ t u x y. let new = y.0 x.0 t x.1 x.2 in (new.0, new.1, new.2, λ e. absurd (longer t u y.1 e))) where
-  longer : (t u : Text) → b ≡ u ++ d → t ++ u ≡ [] → ⊥
-  longer [] [] e z = let same : length b ≡ length d = ap length e in omega arith
-  longer [] (c ∷ u) e z = absurd (cc)
-  longer (c ∷ t) u e z = absurd (cc)
+      longer : (t u : Text) → b ≡ u ++ d → t ++ u ≡ [] → ⊥
+      longer [] [] e z = let same : length b ≡ length d = ap length e in omega arith
+      longer [] (c ∷ u) e z = absurd (cc)
+      longer (c ∷ t) u e z = absurd (cc)
 
 -- the last bracket
 pub inside_closed : {a b d : Text} (f : Flags) (p : Before) (ranges : List (ℕ × ℕ)) → Part a b (Begun f p ranges b)
@@ -148,17 +179,21 @@ pub inside_closed : {a b d : Text} (f : Flags) (p : Before) (ranges : List (ℕ 
 inside_closed {a} {b} {d} f p ranges h r =
     renamed (Ended (Begun f p ranges b) 0x5D) (IsInside f ranges) (closed (Begun f p ranges b) h r)
     (λ v z. inside z.0 z.1 v z.2) where
-  inside : (u : Text) → Begun f p ranges b u → (v : Text) → v ≡ u ++ 0x5D ∷ [] → IsInside f ranges v
-  inside [] x v e = absurd (x.3 refl (at_front b 0x5D d r))
-  inside (c ∷ u) x v e = (x.0, c ∷ u, s.closed p x.0 c u x.1, x.2, e)
+      inside : (u : Text) → Begun f p ranges b u → (v : Text) → v ≡ u ++ 0x5D ∷ [] → IsInside f ranges v
+      inside [] x v e = absurd (x.3 refl (at_front b 0x5D d r))
+      inside (c ∷ u) x v e = (x.0, c ∷ u, s.closed p x.0 c u x.1, x.2, e)
 
 pub inside_hyphen : {a b d : Text} (f : Flags) (p : Before) (ranges all : List (ℕ × ℕ)) → Part a b (Begun f p ranges b)
     → b ≡ 0x2D ∷ 0x5D ∷ d → s.may_end p ≡ true → all ≡ ranges ++ (0x2D, 0x2D) ∷ [] → Part a d (IsInside f all)
 inside_hyphen {a} {b} {d} f p ranges all h r may e =
     onward (Begun f p ranges b) (λ v. v ≡ 0x2D ∷ 0x5D ∷ []) (IsInside f all) h (0x2D ∷ 0x5D ∷ [], r, refl)
-    (λ t v x y. (joined x.0 (only 0x2D), t ++ 0x2D ∷ [], s.hyphen_last p x.0 t x.1 may,
-    has_joined x.0 (only 0x2D) ranges ((0x2D, 0x2D) ∷ []) all e x.2 (has_only 0x2D),
-    ap (λ w. t ++ w) y ∙ sym (append_assoc t (0x2D ∷ []) (0x5D ∷ []))))
+    (λ t v x y. (
+      joined x.0 (only 0x2D),
+      t ++ 0x2D ∷ [],
+      s.hyphen_last p x.0 t x.1 may,
+      has_joined x.0 (only 0x2D) ranges ((0x2D, 0x2D) ∷ []) all e x.2 (has_only 0x2D),
+      ap (λ w. t ++ w) y ∙ sym (append_assoc t (0x2D ∷ []) (0x5D ∷ [])),
+    ))
 
 -- brackets
 inside_cons : (f : Flags) (r : Set) (u : Text) → Inside f r u → (c : ℕ) × (t : Text) × (u ≡ c ∷ t)
@@ -174,12 +209,12 @@ pub bracket_read : {a b : Text} (f : Flags) (ranges class : List (ℕ × ℕ)) �
     → Part a b (IsBracketed f class)
 bracket_read {a} {b} f ranges class other h has =
     (h.0, h.1, λ re is. rule re is (inside_cons f h.2.0 h.2.1 h.2.2)) where
-  rule : (re : Re) → re ≡ Byte class → (c : ℕ) × (t : Text) × (h.2.1 ≡ c ∷ t) → Atom f re (0x5B ∷ h.0)
-  rule re is z =
-      subst (λ w. Atom f re (0x5B ∷ w)) (sym (h.2.4 ∙ ap (λ w. w ++ codes "]") z.2))
-      (s.brackets f h.2.0 re z.0 z.1 (subst (Inside f h.2.0) z.2 h.2.2) (not_caret z.0 (λ e. other
-      (at_front a 0x5E (z.1 ++ codes "]" ++ b) (h.1 ∙ ap (λ w. w ++ b) (h.2.4 ∙ ap (λ w. w ++ codes "]") z.2) ∙ ap (λ x. x ∷ (z.1 ++ codes "]" ++ b)) e))))
-      (class, is, has h.2.0 h.2.3))
+      rule : (re : Re) → re ≡ Byte class → (c : ℕ) × (t : Text) × (h.2.1 ≡ c ∷ t) → Atom f re (0x5B ∷ h.0)
+      rule re is z =
+          subst (λ w. Atom f re (0x5B ∷ w)) (sym (h.2.4 ∙ ap (λ w. w ++ codes "]") z.2))
+          (s.brackets f h.2.0 re z.0 z.1 (subst (Inside f h.2.0) z.2 h.2.2) (not_caret z.0 (λ e. other
+          (at_front a 0x5E (z.1 ++ codes "]" ++ b) (h.1 ∙ ap (λ w. w ++ b) (h.2.4 ∙ ap (λ w. w ++ codes "]") z.2) ∙ ap (λ x. x ∷ (z.1 ++ codes "]" ++ b)) e))))
+          (class, is, has h.2.0 h.2.3))
 
 pub other_bracket_read : {a b d : Text} (f : Flags) (ranges class : List (ℕ × ℕ)) → a ≡ 0x5E ∷ b → Part b d (IsInside f ranges)
     → ((r : Set) → HasBytes r ranges → HasBytes (complement (folded f r)) class) → Part a d (IsBracketed f class)

@@ -298,10 +298,11 @@ whole_read a b P h e = subst P (sym (h.1 ∙ ap (λ w. h.0 ++ w) (at_end b e) �
 pub boundary_read : {a b d x : Text} (look : Look) (name : Text) → a ≡ 0x7B ∷ b → Part b d (λ t. ⊤)
     → ((t : Text) → b ≡ t ++ d → name ≡ t) → d ≡ 0x7D ∷ x → assertion (codes "b{" ++ name ++ codes "}") ≡ Some look
     → Part a x (λ t. assertion (0x62 ∷ t) ≡ Some look)
-boundary_read {a} {b} {d} {x} look name r1 h is r2 e =
-    (0x7B ∷ (h.0 ++ 0x7D ∷ []),
-    r1 ∙ ap (λ w. 0x7B ∷ w) (h.1 ∙ ap (λ w. h.0 ++ w) r2 ∙ sym (append_assoc h.0 (0x7D ∷ []) x)),
-    subst (λ w. assertion (0x62 ∷ 0x7B ∷ (w ++ 0x7D ∷ [])) ≡ Some look) (is h.0 h.1) e)
+boundary_read {a} {b} {d} {x} look name r1 h is r2 e = (
+  0x7B ∷ (h.0 ++ 0x7D ∷ []),
+  r1 ∙ ap (λ w. 0x7B ∷ w) (h.1 ∙ ap (λ w. h.0 ++ w) r2 ∙ sym (append_assoc h.0 (0x7D ∷ []) x)),
+  subst (λ w. assertion (0x62 ∷ 0x7B ∷ (w ++ 0x7D ∷ [])) ≡ Some look) (is h.0 h.1) e,
+)
 
 -- hexadecimal digits
 pub digits_begun : {a b : Text} (n : ℕ) → Part a b (IsHexDigit n) → Part a b (IsDigits n)
@@ -350,5 +351,5 @@ pub shorter_by_character : (c : ℕ) (a b : Text) → a ≡ encode_utf8 c ++ b �
 shorter_by_character c a b e =
     let one : 1 ≤ len_utf8 c = at_least_one c in
     let len : length a ≡ len_utf8 c + length b = ap length e ∙ length-append (encode_utf8 c) b
-        ∙ ap (λ n. n + length b) (length-encode c) in
+    ∙ ap (λ n. n + length b) (length-encode c) in
     omega arith

@@ -189,7 +189,11 @@ impl<'a> Items<'a> {
             return Err(cursor.error_here(ErrorKind::UnicodeNotAllowed));
         }
         if !stands(self.before, next) || !cursor.take(next) {
-            return Err(ParseError::new(ErrorKind::ClassOperation, self.last.pos(), cursor.error_here(ErrorKind::ClassOperation).end));
+            return Err(ParseError::new(
+                ErrorKind::ClassOperation,
+                self.last.pos(),
+                cursor.error_here(ErrorKind::ClassOperation).end,
+            ));
         }
         self.last = place;
         self.add(next, next, Before::AfterByte(false, next))?;
@@ -274,9 +278,7 @@ impl<'a> Items<'a> {
                 self.add(b'-', b'-', Before::AfterHyphen)?;
                 Ok(())
             }
-            Before::AfterHyphen => {
-                Err(cursor.error_since(self.last, ErrorKind::ClassOperation))
-            }
+            Before::AfterHyphen => { Err(cursor.error_since(self.last, ErrorKind::ClassOperation)) }
             Before::AfterClass => Err(self.class_in_range(alloc, cursor, place)),
             Before::AfterByte(_, low) => self.range(alloc, cursor, place, low),
         }
@@ -362,7 +364,8 @@ impl<'a> Items<'a> {
 
     /// Returns the error of brackets that are not closed.
     fn unclosed(&self) -> ParseError {
-        self.opened.error_since(self.start, ErrorKind::ClassUnclosed)
+        self.opened
+            .error_since(self.start, ErrorKind::ClassUnclosed)
     }
 }
 

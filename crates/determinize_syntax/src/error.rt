@@ -196,7 +196,12 @@ impl fmt::Display for Marked<'_> {
             let line_end = offset.saturating_add(line.len());
             if start <= line_end {
                 writeln!(f, "{line}")?;
-                write_carets(f, line, start.saturating_sub(offset), end.saturating_sub(offset))?;
+                write_carets(
+                    f,
+                    line,
+                    start.saturating_sub(offset),
+                    end.saturating_sub(offset),
+                )?;
                 break;
             }
             offset = line_end.saturating_add(1);

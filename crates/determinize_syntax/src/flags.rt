@@ -54,7 +54,8 @@ pub fn setting(cursor: &mut Cursor<'_>, flags: Flags) -> Result<Option<Flags>, P
         return Err(cursor.error_here(ErrorKind::GroupUnclosed));
     }
     if ahead.take(b')') {
-        return Err(ahead.error_before(ErrorKind::RepetitionMissing));
+        let mark = cursor.pos().saturating_add(1);
+        return Err(ParseError::new(ErrorKind::RepetitionMissing, mark, mark));
     }
     let set = letters(&mut ahead, flags)?;
     if !ahead.take(b')') {

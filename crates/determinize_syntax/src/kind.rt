@@ -94,12 +94,7 @@ impl ClassKind {
     }
 
     /// Returns the class, under `i` in both cases, or that of all other bytes if `negated` is set.
-    pub fn class(
-        self,
-        alloc: Global,
-        flags: Flags,
-        negated: bool,
-    ) -> Result<ClassBytes, AllocError>
+    pub fn class(self, alloc: Global, flags: Flags, negated: bool) -> Result<ClassBytes, AllocError>
         ensures { IfOk result (λ c. HasBytes (turned negated (folded flags (set_of self))) c) }
     {
         let members = self.members(alloc)?;

@@ -180,11 +180,7 @@ fn escaped_atom<'a>(
 }
 
 /// Reads a character that stands for itself.
-fn literal_atom(
-    alloc: Global,
-    cursor: &mut Cursor<'_>,
-    flags: Flags,
-) -> Result<Pattern, ParseError>
+fn literal_atom(alloc: Global, cursor: &mut Cursor<'_>, flags: Flags) -> Result<Pattern, ParseError>
     ensures read { IfOk result (λ p. Reads cursor.old cursor.new (Atom flags (meaning p))) }
     ensures progress { OnOk result (length (rest cursor.new) < length (rest cursor.old)) }
 {

@@ -10,11 +10,7 @@ use std::io::{self, BufRead, BufReader, Read, Write};
 use std::process::ExitCode;
 
 /// Judges the rows of the input, and writes the counts.
-fn run<R: Read + Drop, W: Write>(
-    alloc: Global,
-    input: R,
-    out: &mut W,
-) -> Result<Tally, RowError> {
+fn run<R: Read + Drop, W: Write>(alloc: Global, input: R, out: &mut W) -> Result<Tally, RowError> {
     let Ok(input) = BufReader::new(alloc, input) else {
         return Err(RowError::OutOfMemory);
     };

@@ -22,8 +22,8 @@ returns c =
     let n = c.take-negated.result in
     let class = c.in_ok-class.class in
     record {
-  read = any_bracket_read f n (pairs c.in_ok-ranges.ranges.items) class c.take-negated.ensures.read
-      (λ e. ap rest (c.take-negated.ensures.left e)) c.take-negated.ensures.other c.in_ok-ranges.ensures.read
-      (λ r h. kind_class f n r c.in_ok-ranges.ranges.items class h
-      (subst (λ l. HasBytes (turned n (folded f (has l))) class) c.deref.ensures.value c.in_ok-class.ensures));
-}
+      read = any_bracket_read f n (pairs c.in_ok-ranges.ranges.items) class c.take-negated.ensures.read
+          (λ e. ap rest (c.take-negated.ensures.left e)) c.take-negated.ensures.other c.in_ok-ranges.ensures.read
+          (λ r h. kind_class f n r c.in_ok-ranges.ranges.items class h
+          (subst (λ l. HasBytes (turned n (folded f (has l))) class) c.deref.ensures.value c.in_ok-class.ensures));
+    }

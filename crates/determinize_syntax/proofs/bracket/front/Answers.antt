@@ -16,15 +16,29 @@ use Rattle.determinize_syntax.proofs.bracket.front.Goals as goal
 
 pub returns-then-not-take : goal.returns-then-not-take
 returns-then-not-take c = record {
-  read = λ f. ([], ap rest (sym (c.take.ensures.left c.if-not-take.true)), ((λ b. false), s.nothing,
+  read = λ f. (
+    [],
+    ap rest (sym (c.take.ensures.left c.if-not-take.true)),
+    (
+      (λ b. false),
+      s.nothing,
       (λ b small. ap (λ l. is_in (pairs l) (Some b)) c.new.ensures.items),
-      λ e. subst (IsNotAt 0x5D) (sym (c.take.ensures.left c.if-not-take.true)) (c.take.ensures.other c.if-not-take.true)));
+      λ e. subst (IsNotAt 0x5D) (sym (c.take.ensures.left c.if-not-take.true)) (c.take.ensures.other c.if-not-take.true),
+    ),
+  );
 }
 
 pub returns : goal.returns
 returns c = record {
-  read = λ f. (0x5D ∷ [], c.take.ensures.read c.if-not-take.false, (only 0x5D,
+  read = λ f. (
+    0x5D ∷ [],
+    c.take.ensures.read c.if-not-take.false,
+    (
+      only 0x5D,
       subst (λ q. Lists f q (only 0x5D) (0x5D ∷ [])) (sym c.in_ok-add.ensures.before) s.closing,
       (λ b small. ap (λ l. is_in l (Some b)) (c.in_ok-add.ensures.ranges ∙ ap (λ l. pairs l ++ (0x5D, 0x5D) ∷ []) c.new.ensures.items)
-      ∙ has_only 0x5D b small), λ e. absurd (cc)));
+          ∙ has_only 0x5D b small),
+      λ e. absurd (cc),
+    ),
+  );
 }

@@ -27,9 +27,9 @@ loop-alloc-preserved c =
     let same : c.ends_with_hyphen.new.cursor ≡ c.loop-alloc.cursor = left.0 ∙ c.take.ensures.left c.if-take.false in
     let here = rest c.ends_with_hyphen.new.cursor in
     let start = subst (λ y. Part (rest c.args.cursor.now) (rest y) (Begun f items.before (pairs items.ranges.items) (rest y))) (sym same)
-        c.loop-alloc.invariant in
+    c.loop-alloc.invariant in
     let begun = subst (λ (i : Items). Part (rest c.args.cursor.now) here (Begun f i.before (pairs i.ranges.items) here)) (sym left.1)
-        start in
+    start in
     begun_more f c.ends_with_hyphen.new.self.before c.item.new.self.before (pairs c.ends_with_hyphen.new.self.ranges.items)
     (pairs c.item.new.self.ranges.items) begun c.in_ok-item.ensures.read c.in_ok-item.ensures.progress
 
@@ -43,7 +43,7 @@ pub returns-then-branch : goal.returns-then-branch
 returns-then-branch c =
     let x = c.in_ok-ends_with_hyphen.ensures.read c.if-branch.true in
     record {
-  read = inside_hyphen c.args.flags c.loop-alloc.items.before (pairs c.loop-alloc.items.ranges.items)
-      (pairs c.ends_with_hyphen.new.self.ranges.items) c.loop-alloc.invariant
-      (ap rest (sym (c.take.ensures.left c.if-take.false)) ∙ x.1) x.0 x.2;
-}
+      read = inside_hyphen c.args.flags c.loop-alloc.items.before (pairs c.loop-alloc.items.ranges.items)
+          (pairs c.ends_with_hyphen.new.self.ranges.items) c.loop-alloc.invariant
+          (ap rest (sym (c.take.ensures.left c.if-take.false)) ∙ x.1) x.0 x.2;
+    }

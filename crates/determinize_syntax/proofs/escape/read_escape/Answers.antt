@@ -10,22 +10,22 @@ use Rattle.determinize_syntax.proofs.escape.read_escape.Goals as goal
 pub returns-in-Some-escaped : goal.returns-in-Some-escaped
 returns-in-Some-escaped c =
     let same : c.assertion.new.cursor ≡ c.take.new.self =
-        subst (λ o. IfNone o (c.assertion.new.cursor ≡ c.take.new.self)) c.in_default.is c.in_ok-look.ensures.none in
+    subst (λ o. IfNone o (c.assertion.new.cursor ≡ c.take.new.self)) c.in_default.is c.in_ok-look.ensures.none in
     record {
-  read = took {c = c.in-Some-peek.next} (λ t. Escaped c.in-Some-escaped.byte (0x5C ∷ t))
-      (ap rest (sym (same ∙ c.take.ensures.left c.if-take.false)) ∙ c.take-in-Some-escaped.ensures.read c.if-not-take.false)
-      (letter c.in-Some-peek.next c.in-Some-escaped.byte (sym c.escaped.ensures ∙ c.in-Some-escaped.is));
-}
+      read = took {c = c.in-Some-peek.next} (λ t. Escaped c.in-Some-escaped.byte (0x5C ∷ t))
+          (ap rest (sym (same ∙ c.take.ensures.left c.if-take.false)) ∙ c.take-in-Some-escaped.ensures.read c.if-not-take.false)
+          (letter c.in-Some-peek.next c.in-Some-escaped.byte (sym c.escaped.ensures ∙ c.in-Some-escaped.is));
+    }
 
 pub returns-in-Some-2 : goal.returns-in-Some-2
 returns-in-Some-2 c =
     let next = c.in-Some-peek.next in
     let same : c.assertion.new.cursor ≡ c.take.new.self =
-        subst (λ o. IfNone o (c.assertion.new.cursor ≡ c.take.new.self)) c.in_default.is c.in_ok-look.ensures.none in
+    subst (λ o. IfNone o (c.assertion.new.cursor ≡ c.take.new.self)) c.in_default.is c.in_ok-look.ensures.none in
     let k = subst (λ o. IfSome o (λ k. (s : Set) × (perl_class next ≡ Some s) × HasBytes s k)) c.in-Some-2.is
-        c.in_ok-class.ensures in
+    c.in_ok-class.ensures in
     record {
-  read = took {c = next} (λ t. IsEscape (Class c.in-Some-2.class) (0x5C ∷ t))
-      (ap rest (sym (same ∙ c.take.ensures.left c.if-take.false)) ∙ c.if-take-2.ensures.read refl)
-      (next, k.0, k.1, k.2, refl);
-}
+      read = took {c = next} (λ t. IsEscape (Class c.in-Some-2.class) (0x5C ∷ t))
+          (ap rest (sym (same ∙ c.take.ensures.left c.if-take.false)) ∙ c.if-take-2.ensures.read refl)
+          (next, k.0, k.1, k.2, refl);
+    }

@@ -33,7 +33,7 @@ atom-returns-then-take-6-clause-read t c =
     let f = c.args.flags in
     let re = meaning c.one_of.result in
     let start = c.take-5.ensures.left c.if-take-5.false ∙ c.take-4.ensures.left c.if-take-4.false
-        ∙ c.take-3.ensures.left c.if-take-3.false ∙ c.take-2.ensures.left c.if-take-2.false ∙ c.take.ensures.left c.if-take.false in
+    ∙ c.take-3.ensures.left c.if-take-3.false ∙ c.take-2.ensures.left c.if-take-2.false ∙ c.take.ensures.left c.if-take.false in
     prefixed (Atom f re) (ap rest (sym start) ∙ c.take-6.ensures.read c.if-take-6.true)
     (renamed (IsBracketed f c.in_ok-bracket.field-0) (λ v. Atom f re (0x5B ∷ v)) c.in_ok-bracket.ensures.read
     (λ v h. h re c.one_of.ensures))

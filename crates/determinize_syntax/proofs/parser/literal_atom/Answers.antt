@@ -10,10 +10,12 @@ use Rattle.determinize_syntax.proofs.parser.literal_atom.Goals as goal
 
 pub returns-then-not-is_ascii-clause-read : goal.returns-then-not-is_ascii-clause-read
 returns-then-not-is_ascii-clause-read c =
-    let ch = c.in-Some-take_wide.character in
-    (encode_utf8 ch, c.in-Some-take_wide.ensures.read.1,
-    subst (λ re. Atom c.args.flags re (encode_utf8 ch)) (sym c.in_ok-wide.ensures)
-    (character c.args.flags ch c.in-Some-take_wide.ensures.read.0))
+    let ch = c.in-Some-take_wide.character in (
+      encode_utf8 ch,
+      c.in-Some-take_wide.ensures.read.1,
+      subst (λ re. Atom c.args.flags re (encode_utf8 ch)) (sym c.in_ok-wide.ensures)
+          (character c.args.flags ch c.in-Some-take_wide.ensures.read.0),
+    )
 
 pub returns-then-not-is_ascii-clause-progress : goal.returns-then-not-is_ascii-clause-progress
 returns-then-not-is_ascii-clause-progress c =

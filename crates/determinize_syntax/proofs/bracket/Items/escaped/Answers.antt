@@ -21,7 +21,7 @@ returns-in_ok-add-in-Byte c = record {
       let old = pairs c.args.self.now.ranges.items in
       let all = pairs c.add.new.self.ranges.items in
       let read = subst (λ e. Reads c.args.cursor.now c.read_escape.new.cursor (λ t. IsEscape e (0x5C ∷ t))) c.in-Byte.is
-          c.in_ok-escape.ensures.read in
+      c.in_ok-escape.ensures.read in
       subst (λ q. Part (rest c.args.cursor.now) (rest c.read_escape.new.cursor) (λ t. Extends f p old q all (0x5C ∷ t)))
       (sym c.in_ok-add-in-Byte.ensures.before) (escaped_read f p c.in-Byte.byte old all read c.in_ok-add-in-Byte.ensures.ranges);
 }
@@ -33,7 +33,7 @@ returns-in_ok-add_class-in-Class c = record {
       let old = pairs c.args.self.now.ranges.items in
       let all = pairs c.add_class.new.self.ranges.items in
       let read = subst (λ e. Reads c.args.cursor.now c.read_escape.new.cursor (λ t. IsEscape e (0x5C ∷ t))) c.in-Class.is
-          c.in_ok-escape.ensures.read in
+      c.in_ok-escape.ensures.read in
       subst (λ q. Part (rest c.args.cursor.now) (rest c.read_escape.new.cursor) (λ t. Extends f p old q all (0x5C ∷ t)))
       (sym c.in_ok-add_class-in-Class.ensures.before) (class_read f p c.in-Class.class old all read c.in_ok-add_class-in-Class.ensures.ranges);
 }

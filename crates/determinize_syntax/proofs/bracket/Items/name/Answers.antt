@@ -25,10 +25,10 @@ returns c =
     let name = c.since.result.now in
     let part = passed.1 ∙ ap (λ w. w ++ rest c.pass_letters.new.cursor) (sym (c.since.ensures passed.0 passed.1)) in
     record {
-  read = subst (λ q. Part (rest c.args.cursor.now) (rest c.take-else-not-take-2.new.self) (λ t. Extends f p old q all (0x5B ∷ t)))
-      (sym c.in_ok-add_class.ensures.before)
-      (any_name_read f p name k c.take-negated.result c.in_ok-class.class old all (c.take.ensures.read c.if-not-take.false)
-      c.take-negated.ensures.read (λ e. ap rest (c.take-negated.ensures.left e)) part (c.take-2.ensures.read c.if-not-take-2.false)
-      (c.take-else-not-take-2.ensures.read c.if-not-take-3.false) c.in-Some.ensures c.in_ok-class.ensures
-      c.in_ok-add_class.ensures.ranges);
-}
+      read = subst (λ q. Part (rest c.args.cursor.now) (rest c.take-else-not-take-2.new.self) (λ t. Extends f p old q all (0x5B ∷ t)))
+          (sym c.in_ok-add_class.ensures.before)
+          (any_name_read f p name k c.take-negated.result c.in_ok-class.class old all (c.take.ensures.read c.if-not-take.false)
+          c.take-negated.ensures.read (λ e. ap rest (c.take-negated.ensures.left e)) part (c.take-2.ensures.read c.if-not-take-2.false)
+          (c.take-else-not-take-2.ensures.read c.if-not-take-3.false) c.in-Some.ensures c.in_ok-class.ensures
+          c.in_ok-add_class.ensures.ranges);
+    }
