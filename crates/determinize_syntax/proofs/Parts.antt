@@ -15,7 +15,7 @@ use Rattle.determinize_pattern.specs.declared.pattern.Pattern.{Pattern}
 use Rattle.determinize_syntax.specs.Private.Reading.{IsDigit, IsDigits, IsEscape, IsFlag, IsHexDigit, IsNamed, IsSetting, Opens, Part, SetsMore}
 use Rattle.determinize_syntax.proofs.Numbers.{is_decimal, number_more, number_one, value_of}
 use Rattle.determinize_syntax.specs.Spells as s
-use Rattle.determinize_syntax.specs.Spells.{Atom, Branches, Choice, Escaped, Items, Operator, Repeated, Sets, SpellsUnder, sequence}
+use Rattle.determinize_syntax.specs.Spells.{Atom, Branches, Choice, Escaped, Items, Operator, Repeated, Sets, SpellsUnder, sequence_of}
 use Rattle.determinize_syntax.specs.Words.{assertion, begins_name, is_in_name, is_name, number}
 use Rattle.determinize_syntax.specs.declared.escape.Escape.TheVariants.{Wide}
 use Rattle.determinize_syntax.specs.declared.flags.Flags.{Flags}
@@ -118,14 +118,14 @@ item_read f g ps qs p h k e =
     (s.item f g y.0 (map meaning ps) (meaning p) t u x y.1))
 
 -- the patterns of branches with one more
-more : (ps qs : List Pattern) (p : Pattern) (res : List Re) → qs ≡ ps ++ p ∷ [] → meaning p ≡ sequence res
-    → map meaning qs ≡ map meaning ps ++ sequence res ∷ []
+more : (ps qs : List Pattern) (p : Pattern) (res : List Re) → qs ≡ ps ++ p ∷ [] → meaning p ≡ sequence_of res
+    → map meaning qs ≡ map meaning ps ++ sequence_of res ∷ []
 more ps qs p res e m = ap (map meaning) e ∙ map-append meaning ps (p ∷ []) ∙ ap (λ x. map meaning ps ++ x ∷ []) m
 
 -- a branch and its bar
 pub branch_read : {a b d x : Text} (f g h : Flags) (ps qs : List Pattern) (p : Pattern) (res : List Re)
     → Part a b (Branches f g (map meaning ps)) → Part b d (Items g h res)
-    → d ≡ 0x7C ∷ x → qs ≡ ps ++ p ∷ [] → meaning p ≡ sequence res → Part a x (Branches f h (map meaning qs))
+    → d ≡ 0x7C ∷ x → qs ≡ ps ++ p ∷ [] → meaning p ≡ sequence_of res → Part a x (Branches f h (map meaning qs))
 branch_read f g h ps qs p res before items r e m =
     onward (Branches f g (map meaning ps)) (Ended (Items g h res) 0x7C) (Branches f h (map meaning qs)) before
     (closed (Items g h res) items r)
@@ -136,13 +136,13 @@ branch_read f g h ps qs p res before items r e m =
 -- the last branch
 pub choice_read : {a b d : Text} (f g h : Flags) (ps qs : List Pattern) (p whole : Pattern) (res : List Re)
     → Part a b (Branches f g (map meaning ps)) → Part b d (Items g h res)
-    → qs ≡ ps ++ p ∷ [] → meaning p ≡ sequence res → meaning whole ≡ s.choice (map meaning qs)
+    → qs ≡ ps ++ p ∷ [] → meaning p ≡ sequence_of res → meaning whole ≡ s.choice_of (map meaning qs)
     → Part a d (SpellsUnder f (meaning whole))
 choice_read f g h ps qs p whole res before items e m w =
     onward (Branches f g (map meaning ps)) (Items g h res) (SpellsUnder f (meaning whole)) before items
     (λ t u y z. (
       h,
-      subst (λ re. Choice f h re (t ++ u)) (sym (w ∙ ap s.choice (more ps qs p res e m)))
+      subst (λ re. Choice f h re (t ++ u)) (sym (w ∙ ap s.choice_of (more ps qs p res e m)))
           (s.branches f g h (map meaning ps) res t u y z),
     ))
 

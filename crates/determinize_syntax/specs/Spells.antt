@@ -17,14 +17,14 @@ abbrev pub Text : Type 0
 Text = List ℕ
 
 -- patterns one after the other; one alone is itself
-abbrev pub sequence : List Re → Re
-sequence (re ∷ []) = re
-sequence res = patterns.sequence res
+abbrev pub sequence_of : List Re → Re
+sequence_of (re ∷ []) = re
+sequence_of res = patterns.sequence res
 
 -- a choice between patterns; one alone is itself
-abbrev pub choice : List Re → Re
-choice (re ∷ []) = re
-choice res = patterns.choice res
+abbrev pub choice_of : List Re → Re
+choice_of (re ∷ []) = re
+choice_of res = patterns.choice res
 
 -- a character beyond ASCII
 abbrev pub IsWide : ℕ → Type 0
@@ -158,11 +158,11 @@ mutual
   pub data Branches : Flags → Flags → List Re → Text → Type 0 where
     no_branch : (f : Flags) → Branches f f [] []
     branch : (f g h : Flags) (bs res : List Re) (t u : Text) → Branches f g bs t
-        → Items g h res u → Branches f h (bs ++ sequence res ∷ []) (t ++ u ++ codes "|")
+        → Items g h res u → Branches f h (bs ++ sequence_of res ∷ []) (t ++ u ++ codes "|")
 
   pub data Choice : Flags → Flags → Re → Text → Type 0 where
     branches : (f g h : Flags) (bs res : List Re) (t u : Text) → Branches f g bs t
-        → Items g h res u → Choice f h (choice (bs ++ sequence res ∷ [])) (t ++ u)
+        → Items g h res u → Choice f h (choice_of (bs ++ sequence_of res ∷ [])) (t ++ u)
 
 -- the text stands for the pattern, with these flags at its beginning
 abbrev pub SpellsUnder : Flags → Re → Text → Type 0

@@ -138,9 +138,11 @@ impl<'a> Items<'a> {
     /// Reads a hyphen and the last bracket, if the hyphen may stand there.
     fn ends_with_hyphen(&mut self, cursor: &mut Cursor<'a>) -> Result<bool, AllocError>
         ensures read { IfOk result (λ b. b ≡ true
-            → (spells.may_end self.old.before ≡ true) × (rest cursor.old ≡ 0x2D ∷ 0x5D ∷ rest cursor.new)
+            → (spells.may_end self.old.before ≡ true)
+            × (rest cursor.old ≡ 0x2D ∷ 0x5D ∷ rest cursor.new)
             × (pairs self.new.ranges.items ≡ pairs self.old.ranges.items ++ (0x2D, 0x2D) ∷ [])) }
-        ensures left { IfOk result (λ b. b ≡ false → (cursor.new ≡ cursor.old) × (self.new ≡ self.old)) }
+        ensures left { IfOk result (λ b. b ≡ false
+            → (cursor.new ≡ cursor.old) × (self.new ≡ self.old)) }
     {
         let mut ahead = *cursor;
         if !may_end(self.before) || !ahead.take(b'-') || !ahead.take(b']') {
@@ -177,8 +179,9 @@ impl<'a> Items<'a> {
 
     /// Reads a byte that stands for itself.
     fn plain(&mut self, cursor: &mut Cursor<'a>) -> Result<(), ParseError>
-        ensures read { (f : Flags) → OnOk result (Reads cursor.old cursor.new (Extends f self.old.before
-            (pairs self.old.ranges.items) self.new.before (pairs self.new.ranges.items))) }
+        ensures read { (f : Flags) → OnOk result (Reads cursor.old cursor.new (Extends f
+            self.old.before (pairs self.old.ranges.items) self.new.before
+            (pairs self.new.ranges.items))) }
         ensures progress { OnOk result (length (rest cursor.new) < length (rest cursor.old)) }
     {
         let place = *cursor;
@@ -292,8 +295,8 @@ impl<'a> Items<'a> {
         place: Cursor<'a>,
         low: u8,
     ) -> Result<(), ParseError>
-        ensures read { (f : Flags) (e : Bool) → OnOk result (Reads cursor.old cursor.new (λ t. Extends f
-            (AfterByte e low) (pairs self.old.ranges.items) self.new.before
+        ensures read { (f : Flags) (e : Bool) → OnOk result (Reads cursor.old cursor.new
+            (λ t. Extends f (AfterByte e low) (pairs self.old.ranges.items) self.new.before
             (pairs self.new.ranges.items) (0x2D ∷ t))) }
     {
         let high = self.bound(alloc, cursor, place)?;

@@ -41,7 +41,8 @@ impl Flags {
 
 /// Reads `(?flags)`, if it is next, and returns the flags that it makes of these.
 pub fn setting(cursor: &mut Cursor<'_>, flags: Flags) -> Result<Option<Flags>, ParseError>
-    ensures read { IfOk result (λ o. IfSome o (λ g. Reads cursor.old cursor.new (IsSetting flags g))) }
+    ensures read { IfOk result (λ o. IfSome o (λ g.
+        Reads cursor.old cursor.new (IsSetting flags g))) }
     ensures progress { IfOk result (λ o. OnSome o
         (length (rest cursor.new) < length (rest cursor.old))) }
     ensures none { IfOk result (λ o. IfNone o (cursor.new ≡ cursor.old)) }

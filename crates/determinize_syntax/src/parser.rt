@@ -231,7 +231,7 @@ fn group<'a>(
 
 /// Returns the patterns one after the other, or the one alone.
 fn sequence(mut items: Vec<Pattern>) -> Pattern
-    ensures { meaning result ≡ spells.sequence (map meaning items.items) }
+    ensures { meaning result ≡ spells.sequence_of (map meaning items.items) }
 {
     if items.len() == 1 {
         if let Some(item) = items.pop() {
@@ -243,7 +243,7 @@ fn sequence(mut items: Vec<Pattern>) -> Pattern
 
 /// Returns a choice between the patterns, or the one alone.
 fn alternatives(mut branches: Vec<Pattern>) -> Pattern
-    ensures { meaning result ≡ spells.choice (map meaning branches.items) }
+    ensures { meaning result ≡ spells.choice_of (map meaning branches.items) }
 {
     if branches.len() == 1 {
         if let Some(branch) = branches.pop() {
@@ -292,7 +292,8 @@ fn assertion(look: Look) -> Pattern
 
 /// Returns the pattern of `^`.
 fn line_start(flags: Flags) -> Pattern
-    ensures { meaning result ≡ meanings.Look (at_line flags looks.Start looks.StartLF looks.StartCRLF) }
+    ensures { meaning result
+        ≡ meanings.Look (at_line flags looks.Start looks.StartLF looks.StartCRLF) }
 {
     let look = match (flags.multi_line, flags.crlf) {
         (false, _) => Look::Start,

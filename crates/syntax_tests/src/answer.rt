@@ -88,8 +88,8 @@ impl fmt::Display for Tally {
     }
 }
 
-/// Judges a row, whose first fields are a text in hexadecimal and the expected answer, and writes it
-/// if the answer differs.
+/// Judges a row, whose first fields are a text in hexadecimal and the expected answer. Writes it if
+/// the answer differs, or the text of the pattern is read as another one.
 pub fn judge<W: Write>(
     alloc: Global,
     row: &str,
@@ -107,14 +107,15 @@ pub fn judge<W: Write>(
         return Err(RowError::Malformed);
     };
     let answer = answer(alloc, text)?;
+    let again = answer_again(alloc, text)?;
     tally.rows = tally.rows.saturating_add(1);
     if answer.as_str().starts_with("error") {
         tally.errors = tally.errors.saturating_add(1);
     }
-    if answer.as_str() != expected {
+    if answer.as_str() != expected || again.as_str() != expected {
         tally.differ = tally.differ.saturating_add(1);
-        let answer = answer.as_str();
-        writeln!(out, "{text:?}: {answer}, and not {expected}")?;
+        let (answer, again) = (answer.as_str(), again.as_str());
+        writeln!(out, "{text:?}: {answer}, again {again}, and not {expected}")?;
     }
     Ok(())
 }
@@ -151,6 +152,16 @@ fn answer(alloc: Global, text: &str) -> Result<String, RowError> {
         }
     }
     Ok(out)
+}
+
+/// Returns what the text is read as that the pattern of this text is written as.
+fn answer_again(alloc: Global, text: &str) -> Result<String, RowError> {
+    let mut written = String::new(alloc);
+    match parse(alloc, text) {
+        Ok(pattern) => write!(written, "{pattern}")?,
+        Err(_) => return answer(alloc, text),
+    }
+    answer(alloc, written.as_str())
 }
 
 /// Writes the pattern, with its concatenations and alternations flattened.
