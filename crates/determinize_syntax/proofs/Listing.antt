@@ -2,11 +2,9 @@
 -- Main statements: a lemma for each rule, and inside_read, bracketed.
 -- Used by: the proofs of `bracket`.
 -- Idea: a part extends what is listed, and ranges that are added have the bytes that it lists.
-use Rattle.std.proofs.Common.{rules, ◌≡◌, ◌<◌, ◌≤◌, ◌+◌, ◌∷◌, ◌++◌, ◌∙◌, ◌&&◌, ◌||◌, ◌⊎◌, inl, inr, [], arith, Bool, List, Some, ap, cond, false, length, map, not, refl, subst, sym, true, ℕ}
+use Rattle.std.proofs.Common.{◌≡◌, ◌<◌, ◌≤◌, ◌+◌, ◌∷◌, ◌++◌, ◌∙◌, ◌||◌, inl, inr, [], arith, Bool, List, Some, ap, false, length, not, refl, subst, sym, true, ℕ}
 use Rattle.std.specs.Prelude.{Err, Ok, OnOk, Result, codes, slice_get}
-use Rattle.std.specs.Char.{is_ascii}
 use Rattle.std.specs.Int.{is_in_range}
-use Rattle.std.specs.List.{list_any}
 use Rattle.std.proofs.lemmas.List.{append_assoc, length-append}
 use Rattle.std.proofs.lemmas.List.Folds.{list_any-append}
 use Rattle.determinize_below.specs.Semantics.{within}

@@ -46,11 +46,11 @@ no_flags = record {
 abbrev pub folded : Flags → Set → Set
 folded f s c = cond f.case_insensitive (s (to_ascii_lowercase c) || s (to_ascii_uppercase c)) (s c)
 
-abbrev pub is_space : Set
-is_space c = is_in_range 9 13 c || c == 32
+abbrev pub space_set : Set
+space_set c = is_in_range 9 13 c || c == 32
 
-abbrev pub is_word : Set
-is_word c = is_ascii_alphanumeric c || c == 0x5F
+abbrev pub word_set : Set
+word_set c = is_ascii_alphanumeric c || c == 0x5F
 
 -- what a dot reads: all bytes under `s`, and else all but the ends of lines
 abbrev pub dot_set : Flags → Set
@@ -60,8 +60,8 @@ dot_set f c = f.dot_matches_new_line || not (cond f.crlf (c ∈ "\r\n") (c ∈ "
 abbrev pub perl_class : ℕ → Option Set
 perl_class c =
     if c ∈ "d" then Some is_ascii_digit else if c ∈ "D" then Some (complement is_ascii_digit)
-    else if c ∈ "w" then Some is_word else if c ∈ "W" then Some (complement is_word)
-    else if c ∈ "s" then Some is_space else if c ∈ "S" then Some (complement is_space) else None
+    else if c ∈ "w" then Some word_set else if c ∈ "W" then Some (complement word_set)
+    else if c ∈ "s" then Some space_set else if c ∈ "S" then Some (complement space_set) else None
 
 -- `[:alpha:]` and the like, by the name
 abbrev pub named_class : List ℕ → Option Set
@@ -75,9 +75,9 @@ named_class n =
     else if is_text "lower" n then Some is_ascii_lowercase
     else if is_text "print" n then Some (is_in_range 0x20 0x7E)
     else if is_text "punct" n then Some is_ascii_punctuation
-    else if is_text "space" n then Some is_space
+    else if is_text "space" n then Some space_set
     else if is_text "upper" n then Some is_ascii_uppercase
-    else if is_text "word" n then Some is_word
+    else if is_text "word" n then Some word_set
     else if is_text "xdigit" n then Some is_ascii_hexdigit else None
 
 -- the byte that a backslash and this one stand for: `\n` and the like, and each sign as itself

@@ -1,5 +1,5 @@
 -- Places in a text, and the parts between them.
-use Rattle.std.specs.Prelude.{◌≡◌, ◌-◌, ◌<◌, ◌≤◌, ◌++◌, ◌∷◌, ◌==◌, [], ℕ, Bool, List, Some, codes, false, slice_get, true}
+use Rattle.std.specs.Prelude.{◌≡◌, ◌-◌, ◌≤◌, ◌++◌, ◌∷◌, ◌==◌, [], ℕ, Bool, List, Some, codes, false, slice_get, true}
 use Rattle.std.specs.Char.{digit_value, is_ascii_digit, is_digit}
 use Rattle.std.specs.List.{list_any}
 use Rattle.determinize_pattern.specs.Meaning.{Re}

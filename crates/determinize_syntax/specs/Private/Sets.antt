@@ -5,7 +5,7 @@ use Rattle.std.specs.Int.{is_in_range}
 use Rattle.determinize_pattern.specs.Classes.{pairs}
 use Rattle.determinize_pattern.specs.Meaning.{is_in}
 use Rattle.determinize_pattern.specs.declared.class.ClassBytesRange.{ClassBytesRange}
-use Rattle.determinize_syntax.specs.Words.{Set, ◌∈◌, is_space, is_word}
+use Rattle.determinize_syntax.specs.Words.{Set, ◌∈◌, space_set, word_set}
 use Rattle.determinize_syntax.specs.declared.kind.ClassKind.{ClassKind}
 use Rattle.determinize_syntax.specs.declared.kind.ClassKind.TheVariants.{Alnum, Alpha, Ascii, Blank, Cntrl, Digit, Graph, Lower, Print, Punct, Space, Upper, Word, Xdigit}
 
@@ -37,7 +37,7 @@ set_of Graph = is_ascii_graphic
 set_of Lower = is_ascii_lowercase
 set_of Print = is_in_range 0x20 0x7E
 set_of Punct = is_ascii_punctuation
-set_of Space = is_space
+set_of Space = space_set
 set_of Upper = is_ascii_uppercase
-set_of Word = is_word
+set_of Word = word_set
 set_of Xdigit = is_ascii_hexdigit

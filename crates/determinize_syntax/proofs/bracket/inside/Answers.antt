@@ -1,18 +1,7 @@
-use Rattle.std.proofs.Common.{rules, ◌≡◌, ◌<◌, ◌≤◌, ◌∷◌, ◌++◌, ◌∙◌, ◌&&◌, ◌||◌, ◌⊎◌, inl, inr, [], arith, Bool, IfOk, IfSome, List, OnOk, Some, ap, cond, false, length, map, not, refl, subst, sym, true, ℕ}
-use Rattle.std.specs.Char.{is_ascii}
-use Rattle.determinize_pattern.specs.Classes.{HasBytes, pairs}
-use Rattle.determinize_pattern.specs.Meaning.{is_in}
-use Rattle.determinize_syntax.specs.Private.Brackets.{Extends, IsBegun, IsBound, IsBracketed, IsInside}
-use Rattle.determinize_syntax.specs.Private.Reading.{IsEscape, IsNotAt, Part, Reads, rest}
-use Rattle.determinize_syntax.specs.Private.Sets.{has, set_of, turned}
-use Rattle.determinize_syntax.specs.Spells as s
-use Rattle.determinize_syntax.specs.Spells.{Lists}
-use Rattle.determinize_syntax.specs.Words.{Set, ◌∈◌, folded, only}
-use Rattle.determinize_syntax.specs.declared.bracket.Before.{Before}
-use Rattle.determinize_syntax.specs.declared.bracket.Before.TheVariants.{AfterByte, AfterClass, AfterHyphen, AfterRange, First}
-use Rattle.determinize_syntax.proofs.Listing.{any_bracket_read, any_name_read, Begun, begun_more, class_read, escaped_read, has_only, hyphen_read, on_ok, part_shorter, hyphens_read, inside_closed, inside_hyphen, plain_read, range_read}
-use Rattle.determinize_syntax.proofs.Parts.{prefixed, renamed, took}
-use Rattle.determinize_syntax.proofs.Classes.{kind_class}
+use Rattle.std.proofs.Common.{◌≡◌, ◌∙◌, ap, subst, sym}
+use Rattle.determinize_pattern.specs.Classes.{pairs}
+use Rattle.determinize_syntax.specs.Private.Reading.{Part, rest}
+use Rattle.determinize_syntax.proofs.Listing.{Begun, begun_more, inside_closed, inside_hyphen}
 use Rattle.determinize_syntax.specs.declared.bracket.Items.{Items}
 use Rattle.determinize_syntax.proofs.bracket.inside.Goals as goal
 

@@ -1,4 +1,3 @@
-use Rattle.std.proofs.Common.{◌≡◌}
 use Rattle.determinize_syntax.proofs.Parts.{boundary_read}
 use Rattle.determinize_syntax.proofs.escape.boundary.Goals as goal
 

@@ -1,4 +1,4 @@
-use Rattle.std.proofs.Common.{rules, ◌≡◌, ◌≤◌, ◌∷◌, arith, subst, sym}
+use Rattle.std.proofs.Common.{◌∷◌, subst, sym}
 use Rattle.determinize_syntax.specs.Private.Reading.{IsDigits, IsEscape, Part, rest}
 use Rattle.determinize_syntax.specs.declared.escape.Escape.TheVariants.{Wide}
 use Rattle.determinize_syntax.proofs.Parts.{braced_read, wide_read}

@@ -1,4 +1,4 @@
-use Rattle.std.proofs.Common.{◌≡◌, subst}
+use Rattle.std.proofs.Common.{subst}
 use Rattle.determinize_syntax.specs.Private.Reading.{IsHexDigit, Part, rest}
 use Rattle.determinize_syntax.proofs.Parts.{two_read}
 use Rattle.determinize_syntax.proofs.escape.hex.Goals as goal

@@ -1,4 +1,4 @@
-use Rattle.std.proofs.Common.{rules, ◌≡◌, ◌<◌, ◌∙◌, ap, arith, refl, subst, true}
+use Rattle.std.proofs.Common.{◌≡◌, ◌<◌, ◌∙◌, ap, arith, refl, subst, true}
 use Rattle.std.specs.Char.{digit_value, is_digit}
 use Rattle.determinize_syntax.specs.Private.Reading.{IsHexDigit}
 use Rattle.determinize_syntax.proofs.Parts.{took}

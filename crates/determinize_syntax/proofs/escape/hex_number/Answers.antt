@@ -1,4 +1,3 @@
-use Rattle.std.proofs.Common.{◌≡◌, ◌∙◌}
 use Rattle.determinize_syntax.proofs.Parts.{digits_begun, digits_grown}
 use Rattle.determinize_syntax.proofs.escape.hex_number.Goals as goal
 

@@ -1,4 +1,3 @@
-use Rattle.std.proofs.Common.{◌≡◌}
 use Rattle.std.specs.Bool.{⊤}
 use Rattle.determinize_syntax.proofs.Parts.{Ended, closed, renamed}
 use Rattle.determinize_syntax.proofs.escape.pass_letters.Goals as goal

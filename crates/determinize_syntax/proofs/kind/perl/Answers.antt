@@ -1,4 +1,4 @@
-use Rattle.std.proofs.Common.{◌≡◌, subst}
+use Rattle.std.proofs.Common.{subst}
 use Rattle.determinize_pattern.specs.Classes.{HasBytes}
 use Rattle.determinize_syntax.specs.Private.Sets.{set_of, turned}
 use Rattle.determinize_syntax.specs.Words.{folded}

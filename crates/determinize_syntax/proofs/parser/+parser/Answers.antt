@@ -1,10 +1,8 @@
-use Rattle.std.proofs.Common.{◌≡◌, ◌<◌, ◌≤◌, length, ◌∷◌, ◌∙◌, ◌&&◌, [], Bool, IfNone, IfSome, OnSome, arith, false, ap, map, not, refl, subst, sym, true}
-use Rattle.std.specs.Char.{is_ascii}
+use Rattle.std.proofs.Common.{◌≡◌, ◌<◌, ◌≤◌, length, ◌∷◌, ◌∙◌, [], Bool, IfNone, IfSome, OnSome, arith, false, ap, map, refl, subst, sym, true}
 use Rattle.determinize_pattern.specs.Patterns.{meaning, repeated}
 use Rattle.determinize_syntax.specs.Private.Brackets.{IsBracketed}
 use Rattle.determinize_syntax.specs.Private.Reading.{IsNotAt, IsSetting, Part, Reads, rest}
-use Rattle.determinize_syntax.specs.Spells.{Atom, Branches, Items, Operator, Repeated, dot, escaped, SpellsUnder, line_end, line_start, no_branch, no_item, once, plain}
-use Rattle.determinize_syntax.specs.Words.{◌∈◌}
+use Rattle.determinize_syntax.specs.Spells.{Atom, Branches, Items, Operator, Repeated, dot, SpellsUnder, line_end, line_start, no_branch, no_item, once}
 use Rattle.determinize_syntax.proofs.Parts.{again_read, branch_read, choice_read, group_read, item_read, prefixed, renamed, set_read, shorter, took}
 use Rattle.determinize_syntax.proofs.parser.+parser.Goals as goal
 

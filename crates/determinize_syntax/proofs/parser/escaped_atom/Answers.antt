@@ -1,5 +1,5 @@
-use Rattle.std.proofs.Common.{◌≡◌, ◌∷◌, ◌++◌, ap, subst, sym}
-use Rattle.std.specs.Prelude.{codes, encode_utf8}
+use Rattle.std.proofs.Common.{◌∷◌, ◌++◌, subst, sym}
+use Rattle.std.specs.Prelude.{codes}
 use Rattle.determinize_pattern.specs.Meaning.{Re}
 use Rattle.determinize_pattern.specs.Patterns.{meaning}
 use Rattle.determinize_syntax.specs.Private.Reading.{IsEscape, Reads}

@@ -1,17 +1,8 @@
-use Rattle.std.proofs.Common.{rules, ◌≡◌, ◌<◌, ◌≤◌, ◌∷◌, ◌++◌, ◌∙◌, ◌&&◌, ◌||◌, ◌⊎◌, inl, inr, [], arith, Bool, IfOk, IfSome, List, OnOk, Some, ap, cond, false, length, map, not, refl, subst, sym, true, ℕ}
-use Rattle.std.specs.Char.{is_ascii}
-use Rattle.determinize_pattern.specs.Classes.{HasBytes, pairs}
-use Rattle.determinize_pattern.specs.Meaning.{is_in}
-use Rattle.determinize_syntax.specs.Private.Brackets.{Extends, IsBegun, IsBound, IsBracketed, IsInside}
-use Rattle.determinize_syntax.specs.Private.Reading.{IsEscape, IsNotAt, Part, Reads, rest}
-use Rattle.determinize_syntax.specs.Private.Sets.{has, set_of, turned}
-use Rattle.determinize_syntax.specs.Spells as s
-use Rattle.determinize_syntax.specs.Spells.{Lists}
-use Rattle.determinize_syntax.specs.Words.{Set, ◌∈◌, folded, only}
-use Rattle.determinize_syntax.specs.declared.bracket.Before.{Before}
-use Rattle.determinize_syntax.specs.declared.bracket.Before.TheVariants.{AfterByte, AfterClass, AfterHyphen, AfterRange, First}
-use Rattle.determinize_syntax.proofs.Listing.{any_bracket_read, any_name_read, begun_more, class_read, escaped_read, has_only, hyphen_read, hyphens_read, inside_closed, inside_hyphen, plain_read, range_read}
-use Rattle.determinize_syntax.proofs.Parts.{prefixed, renamed, took}
+use Rattle.std.proofs.Common.{◌∷◌, subst, sym}
+use Rattle.determinize_pattern.specs.Classes.{pairs}
+use Rattle.determinize_syntax.specs.Private.Brackets.{Extends}
+use Rattle.determinize_syntax.specs.Private.Reading.{IsEscape, Part, Reads, rest}
+use Rattle.determinize_syntax.proofs.Listing.{class_read, escaped_read}
 use Rattle.determinize_syntax.proofs.bracket.Items.escaped.Goals as goal
 
 pub returns-in_ok-add-in-Byte : goal.returns-in_ok-add-in-Byte

@@ -1,4 +1,4 @@
-use Rattle.std.proofs.Common.{◌≡◌, ◌∙◌, ◌+◌, Global, Vec, ap, refl, subst, sym}
+use Rattle.std.proofs.Common.{◌∙◌, ◌+◌, Global, Vec, ap, refl, subst, sym}
 use Rattle.determinize_pattern.specs.declared.class.ClassBytesRange.{ClassBytesRange}
 use Rattle.determinize_syntax.specs.Private.Sets.{HasBelow, set_of}
 use Rattle.determinize_syntax.proofs.Classes.{below_with, below_without}
