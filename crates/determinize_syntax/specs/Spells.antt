@@ -13,8 +13,8 @@ use Rattle.determinize_syntax.specs.declared.bracket.Before.{Before}
 use Rattle.determinize_syntax.specs.declared.bracket.Before.TheVariants.{AfterByte, AfterClass, AfterHyphen, AfterRange, First}
 use Rattle.determinize_syntax.specs.declared.flags.Flags.{Flags}
 
-abbrev pub Text : Type 0
-Text = List ℕ
+abbrev pub Bytes : Type 0
+Bytes = List ℕ
 
 -- patterns one after the other; one alone is itself
 abbrev pub sequence_of : List Re → Re
@@ -31,11 +31,11 @@ abbrev pub IsWide : ℕ → Type 0
 IsWide c = (128 ≤ c) × IsScalar c
 
 -- one byte by an escape: `\n`, `\*`, `\x41`, `\x{41}`
-pub data Escaped : ℕ → Text → Type 0 where
+pub data Escaped : ℕ → Bytes → Type 0 where
   letter : (c b : ℕ) → escaped_byte c ≡ Some b → Escaped b (0x5C ∷ c ∷ [])
   two_digits : (c d b : ℕ) → number 16 (c ∷ d ∷ []) ≡ Some b
       → Escaped b (codes "\\x" ++ c ∷ d ∷ [])
-  braces : (t : Text) (b : ℕ) → number 16 t ≡ Some b → b < 128
+  braces : (t : Bytes) (b : ℕ) → number 16 t ≡ Some b → b < 128
       → Escaped b (codes "\\x{" ++ t ++ codes "}")
 
 -- the byte stands for itself; `&&` and `~~` do not
@@ -51,123 +51,123 @@ may_end (AfterByte _ _) = true
 may_end _ = false
 
 -- what stands in brackets, and the bytes that it lists
-pub data Lists (f : Flags) : Before → Set → Text → Type 0 where
+pub data Lists (f : Flags) : Before → Set → Bytes → Type 0 where
   nothing : Lists f First (λ c. false) []
   closing : Lists f AfterRange (only 0x5D) (codes "]")
-  hyphens : (s : Set) (t : Text) → Lists f First s t
+  hyphens : (s : Set) (t : Bytes) → Lists f First s t
       → Lists f First (joined s (only 0x2D)) (t ++ codes "-")
-  hyphen : (s : Set) (t : Text) → Lists f AfterRange s t
+  hyphen : (s : Set) (t : Bytes) → Lists f AfterRange s t
       → Lists f AfterHyphen (joined s (only 0x2D)) (t ++ codes "-")
-  byte : (p : Before) (s : Set) (t : Text) (c : ℕ) → Lists f p s t → stands p c ≡ true
+  byte : (p : Before) (s : Set) (t : Bytes) (c : ℕ) → Lists f p s t → stands p c ≡ true
       → Lists f (AfterByte false c) (joined s (only c)) (t ++ c ∷ [])
-  escaped : (p : Before) (s : Set) (t u : Text) (b : ℕ) → Lists f p s t → Escaped b u
+  escaped : (p : Before) (s : Set) (t u : Bytes) (b : ℕ) → Lists f p s t → Escaped b u
       → Lists f (AfterByte true b) (joined s (only b)) (t ++ u)
-  class : (p : Before) (s : Set) (t : Text) (c : ℕ) (k : Set) → Lists f p s t
+  class : (p : Before) (s : Set) (t : Bytes) (c : ℕ) (k : Set) → Lists f p s t
       → perl_class c ≡ Some k → Lists f AfterClass (joined s k) (t ++ 0x5C ∷ c ∷ [])
-  name : (p : Before) (s : Set) (t n : Text) (k : Set) → Lists f p s t
+  name : (p : Before) (s : Set) (t n : Bytes) (k : Set) → Lists f p s t
       → named_class n ≡ Some k
       → Lists f AfterRange (joined s (folded f k)) (t ++ codes "[:" ++ n ++ codes ":]")
-  other_name : (p : Before) (s : Set) (t n : Text) (k : Set) → Lists f p s t
+  other_name : (p : Before) (s : Set) (t n : Bytes) (k : Set) → Lists f p s t
       → named_class n ≡ Some k → Lists f AfterRange
       (joined s (complement (folded f k))) (t ++ codes "[:^" ++ n ++ codes ":]")
-  range : (e : Bool) (low high : ℕ) (s : Set) (t : Text) → Lists f (AfterByte e low) s t
+  range : (e : Bool) (low high : ℕ) (s : Set) (t : Bytes) → Lists f (AfterByte e low) s t
       → low ≤ high → (is_ascii high && not (high ∈ "]\\-")) ≡ true
       → Lists f AfterRange (joined s (is_in_range low high)) (t ++ 0x2D ∷ high ∷ [])
-  range_escaped : (e : Bool) (low high : ℕ) (s : Set) (t u : Text)
+  range_escaped : (e : Bool) (low high : ℕ) (s : Set) (t u : Bytes)
       → Lists f (AfterByte e low) s t → low ≤ high → Escaped high u
       → Lists f AfterRange (joined s (is_in_range low high)) (t ++ codes "-" ++ u)
 
 -- the whole inside of brackets: not empty, and the last may be a hyphen
-pub data Inside (f : Flags) : Set → Text → Type 0 where
-  closed : (p : Before) (s : Set) (c : ℕ) (t : Text) → Lists f p s (c ∷ t) → Inside f s (c ∷ t)
-  hyphen_last : (p : Before) (s : Set) (t : Text) → Lists f p s t → may_end p ≡ true
+pub data Inside (f : Flags) : Set → Bytes → Type 0 where
+  closed : (p : Before) (s : Set) (c : ℕ) (t : Bytes) → Lists f p s (c ∷ t) → Inside f s (c ∷ t)
+  hyphen_last : (p : Before) (s : Set) (t : Bytes) → Lists f p s t → may_end p ≡ true
       → Inside f (joined s (only 0x2D)) (t ++ codes "-")
 
 -- the flags that letters make of those of f: none comes twice; from a `-` on they are cleared
-pub data Sets (f : Flags) : Bool → Flags → Text → Type 0 where
+pub data Sets (f : Flags) : Bool → Flags → Bytes → Type 0 where
   no_letter : Sets f true f []
-  flag : (on : Bool) (g h : Flags) (t : Text) (c : ℕ) → Sets f on g t
+  flag : (on : Bool) (g h : Flags) (t : Bytes) (c : ℕ) → Sets f on g t
       → list_any (λ d. d == c) t ≡ false → set_flag g c on ≡ Some h → Sets f on h (t ++ c ∷ [])
-  first_cleared : (g h : Flags) (t : Text) (c : ℕ) → Sets f true g t
+  first_cleared : (g h : Flags) (t : Bytes) (c : ℕ) → Sets f true g t
       → list_any (λ d. d == c) t ≡ false → set_flag g c false ≡ Some h
       → Sets f false h (t ++ 0x2D ∷ c ∷ [])
 
 -- the operator of a repetition
-pub data Operator : ℕ → Option ℕ → Text → Type 0 where
+pub data Operator : ℕ → Option ℕ → Bytes → Type 0 where
   star : Operator 0 None (codes "*")
   plus : Operator 1 None (codes "+")
   query : Operator 0 (Some 1) (codes "?")
-  exactly : (n : ℕ) (t : Text) → number 10 t ≡ Some n → n < 2 ^ 32
+  exactly : (n : ℕ) (t : Bytes) → number 10 t ≡ Some n → n < 2 ^ 32
       → Operator n (Some n) (codes "{" ++ t ++ codes "}")
-  at_least : (n : ℕ) (t : Text) → number 10 t ≡ Some n → n < 2 ^ 32
+  at_least : (n : ℕ) (t : Bytes) → number 10 t ≡ Some n → n < 2 ^ 32
       → Operator n None (codes "{" ++ t ++ codes ",}")
-  between : (n m : ℕ) (t u : Text) → number 10 t ≡ Some n → number 10 u ≡ Some m → n ≤ m
+  between : (n m : ℕ) (t u : Bytes) → number 10 t ≡ Some n → number 10 u ≡ Some m → n ≤ m
       → m < 2 ^ 32 → Operator n (Some m) (codes "{" ++ t ++ codes "," ++ u ++ codes "}")
 
 -- the levels of a pattern; flags hold to the end of their group
 mutual
-  pub data Atom : Flags → Re → Text → Type 0 where
+  pub data Atom : Flags → Re → Bytes → Type 0 where
     plain : (f : Flags) (c : ℕ) (re : Re)
         → (is_ascii c && not (c ∈ "\\.+*?()|[{^$")) ≡ true → IsClass (folded f (only c)) re
         → Atom f re (c ∷ [])
     character : (f : Flags) (c : ℕ) → IsWide c → Atom f (literal (encode_utf8 c)) (encode_utf8 c)
-    character_by_number : (f : Flags) (c : ℕ) (t : Text) → number 16 t ≡ Some c → IsWide c
+    character_by_number : (f : Flags) (c : ℕ) (t : Bytes) → number 16 t ≡ Some c → IsWide c
         → Atom f (literal (encode_utf8 c)) (codes "\\x{" ++ t ++ codes "}")
     dot : (f : Flags) (re : Re) → IsClass (dot_set f) re → Atom f re (codes ".")
     line_start : (f : Flags) → Atom f (Look (at_line f Start StartLF StartCRLF)) (codes "^")
     line_end : (f : Flags) → Atom f (Look (at_line f End EndLF EndCRLF)) (codes "$")
-    escaped : (f : Flags) (b : ℕ) (re : Re) (t : Text) → Escaped b t
+    escaped : (f : Flags) (b : ℕ) (re : Re) (t : Bytes) → Escaped b t
         → IsClass (folded f (only b)) re → Atom f re t
     class : (f : Flags) (c : ℕ) (s : Set) (re : Re) → perl_class c ≡ Some s → IsClass s re
         → Atom f re (0x5C ∷ c ∷ [])
-    asserted : (f : Flags) (t : Text) (look : _) → assertion t ≡ Some look
+    asserted : (f : Flags) (t : Bytes) (look : _) → assertion t ≡ Some look
         → Atom f (Look look) (0x5C ∷ t)
-    brackets : (f : Flags) (s : Set) (re : Re) (c : ℕ) (t : Text) → Inside f s (c ∷ t)
+    brackets : (f : Flags) (s : Set) (re : Re) (c : ℕ) (t : Bytes) → Inside f s (c ∷ t)
         → not (c ∈ "^") ≡ true → IsClass (folded f s) re
         → Atom f re (codes "[" ++ c ∷ t ++ codes "]")
-    other_brackets : (f : Flags) (s : Set) (re : Re) (t : Text) → Inside f s t
+    other_brackets : (f : Flags) (s : Set) (re : Re) (t : Bytes) → Inside f s t
         → IsClass (complement (folded f s)) re → Atom f re (codes "[^" ++ t ++ codes "]")
-    capture : (f g : Flags) (re : Re) (t : Text) → Choice f g re t
+    capture : (f g : Flags) (re : Re) (t : Bytes) → Choice f g re t
         → Atom f re (codes "(" ++ t ++ codes ")")
-    named : (f g : Flags) (re : Re) (n t : Text) → is_name n ≡ true → Choice f g re t
+    named : (f g : Flags) (re : Re) (n t : Bytes) → is_name n ≡ true → Choice f g re t
         → Atom f re (codes "(?<" ++ n ++ codes ">" ++ t ++ codes ")")
-    named_p : (f g : Flags) (re : Re) (n t : Text) → is_name n ≡ true → Choice f g re t
+    named_p : (f g : Flags) (re : Re) (n t : Bytes) → is_name n ≡ true → Choice f g re t
         → Atom f re (codes "(?P<" ++ n ++ codes ">" ++ t ++ codes ")")
-    group : (f g h : Flags) (on : Bool) (re : Re) (n t : Text) → Sets f on g n → Choice g h re t
+    group : (f g h : Flags) (on : Bool) (re : Re) (n t : Bytes) → Sets f on g n → Choice g h re t
         → Atom f re (codes "(?" ++ n ++ codes ":" ++ t ++ codes ")")
 
   -- an atom and its operators; the flag says that a `?` would belong to the last operator
-  pub data Repeated : Flags → Bool → Re → Text → Type 0 where
-    once : (f : Flags) (re : Re) (t : Text) → Atom f re t → Repeated f false re t
-    greedy : (f : Flags) (e : Bool) (re : Re) (t u : Text) (min : ℕ) (max : Option ℕ)
+  pub data Repeated : Flags → Bool → Re → Bytes → Type 0 where
+    once : (f : Flags) (re : Re) (t : Bytes) → Atom f re t → Repeated f false re t
+    greedy : (f : Flags) (e : Bool) (re : Re) (t u : Bytes) (min : ℕ) (max : Option ℕ)
         → Repeated f e re t → Operator min max u → (e ≡ true → u ≡ codes "?" → ⊥)
         → Repeated f true (repeated min max (not f.swap_greed) re) (t ++ u)
-    lazy : (f : Flags) (e : Bool) (re : Re) (t u : Text) (min : ℕ) (max : Option ℕ)
+    lazy : (f : Flags) (e : Bool) (re : Re) (t u : Bytes) (min : ℕ) (max : Option ℕ)
         → Repeated f e re t → Operator min max u → (e ≡ true → u ≡ codes "?" → ⊥)
         → Repeated f false (repeated min max f.swap_greed re) (t ++ u ++ codes "?")
 
   -- items one after the other, with the flags at the end
-  pub data Items : Flags → Flags → List Re → Text → Type 0 where
+  pub data Items : Flags → Flags → List Re → Bytes → Type 0 where
     no_item : (f : Flags) → Items f f [] []
-    item : (f g : Flags) (e : Bool) (res : List Re) (re : Re) (t u : Text) → Items f g res t
+    item : (f g : Flags) (e : Bool) (res : List Re) (re : Re) (t u : Bytes) → Items f g res t
         → Repeated g e re u → Items f g (res ++ re ∷ []) (t ++ u)
-    setting : (f g h : Flags) (on : Bool) (res : List Re) (t n : Text) (c : ℕ) → Items f g res t
+    setting : (f g h : Flags) (on : Bool) (res : List Re) (t n : Bytes) (c : ℕ) → Items f g res t
         → Sets g on h (c ∷ n) → Items f h res (t ++ codes "(?" ++ c ∷ n ++ codes ")")
 
   -- branches, each with its bar
-  pub data Branches : Flags → Flags → List Re → Text → Type 0 where
+  pub data Branches : Flags → Flags → List Re → Bytes → Type 0 where
     no_branch : (f : Flags) → Branches f f [] []
-    branch : (f g h : Flags) (bs res : List Re) (t u : Text) → Branches f g bs t
+    branch : (f g h : Flags) (bs res : List Re) (t u : Bytes) → Branches f g bs t
         → Items g h res u → Branches f h (bs ++ sequence_of res ∷ []) (t ++ u ++ codes "|")
 
-  pub data Choice : Flags → Flags → Re → Text → Type 0 where
-    branches : (f g h : Flags) (bs res : List Re) (t u : Text) → Branches f g bs t
+  pub data Choice : Flags → Flags → Re → Bytes → Type 0 where
+    branches : (f g h : Flags) (bs res : List Re) (t u : Bytes) → Branches f g bs t
         → Items g h res u → Choice f h (choice_of (bs ++ sequence_of res ∷ [])) (t ++ u)
 
 -- the text stands for the pattern, with these flags at its beginning
-abbrev pub SpellsUnder : Flags → Re → Text → Type 0
+abbrev pub SpellsUnder : Flags → Re → Bytes → Type 0
 SpellsUnder f re text = (g : Flags) × Choice f g re text
 
 -- the text stands for the pattern
-abbrev pub Spells : Re → Text → Type 0
+abbrev pub Spells : Re → Bytes → Type 0
 Spells = SpellsUnder no_flags
