@@ -15,7 +15,8 @@ EndsBefore last read = IfSome last (λ m. m.offset < read)
 -- the match is what a search finds of the bytes before the last one, with that one ahead
 abbrev pub IsFoundBeforeLast : Scanned → Type 0
 IsFoundBeforeLast s = (nfa : Nfa) (kind : MatchKind) (start : ℕ) (behind : Option ℕ)
-    (bytes : List ℕ) (last : ℕ) → IsAccepted nfa → IsScan nfa kind start behind (bytes ++ last ∷ []) s
+    (bytes : List ℕ) (last : ℕ) → IsAccepted nfa
+    → IsScan nfa kind start behind (bytes ++ last ∷ []) s
     → IsSearch nfa kind start (between behind bytes (Some last)) s.last
 
 -- the match is what a search finds of each text that begins with the bytes

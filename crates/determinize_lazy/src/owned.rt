@@ -63,7 +63,7 @@ impl<A: Allocator + Copy> Kept<A> {
         }
     }
 
-    /// Returns a lazy DFA that goes on with this cache.
+    /// Returns a lazy DFA that continues with this cache.
     fn lent<'n, N: Allocator>(
         self,
         alloc: A,

@@ -7,8 +7,8 @@ use Rattle.determinize_pattern.specs.Patterns.{meaning}
 use Rattle.determinize_pattern.specs.declared.pattern.Pattern.{Pattern}
 use Rattle.determinize_regex.specs.PatternMatches.{AreMatchesOf, IsLeftmostOfIn}
 
--- the patterns, the line terminator of their assertions, and the greatest number of states of each of
--- the two caches
+-- the patterns, the line terminator of their assertions, and the greatest number of states of each
+-- of the two caches
 pub record RegexValue : Type 0 where
   pub patterns : List Pattern
   pub terminator : ℕ

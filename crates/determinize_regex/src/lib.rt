@@ -1,7 +1,7 @@
 //! Patterns and their matches, from one crate: all that a program needs to search for patterns.
 //!
 //! A [`Regex`] is compiled once and then searches. A [`Matcher`] searches for the same patterns
-//! with caches of its own.
+//! with separate caches.
 //!
 //! `compile` of `determinize_pattern` makes the NFA, and `determinize_find` searches it. The
 //! [`laws`] join their contracts: the leftmost match that a search finds is that of the patterns,

@@ -1,4 +1,4 @@
-//! Searches for the patterns of a regex with caches of their own.
+//! Searches for the patterns of a regex with separate caches.
 
 ghost use Rattle.std.specs.Prelude.{◌≡◌, ◌≤◌, IfOk, true};
 ghost use Rattle.std.specs.Bool.{Decides};
@@ -13,7 +13,7 @@ use determinize_find::{LazyRegex, OwnedRegex};
 use std::alloc::{AllocError, Allocator, Global};
 use std::marker::Model;
 
-/// A search for the patterns of a [`Regex`], with two caches of its own.
+/// A search for the patterns of a [`Regex`], with two separate caches.
 #[derive(Drop)]
 pub struct Matcher<'r, A: Allocator + Copy = Global> {
     regex: &'r Regex,

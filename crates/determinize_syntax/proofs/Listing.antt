@@ -47,7 +47,7 @@ pub adds : {a b : Text} (f : Flags) (p q : Before) (k : Set) (P : Text → Type 
 adds f p q k P ranges more all h e m rule = renamed P (Extends f p ranges q all) h
     (λ t x r u lists has. (joined r k, rule t x r u lists, has_joined r k ranges more all e has m))
 
--- the byte is one that stands for itself
+-- the byte is a literal one
 pub plain_read : {a b : Text} (f : Flags) (p : Before) (c : ℕ) (ranges all : List (ℕ × ℕ)) → a ≡ c ∷ b
     → s.stands p c ≡ true → all ≡ ranges ++ (c, c) ∷ [] → Part a b (Extends f p ranges (AfterByte false c) all)
 plain_read f p c ranges all r is e =

@@ -1,5 +1,4 @@
--- The text of a pattern: which texts stand for which pattern, rule by rule. A text is the list of its
--- bytes.
+-- The text of a pattern: which texts denote which pattern, rule by rule. A text is a list of bytes.
 use Rattle.std.specs.Prelude.{◌≡◌, ◌<◌, ◌≤◌, ◌^◌, ◌++◌, ℕ, Bool, List, None, Option, Some, [], ◌∷◌, ◌==◌, ◌&&◌, codes, false, not, true}
 use Rattle.std.specs.Char.{IsScalar, encode_utf8, is_ascii}
 use Rattle.std.specs.Int.{is_in_range}
@@ -16,12 +15,12 @@ use Rattle.determinize_syntax.specs.declared.flags.Flags.{Flags}
 abbrev pub Bytes : Type 0
 Bytes = List ℕ
 
--- patterns one after the other; one alone is itself
+-- patterns one after the other; a single one is itself
 abbrev pub sequence_of : List Re → Re
 sequence_of (re ∷ []) = re
 sequence_of res = patterns.sequence res
 
--- a choice between patterns; one alone is itself
+-- a choice between patterns; a single one is itself
 abbrev pub choice_of : List Re → Re
 choice_of (re ∷ []) = re
 choice_of res = patterns.choice res
@@ -38,7 +37,7 @@ pub data Escaped : ℕ → Bytes → Type 0 where
   braces : (t : Bytes) (b : ℕ) → number 16 t ≡ Some b → b < 128
       → Escaped b (codes "\\x{" ++ t ++ codes "}")
 
--- the byte stands for itself; `&&` and `~~` do not
+-- the byte is literal; `&&` and `~~` do not
 abbrev pub stands : Before → ℕ → Bool
 stands (AfterByte false b) c =
     is_ascii c && not (c ∈ "[]\\-") && not (b == c && c ∈ "&~")
@@ -50,7 +49,7 @@ may_end AfterClass = true
 may_end (AfterByte _ _) = true
 may_end _ = false
 
--- what stands in brackets, and the bytes that it lists
+-- the inside of brackets, and the bytes that it lists
 pub data Lists (f : Flags) : Before → Set → Bytes → Type 0 where
   nothing : Lists f First (λ c. false) []
   closing : Lists f AfterRange (only 0x5D) (codes "]")
@@ -164,10 +163,10 @@ mutual
     branches : (f g h : Flags) (bs res : List Re) (t u : Bytes) → Branches f g bs t
         → Items g h res u → Choice f h (choice_of (bs ++ sequence_of res ∷ [])) (t ++ u)
 
--- the text stands for the pattern, with these flags at its beginning
+-- the text denotes the pattern, with these flags at its beginning
 abbrev pub SpellsUnder : Flags → Re → Bytes → Type 0
 SpellsUnder f re text = (g : Flags) × Choice f g re text
 
--- the text stands for the pattern
+-- the text denotes the pattern
 abbrev pub Spells : Re → Bytes → Type 0
 Spells = SpellsUnder no_flags

@@ -68,7 +68,8 @@ abbrev pub named_class : List ℕ → Option Set
 named_class n =
     if is_text "alnum" n then Some is_ascii_alphanumeric
     else if is_text "alpha" n then Some is_ascii_alphabetic
-    else if is_text "ascii" n then Some is_ascii else if is_text "blank" n then Some (λ c. c ∈ "\t ")
+    else if is_text "ascii" n then Some is_ascii
+    else if is_text "blank" n then Some (λ c. c ∈ "\t ")
     else if is_text "cntrl" n then Some is_ascii_control
     else if is_text "digit" n then Some is_ascii_digit
     else if is_text "graph" n then Some is_ascii_graphic
@@ -80,7 +81,7 @@ named_class n =
     else if is_text "word" n then Some word_set
     else if is_text "xdigit" n then Some is_ascii_hexdigit else None
 
--- the byte that a backslash and this one stand for: `\n` and the like, and each sign as itself
+-- the byte that a backslash and this one denote: `\n` and the like, and each sign as itself
 abbrev pub escaped_byte : ℕ → Option ℕ
 escaped_byte c =
     if c ∈ "a" then Some 7 else if c ∈ "t" then Some 9 else if c ∈ "n" then Some 10

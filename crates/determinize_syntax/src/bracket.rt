@@ -19,7 +19,7 @@ use crate::kind::ClassKind;
 use determinize_pattern::{ClassBytes, ClassBytesRange};
 use std::alloc::{AllocError, Global};
 
-/// What stands before a place in brackets.
+/// What is before a place in brackets.
 #[derive(Clone, Copy, Debug, PartialEq, Eq)]
 pub enum Before {
     /// Nothing, or hyphens.
@@ -41,7 +41,7 @@ struct Items<'a> {
     before: Before,
     /// The beginning of the brackets.
     start: Cursor<'a>,
-    /// The place after what stands in front: `^`, hyphens, or a bracket.
+    /// The place after what is in front: `^`, hyphens, or a bracket.
     opened: Cursor<'a>,
     /// The beginning of the last item.
     last: Cursor<'a>,
@@ -84,7 +84,7 @@ fn inside<'a>(
     }
 }
 
-/// Reads a bracket that stands in front.
+/// Reads a bracket that is in front.
 fn front<'a>(
     alloc: Global,
     cursor: &mut Cursor<'a>,
@@ -135,7 +135,7 @@ impl<'a> Items<'a> {
         Ok(())
     }
 
-    /// Reads a hyphen and the last bracket, if the hyphen may stand there.
+    /// Reads a hyphen and the last bracket, if the hyphen may be there.
     fn ends_with_hyphen(&mut self, cursor: &mut Cursor<'a>) -> Result<bool, AllocError>
         ensures read { IfOk result (λ b. b ≡ true
             → (spells.may_end self.old.before ≡ true)
@@ -177,7 +177,7 @@ impl<'a> Items<'a> {
         self.plain(cursor)
     }
 
-    /// Reads a byte that stands for itself.
+    /// Reads a literal byte.
     fn plain(&mut self, cursor: &mut Cursor<'a>) -> Result<(), ParseError>
         ensures read { (f : Flags) → OnOk result (Reads cursor.old cursor.new (Extends f
             self.old.before (pairs self.old.ranges.items) self.new.before
@@ -379,7 +379,7 @@ fn may_end(before: Before) -> bool
     matches!(before, Before::AfterClass | Before::AfterByte(..))
 }
 
-/// Returns whether the byte stands for itself.
+/// Returns whether the byte is literal.
 fn stands(before: Before, byte: u8) -> bool
     ensures { result ≡ spells.stands before byte }
 {

@@ -12,7 +12,7 @@ use determinize_below::Look;
 use determinize_pattern::ClassBytes;
 use std::alloc::Global;
 
-/// What an escape stands for.
+/// What an escape denotes.
 #[derive(Drop)]
 pub enum Escape {
     /// A byte, as `\n`.
@@ -66,7 +66,7 @@ fn unrecognized<'a>(cursor: &Cursor<'a>, start: Cursor<'a>, next: u8) -> ParseEr
     ParseError::new(kind, start.pos(), here.end)
 }
 
-/// Returns the byte that a backslash and this one stand for.
+/// Returns the byte that a backslash and this one denote.
 fn escaped(byte: u8) -> Option<u8>
     ensures { result ≡ escaped_byte byte }
 {

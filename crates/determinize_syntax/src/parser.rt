@@ -24,14 +24,14 @@ use std::alloc::{AllocError, Global};
 /// How deep groups and operators may be.
 const NEST_LIMIT: u8 = 250;
 
-/// Returns the pattern that the text stands for.
+/// Returns the pattern that the text denotes.
 pub fn parse(alloc: Global, text: &str) -> Result<Pattern, ParseError>
     ensures spells { IfOk result (λ p. Spells (meaning p) text.now) }
 {
     parse_with(alloc, text, Flags::new())
 }
 
-/// Returns the pattern that the text stands for, with these flags at its beginning.
+/// Returns the pattern that the text denotes, with these flags at its beginning.
 pub fn parse_with(alloc: Global, text: &str, flags: Flags) -> Result<Pattern, ParseError>
     ensures spells { IfOk result (λ p. SpellsUnder flags (meaning p) text.now) }
 {
@@ -179,7 +179,7 @@ fn escaped_atom<'a>(
     }
 }
 
-/// Reads a character that stands for itself.
+/// Reads a literal character.
 fn literal_atom(alloc: Global, cursor: &mut Cursor<'_>, flags: Flags) -> Result<Pattern, ParseError>
     ensures read { IfOk result (λ p. Reads cursor.old cursor.new (Atom flags (meaning p))) }
     ensures progress { OnOk result (length (rest cursor.new) < length (rest cursor.old)) }
@@ -229,7 +229,7 @@ fn group<'a>(
     Ok(sub)
 }
 
-/// Returns the patterns one after the other, or the one alone.
+/// Returns the patterns one after the other, or the single one.
 fn sequence(mut items: Vec<Pattern>) -> Pattern
     ensures { meaning result ≡ spells.sequence_of (map meaning items.items) }
 {
@@ -241,7 +241,7 @@ fn sequence(mut items: Vec<Pattern>) -> Pattern
     Pattern::concat(items)
 }
 
-/// Returns a choice between the patterns, or the one alone.
+/// Returns a choice between the patterns, or the single one.
 fn alternatives(mut branches: Vec<Pattern>) -> Pattern
     ensures { meaning result ≡ spells.choice_of (map meaning branches.items) }
 {
@@ -368,7 +368,7 @@ fn wide(alloc: Global, character: char) -> Result<Pattern, AllocError>
     Pattern::literal(alloc, text.as_bytes())
 }
 
-/// Returns whether the byte has a meaning of its own outside brackets.
+/// Returns whether the byte is special outside brackets.
 fn is_special(byte: u8) -> bool
     ensures { result ≡ (byte ∈ "\\.+*?()|[{^$") }
 {

@@ -6,7 +6,7 @@ use determinize_regex::{Input, Match, Matcher};
 use std::alloc::Global;
 use std::io::{BufRead, BufReader, Read, Write};
 
-/// A search of texts for the lines that the options ask for.
+/// A search of texts for the lines that the options select.
 #[derive(Drop)]
 pub struct Lines<'a> {
     alloc: Global,
@@ -33,7 +33,7 @@ impl<'a> Lines<'a> {
         }
     }
 
-    /// Reads a text, and prints what the options ask for. Returns the number of selected lines; if
+    /// Reads a text, and prints what the options select. Returns the number of selected lines; if
     /// nothing depends on it, reading stops at the first one.
     ///
     /// What was printed is flushed before a read that may wait for input.
@@ -69,7 +69,7 @@ impl<'a> Lines<'a> {
         Ok(count)
     }
 
-    /// Returns whether a line is selected, and prints it, or its matches, if that is asked for.
+    /// Returns whether a line is selected, and prints it, or its matches, by the options.
     fn take<W: Write>(
         &mut self,
         name: &str,
@@ -109,7 +109,7 @@ impl<'a> Lines<'a> {
         Ok(())
     }
 
-    /// Prints bytes, after what the options ask for: the name of the file, the number of the line,
+    /// Prints bytes, after what the options select: the name of the file, the number of the line,
     /// the offset, and the number of the pattern if there are several.
     fn print<W: Write>(
         &self,
@@ -145,7 +145,7 @@ impl<'a> Lines<'a> {
         Ok(())
     }
 
-    /// Prints what the options ask for where a text ends: its number of lines, or its name.
+    /// Prints what the options select where a text ends: its number of lines, or its name.
     fn print_total<W: Write>(&self, name: &str, count: u64, out: &mut W) -> Result<(), Error> {
         match self.options.shows {
             Shows::Count if self.options.files.len() > 1 => writeln!(out, "{name}:{count}")?,

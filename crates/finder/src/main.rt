@@ -37,6 +37,20 @@ struct Outcome {
 }
 
 impl Outcome {
+    /// A file that could not be opened.
+    const FAILED: Outcome = Outcome {
+        is_selected: false,
+        is_failed: true,
+    };
+
+    /// Returns the outcome of a text with this number of selected lines.
+    fn of(count: u64) -> Outcome {
+        Outcome {
+            is_selected: count > 0,
+            is_failed: false,
+        }
+    }
+
     /// Returns the exit status. If nothing is printed, a selected line outweighs a file that could
     /// not be read.
     fn status(&self, shows: Shows) -> ExitCode {
@@ -50,66 +64,68 @@ impl Outcome {
     }
 }
 
-/// Searches a file. One that cannot be opened is told on standard error.
+/// Searches a file. Writes to standard error if it cannot be opened.
 fn search_file<W: Write>(
     rt: &HostRuntime,
     lines: &mut Lines<'_>,
     name: &str,
     out: &mut W,
 ) -> Result<Outcome, Error> {
-    let count = match fs::open(rt, name) {
-        Ok(file) => lines.read(name, file, out)?,
+    let file = match fs::open(rt, name) {
+        Ok(file) => file,
         Err(error) => {
             let _ = writeln!(rt.stderr(), "finder: {name}: {error}");
-            return Ok(Outcome {
-                is_selected: false,
-                is_failed: true,
-            });
+            return Ok(Outcome::FAILED);
         }
     };
-    Ok(Outcome {
-        is_selected: count > 0,
-        is_failed: false,
-    })
+    Ok(Outcome::of(lines.read(name, file, out)?))
 }
 
 /// Searches all files, or standard input if there is none.
-fn search<W: Write>(
+fn search_all<W: Write>(
     rt: &HostRuntime,
-    options: &Options,
-    regex: &Regex,
+    files: &[String],
+    lines: &mut Lines<'_>,
     out: &mut W,
 ) -> Result<Outcome, Error> {
-    let alloc = rt.alloc();
-    let mut lines = Lines::new(alloc, options, regex.matcher(alloc, LIMIT));
-    let mut outcome = Outcome::default();
-    if options.files.is_empty() {
-        outcome.is_selected = lines.read("(standard input)", rt.reader(), out)? > 0;
+    if files.is_empty() {
+        return Ok(Outcome::of(lines.read("(standard input)", rt.reader(), out)?));
     }
-    for name in &options.files {
-        let of_file = search_file(rt, &mut lines, name.as_str(), out)?;
+    let mut outcome = Outcome::default();
+    for name in files {
+        let of_file = search_file(rt, lines, name.as_str(), out)?;
         outcome.is_selected = outcome.is_selected || of_file.is_selected;
         outcome.is_failed = outcome.is_failed || of_file.is_failed;
     }
     Ok(outcome)
 }
 
-/// Does what the arguments ask for, and returns the exit status.
-fn run(rt: &HostRuntime) -> Result<ExitCode, Error> {
+/// Searches for the patterns, and returns the exit status.
+fn search(rt: &HostRuntime, options: &Options, regex: &Regex) -> Result<ExitCode, Error> {
     let alloc = rt.alloc();
-    let mut args = env::args(rt)?;
-    let _program = args.next();
-    let options = Options::read(alloc, args)?;
     let mut out = BufWriter::new(alloc, io::writer(rt))?;
-    if options.helps {
-        out.write_all(USAGE.as_bytes())?;
-        out.flush()?;
-        return Ok(ExitCode::SUCCESS);
-    }
-    let regex = options.regex(alloc)?;
-    let outcome = search(rt, &options, &regex, &mut out)?;
+    let mut lines = Lines::new(alloc, options, regex.matcher(alloc, LIMIT));
+    let outcome = search_all(rt, &options.files, &mut lines, &mut out)?;
     out.flush()?;
     Ok(outcome.status(options.shows))
+}
+
+/// Returns the options of the arguments of the program.
+fn read_options(rt: &HostRuntime) -> Result<Options, Error> {
+    let mut args = env::args(rt)?;
+    let _program = args.next();
+    Ok(Options::read(rt.alloc(), args)?)
+}
+
+/// Runs the program, and returns the exit status.
+fn run(rt: &HostRuntime) -> Result<ExitCode, Error> {
+    let options = read_options(rt)?;
+    if options.helps {
+        io::writer(rt).write_all(USAGE.as_bytes())?;
+        return Ok(ExitCode::SUCCESS);
+    }
+    let regex = options.regex(rt.alloc())?;
+    search(rt, &options, &regex)
 }
 
 fn main(rt: HostRuntime) -> ExitCode {

@@ -6,7 +6,7 @@ use std::alloc::{AllocError, AllocFailed, Global};
 use std::env::Args;
 use std::{fmt, io};
 
-/// What the arguments ask for.
+/// The options and operands of the program.
 #[derive(Drop)]
 pub struct Options {
     /// The texts of the patterns, of which the first is pattern 0.
@@ -17,7 +17,7 @@ pub struct Options {
     pub shows: Shows,
     /// Whether lines without a match are selected, and not those with one.
     pub inverts: bool,
-    /// Whether the letters of the patterns stand for both of their cases.
+    /// Whether the letters of the patterns match in both cases.
     pub ignores_case: bool,
     /// Whether the number of each line is printed.
     pub numbers: bool,
@@ -110,7 +110,7 @@ impl Options {
         }
     }
 
-    /// Returns what the arguments ask for, without the name of the program. The first operand is
+    /// Returns the options of the arguments, without the name of the program. The first operand is
     /// the pattern, unless `-e` gives one, and the others are files.
     pub fn read(alloc: Global, args: Args) -> Result<Options, UsageError> {
         let mut options = Options::new(alloc);

@@ -88,8 +88,8 @@ impl fmt::Display for Tally {
     }
 }
 
-/// Judges a row, whose first fields are a text in hexadecimal and the expected answer. Writes it if
-/// the answer differs, or the text of the pattern is read as another one.
+/// Judges a row, whose first fields are a text in hexadecimal and the expected result. Writes it if
+/// the result differs, or the text of the pattern is read as another one.
 pub fn judge<W: Write>(
     alloc: Global,
     row: &str,
@@ -120,7 +120,7 @@ pub fn judge<W: Write>(
     Ok(())
 }
 
-/// Writes a text whose answer, or the answer of the pattern as it is written, is not expected.
+/// Writes a text whose result, or that of the pattern as it is written, is not the expected one.
 fn report<W: Write>(
     text: &str,
     answer: &str,

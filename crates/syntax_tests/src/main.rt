@@ -1,4 +1,4 @@
-//! Parses the texts of the rows of standard input, and prints each row whose answer is not the
+//! Parses the texts of the rows of standard input, and prints each row whose result is not the
 //! expected one.
 #![tactic(auto)]
 

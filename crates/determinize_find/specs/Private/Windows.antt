@@ -12,8 +12,8 @@ use Rattle.determinize_find.specs.Matches.{from}
 use Rattle.determinize_nfa.specs.Prefix.{HasPrefix}
 use Rattle.determinize_find.specs.Streams.{Streamed, whole}
 
--- the search begins in the kept bytes and has read the rest of them, the byte before it is kept, and
--- what was read has a count
+-- the search begins in the kept bytes and has read the rest of them, the byte before it is kept,
+-- and what was read has a count
 pub record IsWindow (kept : List ℕ) (dropped start : ℕ) (scan : Option Scanned) : Type 0 where
   pub within : start ≤ length kept
   pub read : IfSome scan (λ s. s.read ≡ length kept - start)
