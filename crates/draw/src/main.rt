@@ -1,28 +1,57 @@
-//! `draw WORD..` prints pictures of `[0-9]+` and `[A-Z][a-z]*`, as text for the program `dot` of
-//! Graphviz: for `nfa` their NFA, for `dfa` their DFA with the fewest states, and for `search` the
-//! part of it that unanchored searches enter.
+//! `draw GRAPH.. PATTERN..` prints graphs of patterns, as text for the program `dot` of Graphviz:
+//! for `nfa` their NFA, for `dfa` their DFA with the fewest states, and for `search` the part of it
+//! that unanchored searches enter.
 #![tactic(auto)]
 
 use determinize_below::{Anchored, MatchKind};
 use determinize_dense::{Dfa, DfaError};
 use determinize_draw::{DfaGraph, NfaGraph, SearchGraph};
 use determinize_pattern::{CompileError, Config, Pattern, compile};
-use std::alloc::{AllocError, Global};
-use std::env;
+use determinize_syntax::{ParseError, parse};
+use std::alloc::{AllocError, AllocFailed, Global};
+use std::env::{self, Args};
 use std::io::{self, Print};
 
 /// The greatest number of states of the DFA before it is minimized.
 const LIMIT: usize = 1000;
 
+/// A graph of the patterns.
+#[derive(Clone, Copy, Debug, PartialEq, Eq)]
+enum Graph {
+    Nfa,
+    Dfa,
+    Search,
+}
+
+impl Graph {
+    /// Returns the graph with this name, if there is one.
+    fn from_name(name: &str) -> Option<Graph> {
+        match name {
+            "nfa" => Some(Graph::Nfa),
+            "dfa" => Some(Graph::Dfa),
+            "search" => Some(Graph::Search),
+            _ => None,
+        }
+    }
+}
+
 /// An error that ends the program.
 #[derive(Debug, Drop)]
 enum Error {
+    /// A pattern was not understood.
+    Parse(ParseError),
     /// The NFA of the patterns was not built.
     Compile(CompileError),
     /// Their DFA was not built.
     Dfa(DfaError),
     /// An allocation failed, or the arguments or the output.
     Io(io::Error),
+}
+
+impl From<ParseError> for Error {
+    fn from(error: ParseError) -> Error {
+        Error::Parse(error)
+    }
 }
 
 impl From<CompileError> for Error {
@@ -43,19 +72,28 @@ impl From<AllocError> for Error {
     }
 }
 
+impl<T: Drop> From<AllocFailed<T>> for Error {
+    fn from(error: AllocFailed<T>) -> Error {
+        Error::Io(io::Error::from(error))
+    }
+}
+
 impl From<io::Error> for Error {
     fn from(error: io::Error) -> Error {
         Error::Io(error)
     }
 }
 
-/// Returns `[0-9]+`, which is pattern 0, and `[A-Z][a-z]*`, pattern 1.
-fn patterns(alloc: Global) -> Result<Vec<Pattern>, CompileError> {
-    let number = Pattern::digit(alloc)?.plus(alloc)?;
-    let capital = Pattern::range(alloc, b'A', b'Z')?;
-    let letters = Pattern::range(alloc, b'a', b'z')?.star(alloc)?;
-    let name = Pattern::concat(vec![in alloc; capital, letters]?);
-    Ok(vec![in alloc; number, name]?)
+/// Returns the patterns of the arguments, behind the names of graphs.
+fn read_patterns(alloc: Global, args: Args) -> Result<Vec<Pattern>, Error> {
+    let mut patterns = Vec::new(alloc);
+    for arg in args {
+        if patterns.is_empty() && Graph::from_name(arg.as_str()).is_some() {
+            continue;
+        }
+        patterns.push(parse(alloc, arg.as_str())?)?;
+    }
+    Ok(patterns)
 }
 
 /// Prints the graph of a DFA.
@@ -72,16 +110,24 @@ fn print_search(rt: &impl Print, alloc: Global, dfa: &Dfa<'_>) -> Result<(), Err
     Ok(())
 }
 
+/// Returns the arguments, without the name of the program.
+fn args(rt: &HostRuntime) -> Result<Args, Error> {
+    let mut args = env::args(rt)?;
+    let _program = args.next();
+    Ok(args)
+}
+
 fn main(rt: HostRuntime) -> Result<(), Error> {
     let alloc = rt.alloc();
-    let nfa = compile(alloc, &patterns(alloc)?, Config::new())?;
+    let patterns = read_patterns(alloc, args(&rt)?)?;
+    let nfa = compile(alloc, &patterns, Config::new())?;
     let dfa = Dfa::build(alloc, &nfa, MatchKind::LeftmostFirst, LIMIT)?.minimize(alloc)?;
-    for word in env::args(&rt)?.skip(1) {
-        match word.as_str() {
-            "nfa" => print!(rt; "{}", NfaGraph::new(&nfa))?,
-            "dfa" => print_dfa(&rt, &dfa)?,
-            "search" => print_search(&rt, alloc, &dfa)?,
-            _ => {}
+    for arg in args(&rt)? {
+        match Graph::from_name(arg.as_str()) {
+            Some(Graph::Nfa) => print!(rt; "{}", NfaGraph::new(&nfa))?,
+            Some(Graph::Dfa) => print_dfa(&rt, &dfa)?,
+            Some(Graph::Search) => print_search(&rt, alloc, &dfa)?,
+            None => break,
         }
     }
     Ok(())
