@@ -1,4 +1,4 @@
-//! Why there is no regex.
+//! Errors of `Regex::new`.
 
 use determinize_below::BuildError;
 use determinize_pattern::CompileError;

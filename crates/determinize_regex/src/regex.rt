@@ -4,6 +4,8 @@ ghost use Rattle.std.specs.Prelude.{◌≡◌, ◌≤◌, ◌∷◌, [], IfOk, m
 ghost use Rattle.std.specs.Bool.{Decides};
 ghost use Rattle.std.specs.Option.{IfSome};
 ghost use Rattle.determinize_engine.specs.Searches.{has_start};
+ghost use Rattle.determinize_nfa.specs.Prefix.{HasPrefix};
+ghost use Rattle.determinize_pattern.specs.Compiled.{IsNfaOf};
 ghost use Rattle.determinize_pattern.specs.Patterns.{meaning};
 ghost use Rattle.determinize_regex.specs.Regexes.{AreAll, HasFirst, IsFirst};
 ghost use Rattle.determinize_regex.specs.Spelled.{AreSpelled};
@@ -33,6 +35,7 @@ impl RegexConfig {
     /// Returns the usual options: those of `Config::new`, 10,000 states in each cache, and no flag.
     pub fn new() -> RegexConfig
         ensures state_limit { result.compile.state_limit ≡ 100000 }
+        ensures nest_limit { result.compile.nest_limit ≡ 250 }
         ensures terminator { result.compile.look_matcher ≡ 10 }
         ensures cache_limit { result.cache_limit ≡ 10000 }
         ensures flags { result.flags ≡ no_flags }
@@ -77,7 +80,7 @@ impl Model for Regex {
 }
 
 impl Regex {
-    /// Returns the pattern of a text, with the usual options.
+    /// Returns the regex of a pattern string, with the usual options.
     ///
     /// Returns `Parse` with index 0 if the text is not understood, and else an error where
     /// `from_patterns` does.
@@ -90,7 +93,7 @@ impl Regex {
         Regex::new_many(alloc, &[pattern], RegexConfig::new())
     }
 
-    /// Returns the patterns of texts. The first is pattern 0, and is preferred.
+    /// Returns the regex of pattern strings. The first is pattern 0, and is preferred.
     ///
     /// Returns `Parse` with the index of the first text that is not understood, and else an error
     /// where `from_patterns` does.
@@ -132,7 +135,9 @@ impl Regex {
 
     /// Returns the NFA of the patterns.
     pub fn nfa(&self) -> &NFA
-        ensures { result.now.terminator ≡ self.now.terminator }
+        ensures means { IsNfaOf (map meaning self.now.patterns) result.now }
+        ensures prefix { HasPrefix result.now }
+        ensures terminator { result.now.terminator ≡ self.now.terminator }
     {
         self.search.nfa()
     }

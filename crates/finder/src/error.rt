@@ -24,7 +24,7 @@ impl fmt::Display for Error {
             Error::Usage(error) => write!(f, "{error} (see finder --help)"),
             Error::Parse { text, error } => {
                 let marked = error.display(text.as_str());
-                write!(f, "{marked}")
+                write!(f, "\n{marked}")
             }
             Error::Compile(error) => write!(f, "{error}"),
             Error::Io(error) => write!(f, "{error}"),

@@ -37,7 +37,7 @@ struct Outcome {
 }
 
 impl Outcome {
-    /// A file that could not be opened.
+    /// A file that could not be searched.
     const FAILED: Outcome = Outcome {
         is_selected: false,
         is_failed: true,
@@ -64,21 +64,26 @@ impl Outcome {
     }
 }
 
-/// Searches a file. Writes to standard error if it cannot be opened.
+/// Searches a file. Writes to standard error if it cannot be opened or read, or an allocation or the
+/// output fails.
 fn search_file<W: Write>(
     rt: &HostRuntime,
     lines: &mut Lines<'_>,
     name: &str,
     out: &mut W,
 ) -> Result<Outcome, Error> {
-    let file = match fs::open(rt, name) {
-        Ok(file) => file,
-        Err(error) => {
-            let _ = writeln!(rt.stderr(), "finder: {name}: {error}");
-            return Ok(Outcome::FAILED);
-        }
+    let result = match fs::open(rt, name) {
+        Ok(file) => lines.read(name, file, out),
+        Err(error) => Err(Error::Io(error)),
     };
-    Ok(Outcome::of(lines.read(name, file, out)?))
+    match result {
+        Ok(count) => Ok(Outcome::of(count)),
+        Err(Error::Io(error)) => {
+            let _ = writeln!(rt.stderr(), "finder: {name}: {error}");
+            Ok(Outcome::FAILED)
+        }
+        Err(error) => Err(error),
+    }
 }
 
 /// Searches all files, or standard input if there is none.

@@ -5,6 +5,7 @@ mod dense;
 mod dfa;
 mod find;
 mod idle;
+mod patterns;
 mod pieces;
 mod reading;
 mod stored_walks;
