@@ -64,8 +64,8 @@ impl Outcome {
     }
 }
 
-/// Searches a file. Writes to standard error if it cannot be opened or read, or an allocation or the
-/// output fails.
+/// Searches a file. Writes to standard error if it cannot be opened or read, or if an allocation or
+/// the output fails.
 fn search_file<W: Write>(
     rt: &HostRuntime,
     lines: &mut Lines<'_>,
