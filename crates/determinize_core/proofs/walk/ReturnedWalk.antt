@@ -1,9 +1,10 @@
 -- The values of a chain are what a walk returns.
--- Main statements: is_walk, walking.
--- Used by: `walk_between`, here and of the cache.
+-- Main statements: is_walk, walk_begins, walk_goes_on, walk_ends.
+-- Used by: `states_over`, and `walk_between` of the cache.
 -- Idea: the values so far are followed by those over the bytes that are left.
-use Rattle.determinize_core.proofs.Common.{[], All-cons, All-nil, AllResolve, append_assoc, chain, future, IsAccepted}
-use Rattle.determinize_core.proofs.Common.{length, List, MatchKind, Nfa, Option, refl, step, Text, units, Value, ℕ, ◌<◌}
+use Rattle.determinize_core.proofs.Common.{[], All-cons, All-nil, AllResolve, append_assoc, between, chain, drop}
+use Rattle.determinize_core.proofs.Common.{future, get_or, IsAccepted, map, Some, start_value, sym, ◌++◌, ◌+◌, ◌≤◌}
+use Rattle.determinize_core.proofs.Common.{length, List, MatchKind, Nfa, Option, refl, step, Text, Value, ℕ, ◌<◌}
 use Rattle.determinize_core.proofs.Common.{◌∷◌, ◌≡◌}
 use Rattle.std.proofs.Common.{All as Each}
 use Rattle.std.proofs.lemmas.List.{drop_all, drop_more}
@@ -35,5 +36,23 @@ is_walk nfa kind start text states accepted resolves is = rw is (record {
       (future_resolves nfa accepted kind _ _ (start_resolves nfa accepted start text.behind resolves));
 })
 
--- for `walk_between`
-pub ruleset walking = (chain_is_future, drop_more, drop_all, append_assoc)
+-- the states so far, followed by those over what is left, are the walk: at the start, after a byte, and at the end
+pub walk_begins : (nfa : Nfa) (kind : MatchKind) (start : ℕ) (behind ahead : Option ℕ) (bytes : List ℕ) (v : Value)
+    (states : List Value) → v ≡ start_value nfa start behind → states ≡ []
+    → states ++ future nfa kind v (map Some bytes ++ ahead ∷ []) ≡ chain nfa kind start (between behind bytes ahead)
+walk_begins nfa kind start behind ahead bytes v states first none =
+    rw (first, none) (sym (chain_is_future nfa kind start behind ahead bytes))
+
+pub walk_goes_on : (nfa : Nfa) (kind : MatchKind) (ahead : Option ℕ) (bytes : List ℕ) (i : ℕ) (v next : Value)
+    (states after : List Value) → i < length bytes → next ≡ step nfa kind v (Some (get_or bytes i 0))
+    → after ≡ states ++ v ∷ []
+    → after ++ future nfa kind next (map Some (drop (i + 1) bytes) ++ ahead ∷ [])
+    ≡ states ++ future nfa kind v (map Some (drop i bytes) ++ ahead ∷ [])
+walk_goes_on nfa kind ahead bytes i v next states after within is pushed =
+    rw (is, pushed, drop_more bytes i 0 within) (append_assoc states (v ∷ []) _)
+
+pub walk_ends : (nfa : Nfa) (kind : MatchKind) (ahead : Option ℕ) (bytes : List ℕ) (i : ℕ) (v last : Value)
+    (states after all : List Value) → length bytes ≤ i → last ≡ step nfa kind v ahead → after ≡ states ++ v ∷ []
+    → all ≡ after ++ last ∷ [] → all ≡ states ++ future nfa kind v (map Some (drop i bytes) ++ ahead ∷ [])
+walk_ends nfa kind ahead bytes i v last states after all none is pushed whole =
+    rw (whole, pushed, is, drop_all i bytes none) (append_assoc states (v ∷ []) _)

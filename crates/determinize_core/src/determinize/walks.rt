@@ -1,10 +1,11 @@
 //! The start state, and walks: the states of a DFA over a text, from the start state on.
 
-ghost use Rattle.std.specs.Prelude.{◌≡◌, ◌<◌, None, length, IfOk};
+ghost use Rattle.std.specs.Prelude.{◌≡◌, ◌<◌, ◌++◌, ◌∷◌, [], None, length, IfOk, OnOk};
 ghost use Rattle.determinize_below.specs.Nfa.{AllResolve};
 ghost use Rattle.determinize_below.specs.Semantics.{between};
+ghost use Rattle.determinize_below.specs.Unit.{byte_of};
 ghost use Rattle.determinize_core.specs.Scratch.{IsScratch};
-ghost use Rattle.determinize_core.specs.Step.{start_value};
+ghost use Rattle.determinize_core.specs.Step.{start_value, step};
 ghost use Rattle.determinize_core.specs.LastMatch as matches;
 ghost use Rattle.determinize_core.specs.WholeWalk.{IsWalk};
 
@@ -86,7 +87,6 @@ pub fn walk<N: Allocator, A: Allocator + Copy>(
 /// no match.
 ///
 /// The states and all scratch memory are allocated from `alloc`.
-#[tactic(auto, using(crate::proofs::walk::ReturnedWalk::walking))]
 pub fn walk_between<N: Allocator, A: Allocator + Copy>(
     alloc: A,
     nfa: &NFA<N>,
@@ -101,19 +101,56 @@ pub fn walk_between<N: Allocator, A: Allocator + Copy>(
         (between look_behind text.now look_ahead) states.items) }
 {
     let mut stepper = Stepper::new(alloc, nfa, match_kind);
+    states_over(
+        alloc,
+        &mut stepper,
+        start,
+        look_behind,
+        text,
+        look_ahead,
+    )
+}
+
+/// Returns the states over a text, as [`walk_between`] does.
+fn states_over<N: Allocator, A: Allocator + Copy>(
+    alloc: A,
+    stepper: &mut Stepper<'_, N, A>,
+    start: StateID,
+    look_behind: Option<u8>,
+    text: &[u8],
+    look_ahead: Option<u8>,
+) -> Result<Vec<State<A>, A>, AllocError>
+    requires { start < length stepper.old.nfa.states }
+    ensures { IfOk result (λ states. IsWalk stepper.old.nfa stepper.old.kind start
+        (between look_behind text.now look_ahead) states.items) }
+{
     let mut state = stepper.start(start, look_behind)?;
     let mut states = Vec::new(alloc);
     for byte in text {
-        let unit = Unit::u8(*byte);
-        let next = stepper.next(&state, unit)?;
-        states.push(state)?;
-        state = next;
+        state = keep_and_step(stepper, state, Unit::u8(*byte), &mut states)?;
     }
-    let unit = Unit::from(look_ahead);
-    let last = stepper.next(&state, unit)?;
-    states.push(state)?;
+    let last = keep_and_step(stepper, state, Unit::from(look_ahead), &mut states)?;
     states.push(last)?;
     Ok(states)
+}
+
+/// Returns the state after a state over a unit, and pushes the state itself.
+fn keep_and_step<N: Allocator, A: Allocator + Copy>(
+    stepper: &mut Stepper<'_, N, A>,
+    state: State<A>,
+    unit: Unit,
+    states: &mut Vec<State<A>, A>,
+) -> Result<State<A>, AllocError>
+    requires { AllResolve stepper.old.nfa state.states }
+    ensures ok { IfOk result
+        (λ after. after ≡ step stepper.old.nfa stepper.old.kind state (byte_of unit)) }
+    ensures resolve { IfOk result (λ after. AllResolve stepper.old.nfa after.states) }
+    ensures pushed { OnOk result (states.new.items ≡ states.old.items ++ state ∷ []) }
+    ensures unchanged { stepper.new ≡ stepper.old }
+{
+    let next = stepper.next(&state, unit)?;
+    states.push(state)?;
+    Ok(next)
 }
 
 /// Returns the last match of a walk: the first pattern of the last state that lists one, and the
