@@ -13,6 +13,7 @@ use Rattle.std.proofs.lemmas.List.{append_cancel_left, reverse-append, reverse-r
 use Rattle.std.proofs.lemmas.List.Elements.{All-append}
 use Rattle.std.proofs.lemmas.List.Sums.{fold-append}
 use Rattle.determinize_below.specs.Node.{is_epsilon}
+use Rattle.determinize_below.specs.Semantics.{edges_of}
 use Rattle.ordered_reach.proofs.graph.StackSearch.{closure-held, closure-new, tries-held, tries-new}
 use Rattle.determinize_below.proofs.nfas.SoundNfa.{edges_enough}
 use Rattle.determinize_core.specs.Closure.{AddsBeginning}
@@ -101,6 +102,18 @@ module _ {W : Type 0} {nfa : Nfa} {look : Assertion → Bool} {with_one : W → 
 pub leaf_at : (nfa : Nfa) (s : ℕ) (node : Node) → slice_get nfa.states s ≡ Some node
     → is_epsilon (state_at nfa s) ≡ is_epsilon node
 leaf_at nfa s node h = rw (get_or_from_slice_get nfa.states s node Fail h) refl
+
+-- the edges of a state that was read
+pub edges_at : (nfa : Nfa) (holds : Assertion → Bool) (s : ℕ) (node : Node) → slice_get nfa.states s ≡ Some node
+    → edges nfa holds s ≡ edges_of holds node
+edges_at nfa holds s node h = rw (get_or_from_slice_get nfa.states s node Fail h) refl
+
+no_edges : (holds : Assertion → Bool) (node : Node) → is_epsilon node ≡ false → edges_of holds node ≡ []
+no_edges holds node leaf = grind arith
+
+pub leaf_edges : (nfa : Nfa) (holds : Assertion → Bool) (s : ℕ) (node : Node) → slice_get nfa.states s ≡ Some node
+    → is_epsilon node ≡ false → edges nfa holds s ≡ []
+leaf_edges nfa holds s node h leaf = edges_at nfa holds s node h ∙ no_edges holds node leaf
 
 -- what the search from a state that is no epsilon state adds
 pub leaf_set : (nfa : Nfa) → IsSound nfa → (look : Assertion → Bool) (held : List ℕ) (root : ℕ) (new : Bool)

@@ -62,7 +62,6 @@ fn push_reversed<A: Allocator>(
 /// Records a state and returns the next current list: its epsilon targets, or the first of them.
 /// Other targets and `others` are pushed. Returns `others` if it has none, as most states.
 #[inline(always)]
-#[tactic(auto, using(crate::proofs::closure::ClosureSteps::following))]
 fn record_and_follow<'a, N: Allocator, A: Allocator, W: Recorder>(
     nfa: &'a NFA<N>,
     id: StateID,
