@@ -1,3 +1,4 @@
+pub mod Exits
 pub mod building
 pub mod prefixes
 pub mod reversing

@@ -1,22 +1,23 @@
 -- What a builder adds, and that the prefix which it puts before a start is the usual one.
--- Main statements: the record IsMade, made_of, set_is.
--- Used by: `Builder::patch` and `build_with_prefix`.
+-- Main statements: node_is, pushed_is, set_is, built_is, the record IsMade, made_of.
+-- Used by: `add`, `add_match`, `patch`, `close`, `build` and `build_with_prefix` of `Builder`.
 -- Idea: no state before the prefix has a transition to it, so only the skip has one to its start.
 use Rattle.std.specs.List.{position, position_or_len}
 use Rattle.std.specs.Prelude.{nat_eq, nat_lt}
 use Rattle.std.proofs.Common.{◌≡◌, ◌<◌, ◌≤◌, ◌+◌, ◌-◌, ◌++◌, ◌⊎◌, ◌||◌, ◌∙◌, ◌∷◌, ℕ, Bool, List, None, Option, Some, [], ap, arith, cond, false, get_or, inl, inr, length, map, refl, set, subst, suc, sym, true, zero}
 use Rattle.std.proofs.Math.Seq.{map-set_same}
-use Rattle.std.proofs.lemmas.Bool.{cases_lt, false≢true}
+use Rattle.std.proofs.lemmas.Bool.{cases_lt, false≢true, lt-ltb}
 use Rattle.std.proofs.lemmas.Bool.Decides.{nat_tests}
-use Rattle.std.proofs.lemmas.List.{append_assoc, get_or-append-add, get_or-map, get_or_append_left, length-map, map-set}
+use Rattle.std.proofs.lemmas.List.{append_assoc, get_or-append-add, get_or-map, get_or_append_left, length-append, length-map, length-set, map-append, map-set}
 use Rattle.std.proofs.lemmas.List.Quantifiers.{position-Some}
 use Rattle.std.proofs.lemmas.List.Sums.{fails_before_first}
-use Rattle.determinize_below.specs.Semantics.{Nfa, Node, BinaryUnion, ByteRange, Fail}
+use Rattle.determinize_below.specs.Semantics.{Nfa, Node, BinaryUnion, ByteRange, Fail, Match}
 use Rattle.determinize_below.specs.Nfa.{failure, looks_of}
 use Rattle.determinize_below.specs.declared.nfa.BuildError.{BuildError}
-use Rattle.determinize_below.specs.declared.nfa.BuildError.TheVariants.{OutOfMemory, UnresolvedId}
+use Rattle.determinize_below.specs.declared.nfa.BuildError.TheVariants.{OutOfMemory, TooManyStates, UnresolvedId}
 use Rattle.ordered_reach.proofs.Cases.{by_cases, by_test}
-use Rattle.determinize_nfa.specs.Builder.{BuilderValue, IsApart, IsUnfit, has_transition_to, built, prefixed}
+use Rattle.determinize_nfa.specs.Builder.{BuilderValue, IsApart, IsUnfit, has_transition_to, built, prefixed, with_match, with_node}
+use Rattle.determinize_below.specs.declared.primitives.TheConstants.{ID_LIMIT, MAX_ID}
 use Rattle.determinize_nfa.specs.Prefix.{HasPrefix, HasPrefixApart, leads_to}
 
 -- one state of a list is changed
@@ -34,6 +35,41 @@ module _ {V : Type 0} (f : V → Node) (xs : List V) (i : ℕ) where
         record { states = map f (set xs i new); patterns = patterns; terminator = terminator }
         record { states = map f xs; patterns = patterns; terminator = terminator }
     set_none old e n = rw (map-set_same f xs i new old (n ∙ ap f e)) refl
+
+-- the states that a builder is seen as, of which the program looks at one
+module _ {V : Type 0} (f : V → Node) (xs : List V) (patterns terminator : ℕ) (b : BuilderValue)
+    (is : ◌≡◌ {A = BuilderValue} record { states = map f xs; patterns = patterns; terminator = terminator } b) where
+  pub length_is : length xs ≡ length b.states
+  length_is = sym (length-map xs f) ∙ ap (λ (c : BuilderValue). length c.states) is
+
+  pub count_is : (i : ℕ) (new : V) → length (map f (set xs i new)) ≡ length b.states
+  count_is i new = length-map (set xs i new) f ∙ length-set xs i new ∙ length_is
+
+  pub pushed_is : (ys : List V) (x : V) → ys ≡ xs ++ x ∷ []
+      → ◌≡◌ {A = BuilderValue} record { states = map f ys; patterns = patterns; terminator = terminator }
+      (with_node b (f x))
+  pushed_is ys x e = rw (e, map-append f xs (x ∷ [])) (ap (λ (c : BuilderValue). with_node c (f x)) is)
+
+  pub matched_is : (ys : List V) (x : V) → ys ≡ xs ++ x ∷ [] → f x ≡ Match patterns
+      → ◌≡◌ {A = BuilderValue} record { states = map f ys; patterns = patterns + 1; terminator = terminator }
+      (with_match b)
+  matched_is ys x e m = rw (e, map-append f xs (x ∷ []), m) (ap with_match is)
+
+  module _ (i s : ℕ) (e : i ≡ s) (l : s < length b.states) where
+    pub index_within : i < length xs
+    index_within = omega (arith, length_is, e, l)
+
+    pub node_is : (x : V) → x ≡ get_or xs i x → f x ≡ get_or b.states s Fail
+    node_is x h = node_there f xs i x index_within h
+        ∙ ap (λ (c : BuilderValue). get_or c.states i Fail) is ∙ ap (λ w. get_or b.states w Fail) e
+
+    pub same_node : (x y : V) → x ≡ get_or xs i x → y ≡ get_or xs i y → f x ≡ f y
+    same_node x y h k = node_is x h ∙ sym (node_is y k)
+
+-- two more states
+pub pushed_twice : {V : Type 0} (f : V → Node) (xs ys zs : List V) (x y : V) (ns : List Node) → map f xs ≡ ns
+    → ys ≡ xs ++ x ∷ [] → zs ≡ ys ++ y ∷ [] → map f zs ≡ (ns ++ f x ∷ []) ++ f y ∷ []
+pushed_twice f xs ys zs x y ns n e d = rw (d, e, map-append f (xs ++ x ∷ []) (y ∷ []), map-append f xs (x ∷ []), n) refl
 
 -- the first state that passes a test
 module _ {V : Type 0} (f : V → Node) (p : Node → Bool) where
@@ -162,6 +198,34 @@ module _ {V : Type 0} (f : V → Node) (xs ys : List V) (b : BuilderValue) (unio
         (leads_to union (get_or b.states s Fail)) (leads_to skip (get_or b.states s Fail)) (none_to p s l));
   }
 
+-- the NFA of some states
+pub built_is : (b : BuilderValue) (states : List Node) (terminator anchored u unanchored : ℕ) → states ≡ b.states
+    → terminator ≡ b.terminator → u ≡ unanchored → (nfa : Nfa)
+    → nfa ≡ record {
+      states = states;
+      start_anchored = anchored;
+      start_unanchored = u;
+      reverse = false;
+      terminator = terminator;
+      look_set_any = looks_of states;
+    }
+    → nfa ≡ built b anchored unanchored
+built_is b states terminator anchored u unanchored all same start nfa e = e ∙ (λ i. record {
+  states = all i;
+  start_anchored = anchored;
+  start_unanchored = start i;
+  reverse = false;
+  terminator = same i;
+  look_set_any = looks_of (all i);
+})
+
+pub unfit_too_many : (b : BuilderValue) (start n : ℕ) → n ≤ suc (length b.states) → (n ≤ MAX_ID → ⊥) → (e : BuildError)
+    → e ≡ TooManyStates → IsUnfit b start e
+unfit_too_many b start n within above e h =
+    let many : nat_lt ID_LIMIT (length (prefixed b start).states) ≡ true
+    = lt-ltb ID_LIMIT (length (prefixed b start).states) (simp length-append (omega arith)) in
+    inl (rw many (ap Some (sym h)))
+
 -- the states and the prefix, as the program puts them together
 pub record IsMade (b : BuilderValue) (start : ℕ) (states : List Node) (union terminator : ℕ) : Type 0 where
   pub all : states ≡ (prefixed b start).states
@@ -200,14 +264,7 @@ module _ (b : BuilderValue) (start : ℕ) (states : List Node) (union terminator
         look_set_any = looks_of states;
       }
       → nfa ≡ built (prefixed b start) start (length b.states)
-  made_is nfa e = e ∙ (λ i. record {
-    states = m.all i;
-    start_anchored = start;
-    start_unanchored = m.first i;
-    reverse = false;
-    terminator = m.same i;
-    look_set_any = looks_of (m.all i);
-  })
+  made_is = built_is (prefixed b start) states terminator start union (length b.states) m.all m.same m.first
 
   pub made_unfit : (e : BuildError) → (failure states start union ≡ Some e) ⊎ (e ≡ OutOfMemory) → IsUnfit b start e
   made_unfit e d = by_cases d

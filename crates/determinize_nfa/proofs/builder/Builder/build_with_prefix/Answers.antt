@@ -1,51 +1,105 @@
 use Rattle.std.specs.Prelude.{None, Some}
-use Rattle.std.proofs.Common.{rules, ◌≡◌, ◌<◌, ◌+◌, ◌++◌, ◌⊎◌, ◌∙◌, ◌∷◌, [], ap, arith, false, length, map, subst, suc, sym}
-use Rattle.std.proofs.lemmas.Grind.{common_steps}
+use Rattle.std.proofs.Common.{◌≡◌, ◌<◌, ◌+◌, ◌⊎◌, ◌∙◌, ap, arith, false, inl, inr, length, map, refl, subst, suc, sym}
 use Rattle.std.proofs.lemmas.List.{length-map}
 use Rattle.std.proofs.lemmas.Result.{IfErr-weaker, IfOk-weaker}
-use Rattle.determinize_below.specs.Semantics.{Nfa, BinaryUnion, ByteRange}
+use Rattle.determinize_below.specs.Semantics.{Nfa}
 use Rattle.determinize_below.specs.Nfa.{failure, looks_of}
 use Rattle.determinize_below.specs.Node.{node_of}
 use Rattle.determinize_below.specs.declared.nfa.BuildError.{BuildError}
-use Rattle.determinize_below.specs.declared.nfa.BuildError.TheVariants.{OutOfMemory}
+use Rattle.determinize_below.specs.declared.nfa.BuildError.TheVariants.{OutOfMemory, TooManyStates}
+use Rattle.ordered_reach.proofs.Cases.{by_option}
 use Rattle.determinize_nfa.specs.Builder.{BuilderValue, IsApart, IsUnfit, built, prefixed}
 use Rattle.determinize_nfa.specs.Prefix.{HasPrefix, HasPrefixApart}
-use Rattle.determinize_nfa.proofs.building.Building.{IsMade, has_prefix_apart, is_ahead, made_is, made_of, made_unfit, none_ahead}
+use Rattle.determinize_nfa.proofs.Exits.{if_err_and}
+use Rattle.determinize_nfa.proofs.building.Building.{IsMade, has_prefix_apart, is_ahead, length_is, made_is, made_of, made_unfit, none_ahead, pushed_twice, unfit_too_many}
 use Rattle.determinize_nfa.proofs.builder.Builder.build_with_prefix.Goals as goal
+
+pub returns-in_err-union-clause-err : goal.returns-in_err-union-clause-err
+returns-in_err-union-clause-err g c =
+    let count : length c.self.inside.states.items ≡ length c.args.self.now.states
+    = length_is node_of c.self.inside.states.items c.self.inside.patterns c.self.inside.look_matcher
+    c.args.self.now c.self.view_is in
+    let same : c.len-count.result ≡ length c.args.self.now.states = omega (arith, c.len-count.ensures, count) in
+    if_err_and c.from_residual.result (λ (e : BuildError). e ≡ TooManyStates)
+    (λ (e : BuildError). IsUnfit c.args.self.now c.args.start_anchored e)
+    (unfit_too_many c.args.self.now c.args.start_anchored c.len-count.result (omega (arith, same))
+    c.in_err-union.ensures.ok)
+    c.from_residual.ensures.1
+
+pub returns-in_err-skip-clause-err : goal.returns-in_err-skip-clause-err
+returns-in_err-skip-clause-err g c =
+    let count : length c.self.inside.states.items ≡ length c.args.self.now.states
+    = length_is node_of c.self.inside.states.items c.self.inside.patterns c.self.inside.look_matcher
+    c.args.self.now c.self.view_is in
+    let same : c.len-count.result ≡ length c.args.self.now.states = omega (arith, c.len-count.ensures, count) in
+    if_err_and c.from_residual-in_err-skip.result (λ (e : BuildError). e ≡ TooManyStates)
+    (λ (e : BuildError). IsUnfit c.args.self.now c.args.start_anchored e)
+    (unfit_too_many c.args.self.now c.args.start_anchored (c.len-count.result + 1) (omega (arith, same))
+    c.in_err-skip.ensures.ok)
+    c.from_residual-in_err-skip.ensures.1
+
+pub returns-then-as_usize-count-clause-err : goal.returns-then-as_usize-count-clause-err
+returns-then-as_usize-count-clause-err g c =
+    let count : length c.self.inside.states.items ≡ length c.args.self.now.states
+    = length_is node_of c.self.inside.states.items c.self.inside.patterns c.self.inside.look_matcher
+    c.args.self.now c.self.view_is in
+    inr (inl (inl (refl, omega (arith, c.len-count.ensures, count, c.if-as_usize-count.true, c.as_usize.ensures.value))))
 
 pub returns-in-Some-clause-err : goal.returns-in-Some-clause-err
 returns-in-Some-clause-err g c =
     let states : map node_of c.self.inside.states.items ≡ c.args.self.now.states
     = ap (λ (b : BuilderValue). b.states) c.self.view_is in
-    let union : c.in_ok-union.union ≡ length c.self.inside.states.items = search rules in
-    let count : c.in_ok-union.union ≡ length c.args.self.now.states
-    = union ∙ sym (length-map c.self.inside.states.items node_of) ∙ ap length states in
-    let skip : c.in_ok-skip.skip ≡ length c.self.inside.states.items + 1 = search rules in
-    let after : c.in_ok-skip.skip ≡ suc (length c.args.self.now.states) = omega (arith, skip, union, count) in
+    let count : length c.self.inside.states.items ≡ length c.args.self.now.states
+    = length_is node_of c.self.inside.states.items c.self.inside.patterns c.self.inside.look_matcher
+    c.args.self.now c.self.view_is in
+    let union : c.in_ok-union.union ≡ length c.args.self.now.states
+    = omega (arith, c.in_ok-union.ensures.ok.1, c.len-count.ensures, count) in
+    let skip : c.in_ok-skip.skip ≡ suc (length c.args.self.now.states)
+    = omega (arith, c.in_ok-skip.ensures.ok.1, c.len-count.ensures, count) in
     is_ahead node_of c.self.inside.states.items c.as_slice.result.now c.args.self.now c.in_ok-union.union
-    c.in_ok-skip.skip c.first_to.result states count after c.as_slice.ensures.value c.first_to.ensures c.args.start_anchored
-    c.in-Some.index c.in-Some.is
+    c.in_ok-skip.skip c.first_to.result states union skip c.as_slice.ensures.value c.first_to.ensures
+    c.args.start_anchored c.in-Some.index c.in-Some.is
+
+pub returns-in_err-states-clause-err : goal.returns-in_err-states-clause-err
+returns-in_err-states-clause-err g c = if_err_and c.from_residual-in_err-states.result
+    (λ (e : BuildError). e ≡ OutOfMemory) (λ (e : BuildError). IsUnfit c.args.self.now c.args.start_anchored e)
+    (λ e h. inr (inr h)) c.from_residual-in_err-states.ensures.1
+
+pub returns-in_err-push-clause-err : goal.returns-in_err-push-clause-err
+returns-in_err-push-clause-err g c = if_err_and c.from_residual-in_err-push.result
+    (λ (e : BuildError). e ≡ OutOfMemory) (λ (e : BuildError). IsUnfit c.args.self.now c.args.start_anchored e)
+    (λ e h. inr (inr h)) c.from_residual-in_err-push.ensures.1
+
+pub returns-in_err-push-2-clause-err : goal.returns-in_err-push-2-clause-err
+returns-in_err-push-2-clause-err g c = if_err_and c.from_residual-in_err-push-2.result
+    (λ (e : BuildError). e ≡ OutOfMemory) (λ (e : BuildError). IsUnfit c.args.self.now c.args.start_anchored e)
+    (λ e h. inr (inr h)) c.from_residual-in_err-push-2.ensures.1
+
+pub returns-in_err-matcher-clause-err : goal.returns-in_err-matcher-clause-err
+returns-in_err-matcher-clause-err g c = if_err_and c.from_residual-in_err-matcher.result
+    (λ (e : BuildError). e ≡ OutOfMemory) (λ (e : BuildError). IsUnfit c.args.self.now c.args.start_anchored e)
+    (λ e h. inr (inr h)) c.from_residual-in_err-matcher.ensures.1
 
 made : (g : _) (c : goal.After-from_parts g) → IsMade c.args.self.now c.args.start_anchored
     (map node_of c.push-2.new.self.items) c.in_ok-union.union c.self.inside.look_matcher
 made g c =
     let same = length-map c.self.inside.states.items node_of in
-    let union : c.in_ok-union.union ≡ length c.self.inside.states.items = search rules in
-    let skip : c.in_ok-skip.skip ≡ length c.self.inside.states.items + 1 = search rules in
+    let union : c.in_ok-union.union ≡ length (map node_of c.self.inside.states.items)
+    = omega (arith, c.in_ok-union.ensures.ok.1, c.len-count.ensures, same) in
+    let skip : c.in_ok-skip.skip ≡ suc (length (map node_of c.self.inside.states.items))
+    = omega (arith, c.in_ok-skip.ensures.ok.1, c.len-count.ensures, same) in
     let copied : map node_of c.in_ok-states.states.items ≡ map node_of c.self.inside.states.items
     = c.in_ok-states.ensures ∙ ap (map node_of) c.as_slice-2.ensures.value in
-    let all : map node_of c.push-2.new.self.items
-    ≡ (map node_of c.self.inside.states.items ++ BinaryUnion c.args.start_anchored c.in_ok-skip.skip ∷ [])
-    ++ ByteRange record { start = 0; end = 255; next = c.in_ok-union.union } ∷ []
-    = grind (arith, common_steps, copied) in
+    let all = pushed_twice node_of c.in_ok-states.states.items c.push.new.self.items c.push-2.new.self.items
+    _ _ _ copied c.in_ok-push.ensures.items c.in_ok-push-2.ensures.items in
     made_of c.args.self.now c.args.start_anchored (map node_of c.self.inside.states.items)
     (map node_of c.push-2.new.self.items) c.in_ok-union.union c.in_ok-skip.skip c.self.inside.patterns
-    c.self.inside.look_matcher
-    c.self.view_is (union ∙ sym same) (omega (arith, same, skip)) all
+    c.self.inside.look_matcher c.self.view_is union skip all
 
 pub returns-clause-ok : goal.returns-clause-ok
 returns-clause-ok g c =
-    let same : c.in_ok-matcher.matcher ≡ c.self.inside.look_matcher = search rules in
+    let cases = c.in_ok-matcher.ensures.cases in
+    let same : c.in_ok-matcher.matcher ≡ c.self.inside.look_matcher = sym cases.3 ∙ cases.4 ∙ cases.2 in
     IfOk-weaker c.from_parts.result
     (λ (n : Nfa). n ≡ record {
       states = map node_of c.push-2.new.self.items;
@@ -65,12 +119,11 @@ apart : (g : _) (c : goal.After-from_parts g) → IsApart c.args.self.now
 apart g c =
     let states : map node_of c.self.inside.states.items ≡ c.args.self.now.states
     = ap (λ (b : BuilderValue). b.states) c.self.view_is in
-    let same = length-map c.self.inside.states.items node_of in
-    let skip : c.in_ok-skip.skip ≡ length c.self.inside.states.items + 1 = search rules in
     let count : c.in_ok-union.union ≡ length c.args.self.now.states = (made g c).first in
-    let items : length c.args.self.now.states ≡ length c.self.inside.states.items = sym (ap length states) ∙ same in
-    let after : c.in_ok-skip.skip ≡ suc (length c.args.self.now.states) = omega (arith, skip, items) in
-    let none : c.first_to.result ≡ None = search rules in
+    let after : c.in_ok-skip.skip ≡ suc (length c.args.self.now.states)
+    = omega (arith, c.in_ok-skip.ensures.ok.1, c.in_ok-union.ensures.ok.1, count) in
+    let none : c.first_to.result ≡ None = by_option c.first_to.result (λ h. h)
+    (λ i h. absurd (c.in_default.not-Some i h)) in
     none_ahead node_of c.self.inside.states.items c.as_slice.result.now c.args.self.now c.in_ok-union.union
     c.in_ok-skip.skip c.first_to.result states count after c.as_slice.ensures.value c.first_to.ensures none
 
@@ -84,14 +137,15 @@ returns-clause-apart g c = IfOk-weaker c.from_parts.result
 
 pub returns-clause-separate : goal.returns-clause-separate
 returns-clause-separate g c =
-    let below : c.args.start_anchored < c.in_ok-union.union = search rules in
     let count : c.in_ok-union.union ≡ length c.args.self.now.states = (made g c).first in
+    let below : c.args.start_anchored < length c.args.self.now.states
+    = omega (arith, c.as_usize.ensures.value, c.if-as_usize-count.false, c.in_ok-union.ensures.ok.1, count) in
     IfOk-weaker c.from_parts.result
     (λ (n : Nfa). n ≡ built (prefixed c.args.self.now c.args.start_anchored) c.args.start_anchored
     (length c.args.self.now.states))
     (λ (n : Nfa). HasPrefixApart n)
     (λ n e. subst (λ (m : Nfa). HasPrefixApart m) (sym e)
-    (has_prefix_apart c.args.self.now c.args.start_anchored (omega arith) (apart g c)))
+    (has_prefix_apart c.args.self.now c.args.start_anchored below (apart g c)))
     (returns-clause-ok g c)
 
 pub returns-clause-prefix : goal.returns-clause-prefix

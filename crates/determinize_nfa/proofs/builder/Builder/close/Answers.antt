@@ -1,9 +1,61 @@
-use Rattle.std.proofs.Common.{◌≡◌, ◌∙◌, ap, ℕ}
+use Rattle.std.proofs.Common.{◌≡◌, ◌<◌, ◌∙◌, ap, arith, get_or, inl, inr, length, sym, ℕ}
 use Rattle.determinize_below.specs.Node.{node_of}
-use Rattle.determinize_below.specs.Semantics.{Union}
-use Rattle.determinize_nfa.specs.Builder.{BuilderValue, closed}
-use Rattle.determinize_nfa.proofs.building.Building.{set_is}
+use Rattle.determinize_below.specs.Semantics.{Fail, Union}
+use Rattle.determinize_below.specs.declared.nfa.BuildError.{BuildError}
+use Rattle.determinize_below.specs.declared.nfa.BuildError.TheVariants.{NotPatchable, OutOfMemory}
+use Rattle.determinize_nfa.specs.Builder.{BuilderValue, IsNotSet, closed, is_place}
+use Rattle.determinize_nfa.proofs.Exits.{if_err_and}
+use Rattle.determinize_nfa.proofs.building.Building.{count_is, index_within, node_is, same_node, set_is}
 use Rattle.determinize_nfa.proofs.builder.Builder.close.Goals as goal
+
+pub index-requires : goal.index-requires
+index-requires g c =
+    let within : c.as_usize-index.result < length c.self.inside.states.items
+    = index_within node_of c.self.inside.states.items c.self.inside.patterns c.self.inside.look_matcher
+    c.args.self.now c.self.view_is c.as_usize-index.result c.args.union c.as_usize-index.ensures.value c.requires in
+    omega (arith, within)
+
+pub index_mut-requires : goal.index_mut-requires
+index_mut-requires g c =
+    let within : c.as_usize-index.result < length c.self.inside.states.items
+    = index_within node_of c.self.inside.states.items c.self.inside.patterns c.self.inside.look_matcher
+    c.args.self.now c.self.view_is c.as_usize-index.result c.args.union c.as_usize-index.ensures.value c.requires in
+    omega (arith, within)
+
+pub set_alternates-requires : goal.set_alternates-requires
+set_alternates-requires g c =
+    let same = same_node node_of c.self.inside.states.items c.self.inside.patterns c.self.inside.look_matcher
+    c.args.self.now c.self.view_is c.as_usize-index.result c.args.union c.as_usize-index.ensures.value c.requires
+    c.index_mut.result.now c.index.result.now c.index_mut.ensures.value c.index.ensures in
+    ap is_place same ∙ sym c.is_empty_union.ensures ∙ c.if-not-is_empty_union.false
+
+pub returns-then-not-is_empty_union-clause-err : goal.returns-then-not-is_empty_union-clause-err
+returns-then-not-is_empty_union-clause-err g c =
+    let node = node_is node_of c.self.inside.states.items c.self.inside.patterns c.self.inside.look_matcher
+    c.args.self.now c.self.view_is c.as_usize-index.result c.args.union c.as_usize-index.ensures.value c.requires
+    c.index.result.now c.index.ensures in
+    inl (
+      ap is_place (sym node) ∙ sym c.is_empty_union.ensures ∙ c.if-not-is_empty_union.true,
+      ap NotPatchable c.as_usize-index.ensures.value,
+    )
+
+pub returns-in_err-alternates-clause-err : goal.returns-in_err-alternates-clause-err
+returns-in_err-alternates-clause-err g c = if_err_and c.from_residual.result
+    (λ (e : BuildError). e ≡ OutOfMemory)
+    (λ (e : BuildError). IsNotSet (is_place (get_or c.args.self.now.states c.args.union Fail)) c.args.union e)
+    (λ e h. inr h) c.from_residual.ensures.1
+
+pub returns-clause-place : goal.returns-clause-place
+returns-clause-place g c =
+    let node = node_is node_of c.self.inside.states.items c.self.inside.patterns c.self.inside.look_matcher
+    c.args.self.now c.self.view_is c.as_usize-index.result c.args.union c.as_usize-index.ensures.value c.requires
+    c.index.result.now c.index.ensures in
+    ap is_place (sym node) ∙ sym c.is_empty_union.ensures ∙ c.if-not-is_empty_union.false
+
+pub returns-clause-count : goal.returns-clause-count
+returns-clause-count g c =
+    count_is node_of c.self.inside.states.items c.self.inside.patterns c.self.inside.look_matcher
+    c.args.self.now c.self.view_is c.as_usize-index.result c.set_alternates.new.state
 
 pub returns-clause-closed : goal.returns-clause-closed
 returns-clause-closed g c =

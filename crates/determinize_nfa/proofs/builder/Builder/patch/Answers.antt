@@ -1,19 +1,61 @@
-use Rattle.std.proofs.Common.{◌≡◌, ◌<◌, ◌∙◌, ap, arith, length, map, ℕ}
-use Rattle.std.proofs.lemmas.List.{length-map}
-use Rattle.std.proofs.lemmas.Result.{on_err_weaker, on_ok_weaker}
+use Rattle.std.proofs.Common.{◌≡◌, ◌<◌, ◌∙◌, ap, arith, get_or, inl, inr, length, sym, ℕ}
+use Rattle.std.proofs.lemmas.Result.{IfErr-weaker, on_err_weaker, on_ok_weaker}
 use Rattle.determinize_below.specs.Node.{node_of}
-use Rattle.determinize_nfa.specs.Builder.{BuilderValue, patched, redirected}
-use Rattle.determinize_nfa.proofs.building.Building.{node_there, set_is, set_none}
+use Rattle.determinize_below.specs.Semantics.{Fail}
+use Rattle.determinize_below.specs.declared.nfa.BuildError.{BuildError}
+use Rattle.determinize_below.specs.declared.nfa.BuildError.TheVariants.{NotPatchable, OutOfMemory}
+use Rattle.determinize_nfa.specs.Builder.{BuilderValue, IsNotSet, is_patchable, patched, redirected}
+use Rattle.determinize_nfa.proofs.building.Building.{count_is, index_within, node_is, node_there, set_is, set_none}
 use Rattle.determinize_nfa.proofs.builder.Builder.patch.Goals as goal
+
+pub index-requires : goal.index-requires
+index-requires g c =
+    let within : c.as_usize-index.result < length c.self.inside.states.items
+    = index_within node_of c.self.inside.states.items c.self.inside.patterns c.self.inside.look_matcher
+    c.args.self.now c.self.view_is c.as_usize-index.result c.args.from c.as_usize-index.ensures.value c.requires in
+    omega (arith, within)
+
+pub index_mut-requires : goal.index_mut-requires
+index_mut-requires g c =
+    let within : c.as_usize-index.result < length c.self.inside.states.items
+    = index_within node_of c.self.inside.states.items c.self.inside.patterns c.self.inside.look_matcher
+    c.args.self.now c.self.view_is c.as_usize-index.result c.args.from c.as_usize-index.ensures.value c.requires in
+    omega (arith, within)
+
+pub returns-then-not-has_target-clause-err : goal.returns-then-not-has_target-clause-err
+returns-then-not-has_target-clause-err g c =
+    let node = node_is node_of c.self.inside.states.items c.self.inside.patterns c.self.inside.look_matcher
+    c.args.self.now c.self.view_is c.as_usize-index.result c.args.from c.as_usize-index.ensures.value c.requires
+    c.index.result.now c.index.ensures in
+    inl (
+      ap is_patchable (sym node) ∙ sym c.has_target.ensures ∙ c.if-not-has_target.true,
+      ap NotPatchable c.as_usize-index.ensures.value,
+    )
+
+pub returns-clause-patchable : goal.returns-clause-patchable
+returns-clause-patchable g c =
+    let node = node_is node_of c.self.inside.states.items c.self.inside.patterns c.self.inside.look_matcher
+    c.args.self.now c.self.view_is c.as_usize-index.result c.args.from c.as_usize-index.ensures.value c.requires
+    c.index.result.now c.index.ensures in
+    on_ok_weaker c.redirect.result
+    (λ n. ap is_patchable (sym node) ∙ sym c.has_target.ensures ∙ c.if-not-has_target.false)
+    c.redirect.ensures.redirected
+
+pub returns-clause-count : goal.returns-clause-count
+returns-clause-count g c =
+    count_is node_of c.self.inside.states.items c.self.inside.patterns c.self.inside.look_matcher
+    c.args.self.now c.self.view_is c.as_usize-index.result c.redirect.new.state
+
+pub returns-clause-err : goal.returns-clause-err
+returns-clause-err g c = IfErr-weaker c.redirect.result (λ (e : BuildError). e ≡ OutOfMemory)
+    (λ (e : BuildError). IsNotSet (is_patchable (get_or c.args.self.now.states c.args.from Fail)) c.args.from e)
+    (λ e h. inr h) c.redirect.ensures.err
 
 pub returns-clause-patched : goal.returns-clause-patched
 returns-clause-patched g c =
-    let count : length (map node_of c.self.inside.states.items) ≡ length c.args.self.now.states
-    = ap (λ (b : BuilderValue). length b.states) c.self.view_is in
-    let same = length-map c.self.inside.states.items node_of in
     let value : c.as_usize-index.result ≡ c.args.from = c.as_usize-index.ensures.value in
-    let within : c.as_usize-index.result < length c.self.inside.states.items
-    = omega (arith, c.requires, value, same, count) in
+    let within = index_within node_of c.self.inside.states.items c.self.inside.patterns c.self.inside.look_matcher
+    c.args.self.now c.self.view_is c.as_usize-index.result c.args.from value c.requires in
     let there = node_there node_of c.self.inside.states.items c.as_usize-index.result c.index_mut.result.now within
     c.index_mut.ensures.value in
     on_ok_weaker c.redirect.result

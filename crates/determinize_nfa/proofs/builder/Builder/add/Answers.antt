@@ -1,0 +1,36 @@
+use Rattle.std.proofs.Common.{◌≡◌, ◌<◌, ◌+◌, arith, inl, length}
+use Rattle.determinize_below.specs.Node.{node_of}
+use Rattle.determinize_below.specs.declared.nfa.BuildError.{BuildError}
+use Rattle.determinize_below.specs.declared.nfa.BuildError.TheVariants.{OutOfMemory, TooManyStates}
+use Rattle.determinize_nfa.specs.Reversal.{IsTooLarge}
+use Rattle.determinize_nfa.proofs.Exits.{if_err_and, too_many}
+use Rattle.determinize_nfa.proofs.building.Building.{length_is, pushed_is}
+use Rattle.determinize_nfa.proofs.builder.Builder.add.Goals as goal
+
+pub returns-clause-id : goal.returns-clause-id
+returns-clause-id g c =
+    let count : length c.self.inside.states.items ≡ length c.args.self.now.states
+    = length_is node_of c.self.inside.states.items c.self.inside.patterns c.self.inside.look_matcher
+    c.args.self.now c.self.view_is in
+    omega (arith, c.in_ok-id.ensures.ok.1, c.len.ensures, count)
+
+pub returns-clause-added : goal.returns-clause-added
+returns-clause-added g c =
+    pushed_is node_of c.self.inside.states.items c.self.inside.patterns c.self.inside.look_matcher
+    c.args.self.now c.self.view_is c.push.new.self.items c.args.state c.in_ok-push.ensures.items
+
+pub returns-in_err-id-clause-err : goal.returns-in_err-id-clause-err
+returns-in_err-id-clause-err g c =
+    let count : length c.self.inside.states.items ≡ length c.args.self.now.states
+    = length_is node_of c.self.inside.states.items c.self.inside.patterns c.self.inside.look_matcher
+    c.args.self.now c.self.view_is in
+    let below : c.len.result < length c.args.self.now.states + 1 = omega (arith, c.len.ensures, count) in
+    if_err_and c.from_residual.result (λ (e : BuildError). e ≡ TooManyStates)
+    (λ (e : BuildError). IsTooLarge (length c.args.self.now.states + 1) e)
+    (too_many c.len.result (length c.args.self.now.states + 1) below c.in_err-id.ensures.ok)
+    c.from_residual.ensures.1
+
+pub returns-in_err-push-clause-err : goal.returns-in_err-push-clause-err
+returns-in_err-push-clause-err g c = if_err_and c.from_residual-in_err-push.result (λ (e : BuildError). e ≡ OutOfMemory)
+    (λ (e : BuildError). IsTooLarge (length c.args.self.now.states + 1) e)
+    (λ e h. inl h) c.from_residual-in_err-push.ensures.1

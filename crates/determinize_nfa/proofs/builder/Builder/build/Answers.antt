@@ -1,0 +1,55 @@
+use Rattle.std.proofs.Common.{Some, ◌≡◌, ◌⊎◌, ◌∙◌, ap, inr, map, sym}
+use Rattle.std.proofs.lemmas.Result.{IfOk-weaker, on_ok_weaker}
+use Rattle.determinize_below.specs.Nfa.{failure, looks_of}
+use Rattle.determinize_below.specs.Node.{node_of}
+use Rattle.determinize_below.specs.Semantics.{Nfa, Node}
+use Rattle.determinize_below.specs.declared.nfa.BuildError.{BuildError}
+use Rattle.determinize_below.specs.declared.nfa.BuildError.TheVariants.{OutOfMemory}
+use Rattle.determinize_nfa.specs.Builder.{BuilderValue, built}
+use Rattle.determinize_nfa.proofs.Exits.{if_err_and}
+use Rattle.determinize_nfa.proofs.building.Building.{built_is}
+use Rattle.determinize_nfa.proofs.builder.Builder.build.Goals as goal
+use Rattle.std.proofs.Common.{List, false, refl}
+
+all_states : (g : _) (c : goal.After-from_parts g) → map node_of c.in_ok-states.states.items ≡ c.args.self.now.states
+all_states g c = c.in_ok-states.ensures ∙ ap (map node_of) c.as_slice.ensures.value
+    ∙ ap (λ (b : BuilderValue). b.states) c.self.view_is
+
+pub returns-clause-ok : goal.returns-clause-ok
+returns-clause-ok g c =
+    let cases = c.in_ok-matcher.ensures.cases in
+    let terminator : c.in_ok-matcher.matcher ≡ c.args.self.now.terminator
+    = sym cases.3 ∙ cases.4 ∙ cases.2 ∙ ap (λ (b : BuilderValue). b.terminator) c.self.view_is in
+    IfOk-weaker c.from_parts.result
+    (λ (n : Nfa). n ≡ record {
+      states = map node_of c.in_ok-states.states.items;
+      start_anchored = c.args.start_anchored;
+      start_unanchored = c.args.start_unanchored;
+      reverse = false;
+      terminator = c.in_ok-matcher.matcher;
+      look_set_any = looks_of (map node_of c.in_ok-states.states.items);
+    })
+    (λ (n : Nfa). n ≡ built c.args.self.now c.args.start_anchored c.args.start_unanchored)
+    (built_is c.args.self.now (map node_of c.in_ok-states.states.items) c.in_ok-matcher.matcher c.args.start_anchored
+    c.args.start_unanchored c.args.start_unanchored (all_states g c) terminator refl)
+    c.from_parts.ensures.ok
+
+pub returns-clause-accepted : goal.returns-clause-accepted
+returns-clause-accepted g c = on_ok_weaker c.from_parts.result
+    (λ h. ap (λ (ns : List Node). failure ns c.args.start_anchored c.args.start_unanchored) (sym (all_states g c)) ∙ h)
+    c.from_parts.ensures.accepted
+
+pub returns-clause-err : goal.returns-clause-err
+returns-clause-err g c =
+    rw (all_states g c) at c.from_parts.ensures.err
+
+pub returns-in_err-states-clause-err : goal.returns-in_err-states-clause-err
+returns-in_err-states-clause-err g c = if_err_and c.from_residual.result (λ (e : BuildError). e ≡ OutOfMemory)
+    (λ (e : BuildError). (failure c.args.self.now.states c.args.start_anchored c.args.start_unanchored ≡ Some e)
+    ⊎ (e ≡ OutOfMemory)) (λ e h. inr h) c.from_residual.ensures.1
+
+pub returns-in_err-matcher-clause-err : goal.returns-in_err-matcher-clause-err
+returns-in_err-matcher-clause-err g c = if_err_and c.from_residual-in_err-matcher.result
+    (λ (e : BuildError). e ≡ OutOfMemory)
+    (λ (e : BuildError). (failure c.args.self.now.states c.args.start_anchored c.args.start_unanchored ≡ Some e)
+    ⊎ (e ≡ OutOfMemory)) (λ e h. inr h) c.from_residual-in_err-matcher.ensures.1
