@@ -76,7 +76,6 @@ impl<'n, N: Allocator, A: Allocator + Copy> Lazy<'n, N, A> {
     ///
     /// Returns `AllocError` also if an id in the state of the walker is not that of a state of the
     /// NFA. After an error the walker is unchanged, and may take the same step again.
-    #[tactic(auto, using(crate::proofs::walking::CachedWalks::walked_steps))]
     pub fn next(&mut self, walker: &mut Walker<A>, unit: Option<u8>) -> Result<(), AllocError>
         ensures value { OnOk result
             (walker.new ≡ step self.old.nfa self.old.kind walker.old unit) }

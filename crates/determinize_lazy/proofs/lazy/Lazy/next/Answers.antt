@@ -1,10 +1,23 @@
-use Rattle.determinize_lazy.proofs.Common.{[], ap, cursor_value, LazyValue, ◌∙◌, ◌∷◌, ◌≡◌}
+use Rattle.determinize_lazy.proofs.Common.{[], ap, cursor_value, LazyValue, refl, ◌∙◌, ◌∷◌, ◌≡◌}
 use Rattle.determinize_core.specs.Step.{step}
 use Rattle.determinize_lazy.proofs.steps.Rule.{of_err}
-use Rattle.determinize_lazy.proofs.walking.CachedWalks.{cut_off-whole, walked-next}
+use Rattle.determinize_lazy.proofs.walking.CachedWalks.{cut_off-first, cut_off-none, cut_off-whole, walked-next}
 use Rattle.determinize_lazy.proofs.lazy.Lazy.next.Given.{Over}
 use Rattle.determinize_lazy.proofs.lazy.Lazy.next.Goals.{In_ok-walker-inside}
 use Rattle.determinize_lazy.proofs.lazy.Lazy.next.Goals as goal
+
+pub returns-in_err-cursor-clause-failed : goal.returns-in_err-cursor-clause-failed
+returns-in_err-cursor-clause-failed g c = of_err _ (cut_off-none {us = c.args.unit ∷ []} refl)
+
+pub returns-in_err-next-clause-failed : goal.returns-in_err-next-clause-failed
+returns-in_err-next-clause-failed g c =
+    of_err _ (cut_off-first (rw (c.in_ok-cursor.ensures.at.value ∙ c.walker.view_is) at c.in_err-next.ensures.failed))
+
+pub returns-in_err-next-clause-resolve : goal.returns-in_err-next-clause-resolve
+returns-in_err-next-clause-resolve g c r = rw c.in_err-next.ensures.grows.nfa r
+
+pub returns-in_err-walker-inside-clause-resolve : goal.returns-in_err-walker-inside-clause-resolve
+returns-in_err-walker-inside-clause-resolve g c r = rw c.in_ok-next.ensures.grows.nfa r
 
 pub returns-in_err-walker-inside-clause-failed : goal.returns-in_err-walker-inside-clause-failed
 returns-in_err-walker-inside-clause-failed g c = of_err _ (cut_off-whole {us = c.args.unit ∷ []}
