@@ -5,7 +5,7 @@ use std::alloc::{AllocError, AllocFailed, Global};
 use std::{fmt, io};
 
 /// An error from the text of a job.
-#[derive(Clone, Copy, Debug)]
+#[derive(Clone, Copy)]
 pub enum ReadError<'a> {
     /// There is no verb of this name.
     UnknownVerb(&'a str),
@@ -53,6 +53,12 @@ impl fmt::Display for ReadError<'_> {
             ReadError::UnwantedStates => f.write_str("the verb takes no states"),
             ReadError::Text(error) => write!(f, "{error}"),
         }
+    }
+}
+
+impl fmt::Debug for ReadError<'_> {
+    fn fmt<W: fmt::Write>(&self, f: &mut fmt::Formatter<W>) -> fmt::Result {
+        write!(f, "{self}")
     }
 }
 

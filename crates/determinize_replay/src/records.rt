@@ -10,36 +10,57 @@ use example_walks::fields::Fields;
 use example_walks::values::state_ids;
 use std::alloc::{AllocError, Allocator, Global};
 
-/// Returns a builder with the flags, look-have and patterns of the job's record.
-fn matches_builder(alloc: Global, fields: &Fields<'_>) -> Result<StateBuilderMatches, TextError> {
-    let ids = values::pattern_ids(alloc, fields.value_or_none("pids"))?;
-    let mut builder = with_patterns(alloc, ids.as_slice())?;
-    set_flags(&mut builder, fields)?;
-    Ok(builder)
+/// The flags and assertions of a record.
+#[derive(Clone, Copy)]
+struct Marks {
+    is_from_word: bool,
+    is_half_crlf: bool,
+    have: LookSet,
+    need: LookSet,
 }
 
-/// Sets the flags and look-have of the job's record.
-fn set_flags(builder: &mut StateBuilderMatches, fields: &Fields<'_>) -> Result<(), TextError> {
-    if values::flag(fields.value_or_none("fw"))? {
-        builder.set_is_from_word();
+impl Marks {
+    /// Returns those of the job's record.
+    fn of(fields: &Fields<'_>) -> Result<Marks, TextError> {
+        Ok(Marks {
+            is_from_word: values::flag(fields.value_or_none("fw"))?,
+            is_half_crlf: values::flag(fields.value_or_none("half"))?,
+            have: values::look_set(fields.value_or_none("have"))?,
+            need: values::look_set(fields.value_or_none("need"))?,
+        })
     }
-    if values::flag(fields.value_or_none("half"))? {
-        builder.set_is_half_crlf();
+
+    /// Returns a builder of NFA states, which has these and the patterns of a builder.
+    fn set(self, mut builder: StateBuilderMatches) -> StateBuilderNFA {
+        if self.is_from_word {
+            builder.set_is_from_word();
+        }
+        if self.is_half_crlf {
+            builder.set_is_half_crlf();
+        }
+        builder.set_look_have(|_| self.have);
+        let mut builder = builder.into_nfa();
+        builder.set_look_need(|_| self.need);
+        builder
     }
-    let have = values::look_set(fields.value_or_none("have"))?;
-    builder.set_look_have(|_| have);
-    Ok(())
 }
 
 /// Returns a builder with the whole record of the job.
 pub fn builder(alloc: Global, fields: &Fields<'_>) -> Result<StateBuilderNFA, TextError> {
-    let mut builder = matches_builder(alloc, fields)?.into_nfa();
-    let need = values::look_set(fields.value_or_none("need"))?;
-    builder.set_look_need(|_| need);
-    for id in state_ids(alloc, fields.value_or_none("ids"))?.iter() {
+    let marks = Marks::of(fields)?;
+    let patterns = values::pattern_ids(alloc, fields.value_or_none("pids"))?;
+    let mut builder = marks.set(with_patterns(alloc, patterns.as_slice())?);
+    let ids = state_ids(alloc, fields.value_or_none("ids"))?;
+    add_states(&mut builder, ids.as_slice())?;
+    Ok(builder)
+}
+
+/// Adds these NFA states to a builder.
+fn add_states(builder: &mut StateBuilderNFA, ids: &[StateID]) -> Result<(), AllocError> {
+    for id in ids {
         builder.add_nfa_state_id(*id)?;
     }
-    Ok(builder)
+    Ok(())
 }
 
 /// Returns a builder with these patterns, or an error if one of them is repeated.

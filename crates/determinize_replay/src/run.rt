@@ -76,11 +76,21 @@ fn replay_single<I: BufRead + Drop, W: Write>(
 ) -> Result<Tally, ReplayError> {
     let automata = Automata::new(alloc);
     let mut caches = automata.caches(Operation::Walk, 0)?;
+    replay_input(alloc, &mut caches, input, out)
+}
+
+/// Replays each line of the input through caches, as it is read.
+fn replay_input<I: BufRead + Drop, W: Write>(
+    alloc: Global,
+    caches: &mut Caches<'_>,
+    input: I,
+    out: &mut W,
+) -> Result<Tally, ReplayError> {
     let mut replay = Replay::new(alloc);
     for line in input.lines(alloc) {
-        take_read_line(&mut replay, &mut caches, line, out)?;
+        take_read_line(&mut replay, caches, line, out)?;
     }
-    finish(&mut replay, &mut caches, out)
+    finish(&mut replay, caches, out)
 }
 
 /// Takes one more line, or returns the error if it could not be read.

@@ -127,8 +127,13 @@ fn set(alloc: Global, fields: &Fields<'_>, key: &str, nfa: &NFA) -> Result<Spars
 }
 
 /// Runs `closure`: writes the set after the call.
-pub fn closure(alloc: Global, fields: &Fields<'_>, text: &mut String) -> Result<(), TextError> {
-    let set = closed_set(alloc, fields, &fields.nfa(alloc)?)?;
+pub fn closure(
+    alloc: Global,
+    fields: &Fields<'_>,
+    nfa: &NFA,
+    text: &mut String,
+) -> Result<(), TextError> {
+    let set = closed_set(alloc, fields, nfa)?;
     write_set(alloc, text, &set)?;
     Ok(())
 }
@@ -165,16 +170,11 @@ fn start_kind(text: &str) -> Result<Start, TextError> {
 }
 
 /// Runs `lookbehind`: writes the bytes of an empty record with the look-behind of its start.
-pub fn lookbehind(alloc: Global, fields: &Fields<'_>, text: &mut String) -> Result<(), TextError> {
-    write_lookbehind(alloc, text, fields, &fields.nfa(alloc)?)
-}
-
-/// Writes the bytes of an empty record with the look-behind of its start under an NFA.
-fn write_lookbehind(
+pub fn lookbehind(
     alloc: Global,
-    text: &mut String,
     fields: &Fields<'_>,
     nfa: &NFA,
+    text: &mut String,
 ) -> Result<(), TextError> {
     let kind = start_kind(fields.value_or_none("kind"))?;
     let mut builder = StateBuilderEmpty::new(alloc).into_matches()?;
@@ -230,20 +230,17 @@ fn filled_sets(
     })
 }
 
-/// Writes the bytes of the next state after the job's record on a unit.
-fn write_next(
+/// Returns the next state after the job's record on a unit, as a builder.
+fn next_of_record(
     alloc: Global,
-    text: &mut String,
     fields: &Fields<'_>,
     nfa: &NFA,
     kind: MatchKind,
     unit: Unit,
-) -> Result<(), TextError> {
+) -> Result<StateBuilderNFA, TextError> {
     let state = resolved_state(alloc, fields, nfa)?;
     let mut sparses = sparse_sets(alloc, fields, nfa)?;
-    let next = next_after(alloc, nfa, kind, &mut sparses, &state, unit)?;
-    values::write_bytes(text, next.as_bytes())?;
-    Ok(())
+    Ok(next_after(alloc, nfa, kind, &mut sparses, &state, unit)?)
 }
 
 /// Returns the next state after a state on a unit, as a builder.
@@ -265,15 +262,27 @@ fn next_after(
 }
 
 /// Runs `next`: writes the bytes of the next state after the job's record.
-pub fn next_state(alloc: Global, fields: &Fields<'_>, text: &mut String) -> Result<(), TextError> {
+pub fn next_state(
+    alloc: Global,
+    fields: &Fields<'_>,
+    nfa: &NFA,
+    text: &mut String,
+) -> Result<(), TextError> {
     let kind = fields.match_kind()?;
     let unit = unit(fields.value_or_none("unit"))?;
-    write_next(alloc, text, fields, &fields.nfa(alloc)?, kind, unit)
+    let next = next_of_record(alloc, fields, nfa, kind, unit)?;
+    values::write_bytes(text, next.as_bytes())?;
+    Ok(())
 }
 
 /// Runs `addstates`: writes the bytes of the job's record with the states of a set added.
-pub fn addstates(alloc: Global, fields: &Fields<'_>, text: &mut String) -> Result<(), TextError> {
-    let builder = added_states(alloc, fields, &fields.nfa(alloc)?)?;
+pub fn addstates(
+    alloc: Global,
+    fields: &Fields<'_>,
+    nfa: &NFA,
+    text: &mut String,
+) -> Result<(), TextError> {
+    let builder = added_states(alloc, fields, nfa)?;
     values::write_bytes(text, builder.as_bytes())?;
     Ok(())
 }

@@ -1,9 +1,9 @@
 //! The verbs without an NFA.
 
 use crate::{records, values};
-use determinize_below::{Input, LookMatcher, NFA, PatternID, StateID, nfa};
+use determinize_below::{BuildError, Input, LookMatcher, NFA, PatternID, StateID, nfa};
 use determinize_core::start::{Config, Start, StartByteMap};
-use determinize_core::state::State;
+use determinize_core::state::{State, StateBuilderNFA};
 use example_walks::error::{Part, TextError};
 use example_walks::fields::Fields;
 use example_walks::values::{bytes, number, optional_byte};
@@ -64,11 +64,15 @@ pub fn bytemap(fields: &Fields<'_>, text: &mut String) -> Result<(), TextError> 
     let asked = optional_byte(fields.value_or_none("byte"))?;
     for byte in 0..=255 {
         if asked.unwrap_or(byte) == byte {
-            let kind = map.get(byte);
-            writeln!(text, "{byte:02x} {kind:?}")?;
+            write_kind(text, byte, map.get(byte))?;
         }
     }
     Ok(())
+}
+
+/// Writes a byte and its start kind.
+fn write_kind(text: &mut String, byte: u8, kind: Start) -> Result<(), AllocError> {
+    writeln!(text, "{byte:02x} {kind:?}")
 }
 
 /// Runs `fromusize`: writes the start kind with a number.
@@ -89,11 +93,19 @@ pub fn dead(alloc: Global, text: &mut String) -> Result<(), TextError> {
 
 /// Runs `build`: writes the bytes of the job's record, and the results of its readers.
 pub fn build(alloc: Global, fields: &Fields<'_>, text: &mut String) -> Result<(), TextError> {
-    let builder = records::builder(alloc, fields)?;
+    write_built(alloc, text, &records::builder(alloc, fields)?)?;
+    Ok(())
+}
+
+/// Writes the bytes of a record, and the results of the readers of its state.
+fn write_built(
+    alloc: Global,
+    text: &mut String,
+    builder: &StateBuilderNFA,
+) -> Result<(), AllocError> {
     values::write_bytes(text, builder.as_bytes())?;
     let state = builder.to_state()?;
-    records::write_readers(alloc, text, &state)?;
-    Ok(())
+    records::write_readers(alloc, text, &state)
 }
 
 /// Runs `size`: writes the number of states of an NFA of `states` states, of which the first
@@ -101,12 +113,15 @@ pub fn build(alloc: Global, fields: &Fields<'_>, text: &mut String) -> Result<()
 pub fn size(alloc: Global, fields: &Fields<'_>, text: &mut String) -> Result<(), TextError> {
     let count = number(fields.value_or_none("states"))?;
     let matches = number(fields.value_or_none("matches"))?;
-    let states = states(alloc, count, matches)?;
-    let matcher = LookMatcher::new();
-    let nfa = NFA::from_parts(alloc, states, StateID::ZERO, StateID::ZERO, false, matcher)?;
-    let count = nfa.len();
+    let count = nfa_of(alloc, states(alloc, count, matches)?)?.len();
     writeln!(text, "states {count}")?;
     Ok(())
+}
+
+/// Returns the NFA of these states, which starts in the first one.
+fn nfa_of(alloc: Global, states: Vec<nfa::State>) -> Result<NFA, BuildError> {
+    let matcher = LookMatcher::new();
+    NFA::from_parts(alloc, states, StateID::ZERO, StateID::ZERO, false, matcher)
 }
 
 /// Returns `count` states, of which the first `matches` are `Match` states.
