@@ -1,5 +1,5 @@
 -- The search of a closure, one iteration after another.
--- Main statements: IsSoFar, so_far-start, so_far-turn, so_far-stopped, leaf_set.
+-- Main statements: IsSoFar, so_far-start, so_far-turn, so_far-stopped, edges_at, leaf_set.
 -- Used by: `explore`, `epsilon_closure`, `record_and_follow`, ReopenedClosure.
 -- Idea: the visited states followed by the search of the pending ones is one list throughout.
 use Rattle.determinize_core.proofs.Common.{[], accepted_sound, All-from_member, All-rest, append-nil, append_assoc}
@@ -9,7 +9,7 @@ use Rattle.determinize_core.proofs.Common.{Members, nat_eq, nat_tests, Nfa, Node
 use Rattle.determinize_core.proofs.Common.{slice_get, Some, state_at, suc, sym, tries_left, ℕ, ◌++◌, ◌+◌, ◌<◌, ◌∙◌, ◌∷◌}
 use Rattle.determinize_core.proofs.Common.{◌≡◌, ◌≤◌}
 use Rattle.std.proofs.Common.{All, IsTrue}
-use Rattle.std.proofs.lemmas.List.{append_cancel_left, reverse-append, reverse-reverse}
+use Rattle.std.proofs.lemmas.List.{append_cancel_left, reverse-reverse}
 use Rattle.std.proofs.lemmas.List.Elements.{All-append}
 use Rattle.std.proofs.lemmas.List.Sums.{fold-append}
 use Rattle.determinize_below.specs.Node.{is_epsilon}
@@ -121,9 +121,6 @@ pub leaf_set : (nfa : Nfa) → IsSound nfa → (look : Assertion → Bool) (held
     → (if new then held ++ root ∷ [] else held) ≡ held ++ reach_past nfa look held (root ∷ [])
 leaf_set nfa sound look held root new leaf h =
     grind (arith, same-turn nfa sound look held root {rest = []} refl refl refl, reach_past-none, append-nil)
-
--- for `record_and_follow`
-pub ruleset following = (get_or_from_slice_get, reverse-append)
 
 -- for `epsilon_closure`
 pub ruleset leaf_search = (leaf_at, leaf_set, accepted_sound)

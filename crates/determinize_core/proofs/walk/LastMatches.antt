@@ -1,7 +1,8 @@
 -- The last match of the values of a walk, found one by one, and over one unit more.
--- Main statements: last_ended_more, last_match-push, each_last_unit_unrolls.
+-- Main statements: last_ended_found, last_ended_kept, last_match-push, each_last_unit_unrolls.
 -- Used by: `last_match`, `last_match_law`, and searches.
 -- Idea: one more value replaces the last match if it lists a pattern.
+use Rattle.determinize_core.proofs.Common.{false, HalfMatch, is_nonempty, slice_index, Some, true}
 use Rattle.determinize_core.proofs.Common.{[], add-one, ap, arith, drop, ended_at, future, get_or, last_ended}
 use Rattle.determinize_core.proofs.Common.{last_match, length, List, MatchKind, Nfa, Option, option_or, refl, step, suc}
 use Rattle.determinize_core.proofs.Common.{Value, value_after, ℕ, ◌++◌, ◌+◌, ◌<◌, ◌∷◌, ◌≡◌}
@@ -20,13 +21,33 @@ last_ended-push n (w ∷ vs) v =
     let z : suc n + length vs ≡ n + suc (length vs) = omega arith in
     rw (last_ended-push (suc n) vs v, z, option_or-assoc)
 
+-- the first of some patterns is a match, and of none there is none
+listed : (i : ℕ) (ps : List ℕ) (found : Option HalfMatch) (pattern : ℕ) → is_nonempty ps ≡ true
+    → pattern ≡ slice_index ps 0
+    → Some (record { pattern = pattern; offset = i }) ≡ option_or (ended_at i ps) found
+listed i ps found pattern lists is = grind arith
+
+unlisted : (i : ℕ) (ps : List ℕ) (found : Option HalfMatch) → is_nonempty ps ≡ false
+    → found ≡ option_or (ended_at i ps) found
+unlisted i ps found none = grind arith
+
 -- the last match of what is left of a list, from its first value on
-pub last_ended_more : (vs : List Value) (i : ℕ) (d : Value) → i < length vs
+last_ended_more : (vs : List Value) (i : ℕ) (d : Value) → i < length vs
     → last_ended i (drop i vs) ≡ option_or (last_ended (i + 1) (drop (i + 1) vs)) (ended_at i (get_or vs i d).patterns)
 last_ended_more vs i d l = rw (drop_more vs i d l, add-one)
 
--- for the loop of `last_match`
-pub ruleset last_values = (last_ended_more, option_or-assoc, option_or-None)
+-- the last match so far, after one more value that lists a pattern, or none
+module _ (vs : List Value) (i : ℕ) (v : Value) (found whole : Option HalfMatch) (within : i < length vs)
+    (at : v ≡ get_or vs i v) (so_far : option_or (last_ended i (drop i vs)) found ≡ whole) where
+  pub last_ended_found : (pattern : ℕ) → is_nonempty v.patterns ≡ true → pattern ≡ slice_index v.patterns 0
+      → option_or (last_ended (i + 1) (drop (i + 1) vs)) (Some (record { pattern = pattern; offset = i })) ≡ whole
+  last_ended_found pattern lists is = rw (listed i v.patterns found pattern lists is, ← option_or-assoc)
+      (rw (last_ended_more vs i v within, ← at) at so_far)
+
+  pub last_ended_kept : is_nonempty v.patterns ≡ false
+      → option_or (last_ended (i + 1) (drop (i + 1) vs)) found ≡ whole
+  last_ended_kept none = rw (unlisted i v.patterns found none, ← option_or-assoc)
+      (rw (last_ended_more vs i v within, ← at) at so_far)
 
 -- the last match, one position later
 last_ended-later : (n : ℕ) (vs : List Value) → last_ended (suc n) vs ≡ option_map one_later (last_ended n vs)

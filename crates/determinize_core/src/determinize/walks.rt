@@ -101,14 +101,7 @@ pub fn walk_between<N: Allocator, A: Allocator + Copy>(
         (between look_behind text.now look_ahead) states.items) }
 {
     let mut stepper = Stepper::new(alloc, nfa, match_kind);
-    states_over(
-        alloc,
-        &mut stepper,
-        start,
-        look_behind,
-        text,
-        look_ahead,
-    )
+    states_over(alloc, &mut stepper, start, look_behind, text, look_ahead)
 }
 
 /// Returns the states over a text, as [`walk_between`] does.
@@ -158,7 +151,7 @@ fn keep_and_step<N: Allocator, A: Allocator + Copy>(
 ///
 /// The start state, which lists no pattern, is skipped. The offset is the number of bytes before
 /// the end of the match. Under `MatchKind::LeftmostFirst` this is the most preferred match.
-#[tactic(auto, using(crate::proofs::walk::LastMatches::last_values))]
+
 pub fn last_match<A: Allocator>(states: &[State<A>]) -> Option<HalfMatch>
     ensures { result ≡ matches.last_match states.now }
 {

@@ -42,7 +42,6 @@ fn collect_states<A: Allocator>(
 /// Reads the working list: adds its patterns to the builder and pushes its targets, under
 /// `MatchKind::LeftmostFirst` up to the first match.
 #[inline(always)]
-#[tactic(auto, using(crate::proofs::step::ReopenedClosure::reopened_tries))]
 pub(crate) fn read_working_list<N: Allocator, A: Allocator, C: Counter>(
     nfa: &NFA<N>,
     match_kind: MatchKind,

@@ -1,7 +1,7 @@
 use Rattle.determinize_core.proofs.Common.{All-from_member, length, same_decides, ◌<◌}
 use Rattle.ordered_reach.proofs.graph.FiniteGraphs.{fresh_below}
 use Rattle.determinize_core.proofs.step.StepParts.{member-below}
-use Rattle.determinize_core.proofs.step.ReopenedClosure.{reopened_list}
+use Rattle.determinize_core.proofs.step.ReopenedClosure.{reopened_list, reopened_tries}
 use Rattle.determinize_core.proofs.determinize.working_list.read_working_list.Goals as goal
 
 pub explore-requires-clause-resolve : goal.explore-requires-clause-resolve
@@ -17,3 +17,23 @@ returns-clause-ok g c =
       ← c.in_ok-explore.ensures.ids,
       ← c.iter.ensures.ids,
     ) c.in_ok-read_states.ensures.ok
+
+pub returns-in_err-explore-clause-bounded : goal.returns-in_err-explore-clause-bounded
+returns-in_err-explore-clause-bounded g c = λ h.
+    rw (reopened_tries c.in-Some.ensures.some c.requires.second_empty c.in_ok-collect_states.ensures.ok)
+    at (c.explore.ensures.bounded h)
+
+pub returns-in_err-read_states-clause-bounded : goal.returns-in_err-read_states-clause-bounded
+returns-in_err-read_states-clause-bounded g c = λ h.
+    rw (reopened_tries c.in-Some.ensures.some c.requires.second_empty c.in_ok-collect_states.ensures.ok)
+    at (c.explore.ensures.bounded h)
+
+pub returns-clause-counted : goal.returns-clause-counted
+returns-clause-counted g c = λ h.
+    rw (reopened_tries c.in-Some.ensures.some c.requires.second_empty c.in_ok-collect_states.ensures.ok)
+    at (c.in_ok-explore.ensures.counted h)
+
+pub returns-clause-bounded : goal.returns-clause-bounded
+returns-clause-bounded g c = λ h.
+    rw (reopened_tries c.in-Some.ensures.some c.requires.second_empty c.in_ok-collect_states.ensures.ok)
+    at (c.explore.ensures.bounded h)
