@@ -55,6 +55,11 @@ half_crlf_set bytes h =
     changed (λ b. with_bit b HALF_CRLF) (record (value_of bytes) { half_crlf = true }) h
     (assumption h.valid) (grind arith)
 
+-- after a change that keeps the NFA states the bytes are those of a state that is being built
+pub still_building : {bytes after changed : List ℕ} {last : ℕ} {v : Value} → IsBuilding bytes last → after ≡ changed
+    → Encodes changed v → v.states ≡ (value_of bytes).states → IsBuilding after last
+still_building h e to same = rw e (record { is = to.0; last = rw (to.1, same) h.last })
+
 spell-pushed : (v : Value) (id : ℕ) → spell (with_state v id) ≡ spell v ++ varint (zigzag (last_id 0 v.states) id)
 unfolding spell
 spell-pushed v id = simp (deltas-append 0 v.states (id ∷ []), append_assoc, append-nil)
