@@ -63,9 +63,10 @@ impl<A: Allocator + Copy> Turned<A> {
     }
 
     /// Adds a transition of the reversed NFA without input.
-    fn add(&mut self, state: StateID, next: StateID) -> Result<(), AllocError>
+    fn add(&mut self, state: StateID, next: StateID) -> Result<(), BuildError>
         requires { state < length self.old.into }
-        ensures { OnOk result (self.new ≡ turning.added self.old state next) }
+        ensures turned { OnOk result (self.new ≡ turning.added self.old state next) }
+        ensures err { IfErr result (λ e. e ≡ BuildError.OutOfMemory) }
     {
         self.into[state.as_usize()].push(next)?;
         Ok(())
@@ -82,8 +83,7 @@ impl<A: Allocator + Copy> Turned<A> {
     {
         let id = StateID::new(self.into.len() + 2 + self.rest.len())?;
         self.rest.push(state)?;
-        self.add(from, id)?;
-        Ok(())
+        self.add(from, id)
     }
 
     /// Adds the transition over a range of bytes, reversed.
@@ -143,9 +143,11 @@ impl<A: Allocator + Copy> Turned<A> {
     }
 
     /// Adds the transitions of a union, reversed.
-    fn add_each(&mut self, state: StateID, alternates: &[StateID]) -> Result<(), AllocError>
+    fn add_each(&mut self, state: StateID, alternates: &[StateID]) -> Result<(), BuildError>
         requires { All (λ id. id < length self.old.into) alternates.now }
-        ensures { OnOk result (self.new ≡ turning.with_frees self.old state alternates.now) }
+        ensures turned { OnOk result
+            (self.new ≡ turning.with_frees self.old state alternates.now) }
+        ensures err { IfErr result (λ e. e ≡ BuildError.OutOfMemory) }
     {
         for next in alternates {
             self.add(*next, state)?;
@@ -164,23 +166,22 @@ impl<A: Allocator + Copy> Turned<A> {
             IsTooLarge (turning.total self.old + reads_in (node_of state.now)) e) }
     {
         match state {
-            State::ByteRange { trans } => self.add_range(id, *trans)?,
-            State::Sparse(sparse) => self.add_ranges(id, sparse.transitions.as_slice())?,
-            State::Dense(dense) => self.add_table(id, dense.transitions.as_slice())?,
+            State::ByteRange { trans } => self.add_range(id, *trans),
+            State::Sparse(sparse) => self.add_ranges(id, sparse.transitions.as_slice()),
+            State::Dense(dense) => self.add_table(id, dense.transitions.as_slice()),
             State::Look { look, next } => {
                 let (look, from) = (look.reversed(), *next);
-                self.add_state(from, State::Look { look, next: id })?
+                self.add_state(from, State::Look { look, next: id })
             }
-            State::Union { alternates } => self.add_each(id, alternates.as_slice())?,
+            State::Union { alternates } => self.add_each(id, alternates.as_slice()),
             State::BinaryUnion { alt1, alt2 } => {
                 self.add(*alt1, id)?;
-                self.add(*alt2, id)?
+                self.add(*alt2, id)
             }
-            State::Capture { next } => self.add(*next, id)?,
-            State::Fail => {}
-            State::Match { .. } => self.ends.push(id)?,
+            State::Capture { next } => self.add(*next, id),
+            State::Fail => Ok(()),
+            State::Match { .. } => Ok(self.ends.push(id)?),
         }
-        Ok(())
     }
 
     /// Returns the states of the reversed NFA: those of the NFA by their ids, the match state, the

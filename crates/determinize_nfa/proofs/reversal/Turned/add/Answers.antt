@@ -5,8 +5,8 @@ use Rattle.determinize_nfa.specs.Private.Turning.{Turned, added}
 use Rattle.determinize_nfa.proofs.reversing.Steps.{added_is}
 use Rattle.determinize_nfa.proofs.reversal.Turned.add.Goals as goal
 
-pub returns : goal.returns
-returns g c =
+pub returns-clause-turned : goal.returns-clause-turned
+returns-clause-turned g c =
     let count : length (map (λ v. v.items) c.self.inside.into.items) ≡ length c.args.self.now.into
     = ap (λ (t : Turned). length t.into) c.self.view_is in
     let same = length-map c.self.inside.into.items (λ v. v.items) in

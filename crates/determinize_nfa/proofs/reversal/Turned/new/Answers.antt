@@ -1,0 +1,18 @@
+use Rattle.std.proofs.Common.{◌≡◌, ◌∷◌, [], ap, arith}
+use Rattle.std.proofs.lemmas.List.{map-append, replicate-append-replicate}
+use Rattle.determinize_nfa.specs.Private.Turning.{none_turned}
+use Rattle.determinize_nfa.proofs.reversal.Turned.new.Goals as goal
+
+pub loop-preserved : goal.loop-preserved
+loop-preserved g c =
+    rw (
+      c.in_ok-push.ensures.items,
+      map-append (λ v. v.items) c.loop.into.items (c.new.result ∷ []),
+      c.loop.invariant,
+      c.new.ensures.items,
+    ) (replicate-append-replicate c.loop.counter 1 [])
+
+pub returns : goal.returns
+returns g c =
+    let count : c.loop.counter ≡ c.args.count = omega (arith, c.loop-test.false, c.loop.auto.counter-end) in
+    rw (c.loop.invariant, c.new-2.ensures.items, c.new-3.ensures.items) (ap none_turned count)
