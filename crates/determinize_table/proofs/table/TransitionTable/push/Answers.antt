@@ -1,5 +1,7 @@
 use Rattle.determinize_table.proofs.Common.{refl, rules}
 use Rattle.determinize_engine.proofs.Places.{get_last}
+use Rattle.std.proofs.lemmas.Result.{err_from_is_err_and}
+use Rattle.determinize_table.proofs.Changes.{interned-failed}
 use Rattle.determinize_table.proofs.TableRows.{pushed}
 use Rattle.determinize_table.proofs.table.TransitionTable.push.Goals as goal
 
@@ -16,3 +18,11 @@ returns-in-Ok g c = rw (← c.self.view_is, c.in-Ok.ensures.states) record {
   starts = refl;
   err = tt;
 }
+
+pub returns-in_err-resize : goal.returns-in_err-resize
+returns-in_err-resize g c =
+    let (e, is, _) = err_from_is_err_and c.from_residual.result c.from_residual.ensures.1 in
+    rw (is, c.in_err-resize.ensures.items) (interned-failed c.self.view_is)
+
+pub invariant_of-self : goal.invariant_of-self
+invariant_of-self g c = rw c.in_err-resize.ensures.items c.self.invariant
