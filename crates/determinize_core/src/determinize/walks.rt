@@ -151,7 +151,6 @@ fn keep_and_step<N: Allocator, A: Allocator + Copy>(
 ///
 /// The start state, which lists no pattern, is skipped. The offset is the number of bytes before
 /// the end of the match. Under `MatchKind::LeftmostFirst` this is the most preferred match.
-
 pub fn last_match<A: Allocator>(states: &[State<A>]) -> Option<HalfMatch>
     ensures { result ≡ matches.last_match states.now }
 {
