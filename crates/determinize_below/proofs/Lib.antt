@@ -1,4 +1,6 @@
 pub mod Common
+pub mod Exits
+pub mod Moved
 pub mod looks
 pub mod nfas
 pub mod sets

@@ -1,5 +1,6 @@
 pub mod Boundaries
 pub mod Edges
+pub mod Failures
 pub mod SortedBytes
 pub mod SortedRanges
 pub mod SoundNfa

@@ -1,0 +1,51 @@
+use Rattle.determinize_below.proofs.Common.{None, Some, ap, arith, by_cases, length, map, node_of, refl, sym, ◌≡◌, ◌⊎◌, ◌∙◌}
+use Rattle.std.proofs.Common.{inl, inr}
+use Rattle.determinize_below.specs.Nfa.{failure}
+use Rattle.determinize_below.specs.declared.nfa.BuildError.{BuildError}
+use Rattle.determinize_below.specs.declared.nfa.BuildError.TheVariants.{OutOfMemory}
+use Rattle.determinize_below.proofs.Exits.{if_err_and}
+use Rattle.determinize_below.proofs.nfas.Failures.{after_starts, too_many}
+use Rattle.determinize_below.proofs.nfa.NFA.from_parts.Goals as goal
+
+pub returns-then-count-gt-ID_LIMIT-clause-err : goal.returns-then-count-gt-ID_LIMIT-clause-err
+returns-then-count-gt-ID_LIMIT-clause-err g c =
+    let count : c.len-count.result ≡ length c.args.states.items = omega (arith, c.len-count.ensures) in
+    inl (too_many node_of c.args.states.items c.len-count.result c.args.start_anchored c.args.start_unanchored count
+    c.if-count-gt-ID_LIMIT.true)
+
+pub returns-in_err-check_states-clause-err : goal.returns-in_err-check_states-clause-err
+returns-in_err-check_states-clause-err g c =
+    let count : c.len-count.result ≡ length c.args.states.items = omega (arith, c.len-count.ensures) in
+    let first = after_starts node_of c.args.states.items c.len-count.result c.args.start_anchored
+    c.args.start_unanchored count c.if-count-gt-ID_LIMIT.false (omega (arith, c.as_usize.ensures.value, c.if-as_usize-count.false))
+    (omega (arith, c.as_usize-else-as_usize-count.ensures.value, c.if-as_usize-count-2.false))
+    c.as_slice.result.now c.as_slice.ensures.value in
+    if_err_and c.from_residual.result (λ (e : BuildError). e ≡ c.in_err-check_states.field-0.0)
+    (λ (e : BuildError).
+    (failure (map node_of c.args.states.items) c.args.start_anchored c.args.start_unanchored ≡ Some e)
+    ⊎ (e ≡ OutOfMemory))
+    (λ e h. by_cases c.in_err-check_states.ensures.err (λ k. inl (first ∙ k ∙ ap Some (sym h))) (λ k. inr (h ∙ k)))
+    c.from_residual.ensures.1
+
+pub returns-clause-ok : goal.returns-clause-ok
+returns-clause-ok g c =
+    rw (c.looks_in-look_set_any.ensures, c.as_slice-2.ensures.value) refl
+
+accepted : (g : _) (c : goal.After-looks_in-look_set_any g)
+    → failure (map node_of c.args.states.items) c.args.start_anchored c.args.start_unanchored ≡ None
+accepted g c =
+    let count : c.len-count.result ≡ length c.args.states.items = omega (arith, c.len-count.ensures) in
+    after_starts node_of c.args.states.items c.len-count.result c.args.start_anchored
+    c.args.start_unanchored count c.if-count-gt-ID_LIMIT.false (omega (arith, c.as_usize.ensures.value, c.if-as_usize-count.false))
+    (omega (arith, c.as_usize-else-as_usize-count.ensures.value, c.if-as_usize-count-2.false))
+    c.as_slice.result.now c.as_slice.ensures.value
+    ∙ c.in_ok-check_states.ensures.ok
+
+pub returns-clause-accepted : goal.returns-clause-accepted
+returns-clause-accepted g c = accepted g c
+
+pub invariant_of-result : goal.invariant_of-result
+invariant_of-result g c = record {
+  passes = accepted g c;
+  looks = rw (c.looks_in-look_set_any.ensures, c.as_slice-2.ensures.value) refl;
+}
