@@ -1,4 +1,4 @@
-pub mod Exits
+pub mod Limits
 pub mod building
 pub mod prefixes
 pub mod reversing

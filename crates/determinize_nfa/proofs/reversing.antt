@@ -3,7 +3,6 @@ pub mod BothWays
 pub mod Counts
 pub mod FoundStates
 pub mod MadeNfa
-pub mod Moved
 pub mod OnePattern
 pub mod Recorded
 pub mod RecordedStates

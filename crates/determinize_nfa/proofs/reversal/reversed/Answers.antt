@@ -13,7 +13,8 @@ use Rattle.determinize_below.proofs.nfas.SoundNfa.{each_passes}
 use Rattle.determinize_nfa.specs.Private.Gathered.{states_of}
 use Rattle.determinize_nfa.specs.Private.Turning.{total, turned_over, with_node}
 use Rattle.determinize_nfa.specs.Reversal.{IsReverseOf, IsTooLarge, most_states, reads_in}
-use Rattle.determinize_nfa.proofs.Exits.{if_err_and, too_many}
+use Rattle.determinize_below.proofs.Exits.{if_err_and}
+use Rattle.determinize_nfa.proofs.Limits.{too_many}
 use Rattle.determinize_nfa.proofs.reversing.MadeNfa.{made_error, made_match, made_of_all}
 use Rattle.determinize_nfa.proofs.reversing.BothWays.{IsMadeOf}
 use Rattle.determinize_nfa.proofs.reversing.Counts.{larger, length-states_most, total_most}

@@ -3,7 +3,8 @@ use Rattle.determinize_below.specs.Node.{node_of}
 use Rattle.determinize_below.specs.declared.nfa.BuildError.{BuildError}
 use Rattle.determinize_below.specs.declared.nfa.BuildError.TheVariants.{OutOfMemory, TooManyStates}
 use Rattle.determinize_nfa.specs.Reversal.{IsTooLarge}
-use Rattle.determinize_nfa.proofs.Exits.{if_err_and, too_many}
+use Rattle.determinize_below.proofs.Exits.{if_err_and}
+use Rattle.determinize_nfa.proofs.Limits.{too_many}
 use Rattle.determinize_nfa.proofs.building.Building.{length_is, pushed_is}
 use Rattle.determinize_nfa.proofs.builder.Builder.add.Goals as goal
 

@@ -6,7 +6,7 @@ use Rattle.determinize_below.specs.Semantics.{Nfa, Node}
 use Rattle.determinize_below.specs.declared.nfa.BuildError.{BuildError}
 use Rattle.determinize_below.specs.declared.nfa.BuildError.TheVariants.{OutOfMemory}
 use Rattle.determinize_nfa.specs.Builder.{BuilderValue, built}
-use Rattle.determinize_nfa.proofs.Exits.{if_err_and}
+use Rattle.determinize_below.proofs.Exits.{if_err_and}
 use Rattle.determinize_nfa.proofs.building.Building.{built_is}
 use Rattle.determinize_nfa.proofs.builder.Builder.build.Goals as goal
 use Rattle.std.proofs.Common.{List, false, refl}

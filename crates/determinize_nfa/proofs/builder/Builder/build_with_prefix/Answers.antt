@@ -10,7 +10,7 @@ use Rattle.determinize_below.specs.declared.nfa.BuildError.TheVariants.{OutOfMem
 use Rattle.ordered_reach.proofs.Cases.{by_option}
 use Rattle.determinize_nfa.specs.Builder.{BuilderValue, IsApart, IsUnfit, built, prefixed}
 use Rattle.determinize_nfa.specs.Prefix.{HasPrefix, HasPrefixApart}
-use Rattle.determinize_nfa.proofs.Exits.{if_err_and}
+use Rattle.determinize_below.proofs.Exits.{if_err_and}
 use Rattle.determinize_nfa.proofs.building.Building.{IsMade, has_prefix_apart, is_ahead, length_is, made_is, made_of, made_unfit, none_ahead, pushed_twice, unfit_too_many}
 use Rattle.determinize_nfa.proofs.builder.Builder.build_with_prefix.Goals as goal
 

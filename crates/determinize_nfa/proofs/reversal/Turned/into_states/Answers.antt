@@ -3,7 +3,7 @@ use Rattle.std.proofs.lemmas.List.{nil_from_length}
 use Rattle.determinize_below.specs.Node.{node_of}
 use Rattle.determinize_below.specs.Semantics.{Match, Union}
 use Rattle.determinize_nfa.specs.Private.Gathered.{gathered, states_of}
-use Rattle.determinize_nfa.proofs.reversing.Moved.{none_left, one_more}
+use Rattle.determinize_below.proofs.Moved.{none_left, one_more}
 use Rattle.determinize_nfa.proofs.reversal.Turned.into_states.Goals as goal
 
 pub loop-alternates-init : goal.loop-alternates-init
