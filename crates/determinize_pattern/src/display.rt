@@ -180,13 +180,13 @@ fn write_operator<W: fmt::Write>(
     min: u32,
     max: Option<u32>,
 ) -> fmt::Result {
-    match max {
-        None if min == 0 => write!(f, "*"),
-        None if min == 1 => write!(f, "+"),
-        None => write!(f, "{{{min},}}"),
-        Some(max) if min == 0 && max == 1 => write!(f, "?"),
-        Some(max) if max <= min => write!(f, "{{{min}}}"),
-        Some(max) => write!(f, "{{{min},{max}}}"),
+    match (min, max) {
+        (0, None) => write!(f, "*"),
+        (1, None) => write!(f, "+"),
+        (_, None) => write!(f, "{{{min},}}"),
+        (0, Some(1)) => write!(f, "?"),
+        (_, Some(max)) if max <= min => write!(f, "{{{min}}}"),
+        (_, Some(max)) => write!(f, "{{{min},{max}}}"),
     }
 }
 

@@ -1,9 +1,10 @@
-use Rattle.std.proofs.Common.{◌≡◌, ◌+◌, ◌-◌, ◌<◌, arith, drop, length, map}
+use Rattle.std.proofs.Common.{◌≡◌, ◌+◌, ◌-◌, ◌<◌, ◌∙◌, [], arith, drop, length, map, sym}
+use Rattle.std.proofs.lemmas.Bool.{false≢true}
 use Rattle.std.proofs.lemmas.Grind.{common_steps}
-use Rattle.std.proofs.lemmas.List.{drop_more}
+use Rattle.std.proofs.lemmas.List.{drop_all, drop_more}
 use Rattle.determinize_pattern.specs.Patterns.{choice, sequence, meaning}
-use Rattle.determinize_pattern.proofs.compiled.Reads.{reads_either, reads_first, reads_repeated, reads_rest, reads_some_literal}
-use Rattle.determinize_pattern.proofs.compiled.Patterns.{meaning_alternation, meaning_capture, meaning_concat, meaning_literal, meaning_repetition}
+use Rattle.determinize_pattern.proofs.compiled.Reads.{reads_byte, reads_either, reads_first, reads_repeated, reads_rest, reads_some_literal}
+use Rattle.determinize_pattern.proofs.compiled.Patterns.{meaning_alternation, meaning_capture, meaning_class, meaning_concat, meaning_literal, meaning_repetition}
 use Rattle.determinize_pattern.proofs.always_reads.+always_reads.Goals as goal
 
 pub always_reads-returns-in-Concat : goal.always_reads-returns-in-Concat
@@ -60,3 +61,13 @@ some_reads-loop-i-preserved t c = λ h.
 
 pub some_reads-returns : goal.some_reads-returns
 some_reads-returns t c = let start : c.loop-i.i ≡ 0 = omega arith in rw start at c.loop-i.invariant
+
+pub always_reads-returns-in-Class : goal.always_reads-returns-in-Class
+always_reads-returns-in-Class t c = λ h. rw (c.in-Class.is, meaning_class) (reads_byte c.in-Class.field-0)
+
+pub each_reads-loop-i-init : goal.each_reads-loop-i-init
+each_reads-loop-i-init t c = λ h.
+    rw (drop_all (length c.args.subs.now) c.args.subs.now (omega arith)) (reads_byte [])
+
+pub each_reads-loop-i-preserved : goal.each_reads-loop-i-preserved
+each_reads-loop-i-preserved t c = λ h. absurd (false≢true (sym c.if-always_reads.false ∙ h))

@@ -180,3 +180,63 @@ pub repetition-returns-in_ok-plus-in-None-2-clause-compiled
 repetition-returns-in_ok-plus-in-None-2-clause-compiled g t c = on_ok_weaker c.copies-in-None-2.result
     (λ front. rw (c.in-None.is, repeated_some _ _ _ c.if-min-eq0.false)
     (front _ _ _ c.requires c.in_ok-plus-in-None-2.ensures.compiled)) c.copies-in-None-2.ensures.front
+
+pub concat-returns-clause-paid : goal.concat-returns-clause-paid
+concat-returns-clause-paid g t c = c.loop-i.invariant.1
+
+pub copies-returns-clause-paid : goal.copies-returns-clause-paid
+copies-returns-clause-paid g t c = c.loop-done.invariant.2
+
+pub up_to-returns-clause-paid : goal.up_to-returns-clause-paid
+up_to-returns-clause-paid g t c = c.loop-done.invariant.1
+
+pub alternation-returns-clause-paid : goal.alternation-returns-clause-paid
+alternation-returns-clause-paid g t c = c.loop-i.invariant.2
+
+pub alternation-returns-then-ids-eq1-clause-paid : goal.alternation-returns-then-ids-eq1-clause-paid
+alternation-returns-then-ids-eq1-clause-paid g t c = c.in_ok-ids.ensures.paid
+
+pub branches-returns-clause-paid : goal.branches-returns-clause-paid
+branches-returns-clause-paid g t c = on_ok_weaker c.join.result (λ join. omega (arith, c.loop-i.invariant.1, join)) c.join.ensures.paid
+
+pub repetition-returns-in_ok-up_to-in-Some-clause-paid : goal.repetition-returns-in_ok-up_to-in-Some-clause-paid
+repetition-returns-in_ok-up_to-in-Some-clause-paid g t c = on_ok_weaker c.copies.result (λ copies. omega (arith, c.in_ok-up_to-in-Some.ensures.paid, copies)) c.copies.ensures.paid
+
+pub repetition-returns-in_ok-plus-in-None-2-clause-paid : goal.repetition-returns-in_ok-plus-in-None-2-clause-paid
+repetition-returns-in_ok-plus-in-None-2-clause-paid g t c = on_ok_weaker c.copies-in-None-2.result (λ copies. omega (arith, c.in_ok-plus-in-None-2.ensures.paid, copies)) c.copies-in-None-2.ensures.paid
+
+pub repetition-returns-in-None-clause-paid : goal.repetition-returns-in-None-clause-paid
+repetition-returns-in-None-clause-paid g t c = c.star.ensures.paid
+
+pub star-returns-clause-paid : goal.star-returns-clause-paid
+star-returns-clause-paid g t c = on_ok_weaker c.choose_each.result (λ choose. omega (arith, c.in_ok-again.ensures.paid, choose)) c.choose_each.ensures.paid
+
+pub star-returns-then-always_reads-clause-paid : goal.star-returns-then-always_reads-clause-paid
+star-returns-then-always_reads-clause-paid g t c = c.in_ok-again.ensures.paid
+
+pub plus-returns-clause-paid : goal.plus-returns-clause-paid
+plus-returns-clause-paid g t c = omega (arith, c.in_ok-again.ensures.paid, c.in_ok-unread.ensures.paid, c.in_ok-part.ensures.paid, c.in_ok-close.ensures.paid)
+
+pub node-returns-in-Literal-clause-paid : goal.node-returns-in-Literal-clause-paid
+node-returns-in-Literal-clause-paid g t c = c.literal.ensures.paid
+
+pub node-returns-in-Class-clause-paid : goal.node-returns-in-Class-clause-paid
+node-returns-in-Class-clause-paid g t c = c.class.ensures.paid
+
+pub node-returns-in-Look-clause-paid : goal.node-returns-in-Look-clause-paid
+node-returns-in-Look-clause-paid g t c = c.look_each.ensures.paid
+
+pub node-returns-in-Repetition-clause-paid : goal.node-returns-in-Repetition-clause-paid
+node-returns-in-Repetition-clause-paid g t c = c.repetition.ensures.paid
+
+pub node-returns-in-Capture-clause-paid : goal.node-returns-in-Capture-clause-paid
+node-returns-in-Capture-clause-paid g t c = c.part.ensures.paid
+
+pub node-returns-in-Concat-clause-paid : goal.node-returns-in-Concat-clause-paid
+node-returns-in-Concat-clause-paid g t c = c.concat.ensures.paid
+
+pub node-returns-in-Alternation-clause-paid : goal.node-returns-in-Alternation-clause-paid
+node-returns-in-Alternation-clause-paid g t c = c.alternation.ensures.paid
+
+pub node-returns-in-Empty-clause-paid : goal.node-returns-in-Empty-clause-paid
+node-returns-in-Empty-clause-paid g t c = omega arith
