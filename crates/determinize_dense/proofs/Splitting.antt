@@ -12,6 +12,7 @@ use Rattle.ordered_reach.proofs.Cases.{some_injective}
 use Rattle.ordered_reach.proofs.graph.FiniteGraphs.{same_decides}
 use Rattle.ordered_reach.proofs.runs.ByPosition.{Decides-pair_eq}
 use Rattle.determinize_dense.proofs.Pigeonhole.{pigeonhole}
+use Rattle.determinize_engine.proofs.Places.{not_none}
 use Rattle.determinize_dense.specs.Private.Partition.{AreBlocks, AreEqual, Blocks, IsNumbered, IsSplit, IsSplitting}
 use Rattle.determinize_dense.specs.Private.Partition.{pair_of, same_pair}
 
@@ -46,6 +47,20 @@ abbrev blocks_of : List ℕ → List ℕ → Blocks
 blocks_of numbers members = record { numbers = numbers; members = members }
 
 module _ {p : Blocks} {values : List ℕ} (are : AreBlocks p) where
+  -- no row has its new block yet
+  pub splitting-none : {numbers members : List ℕ} {find : ℕ × ℕ → Option ℕ} → numbers ≡ [] → members ≡ p.members
+      → ((q : ℕ × ℕ) → find q ≡ None) → IsSplitting p values numbers members find
+  splitting-none {numbers} {members} {find} none kept empty = rw none (rw kept record {
+    rows = are.rows;
+    more = omega arith;
+    old = λ b h. refl;
+    within = λ r h. absurd (let no : ⊥ = omega (arith, h) in no);
+    pairs = λ r h. absurd (let no : ⊥ = omega (arith, h) in no);
+    found = λ q b e. not_none (sym e ∙ empty q);
+    listed = λ b h l. absurd (let no : ⊥ = omega (arith, h, l) in no);
+    apart = λ b h l. absurd (let no : ⊥ = omega (arith, h, l) in no);
+  })
+
   module _ {numbers members : List ℕ} {find : ℕ × ℕ → Option ℕ} (s : IsSplitting p values numbers members find) where
     -- a row more, whose pair has a block
     pub splitting-push : (number : ℕ) → number < length members

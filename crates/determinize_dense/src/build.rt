@@ -27,13 +27,25 @@ use std::alloc::{AllocError, Allocator};
 use std::marker::Model;
 
 /// A DFA that is being built.
-#[derive(Drop)]
 pub(crate) struct Builder<'n, N: Allocator, A: Allocator> {
     stepper: Stepper<'n, N, A>,
     classes: ByteClasses,
     limit: usize,
     states: StateTable<A>,
     next: Vec<u32, A>,
+}
+
+// Takes the fields apart in one call, so that a function that owns a builder drops it in one step.
+impl<'n, N: Allocator, A: Allocator> Drop for Builder<'n, N, A> {
+    fn drop(self) {
+        let Builder {
+            stepper: _,
+            classes: _,
+            limit: _,
+            states: _,
+            next: _,
+        } = self;
+    }
 }
 
 impl<'n, N: Allocator, A: Allocator> Model for Builder<'n, N, A> {
@@ -302,27 +314,26 @@ impl<'n, N: Allocator, A: Allocator + Copy> Builder<'n, N, A> {
     ///
     /// - `starts` are the rows of the starts.
     pub(crate) fn finish(
-        self,
+        &self,
         alloc: A,
         starts: [u32; STARTS],
     ) -> Result<Rows<'n, N, A>, AllocError>
-        requires whole { length self.next ≡ length self.values * columns_of self.classes }
-        requires starts { AreStarts self.nfa self.values 12 starts }
-        ensures nfa { IfOk result (λ rows. rows.nfa ≡ self.entry.nfa) }
-        ensures kind { IfOk result (λ rows. rows.kind ≡ self.entry.kind) }
+        requires whole { length self.now.next
+            ≡ length self.now.values * columns_of self.now.classes }
+        requires starts { AreStarts self.now.nfa self.now.values 12 starts }
+        ensures nfa { IfOk result (λ rows. rows.nfa ≡ self.now.nfa) }
+        ensures kind { IfOk result (λ rows. rows.kind ≡ self.now.kind) }
         ensures states { IfOk result
-            (λ rows. HasStates self.entry.nfa self.entry.kind (length rows.table.patterns)) }
-        ensures few { IfOk result (λ rows. length rows.table.patterns ≤ self.entry.limit) }
+            (λ rows. HasStates self.now.nfa self.now.kind (length rows.table.patterns)) }
+        ensures few { IfOk result (λ rows. length rows.table.patterns ≤ self.now.limit) }
     {
-        let patterns = lists_of(alloc, self.states.as_slice())?;
-        let next = offsets_of(alloc, self.next.as_slice(), self.classes.alphabet_len())?;
         Ok(Rows {
             nfa: self.stepper.nfa(),
             match_kind: self.stepper.match_kind(),
-            classes: self.classes,
-            next,
+            classes: self.classes.clone()?,
+            next: offsets_of(alloc, self.next.as_slice(), self.classes.alphabet_len())?,
             starts,
-            patterns,
+            patterns: lists_of(alloc, self.states.as_slice())?,
         })
     }
 }

@@ -84,6 +84,8 @@ impl<'n, N: Allocator, A: Allocator + Copy> Dfa<'n, N, A> {
         let starts = builder.starts()?;
         builder.fill()?;
         let rows = builder.finish(alloc, starts)?;
+        // The states found are not kept while the rows are copied in order.
+        drop(builder);
         Ok(rows.arranged(alloc)?)
     }
 

@@ -1,5 +1,5 @@
 use Rattle.determinize_core.proofs.Common.{AllResolve, ap, arith, Err, length, rules, subst, sym, [], ◌*◌, ◌++◌, ◌<◌}
-use Rattle.determinize_core.proofs.Common.{◌∙◌, ◌∷◌, ◌≡◌}
+use Rattle.determinize_core.proofs.Common.{length_push, ◌+◌, ◌∙◌, ◌∷◌, ◌≡◌}
 use Rattle.determinize_dense.proofs.Common.{Building, columns_of, IsBuilding, IsReachedValue, Stays, unit_at}
 use Rattle.std.specs.Prelude.{◌%◌, ◌/◌}
 use Rattle.determinize_below.specs.Unit.{byte_of}
@@ -96,6 +96,9 @@ place-requires-clause-resolve g c =
     subst (λ (s : StepperValue). AllResolve s.nfa c.in_ok-next.next.states) (sym c.in_ok-next.ensures.unchanged)
     c.in_ok-next.ensures.resolve
 
+pub place-requires-clause-likely : goal.place-requires-clause-likely
+place-requires-clause-likely g c = c.entry_above.ensures
+
 pub returns-in_err-row-clause-many : goal.returns-in_err-row-clause-many
 returns-in_err-row-clause-many g c = λ same.
     let e : c.from_residual-in_err-row.result ≡ Err c.in_err-row.field-0.0 = search rules in
@@ -144,6 +147,12 @@ invariant_of-self-3 g c =
     (unit_at c.self.inside.classes (length c.self.inside.next.items % columns_of c.self.inside.classes)))
     (sym c.in_ok-next.ensures.unchanged))
     c.in_ok-row.ensures.at (room g d))))
+
+pub returns-clause-next : goal.returns-clause-next
+returns-clause-next g c =
+    ap length c.in_ok-push.ensures.items ∙ length_push c.self-2.inside.next.items c.in_ok-row.row
+    ∙ ap (λ (x : Building). length x.next + 1) c.self-2.view_is
+    ∙ ap (λ ns. length ns + 1) c.in_ok-row.ensures.next ∙ ap (λ (x : Building). length x.next + 1) c.self.view_is
 
 pub returns-clause-stays : goal.returns-clause-stays
 returns-clause-stays g c =

@@ -1,6 +1,13 @@
 use Rattle.determinize_core.proofs.Common.{ap, Err, rules, sym, ◌∙◌, ◌≡◌}
-use Rattle.determinize_dense.proofs.Building.{same_err, more-before}
+use Rattle.determinize_dense.proofs.Building.{more-before, same_err, stays-more}
+use Rattle.determinize_dense.proofs.Common.{columns_of}
 use Rattle.determinize_dense.proofs.build.Builder.fill.Goals as goal
+
+pub loop-self-preserved : goal.loop-self-preserved
+loop-self-preserved g c = record {
+  stays = stays-more c.loop-self.invariant.stays c.in_ok-add_entry.ensures.stays;
+  columns = c.loop-self.invariant.columns ∙ ap columns_of (sym c.in_ok-add_entry.ensures.stays.classes);
+}
 
 pub returns-in_err-add_entry-clause-many : goal.returns-in_err-add_entry-clause-many
 returns-in_err-add_entry-clause-many g c = λ same.

@@ -1,11 +1,14 @@
-use Rattle.determinize_core.proofs.Common.{ap, Bool, nat_lt, Option, slice_get_within, Some, start_value, sym, ℕ}
+use Rattle.determinize_core.proofs.Common.{[], AllResolve, ap, Bool, nat_lt, Option, slice_get_within, Some, start_value, subst}
+use Rattle.determinize_core.proofs.Common.{sym, ℕ}
 use Rattle.determinize_core.proofs.Common.{IfOk-weaker, ◌∙◌, ◌≡◌}
-use Rattle.determinize_dense.proofs.Common.{Building, number_of, start_in, start_kind_of, start_number}
-use Rattle.std.specs.Prelude.{◌%◌}
+use Rattle.determinize_dense.proofs.Common.{Building, IsBuilding, IsReachedValue, number_of, start_in}
+use Rattle.determinize_dense.proofs.Common.{start_kind_of}
+use Rattle.determinize_dense.proofs.Common.{start_number, Stays}
+use Rattle.std.specs.Prelude.{◌%◌, OnOk}
 use Rattle.determinize_below.specs.Semantics.{Nfa}
 use Rattle.determinize_core.specs.Stepper.{StepperValue}
-use Rattle.determinize_dense.proofs.Building.{more-as}
-use Rattle.determinize_dense.proofs.Reached.{same_number, same_start, start-number}
+use Rattle.determinize_dense.proofs.Building.{more-as, stays-same}
+use Rattle.determinize_dense.proofs.Reached.{no_units, same_number, same_start, start-number}
 use Rattle.determinize_dense.proofs.build.Builder.start.Given.{Over}
 use Rattle.determinize_dense.proofs.build.Builder.start.Goals.{After-look_behind_of}
 use Rattle.determinize_dense.proofs.build.Builder.start.Goals as goal
@@ -31,6 +34,35 @@ returns-in_default-clause-at g c = λ anchored q unit e.
     let d = (goal.at.returns-in_default-clause-at g c).After-look_behind_of in
     absurd (c.in_default.ensures.none q unit
     (ap (λ t. number_of (start_kind_of t q)) (terminator-is g d) ∙ kind-is g d anchored q e))
+
+pub place-requires-clause-reached : goal.place-requires-clause-reached
+place-requires-clause-reached g c =
+    subst (λ (s : StepperValue). IsReachedValue s.nfa s.kind c.in_ok-state.state) (sym c.in_ok-state.ensures.unchanged) (
+      nat_lt c.args.number 6,
+      c.in-Some.look_behind,
+      [],
+      c.in-Some.ensures.unit,
+      no_units,
+      c.in_ok-state.ensures.ok ∙ ap (λ s. start_value c.self.inside.stepper.nfa s c.in-Some.look_behind)
+          (c.start_id.ensures.value ∙ ap (λ n. start_in n (nat_lt c.args.number 6)) c.nfa-nfa.ensures),
+    )
+
+pub place-requires-clause-resolve : goal.place-requires-clause-resolve
+place-requires-clause-resolve g c =
+    subst (λ (s : StepperValue). AllResolve s.nfa c.in_ok-state.state.states) (sym c.in_ok-state.ensures.unchanged)
+    c.in_ok-state.ensures.resolve
+
+pub returns-clause-stays : goal.returns-clause-stays
+returns-clause-stays g c =
+    subst (λ (x : Building). OnOk c.place.result (Stays x c.place.new.self)) c.self.view_is
+    (subst (λ (s : StepperValue). OnOk c.place.result (Stays record {
+      nfa = s.nfa;
+      kind = s.kind;
+      classes = c.self.inside.classes;
+      limit = c.self.inside.limit;
+      values = c.self.inside.states;
+      next = c.self.inside.next.items;
+    } c.place.new.self)) c.in_ok-state.ensures.unchanged c.place.ensures.stays)
 
 pub returns-clause-at : goal.returns-clause-at
 returns-clause-at g c = IfOk-weaker c.place.result _ _
@@ -62,3 +94,16 @@ returns-clause-many g c = λ same.
     ∙ ap (λ (x : Building). x.nfa) c.self.view_is)
     (ap (λ (s : StepperValue). s.kind) c.in_ok-state.ensures.unchanged ∙ ap (λ (x : Building). x.kind) c.self.view_is)
     (ap (λ (x : Building). x.limit) c.self.view_is) (c.place.ensures.many same)
+
+pub place-requires-clause-likely : goal.place-requires-clause-likely
+place-requires-clause-likely g c = slice_get_within _ 0 _ c.self.invariant.first
+
+pub returns-in_default-clause-stays : goal.returns-in_default-clause-stays
+returns-in_default-clause-stays g c = stays-same c.args.self.now
+
+pub returns-clause-next : goal.returns-clause-next
+returns-clause-next g c = c.place.ensures.next ∙ ap (λ (x : Building). x.next) c.self.view_is
+
+pub returns-in_default-clause-within : goal.returns-in_default-clause-within
+returns-in_default-clause-within g c = slice_get_within _ 0 _
+    (subst (λ (x : Building). IsBuilding x) c.self.view_is c.self.invariant).first

@@ -1,4 +1,4 @@
-use Rattle.determinize_core.proofs.Common.{ap, arith, Err, length, min, rules, subst, sym, ◌<◌, ◌∙◌, ◌≡◌}
+use Rattle.determinize_core.proofs.Common.{ap, arith, Err, length, min, rules, subst, sym, ◌<◌, ◌∙◌, ◌≡◌, ◌≤◌}
 use Rattle.determinize_dense.proofs.Common.{AreStarts, HasStates}
 use Rattle.determinize_dense.proofs.Building.{same_err, more-as, more-before, starts-stay, states-as}
 use Rattle.determinize_dense.proofs.Counting.{each_count_is_one}
@@ -43,3 +43,23 @@ returns-clause-more g c = λ more.
     let started = c.in_ok-starts.ensures.stays.limit in
     let begun = c.in_ok-builder.ensures.limit in
     absurd (let no : ⊥ = omega (arith, fewer, few, filled, started, begun) in no)
+
+pub finish-requires-clause-whole : goal.finish-requires-clause-whole
+finish-requires-clause-whole g c = c.in_ok-fill.ensures.whole
+
+pub returns-clause-nfa : goal.returns-clause-nfa
+returns-clause-nfa g c = c.in_ok-arranged.ensures.nfa ∙ c.in_ok-rows.ensures.nfa ∙ c.in_ok-fill.ensures.stays.nfa
+    ∙ c.in_ok-starts.ensures.stays.nfa ∙ c.in_ok-builder.ensures.nfa
+
+pub returns-clause-kind : goal.returns-clause-kind
+returns-clause-kind g c = c.in_ok-arranged.ensures.kind ∙ c.in_ok-rows.ensures.kind
+    ∙ c.in_ok-fill.ensures.stays.kind ∙ c.in_ok-starts.ensures.stays.kind ∙ c.in_ok-builder.ensures.kind
+
+pub returns-clause-means : goal.returns-clause-means
+returns-clause-means g c = c.in_ok-arranged.ensures.means
+
+pub returns-clause-few : goal.returns-clause-few
+returns-clause-few g c =
+    subst (λ n. n ≤ min c.args.limit MAX_STATES) (sym c.in_ok-arranged.ensures.rows)
+    (subst (λ n. length c.in_ok-rows.rows.table.patterns ≤ n) (c.in_ok-fill.ensures.stays.limit
+    ∙ c.in_ok-starts.ensures.stays.limit ∙ c.in_ok-builder.ensures.limit) c.in_ok-rows.ensures.few)

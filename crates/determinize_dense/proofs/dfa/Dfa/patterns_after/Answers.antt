@@ -5,8 +5,9 @@ use Rattle.determinize_dense.proofs.Common.{DfaValue, is_anchored, IsDfa, IsRowF
 use Rattle.determinize_core.proofs.walk.UnitLists.{units_are}
 use Rattle.determinize_dense.proofs.Inputs.{start_is}
 use Rattle.determinize_dense.proofs.Listing.{each-accepted, list-all, list-preferred}
-use Rattle.determinize_dense.proofs.Searching.{patterns-are, row-byte, row-push, row-start}
-use Rattle.determinize_dense.specs.Private.Rows.{IsNext, offset_of}
+use Rattle.determinize_dense.proofs.Searching.{patterns-are, row-byte, row-offset, row-push}
+use Rattle.determinize_dense.proofs.Searching.{row-start}
+use Rattle.determinize_dense.specs.Private.Rows.{IsNext, IsOffset, offset_of}
 use Rattle.determinize_dense.proofs.dfa.Dfa.patterns_after.Given.{Over}
 use Rattle.determinize_dense.proofs.dfa.Dfa.patterns_after.Goals.{After-patterns}
 use Rattle.determinize_dense.proofs.dfa.Dfa.patterns_after.Goals as goal
@@ -30,6 +31,24 @@ loop-byte-preserved g c = record {
       (subst (λ (x : DfaValue). IsNext x.table c.loop-byte.row (Some (get_or c.args.text.now c.loop-byte.byte-index 0))
       c.row_over-row.result) c.self.view_is c.row_over-row.ensures.value);
 }
+
+pub row_over-row-requires : goal.row_over-row-requires
+row_over-row-requires g c = subst (λ (x : DfaValue). IsOffset x.table c.loop-byte.row) (sym c.self.view_is)
+    (row-offset c.loop-byte.invariant.at)
+
+pub row_over-last-requires : goal.row_over-last-requires
+row_over-last-requires g c = subst (λ (x : DfaValue). IsOffset x.table c.loop-byte.row) (sym c.self.view_is)
+    (row-offset c.loop-byte.invariant.at)
+
+pub row_number-requires : goal.row_number-requires
+row_number-requires g c =
+    row-offset (row-push c.loop-byte.invariant.at c.args.look_ahead c.row_over-last.ensures.unit
+    (subst (λ (x : DfaValue). IsNext x.table c.loop-byte.row c.args.look_ahead c.row_over-last.result)
+    c.self.view_is c.row_over-last.ensures.value))
+
+pub patterns-requires : goal.patterns-requires
+patterns-requires g c = subst (λ (x : DfaValue). c.row_number.result < length x.table.patterns) (sym c.self.view_is)
+    c.row_number.ensures.row.0
 
 -- what the row lists after all units
 listed : (g : Over) (c : After-patterns g) → c.patterns.result.now

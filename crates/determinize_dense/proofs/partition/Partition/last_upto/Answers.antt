@@ -22,6 +22,26 @@ member-is g c h =
     (subst (λ n. c.loop-last.last + 1 < n) len h)
     ∙ ap (λ (p : Blocks). slice_index p.members (c.loop-last.last + 1)) c.self.view_is
 
+-- its member is a row
+row-there : (g : Over) (c : After-index g) → c.loop-last.last + 1 < c.len.result
+    → c.index.result.now < length c.args.ranks.now
+row-there g c h =
+    let len : c.len.result ≡ length c.self.inside.members.items = search rules in
+    let count : c.len.result ≡ length c.args.self.now.members =
+    len ∙ ap (λ (p : Blocks). length p.members) c.self.view_is in
+    subst (λ r. r < length c.args.ranks.now) (sym (member-is g c h))
+    (subst (λ n. slice_index c.args.self.now.members (c.loop-last.last + 1) < n) c.requires.ranks.count
+    (c.requires.ranks.blocks.rows (c.loop-last.last + 1)
+    (subst (λ n. c.loop-last.last + 1 < n) count h)))
+
+pub bounds-ranks-index : goal.bounds-ranks-index
+bounds-ranks-index g c = row-there g (goal.at.bounds-ranks-index g c).After-index c.loop-last-test.true
+
+pub offset_bounds-ranks-index : goal.offset_bounds-ranks-index
+offset_bounds-ranks-index g c =
+    let there : c.index.result.now < length c.args.ranks.now =
+    row-there g (goal.at.offset_bounds-ranks-index g c).After-index c.loop-last-test.true in omega (arith, there)
+
 pub loop-last-init : goal.loop-last-init
 loop-last-init g c = record {
   there = c.requires.ranks.blocks.some;

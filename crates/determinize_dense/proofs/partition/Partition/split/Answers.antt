@@ -1,8 +1,10 @@
 use Rattle.std.proofs.Common.{ap, arith, length, rules, subst, sym, ◌+◌, ◌<◌, ◌∙◌, ◌≡◌, ◌≤◌}
 use Rattle.std.proofs.lemmas.Grind.{get_or_default_zero}
 use Rattle.std.proofs.lemmas.List.{length_push}
+use Rattle.std.proofs.lemmas.List.Elements.{same_from_all_zip}
 use Rattle.std.specs.Prelude.{slice_index}
-use Rattle.determinize_dense.proofs.Splitting.{row-kept, row-split, splitting-blocks, splitting-split}
+use Rattle.determinize_dense.proofs.Splitting.{row-kept, row-split, splitting-blocks, splitting-none}
+use Rattle.determinize_dense.proofs.Splitting.{splitting-split}
 use Rattle.determinize_dense.specs.Private.Partition.{AreBlocks, Blocks}
 use Rattle.determinize_dense.proofs.partition.Partition.split.Given.{Over}
 use Rattle.determinize_dense.proofs.partition.Partition.split.Goals.{After-index-in-loop-row, After-loop-row}
@@ -42,6 +44,15 @@ offset_bounds-values-index g c =
 
 pub bounds-values-index : goal.bounds-values-index
 bounds-values-index g c = member-there g (goal.at.bounds-values-index g c).After-index-in-loop-row
+
+pub loop-row-init : goal.loop-row-init
+loop-row-init g c = record {
+  count = search rules;
+  below = search rules;
+  splitting = splitting-none (subst (λ (p : Blocks). AreBlocks p) c.self.view_is c.self.invariant) (search rules)
+      (same_from_all_zip _ c.self.inside.members.items c.in_ok-members.members.items c.in_ok-members.ensures.cases.0 (λ x y e. e)
+      ∙ ap (λ (p : Blocks). p.members) c.self.view_is) (λ q. search rules);
+}
 
 pub loop-row-preserved : goal.loop-row-preserved
 loop-row-preserved g c = record {

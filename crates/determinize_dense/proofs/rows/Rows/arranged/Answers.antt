@@ -1,8 +1,11 @@
-use Rattle.determinize_core.proofs.Common.{ap, length, subst, sym, ◌*◌, ◌+◌, ◌<◌}
+use Rattle.determinize_core.proofs.Common.{ap, arith, length, refl, subst, sym, ◌*◌, ◌+◌, ◌<◌}
 use Rattle.determinize_core.proofs.Common.{◌∙◌, ◌≡◌}
 use Rattle.determinize_dense.proofs.Common.{DfaValue, IsDfa}
-use Rattle.determinize_dense.proofs.Arranging.{arranged-inverse, arranged-least, arranged-ordered, grouping-by_rank}
-use Rattle.std.specs.Prelude.{◌/◌, ◌≤◌}
+use Rattle.determinize_dense.proofs.Arranging.{arranged-count, arranged-inverse, arranged-least, arranged-ordered}
+use Rattle.determinize_dense.proofs.Arranging.{grouping-by_rank}
+use Rattle.std.proofs.lemmas.List.Elements.{All-from_get_or}
+use Rattle.determinize_dense.specs.declared.partition.TheConstants.{RANKS}
+use Rattle.std.specs.Prelude.{All, slice_index, ◌/◌, ◌≤◌}
 use Rattle.determinize_dense.specs.Private.Partition.{IsByRank, IsLastUpto}
 use Rattle.determinize_dense.proofs.rows.Rows.arranged.Given.{Over}
 use Rattle.determinize_dense.proofs.rows.Rows.arranged.Goals.{After-alphabet_len-columns, In_ok-order, In_ok-ranks}
@@ -19,6 +22,34 @@ columns-are g c = c.alphabet_len-columns.ensures.count ∙ ap (λ (x : DfaValue)
 pub by_rank-requires-clause-some : goal.by_rank-requires-clause-some
 by_rank-requires-clause-some g c =
     subst (λ rs. 0 < length rs) (sym c.as_slice.ensures.value) c.in_ok-ranks.ensures.some
+
+pub by_rank-requires-clause-few : goal.by_rank-requires-clause-few
+by_rank-requires-clause-few g c =
+    subst (λ rs. All (λ rank. rank < RANKS) rs) (sym c.as_slice.ensures.value)
+    (All-from_get_or (λ rank. rank < RANKS) c.in_ok-ranks.ranks.items 0 (λ r h. (c.in_ok-ranks.ensures.each r h).few))
+
+pub by_rank-requires-clause-first : goal.by_rank-requires-clause-first
+by_rank-requires-clause-first g c = subst (λ rs. slice_index rs 0 ≡ 0) (sym c.as_slice.ensures.value)
+    ((c.in_ok-ranks.ensures.each 0 c.in_ok-ranks.ensures.some).first refl)
+
+pub last_upto-requires-clause-ranks : goal.last_upto-requires-clause-ranks
+last_upto-requires-clause-ranks g c = subst (λ rs. IsByRank rs c.in_ok-order.order) (sym c.as_slice-2.ensures.value)
+    (by-rank g (goal.at.last_upto-requires-clause-ranks g c).In_ok-order)
+
+pub last_upto-requires-2-clause-ranks : goal.last_upto-requires-2-clause-ranks
+last_upto-requires-2-clause-ranks g c = subst (λ rs. IsByRank rs c.in_ok-order.order) (sym c.as_slice-3.ensures.value)
+    (by-rank g (goal.at.last_upto-requires-2-clause-ranks g c).In_ok-order)
+
+first-is : (g : Over) (c : In_ok-ranks g) → slice_index c.in_ok-ranks.ranks.items 0 ≡ 0
+first-is g c = (c.in_ok-ranks.ensures.each 0 c.in_ok-ranks.ensures.some).first refl
+
+pub last_upto-requires-clause-first : goal.last_upto-requires-clause-first
+last_upto-requires-clause-first g c = subst (λ rs. slice_index rs 0 ≤ 1) (sym c.as_slice-2.ensures.value)
+    (let zero = first-is g (goal.at.last_upto-requires-clause-first g c).In_ok-ranks in omega (arith, zero))
+
+pub last_upto-requires-2-clause-first : goal.last_upto-requires-2-clause-first
+last_upto-requires-2-clause-first g c = subst (λ rs. slice_index rs 0 ≤ 2) (sym c.as_slice-3.ensures.value)
+    (let zero = first-is g (goal.at.last_upto-requires-2-clause-first g c).In_ok-ranks in omega (arith, zero))
 
 pub merged-requires : goal.merged-requires
 merged-requires g c = grouping-by_rank c.args.self.now c.in_ok-ranks.ensures
@@ -45,3 +76,16 @@ invariant_of-result g c =
 pub returns-clause-least : goal.returns-clause-least
 returns-clause-least g c = arranged-least c.args.self.now c.in_ok-ranks.ensures
     (by-rank g (goal.at.returns-clause-least g c).In_ok-order) c.in_ok-merged.ensures
+
+pub returns-clause-nfa : goal.returns-clause-nfa
+returns-clause-nfa g c = c.in_ok-merged.ensures.nfa
+
+pub returns-clause-kind : goal.returns-clause-kind
+returns-clause-kind g c = c.in_ok-merged.ensures.kind
+
+pub returns-clause-means : goal.returns-clause-means
+returns-clause-means g c = c.in_ok-merged.ensures.means
+
+pub returns-clause-rows : goal.returns-clause-rows
+returns-clause-rows g c = arranged-count c.args.self.now c.in_ok-ranks.ensures
+    (by-rank g (goal.at.returns-clause-rows g c).In_ok-order) c.in_ok-merged.ensures
