@@ -8,7 +8,7 @@ use Rattle.determinize_below.specs.declared.search.Anchored.{Anchored}
 use Rattle.determinize_below.specs.declared.search.Anchored.TheVariants.{No, Pattern, Yes}
 use Rattle.determinize_core.specs.Chain.{chain}
 use Rattle.determinize_engine.proofs.Ranges.{match-decides}
-use Rattle.determinize_engine.proofs.Headline.{is-search}
+use Rattle.determinize_engine.proofs.SearchMatches.{is-search}
 
 -- the state from which a search starts
 pub start_is : (nfa : Nfa) (a : Anchored) → start_in nfa (is_anchored a) ≡ start_for nfa a

@@ -1,6 +1,6 @@
 -- The last match of a walk where no NFA state is left, over more units, and where it ends.
 -- Main statements: step_over, last_match-over, last_match-within, longer.
--- Used by: Headline, Later, the searches of both DFAs, and `determinize_find`.
+-- Used by: SearchMatches, Later, the searches of both DFAs, and `determinize_find`.
 -- Idea: a value without NFA states steps to the dead value, after which no value lists a pattern.
 use Rattle.determinize_core.proofs.Common.{[], append-nil, append_assoc, arith, by_test, dead, future, IfSome}
 use Rattle.determinize_core.proofs.Common.{is_reopened, is_some, last_ended, last_match, length, List, MatchKind, Nfa}

@@ -1,4 +1,4 @@
-pub mod Headline
+pub mod SearchMatches
 pub mod LastUnits
 pub mod Later
 pub mod Places

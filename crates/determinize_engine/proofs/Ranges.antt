@@ -8,7 +8,7 @@ use Rattle.determinize_core.proofs.Common.{length, length-reverse, length-take, 
 use Rattle.determinize_core.proofs.Common.{option_map, refl, Some, true, ℕ, ◌-◌, ◌≡◌, ◌≤◌}
 use Rattle.determinize_engine.specs.Searches.{HasMatch, in_haystack, IsFarthestIn, IsPreferredIn, IsSearch, last_in}
 use Rattle.determinize_engine.specs.Searches.{start_for, text_of}
-use Rattle.determinize_engine.proofs.Headline.{none_accepts, some_accepts}
+use Rattle.determinize_engine.proofs.SearchMatches.{none_accepts, some_accepts}
 
 -- where nothing is left to search
 module _ (asked : Asked) (done : is_done asked ≡ true) where

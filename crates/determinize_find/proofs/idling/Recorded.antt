@@ -25,7 +25,7 @@ use Rattle.determinize_core.proofs.walk.UnitLists.{units_are}
 use Rattle.determinize_core.proofs.walk.WalkOfRuns.{each_chain_reaches}
 use Rattle.determinize_engine.specs.Scans.{IsScan, Scanned}
 use Rattle.determinize_engine.specs.UnitsRead.{units_read}
-use Rattle.determinize_engine.proofs.Headline.{none_accepts}
+use Rattle.determinize_engine.proofs.SearchMatches.{none_accepts}
 use Rattle.determinize_nfa.specs.Reversal.{upto}
 use Rattle.determinize_nfa.proofs.runs.Choices.{choices_under}
 use Rattle.determinize_find.proofs.runs.Cuts.{known_is, known_there}

@@ -15,7 +15,7 @@ use Rattle.ordered_reach.proofs.Cases.{by_test, some_injective}
 use Rattle.determinize_core.specs.Chain.{chain}
 use Rattle.determinize_core.specs.LastMatch.{last_match}
 use Rattle.determinize_engine.specs.Searches.{text_of}
-use Rattle.determinize_engine.proofs.Headline.{preferred}
+use Rattle.determinize_engine.proofs.SearchMatches.{preferred}
 use Rattle.determinize_nfa.specs.Leftmost.{IsLeftmost}
 use Rattle.determinize_nfa.specs.Runs.{since}
 use Rattle.determinize_find.specs.Laws.{EachInputHasMatches}

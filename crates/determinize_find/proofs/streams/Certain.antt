@@ -19,7 +19,7 @@ use Rattle.determinize_below.specs.declared.search.MatchKind.TheVariants.{Leftmo
 use Rattle.ordered_reach.proofs.Cases.{by_cases, some_injective}
 use Rattle.determinize_start.specs.StartKinds.{byte_before}
 use Rattle.determinize_engine.specs.Scans.{IsScan, Scanned}
-use Rattle.determinize_engine.proofs.Headline.{preferred}
+use Rattle.determinize_engine.proofs.SearchMatches.{preferred}
 use Rattle.determinize_find.specs.Certain.{certain_match}
 use Rattle.determinize_find.specs.Laws.{end_of}
 use Rattle.determinize_nfa.specs.Runs.{AcceptsFrom}

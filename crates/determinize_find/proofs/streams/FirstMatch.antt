@@ -33,7 +33,7 @@ use Rattle.determinize_core.proofs.closure.EmptySearch.{reach-none}
 use Rattle.determinize_core.proofs.walk.UnitLists.{chain_is_future}
 use Rattle.determinize_engine.specs.Private.Later.{last_from}
 use Rattle.determinize_engine.specs.Scans.{IsScan, IsSettled, Scanned}
-use Rattle.determinize_engine.proofs.Headline.{preferred}
+use Rattle.determinize_engine.proofs.SearchMatches.{preferred}
 use Rattle.determinize_engine.proofs.Later.{last_from-next, last_from-over}
 use Rattle.determinize_engine.proofs.LastUnits.{last_match-within}
 use Rattle.determinize_engine.proofs.Scanning.{last-scanned, settled}

@@ -8,7 +8,7 @@ use Rattle.determinize_lazy.proofs.Common.{◌∙◌, ◌∷◌}
 use Rattle.std.proofs.lemmas.List.{map-append}
 use Rattle.determinize_core.proofs.walk.UnitLists.{chain_is_future}
 use Rattle.determinize_engine.specs.Scans.{Scanned}
-use Rattle.determinize_engine.proofs.Headline.{is-search}
+use Rattle.determinize_engine.proofs.SearchMatches.{is-search}
 use Rattle.determinize_lazy.specs.Scanning.{IsFoundBeforeLast}
 
 pub found-before_last : (s : Scanned) → IsFoundBeforeLast s

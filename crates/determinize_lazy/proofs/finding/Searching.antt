@@ -22,7 +22,7 @@ use Rattle.determinize_lazy.specs.declared.search.Position.{Position}
 use Rattle.determinize_lazy.proofs.steps.Rule.{grows-more}
 use Rattle.determinize_lazy.proofs.walking.CachedWalks.{cut_off-first, cut_off-later, drop-one}
 use Rattle.determinize_core.specs.Chain.{chain}
-use Rattle.determinize_engine.proofs.Headline.{is-search}
+use Rattle.determinize_engine.proofs.SearchMatches.{is-search}
 use Rattle.determinize_engine.proofs.Ranges.{match-decides}
 use Rattle.determinize_core.proofs.step.Resolving.{step_resolves}
 use Rattle.determinize_lazy.specs.Private.Searched.{with_cursor}

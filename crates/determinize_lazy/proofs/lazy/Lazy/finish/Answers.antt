@@ -5,7 +5,7 @@ use Rattle.determinize_lazy.proofs.steps.Rule.{of_err}
 use Rattle.determinize_core.specs.Chain.{chain}
 use Rattle.determinize_engine.specs.Private.Later.{later_by}
 use Rattle.determinize_engine.specs.Scans.{Scanned}
-use Rattle.determinize_engine.proofs.Headline.{is-search}
+use Rattle.determinize_engine.proofs.SearchMatches.{is-search}
 use Rattle.determinize_engine.proofs.LastUnits.{last_match-within}
 use Rattle.determinize_engine.proofs.Later.{later-within}
 use Rattle.determinize_engine.proofs.Scanning.{last-whole}
