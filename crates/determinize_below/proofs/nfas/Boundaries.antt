@@ -1,8 +1,8 @@
 -- Marks at the bytes where something changes, and states with the same target on two bytes.
--- Main statements: ranges_more, read_at, all_states.
+-- Main statements: ranges_more, read_at, all_states, one_marked.
 -- Used by: `mark_ranges`, `boundaries_of`, `are_alike`.
 -- Idea: the first range that contains a byte is among the ranges so far, or it is the next one.
-use Rattle.determinize_below.proofs.Common.{arith, [], Bool, by_cases, cases_lt, Fail, get_or, length, List, Nfa, Node, None, refl, slice_get, Some, state_at, take, target_of, Transition, ℕ, ◌++◌, ◌+◌, ◌<◌, ◌∷◌, ◌≡◌, cond, option_or, take_more, get_or_from_slice_get, MarksChanges, matches, sparse_target}
+use Rattle.determinize_below.proofs.Common.{ap, arith, [], Bool, by_cases, cases_lt, Fail, false, get_or, get_or-set_other, get_or-set_same, length, not, set, subst, sym, true, List, Nfa, Node, None, refl, slice_get, Some, state_at, take, target_of, Transition, ℕ, ◌++◌, ◌+◌, ◌<◌, ◌∷◌, ◌≡◌, ◌∙◌, cond, option_or, take_more, get_or_from_slice_get, MarksChanges, matches, sparse_target}
 use Rattle.determinize_below.proofs.nfas.Edges.{state_past}
 
 -- the target of some ranges and one more
@@ -38,3 +38,19 @@ pub all_states : (nfa : Nfa) (b c : ℕ) → ((s : ℕ) → s < length nfa.state
     → (s : ℕ) → target_of (Some b) (state_at nfa s) ≡ target_of (Some c) (state_at nfa s)
 all_states nfa b c same s = by_cases (cases_lt s (length nfa.states)) (same s)
     (λ l. let past = state_past nfa s l in rw past refl)
+
+-- one more mark, at a byte that differs from the byte before it
+pub one_marked : (P : ℕ → Type 0) (marks : List Bool) (n byte : ℕ) (same : Bool) → n ≡ byte → byte + 1 < length marks
+    → (same ≡ true → P byte) → ((b : ℕ) → b < byte → get_or marks (b + 1) false ≡ false → P b)
+    → (b : ℕ) → b < byte + 1 → get_or (set marks (n + 1) (not same)) (b + 1) false ≡ false → P b
+one_marked P marks n byte same e l here before b low h = by_cases (cases_lt b byte)
+    (λ k. before b k (sym (get_or-set_other marks (n + 1) (b + 1) (not same) false (λ z. omega arith)) ∙ h))
+    (λ k. let z : byte ≡ b = omega arith in
+    let s : b + 1 ≡ n + 1 = omega arith in
+    let m : not same ≡ false = sym (get_or-set_same marks (n + 1) (not same) false (omega arith))
+    ∙ ap (λ w. get_or (set marks (n + 1) (not same)) w false) (sym s) ∙ h in
+    subst P z (here (true_from_not same m)))
+  where
+    true_from_not : (x : Bool) → not x ≡ false → x ≡ true
+    true_from_not true m = refl
+    true_from_not false m = absurd (cc)
