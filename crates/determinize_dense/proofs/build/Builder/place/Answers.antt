@@ -3,13 +3,24 @@ use Rattle.determinize_core.proofs.Common.{subst}
 use Rattle.determinize_core.proofs.Common.{sym, [], ◌++◌, ◌∙◌, ◌∷◌, ◌≡◌, ◌≤◌}
 use Rattle.determinize_dense.proofs.Common.{Building, HasMoreStates, IsBuilding, IsReachedValue, Stays}
 use Rattle.determinize_engine.proofs.Places.{get_last, same_is}
-use Rattle.determinize_dense.proofs.Building.{building-value, one_too_many, stays-value}
+use Rattle.determinize_dense.proofs.Building.{building-value, one_too_many, stays-same, stays-value}
 use Rattle.determinize_dense.proofs.build.Builder.place.Goals as goal
 
 pub returns-then-eq-clause-at : goal.returns-then-eq-clause-at
 returns-then-eq-clause-at g c =
     ap (λ (x : Building). slice_get x.values c.args.likely) (sym c.self.view_is) ∙ c.get.ensures
     ∙ ap Some (same_is c.get.result.now c.args.state.now (sym c.eq.ensures ∙ c.if-eq.true))
+
+pub returns-then-eq-clause-stays : goal.returns-then-eq-clause-stays
+returns-then-eq-clause-stays g c = stays-same c.args.self.now
+
+pub returns-in-Some-clause-at : goal.returns-in-Some-clause-at
+returns-in-Some-clause-at g c =
+    ap (λ (x : Building). slice_get x.values c.row_of.result) (sym c.self.view_is)
+    ∙ ap (λ n. slice_get c.self.inside.states n) c.row_of.ensures ∙ c.in-Some.ensures.index
+
+pub returns-in-Some-clause-stays : goal.returns-in-Some-clause-stays
+returns-in-Some-clause-stays g c = stays-same c.args.self.now
 
 pub returns-then-len-self-clause-many : goal.returns-then-len-self-clause-many
 returns-then-len-self-clause-many g c = λ _.

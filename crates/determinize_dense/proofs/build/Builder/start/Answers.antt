@@ -107,3 +107,25 @@ returns-clause-next g c = c.place.ensures.next ∙ ap (λ (x : Building). x.next
 pub returns-in_default-clause-within : goal.returns-in_default-clause-within
 returns-in_default-clause-within g c = slice_get_within _ 0 _
     (subst (λ (x : Building). IsBuilding x) c.self.view_is c.self.invariant).first
+
+pub invariant_of-self-2 : goal.invariant_of-self-2
+invariant_of-self-2 g c =
+    subst (λ (s : StepperValue). IsBuilding record {
+      nfa = s.nfa;
+      kind = s.kind;
+      classes = c.self.inside.classes;
+      limit = c.self.inside.limit;
+      values = c.self.inside.states;
+      next = c.self.inside.next.items;
+    }) (sym c.in_ok-state.ensures.unchanged) c.self.invariant
+
+pub invariant_of-self : goal.invariant_of-self
+invariant_of-self g c =
+    subst (λ (s : StepperValue). IsBuilding record {
+      nfa = s.nfa;
+      kind = s.kind;
+      classes = c.self.inside.classes;
+      limit = c.self.inside.limit;
+      values = c.self.inside.states;
+      next = c.self.inside.next.items;
+    }) (sym c.in_err-state.ensures.unchanged) c.self.invariant

@@ -14,6 +14,13 @@ count-is g c =
     n ∙ sym (length-map c.self.inside.patterns.items (λ list. list.items))
     ∙ ap (λ (x : DfaValue). length x.table.patterns) c.self.view_is
 
+pub entry-requires-clause-row : goal.entry-requires-clause-row
+entry-requires-clause-row g c = subst (λ n. c.loop-row.row < n)
+    (count-is g (goal.at.entry-requires-clause-row g c).After-len-row-end) c.loop-row-test.true
+
+pub block-requires : goal.block-requires
+block-requires g c = subst (λ n. c.entry.result < n) (sym c.requires.parts) c.entry.ensures.limit
+
 pub loop-row-preserved : goal.loop-row-preserved
 loop-row-preserved g c = record {
   count = ap length c.in_ok-push.ensures.items ∙ length_push c.loop-row.values.items c.block.result
