@@ -1,14 +1,16 @@
-//! Tests through public calls only: outputs that were worked out by hand, texts of values, and the
-//! work of the programs.
+//! Tests through public calls only: outputs that were worked out by hand, texts of values, failing
+//! allocations, large NFAs, and the work of the programs.
 //!
 //! Each function of a test is proved, which takes longer than its run. So they compare by `same`
 //! and `holds`, since the message that a macro writes is proved at each place; and a function that
 //! can fail owns little, since the drop of all that it owns is proved at each of its exits. One
 //! that makes an NFA and a cache lends them to another one as its last call.
 
+mod alloc_failure;
 mod below;
 mod caches;
 mod invalid_jobs;
+mod large;
 mod laws;
 mod map_text;
 mod parts;

@@ -3,6 +3,7 @@
 use crate::tests::runs::{Failing, words};
 use crate::tests::{same, same_at};
 use example_walks::rows::run_rows;
+use std::process::Abort;
 use std::test::Fail;
 
 /// Unknown names, one per line.
@@ -10,33 +11,39 @@ static OTHER_WORDS: [&str; 15] = [
     "", "3\n3", "3\n4a", "1", "4", "03", "4A", "15", "21", "28", "-3", "\n", " 3", "3 ", "3\t",
 ];
 
+/// Runs the program with words that name no example, and compares the status and all output.
+fn expect_rejected<R: Abort + AllocGlobal>(rt: &R, line: &str, words: &[String]) {
+    let mut out = Vec::new(rt.alloc());
+    let mut err = Vec::new(rt.alloc());
+    let status = run_rows(rt.alloc(), words, &mut out, &mut err);
+    same_at(rt, line, status, 2);
+    same_at(rt, line, out.as_slice(), [].as_slice());
+    same_at(rt, line, err.as_slice(), b"no such row\n".as_slice());
+}
+
 #[test]
 fn rejects_other_arguments(rt: HostRuntime) -> Result<(), Fail> {
     for line in &OTHER_WORDS {
-        let words = words(&rt, line)?;
-        let mut out = Vec::new(rt.alloc());
-        let mut err = Vec::new(rt.alloc());
-        let status = run_rows(rt.alloc(), words.as_slice(), &mut out, &mut err);
-        same_at(&rt, line, status, 2);
-        same_at(&rt, line, out.as_slice(), [].as_slice());
-        same_at(&rt, line, err.as_slice(), b"no such row\n".as_slice());
+        expect_rejected(&rt, line, words(&rt, line)?.as_slice());
     }
     Ok(())
+}
+
+/// Runs the program over a writer that fails after a number of writes, and compares the status.
+fn expect_status<R: Abort + AllocGlobal>(rt: &R, words: &[String], left: u32, status: u8) {
+    let mut out = Failing { left };
+    let mut err = Vec::new(rt.alloc());
+    let found = run_rows(rt.alloc(), words, &mut out, &mut err);
+    same_at(rt, left, found, status);
 }
 
 #[test]
 fn tells_of_output_that_fails(rt: HostRuntime) -> Result<(), Fail> {
     let words = words(&rt, "3")?;
     for left in 0u32..30 {
-        let mut out = Failing { left };
-        let mut err = Vec::new(rt.alloc());
-        let status = run_rows(rt.alloc(), words.as_slice(), &mut out, &mut err);
-        same_at(&rt, left, status, 1);
+        expect_status(&rt, words.as_slice(), left, 1);
     }
-    let mut out = Failing { left: 1000 };
-    let mut err = Vec::new(rt.alloc());
-    let status = run_rows(rt.alloc(), words.as_slice(), &mut out, &mut err);
-    same(&rt, status, 0);
+    expect_status(&rt, words.as_slice(), 1000, 0);
     Ok(())
 }
 

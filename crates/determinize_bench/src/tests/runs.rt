@@ -308,21 +308,21 @@ fn lines_that_cannot_be_read(rt: HostRuntime) -> Result<(), Fail> {
     )
 }
 
+/// Compares the status and the message of a run whose output fails after a number of writes.
+fn expect_failing<R: Abort + AllocGlobal>(rt: &R, left: u32, status: u8, told: &str) {
+    let mut out = Failing { left };
+    let mut err = Vec::new(rt.alloc());
+    let found = run(rt.alloc(), &[], WRONG_FIRST.as_bytes(), &mut out, &mut err);
+    same_at(rt, left, found, status);
+    same_at(rt, left, err.as_slice(), told.as_bytes());
+}
+
 #[test]
 fn output_that_fails(rt: HostRuntime) {
-    let text = WRONG_FIRST.as_bytes();
     for left in 0u32..8 {
-        let mut out = Failing { left };
-        let mut err = Vec::new(rt.alloc());
-        let status = run(rt.alloc(), &[], text, &mut out, &mut err);
-        same_at(&rt, left, status, 2);
-        let told = b"the output can't be written\n".as_slice();
-        same_at(&rt, left, err.as_slice(), told);
+        expect_failing(&rt, left, 2, "the output can't be written\n");
     }
-    let mut out = Failing { left: 1000 };
-    let mut err = Vec::new(rt.alloc());
-    same(&rt, run(rt.alloc(), &[], text, &mut out, &mut err), 1);
-    same(&rt, err.as_slice(), [].as_slice());
+    expect_failing(&rt, 1000, 1, "");
 }
 
 #[test]
@@ -334,22 +334,25 @@ fn keeps_its_status_where_errors_fail(rt: HostRuntime) {
     same(&rt, out.as_slice(), [].as_slice());
 }
 
+/// Compares the status and the message of an error.
+fn expect_told<R: Abort + AllocGlobal>(rt: &R, error: ReplayError, told: &str) {
+    let mut err = Vec::new(rt.alloc());
+    same(rt, report(Err(error), &mut err), 2);
+    same(rt, err.as_slice(), told.as_bytes());
+}
+
 #[test]
 fn tells_of_each_error(rt: HostRuntime) {
     let memory = io::Error::from(io::ErrorKind::OutOfMemory);
     let other = io::Error::from(io::ErrorKind::InvalidData);
-    for (error, told) in [
-        (ReplayError::from(AllocError), "out of memory\n"),
-        (ReplayError::of_reading(3, &memory), "out of memory\n"),
-        (ReplayError::of_arguments(&memory), "out of memory\n"),
-        (
-            ReplayError::of_job(rt.alloc(), 3, ReadError::from(TextError::from(AllocError))),
-            "out of memory\n",
-        ),
-        (ReplayError::of_arguments(&other), NOT_TAKEN),
-    ] {
-        let mut err = Vec::new(rt.alloc());
-        same(&rt, report(Err(error), &mut err), 2);
-        same(&rt, err.as_slice(), told.as_bytes());
-    }
+    let of_job = ReadError::from(TextError::from(AllocError));
+    expect_told(&rt, ReplayError::from(AllocError), "out of memory\n");
+    expect_told(&rt, ReplayError::of_reading(3, &memory), "out of memory\n");
+    expect_told(&rt, ReplayError::of_arguments(&memory), "out of memory\n");
+    expect_told(
+        &rt,
+        ReplayError::of_job(rt.alloc(), 3, of_job),
+        "out of memory\n",
+    );
+    expect_told(&rt, ReplayError::of_arguments(&other), NOT_TAKEN);
 }

@@ -1,4 +1,5 @@
-//! Tests of failing allocations, of calls that do not allocate, and of large NFAs.
+//! Tests of failing allocations, and of calls that do not allocate. Every public call that
+//! allocates, and the program `rows`, runs with each of its allocations failing in turn.
 //!
 //! A trial is generic in its allocator, and makes its calls one after another. So each of their
 //! allocations fails in turn, and the proof of a trial does not depend on the failing allocator,
@@ -9,14 +10,14 @@ ghost use Rattle.determinize_below.specs.Nfa.{AllResolve};
 ghost use Rattle.determinize_engine.specs.Searches.{has_start};
 
 mod caches;
-mod large;
 mod patterns;
 mod steps;
 mod trial;
 mod values;
 mod without;
 
-use crate::tests::trial::{OfWalk, Trial};
+use crate::tests::alloc_failure::trial::{OfWalk, Trial};
+use crate::tests::same;
 use determinize_below::{Anchored, HalfMatch, Input, MatchKind, NFA};
 use determinize_core::determinize;
 use determinize_core::state::State;
@@ -28,19 +29,8 @@ use example_walks::fields::Fields;
 use example_walks::values::bytes;
 use failing_alloc::{FailingAllocator, Outcome, fail_each_allocation};
 use std::alloc::{AllocError, Allocator, Global};
-use std::fmt::Debug;
 use std::process::Abort;
 use std::test::Fail;
-
-/// Asserts that two values are equal.
-pub fn same<R: Abort, T: PartialEq + Debug + Copy>(rt: &R, found: T, wanted: T) {
-    assert_eq!(rt; found, wanted);
-}
-
-/// Asserts a condition.
-pub fn holds<R: Abort>(rt: &R, is_so: bool) {
-    assert!(rt; is_so);
-}
 
 /// The allocator of a run.
 pub type Heap = FailingAllocator<Global>;

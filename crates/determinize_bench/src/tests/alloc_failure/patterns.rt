@@ -1,7 +1,8 @@
 //! The compilation of patterns.
 
-use crate::tests::trial::Trial;
-use crate::tests::{fail_each_in_turn, same};
+use crate::tests::alloc_failure::fail_each_in_turn;
+use crate::tests::alloc_failure::trial::Trial;
+use crate::tests::same;
 use determinize_below::{BuildError, Look};
 use determinize_pattern::{CompileError, Config, Pattern, compile};
 use example_walks::error::TextError;

@@ -4,8 +4,9 @@ ghost use Rattle.std.specs.Prelude.{◌≡◌, ◌<◌, length, IfOk};
 ghost use Rattle.determinize_below.specs.Nfa.{AllResolve};
 ghost use Rattle.determinize_core.specs.Scratch.{IsScratch};
 
-use crate::tests::trial::{OfWalk, Trial};
-use crate::tests::{Row, fail_each_in_turn, fail_each_over_walks, holds, same};
+use crate::tests::alloc_failure::trial::{OfWalk, Trial};
+use crate::tests::alloc_failure::{Row, fail_each_in_turn, fail_each_over_walks};
+use crate::tests::{holds, same};
 use determinize_below::{Look, LookSet, NFA, SparseSet, SparseSets, StateID, Unit};
 use determinize_core::determinize::{
     Steps, add_nfa_states, epsilon_closure, next, next_counted, set_lookbehind_from_start,

@@ -1,7 +1,7 @@
 //! Large NFAs: long chains, wide unions and many matches. Each is walked over `ab`. The expected
 //! numbers of patterns and NFA states of each state follow from the shape of the NFA.
 
-use crate::tests::same;
+use crate::tests::{ended, same};
 use determinize_below::{
     HalfMatch, Look, LookMatcher, MatchKind, NFA, PatternID, StateID, Transition, nfa,
 };
@@ -91,11 +91,6 @@ fn walked(alloc: Global, kind: MatchKind, states: Vec<nfa::State>) -> Result<Vec
     let first = StateID::ZERO;
     let nfa = NFA::from_parts(alloc, states, first, first, false, LookMatcher::new())?;
     Ok(walk(alloc, &nfa, kind, nfa.start_anchored(), None, b"ab")?)
-}
-
-/// Returns the match of pattern 0 that ends at this offset.
-fn ended(offset: usize) -> Option<HalfMatch> {
-    Some(HalfMatch::new(PatternID::ZERO, offset))
 }
 
 /// The numbers of patterns and of NFA states of a state.

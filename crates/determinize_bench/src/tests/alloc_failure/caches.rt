@@ -2,8 +2,9 @@
 
 ghost use Rattle.std.specs.Prelude.{◌≡◌};
 
-use crate::tests::trial::OfWalk;
-use crate::tests::{Row, fail_each_over_walks, holds, same, succeed_if};
+use crate::tests::alloc_failure::trial::OfWalk;
+use crate::tests::alloc_failure::{Row, fail_each_over_walks, succeed_if};
+use crate::tests::{holds, same};
 use determinize_below::{LookMatcher, MatchKind, NFA, StateID};
 use determinize_core::determinize::last_match;
 use determinize_core::state::State;

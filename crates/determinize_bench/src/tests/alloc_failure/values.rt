@@ -1,7 +1,8 @@
 //! Builders, and the states that they build.
 
-use crate::tests::trial::{OfWalk, Trial};
-use crate::tests::{Row, fail_each_in_turn, fail_each_over_walks, same};
+use crate::tests::alloc_failure::trial::{OfWalk, Trial};
+use crate::tests::alloc_failure::{Row, fail_each_in_turn, fail_each_over_walks};
+use crate::tests::same;
 use determinize_below::StateID;
 use determinize_core::state::{State, StateBuilderEmpty, StateBuilderMatches, StateBuilderNFA};
 use determinize_replay::records::add_patterns;

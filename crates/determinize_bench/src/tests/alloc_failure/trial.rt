@@ -1,6 +1,6 @@
 //! What is done while each allocation fails in turn.
 
-use crate::tests::{Row, caches, patterns, steps, values};
+use crate::tests::alloc_failure::{Row, caches, patterns, steps, values};
 use determinize_below::StateID;
 use determinize_pattern::Pattern;
 use example_walks::error::TextError;

@@ -1,9 +1,10 @@
 //! The calls that do not allocate: they succeed while every allocation would fail, and request
 //! none.
 
-use crate::tests::steps::start_kind;
-use crate::tests::values::{builder_of, clone_of};
-use crate::tests::{Heap, Row, holds, rows, same};
+use crate::tests::alloc_failure::steps::start_kind;
+use crate::tests::alloc_failure::values::{builder_of, clone_of};
+use crate::tests::alloc_failure::{Heap, Row, rows};
+use crate::tests::{holds, same};
 use determinize_below::{
     HalfMatch, Input, Look, LookSet, MatchKind, PatternID, SparseSet, SparseSets, StateID,
 };
