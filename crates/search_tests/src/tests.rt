@@ -8,6 +8,7 @@ mod idle;
 mod patterns;
 mod pieces;
 mod reading;
+mod sizes;
 mod stored_walks;
 mod trial;
 mod uses;
