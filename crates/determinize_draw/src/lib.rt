@@ -16,6 +16,3 @@ mod targets;
 pub use crate::dfa::DfaGraph;
 pub use crate::nfa::NfaGraph;
 pub use crate::search::SearchGraph;
-
-#[cfg(test)]
-mod tests;

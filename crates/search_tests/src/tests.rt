@@ -1,8 +1,10 @@
-//! Searches whose results were worked out by hand, or are those of another search or program.
+//! Searches whose results were worked out by hand, or are those of another search or program, and
+//! graphs written by hand.
 
 mod classes;
 mod dense;
 mod dfa;
+mod draw;
 mod find;
 mod idle;
 mod patterns;

@@ -1,11 +1,11 @@
 //! The texts of two graphs, written by hand.
 
-use crate::{DfaGraph, NfaGraph};
 use determinize_below::nfa::{SparseTransitions, State};
 use determinize_below::{
     BuildError, Look, LookMatcher, MatchKind, NFA, PatternID, StateID, Transition,
 };
 use determinize_dense::Dfa;
+use determinize_draw::{DfaGraph, NfaGraph};
 use std::alloc::Global;
 use std::process::Abort;
 use std::test::Fail;
