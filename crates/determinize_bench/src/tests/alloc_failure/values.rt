@@ -48,6 +48,26 @@ fn add_states<A: Allocator>(
     Ok(())
 }
 
+/// Returns a clone of a builder with the patterns, flags and look-have of a state.
+fn with_flags<A: Allocator + Copy>(
+    alloc: A,
+    state: &State<A>,
+) -> Result<StateBuilderMatches<A>, TextError> {
+    let mut matches = with_patterns(alloc, state)?;
+    set_flags(&mut matches, state);
+    Ok(matches.clone()?)
+}
+
+/// Returns a clone of a builder with the value of a state.
+fn with_states<A: Allocator + Copy>(
+    alloc: A,
+    state: &State<A>,
+) -> Result<StateBuilderNFA<A>, TextError> {
+    let mut builder = with_flags(alloc, state)?.into_nfa();
+    add_states(&mut builder, state)?;
+    Ok(builder.clone()?)
+}
+
 /// Copies a state by way of a clone of each builder, and compares the bytes of a clone of the copy.
 fn copy<R: Abort, A: Allocator + Copy>(
     rt: &R,
@@ -55,11 +75,8 @@ fn copy<R: Abort, A: Allocator + Copy>(
     state: &State<A>,
     bytes: &[u8],
 ) -> Result<(), TextError> {
-    let mut matches = with_patterns(alloc, state)?;
-    set_flags(&mut matches, state);
-    let mut builder = matches.clone()?.into_nfa();
-    add_states(&mut builder, state)?;
-    let copy = builder.clone()?.to_state()?.clone()?;
+    let builder = with_states(alloc, state)?;
+    let copy = clone_of(&builder)?;
     same(rt, copy.as_bytes(), bytes);
     Ok(())
 }
