@@ -37,7 +37,6 @@ pub use Rattle.determinize_lazy.specs.Private.Searched.{cached_place, ends_at, F
 pub use Rattle.determinize_lazy.specs.Private.Searched.{GoesToCached, HasCome, IsCachedPosition, IsCutOffAt, IsNext}
 pub use Rattle.determinize_lazy.specs.Private.Searched.{IsOver, IsOverText, next_place, Place, place}
 pub use Rattle.determinize_lazy.specs.Private.Starts.{AreStarts, start_index}
-pub use Rattle.determinize_lazy.specs.Private.Steps.{IsFailedStep, IsFollowed, IsSound, IsStepped, IsWalkedOn}
-pub use Rattle.determinize_lazy.specs.Private.Steps.{IsWalking}
+pub use Rattle.determinize_lazy.specs.Private.Steps.{IsFailedStep, IsFollowed, IsSound, IsStepped, IsWalking}
 pub use Rattle.determinize_table.specs.Tags.{is_last_tag, match_of, match_reported, Tag, tag_in, tag_of}
 pub use Rattle.determinize_engine.specs.UnitsRead.{is_last, units_read}

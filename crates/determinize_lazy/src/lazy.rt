@@ -4,7 +4,7 @@
 //! the target of one that is added cannot be cached. No single state or transition is ever removed,
 //! so between two clears the id of a cached state stays the same.
 
-ghost use Rattle.std.specs.Prelude.{◌≡◌, ◌<◌, ◌≤◌, ◌*◌, drop, length, IfOk, OnErr, OnOk};
+ghost use Rattle.std.specs.Prelude.{◌≡◌, ◌<◌, ◌≤◌, ◌*◌, length, IfOk, OnErr, OnOk};
 ghost use Rattle.determinize_below.specs.Nfa.{AllResolve, IsAccepted};
 ghost use Rattle.determinize_below.specs.Semantics.{between};
 ghost use Rattle.determinize_core.specs.Chain.{future, units};
@@ -12,8 +12,7 @@ ghost use Rattle.determinize_core.specs.WholeWalk.{IsWalk};
 ghost use Rattle.determinize_engine.specs.declared.state_table.TheConstants.{MAX_STATES};
 ghost use Rattle.determinize_lazy.specs.Cache.{Grows, IsCutOff, IsCutOffText, after_text, after_walk, cache, step_of};
 ghost use Rattle.determinize_lazy.specs.Plenty.{IsPlentyText};
-ghost use Rattle.determinize_lazy.specs.Private.Steps.{IsFollowed, IsWalkedOn};
-ghost use Rattle.determinize_table.specs.Cursors.{IsCursor, cursor_value};
+ghost use Rattle.determinize_lazy.specs.Private.Steps.{IsFollowed};
 ghost use Rattle.determinize_table.specs.Table.{IsTable, empty};
 
 use determinize_below::{MatchKind, NFA, StateID};
@@ -188,39 +187,6 @@ impl<'n, N: Allocator, A: Allocator + Copy> Lazy<'n, N, A> {
         Ok((id, read))
     }
 
-    /// Takes a step of a walk over the unit of a text at an index, follows cached transitions from
-    /// there, and adds a clone of each state. Returns where the walk is then, and the index of the
-    /// first unit not read.
-    fn walk_on(
-        &mut self,
-        from: Cursor<A>,
-        start: usize,
-        text: &Text<'_>,
-        states: &mut Vec<State<A>, A>,
-    ) -> Result<(Cursor<A>, usize), AllocError>
-        requires cursor { IsCursor self.old.states from }
-        requires resolve { AllResolve self.old.nfa
-            (cursor_value self.old.states from).states }
-        requires read { start ≤ length text.now.bytes }
-        requires limit { start < usize.MAX }
-        ensures walked { IfOk result (λ at. IsWalkedOn (units text.now) self.old
-            (cursor_value self.old.states from) start states.old.items self.new at.0 at.1
-            states.new.items) }
-        ensures failed { OnErr result (IsCutOff (cache self.old)
-            (cursor_value self.old.states from) (drop start (units text.now)) (cache self.new)) }
-        ensures grows { Grows (cache self.old) (cache self.new) }
-    {
-        let next = self.step(from, text.unit(start))?;
-        states.push(self.table.state(&next).clone()?)?;
-        match next {
-            Cursor::Cached(id) => {
-                let (id, read) = self.follow_units(id, start + 1, text, states)?;
-                Ok((Cursor::Cached(id), read))
-            }
-            Cursor::Uncached(state) => Ok((Cursor::Uncached(state), start + 1)),
-        }
-    }
-
     /// Returns a state and the states that follow it over each unit of a text.
     fn walk_from(
         &mut self,
@@ -241,9 +207,15 @@ impl<'n, N: Allocator, A: Allocator + Copy> Lazy<'n, N, A> {
         states.push(first)?;
         let mut read = 0;
         while read <= text.len() {
-            let (next, after) = self.walk_on(cursor, read, text, &mut states)?;
-            cursor = next;
-            read = after;
+            let unit = text.unit(read);
+            cursor = self.step(cursor, unit)?;
+            states.push(self.table.state(&cursor).clone()?)?;
+            read += 1;
+            if let Cursor::Cached(id) = &cursor {
+                let (id, next) = self.follow_units(*id, read, text, &mut states)?;
+                cursor = Cursor::Cached(id);
+                read = next;
+            }
         }
         Ok(states)
     }

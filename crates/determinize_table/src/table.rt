@@ -326,6 +326,7 @@ impl<A: Allocator + Copy> TransitionTable<A> {
 
     /// Returns whether at most `limit` states are cached once the source and the target of one more
     /// transition are too. `found` is the id of the target, if it is cached.
+    #[tactic(auto, using(crate::proofs::Changes::counting))]
     fn fits(
         &self,
         source: &Cursor<A>,

@@ -1,10 +1,10 @@
 -- A step over a cached transition: what a lookup returns is the state that follows.
--- Main statements: at-found, cached_target, cached_step, stepped_at, followed-next, walked-one, walked-followed.
--- Used by: `step`, `compute`, `follow_units`, `walk_on`, and searches of what is cached.
+-- Main statements: at-found, cached_target, cached_step, stepped_at, followed-next.
+-- Used by: `step`, `compute`, `follow_units`, and searches of what is cached.
 -- Idea: each cached transition is a step of the DFA, and the step over it changes nothing.
 use Rattle.determinize_lazy.proofs.Common.{[], after_step, ap, arith, cache, Cache, cursor_value, dead, false, get_or}
 use Rattle.determinize_lazy.proofs.Common.{get_or_from_slice_get, is_cached, is_some, IsAt, IsCursor, IsFollowed}
-use Rattle.determinize_lazy.proofs.Common.{IsSound, IsStepped, IsTable, IsTarget, IsWalkedOn, LazyValue, List, Ok, Option, refl}
+use Rattle.determinize_lazy.proofs.Common.{IsSound, IsStepped, IsTable, IsTarget, LazyValue, List, Ok, Option, refl}
 use Rattle.determinize_lazy.proofs.Common.{slice_get, slice_get-get_or, slice_get_within, Some, step_of, true, Value, ℕ}
 use Rattle.determinize_lazy.proofs.Common.{◌++◌, ◌+◌, ◌∙◌, ◌∷◌, ◌≡◌}
 use Rattle.determinize_lazy.proofs.walking.CachedWalks.{drop-one, walks-on}
@@ -65,26 +65,3 @@ followed-next {us} {c} {id = id} {read} {next} {u = u} {w} sound f here target a
       walking = λ old first walk. rw w_is (walks-on (rw (drop-one us read u here) at f.walking old first walk)
           (rw (← w_is) s.at.value) s.after);
     }
-
--- a walk that took a step
-pub walked-one : {A E : Type 0} {us : List (Option ℕ)} {old new : LazyValue} {v : Value} {u : Option ℕ} {start : ℕ}
-    {before : List Value} {at : Cursor A} → slice_get us start ≡ Some u → IsStepped {A = A} {E = E} old v u (Ok at) new
-    → IsWalkedOn us old v start before new at (start + 1) (before ++ cursor_value new.states at ∷ [])
-walked-one {us = us} {u = u} {start} here s = record {
-  cursor = s.at.cursor_is;
-  further = omega arith;
-  resolve = rw (s.grows.nfa, s.at.value) s.resolve;
-  walking = λ c first walk. walks-on (rw (drop-one us start u here) at walk) s.at.value s.after;
-}
-
--- one that then followed cached transitions
-pub walked-followed : {A : Type 0} {us : List (Option ℕ)} {old new : LazyValue} {v : Value} {start from read id after : ℕ}
-    {before done states : List Value} → IsWalkedOn {A = A} us old v start before new (Cached from) read done
-    → IsFollowed us new from read done id after states
-    → IsWalkedOn {A = A} us old v start before new (Cached id) after states
-walked-followed w f = record {
-  cursor = f.inside;
-  further = omega (arith, w.further, f.further);
-  resolve = f.resolve w.resolve;
-  walking = λ c first walk. f.walking c first (w.walking c first walk);
-}

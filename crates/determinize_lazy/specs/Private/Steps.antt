@@ -6,7 +6,7 @@ use Rattle.determinize_core.specs.Chain.{future}
 use Rattle.determinize_core.specs.Value.{Value, dead}
 use Rattle.determinize_lazy.specs.Cache.{Cache, Grows, IsCutOff, LazyValue, after_step, after_walk}
 use Rattle.determinize_lazy.specs.Cache.{cache, step_of}
-use Rattle.determinize_table.specs.Cursors.{IsAt, IsCursor, cursor_value}
+use Rattle.determinize_table.specs.Cursors.{IsAt}
 use Rattle.determinize_table.specs.declared.table.Cursor.{Cursor}
 use Rattle.determinize_table.specs.Table.{IsTable, empty}
 
@@ -59,15 +59,3 @@ pub record IsFollowed (us : List (Option ℕ)) (c : LazyValue) (from start : ℕ
   pub walking : (old : Cache) (first : Value)
       → IsWalking old first us before (cache c) (slice_index_or c.states from dead) (drop start us)
       → IsWalking old first us done (cache c) (slice_index_or c.states id dead) (drop read us)
-
--- a walk over these units took a step and followed cached transitions: one that was at the value
--- with the first index and the states `before` is at the cursor, further on, with `done`
-pub record IsWalkedOn {A : Type 0} (us : List (Option ℕ)) (old : LazyValue) (v : Value) (start : ℕ)
-    (before : List Value) (new : LazyValue) (at : Cursor A) (read : ℕ) (done : List Value)
-    : Type 0 where
-  pub cursor : IsCursor new.states at
-  pub further : start < read
-  pub resolve : AllResolve new.nfa (cursor_value new.states at).states
-  pub walking : (c : Cache) (first : Value)
-      → IsWalking c first us before (cache old) v (drop start us)
-      → IsWalking c first us done (cache new) (cursor_value new.states at) (drop read us)
