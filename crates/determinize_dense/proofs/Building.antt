@@ -219,7 +219,7 @@ building-first nfa kind classes limit accepted of sound some few = record {
   limit = few;
 }
 
--- other entries do not matter
+-- other entries are not read
 pub stays-next : {a b : Building} (next : List ℕ) → Stays a b → Stays a (record b { next = next })
 stays-next next s = record {
   nfa = s.nfa;

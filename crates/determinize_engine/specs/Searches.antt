@@ -34,7 +34,7 @@ abbrev pub start_for : Nfa → Anchored → ℕ
 start_for nfa No = nfa.start_unanchored
 start_for nfa _ = nfa.start_anchored
 
--- bytes in reading order: from the last to the first where they are read backward
+-- bytes in reading order: from the last to the first in reverse
 abbrev pub in_order : Bool → List ℕ → List ℕ
 in_order false bytes = bytes
 in_order true bytes = reverse bytes
@@ -56,18 +56,18 @@ index_after true asked read = asked.end - read
 abbrev pub in_haystack : Bool → Asked → HalfMatch → HalfMatch
 in_haystack backward asked m = record m { offset = index_after backward asked m.offset }
 
--- the answer to an input: that of a search of its text, in the haystack
+-- the result for an input: that of a search of its text, in the haystack
 abbrev pub found_in : Nfa → Asked → Option HalfMatch → Option HalfMatch
 found_in nfa asked found =
     cond (is_done asked) None (option_map (in_haystack nfa.reverse asked) found)
 
--- the last match of the walk over what an input asks for
+-- the last match of the walk over the text of an input
 unfoldable pub last_in : Nfa → MatchKind → Asked → Option HalfMatch
 last_in nfa kind asked =
     found_in nfa asked (last_match (chain nfa kind (start_for nfa asked.anchored)
     (text_of nfa.reverse asked)))
 
--- some run over what an input asks for accepts
+-- some run over the text of an input accepts
 abbrev pub HasMatch : Nfa → Asked → Type 0
 HasMatch nfa asked = (cs : List ℕ) × (i : ℕ) × (pattern : ℕ)
     × Accepts nfa (text_of nfa.reverse asked) (start_for nfa asked.anchored) cs i pattern

@@ -1,4 +1,4 @@
--- The worked walks and searches over one cache, computed.
+-- The example walks and searches over one cache, computed.
 use Rattle.determinize_below.specs.Edges.{reach}
 use Rattle.determinize_below.specs.Look.{has, insert, meets}
 use Rattle.determinize_below.specs.Semantics.{is_word_byte}

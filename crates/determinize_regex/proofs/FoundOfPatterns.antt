@@ -2,7 +2,7 @@
 -- Main statements: each_leftmost_in_is_of, each_matches_are_of.
 -- Used by: `laws::matches_of_law`.
 -- Idea: after the usual prefix the two starts differ, so the last position where a match may begin depends on the input
--- alone; all matches are those of one relation for one input, so equal relations have equal lists.
+-- only; all matches are those of one relation for one input, so equal relations have equal lists.
 use Rattle.std.proofs.Common.{◌≡◌, ◌-◌, ◌↔◌, ◌∷◌, ℕ, List, None, Option, Some, [], cond, refl}
 use Rattle.determinize_below.specs.Search.{Asked}
 use Rattle.determinize_below.specs.Semantics.{Nfa}

@@ -1,4 +1,4 @@
--- Each input has a leftmost match of the patterns, or none.
+-- For each input the leftmost match of the patterns exists, or they have no match.
 -- Main statements: has_leftmost_of_in.
 -- Used by: `is_match` of `Regex` and of `Matcher`.
 -- Idea: the positions are tried in turn, and each has a list of ends, which is empty or has a first one.
@@ -16,7 +16,7 @@ use Rattle.determinize_regex.specs.PatternMatches.{IsLeftmostOfIn, latest_in}
 use Rattle.ordered_reach.proofs.Cases.{by_cases, by_test}
 
 module _ (t : ℕ) (res : List Re) (text : Text) where
-  -- some match begins at one of the first n positions, or none does
+  -- whether some match begins at one of the first n positions
   abbrev First : ℕ → Type 0
   First n = ((k : ℕ) → k < n → all_ends t text 0 res k ≡ [])
       ⊎ ((m : Match) × (m.start < n) × ((k : ℕ) → k < m.start → all_ends t text 0 res k ≡ [])

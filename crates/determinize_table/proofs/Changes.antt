@@ -30,7 +30,7 @@ pub at_id : {A : Type 0} (states : List Value) (id : ℕ) (v : Value) → slice_
     → IsAt {A = A} states (Cached id) v
 at_id states id v at = grind (arith, slice_get_within {A = Value}, get_or_from_slice_get {X = Value})
 
--- what is left if a call fails: the table as it was, or none
+-- what is left if a call fails: the table as it was, or the empty table
 pub interned-failed : {E : Type 0} {old new : StoredTable} {v : Value} {e : E} → new ≡ old
     → IsInterned {E = E} old v (Err e) new
 interned-failed same = rw same record { id = tt; table = tt; starts = refl; err = refl }
@@ -59,7 +59,7 @@ pub kept-cleared : {A E : Type 0} {old mid : StoredTable} {kept : Table} {w : Va
 kept-cleared {old = old} cleared =
     record { at = tt; table = tt; starts = no_starts old cleared; failed = inl cleared.table }
 
--- the transition does not fit: it is kept alone, or does not fit either
+-- the transition does not fit: it is kept in an empty table, or does not fit there either
 module _ {old mid : StoredTable} (cleared : IsEmpty mid) (limit : ℕ) (v w x : Value) (u : Option ℕ)
     (full : fits limit (table_of old) v u w ≡ false) (source : x ≡ v) where
   pub kept-alone : {A E : Type 0} {r : Result (Cursor A) E} {new : StoredTable}

@@ -14,9 +14,9 @@
 //!   cached.
 //!
 //! `TransitionTable::keep` (`table`) caches a computed transition with its two states. If the table
-//! would then have more than `limit` states, it is cleared first; if the two states alone are more
-//! than `limit`, it stays empty. It is also cleared if adding the target fails, since the source
-//! may just have been added and would be in no transition. No single state or transition is
+//! would then have more than `limit` states, it is cleared first; if `limit` is less than the count
+//! of these two states, it stays empty. It is also cleared if adding the target fails, since the
+//! source may just have been added and would be in no transition. No single state or transition is
 //! removed, so between two clears an id stays that of its state.
 //!
 //! Everything here is public for `determinize_lazy` only.

@@ -36,7 +36,7 @@ last_ended_more : (vs : List Value) (i : ℕ) (d : Value) → i < length vs
     → last_ended i (drop i vs) ≡ option_or (last_ended (i + 1) (drop (i + 1) vs)) (ended_at i (get_or vs i d).patterns)
 last_ended_more vs i d l = rw (drop_more vs i d l, add-one)
 
--- the last match so far, after one more value that lists a pattern, or none
+-- the last match so far, after one more value that may list a pattern
 module _ (vs : List Value) (i : ℕ) (v : Value) (found whole : Option HalfMatch) (within : i < length vs)
     (at : v ≡ get_or vs i v) (so_far : option_or (last_ended i (drop i vs)) found ≡ whole) where
   pub last_ended_found : (pattern : ℕ) → is_nonempty v.patterns ≡ true → pattern ≡ slice_index v.patterns 0

@@ -111,7 +111,7 @@ leftmost_end nfa asked found forward has s within small some none done = by_test
           is = f ∙ ap (λ o. option_map (in_haystack false asked) o) r.2 ∙ both r.0;
         }
 
--- the start of a range up to a match, read backward, is the text up to there in the other direction
+-- the start of a range up to a match, in reverse, is the text up to there in the other direction
 text-back : (asked : Asked) (j : ℕ) → asked.start + j ≤ asked.end → asked.end ≤ length asked.haystack
     → text_of true record { haystack = asked.haystack; start = asked.start; end = asked.start + j; anchored = Yes }
     ≡ turned (upto (text_of false asked) j)
@@ -146,7 +146,7 @@ module _ (nfa backward : Nfa) (is : IsReverseOf backward nfa) (text : Text) (m :
   order : m.start ≤ m.end
   order = each_run_reads_forward nfa text m.start nfa.start_anchored left.choices m.end m.pattern left.accepts
 
-  -- read backward from the end of a match, a run accepts where the match begins
+  -- in reverse from the end of a match, a run accepts where the match begins
   accepts_back : (cs : List ℕ) × (other : ℕ)
       × Accepts backward (turned (upto text m.end)) backward.start_anchored cs (m.end - m.start) other
   accepts_back = (is.begins text m.end m.start within order).1 (left.choices, m.pattern, left.accepts)

@@ -1,4 +1,4 @@
--- Where a cursor over the matches of an input may stand.
+-- The positions that a cursor over the matches of an input may have.
 use Rattle.std.specs.Prelude.{◌≡◌, ℕ, Option, Some, true}
 use Rattle.determinize_below.specs.Search.{Asked}
 use Rattle.determinize_engine.specs.Searches.{has_start}

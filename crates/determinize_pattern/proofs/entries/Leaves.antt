@@ -1,7 +1,7 @@
 -- The states at which a part with one state or none begins.
 -- Main statements: empty_entry, fail_entry, byte_entry, sparse_entry, look_entry.
 -- Used by: the files compiled.
--- Idea: the state has one edge, or none.
+-- Idea: the state has at most one edge.
 use Rattle.std.specs.List.{find, flat_map, list_any}
 use Rattle.std.specs.Prelude.{Contains, cond, nat_lt, option_map, slice_get}
 use Rattle.std.proofs.Common.{◌≡◌, ◌∙◌, ◌∷◌, ◌||◌, ℕ, Bool, List, None, Option, Some, [], false, refl, suc, true}

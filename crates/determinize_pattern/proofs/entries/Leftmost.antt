@@ -35,7 +35,7 @@ module _ (nfa : Nfa) (text : Text) (start k : ℕ) (xs : List (ℕ × ℕ)) (lis
       let run = rw l.1 at ((walk_is_path next (matched nfa) (k, start) xs lists cs q).0 w) in
       (q.1, run, match_in (state_at nfa q.1) x.0 l.0)
 
-  -- and an accepting run leads to a labelled pair
+  -- and an accepting run ends at a labelled pair
   label_accepted : (cs : List ℕ) (j p : ℕ) (a : AcceptsFrom nfa text k start cs j p)
       → IsGraphWalk next (k, start) cs (j, a.0) × Contains (matched nfa (j, a.0)) (p, j)
   label_accepted cs j p a = (

@@ -9,7 +9,7 @@ use Rattle.std.proofs.Math.Nat.{one-mul, mul-le-mul_left}
 unzigzag-zigzag : (from to : ℕ) → unzigzag from (zigzag from to) ≡ to
 unzigzag-zigzag from to = grind (arith, nat_tests)
 
--- the numbers below this fit in so many groups and one more
+-- the numbers below `room more` fit in `more + 1` groups
 abbrev room : ℕ → ℕ
 room zero = 128
 room (suc more) = 128 * room more

@@ -23,7 +23,7 @@ Part old new P = (t : List ℕ) × (old ≡ t ++ new) × P t
 abbrev pub Reads : Cursor → Cursor → (List ℕ → Type 0) → Type 0
 Reads old new P = Part (rest old) (rest new) P
 
--- another byte comes next, or none
+-- another byte comes next, or the text ends
 abbrev pub IsNotAt : ℕ → Cursor → Type 0
 IsNotAt b c = slice_get (rest c) 0 ≡ Some b → ⊥
 

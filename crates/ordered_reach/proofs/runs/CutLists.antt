@@ -67,7 +67,7 @@ module _ {N : Type 0} {eq : N → N → Bool} (dec : (a b : N) → Decides (eq a
     flat_map-cap k l = flat_map-without (bytes k) cap l (no_byte k)
 
     -- the search repeated from what is recorded is the search under the true assertions, if the
-    -- nodes of cap do not matter to what is cut
+    -- nodes of cap change nothing of what is cut
     redone : (cut : List N → List N)
         → ((k : ℕ) (l : List N) → flat_map (bytes k) (cut (without cap l)) ≡ flat_map (bytes k) (cut l)) → (k : ℕ)
         → without cap (ordered eq (eps k) n none_held (recorded_by eq known eps bytes cap cut n start k))

@@ -29,7 +29,7 @@ module _ {N : Type 0} (next : N → List N) where
       let m = repeated r c cs w n in
       let l : length m.0 < n = walk_short n r h m.0 r m.1 in omega (arith, m.2)
 
-  -- each node of a list leads to r by some edges
+  -- from each node of a list some edges end at r
   abbrev LeadTo : List N → N → Type 0
   LeadTo held r = (s : N) → In s held → (c : ℕ) × (cs : List ℕ) × IsGraphWalk next s (c ∷ cs) r
 

@@ -1,4 +1,4 @@
--- What a node lists, from what the nodes list that its edges lead to.
+-- What a node lists, from what the targets of its edges list.
 -- Main statements: list_none, list_one, list_two, list_each.
 -- Used by: the crates above.
 -- Idea: what is listed at one depth is listed at each greater one, so one depth is enough for several nodes.
