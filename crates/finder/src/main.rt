@@ -17,7 +17,8 @@ use std::{env, fs};
 const LIMIT: usize = 10_000;
 
 const USAGE: &str = "usage: finder [-bcilnoqv] [-e PATTERN].. [PATTERN] [FILE]..
-Prints the lines in which a pattern matches, of the files or of standard input.
+Prints the lines in which a pattern matches, of the files or of standard input, which is
+the file - too.
   -e PATTERN  a pattern; if there are several, the first is preferred
   -i          letters of the pattern match in both cases
   -v          select the lines without a match
@@ -64,14 +65,27 @@ impl Outcome {
     }
 }
 
-/// Searches a file. Writes to standard error if it cannot be opened or read, or if an allocation or
-/// the output fails.
+/// Searches standard input.
+fn search_input<W: Write>(
+    rt: &HostRuntime,
+    lines: &mut Lines<'_>,
+    out: &mut W,
+) -> Result<Outcome, Error> {
+    let count = lines.read("(standard input)", rt.reader(), out)?;
+    Ok(Outcome::of(count))
+}
+
+/// Searches a file, or standard input for `-`. Writes to standard error if a file cannot be opened
+/// or read, or if an allocation or the output fails.
 fn search_file<W: Write>(
     rt: &HostRuntime,
     lines: &mut Lines<'_>,
     name: &str,
     out: &mut W,
 ) -> Result<Outcome, Error> {
+    if name == "-" {
+        return search_input(rt, lines, out);
+    }
     let result = match fs::open(rt, name) {
         Ok(file) => lines.read(name, file, out),
         Err(error) => Err(Error::Io(error)),
@@ -94,7 +108,7 @@ fn search_all<W: Write>(
     out: &mut W,
 ) -> Result<Outcome, Error> {
     if files.is_empty() {
-        return Ok(Outcome::of(lines.read("(standard input)", rt.reader(), out)?));
+        return search_input(rt, lines, out);
     }
     let mut outcome = Outcome::default();
     for name in files {

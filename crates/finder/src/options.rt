@@ -11,7 +11,7 @@ use std::{fmt, io};
 pub struct Options {
     /// The texts of the patterns, of which the first is pattern 0.
     pub patterns: Vec<String>,
-    /// The names of the files. Without one, standard input is read.
+    /// The names of the files; `-` is standard input. Without one, standard input is read.
     pub files: Vec<String>,
     /// What is printed of each line that is selected.
     pub shows: Shows,
@@ -117,7 +117,7 @@ impl Options {
         let mut operands = Vec::new(alloc);
         let mut next = Next::Any;
         for arg in args {
-            next = options.take(arg, next, &mut operands)?;
+            next = options.take(alloc, arg, next, &mut operands)?;
         }
         if next == Next::Pattern {
             return Err(UsageError::MissingPattern);
@@ -148,6 +148,7 @@ impl Options {
     /// Takes an argument, and returns what the next one is.
     fn take(
         &mut self,
+        alloc: Global,
         arg: String,
         next: Next,
         operands: &mut Vec<String>,
@@ -165,12 +166,13 @@ impl Options {
                 operands.push(arg)?;
                 Ok(Next::Any)
             }
-            Next::Any => self.take_option(arg),
+            Next::Any => self.take_option(alloc, arg),
         }
     }
 
-    /// Takes an option: `--help`, `--`, which ends the options, or letters after a hyphen.
-    fn take_option(&mut self, option: String) -> Result<Next, UsageError> {
+    /// Takes an option: `--help`, `--`, which ends the options, or letters after a hyphen. The rest
+    /// of the argument after `e` is a pattern; if it is empty, the next argument is.
+    fn take_option(&mut self, alloc: Global, option: String) -> Result<Next, UsageError> {
         if option.as_str() == "--" {
             return Ok(Next::Operand);
         }
@@ -178,21 +180,30 @@ impl Options {
             self.helps = true;
             return Ok(Next::Any);
         }
-        let mut next = Next::Any;
-        for letter in option.as_bytes().iter().skip(1) {
-            if next == Next::Pattern || !self.set(*letter, &mut next) {
+        let (letters, pattern) = match option.as_str().split_once('e') {
+            Some((letters, pattern)) => (letters, Some(pattern)),
+            None => (option.as_str(), None),
+        };
+        for letter in letters.as_bytes().iter().skip(1) {
+            if !self.set(*letter) {
                 return Err(UsageError::UnknownOption(option));
             }
         }
-        Ok(next)
+        match pattern {
+            None => Ok(Next::Any),
+            Some("") => Ok(Next::Pattern),
+            Some(pattern) => {
+                self.patterns.push(String::from_str(alloc, pattern)?)?;
+                Ok(Next::Any)
+            }
+        }
     }
 
     /// Sets the option of a letter. Returns whether there is one.
-    fn set(&mut self, letter: u8, next: &mut Next) -> bool {
+    fn set(&mut self, letter: u8) -> bool {
         match letter {
             b'b' => self.offsets = true,
             b'c' => self.shows = self.shows.max(Shows::Count),
-            b'e' => *next = Next::Pattern,
             b'i' => self.ignores_case = true,
             b'l' => self.shows = self.shows.max(Shows::Names),
             b'n' => self.numbers = true,

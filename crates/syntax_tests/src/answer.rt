@@ -154,7 +154,7 @@ fn decoded(alloc: Global, hex: &str) -> Result<Vec<u8>, RowError> {
 }
 
 /// Returns what the text is read as.
-fn answer(alloc: Global, text: &str) -> Result<String, RowError> {
+pub fn answer(alloc: Global, text: &str) -> Result<String, RowError> {
     let mut out = String::new(alloc);
     match parse(alloc, text) {
         Ok(pattern) => write_tree(&mut out, &pattern)?,
@@ -167,7 +167,7 @@ fn answer(alloc: Global, text: &str) -> Result<String, RowError> {
 }
 
 /// Returns what the text is read as that the pattern of this text is written as.
-fn answer_again(alloc: Global, text: &str) -> Result<String, RowError> {
+pub fn answer_again(alloc: Global, text: &str) -> Result<String, RowError> {
     let mut written = String::new(alloc);
     match parse(alloc, text) {
         Ok(pattern) => write!(written, "{pattern}")?,

@@ -1,0 +1,140 @@
+//! Texts that are made here: random ones, and long ones of a megabyte.
+
+use crate::answer::{RowError, answer, answer_again};
+use determinize_syntax::parse;
+use std::alloc::Global;
+use std::fmt;
+use std::io::Write;
+
+/// The characters of random texts. Most of them have a meaning in a pattern.
+const CHARACTERS: &str = "aab019-,^$.*+?|()()()[]{}\\:<>=!PimsRUxuwdbn&~ é";
+
+/// How many random texts are parsed.
+const RANDOM: u32 = 100_000;
+
+/// The length that a long text has at least, in bytes.
+const LONG: usize = 1_000_000;
+
+/// A long text: its beginning, what is repeated after it, and what it is read as. Where that is
+/// empty, the text is a pattern.
+type Long = (&'static str, &'static str, &'static str);
+
+/// Of each kind of item of a pattern one that is repeated without end, and of errors some that come
+/// early in a text, and some that come at its end.
+const LONG_TEXTS: [Long; 17] = [
+    ("", "a", ""),
+    ("", "é", ""),
+    ("", "a|", ""),
+    ("", "(a)", ""),
+    ("", "(?:a|b)", ""),
+    ("", "a*?", ""),
+    ("", "a{2,3}", ""),
+    ("", "[^a-z]", ""),
+    ("", "\\d\\n", ""),
+    ("", "^$\\b", ""),
+    ("", "(?i-s)", ""),
+    ("[", "a-z", "error ClassUnclosed 0 1"),
+    ("", ")", "error GroupUnopened 0 1"),
+    ("", "*", "error RepetitionMissing 0 0"),
+    ("", "(", "error NestLimitExceeded 250 251"),
+    ("a", "*", "error NestLimitExceeded 251 252"),
+    ("(", "a", "error GroupUnclosed 0 1"),
+];
+
+/// The counts of texts that were made.
+#[derive(Clone, Copy, Default)]
+pub struct Counts {
+    random: u32,
+    long: u32,
+    differ: u32,
+}
+
+impl Counts {
+    /// Returns whether each text was read as expected.
+    pub fn agree(self) -> bool {
+        self.differ == 0
+    }
+}
+
+impl fmt::Display for Counts {
+    fn fmt<W: fmt::Write>(&self, f: &mut fmt::Formatter<W>) -> fmt::Result {
+        let Counts {
+            random,
+            long,
+            differ,
+        } = *self;
+        write!(
+            f,
+            "{random} random texts, {long} long ones, {differ} differ"
+        )
+    }
+}
+
+/// Returns the next number of a generator with a fixed beginning, below `limit`.
+fn draw(state: &mut u64, limit: u64) -> u64 {
+    *state = state
+        .wrapping_mul(6_364_136_223_846_793_005)
+        .wrapping_add(1_442_695_040_888_963_407);
+    (*state >> 33) % limit.max(1)
+}
+
+/// Replaces a text by a random one of at most 40 characters.
+fn make_random(state: &mut u64, text: &mut String) -> Result<(), RowError> {
+    text.clear();
+    let count = CHARACTERS.chars().count() as u64;
+    for _ in 0..draw(state, 41) {
+        let index = draw(state, count) as usize;
+        if let Some(character) = CHARACTERS.chars().nth(index) {
+            text.push(character)?;
+        }
+    }
+    Ok(())
+}
+
+/// Parses random texts. If one is a pattern, then the text that `Display` writes of it must be read
+/// as the same pattern.
+fn parse_random(alloc: Global, counts: &mut Counts) -> Result<(), RowError> {
+    let mut state = 1;
+    let mut text = String::new(alloc);
+    for _ in 0..RANDOM {
+        make_random(&mut state, &mut text)?;
+        counts.random = counts.random.saturating_add(1);
+        if answer(alloc, &text)? != answer_again(alloc, &text)? {
+            counts.differ = counts.differ.saturating_add(1);
+        }
+    }
+    Ok(())
+}
+
+/// Parses a long text, and returns whether it is read as expected.
+fn is_read(alloc: Global, text: &str, expected: &str) -> Result<bool, RowError> {
+    match parse(alloc, text) {
+        Ok(_) => Ok(expected.is_empty()),
+        Err(_) => Ok(answer(alloc, text)?.as_str() == expected),
+    }
+}
+
+/// Parses long texts.
+fn parse_long(alloc: Global, counts: &mut Counts) -> Result<(), RowError> {
+    for (first, repeated, expected) in LONG_TEXTS {
+        let mut text = String::new(alloc);
+        text.push_str(first)?;
+        while text.len() < LONG {
+            text.push_str(repeated)?;
+        }
+        counts.long = counts.long.saturating_add(1);
+        if !is_read(alloc, &text, expected)? {
+            counts.differ = counts.differ.saturating_add(1);
+        }
+    }
+    Ok(())
+}
+
+/// Parses all texts that are made here, and writes the counts.
+pub fn parse_generated<W: Write>(alloc: Global, out: &mut W) -> Result<Counts, RowError> {
+    let mut counts = Counts::default();
+    parse_random(alloc, &mut counts)?;
+    parse_long(alloc, &mut counts)?;
+    writeln!(out, "{counts}")?;
+    Ok(counts)
+}
