@@ -13,6 +13,7 @@ use crate::nesting::are_within;
 use crate::pattern::Pattern;
 use determinize_below::{BuildError, LookMatcher, NFA, StateID};
 use std::alloc::{AllocError, AllocFailed, Allocator};
+use std::error::Error;
 use std::fmt;
 
 /// The options of `compile`.
@@ -67,6 +68,8 @@ impl fmt::Display for CompileError {
         }
     }
 }
+
+impl Error for CompileError {}
 
 impl From<BuildError> for CompileError {
     ghost use Rattle.determinize_pattern.specs.declared.nfa.CompileError.TheVariants.{Build};

@@ -4,7 +4,7 @@ use determinize_below::BuildError;
 use determinize_pattern::CompileError;
 use determinize_syntax::ParseError;
 use std::alloc::{AllocError, AllocFailed};
-use std::fmt;
+use std::{error, fmt};
 
 /// An error from the patterns of a regex.
 #[derive(Clone, Copy, Debug, PartialEq, Eq)]
@@ -23,6 +23,8 @@ impl fmt::Display for Error {
         }
     }
 }
+
+impl error::Error for Error {}
 
 impl From<CompileError> for Error {
     fn from(error: CompileError) -> Error {

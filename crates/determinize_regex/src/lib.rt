@@ -13,8 +13,8 @@ pub mod laws;
 pub mod matcher;
 pub mod regex;
 
-pub use determinize_below::{Anchored, Input, Match};
-pub use determinize_pattern::{CompileError, Config, Pattern};
+pub use determinize_below::{Anchored, Input, Look, LookMatcher, Match, NFA};
+pub use determinize_pattern::{ClassBytes, ClassBytesRange, CompileError, Config, Pattern};
 pub use determinize_syntax::{ErrorKind, Flags, ParseError};
 pub use error::Error;
 pub use matcher::Matcher;

@@ -1,6 +1,7 @@
 //! Errors of the text of a pattern.
 
 use std::alloc::{AllocError, AllocFailed};
+use std::error::Error;
 use std::fmt;
 
 /// What is wrong with a text, named as in regex-syntax.
@@ -179,6 +180,8 @@ impl fmt::Display for ParseError {
         write!(f, "{kind}, at {start}..{end}")
     }
 }
+
+impl Error for ParseError {}
 
 /// An error with its text.
 #[derive(Clone, Copy)]
