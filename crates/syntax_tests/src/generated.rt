@@ -12,7 +12,7 @@ const CHARACTERS: &str = "aab019-,^$.*+?|()()()[]{}\\:<>=!PimsRUxuwdbn&~ é";
 /// How many random texts are parsed.
 const RANDOM: u32 = 100_000;
 
-/// The length that a long text has at least, in bytes.
+/// The length of what is repeated in a long text, at most, in bytes.
 const LONG: usize = 1_000_000;
 
 /// A long text: its beginning, what is repeated after it, and what it is read as. Where that is
@@ -119,7 +119,7 @@ fn parse_long(alloc: Global, counts: &mut Counts) -> Result<(), RowError> {
     for (first, repeated, expected) in LONG_TEXTS {
         let mut text = String::new(alloc);
         text.push_str(first)?;
-        while text.len() < LONG {
+        for _ in 0..LONG / repeated.len().max(1) {
             text.push_str(repeated)?;
         }
         counts.long = counts.long.saturating_add(1);
