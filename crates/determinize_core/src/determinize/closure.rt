@@ -59,6 +59,42 @@ fn push_reversed<A: Allocator>(
     Ok(())
 }
 
+/// Records a state that is not followed, and returns the current list as it is.
+#[inline(always)]
+fn record_only<'a, N: Allocator, W: Recorder>(
+    nfa: &NFA<N>,
+    id: StateID,
+    others: &'a [StateID],
+    recorder: &mut W,
+) -> Result<&'a [StateID], AllocError>
+    requires { id < length nfa.now.states }
+    ensures current { IfOk result (λ current. current.now ≡ others.now) }
+    ensures recorded { OnOk result (recorder.new ≡ W.with_one nfa.now recorder.old id) }
+{
+    recorder.record(nfa, id)?;
+    Ok(others)
+}
+
+/// Records a state, pushes the current list, and returns the targets of the state as the next one.
+#[inline(always)]
+fn record_and_enter<'a, N: Allocator, A: Allocator, W: Recorder>(
+    nfa: &NFA<N>,
+    id: StateID,
+    targets: &'a [StateID],
+    others: &[StateID],
+    stack: &mut Vec<StateID, A>,
+    recorder: &mut W,
+) -> Result<&'a [StateID], AllocError>
+    requires { id < length nfa.now.states }
+    ensures current { IfOk result (λ current. (current.now ≡ targets.now)
+        × (reverse stack.new.items ≡ others.now ++ reverse stack.old.items)) }
+    ensures recorded { OnOk result (recorder.new ≡ W.with_one nfa.now recorder.old id) }
+{
+    recorder.record(nfa, id)?;
+    push_reversed(others, stack)?;
+    Ok(targets)
+}
+
 /// Records a state and returns the next current list: its epsilon targets, or the first of them.
 /// Other targets and `others` are pushed. Returns `others` if it has none, as most states.
 #[inline(always)]
@@ -76,39 +112,29 @@ fn record_and_follow<'a, N: Allocator, A: Allocator, W: Recorder>(
     ensures recorded { OnOk result (recorder.new ≡ W.with_one nfa.now recorder.old id) }
 {
     if !nfa.state(id).is_epsilon() {
-        recorder.record(nfa, id)?;
-        return Ok(others);
+        return record_only(nfa, id, others, recorder);
     }
     // `record` matches on the kind too: inlined into an arm, that match is decided already.
     match nfa.state(id) {
         State::Look { look, next } => {
-            recorder.record(nfa, id)?;
             if !look_have.contains(*look) {
-                return Ok(others);
+                return record_only(nfa, id, others, recorder);
             }
-            push_reversed(others, stack)?;
-            Ok(slice::from_ref(next))
+            record_and_enter(nfa, id, slice::from_ref(next), others, stack, recorder)
         }
         State::Union { alternates } => {
-            recorder.record(nfa, id)?;
-            push_reversed(others, stack)?;
-            Ok(alternates.as_slice())
+            record_and_enter(nfa, id, alternates.as_slice(), others, stack, recorder)
         }
         State::BinaryUnion { alt1, alt2 } => {
-            recorder.record(nfa, id)?;
-            push_reversed(others, stack)?;
+            let first = slice::from_ref(alt1);
+            let current = record_and_enter(nfa, id, first, others, stack, recorder)?;
             stack.push(*alt2)?;
-            Ok(slice::from_ref(alt1))
+            Ok(current)
         }
         State::Capture { next } => {
-            recorder.record(nfa, id)?;
-            push_reversed(others, stack)?;
-            Ok(slice::from_ref(next))
+            record_and_enter(nfa, id, slice::from_ref(next), others, stack, recorder)
         }
-        _ => {
-            recorder.record(nfa, id)?;
-            Ok(others)
-        }
+        _ => record_only(nfa, id, others, recorder),
     }
 }
 

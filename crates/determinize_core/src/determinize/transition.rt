@@ -94,13 +94,54 @@ fn transition<N: Allocator, A: Allocator, C: Counter>(
     Ok(())
 }
 
+/// Returns the next state in a builder, as [`next`] does.
+#[inline(always)]
+#[tactic(auto, using(crate::proofs::step::StepLaws::one_pattern))]
+fn build_counted<N: Allocator, A: Allocator, C: Counter>(
+    nfa: &NFA<N>,
+    match_kind: MatchKind,
+    sparses: &mut SparseSets<A>,
+    stack: &mut Vec<StateID, A>,
+    state: &State<A>,
+    unit: Unit,
+    empty_builder: StateBuilderEmpty<A>,
+    counter: &mut C,
+) -> Result<StateBuilderNFA<A>, AllocError>
+    requires scratch { IsScratch nfa.now sparses.old.set1 sparses.old.set2 stack.old.items }
+    requires resolve { AllResolve nfa.now state.now.states }
+    ensures ok { IfOk result
+        (λ builder. builder ≡ step nfa.now match_kind state.now (byte_of unit)) }
+    ensures single { match_kind ≡ kinds.LeftmostFirst
+        → IfOk result (λ builder. length builder.patterns ≤ 1) }
+    ensures resolve { IfOk result (λ builder. AllResolve nfa.now builder.states) }
+    ensures scratch { IsScratch nfa.now sparses.new.set1 sparses.new.set2 stack.new.items }
+    ensures counted { IsTrue C.counts → OnOk result (C.total counter.new
+        ≡ C.total counter.old + tries nfa.now match_kind state.now (byte_of unit)) }
+    ensures bounded { IsTrue C.counts → C.total counter.new
+        ≤ C.total counter.old + 2 * (length nfa.now.states + edges_in_all nfa.now) }
+{
+    let mut builder = empty_builder.into_matches()?.into_nfa();
+    let result = transition(
+        nfa,
+        match_kind,
+        sparses,
+        stack,
+        state,
+        unit,
+        &mut builder,
+        counter,
+    );
+    stack.clear();
+    result?;
+    Ok(builder)
+}
+
 /// Returns the same as [`next`], and counts the tries to add a state to a set.
 ///
 /// `steps` grows by the tries of all closures of the transition. The NFA, the match kind, the state
 /// and the unit determine this number, and it is at most twice the number of states and epsilon
 /// edges of the NFA. On error too, `steps` grows by no more than that.
 #[inline(always)]
-#[tactic(auto, using(crate::proofs::step::StepLaws::one_pattern))]
 pub fn next_counted<N: Allocator, A: Allocator, L: Ledger>(
     nfa: &NFA<N>,
     match_kind: MatchKind,
@@ -123,20 +164,16 @@ pub fn next_counted<N: Allocator, A: Allocator, L: Ledger>(
         (steps.new ≡ steps.old + tries nfa.now match_kind state.now (byte_of unit)) }
     ensures bounded { steps.new ≤ steps.old + 2 * (length nfa.now.states + edges_in_all nfa.now) }
 {
-    let mut builder = empty_builder.into_matches()?.into_nfa();
-    let result = transition(
+    build_counted(
         nfa,
         match_kind,
         sparses,
         stack,
         state,
         unit,
-        &mut builder,
+        empty_builder,
         steps,
-    );
-    stack.clear();
-    result?;
-    Ok(builder)
+    )
 }
 
 /// Returns the state after a state over a unit of input, in a builder.
@@ -152,7 +189,6 @@ pub fn next_counted<N: Allocator, A: Allocator, L: Ledger>(
 /// `MatchKind::LeftmostFirst`. Its NFA states are the closure of the targets of the unit. On error
 /// the builder is dropped.
 #[inline(always)]
-#[tactic(auto, using(crate::proofs::step::StepLaws::one_pattern))]
 pub fn next<N: Allocator, A: Allocator>(
     nfa: &NFA<N>,
     match_kind: MatchKind,
@@ -171,18 +207,14 @@ pub fn next<N: Allocator, A: Allocator>(
     ensures resolve { IfOk result (λ builder. AllResolve nfa.now builder.states) }
     ensures scratch { IsScratch nfa.now sparses.new.set1 sparses.new.set2 stack.new.items }
 {
-    let mut builder = empty_builder.into_matches()?.into_nfa();
-    let result = transition(
+    build_counted(
         nfa,
         match_kind,
         sparses,
         stack,
         state,
         unit,
-        &mut builder,
+        empty_builder,
         &mut (),
-    );
-    stack.clear();
-    result?;
-    Ok(builder)
+    )
 }

@@ -3,10 +3,13 @@
 //! It is the NFA states of a DFA state, each once, or their closure if the unit reopens it. If not,
 //! no list is made: the recorded ids are read as they are decoded, and repeats are skipped.
 
-ghost use Rattle.std.specs.Prelude.{◌≡◌, IsTrue, ◌+◌, ◌<◌, ◌≤◌, [], All, OnOk};
+ghost use Rattle.std.specs.Prelude.{◌≡◌, IsTrue, ◌+◌, ◌++◌, ◌<◌, ◌≤◌, ◌⊎◌, [], All, OnOk};
+ghost use Rattle.determinize_below.specs.Edges.{reach_past};
+ghost use Rattle.determinize_below.specs.Look.{has};
 ghost use Rattle.determinize_below.specs.Nfa.{AllResolve, IsAccepted};
 ghost use Rattle.determinize_below.specs.Unit.{byte_of};
 ghost use Rattle.determinize_core.specs.Private.Reading.{IsListRead};
+ghost use Rattle.determinize_core.specs.Private.Search.{tries_left};
 ghost use Rattle.determinize_core.specs.Scratch.{IsScratch};
 ghost use Rattle.determinize_core.specs.Step.{distinct_states, working_list};
 ghost use Rattle.determinize_core.specs.Tries.{tries_again};
@@ -15,7 +18,7 @@ use crate::determinize::closure::explore;
 use crate::determinize::reading::read_states;
 use crate::determinize::reopening::reopened_under;
 use crate::determinize::steps::Counter;
-use determinize_below::{MatchKind, NFA, SparseSet, SparseSets, StateID, Unit};
+use determinize_below::{LookSet, MatchKind, NFA, SparseSet, SparseSets, StateID, Unit};
 use determinize_state::state::{State, StateBuilderNFA};
 use std::alloc::{AllocError, Allocator};
 
@@ -36,6 +39,40 @@ fn collect_states<A: Allocator>(
             stack.push(id)?;
         }
     }
+    Ok(())
+}
+
+/// Adds the closure of the NFA states of a state to `second`. Both sets and the stack are empty
+/// before, and `first` and the stack afterwards. On error nothing is cleared.
+#[inline(always)]
+fn reopen<N: Allocator, A: Allocator, C: Counter>(
+    nfa: &NFA<N>,
+    state: &State<A>,
+    look_have: LookSet,
+    first: &mut SparseSet<A>,
+    second: &mut SparseSet<A>,
+    stack: &mut Vec<StateID, A>,
+    counter: &mut C,
+) -> Result<(), AllocError>
+    requires accepted { IsAccepted nfa.now }
+    requires scratch { IsScratch nfa.now first.old second.old stack.old.items }
+    requires empty { first.old.ids ≡ [] }
+    requires resolve { AllResolve nfa.now state.now.states }
+    ensures list { OnOk result (second.new.ids ≡ second.old.ids
+        ++ reach_past nfa.now (has look_have) second.old.ids (distinct_states state.now)) }
+    ensures resolve { OnOk result
+        ((distinct_states state.now ≡ []) ⊎ AllResolve nfa.now second.new.ids) }
+    ensures first { OnOk result (first.new.ids ≡ []) }
+    ensures stack { OnOk result (stack.new.items ≡ []) }
+    ensures scratch { IsScratch nfa.now first.new second.new [] }
+    ensures counted { IsTrue C.counts → OnOk result (C.total counter.new ≡ C.total counter.old
+        + tries_left nfa.now (has look_have) second.old.ids (distinct_states state.now)) }
+    ensures bounded { IsTrue C.counts → C.total counter.new ≤ C.total counter.old
+        + tries_left nfa.now (has look_have) second.old.ids (distinct_states state.now) }
+{
+    collect_states(state, first, stack)?;
+    explore(nfa, &[], look_have, stack, second, &mut (), counter)?;
+    first.clear();
     Ok(())
 }
 
@@ -73,10 +110,8 @@ pub(crate) fn read_working_list<N: Allocator, A: Allocator, C: Counter>(
         let ids = state.iter_nfa_state_ids();
         return read_states(nfa, match_kind, ids, unit, set1, stack, builder);
     };
-    collect_states(state, set1, stack)?;
-    explore(nfa, &[], look_have, stack, set2, &mut (), counter)?;
-    set1.clear();
-    read_states(nfa, match_kind, set2.iter(), unit, set1, stack, builder)?;
+    reopen(nfa, state, look_have, set1, set2, stack, counter)?;
+    let result = read_states(nfa, match_kind, set2.iter(), unit, set1, stack, builder);
     set2.clear();
-    Ok(())
+    result
 }

@@ -1,39 +1,26 @@
-use Rattle.determinize_core.proofs.Common.{All-from_member, length, same_decides, ◌<◌}
-use Rattle.ordered_reach.proofs.graph.FiniteGraphs.{fresh_below}
-use Rattle.determinize_core.proofs.step.StepParts.{member-below}
+use Rattle.determinize_core.proofs.Common.{refl}
+use Rattle.std.proofs.lemmas.Result.{on_ok_weaker}
 use Rattle.determinize_core.proofs.step.ReopenedClosure.{reopened_list, reopened_tries}
 use Rattle.determinize_core.proofs.determinize.working_list.read_working_list.Goals as goal
-
-pub explore-requires-clause-resolve : goal.explore-requires-clause-resolve
-explore-requires-clause-resolve g c =
-    let n = length c.args.nfa.now.states in
-    rw c.in_ok-collect_states.ensures.ok (All-from_member same_decides (λ id. id < n) _
-    (fresh_below n c.args.state.now.states (member-below n c.args.state.now.states c.requires.resolve)))
 
 pub returns-clause-ok : goal.returns-clause-ok
 returns-clause-ok g c =
     rw (
-      ← reopened_list c.in-Some.ensures.some c.requires.second_empty c.in_ok-collect_states.ensures.ok,
-      ← c.in_ok-explore.ensures.ids,
+      ← reopened_list c.in-Some.ensures.some c.requires.second_empty refl,
+      ← c.in_ok-reopen.ensures.list,
       ← c.iter.ensures.ids,
-    ) c.in_ok-read_states.ensures.ok
+    ) c.read_states-result.ensures.ok
 
-pub returns-in_err-explore-clause-bounded : goal.returns-in_err-explore-clause-bounded
-returns-in_err-explore-clause-bounded g c = λ h.
-    rw (reopened_tries c.in-Some.ensures.some c.requires.second_empty c.in_ok-collect_states.ensures.ok)
-    at (c.explore.ensures.bounded h)
-
-pub returns-in_err-read_states-clause-bounded : goal.returns-in_err-read_states-clause-bounded
-returns-in_err-read_states-clause-bounded g c = λ h.
-    rw (reopened_tries c.in-Some.ensures.some c.requires.second_empty c.in_ok-collect_states.ensures.ok)
-    at (c.explore.ensures.bounded h)
+pub returns-in_err-reopen-clause-bounded : goal.returns-in_err-reopen-clause-bounded
+returns-in_err-reopen-clause-bounded g c = λ h.
+    rw (reopened_tries c.in-Some.ensures.some c.requires.second_empty refl) at (c.reopen.ensures.bounded h)
 
 pub returns-clause-counted : goal.returns-clause-counted
 returns-clause-counted g c = λ h.
-    rw (reopened_tries c.in-Some.ensures.some c.requires.second_empty c.in_ok-collect_states.ensures.ok)
-    at (c.in_ok-explore.ensures.counted h)
+    on_ok_weaker c.read_states-result.result
+    (λ read. rw (reopened_tries c.in-Some.ensures.some c.requires.second_empty refl) at (c.in_ok-reopen.ensures.counted h))
+    c.read_states-result.ensures.ok
 
 pub returns-clause-bounded : goal.returns-clause-bounded
 returns-clause-bounded g c = λ h.
-    rw (reopened_tries c.in-Some.ensures.some c.requires.second_empty c.in_ok-collect_states.ensures.ok)
-    at (c.explore.ensures.bounded h)
+    rw (reopened_tries c.in-Some.ensures.some c.requires.second_empty refl) at (c.reopen.ensures.bounded h)

@@ -1,0 +1,10 @@
+use Rattle.determinize_core.proofs.Common.{All-from_member, length, same_decides, ◌<◌}
+use Rattle.ordered_reach.proofs.graph.FiniteGraphs.{fresh_below}
+use Rattle.determinize_core.proofs.step.StepParts.{member-below}
+use Rattle.determinize_core.proofs.determinize.working_list.reopen.Goals as goal
+
+pub explore-requires-clause-resolve : goal.explore-requires-clause-resolve
+explore-requires-clause-resolve g c =
+    let n = length c.args.nfa.now.states in
+    rw c.in_ok-collect_states.ensures.ok (All-from_member same_decides (λ id. id < n) _
+    (fresh_below n c.args.state.now.states (member-below n c.args.state.now.states c.requires.resolve)))
