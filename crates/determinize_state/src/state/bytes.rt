@@ -4,8 +4,9 @@
 //! serve both.
 #![tactic(auto, using(crate::proofs::encoding::ReadBytes::reading))]
 
-ghost use Rattle.std.specs.Prelude.{◌≡◌, ◌+◌, ◌*◌, ◌<◌, ◌≤◌, length, vec_len, false, OnOk, OnErr, IsOk};
-ghost use Rattle.determinize_state.specs.Spelling.{IsSpelled, value_of, number_at, words, with_word, has_flag};
+ghost use Rattle.std.specs.Prelude.{◌≡◌, ◌+◌, ◌*◌, ◌++◌, ◌<◌, ◌≤◌, length, vec_len, false, OnOk, OnErr, IsOk};
+ghost use Rattle.determinize_below.specs.declared.primitives.TheConstants.{ID_LIMIT};
+ghost use Rattle.determinize_state.specs.Spelling.{IsSpelled, value_of, number_at, word, words, with_word, has_flag};
 ghost use Rattle.determinize_state.specs.Building.{header};
 ghost use Rattle.determinize_state.specs.Private.PatternBytes.{with_bit, with_pattern_bytes};
 
@@ -100,21 +101,46 @@ pub(crate) fn add_pattern<A: Allocator>(bytes: &mut Vec<u8, A>, id: u32) -> Resu
     ensures first { has_flag bytes.old.items MATCH ≡ false
         → has_flag bytes.old.items EXPLICIT ≡ false → id ≡ 0 → IsOk result }
 {
-    // What may fail comes first, so that the bytes are unchanged on error.
-    let [a, b, c, d] = id.to_le_bytes();
     if has_flag(bytes, EXPLICIT) {
-        let count = number_at(bytes, COUNT);
-        bytes.extend_from_slice(&[a, b, c, d])?;
-        put_number(bytes, COUNT, count + 1);
-    } else if has_flag(bytes, MATCH) {
-        bytes.extend_from_slice(&[2, 0, 0, 0, 0, 0, 0, 0, a, b, c, d])?;
-        set_flag(bytes, EXPLICIT);
-    } else if id != 0 {
-        bytes.extend_from_slice(&[1, 0, 0, 0, a, b, c, d])?;
-        set_flag(bytes, MATCH | EXPLICIT);
-    } else {
-        set_flag(bytes, MATCH);
+        return add_listed(bytes, id);
     }
+    let [a, b, c, d] = id.to_le_bytes();
+    if has_flag(bytes, MATCH) {
+        return begin_list(bytes, &[2, 0, 0, 0, 0, 0, 0, 0, a, b, c, d], EXPLICIT);
+    }
+    if id != 0 {
+        return begin_list(bytes, &[1, 0, 0, 0, a, b, c, d], MATCH | EXPLICIT);
+    }
+    set_flag(bytes, MATCH);
+    Ok(())
+}
+
+/// Appends a pattern to the explicit ones. On error the bytes are unchanged.
+fn add_listed<A: Allocator>(bytes: &mut Vec<u8, A>, id: u32) -> Result<(), AllocError>
+    requires whole { COUNT + 4 ≤ vec_len bytes.old }
+    requires few { number_at bytes.old.items COUNT ≤ ID_LIMIT }
+    ensures ok { OnOk result (bytes.new.items
+        ≡ with_word (bytes.old.items ++ word id) COUNT (number_at bytes.old.items COUNT + 1)) }
+    ensures err { OnErr result (bytes.new.items ≡ bytes.old.items) }
+{
+    let count = number_at(bytes, COUNT);
+    bytes.extend_from_slice(&id.to_le_bytes())?;
+    put_number(bytes, COUNT, count + 1);
+    Ok(())
+}
+
+/// Appends a number of patterns and the patterns, and sets flags. On error the bytes are unchanged.
+fn begin_list<A: Allocator>(
+    bytes: &mut Vec<u8, A>,
+    list: &[u8],
+    flags: u8,
+) -> Result<(), AllocError>
+    requires { 0 < vec_len bytes.old }
+    ensures ok { OnOk result (bytes.new.items ≡ with_bit (bytes.old.items ++ list.now) flags) }
+    ensures err { OnErr result (bytes.new.items ≡ bytes.old.items) }
+{
+    bytes.extend_from_slice(list)?;
+    set_flag(bytes, flags);
     Ok(())
 }
 
