@@ -108,13 +108,6 @@ pub edges_at : (nfa : Nfa) (holds : Assertion → Bool) (s : ℕ) (node : Node) 
     → edges nfa holds s ≡ edges_of holds node
 edges_at nfa holds s node h = rw (get_or_from_slice_get nfa.states s node Fail h) refl
 
-no_edges : (holds : Assertion → Bool) (node : Node) → is_epsilon node ≡ false → edges_of holds node ≡ []
-no_edges holds node leaf = grind arith
-
-pub leaf_edges : (nfa : Nfa) (holds : Assertion → Bool) (s : ℕ) (node : Node) → slice_get nfa.states s ≡ Some node
-    → is_epsilon node ≡ false → edges nfa holds s ≡ []
-leaf_edges nfa holds s node h leaf = edges_at nfa holds s node h ∙ no_edges holds node leaf
-
 -- what the search from a state that is no epsilon state adds
 pub leaf_set : (nfa : Nfa) → IsSound nfa → (look : Assertion → Bool) (held : List ℕ) (root : ℕ) (new : Bool)
     → is_epsilon (state_at nfa root) ≡ false → new ≡ not (has_id held root)

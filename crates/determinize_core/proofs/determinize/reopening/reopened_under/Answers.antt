@@ -1,4 +1,4 @@
-use Rattle.determinize_core.proofs.Common.{arith, byte_of}
+use Rattle.determinize_core.proofs.Common.{arith, byte_of, tables_of}
 use Rattle.determinize_core.proofs.step.Reopening.{reopened_under, unneeded}
 use Rattle.determinize_core.proofs.determinize.reopening.reopened_under.Goals as goal
 
@@ -12,3 +12,8 @@ returns g c =
 
 pub returns-then-is_empty-clause-none : goal.returns-then-is_empty-clause-none
 returns-then-is_empty-clause-none g c = unneeded c.args.nfa.now c.args.state.now _ (grind arith)
+
+pub returns-then-stays_closed-clause-none : goal.returns-then-stays_closed-clause-none
+returns-then-stays_closed-clause-none g c =
+    rw (c.is_from_word-from_word.ensures, c.look_have-have.ensures, c.look_need-need.ensures)
+    at (c.stays_closed.ensures (tables_of c.args.nfa.now) c.args.state.now.half_crlf c.if-stays_closed.true)
