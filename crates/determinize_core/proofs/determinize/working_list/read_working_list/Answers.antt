@@ -18,7 +18,8 @@ returns-in_err-reopen-clause-bounded g c = λ h.
 pub returns-clause-counted : goal.returns-clause-counted
 returns-clause-counted g c = λ h.
     on_ok_weaker c.read_states-result.result
-    (λ read. rw (reopened_tries c.in-Some.ensures.some c.requires.second_empty refl) at (c.in_ok-reopen.ensures.counted h))
+    (λ read. rw (reopened_tries c.in-Some.ensures.some c.requires.second_empty refl)
+    at (c.in_ok-reopen.ensures.counted h))
     c.read_states-result.ensures.ok
 
 pub returns-clause-bounded : goal.returns-clause-bounded
