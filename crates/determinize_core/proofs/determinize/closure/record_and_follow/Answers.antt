@@ -24,3 +24,26 @@ returns-in-Capture-clause-pending g c =
       c.from_ref-in-Capture.ensures.value,
     ))
     c.record_and_enter-in-Capture.ensures.current
+
+pub returns-else-not-contains-clause-pending : goal.returns-else-not-contains-clause-pending
+returns-else-not-contains-clause-pending g c =
+    IfOk-weaker c.record_and_enter.result _ _
+    (λ current same. rw (
+      edges_at c.args.nfa.now (has c.args.look_have) c.args.id _ (rw c.in-Look.is at c.state-2.ensures.state),
+      ← c.if-not-contains.ensures,
+      same.0,
+      same.1,
+      c.from_ref.ensures.value,
+    ))
+    c.record_and_enter.ensures.current
+
+pub returns-in-Union-clause-pending : goal.returns-in-Union-clause-pending
+returns-in-Union-clause-pending g c =
+    IfOk-weaker c.record_and_enter-in-Union.result _ _
+    (λ current same. rw (
+      edges_at c.args.nfa.now (has c.args.look_have) c.args.id _ (rw c.in-Union.is at c.state-2.ensures.state),
+      same.0,
+      same.1,
+      c.as_slice.ensures.value,
+    ))
+    c.record_and_enter-in-Union.ensures.current
