@@ -63,7 +63,7 @@ pattern_count nfa = count_by is_match_node nfa.states
 unfoldable pub reach : Nfa → (Assertion → Bool) → List ℕ → List ℕ
 reach nfa holds roots = ordered nat_eq (edges nfa holds) (length nfa.states + 1) none_held roots
 
--- the epsilon closure along paths that avoid the states visited before, which `held` lists
+-- the epsilon closure along paths that avoid the states in the list, which were visited before
 unfoldable pub reach_past : Nfa → (Assertion → Bool) → List ℕ → List ℕ → List ℕ
 reach_past nfa holds held roots =
     ordered nat_eq (edges nfa holds) (length nfa.states + 1) (member nat_eq held) roots

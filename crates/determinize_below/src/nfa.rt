@@ -10,7 +10,8 @@
 //! start. Of the assertions, only those on CRLF depend on the direction: in reverse `\n` is read
 //! before `\r`.
 
-ghost use Rattle.std.specs.Prelude.{◌≡◌, ℕ, ◌<◌, ◌≤◌, Some, None, true, map, length, slice_get, vec_len, IfOk, OnOk, IfErr, IsErrOf, ◌⊎◌};
+ghost use Rattle.std.specs.Prelude.{◌≡◌, ℕ, ◌<◌, ◌≤◌, ◌++◌, Some, None, true, codes, decimal, map, length, slice_get, vec_len, IfOk, OnOk, IfErr, IsErrOf, ◌⊎◌};
+ghost use Rattle.std.specs.Fmt.{WritesOnOk};
 ghost use Rattle.determinize_below.specs.Edges.{pattern_count};
 ghost use Rattle.determinize_below.specs.Node.{node_of};
 ghost use Rattle.determinize_below.specs.Nfa.{failure, is_dense_sound, is_sparse_sound, looks_of};
@@ -91,16 +92,24 @@ impl fmt::Display for BuildError {
 
     fn fmt<W: fmt::Write>(&self, f: &mut fmt::Formatter<W>) -> fmt::Result {
         match self {
-            BuildError::TooManyStates => write!(f, "more than 2147483647 states"),
-            BuildError::UnresolvedStart => write!(f, "no state has the start id"),
-            BuildError::UnresolvedId(index) => write!(f, "state {index} leads to no state"),
-            BuildError::BadSparse(index) => write!(f, "state {index} has a range out of order"),
-            BuildError::BadDense(index) => write!(f, "state {index} has not 256 targets"),
-            BuildError::RepeatedPattern(index) => write!(f, "state {index} repeats a pattern"),
-            BuildError::NotPatchable(index) => write!(f, "state {index} has no target to set"),
-            BuildError::OutOfMemory => write!(f, "out of memory"),
+            BuildError::TooManyStates => f.write_str("more than 2147483647 states"),
+            BuildError::UnresolvedStart => f.write_str("no state has the start id"),
+            BuildError::UnresolvedId(index) => write_fault(f, *index, " leads to no state"),
+            BuildError::BadSparse(index) => write_fault(f, *index, " has a range out of order"),
+            BuildError::BadDense(index) => write_fault(f, *index, " has not 256 targets"),
+            BuildError::RepeatedPattern(index) => write_fault(f, *index, " repeats a pattern"),
+            BuildError::NotPatchable(index) => write_fault(f, *index, " has no target to set"),
+            BuildError::OutOfMemory => f.write_str("out of memory"),
         }
     }
+}
+
+/// Writes what is wrong with the state at an index.
+fn write_fault<W: fmt::Write>(f: &mut fmt::Formatter<W>, index: usize, fault: &str) -> fmt::Result
+    ensures { WritesOnOk W.write_str_gives f.old result
+        (codes "state " ++ decimal index ++ fault.now) f.new }
+{
+    write!(f, "state {index}{fault}")
 }
 
 impl Error for BuildError {}

@@ -118,6 +118,14 @@ impl<A: Allocator> SparseSet<A> {
         self.ids.clear();
     }
 
+    /// Returns the ids in insertion order.
+    pub fn as_slice(&self) -> &[StateID]
+        ensures ids { result.now ≡ self.now.ids }
+        ensures members { AreMembers self.now }
+    {
+        self.ids.as_slice()
+    }
+
     /// Returns an iterator over the ids in insertion order.
     pub fn iter(&self) -> SparseSetIter<'_>
         ensures ids { result ≡ self.now.ids }

@@ -2,9 +2,9 @@
 //!
 //! Each call that adds a state returns its id. A target that is not known yet is any id at first,
 //! and `patch` sets it later. A union whose alternates are not known yet is `add_union(&[])`, and
-//! `close` gives it its alternates: so a loop goes back to a state that stands before its body.
+//! `close` sets its alternates: so the body of a loop can have a transition to an earlier state.
 
-ghost use Rattle.std.specs.Prelude.{◌≡◌, ◌+◌, ◌<◌, [], Some, IfErr, IfOk, OnErr, OnOk, false, length, map, slice_index_or, true, ◌⊎◌};
+ghost use Rattle.std.specs.Prelude.{◌≡◌, ◌+◌, ◌++◌, ◌<◌, ◌≤◌, ◌∷◌, [], Some, IfErr, IfOk, OnErr, OnOk, false, if◌then◌else◌, is_ok, length, map, slice_index_or, true, vec_len, ◌⊎◌};
 ghost use Rattle.std.specs.List.{position};
 ghost use Rattle.determinize_below.specs.Nfa.{failure};
 ghost use Rattle.determinize_below.specs.Semantics as nodes;
@@ -91,7 +91,7 @@ impl<A: Allocator + Copy> Builder<A> {
         ensures err { IfErr result (λ e. IsTooLarge (length self.old.states + 1) e) }
     {
         let id = StateID::new(self.states.len())?;
-        self.states.push(state)?;
+        push_state(&mut self.states, state)?;
         Ok(id)
     }
 
@@ -141,8 +141,7 @@ impl<A: Allocator + Copy> Builder<A> {
     }
 
     /// Adds a state with transitions without input to these states, in order of preference, and
-    /// returns its id. `add_union(&[])` holds the place of a union: `close` gives it its
-    /// alternates.
+    /// returns its id. The alternates of `add_union(&[])` can be set later by `close`.
     pub fn add_union(&mut self, alternates: &[StateID]) -> Result<StateID, BuildError>
         ensures id { IfOk result (λ id. id ≡ length self.old.states) }
         ensures added { OnOk result (self.new ≡ with_node self.old (nodes.Union alternates.now)) }
@@ -173,7 +172,7 @@ impl<A: Allocator + Copy> Builder<A> {
     {
         let id = StateID::new(self.states.len())?;
         let pattern_id = PatternID::must(self.patterns);
-        self.states.push(State::Match { pattern_id })?;
+        push_state(&mut self.states, State::Match { pattern_id })?;
         self.patterns += 1;
         Ok(id)
     }
@@ -259,15 +258,53 @@ impl<A: Allocator + Copy> Builder<A> {
         if let Some(index) = first_to(self.states.as_slice(), union, skip) {
             return Err(BuildError::UnresolvedId(index));
         }
-        let mut states = copies(self.alloc, self.states.as_slice())?;
-        let (alt1, alt2) = (start_anchored, skip);
-        states.push(State::BinaryUnion { alt1, alt2 })?;
-        let (start, end, next) = (0, 255, union);
-        let trans = Transition { start, end, next };
-        states.push(State::ByteRange { trans })?;
         let matcher = self.look_matcher.clone()?;
+        let states = with_prefix(
+            self.alloc,
+            self.states.as_slice(),
+            start_anchored,
+            union,
+            skip,
+        )?;
         NFA::from_parts(self.alloc, states, start_anchored, union, false, matcher)
     }
+}
+
+/// Adds a state at the end.
+#[tactic(auto, using(crate::proofs::building::Building::pushing))]
+pub(crate) fn push_state<A: Allocator>(
+    states: &mut Vec<State<A>, A>,
+    state: State<A>,
+) -> Result<(), AllocError>
+    ensures items { states.new.items
+        ≡ (if is_ok result then states.old.items ++ state ∷ [] else states.old.items) }
+    ensures longer { vec_len states.old ≤ vec_len states.new }
+    ensures nodes { OnOk result
+        (map node_of states.new.items ≡ map node_of states.old.items ++ node_of state ∷ []) }
+{
+    Ok(states.push(state)?)
+}
+
+/// Returns copies of the states, and the two states of the usual prefix: a union that prefers the
+/// start, and a range of all bytes back to it.
+fn with_prefix<A: Allocator + Copy>(
+    alloc: A,
+    states: &[State<A>],
+    start: StateID,
+    union: StateID,
+    skip: StateID,
+) -> Result<Vec<State<A>, A>, AllocError>
+    ensures { IfOk result (λ made. map node_of made.items
+        ≡ (map node_of states.now ++ nodes.BinaryUnion start skip ∷ [])
+        ++ nodes.ByteRange record { start = 0; end = 255; next = union } ∷ []) }
+{
+    let mut made = copies(alloc, states)?;
+    let (alt1, alt2) = (start, skip);
+    push_state(&mut made, State::BinaryUnion { alt1, alt2 })?;
+    let (start, end, next) = (0, 255, union);
+    let trans = Transition { start, end, next };
+    push_state(&mut made, State::ByteRange { trans })?;
+    Ok(made)
 }
 
 /// Returns whether the state is a union, or has one target.
@@ -347,7 +384,7 @@ fn copies<A: Allocator + Copy>(
 {
     let mut made = Vec::new(alloc);
     for state in states {
-        made.push(copy(alloc, state)?)?;
+        push_state(&mut made, copy(alloc, state)?)?;
     }
     Ok(made)
 }

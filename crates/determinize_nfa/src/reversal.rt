@@ -4,20 +4,23 @@
 //! transitions are reversed. The start is a union of the match states, and the anchored start
 //! becomes the one match state.
 
-ghost use Rattle.std.specs.Prelude.{◌≡◌, ◌+◌, ◌<◌, ◌≤◌, ◌∷◌, [], All, IfErr, IfOk, OnOk, length, map, true};
-ghost use Rattle.std.specs.List.{filter};
+ghost use Rattle.std.specs.Prelude.{◌≡◌, ◌+◌, ◌++◌, ◌<◌, ◌≤◌, ◌∷◌, [], All, IfErr, IfOk, OnOk, length, map, nat_eq, true};
+ghost use Rattle.std.specs.List.{IsDistinct, filter};
 ghost use Rattle.determinize_below.specs.Edges.{is_match_node};
-ghost use Rattle.determinize_below.specs.Nfa.{is_dense_sound, resolves};
+ghost use Rattle.determinize_below.specs.Look as looks;
+ghost use Rattle.determinize_below.specs.Nfa.{AllResolve, is_dense_sound, resolves};
 ghost use Rattle.determinize_below.specs.Semantics as nodes;
 ghost use Rattle.determinize_below.specs.Node.{node_of};
 ghost use Rattle.determinize_nfa.specs.Private.Gathered as states;
+ghost use Rattle.determinize_nfa.specs.Private.Turning.{IsTurnedOver};
 ghost use Rattle.determinize_nfa.specs.Private.Turning as turning;
 ghost use Rattle.determinize_nfa.specs.Reversal as reversals;
 ghost use Rattle.determinize_nfa.specs.Reversal.{IsReverseOf, IsTooLarge, most_states, reads_in};
 
+use crate::builder::push_state;
 use crate::reached::reached;
 use determinize_below::nfa::{BuildError, State, Transition};
-use determinize_below::{ID_LIMIT, NFA, PatternID, StateID};
+use determinize_below::{ID_LIMIT, Look, NFA, PatternID, StateID};
 use std::alloc::{AllocError, Allocator};
 use std::marker::Model;
 
@@ -35,6 +38,7 @@ struct Turned<A: Allocator> {
 impl<A: Allocator> Model for Turned<A> {
     ghost use Rattle.std.specs.Prelude.{map};
     ghost use Rattle.determinize_below.specs.Node.{node_of};
+    ghost use Rattle.determinize_nfa.specs.Private.Turning.{IsTurnedOver};
     ghost use Rattle.determinize_nfa.specs.Private.Turning as turning;
 
     ghost Value = { turning.Turned };
@@ -82,7 +86,7 @@ impl<A: Allocator + Copy> Turned<A> {
             IsTooLarge (turning.total self.old + 1) e) }
     {
         let id = StateID::new(self.into.len() + 2 + self.rest.len())?;
-        self.rest.push(state)?;
+        push_state(&mut self.rest, state)?;
         self.add(from, id)
     }
 
@@ -102,6 +106,19 @@ impl<A: Allocator + Copy> Turned<A> {
             next: state,
         };
         self.add_state(next, State::ByteRange { trans })
+    }
+
+    /// Adds the transition where an assertion holds, reversed.
+    fn add_look(&mut self, state: StateID, look: Look, next: StateID) -> Result<(), BuildError>
+        requires next { next < length self.old.into }
+        requires small { length self.old.into ≤ ID_LIMIT }
+        ensures turned { OnOk result (self.new
+            ≡ turning.with_state self.old next (nodes.Look (looks.reversed look) state)) }
+        ensures err { IfErr result (λ e.
+            IsTooLarge (turning.total self.old + 1) e) }
+    {
+        let (look, from) = (look.reversed(), next);
+        self.add_state(from, State::Look { look, next: state })
     }
 
     /// Adds the transitions of a sparse state, reversed.
@@ -155,6 +172,28 @@ impl<A: Allocator + Copy> Turned<A> {
         Ok(())
     }
 
+    /// Adds the transitions of a union of two states, reversed.
+    fn add_both(&mut self, state: StateID, alt1: StateID, alt2: StateID) -> Result<(), BuildError>
+        requires first { alt1 < length self.old.into }
+        requires second { alt2 < length self.old.into }
+        ensures turned { OnOk result
+            (self.new ≡ turning.added (turning.added self.old alt1 state) alt2 state) }
+        ensures err { IfErr result (λ e. e ≡ BuildError.OutOfMemory) }
+    {
+        self.add(alt1, state)?;
+        self.add(alt2, state)
+    }
+
+    /// Adds a `Match` state.
+    fn add_end(&mut self, state: StateID) -> Result<(), BuildError>
+        ensures turned { OnOk result
+            (self.new ≡ record self.old { ends = self.old.ends ++ state ∷ [] }) }
+        ensures err { IfErr result (λ e. e ≡ BuildError.OutOfMemory) }
+    {
+        self.ends.push(state)?;
+        Ok(())
+    }
+
     /// Adds the transitions of a state, reversed.
     fn add_node<N: Allocator>(&mut self, id: StateID, state: &State<N>) -> Result<(), BuildError>
         requires resolves { resolves (length self.old.into) (node_of state.now) ≡ true }
@@ -169,19 +208,49 @@ impl<A: Allocator + Copy> Turned<A> {
             State::ByteRange { trans } => self.add_range(id, *trans),
             State::Sparse(sparse) => self.add_ranges(id, sparse.transitions.as_slice()),
             State::Dense(dense) => self.add_table(id, dense.transitions.as_slice()),
-            State::Look { look, next } => {
-                let (look, from) = (look.reversed(), *next);
-                self.add_state(from, State::Look { look, next: id })
-            }
+            State::Look { look, next } => self.add_look(id, *look, *next),
             State::Union { alternates } => self.add_each(id, alternates.as_slice()),
-            State::BinaryUnion { alt1, alt2 } => {
-                self.add(*alt1, id)?;
-                self.add(*alt2, id)
-            }
+            State::BinaryUnion { alt1, alt2 } => self.add_both(id, *alt1, *alt2),
             State::Capture { next } => self.add(*next, id),
             State::Fail => Ok(()),
-            State::Match { .. } => Ok(self.ends.push(id)?),
+            State::Match { .. } => self.add_end(id),
         }
+    }
+
+    /// Adds the transition from `begin` to the anchored start, reversed, and the transitions of
+    /// these states.
+    fn add_nodes<N: Allocator>(
+        &mut self,
+        nfa: &NFA<N>,
+        begin: StateID,
+        ids: &[StateID],
+    ) -> Result<(), BuildError>
+        requires none { self.old ≡ turning.none_turned (length nfa.now.states) }
+        requires begin { begin ≡ length nfa.now.states }
+        requires below { AllResolve nfa.now ids.now }
+        requires distinct { IsDistinct nat_eq ids.now }
+        requires small { length nfa.now.states ≤ ID_LIMIT }
+        ensures turned { OnOk result (turning.turned_over nfa.now ids.now ≡ self.new) }
+        ensures count { OnOk result (length self.new.into ≡ length nfa.now.states) }
+        ensures err { IfErr result (λ e. IsTooLarge (most_states nfa.now) e) }
+    {
+        self.add(nfa.start_anchored(), begin)?;
+        for id in ids {
+            self.add_node(*id, nfa.state(*id))?;
+        }
+        Ok(())
+    }
+
+    /// Returns the transitions of the states that the anchored start reaches, reversed.
+    fn over<N: Allocator>(alloc: A, nfa: &NFA<N>, begin: StateID) -> Result<Turned<A>, BuildError>
+        requires { begin ≡ length nfa.now.states }
+        ensures ok { IfOk result (λ turned. IsTurnedOver nfa.now turned) }
+        ensures err { IfErr result (λ e. IsTooLarge (most_states nfa.now) e) }
+    {
+        let found = reached(alloc, nfa)?;
+        let mut turned = Turned::new(alloc, nfa.len())?;
+        turned.add_nodes(nfa, begin, found.as_slice())?;
+        Ok(turned)
     }
 
     /// Returns the states of the reversed NFA: those of the NFA by their ids, the match state, the
@@ -190,16 +259,8 @@ impl<A: Allocator + Copy> Turned<A> {
         ensures { IfOk result (λ made. map node_of made.items ≡ states.states_of self) }
     {
         let Turned { into, rest, ends } = self;
-        let mut made = Vec::new(alloc);
-        for alternates in into {
-            made.push(gathered(alternates))?;
-        }
-        let pattern_id = PatternID::ZERO;
-        made.push(State::Match { pattern_id })?;
-        made.push(State::Union { alternates: ends })?;
-        for state in rest {
-            made.push(state)?;
-        }
+        let mut made = gathered_all(alloc, into)?;
+        end_states(&mut made, ends, rest)?;
         Ok(made)
     }
 }
@@ -227,6 +288,37 @@ fn gathered<A: Allocator>(alternates: Vec<StateID, A>) -> State<A>
     }
 }
 
+/// Returns the state for each list.
+fn gathered_all<A: Allocator + Copy>(
+    alloc: A,
+    lists: Vec<Vec<StateID, A>, A>,
+) -> Result<Vec<State<A>, A>, AllocError>
+    ensures { IfOk result (λ made. map node_of made.items
+        ≡ map states.gathered (map (λ v. v.items) lists.items)) }
+{
+    let mut made = Vec::new(alloc);
+    for alternates in lists {
+        push_state(&mut made, gathered(alternates))?;
+    }
+    Ok(made)
+}
+
+/// Adds the match state, the start state, and the states that read a byte or test an assertion.
+fn end_states<A: Allocator>(
+    made: &mut Vec<State<A>, A>,
+    ends: Vec<StateID, A>,
+    rest: Vec<State<A>, A>,
+) -> Result<(), AllocError>
+    ensures { OnOk result (map node_of made.new.items ≡ map node_of made.old.items
+        ++ nodes.Match 0 ∷ nodes.Union ends.items ∷ map node_of rest.items) }
+{
+    let mut rest = rest;
+    let pattern_id = PatternID::ZERO;
+    push_state(made, State::Match { pattern_id })?;
+    push_state(made, State::Union { alternates: ends })?;
+    made.append(&mut rest)
+}
+
 /// Returns the NFA that reads in the other direction and reports where matches begin: from a
 /// position on, it accepts exactly where a run of the first NFA begins that accepts at this
 /// position.
@@ -249,12 +341,8 @@ pub fn reversed<N: Allocator, A: Allocator + Copy>(
 {
     let count = nfa.len();
     let (begin, start) = (StateID::new(count)?, StateID::new(count + 1)?);
-    let mut turned = Turned::new(alloc, count)?;
-    turned.add(nfa.start_anchored(), begin)?;
-    for id in &reached(alloc, nfa)? {
-        turned.add_node(*id, nfa.state(*id))?;
-    }
-    let states = turned.into_states(alloc)?;
     let matcher = nfa.look_matcher().clone()?;
+    let turned = Turned::over(alloc, nfa, begin)?;
+    let states = turned.into_states(alloc)?;
     NFA::from_parts(alloc, states, start, start, !nfa.is_reverse(), matcher)
 }

@@ -87,18 +87,14 @@ impl ByteClasses {
 impl fmt::Debug for ByteClasses {
     /// Writes the class of each byte that is not in the class of the byte before it.
     fn fmt<W: fmt::Write>(&self, f: &mut fmt::Formatter<W>) -> fmt::Result {
-        write!(f, "ByteClasses(")?;
-        let mut before = None;
+        let mut before = "ByteClasses(";
         for byte in 0..=255u8 {
             let class = self.get(byte);
-            if before != Some(class) {
-                if before.is_some() {
-                    write!(f, ", ")?;
-                }
-                write!(f, "{byte}.. => {class}")?;
-                before = Some(class);
+            if byte == 0 || class != self.get(byte - 1) {
+                write!(f, "{before}{byte}.. => {class}")?;
+                before = ", ";
             }
         }
-        write!(f, ")")
+        f.write_str(")")
     }
 }

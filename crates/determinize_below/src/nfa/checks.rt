@@ -4,6 +4,7 @@ ghost use Rattle.std.specs.Prelude.{◌≡◌, ℕ, Bool, Some, None, [], length
 ghost use Rattle.std.specs.List.{list_all, list_any};
 ghost use Rattle.std.specs.HashSet.{contains};
 ghost use Rattle.determinize_below.specs.Node.{node_of};
+ghost use Rattle.determinize_below.specs.Nfa as nfas;
 ghost use Rattle.determinize_below.specs.Nfa.{resolves, is_sparse_sound, is_dense_sound, looks_of, failure_of, repeats, states_failure, is_match_of};
 
 use crate::look::LookSet;
@@ -71,15 +72,23 @@ fn is_dense_whole<A: Allocator>(state: &State<A>) -> bool
     }
 }
 
+/// Returns the set with the assertion of the state, if it has one.
+fn with_look<A: Allocator>(looks: LookSet, state: &State<A>) -> LookSet
+    ensures { result ≡ nfas.with_look looks (node_of state.now) }
+{
+    match state {
+        State::Look { look, .. } => looks.insert(*look),
+        _ => looks,
+    }
+}
+
 /// Returns the set of the assertions of all states.
 pub(crate) fn looks_in<A: Allocator>(states: &[State<A>]) -> LookSet
     ensures { result ≡ looks_of (map node_of states.now) }
 {
     let mut looks = LookSet::empty();
     for state in states {
-        if let State::Look { look, .. } = state {
-            looks = looks.insert(*look);
-        }
+        looks = with_look(looks, state);
     }
     looks
 }

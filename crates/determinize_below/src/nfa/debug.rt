@@ -1,91 +1,95 @@
-//! The debug text of an NFA: one state per line, by index.
+//! The debug texts of transitions, states and NFAs.
 
+use crate::look::Look;
 use crate::nfa::NFA;
 use crate::nfa::state::State;
 use crate::nfa::transitions::Transition;
-use crate::primitives::StateID;
+use crate::primitives::{SmallIndex, StateID};
 use std::alloc::Allocator;
 use std::fmt;
 
 /// Writes one state per line, and then the start states, the direction and the line terminator.
-/// Bytes are in hexadecimal.
 impl<A: Allocator> fmt::Debug for NFA<A> {
     fn fmt<W: fmt::Write>(&self, f: &mut fmt::Formatter<W>) -> fmt::Result {
-        write!(f, "NFA(\n")?;
-        for (index, state) in self.states.iter().enumerate() {
-            write!(f, "{index}: ")?;
-            write_state(f, state)?;
-            write!(f, "\n")?;
-        }
+        f.write_str("NFA(\n")?;
+        write_states(f, self.states.as_slice())?;
         let (anchored, unanchored) = (self.start_anchored, self.start_unanchored);
         let (reverse, line) = (self.reverse, self.look_matcher.get_line_terminator());
-        write!(
-            f,
-            "start_anchored: {anchored}, start_unanchored: {unanchored}, "
-        )?;
+        write_starts(f, anchored, unanchored)?;
         write!(f, "reverse: {reverse}, line_terminator: {line:02x}\n)")
     }
 }
 
-fn write_state<A: Allocator, W: fmt::Write>(
+fn write_states<A: Allocator, W: fmt::Write>(
     f: &mut fmt::Formatter<W>,
-    state: &State<A>,
+    states: &[State<A>],
 ) -> fmt::Result {
-    match state {
-        State::ByteRange { trans } => write_transition(f, trans),
-        State::Sparse(sparse) => write_sparse(f, sparse.transitions.as_slice()),
-        State::Dense(dense) => write_dense(f, dense.transitions.as_slice()),
-        State::Look { look, next } => write!(f, "{look:?} => {next}"),
-        State::Union { alternates } => write_union(f, alternates.as_slice()),
-        State::BinaryUnion { alt1, alt2 } => write!(f, "union({alt1}, {alt2})"),
-        State::Capture { next } => write!(f, "capture => {next}"),
-        State::Fail => write!(f, "fail"),
-        State::Match { pattern_id } => write!(f, "match({pattern_id})"),
-    }
-}
-
-fn write_transition<W: fmt::Write>(f: &mut fmt::Formatter<W>, trans: &Transition) -> fmt::Result {
-    let (start, end, next) = (trans.start, trans.end, trans.next);
-    write!(f, "{start:02x}-{end:02x} => {next}")
-}
-
-fn write_sparse<W: fmt::Write>(
-    f: &mut fmt::Formatter<W>,
-    transitions: &[Transition],
-) -> fmt::Result {
-    write!(f, "sparse(")?;
-    for (index, trans) in transitions.iter().enumerate() {
-        write_separator(f, index)?;
-        write_transition(f, trans)?;
-    }
-    write!(f, ")")
-}
-
-/// Writes all targets in the order of their bytes; 0 means no transition.
-fn write_dense<W: fmt::Write>(f: &mut fmt::Formatter<W>, targets: &[StateID]) -> fmt::Result {
-    write!(f, "dense(")?;
-    write_ids(f, targets)?;
-    write!(f, ")")
-}
-
-fn write_union<W: fmt::Write>(f: &mut fmt::Formatter<W>, alternates: &[StateID]) -> fmt::Result {
-    write!(f, "union(")?;
-    write_ids(f, alternates)?;
-    write!(f, ")")
-}
-
-fn write_ids<W: fmt::Write>(f: &mut fmt::Formatter<W>, ids: &[StateID]) -> fmt::Result {
-    for (index, id) in ids.iter().enumerate() {
-        write_separator(f, index)?;
-        write!(f, "{id}")?;
+    for (index, state) in states.iter().enumerate() {
+        write!(f, "{index}: {state:?}\n")?;
     }
     Ok(())
 }
 
-/// Writes a comma before every item except the first.
-fn write_separator<W: fmt::Write>(f: &mut fmt::Formatter<W>, index: usize) -> fmt::Result {
-    if index > 0 {
-        write!(f, ", ")?;
+fn write_starts<W: fmt::Write>(
+    f: &mut fmt::Formatter<W>,
+    anchored: StateID,
+    unanchored: StateID,
+) -> fmt::Result {
+    write!(
+        f,
+        "start_anchored: {anchored}, start_unanchored: {unanchored}, "
+    )
+}
+
+/// Writes the kind of the state, unless it is a range of bytes, and what it has transitions to. The
+/// targets of a dense state are in the order of their bytes, and 0 means no transition.
+impl<A: Allocator> fmt::Debug for State<A> {
+    fn fmt<W: fmt::Write>(&self, f: &mut fmt::Formatter<W>) -> fmt::Result {
+        match self {
+            State::ByteRange { trans } => trans.fmt(f),
+            State::Sparse(sparse) => write_sparse(f, sparse.transitions.as_slice()),
+            State::Dense(dense) => write_ids(f, "dense(", dense.transitions.as_slice()),
+            State::Look { look, next } => write_look(f, *look, *next),
+            State::Union { alternates } => write_ids(f, "union(", alternates.as_slice()),
+            State::BinaryUnion { alt1, alt2 } => write_ids(f, "union(", &[*alt1, *alt2]),
+            State::Capture { next } => write_capture(f, *next),
+            State::Fail => f.write_str("fail"),
+            State::Match { pattern_id } => write_ids(f, "match(", &[*pattern_id]),
+        }
     }
-    Ok(())
+}
+
+/// Writes the bytes of the range in hexadecimal, and the target.
+impl fmt::Debug for Transition {
+    fn fmt<W: fmt::Write>(&self, f: &mut fmt::Formatter<W>) -> fmt::Result {
+        let (start, end, next) = (self.start, self.end, self.next);
+        write!(f, "{start:02x}-{end:02x} => {next}")
+    }
+}
+
+fn write_look<W: fmt::Write>(f: &mut fmt::Formatter<W>, look: Look, next: StateID) -> fmt::Result {
+    write!(f, "{look:?} => {next}")
+}
+
+fn write_capture<W: fmt::Write>(f: &mut fmt::Formatter<W>, next: StateID) -> fmt::Result {
+    write!(f, "capture => {next}")
+}
+
+fn write_sparse<W: fmt::Write>(f: &mut fmt::Formatter<W>, ranges: &[Transition]) -> fmt::Result {
+    let mut before = "sparse(";
+    for range in ranges {
+        write!(f, "{before}{range:?}")?;
+        before = ", ";
+    }
+    f.write_str(")")
+}
+
+fn write_ids<K, W: fmt::Write>(
+    f: &mut fmt::Formatter<W>,
+    begin: &str,
+    ids: &[SmallIndex<K>],
+) -> fmt::Result {
+    f.write_str(begin)?;
+    f.write_joined(ids.iter(), ", ")?;
+    f.write_str(")")
 }

@@ -20,7 +20,6 @@ use std::alloc::{Allocator, Global};
 
 /// A state of a Thompson NFA.
 #[derive(Drop)]
-#[derive_where(Debug)]
 pub enum State<A: Allocator = Global> {
     /// Has a transition on one range of bytes.
     ByteRange { trans: Transition },

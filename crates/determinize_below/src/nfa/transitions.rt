@@ -16,7 +16,7 @@ use std::marker::Model;
 
 /// A transition to `next` on each byte from `start` to `end`, both included. If `start` is above
 /// `end`, it is on no byte.
-#[derive(Clone, Copy, Debug, PartialEq, Eq)]
+#[derive(Clone, Copy, PartialEq, Eq)]
 pub struct Transition {
     /// The first byte of the range.
     pub start: u8,

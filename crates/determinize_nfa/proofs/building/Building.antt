@@ -66,10 +66,8 @@ module _ {V : Type 0} (f : V → Node) (xs : List V) (patterns terminator : ℕ)
     pub same_node : (x y : V) → x ≡ get_or xs i x → y ≡ get_or xs i y → f x ≡ f y
     same_node x y h k = node_is x h ∙ sym (node_is y k)
 
--- two more states
-pub pushed_twice : {V : Type 0} (f : V → Node) (xs ys zs : List V) (x y : V) (ns : List Node) → map f xs ≡ ns
-    → ys ≡ xs ++ x ∷ [] → zs ≡ ys ++ y ∷ [] → map f zs ≡ (ns ++ f x ∷ []) ++ f y ∷ []
-pushed_twice f xs ys zs x y ns n e d = rw (d, e, map-append f (xs ++ x ∷ []) (y ∷ []), map-append f xs (x ∷ []), n) refl
+-- the rule for one more state
+pub ruleset pushing = (map-append)
 
 -- the first state that passes a test
 module _ {V : Type 0} (f : V → Node) (p : Node → Bool) where

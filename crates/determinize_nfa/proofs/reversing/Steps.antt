@@ -1,14 +1,14 @@
 -- One more recorded transition, and one more reached state, as the program records them.
--- Main statements: added_is, count-node, over_more, over_all.
--- Used by: `Turned::add` and the loop of `reversed`.
+-- Main statements: added_is, ended, count-node, over_start, over_more, over_all.
+-- Used by: `add`, `add_nodes` and `end_states` of the reversal.
 -- Idea: a push to one list of a list of lists is the definition of `added`.
-use Rattle.std.specs.Prelude.{slice_get}
-use Rattle.std.proofs.Common.{◌≡◌, ◌<◌, ◌≤◌, ◌+◌, ◌++◌, ◌∙◌, ◌∷◌, ℕ, List, Some, [], ap, arith, drop, get_or, length, map, refl, set, suc, sym, zero}
+use Rattle.std.specs.Prelude.{OnOk, if◌then◌else◌, is_ok, slice_get}
+use Rattle.std.proofs.Common.{◌≡◌, ◌<◌, ◌≤◌, ◌+◌, ◌++◌, ◌∙◌, ◌∷◌, ℕ, Err, List, Ok, Result, Some, [], ap, append_assoc, arith, drop, get_or, length, map, refl, replicate, set, suc, sym, zero}
 use Rattle.std.proofs.Math.Seq.{drop-cons}
-use Rattle.std.proofs.lemmas.List.{get_or-map, length-set, map-set}
+use Rattle.std.proofs.lemmas.List.{get_or-map, length-replicate, length-set, map-append, map-set}
 use Rattle.determinize_below.specs.Semantics.{Nfa, Node, ByteRange, Sparse, Dense, Look, Union, BinaryUnion, Capture}
 use Rattle.determinize_below.specs.declared.nfa.transitions.Transition.{Transition}
-use Rattle.determinize_nfa.specs.Private.Turning.{Turned, added, range_to, sources, with_frees, with_node, with_nodes, with_ranges, runs, with_state}
+use Rattle.determinize_nfa.specs.Private.Turning.{Turned, added, none_turned, range_to, sources, with_frees, with_node, with_nodes, with_ranges, runs, turned_over, with_state}
 use Rattle.determinize_nfa.proofs.prefixes.Parts.{state_is}
 
 -- an id goes to the end of one of some lists
@@ -25,6 +25,21 @@ pub added_is : {V : Type 0} (items : V → List ℕ) (lists : List V) (rest : Li
     (added record { into = map items lists; rest = rest; ends = ends } i y)
 added_is items lists rest ends i old new y l e n =
     λ k. record { into = pushed items lists i old new y l e n k; rest = rest; ends = ends }
+
+-- a match state, a start state and the states of another list go to the end of some states
+pub ended : {V T E : Type 0} (f : V → Node) (made one two whole rest : List V) (m u : Node) (r : Result T E)
+    → map f one ≡ map f made ++ m ∷ [] → map f two ≡ map f one ++ u ∷ []
+    → whole ≡ (if is_ok r then two ++ rest else two) → OnOk r (map f whole ≡ map f made ++ m ∷ u ∷ map f rest)
+ended f made one two whole rest m u (Ok x) b c d =
+    rw (
+      d,
+      map-append f two rest,
+      c,
+      b,
+      append_assoc (map f made ++ m ∷ []) (u ∷ []) (map f rest),
+      append_assoc (map f made) (m ∷ []) (u ∷ map f rest),
+    ) refl
+ended f made one two whole rest m u (Err e) b c d = tt
 
 -- there is one list for each state
 count-ranges : (s : ℕ) (rs : List Transition) (h : Turned) → length (with_ranges h s rs).into ≡ length h.into
@@ -51,6 +66,17 @@ count-node s l h = refl
 pub record IsOver (nfa : Nfa) (whole h : Turned) (met : List ℕ) (k : ℕ) : Type 0 where
   pub count : length h.into ≡ length nfa.states
   pub rest : whole ≡ with_nodes nfa h (drop k met)
+
+pub over_start : (nfa : Nfa) (met : List ℕ) (h : Turned)
+    → h ≡ added (none_turned (length nfa.states)) nfa.start_anchored (length nfa.states)
+    → IsOver nfa (turned_over nfa met) h met 0
+over_start nfa met h e = record {
+  count = ap (λ (t : Turned). length t.into) e
+      ∙ length-set (replicate (length nfa.states) []) nfa.start_anchored
+      (sources (none_turned (length nfa.states)) nfa.start_anchored ++ length nfa.states ∷ [])
+      ∙ length-replicate (length nfa.states) [];
+  rest = ap (λ t. with_nodes nfa t met) (sym e);
+}
 
 pub over_more : (nfa : Nfa) (whole h new : Turned) (met : List ℕ) (k s : ℕ) (node : Node) → IsOver nfa whole h met k
     → k < length met → get_or met k 0 ≡ s → slice_get nfa.states s ≡ Some node → new ≡ with_node h s node

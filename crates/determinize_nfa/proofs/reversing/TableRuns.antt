@@ -45,7 +45,7 @@ module _ (target : ℕ → ℕ) where
   after : (id : ℕ) (ids : List ℕ) (a b k : ℕ) → IsAt target (id ∷ ids) a b → get_or ids k 0 ≡ target (suc b + k)
   after id ids a b k at = let z : b + suc k ≡ suc b + k = omega arith in rw z at (at.rest (suc k))
 
-  -- the run goes on
+  -- the next byte is in the same run
   onward : (id : ℕ) (ids : List ℕ) (a b : ℕ) → is_first id ids ≡ true → IsAt target (id ∷ ids) a b
       → IsAt target ids a (suc b)
   onward id ids a b z at =
@@ -56,7 +56,7 @@ module _ (target : ℕ → ℕ) where
         one = λ c l h. in_run id ids a b c at l (omega (arith, h)) ∙ sym next;
       }
 
-  -- another run begins
+  -- the next byte begins another run
   anew : (id : ℕ) (ids : List ℕ) (a b : ℕ) → IsAt target (id ∷ ids) a b → IsAt target ids (suc b) (suc b)
   anew id ids a b at = record {
     begun = omega arith;

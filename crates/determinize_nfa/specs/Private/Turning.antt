@@ -1,8 +1,11 @@
 -- The transitions of an NFA, reversed one after another.
-use Rattle.std.specs.Prelude.{◌++◌, ◌+◌, ◌∷◌, ℕ, List, [], cond, length, nat_eq, replicate, slice_index_or, slice_set, suc}
+use Rattle.std.specs.Prelude.{◌≡◌, ◌++◌, ◌+◌, ◌∷◌, ℕ, List, [], cond, length, nat_eq, replicate, slice_index_or, slice_set, suc}
+use Rattle.std.specs.List.{IsDistinct}
+use Rattle.determinize_below.specs.Nfa.{AllResolve}
 use Rattle.determinize_below.specs.Semantics.{state_at, Nfa, Node, ByteRange, Sparse, Dense, Look, Union, BinaryUnion, Capture, Fail, Match}
 use Rattle.determinize_below.specs.Look.{reversed}
 use Rattle.determinize_below.specs.declared.nfa.transitions.Transition.{Transition}
+use Rattle.determinize_nfa.specs.Private.Closed.{IsClosed}
 use Rattle.determinize_nfa.specs.Reversal.{is_first}
 
 -- for each state the ids that it has transitions to in the reversed NFA, the states of the reversed
@@ -87,3 +90,12 @@ none_turned count = record { into = replicate count []; rest = []; ends = [] }
 abbrev pub turned_over : Nfa → List ℕ → Turned
 turned_over nfa met = with_nodes nfa
     (added (none_turned (length nfa.states)) nfa.start_anchored (length nfa.states)) met
+
+-- they are those of a list that has each state once that the anchored start reaches
+pub record IsTurnedOver (nfa : Nfa) (turned : Turned) : Type 0 where
+  pub met : List ℕ
+  pub closed : IsClosed nfa met
+  pub below : AllResolve nfa met
+  pub distinct : IsDistinct nat_eq met
+  pub is : turned_over nfa met ≡ turned
+  pub count : length turned.into ≡ length nfa.states

@@ -1,21 +1,21 @@
-use Rattle.std.proofs.Common.{rules, ◌≡◌, ◌<◌, ◌+◌, ℕ, List, None, Some, [], arith, length, subst, sym, true}
+use Rattle.std.proofs.Common.{rules, ◌≡◌, ◌<◌, ◌+◌, ℕ, List, None, Some, ap, arith, length, subst, sym, true}
 use Rattle.std.specs.List.{IsDistinct}
 use Rattle.std.specs.Prelude.{nat_eq, slice_get}
+use Rattle.determinize_below.specs.Members.{Members}
 use Rattle.determinize_below.specs.Nfa.{resolves}
 use Rattle.determinize_below.specs.Node.{node_of}
 use Rattle.determinize_below.proofs.nfas.SoundNfa.{each_passes}
-use Rattle.determinize_nfa.specs.Private.Closed.{IsClosed, all_visited, targets_in, visited}
+use Rattle.determinize_nfa.specs.Private.Closed.{IsClosed, all_visited, targets_in}
 use Rattle.determinize_nfa.proofs.reversing.FoundStates.{IsFound, found_all, found_index, found_more, found_start}
 use Rattle.determinize_nfa.proofs.reached.reached.Goals as goal
 
 pub loop-id-init : goal.loop-id-init
 loop-id-init g c =
-    let ids : c.visit.new.self.ids ≡ visited [] c.args.nfa.now.start_anchored = search rules in
-    let below : c.args.nfa.now.start_anchored < length c.args.nfa.now.states
-    = omega (arith, c.start_anchored.ensures.value, c.start_anchored.ensures.resolves) in
+    let below : c.args.nfa.now.start_anchored < length c.args.nfa.now.states = search rules in
     record {
-      capacity = search rules;
-      found = subst (λ (xs : List ℕ). IsFound c.args.nfa.now xs 0) (sym ids) (found_start c.args.nfa.now below);
+      capacity = ap (λ (m : Members). m.capacity) c.in_ok-found.ensures.start;
+      found = subst (λ (m : Members). IsFound c.args.nfa.now m.ids 0) (sym c.in_ok-found.ensures.start)
+          (found_start c.args.nfa.now below);
     }
 
 pub state-requires : goal.state-requires
@@ -34,7 +34,7 @@ overflow_add-index g c =
     let is : slice_get c.loop-id.found.ids c.loop-id.index ≡ Some c.in-Some.id = search rules in
     let low = (found_index c.args.nfa.now c.loop-id.found.ids c.loop-id.index c.in-Some.id c.loop-id.invariant.found
     is).0 in
-    omega (arith, low, c.len.ensures.count, c.len.ensures.limit)
+    omega (arith, low, c.begun.ensures.limit)
 
 pub loop-id-smaller : goal.loop-id-smaller
 loop-id-smaller g c =
@@ -46,7 +46,7 @@ loop-id-smaller g c =
 pub loop-id-preserved : goal.loop-id-preserved
 loop-id-preserved g c =
     let is : slice_get c.loop-id.found.ids c.loop-id.index ≡ Some c.in-Some.id = search rules in
-    let ids : c.visit_targets.new.self.ids
+    let ids : c.visit_targets.new.found.ids
     ≡ all_visited c.loop-id.found.ids (targets_in (node_of c.state.result.now)) = search rules in
     record {
       capacity = search rules;
@@ -58,11 +58,11 @@ loop-id-preserved g c =
 pub returns-clause-closed : goal.returns-clause-closed
 returns-clause-closed g c =
     let none : slice_get c.loop-id.found.ids c.loop-id.index ≡ None = search rules in
-    let items : c.found-in-loop-id.inside.order.items ≡ c.loop-id.found.ids = search rules in
+    let items : c.loop-id.found.ids ≡ c.loop-id.found.ids = search rules in
     subst (λ (xs : List ℕ). IsClosed c.args.nfa.now xs) (sym items)
     (found_all c.args.nfa.now c.loop-id.found.ids c.loop-id.index c.loop-id.invariant.found none)
 
 pub returns-clause-distinct : goal.returns-clause-distinct
 returns-clause-distinct g c =
-    let items : c.found-in-loop-id.inside.order.items ≡ c.loop-id.found.ids = search rules in
+    let items : c.loop-id.found.ids ≡ c.loop-id.found.ids = search rules in
     subst (λ (xs : List ℕ). IsDistinct nat_eq xs) (sym items) c.loop-id.invariant.found.distinct

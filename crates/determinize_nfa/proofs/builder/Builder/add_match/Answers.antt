@@ -22,7 +22,7 @@ returns-clause-id g c =
 pub returns-clause-added : goal.returns-clause-added
 returns-clause-added g c =
     matched_is node_of c.self.inside.states.items c.self.inside.patterns c.self.inside.look_matcher
-    c.args.self.now c.self.view_is c.push.new.self.items _ c.in_ok-push.ensures.items
+    c.args.self.now c.self.view_is c.push_state.new.states.items _ c.in_ok-push_state.ensures.items
     (ap Match c.must-pattern_id.ensures)
 
 pub returns-in_err-id-clause-err : goal.returns-in_err-id-clause-err
@@ -36,7 +36,7 @@ returns-in_err-id-clause-err g c =
     (too_many c.len.result (length c.args.self.now.states + 1) below c.in_err-id.ensures.ok)
     c.from_residual.ensures.1
 
-pub returns-in_err-push-clause-err : goal.returns-in_err-push-clause-err
-returns-in_err-push-clause-err g c = if_err_and c.from_residual-in_err-push.result (λ (e : BuildError). e ≡ OutOfMemory)
+pub returns-in_err-push_state-clause-err : goal.returns-in_err-push_state-clause-err
+returns-in_err-push_state-clause-err g c = if_err_and c.from_residual-in_err-push_state.result (λ (e : BuildError). e ≡ OutOfMemory)
     (λ (e : BuildError). IsTooLarge (length c.args.self.now.states + 1) e)
-    (λ e h. inl h) c.from_residual-in_err-push.ensures.1
+    (λ e h. inl h) c.from_residual-in_err-push_state.ensures.1

@@ -1,8 +1,8 @@
 use Rattle.std.specs.Prelude.{None, Some}
-use Rattle.std.proofs.Common.{◌≡◌, ◌<◌, ◌+◌, ◌⊎◌, ◌∙◌, ap, arith, false, inl, inr, length, map, refl, subst, suc, sym}
+use Rattle.std.proofs.Common.{◌≡◌, ◌<◌, ◌+◌, ◌++◌, ◌⊎◌, ◌∙◌, ◌∷◌, [], ap, arith, false, inl, inr, length, map, refl, subst, suc, sym}
 use Rattle.std.proofs.lemmas.List.{length-map}
 use Rattle.std.proofs.lemmas.Result.{IfErr-weaker, IfOk-weaker}
-use Rattle.determinize_below.specs.Semantics.{Nfa}
+use Rattle.determinize_below.specs.Semantics.{BinaryUnion, ByteRange, Nfa}
 use Rattle.determinize_below.specs.Nfa.{failure, looks_of}
 use Rattle.determinize_below.specs.Node.{node_of}
 use Rattle.determinize_below.specs.declared.nfa.BuildError.{BuildError}
@@ -11,7 +11,7 @@ use Rattle.ordered_reach.proofs.Cases.{by_option}
 use Rattle.determinize_nfa.specs.Builder.{BuilderValue, IsApart, IsUnfit, built, prefixed}
 use Rattle.determinize_nfa.specs.Prefix.{HasPrefix, HasPrefixApart}
 use Rattle.determinize_below.proofs.Exits.{if_err_and}
-use Rattle.determinize_nfa.proofs.building.Building.{IsMade, has_prefix_apart, is_ahead, length_is, made_is, made_of, made_unfit, none_ahead, pushed_twice, unfit_too_many}
+use Rattle.determinize_nfa.proofs.building.Building.{IsMade, has_prefix_apart, is_ahead, length_is, made_is, made_of, made_unfit, none_ahead, unfit_too_many}
 use Rattle.determinize_nfa.proofs.builder.Builder.build_with_prefix.Goals as goal
 
 pub returns-in_err-union-clause-err : goal.returns-in_err-union-clause-err
@@ -65,35 +65,25 @@ returns-in_err-states-clause-err g c = if_err_and c.from_residual-in_err-states.
     (λ (e : BuildError). e ≡ OutOfMemory) (λ (e : BuildError). IsUnfit c.args.self.now c.args.start_anchored e)
     (λ e h. inr (inr h)) c.from_residual-in_err-states.ensures.1
 
-pub returns-in_err-push-clause-err : goal.returns-in_err-push-clause-err
-returns-in_err-push-clause-err g c = if_err_and c.from_residual-in_err-push.result
-    (λ (e : BuildError). e ≡ OutOfMemory) (λ (e : BuildError). IsUnfit c.args.self.now c.args.start_anchored e)
-    (λ e h. inr (inr h)) c.from_residual-in_err-push.ensures.1
-
-pub returns-in_err-push-2-clause-err : goal.returns-in_err-push-2-clause-err
-returns-in_err-push-2-clause-err g c = if_err_and c.from_residual-in_err-push-2.result
-    (λ (e : BuildError). e ≡ OutOfMemory) (λ (e : BuildError). IsUnfit c.args.self.now c.args.start_anchored e)
-    (λ e h. inr (inr h)) c.from_residual-in_err-push-2.ensures.1
-
 pub returns-in_err-matcher-clause-err : goal.returns-in_err-matcher-clause-err
 returns-in_err-matcher-clause-err g c = if_err_and c.from_residual-in_err-matcher.result
     (λ (e : BuildError). e ≡ OutOfMemory) (λ (e : BuildError). IsUnfit c.args.self.now c.args.start_anchored e)
     (λ e h. inr (inr h)) c.from_residual-in_err-matcher.ensures.1
 
 made : (g : _) (c : goal.After-from_parts g) → IsMade c.args.self.now c.args.start_anchored
-    (map node_of c.push-2.new.self.items) c.in_ok-union.union c.self.inside.look_matcher
+    (map node_of c.in_ok-states.states.items) c.in_ok-union.union c.self.inside.look_matcher
 made g c =
     let same = length-map c.self.inside.states.items node_of in
     let union : c.in_ok-union.union ≡ length (map node_of c.self.inside.states.items)
     = omega (arith, c.in_ok-union.ensures.ok.1, c.len-count.ensures, same) in
     let skip : c.in_ok-skip.skip ≡ suc (length (map node_of c.self.inside.states.items))
     = omega (arith, c.in_ok-skip.ensures.ok.1, c.len-count.ensures, same) in
-    let copied : map node_of c.in_ok-states.states.items ≡ map node_of c.self.inside.states.items
-    = c.in_ok-states.ensures ∙ ap (map node_of) c.as_slice-2.ensures.value in
-    let all = pushed_twice node_of c.in_ok-states.states.items c.push.new.self.items c.push-2.new.self.items
-    _ _ _ copied c.in_ok-push.ensures.items c.in_ok-push-2.ensures.items in
+    let all : map node_of c.in_ok-states.states.items
+    ≡ (map node_of c.self.inside.states.items ++ BinaryUnion c.args.start_anchored c.in_ok-skip.skip ∷ [])
+    ++ ByteRange record { start = 0; end = 255; next = c.in_ok-union.union } ∷ []
+    = rw c.as_slice-2.ensures.value at c.in_ok-states.ensures in
     made_of c.args.self.now c.args.start_anchored (map node_of c.self.inside.states.items)
-    (map node_of c.push-2.new.self.items) c.in_ok-union.union c.in_ok-skip.skip c.self.inside.patterns
+    (map node_of c.in_ok-states.states.items) c.in_ok-union.union c.in_ok-skip.skip c.self.inside.patterns
     c.self.inside.look_matcher c.self.view_is union skip all
 
 pub returns-clause-ok : goal.returns-clause-ok
@@ -102,16 +92,16 @@ returns-clause-ok g c =
     let same : c.in_ok-matcher.matcher ≡ c.self.inside.look_matcher = sym cases.3 ∙ cases.4 ∙ cases.2 in
     IfOk-weaker c.from_parts.result
     (λ (n : Nfa). n ≡ record {
-      states = map node_of c.push-2.new.self.items;
+      states = map node_of c.in_ok-states.states.items;
       start_anchored = c.args.start_anchored;
       start_unanchored = c.in_ok-union.union;
       reverse = false;
       terminator = c.in_ok-matcher.matcher;
-      look_set_any = looks_of (map node_of c.push-2.new.self.items);
+      look_set_any = looks_of (map node_of c.in_ok-states.states.items);
     })
     (λ (n : Nfa). n ≡ built (prefixed c.args.self.now c.args.start_anchored) c.args.start_anchored
     (length c.args.self.now.states))
-    (λ n e. made_is c.args.self.now c.args.start_anchored (map node_of c.push-2.new.self.items) c.in_ok-union.union
+    (λ n e. made_is c.args.self.now c.args.start_anchored (map node_of c.in_ok-states.states.items) c.in_ok-union.union
     c.self.inside.look_matcher (made g c) n (rw same at e))
     c.from_parts.ensures.ok
 
@@ -163,9 +153,9 @@ returns-clause-forward g c = IfOk-weaker c.from_parts.result
 pub returns-clause-err : goal.returns-clause-err
 returns-clause-err g c = IfErr-weaker c.from_parts.result
     (λ (e : BuildError).
-    (failure (map node_of c.push-2.new.self.items) c.args.start_anchored c.in_ok-union.union ≡ Some e)
+    (failure (map node_of c.in_ok-states.states.items) c.args.start_anchored c.in_ok-union.union ≡ Some e)
     ⊎ (e ≡ OutOfMemory))
     (λ (e : BuildError). IsUnfit c.args.self.now c.args.start_anchored e)
-    (made_unfit c.args.self.now c.args.start_anchored (map node_of c.push-2.new.self.items) c.in_ok-union.union
+    (made_unfit c.args.self.now c.args.start_anchored (map node_of c.in_ok-states.states.items) c.in_ok-union.union
     c.self.inside.look_matcher (made g c))
     c.from_parts.ensures.err

@@ -1,0 +1,34 @@
+use Rattle.std.proofs.Common.{◌≡◌, ◌∙◌, List, ap, inl, subst, sym, ℕ}
+use Rattle.determinize_below.specs.declared.nfa.BuildError.{BuildError}
+use Rattle.determinize_below.specs.declared.nfa.BuildError.TheVariants.{OutOfMemory}
+use Rattle.determinize_nfa.specs.Private.Turning.{turned_over}
+use Rattle.determinize_nfa.specs.Reversal.{IsTooLarge, most_states}
+use Rattle.determinize_below.proofs.Exits.{if_err_and}
+use Rattle.determinize_nfa.proofs.reversal.Turned.over.Goals as goal
+
+pub returns-clause-ok : goal.returns-clause-ok
+returns-clause-ok g c = record {
+  met = c.in_ok-found.found.ids;
+  closed = c.in_ok-found.ensures.closed;
+  below = c.in_ok-found.ensures.below;
+  distinct = c.in_ok-found.ensures.distinct;
+  is = ap (λ (xs : List ℕ). turned_over c.args.nfa.now xs) (sym c.as_slice.ensures.ids)
+      ∙ c.in_ok-add_nodes.ensures.turned;
+  count = c.in_ok-add_nodes.ensures.count;
+}
+
+pub returns-in_err-found-clause-err : goal.returns-in_err-found-clause-err
+returns-in_err-found-clause-err g c = if_err_and c.from_residual.result
+    (λ (e : BuildError). e ≡ OutOfMemory) (λ (e : BuildError). IsTooLarge (most_states c.args.nfa.now) e)
+    (λ e h. inl h) c.from_residual.ensures.1
+
+pub returns-in_err-turned-clause-err : goal.returns-in_err-turned-clause-err
+returns-in_err-turned-clause-err g c = if_err_and c.from_residual-in_err-turned.result
+    (λ (e : BuildError). e ≡ OutOfMemory) (λ (e : BuildError). IsTooLarge (most_states c.args.nfa.now) e)
+    (λ e h. inl h) c.from_residual-in_err-turned.ensures.1
+
+pub returns-in_err-add_nodes-clause-err : goal.returns-in_err-add_nodes-clause-err
+returns-in_err-add_nodes-clause-err g c = if_err_and c.from_residual-in_err-add_nodes.result
+    (λ (e : BuildError). e ≡ c.in_err-add_nodes.field-0.0) (λ (e : BuildError). IsTooLarge (most_states c.args.nfa.now) e)
+    (λ e h. subst (λ (w : BuildError). IsTooLarge (most_states c.args.nfa.now) w) (sym h)
+    c.in_err-add_nodes.ensures.err) c.from_residual-in_err-add_nodes.ensures.1
