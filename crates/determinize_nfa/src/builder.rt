@@ -4,7 +4,7 @@
 //! and `patch` sets it later. A union whose alternates are not known yet is `add_union(&[])`, and
 //! `close` sets its alternates: so the body of a loop can have a transition to an earlier state.
 
-ghost use Rattle.std.specs.Prelude.{◌≡◌, ◌+◌, ◌++◌, ◌<◌, ◌≤◌, ◌∷◌, [], Some, IfErr, IfOk, OnErr, OnOk, false, if◌then◌else◌, is_ok, length, map, slice_index_or, true, vec_len, ◌⊎◌};
+ghost use Rattle.std.specs.Prelude.{◌≡◌, ◌+◌, ◌++◌, ◌<◌, ◌∷◌, [], Some, IfErr, IfOk, OnErr, OnOk, false, if◌then◌else◌, is_ok, length, map, slice_index_or, true, vec_len, ◌⊎◌};
 ghost use Rattle.std.specs.List.{position};
 ghost use Rattle.determinize_below.specs.Nfa.{failure};
 ghost use Rattle.determinize_below.specs.Semantics as nodes;
@@ -278,7 +278,8 @@ pub(crate) fn push_state<A: Allocator>(
 ) -> Result<(), AllocError>
     ensures items { states.new.items
         ≡ (if is_ok result then states.old.items ++ state ∷ [] else states.old.items) }
-    ensures longer { vec_len states.old ≤ vec_len states.new }
+    ensures len { vec_len states.new
+        ≡ (if is_ok result then vec_len states.old + 1 else vec_len states.old) }
     ensures nodes { OnOk result
         (map node_of states.new.items ≡ map node_of states.old.items ++ node_of state ∷ []) }
 {

@@ -1,11 +1,10 @@
-use Rattle.std.proofs.Common.{rules, ◌≡◌, ◌<◌, ◌+◌, ℕ, List, None, Some, ap, arith, length, subst, sym, true}
-use Rattle.std.specs.List.{IsDistinct}
-use Rattle.std.specs.Prelude.{nat_eq, slice_get}
+use Rattle.std.proofs.Common.{rules, ◌≡◌, ◌<◌, ◌+◌, ◌∙◌, ℕ, List, None, Some, ap, arith, length, subst, sym, true}
+use Rattle.std.specs.Prelude.{slice_get}
 use Rattle.determinize_below.specs.Members.{Members}
 use Rattle.determinize_below.specs.Nfa.{resolves}
 use Rattle.determinize_below.specs.Node.{node_of}
 use Rattle.determinize_below.proofs.nfas.SoundNfa.{each_passes}
-use Rattle.determinize_nfa.specs.Private.Closed.{IsClosed, all_visited, targets_in}
+use Rattle.determinize_nfa.specs.Private.Closed.{all_visited, targets_in}
 use Rattle.determinize_nfa.proofs.reversing.FoundStates.{IsFound, found_all, found_index, found_more, found_start}
 use Rattle.determinize_nfa.proofs.reached.reached.Goals as goal
 
@@ -20,7 +19,7 @@ loop-id-init g c =
 
 pub state-requires : goal.state-requires
 state-requires g c =
-    let is : slice_get c.loop-id.found.ids c.loop-id.index ≡ Some c.in-Some.id = search rules in
+    let is : slice_get c.loop-id.found.ids c.loop-id.index ≡ Some c.in-Some.id = sym c.nth.ensures ∙ c.in-Some.is in
     (found_index c.args.nfa.now c.loop-id.found.ids c.loop-id.index c.in-Some.id c.loop-id.invariant.found is).1
 
 pub visit_targets-requires : goal.visit_targets-requires
@@ -31,25 +30,26 @@ visit_targets-requires g c =
 
 pub overflow_add-index : goal.overflow_add-index
 overflow_add-index g c =
-    let is : slice_get c.loop-id.found.ids c.loop-id.index ≡ Some c.in-Some.id = search rules in
+    let is : slice_get c.loop-id.found.ids c.loop-id.index ≡ Some c.in-Some.id = sym c.nth.ensures ∙ c.in-Some.is in
     let low = (found_index c.args.nfa.now c.loop-id.found.ids c.loop-id.index c.in-Some.id c.loop-id.invariant.found
     is).0 in
     omega (arith, low, c.begun.ensures.limit)
 
 pub loop-id-smaller : goal.loop-id-smaller
 loop-id-smaller g c =
-    let is : slice_get c.loop-id.found.ids c.loop-id.index ≡ Some c.in-Some.id = search rules in
+    let is : slice_get c.loop-id.found.ids c.loop-id.index ≡ Some c.in-Some.id = sym c.nth.ensures ∙ c.in-Some.is in
     let low = (found_index c.args.nfa.now c.loop-id.found.ids c.loop-id.index c.in-Some.id c.loop-id.invariant.found
     is).0 in
     omega (arith, low)
 
 pub loop-id-preserved : goal.loop-id-preserved
 loop-id-preserved g c =
-    let is : slice_get c.loop-id.found.ids c.loop-id.index ≡ Some c.in-Some.id = search rules in
+    let is : slice_get c.loop-id.found.ids c.loop-id.index ≡ Some c.in-Some.id = sym c.nth.ensures ∙ c.in-Some.is in
     let ids : c.visit_targets.new.found.ids
-    ≡ all_visited c.loop-id.found.ids (targets_in (node_of c.state.result.now)) = search rules in
+    ≡ all_visited c.loop-id.found.ids (targets_in (node_of c.state.result.now))
+    = ap (λ (m : Members). m.ids) c.visit_targets.ensures in
     record {
-      capacity = search rules;
+      capacity = ap (λ (m : Members). m.capacity) c.visit_targets.ensures ∙ c.loop-id.invariant.capacity;
       found = subst (λ (xs : List ℕ). IsFound c.args.nfa.now xs (c.loop-id.index + 1)) (sym ids)
           (found_more c.args.nfa.now c.state.ensures.accepted c.loop-id.found.ids c.loop-id.index c.in-Some.id
           (node_of c.state.result.now) c.loop-id.invariant.found is c.state.ensures.state);
@@ -58,11 +58,7 @@ loop-id-preserved g c =
 pub returns-clause-closed : goal.returns-clause-closed
 returns-clause-closed g c =
     let none : slice_get c.loop-id.found.ids c.loop-id.index ≡ None = search rules in
-    let items : c.loop-id.found.ids ≡ c.loop-id.found.ids = search rules in
-    subst (λ (xs : List ℕ). IsClosed c.args.nfa.now xs) (sym items)
-    (found_all c.args.nfa.now c.loop-id.found.ids c.loop-id.index c.loop-id.invariant.found none)
+    found_all c.args.nfa.now c.loop-id.found.ids c.loop-id.index c.loop-id.invariant.found none
 
 pub returns-clause-distinct : goal.returns-clause-distinct
-returns-clause-distinct g c =
-    let items : c.loop-id.found.ids ≡ c.loop-id.found.ids = search rules in
-    subst (λ (xs : List ℕ). IsDistinct nat_eq xs) (sym items) c.loop-id.invariant.found.distinct
+returns-clause-distinct g c = c.loop-id.invariant.found.distinct

@@ -49,3 +49,33 @@ invariant_of-result g c = record {
   passes = accepted g c;
   looks = rw (c.looks_in-look_set_any.ensures, c.as_slice-2.ensures.value) refl;
 }
+
+pub returns-clause-limit : goal.returns-clause-limit
+returns-clause-limit g c = λ many.
+    absurd (omega (arith, many, c.len-count.ensures, c.if-count-gt-ID_LIMIT.false))
+
+pub returns-clause-starts : goal.returns-clause-starts
+returns-clause-starts g c = λ few past. absurd (by_cases past
+    (λ h. omega (arith, h, c.len-count.ensures, c.as_usize.ensures.value, c.if-as_usize-count.false))
+    (λ h. omega (
+      arith,
+      h,
+      c.len-count.ensures,
+      c.as_usize-else-as_usize-count.ensures.value,
+      c.if-as_usize-count-2.false,
+    )))
+
+pub returns-in_err-check_states-clause-limit : goal.returns-in_err-check_states-clause-limit
+returns-in_err-check_states-clause-limit g c = λ many.
+    absurd (omega (arith, many, c.len-count.ensures, c.if-count-gt-ID_LIMIT.false))
+
+pub returns-in_err-check_states-clause-starts : goal.returns-in_err-check_states-clause-starts
+returns-in_err-check_states-clause-starts g c = λ few past. absurd (by_cases past
+    (λ h. omega (arith, h, c.len-count.ensures, c.as_usize.ensures.value, c.if-as_usize-count.false))
+    (λ h. omega (
+      arith,
+      h,
+      c.len-count.ensures,
+      c.as_usize-else-as_usize-count.ensures.value,
+      c.if-as_usize-count-2.false,
+    )))

@@ -1,6 +1,10 @@
-use Rattle.determinize_below.proofs.Common.{ap, drop, map, node_of, sym, with_looks_of, ◌+◌, ◌≡◌, ◌∙◌, ◌∷◌}
+use Rattle.determinize_below.proofs.Common.{[], ap, arith, drop, length, map, node_of, refl, sym, with_looks_of, ◌+◌, ◌≡◌, ◌∙◌, ◌∷◌}
+use Rattle.std.proofs.lemmas.List.{length-drop, nil_from_length}
 use Rattle.determinize_below.proofs.Moved.{next_of}
 use Rattle.determinize_below.proofs.nfa.checks.looks_in.Goals as goal
+
+pub loop-state-init : goal.loop-state-init
+loop-state-init g c = rw c.empty-looks.ensures refl
 
 pub loop-state-preserved : goal.loop-state-preserved
 loop-state-preserved g c =
@@ -10,3 +14,10 @@ loop-state-preserved g c =
     c.loop-state.invariant ∙ ap (λ xs. with_looks_of c.loop-state.looks (map node_of xs)) next
     ∙ ap (λ n. with_looks_of n (map node_of (drop (c.loop-state.state-index + 1) c.args.states.now)))
     (sym c.with_look-looks.ensures)
+
+pub returns : goal.returns
+returns g c =
+    let none : drop c.loop-state.state-index c.args.states.now ≡ []
+    = nil_from_length (drop c.loop-state.state-index c.args.states.now)
+    (omega (arith, length-drop c.loop-state.state-index c.args.states.now, c.loop-state-test.false)) in
+    sym (c.loop-state.invariant ∙ ap (λ xs. with_looks_of c.loop-state.looks (map node_of xs)) none)
