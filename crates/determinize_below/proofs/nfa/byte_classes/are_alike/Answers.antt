@@ -1,4 +1,4 @@
-use Rattle.determinize_below.proofs.Common.{rules, ◌≡◌, arith, refl, true, below_more}
+use Rattle.determinize_below.proofs.Common.{rules, ◌≡◌, arith, false≢true, refl, true, below_more}
 use Rattle.determinize_below.proofs.nfas.Boundaries.{all_states, read_at}
 use Rattle.determinize_below.proofs.nfa.byte_classes.are_alike.Goals as goal
 
@@ -19,3 +19,12 @@ returns g c =
       }),
       (λ _. refl),
     )
+
+pub loop-index-init : goal.loop-index-init
+loop-index-init g c = λ s h. absurd (omega (arith, h))
+
+pub returns-then-not-are_tested_alike : goal.returns-then-not-are_tested_alike
+returns-then-not-are_tested_alike g c = (
+  λ h. absurd (false≢true h),
+  λ a. absurd (let k = c.are_tested_alike.ensures.1 a.tests in let n = c.if-not-are_tested_alike.true in cc),
+)

@@ -1,4 +1,4 @@
-use Rattle.determinize_below.proofs.Common.{[], ap, arith, drop, length, map, node_of, refl, sym, with_looks_of, ◌+◌, ◌≡◌, ◌∙◌, ◌∷◌}
+use Rattle.determinize_below.proofs.Common.{[], ap, arith, drop, map, node_of, refl, sym, with_looks_of, ◌+◌, ◌≡◌, ◌∙◌, ◌∷◌}
 use Rattle.std.proofs.lemmas.List.{length-drop, nil_from_length}
 use Rattle.determinize_below.proofs.Moved.{next_of}
 use Rattle.determinize_below.proofs.nfa.checks.looks_in.Goals as goal
