@@ -18,7 +18,8 @@ loop-alternates-preserved g c =
 
 pub returns : goal.returns
 returns g c =
+    let same = length-map c.loop-alternates.alternates-iterator.rest.items (λ v. v.items) in
     let none : length (map (λ v. v.items) c.loop-alternates.alternates-iterator.rest.items) ≡ 0
-    = omega (arith, c.in-None.ensures.steps.0, length-map c.loop-alternates.alternates-iterator.rest.items (λ v. v.items)) in
+    = omega (arith, c.in-None.ensures.steps.0, same) in
     none_left node_of c.loop-alternates.made.items (map gathered (map (λ v. v.items) c.args.lists.items)) gathered
     (map (λ v. v.items) c.loop-alternates.alternates-iterator.rest.items) none c.loop-alternates.invariant

@@ -37,6 +37,6 @@ returns-in_err-id-clause-err g c =
     c.from_residual.ensures.1
 
 pub returns-in_err-push_state-clause-err : goal.returns-in_err-push_state-clause-err
-returns-in_err-push_state-clause-err g c = if_err_and c.from_residual-in_err-push_state.result (λ (e : BuildError). e ≡ OutOfMemory)
-    (λ (e : BuildError). IsTooLarge (length c.args.self.now.states + 1) e)
+returns-in_err-push_state-clause-err g c = if_err_and c.from_residual-in_err-push_state.result
+    (λ (e : BuildError). e ≡ OutOfMemory) (λ (e : BuildError). IsTooLarge (length c.args.self.now.states + 1) e)
     (λ e h. inl h) c.from_residual-in_err-push_state.ensures.1
