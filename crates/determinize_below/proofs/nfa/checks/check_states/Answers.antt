@@ -25,7 +25,8 @@ returns-in_err-check_state-clause-err g c =
 pub returns-clause-ok : goal.returns-clause-ok
 returns-clause-ok g c =
     let all = map node_of c.args.states.now in
+    let same = length-map c.args.states.now node_of in
     let none : drop c.loop-index.index all ≡ [] = nil_from_length (drop c.loop-index.index all)
-    (omega (arith, length-drop c.loop-index.index all, length-map c.args.states.now node_of, c.loop-index-test.false)) in
+    (omega (arith, length-drop c.loop-index.index all, same, c.loop-index-test.false)) in
     c.loop-index.invariant.same
     ∙ ap (states_failure (length c.args.states.now) (take c.loop-index.index all) c.loop-index.index) none
