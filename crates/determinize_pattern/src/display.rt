@@ -40,9 +40,9 @@ fn write_part<W: fmt::Write>(
     if !needs_group(pattern, place) {
         return write_bare(f, pattern);
     }
-    write!(f, "(?:")?;
+    f.write_str("(?:")?;
     write_bare(f, pattern)?;
-    write!(f, ")")
+    f.write_str(")")
 }
 
 fn needs_group(pattern: &Pattern, place: Place) -> bool {
@@ -58,7 +58,7 @@ fn needs_group(pattern: &Pattern, place: Place) -> bool {
 #[cycle(write_bare)]
 fn write_bare<W: fmt::Write>(f: &mut fmt::Formatter<W>, pattern: &Pattern) -> fmt::Result {
     match pattern {
-        Pattern::Empty => write!(f, "(?:)"),
+        Pattern::Empty => f.write_str("(?:)"),
         Pattern::Literal(bytes) => write_literal(f, bytes),
         Pattern::Class(class) => write_class(f, class),
         Pattern::Look(look) => write_look(f, *look),
@@ -70,12 +70,12 @@ fn write_bare<W: fmt::Write>(f: &mut fmt::Formatter<W>, pattern: &Pattern) -> fm
         } => {
             write_part(f, sub, Place::Operand)?;
             write_operator(f, *min, *max)?;
-            if *greedy { Ok(()) } else { write!(f, "?") }
+            if *greedy { Ok(()) } else { f.write_str("?") }
         }
         Pattern::Capture(sub) => {
-            write!(f, "(")?;
+            f.write_str("(")?;
             write_bare(f, sub)?;
-            write!(f, ")")
+            f.write_str(")")
         }
         Pattern::Concat(subs) => write_all(f, subs, ""),
         Pattern::Alternation(subs) => write_choice(f, subs),
@@ -97,11 +97,11 @@ fn write_all<W: fmt::Write>(
     separator: &str,
 ) -> fmt::Result {
     if subs.is_empty() {
-        return write!(f, "(?:)");
+        return f.write_str("(?:)");
     }
     for i in 0..subs.len() {
         if i > 0 {
-            write!(f, "{separator}")?;
+            f.write_str(separator)?;
         }
         write_part(f, &subs[i], Place::Branch)?;
     }
@@ -110,12 +110,12 @@ fn write_all<W: fmt::Write>(
 
 /// Writes the class without bytes.
 fn write_none<W: fmt::Write>(f: &mut fmt::Formatter<W>) -> fmt::Result {
-    write!(f, "[^\\x00-\\xFF]")
+    f.write_str("[^\\x00-\\xFF]")
 }
 
 fn write_literal<W: fmt::Write>(f: &mut fmt::Formatter<W>, bytes: &[u8]) -> fmt::Result {
     if bytes.is_empty() {
-        return write!(f, "(?:)");
+        return f.write_str("(?:)");
     }
     for byte in bytes {
         write_byte(f, *byte)?;
@@ -128,15 +128,15 @@ fn write_class<W: fmt::Write>(f: &mut fmt::Formatter<W>, class: &ClassBytes) -> 
     if ranges.is_empty() {
         return write_none(f);
     }
-    write!(f, "[")?;
+    f.write_str("[")?;
     for range in ranges {
         write_byte(f, range.start)?;
         if range.start != range.end {
-            write!(f, "-")?;
+            f.write_str("-")?;
             write_byte(f, range.end)?;
         }
     }
-    write!(f, "]")
+    f.write_str("]")
 }
 
 fn write_byte<W: fmt::Write>(f: &mut fmt::Formatter<W>, byte: u8) -> fmt::Result {
@@ -144,7 +144,7 @@ fn write_byte<W: fmt::Write>(f: &mut fmt::Formatter<W>, byte: u8) -> fmt::Result
         return write!(f, "\\x{byte:02X}");
     }
     if is_meta(byte) {
-        write!(f, "\\")?;
+        f.write_str("\\")?;
     }
     let character = char::from(byte);
     write!(f, "{character}")
@@ -181,10 +181,10 @@ fn write_operator<W: fmt::Write>(
     max: Option<u32>,
 ) -> fmt::Result {
     match (min, max) {
-        (0, None) => write!(f, "*"),
-        (1, None) => write!(f, "+"),
+        (0, None) => f.write_str("*"),
+        (1, None) => f.write_str("+"),
         (_, None) => write!(f, "{{{min},}}"),
-        (0, Some(1)) => write!(f, "?"),
+        (0, Some(1)) => f.write_str("?"),
         (_, Some(max)) if max <= min => write!(f, "{{{min}}}"),
         (_, Some(max)) => write!(f, "{{{min},{max}}}"),
     }
@@ -211,5 +211,5 @@ fn write_look<W: fmt::Write>(f: &mut fmt::Formatter<W>, look: Look) -> fmt::Resu
         Look::WordStartHalfUnicode => "(?u:\\b{start-half})",
         Look::WordEndHalfUnicode => "(?u:\\b{end-half})",
     };
-    write!(f, "{text}")
+    f.write_str(text)
 }

@@ -60,7 +60,7 @@ pub enum CompileError {
 impl fmt::Display for CompileError {
     fn fmt<W: fmt::Write>(&self, f: &mut fmt::Formatter<W>) -> fmt::Result {
         match self {
-            CompileError::ExceededSizeLimit => write!(f, "the patterns exceed the size limit"),
+            CompileError::ExceededSizeLimit => f.write_str("the patterns exceed the size limit"),
             CompileError::NestLimitExceeded(limit) => {
                 write!(f, "a pattern is nested deeper than {limit} levels")
             }
