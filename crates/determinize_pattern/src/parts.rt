@@ -154,12 +154,32 @@ impl<A: Allocator + Copy> Compiler<A> {
         }
         let targets = self.copy(ids)?;
         let mut branch = self.copy(ids)?;
+        self.choices(subs, &targets, &mut branch, ids)
+    }
+
+    /// Adds the states of each branch, which is compiled in `branch`, in front of the later ones.
+    #[cycle(part)]
+    fn choices(
+        &mut self,
+        subs: &[Pattern],
+        targets: &[StateID],
+        branch: &mut [StateID],
+        ids: &mut [StateID],
+    ) -> Result<(), CompileError>
+        requires some { 0 < length ids.old }
+        requires targets { length targets.now ≡ length ids.old }
+        requires branch { length branch.old ≡ length targets.now }
+        ensures compiled { OnOk result (IsCompiled self.old.builder self.new.builder
+            (choice (map meaning subs.now)) targets.now ids.new) }
+        ensures paid { OnOk result
+            (Paid self.old.builder self.old.left self.new.builder self.new.left) }
+    {
         let fail = self.fail()?;
         set_each(ids, fail);
         for i in (0..subs.len()).rev() {
-            branch.copy_from_slice(&targets);
-            self.part(&subs[i], &mut branch)?;
-            self.choose_each(false, ids, &branch)?;
+            branch.copy_from_slice(targets);
+            self.part(&subs[i], branch)?;
+            self.choose_each(false, ids, branch)?;
         }
         Ok(())
     }

@@ -1,4 +1,4 @@
-use Rattle.std.proofs.Common.{add-one, ◌≡◌, ◌+◌, ◌-◌, ◌∙◌, ◌∷◌, ap, arith, false, drop, length, map, refl, slice_index, sym}
+use Rattle.std.proofs.Common.{add-one, ◌≡◌, ◌+◌, ◌-◌, ◌∙◌, ◌∷◌, ap, arith, false, drop, length, map, refl, replicate, slice_index}
 use Rattle.std.proofs.lemmas.Grind.{common_steps, get_or_default_zero}
 use Rattle.std.proofs.lemmas.List.{drop_all, drop_more, get_or_read, take_all, take_rest}
 use Rattle.std.proofs.lemmas.Result.{IfOk-weaker, on_ok_weaker}
@@ -51,27 +51,25 @@ concat-loop-i-preserved g t c =
       omega (arith, c.loop-i.invariant.1, c.in_ok-part.ensures.paid),
     )
 
-pub alternation-loop-i-init : goal.alternation-loop-i-init
-alternation-loop-i-init g t c = (
-  rw (drop_all (length c.args.subs.now) c.args.subs.now (omega arith))
-      (nothing_compiled _ _ _ _ _ c.in_ok-fail.ensures.id c.in_ok-fail.ensures.added c.set_each.ensures),
-  c.in_ok-branch.ensures.len ∙ sym c.in_ok-targets.ensures.len,
-  omega (arith, c.in_ok-fail.ensures.paid),
-)
+pub choices-loop-i-init : goal.choices-loop-i-init
+choices-loop-i-init g t c =
+    let filled : c.set_each.new.ids ≡ replicate (length c.args.targets.now) c.in_ok-fail.fail
+    = rw c.requires.targets c.set_each.ensures in (
+      rw (drop_all (length c.args.subs.now) c.args.subs.now (omega arith))
+          (nothing_compiled _ _ c.args.targets.now _ _ c.in_ok-fail.ensures.id c.in_ok-fail.ensures.added filled),
+      c.requires.branch,
+      omega (arith, c.in_ok-fail.ensures.paid),
+    )
 
-pub alternation-loop-i-preserved : goal.alternation-loop-i-preserved
-alternation-loop-i-preserved g t c =
+pub choices-loop-i-preserved : goal.choices-loop-i-preserved
+choices-loop-i-preserved g t c =
     let i = c.loop-i.i in
     let back : i - 1 + 1 ≡ i = omega arith in
-    let sub = c.index-subs-i.result in
-    let targets : c.deref_mut.result.now ≡ c.args.ids.now
-    = rw (c.deref_mut.ensures.value, c.copy_from_slice.ensures.items, c.deref.ensures.value)
-    c.in_ok-targets.ensures.items in
-    let entries : c.deref-in-loop-i.result.now ≡ c.part.new.ids = grind (arith, common_steps) in (
+    let sub = c.index-subs-i.result in (
       rw (drop_more c.args.subs.now (i - 1) sub (omega arith), back, ← c.index-subs-i.is)
-          (choice_compiled false _ _ _ _ _ _ _ _ _ _ c.loop-i.invariant.0 (rw targets at c.in_ok-part.ensures.compiled)
-          (rw entries at c.in_ok-choose_each.ensures.added)),
-      grind (arith, common_steps),
+          (choice_compiled false _ _ _ _ _ _ _ _ _ _ c.loop-i.invariant.0
+          (rw c.copy_from_slice.ensures.after at c.in_ok-part.ensures.compiled) c.in_ok-choose_each.ensures.added),
+      c.in_ok-part.ensures.compiled.len ∙ ap length c.copy_from_slice.ensures.after,
       omega (arith, c.loop-i.invariant.2, c.in_ok-part.ensures.paid, c.in_ok-choose_each.ensures.paid),
     )
 
@@ -180,3 +178,89 @@ pub repetition-returns-in_ok-plus-in-None-2-clause-compiled
 repetition-returns-in_ok-plus-in-None-2-clause-compiled g t c = on_ok_weaker c.copies-in-None-2.result
     (λ front. rw (c.in-None.is, repeated_some _ _ _ c.if-min-eq0.false)
     (front _ _ _ c.requires c.in_ok-plus-in-None-2.ensures.compiled)) c.copies-in-None-2.ensures.front
+
+pub part-returns-then-always_reads-clause-paid : goal.part-returns-then-always_reads-clause-paid
+part-returns-then-always_reads-clause-paid g t c =
+    omega (arith, ap (λ b. length b.states) c.spend.ensures.kept, c.in_ok-spend.ensures.spent, c.in_ok-node.ensures.paid)
+
+pub part-returns-clause-paid : goal.part-returns-clause-paid
+part-returns-clause-paid g t c =
+    let kept = ap (λ b. length b.states) c.spend.ensures.kept in
+    on_ok_weaker c.node-2.result (λ paid. omega (arith, kept, c.in_ok-spend.ensures.spent, paid)) c.node-2.ensures.paid
+
+pub node-returns-in-Literal-clause-paid : goal.node-returns-in-Literal-clause-paid
+node-returns-in-Literal-clause-paid g t c = c.literal.ensures.paid
+
+pub node-returns-in-Class-clause-paid : goal.node-returns-in-Class-clause-paid
+node-returns-in-Class-clause-paid g t c = c.class.ensures.paid
+
+pub node-returns-in-Look-clause-paid : goal.node-returns-in-Look-clause-paid
+node-returns-in-Look-clause-paid g t c = c.look_each.ensures.paid
+
+pub node-returns-in-Repetition-clause-paid : goal.node-returns-in-Repetition-clause-paid
+node-returns-in-Repetition-clause-paid g t c = c.repetition.ensures.paid
+
+pub node-returns-in-Capture-clause-paid : goal.node-returns-in-Capture-clause-paid
+node-returns-in-Capture-clause-paid g t c = c.part.ensures.paid
+
+pub node-returns-in-Concat-clause-paid : goal.node-returns-in-Concat-clause-paid
+node-returns-in-Concat-clause-paid g t c = c.concat.ensures.paid
+
+pub node-returns-in-Alternation-clause-paid : goal.node-returns-in-Alternation-clause-paid
+node-returns-in-Alternation-clause-paid g t c = c.alternation.ensures.paid
+
+pub concat-returns-clause-compiled : goal.concat-returns-clause-compiled
+concat-returns-clause-compiled g t c = let start : c.loop-i.i ≡ 0 = omega arith in rw start at c.loop-i.invariant.0
+
+pub concat-returns-clause-paid : goal.concat-returns-clause-paid
+concat-returns-clause-paid g t c = c.loop-i.invariant.1
+
+pub choices-returns-clause-compiled : goal.choices-returns-clause-compiled
+choices-returns-clause-compiled g t c = let start : c.loop-i.i ≡ 0 = omega arith in rw start at c.loop-i.invariant.0
+
+pub choices-returns-clause-paid : goal.choices-returns-clause-paid
+choices-returns-clause-paid g t c = c.loop-i.invariant.2
+
+pub alternation-returns-clause-paid : goal.alternation-returns-clause-paid
+alternation-returns-clause-paid g t c = c.choices.ensures.paid
+
+pub alternation-returns-then-ids-eq1-clause-paid : goal.alternation-returns-then-ids-eq1-clause-paid
+alternation-returns-then-ids-eq1-clause-paid g t c = c.in_ok-ids.ensures.paid
+
+pub branches-returns-clause-paid : goal.branches-returns-clause-paid
+branches-returns-clause-paid g t c =
+    on_ok_weaker c.join.result (λ paid. omega (arith, c.loop-i.invariant.1, paid)) c.join.ensures.paid
+
+pub copies-returns-clause-paid : goal.copies-returns-clause-paid
+copies-returns-clause-paid g t c = c.loop-done.invariant.2
+
+pub up_to-returns-clause-paid : goal.up_to-returns-clause-paid
+up_to-returns-clause-paid g t c = c.loop-done.invariant.1
+
+pub star-returns-clause-paid : goal.star-returns-clause-paid
+star-returns-clause-paid g t c = on_ok_weaker c.choose_each.result
+    (λ paid. omega (arith, c.in_ok-again.ensures.paid, paid)) c.choose_each.ensures.paid
+
+pub star-returns-then-always_reads-clause-paid : goal.star-returns-then-always_reads-clause-paid
+star-returns-then-always_reads-clause-paid g t c = c.in_ok-again.ensures.paid
+
+pub plus-returns-clause-paid : goal.plus-returns-clause-paid
+plus-returns-clause-paid g t c =
+    omega (
+      arith,
+      c.in_ok-again.ensures.paid,
+      c.in_ok-unread.ensures.paid,
+      c.in_ok-part.ensures.paid,
+      c.in_ok-close.ensures.paid,
+    )
+
+pub repetition-returns-in_ok-up_to-in-Some-clause-paid : goal.repetition-returns-in_ok-up_to-in-Some-clause-paid
+repetition-returns-in_ok-up_to-in-Some-clause-paid g t c = on_ok_weaker c.copies.result
+    (λ paid. omega (arith, c.in_ok-up_to-in-Some.ensures.paid, paid)) c.copies.ensures.paid
+
+pub repetition-returns-in-None-clause-paid : goal.repetition-returns-in-None-clause-paid
+repetition-returns-in-None-clause-paid g t c = c.star.ensures.paid
+
+pub repetition-returns-in_ok-plus-in-None-2-clause-paid : goal.repetition-returns-in_ok-plus-in-None-2-clause-paid
+repetition-returns-in_ok-plus-in-None-2-clause-paid g t c = on_ok_weaker c.copies-in-None-2.result
+    (λ paid. omega (arith, c.in_ok-plus-in-None-2.ensures.paid, paid)) c.copies-in-None-2.ensures.paid

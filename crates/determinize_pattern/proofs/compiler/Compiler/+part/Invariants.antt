@@ -1,14 +1,14 @@
-use Rattle.std.proofs.Common.{◌≡◌, ◌<◌, drop, length, map, take, vec_len}
+use Rattle.std.proofs.Common.{◌≡◌, ◌<◌, drop, length, map, take}
 use Rattle.determinize_pattern.specs.Private.Compiling.{IsCompiled, Precedes}
 use Rattle.determinize_pattern.specs.Patterns.{choice, sequence, copies, meaning, up_to}
 use Rattle.determinize_pattern.proofs.compiled.Branching.{Branches}
 use Rattle.determinize_pattern.specs.Private.Compiling.{Paid}
 use Rattle.determinize_pattern.proofs.compiler.Compiler.+part.Given as goal
 
-abbrev pub invariant-alternation-loop-i : goal.invariant-alternation-loop-i
-invariant-alternation-loop-i g l =
-    IsCompiled l.fn.self.builder l.self.builder (choice (map meaning (drop l.i l.subs))) l.fn.ids l.ids
-    × (vec_len l.branch ≡ vec_len l.targets)
+abbrev pub invariant-choices-loop-i : goal.invariant-choices-loop-i
+invariant-choices-loop-i g l =
+    IsCompiled l.fn.self.builder l.self.builder (choice (map meaning (drop l.i l.subs))) l.targets l.ids
+    × (length l.branch ≡ length l.targets)
     × Paid l.fn.self.builder l.fn.self.left l.self.builder l.self.left
 
 abbrev pub invariant-concat-loop-i : goal.invariant-concat-loop-i
