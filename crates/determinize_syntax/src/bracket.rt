@@ -20,7 +20,7 @@ use determinize_pattern::{ClassBytes, ClassBytesRange};
 use std::alloc::{AllocError, Global};
 
 /// What is before a place in brackets.
-#[derive(Clone, Copy, Debug, PartialEq, Eq)]
+#[derive(Clone, Copy)]
 pub enum Before {
     /// Nothing, or hyphens.
     First,
@@ -36,22 +36,22 @@ pub enum Before {
 
 /// The items of brackets that were read.
 #[derive(Drop)]
-struct Items<'a> {
+struct Items {
     ranges: Vec<ClassBytesRange>,
     before: Before,
     /// The beginning of the brackets.
-    start: Cursor<'a>,
+    start: usize,
     /// The place after what is in front: `^`, hyphens, or a bracket.
-    opened: Cursor<'a>,
+    opened: usize,
     /// The beginning of the last item.
-    last: Cursor<'a>,
+    last: usize,
 }
 
 /// Reads brackets after the first one, which is at `start`.
-pub fn bracket<'a>(
+pub fn bracket(
     alloc: Global,
-    cursor: &mut Cursor<'a>,
-    start: Cursor<'a>,
+    cursor: &mut Cursor<'_>,
+    start: usize,
     flags: Flags,
 ) -> Result<ClassBytes, ParseError>
     ensures read { IfOk result (λ c. Reads cursor.old cursor.new (IsBracketed flags c)) }
@@ -63,10 +63,10 @@ pub fn bracket<'a>(
 }
 
 /// Reads the inside of brackets and the last bracket.
-fn inside<'a>(
+fn inside(
     alloc: Global,
-    cursor: &mut Cursor<'a>,
-    start: Cursor<'a>,
+    cursor: &mut Cursor<'_>,
+    start: usize,
     flags: Flags,
 ) -> Result<Vec<ClassBytesRange>, ParseError>
     ensures read { IfOk result (λ v. Reads cursor.old cursor.new
@@ -85,11 +85,7 @@ fn inside<'a>(
 }
 
 /// Reads a bracket that is in front.
-fn front<'a>(
-    alloc: Global,
-    cursor: &mut Cursor<'a>,
-    start: Cursor<'a>,
-) -> Result<Items<'a>, AllocError>
+fn front(alloc: Global, cursor: &mut Cursor<'_>, start: usize) -> Result<Items, AllocError>
     ensures read { IfOk result (λ i. (f : Flags) → Reads cursor.old cursor.new
         (IsBegun f i.before (pairs i.ranges.items) cursor.new)) }
 {
@@ -97,18 +93,18 @@ fn front<'a>(
         ranges: Vec::new(alloc),
         before: Before::First,
         start,
-        opened: *cursor,
-        last: *cursor,
+        opened: cursor.pos(),
+        last: cursor.pos(),
     };
     if !cursor.take(b']') {
         return Ok(items);
     }
     items.add(b']', b']', Before::AfterRange)?;
-    items.opened = *cursor;
+    items.opened = cursor.pos();
     Ok(items)
 }
 
-impl<'a> Items<'a> {
+impl Items {
     /// Adds the bytes from `low` to `high`.
     fn add(&mut self, low: u8, high: u8, before: Before) -> Result<(), AllocError>
         ensures ranges { OnOk result (pairs self.new.ranges.items
@@ -136,7 +132,7 @@ impl<'a> Items<'a> {
     }
 
     /// Reads a hyphen and the last bracket, if the hyphen may be there.
-    fn ends_with_hyphen(&mut self, cursor: &mut Cursor<'a>) -> Result<bool, AllocError>
+    fn ends_with_hyphen(&mut self, cursor: &mut Cursor<'_>) -> Result<bool, AllocError>
         ensures read { IfOk result (λ b. b ≡ true
             → (spells.may_end self.old.before ≡ true)
             × (rest cursor.old ≡ 0x2D ∷ 0x5D ∷ rest cursor.new)
@@ -157,14 +153,14 @@ impl<'a> Items<'a> {
     fn item(
         &mut self,
         alloc: Global,
-        cursor: &mut Cursor<'a>,
+        cursor: &mut Cursor<'_>,
         flags: Flags,
     ) -> Result<(), ParseError>
         ensures read { OnOk result (Reads cursor.old cursor.new (Extends flags self.old.before
             (pairs self.old.ranges.items) self.new.before (pairs self.new.ranges.items))) }
         ensures progress { OnOk result (length (rest cursor.new) < length (rest cursor.old)) }
     {
-        let place = *cursor;
+        let place = cursor.pos();
         if cursor.take(b'-') {
             return self.hyphen(alloc, cursor, place);
         }
@@ -178,13 +174,13 @@ impl<'a> Items<'a> {
     }
 
     /// Reads a literal byte.
-    fn plain(&mut self, cursor: &mut Cursor<'a>) -> Result<(), ParseError>
+    fn plain(&mut self, cursor: &mut Cursor<'_>) -> Result<(), ParseError>
         ensures read { (f : Flags) → OnOk result (Reads cursor.old cursor.new (Extends f
             self.old.before (pairs self.old.ranges.items) self.new.before
             (pairs self.new.ranges.items))) }
         ensures progress { OnOk result (length (rest cursor.new) < length (rest cursor.old)) }
     {
-        let place = *cursor;
+        let place = cursor.pos();
         let Some(next) = cursor.peek() else {
             return Err(self.unclosed());
         };
@@ -194,7 +190,7 @@ impl<'a> Items<'a> {
         if !stands(self.before, next) || !cursor.take(next) {
             return Err(ParseError::new(
                 ErrorKind::ClassOperation,
-                self.last.pos(),
+                self.last,
                 cursor.error_here(ErrorKind::ClassOperation).end,
             ));
         }
@@ -207,8 +203,8 @@ impl<'a> Items<'a> {
     fn escaped(
         &mut self,
         alloc: Global,
-        cursor: &mut Cursor<'a>,
-        place: Cursor<'a>,
+        cursor: &mut Cursor<'_>,
+        place: usize,
     ) -> Result<(), ParseError>
         ensures read { (f : Flags) → OnOk result (Reads cursor.old cursor.new (λ t. Extends f
             self.old.before (pairs self.old.ranges.items) self.new.before
@@ -231,8 +227,8 @@ impl<'a> Items<'a> {
     fn name(
         &mut self,
         alloc: Global,
-        cursor: &mut Cursor<'a>,
-        place: Cursor<'a>,
+        cursor: &mut Cursor<'_>,
+        place: usize,
         flags: Flags,
     ) -> Result<(), ParseError>
         ensures read { OnOk result (Reads cursor.old cursor.new (λ t. Extends flags
@@ -240,16 +236,16 @@ impl<'a> Items<'a> {
             (pairs self.new.ranges.items) (0x5B ∷ t))) }
     {
         if !cursor.take(b':') {
-            return Err(place.error_here(ErrorKind::ClassNested));
+            return Err(ParseError::at(ErrorKind::ClassNested, place));
         }
         let negated = cursor.take(b'^');
         let first = *cursor;
         pass_letters(cursor);
         let Some(kind) = ClassKind::from_name(cursor.since(first)) else {
-            return Err(place.error_here(ErrorKind::ClassNested));
+            return Err(ParseError::at(ErrorKind::ClassNested, place));
         };
         if !cursor.take(b':') || !cursor.take(b']') {
-            return Err(place.error_here(ErrorKind::ClassNested));
+            return Err(ParseError::at(ErrorKind::ClassNested, place));
         }
         let class = kind.class(alloc, flags, negated)?;
         self.add_class(&class, Before::AfterRange)?;
@@ -260,8 +256,8 @@ impl<'a> Items<'a> {
     fn hyphen(
         &mut self,
         alloc: Global,
-        cursor: &mut Cursor<'a>,
-        place: Cursor<'a>,
+        cursor: &mut Cursor<'_>,
+        place: usize,
     ) -> Result<(), ParseError>
         ensures read { (f : Flags) → OnOk result (Reads cursor.old cursor.new (λ t. Extends f
             self.old.before (pairs self.old.ranges.items) self.new.before
@@ -270,9 +266,10 @@ impl<'a> Items<'a> {
         match self.before {
             Before::First => {
                 if cursor.peek().is_none() {
-                    return Err(self.start.error_before(ErrorKind::ClassUnclosed));
+                    let start = self.start;
+                    return Err(ParseError::new(ErrorKind::ClassUnclosed, start, start));
                 }
-                self.opened = *cursor;
+                self.opened = cursor.pos();
                 self.add(b'-', b'-', Before::First)?;
                 Ok(())
             }
@@ -291,8 +288,8 @@ impl<'a> Items<'a> {
     fn range(
         &mut self,
         alloc: Global,
-        cursor: &mut Cursor<'a>,
-        place: Cursor<'a>,
+        cursor: &mut Cursor<'_>,
+        place: usize,
         low: u8,
     ) -> Result<(), ParseError>
         ensures read { (f : Flags) (e : Bool) → OnOk result (Reads cursor.old cursor.new
@@ -308,15 +305,10 @@ impl<'a> Items<'a> {
     }
 
     /// Reads the end of a range, whose hyphen is at `place`.
-    fn bound(
-        &self,
-        alloc: Global,
-        cursor: &mut Cursor<'a>,
-        place: Cursor<'a>,
-    ) -> Result<u8, ParseError>
+    fn bound(&self, alloc: Global, cursor: &mut Cursor<'_>, place: usize) -> Result<u8, ParseError>
         ensures read { IfOk result (λ h. Reads cursor.old cursor.new (IsBound h)) }
     {
-        let first = *cursor;
+        let first = cursor.pos();
         let Some(next) = cursor.peek() else {
             return Err(self.unclosed());
         };
@@ -337,21 +329,16 @@ impl<'a> Items<'a> {
     }
 
     /// Returns the error of a class before a hyphen, which is at `place`.
-    fn class_in_range(
-        &self,
-        alloc: Global,
-        cursor: &mut Cursor<'a>,
-        place: Cursor<'a>,
-    ) -> ParseError {
+    fn class_in_range(&self, alloc: Global, cursor: &mut Cursor<'_>, place: usize) -> ParseError {
         match self.bound(alloc, cursor, place) {
             Err(error) if error.kind != ErrorKind::ClassRangeLiteral => error,
-            _ => place.error_since(self.last, ErrorKind::ClassRangeLiteral),
+            _ => ParseError::new(ErrorKind::ClassRangeLiteral, self.last, place),
         }
     }
 
     /// Returns the error of an assertion, which ends here.
-    fn assertion_error(&self, alloc: Global, cursor: &mut Cursor<'a>) -> ParseError {
-        let place = *cursor;
+    fn assertion_error(&self, alloc: Global, cursor: &mut Cursor<'_>) -> ParseError {
+        let place = cursor.pos();
         match cursor.rest {
             [] | [b'-'] => self.unclosed(),
             [b'-', b']' | b'-', ..] => {
@@ -367,8 +354,7 @@ impl<'a> Items<'a> {
 
     /// Returns the error of brackets that are not closed.
     fn unclosed(&self) -> ParseError {
-        self.opened
-            .error_since(self.start, ErrorKind::ClassUnclosed)
+        ParseError::new(ErrorKind::ClassUnclosed, self.start, self.opened)
     }
 }
 

@@ -85,8 +85,8 @@ impl<'a> Cursor<'a> {
     }
 
     /// Returns an error from `start` to the next byte.
-    pub fn error_since(&self, start: Cursor<'a>, kind: ErrorKind) -> ParseError {
-        ParseError::new(kind, start.pos(), self.pos())
+    pub fn error_since(&self, start: usize, kind: ErrorKind) -> ParseError {
+        ParseError::new(kind, start, self.pos())
     }
 
     /// Returns an error at the next character, or at the end of the text.
@@ -101,7 +101,7 @@ impl<'a> Cursor<'a> {
 
     /// Returns an error between this byte and the one before.
     pub fn error_before(&self, kind: ErrorKind) -> ParseError {
-        self.error_since(*self, kind)
+        self.error_since(self.pos(), kind)
     }
 }
 

@@ -95,6 +95,11 @@ impl ParseError {
         ParseError { kind, start, end }
     }
 
+    /// Returns the error of this kind at the ASCII character at this place.
+    pub fn at(kind: ErrorKind, start: usize) -> ParseError {
+        ParseError::new(kind, start, start.saturating_add(1))
+    }
+
     /// Returns the error as it is written with its text: the line, carets under the place, and what
     /// is wrong.
     pub fn display(self, text: &str) -> Marked<'_> {
@@ -168,8 +173,7 @@ impl ErrorKind {
 /// Writes what is wrong.
 impl fmt::Display for ErrorKind {
     fn fmt<W: fmt::Write>(&self, f: &mut fmt::Formatter<W>) -> fmt::Result {
-        let words = self.words();
-        write!(f, "{words}")
+        f.write_str(self.words())
     }
 }
 
@@ -198,7 +202,8 @@ impl fmt::Display for Marked<'_> {
         for line in self.text.split('\n') {
             let line_end = offset.saturating_add(line.len());
             if start <= line_end {
-                writeln!(f, "{line}")?;
+                f.write_str(line)?;
+                f.write_str("\n")?;
                 write_carets(
                     f,
                     line,
@@ -228,11 +233,11 @@ fn write_carets<W: fmt::Write>(
             break;
         }
         let mark = if at < start { " " } else { "^" };
-        write!(f, "{mark}")?;
+        f.write_str(mark)?;
         at = at.saturating_add(character.len_utf8());
     }
     if at <= start {
-        write!(f, "^")?;
+        f.write_str("^")?;
     }
-    writeln!(f, "")
+    f.write_str("\n")
 }

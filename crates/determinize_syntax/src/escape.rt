@@ -26,10 +26,10 @@ pub enum Escape {
 }
 
 /// Reads an escape after its backslash, which is at `start`.
-pub fn read_escape<'a>(
+pub fn read_escape(
     alloc: Global,
-    cursor: &mut Cursor<'a>,
-    start: Cursor<'a>,
+    cursor: &mut Cursor<'_>,
+    start: usize,
 ) -> Result<Escape, ParseError>
     ensures read { IfOk result (λ e.
         Reads cursor.old cursor.new (λ t. IsEscape e (0x5C ∷ t))) }
@@ -45,7 +45,7 @@ pub fn read_escape<'a>(
     };
     if let Some(byte) = escaped(next) {
         if !cursor.take(next) {
-            return Err(start.error_here(ErrorKind::EscapeUnrecognized));
+            return Err(ParseError::at(ErrorKind::EscapeUnrecognized, start));
         }
         return Ok(Escape::Byte(byte));
     }
@@ -56,14 +56,14 @@ pub fn read_escape<'a>(
 }
 
 /// Returns the error of an escape that has no meaning, whose byte after the backslash is `next`.
-fn unrecognized<'a>(cursor: &Cursor<'a>, start: Cursor<'a>, next: u8) -> ParseError {
+fn unrecognized(cursor: &Cursor<'_>, start: usize, next: u8) -> ParseError {
     let kind = match next {
         b'0'..=b'9' => ErrorKind::UnsupportedBackreference,
         b'u' | b'U' | b'p' | b'P' => ErrorKind::UnicodeNotAllowed,
         _ => ErrorKind::EscapeUnrecognized,
     };
     let here = cursor.error_here(kind);
-    ParseError::new(kind, start.pos(), here.end)
+    ParseError::new(kind, start, here.end)
 }
 
 /// Returns the byte that a backslash and this one denote.
@@ -121,7 +121,7 @@ fn boundary(cursor: &mut Cursor<'_>) -> Result<Look, ParseError>
     ensures read { IfOk result (λ l.
         Reads cursor.old cursor.new (λ t. words.assertion (0x62 ∷ t) ≡ Some l)) }
 {
-    let brace = *cursor;
+    let brace = cursor.pos();
     let mut ahead = *cursor;
     if !ahead.take(b'{') {
         return Ok(Look::WordAscii);
@@ -135,12 +135,16 @@ fn boundary(cursor: &mut Cursor<'_>) -> Result<Look, ParseError>
     if name.is_empty() {
         return Ok(Look::WordAscii);
     }
-    let last = ahead;
+    let last = ahead.pos();
     if !ahead.take(b'}') {
         return Err(ahead.error_since(brace, ErrorKind::SpecialWordBoundaryUnclosed));
     }
     let Some(look) = boundary_of(name) else {
-        return Err(last.error_since(first, ErrorKind::SpecialWordBoundaryUnrecognized));
+        return Err(ParseError::new(
+            ErrorKind::SpecialWordBoundaryUnrecognized,
+            first.pos(),
+            last,
+        ));
     };
     *cursor = ahead;
     Ok(look)
@@ -167,13 +171,19 @@ fn boundary_of(name: &[u8]) -> Option<Look>
     ensures { IfSome result (λ l.
         words.assertion (codes "b{" ++ name.now ++ codes "}") ≡ Some l) }
 {
-    match name {
-        b"start" => Some(Look::WordStartAscii),
-        b"end" => Some(Look::WordEndAscii),
-        b"start-half" => Some(Look::WordStartHalfAscii),
-        b"end-half" => Some(Look::WordEndHalfAscii),
-        _ => None,
+    if name == "start".as_bytes() {
+        return Some(Look::WordStartAscii);
     }
+    if name == "end".as_bytes() {
+        return Some(Look::WordEndAscii);
+    }
+    if name == "start-half".as_bytes() {
+        return Some(Look::WordStartHalfAscii);
+    }
+    if name == "end-half".as_bytes() {
+        return Some(Look::WordEndHalfAscii);
+    }
+    None
 }
 
 /// Reads what follows `\x`.
@@ -181,27 +191,27 @@ fn hex(cursor: &mut Cursor<'_>) -> Result<Escape, ParseError>
     ensures read { IfOk result (λ e.
         Reads cursor.old cursor.new (λ t. IsEscape e (0x5C ∷ 0x78 ∷ t))) }
 {
-    let brace = *cursor;
+    let brace = cursor.pos();
     if cursor.take(b'{') {
         return braces(cursor, brace);
     }
     let high = hex_digit(cursor, brace)?;
-    let place = *cursor;
+    let place = cursor.pos();
     let low = hex_digit(cursor, place)?;
     Ok(Escape::Byte((high * 16 + low) as u8))
 }
 
 /// Reads a number after the brace of `\x{`, which is at `brace`.
-fn braces<'a>(cursor: &mut Cursor<'a>, brace: Cursor<'a>) -> Result<Escape, ParseError>
+fn braces(cursor: &mut Cursor<'_>, brace: usize) -> Result<Escape, ParseError>
     ensures read { IfOk result (λ e.
         Reads cursor.old cursor.new (λ t. IsEscape e (0x5C ∷ 0x78 ∷ 0x7B ∷ t))) }
 {
-    let first = *cursor;
+    let first = cursor.pos();
     if cursor.take(b'}') {
         return Err(cursor.error_since(brace, ErrorKind::EscapeHexEmpty));
     }
     let value = hex_number(cursor, brace)?;
-    let last = *cursor;
+    let last = cursor.pos();
     if !cursor.take(b'}') {
         return Err(cursor.error_since(brace, ErrorKind::EscapeUnexpectedEof));
     }
@@ -210,13 +220,13 @@ fn braces<'a>(cursor: &mut Cursor<'a>, brace: Cursor<'a>) -> Result<Escape, Pars
     }
     match char::from_u32(value) {
         Some(character) => Ok(Escape::Wide(character)),
-        None => Err(last.error_since(first, ErrorKind::EscapeHexInvalid)),
+        None => Err(ParseError::new(ErrorKind::EscapeHexInvalid, first, last)),
     }
 }
 
 /// Reads digits up to a brace. A number that is too large for a character is returned as some
 /// other such number.
-fn hex_number<'a>(cursor: &mut Cursor<'a>, brace: Cursor<'a>) -> Result<u32, ParseError>
+fn hex_number(cursor: &mut Cursor<'_>, brace: usize) -> Result<u32, ParseError>
     ensures read { IfOk result (λ n. Reads cursor.old cursor.new (IsDigits n)) }
 {
     let mut value = hex_digit(cursor, brace)?;
@@ -242,7 +252,7 @@ fn with_digit(value: u32, digit: u32) -> u32
 }
 
 /// Reads a digit. If the text ends here, the error is from `from` to its end.
-fn hex_digit<'a>(cursor: &mut Cursor<'a>, from: Cursor<'a>) -> Result<u32, ParseError>
+fn hex_digit(cursor: &mut Cursor<'_>, from: usize) -> Result<u32, ParseError>
     ensures read { IfOk result (λ n. Reads cursor.old cursor.new (IsHexDigit n)) }
     ensures small { IfOk result (λ n. n < 16) }
     ensures progress { OnOk result (length (rest cursor.new) < length (rest cursor.old)) }

@@ -106,16 +106,16 @@ fn next_flag(
         (SetsMore seen.now on flags r.1 r.0)) }
     ensures progress { OnOk result (length (rest cursor.new) < length (rest cursor.old)) }
 {
-    let place = *cursor;
+    let place = cursor.pos();
     if !cursor.take(b'-') {
         let set = letter(cursor, seen, flags, on)?;
         return Ok((set, on));
     }
     if !on {
-        return Err(place.error_here(ErrorKind::FlagRepeatedNegation));
+        return Err(ParseError::at(ErrorKind::FlagRepeatedNegation, place));
     }
     if let Some(b':' | b')') = cursor.peek() {
-        return Err(place.error_here(ErrorKind::FlagDanglingNegation));
+        return Err(ParseError::at(ErrorKind::FlagDanglingNegation, place));
     }
     let set = letter(cursor, seen, flags, false)?;
     Ok((set, false))

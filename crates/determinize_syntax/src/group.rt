@@ -45,7 +45,7 @@ pub struct Opening {
 pub fn read_opening<'a>(
     context: &mut Context<'a>,
     cursor: &mut Cursor<'a>,
-    start: Cursor<'a>,
+    start: usize,
     flags: Flags,
 ) -> Result<Opening, ParseError>
     ensures read { IfOk result (λ o. Reads cursor.old cursor.new (Opens flags o.flags)) }
@@ -101,12 +101,12 @@ fn name<'a>(context: &mut Context<'a>, cursor: &mut Cursor<'a>) -> Result<(), Pa
     }
     letters_of_name(cursor)?;
     let name = cursor.since(first);
-    let end = *cursor;
+    let end = cursor.pos();
     if !cursor.take(b'>') {
         return Err(unnamed(cursor));
     }
     if !context.names.insert(name)? {
-        return Err(end.error_since(first, ErrorKind::GroupNameDuplicate));
+        return Err(ParseError::new(ErrorKind::GroupNameDuplicate, first.pos(), end));
     }
     Ok(())
 }

@@ -11,7 +11,7 @@ use determinize_pattern::{ClassBytes, ClassBytesRange};
 use std::alloc::{AllocError, Global};
 
 /// A class that has a name or a letter.
-#[derive(Clone, Copy, Debug, PartialEq, Eq)]
+#[derive(Clone, Copy)]
 pub enum ClassKind {
     Alnum,
     Alpha,
@@ -29,27 +29,56 @@ pub enum ClassKind {
     Xdigit,
 }
 
+/// The classes that have a name.
+const KINDS: [ClassKind; 14] = [
+    ClassKind::Alnum,
+    ClassKind::Alpha,
+    ClassKind::Ascii,
+    ClassKind::Blank,
+    ClassKind::Cntrl,
+    ClassKind::Digit,
+    ClassKind::Graph,
+    ClassKind::Lower,
+    ClassKind::Print,
+    ClassKind::Punct,
+    ClassKind::Space,
+    ClassKind::Upper,
+    ClassKind::Word,
+    ClassKind::Xdigit,
+];
+
 impl ClassKind {
     /// Returns the class of this name, as in `[:alpha:]`.
     pub fn from_name(name: &[u8]) -> Option<ClassKind>
         ensures { IfSome result (λ k. named_class name.now ≡ Some (set_of k)) }
     {
-        match name {
-            b"alnum" => Some(ClassKind::Alnum),
-            b"alpha" => Some(ClassKind::Alpha),
-            b"ascii" => Some(ClassKind::Ascii),
-            b"blank" => Some(ClassKind::Blank),
-            b"cntrl" => Some(ClassKind::Cntrl),
-            b"digit" => Some(ClassKind::Digit),
-            b"graph" => Some(ClassKind::Graph),
-            b"lower" => Some(ClassKind::Lower),
-            b"print" => Some(ClassKind::Print),
-            b"punct" => Some(ClassKind::Punct),
-            b"space" => Some(ClassKind::Space),
-            b"upper" => Some(ClassKind::Upper),
-            b"word" => Some(ClassKind::Word),
-            b"xdigit" => Some(ClassKind::Xdigit),
-            _ => None,
+        for kind in KINDS {
+            if kind.name().as_bytes() == name {
+                return Some(kind);
+            }
+        }
+        None
+    }
+
+    /// Returns the name of the class.
+    fn name(self) -> &'static str
+        ensures { named_class result.now ≡ Some (set_of self) }
+    {
+        match self {
+            ClassKind::Alnum => "alnum",
+            ClassKind::Alpha => "alpha",
+            ClassKind::Ascii => "ascii",
+            ClassKind::Blank => "blank",
+            ClassKind::Cntrl => "cntrl",
+            ClassKind::Digit => "digit",
+            ClassKind::Graph => "graph",
+            ClassKind::Lower => "lower",
+            ClassKind::Print => "print",
+            ClassKind::Punct => "punct",
+            ClassKind::Space => "space",
+            ClassKind::Upper => "upper",
+            ClassKind::Word => "word",
+            ClassKind::Xdigit => "xdigit",
         }
     }
 

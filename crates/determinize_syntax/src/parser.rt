@@ -113,15 +113,15 @@ fn repeated<'a>(
     ensures progress { OnOk result (length (rest cursor.new) < length (rest cursor.old)) }
 {
     let mut pattern = atom(context, cursor, flags, levels)?;
-    let mut start = *cursor;
+    let mut start = cursor.pos();
     while let Some(bounds) = operator(cursor)? {
         if context.depth >= NEST_LIMIT {
-            return Err(start.error_here(ErrorKind::NestLimitExceeded));
+            return Err(ParseError::at(ErrorKind::NestLimitExceeded, start));
         }
         context.depth += 1;
         let greedy = is_greedy(cursor.take(b'?'), flags);
         pattern = repetition(context.alloc, bounds, greedy, pattern)?;
-        start = *cursor;
+        start = cursor.pos();
     }
     Ok(pattern)
 }
@@ -137,7 +137,7 @@ fn atom<'a>(
     ensures read { IfOk result (λ p. Reads cursor.old cursor.new (Atom flags (meaning p))) }
     ensures progress { OnOk result (length (rest cursor.new) < length (rest cursor.old)) }
 {
-    let start = *cursor;
+    let start = cursor.pos();
     if cursor.take(b'(') {
         return group(context, cursor, start, flags, levels);
     }
@@ -162,10 +162,10 @@ fn atom<'a>(
 }
 
 /// Reads an escape after its backslash, which is at `start`, where it can be repeated.
-fn escaped_atom<'a>(
+fn escaped_atom(
     alloc: Global,
-    cursor: &mut Cursor<'a>,
-    start: Cursor<'a>,
+    cursor: &mut Cursor<'_>,
+    start: usize,
     flags: Flags,
 ) -> Result<Pattern, ParseError>
     ensures read { IfOk result (λ p. Reads cursor.old cursor.new
@@ -204,7 +204,7 @@ fn literal_atom(alloc: Global, cursor: &mut Cursor<'_>, flags: Flags) -> Result<
 fn group<'a>(
     context: &mut Context<'a>,
     cursor: &mut Cursor<'a>,
-    start: Cursor<'a>,
+    start: usize,
     flags: Flags,
     levels: u8,
 ) -> Result<Pattern, ParseError>
@@ -213,14 +213,14 @@ fn group<'a>(
 {
     let opening = read_opening(context, cursor, start, flags)?;
     if levels == 0 {
-        return Err(start.error_here(ErrorKind::NestLimitExceeded));
+        return Err(ParseError::at(ErrorKind::NestLimitExceeded, start));
     }
     let sub = choice(context, cursor, opening.flags, levels - 1)?;
     if !cursor.take(b')') {
-        return Err(start.error_here(ErrorKind::GroupUnclosed));
+        return Err(ParseError::at(ErrorKind::GroupUnclosed, start));
     }
     if context.depth >= NEST_LIMIT {
-        return Err(start.error_here(ErrorKind::NestLimitExceeded));
+        return Err(ParseError::at(ErrorKind::NestLimitExceeded, start));
     }
     context.depth += 1;
     if opening.captures {

@@ -9,7 +9,7 @@ use crate::cursor::Cursor;
 use crate::error::{ErrorKind, ParseError};
 
 /// How often a pattern is repeated.
-#[derive(Clone, Copy, Debug, PartialEq, Eq)]
+#[derive(Clone, Copy)]
 pub struct Bounds {
     pub min: u32,
     pub max: Option<u32>,
@@ -23,7 +23,7 @@ pub fn operator(cursor: &mut Cursor<'_>) -> Result<Option<Bounds>, ParseError>
         (length (rest cursor.new) < length (rest cursor.old))) }
     ensures none { IfOk result (λ o. IfNone o (cursor.new ≡ cursor.old)) }
 {
-    let start = *cursor;
+    let start = cursor.pos();
     if cursor.take(b'*') {
         return Ok(Some(Bounds { min: 0, max: None }));
     }
@@ -44,7 +44,7 @@ pub fn operator(cursor: &mut Cursor<'_>) -> Result<Option<Bounds>, ParseError>
 }
 
 /// Reads counts after their brace, which is at `start`.
-fn counts<'a>(cursor: &mut Cursor<'a>, start: Cursor<'a>) -> Result<Bounds, ParseError>
+fn counts(cursor: &mut Cursor<'_>, start: usize) -> Result<Bounds, ParseError>
     ensures read { IfOk result (λ b.
         Reads cursor.old cursor.new (λ t. Operator b.min b.max (0x7B ∷ t))) }
 {
@@ -76,10 +76,10 @@ fn counts<'a>(cursor: &mut Cursor<'a>, start: Cursor<'a>) -> Result<Bounds, Pars
 }
 
 /// Reads a number of the counts whose brace is at `start`.
-fn decimal<'a>(cursor: &mut Cursor<'a>, start: Cursor<'a>) -> Result<u32, ParseError>
+fn decimal(cursor: &mut Cursor<'_>, start: usize) -> Result<u32, ParseError>
     ensures read { IfOk result (λ n. Reads cursor.old cursor.new (λ t. number 10 t ≡ Some n)) }
 {
-    let first = *cursor;
+    let first = cursor.pos();
     let Some(mut value) = digit(cursor) else {
         return Err(match cursor.peek() {
             None => cursor.error_since(start, ErrorKind::RepetitionCountUnclosed),
@@ -112,7 +112,7 @@ fn digit(cursor: &mut Cursor<'_>) -> Option<u32>
 }
 
 /// Passes the digits that are left, and returns the error of the number that begins at `first`.
-fn too_large<'a>(cursor: &mut Cursor<'a>, first: Cursor<'a>) -> ParseError {
+fn too_large(cursor: &mut Cursor<'_>, first: usize) -> ParseError {
     while let Some(_) = digit(cursor) {}
     cursor.error_since(first, ErrorKind::DecimalInvalid)
 }
