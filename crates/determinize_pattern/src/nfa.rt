@@ -5,7 +5,7 @@ ghost use Rattle.determinize_nfa.specs.Prefix.{HasPrefix, HasPrefixApart};
 ghost use Rattle.determinize_pattern.specs.Compiled.{IsNfaOf};
 ghost use Rattle.determinize_pattern.specs.Nesting.{deepest};
 ghost use Rattle.determinize_pattern.specs.Patterns.{meaning};
-ghost use Rattle.determinize_pattern.specs.Private.Compiling.{AddsMatches, BeginsEach, FindsAll, Paid};
+ghost use Rattle.determinize_pattern.specs.Private.Compiling.{AddsMatches, BeginsAll, FindsAll, Paid};
 ghost use Rattle.determinize_pattern.specs.declared.nfa.CompileError.TheVariants.{NestLimitExceeded};
 
 use crate::compiler::Compiler;
@@ -142,8 +142,7 @@ impl<A: Allocator + Copy> Compiler<A> {
             (Paid self.old.builder self.old.left self.new.builder self.new.left) }
     {
         let matches = self.matches(patterns.len())?;
-        let starts = self.starts(patterns, &matches)?;
-        self.join(&starts)
+        self.start(patterns, &matches)
     }
 
     /// Adds a match state for each pattern, and returns their ids.
@@ -164,14 +163,12 @@ impl<A: Allocator + Copy> Compiler<A> {
     }
 
     /// Adds the states of each pattern in front of its match state, and returns where they begin.
-    fn starts(
-        &mut self,
-        patterns: &[Pattern],
-        matches: &[StateID],
-    ) -> Result<Vec<StateID, A>, CompileError>
+    fn start(&mut self, patterns: &[Pattern], matches: &[StateID]) -> Result<StateID, CompileError>
         requires { length matches.now ≡ length patterns.now }
-        ensures begins { IfOk result (λ v. BeginsEach self.old.builder self.new.builder
-            matches.now (map meaning patterns.now) v.items) }
+        ensures begins { IfOk result (λ s. BeginsAll self.old.builder self.new.builder
+            matches.now (map meaning patterns.now) s) }
+        ensures terminator { OnOk result
+            (self.new.builder.terminator ≡ self.old.builder.terminator) }
         ensures paid { OnOk result
             (Paid self.old.builder self.old.left self.new.builder self.new.left) }
     {
@@ -181,6 +178,6 @@ impl<A: Allocator + Copy> Compiler<A> {
             self.part(&patterns[i], &mut ids)?;
             starts.push(ids[0])?;
         }
-        Ok(starts)
+        self.join(&starts)
     }
 }

@@ -29,6 +29,10 @@ pub less_left : (old new : BuilderValue) (before after : ℕ) → Extends old ne
     → after ≤ before
 less_left old new before after f paid = omega (arith, f.longer, paid)
 
+pub node_paid : (old mid new : List Node) (node : Node) (before after : ℕ) → mid ≡ old → after + 1 ≡ before
+    → new ≡ mid ++ node ∷ [] → length new + after ≤ length old + before
+node_paid old mid new node before after e s g = rw (g, e) (omega (arith, length_push old node, s))
+
 pub continues_old : (old new : BuilderValue) → Extends old new → (nfa : Nfa) → Continues new nfa → Continues old nfa
 continues_old old new f nfa h = record {
   states = λ q l w. h.states q (omega (arith, f.longer)) (λ z. w (sym (f.kept q l) ∙ z)) ∙ f.kept q l;

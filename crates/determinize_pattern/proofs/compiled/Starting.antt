@@ -3,7 +3,7 @@
 -- Used by: the proofs of `compile` and of the calls that it makes.
 -- Idea: the prefix adds two states, and the NFA has those of the builder.
 use Rattle.std.specs.Prelude.{map, nat_lt, slice_index, slice_index_or}
-use Rattle.std.proofs.Common.{◌≡◌, ◌+◌, ◌<◌, ◌++◌, ◌∙◌, ◌∷◌, ℕ, List, [], arith, length, ltb-false, ltb-true, refl, suc}
+use Rattle.std.proofs.Common.{◌≡◌, ◌+◌, ◌<◌, ◌++◌, ◌∙◌, ◌∷◌, ℕ, Err, IfOk, List, Ok, OnOk, Result, [], arith, length, ltb-false, ltb-true, refl, suc}
 use Rattle.std.proofs.lemmas.List.{append-nil, get_or_append_left, get_or_push, length_push}
 use Rattle.ordered_reach.proofs.Cases.{by_test}
 use Rattle.determinize_below.specs.Semantics.{BinaryUnion, ByteRange, Fail, Match, Nfa, Text, Union, state_at}
@@ -15,7 +15,8 @@ use Rattle.determinize_pattern.proofs.entries.Several.{union_found}
 use Rattle.determinize_pattern.specs.Compiled.{IsNfaOf}
 use Rattle.determinize_pattern.specs.LeftmostOf.{all_ends}
 use Rattle.determinize_pattern.specs.Meaning.{Re, ends}
-use Rattle.determinize_pattern.specs.Private.Compiling.{AddsMatches, BeginsEach, Continues, FindsAll, IsBegun, IsStart}
+use Rattle.determinize_pattern.specs.declared.nfa.CompileError.{CompileError}
+use Rattle.determinize_pattern.specs.Private.Compiling.{AddsMatches, BeginsAll, Continues, Extends, FindsAll, IsBegun, IsStart}
 use Rattle.determinize_pattern.specs.Private.Entries.{AreStarts, Finds, IsEntry}
 
 pub matches_none : (b : BuilderValue) → b.patterns ≡ 0 → AddsMatches b b []
@@ -46,6 +47,12 @@ starts_more nfa n (re ∷ res) [] p m s h e f = absurd h
 starts_more nfa n (re ∷ res) (t ∷ ss) p m s h e f =
     let z : n + suc (length res) ≡ suc n + length res = omega arith in
     (h.0, starts_more nfa (suc n) res ss p m s h.1 (rw z at e) f)
+
+-- each pattern begins at the state of its number, before its `Match` state
+pub record BeginsEach (old new : BuilderValue) (matches : List ℕ) (res : List Re) (starts : List ℕ) : Type 0 where
+  pub extends : Extends old new
+  pub begins : (nfa : Nfa) → Continues new nfa
+      → ((n : ℕ) → n < length matches → state_at nfa (slice_index matches n) ≡ Match n) → AreStarts nfa 0 res starts
 
 pub begins_none : (b : BuilderValue) (ms : List ℕ) → BeginsEach b b ms [] []
 begins_none b ms = record { extends = extends_same b; begins = λ nfa h f. tt }
@@ -98,12 +105,22 @@ finds_union old new (t ∷ ss) s l e g = rw g (record {
       (is_new old (Union (t ∷ ss)) nfa c (λ y. let w : Union (t ∷ ss) ≡ Union [] = y in cc) s e);
 })
 
-pub finds_all : (a b c d : BuilderValue) (ms ss : List ℕ) (res : List Re) (s : ℕ) → AddsMatches a b ms
-    → BeginsEach b c ms res ss → IsStart c d ss s → FindsAll d res s
-finds_all a b c d ms ss res s f g h nfa k text i =
-    let kc = continues_old c d h.extends nfa k in
-    let kb = continues_old b c g.extends nfa kc in
-    h.finds nfa k text res (g.begins nfa kc (f.each nfa kb)) i
+pub joined_terminator : (old new : BuilderValue) (ss : List ℕ) (r : Result ℕ CompileError)
+    → IfOk r (λ s. IsStart old new ss s) → OnOk r (new.terminator ≡ old.terminator)
+joined_terminator old new ss (Ok s) h = h.extends.terminator
+joined_terminator old new ss (Err e) h = tt
+
+pub begins_all : (old mid new : BuilderValue) (ms ss : List ℕ) (res : List Re) (s : ℕ) → BeginsEach old mid ms res ss
+    → IsStart mid new ss s → BeginsAll old new ms res s
+begins_all old mid new ms ss res s g h = record {
+  extends = extends_then old mid new g.extends h.extends;
+  finds = λ nfa k each text i.
+      h.finds nfa k text res (g.begins nfa (continues_old mid new h.extends nfa k) each) i;
+}
+
+pub finds_all : (a b c : BuilderValue) (ms : List ℕ) (res : List Re) (s : ℕ) → AddsMatches a b ms
+    → BeginsAll b c ms res s → FindsAll c res s
+finds_all a b c ms res s f g nfa k text i = g.finds nfa k (f.each nfa (continues_old b c g.extends nfa k)) text i
 
 continues_built : (b : BuilderValue) (start : ℕ) (nfa : Nfa) → nfa ≡ built (prefixed b start) start (length b.states)
     → Continues b nfa

@@ -77,13 +77,13 @@ pub record AddsMatches (old new : BuilderValue) (ids : List ℕ) : Type 0 where
   pub each : (nfa : Nfa) → Continues new nfa → (n : ℕ) → n < length ids
       → state_at nfa (slice_index ids n) ≡ Match n
 
--- each pattern begins at the state of its number, before its `Match` state
-pub record BeginsEach (old new : BuilderValue) (matches : List ℕ) (res : List Re)
-    (starts : List ℕ) : Type 0 where
+-- from the state begin the patterns, each before the `Match` state of its number
+pub record BeginsAll (old new : BuilderValue) (matches : List ℕ) (res : List Re)
+    (s : ℕ) : Type 0 where
   pub extends : Extends old new
-  pub begins : (nfa : Nfa) → Continues new nfa
+  pub finds : (nfa : Nfa) → Continues new nfa
       → ((n : ℕ) → n < length matches → state_at nfa (slice_index matches n) ≡ Match n)
-      → AreStarts nfa 0 res starts
+      → (text : Text) (k : ℕ) → Finds nfa text s k (all_ends nfa.terminator text 0 res k)
 
 -- from the state begin the patterns that begin at these
 pub record IsStart (old new : BuilderValue) (starts : List ℕ) (s : ℕ) : Type 0 where

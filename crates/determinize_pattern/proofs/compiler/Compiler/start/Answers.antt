@@ -1,11 +1,12 @@
 use Rattle.std.proofs.Common.{◌≡◌, ◌∙◌, arith, length, map, slice_index, take}
 use Rattle.std.proofs.lemmas.Grind.{get_or_default_zero}
 use Rattle.std.proofs.lemmas.List.{get_or_read, length-map, length-take-le, take_all}
+use Rattle.std.proofs.lemmas.Result.{IfOk-weaker, on_ok_weaker}
 use Rattle.determinize_pattern.specs.Patterns.{meaning}
 use Rattle.determinize_pattern.proofs.compiled.Compiling.{begun_of}
 use Rattle.determinize_pattern.proofs.compiled.Growing.{map_take_more}
-use Rattle.determinize_pattern.proofs.compiled.Starting.{begins_more, begins_none}
-use Rattle.determinize_pattern.proofs.compiler.Compiler.starts.Goals as goal
+use Rattle.determinize_pattern.proofs.compiled.Starting.{begins_all, begins_more, begins_none, joined_terminator}
+use Rattle.determinize_pattern.proofs.compiler.Compiler.start.Goals as goal
 
 pub loop-i-init : goal.loop-i-init
 loop-i-init g c = (rw c.no_ids-starts.ensures (begins_none _ _), omega arith)
@@ -27,4 +28,14 @@ loop-i-preserved g c =
     )
 
 pub returns-clause-begins : goal.returns-clause-begins
-returns-clause-begins g c = rw (take_all c.loop-i.i c.args.patterns.now (omega arith)) at c.loop-i.invariant.0
+returns-clause-begins g c = IfOk-weaker c.join.result _ _
+    (λ s h. begins_all _ _ _ _ _ _ s (rw (take_all c.loop-i.i c.args.patterns.now (omega arith)) at c.loop-i.invariant.0)
+    (rw c.deref.ensures.value at h)) c.join.ensures.start
+
+pub returns-clause-terminator : goal.returns-clause-terminator
+returns-clause-terminator g c = on_ok_weaker c.join.result
+    (λ e. e ∙ c.loop-i.invariant.0.extends.terminator) (joined_terminator _ _ _ c.join.result c.join.ensures.start)
+
+pub returns-clause-paid : goal.returns-clause-paid
+returns-clause-paid g c =
+    on_ok_weaker c.join.result (λ paid. omega (arith, c.loop-i.invariant.1, paid)) c.join.ensures.paid
