@@ -96,7 +96,7 @@ impl ParseError {
     }
 
     /// Returns the error of this kind at the ASCII character at this place.
-    pub fn at(kind: ErrorKind, start: usize) -> ParseError {
+    pub(crate) fn at(kind: ErrorKind, start: usize) -> ParseError {
         ParseError::new(kind, start, start.saturating_add(1))
     }
 

@@ -1,4 +1,4 @@
-use Rattle.std.proofs.Common.{◌≡◌, ◌+◌, ◌∙◌, ap, arith, length, length-append, map, sym}
+use Rattle.std.proofs.Common.{◌∙◌, ap, arith, length, length-append, map, sym}
 use Rattle.std.proofs.lemmas.Bool.{leb-true}
 use Rattle.determinize_pattern.proofs.compiled.Starting.{nfa_of_built}
 use Rattle.determinize_pattern.specs.Patterns.{meaning}
