@@ -15,6 +15,7 @@ ghost use Rattle.determinize_lazy.specs.Plenty.{IsPlentyText};
 ghost use Rattle.determinize_lazy.specs.Private.Steps.{IsFollowed};
 ghost use Rattle.determinize_table.specs.Table.{IsTable, empty};
 
+use crate::view::View;
 use determinize_below::{MatchKind, NFA, StateID};
 use determinize_core::determinize::Stepper;
 use determinize_core::state::State;
@@ -158,6 +159,20 @@ impl<'n, N: Allocator, A: Allocator + Copy> Lazy<'n, N, A> {
         ensures grows { Grows (cache self.old) (cache self.new) }
     {
         self.table.clear();
+    }
+
+    /// Returns the cache, to be read only.
+    #[inline(always)]
+    pub(crate) fn view(&self) -> View<'_, N, A>
+        ensures { result ≡ self.now }
+    {
+        View {
+            nfa: self.stepper.nfa(),
+            match_kind: self.stepper.match_kind(),
+            limit: self.limit,
+            computed: self.computed,
+            table: &self.table,
+        }
     }
 
     /// Follows cached transitions over the units of a text from an index on, and adds a clone of

@@ -4,9 +4,9 @@
 //! the states that `determinize_core::determinize::walk` returns. A search returns the last match
 //! of such a walk, also in a range of a haystack and in either direction.
 //!
-//! - `lazy`: the type, and walks. `search`: searches. `step`: one step of either. `scan`: searches
-//!   of texts in pieces. `walker`: walks by steps. `engine`: a lazy DFA as an `Engine`. `owned`:
-//!   one that owns its NFA.
+//! - `lazy`: the type, and walks. `search`: searches. `view`: what they do as long as they only
+//!   read the cache. `step`: one step of either. `scan`: searches of texts in pieces. `walker`:
+//!   walks by steps. `engine`: a lazy DFA as an `Engine`. `owned`: one that owns its NFA.
 //! - The transition table and the rule of what is cached are in the crate `determinize_table`,
 //!   which also says what a row is.
 //!
@@ -23,6 +23,7 @@ pub mod owned;
 mod scan;
 mod search;
 mod step;
+mod view;
 mod walker;
 
 pub use crate::lazy::Lazy;

@@ -1,16 +1,25 @@
-//! A lazy DFA that owns its NFA. For each search it lends NFA and cache to a [`Lazy`], and takes
-//! the cache back.
+//! A lazy DFA that owns its NFA. A search that only reads the cache is that of a [`Lazy`]; one that
+//! computes a state lends NFA and cache to a `Lazy`, and takes the cache back.
 
-ghost use Rattle.std.specs.Prelude.{◌≡◌, ◌≤◌, length};
+ghost use Rattle.std.specs.Prelude.{◌≡◌, ◌<◌, ◌≤◌, ◌*◌, false, length, true, Decides, None, Ok, IfOk, OnErr, OnOk};
 ghost use Rattle.determinize_below.specs.Nfa.{IsAccepted};
+ghost use Rattle.determinize_below.specs.Search.{is_done};
+ghost use Rattle.determinize_engine.specs.Searches.{has_start, start_for, text_of, HasMatch, IsFarthestIn, IsPreferredIn, last_in};
 ghost use Rattle.determinize_lazy.specs.Cache.{Grows, cache};
 ghost use Rattle.determinize_lazy.specs.Private.Invariant.{IsLazy};
+ghost use Rattle.determinize_lazy.specs.Private.Searched.{IsOverText, IsShort};
+ghost use Rattle.determinize_lazy.specs.Private.Steps.{IsSound};
 ghost use Rattle.determinize_table.specs.Table.{empty};
+ghost use Rattle.std.specs.Option.{IfNone, IfSome};
+ghost use Rattle.determinize_below.specs.declared.search.MatchKind.TheVariants as kinds;
+ghost use Rattle.determinize_lazy.specs.CachedSearches.{IsCutOffIn, after_input, after_is_match};
 
 use crate::lazy::Lazy;
-use determinize_below::{HalfMatch, Input, MatchKind, NFA};
+use crate::view::{CachedPosition, Reached, View};
+use determinize_below::{HalfMatch, Input, MatchKind, NFA, StateID};
 use determinize_core::determinize::Stepper;
 use determinize_engine::engine::Engine;
+use determinize_engine::text::{Text, in_haystack};
 use determinize_table::TransitionTable;
 use std::alloc::{AllocError, Allocator, Global};
 use std::marker::Model;
@@ -19,7 +28,7 @@ use std::mem;
 /// A lazy DFA that owns its NFA, so a function can return it and a struct can hold it.
 ///
 /// The cache is kept from one search to the next, with at most `limit` states. The working memory
-/// of steps is not, and a search moves the cache twice.
+/// of steps is not: a search that computes a state allocates it anew, and moves the cache twice.
 #[derive(Drop)]
 pub struct OwnedLazy<N: Allocator = Global, A: Allocator = Global> {
     alloc: A,
@@ -139,6 +148,13 @@ impl<N: Allocator, A: Allocator + Copy> OwnedLazy<N, A> {
         &self.nfa
     }
 
+    /// Returns the match kind.
+    pub fn match_kind(&self) -> MatchKind
+        ensures { result ≡ self.now.kind }
+    {
+        self.match_kind
+    }
+
     /// Returns the limit, the greatest number of cached states.
     pub fn limit(&self) -> usize
         ensures { result ≡ self.now.limit }
@@ -154,12 +170,92 @@ impl<N: Allocator, A: Allocator + Copy> OwnedLazy<N, A> {
         self.kept.table.len()
     }
 
-    /// Clears the cache. Does not reset the count of computed transitions.
+    /// Returns the number of transitions that were computed since `new`. It stays at `u64::MAX`
+    /// once it is there.
+    pub fn computed(&self) -> u64
+        ensures { result ≡ self.now.computed }
+    {
+        self.kept.computed
+    }
+
+    /// Returns the heap memory that the cache uses now, in bytes.
+    ///
+    /// This counts the cached states and their rows. It does not count the size of the `OwnedLazy`
+    /// itself, the NFA, free places of the map that finds a state by its bytes, or spare capacity
+    /// for states and rows.
+    pub fn memory_usage(&self) -> usize
+        ensures rows { length self.now.states * 1032 ≤ result }
+    {
+        self.kept.table.memory_usage()
+    }
+
+    /// Clears the cache. Does not reset `computed`.
     pub fn clear(&mut self)
         ensures cache { cache self.new ≡ record (cache self.old) { table = empty } }
         ensures grows { Grows (cache self.old) (cache self.new) }
     {
         self.kept.table.clear();
+    }
+
+    /// Returns the cache, to be read only.
+    #[inline(always)]
+    fn view(&self) -> View<'_, N, A>
+        ensures { result ≡ self.now }
+    {
+        View {
+            nfa: &self.nfa,
+            match_kind: self.match_kind,
+            limit: self.limit,
+            computed: self.kept.computed,
+            table: &self.kept.table,
+        }
+    }
+
+    /// Continues a search that came so far as it only read the cache (`Lazy::search_rest`), with
+    /// the cache lent to a [`Lazy`].
+    #[cold]
+    #[inline(never)]
+    fn search_rest(
+        &mut self,
+        reached: Option<CachedPosition>,
+        start: StateID,
+        text: &Text<'_>,
+        earliest: bool,
+    ) -> Result<Option<HalfMatch>, AllocError>
+        requires start { start < length self.old.nfa.states }
+        requires reached { IsShort earliest self.old start text.now reached }
+        ensures { IsOverText earliest (cache self.old) start text.now result (cache self.new) }
+    {
+        let kept = mem::replace(&mut self.kept, Kept::new(self.alloc));
+        let mut lazy = kept.lent(self.alloc, &self.nfa, self.match_kind, self.limit);
+        let found = lazy.search_rest(reached, start, text, earliest);
+        self.kept = lazy.into_kept();
+        found
+    }
+
+    /// Searches the text of an input, as `Lazy` does. If the cache is only read, it is not moved.
+    #[inline(always)]
+    fn search_range(
+        &mut self,
+        input: &Input<'_>,
+        earliest: bool,
+    ) -> Result<Option<HalfMatch>, AllocError>
+        requires start { has_start input.now.anchored ≡ true }
+        requires more { is_done input.now ≡ false }
+        ensures over { IsOverText earliest (cache self.old)
+            (start_for self.old.nfa input.now.anchored) (text_of self.old.nfa.reverse input.now)
+            result (cache self.new) }
+        ensures sound { IsSound (cache self.old) }
+    {
+        let start = self.view().start_for(input.get_anchored());
+        let text = Text::of_input(input, self.nfa.is_reverse());
+        match self.view().search_text(start, &text, earliest) {
+            Reached::End(found) => Ok(found),
+            Reached::Short(reached) => {
+                let text = text.copied();
+                self.search_rest(reached, start, &text, earliest)
+            }
+        }
     }
 }
 
@@ -168,19 +264,46 @@ impl<N: Allocator, A: Allocator + Copy> Engine for OwnedLazy<N, A> {
 
     ghost engine = { λ v. record { nfa = v.nfa; kind = v.kind; limit = v.limit } };
 
-    fn search_input(&mut self, input: &Input<'_>) -> Result<Option<HalfMatch>, AllocError> {
-        let kept = mem::replace(&mut self.kept, Kept::new(self.alloc));
-        let mut lazy = kept.lent(self.alloc, &self.nfa, self.match_kind, self.limit);
-        let found = lazy.search_input(input);
-        self.kept = lazy.into_kept();
-        found
+    #[tactic(auto, unfolding(crate::specs::CachedSearches::after_input))]
+    fn search_input(&mut self, input: &Input<'_>) -> Result<Option<HalfMatch>, AllocError>
+        requires { has_start input.now.anchored ≡ true }
+        ensures last { IfOk result
+            (λ found. found ≡ last_in self.old.nfa self.old.kind input.now) }
+        ensures preferred { self.old.kind ≡ kinds.LeftmostFirst → IfOk result
+            (λ found. IfSome found (λ m. IsPreferredIn self.old.nfa input.now m)) }
+        ensures farthest { self.old.kind ≡ kinds.All → IfOk result
+            (λ found. IfSome found (λ m. IsFarthestIn self.old.nfa input.now m)) }
+        ensures none { is_done input.now ≡ false → IfOk result
+            (λ found. IfNone found (HasMatch self.old.nfa input.now → ⊥)) }
+        ensures done { is_done input.now ≡ true → result ≡ Ok None }
+        ensures within { IfOk result (λ found. IfSome found
+            (λ m. (input.now.start ≤ m.offset) × (m.offset ≤ input.now.end))) }
+        ensures after { OnOk result (cache self.new ≡ after_input (cache self.old) input.now) }
+        ensures failed { OnErr result
+            (IsCutOffIn false (cache self.old) input.now (cache self.new)) }
+        ensures grows { Grows (cache self.old) (cache self.new) }
+    {
+        if input.is_done() {
+            return Ok(None);
+        }
+        let found = self.search_range(input, false)?;
+        Ok(in_haystack(input, self.nfa.is_reverse(), found))
     }
 
-    fn is_match(&mut self, input: &Input<'_>) -> Result<bool, AllocError> {
-        let kept = mem::replace(&mut self.kept, Kept::new(self.alloc));
-        let mut lazy = kept.lent(self.alloc, &self.nfa, self.match_kind, self.limit);
-        let found = lazy.is_match(input);
-        self.kept = lazy.into_kept();
-        found
+    #[tactic(auto, unfolding(crate::specs::CachedSearches::after_is_match))]
+    fn is_match(&mut self, input: &Input<'_>) -> Result<bool, AllocError>
+        requires { has_start input.now.anchored ≡ true }
+        ensures accepts { is_done input.now ≡ false → IfOk result
+            (λ found. Decides found (HasMatch self.old.nfa input.now)) }
+        ensures done { is_done input.now ≡ true → result ≡ Ok false }
+        ensures after { OnOk result (cache self.new ≡ after_is_match (cache self.old) input.now) }
+        ensures failed { OnErr result
+            (IsCutOffIn true (cache self.old) input.now (cache self.new)) }
+        ensures grows { Grows (cache self.old) (cache self.new) }
+    {
+        if input.is_done() {
+            return Ok(false);
+        }
+        Ok(self.search_range(input, true)?.is_some())
     }
 }

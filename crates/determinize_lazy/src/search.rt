@@ -1,11 +1,12 @@
 //! Searches over the cache: the last match of a walk, without a list of its states.
 //!
 //! If the id of its start state is kept (`step`), a search begins at that id and follows cached
-//! transitions from row to row; else the start state is computed and looked up (`search_anew`). For
-//! each byte `follow` reads two numbers in the row of the current state: the entry of the byte,
-//! which is the offset of the next row, and the tag. It neither allocates nor hashes, and computes
-//! no state. From the first transition that is not cached, `search_from` continues (its loop is
-//! `search_bytes`): it computes that step and follows cached transitions again.
+//! transitions from row to row (`view`). For each byte `follow` reads two numbers in the row of the
+//! current state: the entry of the byte, which is the offset of the next row, and the tag. It
+//! neither allocates nor hashes, and computes no state. From the first transition that is not
+//! cached, `search_from` continues (its loop is `search_bytes`): it computes that step and follows
+//! cached transitions again. If the id of the start state is not kept, `search_rest` computes that
+//! state and looks it up first.
 //!
 //! A search ends after the unit ahead of its text, at a dead state (one that records no NFA states)
 //! and, in `is_match`, at the first match state.
@@ -13,7 +14,7 @@
 //! Matches are delayed by one unit: a state lists the patterns that match before the unit that led
 //! to it. So a search also reads the unit ahead of its text, and a start state is no match state.
 
-ghost use Rattle.std.specs.Prelude.{Decides, ◌≡◌, ◌<◌, ◌≤◌, ℕ, false, true, Option, drop, length, slice_index_or, IfOk, OnErr, OnOk, Ok, None, Some};
+ghost use Rattle.std.specs.Prelude.{Decides, ◌≡◌, ◌<◌, ◌≤◌, ℕ, false, true, Option, drop, length, IfOk, OnErr, OnOk, Ok, None, Some};
 ghost use Rattle.std.specs.Option.{IfNone, IfSome};
 ghost use Rattle.determinize_below.specs.Nfa.{AllResolve};
 ghost use Rattle.determinize_below.specs.Semantics.{between};
@@ -21,18 +22,19 @@ ghost use Rattle.determinize_below.specs.Search.{is_done};
 ghost use Rattle.determinize_below.specs.declared.search.MatchKind.TheVariants as kinds;
 ghost use Rattle.determinize_core.specs.Chain.{units};
 ghost use Rattle.determinize_core.specs.Step.{start_value};
-ghost use Rattle.determinize_core.specs.Value.{Value, dead};
+ghost use Rattle.determinize_core.specs.Value.{Value};
 ghost use Rattle.determinize_lazy.specs.Cache.{Cache, Grows, IsCutOff, LazyValue, cache};
 ghost use Rattle.determinize_table.specs.Cursors.{IsCursor, cursor_value};
-ghost use Rattle.determinize_lazy.specs.Private.Searched.{Fails, GoesTo, GoesToCached, HasCome, HasStopped, IsCachedPosition, IsNext, IsOver, IsOverText, IsPosition, cached_place, first_place, place, with_cursor};
+ghost use Rattle.determinize_lazy.specs.Private.Searched.{Fails, GoesTo, HasStopped, IsNext, IsOver, IsOverText, IsPosition, IsShort, first_place, place, with_cursor};
 ghost use Rattle.determinize_lazy.specs.Private.Steps.{IsFailedStep, IsSound};
 ghost use Rattle.determinize_engine.specs.Searches.{HasMatch, IsFarthestIn, IsPreferredIn, IsSearch, has_start, last_in, start_for, text_of};
 ghost use Rattle.determinize_lazy.specs.CachedSearches.{IsCutOffIn, IsPlenty, IsPlentyIn, after_input, after_is_match, after_search, units_searched};
 
 use crate::lazy::Lazy;
-use determinize_below::{Anchored, HalfMatch, Input, StateID};
+use crate::view::{CachedPosition, Reached};
+use determinize_below::{HalfMatch, Input, StateID};
 use determinize_engine::text::{Text, in_haystack};
-use determinize_table::{Cursor, LastMatch, LazyStateId};
+use determinize_table::{Cursor, LastMatch};
 use std::alloc::{AllocError, Allocator};
 
 /// Where a search is: at which state, how many units it has read, and the last match of the states
@@ -61,14 +63,6 @@ impl<A: Allocator> Position<A> {
     }
 }
 
-/// A position at a cached state.
-#[derive(Clone, Copy)]
-struct CachedPosition {
-    id: LazyStateId,
-    read: usize,
-    last: LastMatch,
-}
-
 impl CachedPosition {
     /// Returns the position with a cursor in place of the id.
     #[inline(always)]
@@ -84,67 +78,6 @@ impl CachedPosition {
 }
 
 impl<'n, N: Allocator, A: Allocator + Copy> Lazy<'n, N, A> {
-    /// Follows cached transitions over bytes of the text, up to a state at which the search ends.
-    ///
-    /// The loop does not share its body with the last step of `follow_to_end`: with a call it takes
-    /// six cycles a byte in place of five.
-    #[inline(always)]
-    fn follow(&self, from: CachedPosition, text: &Text<'_>, earliest: bool) -> CachedPosition
-        requires position { IsCachedPosition self.now from }
-        requires read { from.read ≤ length text.now.bytes }
-        ensures { GoesToCached earliest text.now (cached_place self.now from) self.now result }
-    {
-        let mut at = from;
-        while at.read < text.len() {
-            let byte = text.byte(at.read);
-            // The entry comes before the tag, since the next entry waits for it.
-            let target = self.table.lookup(at.id, Some(byte));
-            let tag = self.table.tag(at.id);
-            let Some(id) = target else {
-                return at;
-            };
-            if tag.is_last(earliest) {
-                return at;
-            }
-            at.last = at.last.or_match(tag, at.read);
-            at.id = id;
-            at.read += 1;
-        }
-        at
-    }
-
-    /// Follows cached transitions over a text and the unit ahead of it, up to a state at which the
-    /// search ends.
-    #[inline(always)]
-    fn follow_to_end(&self, start: LazyStateId, text: &Text<'_>, earliest: bool) -> CachedPosition
-        requires cached { start < length self.now.states }
-        requires resolve { AllResolve self.now.nfa
-            (slice_index_or self.now.states start dead).states }
-        ensures position { IsCachedPosition self.now result }
-        ensures come { HasCome earliest (units text.now) (first_place (cache self.now)
-            (slice_index_or self.now.states start dead)) (cached_place self.now result) }
-    {
-        let first = CachedPosition {
-            id: start,
-            read: 0,
-            last: LastMatch::NONE,
-        };
-        let at = self.follow(first, text, earliest);
-        if at.read < text.len() {
-            return at;
-        }
-        let target = self.table.lookup(at.id, text.ahead());
-        let tag = self.table.tag(at.id);
-        match target {
-            Some(id) if !tag.is_last(earliest) => CachedPosition {
-                id,
-                read: at.read + 1,
-                last: at.last.or_match(tag, at.read),
-            },
-            _ => at,
-        }
-    }
-
     /// Returns the last match up to and including the state at a position.
     pub(crate) fn found(&self, at: &Position<A>) -> Option<HalfMatch>
         requires { IsPosition self.now at.now }
@@ -182,7 +115,9 @@ impl<'n, N: Allocator, A: Allocator + Copy> Lazy<'n, N, A> {
         let Position { cursor, read, last } = from;
         match cursor {
             Cursor::Cached(id) => {
-                let at = self.follow(CachedPosition { id, read, last }, text, earliest);
+                let at = self
+                    .view()
+                    .follow(CachedPosition { id, read, last }, text, earliest);
                 at.with_cursor()
             }
             Cursor::Uncached(state) => Position {
@@ -249,27 +184,32 @@ impl<'n, N: Allocator, A: Allocator + Copy> Lazy<'n, N, A> {
         Ok(self.found(&at))
     }
 
-    /// Searches as `search_text` does, from a start state whose id is not kept.
+    /// Continues a search that came so far as it only read the cache: to a position, or to none,
+    /// since the id of its start state is not kept.
     #[cold]
     #[inline(never)]
-    fn search_anew(
+    pub(crate) fn search_rest(
         &mut self,
+        reached: Option<CachedPosition>,
         start: StateID,
         text: &Text<'_>,
         earliest: bool,
     ) -> Result<Option<HalfMatch>, AllocError>
-        requires { start < length self.old.nfa.states }
+        requires start { start < length self.old.nfa.states }
+        requires reached { IsShort earliest self.old start text.now reached }
         ensures { IsOverText earliest (cache self.old) start text.now result (cache self.new) }
     {
-        let cursor = self.find_start(start, text.behind())?;
-        self.search_from(Position::start(cursor), text, earliest)
+        match reached {
+            Some(at) => self.search_from(at.with_cursor(), text, earliest),
+            None => {
+                let cursor = self.find_start(start, text.behind())?;
+                self.search_from(Position::start(cursor), text, earliest)
+            }
+        }
     }
 
     /// Searches a text from the start state of a walk over it. If the id of that state is kept and
     /// all transitions are cached, the cache is only read.
-    ///
-    /// Inlined, so that each caller has a loop in which `earliest` is a constant, and in `search`
-    /// also the direction of the text. With tests of these it takes six cycles a byte, not five.
     #[inline(always)]
     fn search_text(
         &mut self,
@@ -282,18 +222,14 @@ impl<'n, N: Allocator, A: Allocator + Copy> Lazy<'n, N, A> {
             (cache self.new) }
         ensures sound { IsSound (cache self.old) }
     {
-        let Some(id) = self.kept_start(start, text.behind()) else {
-            // A copy, so that a search that only reads the cache keeps its text in registers.
-            let text = text.copied();
-            return self.search_anew(start, &text, earliest);
-        };
-        let at = self.follow_to_end(id, text, earliest);
-        let tag = self.table.tag(at.id);
-        if at.read > text.len() || tag.is_last(earliest) {
-            return Ok(at.last.or_match(tag, at.read).get());
+        match self.view().search_text(start, text, earliest) {
+            Reached::End(found) => Ok(found),
+            Reached::Short(reached) => {
+                // A copy, so that a search that only reads the cache keeps its text in registers.
+                let text = text.copied();
+                self.search_rest(reached, start, &text, earliest)
+            }
         }
-        let text = text.copied();
-        self.search_from(at.with_cursor(), &text, earliest)
     }
 
     /// Searches the text of an input. The offset of the match counts from the start of the text in
@@ -311,7 +247,7 @@ impl<'n, N: Allocator, A: Allocator + Copy> Lazy<'n, N, A> {
             result (cache self.new) }
         ensures sound { IsSound (cache self.old) }
     {
-        let start = self.start_for(input.get_anchored());
+        let start = self.view().start_for(input.get_anchored());
         let text = Text::of_input(input, self.nfa().is_reverse());
         self.search_text(start, &text, earliest)
     }
@@ -418,18 +354,5 @@ impl<'n, N: Allocator, A: Allocator + Copy> Lazy<'n, N, A> {
             return Ok(false);
         }
         Ok(self.search_range(input, true)?.is_some())
-    }
-
-    /// Returns the start state for an anchored mode.
-    fn start_for(&self, anchored: Anchored) -> StateID
-        requires { has_start anchored ≡ true }
-        ensures value { result ≡ start_for self.now.nfa anchored }
-        ensures resolve { result < length self.now.nfa.states }
-    {
-        match anchored {
-            Anchored::No => self.nfa().start_unanchored(),
-            Anchored::Yes => self.nfa().start_anchored(),
-            Anchored::Pattern(_) => unreachable!(),
-        }
     }
 }

@@ -5,42 +5,22 @@
 //! table drops them when it is cleared. A search computes its start state if no id of it is kept:
 //! from any other NFA state always, and else until a search has found the state cached.
 
-ghost use Rattle.std.specs.Prelude.{Decides, ◌≡◌, ◌<◌, ℕ, false, length, slice_get, IfOk, OnOk, Some};
-ghost use Rattle.std.specs.Option.{IfSome};
+ghost use Rattle.std.specs.Prelude.{Decides, ◌≡◌, ◌<◌, ℕ, false, length, IfOk, OnOk};
 ghost use Rattle.determinize_below.specs.Nfa.{AllResolve};
 ghost use Rattle.determinize_core.specs.Step.{start_value};
 ghost use Rattle.determinize_lazy.specs.Cache.{cache};
 ghost use Rattle.determinize_table.specs.Cursors.{IsAt, IsCursor, cursor_value};
-ghost use Rattle.determinize_lazy.specs.Private.Starts.{start_index};
 ghost use Rattle.determinize_lazy.specs.Private.Steps.{IsSound, IsStarted, IsStepped};
 ghost use Rattle.determinize_table.specs.Tags.{tag_in, tag_of};
 ghost use Rattle.determinize_table.specs.Table.{is_cached};
 ghost use Rattle.determinize_table.specs.declared.table.Cursor.TheVariants as cursors;
 
 use crate::lazy::Lazy;
+use crate::view::start_index;
 use determinize_below::{NFA, StateID, Unit};
-use determinize_core::start::{Start, start_kind_of};
 use determinize_core::state::State;
-use determinize_table::{Cursor, LazyStateId, STARTS, StateTag};
+use determinize_table::{Cursor, LazyStateId, StateTag};
 use std::alloc::{AllocError, Allocator};
-
-/// Returns where the id of a start state is kept: 0 to 5, by the kind of start, for the anchored
-/// start of the NFA, and 6 to 11 for the unanchored one. `None` for any other NFA state: its start
-/// is not kept.
-fn start_index<N: Allocator>(nfa: &NFA<N>, start: StateID, look_behind: Option<u8>) -> Option<usize>
-    ensures value { result ≡ start_index nfa.now start look_behind }
-    ensures limit { IfSome result (λ index. index < STARTS) }
-{
-    let first = if start == nfa.start_anchored() {
-        0
-    } else if start == nfa.start_unanchored() {
-        Start::len()
-    } else {
-        return None;
-    };
-    let terminator = nfa.look_matcher().get_line_terminator();
-    Some(first + start_kind_of(terminator, look_behind).as_usize())
-}
 
 /// Returns whether each id in a state is that of a state of the NFA.
 fn resolves<N: Allocator, A: Allocator>(nfa: &NFA<N>, state: &State<A>) -> bool
@@ -79,7 +59,7 @@ impl<'n, N: Allocator, A: Allocator + Copy> Lazy<'n, N, A> {
         requires { start < length self.old.nfa.states }
         ensures { IsStarted self.old (start_value self.old.nfa start look_behind) result self.new }
     {
-        match self.kept_start(start, look_behind) {
+        match self.view().kept_start(start, look_behind) {
             Some(id) => Ok(Cursor::Cached(id)),
             None => self.find_start(start, look_behind),
         }
@@ -104,20 +84,6 @@ impl<'n, N: Allocator, A: Allocator + Copy> Lazy<'n, N, A> {
             self.table.set_start(index, id);
         }
         Ok(Cursor::Cached(id))
-    }
-
-    /// Returns the id of a start state, if it is kept.
-    #[inline(always)]
-    pub(crate) fn kept_start(&self, start: StateID, look_behind: Option<u8>) -> Option<LazyStateId>
-        requires { start < length self.now.nfa.states }
-        ensures at { IfSome result (λ id. slice_get self.now.states id
-            ≡ Some (start_value self.now.nfa start look_behind)) }
-        ensures resolve { AllResolve self.now.nfa
-            (start_value self.now.nfa start look_behind).states }
-        ensures sound { IsSound (cache self.now) }
-    {
-        let index = start_index(self.stepper.nfa(), start, look_behind)?;
-        self.table.start(index)
     }
 
     /// Returns the cursor of a borrowed state: a copy of it, if it is not cached. `likely` is an id

@@ -1,6 +1,6 @@
 -- A search, one unit more at a time, and what it finds and leaves.
 -- Main statements: come-next, over-at, next-cached, last-is, search-is.
--- Used by: the functions of `search.rt` and `scan.rt`.
+-- Used by: the functions of `view.rt`, `search.rt`, `scan.rt` and `owned.rt`.
 -- Idea: where a search ends depends only on the place where it is and on the units that are left; and the place where
 -- it ends has the last match and the cache of the walk over the units that it reads.
 use Rattle.determinize_lazy.proofs.Common.{[], after_walk, ap, arith, Asked, Bool, by_test, Cache, cache, cached_place}
@@ -26,9 +26,10 @@ use Rattle.determinize_engine.proofs.SearchMatches.{is-search}
 use Rattle.determinize_engine.proofs.Ranges.{match-decides}
 use Rattle.determinize_core.proofs.step.Resolving.{step_resolves}
 use Rattle.determinize_lazy.specs.Private.Searched.{with_cursor}
-use Rattle.determinize_lazy.specs.declared.search.CachedPosition.{CachedPosition}
+use Rattle.determinize_lazy.specs.declared.view.CachedPosition.{CachedPosition}
 use Rattle.determinize_table.specs.declared.table.Cursor.TheVariants.{Cached}
 use Rattle.determinize_table.specs.declared.tag.LastMatch.{LastMatch}
+use Rattle.determinize_table.specs.Stored.{table_in}
 use Rattle.determinize_lazy.proofs.steps.Cursors.{cached_step, cached_target}
 
 -- what the tag of a value says: whether a search ends there
@@ -53,6 +54,29 @@ pub over-text : {E : Type 0} {earliest : Bool} {old : Cache} {s s' : ℕ} {t t' 
 over-text {old = old} {s' = s'} {t = t} s_is is =
     over-same (ap (λ s. first_place old (start_value old.nfa s t.behind)) s_is
     ∙ ap (λ (t : Text). first_place old (start_value old.nfa s' t.behind)) is) is
+
+-- a search that found something is the same for each type of error
+pub over-any : {D E : Type 0} {earliest : Bool} {us : List (Option ℕ)} {p : Place} {found : Option HalfMatch}
+    {new : Cache} → IsOver {E = D} earliest us p (Ok found) new → IsOver {E = E} earliest us p (Ok found) new
+over-any o = record { last = o.last; after = o.after; failed = tt; grows = o.grows }
+
+-- what a search leaves, for a value with the same fields
+pub over-kept : {E : Type 0} {earliest : Bool} {us : List (Option ℕ)} {p : Place} {r : Result (Option HalfMatch) E}
+    (v w : LazyValue) → IsOver earliest us p r (cache v) → w.nfa ≡ p.cache.nfa → w.kind ≡ p.cache.kind
+    → w.limit ≡ p.cache.limit → w.states ≡ v.states → w.rows ≡ v.rows → w.computed ≡ v.computed
+    → IsOver earliest us p r (cache w)
+over-kept {earliest = earliest} {us} {p} {r} v w o nfa kind limit states rows computed =
+    let n : v.nfa ≡ w.nfa = o.grows.nfa ∙ sym nfa in
+    let k : v.kind ≡ w.kind = o.grows.kind ∙ sym kind in
+    let l : v.limit ≡ w.limit = o.grows.limit ∙ sym limit in
+    let same : cache v ≡ cache w = λ i. record {
+      nfa = n i;
+      kind = k i;
+      limit = l i;
+      table = table_in (sym states i) (sym rows i);
+      computed = sym computed i;
+    } in
+    subst (λ (c : Cache). IsOver earliest us p r c) same o
 
 -- the cache and the value where a search ends are those after a walk over the units that it reads
 pub end-is : (earliest : Bool) (us : List (Option ℕ)) (p : Place)

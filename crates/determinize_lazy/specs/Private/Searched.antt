@@ -1,6 +1,6 @@
 -- How far a search has come, and what it finds and leaves.
 use Rattle.std.specs.Prelude.{◌≡◌, ℕ, ◌+◌, ◌≤◌, ◌⊎◌, Bool, true, false, Option, Some, None, List, ◌∷◌, []}
-use Rattle.std.specs.Prelude.{cond, drop, length, map, slice_get, IfOk, OnErr, OnOk, Result}
+use Rattle.std.specs.Prelude.{cond, drop, length, map, slice_get, IfOk, Ok, OnErr, OnOk, Result}
 use Rattle.std.specs.Option.{option_or}
 use Rattle.determinize_below.specs.Nfa.{AllResolve}
 use Rattle.determinize_below.specs.Semantics.{Text}
@@ -15,8 +15,10 @@ use Rattle.determinize_engine.specs.Scans.{Scanned}
 use Rattle.determinize_engine.specs.UnitsRead.{is_last, units_read}
 use Rattle.determinize_table.specs.Cursors.{IsCursor, cursor_value}
 use Rattle.determinize_table.specs.Tags.{match_of, match_reported, tag_of}
-use Rattle.determinize_lazy.specs.declared.search.CachedPosition.{CachedPosition}
 use Rattle.determinize_lazy.specs.declared.search.Position.{Position}
+use Rattle.determinize_lazy.specs.declared.view.CachedPosition.{CachedPosition}
+use Rattle.determinize_lazy.specs.declared.view.Reached.{Reached}
+use Rattle.determinize_lazy.specs.declared.view.Reached.TheVariants.{End, Short}
 use Rattle.determinize_table.specs.declared.table.Cursor.TheVariants.{Cached}
 
 -- the match that a value reports which is entered after n units
@@ -113,6 +115,21 @@ abbrev pub IsOverText : {E : Type 0} → Bool → Cache → ℕ → Text → Res
     → Cache → Type 0
 IsOverText earliest old start text result new = IsOver earliest (units text)
     (first_place old (start_value old.nfa start text.behind)) result new
+
+-- a search from an NFA state over a text that only reads the cache has come to a position, or to
+-- none
+abbrev pub IsShort : Bool → LazyValue → ℕ → Text → Option CachedPosition → Type 0
+IsShort earliest c start text None = Unit {0}
+IsShort earliest c start text (Some at) =
+    IsCachedPosition c at × (at.read ≤ length text.bytes)
+    × HasCome earliest (units text) (first_place (cache c) (start_value c.nfa start text.behind))
+    (cached_place c at)
+
+-- and how far it comes, if it may come to its end, too
+abbrev pub IsReached : Bool → LazyValue → ℕ → Text → Reached → Type 0
+IsReached earliest c start text (End found) =
+    IsOverText {E = Unit {0}} earliest (cache c) start text (Ok found) (cache c)
+IsReached earliest c start text (Short reached) = IsShort earliest c start text reached
 
 -- units that begin with the bytes of a text
 abbrev pub Begins : Text → List (Option ℕ) → Type 0

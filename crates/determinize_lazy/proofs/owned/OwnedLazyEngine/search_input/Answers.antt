@@ -1,26 +1,40 @@
-use Rattle.determinize_lazy.proofs.Common.{◌∙◌, ◌≡◌}
+use Rattle.determinize_lazy.proofs.Common.{cache, false, is_done, IsSearch, rules, start_for, sym, text_of, ◌∙◌}
+use Rattle.determinize_lazy.proofs.Common.{◌≡◌}
+use Rattle.determinize_lazy.proofs.finding.Searching.{search-is}
+use Rattle.determinize_engine.proofs.Ranges.{is-answer, IsAnswer, last-done, offset-within}
+use Rattle.determinize_lazy.specs.CachedSearches.{after_input, after_search}
+use Rattle.determinize_lazy.proofs.owned.OwnedLazyEngine.search_input.Given.{Over}
+use Rattle.determinize_lazy.proofs.owned.OwnedLazyEngine.search_input.Goals.{In_ok-found}
 use Rattle.determinize_lazy.proofs.owned.OwnedLazyEngine.search_input.Goals as goal
 
-pub returns-clause-last : goal.returns-clause-last
-returns-clause-last g c =
-    let lent : c.lent-lazy.result ≡ c.args.self.now
-    = (rw c.replace-kept.ensures.value at c.lent-lazy.ensures) ∙ c.self.view_is in
-    rw lent at c.search_input-found.ensures.last
+pub returns-then-is_done-clause-last : goal.returns-then-is_done-clause-last
+returns-then-is_done-clause-last g c = last-done c.args.input.now (sym c.is_done.ensures ∙ c.if-is_done.true) _ _
 
-pub returns-clause-preferred : goal.returns-clause-preferred
-returns-clause-preferred g c =
-    let lent : c.lent-lazy.result ≡ c.args.self.now
-    = (rw c.replace-kept.ensures.value at c.lent-lazy.ensures) ∙ c.self.view_is in
-    rw lent at c.search_input-found.ensures.preferred
+-- the search of the text
+answer : (g : Over) (c : In_ok-found g) → IsSearch c.args.self.now.nfa c.args.self.now.kind
+    (start_for c.args.self.now.nfa c.args.input.now.anchored)
+    (text_of c.args.self.now.nfa.reverse c.args.input.now) c.in_ok-found.found
+answer g c = search-is (cache c.args.self.now) _ _ c.search_range.ensures.sound.accepted c.in_ok-found.ensures.over.last
 
-pub returns-clause-farthest : goal.returns-clause-farthest
-returns-clause-farthest g c =
-    let lent : c.lent-lazy.result ≡ c.args.self.now
-    = (rw c.replace-kept.ensures.value at c.lent-lazy.ensures) ∙ c.self.view_is in
-    rw lent at c.search_input-found.ensures.farthest
+pub in_haystack-requires-clause-within : goal.in_haystack-requires-clause-within
+in_haystack-requires-clause-within g c =
+    offset-within c.args.input.now (answer g (goal.at.in_haystack-requires-clause-within g c).In_ok-found)
 
-pub returns-clause-none : goal.returns-clause-none
-returns-clause-none g c =
-    let lent : c.lent-lazy.result ≡ c.args.self.now
-    = (rw c.replace-kept.ensures.value at c.lent-lazy.ensures) ∙ c.self.view_is in
-    rw lent at c.search_input-found.ensures.none
+pub returns : goal.returns
+unfolding after_input after_search
+returns g c =
+    let more : is_done c.args.input.now ≡ false = sym c.is_done.ensures ∙ c.if-is_done.false in
+    let direction : c.is_reverse.result ≡ c.args.self.now.nfa.reverse = search rules in
+    let a : IsAnswer c.args.self.now.nfa c.args.self.now.kind c.args.input.now c.in_haystack.result =
+    is-answer c.search_range.ensures.sound.accepted more direction c.in_haystack.ensures.value
+    (answer g (goal.at.returns g c).In_ok-found) in record {
+      last = a.last;
+      preferred = a.preferred;
+      farthest = a.farthest;
+      none = λ _. a.none;
+      done = search rules;
+      within = search rules;
+      after = rw more c.in_ok-found.ensures.over.after;
+      failed = search rules;
+      grows = search rules;
+    }

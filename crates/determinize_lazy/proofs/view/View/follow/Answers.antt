@@ -1,7 +1,7 @@
 use Rattle.determinize_lazy.proofs.Common.{Some}
 use Rattle.determinize_lazy.proofs.finding.Searching.{goes-next, next-cached}
 use Rattle.determinize_lazy.proofs.steps.Rule.{lazy-sound}
-use Rattle.determinize_lazy.proofs.lazy.Lazy.follow.Goals as goal
+use Rattle.determinize_lazy.proofs.view.View.follow.Goals as goal
 
 pub loop-at-preserved : goal.loop-at-preserved
 loop-at-preserved g c =

@@ -3,9 +3,9 @@ use Rattle.determinize_lazy.proofs.Common.{length, slice_index_or, Some, sym, un
 use Rattle.determinize_lazy.proofs.finding.Searching.{come-next, come_twice, next-cached}
 use Rattle.determinize_lazy.proofs.steps.Rule.{lazy-sound}
 use Rattle.determinize_engine.proofs.Texts.{unit-here, unit-last}
-use Rattle.determinize_lazy.proofs.lazy.Lazy.follow_to_end.Given.{Over}
-use Rattle.determinize_lazy.proofs.lazy.Lazy.follow_to_end.Goals.{After-follow-at}
-use Rattle.determinize_lazy.proofs.lazy.Lazy.follow_to_end.Goals as goal
+use Rattle.determinize_lazy.proofs.view.View.follow_to_end.Given.{Over}
+use Rattle.determinize_lazy.proofs.view.View.follow_to_end.Goals.{After-follow-at}
+use Rattle.determinize_lazy.proofs.view.View.follow_to_end.Goals as goal
 
 -- the search of the bytes
 bytes : (g : Over) (c : After-follow-at g) → HasCome c.args.earliest (units c.args.text.now)

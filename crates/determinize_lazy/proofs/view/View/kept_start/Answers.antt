@@ -1,6 +1,6 @@
 use Rattle.determinize_core.proofs.step.Resolving.{start_resolves}
 use Rattle.determinize_lazy.proofs.steps.Rule.{lazy-sound}
-use Rattle.determinize_lazy.proofs.lazy.Lazy.kept_start.Goals as goal
+use Rattle.determinize_lazy.proofs.view.View.kept_start.Goals as goal
 
 pub returns-in_err-index-clause-resolve : goal.returns-in_err-index-clause-resolve
 returns-in_err-index-clause-resolve g c =

@@ -1,0 +1,205 @@
+//! What a search does as long as it only reads the cache, for a `Lazy` and for an owner of its NFA.
+
+ghost use Rattle.std.specs.Prelude.{◌≡◌, ◌<◌, ◌≤◌, length, slice_get, slice_index_or, true, Some};
+ghost use Rattle.std.specs.Option.{IfSome};
+ghost use Rattle.determinize_below.specs.Nfa.{AllResolve};
+ghost use Rattle.determinize_core.specs.Chain.{units};
+ghost use Rattle.determinize_core.specs.Step.{start_value};
+ghost use Rattle.determinize_core.specs.Value.{dead};
+ghost use Rattle.determinize_engine.specs.Searches.{has_start, start_for};
+ghost use Rattle.determinize_lazy.specs.Cache.{cache};
+ghost use Rattle.determinize_lazy.specs.Private.Searched.{GoesToCached, HasCome, IsCachedPosition, IsReached, cached_place, first_place};
+ghost use Rattle.determinize_lazy.specs.Private.Starts.{start_index};
+ghost use Rattle.determinize_lazy.specs.Private.Steps.{IsSound};
+
+use determinize_below::{Anchored, HalfMatch, MatchKind, NFA, StateID};
+use determinize_core::start::{Start, start_kind_of};
+use determinize_engine::text::Text;
+use determinize_table::{LastMatch, LazyStateId, STARTS, TransitionTable};
+use std::alloc::Allocator;
+use std::marker::Model;
+
+/// A cache that is only read, with its NFA.
+#[derive(Drop)]
+pub(crate) struct View<'v, N: Allocator, A: Allocator> {
+    pub(crate) nfa: &'v NFA<N>,
+    pub(crate) match_kind: MatchKind,
+    pub(crate) limit: usize,
+    pub(crate) computed: u64,
+    pub(crate) table: &'v TransitionTable<A>,
+}
+
+impl<'v, N: Allocator, A: Allocator> Model for View<'v, N, A> {
+    ghost use Rattle.determinize_lazy.specs.Cache.{LazyValue};
+    ghost use Rattle.determinize_lazy.specs.Private.Invariant.{IsLazy};
+
+    ghost Value = { LazyValue };
+
+    ghost view = { λ v. record {
+      nfa = v.nfa.now;
+      kind = v.match_kind;
+      limit = v.limit;
+      states = v.table.now.states;
+      rows = v.table.now.rows;
+      computed = v.computed;
+    } };
+
+    ghost invariant = { λ v. IsLazy v.nfa.now v.match_kind v.limit v.computed v.table.now };
+}
+
+/// A position at a cached state.
+#[derive(Clone, Copy)]
+pub(crate) struct CachedPosition {
+    pub(crate) id: LazyStateId,
+    pub(crate) read: usize,
+    pub(crate) last: LastMatch,
+}
+
+/// How far a search comes that only reads the cache.
+#[derive(Clone, Copy)]
+pub(crate) enum Reached {
+    /// To its end, with this match.
+    End(Option<HalfMatch>),
+    /// To a position from which the next transition is not cached, or to none: the id of the start
+    /// state is not kept.
+    Short(Option<CachedPosition>),
+}
+
+/// Returns where the id of a start state is kept: 0 to 5, by the kind of start, for the anchored
+/// start of the NFA, and 6 to 11 for the unanchored one. `None` for any other NFA state: its start
+/// is not kept.
+pub(crate) fn start_index<N: Allocator>(
+    nfa: &NFA<N>,
+    start: StateID,
+    look_behind: Option<u8>,
+) -> Option<usize>
+    ensures value { result ≡ start_index nfa.now start look_behind }
+    ensures limit { IfSome result (λ index. index < STARTS) }
+{
+    let first = if start == nfa.start_anchored() {
+        0
+    } else if start == nfa.start_unanchored() {
+        Start::len()
+    } else {
+        return None;
+    };
+    let terminator = nfa.look_matcher().get_line_terminator();
+    Some(first + start_kind_of(terminator, look_behind).as_usize())
+}
+
+impl<'v, N: Allocator, A: Allocator + Copy> View<'v, N, A> {
+    /// Returns the start state for an anchored mode.
+    pub(crate) fn start_for(&self, anchored: Anchored) -> StateID
+        requires { has_start anchored ≡ true }
+        ensures value { result ≡ start_for self.now.nfa anchored }
+        ensures resolve { result < length self.now.nfa.states }
+    {
+        match anchored {
+            Anchored::No => self.nfa.start_unanchored(),
+            Anchored::Yes => self.nfa.start_anchored(),
+            Anchored::Pattern(_) => unreachable!(),
+        }
+    }
+
+    /// Returns the id of a start state, if it is kept.
+    #[inline(always)]
+    pub(crate) fn kept_start(&self, start: StateID, look_behind: Option<u8>) -> Option<LazyStateId>
+        requires { start < length self.now.nfa.states }
+        ensures at { IfSome result (λ id. slice_get self.now.states id
+            ≡ Some (start_value self.now.nfa start look_behind)) }
+        ensures resolve { AllResolve self.now.nfa
+            (start_value self.now.nfa start look_behind).states }
+        ensures sound { IsSound (cache self.now) }
+    {
+        let index = start_index(self.nfa, start, look_behind)?;
+        self.table.start(index)
+    }
+
+    /// Follows cached transitions over bytes of the text, up to a state at which the search ends.
+    ///
+    /// The loop does not share its body with the last step of `follow_to_end`: with a call it takes
+    /// six cycles a byte in place of five.
+    #[inline(always)]
+    pub(crate) fn follow(
+        &self,
+        from: CachedPosition,
+        text: &Text<'_>,
+        earliest: bool,
+    ) -> CachedPosition
+        requires position { IsCachedPosition self.now from }
+        requires read { from.read ≤ length text.now.bytes }
+        ensures { GoesToCached earliest text.now (cached_place self.now from) self.now result }
+    {
+        let mut at = from;
+        while at.read < text.len() {
+            let byte = text.byte(at.read);
+            // The entry comes before the tag, since the next entry waits for it.
+            let target = self.table.lookup(at.id, Some(byte));
+            let tag = self.table.tag(at.id);
+            let Some(id) = target else {
+                return at;
+            };
+            if tag.is_last(earliest) {
+                return at;
+            }
+            at.last = at.last.or_match(tag, at.read);
+            at.id = id;
+            at.read += 1;
+        }
+        at
+    }
+
+    /// Follows cached transitions over a text and the unit ahead of it, up to a state at which the
+    /// search ends.
+    #[inline(always)]
+    fn follow_to_end(&self, start: LazyStateId, text: &Text<'_>, earliest: bool) -> CachedPosition
+        requires cached { start < length self.now.states }
+        requires resolve { AllResolve self.now.nfa
+            (slice_index_or self.now.states start dead).states }
+        ensures position { IsCachedPosition self.now result }
+        ensures come { HasCome earliest (units text.now) (first_place (cache self.now)
+            (slice_index_or self.now.states start dead)) (cached_place self.now result) }
+    {
+        let first = CachedPosition {
+            id: start,
+            read: 0,
+            last: LastMatch::NONE,
+        };
+        let at = self.follow(first, text, earliest);
+        if at.read < text.len() {
+            return at;
+        }
+        let target = self.table.lookup(at.id, text.ahead());
+        let tag = self.table.tag(at.id);
+        match target {
+            Some(id) if !tag.is_last(earliest) => CachedPosition {
+                id,
+                read: at.read + 1,
+                last: at.last.or_match(tag, at.read),
+            },
+            _ => at,
+        }
+    }
+
+    /// Searches a text from the start state of a walk over it, as far as the id of that state is
+    /// kept and the transitions are cached.
+    ///
+    /// Inlined, so that each caller has a loop in which `earliest` is a constant, and in `search`
+    /// also the direction of the text. With tests of these it takes six cycles a byte, not five.
+    #[inline(always)]
+    pub(crate) fn search_text(&self, start: StateID, text: &Text<'_>, earliest: bool) -> Reached
+        requires { start < length self.now.nfa.states }
+        ensures reached { IsReached earliest self.now start text.now result }
+        ensures sound { IsSound (cache self.now) }
+    {
+        let Some(id) = self.kept_start(start, text.behind()) else {
+            return Reached::Short(None);
+        };
+        let at = self.follow_to_end(id, text, earliest);
+        let tag = self.table.tag(at.id);
+        if at.read > text.len() || tag.is_last(earliest) {
+            return Reached::End(at.last.or_match(tag, at.read).get());
+        }
+        Reached::Short(Some(at))
+    }
+}
