@@ -6,7 +6,7 @@ use std::fmt;
 use std::num::ParseIntError;
 
 /// The part of a text that is malformed or that the preconditions of a call exclude.
-#[derive(Clone, Copy, Debug)]
+#[derive(Clone, Copy)]
 pub enum Part {
     /// The match kind.
     MatchKind,
@@ -66,7 +66,7 @@ impl fmt::Display for Part {
 }
 
 /// An error from a text.
-#[derive(Clone, Copy, Debug)]
+#[derive(Clone, Copy)]
 pub enum TextError {
     /// An allocation failed.
     OutOfMemory,
@@ -113,5 +113,11 @@ impl fmt::Display for TextError {
             TextError::Malformed(part) => write!(f, "not {part}"),
             TextError::Refused(error) => write!(f, "the states make no NFA: {error}"),
         }
+    }
+}
+
+impl fmt::Debug for TextError {
+    fn fmt<W: fmt::Write>(&self, f: &mut fmt::Formatter<W>) -> fmt::Result {
+        write!(f, "{self}")
     }
 }

@@ -116,8 +116,8 @@ impl<'t> Fields<'t> {
         alloc: A,
         start: StateID,
     ) -> Result<NFA<A>, TextError> {
-        let states = states::states(alloc, self.states.unwrap_or(""))?;
         let (is_reverse, matcher) = (self.is_reverse()?, self.matcher()?);
+        let states = states::states(alloc, self.states.unwrap_or(""))?;
         let nfa = NFA::from_parts(alloc, states, start, start, is_reverse, matcher)?;
         Ok(nfa)
     }

@@ -23,7 +23,7 @@ const NO_WALK: &str = "the example is no walk";
 const OUT_OF_MEMORY: &str = "out of memory";
 
 /// An error from printing a walk.
-#[derive(Debug, Drop)]
+#[derive(Drop)]
 pub enum RowError {
     /// The arguments are not the name of an example.
     NoSuchRow,

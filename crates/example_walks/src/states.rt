@@ -9,13 +9,23 @@ use std::alloc::Allocator;
 /// Returns the states of a text, one word each.
 pub fn states<A: Allocator + Copy>(alloc: A, text: &str) -> Result<Vec<State<A>, A>, TextError> {
     let mut states = Vec::new(alloc);
+    add_states(alloc, &mut states, text)?;
+    Ok(states)
+}
+
+/// Adds the states of a text.
+fn add_states<A: Allocator + Copy>(
+    alloc: A,
+    states: &mut Vec<State<A>, A>,
+    text: &str,
+) -> Result<(), TextError> {
     for word in text.split(' ') {
         if !word.is_empty() {
             let state = state(alloc, word)?;
             states.push(state)?;
         }
     }
-    Ok(states)
+    Ok(())
 }
 
 /// Returns the state of a word such as `BU:4,1`.
@@ -61,31 +71,46 @@ fn byte_range<A: Allocator>(parts: &str) -> Result<State<A>, TextError> {
     })
 }
 
-/// Returns a sparse state.
-fn sparse<A: Allocator + Copy>(alloc: A, parts: &str) -> Result<State<A>, TextError> {
-    let mut transitions = Vec::new(alloc);
+/// Adds the transitions of a text.
+fn add_transitions<A: Allocator>(
+    transitions: &mut Vec<Transition, A>,
+    parts: &str,
+) -> Result<(), TextError> {
     if !parts.is_empty() {
         for part in parts.split(',') {
             let read = transition(part)?;
             transitions.push(read)?;
         }
     }
+    Ok(())
+}
+
+/// Returns a sparse state.
+fn sparse<A: Allocator>(alloc: A, parts: &str) -> Result<State<A>, TextError> {
+    let mut transitions = Vec::new(alloc);
+    add_transitions(&mut transitions, parts)?;
     Ok(State::Sparse(SparseTransitions { transitions }))
 }
 
-/// Returns a dense state. Returns an error for a range whose first byte is above its last, since it
-/// would write nothing.
-fn dense<A: Allocator + Copy>(alloc: A, parts: &str) -> Result<State<A>, TextError> {
-    let mut table = [StateID::ZERO; 256];
+/// Writes the transitions of a text into a table. Returns an error for a range whose first byte is
+/// above its last, since it would write nothing.
+fn write_ranges(table: &mut [StateID; 256], parts: &str) -> Result<(), TextError> {
     if !parts.is_empty() {
         for part in parts.split(',') {
             let read = transition(part)?;
             if read.start > read.end {
                 return Err(TextError::Malformed(Part::ByteRange));
             }
-            write_range(&mut table, read);
+            write_range(table, read);
         }
     }
+    Ok(())
+}
+
+/// Returns a dense state.
+fn dense<A: Allocator>(alloc: A, parts: &str) -> Result<State<A>, TextError> {
+    let mut table = [StateID::ZERO; 256];
+    write_ranges(&mut table, parts)?;
     let transitions = Vec::from_slice(alloc, &table)?;
     Ok(State::Dense(DenseTransitions { transitions }))
 }

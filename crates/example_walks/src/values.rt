@@ -75,16 +75,21 @@ pub fn optional_byte(text: &str) -> Result<Option<u8>, TextError> {
     Ok(Some(byte(text)?))
 }
 
+/// Adds the bytes of a text of hexadecimal digits.
+fn add_bytes<A: Allocator>(found: &mut Vec<u8, A>, text: &str) -> Result<(), TextError> {
+    if !is_none(text) {
+        for digits in text.as_bytes().chunks(2) {
+            let value = pair(digits)?;
+            found.push(value)?;
+        }
+    }
+    Ok(())
+}
+
 /// Returns the bytes of a text of hexadecimal digits.
 pub fn bytes<A: Allocator>(alloc: A, text: &str) -> Result<Vec<u8, A>, TextError> {
     let mut found = Vec::new(alloc);
-    if is_none(text) {
-        return Ok(found);
-    }
-    for digits in text.as_bytes().chunks(2) {
-        let value = pair(digits)?;
-        found.push(value)?;
-    }
+    add_bytes(&mut found, text)?;
     Ok(found)
 }
 
@@ -112,16 +117,21 @@ pub fn pattern_id(text: &str) -> Result<PatternID, TextError> {
     }
 }
 
+/// Adds the ids of NFA states of a list.
+fn add_state_ids<A: Allocator>(ids: &mut Vec<StateID, A>, text: &str) -> Result<(), TextError> {
+    if !is_none(text) {
+        for word in text.split(',') {
+            let id = state_id(word)?;
+            ids.push(id)?;
+        }
+    }
+    Ok(())
+}
+
 /// Returns a list of ids of NFA states.
 pub fn state_ids<A: Allocator>(alloc: A, text: &str) -> Result<Vec<StateID, A>, TextError> {
     let mut ids = Vec::new(alloc);
-    if is_none(text) {
-        return Ok(ids);
-    }
-    for word in text.split(',') {
-        let id = state_id(word)?;
-        ids.push(id)?;
-    }
+    add_state_ids(&mut ids, text)?;
     Ok(ids)
 }
 

@@ -5,9 +5,9 @@ ghost use Rattle.std.specs.Prelude.{◌<◌, length, IfOk};
 use crate::error::{Part, TextError};
 use crate::fields::Fields;
 use determinize_below::{NFA, StateID};
-use determinize_core::determinize;
+use determinize_core::determinize::walk_between;
 use determinize_core::state::State;
-use std::alloc::Allocator;
+use std::alloc::{Allocator, Global};
 
 /// Returns the id, or an error if it is not that of a state of the NFA.
 pub fn resolved<A: Allocator>(nfa: &NFA<A>, id: StateID) -> Result<StateID, TextError>
@@ -20,6 +20,38 @@ pub fn resolved<A: Allocator>(nfa: &NFA<A>, id: StateID) -> Result<StateID, Text
     }
 }
 
+/// Where a walk starts, its text, and the bytes around it.
+#[derive(Drop)]
+pub struct Place<A: Allocator = Global> {
+    /// The id of the state to start from.
+    pub start: StateID,
+    /// The byte behind the text.
+    pub behind: Option<u8>,
+    /// The text.
+    pub text: Vec<u8, A>,
+    /// The byte after the text.
+    pub ahead: Option<u8>,
+}
+
+/// Returns the place of a walk over an NFA.
+pub fn place_of<A: Allocator, B: Allocator>(
+    alloc: A,
+    fields: &Fields<'_>,
+    nfa: &NFA<B>,
+) -> Result<Place<A>, TextError>
+    ensures { IfOk result (λ place. place.start < length nfa.now.states) }
+{
+    let start = resolved(nfa, fields.start()?)?;
+    let (behind, ahead) = (fields.look_behind()?, fields.look_ahead()?);
+    let text = fields.text(alloc)?;
+    Ok(Place {
+        start,
+        behind,
+        text,
+        ahead,
+    })
+}
+
 /// Returns the states of a walk.
 pub fn walk<A: Allocator + Copy>(
     alloc: A,
@@ -29,23 +61,22 @@ pub fn walk<A: Allocator + Copy>(
 }
 
 /// Returns the states of a walk over an NFA.
-fn walk_over<A: Allocator + Copy>(
+pub fn walk_over<A: Allocator + Copy>(
     alloc: A,
     fields: &Fields<'_>,
     nfa: &NFA<A>,
 ) -> Result<Vec<State<A>, A>, TextError> {
-    let start = resolved(nfa, fields.start()?)?;
-    let behind = fields.look_behind()?;
-    let text = fields.text(alloc)?;
-    let (ahead, kind) = (fields.look_ahead()?, fields.match_kind()?);
-    let states = determinize::walk_between(
+    let kind = fields.match_kind()?;
+    let place = place_of(alloc, fields, nfa)?;
+    let text = place.text.as_slice();
+    let states = walk_between(
         alloc,
         nfa,
         kind,
-        start,
-        behind,
-        text.as_slice(),
-        ahead,
+        place.start,
+        place.behind,
+        text,
+        place.ahead,
     )?;
     Ok(states)
 }
