@@ -1,116 +1,118 @@
 //! Caches that the walks of one NFA and match kind share.
 //!
-//! A `Lazy` borrows its NFA. So the whole input is read first, and the NFAs of all walks are made
-//! before the first cache.
+//! A `Lazy` borrows its NFA. So the NFAs of all walks are made before the first cache.
 
 use crate::job::Job;
-use crate::mode::Operation;
-use crate::verb::Verb;
 use determinize_below::{MatchKind, NFA};
 use determinize_lazy::Lazy;
 use example_walks::error::TextError;
 use example_walks::fields::Fields;
 use std::alloc::{AllocError, Global};
 
-/// The NFA of walks and their match kind, with the text that identifies both.
+/// The NFA of walks and their match kind, with the fields of the first of these walks.
 #[derive(Drop)]
-struct Automaton {
-    name: String,
+pub struct Automaton<'t> {
+    fields: Fields<'t>,
     nfa: NFA,
     kind: MatchKind,
 }
 
-/// The NFAs of walks, once per match kind.
-#[derive(Drop)]
-pub struct Automata {
-    alloc: Global,
-    automata: Vec<Automaton>,
+/// Returns whether two jobs have the same text at a key.
+fn agree_at(fields: &Fields<'_>, other: &Fields<'_>, key: &str) -> bool {
+    fields.value_or_none(key) == other.value_or_none(key)
 }
 
-impl Automata {
-    /// Returns an empty list of NFAs.
-    pub fn new(alloc: Global) -> Automata {
-        Automata {
-            alloc,
-            automata: Vec::new(alloc),
-        }
-    }
-
-    /// Adds the NFA of a job, unless the job is no walk or the NFA is present. Returns an error for
-    /// a walk whose NFA or match kind is malformed.
-    pub fn take(&mut self, job: &Job<'_>) -> Result<(), TextError> {
-        if job.verb() != Verb::Walk {
-            return Ok(());
-        }
-        let name = name(self.alloc, job.fields())?;
-        if place(self.automata.as_slice(), name.as_str()).is_some() {
-            return Ok(());
-        }
-        let nfa = job.fields().nfa(self.alloc)?;
-        let kind = job.fields().match_kind()?;
-        self.automata.push(Automaton { name, nfa, kind })?;
-        Ok(())
-    }
-
-    /// Returns an empty cache of at most `limit` states for each NFA and match kind, for walks or
-    /// for searches.
-    pub fn caches(&self, operation: Operation, limit: usize) -> Result<Caches<'_>, AllocError> {
-        let mut caches = Vec::new(self.alloc);
-        for automaton in self.automata.iter() {
-            caches.push(Lazy::new(self.alloc, &automaton.nfa, automaton.kind, limit))?;
-        }
-        Ok(Caches {
-            alloc: self.alloc,
-            operation,
-            automata: self.automata.as_slice(),
-            caches,
-        })
-    }
+/// Returns whether the texts that give an NFA and a match kind are equal.
+fn are_alike(fields: &Fields<'_>, other: &Fields<'_>) -> bool {
+    let is_kind_same = agree_at(fields, other, "kind");
+    let is_direction_same = agree_at(fields, other, "dir");
+    let is_terminator_same = agree_at(fields, other, "term");
+    let are_states_same = fields.states.unwrap_or("") == other.states.unwrap_or("");
+    is_kind_same && is_direction_same && is_terminator_same && are_states_same
 }
 
-/// The caches, in the order of the NFAs.
-#[derive(Drop)]
-pub struct Caches<'n> {
-    alloc: Global,
-    operation: Operation,
-    automata: &'n [Automaton],
-    caches: Vec<Lazy<'n>>,
-}
-
-impl<'n> Caches<'n> {
-    /// Returns what is done with a walk.
-    pub fn operation(&self) -> Operation {
-        self.operation
-    }
-
-    /// Returns the cache for a job, or `None` if the job is no walk or its NFA is not present.
-    pub fn of(&mut self, job: &Job<'_>) -> Result<Option<&mut Lazy<'n>>, AllocError> {
-        if self.caches.is_empty() || job.verb() != Verb::Walk {
-            return Ok(None);
-        }
-        let name = name(self.alloc, job.fields())?;
-        match place(self.automata, name.as_str()) {
-            Some(place) => Ok(self.caches.get_mut(place)),
-            None => Ok(None),
-        }
-    }
-}
-
-/// Returns the index of the NFA that this text identifies, if it is present.
-fn place(automata: &[Automaton], name: &str) -> Option<usize> {
-    for (index, automaton) in automata.iter().enumerate() {
-        if automaton.name.as_str() == name {
-            return Some(index);
+/// Returns the index of the NFA of a job, or `None` if the job is no walk or it is not present.
+fn place(automata: &[Automaton<'_>], job: &Job<'_>) -> Option<usize> {
+    if job.verb() == "walk" {
+        for (index, automaton) in automata.iter().enumerate() {
+            if are_alike(&automaton.fields, job.fields()) {
+                return Some(index);
+            }
         }
     }
     None
 }
 
-/// Returns the text that identifies the NFA and the match kind of a job.
-fn name(alloc: Global, fields: &Fields<'_>) -> Result<String, AllocError> {
-    let kind = fields.value_or_none("kind");
-    let direction = fields.value_or_none("dir");
-    let terminator = fields.value_or_none("term");
-    let states = fields.states.unwrap_or("");
-    format!(in alloc; "{kind} {direction} {terminator} {states}")
+/// Adds the NFA of a job, unless the job is no walk or the NFA is present. Returns an error for a
+/// walk whose NFA or match kind is malformed.
+fn add<'t>(
+    alloc: Global,
+    automata: &mut Vec<Automaton<'t>>,
+    job: &Job<'t>,
+) -> Result<(), TextError> {
+    if job.verb() != "walk" || place(automata.as_slice(), job).is_some() {
+        return Ok(());
+    }
+    let fields = *job.fields();
+    let kind = fields.match_kind()?;
+    let nfa = fields.nfa(alloc)?;
+    automata.push(Automaton { fields, nfa, kind })?;
+    Ok(())
+}
+
+/// Adds the NFAs of the walks of a text, once per match kind. A job that cannot be parsed is
+/// skipped here: the replay reports it later.
+pub fn add_all<'t>(
+    alloc: Global,
+    automata: &mut Vec<Automaton<'t>>,
+    text: &'t str,
+) -> Result<(), AllocError> {
+    for line in text.lines() {
+        if let Some(text) = line.strip_prefix("> ") {
+            if let Ok(job) = Job::read(text) {
+                if let Err(TextError::OutOfMemory) = add(alloc, automata, &job) {
+                    return Err(AllocError);
+                }
+            }
+        }
+    }
+    Ok(())
+}
+
+/// The caches, in the order of the NFAs.
+#[derive(Drop)]
+pub struct Caches<'n, 't> {
+    /// Whether a search replaces each walk through a cache.
+    pub is_search: bool,
+    automata: &'n [Automaton<'t>],
+    caches: Vec<Lazy<'n>>,
+}
+
+impl<'n, 't> Caches<'n, 't> {
+    /// Returns an empty cache of at most `limit` states for each NFA and match kind, for walks or
+    /// for searches.
+    pub fn new(
+        alloc: Global,
+        automata: &'n [Automaton<'t>],
+        is_search: bool,
+        limit: usize,
+    ) -> Result<Caches<'n, 't>, AllocError> {
+        let mut caches = Vec::new(alloc);
+        for automaton in automata {
+            caches.push(Lazy::new(alloc, &automaton.nfa, automaton.kind, limit))?;
+        }
+        Ok(Caches {
+            is_search,
+            automata,
+            caches,
+        })
+    }
+
+    /// Returns the cache for a job, or `None` if the job is no walk or its NFA is not present.
+    pub fn of(&mut self, job: &Job<'_>) -> Option<&mut Lazy<'n>> {
+        match place(self.automata, job) {
+            Some(place) => self.caches.get_mut(place),
+            None => None,
+        }
+    }
 }

@@ -2,15 +2,44 @@
 
 use crate::error::ReadError;
 use crate::values;
-use crate::verb::{Verb, keys, takes};
 use example_walks::error::TextError;
 use example_walks::fields::Fields;
 use example_walks::values::number;
 
+/// The keys that each verb takes, in a line that begins with its name. The names of the verbs over
+/// an NFA have a mark `|`. A job must have the keys with a mark `!`.
+const KEYS: &str = "\
+walk| id fix dir term kind start lb text after
+readers| id fix dir term kind start lb text after at!
+closure| id fix dir term from! look held
+lookbehind| id fix dir term kind!
+next| id fix dir term kind fw! half! have need pids ids unit! set1 set2
+addstates| id fix dir term fw! half! have need pids ids set
+start id fix dir term hay range!
+bytemap id fix term byte
+fromusize id fix n!
+dead id fix
+build id fix fw! half! have need pids ids
+size id fix states! matches!";
+
+/// Returns whether the verb of this name is over an NFA and the keys that it takes, or `None` if
+/// there is no such verb.
+fn keys(name: &str) -> Option<(bool, &'static str)> {
+    for line in KEYS.lines() {
+        if let Some((verb, keys)) = line.split_once(' ') {
+            let stem = verb.strip_suffix('|');
+            if stem.unwrap_or(verb) == name {
+                return Some((stem.is_some(), keys));
+            }
+        }
+    }
+    None
+}
+
 /// A parsed job.
 #[derive(Clone, Copy)]
 pub struct Job<'a> {
-    verb: Verb,
+    verb: &'a str,
     fields: Fields<'a>,
 }
 
@@ -22,72 +51,22 @@ impl<'a> Job<'a> {
     /// number, a `fix` that is not a flag, states if the verb takes none, or no states if it takes
     /// some.
     pub fn read(line: &'a str) -> Result<Job<'a>, ReadError<'a>> {
-        let (name, fields) = Fields::split(line);
-        let Some(verb) = Verb::named(name) else {
-            return Err(ReadError::UnknownVerb(name));
+        let (verb, fields) = Fields::split(line);
+        let Some((has_nfa, keys)) = keys(verb) else {
+            return Err(ReadError::Word("unknown verb", verb));
         };
-        let job = Job { verb, fields };
-        job.check(keys(name))?;
-        Ok(job)
-    }
-
-    /// Checks the words against the keys of the verb, then the values that have no effect on the
-    /// output, then the states.
-    fn check(&self, keys: &'static str) -> Result<(), ReadError<'a>> {
-        self.check_words(keys)?;
-        self.check_needed(keys)?;
-        self.check_marks()?;
-        match (self.verb.has_nfa(), self.fields.states.is_some()) {
-            (true, false) => Err(ReadError::NoStates),
-            (false, true) => Err(ReadError::UnwantedStates),
-            _ => Ok(()),
+        check_words(fields.words, keys)?;
+        check_needed(&fields, keys)?;
+        check_marks(&fields)?;
+        match (has_nfa, fields.states) {
+            (true, None) => Err(ReadError::States("the states of the NFA are missing")),
+            (false, Some(_)) => Err(ReadError::States("the verb takes no states")),
+            _ => Ok(Job { verb, fields }),
         }
     }
 
-    /// Checks that each word is `key=value` with one of these keys, each key once.
-    fn check_words(&self, keys: &str) -> Result<(), ReadError<'a>> {
-        let Some(words) = self.fields.words else {
-            return Ok(());
-        };
-        for word in words.split(' ') {
-            let Some((key, _)) = word.split_once('=') else {
-                return Err(ReadError::NoValue(word));
-            };
-            if !takes(keys, key) {
-                return Err(ReadError::UnknownKey(key));
-            }
-            if count(words, key) > 1 {
-                return Err(ReadError::RepeatedKey(key));
-            }
-        }
-        Ok(())
-    }
-
-    /// Checks that the job has each of these keys that has a mark `!`.
-    fn check_needed(&self, keys: &'static str) -> Result<(), ReadError<'a>> {
-        for key in keys.split(' ') {
-            if let Some(needed) = key.strip_suffix('!') {
-                if self.fields.value(needed).is_none() {
-                    return Err(ReadError::MissingKey(needed));
-                }
-            }
-        }
-        Ok(())
-    }
-
-    /// Checks the values that say where the job comes from.
-    fn check_marks(&self) -> Result<(), TextError> {
-        if let Some(text) = self.fields.value("id") {
-            number(text)?;
-        }
-        if let Some(text) = self.fields.value("fix") {
-            values::flag(text)?;
-        }
-        Ok(())
-    }
-
-    /// Returns the verb.
-    pub fn verb(&self) -> Verb {
+    /// Returns the name of the verb, which is one of those in the description of jobs.
+    pub fn verb(&self) -> &'a str {
         self.verb
     }
 
@@ -95,6 +74,35 @@ impl<'a> Job<'a> {
     pub fn fields(&self) -> &Fields<'a> {
         &self.fields
     }
+}
+
+/// Checks that each word is `key=value` with one of these keys, each key once.
+fn check_words<'a>(words: Option<&'a str>, keys: &str) -> Result<(), ReadError<'a>> {
+    let Some(words) = words else {
+        return Ok(());
+    };
+    for word in words.split(' ') {
+        let Some((key, _)) = word.split_once('=') else {
+            return Err(ReadError::Word("no key and value:", word));
+        };
+        if !takes(keys, key) {
+            return Err(ReadError::Word("unknown key", key));
+        }
+        if count(words, key) > 1 {
+            return Err(ReadError::Key(key, "stands twice"));
+        }
+    }
+    Ok(())
+}
+
+/// Returns whether a key is among those of a verb.
+fn takes(keys: &str, key: &str) -> bool {
+    for taken in keys.split(' ') {
+        if taken.strip_suffix('!').unwrap_or(taken) == key {
+            return true;
+        }
+    }
+    false
 }
 
 /// Returns the number of words with this key.
@@ -108,4 +116,27 @@ fn count(words: &str, key: &str) -> usize {
         }
     }
     count
+}
+
+/// Checks that a job has each of these keys that has a mark `!`.
+fn check_needed<'a>(fields: &Fields<'a>, keys: &'static str) -> Result<(), ReadError<'a>> {
+    for key in keys.split(' ') {
+        if let Some(needed) = key.strip_suffix('!') {
+            if fields.value(needed).is_none() {
+                return Err(ReadError::Key(needed, "is missing"));
+            }
+        }
+    }
+    Ok(())
+}
+
+/// Checks the values that say where a job comes from.
+fn check_marks(fields: &Fields<'_>) -> Result<(), TextError> {
+    if let Some(text) = fields.value("id") {
+        number(text)?;
+    }
+    if let Some(text) = fields.value("fix") {
+        values::flag(text)?;
+    }
+    Ok(())
 }

@@ -10,11 +10,9 @@
 pub mod caches;
 pub mod error;
 pub mod job;
-pub mod mode;
 pub mod outputs;
 pub mod records;
 pub mod replay;
 pub mod run;
 pub mod values;
-pub mod verb;
 pub mod verbs;

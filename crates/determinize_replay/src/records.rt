@@ -7,7 +7,7 @@ use determinize_below::{LookSet, PatternID, SparseSet, StateID};
 use determinize_core::state::{State, StateBuilderEmpty, StateBuilderMatches, StateBuilderNFA};
 use example_walks::error::{Part, TextError};
 use example_walks::fields::Fields;
-use example_walks::values::state_ids;
+use example_walks::values::{is_none, state_id};
 use std::alloc::{AllocError, Allocator, Global};
 
 /// The flags and assertions of a record.
@@ -48,17 +48,23 @@ impl Marks {
 /// Returns a builder with the whole record of the job.
 pub fn builder(alloc: Global, fields: &Fields<'_>) -> Result<StateBuilderNFA, TextError> {
     let marks = Marks::of(fields)?;
-    let patterns = values::pattern_ids(alloc, fields.value_or_none("pids"))?;
-    let mut builder = marks.set(with_patterns(alloc, patterns.as_slice())?);
-    let ids = state_ids(alloc, fields.value_or_none("ids"))?;
-    add_states(&mut builder, ids.as_slice())?;
+    let mut builder = marks.set(matches(alloc, fields)?);
+    add_states(&mut builder, fields.value_or_none("ids"))?;
     Ok(builder)
 }
 
-/// Adds these NFA states to a builder.
-fn add_states(builder: &mut StateBuilderNFA, ids: &[StateID]) -> Result<(), AllocError> {
-    for id in ids {
-        builder.add_nfa_state_id(*id)?;
+/// Returns a builder with the patterns of the job.
+fn matches(alloc: Global, fields: &Fields<'_>) -> Result<StateBuilderMatches, TextError> {
+    let patterns = values::pattern_ids(alloc, fields.value_or_none("pids"))?;
+    with_patterns(alloc, patterns.as_slice())
+}
+
+/// Adds the NFA states of a list to a builder.
+fn add_states(builder: &mut StateBuilderNFA, text: &str) -> Result<(), TextError> {
+    if !is_none(text) {
+        for word in text.split(',') {
+            builder.add_nfa_state_id(state_id(word)?)?;
+        }
     }
     Ok(())
 }

@@ -7,13 +7,10 @@
 ghost use Rattle.std.specs.Prelude.{◌≡◌, ◌≤◌, ◌↔◌, IsTrue};
 
 use crate::caches::Caches;
-use crate::error::{LineError, ReadError, ReplayError};
+use crate::error::{ReadError, ReplayError};
 use crate::job::Job;
-use crate::mode::Operation;
 use crate::verbs;
-use determinize_lazy::Lazy;
 use example_walks::error::TextError;
-use example_walks::fields::Fields;
 use std::alloc::{AllocError, Global};
 use std::io::Write;
 use std::{fmt, io};
@@ -52,113 +49,99 @@ impl fmt::Display for Tally {
     }
 }
 
-/// A job whose expected output is still being read.
-#[derive(Drop)]
-struct Pending {
-    line: u64,
-    text: String,
-}
-
 /// The output of a job: all lines, or only the last one.
-#[derive(Drop)]
-struct Output {
-    text: String,
-    is_whole: bool,
+#[derive(Clone, Copy)]
+enum Extent {
+    All,
+    Last,
 }
 
-impl Output {
-    /// Returns the output of the job of this text.
-    fn of_text<'t>(
-        alloc: Global,
-        caches: &mut Caches<'_>,
-        text: &'t str,
-    ) -> Result<Output, ReadError<'t>> {
-        let job = Job::read(text)?;
-        let output = Output::of(alloc, caches, &job)?;
-        Ok(output)
-    }
-
-    /// Returns the output of a job.
-    fn of(alloc: Global, caches: &mut Caches<'_>, job: &Job<'_>) -> Result<Output, TextError> {
-        let operation = caches.operation();
-        match caches.of(job)? {
-            Some(cache) => Output::through(alloc, job.fields(), operation, cache),
-            None => Output::whole(verbs::output(alloc, job)),
-        }
-    }
-
-    /// Returns the output of a walk through a cache, or the last line of it from a search.
-    fn through(
-        alloc: Global,
-        fields: &Fields<'_>,
-        operation: Operation,
-        cache: &mut Lazy<'_>,
-    ) -> Result<Output, TextError> {
-        match operation {
-            Operation::Walk => Output::whole(verbs::cached_output(alloc, fields, cache)),
-            Operation::Search => Ok(Output {
-                text: verbs::search_output(alloc, fields, cache)?,
-                is_whole: false,
-            }),
-        }
-    }
-
-    /// Returns an output of all lines.
-    fn whole(text: Result<String, TextError>) -> Result<Output, TextError> {
-        Ok(Output {
-            text: text?,
-            is_whole: true,
-        })
-    }
-
-    /// Returns whether the output is the expected one, or its last line.
-    fn agrees(&self, expected: &str) -> bool {
-        let output = self.text.as_str();
-        if self.is_whole {
-            output == expected
-        } else {
-            output.lines().last() == expected.lines().last()
+impl Extent {
+    /// Returns whether an output is the expected one, or its last line.
+    fn agrees(self, output: &str, expected: &str) -> bool {
+        match self {
+            Extent::All => output == expected,
+            Extent::Last => output.lines().last() == expected.lines().last(),
         }
     }
 }
 
-/// A replay in progress: the current job and the lines of its expected output so far.
+/// Writes the output of a job. A walk whose NFA has a cache goes through it, or is replaced by a
+/// search, which gives only the last line.
+fn write_output(
+    alloc: Global,
+    caches: &mut Caches<'_, '_>,
+    job: &Job<'_>,
+    output: &mut String,
+) -> Result<Extent, TextError> {
+    let is_search = caches.is_search;
+    match caches.of(job) {
+        None => verbs::write_output(alloc, job, output)?,
+        Some(cache) => {
+            verbs::write_through(alloc, job.fields(), is_search, cache, output)?;
+            if is_search {
+                return Ok(Extent::Last);
+            }
+        }
+    }
+    Ok(Extent::All)
+}
+
+/// Writes the output of the job of this text.
+fn write_output_of<'t>(
+    alloc: Global,
+    caches: &mut Caches<'_, '_>,
+    text: &'t str,
+    output: &mut String,
+) -> Result<Extent, ReadError<'t>> {
+    let job = Job::read(text)?;
+    let extent = write_output(alloc, caches, &job, output)?;
+    Ok(extent)
+}
+
+/// A replay in progress: the current job with the number of its line, the lines of its expected
+/// output so far, and a place for its output.
 #[derive(Drop)]
-pub struct Replay {
+pub struct Replay<'t> {
     alloc: Global,
     line: u64,
-    job: Option<Pending>,
+    job: Option<(u64, &'t str)>,
     expected: String,
+    output: String,
     tally: Tally,
 }
 
-impl Replay {
+impl<'t> Replay<'t> {
     /// Returns a replay that has read no line.
-    pub fn new(alloc: Global) -> Replay {
+    pub fn new(alloc: Global) -> Replay<'t> {
         Replay {
             alloc,
             line: 1,
             job: None,
             expected: String::new(alloc),
+            output: String::new(alloc),
             tally: Tally { jobs: 0, differ: 0 },
         }
     }
 
-    /// Returns the number of the next line, starting from 1.
-    pub fn line(&self) -> u64 {
-        self.line
+    /// Returns the error for the next line, which cannot be read for this reason, or is not UTF-8.
+    pub fn unreadable(&self, end: &io::Result<usize>) -> ReplayError {
+        match end {
+            Ok(_) => ReplayError::of_line(self.alloc, self.line, "can't be read"),
+            Err(error) => ReplayError::of_reading(self.alloc, self.line, error),
+        }
     }
 
     /// Takes one more line: a job, a line of expected output, or a comment.
     ///
     /// A job ends the expected output of the previous job, which is run and judged then: if its
-    /// output differs, the job and both outputs are written to `out`. A walk whose NFA has a cache
-    /// goes through it. Returns an error for a line of output before the first job, or if the
-    /// previous job cannot be run. After an error the results of further calls are unspecified.
+    /// output differs, the job and both outputs are written to `out`. Returns an error for a line
+    /// of output before the first job, or if the previous job cannot be run. After an error the
+    /// results of further calls are unspecified.
     pub fn take_line<W: Write>(
         &mut self,
-        caches: &mut Caches<'_>,
-        text: &str,
+        caches: &mut Caches<'_, '_>,
+        text: &'t str,
         out: &mut W,
     ) -> Result<(), ReplayError> {
         let line = self.line;
@@ -168,12 +151,11 @@ impl Replay {
         }
         if let Some(job) = text.strip_prefix("> ") {
             self.judge(caches, out)?;
-            let text = String::from_str(self.alloc, job)?;
-            self.job = Some(Pending { line, text });
+            self.job = Some((line, job));
             return Ok(());
         }
         if self.job.is_none() {
-            return Err(ReplayError::Line(line, LineError::NoJob));
+            return Err(ReplayError::of_line(self.alloc, line, "an answer without a job"));
         }
         self.add_expected(text)?;
         Ok(())
@@ -188,53 +170,40 @@ impl Replay {
     /// Judges the last job and returns the counts.
     pub fn finish<W: Write>(
         &mut self,
-        caches: &mut Caches<'_>,
+        caches: &mut Caches<'_, '_>,
         out: &mut W,
     ) -> Result<Tally, ReplayError> {
         self.judge(caches, out)?;
         Ok(self.tally)
     }
 
-    /// Judges the current job, if there is one, and clears it.
-    fn judge<W: Write>(&mut self, caches: &mut Caches<'_>, out: &mut W) -> Result<(), ReplayError> {
-        if let Some(job) = self.job.take() {
+    /// Runs the current job, if there is one, compares its output with the expected one, and clears
+    /// it.
+    fn judge<W: Write>(
+        &mut self,
+        caches: &mut Caches<'_, '_>,
+        out: &mut W,
+    ) -> Result<(), ReplayError> {
+        if let Some((line, job)) = self.job.take() {
             self.tally.jobs = self.tally.jobs.saturating_add(1);
-            self.judge_job(caches, &job, out)?;
+            match write_output_of(self.alloc, caches, job, &mut self.output) {
+                Ok(extent) => self.compare(job, extent, out)?,
+                Err(error) => return Err(ReplayError::of_job(self.alloc, line, error)),
+            }
         }
         self.expected.clear();
+        self.output.clear();
         Ok(())
     }
 
-    /// Runs a job and compares its output with the expected one.
-    fn judge_job<W: Write>(
-        &mut self,
-        caches: &mut Caches<'_>,
-        job: &Pending,
-        out: &mut W,
-    ) -> Result<(), ReplayError> {
-        match Output::of_text(self.alloc, caches, job.text.as_str()) {
-            Ok(output) => self.judge_output(job.text.as_str(), &output, out),
-            Err(error) => Err(ReplayError::of_job(self.alloc, job.line, error)),
+    /// Compares the output of a job with the expected one. If it differs, counts and prints the
+    /// job.
+    fn compare<W: Write>(&mut self, job: &str, extent: Extent, out: &mut W) -> io::Result<()> {
+        let (output, expected) = (self.output.as_str(), self.expected.as_str());
+        if extent.agrees(output, expected) {
+            return Ok(());
         }
-    }
-
-    /// Compares the output of a job with the expected one.
-    fn judge_output<W: Write>(
-        &mut self,
-        job: &str,
-        output: &Output,
-        out: &mut W,
-    ) -> Result<(), ReplayError> {
-        if !output.agrees(self.expected.as_str()) {
-            self.report(job, output.text.as_str(), out)?;
-        }
-        Ok(())
-    }
-
-    /// Counts and prints a job that differs.
-    fn report<W: Write>(&mut self, job: &str, output: &str, out: &mut W) -> io::Result<()> {
         self.tally.differ = self.tally.differ.saturating_add(1);
-        let expected = self.expected.as_str();
         write!(out, "> {job}\nexpected:\n{expected}got:\n{output}")
     }
 }

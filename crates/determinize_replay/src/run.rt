@@ -2,22 +2,20 @@
 
 ghost use Rattle.std.specs.Prelude.{◌≡◌, ◌≤◌, ◌↔◌, IfOk, OnErr};
 
-use crate::caches::{Automata, Caches};
+use crate::caches::{Caches, add_all};
 use crate::error::ReplayError;
-use crate::job::Job;
-use crate::mode::{Mode, Operation};
 use crate::replay::{Replay, Tally};
-use example_walks::error::TextError;
+use example_walks::values::number;
 use std::alloc::Global;
-use std::io::{self, BufRead, BufReader, Read, Write};
+use std::io::{self, Read, Write};
 
 /// Replays the jobs of `input` and returns the exit status.
 ///
-/// Without arguments in `words`, each walk is a separate call. With `cache` and a limit, walks go
-/// through caches of at most that many states. There is one cache per NFA and match kind, which its
-/// walks share in the order of the input; so the whole input is read first. With `search` and a
-/// limit, each walk is replaced by a search through such a cache, and only the last line of the
-/// expected output is compared: the last match.
+/// The whole input is read first. Without arguments in `words`, each walk is a separate call. With
+/// `cache` and a limit, walks go through caches of at most that many states. There is one cache per
+/// NFA and match kind, which its walks share in the order of the input. With `search` and a limit,
+/// each walk is replaced by a search through such a cache, and only the last line of the expected
+/// output is compared: the last match.
 ///
 /// Writes each job whose output differs to `out`, with both outputs, and then the counts in a line.
 /// Returns 0 if every job agrees and 1 if some differ. If there is no verdict, returns 2 and writes
@@ -27,13 +25,21 @@ use std::io::{self, BufRead, BufReader, Read, Write};
 pub fn run<R: Read + Drop, W: Write, E: Write>(
     alloc: Global,
     words: &[String],
-    input: R,
+    mut input: R,
     out: &mut W,
     err: &mut E,
 ) -> u8
     ensures { result ≤ 2 }
 {
-    report(replay(alloc, words, input, out), err)
+    let outcome = match limit(words) {
+        None => Err(ReplayError::Arguments),
+        Some((is_search, limit)) => {
+            let mut bytes = Vec::new(alloc);
+            let end = input.read_to_end(&mut bytes);
+            replay_bytes(alloc, is_search, limit, bytes.as_slice(), &end, out)
+        }
+    };
+    report(outcome, err)
 }
 
 /// Returns the exit status of a replay. If there is no verdict, writes the reason to `err`.
@@ -51,131 +57,90 @@ pub fn report<E: Write>(outcome: Result<Tally, ReplayError>, err: &mut E) -> u8
     }
 }
 
-/// Replays each line of the input and writes the counts.
-fn replay<R: Read + Drop, W: Write>(
-    alloc: Global,
-    words: &[String],
-    input: R,
-    out: &mut W,
-) -> Result<Tally, ReplayError> {
-    let mode = Mode::read(words)?;
-    let Ok(input) = BufReader::new(alloc, input) else {
-        return Err(ReplayError::OutOfMemory);
+/// Reads the arguments: none, or `cache` or `search` and a limit. Returns whether walks are
+/// replaced by searches, and the limit of the caches, if there are any; or `None` for any other
+/// arguments.
+fn limit(words: &[String]) -> Option<(bool, Option<usize>)> {
+    let [word, limit] = words else {
+        return if words.is_empty() {
+            Some((false, None))
+        } else {
+            None
+        };
     };
-    match mode {
-        Mode::Single => replay_single(alloc, input, out),
-        Mode::Cached(operation, limit) => replay_cached(alloc, operation, limit, input, out),
+    let is_search = word.as_str() == "search";
+    if !is_search && word.as_str() != "cache" {
+        return None;
+    }
+    match number(limit.as_str()) {
+        Ok(limit) => Some((is_search, Some(limit))),
+        Err(_) => None,
     }
 }
 
-/// Replays each line as it is read.
-fn replay_single<I: BufRead + Drop, W: Write>(
-    alloc: Global,
-    input: I,
-    out: &mut W,
-) -> Result<Tally, ReplayError> {
-    let automata = Automata::new(alloc);
-    let mut caches = automata.caches(Operation::Walk, 0)?;
-    replay_input(alloc, &mut caches, input, out)
+/// Returns the longest text that these bytes begin with.
+fn text_of(bytes: &[u8]) -> &str {
+    match bytes.utf8_chunks().next() {
+        Some(chunk) => chunk.valid(),
+        None => "",
+    }
 }
 
-/// Replays each line of the input through caches, as it is read.
-fn replay_input<I: BufRead + Drop, W: Write>(
+/// Replays the lines of the input, of which these bytes were read before its end or an error.
+fn replay_bytes<W: Write>(
     alloc: Global,
-    caches: &mut Caches<'_>,
-    input: I,
+    is_search: bool,
+    limit: Option<usize>,
+    bytes: &[u8],
+    end: &io::Result<usize>,
     out: &mut W,
 ) -> Result<Tally, ReplayError> {
+    let text = text_of(bytes);
+    let mut automata = Vec::new(alloc);
+    if limit.is_some() {
+        add_all(alloc, &mut automata, text)?;
+    }
+    let mut caches = Caches::new(alloc, automata.as_slice(), is_search, limit.unwrap_or(0))?;
     let mut replay = Replay::new(alloc);
-    for line in input.lines(alloc) {
-        take_read_line(&mut replay, caches, line, out)?;
-    }
-    finish(&mut replay, caches, out)
-}
-
-/// Takes one more line, or returns the error if it could not be read.
-fn take_read_line<W: Write>(
-    replay: &mut Replay,
-    caches: &mut Caches<'_>,
-    line: io::Result<String>,
-    out: &mut W,
-) -> Result<(), ReplayError> {
-    match line {
-        Ok(line) => replay.take_line(caches, line.as_str(), out),
-        Err(error) => Err(ReplayError::of_reading(replay.line(), &error)),
+    if end.is_ok() && text.len() == bytes.len() {
+        replay_all(&mut replay, &mut caches, text, out)
+    } else {
+        Err(replay_part(&mut replay, &mut caches, text, end, out))
     }
 }
 
-/// Reads all lines, and then replays them through caches of this limit.
-fn replay_cached<I: BufRead + Drop, W: Write>(
-    alloc: Global,
-    operation: Operation,
-    limit: usize,
-    input: I,
+/// Replays the lines of the whole input, and writes the counts.
+fn replay_all<'t, W: Write>(
+    replay: &mut Replay<'t>,
+    caches: &mut Caches<'_, '_>,
+    text: &'t str,
     out: &mut W,
 ) -> Result<Tally, ReplayError> {
-    let lines = lines(alloc, input)?;
-    let automata = automata(alloc, lines.as_slice())?;
-    let mut caches = automata.caches(operation, limit)?;
-    replay_lines(alloc, &mut caches, lines.as_slice(), out)
-}
-
-/// Returns all lines of the input.
-fn lines<I: BufRead + Drop>(alloc: Global, input: I) -> Result<Vec<String>, ReplayError> {
-    let mut lines = Vec::new(alloc);
-    let mut number = 1u64;
-    for line in input.lines(alloc) {
-        match line {
-            Ok(line) => lines.push(line)?,
-            Err(error) => return Err(ReplayError::of_reading(number, &error)),
-        }
-        number = number.saturating_add(1);
+    for line in text.lines() {
+        replay.take_line(caches, line, out)?;
     }
-    Ok(lines)
-}
-
-/// Replays all lines through caches.
-fn replay_lines<W: Write>(
-    alloc: Global,
-    caches: &mut Caches<'_>,
-    lines: &[String],
-    out: &mut W,
-) -> Result<Tally, ReplayError> {
-    let mut replay = Replay::new(alloc);
-    for line in lines {
-        replay.take_line(caches, line.as_str(), out)?;
-    }
-    finish(&mut replay, caches, out)
-}
-
-/// Returns the NFAs of all walks. A job that cannot be parsed is skipped here: the replay reports
-/// it later.
-fn automata(alloc: Global, lines: &[String]) -> Result<Automata, ReplayError> {
-    let mut automata = Automata::new(alloc);
-    for line in lines {
-        let Some(text) = line.as_str().strip_prefix("> ") else {
-            continue;
-        };
-        let Ok(job) = Job::read(text) else {
-            continue;
-        };
-        if let Err(TextError::OutOfMemory) = automata.take(&job) {
-            return Err(ReplayError::OutOfMemory);
-        }
-    }
-    Ok(automata)
-}
-
-/// Judges the last job and writes the counts.
-fn finish<W: Write>(
-    replay: &mut Replay,
-    caches: &mut Caches<'_>,
-    out: &mut W,
-) -> Result<Tally, ReplayError> {
     let tally = replay.finish(caches, out)?;
     writeln!(out, "{tally}")?;
     if tally.is_empty() {
         return Err(ReplayError::Nothing);
     }
     Ok(tally)
+}
+
+/// Replays the lines before one that cannot be read, of which the text may have the first part, and
+/// returns the error.
+fn replay_part<'t, W: Write>(
+    replay: &mut Replay<'t>,
+    caches: &mut Caches<'_, '_>,
+    text: &'t str,
+    end: &io::Result<usize>,
+    out: &mut W,
+) -> ReplayError {
+    let number = text.split('\n').count();
+    for line in text.lines().take(number.saturating_sub(1)) {
+        if let Err(error) = replay.take_line(caches, line, out) {
+            return error;
+        }
+    }
+    replay.unreadable(end)
 }

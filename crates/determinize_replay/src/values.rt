@@ -15,16 +15,21 @@ pub fn flag(text: &str) -> Result<bool, TextError> {
     }
 }
 
+/// Adds the ids of patterns of a list.
+fn add_pattern_ids(ids: &mut Vec<PatternID>, text: &str) -> Result<(), TextError> {
+    if !is_none(text) {
+        for word in text.split(',') {
+            let id = pattern_id(word)?;
+            ids.push(id)?;
+        }
+    }
+    Ok(())
+}
+
 /// Returns a list of ids of patterns.
 pub fn pattern_ids(alloc: Global, text: &str) -> Result<Vec<PatternID>, TextError> {
     let mut ids = Vec::new(alloc);
-    if is_none(text) {
-        return Ok(ids);
-    }
-    for word in text.split(',') {
-        let id = pattern_id(word)?;
-        ids.push(id)?;
-    }
+    add_pattern_ids(&mut ids, text)?;
     Ok(ids)
 }
 

@@ -12,79 +12,68 @@ use determinize_lazy::Lazy;
 use example_walks::error::{Part, TextError};
 use example_walks::fields::Fields;
 use example_walks::values::{LastMatch, byte, number, state_id, state_ids};
-use example_walks::walk;
+use example_walks::walk::{self, Place};
 use std::alloc::{AllocError, Global};
 
-/// Runs `walk`: writes the bytes of each state, and the last match.
-pub fn walk(alloc: Global, fields: &Fields<'_>, text: &mut String) -> Result<(), TextError> {
-    write_states(text, walk::walk(alloc, fields)?.as_slice())
+/// Writes the output of the job of a verb over an NFA.
+pub fn write_output(
+    alloc: Global,
+    verb: &str,
+    fields: &Fields<'_>,
+    nfa: &NFA,
+    text: &mut String,
+) -> Result<(), TextError> {
+    match verb {
+        "closure" => closure(alloc, fields, nfa, text),
+        "lookbehind" => lookbehind(alloc, fields, nfa, text),
+        "next" => next_state(alloc, fields, nfa, text),
+        "addstates" => addstates(alloc, fields, nfa, text),
+        _ => {
+            let states = walk::walk_over(alloc, fields, nfa)?;
+            match verb {
+                "readers" => write_readers(alloc, text, fields, states.as_slice()),
+                _ => write_states(text, states.as_slice()),
+            }
+        }
+    }
 }
 
-/// Where a walk starts, its text, and the bytes around it.
-#[derive(Drop)]
-struct Place {
-    start: StateID,
-    behind: Option<u8>,
-    text: Vec<u8>,
-    ahead: Option<u8>,
+/// Writes the output of a walk through a cache, or only its last line, from a search through it.
+pub fn write_through(
+    alloc: Global,
+    fields: &Fields<'_>,
+    is_search: bool,
+    cache: &mut Lazy<'_>,
+    text: &mut String,
+) -> Result<(), TextError> {
+    let place = walk::place_of(alloc, fields, cache.nfa())?;
+    if is_search {
+        search(&place, cache, text)
+    } else {
+        walk_through(&place, cache, text)
+    }
 }
 
-/// Returns the place of a walk over an NFA.
-fn place_of(alloc: Global, fields: &Fields<'_>, nfa: &NFA) -> Result<Place, TextError>
-    ensures { IfOk result (λ place. place.start < length nfa.now.states) }
+/// Writes the output of a walk through a cache.
+fn walk_through(place: &Place, cache: &mut Lazy<'_>, text: &mut String) -> Result<(), TextError>
+    requires { place.now.start < length cache.old.nfa.states }
 {
-    let start = walk::resolved(nfa, fields.start()?)?;
-    let (behind, ahead) = (fields.look_behind()?, fields.look_ahead()?);
-    Ok(Place {
-        start,
-        behind,
-        text: fields.text(alloc)?,
-        ahead,
-    })
+    let bytes = place.text.as_slice();
+    let states = cache.walk_between(place.start, place.behind, bytes, place.ahead)?;
+    write_states(text, states.as_slice())
 }
 
-/// Returns the states of a walk through a cache.
-fn cached_states(
-    alloc: Global,
-    fields: &Fields<'_>,
-    cache: &mut Lazy<'_>,
-) -> Result<Vec<State>, TextError> {
-    let at = place_of(alloc, fields, cache.nfa())?;
-    Ok(cache.walk_between(at.start, at.behind, at.text.as_slice(), at.ahead)?)
-}
-
-/// Runs `walk` through a cache.
-pub fn cached_walk(
-    alloc: Global,
-    fields: &Fields<'_>,
-    cache: &mut Lazy<'_>,
-    text: &mut String,
-) -> Result<(), TextError> {
-    write_states(text, cached_states(alloc, fields, cache)?.as_slice())
-}
-
-/// Runs `walk` by a search through a cache: writes only the last match.
-pub fn search(
-    alloc: Global,
-    fields: &Fields<'_>,
-    cache: &mut Lazy<'_>,
-    text: &mut String,
-) -> Result<(), TextError> {
-    write_match(text, found(alloc, fields, cache)?)?;
+/// Writes the last match of a walk, by a search through a cache.
+fn search(place: &Place, cache: &mut Lazy<'_>, text: &mut String) -> Result<(), TextError>
+    requires { place.now.start < length cache.old.nfa.states }
+{
+    let bytes = place.text.as_slice();
+    let found = cache.search(place.start, place.behind, bytes, place.ahead)?;
+    write_match(text, found)?;
     Ok(())
 }
 
-/// Returns the last match of a walk, by a search through a cache.
-fn found(
-    alloc: Global,
-    fields: &Fields<'_>,
-    cache: &mut Lazy<'_>,
-) -> Result<Option<HalfMatch>, TextError> {
-    let at = place_of(alloc, fields, cache.nfa())?;
-    Ok(cache.search(at.start, at.behind, at.text.as_slice(), at.ahead)?)
-}
-
-/// Writes the bytes of each state, and the last match.
+/// Runs `walk`: writes the bytes of each state, and the last match.
 fn write_states(text: &mut String, states: &[State]) -> Result<(), TextError> {
     for state in states {
         values::write_bytes(text, state.as_bytes())?;
@@ -99,12 +88,7 @@ fn write_match(text: &mut String, found: Option<HalfMatch>) -> Result<(), AllocE
     writeln!(text, "{found}")
 }
 
-/// Runs `readers`: writes the results of the readers of one state of a walk.
-pub fn readers(alloc: Global, fields: &Fields<'_>, text: &mut String) -> Result<(), TextError> {
-    write_readers(alloc, text, fields, walk::walk(alloc, fields)?.as_slice())
-}
-
-/// Writes the results of the readers of the state that the job selects.
+/// Runs `readers`: writes the results of the readers of one of the states of a walk.
 fn write_readers(
     alloc: Global,
     text: &mut String,
@@ -127,7 +111,7 @@ fn set(alloc: Global, fields: &Fields<'_>, key: &str, nfa: &NFA) -> Result<Spars
 }
 
 /// Runs `closure`: writes the set after the call.
-pub fn closure(
+fn closure(
     alloc: Global,
     fields: &Fields<'_>,
     nfa: &NFA,
@@ -170,7 +154,7 @@ fn start_kind(text: &str) -> Result<Start, TextError> {
 }
 
 /// Runs `lookbehind`: writes the bytes of an empty record with the look-behind of its start.
-pub fn lookbehind(
+fn lookbehind(
     alloc: Global,
     fields: &Fields<'_>,
     nfa: &NFA,
@@ -240,7 +224,7 @@ fn next_of_record(
 ) -> Result<StateBuilderNFA, TextError> {
     let state = resolved_state(alloc, fields, nfa)?;
     let mut sparses = sparse_sets(alloc, fields, nfa)?;
-    Ok(next_after(alloc, nfa, kind, &mut sparses, &state, unit)?)
+    next_after(alloc, nfa, kind, &mut sparses, &state, unit)
 }
 
 /// Returns the next state after a state on a unit, as a builder.
@@ -251,18 +235,19 @@ fn next_after(
     sparses: &mut SparseSets,
     state: &State,
     unit: Unit,
-) -> Result<StateBuilderNFA, AllocError>
+) -> Result<StateBuilderNFA, TextError>
     requires set1 { sparses.old.set1.capacity ≡ length nfa.now.states }
     requires set2 { sparses.old.set2.capacity ≡ length nfa.now.states }
     requires resolve { AllResolve nfa.now state.now.states }
 {
     let mut stack = Vec::new(alloc);
     let builder = StateBuilderEmpty::new(alloc);
-    determinize::next(nfa, kind, sparses, &mut stack, state, unit, builder)
+    let next = determinize::next(nfa, kind, sparses, &mut stack, state, unit, builder)?;
+    Ok(next)
 }
 
 /// Runs `next`: writes the bytes of the next state after the job's record.
-pub fn next_state(
+fn next_state(
     alloc: Global,
     fields: &Fields<'_>,
     nfa: &NFA,
@@ -276,7 +261,7 @@ pub fn next_state(
 }
 
 /// Runs `addstates`: writes the bytes of the job's record with the states of a set added.
-pub fn addstates(
+fn addstates(
     alloc: Global,
     fields: &Fields<'_>,
     nfa: &NFA,
