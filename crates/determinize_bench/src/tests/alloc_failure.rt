@@ -19,12 +19,12 @@ mod without;
 use crate::tests::alloc_failure::trial::{OfWalk, Trial};
 use crate::tests::same;
 use determinize_below::{Anchored, HalfMatch, Input, MatchKind, NFA};
-use determinize_core::determinize;
+use determinize_core::determinize::{last_match, walk, walk_between};
 use determinize_core::state::State;
 use determinize_lazy::Lazy;
 use determinize_replay::outputs::output_of;
 use example_walks::error::TextError;
-use example_walks::examples::examples;
+use example_walks::examples::{Example, examples};
 use example_walks::fields::Fields;
 use example_walks::values::bytes;
 use failing_alloc::{FailingAllocator, Outcome, fail_each_allocation};
@@ -52,12 +52,8 @@ fn has_run<R: Abort + AllocGlobal>(
 }
 
 /// Returns the error of a failed allocation, if a call of a trial failed and was made again.
-pub fn succeed_if(is_sound: bool) -> Result<(), TextError> {
-    if is_sound {
-        Ok(())
-    } else {
-        Err(TextError::OutOfMemory)
-    }
+pub fn succeed_if(is_sound: bool) -> Result<(), AllocError> {
+    if is_sound { Ok(()) } else { Err(AllocError) }
 }
 
 /// Repeats a trial with its first allocation failing, then its second, and so on, until there is no
@@ -90,6 +86,8 @@ pub struct Row {
     text: Vec<u8>,
     look_ahead: Option<u8>,
     states: Vec<Vec<u8>>,
+    /// The last match of the walk.
+    last: Option<HalfMatch>,
     /// The match of a search of the text as a haystack.
     found: Option<HalfMatch>,
 }
@@ -108,8 +106,16 @@ impl Row {
             text,
             look_ahead,
             states,
+            last: None,
             found: None,
         })
+    }
+
+    /// Finds the last match of the walk, and the match of a search of the text as a haystack.
+    fn find(&mut self, alloc: Global) -> Result<(), AllocError> {
+        self.last = last_match(self.walk(alloc)?.as_slice());
+        self.found = self.search(alloc)?;
+        Ok(())
     }
 
     /// Returns the match of a search of the text as a haystack.
@@ -125,8 +131,8 @@ impl Row {
         let (nfa, kind, behind) = (&self.nfa, self.kind, self.look_behind);
         let (start, text) = (nfa.start_anchored(), self.text.as_slice());
         match self.look_ahead {
-            None => determinize::walk(alloc, nfa, kind, start, behind, text),
-            ahead => determinize::walk_between(alloc, nfa, kind, start, behind, text, ahead),
+            None => walk(alloc, nfa, kind, start, behind, text),
+            ahead => walk_between(alloc, nfa, kind, start, behind, text, ahead),
         }
     }
 
@@ -159,13 +165,18 @@ impl Row {
     }
 }
 
+/// Returns an example walk, with its matches.
+fn found_row(alloc: Global, example: &Example) -> Result<Row, TextError> {
+    let mut row = Row::of(alloc, &example.fields(), output_of(example.name))?;
+    row.find(alloc)?;
+    Ok(row)
+}
+
 /// Returns all example walks.
 pub fn rows(alloc: Global) -> Result<Vec<Row>, Fail> {
     let mut rows = Vec::new(alloc);
     for example in examples() {
-        let mut row = Row::of(alloc, &example.fields(), output_of(example.name))?;
-        row.found = row.search(alloc)?;
-        rows.push(row)?;
+        rows.push(found_row(alloc, example)?)?;
     }
     Ok(rows)
 }

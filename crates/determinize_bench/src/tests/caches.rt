@@ -66,14 +66,6 @@ fn walk_through<R: Abort + AllocGlobal>(
     Ok(states)
 }
 
-/// Returns the bytes of the second state, or nothing if there is none.
-fn second(states: &[State]) -> &[u8] {
-    match states.get(1) {
-        Some(state) => state.as_bytes(),
-        None => &[],
-    }
-}
-
 /// Searches an input, whose anchored mode names no pattern, and tests whether it has a match.
 fn search<R: Abort>(
     rt: &R,
@@ -89,6 +81,52 @@ fn search<R: Abort>(
     Ok(())
 }
 
+/// Walks over a text, whose last match ends at this offset.
+fn walk<R: Abort + AllocGlobal>(
+    rt: &R,
+    lazy: &mut Lazy<'_>,
+    text: Text<'_>,
+    wanted: Option<usize>,
+) -> Result<(), Fail> {
+    let states = walk_through(rt, lazy, text)?;
+    let found = last_match(states.as_slice());
+    same_at(rt, text, found, wanted.and_then(ended));
+    Ok(())
+}
+
+/// Returns the bytes of the second state, or nothing if there is none.
+fn bytes_of_second(states: &[State]) -> &[u8] {
+    match states.get(1) {
+        Some(state) => state.as_bytes(),
+        None => &[],
+    }
+}
+
+/// Walks over a text, and compares the bytes of the second state.
+fn second<R: Abort + AllocGlobal>(
+    rt: &R,
+    lazy: &mut Lazy<'_>,
+    text: &[u8],
+    wanted: &[u8],
+) -> Result<(), Fail> {
+    let states = walk_through(rt, lazy, (None, text, None))?;
+    same(rt, bytes_of_second(states.as_slice()), wanted);
+    Ok(())
+}
+
+/// Searches a text, whose match of pattern 0 ends at this offset.
+fn search_text<R: Abort>(
+    rt: &R,
+    lazy: &mut Lazy<'_>,
+    text: &[u8],
+    wanted: Option<usize>,
+) -> Result<(), Fail> {
+    let start = lazy.nfa().start_anchored();
+    let found = lazy.search(start, None, text, None)?;
+    same(rt, found, wanted.and_then(ended));
+    Ok(())
+}
+
 /// Makes a call.
 fn make<R: Abort + AllocGlobal>(
     rt: &R,
@@ -96,29 +134,14 @@ fn make<R: Abort + AllocGlobal>(
     call: Call<'_, '_>,
 ) -> Result<(), Fail> {
     match call {
-        Call::Walk(text, wanted) => {
-            let states = walk_through(rt, lazy, text)?;
-            let found = last_match(states.as_slice());
-            same_at(rt, text, found, wanted.and_then(ended));
-        }
-        Call::Second(text, wanted) => {
-            let states = walk_through(rt, lazy, (None, text, None))?;
-            same(rt, second(states.as_slice()), wanted);
-        }
-        Call::Text(text, wanted) => {
-            let start = lazy.nfa().start_anchored();
-            let found = lazy.search(start, None, text, None)?;
-            same(rt, found, wanted.and_then(ended));
-        }
+        Call::Walk(text, wanted) => walk(rt, lazy, text, wanted)?,
+        Call::Second(text, wanted) => second(rt, lazy, text, wanted)?,
+        Call::Text(text, wanted) => search_text(rt, lazy, text, wanted)?,
         Call::Search(input, wanted) => search(rt, lazy, input, wanted)?,
         Call::Clear => lazy.clear(),
         Call::Counts(computed, kept) => {
-            same_at(
-                rt,
-                lazy.limit(),
-                (lazy.computed(), lazy.states_kept()),
-                (computed, kept),
-            );
+            let found = (lazy.computed(), lazy.states_kept());
+            same_at(rt, lazy.limit(), found, (computed, kept));
         }
     }
     Ok(())

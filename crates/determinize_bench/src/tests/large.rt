@@ -1,7 +1,7 @@
 //! Large NFAs: long chains, wide unions and many matches. Each is walked over `ab`. The expected
 //! numbers of patterns and NFA states of each state follow from the shape of the NFA.
 
-use crate::tests::{ended, same};
+use crate::tests::{ended, same, same_at};
 use determinize_below::{
     HalfMatch, Look, LookMatcher, MatchKind, NFA, PatternID, StateID, Transition, nfa,
 };
@@ -42,26 +42,32 @@ impl Link {
     }
 }
 
+/// Adds the states of a chain to an empty list.
+fn add_links(states: &mut Vec<nfa::State>, link: Link) -> Result<(), Fail> {
+    for next in 1..=LINKS {
+        states.push(link.before(StateID::new(next)?))?;
+    }
+    Ok(())
+}
+
+/// Adds a union of `a`, which continues at the first state, and a match of pattern 0 to a chain.
+fn add_end(states: &mut Vec<nfa::State>) -> Result<(), Fail> {
+    let (alt1, alt2) = (StateID::new(LINKS + 1)?, StateID::new(LINKS + 2)?);
+    states.push(nfa::State::BinaryUnion { alt1, alt2 })?;
+    let (start, end, next) = (b'a', b'a', StateID::ZERO);
+    let trans = Transition { start, end, next };
+    states.push(nfa::State::ByteRange { trans })?;
+    let pattern_id = PatternID::ZERO;
+    states.push(nfa::State::Match { pattern_id })?;
+    Ok(())
+}
+
 /// Returns a chain, and after it a union of `a`, which continues at the first state, and a match of
 /// pattern 0.
 fn chain(alloc: Global, link: Link) -> Result<Vec<nfa::State>, Fail> {
     let mut states = Vec::new(alloc);
-    for next in 1..=LINKS {
-        states.push(link.before(StateID::new(next)?))?;
-    }
-    states.push(nfa::State::BinaryUnion {
-        alt1: StateID::new(LINKS + 1)?,
-        alt2: StateID::new(LINKS + 2)?,
-    })?;
-    states.push(nfa::State::ByteRange {
-        trans: Transition {
-            start: b'a',
-            end: b'a',
-            next: StateID::ZERO,
-        },
-    })?;
-    let pattern_id = PatternID::ZERO;
-    states.push(nfa::State::Match { pattern_id })?;
+    add_links(&mut states, link)?;
+    add_end(&mut states)?;
     Ok(states)
 }
 
@@ -72,17 +78,29 @@ fn union_of_itself(alloc: Global) -> Result<Vec<nfa::State>, AllocError> {
     Ok(states)
 }
 
-/// Returns a union of matches, each of another pattern.
-fn many_patterns(alloc: Global) -> Result<Vec<nfa::State>, Fail> {
-    let mut alternates = Vec::new(alloc);
-    for number in 1..=PATTERNS {
-        alternates.push(StateID::new(number)?)?;
+/// Returns this number of ids, from 1 on.
+fn ids_from_one(alloc: Global, count: usize) -> Result<Vec<StateID>, Fail> {
+    let mut ids = Vec::new(alloc);
+    for number in 1..=count {
+        ids.push(StateID::new(number)?)?;
     }
-    let mut states = vec![in alloc; nfa::State::Union { alternates }]?;
-    for number in 0..PATTERNS {
+    Ok(ids)
+}
+
+/// Adds a match of each of this number of patterns.
+fn add_matches(states: &mut Vec<nfa::State>, count: usize) -> Result<(), Fail> {
+    for number in 0..count {
         let pattern_id = PatternID::new(number)?;
         states.push(nfa::State::Match { pattern_id })?;
     }
+    Ok(())
+}
+
+/// Returns a union of matches, each of another pattern.
+fn many_patterns(alloc: Global) -> Result<Vec<nfa::State>, Fail> {
+    let alternates = ids_from_one(alloc, PATTERNS)?;
+    let mut states = vec![in alloc; nfa::State::Union { alternates }]?;
+    add_matches(&mut states, PATTERNS)?;
     Ok(states)
 }
 
@@ -106,16 +124,22 @@ fn expect<R: Abort + AllocGlobal>(
     last: Option<HalfMatch>,
 ) -> Result<(), Fail> {
     let states = walked(rt.alloc(), kind, states)?;
+    expect_sizes(rt, states.as_slice(), wanted)?;
+    same(rt, last_match(states.as_slice()), last);
+    Ok(())
+}
+
+/// Compares the numbers of patterns and NFA states of each state.
+fn expect_sizes<R: Abort + AllocGlobal>(
+    rt: &R,
+    states: &[State],
+    wanted: [Sizes; 4],
+) -> Result<(), AllocError> {
     same(rt, states.len(), 4);
     for (index, (state, sizes)) in states.iter().zip(wanted).enumerate() {
         let ids: Vec<StateID> = state.iter_nfa_state_ids().collect(rt.alloc())?;
-        same(
-            rt,
-            (index, state.match_len(), ids.len()),
-            (index, sizes.0, sizes.1),
-        );
+        same_at(rt, index, (state.match_len(), ids.len()), sizes);
     }
-    same(rt, last_match(states.as_slice()), last);
     Ok(())
 }
 
@@ -168,17 +192,33 @@ const DEAD_ENDS: usize = 300_000;
 /// A pattern id that needs more than 16 bits.
 const WIDE: usize = 65_536;
 
-/// Returns `Fail` states, then a match of each of these patterns, and last a union of the matches.
-fn behind_dead_ends(alloc: Global, patterns: &[PatternID]) -> Result<Vec<nfa::State>, Fail> {
-    let (mut states, mut alternates) = (Vec::new(alloc), Vec::new(alloc));
+/// Adds `Fail` states.
+fn add_dead_ends(states: &mut Vec<nfa::State>) -> Result<(), Fail> {
     for _ in 0..DEAD_ENDS {
         states.push(nfa::State::Fail)?;
     }
+    Ok(())
+}
+
+/// Adds a match of each of these patterns, and the ids of these matches.
+fn add_each(
+    states: &mut Vec<nfa::State>,
+    ids: &mut Vec<StateID>,
+    patterns: &[PatternID],
+) -> Result<(), Fail> {
     for pattern_id in patterns {
-        alternates.push(StateID::new(states.len())?)?;
+        ids.push(StateID::new(states.len())?)?;
         let pattern_id = *pattern_id;
         states.push(nfa::State::Match { pattern_id })?;
     }
+    Ok(())
+}
+
+/// Returns `Fail` states, then a match of each of these patterns, and last a union of the matches.
+fn behind_dead_ends(alloc: Global, patterns: &[PatternID]) -> Result<Vec<nfa::State>, Fail> {
+    let (mut states, mut alternates) = (Vec::new(alloc), Vec::new(alloc));
+    add_dead_ends(&mut states)?;
+    add_each(&mut states, &mut alternates, patterns)?;
     states.push(nfa::State::Union { alternates })?;
     Ok(states)
 }

@@ -175,118 +175,164 @@ some NonWordByte
 /// The message for invalid arguments.
 const NOT_TAKEN: &str = "arguments are not taken\n";
 
-/// Arguments, one per line, an input, and the status, the output and the errors.
-type Run = (&'static str, &'static str, u8, &'static str, &'static str);
+/// Runs of the program, each after a line `==`, in parts that end in `--`: the status and then the
+/// arguments, a line each; the input; the output; the errors. Jobs that agree, some that differ, no
+/// job, an invalid job; a search; invalid jobs before walks through caches.
+const RUNS: &str = "\
+0
+--
+> dead
+000000000000000000
+--
+1 jobs, 0 differ, 0 skipped
+--
+==
+0
+--
+# without an end of its line
+> fromusize n=6
+none--
+1 jobs, 0 differ, 0 skipped
+--
+==
+0
+--
+> walk after=62 | M:0
+00000000000000000000
+010000000000000000
+match 0 0
+> size states=3 matches=2
+states 3
+--
+2 jobs, 0 differ, 0 skipped
+--
+==
+1
+--
+> dead
+000000000000000000
+> fromusize n=6
+some LineLF
+--
+> fromusize n=6
+expected:
+some LineLF
+got:
+none
+2 jobs, 1 differ, 0 skipped
+--
+==
+2
+--
+--
+0 jobs, 0 differ, 0 skipped
+--
+no job was replayed
+==
+2
+--
+# first
+none
+--
+--
+line 2: an answer without a job
+==
+2
+--
+# none
+--
+0 jobs, 0 differ, 0 skipped
+--
+no job was replayed
+==
+2
+--
+# line 1
+> dead
+000000000000000000
+> sleep
+none
+> dead
+--
+--
+line 4: unknown verb \"sleep\"
+==
+0
+search
+3
+--
+> walk text=- | M:0
+anything
+match 0 0
+--
+1 jobs, 0 differ, 0 skipped
+--
+==
+2
+cache
+3
+--
+> walk start=2 | M:0
+none
+--
+--
+line 1: not the id of a state of the NFA
+==
+2
+cache
+3
+--
+#\x20
+> walk | X:0
+none
+--
+--
+line 2: not an NFA state
+";
 
-/// Jobs that agree, some that differ, no job, an invalid job; walks through caches, and searches;
-/// invalid jobs before walks through caches.
-static RUNS: [Run; 19] = [
-    ("", DEAD, 0, "1 jobs, 0 differ, 0 skipped\n", ""),
-    (
-        "",
-        "# without an end of its line\n> fromusize n=6\nnone",
-        0,
-        "1 jobs, 0 differ, 0 skipped\n",
-        "",
-    ),
-    (
-        "",
-        "> walk after=62 | M:0\n00000000000000000000\n010000000000000000\nmatch 0 0\n> size states=3 matches=2\nstates 3\n",
-        0,
-        "2 jobs, 0 differ, 0 skipped\n",
-        "",
-    ),
-    (
-        "",
-        "> dead\n000000000000000000\n> fromusize n=6\nsome LineLF\n",
-        1,
-        "> fromusize n=6\nexpected:\nsome LineLF\ngot:\nnone\n2 jobs, 1 differ, 0 skipped\n",
-        "",
-    ),
-    (
-        "",
-        "",
-        2,
-        "0 jobs, 0 differ, 0 skipped\n",
-        "no job was replayed\n",
-    ),
-    (
-        "",
-        "# first\nnone\n",
-        2,
-        "",
-        "line 2: an answer without a job\n",
-    ),
-    (
-        "",
-        "# none\n",
-        2,
-        "0 jobs, 0 differ, 0 skipped\n",
-        "no job was replayed\n",
-    ),
-    ("", WRONG, 1, DIFFERENCES, ""),
-    (
-        "",
-        "# line 1\n> dead\n000000000000000000\n> sleep\nnone\n> dead\n",
-        2,
-        "",
-        "line 4: unknown verb \"sleep\"\n",
-    ),
-    ("", JOBS, 1, VERDICT, ""),
-    ("cache\n0", JOBS, 1, VERDICT, ""),
-    ("cache\n1", JOBS, 1, VERDICT, ""),
-    ("cache\n2", JOBS, 1, VERDICT, ""),
-    ("cache\n64", JOBS, 1, VERDICT, ""),
-    ("search\n0", JOBS, 1, SEARCHED, ""),
-    ("search\n64", JOBS, 1, SEARCHED, ""),
-    (
-        "search\n3",
-        "> walk text=- | M:0\nanything\nmatch 0 0\n",
-        0,
-        "1 jobs, 0 differ, 0 skipped\n",
-        "",
-    ),
-    (
-        "cache\n3",
-        "> walk start=2 | M:0\nnone\n",
-        2,
-        "",
-        "line 1: not the id of a state of the NFA\n",
-    ),
-    (
-        "cache\n3",
-        "# \n> walk | X:0\nnone\n",
-        2,
-        "",
-        "line 2: not an NFA state\n",
-    ),
-];
-
-/// An input whose first line is no comment and no job.
-static NO_JOB: [&str; 4] = ["none\n> dead\n", "\n> dead\n", "dead\n", ">dead\n"];
-
-/// Invalid arguments, one per line.
-static OTHER_ARGUMENTS: [&str; 8] = [
-    "stdin",
-    "--help",
-    "\n",
-    "cache",
-    "cache\nx",
-    "cache\n1\n2",
-    "search",
-    "find\n1",
-];
+/// Makes one of these runs.
+fn expect_run<R: Abort + AllocGlobal>(rt: &R, run: &str) -> Result<(), Fail> {
+    let (head, parts) = run.split_once("--\n").unwrap_or((run, ""));
+    let (status, arguments) = head.split_once('\n').unwrap_or((head, ""));
+    let (input, told) = parts.split_once("--\n").unwrap_or((parts, ""));
+    let (out_text, err_text) = told.split_once("--\n").unwrap_or((told, ""));
+    let status = status.parse::<u8>()?;
+    expect(rt, arguments, input.as_bytes(), status, out_text, err_text)
+}
 
 #[test]
 fn inputs(rt: HostRuntime) -> Result<(), Fail> {
-    for &(arguments, input, status, out_text, err_text) in &RUNS {
-        expect(&rt, arguments, input.as_bytes(), status, out_text, err_text)?;
+    for run in RUNS.split("==\n") {
+        expect_run(&rt, run)?;
     }
-    for input in &NO_JOB {
+    expect(&rt, "", WRONG.as_bytes(), 1, DIFFERENCES, "")
+}
+
+/// Walks through caches of several limits, and searches.
+#[test]
+fn walks_of_jobs(rt: HostRuntime) -> Result<(), Fail> {
+    for arguments in ["", "cache\n0", "cache\n1", "cache\n2", "cache\n64"] {
+        expect(&rt, arguments, JOBS.as_bytes(), 1, VERDICT, "")?;
+    }
+    for arguments in ["search\n0", "search\n64"] {
+        expect(&rt, arguments, JOBS.as_bytes(), 1, SEARCHED, "")?;
+    }
+    Ok(())
+}
+
+/// Inputs whose first line is no comment and no job, each up to a bar.
+const NO_JOB: &str = "none\n> dead\n|\n> dead\n|dead\n|>dead\n";
+
+/// Invalid arguments, one per line, each list up to a bar.
+const OTHER_ARGUMENTS: &str = "stdin|--help|\n|cache|cache\nx|cache\n1\n2|search|find\n1";
+
+#[test]
+fn inputs_that_are_rejected(rt: HostRuntime) -> Result<(), Fail> {
+    for input in NO_JOB.split('|') {
         let said = "line 1: an answer without a job\n";
         expect(&rt, "", input.as_bytes(), 2, "", said)?;
     }
-    for arguments in &OTHER_ARGUMENTS {
+    for arguments in OTHER_ARGUMENTS.split('|') {
         expect(&rt, arguments, DEAD.as_bytes(), 2, "", NOT_TAKEN)?;
     }
     Ok(())
@@ -347,7 +393,8 @@ fn tells_of_each_error(rt: HostRuntime) {
     let other = io::Error::from(io::ErrorKind::InvalidData);
     let of_job = ReadError::from(TextError::from(AllocError));
     expect_told(&rt, ReplayError::from(AllocError), "out of memory\n");
-    expect_told(&rt, ReplayError::of_reading(3, &memory), "out of memory\n");
+    let unread = ReplayError::of_reading(rt.alloc(), 3, &memory);
+    expect_told(&rt, unread, "out of memory\n");
     expect_told(&rt, ReplayError::of_arguments(&memory), "out of memory\n");
     expect_told(
         &rt,

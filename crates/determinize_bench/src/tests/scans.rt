@@ -7,47 +7,41 @@ use determinize_below::{HalfMatch, StateID};
 use determinize_lazy::Lazy;
 use example_walks::examples::examples;
 use example_walks::fields::Fields;
+use example_walks::walk::{Place, place_of};
 use std::alloc::AllocError;
 use std::process::Abort;
 use std::test::Fail;
-
-/// A text with the bytes around it.
-#[derive(Clone, Copy)]
-struct Around<'h> {
-    look_behind: Option<u8>,
-    text: &'h [u8],
-    look_ahead: Option<u8>,
-}
 
 /// Returns the match of a text that is scanned in three pieces.
 fn scan(
     lazy: &mut Lazy<'_>,
     start: StateID,
-    around: &Around<'_>,
+    place: &Place,
     first: usize,
     second: usize,
 ) -> Result<Option<HalfMatch>, AllocError>
     requires start { start < length lazy.old.nfa.states }
     requires order { first ≤ second }
-    requires within { second ≤ length around.now.text.now }
+    requires within { second ≤ length place.now.text.items }
 {
-    let mut scan = lazy.scan(start, around.look_behind)?;
-    lazy.feed(&mut scan, &around.text[..first])?;
-    lazy.feed(&mut scan, &around.text[first..second])?;
-    lazy.feed(&mut scan, &around.text[second..])?;
-    lazy.finish(&scan, around.look_ahead)
+    let text = place.text.as_slice();
+    let mut scan = lazy.scan(start, place.behind)?;
+    lazy.feed(&mut scan, &text[..first])?;
+    lazy.feed(&mut scan, &text[first..second])?;
+    lazy.feed(&mut scan, &text[second..])?;
+    lazy.finish(&scan, place.ahead)
 }
 
 /// Asserts that a text has the same match in all pieces as in one. Where the first piece or the
 /// last one is empty, there are two.
-fn expect_same<R: Abort>(rt: &R, lazy: &mut Lazy<'_>, around: &Around<'_>) -> Result<(), Fail> {
+fn expect_same<R: Abort>(rt: &R, lazy: &mut Lazy<'_>, place: &Place) -> Result<(), Fail> {
     let start = lazy.nfa().start_anchored();
-    let (behind, ahead) = (around.look_behind, around.look_ahead);
-    let wanted = lazy.search(start, behind, around.text, ahead)?;
-    for second in 0..around.text.len() + 1 {
+    let text = place.text.as_slice();
+    let wanted = lazy.search(start, place.behind, text, place.ahead)?;
+    for second in 0..text.len() + 1 {
         for first in 0..second + 1 {
             let start = lazy.nfa().start_anchored();
-            same(rt, scan(lazy, start, around, first, second)?, wanted);
+            same(rt, scan(lazy, start, place, first, second)?, wanted);
         }
     }
     Ok(())
@@ -59,15 +53,11 @@ fn expect_walk<R: Abort + AllocGlobal>(
     fields: &Fields<'_>,
     limit: usize,
 ) -> Result<(), Fail> {
+    let kind = fields.match_kind()?;
     let nfa = fields.nfa(rt.alloc())?;
-    let text = fields.text(rt.alloc())?;
-    let around = Around {
-        look_behind: fields.look_behind()?,
-        text: text.as_slice(),
-        look_ahead: fields.look_ahead()?,
-    };
-    let mut lazy = Lazy::new(rt.alloc(), &nfa, fields.match_kind()?, limit);
-    expect_same(rt, &mut lazy, &around)
+    let place = place_of(rt.alloc(), fields, &nfa)?;
+    let mut lazy = Lazy::new(rt.alloc(), &nfa, kind, limit);
+    expect_same(rt, &mut lazy, &place)
 }
 
 #[test]

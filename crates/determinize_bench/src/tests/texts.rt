@@ -46,22 +46,19 @@ fn texts_of_builders(rt: HostRuntime) -> Result<(), Fail> {
     expect_text(&rt, &empty, "StateBuilderEmpty { .. }")
 }
 
-/// Jobs of the verb `build`, and the texts of their builders and states after the type name.
-static TEXTS: [(&str, &str); 2] = [
-    (
-        "build fw=1 half=0 have=Start need=End pids=0 ids=1,3",
-        "is_match: true, is_from_word: true, is_half_crlf: false, \
+/// Jobs of the verb `build`, each in a line with the text of its builder and state after the type
+/// name.
+const TEXTS: &str = "\
+build fw=1 half=0 have=Start need=End pids=0 ids=1,3 => \
+is_match: true, is_from_word: true, is_half_crlf: false, \
 look_have: LookSet { bits: 1 }, look_need: LookSet { bits: 2 }, \
-match_pattern_ids: [PatternID(0)], nfa_state_ids: [StateID(1), StateID(3)]",
-    ),
-    (
-        "build fw=0 half=1 pids=2,0,1 ids=1,3,2",
-        "is_match: true, is_from_word: false, is_half_crlf: true, \
+match_pattern_ids: [PatternID(0)], nfa_state_ids: [StateID(1), StateID(3)]
+build fw=0 half=1 pids=2,0,1 ids=1,3,2 => \
+is_match: true, is_from_word: false, is_half_crlf: true, \
 look_have: LookSet { bits: 0 }, look_need: LookSet { bits: 0 }, \
 match_pattern_ids: [PatternID(2), PatternID(0), PatternID(1)], \
-nfa_state_ids: [StateID(1), StateID(3), StateID(2)]",
-    ),
-];
+nfa_state_ids: [StateID(1), StateID(3), StateID(2)]
+";
 
 /// Compares the debug text of a value, which is the name of its type and these fields.
 fn expect_fields<R: Abort + AllocGlobal, T: Debug>(
@@ -74,12 +71,19 @@ fn expect_fields<R: Abort + AllocGlobal, T: Debug>(
     expect_text(rt, value, wanted.as_str())
 }
 
+/// Compares the debug texts of the builder and of the state of a job.
+fn expect_built<R: Abort + AllocGlobal>(rt: &R, job: &str, fields: &str) -> Result<(), Fail> {
+    let builder = built(rt.alloc(), job)?;
+    expect_fields(rt, &builder, "StateBuilderNFA", fields)?;
+    let state = builder.to_state()?;
+    expect_fields(rt, &state, "State", fields)
+}
+
 #[test]
 fn texts_of_values(rt: HostRuntime) -> Result<(), Fail> {
-    for (line, fields) in &TEXTS {
-        let builder = built(rt.alloc(), line)?;
-        expect_fields(&rt, &builder, "StateBuilderNFA", fields)?;
-        expect_fields(&rt, &state(rt.alloc(), line)?, "State", fields)?;
+    for line in TEXTS.lines() {
+        let (job, fields) = line.split_once(" => ").unwrap_or((line, ""));
+        expect_built(&rt, job, fields)?;
     }
     Ok(())
 }

@@ -1,88 +1,104 @@
 //! Walks, searches and scans through a cache.
 
-ghost use Rattle.std.specs.Prelude.{◌≡◌};
-
 use crate::tests::alloc_failure::trial::OfWalk;
 use crate::tests::alloc_failure::{Row, fail_each_over_walks, succeed_if};
-use crate::tests::{holds, same};
-use determinize_below::{LookMatcher, MatchKind, NFA, StateID};
-use determinize_core::determinize::last_match;
-use determinize_core::state::State;
+use crate::tests::{caches, holds, same};
+use determinize_below::{MatchKind, NFA};
 use determinize_lazy::{Lazy, Scan, Walker};
-use example_walks::error::TextError;
-use example_walks::states;
 use failing_alloc::FailingAllocator;
 use std::alloc::{AllocError, Allocator, Global};
 use std::process::Abort;
 use std::test::Fail;
 
-/// Returns the states of a walk through a cache.
-fn walked<A: Allocator + Copy>(
-    lazy: &mut Lazy<'_, Global, A>,
+/// A walk, a search or a scan through a cache.
+#[derive(Clone, Copy)]
+pub enum Call {
+    /// Walks.
+    Walk,
+    /// Searches the text of the walk.
+    Search,
+    /// Searches the text as a haystack.
+    SearchInput,
+    /// Tests whether the text as a haystack has a match.
+    IsMatch,
+    /// Scans the text in pieces.
+    Scan,
+    /// Walks by steps.
+    Steps,
+}
+
+/// Makes a call through a new cache of at most `limit` states, and again through the same cache,
+/// also if the first one fails. A scan and a walk by steps are made once, since they try again
+/// themselves.
+pub fn make<R: Abort, A: Allocator + Copy>(
+    rt: &R,
+    alloc: A,
     row: &Row,
-) -> Result<Vec<State<A>, A>, AllocError>
-    requires { lazy.old.nfa ≡ row.now.nfa }
-    ensures { lazy.new.nfa ≡ lazy.old.nfa }
-{
-    let (start, text) = (row.nfa.start_anchored(), row.text.as_slice());
-    match row.look_ahead {
-        None => lazy.walk(start, row.look_behind, text),
-        ahead => lazy.walk_between(start, row.look_behind, text, ahead),
+    call: Call,
+    limit: usize,
+) -> Result<(), AllocError> {
+    let mut lazy = Lazy::new(alloc, &row.nfa, row.kind, limit);
+    match call {
+        Call::Scan => scan(rt, &mut lazy, row),
+        Call::Steps => walk_by_steps(rt, &mut lazy, row),
+        _ => make_twice(rt, &mut lazy, row, call),
     }
 }
 
-/// Makes a walk twice through one cache, also if the first walk fails.
-pub fn walk<R: Abort, A: Allocator + Copy>(
+/// Makes a call twice through one cache, also if the first one fails.
+fn make_twice<R: Abort, A: Allocator + Copy>(
     rt: &R,
-    alloc: A,
+    lazy: &mut Lazy<'_, Global, A>,
     row: &Row,
-    limit: usize,
-) -> Result<(), TextError> {
-    let mut lazy = Lazy::new(alloc, &row.nfa, row.kind, limit);
-    let first = walked(&mut lazy, row);
-    let second = walked(&mut lazy, row)?;
-    row.expect(rt, second.as_slice());
-    row.expect(rt, first?.as_slice());
+    call: Call,
+) -> Result<(), AllocError> {
+    let is_sound = make_once(rt, lazy, row, call).is_ok();
+    make_once(rt, lazy, row, call)?;
+    succeed_if(is_sound)
+}
+
+/// Makes a call through a cache.
+fn make_once<R: Abort, A: Allocator + Copy>(
+    rt: &R,
+    lazy: &mut Lazy<'_, Global, A>,
+    row: &Row,
+    call: Call,
+) -> Result<(), AllocError> {
+    match call {
+        Call::Search => search(rt, lazy, row)?,
+        Call::SearchInput => same(rt, lazy.search_input(&row.input())?, row.found),
+        Call::IsMatch => same(rt, lazy.is_match(&row.input())?, row.found.is_some()),
+        _ => walk(rt, lazy, row)?,
+    }
     Ok(())
 }
 
-/// Searches the text of a walk twice through one cache, also if the first search fails. The match
-/// must be the last one of the walk.
-pub fn search<R: Abort, A: Allocator + Copy>(
+/// Makes a walk.
+fn walk<R: Abort, A: Allocator + Copy>(
     rt: &R,
-    alloc: A,
+    lazy: &mut Lazy<'_, Global, A>,
     row: &Row,
-    limit: usize,
-) -> Result<(), TextError> {
-    let mut lazy = Lazy::new(alloc, &row.nfa, row.kind, limit);
-    let (start, text) = (row.nfa.start_anchored(), row.text.as_slice());
-    let first = lazy.search(start, row.look_behind, text, row.look_ahead);
-    let second = lazy.search(start, row.look_behind, text, row.look_ahead)?;
-    let wanted = last_match(row.walk(alloc)?.as_slice());
-    same(rt, (first?, second), (wanted, wanted));
+) -> Result<(), AllocError> {
+    let start = lazy.nfa().start_anchored();
+    let text = row.text.as_slice();
+    let states = match row.look_ahead {
+        None => lazy.walk(start, row.look_behind, text)?,
+        ahead => lazy.walk_between(start, row.look_behind, text, ahead)?,
+    };
+    row.expect(rt, states.as_slice());
     Ok(())
 }
 
-/// Searches the text of a walk as a haystack twice through one cache, and tests whether it has a
-/// match through another one, also if a call before fails.
-pub fn search_input<R: Abort, A: Allocator + Copy>(
+/// Searches the text of a walk. The match must be the last one of the walk.
+fn search<R: Abort, A: Allocator + Copy>(
     rt: &R,
-    alloc: A,
+    lazy: &mut Lazy<'_, Global, A>,
     row: &Row,
-    limit: usize,
-) -> Result<(), TextError> {
-    let mut lazy = Lazy::new(alloc, &row.nfa, row.kind, limit);
-    let first = lazy.search_input(&row.input());
-    let second = lazy.search_input(&row.input())?;
-    let mut lazy = Lazy::new(alloc, &row.nfa, row.kind, limit);
-    let is_first = lazy.is_match(&row.input());
-    let is_second = lazy.is_match(&row.input())?;
-    same(rt, (first?, second), (row.found, row.found));
-    same(
-        rt,
-        (is_first?, is_second),
-        (row.found.is_some(), row.found.is_some()),
-    );
+) -> Result<(), AllocError> {
+    let start = lazy.nfa().start_anchored();
+    let text = row.text.as_slice();
+    let found = lazy.search(start, row.look_behind, text, row.look_ahead)?;
+    same(rt, found, row.last);
     Ok(())
 }
 
@@ -99,23 +115,32 @@ fn feed<A: Allocator + Copy>(
     Ok(is_fed)
 }
 
-/// Scans the text of a walk in pieces of two bytes. A piece that failed is fed again. The match
-/// must be the last one of the walk.
-pub fn scan<R: Abort, A: Allocator + Copy>(
-    rt: &R,
-    alloc: A,
-    row: &Row,
-    limit: usize,
-) -> Result<(), TextError> {
-    let mut lazy = Lazy::new(alloc, &row.nfa, row.kind, limit);
-    let mut scan = lazy.scan(row.nfa.start_anchored(), row.look_behind)?;
+/// Feeds a text in pieces of two bytes. Returns whether no call failed.
+fn feed_each<A: Allocator + Copy>(
+    lazy: &mut Lazy<'_, Global, A>,
+    scan: &mut Scan<A>,
+    text: &[u8],
+) -> Result<bool, AllocError> {
     let mut is_sound = true;
-    for piece in row.text.as_slice().chunks(2) {
-        let is_fed = feed(&mut lazy, &mut scan, piece)?;
+    for piece in text.chunks(2) {
+        let is_fed = feed(lazy, scan, piece)?;
         is_sound = is_sound && is_fed;
     }
+    Ok(is_sound)
+}
+
+/// Scans the text of a walk in pieces of two bytes. A piece that failed is fed again. The match
+/// must be the last one of the walk.
+fn scan<R: Abort, A: Allocator + Copy>(
+    rt: &R,
+    lazy: &mut Lazy<'_, Global, A>,
+    row: &Row,
+) -> Result<(), AllocError> {
+    let start = lazy.nfa().start_anchored();
+    let mut scan = lazy.scan(start, row.look_behind)?;
+    let is_sound = feed_each(lazy, &mut scan, row.text.as_slice())?;
     let found = lazy.finish(&scan, row.look_ahead)?;
-    same(rt, found, last_match(row.walk(alloc)?.as_slice()));
+    same(rt, found, row.last);
     succeed_if(is_sound)
 }
 
@@ -132,22 +157,31 @@ fn step<A: Allocator + Copy>(
     Ok(is_taken)
 }
 
-/// Walks over the text of a walk by steps. A step that failed is taken again. Each state must be
-/// that of the walk.
-pub fn walk_by_steps<R: Abort, A: Allocator + Copy>(
+/// Takes the steps of a walk. Each state must be that of the walk. Returns whether no step failed.
+fn step_each<R: Abort, A: Allocator + Copy>(
     rt: &R,
-    alloc: A,
+    lazy: &mut Lazy<'_, Global, A>,
+    walker: &mut Walker<A>,
     row: &Row,
-    limit: usize,
-) -> Result<(), TextError> {
-    let mut lazy = Lazy::new(alloc, &row.nfa, row.kind, limit);
-    let mut walker = lazy.walker(row.nfa.start_anchored(), row.look_behind)?;
+) -> Result<bool, AllocError> {
     let mut is_sound = true;
     for (index, bytes) in row.states.iter().enumerate() {
         same(rt, walker.state().as_bytes(), bytes.as_slice());
-        let is_taken = step(&mut lazy, &mut walker, row.unit(index))?;
+        let is_taken = step(lazy, walker, row.unit(index))?;
         is_sound = is_sound && is_taken;
     }
+    Ok(is_sound)
+}
+
+/// Walks over the text of a walk by steps. A step that failed is taken again.
+fn walk_by_steps<R: Abort, A: Allocator + Copy>(
+    rt: &R,
+    lazy: &mut Lazy<'_, Global, A>,
+    row: &Row,
+) -> Result<(), AllocError> {
+    let start = lazy.nfa().start_anchored();
+    let mut walker = lazy.walker(start, row.look_behind)?;
+    let is_sound = step_each(rt, lazy, &mut walker, row)?;
     succeed_if(is_sound)
 }
 
@@ -155,11 +189,12 @@ pub fn walk_by_steps<R: Abort, A: Allocator + Copy>(
 fn walks_and_searches(rt: HostRuntime) -> Result<(), Fail> {
     for limit in [0, 1, 2, 64] {
         let trials = [
-            OfWalk::WalkCached(limit),
-            OfWalk::Search(limit),
-            OfWalk::SearchInput(limit),
-            OfWalk::Scan(limit),
-            OfWalk::WalkBySteps(limit),
+            OfWalk::Cached(Call::Walk, limit),
+            OfWalk::Cached(Call::Search, limit),
+            OfWalk::Cached(Call::SearchInput, limit),
+            OfWalk::Cached(Call::IsMatch, limit),
+            OfWalk::Cached(Call::Scan, limit),
+            OfWalk::Cached(Call::Steps, limit),
         ];
         fail_each_over_walks(&rt, &trials)?;
     }
@@ -168,6 +203,15 @@ fn walks_and_searches(rt: HostRuntime) -> Result<(), Fail> {
 
 /// The number of times that each of two long walks goes through its three states.
 const ROUNDS: usize = 1_000;
+
+/// Returns a text of this number of rounds.
+fn long_text(alloc: Global) -> Result<Vec<u8>, AllocError> {
+    let mut text = Vec::new(alloc);
+    for _ in 0..ROUNDS {
+        text.extend_from_slice(b"abc")?;
+    }
+    Ok(text)
+}
 
 /// Walks over a long text through a cache.
 fn walk_long<R: Abort, A: Allocator + Copy>(
@@ -202,13 +246,8 @@ fn walk_twice<R: Abort, A: Allocator + Copy>(
 /// each step would make 3000 requests.
 #[test]
 fn growths_of_long_walks(rt: HostRuntime) -> Result<(), Fail> {
-    let states = states::states(rt.alloc(), "B:61>1 B:62>2 B:63>0")?;
-    let (first, matcher) = (StateID::ZERO, LookMatcher::new());
-    let nfa = NFA::from_parts(rt.alloc(), states, first, first, false, matcher)?;
-    let mut text = Vec::new(rt.alloc());
-    for _ in 0..ROUNDS {
-        text.extend_from_slice(b"abc")?;
-    }
+    let nfa = caches::nfa(&rt, "B:61>1 B:62>2 B:63>0", false)?;
+    let text = long_text(rt.alloc())?;
     let heap = FailingAllocator::after(rt.alloc(), u64::MAX);
     heap.begin();
     walk_twice(&rt, &heap, &nfa, text.as_slice())?;

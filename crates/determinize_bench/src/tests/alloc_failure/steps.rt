@@ -6,6 +6,7 @@ ghost use Rattle.determinize_core.specs.Scratch.{IsScratch};
 
 use crate::tests::alloc_failure::trial::{OfWalk, Trial};
 use crate::tests::alloc_failure::{Row, fail_each_in_turn, fail_each_over_walks};
+use crate::tests::runs::words;
 use crate::tests::{holds, same};
 use determinize_below::{Look, LookSet, NFA, SparseSet, SparseSets, StateID, Unit};
 use determinize_core::determinize::{
@@ -30,26 +31,14 @@ use std::sync::ledger::{Blank, Ledger};
 use std::test::Fail;
 
 /// The closures of the start states of walks, and one with a state visited before, each with the
-/// final set.
-static CLOSURES: [(&str, &str); 5] = [
-    ("closure from=0 | U:1,2,3 M:2 M:0 M:1", "0,1,2,3"),
-    (
-        "closure from=0 | BU:4,1 B:00-ff>0 L:WordAscii>5 B:25>5 BU:2,3 BU:4,6 M:0",
-        "0,4,2,3,1",
-    ),
-    (
-        "closure from=4 | BU:4,1 B:00-ff>0 L:WordAscii>5 B:25>5 BU:2,3 BU:4,6 M:0",
-        "4,2,3",
-    ),
-    (
-        "closure from=4 look=WordAscii held=5 | BU:4,1 B:00-ff>0 L:WordAscii>5 B:25>5 BU:2,3 BU:4,6 M:0",
-        "5,4,2,3",
-    ),
-    (
-        "closure from=0 | BU:2,1 B:00-ff>0 U:3,6 B:61-7a>4 BU:3,5 M:0 B:30-39>7 BU:6,8 M:1",
-        "0,2,3,6,1",
-    ),
-];
+/// final set after an arrow.
+const CLOSURES: &str = "\
+closure from=0 | U:1,2,3 M:2 M:0 M:1 => 0,1,2,3
+closure from=0 | BU:4,1 B:00-ff>0 L:WordAscii>5 B:25>5 BU:2,3 BU:4,6 M:0 => 0,4,2,3,1
+closure from=4 | BU:4,1 B:00-ff>0 L:WordAscii>5 B:25>5 BU:2,3 BU:4,6 M:0 => 4,2,3
+closure from=4 look=WordAscii held=5 | BU:4,1 B:00-ff>0 L:WordAscii>5 B:25>5 BU:2,3 BU:4,6 M:0 => 5,4,2,3
+closure from=0 | BU:2,1 B:00-ff>0 U:3,6 B:61-7a>4 BU:3,5 M:0 B:30-39>7 BU:6,8 M:1 => 0,2,3,6,1
+";
 
 /// A closure to compute: its NFA, which starts where the closure does, assertions, and states
 /// visited before.
@@ -101,12 +90,18 @@ pub fn close<R: Abort, A: Allocator + Copy>(
     Ok(())
 }
 
+/// Computes the closure of a job while each allocation fails in turn.
+fn fail_each_in_closure<R: Abort + AllocGlobal>(rt: &R, job: &str, ids: &str) -> Result<(), Fail> {
+    let wanted = state_ids(rt.alloc(), ids)?;
+    let closing = Closing::of(rt.alloc(), Job::read(job)?.fields())?;
+    fail_each_in_turn(rt, &Trial::Close(&closing, wanted.as_slice()))
+}
+
 #[test]
 fn closures(rt: HostRuntime) -> Result<(), Fail> {
-    for (line, wanted) in &CLOSURES {
-        let closing = Closing::of(rt.alloc(), Job::read(line)?.fields())?;
-        let wanted = state_ids(rt.alloc(), wanted)?;
-        fail_each_in_turn(&rt, &Trial::Close(&closing, wanted.as_slice()))?;
+    for line in CLOSURES.lines() {
+        let (job, ids) = line.split_once(" => ").unwrap_or((line, ""));
+        fail_each_in_closure(&rt, job, ids)?;
     }
     Ok(())
 }
@@ -137,6 +132,22 @@ fn after_start<A: Allocator>(alloc: A) -> Result<StateBuilderNFA<A>, AllocError>
     Ok(builder)
 }
 
+/// Returns a builder with an assertion and the states of a set of only the start state of a walk.
+fn with_set<A: Allocator + Copy>(alloc: A, row: &Row) -> Result<StateBuilderNFA<A>, TextError> {
+    let mut builder = after_start(alloc)?;
+    let set = records::set(alloc, row.nfa.len(), &[row.nfa.start_anchored()])?;
+    add_nfa_states(&row.nfa, &set, &mut builder)?;
+    Ok(builder)
+}
+
+/// Returns a builder with an assertion and the start state of a walk.
+fn with_state<A: Allocator>(alloc: A, row: &Row) -> Result<StateBuilderNFA<A>, AllocError> {
+    let mut builder = after_start(alloc)?;
+    add_state(&row.nfa, row.nfa.start_anchored(), &mut builder)?;
+    builder.settle();
+    Ok(builder)
+}
+
 /// Records only the start state of a walk. The builder must be as if a set of this one state had
 /// been recorded.
 pub fn record_one<R: Abort, A: Allocator + Copy>(
@@ -144,12 +155,8 @@ pub fn record_one<R: Abort, A: Allocator + Copy>(
     alloc: A,
     row: &Row,
 ) -> Result<(), TextError> {
-    let id = row.nfa.start_anchored();
-    let (mut wanted, mut builder) = (after_start(alloc)?, after_start(alloc)?);
-    let set = records::set(alloc, row.nfa.len(), &[id])?;
-    add_nfa_states(&row.nfa, &set, &mut wanted)?;
-    add_state(&row.nfa, id, &mut builder)?;
-    builder.settle();
+    let wanted = with_set(alloc, row)?;
+    let builder = with_state(alloc, row)?;
     same(rt, builder.as_bytes(), wanted.as_bytes());
     Ok(())
 }
@@ -201,24 +208,40 @@ fn step<A: Allocator + Copy>(
     }
 }
 
+/// Takes the steps of a walk from its first state, and compares each state.
+fn step_each<R: Abort, A: Allocator + Copy>(
+    rt: &R,
+    row: &Row,
+    is_counted: bool,
+    sparses: &mut SparseSets<A>,
+    stack: &mut Vec<StateID, A>,
+    first: StateBuilderNFA<A>,
+) -> Result<(), AllocError>
+    requires scratch { IsScratch row.now.nfa sparses.old.set1 sparses.old.set2 stack.old.items }
+    requires resolve { AllResolve row.now.nfa first.states }
+{
+    let mut state = first;
+    for (index, bytes) in row.states.iter().skip(1).enumerate() {
+        let unit = Unit::from(row.unit(index));
+        state = step(row, is_counted, sparses, stack, state, unit)?;
+        same(rt, state.as_bytes(), bytes.as_slice());
+    }
+    Ok(())
+}
+
 /// Makes a walk by single steps, and compares each state.
 pub fn walk<R: Abort, A: Allocator + Copy>(
     rt: &R,
     alloc: A,
     row: &Row,
     is_counted: bool,
-) -> Result<(), TextError> {
+) -> Result<(), AllocError> {
     let (nfa, start) = (&row.nfa, row.nfa.start_anchored());
     let mut sparses = SparseSets::new(alloc, nfa.len())?;
     let (mut stack, empty) = (Vec::new(alloc), StateBuilderEmpty::new(alloc));
-    let mut state = start_state(nfa, start, row.look_behind, &mut sparses, &mut stack, empty)?;
-    same(rt, state.as_bytes(), row.bytes(0));
-    for (index, bytes) in row.states.iter().skip(1).enumerate() {
-        let unit = Unit::from(row.unit(index));
-        state = step(row, is_counted, &mut sparses, &mut stack, state, unit)?;
-        same(rt, state.as_bytes(), bytes.as_slice());
-    }
-    Ok(())
+    let first = start_state(nfa, start, row.look_behind, &mut sparses, &mut stack, empty)?;
+    same(rt, first.as_bytes(), row.bytes(0));
+    step_each(rt, row, is_counted, &mut sparses, &mut stack, first)
 }
 
 /// Makes a whole walk.
@@ -269,11 +292,9 @@ pub fn print<R: Abort + AllocGlobal, A: Allocator + Copy>(
 #[test]
 fn prints_each_walk_or_fails_to_allocate(rt: HostRuntime) -> Result<(), Fail> {
     for example in examples() {
-        let words = vec![in rt.alloc(); String::from_str(rt.alloc(), example.name)?]?;
-        fail_each_in_turn(
-            &rt,
-            &Trial::Print(words.as_slice(), output_of(example.name)),
-        )?;
+        let words = words(&rt, example.name)?;
+        let lines = output_of(example.name);
+        fail_each_in_turn(&rt, &Trial::Print(words.as_slice(), lines))?;
     }
     Ok(())
 }

@@ -35,16 +35,8 @@ pub enum OfWalk {
     Steps(bool),
     /// Makes it.
     Walk,
-    /// Makes it through a cache of this limit.
-    WalkCached(usize),
-    /// Searches its text through a cache of this limit.
-    Search(usize),
-    /// Searches its text as a haystack through caches of this limit, for its match and for any.
-    SearchInput(usize),
-    /// Scans its text in pieces through a cache of this limit.
-    Scan(usize),
-    /// Makes it by steps through a cache of this limit.
-    WalkBySteps(usize),
+    /// Makes it, or searches its text, through a cache of this limit.
+    Cached(caches::Call, usize),
 }
 
 impl Trial<'_> {
@@ -76,13 +68,9 @@ impl OfWalk {
             OfWalk::CopyStates => values::copy_states(rt, alloc, row),
             OfWalk::Record => steps::record(rt, alloc, row),
             OfWalk::RecordOne => steps::record_one(rt, alloc, row),
-            OfWalk::Steps(is_counted) => steps::walk(rt, alloc, row, is_counted),
+            OfWalk::Steps(is_counted) => Ok(steps::walk(rt, alloc, row, is_counted)?),
             OfWalk::Walk => steps::walk_at_once(rt, alloc, row),
-            OfWalk::WalkCached(limit) => caches::walk(rt, alloc, row, limit),
-            OfWalk::Search(limit) => caches::search(rt, alloc, row, limit),
-            OfWalk::SearchInput(limit) => caches::search_input(rt, alloc, row, limit),
-            OfWalk::Scan(limit) => caches::scan(rt, alloc, row, limit),
-            OfWalk::WalkBySteps(limit) => caches::walk_by_steps(rt, alloc, row, limit),
+            OfWalk::Cached(call, limit) => Ok(caches::make(rt, alloc, row, call, limit)?),
         }
     }
 }

@@ -1,5 +1,7 @@
 //! Builders, and the states that they build.
 
+ghost use Rattle.std.specs.Prelude.{◌≡◌, []};
+
 use crate::tests::alloc_failure::trial::{OfWalk, Trial};
 use crate::tests::alloc_failure::{Row, fail_each_in_turn, fail_each_over_walks};
 use crate::tests::same;
@@ -11,15 +13,27 @@ use std::alloc::{AllocError, Allocator};
 use std::process::Abort;
 use std::test::Fail;
 
+/// Adds the patterns of a state to a builder that has none.
+fn copy_patterns<A: Allocator + Copy>(
+    alloc: A,
+    builder: &mut StateBuilderMatches<A>,
+    state: &State<A>,
+) -> Result<(), TextError>
+    requires { builder.old.patterns ≡ [] }
+{
+    match state.match_pattern_ids()? {
+        Some(ids) => add_patterns(alloc, builder, ids.as_slice()),
+        None => Ok(()),
+    }
+}
+
 /// Returns a builder with the patterns of a state.
 fn with_patterns<A: Allocator + Copy>(
     alloc: A,
     state: &State<A>,
 ) -> Result<StateBuilderMatches<A>, TextError> {
     let mut builder = StateBuilderEmpty::new(alloc).clone()?.into_matches()?;
-    if let Some(ids) = state.match_pattern_ids()? {
-        add_patterns(alloc, &mut builder, ids.as_slice())?;
-    }
+    copy_patterns(alloc, &mut builder, state)?;
     Ok(builder)
 }
 

@@ -1,6 +1,8 @@
 //! The calls that do not allocate: they succeed while every allocation would fail, and request
 //! none.
 
+ghost use Rattle.std.specs.Prelude.{◌<◌, length};
+
 use crate::tests::alloc_failure::steps::start_kind;
 use crate::tests::alloc_failure::values::{builder_of, clone_of};
 use crate::tests::alloc_failure::{Heap, Row, rows};
@@ -107,8 +109,30 @@ fn begin_walk<R: Abort, A: Allocator>(
     Ok(())
 }
 
-/// Computes the closures of all epsilon states with a stack of more capacity than any example walk
-/// needs, and of all others with one of no capacity, each into an empty set.
+/// Computes the closure of a state into an empty set, with a stack of more capacity than any walk
+/// of an example needs if it is an epsilon state, and otherwise with one of no capacity.
+fn close<R: Abort, A: Allocator + Copy>(
+    rt: &R,
+    heap: &Heap,
+    alloc: A,
+    row: &Row,
+    number: usize,
+    set: &mut SparseSet<A>,
+) -> Result<(), AllocError>
+    requires { number < length row.now.nfa.states }
+{
+    assert_eq!(rt; set.capacity(), row.nfa.len());
+    let id = StateID::must(number);
+    let is_epsilon = row.nfa.state(id).is_epsilon();
+    let mut stack = Vec::with_capacity(alloc, if is_epsilon { 100 } else { 0 })?;
+    heap.begin();
+    epsilon_closure(&row.nfa, id, LookSet::empty(), &mut stack, set)?;
+    set.clear();
+    heap.end();
+    Ok(())
+}
+
+/// Computes the closures of all states.
 fn close_each<R: Abort, A: Allocator + Copy>(
     rt: &R,
     heap: &Heap,
@@ -117,14 +141,7 @@ fn close_each<R: Abort, A: Allocator + Copy>(
 ) -> Result<(), AllocError> {
     let mut set = SparseSet::new(alloc, row.nfa.len())?;
     for number in 0..row.nfa.len() {
-        let id = StateID::must(number);
-        let is_epsilon = row.nfa.state(id).is_epsilon();
-        let mut stack = Vec::with_capacity(alloc, if is_epsilon { 100 } else { 0 })?;
-        assert_eq!(rt; set.capacity(), row.nfa.len());
-        heap.begin();
-        epsilon_closure(&row.nfa, id, LookSet::empty(), &mut stack, &mut set)?;
-        set.clear();
-        heap.end();
+        close(rt, heap, alloc, row, number, &mut set)?;
     }
     same(rt, set.len(), 0);
     Ok(())
@@ -142,11 +159,8 @@ fn make_cache<R: Abort, A: Allocator + Copy>(
     same(rt, (lazy.states_kept(), lazy.computed()), (0, 0));
     lazy.clear();
     heap.end();
-    lazy.walk(
-        row.nfa.start_anchored(),
-        row.look_behind,
-        row.text.as_slice(),
-    )?;
+    let (start, text) = (row.nfa.start_anchored(), row.text.as_slice());
+    lazy.walk(start, row.look_behind, text)?;
     heap.begin();
     holds(rt, lazy.states_kept() > 0 && lazy.computed() > 0);
     lazy.clear();
@@ -172,18 +186,30 @@ fn search_each<A: Allocator + Copy>(
 fn search_cached<R: Abort, A: Allocator + Copy>(
     rt: &R,
     heap: &Heap,
-    alloc: A,
+    lazy: &mut Lazy<'_, Global, A>,
     row: &Row,
-    kind: MatchKind,
 ) -> Result<(), AllocError> {
-    let mut lazy = Lazy::new(alloc, &row.nfa, kind, 100);
-    search_each(&mut lazy, row)?;
-    let wanted = search_each(&mut lazy, row)?;
+    search_each(lazy, row)?;
+    let wanted = search_each(lazy, row)?;
     let computed = lazy.computed();
     heap.begin();
-    let found = search_each(&mut lazy, row)?;
+    let found = search_each(lazy, row)?;
     heap.end();
     holds(rt, found == wanted && lazy.computed() == computed);
+    Ok(())
+}
+
+/// Searches through a cache under each match kind.
+fn search_under_each<R: Abort, A: Allocator + Copy>(
+    rt: &R,
+    heap: &Heap,
+    alloc: A,
+    row: &Row,
+) -> Result<(), AllocError> {
+    for kind in [MatchKind::All, MatchKind::LeftmostFirst] {
+        let mut lazy = Lazy::new(alloc, &row.nfa, kind, 100);
+        search_cached(rt, heap, &mut lazy, row)?;
+    }
     Ok(())
 }
 
@@ -235,8 +261,7 @@ fn walk<R: Abort, A: Allocator + Copy>(
     make_cache(rt, heap, alloc, row)?;
     close_each(rt, heap, alloc, row)?;
     read_states(rt, heap, alloc, row)?;
-    search_cached(rt, heap, alloc, row, MatchKind::All)?;
-    search_cached(rt, heap, alloc, row, MatchKind::LeftmostFirst)
+    search_under_each(rt, heap, alloc, row)
 }
 
 #[test]

@@ -1,6 +1,6 @@
 use Rattle.determinize_below.specs.Nfa.{AllResolve}
 use Rattle.determinize_core.specs.Scratch.{IsScratch}
-use Rattle.determinize_bench.proofs.tests.alloc_failure.steps.walk.Given as goal
+use Rattle.determinize_bench.proofs.tests.alloc_failure.steps.step_each.Given as goal
 
 -- the state is one of this NFA, and the scratch can be used again
 abbrev pub invariant-loop-index : goal.invariant-loop-index
