@@ -8,6 +8,7 @@
 //! - [`scanner`] finds all matches of a haystack, and [`lexer`] the longest token at each position.
 //!   [`steady`] finds all matches and never allocates while it runs.
 //! - [`input`] finds whether a haystack has a match, and both ends of the preferred one.
+//! - [`strings`] prints where strings in double quotes are in an input that it reads in pieces.
 //! - [`search`] and [`cache`] search and walk many texts through one cache.
 //! - [`walk`] finds the preferred match without a cache, and [`counted`] makes one counted step.
 //! - [`dfa`] builds the smallest whole DFA, and lists the patterns that match at a position.
@@ -26,6 +27,7 @@ pub mod scanner;
 pub mod search;
 pub mod steady;
 pub mod steps;
+pub mod strings;
 pub mod values;
 pub mod walk;
 pub mod words;

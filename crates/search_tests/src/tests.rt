@@ -12,11 +12,13 @@ mod pieces;
 mod reading;
 mod sizes;
 mod stored_walks;
+mod strings;
 mod trial;
 mod uses;
 
 use determinize_below::{HalfMatch, PatternID};
-use std::fmt::Debug;
+use std::alloc::AllocError;
+use std::fmt::{Debug, Display};
 use std::process::Abort;
 
 /// Asserts that two values are equal.
@@ -27,6 +29,28 @@ pub fn same<R: Abort, T: PartialEq + Debug + Copy>(rt: &R, found: T, wanted: T) 
 /// Asserts a condition.
 pub fn holds<R: Abort>(rt: &R, is_so: bool) {
     assert!(rt; is_so);
+}
+
+/// Asserts that a value has this text.
+pub fn expect_text<R: Abort + AllocGlobal, T: Display>(
+    rt: &R,
+    value: &T,
+    wanted: &str,
+) -> Result<(), AllocError> {
+    let text = format!(in rt.alloc(); "{value}")?;
+    same(rt, text.as_str(), wanted);
+    Ok(())
+}
+
+/// Asserts that a value has this `Debug` text.
+pub fn expect_debug<R: Abort + AllocGlobal, T: Debug>(
+    rt: &R,
+    value: &T,
+    wanted: &str,
+) -> Result<(), AllocError> {
+    let text = format!(in rt.alloc(); "{value:?}")?;
+    same(rt, text.as_str(), wanted);
+    Ok(())
 }
 
 /// Returns the match of pattern 0 that ends at this offset.

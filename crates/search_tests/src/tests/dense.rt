@@ -4,18 +4,18 @@
 ghost use Rattle.std.specs.Prelude.{◌≡◌, IfOk, false};
 
 use crate::tests::stored_walks::STORED;
-use crate::tests::{ended, same};
+use crate::tests::{ended, expect_debug, expect_text, same};
 use determinize_below::{Anchored, Input, LookMatcher, MatchKind, NFA, PatternID, StateID};
-use determinize_core::state::State;
 use determinize_dense::{Dfa, DfaError};
 use determinize_replay::outputs::output_of;
+use determinize_uses::dfa::smallest;
 use example_walks::error::TextError;
 use example_walks::examples::examples;
 use example_walks::fields::Fields;
 use example_walks::values::LastMatch;
 use example_walks::{states, walk};
 use failing_alloc::FailingAllocator;
-use std::alloc::{Allocator, Global};
+use std::alloc::{AllocError, Allocator, Global};
 use std::process::Abort;
 use std::test::Fail;
 
@@ -23,18 +23,31 @@ use std::test::Fail;
 /// kinds, with all starts, and the smallest of them.
 struct Row {
     states: &'static str,
-    start_anchored: u32,
+    start_anchored: u8,
     all: usize,
     leftmost_first: usize,
     smallest_all: usize,
     smallest_first: usize,
 }
 
+/// The states of `\b\w+\b`.
+pub const WORD: &str = "L:WordAscii>1 S:30-39>2,41-5a>2,5f-5f>2,61-7a>2 BU:1,3 L:WordAscii>4 M:0";
+
+/// The states of `[a-z]+`, which is pattern 0, and `[0-9]+`, pattern 1, after the prefix
+/// `(?s-u:.)*?`.
+pub const TOKENS: &str = "BU:2,1 B:00-ff>0 U:3,6 B:61-7a>4 BU:3,5 M:0 B:30-39>7 BU:6,8 M:1";
+
+/// The states of `foo[0-9]+|bar`, as the original compiles it without captures: state 2 is the
+/// anchored start, and state 0 begins the prefix `(?s-u:.)*?`. Both alternates, and the union of
+/// the repetition, go to the one `Match` state.
+pub const FOO_OR_BAR: &str = "\
+BU:2,1 B:00-ff>0 BU:3,8 B:66>4 B:6f>5 B:6f>6 B:30-39>7 BU:6,11 B:62>9 B:61>10 B:72>11 M:0";
+
 /// `\b\w+\b`, and after the prefix `foo[0-9]+|bar`, `(?:\b|%)+`, `[a-z]+` with `[0-9]+`, and
 /// `(?mR)$`. A program that shares no code with this one has counted the states.
 static ROWS: [Row; 5] = [
     Row {
-        states: "L:WordAscii>1 S:30-39>2,41-5a>2,5f-5f>2,61-7a>2 BU:1,3 L:WordAscii>4 M:0",
+        states: WORD,
         start_anchored: 0,
         all: 5,
         leftmost_first: 5,
@@ -42,7 +55,7 @@ static ROWS: [Row; 5] = [
         smallest_first: 4,
     },
     Row {
-        states: "BU:2,1 B:00-ff>0 BU:3,8 B:66>4 B:6f>5 B:6f>6 B:30-39>7 BU:6,11 B:62>9 B:61>10 B:72>11 M:0",
+        states: FOO_OR_BAR,
         start_anchored: 2,
         all: 23,
         leftmost_first: 19,
@@ -58,7 +71,7 @@ static ROWS: [Row; 5] = [
         smallest_first: 8,
     },
     Row {
-        states: "BU:2,1 B:00-ff>0 U:3,6 B:61-7a>4 BU:3,5 M:0 B:30-39>7 BU:6,8 M:1",
+        states: TOKENS,
         start_anchored: 2,
         all: 17,
         leftmost_first: 11,
@@ -85,11 +98,12 @@ pub fn nfa(alloc: Global, states: &str, start_anchored: StateID) -> Result<NFA, 
     Ok(nfa)
 }
 
-/// Returns the number of states of a DFA that was built.
-fn count<A: Allocator + Copy>(
-    built: Result<Dfa<'_, Global, A>, DfaError>,
-) -> Result<usize, DfaError> {
-    Ok(built?.len())
+/// Returns the number of states of a DFA.
+fn count(alloc: Global, nfa: &NFA, kind: MatchKind, limit: usize) -> Result<usize, DfaError> {
+    match Dfa::build(alloc, nfa, kind, limit) {
+        Ok(dfa) => Ok(dfa.len()),
+        Err(error) => Err(error),
+    }
 }
 
 /// Asserts that a DFA has this number of states: it is built with this limit and with one more,
@@ -99,35 +113,37 @@ fn expect_counts<R: Abort + AllocGlobal>(
     nfa: &NFA,
     kind: MatchKind,
     wanted: usize,
-    smallest: usize,
-) -> Result<(), Fail> {
-    let fewer = wanted.saturating_sub(1);
-    for (limit, wanted) in [
-        (fewer, Err(DfaError::TooManyStates)),
-        (wanted, Ok(wanted)),
-        (wanted.saturating_add(1), Ok(wanted)),
-    ] {
-        same(rt, count(Dfa::build(rt.alloc(), nfa, kind, limit)), wanted);
-    }
-    let dfa = Dfa::build(rt.alloc(), nfa, kind, wanted)?;
-    same(rt, dfa.minimize(rt.alloc())?.len(), smallest);
+    least: usize,
+) -> Result<(), DfaError> {
+    let (fewer, more) = (wanted.saturating_sub(1), wanted.saturating_add(1));
+    let too_many = Err(DfaError::TooManyStates);
+    same(rt, count(rt.alloc(), nfa, kind, fewer), too_many);
+    same(rt, count(rt.alloc(), nfa, kind, wanted), Ok(wanted));
+    same(rt, count(rt.alloc(), nfa, kind, more), Ok(wanted));
+    same(rt, smallest(rt.alloc(), nfa, kind, wanted)?.len(), least);
+    Ok(())
+}
+
+/// Asserts the numbers of states of a row.
+fn expect_row<R: Abort + AllocGlobal>(rt: &R, row: &Row) -> Result<(), Fail> {
+    let start = StateID::must(usize::from(row.start_anchored));
+    let nfa = nfa(rt.alloc(), row.states, start)?;
+    let (all, first) = (MatchKind::All, MatchKind::LeftmostFirst);
+    expect_counts(rt, &nfa, all, row.all, row.smallest_all)?;
+    expect_counts(rt, &nfa, first, row.leftmost_first, row.smallest_first)?;
     Ok(())
 }
 
 #[test]
 fn dense_counts(rt: HostRuntime) -> Result<(), Fail> {
     for row in &ROWS {
-        let start = StateID::new(row.start_anchored as usize)?;
-        let nfa = nfa(rt.alloc(), row.states, start)?;
-        let (all, first) = (MatchKind::All, MatchKind::LeftmostFirst);
-        expect_counts(&rt, &nfa, all, row.all, row.smallest_all)?;
-        expect_counts(&rt, &nfa, first, row.leftmost_first, row.smallest_first)?;
+        expect_row(&rt, row)?;
     }
     Ok(())
 }
 
 /// The text of a walk, and the bytes around it.
-#[derive(Clone, Copy)]
+#[derive(Drop)]
 struct Around<'t> {
     look_behind: Option<u8>,
     text: &'t [u8],
@@ -141,37 +157,21 @@ fn expect_found<R: Abort + AllocGlobal>(
     around: &Around<'_>,
     last: &str,
     patterns: &[PatternID],
-) -> Result<(), Fail> {
+) -> Result<(), AllocError> {
     let (behind, text, ahead) = (around.look_behind, around.text, around.look_ahead);
-    let found = LastMatch(dfa.search(Anchored::Yes, behind, text, ahead));
-    let found = format!(in rt.alloc(); "{found}")?;
-    same(rt, found.as_str(), last);
-    same(
-        rt,
-        dfa.patterns_after(Anchored::Yes, behind, text, ahead),
-        patterns,
-    );
-    Ok(())
+    let found = dfa.patterns_after(Anchored::Yes, behind, text, ahead);
+    same(rt, found, patterns);
+    let found = dfa.search(Anchored::Yes, behind, text, ahead);
+    expect_text(rt, &LastMatch(found), last)
 }
 
-/// Asserts it of a DFA and of the smallest one.
-fn expect_both<R: Abort + AllocGlobal>(
-    rt: &R,
-    dfa: &Dfa<'_>,
-    around: &Around<'_>,
-    last: &str,
-    patterns: &[PatternID],
-) -> Result<(), Fail> {
-    expect_found(rt, dfa, around, last, patterns)?;
-    expect_found(rt, &dfa.minimize(rt.alloc())?, around, last, patterns)
-}
-
-/// Returns the patterns of the last of these states.
-fn last_patterns(alloc: Global, states: &[State]) -> Result<Vec<PatternID>, TextError> {
-    let Some(last) = states.last() else {
-        return Ok(Vec::new(alloc));
-    };
-    Ok(last.match_pattern_ids()?.unwrap_or(Vec::new(alloc)))
+/// Returns the patterns of the last state of a walk.
+fn last_patterns(alloc: Global, fields: &Fields<'_>) -> Result<Vec<PatternID>, TextError> {
+    let states = walk::walk(alloc, fields)?;
+    match states.last() {
+        Some(last) => Ok(last.match_pattern_ids()?.unwrap_or(Vec::new(alloc))),
+        None => Ok(Vec::new(alloc)),
+    }
 }
 
 /// Asserts that searches of the text of a walk by a DFA and by the smallest one have its last
@@ -181,81 +181,133 @@ fn expect_walk<R: Abort + AllocGlobal>(
     fields: &Fields<'_>,
     dfa: &Dfa<'_>,
     last: &str,
-) -> Result<(), Fail> {
+) -> Result<(), TextError> {
+    let (look_behind, look_ahead) = (fields.look_behind()?, fields.look_ahead()?);
+    let least = dfa.minimize(rt.alloc())?;
     let text = fields.text(rt.alloc())?;
     let around = Around {
-        look_behind: fields.look_behind()?,
+        look_behind,
         text: text.as_slice(),
-        look_ahead: fields.look_ahead()?,
+        look_ahead,
     };
-    let states = walk::walk(rt.alloc(), fields)?;
-    let patterns = last_patterns(rt.alloc(), states.as_slice())?;
-    expect_both(rt, dfa, &around, last, patterns.as_slice())
+    let patterns = last_patterns(rt.alloc(), fields)?;
+    expect_found(rt, dfa, &around, last, patterns.as_slice())?;
+    expect_found(rt, &least, &around, last, patterns.as_slice())?;
+    Ok(())
 }
 
-/// Builds the DFA of a walk, of at most 1000 states, and asserts it of both. Returns whether there
-/// are so few.
-fn expect_job<R: Abort + AllocGlobal>(rt: &R, line: &str, last: &str) -> Result<bool, Fail> {
+/// Builds the DFA of a walk, of at most 1000 states, and asserts it of both.
+fn expect_job<R: Abort + AllocGlobal>(rt: &R, line: &str, last: &str) -> Result<(), Fail> {
     let (_, fields) = Fields::split(line);
-    let nfa = fields.nfa_from(rt.alloc(), fields.start()?)?;
-    match Dfa::build(rt.alloc(), &nfa, fields.match_kind()?, 1000) {
-        Ok(dfa) => expect_walk(rt, &fields, &dfa, last)?,
-        Err(error) => {
-            same(rt, error, DfaError::TooManyStates);
-            return Ok(false);
-        }
-    }
-    Ok(true)
+    let (start, kind) = (fields.start()?, fields.match_kind()?);
+    let nfa = fields.nfa_from(rt.alloc(), start)?;
+    let dfa = Dfa::build(rt.alloc(), &nfa, kind, 1000)?;
+    expect_walk(rt, &fields, &dfa, last)?;
+    Ok(())
 }
 
-/// Each of the 45 examples and 42 stored walks has a DFA of at most 1000 states.
+/// Each of the 45 examples has a DFA of at most 1000 states.
 #[test]
-fn dense_walks(rt: HostRuntime) -> Result<(), Fail> {
-    let mut count = 0u32;
+fn dense_examples(rt: HostRuntime) -> Result<(), Fail> {
     for example in examples() {
         let last = output_of(example.name).lines().last().unwrap_or("");
-        same(&rt, expect_job(&rt, example.job, last)?, true);
-        count = count.saturating_add(1);
+        expect_job(&rt, example.job, last)?;
     }
+    same(&rt, examples().len(), 45);
+    Ok(())
+}
+
+/// Each of the 42 stored walks has a DFA of at most 1000 states.
+#[test]
+fn dense_walks(rt: HostRuntime) -> Result<(), Fail> {
     for line in STORED.lines() {
         let (job, last) = line.split_once(" = ").unwrap_or((line, ""));
-        same(&rt, expect_job(&rt, job, last)?, true);
-        count = count.saturating_add(1);
+        expect_job(&rt, job, last)?;
     }
-    same(&rt, count, 87);
+    same(&rt, STORED.lines().count(), 42);
     Ok(())
 }
 
-/// Asserts that these patterns match where a text ends, most preferred first.
-fn expect_patterns<R: Abort + AllocGlobal>(
-    rt: &R,
-    nfa: &NFA,
+/// The states of an NFA, a match kind, a text with the byte after it, and the patterns that match
+/// where the text ends, most preferred first.
+struct List {
+    states: &'static str,
     kind: MatchKind,
-    text: &[u8],
+    text: &'static [u8],
     look_ahead: Option<u8>,
-    wanted: &[PatternID],
-) -> Result<(), DfaError> {
-    let dfa = Dfa::build(rt.alloc(), nfa, kind, 100)?;
-    same(
-        rt,
-        dfa.patterns_after(Anchored::Yes, None, text, look_ahead),
-        wanted,
-    );
+    patterns: &'static [usize],
+}
+
+const THREE: &str = "U:1,2,3 M:2 M:0 M:1";
+
+/// Another program has written down the lists, but that of five patterns.
+static LISTS: [List; 6] = [
+    List {
+        states: "U:1,2,3,4,5 M:4 M:3 M:2 M:1 M:0",
+        kind: MatchKind::All,
+        text: b"",
+        look_ahead: None,
+        patterns: &[4, 3, 2, 1, 0],
+    },
+    List {
+        states: THREE,
+        kind: MatchKind::All,
+        text: b"",
+        look_ahead: None,
+        patterns: &[2, 0, 1],
+    },
+    List {
+        states: THREE,
+        kind: MatchKind::LeftmostFirst,
+        text: b"",
+        look_ahead: None,
+        patterns: &[2],
+    },
+    List {
+        states: TOKENS,
+        kind: MatchKind::LeftmostFirst,
+        text: b"12",
+        look_ahead: Some(b'3'),
+        patterns: &[1],
+    },
+    List {
+        states: TOKENS,
+        kind: MatchKind::LeftmostFirst,
+        text: b"123",
+        look_ahead: Some(b' '),
+        patterns: &[1],
+    },
+    List {
+        states: TOKENS,
+        kind: MatchKind::LeftmostFirst,
+        text: b"123 foobar",
+        look_ahead: Some(b' '),
+        patterns: &[],
+    },
+];
+
+/// Asserts that these patterns match.
+pub fn expect_patterns<R: Abort>(rt: &R, found: &[PatternID], wanted: &[usize]) {
+    same(rt, found.len(), wanted.len());
+    for (found, wanted) in found.iter().zip(wanted) {
+        same(rt, found.as_usize(), *wanted);
+    }
+}
+
+/// Asserts that the patterns of a list match.
+fn expect_list<R: Abort + AllocGlobal>(rt: &R, list: &List) -> Result<(), Fail> {
+    let nfa = nfa(rt.alloc(), list.states, StateID::ZERO)?;
+    let dfa = Dfa::build(rt.alloc(), &nfa, list.kind, 100)?;
+    let found = dfa.patterns_after(Anchored::Yes, None, list.text, list.look_ahead);
+    expect_patterns(rt, found, list.patterns);
     Ok(())
 }
 
-/// Another program has written down the lists.
 #[test]
 fn dense_patterns(rt: HostRuntime) -> Result<(), Fail> {
-    let (all, first) = (MatchKind::All, MatchKind::LeftmostFirst);
-    let (zero, one, two) = (PatternID::ZERO, PatternID::must(1), PatternID::must(2));
-    let three = nfa(rt.alloc(), "U:1,2,3 M:2 M:0 M:1", StateID::ZERO)?;
-    expect_patterns(&rt, &three, all, b"", None, &[two, zero, one])?;
-    expect_patterns(&rt, &three, first, b"", None, &[two])?;
-    let words = nfa(rt.alloc(), ROWS[3].states, StateID::ZERO)?;
-    expect_patterns(&rt, &words, first, b"12", Some(b'3'), &[one])?;
-    expect_patterns(&rt, &words, first, b"123", Some(b' '), &[one])?;
-    expect_patterns(&rt, &words, first, b"123 foobar", Some(b' '), &[])?;
+    for list in &LISTS {
+        expect_list(&rt, list)?;
+    }
     Ok(())
 }
 
@@ -263,13 +315,12 @@ fn dense_patterns(rt: HostRuntime) -> Result<(), Fail> {
 /// for these and 24 for its list. One row lists a pattern: that after a word.
 #[test]
 fn dense_size_and_text(rt: HostRuntime) -> Result<(), Fail> {
-    let nfa = nfa(rt.alloc(), ROWS[0].states, StateID::ZERO)?;
+    let nfa = nfa(rt.alloc(), WORD, StateID::ZERO)?;
     let dfa = Dfa::build(rt.alloc(), &nfa, MatchKind::All, 5)?;
     same(&rt, dfa.memory_usage(), 5 * 36 + 4);
     same(&rt, dfa.minimize(rt.alloc())?.memory_usage(), 4 * 36 + 4);
-    let text = format!(in rt.alloc(); "{dfa:?}")?;
     let wanted = "Dfa { match_kind: All, len: 5, alphabet_len: 3, .. }";
-    same(&rt, text.as_str(), wanted);
+    expect_debug(&rt, &dfa, wanted)?;
     Ok(())
 }
 
@@ -289,7 +340,7 @@ pub fn build_and_minimize<R: Abort + AllocGlobal, A: Allocator + Copy>(
     rt: &R,
     alloc: A,
 ) -> Result<(), TextError> {
-    let nfa = nfa(rt.alloc(), ROWS[0].states, StateID::ZERO)?;
+    let nfa = nfa(rt.alloc(), WORD, StateID::ZERO)?;
     match Dfa::build(alloc, &nfa, MatchKind::All, 5) {
         Ok(dfa) => minimize(rt, alloc, &dfa),
         Err(error) => {
@@ -299,19 +350,28 @@ pub fn build_and_minimize<R: Abort + AllocGlobal, A: Allocator + Copy>(
     }
 }
 
+/// Searches by a DFA of `\b\w+\b` in each way, and compares what they find.
+fn expect_searches<R: Abort, A: Allocator + Copy>(rt: &R, dfa: &Dfa<'_, Global, A>) {
+    let input = Input::new(b"ab c").anchored(Anchored::Yes);
+    same(
+        rt,
+        dfa.search(Anchored::Yes, None, b"ab", Some(b' ')),
+        ended(2),
+    );
+    same(rt, dfa.search_input(&input), ended(2));
+    same(rt, dfa.is_match(&input), true);
+    let patterns = dfa.patterns_after(Anchored::Yes, None, b"ab", Some(b' '));
+    expect_patterns(rt, patterns, &[0]);
+}
+
 /// Searches of a whole DFA make no request for memory.
 #[test]
 fn searches_that_do_not_allocate(rt: HostRuntime) -> Result<(), Fail> {
     let heap = FailingAllocator::after(rt.alloc(), 0);
-    let nfa = nfa(rt.alloc(), ROWS[0].states, StateID::ZERO)?;
+    let nfa = nfa(rt.alloc(), WORD, StateID::ZERO)?;
     let dfa = Dfa::build(&heap, &nfa, MatchKind::All, 5)?;
-    let input = Input::new(b"ab c").anchored(Anchored::Yes);
     heap.begin();
-    let found = dfa.search(Anchored::Yes, None, b"ab", Some(b' '));
-    same(&rt, (found, dfa.search_input(&input)), (ended(2), ended(2)));
-    same(&rt, dfa.is_match(&input), true);
-    let patterns = dfa.patterns_after(Anchored::Yes, None, b"ab", Some(b' '));
-    same(&rt, patterns, [PatternID::ZERO].as_slice());
+    expect_searches(&rt, &dfa);
     heap.end();
     same(&rt, heap.asked(), 0);
     Ok(())

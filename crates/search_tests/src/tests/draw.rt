@@ -1,34 +1,14 @@
 //! The texts of two graphs, written by hand.
 
-use determinize_below::nfa::{SparseTransitions, State};
-use determinize_below::{
-    BuildError, Look, LookMatcher, MatchKind, NFA, PatternID, StateID, Transition,
-};
-use determinize_dense::Dfa;
+use crate::tests::dense::nfa;
+use crate::tests::expect_text;
+use determinize_below::{MatchKind, StateID};
 use determinize_draw::{DfaGraph, NfaGraph};
-use std::alloc::Global;
-use std::process::Abort;
+use determinize_uses::dfa::smallest;
 use std::test::Fail;
 
-/// Returns the NFA of `\b[0-9]`, with a state for `[a-z]` that no match follows.
-fn digit(alloc: Global) -> Result<NFA, BuildError> {
-    let mut states = Vec::new(alloc);
-    let (look, next) = (Look::WordAscii, StateID::must(1));
-    states.push(State::Look { look, next })?;
-    let mut transitions = Vec::new(alloc);
-    let (start, end, next) = (b'0', b'9', StateID::must(2));
-    transitions.push(Transition { start, end, next })?;
-    let (start, end, next) = (b'a', b'z', StateID::must(3));
-    transitions.push(Transition { start, end, next })?;
-    states.push(State::Sparse(SparseTransitions { transitions }))?;
-    let next = StateID::must(4);
-    states.push(State::Capture { next })?;
-    states.push(State::Fail)?;
-    let pattern_id = PatternID::ZERO;
-    states.push(State::Match { pattern_id })?;
-    let matcher = LookMatcher::new();
-    NFA::from_parts(alloc, states, StateID::ZERO, StateID::ZERO, false, matcher)
-}
+/// The states of `\b[0-9]`, with one for `[a-z]` that no match follows.
+const DIGIT: &str = "L:WordAscii>1 S:30-39>2,61-7a>3 C:4 F M:0";
 
 const NFA_TEXT: &str = r#"digraph nfa {
   rankdir=LR;
@@ -62,19 +42,11 @@ const DFA_TEXT: &str = r#"digraph dfa {
 }
 "#;
 
-/// Compares the graph of a DFA.
-fn expect_dfa<R: Abort + AllocGlobal>(rt: &R, dfa: &Dfa<'_>) -> Result<(), Fail> {
-    let graph = DfaGraph::new(dfa);
-    let text = format!(in rt.alloc(); "{graph}")?;
-    assert_eq!(rt; text.as_str(), DFA_TEXT);
-    Ok(())
-}
-
 #[test]
 fn graphs(rt: HostRuntime) -> Result<(), Fail> {
-    let nfa = digit(rt.alloc())?;
-    let text = format!(in rt.alloc(); "{}", NfaGraph::new(&nfa))?;
-    assert_eq!(&rt; text.as_str(), NFA_TEXT);
-    let dfa = Dfa::build(rt.alloc(), &nfa, MatchKind::All, 100)?.minimize(rt.alloc())?;
-    expect_dfa(&rt, &dfa)
+    let nfa = nfa(rt.alloc(), DIGIT, StateID::ZERO)?;
+    expect_text(&rt, &NfaGraph::new(&nfa), NFA_TEXT)?;
+    let dfa = smallest(rt.alloc(), &nfa, MatchKind::All, 100)?;
+    expect_text(&rt, &DfaGraph::new(&dfa), DFA_TEXT)?;
+    Ok(())
 }

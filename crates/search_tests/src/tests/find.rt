@@ -1,21 +1,19 @@
 //! The leftmost match and all matches, with both ends: by `plain`, by a `Regex` over two caches or
 //! over two whole DFAs, and of a text in pieces.
 
-ghost use Rattle.std.specs.Prelude.{◌≡◌, IfOk, false, true};
+ghost use Rattle.std.specs.Prelude.{◌≡◌, IfOk, false};
 ghost use Rattle.determinize_below.specs.declared.search.MatchKind.TheVariants as kinds;
 ghost use Rattle.determinize_find.specs.Prefix.{HasPrefix};
 ghost use Rattle.determinize_find.specs.Reversal.{IsReverseOf};
-ghost use Rattle.determinize_engine.specs.Searches.{has_start};
 
 use crate::tests::trial::{Trial, fail_each_in_turn, succeed_if};
-use crate::tests::{ended, same};
-use determinize_below::{Input, LookMatcher, MatchKind, NFA, StateID};
+use crate::tests::{dense, ended, same};
+use determinize_below::{Input, MatchKind, NFA, StateID};
 use determinize_dense::Dfa;
 use determinize_find::{LazyRegex, Match, Pieces, Regex, Searcher, has_prefix, plain, reversed};
 use determinize_lazy::Lazy;
 use determinize_uses::steady;
 use example_walks::error::{Part, TextError};
-use example_walks::states;
 use std::alloc::{AllocError, Allocator, Global};
 use std::process::Abort;
 use std::test::Fail;
@@ -89,9 +87,7 @@ pub fn nfa(alloc: Global, states: &str) -> Result<NFA, TextError>
     ensures forward { IfOk result (λ nfa. nfa.reverse ≡ false) }
     ensures prefix { IfOk result (λ nfa. HasPrefix nfa) }
 {
-    let states = states::states(alloc, states)?;
-    let (anchored, matcher) = (StateID::must(2), LookMatcher::new());
-    let nfa = NFA::from_parts(alloc, states, anchored, StateID::ZERO, false, matcher)?;
+    let nfa = dense::nfa(alloc, states, StateID::must(2))?;
     if has_prefix(&nfa) {
         Ok(nfa)
     } else {
@@ -101,7 +97,10 @@ pub fn nfa(alloc: Global, states: &str) -> Result<NFA, TextError>
 
 /// Returns the pattern and the ends of a match.
 fn ends_of(found: Option<Match>) -> Option<Ends> {
-    found.map(|m| (m.pattern.as_usize(), m.start, m.end))
+    match found {
+        Some(m) => Some((m.pattern.as_usize(), m.start, m.end)),
+        None => None,
+    }
 }
 
 /// Compares matches with their patterns and ends.
@@ -113,7 +112,6 @@ pub fn expect_matches<R: Abort>(rt: &R, found: &[Match], wanted: &[Ends]) {
 }
 
 /// A search by `plain`.
-#[derive(Clone, Copy)]
 pub enum PlainSearch {
     /// For the first match.
     Find,
@@ -124,7 +122,6 @@ pub enum PlainSearch {
 }
 
 /// A search by a `Regex`.
-#[derive(Clone, Copy)]
 pub enum Search {
     /// For the first match.
     Find,
@@ -139,14 +136,14 @@ pub enum Search {
 }
 
 /// Each search by `plain`.
-const PLAIN_SEARCHES: [PlainSearch; 3] = [
+static PLAIN_SEARCHES: [PlainSearch; 3] = [
     PlainSearch::Find,
     PlainSearch::NextMatch,
     PlainSearch::FindAll,
 ];
 
 /// Each search by a `Regex`.
-const SEARCHES: [Search; 5] = [
+static SEARCHES: [Search; 5] = [
     Search::Find,
     Search::IsMatch,
     Search::FindAll,
@@ -160,13 +157,13 @@ fn find_plain<R: Abort, A: Allocator + Copy>(
     alloc: A,
     lazy: &mut Lazy<'_, Global, A>,
     row: &Row,
-    search: PlainSearch,
+    search: &PlainSearch,
 ) -> Result<(), AllocError>
     requires forward { lazy.old.nfa.reverse ≡ false }
     requires kind { lazy.old.kind ≡ kinds.LeftmostFirst }
 {
     let (input, wanted) = (Input::new(row.haystack), row.matches.first().copied());
-    match search {
+    match *search {
         PlainSearch::Find => same(rt, ends_of(plain::find(lazy, &input)?), wanted),
         PlainSearch::NextMatch => same(rt, ends_of(plain::next_match(lazy, &input, None)?), wanted),
         PlainSearch::FindAll => {
@@ -259,10 +256,10 @@ fn find_by_regex<R: Abort, A: Allocator + Copy>(
     alloc: A,
     regex: &mut LazyRegex<'_, Global, A, A>,
     row: &Row,
-    search: Search,
+    search: &Search,
 ) -> Result<(), AllocError> {
     let (input, wanted) = (Input::new(row.haystack), row.matches.first().copied());
-    match search {
+    match *search {
         Search::Find => same(rt, ends_of(regex.find(&input)?), wanted),
         Search::IsMatch => same(rt, regex.is_match(&input)?, wanted.is_some()),
         Search::FindAll => {
@@ -284,7 +281,7 @@ pub fn search_plain<R: Abort + AllocGlobal, A: Allocator + Copy>(
     alloc: A,
     row: &Row,
     limit: usize,
-    search: PlainSearch,
+    search: &PlainSearch,
 ) -> Result<(), TextError> {
     let nfa = nfa(rt.alloc(), row.states)?;
     let mut lazy = Lazy::new(alloc, &nfa, MatchKind::LeftmostFirst, limit);
@@ -298,7 +295,7 @@ pub fn search_regex<R: Abort + AllocGlobal, A: Allocator + Copy>(
     alloc: A,
     row: &Row,
     limit: usize,
-    search: Search,
+    search: &Search,
 ) -> Result<(), TextError> {
     let nfa = nfa(rt.alloc(), row.states)?;
     let backward = reversed(alloc, &nfa)?;
@@ -307,19 +304,37 @@ pub fn search_regex<R: Abort + AllocGlobal, A: Allocator + Copy>(
     Ok(())
 }
 
+/// Finds the matches of a row in each way, through caches of this limit.
+fn fail_each<R: Abort + AllocGlobal>(rt: &R, row: &Row, limit: usize) -> Result<(), Fail> {
+    for search in &PLAIN_SEARCHES {
+        fail_each_in_turn(rt, &Trial::SearchPlain(row, limit, search))?;
+    }
+    for search in &SEARCHES {
+        fail_each_in_turn(rt, &Trial::Search(row, limit, search))?;
+    }
+    Ok(())
+}
+
 #[test]
 fn all_matches(rt: HostRuntime) -> Result<(), Fail> {
     for row in &ROWS {
-        for limit in [0, 64] {
-            for search in PLAIN_SEARCHES {
-                fail_each_in_turn(&rt, &Trial::SearchPlain(row, limit, search))?;
-            }
-            for search in SEARCHES {
-                fail_each_in_turn(&rt, &Trial::Search(row, limit, search))?;
-            }
-        }
+        fail_each(&rt, row, 0)?;
+        fail_each(&rt, row, 64)?;
     }
     Ok(())
+}
+
+/// Finds the matches of a row in turn by whole DFAs, and none after the last.
+fn expect_in_turn<R: Abort>(rt: &R, scanner: &mut Regex<&Dfa<'_>, &Dfa<'_>>, row: &Row) {
+    let mut searcher = Searcher::new(Input::new(row.haystack));
+    for wanted in row.matches {
+        same(
+            rt,
+            ends_of(steady::next(scanner, &mut searcher)),
+            Some(*wanted),
+        );
+    }
+    same(rt, ends_of(steady::next(scanner, &mut searcher)), None);
 }
 
 /// Finds all matches of a haystack by whole DFAs of an NFA and of its reverse.
@@ -337,13 +352,7 @@ fn expect_by_whole<R: Abort + AllocGlobal>(
     let starts = Dfa::build(rt.alloc(), backward, MatchKind::All, 100)?;
     let found = steady::matches(rt.alloc(), &ends, &starts, row.haystack)?;
     expect_matches(rt, found.as_slice(), row.matches);
-    let mut scanner = Regex::from_engines(&ends, &starts);
-    let mut searcher = Searcher::new(Input::new(row.haystack));
-    for wanted in row.matches {
-        let found = steady::next(&mut scanner, &mut searcher);
-        same(rt, ends_of(found), Some(*wanted));
-    }
-    same(rt, ends_of(steady::next(&mut scanner, &mut searcher)), None);
+    expect_in_turn(rt, &mut Regex::from_engines(&ends, &starts), row);
     Ok(())
 }
 
@@ -353,17 +362,16 @@ fn expect_all_cuts<R: Abort + AllocGlobal>(
     regex: &mut LazyRegex<'_>,
     row: &Row,
 ) -> Result<(), AllocError> {
-    let (alloc, haystack) = (rt.alloc(), row.haystack);
-    for second in 0..haystack.len() + 1 {
-        for first in 0..second + 1 {
-            let (one, two) = (&haystack[..first], &haystack[first..second]);
-            let pieces = [one, two, &haystack[second..]];
-            feed(rt, alloc, regex, &pieces, row.matches)?;
+    for second in 0..row.haystack.len() + 1 {
+        let (head, last) = row.haystack.split_at(second);
+        for first in 0..head.len() + 1 {
+            let (one, two) = head.split_at(first);
+            feed(rt, rt.alloc(), regex, &[one, two, last], row.matches)?;
         }
     }
     for size in 1..4 {
-        let pieces: Vec<&[u8]> = haystack.chunks(size).collect(alloc)?;
-        feed(rt, alloc, regex, pieces.as_slice(), row.matches)?;
+        let pieces: Vec<&[u8]> = row.haystack.chunks(size).collect(rt.alloc())?;
+        feed(rt, rt.alloc(), regex, pieces.as_slice(), row.matches)?;
     }
     Ok(())
 }
@@ -388,41 +396,44 @@ fn whole_dfas_and_pieces(rt: HostRuntime) -> Result<(), Fail> {
     Ok(())
 }
 
-/// Finds the leftmost word of a range, by `plain`.
-fn expect_word<R: Abort + AllocGlobal>(
-    rt: &R,
-    input: &Input<'_>,
-    wanted: Option<Ends>,
-) -> Result<(), Fail>
-    requires { has_start input.now.anchored ≡ true }
+/// Finds the leftmost word of a range of `abcd e`, by `plain`.
+fn expect_words<R: Abort>(rt: &R, lazy: &mut Lazy<'_>) -> Result<(), AllocError>
+    requires forward { lazy.old.nfa.reverse ≡ false }
+    requires kind { lazy.old.kind ≡ kinds.LeftmostFirst }
 {
-    let nfa = nfa(rt.alloc(), WORDS)?;
-    let mut lazy = Lazy::new(rt.alloc(), &nfa, MatchKind::LeftmostFirst, 100);
-    let found = plain::find(&mut lazy, input)?;
-    same(rt, ends_of(found), wanted);
+    let text = b"abcd e";
+    let found = plain::find(lazy, &Input::new(text).range(0..4))?;
+    same(rt, ends_of(found), Some((0, 0, 4)));
+    let found = plain::find(lazy, &Input::new(text).range(1..4))?;
+    same(rt, ends_of(found), None);
+    let found = plain::find(lazy, &Input::new(text).range(1..6))?;
+    same(rt, ends_of(found), Some((0, 5, 6)));
     Ok(())
 }
 
 /// Finds where a word begins, by a search backward of a range up to its end.
-fn expect_begin<R: Abort + AllocGlobal>(
-    rt: &R,
-    input: &Input<'_>,
-    wanted: usize,
-) -> Result<(), Fail>
-    requires { has_start input.now.anchored ≡ true }
-{
-    let nfa = reversed(rt.alloc(), &nfa(rt.alloc(), WORDS)?)?;
-    let mut lazy = Lazy::new(rt.alloc(), &nfa, MatchKind::All, 100);
-    same(rt, lazy.search_input(input)?, ended(wanted));
+fn expect_begins<R: Abort>(rt: &R, lazy: &mut Lazy<'_>) -> Result<(), AllocError> {
+    let text = b"abcd e";
+    same(
+        rt,
+        lazy.search_input(&Input::new(text).range(0..4))?,
+        ended(0),
+    );
+    same(
+        rt,
+        lazy.search_input(&Input::new(text).range(1..6))?,
+        ended(5),
+    );
     Ok(())
 }
 
 #[test]
 fn words_of_ranges(rt: HostRuntime) -> Result<(), Fail> {
-    let text = b"abcd e";
-    expect_word(&rt, &Input::new(text).range(0..4), Some((0, 0, 4)))?;
-    expect_word(&rt, &Input::new(text).range(1..4), None)?;
-    expect_word(&rt, &Input::new(text).range(1..6), Some((0, 5, 6)))?;
-    expect_begin(&rt, &Input::new(text).range(0..4), 0)?;
-    expect_begin(&rt, &Input::new(text).range(1..6), 5)
+    let nfa = nfa(rt.alloc(), WORDS)?;
+    let backward = reversed(rt.alloc(), &nfa)?;
+    let mut forward = Lazy::new(rt.alloc(), &nfa, MatchKind::LeftmostFirst, 100);
+    expect_words(&rt, &mut forward)?;
+    let mut backward = Lazy::new(rt.alloc(), &backward, MatchKind::All, 100);
+    expect_begins(&rt, &mut backward)?;
+    Ok(())
 }

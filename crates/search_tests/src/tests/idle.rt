@@ -5,7 +5,7 @@ ghost use Rattle.std.specs.Prelude.{◌≤◌};
 use crate::tests::dense::nfa;
 use crate::tests::find::WORDS;
 use crate::tests::same;
-use determinize_below::{MatchKind, StateID};
+use determinize_below::{MatchKind, NFA, StateID};
 use determinize_find::{has_prefix, has_prefix_apart, is_idle};
 use determinize_lazy::Lazy;
 use std::alloc::AllocError;
@@ -31,11 +31,18 @@ static PLACES: [(&str, &[u8], bool); 9] = [
     (MANY, b"b", false),
 ];
 
-/// Returns whether a scan of the bytes is idle after them.
-fn is_idle_after(lazy: &mut Lazy<'_>, bytes: &[u8]) -> Result<bool, AllocError> {
+/// Compares whether a scan of the bytes is idle after them.
+fn expect_idle<R: Abort>(
+    rt: &R,
+    nfa: &NFA,
+    lazy: &mut Lazy<'_>,
+    bytes: &[u8],
+    wanted: bool,
+) -> Result<(), AllocError> {
     let start = lazy.nfa().start_unanchored();
     let scan = lazy.scan_text(start, None, bytes)?;
-    Ok(is_idle(lazy.nfa(), &scan))
+    same(rt, is_idle(nfa, &scan), wanted);
+    Ok(())
 }
 
 /// Compares whether the prefix of an NFA is apart, and whether a scan of the bytes is idle after
@@ -49,13 +56,10 @@ fn expect<R: Abort + AllocGlobal>(
     wanted: bool,
 ) -> Result<(), Fail> {
     let nfa = nfa(rt.alloc(), states, anchored)?;
-    same(
-        rt,
-        (has_prefix(&nfa), has_prefix_apart(&nfa)),
-        (true, is_apart),
-    );
+    same(rt, has_prefix(&nfa), true);
+    same(rt, has_prefix_apart(&nfa), is_apart);
     let mut lazy = Lazy::new(rt.alloc(), &nfa, MatchKind::LeftmostFirst, 100);
-    same(rt, is_idle_after(&mut lazy, bytes)?, wanted);
+    expect_idle(rt, &nfa, &mut lazy, bytes, wanted)?;
     Ok(())
 }
 

@@ -1,10 +1,13 @@
 //! A text in pieces: each match is found with its last byte, and few bytes are kept.
 
+ghost use Rattle.std.specs.Prelude.{◌≡◌};
+
 use crate::tests::find::{WORDS, nfa};
 use crate::tests::{ended, holds, same};
 use determinize_below::MatchKind;
 use determinize_find::{LazyRegex, Pieces, Regex, reversed};
 use determinize_lazy::Lazy;
+use std::alloc::AllocError;
 use std::process::Abort;
 use std::test::Fail;
 
@@ -27,7 +30,7 @@ fn count_matches<R: Abort + AllocGlobal>(
     regex: &mut LazyRegex<'_>,
     block: &[u8],
     times: usize,
-) -> Result<usize, Fail> {
+) -> Result<usize, AllocError> {
     let mut stream = Pieces::new(rt.alloc());
     let mut found = Vec::new(rt.alloc());
     let mut count = 0usize;
@@ -44,16 +47,24 @@ fn count_matches<R: Abort + AllocGlobal>(
 /// The first and the last word are halves of `seven`.
 #[test]
 fn hundred_megabytes(rt: HostRuntime) -> Result<(), Fail> {
-    let mut block = Vec::new(rt.alloc());
-    for _ in 0..1024 {
-        block.extend_from_slice(TEN_WORDS)?;
-    }
     let nfa = nfa(rt.alloc(), WORDS)?;
     let backward = reversed(rt.alloc(), &nfa)?;
     let mut regex = Regex::new(rt.alloc(), &nfa, &backward, 100);
+    let block = TEN_WORDS.repeat(rt.alloc(), 1024)?;
     let count = count_matches(&rt, &mut regex, block.as_slice(), 1600)?;
     same(&rt, count, 1600 * 1024 * 10 + 1);
     Ok(())
+}
+
+/// Returns the number of lines that end in a piece.
+fn ended_lines(piece: &[u8]) -> usize {
+    let mut count = 0usize;
+    for byte in piece {
+        if *byte == b'\n' {
+            count = count.saturating_add(1);
+        }
+    }
+    count
 }
 
 /// Feeds a text in pieces. After each piece there must be a match for each line that has ended.
@@ -61,13 +72,13 @@ fn expect_lines<R: Abort + AllocGlobal>(
     rt: &R,
     regex: &mut LazyRegex<'_>,
     pieces: &[&[u8]],
-) -> Result<(), Fail> {
+) -> Result<(), AllocError> {
     let mut stream = Pieces::new(rt.alloc());
     let mut found = Vec::new(rt.alloc());
     let mut count = 0usize;
     for piece in pieces {
         stream.feed(regex, piece, &mut found)?;
-        count = count.saturating_add(piece.iter().filter(|byte| **byte == b'\n').count());
+        count = count.saturating_add(ended_lines(piece));
         same(rt, found.len(), count);
     }
     stream.finish(regex, &mut found)?;
@@ -75,39 +86,67 @@ fn expect_lines<R: Abort + AllocGlobal>(
     Ok(())
 }
 
-/// Line by line, and in pieces of one byte to all bytes.
+/// Feeds the lines one by one, and in pieces of one byte to all bytes.
+fn expect_each<R: Abort + AllocGlobal>(
+    rt: &R,
+    regex: &mut LazyRegex<'_>,
+) -> Result<(), AllocError> {
+    expect_lines(rt, regex, &EACH_LINE)?;
+    for size in 1..=LINES.len() {
+        let pieces: Vec<&[u8]> = LINES.chunks(size).collect(rt.alloc())?;
+        expect_lines(rt, regex, pieces.as_slice())?;
+    }
+    Ok(())
+}
+
 #[test]
 fn each_line_at_its_last_byte(rt: HostRuntime) -> Result<(), Fail> {
     let nfa = nfa(rt.alloc(), LINE)?;
     let backward = reversed(rt.alloc(), &nfa)?;
     let mut regex = Regex::new(rt.alloc(), &nfa, &backward, 100);
-    expect_lines(&rt, &mut regex, &EACH_LINE)?;
-    for size in 1..=LINES.len() {
-        let pieces: Vec<&[u8]> = LINES.chunks(size).collect(rt.alloc())?;
-        expect_lines(&rt, &mut regex, pieces.as_slice())?;
-    }
+    expect_each(&rt, &mut regex)?;
+    Ok(())
+}
+
+/// Scans `ab` by a cache, while another one must not feed or finish the scan.
+fn expect_scan<R: Abort>(
+    rt: &R,
+    lazy: &mut Lazy<'_>,
+    other: &mut Lazy<'_>,
+) -> Result<(), AllocError>
+    ensures { lazy.new.nfa ≡ lazy.old.nfa }
+{
+    let start = lazy.nfa().start_unanchored();
+    let mut scan = lazy.scan_text(start, None, b"a")?;
+    holds(rt, other.feed(&mut scan, b"b").is_err());
+    holds(rt, other.finish(&scan, None).is_err());
+    lazy.feed(&mut scan, b"b")?;
+    same(rt, lazy.finish(&scan, None)?, ended(2));
+    Ok(())
+}
+
+/// Walks over `ab` by a cache, while another one must not move the walker.
+fn expect_walker<R: Abort>(
+    rt: &R,
+    lazy: &mut Lazy<'_>,
+    other: &mut Lazy<'_>,
+) -> Result<(), AllocError> {
+    let start = lazy.nfa().start_unanchored();
+    let mut walker = lazy.walker(start, None)?;
+    lazy.next(&mut walker, Some(b'a'))?;
+    holds(rt, other.next(&mut walker, Some(b'b')).is_err());
+    lazy.next(&mut walker, Some(b'b'))?;
     Ok(())
 }
 
 /// A cache of another NFA, which has no such states, returns an error, and changes nothing.
 #[test]
 fn scans_of_another_nfa(rt: HostRuntime) -> Result<(), Fail> {
-    let (words, any) = (
-        nfa(rt.alloc(), WORDS)?,
-        nfa(rt.alloc(), "BU:2,1 B:00-ff>0 M:0")?,
-    );
+    let words = nfa(rt.alloc(), WORDS)?;
+    let any = nfa(rt.alloc(), "BU:2,1 B:00-ff>0 M:0")?;
     let mut lazy = Lazy::new(rt.alloc(), &words, MatchKind::LeftmostFirst, 100);
     let mut other = Lazy::new(rt.alloc(), &any, MatchKind::LeftmostFirst, 100);
-    let start = lazy.nfa().start_unanchored();
-    let mut scan = lazy.scan_text(start, None, b"a")?;
-    holds(&rt, other.feed(&mut scan, b"b").is_err());
-    holds(&rt, other.finish(&scan, None).is_err());
-    lazy.feed(&mut scan, b"b")?;
-    same(&rt, lazy.finish(&scan, None)?, ended(2));
-    let start = lazy.nfa().start_unanchored();
-    let mut walker = lazy.walker(start, None)?;
-    lazy.next(&mut walker, Some(b'a'))?;
-    holds(&rt, other.next(&mut walker, Some(b'b')).is_err());
-    lazy.next(&mut walker, Some(b'b'))?;
+    expect_scan(&rt, &mut lazy, &mut other)?;
+    expect_walker(&rt, &mut lazy, &mut other)?;
     Ok(())
 }

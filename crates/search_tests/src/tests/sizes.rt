@@ -1,36 +1,24 @@
 //! Calls of a `Builder` that no other test makes, and sizes above those of the other tests.
 
-ghost use Rattle.std.specs.Prelude.{◌≡◌, IfOk, false};
+ghost use Rattle.std.specs.Prelude.{◌≡◌, false};
 ghost use Rattle.determinize_below.specs.declared.search.MatchKind.TheVariants as kinds;
 
 use crate::tests::find::{WORDS, nfa};
-use crate::tests::{ended, holds, same};
-use determinize_below::{
-    Anchored, BuildError, Input, Look, LookMatcher, MatchKind, NFA, PatternID, StateID, Transition,
-};
+use crate::tests::uses::over;
+use crate::tests::{dense, ended, holds, same};
+use determinize_below::{Anchored, BuildError, Input, Look, MatchKind, NFA, StateID};
 use determinize_dense::Dfa;
 use determinize_find::{Builder, LazyRegex, Match, Pieces, Regex, plain, reversed};
 use determinize_lazy::Lazy;
-use example_walks::error::TextError;
-use example_walks::states;
-use std::alloc::Global;
+use std::alloc::{AllocError, Global};
 use std::process::Abort;
 use std::test::Fail;
-
-/// Returns the transition to `next` on a byte.
-fn on(byte: u8, next: StateID) -> Transition {
-    Transition {
-        start: byte,
-        end: byte,
-        next,
-    }
-}
 
 /// Adds the states of `\<a`, patching the target of the assertion, and returns the first one.
 fn add_word(builder: &mut Builder<Global>) -> Result<StateID, BuildError> {
     let word = builder.add_look(StateID::ZERO, Look::WordStartAscii)?;
     let done = builder.add_match()?;
-    let letter = builder.add_range(on(b'a', done))?;
+    let letter = builder.add_range(over(b'a', b'a', done))?;
     builder.patch(word, letter)?;
     Ok(word)
 }
@@ -39,7 +27,7 @@ fn add_word(builder: &mut Builder<Global>) -> Result<StateID, BuildError> {
 fn add_run(builder: &mut Builder<Global>) -> Result<StateID, BuildError> {
     let mut first = builder.add_match()?;
     for _ in 0..40u32 {
-        first = builder.add_range(on(b'e', first))?;
+        first = builder.add_range(over(b'e', b'e', first))?;
     }
     Ok(first)
 }
@@ -48,7 +36,12 @@ fn add_run(builder: &mut Builder<Global>) -> Result<StateID, BuildError> {
 fn add_three(builder: &mut Builder<Global>) -> Result<StateID, BuildError> {
     let word = add_word(builder)?;
     let done = builder.add_match()?;
-    let letters = builder.add_sparse(&[on(b'b', done), on(b'c', done), on(b'd', done)])?;
+    let letters = [
+        over(b'b', b'b', done),
+        over(b'c', b'c', done),
+        over(b'd', b'd', done),
+    ];
+    let letters = builder.add_sparse(&letters)?;
     let run = add_run(builder)?;
     builder.add_union(&[word, letters, run])
 }
@@ -56,32 +49,39 @@ fn add_three(builder: &mut Builder<Global>) -> Result<StateID, BuildError> {
 /// A text that the last pattern matches.
 static RUN: [u8; 40] = [b'e'; 40];
 
-/// Compares the pattern that matches at the start of each of four texts.
-fn expect_three<R: Abort + AllocGlobal>(rt: &R, nfa: &NFA) -> Result<(), Fail> {
-    let mut lazy = Lazy::new(rt.alloc(), nfa, MatchKind::LeftmostFirst, 100);
-    let texts: [(&[u8], Option<usize>); 4] = [
-        (b"a", Some(0)),
-        (b"d", Some(1)),
-        (&RUN, Some(2)),
-        (b"xa", None),
-    ];
-    for (text, pattern) in texts {
-        let found = lazy.search_input(&Input::new(text).anchored(Anchored::Yes))?;
-        same(rt, found.map(|m| m.pattern.as_usize()), pattern);
+/// Searches a text from its start, and compares the pattern and the end of the match.
+fn expect_match<R: Abort>(
+    rt: &R,
+    lazy: &mut Lazy<'_>,
+    text: &[u8],
+    wanted: Option<(usize, usize)>,
+) -> Result<(), AllocError> {
+    let found = lazy.search_input(&Input::new(text).anchored(Anchored::Yes))?;
+    match found {
+        Some(m) => same(rt, Some((m.pattern.as_usize(), m.offset)), wanted),
+        None => same(rt, None, wanted),
     }
     Ok(())
 }
 
-/// The reverse of the reverse of an NFA reads forward, and a run of 40 letters matches as before.
-fn expect_reversed<R: Abort + AllocGlobal>(rt: &R, nfa: &NFA) -> Result<(), Fail> {
+/// Compares the pattern that matches at the start of each of four texts.
+fn expect_three<R: Abort + AllocGlobal>(rt: &R, nfa: &NFA) -> Result<(), AllocError> {
+    let mut lazy = Lazy::new(rt.alloc(), nfa, MatchKind::LeftmostFirst, 100);
+    expect_match(rt, &mut lazy, b"a", Some((0, 1)))?;
+    expect_match(rt, &mut lazy, b"d", Some((1, 1)))?;
+    expect_match(rt, &mut lazy, &RUN, Some((2, 40)))?;
+    expect_match(rt, &mut lazy, b"xa", None)
+}
+
+/// The reverse of the reverse of an NFA reads forward, and a run of 40 letters matches as before,
+/// as pattern 0, the only one of a reverse.
+fn expect_reversed<R: Abort + AllocGlobal>(rt: &R, nfa: &NFA) -> Result<(), BuildError> {
     let once = reversed(rt.alloc(), nfa)?;
     let twice = reversed(rt.alloc(), &once)?;
     same(rt, (once.is_reverse(), twice.is_reverse()), (true, false));
     let mut lazy = Lazy::new(rt.alloc(), &twice, MatchKind::LeftmostFirst, 100);
-    for (text, end) in [(&RUN[..], Some(40)), (&RUN[..39], None)] {
-        let found = lazy.search_input(&Input::new(text).anchored(Anchored::Yes))?;
-        same(rt, found.map(|m| m.offset), end);
-    }
+    expect_match(rt, &mut lazy, &RUN, Some((0, 40)))?;
+    expect_match(rt, &mut lazy, &RUN[..39], None)?;
     Ok(())
 }
 
@@ -92,16 +92,8 @@ fn three_patterns(rt: HostRuntime) -> Result<(), Fail> {
     let nfa = builder.build(start, StateID::ZERO)?;
     expect_three(&rt, &builder.build_with_prefix(start)?)?;
     expect_three(&rt, &nfa)?;
-    expect_reversed(&rt, &nfa)
-}
-
-/// Returns the NFA of these states, which starts at the first.
-fn from_states(alloc: Global, text: &str) -> Result<NFA, TextError>
-    ensures { IfOk result (λ nfa. nfa.reverse ≡ false) }
-{
-    let states = states::states(alloc, text)?;
-    let (first, matcher) = (StateID::ZERO, LookMatcher::new());
-    Ok(NFA::from_parts(alloc, states, first, first, false, matcher)?)
+    expect_reversed(&rt, &nfa)?;
+    Ok(())
 }
 
 /// `[01]*1[01]{9}`.
@@ -110,45 +102,28 @@ const TENTH: &str = "BU:1,2 B:30-31>0 B:31>3 B:30-31>4 B:30-31>5 B:30-31>6 B:30-
 
 /// Compares searches of a whole DFA of `TENTH`: a match ends after ten `1`, and none after ten `0`
 /// more.
-fn expect_tenth<R: Abort>(rt: &R, dfa: &Dfa) -> Result<(), Fail> {
+fn expect_tenth<R: Abort>(rt: &R, dfa: &Dfa) {
     let found = dfa.search(Anchored::Yes, None, b"1111111111", None);
     same(rt, found, ended(10));
     let found = dfa.patterns_after(Anchored::Yes, None, b"11111111110000000000", None);
     same(rt, found.len(), 0);
-    Ok(())
 }
 
 /// Whether each of the last ten bytes was a `1` makes 1024 rows, of which none are alike.
 #[test]
 fn many_rows(rt: HostRuntime) -> Result<(), Fail> {
-    let nfa = from_states(rt.alloc(), TENTH)?;
+    let nfa = dense::nfa(rt.alloc(), TENTH, StateID::ZERO)?;
     let dfa = Dfa::build(rt.alloc(), &nfa, MatchKind::All, 10_000)?;
     let least = dfa.minimize(rt.alloc())?;
     holds(&rt, 1024 <= least.len() && least.len() <= dfa.len());
-    expect_tenth(&rt, &dfa)?;
-    expect_tenth(&rt, &least)
-}
-
-/// Five patterns match at once.
-#[test]
-fn many_patterns(rt: HostRuntime) -> Result<(), Fail> {
-    let nfa = from_states(rt.alloc(), "U:1,2,3,4,5 M:4 M:3 M:2 M:1 M:0")?;
-    let dfa = Dfa::build(rt.alloc(), &nfa, MatchKind::All, 100)?;
-    let found = dfa.patterns_after(Anchored::Yes, None, b"", None);
-    same(
-        &rt,
-        (found.len(), found.first().copied()),
-        (5, Some(PatternID::must(4))),
-    );
+    expect_tenth(&rt, &dfa);
+    expect_tenth(&rt, &least);
     Ok(())
 }
 
 /// Returns 20,000 words of two bytes, and then one of 30,000.
-fn long_text(alloc: Global) -> Result<Vec<u8>, Fail> {
-    let mut text = Vec::new(alloc);
-    for _ in 0..20_000u32 {
-        text.extend_from_slice(b"ab ")?;
-    }
+fn long_text(alloc: Global) -> Result<Vec<u8>, AllocError> {
+    let mut text = b"ab ".repeat(alloc, 20_000)?;
     text.resize(90_000, b'z')?;
     Ok(text)
 }
@@ -159,7 +134,7 @@ fn expect_pieces<R: Abort + AllocGlobal>(
     regex: &mut LazyRegex<'_>,
     text: &[u8],
     wanted: &[Match],
-) -> Result<(), Fail> {
+) -> Result<(), AllocError> {
     let mut stream = Pieces::new(rt.alloc());
     let mut found = Vec::new(rt.alloc());
     stream.feed(regex, text, &mut found)?;
@@ -174,7 +149,7 @@ fn expect_plain<R: Abort + AllocGlobal>(
     rt: &R,
     lazy: &mut Lazy<'_>,
     text: &[u8],
-) -> Result<(), Fail>
+) -> Result<(), AllocError>
     requires forward { lazy.old.nfa.reverse ≡ false }
     requires kind { lazy.old.kind ≡ kinds.LeftmostFirst }
     ensures { lazy.new.nfa ≡ lazy.old.nfa }
@@ -190,7 +165,7 @@ fn expect_scans<R: Abort + AllocGlobal>(
     rt: &R,
     lazy: &mut Lazy<'_>,
     text: &[u8],
-) -> Result<(), Fail> {
+) -> Result<(), AllocError> {
     let start = lazy.nfa().start_unanchored();
     let mut scan = lazy.scan(start, None)?;
     lazy.feed(&mut scan, text)?;
@@ -204,16 +179,38 @@ fn expect_scans<R: Abort + AllocGlobal>(
     Ok(())
 }
 
+/// Finds all words of a text, whole and in one piece.
+fn expect_all<R: Abort + AllocGlobal>(
+    rt: &R,
+    regex: &mut LazyRegex<'_>,
+    text: &[u8],
+) -> Result<(), AllocError> {
+    let all = regex.find_all(rt.alloc(), &Input::new(text))?;
+    same(rt, all.len(), 20_001);
+    expect_pieces(rt, regex, text, all.as_slice())
+}
+
+/// Searches a long text in each way.
+fn expect_long<R: Abort + AllocGlobal>(
+    rt: &R,
+    regex: &mut LazyRegex<'_>,
+    lazy: &mut Lazy<'_>,
+) -> Result<(), AllocError>
+    requires forward { lazy.old.nfa.reverse ≡ false }
+    requires kind { lazy.old.kind ≡ kinds.LeftmostFirst }
+{
+    let text = long_text(rt.alloc())?;
+    expect_all(rt, regex, text.as_slice())?;
+    expect_plain(rt, lazy, text.get(..300).unwrap_or(&[]))?;
+    expect_scans(rt, lazy, text.as_slice())
+}
+
 #[test]
 fn long_texts(rt: HostRuntime) -> Result<(), Fail> {
-    let text = long_text(rt.alloc())?;
     let nfa = nfa(rt.alloc(), WORDS)?;
     let backward = reversed(rt.alloc(), &nfa)?;
     let mut regex = Regex::new(rt.alloc(), &nfa, &backward, 100);
-    let all = regex.find_all(rt.alloc(), &Input::new(text.as_slice()))?;
-    same(&rt, all.len(), 20_001);
-    expect_pieces(&rt, &mut regex, text.as_slice(), all.as_slice())?;
     let mut lazy = Lazy::new(rt.alloc(), &nfa, MatchKind::LeftmostFirst, 100);
-    expect_plain(&rt, &mut lazy, text.get(..300).unwrap_or(&[]))?;
-    expect_scans(&rt, &mut lazy, text.as_slice())
+    expect_long(&rt, &mut regex, &mut lazy)?;
+    Ok(())
 }

@@ -6,12 +6,13 @@ ghost use Rattle.determinize_below.specs.declared.search.MatchKind.TheVariants a
 ghost use Rattle.determinize_find.specs.Prefix.{HasPrefix};
 ghost use Rattle.determinize_engine.specs.Searches.{has_start};
 
-use crate::tests::{holds, same};
+use crate::tests::{expect_text, holds, same};
 use determinize_below::nfa::State;
 use determinize_below::{Anchored, HalfMatch, Input, MatchKind, NFA, StateID, Transition};
 use determinize_find::{LazyRegex, Match, Regex, plain, prefix, reversed};
 use determinize_lazy::Lazy;
 use determinize_replay::job::Job;
+use example_walks::error::TextError;
 use example_walks::examples::examples;
 use example_walks::fields::Fields;
 use example_walks::states;
@@ -77,15 +78,14 @@ struct Place {
 
 impl Place {
     /// Returns the place of the text of a walk.
-    fn of(alloc: Global, fields: &Fields<'_>) -> Result<Place, Fail> {
-        let mut haystack = Vec::new(alloc);
-        if let Some(byte) = fields.look_behind()? {
-            haystack.push(byte)?;
+    fn of(alloc: Global, fields: &Fields<'_>) -> Result<Place, TextError> {
+        let (behind, ahead) = (fields.look_behind()?, fields.look_ahead()?);
+        let mut haystack = fields.text(alloc)?;
+        if let Some(byte) = behind {
+            haystack.insert(0, byte)?;
         }
-        let start = haystack.len();
-        haystack.extend_from_slice(fields.text(alloc)?.as_slice())?;
-        let end = haystack.len();
-        if let Some(byte) = fields.look_ahead()? {
+        let (start, end) = (usize::from(behind.is_some()), haystack.len());
+        if let Some(byte) = ahead {
             haystack.push(byte)?;
         }
         Ok(Place {
@@ -215,14 +215,17 @@ fn expect_stored<R: Abort + AllocGlobal>(
     fields: &Fields<'_>,
     last: &str,
 ) -> Result<(), Fail> {
+    let kind = fields.match_kind()?;
     let found = expect_walk(rt, fields)?;
-    if fields.match_kind()? == MatchKind::All {
+    if kind == MatchKind::All {
         same(rt, found.is_none(), last == "none");
         return Ok(());
     }
-    let half = found.map(|m| HalfMatch::new(m.pattern, m.end.saturating_sub(m.start)));
-    let found = format!(in rt.alloc(); "{}", LastMatch(half))?;
-    same(rt, found.as_str(), last);
+    let half = match found {
+        Some(m) => Some(HalfMatch::new(m.pattern, m.end.saturating_sub(m.start))),
+        None => None,
+    };
+    expect_text(rt, &LastMatch(half), last)?;
     Ok(())
 }
 

@@ -8,14 +8,14 @@ use std::process::Abort;
 use std::test::Fail;
 
 /// A trial: it runs with an allocator that may fail, and compares what it finds.
-#[derive(Clone, Copy)]
+#[derive(Drop)]
 pub enum Trial<'r> {
     /// Builds NFAs.
     Build,
     /// Finds the matches of a row by `plain`, through a cache of this limit.
-    SearchPlain(&'r find::Row, usize, find::PlainSearch),
+    SearchPlain(&'r find::Row, usize, &'r find::PlainSearch),
     /// Finds the matches of a row by a `Regex`, through caches of this limit.
-    Search(&'r find::Row, usize, find::Search),
+    Search(&'r find::Row, usize, &'r find::Search),
     /// Builds a whole DFA, and minimizes it.
     Minimize,
 }
@@ -70,8 +70,6 @@ pub fn fail_each_in_turn<R: Abort + AllocGlobal>(rt: &R, trial: &Trial<'_>) -> R
 
 #[test]
 fn builds(rt: HostRuntime) -> Result<(), Fail> {
-    for trial in [Trial::Build, Trial::Minimize] {
-        fail_each_in_turn(&rt, &trial)?;
-    }
-    Ok(())
+    fail_each_in_turn(&rt, &Trial::Build)?;
+    fail_each_in_turn(&rt, &Trial::Minimize)
 }

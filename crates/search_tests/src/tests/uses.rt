@@ -1,14 +1,15 @@
 //! Runs of each caller, and NFAs of a `Builder`.
 
-ghost use Rattle.std.specs.Prelude.{◌≡◌, ◌<◌, length};
+ghost use Rattle.std.specs.Prelude.{◌≡◌, false};
 ghost use Rattle.determinize_below.specs.declared.search.MatchKind.TheVariants as kinds;
 
 use crate::tests::find::expect_matches;
 use crate::tests::{ended, holds, same};
 use determinize_below::{
-    BuildError, Input, Look, LookMatcher, MatchKind, NFA, StateID, Transition,
+    BuildError, Input, Look, LookMatcher, LookSet, MatchKind, NFA, SparseSet, StateID, Transition,
 };
 use determinize_core::start::Start;
+use determinize_core::state::State;
 use determinize_find::Builder;
 use determinize_lazy::Lazy;
 use determinize_uses::{built, cache, input, lexer, nfa, scanner, search, values, walk};
@@ -17,83 +18,77 @@ use std::alloc::{AllocError, Allocator};
 use std::process::Abort;
 use std::test::Fail;
 
-#[test]
-fn small_values(rt: HostRuntime) -> Result<(), Fail> {
-    let ids: Vec<StateID> = values::ids(rt.alloc())?.iter().collect(rt.alloc())?;
-    same(
-        &rt,
-        ids.as_slice(),
-        [StateID::must(3), StateID::must(1)].as_slice(),
-    );
-    let set = values::assertions();
-    holds(&rt, set.contains_word() && set.contains_anchor_line());
-    holds(&rt, !set.contains_anchor_haystack());
+/// Compares the ids of a set, in their order.
+fn expect_ids<R: Abort>(rt: &R, set: &SparseSet, wanted: &[StateID]) {
+    holds(rt, set.iter().eq(wanted.iter().copied()));
+}
+
+/// Compares a set of assertions.
+fn expect_assertions<R: Abort>(rt: &R, set: LookSet) {
+    same(rt, set.contains_word(), true);
+    same(rt, set.contains_anchor_line(), true);
+    same(rt, set.contains_anchor_haystack(), false);
+}
+
+/// Compares the start kinds of ranges of a text.
+fn expect_kinds<R: Abort>(rt: &R) {
     let mut matcher = LookMatcher::new();
     let input = Input::new(b"\nabc");
-    same(&rt, values::start_kind(&matcher, &input), Start::Text);
+    same(rt, values::start_kind(&matcher, &input), Start::Text);
     let input = input.range(1..4);
-    same(&rt, values::start_kind(&matcher, &input), Start::LineLF);
+    same(rt, values::start_kind(&matcher, &input), Start::LineLF);
     let input = input.range(2..4);
-    same(&rt, values::start_kind(&matcher, &input), Start::WordByte);
+    same(rt, values::start_kind(&matcher, &input), Start::WordByte);
     matcher.set_line_terminator(b'a');
-    same(
-        &rt,
-        values::start_kind(&matcher, &input),
-        Start::CustomLineTerminator,
-    );
-    let state = values::state(rt.alloc())?;
-    let bytes = b"\x07\0\0\0\0\x40\0\0\0\x02\0\0\0\x01\0\0\0\0\0\0\0\x02\x04\x01";
-    same(&rt, state.as_bytes(), bytes.as_slice());
-    Ok(())
+    let custom = Start::CustomLineTerminator;
+    same(rt, values::start_kind(&matcher, &input), custom);
 }
 
-/// Compares the closure of a state.
-fn expect_closure<R: Abort + AllocGlobal>(
-    rt: &R,
-    nfa: &NFA,
-    start: StateID,
-    wanted: &[StateID],
-) -> Result<(), AllocError>
-    requires { start < length nfa.now.states }
-{
-    let closure = values::closure(rt.alloc(), nfa, start)?;
-    holds(rt, closure.iter().eq(wanted.iter().copied()));
-    Ok(())
-}
+/// The bytes of a state.
+static BYTES: [u8; 24] = *b"\x07\0\0\0\0\x40\0\0\0\x02\0\0\0\x01\0\0\0\0\0\0\0\x02\x04\x01";
 
-/// The closure of the start of `[0-9]+` is that state, and that of the unanchored start has two
-/// more.
 #[test]
-fn closures(rt: HostRuntime) -> Result<(), Fail> {
-    let nfa = nfa::digits(rt.alloc(), false)?;
-    let [zero, one, two] = [StateID::ZERO, StateID::must(1), StateID::must(2)];
-    expect_closure(&rt, &nfa, nfa.start_anchored(), &[two])?;
-    expect_closure(&rt, &nfa, nfa.start_unanchored(), &[zero, two, one])?;
+fn small_values(rt: HostRuntime) -> Result<(), Fail> {
+    expect_assertions(&rt, values::assertions());
+    expect_kinds(&rt);
+    let wanted = [StateID::must(3), StateID::must(1)];
+    expect_ids(&rt, &values::ids(rt.alloc())?, &wanted);
+    let state = values::state(rt.alloc())?;
+    same(&rt, state.as_bytes(), BYTES.as_slice());
     Ok(())
 }
 
-/// Walks over a text, and compares at which positions there is a match.
-fn expect_positions<R: Abort>(rt: &R, lazy: &mut Lazy<'_>, text: &[u8]) -> Result<(), AllocError> {
-    let start = lazy.nfa().start_unanchored();
-    let states = lazy.walk(start, None, text)?;
+/// Compares at which positions of a walk there is a match.
+fn expect_positions<R: Abort>(rt: &R, states: &[State]) -> Result<(), AllocError> {
     for (position, state) in states.iter().skip(1).enumerate() {
         same(rt, state.match_pattern_ids()?.is_some(), position > 1);
     }
     Ok(())
 }
 
+/// Searches a text for a number and walks over it, through a cache for each.
+fn expect_number<R: Abort>(
+    rt: &R,
+    first: &mut Lazy<'_>,
+    all: &mut Lazy<'_>,
+) -> Result<(), AllocError> {
+    same(rt, first.search_input(&Input::new(b"a12"))?, ended(3));
+    let start = all.nfa().start_unanchored();
+    let states = all.walk(start, None, b"a12")?;
+    expect_positions(rt, states.as_slice())
+}
+
 #[test]
 fn first_search(rt: HostRuntime) -> Result<(), Fail> {
     let nfa = built::digits(rt.alloc())?;
     let mut first = Lazy::new(rt.alloc(), &nfa, MatchKind::LeftmostFirst, 100);
-    same(&rt, first.search_input(&Input::new(b"a12"))?, ended(3));
     let mut all = Lazy::new(rt.alloc(), &nfa, MatchKind::All, 100);
-    expect_positions(&rt, &mut all, b"a12")?;
+    expect_number(&rt, &mut first, &mut all)?;
     Ok(())
 }
 
 /// Returns the transition to `next` on each byte from `start` to `end`.
-fn over(start: u8, end: u8, next: StateID) -> Transition {
+pub fn over(start: u8, end: u8, next: StateID) -> Transition {
     Transition { start, end, next }
 }
 
@@ -126,6 +121,13 @@ fn lines<A: Allocator + Copy>(alloc: A, has_prefix: bool) -> Result<NFA<A>, Buil
     }
 }
 
+/// Searches two texts, of which only the first has a line.
+fn search_lines<R: Abort, N: Allocator>(rt: &R, lazy: &mut Lazy<'_, N>) -> Result<(), AllocError> {
+    same(rt, lazy.search_input(&Input::new(b"b!;a"))?, ended(2));
+    same(rt, lazy.search_input(&Input::new(b"b!b"))?, ended(0));
+    Ok(())
+}
+
 /// Builds an NFA and searches with it. The prefix has two states.
 fn expect_lines<R: Abort + AllocGlobal, A: Allocator + Copy>(
     rt: &R,
@@ -136,8 +138,7 @@ fn expect_lines<R: Abort + AllocGlobal, A: Allocator + Copy>(
     let count = if has_prefix { 10 } else { 8 };
     same(rt, (nfa.len(), nfa.pattern_len()), (count, 1));
     let mut lazy = Lazy::new(rt.alloc(), &nfa, MatchKind::LeftmostFirst, 50);
-    same(rt, lazy.search_input(&Input::new(b"b!;a"))?, ended(2));
-    same(rt, lazy.search_input(&Input::new(b"b!b"))?, ended(0));
+    search_lines(rt, &mut lazy)?;
     Ok(())
 }
 
@@ -151,118 +152,144 @@ pub fn build<R: Abort + AllocGlobal, A: Allocator + Copy>(
     Ok(())
 }
 
+/// Asserts that an NFA is not built for this error.
+fn expect_error<R: Abort>(rt: &R, built: Result<NFA, BuildError>, wanted: BuildError) {
+    match built {
+        Ok(_) => holds(rt, false),
+        Err(error) => same(rt, error, wanted),
+    }
+}
+
+/// Asserts that no prefix is added to an NFA whose state 0 has a transition to this id, which it
+/// does not have.
+fn expect_unresolved<R: Abort + AllocGlobal>(rt: &R, id: u8) -> Result<(), BuildError> {
+    let mut builder = Builder::new(rt.alloc());
+    let first = builder.add_range(over(0, 255, StateID::must(usize::from(id))))?;
+    let built = builder.build_with_prefix(first);
+    expect_error(rt, built, BuildError::UnresolvedId(0));
+    Ok(())
+}
+
 #[test]
 fn builds_no_bad_prefix(rt: HostRuntime) -> Result<(), Fail> {
     let none = Builder::new(rt.alloc()).build_with_prefix(StateID::ZERO);
-    holds(&rt, matches!(&none, Err(BuildError::UnresolvedStart)));
+    expect_error(&rt, none, BuildError::UnresolvedStart);
     // The two states of the prefix, and the first id after them.
-    for id in 1..4usize {
-        let mut builder = Builder::new(rt.alloc());
-        let first = builder.add_range(over(0, 255, StateID::must(id)))?;
-        let early = builder.build_with_prefix(first);
-        holds(&rt, matches!(&early, Err(BuildError::UnresolvedId(0))));
+    for id in 1..4u8 {
+        expect_unresolved(&rt, id)?;
     }
     Ok(())
 }
 
-#[test]
-fn walks(rt: HostRuntime) -> Result<(), Fail> {
-    let nfa = nfa::digits(rt.alloc(), false)?;
+/// The closure of the start of `[0-9]+` is that state, and that of the unanchored start has two
+/// more.
+fn expect_closures<R: Abort + AllocGlobal>(rt: &R, nfa: &NFA) -> Result<(), AllocError> {
+    let [zero, one, two] = [StateID::ZERO, StateID::must(1), StateID::must(2)];
+    let closure = values::closure(rt.alloc(), nfa, nfa.start_anchored())?;
+    expect_ids(rt, &closure, &[two]);
+    let closure = values::closure(rt.alloc(), nfa, nfa.start_unanchored())?;
+    expect_ids(rt, &closure, &[zero, two, one]);
+    Ok(())
+}
+
+/// Walks over a text from both starts.
+fn expect_walks<R: Abort + AllocGlobal>(rt: &R, nfa: &NFA) -> Result<(), AllocError> {
     let text = b"ab 42 c";
-    let found = walk::preferred(rt.alloc(), &nfa, nfa.start_unanchored(), text)?;
-    same(&rt, found, ended(5));
-    let found = walk::preferred(rt.alloc(), &nfa, nfa.start_anchored(), text)?;
-    same(&rt, found, None);
+    let found = walk::preferred(rt.alloc(), nfa, nfa.start_unanchored(), text)?;
+    same(rt, found, ended(5));
+    let found = walk::preferred(rt.alloc(), nfa, nfa.start_anchored(), text)?;
+    same(rt, found, None);
+    Ok(())
+}
+
+/// Searches texts through one cache of this limit.
+fn expect_searches<R: Abort + AllocGlobal>(
+    rt: &R,
+    nfa: &NFA,
+    limit: usize,
+) -> Result<(), AllocError> {
+    let texts: [&[u8]; 4] = [b"42 c", b"ab", b"7", b""];
+    let found = search::matches(rt.alloc(), nfa, &texts, limit)?;
+    let wanted = [ended(2), None, ended(1), None];
+    same(rt, found.as_slice(), wanted.as_slice());
+    Ok(())
+}
+
+/// Finds all matches of a text.
+fn expect_all<R: Abort + AllocGlobal>(rt: &R, nfa: &NFA) -> Result<(), AllocError>
+    requires { nfa.now.reverse ≡ false }
+{
+    let found = scanner::matches(rt.alloc(), nfa, b"ab 42 c7")?;
+    expect_matches(rt, found.as_slice(), &[(0, 3, 5), (0, 7, 8)]);
     Ok(())
 }
 
 #[test]
-fn searches(rt: HostRuntime) -> Result<(), Fail> {
+fn numbers(rt: HostRuntime) -> Result<(), Fail> {
     let nfa = nfa::digits(rt.alloc(), false)?;
-    let texts: [&[u8]; 4] = [b"42 c", b"ab", b"7", b""];
+    expect_closures(&rt, &nfa)?;
+    expect_walks(&rt, &nfa)?;
     for limit in [0, 2, 100] {
-        let found = search::matches(rt.alloc(), &nfa, &texts, limit)?;
-        let wanted = [ended(2), None, ended(1), None];
-        same(&rt, found.as_slice(), wanted.as_slice());
+        expect_searches(&rt, &nfa, limit)?;
     }
+    expect_all(&rt, &nfa)?;
     Ok(())
 }
 
-/// Returns whether a match ends at the end of the text, by a walk through the cache.
-fn is_match_at_the_end(rt: &impl Abort, lazy: &mut Lazy<'_>, text: &[u8]) -> Result<bool, Fail>
+/// Asserts whether a match ends at the end of the text, by a walk through the cache.
+fn expect_at_the_end<R: Abort>(
+    rt: &R,
+    lazy: &mut Lazy<'_>,
+    text: &[u8],
+    wanted: bool,
+) -> Result<(), AllocError>
     requires { lazy.old.kind ≡ kinds.All }
-    ensures { lazy.new.kind ≡ lazy.old.kind }
+    ensures kind { lazy.new.kind ≡ lazy.old.kind }
+    ensures nfa { lazy.new.nfa ≡ lazy.old.nfa }
 {
     match cache::at_the_end(lazy, text)? {
-        Some(state) => Ok(state.is_match()),
-        None => panic!(rt; "a walk has states"),
+        Some(state) => same(rt, state.is_match(), wanted),
+        None => holds(rt, false),
     }
-}
-
-/// Walks twice through one cache: over a text with a match at its end, and over one without.
-fn expect_walks(rt: &impl Abort, lazy: &mut Lazy<'_>) -> Result<(), Fail>
-    requires { lazy.old.kind ≡ kinds.All }
-{
-    holds(rt, is_match_at_the_end(rt, lazy, b"42")?);
-    holds(rt, !is_match_at_the_end(rt, lazy, b"4x")?);
     Ok(())
 }
 
-#[test]
-fn walks_through_a_cache(rt: HostRuntime) -> Result<(), Fail> {
-    let nfa = nfa::digits(rt.alloc(), false)?;
-    let mut lazy = Lazy::new(rt.alloc(), &nfa, MatchKind::All, 100);
-    expect_walks(&rt, &mut lazy)
+/// Walks twice through one cache, over a text with a match at its end and over one without. Splits
+/// a text into the longest numbers, up to the first byte that begins none.
+fn expect_longest<R: Abort + AllocGlobal>(rt: &R, lazy: &mut Lazy<'_>) -> Result<(), AllocError>
+    requires kind { lazy.old.kind ≡ kinds.All }
+    requires forward { lazy.old.nfa.reverse ≡ false }
+{
+    expect_at_the_end(rt, lazy, b"42", true)?;
+    expect_at_the_end(rt, lazy, b"4x", false)?;
+    let found = lexer::tokens(rt.alloc(), lazy, b"427 c")?;
+    expect_matches(rt, found.as_slice(), &[(0, 0, 3)]);
+    Ok(())
 }
 
 /// Searches for both ends of a match, of a number in the middle of a text and where there is none.
-fn expect_spans(
-    rt: &impl Abort,
+fn expect_spans<R: Abort>(
+    rt: &R,
     forward: &mut Lazy<'_>,
     backward: &mut Lazy<'_>,
-) -> Result<(), Fail> {
-    holds(
-        rt,
-        input::span(forward, backward, b"ab 42 c")? == Some(3..5),
-    );
-    holds(rt, input::span(forward, backward, b"ab")?.is_none());
-    holds(rt, input::contains(forward, b"ab 42 c")?);
-    holds(rt, !input::contains(forward, b"ab")?);
+) -> Result<(), AllocError> {
+    let found = input::span(forward, backward, b"ab 42 c")?;
+    holds(rt, found == Some(3..5));
+    let found = input::span(forward, backward, b"ab")?;
+    holds(rt, found.is_none());
+    same(rt, input::contains(forward, b"ab 42 c")?, true);
+    same(rt, input::contains(forward, b"ab")?, false);
     Ok(())
 }
 
-/// Searches through a cache for each of the two NFAs.
-fn search_inputs<R: Abort + AllocGlobal>(
-    rt: &R,
-    forward: &NFA,
-    backward: &NFA,
-) -> Result<(), Fail> {
-    let mut forward = Lazy::new(rt.alloc(), forward, MatchKind::LeftmostFirst, 100);
-    let mut backward = Lazy::new(rt.alloc(), backward, MatchKind::All, 100);
-    expect_spans(rt, &mut forward, &mut backward)
-}
-
 #[test]
-fn searches_of_inputs(rt: HostRuntime) -> Result<(), Fail> {
-    let forward = nfa::digits(rt.alloc(), false)?;
+fn numbers_through_caches(rt: HostRuntime) -> Result<(), Fail> {
+    let nfa = nfa::digits(rt.alloc(), false)?;
     let backward = nfa::digits(rt.alloc(), true)?;
-    search_inputs(&rt, &forward, &backward)
-}
-
-#[test]
-fn all_matches(rt: HostRuntime) -> Result<(), Fail> {
-    let nfa = nfa::digits(rt.alloc(), false)?;
-    let found = scanner::matches(rt.alloc(), &nfa, b"ab 42 c7")?;
-    expect_matches(&rt, found.as_slice(), &[(0, 3, 5), (0, 7, 8)]);
-    Ok(())
-}
-
-/// Splits a text into the longest numbers, up to the first byte that begins none.
-#[test]
-fn longest_tokens(rt: HostRuntime) -> Result<(), Fail> {
-    let nfa = nfa::digits(rt.alloc(), false)?;
-    let mut lazy = Lazy::new(rt.alloc(), &nfa, MatchKind::All, 100);
-    let found = lexer::tokens(rt.alloc(), &mut lazy, b"427 c")?;
-    expect_matches(&rt, found.as_slice(), &[(0, 0, 3)]);
+    let mut all = Lazy::new(rt.alloc(), &nfa, MatchKind::All, 100);
+    expect_longest(&rt, &mut all)?;
+    let mut forward = Lazy::new(rt.alloc(), &nfa, MatchKind::LeftmostFirst, 100);
+    let mut backward = Lazy::new(rt.alloc(), &backward, MatchKind::All, 100);
+    expect_spans(&rt, &mut forward, &mut backward)?;
     Ok(())
 }

@@ -1,6 +1,7 @@
-//! Each line is printed before the byte after its string is read.
+//! Strings of an input: each line is printed before the byte after its string is read.
 
-use crate::scan;
+use crate::tests::same;
+use determinize_uses::strings::print_strings;
 use std::cell::Cell;
 use std::fmt::Display;
 use std::io::{self, Print, Read};
@@ -70,8 +71,9 @@ fn each_line_at_its_last_byte(rt: HostRuntime) -> Result<(), Fail> {
         printed: Cell::new(0),
         in_time: Cell::new(0),
     };
-    assert!(rt; scan(rt.alloc(), &mut input, &output).is_ok());
-    assert_eq!(rt; output.printed.get(), ENDS.len());
-    assert_eq!(rt; output.in_time.get(), ENDS.len());
+    let is_read = print_strings(rt.alloc(), &mut input, &output).is_ok();
+    same(&rt, is_read, true);
+    same(&rt, output.printed.get(), ENDS.len());
+    same(&rt, output.in_time.get(), ENDS.len());
     Ok(())
 }
