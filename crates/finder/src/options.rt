@@ -170,8 +170,7 @@ impl Options {
         }
     }
 
-    /// Takes an option: `--help`, `--`, which ends the options, or letters after a hyphen. The rest
-    /// of the argument after `e` is a pattern; if it is empty, the next argument is.
+    /// Takes an option: `--help`, `--`, which ends the options, or letters after a hyphen.
     fn take_option(&mut self, alloc: Global, option: String) -> Result<Next, UsageError> {
         if option.as_str() == "--" {
             return Ok(Next::Operand);
@@ -180,23 +179,35 @@ impl Options {
             self.helps = true;
             return Ok(Next::Any);
         }
-        let (letters, pattern) = match option.as_str().split_once('e') {
-            Some((letters, pattern)) => (letters, Some(pattern)),
-            None => (option.as_str(), None),
+        match self.take_letters(alloc, option.as_str())? {
+            Some(next) => Ok(next),
+            None => Err(UsageError::UnknownOption(option)),
+        }
+    }
+
+    /// Takes the letters of an option, and returns what the next argument is, or `None` if there is
+    /// no option of one of the letters. What follows `e` is a pattern; if it is empty, the next
+    /// argument is.
+    fn take_letters(&mut self, alloc: Global, option: &str) -> Result<Option<Next>, UsageError> {
+        let Some((letters, pattern)) = option.split_once('e') else {
+            return Ok(self.set_all(option, Next::Any));
         };
+        if pattern.is_empty() {
+            return Ok(self.set_all(letters, Next::Pattern));
+        }
+        self.patterns.push(String::from_str(alloc, pattern)?)?;
+        Ok(self.set_all(letters, Next::Any))
+    }
+
+    /// Sets the options of the letters after a hyphen, and returns what the next argument is, or
+    /// `None` if there is no option of one of the letters.
+    fn set_all(&mut self, letters: &str, next: Next) -> Option<Next> {
         for letter in letters.as_bytes().iter().skip(1) {
             if !self.set(*letter) {
-                return Err(UsageError::UnknownOption(option));
+                return None;
             }
         }
-        match pattern {
-            None => Ok(Next::Any),
-            Some("") => Ok(Next::Pattern),
-            Some(pattern) => {
-                self.patterns.push(String::from_str(alloc, pattern)?)?;
-                Ok(Next::Any)
-            }
-        }
+        Some(next)
     }
 
     /// Sets the option of a letter. Returns whether there is one.
