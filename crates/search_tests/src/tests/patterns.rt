@@ -1,8 +1,9 @@
-//! Patterns from their texts: all matches, whether there is one, and which text is in error.
+//! Patterns from their texts: all matches, whether there is one, which text is in error, and how
+//! errors are written.
 
 use crate::tests::find::expect_matches;
-use crate::tests::same;
-use determinize_regex::{Error, Input, Matcher, Regex, RegexConfig};
+use crate::tests::{expect_text, same};
+use determinize_regex::{Error, ErrorKind, Input, Matcher, ParseError, Regex, RegexConfig};
 use determinize_uses::words::Words;
 use std::alloc::AllocError;
 use std::process::Abort;
@@ -56,5 +57,59 @@ fn place_of(made: Result<Regex, Error>) -> Option<(usize, usize, usize)> {
 fn second_pattern_is_in_error(rt: HostRuntime) -> Result<(), Fail> {
     let result = Regex::new_many(rt.alloc(), &["a", "b("], RegexConfig::new());
     same(&rt, place_of(result), Some((1, 1, 2)));
+    Ok(())
+}
+
+/// Errors with their texts, and what is written of both.
+static MARKED: [(&str, ErrorKind, usize, usize, &str); 5] = [
+    (
+        "b(",
+        ErrorKind::GroupUnclosed,
+        1,
+        2,
+        "b(\n ^\nthe group is not closed, at 1..2",
+    ),
+    (
+        "é(",
+        ErrorKind::GroupUnclosed,
+        2,
+        3,
+        "é(\n ^\nthe group is not closed, at 2..3",
+    ),
+    (
+        "*",
+        ErrorKind::RepetitionMissing,
+        0,
+        0,
+        "*\n^\nthere is nothing to repeat, at 0..0",
+    ),
+    (
+        "a{",
+        ErrorKind::RepetitionCountUnclosed,
+        2,
+        2,
+        "a{\n  ^\nthe braces are not closed, at 2..2",
+    ),
+    (
+        "ab\nc[z-a]",
+        ErrorKind::ClassRangeInvalid,
+        5,
+        8,
+        "c[z-a]\n  ^^^\nthe end of the range is below its beginning, at 5..8",
+    ),
+];
+
+#[test]
+fn errors_are_written(rt: HostRuntime) -> Result<(), Fail> {
+    for (text, kind, start, end, written) in MARKED {
+        expect_text(
+            &rt,
+            &ParseError::new(kind, start, end).display(text),
+            written,
+        )?;
+    }
+    let error = ParseError::new(ErrorKind::GroupUnclosed, 1, 2);
+    let second = Error::Parse { index: 1, error };
+    expect_text(&rt, &second, "pattern 1: the group is not closed, at 1..2")?;
     Ok(())
 }
