@@ -17,8 +17,8 @@ use std::{env, fs};
 const LIMIT: usize = 10_000;
 
 const USAGE: &str = "usage: finder [-bcilnoqv] [-e PATTERN].. [PATTERN] [FILE]..
-Prints the lines in which a pattern matches, of the files or of standard input, which is
-the file - too.
+Prints the lines in which a pattern matches. Without files, and for the file -, reads standard
+input.
   -e PATTERN  a pattern; if there are several, the first is preferred
   -i          letters of the pattern match in both cases
   -v          select the lines without a match
