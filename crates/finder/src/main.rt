@@ -16,17 +16,21 @@ use std::{env, fs};
 /// The most states in a cache of a search.
 const LIMIT: usize = 10_000;
 
-const USAGE: &str = "usage: finder [-bcilnoqv] [-e PATTERN].. [PATTERN] [FILE]..
-Prints the lines in which a pattern matches. Without files, and for the file -, reads standard
-input.
+const USAGE: &str = "usage: finder [-bcilnoqv] PATTERN [FILE]..
+       finder [-bcilnoqv] -e PATTERN [-e PATTERN].. [FILE]..
+Prints the lines in which a pattern matches. As in grep, the first operand is the pattern unless -e
+gives one, and all others are files; several patterns each need -e. Without files, and for the file
+-, reads standard input.
   -e PATTERN  a pattern; if there are several, the first is preferred
-  -i          letters of the pattern match in both cases
+  -i          letters of the patterns match in both cases
   -v          select the lines without a match
   -o          print each match, and not the line; if there are several patterns, after its number
   -c          print how many lines are selected
   -l          print the names of the files with a selected line
-  -q          print nothing
+  -q          print nothing, and stop at the first selected line
   -n, -b      print the number of the line, or the offset of what is printed, before it
+Patterns have the syntax of Rust's crate regex, over bytes and without Unicode. -o prints the match
+that this syntax prefers, and not the longest one as grep does: of a|ab in the text ab it is a.
 The exit status is 0 if a line is selected, 1 if none is, and 2 after an error.
 ";
 
@@ -100,21 +104,25 @@ fn search_file<W: Write>(
     }
 }
 
-/// Searches all files, or standard input if there is none.
+/// Searches all files, or standard input if there is none. If nothing is printed, stops at the
+/// first file with a selected line.
 fn search_all<W: Write>(
     rt: &HostRuntime,
-    files: &[String],
+    options: &Options,
     lines: &mut Lines<'_>,
     out: &mut W,
 ) -> Result<Outcome, Error> {
-    if files.is_empty() {
+    if options.files.is_empty() {
         return search_input(rt, lines, out);
     }
     let mut outcome = Outcome::default();
-    for name in files {
+    for name in &options.files {
         let of_file = search_file(rt, lines, name.as_str(), out)?;
         outcome.is_selected = outcome.is_selected || of_file.is_selected;
         outcome.is_failed = outcome.is_failed || of_file.is_failed;
+        if outcome.is_selected && options.shows == Shows::Nothing {
+            break;
+        }
     }
     Ok(outcome)
 }
@@ -124,7 +132,7 @@ fn search(rt: &HostRuntime, options: &Options, regex: &Regex) -> Result<ExitCode
     let alloc = rt.alloc();
     let mut out = BufWriter::new(alloc, io::writer(rt))?;
     let mut lines = Lines::new(alloc, options, regex.matcher(alloc, LIMIT));
-    let outcome = search_all(rt, &options.files, &mut lines, &mut out)?;
+    let outcome = search_all(rt, options, &mut lines, &mut out)?;
     out.flush()?;
     Ok(outcome.status(options.shows))
 }
