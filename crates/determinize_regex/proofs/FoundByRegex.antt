@@ -1,9 +1,9 @@
 -- What a search over the NFA of a regex finds.
--- Main statements: searched_by, first_of, all_of, matched_by.
--- Used by: the searches of `Regex` and of `Matcher`.
+-- Main statements: searched_by, first_of, matches_of, matches_by_runs, all_of, matched_by.
+-- Used by: the searches of `Regex`, of `Matcher` and of `Stream`.
 -- Idea: the NFA is that of the patterns, so its leftmost match and its matches are theirs.
 use Rattle.std.specs.Bool.{Decides}
-use Rattle.std.proofs.Common.{◌≡◌, Bool, List, None, Option, Some, subst, sym}
+use Rattle.std.proofs.Common.{◌≡◌, ℕ, Bool, List, None, Option, Some, subst, sym}
 use Rattle.determinize_below.specs.Search.{Asked}
 use Rattle.determinize_below.specs.declared.search.Match.{Match}
 use Rattle.determinize_find.specs.LeftmostIn.{IsLeftmostIn}
@@ -32,11 +32,22 @@ module _ (regex : RegexValue) (search : Searched) (is : IsSearchOf regex.pattern
       = (each_leftmost_in_is_of (meanings regex) search.nfa is.means is.prefix asked found).0 h in
       rw is.ends at first
 
-  pub all_of : (found : List Match) → AreMatches search.nfa asked None found → AreAll regex asked found
-  all_of found h =
-      let all : AreMatchesOf search.nfa.terminator (meanings regex) asked None found
-      = (each_matches_are_of (meanings regex) search.nfa is.means is.prefix asked None found).0 h in
+  pub matches_of : (before : Option ℕ) (found : List Match) → AreMatches search.nfa asked before found
+      → AreMatchesOf regex.terminator (meanings regex) asked before found
+  matches_of before found h =
+      let all : AreMatchesOf search.nfa.terminator (meanings regex) asked before found
+      = (each_matches_are_of (meanings regex) search.nfa is.means is.prefix asked before found).0 h in
       rw is.ends at all
+
+  -- and the other way round
+  pub matches_by_runs : (before : Option ℕ) (found : List Match)
+      → AreMatchesOf regex.terminator (meanings regex) asked before found → AreMatches search.nfa asked before found
+  matches_by_runs before found h =
+      let all : AreMatchesOf search.nfa.terminator (meanings regex) asked before found = rw (sym is.ends) at h in
+      (each_matches_are_of (meanings regex) search.nfa is.means is.prefix asked before found).1 all
+
+  pub all_of : (found : List Match) → AreMatches search.nfa asked None found → AreAll regex asked found
+  all_of found h = matches_of None found h
 
   -- the runs of the NFA have no leftmost match where the patterns have none
   none_of : IsFirst regex asked None → IsLeftmostIn search.nfa asked None

@@ -3,3 +3,5 @@ pub mod FoundOfPatterns
 pub mod LeftmostExists
 pub mod ListsOfPatterns
 pub mod Spelling
+pub mod Splitting
+pub mod StreamsOfPatterns

@@ -1,5 +1,6 @@
--- Laws of searches over the NFA of patterns.
-use Rattle.std.specs.Prelude.{◌<◌, ◌↔◌, ℕ, All, List, Option, length}
+-- Laws of searches over the NFA of patterns, and of the parts of texts.
+use Rattle.std.specs.List.{join_by}
+use Rattle.std.specs.Prelude.{◌≡◌, ◌<◌, ◌↔◌, ◌∷◌, ℕ, All, List, Option, [], codes, length}
 use Rattle.determinize_below.specs.Search.{Asked}
 use Rattle.determinize_below.specs.Semantics.{Nfa, Text}
 use Rattle.determinize_below.specs.declared.search.Match.{Match}
@@ -9,6 +10,7 @@ use Rattle.determinize_find.specs.Matches.{AreMatches}
 use Rattle.determinize_nfa.specs.Prefix.{HasPrefix}
 use Rattle.determinize_pattern.specs.Compiled.{IsNfaOf}
 use Rattle.determinize_pattern.specs.Meaning.{Re}
+use Rattle.determinize_regex.specs.Parts.{parts, replaced}
 use Rattle.determinize_regex.specs.PatternMatches.{AreMatchesOf, IsLeftmostOfIn}
 use Rattle.determinize_regex.specs.PatternsAt.{ArePatternsAt}
 
@@ -37,3 +39,20 @@ EachListIsOf = (res : List Re) (nfa : Nfa) → IsNfaOf res nfa → HasPrefix nfa
     → (text : Text) → All (λ b. b < 256) text.bytes
     → (i : ℕ) (xs : List ℕ) → ListsAccepted nfa text nfa.start_unanchored i xs
     → ArePatternsAt nfa.terminator res text (length text.bytes) i xs
+
+-- a text with other bytes in place of each match is its parts, joined by these bytes
+abbrev pub EachReplacedIsJoined : Type 0
+EachReplacedIsJoined = (by text : List ℕ) (found : List Match)
+    → replaced by text 0 found ≡ join_by (λ (part : List ℕ). part) by (parts text 0 found)
+
+-- the commas of `a,b,`
+abbrev pub commas : List Match
+commas = record { pattern = 0; start = 1; end = 2 } ∷ record { pattern = 0; start = 3; end = 4 } ∷ []
+
+-- between them are `a`, `b` and nothing
+abbrev pub WorkedParts : Type 0
+WorkedParts = parts (codes "a,b,") 0 commas ≡ codes "a" ∷ codes "b" ∷ [] ∷ []
+
+-- and with others in their place
+abbrev pub WorkedReplaced : Type 0
+WorkedReplaced = replaced (codes " and ") (codes "a,b,") 0 commas ≡ codes "a and b and "

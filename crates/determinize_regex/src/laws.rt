@@ -1,6 +1,7 @@
-//! Laws of searches over the NFA of patterns, as contracts of public functions.
+//! Laws of searches over the NFA of patterns and of the parts of texts, as contracts of public
+//! functions.
 
-ghost use Rattle.determinize_regex.specs.Laws.{EachAnchoredListIsOf, EachLeftmostInIsOf, EachListIsOf, EachMatchesAreOf};
+ghost use Rattle.determinize_regex.specs.Laws.{EachAnchoredListIsOf, EachLeftmostInIsOf, EachListIsOf, EachMatchesAreOf, EachReplacedIsJoined, WorkedParts, WorkedReplaced};
 
 /// States that over the NFA of patterns, with the usual prefix, the leftmost match of an input is
 /// that of the patterns, and all its matches are those of the patterns.
@@ -17,4 +18,12 @@ pub fn matches_of_law()
 pub fn patterns_at_law()
     ensures anchored { EachAnchoredListIsOf }
     ensures unanchored { EachListIsOf }
+{}
+
+/// States that a text with other bytes in place of its matches is its parts, joined by these bytes,
+/// and what both are of `a,b,` and its commas.
+pub fn parts_law()
+    ensures joined { EachReplacedIsJoined }
+    ensures parts { WorkedParts }
+    ensures replaced { WorkedReplaced }
 {}

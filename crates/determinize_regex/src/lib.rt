@@ -1,7 +1,7 @@
 //! Patterns and their matches, from one crate: all that a program needs to search for patterns.
 //!
 //! A [`Regex`] is compiled once and then searches. A [`Matcher`] searches for the same patterns
-//! with separate caches.
+//! with separate caches, and a [`Stream`] in a text that comes in pieces.
 //!
 //! `compile` of `determinize_pattern` makes the NFA, and `determinize_find` searches it. The
 //! [`laws`] join their contracts: the leftmost match that a search finds is that of the patterns,
@@ -12,6 +12,8 @@ pub mod error;
 pub mod laws;
 pub mod matcher;
 pub mod regex;
+mod split;
+pub mod stream;
 
 pub use determinize_below::{Anchored, Input, Look, LookMatcher, Match, NFA};
 pub use determinize_pattern::{ClassBytes, ClassBytesRange, CompileError, Config, Pattern};
@@ -19,3 +21,4 @@ pub use determinize_syntax::{ErrorKind, Flags, ParseError};
 pub use error::Error;
 pub use matcher::Matcher;
 pub use regex::{Regex, RegexConfig};
+pub use stream::Stream;

@@ -1,13 +1,15 @@
 //! Searches for the patterns of a regex with separate caches.
 
-ghost use Rattle.std.specs.Prelude.{◌≡◌, ◌≤◌, IfOk, true};
+ghost use Rattle.std.specs.Prelude.{◌≡◌, ◌≤◌, IfOk, map, true};
 ghost use Rattle.std.specs.Bool.{Decides};
 ghost use Rattle.std.specs.Option.{IfSome};
 ghost use Rattle.determinize_engine.specs.Searches.{has_start};
+ghost use Rattle.determinize_regex.specs.Parts.{AreParts, IsReplaced};
 ghost use Rattle.determinize_regex.specs.Private.Searched.{IsSearchOf};
 ghost use Rattle.determinize_regex.specs.Regexes.{AreAll, HasFirst, IsFirst};
 
 use crate::regex::Regex;
+use crate::split::{matches_in, replace, split_at};
 use determinize_below::{Input, Match};
 use determinize_find::{LazyRegex, OwnedRegex};
 use std::alloc::{AllocError, Allocator, Global};
@@ -99,5 +101,34 @@ impl<'r, A: Allocator + Copy> Matcher<'r, A> {
         ensures same { self.new ≡ self.old }
     {
         self.search.find_all(alloc, input)
+    }
+
+    /// Returns the parts of a text between its matches, as `Regex::split`.
+    pub fn split<'h, C: Allocator + Copy>(
+        &mut self,
+        alloc: C,
+        haystack: &'h [u8],
+    ) -> Result<Vec<&'h [u8], C>, AllocError>
+        ensures parts { IfOk result
+            (λ cut. AreParts self.old haystack.now (map (λ part. part.now) cut.items)) }
+        ensures same { self.new ≡ self.old }
+    {
+        let found = matches_in(alloc, &mut self.search, haystack)?;
+        split_at(alloc, haystack, &found)
+    }
+
+    /// Returns a text with other bytes in place of each match, as `Regex::replace_all`.
+    pub fn replace_all<C: Allocator + Copy>(
+        &mut self,
+        alloc: C,
+        haystack: &[u8],
+        replacement: &[u8],
+    ) -> Result<Vec<u8, C>, AllocError>
+        ensures replaced { IfOk result
+            (λ new. IsReplaced self.old haystack.now replacement.now new.items) }
+        ensures same { self.new ≡ self.old }
+    {
+        let found = matches_in(alloc, &mut self.search, haystack)?;
+        replace(alloc, haystack, &found, replacement)
     }
 }

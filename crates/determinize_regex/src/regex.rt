@@ -7,12 +7,16 @@ ghost use Rattle.determinize_engine.specs.Searches.{has_start};
 ghost use Rattle.determinize_nfa.specs.Prefix.{HasPrefix};
 ghost use Rattle.determinize_pattern.specs.Compiled.{IsNfaOf};
 ghost use Rattle.determinize_pattern.specs.Patterns.{meaning};
+ghost use Rattle.determinize_regex.specs.Parts.{AreParts, IsReplaced};
 ghost use Rattle.determinize_regex.specs.Regexes.{AreAll, HasFirst, IsFirst};
 ghost use Rattle.determinize_regex.specs.Spelled.{AreSpelled};
+ghost use Rattle.determinize_regex.specs.Streams.{IsStreamOf};
 ghost use Rattle.determinize_syntax.specs.Words.{no_flags};
 
 use crate::error::Error;
 use crate::matcher::Matcher;
+use crate::split::{matches_in, replace, split_at};
+use crate::stream::Stream;
 use determinize_below::{Input, Match, NFA};
 use determinize_find::OwnedRegex;
 use determinize_pattern::{CompileError, Config, Pattern, compile};
@@ -52,8 +56,8 @@ impl RegexConfig {
 /// preferred.
 ///
 /// It owns all its parts, so a function can return it, and a struct can hold it. Its caches are
-/// kept from one search to the next. To search with several caches, as one for each stream of text,
-/// make a [`Matcher`] for each.
+/// kept from one search to the next. To search with several caches, make a [`Matcher`] for each. To
+/// search in a text that comes in pieces, make a [`Stream`].
 #[derive(Drop)]
 pub struct Regex {
     patterns: Vec<Pattern>,
@@ -152,6 +156,18 @@ impl Regex {
         Matcher::new(alloc, self, &self.search, limit)
     }
 
+    /// Returns a search for these patterns in a text that comes in pieces, of which nothing is read
+    /// yet, with two empty caches of at most `limit` states each. Does not allocate. The search
+    /// allocates from `alloc`.
+    pub fn stream<A: Allocator + Copy>(&self, alloc: A, limit: usize) -> Stream<'_, A>
+        ensures patterns { result.regex.patterns ≡ self.now.patterns }
+        ensures terminator { result.regex.terminator ≡ self.now.terminator }
+        ensures limit { result.regex.limit ≡ limit }
+        ensures stream { IsStreamOf result [] [] }
+    {
+        Stream::new(alloc, self, &self.search, limit)
+    }
+
     /// Returns the leftmost match of an input, if any: no match begins before it, and of those that
     /// begin at the same index it is the preferred one. Its ends are indices into the haystack.
     ///
@@ -188,6 +204,37 @@ impl Regex {
         ensures same { self.new ≡ self.old }
     {
         self.search.find_all(alloc, input)
+    }
+
+    /// Returns the parts of a text between its matches, in their order: one more than there are
+    /// matches, and each may be empty. The list is allocated from `alloc`.
+    pub fn split<'h, C: Allocator + Copy>(
+        &mut self,
+        alloc: C,
+        haystack: &'h [u8],
+    ) -> Result<Vec<&'h [u8], C>, AllocError>
+        ensures parts { IfOk result
+            (λ cut. AreParts self.old haystack.now (map (λ part. part.now) cut.items)) }
+        ensures same { self.new ≡ self.old }
+    {
+        let found = matches_in(alloc, &mut self.search, haystack)?;
+        split_at(alloc, haystack, &found)
+    }
+
+    /// Returns a text with other bytes in place of each match. They are taken as they are: a `$1`
+    /// is no group, since there are no captures. The new text is allocated from `alloc`.
+    pub fn replace_all<C: Allocator + Copy>(
+        &mut self,
+        alloc: C,
+        haystack: &[u8],
+        replacement: &[u8],
+    ) -> Result<Vec<u8, C>, AllocError>
+        ensures replaced { IfOk result
+            (λ new. IsReplaced self.old haystack.now replacement.now new.items) }
+        ensures same { self.new ≡ self.old }
+    {
+        let found = matches_in(alloc, &mut self.search, haystack)?;
+        replace(alloc, haystack, &found, replacement)
     }
 
     /// Clears both caches.

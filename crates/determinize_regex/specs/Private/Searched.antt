@@ -1,6 +1,8 @@
--- The search of a regex.
+-- The search of a regex, and that of a stream.
 use Rattle.std.specs.Prelude.{◌≡◌, ℕ, List, map}
+use Rattle.determinize_below.specs.Nfa.{IsAccepted}
 use Rattle.determinize_find.specs.Regexes.{RegexValue}
+use Rattle.determinize_find.specs.Streams.{IsSearching, Streamed}
 use Rattle.determinize_nfa.specs.Prefix.{HasPrefix}
 use Rattle.determinize_pattern.specs.Compiled.{IsNfaOf}
 use Rattle.determinize_pattern.specs.Patterns.{meaning}
@@ -13,3 +15,10 @@ pub record IsSearchOf (patterns : List Pattern) (terminator : ℕ) (search : Reg
   pub prefix : HasPrefix search.nfa
   pub ends : search.nfa.terminator ≡ terminator
   pub limits : search.limit_backward ≡ search.limit
+
+-- it is such a search, and so is the one that is under way in the pieces, if any
+pub record IsStreaming (patterns : List Pattern) (terminator : ℕ) (search : RegexValue)
+    (pieces : Streamed) : Type 0 where
+  pub regex : IsSearchOf patterns terminator search
+  pub accepted : IsAccepted search.nfa
+  pub under_way : IsSearching search.nfa pieces

@@ -1,0 +1,83 @@
+-- A text is cut at one match after another, and other bytes are put in their places.
+-- Main statements: one_part, last_part, one_replaced, last_replaced, each_replaced_is_joined.
+-- Used by: `split_at`, `replace`, and `laws::parts_law`.
+-- Idea: what is made of the matches so far, and then of the rest from their end on, is what is made of all.
+use Rattle.std.specs.List.{flat_map, join_by}
+use Rattle.std.specs.Prelude.{slice_range}
+use Rattle.std.proofs.Common.{◌≡◌, ◌≤◌, ◌++◌, ◌∙◌, ◌∷◌, ℕ, List, Option, Some, [], append-nil, append_assoc, drop, map, sym}
+use Rattle.std.proofs.lemmas.List.{map-append}
+use Rattle.determinize_below.proofs.Moved.{one_more}
+use Rattle.determinize_below.specs.declared.search.Match.{Match}
+use Rattle.determinize_find.specs.Matches.{AreApart}
+use Rattle.determinize_regex.specs.Laws.{EachReplacedIsJoined}
+use Rattle.determinize_regex.specs.Parts.{parts, replaced}
+
+-- the matches that are left lie in the text from an index on
+pub record AreLeft (text_size at : ℕ) (found : List Match) : Type 0 where
+  pub inside : at ≤ text_size
+  pub before : Option ℕ
+  pub apart : AreApart at before text_size found
+
+-- the next of them begins there or later, and the others are left behind it
+pub record IsNextLeft (text_size at : ℕ) (m : Match) (ms : List Match) : Type 0 where
+  pub low : at ≤ m.start
+  pub order : m.start ≤ m.end
+  pub high : m.end ≤ text_size
+  pub left : AreLeft text_size m.end ms
+
+pub next_left : (text_size at : ℕ) (m : Match) (ms found : List Match) → found ≡ m ∷ ms → AreLeft text_size at found
+    → IsNextLeft text_size at m ms
+next_left text_size at m ms found is h =
+    let a : AreApart at h.before text_size (m ∷ ms) = rw is at h.apart in
+    record {
+      low = a.0;
+      order = a.1;
+      high = a.2;
+      left = record { inside = a.2; before = Some m.end; apart = a.4 };
+    }
+
+module _ {X : Type 0} (bytes : X → List ℕ) (text : List ℕ) where
+  -- the parts so far, before those that are left, are all
+  abbrev pub IsCut : ℕ → List Match → List X → List (List ℕ) → Type 0
+  IsCut at found cut all = map bytes cut ++ parts text at found ≡ all
+
+  pub one_part : (cut more : List X) (p : X) (all : List (List ℕ)) (at : ℕ) (m : Match) (ms found : List Match)
+      → found ≡ m ∷ ms → bytes p ≡ slice_range text at m.start → more ≡ cut ++ p ∷ [] → IsCut at found cut all
+      → IsCut m.end ms more all
+  one_part cut more p all at m ms found rest part is h =
+      one_more bytes cut all more p (slice_range text at m.start) (parts text m.end ms) is part (rw rest at h)
+
+  pub last_part : (cut more : List X) (p : X) (all : List (List ℕ)) (at : ℕ) (found : List Match)
+      → found ≡ [] → bytes p ≡ drop at text → more ≡ cut ++ p ∷ [] → IsCut at found cut all → map bytes more ≡ all
+  last_part cut more p all at found none part is h =
+      let so_far : map bytes cut ++ (drop at text ∷ []) ≡ all = rw none at h in
+      rw (is, map-append bytes cut (p ∷ []), part) so_far
+
+module _ (by text : List ℕ) where
+  -- the bytes so far, before those that are left, are all
+  abbrev pub IsNew : ℕ → List Match → List ℕ → List ℕ → Type 0
+  IsNew at found new all = new ++ replaced by text at found ≡ all
+
+  pub one_replaced : (new mid more all : List ℕ) (at : ℕ) (m : Match) (ms found : List Match) → found ≡ m ∷ ms
+      → mid ≡ new ++ slice_range text at m.start → more ≡ mid ++ by → IsNew at found new all → IsNew m.end ms more all
+  one_replaced new mid more all at m ms found rest first is h =
+      let so_far : new ++ (slice_range text at m.start ++ by ++ replaced by text m.end ms) ≡ all = rw rest at h in
+      rw (is, first) (simp append_assoc (simp append_assoc at so_far))
+
+  pub last_replaced : (new more all : List ℕ) (at : ℕ) (found : List Match) → found ≡ []
+      → more ≡ new ++ drop at text → IsNew at found new all → more ≡ all
+  last_replaced new more all at found none is h =
+      let so_far : new ++ drop at text ≡ all = rw none at h in is ∙ so_far
+
+  joined_rest : (at : ℕ) (found : List Match)
+      → flat_map (λ (part : List ℕ). by ++ part) (parts text at found) ≡ by ++ replaced by text at found
+  joined_rest at [] = append-nil (by ++ drop at text)
+  joined_rest at (m ∷ ms) = rw (joined_rest m.end ms) (simp append_assoc)
+
+  joined : (found : List Match) → replaced by text 0 found ≡ join_by (λ (part : List ℕ). part) by (parts text 0 found)
+  joined [] = sym (append-nil (drop 0 text))
+  joined (m ∷ ms) =
+      rw (joined_rest m.end ms) (append_assoc (slice_range text 0 m.start) by (replaced by text m.end ms))
+
+pub each_replaced_is_joined : EachReplacedIsJoined
+each_replaced_is_joined by text found = joined by text found

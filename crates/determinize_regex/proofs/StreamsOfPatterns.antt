@@ -1,0 +1,141 @@
+-- A search in pieces over an NFA of patterns, in words of the patterns.
+-- Main statements: stream_of, fed_by, part_fed_by, few_by, finished_by, streaming_by, streaming_new.
+-- Used by: the calls of `Stream`.
+-- Idea: the matches of the runs are those of the patterns, so what keeps the list of the one keeps that of the other.
+use Rattle.std.specs.Prelude.{OnErr, OnOk, Result}
+use Rattle.std.proofs.Common.{◌≡◌, ◌≤◌, ◌++◌, ℕ, Bool, List, None, Some, arith, cond, false, length}
+use Rattle.std.proofs.Common.{refl, subst, sym, take, true}
+use Rattle.std.proofs.lemmas.Result.{on_err_weaker, on_ok_weaker}
+use Rattle.determinize_below.specs.Nfa.{IsAccepted}
+use Rattle.determinize_below.specs.Semantics.{Nfa}
+use Rattle.determinize_below.specs.declared.search.Match.{Match}
+use Rattle.determinize_find.proofs.matches.InputMatches.{each_input_has_matches}
+use Rattle.determinize_find.specs.Matches.{from}
+use Rattle.determinize_find.specs.Regexes.{RegexValue as Searched}
+use Rattle.determinize_find.specs.Streams.{IsFed, IsFeeding, IsFinished, IsPartFed, IsSearching, IsStream}
+use Rattle.determinize_find.specs.Streams.{KeptFewInBlocks, Streamed, before, place, whole}
+use Rattle.determinize_pattern.specs.declared.pattern.Pattern.{Pattern}
+use Rattle.determinize_regex.proofs.FoundByRegex.{all_of, matches_by_runs, matches_of}
+use Rattle.determinize_regex.specs.Private.Searched.{IsSearchOf, IsStreaming}
+use Rattle.determinize_regex.specs.Regexes.{RegexValue}
+use Rattle.determinize_regex.specs.Streams.{BeginAll, IsFedOf, IsFinishedOf, IsPartFedOf, IsStreamOf, KeptFewOf}
+use Rattle.determinize_regex.specs.Streams.{StreamValue}
+use Rattle.ordered_reach.proofs.Cases.{some_injective}
+
+-- a match that ended where the search begins ended at the place
+before_is : (s : Streamed) (last : ℕ) → before s ≡ Some last → last ≡ place s
+before_is s last e = go s.is_after e
+  where
+    go : (b : Bool) → cond b (Some (place s)) None ≡ Some last → last ≡ place s
+    go true e = sym (some_injective (place s) last e)
+    go false e = absurd (let z : None ≡ Some last = e in cc)
+
+module _ (regex : RegexValue) (search : Searched) (is : IsSearchOf regex.patterns regex.terminator search)
+    (accepted : IsAccepted search.nfa) where
+  begin_all : (s : Streamed) (text : List ℕ) (given : List Match) → IsStream search.nfa text given s
+      → BeginAll regex text given
+  begin_all s text given h more small =
+      let inside : length (text ++ more) ≤ length (text ++ more) = omega arith in
+      let rest = each_input_has_matches search.nfa accepted (from (whole (text ++ more)) (place s)) (before s) inside
+      (before_is s) in (
+        rest.0,
+        all_of regex search is (whole (text ++ more)) (given ++ rest.0) (h.matches more small rest.0 rest.1),
+      )
+
+  pub stream_of : (s : Streamed) (text : List ℕ) (given : List Match) → IsStream search.nfa text given s
+      → IsStreamOf record { regex = regex; pieces = s } text given
+  stream_of s text given h = record {
+    read = h.read;
+    kept = h.kept;
+    first = begin_all s text given h;
+    others = λ more small ms m. all_of regex search is (whole (text ++ more)) (given ++ ms)
+        (h.matches more small ms
+        (matches_by_runs regex search is (from (whole (text ++ more)) (place s)) (before s) ms m));
+  }
+
+  stream_by_runs : (s : Streamed) (text : List ℕ) (given : List Match)
+      → IsStreamOf record { regex = regex; pieces = s } text given → IsStream search.nfa text given s
+  stream_by_runs s text given h = record {
+    read = h.read;
+    kept = h.kept;
+    matches = λ more small ms m. matches_by_runs regex search is (whole (text ++ more)) None (given ++ ms)
+        (h.others more small ms
+        (matches_of regex search is (from (whole (text ++ more)) (place s)) (before s) ms m));
+  }
+
+  fed_of : (old new : Streamed) (more : List ℕ) (list after : List Match) → IsFed search.nfa old new more list after
+      → IsFedOf record { regex = regex; pieces = old } record { regex = regex; pieces = new } more list after
+  fed_of old new more list after h = record {
+    found = h.found;
+    added = h.added;
+    read = h.read;
+    keeps = h.keeps;
+    stream = λ text given is_old.
+        stream_of new (text ++ more) (given ++ h.found) (h.stream text given (stream_by_runs old text given is_old));
+  }
+
+  finished_of : (s : Streamed) (list after : List Match) → IsFinished search.nfa s list after
+      → IsFinishedOf record { regex = regex; pieces = s } list after
+  finished_of s list after h = record {
+    found = h.found;
+    added = h.added;
+    all = λ text given is_old. all_of regex search is (whole text) (given ++ h.found)
+        (h.all text given (stream_by_runs s text given is_old));
+  }
+
+-- the value of the fields of a stream
+abbrev pub value_of : List Pattern → ℕ → Searched → Streamed → StreamValue
+value_of patterns terminator search pieces = record {
+  regex = record { patterns = patterns; terminator = terminator; limit = search.limit };
+  pieces = pieces;
+}
+
+-- what is known of the fields is known of the value that clauses see
+module _ (patterns : List Pattern) (terminator : ℕ) (search : Searched) (old : Streamed) (seen : StreamValue)
+    (same : value_of patterns terminator search old ≡ seen) (is : IsStreaming patterns terminator search old) where
+  pub finished_by : {T E : Type 0} (result : Result T E) (list after : List Match)
+      → OnOk result (IsFinished search.nfa old list after) → OnOk result (IsFinishedOf seen list after)
+  finished_by result list after h = on_ok_weaker result
+      (λ (f : IsFinished search.nfa old list after). subst (λ v. IsFinishedOf v list after) same
+      (finished_of (value_of patterns terminator search old).regex search is.regex is.accepted old list after f)) h
+
+  module _ (now : Searched) (new : Streamed) (kept : now ≡ search) (piece : List ℕ) (list after : List Match) where
+    -- where these bytes were read
+    one_fed : (more : List ℕ) → IsFed search.nfa old new more list after
+        → IsFedOf seen (value_of patterns terminator now new) more list after
+    one_fed more h = subst (λ v. IsFedOf v (value_of patterns terminator now new) more list after) same
+        (subst (λ v. IsFedOf (value_of patterns terminator search old) (value_of patterns terminator v new) more list
+        after) (sym kept)
+        (fed_of (value_of patterns terminator search old).regex search is.regex is.accepted old new more list after h))
+
+    module _ {T E : Type 0} (result : Result T E)
+        (fed : IsSearching search.nfa old → IsFeeding search.nfa old new piece list after result) where
+      pub fed_by : OnOk result (IsFedOf seen (value_of patterns terminator now new) piece list after)
+      fed_by = on_ok_weaker result (one_fed piece) (fed is.under_way).fed
+
+      pub part_fed_by : OnErr result (IsPartFedOf seen (value_of patterns terminator now new) piece list after)
+      part_fed_by = on_err_weaker result
+          (λ (p : IsPartFed search.nfa old new piece list after). (p.0, p.1, one_fed (take p.0 piece) p.2))
+          (fed is.under_way).failed
+
+      pub streaming_by : IsStreaming patterns terminator now new
+      streaming_by = subst (λ v. IsStreaming patterns terminator v new) (sym kept)
+          record { regex = is.regex; accepted = is.accepted; under_way = (fed is.under_way).searching }
+
+    pub few_by : {T E : Type 0} (result : Result T E)
+        → (IsSearching search.nfa old → OnOk result (KeptFewInBlocks search.nfa old new piece list after))
+        → OnOk result (KeptFewOf seen (value_of patterns terminator now new) piece list after)
+    few_by result few = on_ok_weaker result
+        (λ (k : KeptFewInBlocks search.nfa old new piece list after).
+        subst (λ v. KeptFewOf v (value_of patterns terminator now new) piece list after) same
+        record { nfa = search.nfa; means = is.regex.means; few = k }) (few is.under_way)
+
+-- a stream that has read nothing, over the NFA of another search
+pub streaming_new : (patterns : List Pattern) (terminator limit : ℕ) (old : Searched) (pieces : Streamed)
+    → IsSearchOf patterns terminator old → IsAccepted old.nfa → ((nfa : Nfa) → IsSearching nfa pieces)
+    → IsStreaming patterns terminator record { nfa = old.nfa; limit = limit; limit_backward = limit } pieces
+streaming_new patterns terminator limit old pieces is accepted none = record {
+  regex = record { means = is.means; prefix = is.prefix; ends = is.ends; limits = refl };
+  accepted = accepted;
+  under_way = none old.nfa;
+}

@@ -1,0 +1,121 @@
+//! All matches of patterns in a text that comes in pieces.
+
+ghost use Rattle.std.specs.Prelude.{◌≡◌, [], OnErr, OnOk};
+ghost use Rattle.determinize_find.specs.Streams.{count_kept, count_read};
+ghost use Rattle.determinize_regex.specs.Private.Searched.{IsSearchOf};
+ghost use Rattle.determinize_regex.specs.Streams.{IsFedOf, IsFinishedOf, IsPartFedOf, IsStreamOf};
+ghost use Rattle.determinize_regex.specs.Streams.{KeptFewOf};
+
+use crate::regex::Regex;
+use determinize_below::Match;
+use determinize_find::{LazyRegex, OwnedRegex, Pieces};
+use std::alloc::{AllocError, Allocator, Global};
+use std::marker::Model;
+
+/// A search for all matches of the patterns of a [`Regex`] in a text that comes in pieces, with
+/// two separate caches: `feed` reads the next piece, and `finish` says that the text ends.
+///
+/// A match is added with the piece after which no byte that follows can change it. So a line, as a
+/// match of `[^\n]*\n`, is added with its last byte. The positions of a match count from the
+/// beginning of the text. Bytes are kept as by `Pieces` of `determinize_find`.
+#[derive(Drop)]
+pub struct Stream<'r, A: Allocator + Copy = Global> {
+    regex: &'r Regex,
+    search: LazyRegex<'r, Global, Global, A>,
+    pieces: Pieces<A>,
+}
+
+impl<'r, A: Allocator + Copy> Model for Stream<'r, A> {
+    ghost use Rattle.std.specs.Coded.{codes};
+    ghost use Rattle.determinize_pattern.specs.contracts.pattern.Pattern as e;
+    ghost use Rattle.determinize_regex.specs.Private.Searched.{IsStreaming};
+    ghost use Rattle.determinize_regex.specs.Streams.{StreamValue};
+
+    ghost Value = { StreamValue };
+
+    ghost coded = { Prim.hlevel (codes, e.the_row.coded) };
+
+    ghost view = { λ s. record {
+      regex = record {
+        patterns = s.regex.now.patterns;
+        terminator = s.regex.now.terminator;
+        limit = s.search.limit;
+      };
+      pieces = s.pieces;
+    } };
+
+    ghost invariant = { λ s.
+        IsStreaming s.regex.now.patterns s.regex.now.terminator s.search s.pieces };
+}
+
+impl<'r, A: Allocator + Copy> Stream<'r, A> {
+    /// Returns a search that has read nothing yet, by the NFAs of the search of a regex.
+    pub(crate) fn new(
+        alloc: A,
+        regex: &'r Regex,
+        search: &'r OwnedRegex,
+        limit: usize,
+    ) -> Stream<'r, A>
+        requires { IsSearchOf regex.now.patterns regex.now.terminator search.now }
+        ensures regex { result.regex ≡ record {
+          patterns = regex.now.patterns;
+          terminator = regex.now.terminator;
+          limit = limit;
+        } }
+        ensures stream { IsStreamOf result [] [] }
+    {
+        Stream {
+            regex,
+            search: LazyRegex::new(alloc, search.nfa(), search.reverse(), limit),
+            pieces: Pieces::new(alloc),
+        }
+    }
+
+    /// Returns how many bytes of the text were read.
+    pub fn bytes_read(&self) -> usize
+        ensures { result ≡ count_read self.now.pieces }
+    {
+        self.pieces.bytes_read()
+    }
+
+    /// Returns how many bytes of the text are kept.
+    pub fn bytes_kept(&self) -> usize
+        ensures { result ≡ count_kept self.now.pieces }
+    {
+        self.pieces.bytes_kept()
+    }
+
+    /// Reads the next piece of the text, and adds matches, in order. A piece may be empty.
+    ///
+    /// Returns `AllocError` if an allocation fails, if a cache would need more than 16647160
+    /// states, or if the pieces have more than `usize::MAX` bytes together. The first bytes of the
+    /// piece may have been read (`bytes_read`), and matches added. To continue, feed the rest.
+    pub fn feed<C: Allocator>(
+        &mut self,
+        piece: &[u8],
+        found: &mut Vec<Match, C>,
+    ) -> Result<(), AllocError>
+        ensures fed { OnOk result
+            (IsFedOf self.old self.new piece.now found.old.items found.new.items) }
+        ensures failed { OnErr result
+            (IsPartFedOf self.old self.new piece.now found.old.items found.new.items) }
+        ensures few { OnOk result
+            (KeptFewOf self.old self.new piece.now found.old.items found.new.items) }
+        ensures same { self.new.regex ≡ self.old.regex }
+    {
+        self.pieces.feed(&mut self.search, piece, found)
+    }
+
+    /// Adds the matches that are left, if the text ends after the pieces so far. The text may still
+    /// be fed further, as if `finish` had not been called.
+    ///
+    /// Returns `AllocError` as `feed` does. Then nothing is added, and it may be called again.
+    pub fn finish<C: Allocator>(&mut self, found: &mut Vec<Match, C>) -> Result<(), AllocError>
+        ensures finished { OnOk result
+            (IsFinishedOf self.old found.old.items found.new.items) }
+        ensures failed { OnErr result (found.new.items ≡ found.old.items) }
+        ensures same { self.new ≡ self.old }
+    {
+        self.pieces.finish(&mut self.search, found)
+    }
+}
