@@ -1,0 +1,74 @@
+use Rattle.std.proofs.Common.{rules, ◌≡◌, ◌<◌, ◌≤◌, ◌-◌, ◌+◌, Option, None, Some, arith, refl, subst}
+use Rattle.std.proofs.lemmas.Result.{IfOk-weaker}
+use Rattle.determinize_below.specs.declared.search.Match.{Match}
+use Rattle.determinize_find.specs.LeftmostIn.{IsLeftmostIn}
+use Rattle.determinize_find.specs.Matches.{from}
+use Rattle.determinize_find.specs.Private.BestAt.{IsBestIn}
+use Rattle.determinize_find.proofs.leftmost.SearchInTurn.{IsLatest, found_here, found_last, latest_is, more_nothing}
+use Rattle.determinize_linear.specs.Private.Spent.{IsSpent, end_or}
+use Rattle.determinize_linear.proofs.search.Matches.{best_rest}
+use Rattle.determinize_linear.proofs.search.UnderWay.{spent_later}
+use Rattle.determinize_linear.proofs.linear.find_from.Goals as goal
+
+pub returns-in-Some-clause-leftmost : goal.returns-in-Some-clause-leftmost
+returns-in-Some-clause-leftmost g c =
+    let last : IsLatest c.args.nfa.now (from c.args.input.now c.args.start) c.latest_start-latest.result
+    = latest_is c.args.nfa.now (from c.args.input.now c.args.start) c.latest_start-latest.result c.args.nfa.now
+    c.requires.end refl c.latest_start-latest.ensures in
+    let low : c.args.start ≤ c.loop-at.at = omega arith in
+    let high : c.loop-at.at < c.latest_start-latest.result = omega arith in
+    let top : c.latest_start-latest.result ≤ c.args.input.now.end = last.high in
+    let is : c.in_ok-found.field-0 ≡ Some c.in-Some.found = search rules in
+    found_here c.args.nfa.now c.args.nfa.now (from c.args.input.now c.args.start) c.loop-at.at
+    c.latest_start-latest.result c.in-Some.found refl last low high c.loop-at.invariant.nothing
+    (best_rest c.args.nfa.now c.args.input.now c.args.start c.loop-at.at (Some c.in-Some.found) c.requires.start low
+    (omega arith)
+    (subst (λ (o : Option Match). IsBestIn c.args.nfa.now c.args.input.now c.loop-at.at o) is
+    c.in_ok-found.ensures.best))
+
+pub loop-at-preserved : goal.loop-at-preserved
+loop-at-preserved g c =
+    let last : IsLatest c.args.nfa.now (from c.args.input.now c.args.start) c.latest_start-latest.result
+    = latest_is c.args.nfa.now (from c.args.input.now c.args.start) c.latest_start-latest.result c.args.nfa.now
+    c.requires.end refl c.latest_start-latest.ensures in
+    let low : c.args.start ≤ c.loop-at.at = omega arith in
+    let high : c.loop-at.at < c.latest_start-latest.result = omega arith in
+    let top : c.latest_start-latest.result ≤ c.args.input.now.end = last.high in
+    let is : c.in_ok-found.field-0 ≡ None = search rules in
+    record {
+      nothing = more_nothing c.args.nfa.now c.args.nfa.now (from c.args.input.now c.args.start) c.loop-at.at refl low
+          c.loop-at.invariant.nothing
+          (best_rest c.args.nfa.now c.args.input.now c.args.start c.loop-at.at None c.requires.start low (omega arith)
+          (subst (λ (o : Option Match). IsBestIn c.args.nfa.now c.args.input.now c.loop-at.at o) is
+          c.in_ok-found.ensures.best));
+      places = search rules;
+      spent = spent_later c.args.nfa.now c.args.text.now (c.loop-at.at - c.args.input.now.start)
+          (c.loop-at.at + 1 - c.args.input.now.start) c.find_at.new.visited (omega arith)
+          (subst (λ (o : Option Match). IsSpent c.args.nfa.now c.args.text.now
+          (end_or c.loop-at.at o - c.args.input.now.start) c.find_at.new.visited) is c.in_ok-found.ensures.spent);
+    }
+
+pub find_at-requires-2-clause-spent : goal.find_at-requires-2-clause-spent
+find_at-requires-2-clause-spent g c =
+    let last : IsLatest c.args.nfa.now (from c.args.input.now c.args.start) c.latest_start-latest.result
+    = latest_is c.args.nfa.now (from c.args.input.now c.args.start) c.latest_start-latest.result c.args.nfa.now
+    c.requires.end refl c.latest_start-latest.ensures in
+    let low : c.args.start ≤ c.latest_start-latest.result = last.low in
+    let at : c.loop-at.at ≤ c.latest_start-latest.result = omega (arith, c.loop-at.auto.at-end) in
+    spent_later c.args.nfa.now c.args.text.now (c.loop-at.at - c.args.input.now.start)
+    (c.latest_start-latest.result - c.args.input.now.start) c.loop-at.visited (omega arith) c.loop-at.invariant.spent
+
+pub returns-clause-leftmost : goal.returns-clause-leftmost
+returns-clause-leftmost g c =
+    let last : IsLatest c.args.nfa.now (from c.args.input.now c.args.start) c.latest_start-latest.result
+    = latest_is c.args.nfa.now (from c.args.input.now c.args.start) c.latest_start-latest.result c.args.nfa.now
+    c.requires.end refl c.latest_start-latest.ensures in
+    let past : c.latest_start-latest.result ≤ c.loop-at.at = omega arith in
+    IfOk-weaker c.find_at-2.result
+    (λ found. IsBestIn c.args.nfa.now c.args.input.now c.latest_start-latest.result found)
+    (λ found. IsLeftmostIn c.args.nfa.now (from c.args.input.now c.args.start) found)
+    (λ found b. found_last c.args.nfa.now c.args.nfa.now (from c.args.input.now c.args.start) c.loop-at.at
+    c.latest_start-latest.result found refl last past c.loop-at.invariant.nothing
+    (best_rest c.args.nfa.now c.args.input.now c.args.start c.latest_start-latest.result found c.requires.start last.low
+    last.high b))
+    c.find_at-2.ensures.best

@@ -1,0 +1,12 @@
+use Rattle.std.proofs.Common.{◌-◌}
+use Rattle.determinize_find.specs.Matches.{from}
+use Rattle.determinize_find.proofs.leftmost.SearchInTurn.{NothingBefore}
+use Rattle.determinize_linear.specs.Private.Spent.{HasPlaces, IsSpent}
+use Rattle.determinize_linear.proofs.linear.find_from.Given as goal
+
+abbrev pub invariant-loop-at : goal.invariant-loop-at
+invariant-loop-at g l = record {
+  nothing : NothingBefore l.nfa (from l.input l.start) l.at;
+  places : HasPlaces l.nfa l.text l.visited;
+  spent : IsSpent l.nfa l.text (l.at - l.input.start) l.visited;
+}

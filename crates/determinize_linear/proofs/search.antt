@@ -1,0 +1,7 @@
+pub mod Choices
+pub mod Marks
+pub mod Matches
+pub mod Pending
+pub mod Skipping
+pub mod Targets
+pub mod UnderWay
