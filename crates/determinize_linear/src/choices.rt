@@ -51,7 +51,12 @@ fn holds_at<N: Allocator>(nfa: &NFA<N>, text: &Text<'_>, at: usize, look: Look) 
         (before_at text.now at) (after_at text.now at) look }
 {
     let terminator = nfa.look_matcher().get_line_terminator();
-    holds(look, terminator, byte_before(text, at), unit_after(text, at))
+    holds(
+        look,
+        terminator,
+        byte_before(text, at),
+        unit_after(text, at),
+    )
 }
 
 /// Returns the target of a state over a byte.

@@ -214,9 +214,7 @@ pub fn find_all<N: Allocator, A: Allocator + Copy>(
     let mut visited = Visited::new(alloc, text.len() + 1, nfa.len())?;
     let mut stack = Vec::new(alloc);
     let (mut start, mut before) = (input.start(), None);
-    while let Some(next) =
-        next_match(nfa, input, &text, start, before, &mut visited, &mut stack)?
-    {
+    while let Some(next) = next_match(nfa, input, &text, start, before, &mut visited, &mut stack)? {
         start = next.end;
         before = Some(next.end);
         found.push(next)?;

@@ -1,11 +1,11 @@
 -- What a search from a position finds, as a match of the rest of the input.
--- Main statements: best_match, best_nothing, found_at, nothing_at, best_rest.
--- Used by: `search_from`, `find_at` and `find_from`.
+-- Main statements: best_match, best_nothing, best_rest.
+-- Used by: `search_from` and `find_from`.
 -- Idea: the first accepting pair is the end of the most preferred run, and a run from a later index is one of the rest
 -- of the text (Shifts).
 use Rattle.std.specs.Option.{is_some}
 use Rattle.std.specs.Prelude.{option_map}
-use Rattle.std.proofs.Common.{◌≡◌, ◌<◌, ◌≤◌, ◌+◌, ◌-◌, ◌∙◌, ◌∷◌, ℕ, List, None, Option, Some, [], ap, arith, false, length, refl, subst, sym, true}
+use Rattle.std.proofs.Common.{◌≡◌, ◌≤◌, ◌+◌, ◌-◌, ◌∙◌, ℕ, None, Option, Some, ap, arith, false, length, refl, subst, sym}
 use Rattle.std.proofs.lemmas.Bool.{false≢true}
 use Rattle.determinize_below.specs.Edges.{pattern_in}
 use Rattle.determinize_below.specs.Nfa.{IsAccepted}
@@ -48,30 +48,6 @@ module _ (nfa : Nfa) (accepted : IsAccepted nfa) (text : Text) (k : ℕ) where
   best_nothing e = λ cs i pattern acc. false≢true
       (sym (first_none_preferred same_pairs (run_steps nfa text) (fuel nfa (length text.bytes)) (k, nfa.start_anchored)
       (enough nfa accepted text) (accepts nfa) e cs (i, acc.0) acc.1) ∙ ap (λ n. is_some (pattern_in n)) acc.2)
-
--- what a search from a position finds, as a match in the haystack
-pub found_at : (nfa : Nfa) (asked : Asked) (text : Text) (base k at end : ℕ) (h : HalfMatch) → text ≡ text_of false asked
-    → base ≡ asked.start → asked.start ≤ at → k ≡ at - base → end ≡ base + h.offset
-    → IsBestAt nfa text k (Some (from_index k h))
-    → IsBestIn nfa asked at (Some record { pattern = h.pattern; start = at; end = end })
-found_at nfa asked text base k at end h t b l e f best =
-    let z : k ≡ at - asked.start = omega arith in
-    let s : at ≡ asked.start + (at - asked.start) = omega arith in
-    let n : end ≡ asked.start + h.offset = omega arith in (
-      Some (from_index (at - asked.start) h),
-      subst (λ w. IsBestAt nfa w (at - asked.start) (Some (from_index (at - asked.start) h))) t
-          (subst (λ w. IsBestAt nfa text w (Some (from_index w h))) z best),
-      ap Some (λ i. record { pattern = h.pattern; start = s i; end = n i }),
-    )
-
-pub nothing_at : (nfa : Nfa) (asked : Asked) (text : Text) (base k at : ℕ) → text ≡ text_of false asked
-    → base ≡ asked.start → k ≡ at - base → NothingFrom nfa text k → IsBestIn nfa asked at None
-nothing_at nfa asked text base k at t b e nothing =
-    let z : k ≡ at - asked.start = omega arith in (
-      None,
-      subst (λ w. NothingFrom nfa w (at - asked.start)) t (subst (λ w. NothingFrom nfa text w) z nothing),
-      refl,
-    )
 
 -- the most preferred match from a later position, in the rest of the text
 rest_best : (nfa : Nfa) (text : Text) (d j k : ℕ) (o : Option Match) → k ≡ d + j → IsBestAt nfa text k o

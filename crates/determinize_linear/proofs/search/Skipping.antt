@@ -2,7 +2,7 @@
 -- Main statements: found, tries, found-start, found-held, found-new, found-here, tries-held, tries-new.
 -- Used by: UnderWay, and the loop of a search.
 -- Idea: such nodes are a closed set, so the first accepting node is the same without them.
-use Rattle.ordered_reach.proofs.Common.{[], ap, append-nil, arith, Bool, by_test, Decides, edge_count, ends, false, false≢true, filter, find, flat_map, fresh, joined, length, length-append, List, member, none_held, not, Option, ordered, refl, Some, suc, sym, true, with_node, ℕ, ◌&&◌, ◌+◌, ◌++◌, ◌∙◌, ◌∷◌, ◌≡◌}
+use Rattle.ordered_reach.proofs.Common.{[], ap, append-nil, arith, Bool, Decides, edge_count, ends, false, filter, find, flat_map, fresh, joined, length, length-append, List, member, none_held, not, Option, ordered, refl, Some, suc, sym, true, with_node, ℕ, ◌&&◌, ◌+◌, ◌++◌, ◌∙◌, ◌∷◌, ◌≡◌}
 use Rattle.ordered_reach.proofs.graph.ClosedSets.{IsClosed, IsEnough, IsEnough-from_none, ends-closed_set, ends-held, ends_agree, fresh-ends_new}
 
 -- the first accepting node of a search past the visited nodes

@@ -14,7 +14,7 @@ use Rattle.std.proofs.lemmas.Option.{slice_get_past}
 use Rattle.determinize_below.specs.Nfa.{IsAccepted}
 use Rattle.determinize_below.specs.Edges.{is_match}
 use Rattle.determinize_below.specs.Positions.{byte_edges, true_edges, truth}
-use Rattle.determinize_below.specs.Semantics.{Nfa, Text, after_at, before_at, choices}
+use Rattle.determinize_below.specs.Semantics.{Nfa, Text, after_at, before_at}
 use Rattle.determinize_below.proofs.nfas.Edges.{target-end}
 use Rattle.determinize_below.proofs.nfas.SoundNfa.{accepted_sound}
 use Rattle.determinize_core.proofs.step.WorkingLists.{fuel}

@@ -1,6 +1,6 @@
-use Rattle.std.proofs.Common.{rules, ◌≡◌, ◌<◌, ◌++◌, ◌∙◌, ◌∷◌, [], Some, ap, append-nil, append_assoc, false, length, map, reverse, slice_get, suc, sym, true, OnOk, ℕ, List, subst}
+use Rattle.std.proofs.Common.{rules, ◌≡◌, ◌++◌, ◌∙◌, ◌∷◌, [], ap, append-nil, append_assoc, false, map, reverse, sym, true, OnOk, ℕ, List, subst}
 use Rattle.determinize_below.specs.Node.{node_of}
-use Rattle.determinize_below.specs.Semantics.{after_at, before_at, choices, holds, target_of}
+use Rattle.determinize_below.specs.Semantics.{after_at, before_at, holds}
 use Rattle.ordered_reach.specs.Runs.{placed}
 use Rattle.determinize_linear.proofs.search.Choices.{choices_both, choices_byte, choices_capture, choices_look, choices_not_look, choices_union}
 use Rattle.determinize_linear.proofs.search.Targets.{reversed_target}
@@ -9,7 +9,7 @@ use Rattle.determinize_linear.proofs.choices.push_choices.Goals as goal
 pub returns-then-not-holds_at : goal.returns-then-not-holds_at
 returns-then-not-holds_at g c =
     let h : holds c.args.nfa.now.reverse c.args.nfa.now.terminator (before_at c.args.text.now c.args.at)
-        (after_at c.args.text.now c.args.at) c.in-Look.look ≡ false = search rules in
+    (after_at c.args.text.now c.args.at) c.in-Look.look ≡ false = search rules in
     sym (append-nil c.args.stack.now.items)
     ∙ ap (λ (l : List (ℕ × ℕ)). c.args.stack.now.items ++ reverse l)
     (sym (choices_not_look c.args.nfa.now c.args.text.now c.args.at c.args.id c.in-Look.look c.in-Look.next
@@ -18,7 +18,7 @@ returns-then-not-holds_at g c =
 pub returns-else-not-holds_at : goal.returns-else-not-holds_at
 returns-else-not-holds_at g c =
     let h : holds c.args.nfa.now.reverse c.args.nfa.now.terminator (before_at c.args.text.now c.args.at)
-        (after_at c.args.text.now c.args.at) c.in-Look.look ≡ true = search rules in
+    (after_at c.args.text.now c.args.at) c.in-Look.look ≡ true = search rules in
     subst (λ (l : List (ℕ × ℕ)). OnOk c.push.result (c.push.new.stack.items ≡ c.args.stack.now.items ++ reverse l))
     (sym (choices_look c.args.nfa.now c.args.text.now c.args.at c.args.id c.in-Look.look c.in-Look.next
     (rw c.in-Look.is at c.state-state.ensures.state) h)) c.push.ensures

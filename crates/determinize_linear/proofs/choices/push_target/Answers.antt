@@ -1,4 +1,4 @@
-use Rattle.std.proofs.Common.{◌≡◌, ◌≤◌, ◌++◌, ◌∙◌, ◌∷◌, ℕ, List, None, OnOk, Some, [], arith, length, subst, sym}
+use Rattle.std.proofs.Common.{◌≡◌, ◌≤◌, ◌++◌, ◌∙◌, ℕ, List, None, OnOk, Some, arith, length, subst, sym}
 use Rattle.determinize_below.specs.Node.{node_of}
 use Rattle.determinize_below.specs.Semantics.{target_of}
 use Rattle.determinize_linear.proofs.search.Targets.{no_target, one_target, past_target}

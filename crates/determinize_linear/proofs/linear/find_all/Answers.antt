@@ -1,8 +1,6 @@
-use Rattle.std.proofs.Common.{rules, ◌≡◌, ◌<◌, ◌≤◌, ◌-◌, ◌+◌, ◌++◌, ◌∙◌, ◌∷◌, ℕ, Bool, List, None, Option, Some, [], ap, arith, false, length, refl, replicate, subst, sym}
-use Rattle.determinize_below.specs.Semantics.{Nfa, Text}
+use Rattle.std.proofs.Common.{rules, ◌≡◌, ◌≤◌, ◌-◌, ◌+◌, ◌++◌, ◌∷◌, ℕ, Bool, List, None, Option, Some, [], arith, false, length, refl, replicate, subst, sym}
 use Rattle.determinize_below.specs.declared.search.Match.{Match}
 use Rattle.determinize_find.specs.Matches.{AreMatches, IsNext, from}
-use Rattle.determinize_find.proofs.leftmost.SearchInTurn.{found_past}
 use Rattle.determinize_find.proofs.matches.NextMatch.{AreFirst, all_found, fewer, one_more}
 use Rattle.determinize_find.proofs.matches.OneList.{IsLater, next_lies}
 use Rattle.ordered_reach.proofs.Cases.{some_injective}
@@ -15,7 +13,7 @@ pub loop-stack-init : goal.loop-stack-init
 loop-stack-init g c =
     let start : c.start-start.result ≡ c.args.input.now.start = c.start-start.ensures.value in
     let rows : c.in_ok-visited.visited
-        ≡ replicate (length c.of_input-text.result.bytes + 1) (replicate (length c.args.nfa.now.states) false)
+    ≡ replicate (length c.of_input-text.result.bytes + 1) (replicate (length c.args.nfa.now.states) false)
     = search rules in
     record {
       low = omega arith;

@@ -1,4 +1,4 @@
-use Rattle.std.proofs.Common.{rules, ◌≡◌, ◌≤◌, ◌-◌, ◌∙◌, ap, arith, length}
+use Rattle.std.proofs.Common.{◌≡◌, ◌≤◌, ◌-◌, ◌∙◌, ap, arith, length}
 use Rattle.determinize_below.specs.Semantics.{Text}
 use Rattle.determinize_find.proofs.matches.OneList.{length-range}
 use Rattle.determinize_linear.proofs.linear.find_at.Goals as goal

@@ -1,5 +1,5 @@
 use Rattle.std.specs.Option.{is_some}
-use Rattle.std.proofs.Common.{rules, ◌≡◌, ◌≤◌, ◌+◌, ◌<◌, ◌∙◌, ◌++◌, ◌∷◌, ℕ, Bool, List, None, Some, [], ap, arith, false, length, refl, reverse, slice_get, slice_index_or, subst, sym, true}
+use Rattle.std.proofs.Common.{rules, ◌≡◌, ◌<◌, ◌∙◌, ◌++◌, ◌∷◌, ℕ, Bool, List, Some, [], ap, arith, false, length, refl, reverse, slice_get, subst, sym, true}
 use Rattle.std.proofs.lemmas.Option.{get_or_from_slice_get}
 use Rattle.determinize_below.specs.Edges.{is_match, is_match_node, pattern_in}
 use Rattle.determinize_below.specs.Node.{node_of}
@@ -31,7 +31,7 @@ loop-at-init g c =
 pub returns-in-Match-clause-best : goal.returns-in-Match-clause-best
 returns-in-Match-clause-best g c =
     let t : IsTop c.args.nfa.now c.args.text.now c.args.from c.loop-at.visited (reverse c.loop-at.stack.items)
-        (c.in-Some.at, c.in-Some.id) (reverse c.pop.new.self.items)
+    (c.in-Some.at, c.in-Some.id) (reverse c.pop.new.self.items)
     = on_top c.args.nfa.now c.args.text.now c.args.from c.loop-at.visited c.loop-at.stack.items c.pop.new.self.items
     (c.in-Some.at, c.in-Some.id) c.in-Some.ensures.items c.loop-at.invariant.way c.loop-at.invariant.places in
     let here : slice_get c.args.nfa.now.states c.in-Some.id ≡ Some (node_of c.state.result.now) = search rules in
@@ -48,7 +48,7 @@ returns-in-Match-clause-best g c =
 pub returns-in-Match-clause-places : goal.returns-in-Match-clause-places
 returns-in-Match-clause-places g c =
     let t : IsTop c.args.nfa.now c.args.text.now c.args.from c.loop-at.visited (reverse c.loop-at.stack.items)
-        (c.in-Some.at, c.in-Some.id) (reverse c.pop.new.self.items)
+    (c.in-Some.at, c.in-Some.id) (reverse c.pop.new.self.items)
     = on_top c.args.nfa.now c.args.text.now c.args.from c.loop-at.visited c.loop-at.stack.items c.pop.new.self.items
     (c.in-Some.at, c.in-Some.id) c.in-Some.ensures.items c.loop-at.invariant.way c.loop-at.invariant.places in
     subst (λ (rows : List (List Bool)). HasPlaces c.args.nfa.now c.args.text.now rows) (sym c.clear-in-Match.ensures)
@@ -57,7 +57,7 @@ returns-in-Match-clause-places g c =
 pub returns-in-Match-clause-spent : goal.returns-in-Match-clause-spent
 returns-in-Match-clause-spent g c =
     let t : IsTop c.args.nfa.now c.args.text.now c.args.from c.loop-at.visited (reverse c.loop-at.stack.items)
-        (c.in-Some.at, c.in-Some.id) (reverse c.pop.new.self.items)
+    (c.in-Some.at, c.in-Some.id) (reverse c.pop.new.self.items)
     = on_top c.args.nfa.now c.args.text.now c.args.from c.loop-at.visited c.loop-at.stack.items c.pop.new.self.items
     (c.in-Some.at, c.in-Some.id) c.in-Some.ensures.items c.loop-at.invariant.way c.loop-at.invariant.places in
     subst (λ (rows : List (List Bool)). IsSpent c.args.nfa.now c.args.text.now c.new.result.offset rows)
@@ -70,16 +70,16 @@ returns-in-Match-clause-spent g c =
 pub loop-at-smaller-in-Continue-branch-2 : goal.loop-at-smaller-in-Continue-branch-2
 loop-at-smaller-in-Continue-branch-2 g c =
     let t : IsTop c.args.nfa.now c.args.text.now c.args.from c.loop-at.visited (reverse c.loop-at.stack.items)
-        (c.in-Some.at, c.in-Some.id) (reverse c.pop.new.self.items)
+    (c.in-Some.at, c.in-Some.id) (reverse c.pop.new.self.items)
     = on_top c.args.nfa.now c.args.text.now c.args.from c.loop-at.visited c.loop-at.stack.items c.pop.new.self.items
     (c.in-Some.at, c.in-Some.id) c.in-Some.ensures.items c.loop-at.invariant.way c.loop-at.invariant.places in
     let new : is_marked c.loop-at.visited (c.in-Some.at, c.in-Some.id) ≡ false = search rules in
     let more : c.insert.new.self ≡ with_mark c.loop-at.visited c.in-Some.at c.in-Some.id = search rules in
     let items : c.push_choices.new.stack.items
-        ≡ c.pop.new.self.items ++ reverse (choices c.args.nfa.now c.args.text.now (c.in-Some.at, c.in-Some.id))
+    ≡ c.pop.new.self.items ++ reverse (choices c.args.nfa.now c.args.text.now (c.in-Some.at, c.in-Some.id))
     = search rules in
     let after : reverse c.push_choices.new.stack.items
-        ≡ run_steps c.args.nfa.now c.args.text.now (c.in-Some.at, c.in-Some.id) ++ reverse c.pop.new.self.items
+    ≡ run_steps c.args.nfa.now c.args.text.now (c.in-Some.at, c.in-Some.id) ++ reverse c.pop.new.self.items
     = pushed c.pop.new.self.items c.push_choices.new.stack.items
     (choices c.args.nfa.now c.args.text.now (c.in-Some.at, c.in-Some.id)) items in
     fewer_new c.args.nfa.now c.requires.accepted c.args.text.now c.loop-at.visited c.insert.new.self
@@ -89,7 +89,7 @@ loop-at-smaller-in-Continue-branch-2 g c =
 pub loop-at-preserved-in-Continue-branch-2 : goal.loop-at-preserved-in-Continue-branch-2
 loop-at-preserved-in-Continue-branch-2 g c =
     let t : IsTop c.args.nfa.now c.args.text.now c.args.from c.loop-at.visited (reverse c.loop-at.stack.items)
-        (c.in-Some.at, c.in-Some.id) (reverse c.pop.new.self.items)
+    (c.in-Some.at, c.in-Some.id) (reverse c.pop.new.self.items)
     = on_top c.args.nfa.now c.args.text.now c.args.from c.loop-at.visited c.loop-at.stack.items c.pop.new.self.items
     (c.in-Some.at, c.in-Some.id) c.in-Some.ensures.items c.loop-at.invariant.way c.loop-at.invariant.places in
     let here : slice_get c.args.nfa.now.states c.in-Some.id ≡ Some (node_of c.state.result.now) = search rules in
@@ -99,10 +99,10 @@ loop-at-preserved-in-Continue-branch-2 g c =
     let new : is_marked c.loop-at.visited (c.in-Some.at, c.in-Some.id) ≡ false = search rules in
     let more : c.insert.new.self ≡ with_mark c.loop-at.visited c.in-Some.at c.in-Some.id = search rules in
     let items : c.push_choices.new.stack.items
-        ≡ c.pop.new.self.items ++ reverse (choices c.args.nfa.now c.args.text.now (c.in-Some.at, c.in-Some.id))
+    ≡ c.pop.new.self.items ++ reverse (choices c.args.nfa.now c.args.text.now (c.in-Some.at, c.in-Some.id))
     = search rules in
     let after : reverse c.push_choices.new.stack.items
-        ≡ run_steps c.args.nfa.now c.args.text.now (c.in-Some.at, c.in-Some.id) ++ reverse c.pop.new.self.items
+    ≡ run_steps c.args.nfa.now c.args.text.now (c.in-Some.at, c.in-Some.id) ++ reverse c.pop.new.self.items
     = pushed c.pop.new.self.items c.push_choices.new.stack.items
     (choices c.args.nfa.now c.args.text.now (c.in-Some.at, c.in-Some.id)) items in
     record {
@@ -121,7 +121,7 @@ loop-at-preserved-in-Continue-branch-2 g c =
 pub loop-at-smaller : goal.loop-at-smaller
 loop-at-smaller g c =
     let t : IsTop c.args.nfa.now c.args.text.now c.args.from c.loop-at.visited (reverse c.loop-at.stack.items)
-        (c.in-Some.at, c.in-Some.id) (reverse c.pop.new.self.items)
+    (c.in-Some.at, c.in-Some.id) (reverse c.pop.new.self.items)
     = on_top c.args.nfa.now c.args.text.now c.args.from c.loop-at.visited c.loop-at.stack.items c.pop.new.self.items
     (c.in-Some.at, c.in-Some.id) c.in-Some.ensures.items c.loop-at.invariant.way c.loop-at.invariant.places in
     let old : is_marked c.loop-at.visited (c.in-Some.at, c.in-Some.id) ≡ true = search rules in
@@ -135,7 +135,7 @@ loop-at-smaller g c =
 pub loop-at-preserved : goal.loop-at-preserved
 loop-at-preserved g c =
     let t : IsTop c.args.nfa.now c.args.text.now c.args.from c.loop-at.visited (reverse c.loop-at.stack.items)
-        (c.in-Some.at, c.in-Some.id) (reverse c.pop.new.self.items)
+    (c.in-Some.at, c.in-Some.id) (reverse c.pop.new.self.items)
     = on_top c.args.nfa.now c.args.text.now c.args.from c.loop-at.visited c.loop-at.stack.items c.pop.new.self.items
     (c.in-Some.at, c.in-Some.id) c.in-Some.ensures.items c.loop-at.invariant.way c.loop-at.invariant.places in
     let old : is_marked c.loop-at.visited (c.in-Some.at, c.in-Some.id) ≡ true = search rules in
