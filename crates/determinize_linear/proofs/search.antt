@@ -1,4 +1,5 @@
 pub mod Choices
+pub mod Left
 pub mod Marks
 pub mod Matches
 pub mod Pending

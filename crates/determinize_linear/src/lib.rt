@@ -9,6 +9,8 @@
 mod assertions;
 mod choices;
 pub mod linear;
+mod tries;
 mod visited;
 
-pub use linear::find_all;
+pub use linear::{find_all, find_all_counted};
+pub use tries::Tries;

@@ -1,11 +1,13 @@
-use Rattle.std.proofs.Common.{rules, ◌≡◌, ◌<◌, ◌≤◌, ◌-◌, ◌+◌, Option, None, Some, arith, refl, subst}
+use Rattle.std.proofs.Common.{rules, ◌≡◌, ◌<◌, ◌≤◌, ◌-◌, ◌+◌, ℕ, Option, None, Some, arith, refl, subst}
 use Rattle.std.proofs.lemmas.Result.{IfOk-weaker}
 use Rattle.determinize_below.specs.declared.search.Match.{Match}
 use Rattle.determinize_find.specs.LeftmostIn.{IsLeftmostIn}
 use Rattle.determinize_find.specs.Matches.{from}
 use Rattle.determinize_find.specs.Private.BestAt.{IsBestIn}
 use Rattle.determinize_find.proofs.leftmost.SearchInTurn.{IsLatest, found_here, found_last, latest_is, more_nothing}
+use Rattle.determinize_linear.specs.Private.Left.{left}
 use Rattle.determinize_linear.specs.Private.Spent.{IsSpent, end_or}
+use Rattle.determinize_linear.proofs.search.Left.{if_some, left_later, paid_after}
 use Rattle.determinize_linear.proofs.search.Matches.{best_rest}
 use Rattle.determinize_linear.proofs.search.UnderWay.{spent_later}
 use Rattle.determinize_linear.proofs.linear.find_from.Goals as goal
@@ -46,6 +48,20 @@ loop-at-preserved g c =
           (c.loop-at.at + 1 - c.args.input.now.start) c.find_at.new.visited (omega arith)
           (subst (λ (o : Option Match). IsSpent c.args.nfa.now c.args.text.now
           (end_or c.loop-at.at o - c.args.input.now.start) c.find_at.new.visited) is c.in_ok-found.ensures.spent);
+      paid = λ k.
+          let none : g.C.Counter.total c.find_at.new.counter
+              + left c.args.nfa.now c.args.text.now (c.loop-at.at - c.args.input.now.start) c.find_at.new.visited
+              ≤ g.C.Counter.total c.loop-at.counter + 1
+              + left c.args.nfa.now c.args.text.now (c.loop-at.at - c.args.input.now.start) c.loop-at.visited
+          = rw is at (c.in_ok-found.ensures.unpaid k) in
+          omega (
+            arith,
+            none,
+            c.loop-at.invariant.paid k,
+            low,
+            left_later c.args.nfa.now c.args.text.now (c.loop-at.at - c.args.input.now.start)
+                (c.loop-at.at + 1 - c.args.input.now.start) c.find_at.new.visited (omega arith),
+          );
     }
 
 pub find_at-requires-2-clause-spent : goal.find_at-requires-2-clause-spent
@@ -72,3 +88,25 @@ returns-clause-leftmost g c =
     (best_rest c.args.nfa.now c.args.input.now c.args.start c.latest_start-latest.result found c.requires.start last.low
     last.high b))
     c.find_at-2.ensures.best
+
+pub returns-clause-paid : goal.returns-clause-paid
+returns-clause-paid g c = λ k.
+    let last : IsLatest c.args.nfa.now (from c.args.input.now c.args.start) c.latest_start-latest.result
+    = latest_is c.args.nfa.now (from c.args.input.now c.args.start) c.latest_start-latest.result c.args.nfa.now
+    c.requires.end refl c.latest_start-latest.ensures in
+    let low : c.args.start ≤ c.latest_start-latest.result = last.low in
+    let here : c.loop-at.at ≡ c.latest_start-latest.result = omega (arith, c.loop-at.auto.at-end) in
+    let paid : g.C.Counter.total c.loop-at.counter + left c.args.nfa.now c.args.text.now
+        (c.latest_start-latest.result - c.args.input.now.start) c.loop-at.visited
+        ≤ g.C.Counter.total c.args.counter.now + (c.latest_start-latest.result - c.args.start)
+        + left c.args.nfa.now c.args.text.now (c.args.start - c.args.input.now.start) c.args.visited.now
+    = subst (λ (i : ℕ). g.C.Counter.total c.loop-at.counter
+    + left c.args.nfa.now c.args.text.now (i - c.args.input.now.start) c.loop-at.visited
+    ≤ g.C.Counter.total c.args.counter.now + (i - c.args.start)
+    + left c.args.nfa.now c.args.text.now (c.args.start - c.args.input.now.start) c.args.visited.now) here
+    (c.loop-at.invariant.paid k) in
+    IfOk-weaker c.find_at-2.result _ _
+    (λ found h. if_some _ _ found (λ m p. paid_after c.args.nfa.now c.args.text.now c.args.input.now.start c.args.start
+    c.latest_start-latest.result m c.args.visited.now c.loop-at.visited c.find_at-2.new.visited
+    (g.C.Counter.total c.args.counter.now) (g.C.Counter.total c.loop-at.counter)
+    (g.C.Counter.total c.find_at-2.new.counter) c.requires.start low p paid) h) (c.find_at-2.ensures.paid k)

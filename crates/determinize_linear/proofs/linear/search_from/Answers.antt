@@ -1,13 +1,16 @@
 use Rattle.std.specs.Option.{is_some}
-use Rattle.std.proofs.Common.{rules, ◌≡◌, ◌<◌, ◌∙◌, ◌++◌, ◌∷◌, ℕ, Bool, List, Some, [], ap, arith, false, length, refl, reverse, slice_get, subst, sym, true}
+use Rattle.std.proofs.Common.{rules, ◌≡◌, ◌+◌, ◌<◌, ◌∙◌, ◌++◌, ◌∷◌, ℕ, Bool, List, Some, [], ap, arith, false, length, refl, reverse, slice_get, subst, sym, true}
+use Rattle.std.proofs.lemmas.List.{length-append, length-reverse}
 use Rattle.std.proofs.lemmas.Option.{get_or_from_slice_get}
 use Rattle.determinize_below.specs.Edges.{is_match, is_match_node, pattern_in}
 use Rattle.determinize_below.specs.Node.{node_of}
 use Rattle.determinize_below.specs.Semantics.{Fail, Match, Node, choices, state_at}
 use Rattle.determinize_below.specs.declared.search.HalfMatch.{HalfMatch}
 use Rattle.determinize_find.specs.Private.BestAt.{IsBestAt, from_index}
+use Rattle.determinize_linear.specs.Private.Left.{IsPaid, left}
 use Rattle.determinize_linear.specs.Private.Marks.{is_marked, with_mark, without_marks}
 use Rattle.determinize_linear.specs.Private.Spent.{HasPlaces, IsSpent}
+use Rattle.determinize_linear.proofs.search.Left.{left_marked, paid_match}
 use Rattle.determinize_linear.proofs.search.Marks.{places_with, places_without, with_mark-marked}
 use Rattle.determinize_linear.proofs.search.Matches.{best_match, best_nothing}
 use Rattle.determinize_linear.proofs.search.Pending.{run_steps}
@@ -26,6 +29,7 @@ loop-at-init g c =
           (sym items) (begun c.args.nfa.now c.requires.accepted c.args.text.now c.args.from c.args.visited.now
           c.requires.within start c.requires.spent);
       places = c.requires.places;
+      paid = λ k. omega (arith, ap (λ (l : List (ℕ × ℕ)). length l) items);
     }
 
 pub returns-in-Match-clause-best : goal.returns-in-Match-clause-best
@@ -66,6 +70,23 @@ returns-in-Match-clause-spent g c =
     (sym (ap (λ (h : HalfMatch). h.offset) c.new.ensures))
     (spent_after c.args.nfa.now c.requires.accepted c.args.text.now c.args.from c.loop-at.visited
     (c.in-Some.at, c.in-Some.id) (reverse c.pop.new.self.items) t.way t.row))
+
+pub returns-in-Match-clause-paid : goal.returns-in-Match-clause-paid
+returns-in-Match-clause-paid g c = λ k.
+    let t : IsTop c.args.nfa.now c.args.text.now c.args.from c.loop-at.visited (reverse c.loop-at.stack.items)
+    (c.in-Some.at, c.in-Some.id) (reverse c.pop.new.self.items)
+    = on_top c.args.nfa.now c.args.text.now c.args.from c.loop-at.visited c.loop-at.stack.items c.pop.new.self.items
+    (c.in-Some.at, c.in-Some.id) c.in-Some.ensures.items c.loop-at.invariant.way c.loop-at.invariant.places in
+    let popped : length c.loop-at.stack.items ≡ length c.pop.new.self.items + 1
+    = ap (λ (l : List (ℕ × ℕ)). length l) c.in-Some.ensures.items
+    ∙ length-append c.pop.new.self.items ((c.in-Some.at, c.in-Some.id) ∷ []) in
+    subst (λ (e : ℕ). IsPaid c.args.nfa.now c.args.text.now c.args.from e 1 c.args.visited.now c.clear-in-Match.new.self
+    (g.C.Counter.total c.args.counter.now) (g.C.Counter.total c.count.new.self))
+    (sym (ap (λ (h : HalfMatch). h.offset) c.new.ensures))
+    (paid_match c.args.nfa.now c.args.text.now c.args.from c.in-Some.at c.args.visited.now c.loop-at.visited
+    c.clear-in-Match.new.self (g.C.Counter.total c.loop-at.counter) (length c.loop-at.stack.items)
+    (g.C.Counter.total c.args.counter.now) (g.C.Counter.total c.count.new.self) c.clear-in-Match.ensures t.row
+    t.way.falls.0 (omega arith) (c.count.ensures k) (c.loop-at.invariant.paid k))
 
 pub loop-at-smaller-in-Continue-branch-2 : goal.loop-at-smaller-in-Continue-branch-2
 loop-at-smaller-in-Continue-branch-2 g c =
@@ -116,6 +137,25 @@ loop-at-preserved-in-Continue-branch-2 g c =
       places = subst (λ (rows : List (List Bool)). HasPlaces c.args.nfa.now c.args.text.now rows) (sym more)
           (places_with c.args.nfa.now c.args.text.now c.loop-at.visited c.in-Some.at c.in-Some.id t.row
           c.loop-at.invariant.places);
+      paid = λ k.
+          let pushed : length c.push_choices.new.stack.items ≡ length c.pop.new.self.items
+              + length (choices c.args.nfa.now c.args.text.now (c.in-Some.at, c.in-Some.id))
+          = ap (λ (l : List (ℕ × ℕ)). length l) items ∙ length-append c.pop.new.self.items _
+          ∙ ap (λ (n : ℕ). length c.pop.new.self.items + n)
+          (length-reverse (choices c.args.nfa.now c.args.text.now (c.in-Some.at, c.in-Some.id))) in
+          let popped : length c.loop-at.stack.items ≡ length c.pop.new.self.items + 1
+          = ap (λ (l : List (ℕ × ℕ)). length l) c.in-Some.ensures.items
+          ∙ length-append c.pop.new.self.items ((c.in-Some.at, c.in-Some.id) ∷ []) in
+          omega (
+            arith,
+            c.count.ensures k,
+            c.loop-at.invariant.paid k,
+            pushed,
+            popped,
+            left_marked c.args.nfa.now c.args.text.now c.args.from c.loop-at.visited (c.in-Some.at, c.in-Some.id)
+                t.way.falls.0 t.way.falls.1 t.way.falls.2 t.row t.mark new,
+            ap (λ (rows : List (List Bool)). left c.args.nfa.now c.args.text.now c.args.from rows) more,
+          );
     }
 
 pub loop-at-smaller : goal.loop-at-smaller
@@ -149,6 +189,17 @@ loop-at-preserved g c =
           (c.in-Some.at, c.in-Some.id) (reverse c.pop.new.self.items) t.way old);
       places = subst (λ (rows : List (List Bool)). HasPlaces c.args.nfa.now c.args.text.now rows) (sym more)
           c.loop-at.invariant.places;
+      paid = λ k.
+          let popped : length c.loop-at.stack.items ≡ length c.pop.new.self.items + 1
+          = ap (λ (l : List (ℕ × ℕ)). length l) c.in-Some.ensures.items
+          ∙ length-append c.pop.new.self.items ((c.in-Some.at, c.in-Some.id) ∷ []) in
+          omega (
+            arith,
+            c.count.ensures k,
+            c.loop-at.invariant.paid k,
+            popped,
+            ap (λ (rows : List (List Bool)). left c.args.nfa.now c.args.text.now c.args.from rows) more,
+          );
     }
 
 pub returns-clause-best : goal.returns-clause-best

@@ -1,6 +1,7 @@
-use Rattle.std.proofs.Common.{length, nat_eq, reverse}
+use Rattle.std.proofs.Common.{◌+◌, ◌≤◌, IsTrue, length, nat_eq, reverse}
 use Rattle.determinize_core.proofs.step.WorkingLists.{fuel}
 use Rattle.ordered_reach.proofs.runs.ByPosition.{pair_eq}
+use Rattle.determinize_linear.specs.Private.Left.{left}
 use Rattle.determinize_linear.specs.Private.Marks.{is_marked}
 use Rattle.determinize_linear.specs.Private.Spent.{HasPlaces}
 use Rattle.determinize_linear.proofs.search.Pending.{run_steps}
@@ -12,6 +13,9 @@ abbrev pub invariant-loop-at : goal.invariant-loop-at
 invariant-loop-at g l = record {
   way : IsUnderWay l.nfa l.text l.from l.visited (reverse l.stack.items);
   places : HasPlaces l.nfa l.text l.visited;
+  paid : IsTrue g.C.Counter.counts → g.C.Counter.total l.counter + length l.stack.items
+      + left l.nfa l.text l.from l.visited
+      ≤ g.C.Counter.total l.initial.counter + 1 + left l.nfa l.text l.from l.initial.visited;
 }
 
 abbrev pub decreases-loop-at : goal.decreases-loop-at
