@@ -9,7 +9,7 @@
 mod assertions;
 mod choices;
 pub mod linear;
-mod tries;
+pub mod tries;
 mod visited;
 
 pub use linear::{find_all, find_all_counted};

@@ -161,9 +161,9 @@ fn find_from<N: Allocator, A: Allocator, C: Counter>(
     ensures spent { IfOk result (λ found. IfSome found
         (λ m. IsSpent nfa.now text.now (m.end - input.now.start) visited.new)) }
     ensures paid { IsTrue C.counts → IfOk result (λ found. IfSome found (λ m.
-        (start ≤ m.start) × IsPaid nfa.now text.now (start - input.now.start) (m.end - input.now.start)
-        (m.start - start + 1) visited.old visited.new
-        (C.total counter.old) (C.total counter.new))) }
+        (start ≤ m.start) × IsPaid nfa.now text.now
+        (start - input.now.start) (m.end - input.now.start) (m.start - start + 1)
+        visited.old visited.new (C.total counter.old) (C.total counter.new))) }
     ensures bounded { IsTrue C.counts → C.total counter.new ≤ C.total counter.old
         + (input.now.end - start + 1)
         + left nfa.now text.now (start - input.now.start) visited.old }
@@ -254,7 +254,16 @@ fn find_all_with<N: Allocator, A: Allocator + Copy, C: Counter>(
     let mut visited = Visited::new(alloc, text.len() + 1, nfa.len())?;
     let mut stack = Vec::new(alloc);
     let (mut start, mut before) = (input.start(), None);
-    while let Some(next) = next_match(nfa, input, &text, start, before, &mut visited, &mut stack, counter)? {
+    while let Some(next) = next_match(
+        nfa,
+        input,
+        &text,
+        start,
+        before,
+        &mut visited,
+        &mut stack,
+        counter,
+    )? {
         start = next.end;
         before = Some(next.end);
         found.push(next)?;

@@ -1,5 +1,6 @@
 -- The pairs that a run goes on to, by the kind of a state.
--- Main statements: map_reversed, choices_look, choices_not_look, choices_union, choices_both, choices_capture, choices_byte.
+-- Main statements: map_reversed, choices_look, choices_not_look, choices_union, choices_both, choices_capture,
+-- choices_byte.
 -- Used by: `push_each` and `push_choices`.
 -- Idea: a state has a target over a byte, or epsilon transitions, and not both.
 use Rattle.std.specs.Prelude.{slice_get}

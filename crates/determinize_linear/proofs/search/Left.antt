@@ -2,19 +2,19 @@
 -- Main statements: left_marked, left_later, left_cleared, left_past, left_most, paid_match, paid_after,
 -- if_some, left_least, start_pays, next_pays, end_pays.
 -- Used by: the searches.
--- Idea: sums over the pairs of a text, of which each position has at most the states and epsilon transitions of the NFA.
+-- Idea: sums over the pairs of a text: at each position they have at most one choice for each state and one for each
+-- epsilon transition of the NFA.
 use Rattle.std.specs.List.{flat_map}
 use Rattle.std.specs.Option.{IfSome}
 use Rattle.std.specs.Prelude.{nat_lt, slice_get, slice_index_or}
-use Rattle.std.proofs.Common.{◌≡◌, ◌<◌, ◌≤◌, ◌*◌, ◌+◌, ◌-◌, ◌++◌, ◌∙◌, ◌∷◌, ◌||◌, ◌==◌, ℕ, Bool, List, None, Option, Some, [], ap, arith, cond, false, length, length-append, map, nat_eq, not, refl, suc, sym, true, zero}
+use Rattle.std.proofs.Common.{◌≡◌, ◌<◌, ◌≤◌, ◌*◌, ◌+◌, ◌-◌, ◌++◌, ◌∷◌, ◌||◌, ◌==◌, ℕ, Bool, List, None, Option, Some, [], ap, arith, false, length, length-append, map, nat_eq, not, refl, suc, true, zero}
 use Rattle.std.proofs.lemmas.Bool.Decides.{nat_tests}
 use Rattle.std.proofs.lemmas.List.{length-map}
 use mathlib.Core.Path.{fun_ext}
-use Rattle.determinize_below.specs.Edges.{edges, target}
+use Rattle.determinize_below.specs.Edges.{edges}
 use Rattle.determinize_below.specs.Positions.{byte_edges, true_edges, truth}
 use Rattle.determinize_below.specs.Semantics.{Nfa, Text, after_at, before_at, choices}
 use Rattle.determinize_below.proofs.nfas.Edges.{length-edges, length-target}
-use Rattle.determinize_core.specs.Tries.{edges_in_all}
 use Rattle.ordered_reach.proofs.Cases.{by_cases, by_test}
 use Rattle.std.proofs.lemmas.Bool.{cases_lt}
 use Rattle.ordered_reach.proofs.graph.FiniteGraphs.{below_member, length_below, same_decides}
@@ -163,7 +163,7 @@ module _ (nfa : Nfa) (text : Text) where
       let same : with_node (pair_eq nat_eq) held p ≡ (λ q. nat_lt q.0 k || is_marked (with_mark rows p.0 p.1) q)
       = fun_ext (λ q. turned q (is_marked-with rows p.0 p.1 r m q)) in
       let x : count_choices nfa text (with_node (pair_eq nat_eq) held p) (pairs_in nfa text)
-          ≡ left nfa text k (with_mark rows p.0 p.1)
+      ≡ left nfa text k (with_mark rows p.0 p.1)
       = ap (λ v. count_choices nfa text v (pairs_in nfa text)) same in
       omega (
         arith,
@@ -238,7 +238,8 @@ pub start_pays : (s e n b len left total : ℕ) → len ≡ n → b ≡ n + 2 �
 start_pays s e n b len left total z w l =
     let few : left ≤ (n + 1) * (s + e) = rw z at l in rw w (omega (arith, few, tries_enough (s + e) n))
 
-pub next_pays : (d a b x old most total left more rest : ℕ) → a < b → x ≤ b - a → more + rest ≤ total + (x + 2) + left + d
+pub next_pays : (d a b x old most total left more rest : ℕ) → a < b → x ≤ b - a
+    → more + rest ≤ total + (x + 2) + left + d
     → total + left + (d + 3) * b ≤ old + most → more + rest + (d + 3) * a ≤ old + most
 next_pays d a b x old most total left more rest l h paid before = omega (arith, match_pays d a b x l h, paid, before)
 

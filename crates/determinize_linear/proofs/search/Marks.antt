@@ -1,6 +1,6 @@
 -- Marks in a table as a set of pairs.
--- Main statements: changed_at, is_marked-with, is_marked-without, is_marked-none, places_with, places_without, places_new,
--- with_mark-marked.
+-- Main statements: changed_at, is_marked-with, is_marked-without, is_marked-none, places_with, places_without,
+-- places_new, with_mark-marked.
 -- Used by: the loop of a search, and `Visited`.
 -- Idea: a list in a list changes at one index of one list.
 use Rattle.std.proofs.Common.{◌≡◌, ◌<◌, ◌+◌, ◌∙◌, ◌==◌, ℕ, Bool, List, [], ap, arith, cond, false, get_or, length, map, nat_eq, refl, replicate, set, sym, true}

@@ -11,7 +11,6 @@ use Rattle.determinize_below.specs.Edges.{pattern_in}
 use Rattle.determinize_below.specs.Nfa.{IsAccepted}
 use Rattle.determinize_below.specs.Search.{Asked}
 use Rattle.determinize_below.specs.Semantics.{Match as MatchState, Nfa, Text, choices, state_at}
-use Rattle.determinize_below.specs.declared.search.HalfMatch.{HalfMatch}
 use Rattle.determinize_below.specs.declared.search.Match.{Match}
 use Rattle.determinize_core.proofs.step.WorkingLists.{fuel}
 use Rattle.determinize_engine.specs.Searches.{text_of}
@@ -20,7 +19,7 @@ use Rattle.determinize_nfa.specs.Runs.{AcceptsFrom, since}
 use Rattle.determinize_nfa.proofs.runs.Shifts.{each_run_moves, each_run_reads_forward}
 use Rattle.determinize_find.specs.LeftmostIn.{moved}
 use Rattle.determinize_find.specs.Matches.{from}
-use Rattle.determinize_find.specs.Private.BestAt.{IsBestAt, IsBestFrom, IsBestIn, from_index}
+use Rattle.determinize_find.specs.Private.BestAt.{IsBestAt, IsBestFrom, IsBestIn}
 use Rattle.determinize_find.proofs.leftmost.SearchInTurn.{text-since}
 use Rattle.ordered_reach.proofs.runs.ByPosition.{same_pairs}
 use Rattle.ordered_reach.proofs.runs.MostPreferred.{IsMostPreferred, first_is_preferred, first_none_preferred}

@@ -72,11 +72,13 @@ pending_steps : (nfa : Nfa) (k i end : ℕ) (bs es : List ℕ) (ps : List (ℕ �
     → ((t : ℕ) → member nat_eq es t ≡ true → t < length nfa.states) → IsPending nfa k i ps
     → IsPending nfa k end ((map (placed (suc i)) bs ++ map (placed i) es) ++ ps)
 pending_steps nfa k i end [] es ps a b c f g h =
-    let free : IsPending nfa k i ((map (placed i) es ++ []) ++ ps) = pending_placed nfa k i i es [] ps a (omega arith) g h in
+    let free : IsPending nfa k i ((map (placed i) es ++ []) ++ ps)
+    = pending_placed nfa k i i es [] ps a (omega arith) g h in
     pending_more nfa k i end (map (placed i) es ++ ps) b
     (subst (λ l. IsPending nfa k i (l ++ ps)) (append-nil (map (placed i) es)) free)
 pending_steps nfa k i end (x ∷ bs) es ps a b c f g h =
-    let free : IsPending nfa k i ((map (placed i) es ++ []) ++ ps) = pending_placed nfa k i i es [] ps a (omega arith) g h in
+    let free : IsPending nfa k i ((map (placed i) es ++ []) ++ ps)
+    = pending_placed nfa k i i es [] ps a (omega arith) g h in
     let same : IsPending nfa k i (map (placed i) es ++ ps)
     = subst (λ l. IsPending nfa k i (l ++ ps)) (append-nil (map (placed i) es)) free in
     pending_placed nfa k (suc i) end (x ∷ bs) (map (placed i) es) ps (omega arith) (omega (arith, c (omega arith))) f

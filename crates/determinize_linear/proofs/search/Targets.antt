@@ -16,7 +16,8 @@ over_byte bytes at node = map (placed (suc at)) (option_to_list (target_of (slic
 
 byte_is : (bytes : List ℕ) (at b : ℕ) → slice_get (map Some bytes) at ≡ Some (Some b) → slice_get bytes at ≡ Some b
 byte_is bytes at b e = by_option (slice_get bytes at)
-    (λ z. absurd (let k : None ≡ Some (Some b) = sym (slice_get-map Some bytes at ∙ ap (λ o. option_map Some o) z) ∙ e in cc))
+    (λ z. absurd (let k : None ≡ Some (Some b)
+    = sym (slice_get-map Some bytes at ∙ ap (λ o. option_map Some o) z) ∙ e in cc))
     (λ x z. let k : Some (Some x) ≡ Some (Some b)
     = sym (slice_get-map Some bytes at ∙ ap (λ o. option_map Some o) z) ∙ e in
     z ∙ some_injective (Some x) (Some b) k)

@@ -83,7 +83,8 @@ module _ (nfa : Nfa) (accepted : IsAccepted nfa) (text : Text) (k : ℕ) (rows :
       inner : (p q : ℕ × ℕ) → is_marked rows p ≡ true → k ≤ p.0
           → member (pair_eq nat_eq) (run_steps nfa text p) q ≡ true → is_marked rows q ≡ true
       inner p q v i m =
-          h.closed p q v i (In_Contains same_pairs (run_steps nfa text p) q (member_In same_pairs (run_steps nfa text p) q m))
+          h.closed p q v i
+          (In_Contains same_pairs (run_steps nfa text p) q (member_In same_pairs (run_steps nfa text p) q m))
 
   -- nothing is left: no run accepts
   pub ended : IsUnderWay nfa text k rows [] → (best_from nfa text k ≡ None) × IsSpent nfa text k rows
@@ -176,7 +177,8 @@ module _ (nfa : Nfa) (accepted : IsAccepted nfa) (text : Text) (k : ℕ) (rows :
           is_marked-without rows p.0 a y ∙ stays y (omega arith) (h.closed x y (was x v).0 (omega arith) m);
     }
       where
-        was : (x : ℕ × ℕ) → is_marked (without_marks rows p.0) x ≡ true → (is_marked rows x ≡ true) × ((p.0 == x.0) ≡ false)
+        was : (x : ℕ × ℕ) → is_marked (without_marks rows p.0) x ≡ true
+            → (is_marked rows x ≡ true) × ((p.0 == x.0) ≡ false)
         was x v = by_test (p.0 == x.0)
             (λ e. absurd (false≢true (sym (is_marked-without rows p.0 a x ∙ rw e refl) ∙ v)))
             (λ e. (sym (is_marked-without rows p.0 a x ∙ rw e refl) ∙ v, e))
@@ -187,7 +189,8 @@ module _ (nfa : Nfa) (accepted : IsAccepted nfa) (text : Text) (k : ℕ) (rows :
         stays : (y : ℕ × ℕ) → p.0 < y.0 → (is_marked rows y || member (pair_eq nat_eq) (p ∷ ps) y) ≡ true
             → cond (p.0 == y.0) false (is_marked rows y) ≡ true
         stays y l m = by_test (member (pair_eq nat_eq) (p ∷ ps) y)
-            (λ e. absurd (let low : y.0 ≤ p.0 = pending_below nfa k p.0 (p ∷ ps) y (place.0, omega arith, place.2, place.3) e
+            (λ e. absurd (let low : y.0 ≤ p.0
+            = pending_below nfa k p.0 (p ∷ ps) y (place.0, omega arith, place.2, place.3) e
             in omega arith))
             (λ e. grind (arith, nat_tests, m, e))
 

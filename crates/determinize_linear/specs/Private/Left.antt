@@ -29,8 +29,8 @@ most_choices nfa = length nfa.states + edges_in_all nfa
 
 -- some searches, up to a match with this end, took a try each and one for each choice that they
 -- used up; the choices at the end are left again
-pub record IsPaid (nfa : Nfa) (text : Text) (from end searches : ℕ) (before after : List (List Bool))
-    (old new : ℕ) : Type 0 where
+pub record IsPaid (nfa : Nfa) (text : Text) (from end searches : ℕ)
+    (before after : List (List Bool)) (old new : ℕ) : Type 0 where
   pub low : from ≤ end
   pub further : (k : ℕ) → end < k
       → new + left nfa text k after ≤ old + searches + left nfa text from before

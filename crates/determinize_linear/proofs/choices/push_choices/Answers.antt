@@ -33,7 +33,8 @@ returns-in-Union g c =
 
 pub returns-in_ok-push-in-BinaryUnion : goal.returns-in_ok-push-in-BinaryUnion
 returns-in_ok-push-in-BinaryUnion g c =
-    let first : c.push-in-BinaryUnion.new.stack.items ≡ c.args.stack.now.items ++ (c.args.at, c.in-BinaryUnion.alt2) ∷ []
+    let first : c.push-in-BinaryUnion.new.stack.items
+    ≡ c.args.stack.now.items ++ (c.args.at, c.in-BinaryUnion.alt2) ∷ []
     = c.in_ok-push-in-BinaryUnion.ensures in
     subst (λ (l : List (ℕ × ℕ)). OnOk c.push-in-BinaryUnion-2.result (c.push-in-BinaryUnion-2.new.stack.items ≡ l))
     (ap (λ (l : List (ℕ × ℕ)). l ++ (c.args.at, c.in-BinaryUnion.alt1) ∷ []) first

@@ -14,7 +14,8 @@ returns-in-Some g c =
     let t : target_of (Some c.byte.result) (node_of c.args.state.now) ≡ Some c.in-Some.next
     = sym c.target.ensures ∙ c.in-Some.is in
     subst (λ (l : List (ℕ × ℕ)). OnOk c.push.result (c.push.new.stack.items ≡ c.args.stack.now.items ++ l))
-    (one_target c.args.text.now.bytes c.args.at (node_of c.args.state.now) c.byte.result c.in-Some.next c.byte.ensures t)
+    (one_target c.args.text.now.bytes c.args.at (node_of c.args.state.now) c.byte.result c.in-Some.next c.byte.ensures
+    t)
     c.push.ensures
 
 pub returns-in-None : goal.returns-in-None

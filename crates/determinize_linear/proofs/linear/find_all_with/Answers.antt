@@ -57,7 +57,8 @@ loop-stack-smaller g c =
     = omega (arith, c.end.ensures.value, c.end.ensures.in_haystack) in
     (fewer c.args.nfa.now c.args.nfa.now c.args.input.now (from c.args.input.now c.loop-stack.start) c.loop-stack.start
     c.loop-stack.before c.in-Some.next refl refl within c.loop-stack.invariant.last
-    (subst (λ (o : Option Match). IsNext c.args.nfa.now (from c.args.input.now c.loop-stack.start) c.loop-stack.before o)
+    (subst
+    (λ (o : Option Match). IsNext c.args.nfa.now (from c.args.input.now c.loop-stack.start) c.loop-stack.before o)
     is c.in_ok-next.ensures.next)).0
 
 pub loop-stack-preserved : goal.loop-stack-preserved
@@ -65,7 +66,8 @@ loop-stack-preserved g c =
     let is : c.in_ok-next.field-0 ≡ Some c.in-Some.next = search rules in
     let within : c.args.input.now.end ≤ length c.args.input.now.haystack
     = omega (arith, c.end.ensures.value, c.end.ensures.in_haystack) in
-    let next : IsNext c.args.nfa.now (from c.args.input.now c.loop-stack.start) c.loop-stack.before (Some c.in-Some.next)
+    let next : IsNext c.args.nfa.now (from c.args.input.now c.loop-stack.start) c.loop-stack.before
+    (Some c.in-Some.next)
     = subst
     (λ (o : Option Match). IsNext c.args.nfa.now (from c.args.input.now c.loop-stack.start) c.loop-stack.before o) is
     c.in_ok-next.ensures.next in
@@ -90,9 +92,9 @@ loop-stack-preserved g c =
       spent = rw is at c.in_ok-next.ensures.spent;
       paid = λ k.
           let paid : IsPaid c.args.nfa.now c.of_input-text.result (c.loop-stack.start - c.args.input.now.start)
-              (c.in-Some.next.end - c.args.input.now.start) (c.in-Some.next.start - c.loop-stack.start + 2)
-              c.loop-stack.visited c.next_match.new.visited (g.C.Counter.total c.loop-stack.counter)
-              (g.C.Counter.total c.next_match.new.counter) = rw is at (c.in_ok-next.ensures.paid k) in
+          (c.in-Some.next.end - c.args.input.now.start) (c.in-Some.next.start - c.loop-stack.start + 2)
+          c.loop-stack.visited c.next_match.new.visited (g.C.Counter.total c.loop-stack.counter)
+          (g.C.Counter.total c.next_match.new.counter) = rw is at (c.in_ok-next.ensures.paid k) in
           let least = left_least c.args.input.now.end c.loop-stack.start c.loop-stack.before in
           let less = (fewer c.args.nfa.now c.args.nfa.now c.args.input.now
           (from c.args.input.now c.loop-stack.start) c.loop-stack.start c.loop-stack.before c.in-Some.next refl refl
@@ -109,7 +111,8 @@ returns-clause-all g c =
     let is : c.in_ok-next.field-0 ≡ None = search rules in
     all_found None c.args.nfa.now c.args.nfa.now c.args.input.now (from c.args.input.now c.loop-stack.start)
     c.loop-stack.start c.loop-stack.before c.loop-stack.found.items refl refl c.loop-stack.invariant.first
-    (subst (λ (o : Option Match). IsNext c.args.nfa.now (from c.args.input.now c.loop-stack.start) c.loop-stack.before o)
+    (subst
+    (λ (o : Option Match). IsNext c.args.nfa.now (from c.args.input.now c.loop-stack.start) c.loop-stack.before o)
     is c.in_ok-next.ensures.next)
 
 pub returns-clause-linear : goal.returns-clause-linear

@@ -50,9 +50,9 @@ loop-at-preserved g c =
           (end_or c.loop-at.at o - c.args.input.now.start) c.find_at.new.visited) is c.in_ok-found.ensures.spent);
       paid = λ k.
           let none : g.C.Counter.total c.find_at.new.counter
-              + left c.args.nfa.now c.args.text.now (c.loop-at.at - c.args.input.now.start) c.find_at.new.visited
-              ≤ g.C.Counter.total c.loop-at.counter + 1
-              + left c.args.nfa.now c.args.text.now (c.loop-at.at - c.args.input.now.start) c.loop-at.visited
+          + left c.args.nfa.now c.args.text.now (c.loop-at.at - c.args.input.now.start) c.find_at.new.visited
+          ≤ g.C.Counter.total c.loop-at.counter + 1
+          + left c.args.nfa.now c.args.text.now (c.loop-at.at - c.args.input.now.start) c.loop-at.visited
           = rw is at (c.in_ok-found.ensures.unpaid k) in
           omega (
             arith,
@@ -97,9 +97,9 @@ returns-clause-paid g c = λ k.
     let low : c.args.start ≤ c.latest_start-latest.result = last.low in
     let here : c.loop-at.at ≡ c.latest_start-latest.result = omega (arith, c.loop-at.auto.at-end) in
     let paid : g.C.Counter.total c.loop-at.counter + left c.args.nfa.now c.args.text.now
-        (c.latest_start-latest.result - c.args.input.now.start) c.loop-at.visited
-        ≤ g.C.Counter.total c.args.counter.now + (c.latest_start-latest.result - c.args.start)
-        + left c.args.nfa.now c.args.text.now (c.args.start - c.args.input.now.start) c.args.visited.now
+    (c.latest_start-latest.result - c.args.input.now.start) c.loop-at.visited
+    ≤ g.C.Counter.total c.args.counter.now + (c.latest_start-latest.result - c.args.start)
+    + left c.args.nfa.now c.args.text.now (c.args.start - c.args.input.now.start) c.args.visited.now
     = subst (λ (i : ℕ). g.C.Counter.total c.loop-at.counter
     + left c.args.nfa.now c.args.text.now (i - c.args.input.now.start) c.loop-at.visited
     ≤ g.C.Counter.total c.args.counter.now + (i - c.args.start)

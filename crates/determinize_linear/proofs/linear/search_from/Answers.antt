@@ -25,7 +25,8 @@ loop-at-init g c =
     let start : c.args.nfa.now.start_anchored < length c.args.nfa.now.states
     = omega (arith, c.start_anchored.ensures.value, c.start_anchored.ensures.resolves) in
     record {
-      way = subst (λ (l : List (ℕ × ℕ)). IsUnderWay c.args.nfa.now c.args.text.now c.args.from c.args.visited.now (reverse l))
+      way = subst
+          (λ (l : List (ℕ × ℕ)). IsUnderWay c.args.nfa.now c.args.text.now c.args.from c.args.visited.now (reverse l))
           (sym items) (begun c.args.nfa.now c.requires.accepted c.args.text.now c.args.from c.args.visited.now
           c.requires.within start c.requires.spent);
       places = c.requires.places;
@@ -139,7 +140,7 @@ loop-at-preserved-in-Continue-branch-2 g c =
           c.loop-at.invariant.places);
       paid = λ k.
           let pushed : length c.push_choices.new.stack.items ≡ length c.pop.new.self.items
-              + length (choices c.args.nfa.now c.args.text.now (c.in-Some.at, c.in-Some.id))
+          + length (choices c.args.nfa.now c.args.text.now (c.in-Some.at, c.in-Some.id))
           = ap (λ (l : List (ℕ × ℕ)). length l) items ∙ length-append c.pop.new.self.items _
           ∙ ap (λ (n : ℕ). length c.pop.new.self.items + n)
           (length-reverse (choices c.args.nfa.now c.args.text.now (c.in-Some.at, c.in-Some.id))) in

@@ -19,6 +19,7 @@ returns-clause-after g c =
     changed_at (λ v. v.items) c.self.inside.rows.items c.args.at c.index_mut.result.now
     (with_items c.index_mut.result.now c.set_mark.new.marks)
     (λ row. set row c.as_usize.result true) within c.index_mut.ensures.value
-    (with_items_is c.index_mut.result.now c.set_mark.new.marks len ∙ c.set_mark.ensures.after ∙ ap (λ (row : List Bool). set row c.as_usize.result true) c.deref_mut.ensures.value)
+    (with_items_is c.index_mut.result.now c.set_mark.new.marks len ∙ after
+    ∙ ap (λ (row : List Bool). set row c.as_usize.result true) c.deref_mut.ensures.value)
     ∙ ap (λ (t : List (List Bool)). with_mark t c.args.at c.as_usize.result) c.self.view_is
     ∙ ap (λ (s : ℕ). with_mark c.args.self.now c.args.at s) c.as_usize.ensures.value
