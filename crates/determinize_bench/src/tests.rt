@@ -2,9 +2,10 @@
 //! allocations, large NFAs, and the work of the programs.
 //!
 //! Each function of a test is proved, which takes longer than its run. So they compare by `same`
-//! and `holds`, since the message that a macro writes is proved at each place; and a function that
-//! can fail owns little, since the drop of all that it owns is proved at each of its exits. One
-//! that makes an NFA and a cache lends them to another one as its last call.
+//! and `holds`, since the message that a macro writes is proved at each place. What must succeed is
+//! taken by `expect`, which ends the test if it fails: a `?` is one more exit of its function, and
+//! the drop of all that a function owns is proved at each exit. Only what runs while each
+//! allocation fails in turn returns errors, and that owns little.
 
 mod alloc_failure;
 mod below;
@@ -16,7 +17,6 @@ mod map_text;
 mod parts;
 mod rows;
 mod runs;
-mod scans;
 mod sizes;
 mod starts;
 mod states;
@@ -30,7 +30,6 @@ use determinize_replay::verbs;
 use example_walks::examples::{Example, examples};
 use std::fmt::Debug;
 use std::process::Abort;
-use std::test::Fail;
 
 /// Asserts that two values are equal.
 pub fn same<R: Abort, T: PartialEq + Debug + Copy>(rt: &R, found: T, wanted: T) {
@@ -58,22 +57,21 @@ pub fn ended(offset: usize) -> Option<HalfMatch> {
 }
 
 /// Runs the job of an example and compares its output.
-fn replay<R: Abort + AllocGlobal>(rt: &R, example: &Example) -> Result<(), Fail> {
-    let output = verbs::output(rt.alloc(), &Job::read(example.job)?)?;
+fn replay<R: Abort + AllocGlobal>(rt: &R, example: &Example) {
+    let job = Job::read(example.job).expect(rt, "a job");
+    let output = verbs::output(rt.alloc(), &job).expect(rt, "an output");
     same_at(rt, example.name, output.as_str(), output_of(example.name));
-    Ok(())
 }
 
 #[test]
-fn walks(rt: HostRuntime) -> Result<(), Fail> {
+fn walks(rt: HostRuntime) {
     for example in examples() {
-        replay(&rt, example)?;
+        replay(&rt, example);
     }
-    Ok(())
 }
 
 #[test]
-fn single_calls(rt: HostRuntime) -> Result<(), Fail> {
+fn single_calls(rt: HostRuntime) {
     let counts = "77 jobs, 0 differ, 0 skipped\n";
-    runs::expect(&rt, "", worked::CALLS.as_bytes(), 0, counts, "")
+    runs::expect(&rt, "", worked::CALLS.as_bytes(), 0, counts, "");
 }

@@ -24,13 +24,12 @@ use determinize_core::state::State;
 use determinize_lazy::Lazy;
 use determinize_replay::outputs::output_of;
 use example_walks::error::TextError;
-use example_walks::examples::{Example, examples};
+use example_walks::examples::examples;
 use example_walks::fields::Fields;
 use example_walks::values::bytes;
 use failing_alloc::{FailingAllocator, Outcome, fail_each_allocation};
 use std::alloc::{AllocError, Allocator, Global};
 use std::process::Abort;
-use std::test::Fail;
 
 /// The allocator of a run.
 pub type Heap = FailingAllocator<Global>;
@@ -59,22 +58,21 @@ pub fn succeed_if(is_sound: bool) -> Result<(), AllocError> {
 /// Repeats a trial with its first allocation failing, then its second, and so on, until there is no
 /// failure. Each time it must find the known result or report the failed allocation, and all memory
 /// must have been freed.
-pub fn fail_each_in_turn<R: Abort + AllocGlobal>(rt: &R, trial: &Trial<'_>) -> Result<(), Fail> {
-    let outcome = fail_each_allocation(rt.alloc(), |heap| has_run(rt, heap, trial))?;
-    same(rt, outcome, Outcome::Sound);
-    Ok(())
+pub fn fail_each_in_turn<R: Abort + AllocGlobal>(rt: &R, trial: &Trial<'_>) {
+    let outcome = fail_each_allocation(rt.alloc(), |heap| has_run(rt, heap, trial));
+    same(rt, outcome.expect(rt, "no other error"), Outcome::Sound);
 }
 
 /// Parses the states of the lines of an output, whose last line is the match.
-fn read_states(alloc: Global, output: &str) -> Result<Vec<Vec<u8>>, TextError> {
-    let mut states = Vec::new(alloc);
+fn read_states<R: Abort + AllocGlobal>(rt: &R, output: &str) -> Vec<Vec<u8>> {
+    let mut states = Vec::new(rt.alloc());
     if let Some((lines, _)) = output.trim_end().rsplit_once('\n') {
         for line in lines.lines() {
-            let bytes = bytes(alloc, line)?;
-            states.push(bytes)?;
+            let bytes = bytes(rt.alloc(), line).expect(rt, "bytes");
+            states.push(bytes).expect(rt, "memory");
         }
     }
-    Ok(states)
+    states
 }
 
 /// An example walk, and the bytes of its states. Its NFA starts where the walk does.
@@ -94,33 +92,31 @@ pub struct Row {
 
 impl Row {
     /// Returns the walk of a job, given the lines of its output, whose last line is the match.
-    fn of(alloc: Global, fields: &Fields<'_>, output: &str) -> Result<Row, TextError> {
-        let (kind, start) = (fields.match_kind()?, fields.start()?);
-        let (look_behind, look_ahead) = (fields.look_behind()?, fields.look_ahead()?);
-        let text = fields.text(alloc)?;
-        let states = read_states(alloc, output)?;
-        Ok(Row {
-            nfa: fields.nfa_from(alloc, start)?,
-            kind,
-            look_behind,
-            text,
-            look_ahead,
-            states,
+    fn of<R: Abort + AllocGlobal>(rt: &R, fields: &Fields<'_>, output: &str) -> Row {
+        let start = fields.start().expect(rt, "a start");
+        Row {
+            kind: fields.match_kind().expect(rt, "a match kind"),
+            look_behind: fields.look_behind().expect(rt, "a byte"),
+            look_ahead: fields.look_ahead().expect(rt, "a byte"),
+            text: fields.text(rt.alloc()).expect(rt, "bytes"),
+            states: read_states(rt, output),
+            nfa: fields.nfa_from(rt.alloc(), start).expect(rt, "an NFA"),
             last: None,
             found: None,
-        })
+        }
     }
 
     /// Finds the last match of the walk, and the match of a search of the text as a haystack.
-    fn find(&mut self, alloc: Global) -> Result<(), AllocError> {
-        self.last = last_match(self.walk(alloc)?.as_slice());
-        self.found = self.search(alloc)?;
-        Ok(())
+    fn find<R: Abort + AllocGlobal>(&mut self, rt: &R) {
+        let states = self.walk(rt.alloc()).expect(rt, "memory");
+        self.last = last_match(states.as_slice());
+        self.found = self.search(rt);
     }
 
     /// Returns the match of a search of the text as a haystack.
-    fn search(&self, alloc: Global) -> Result<Option<HalfMatch>, AllocError> {
-        Lazy::new(alloc, &self.nfa, self.kind, 64).search_input(&self.input())
+    fn search<R: Abort + AllocGlobal>(&self, rt: &R) -> Option<HalfMatch> {
+        let mut lazy = Lazy::new(rt.alloc(), &self.nfa, self.kind, 64);
+        lazy.search_input(&self.input()).expect(rt, "memory")
     }
 
     /// Returns the states of the walk.
@@ -165,28 +161,22 @@ impl Row {
     }
 }
 
-/// Returns an example walk, with its matches.
-fn found_row(alloc: Global, example: &Example) -> Result<Row, TextError> {
-    let mut row = Row::of(alloc, &example.fields(), output_of(example.name))?;
-    row.find(alloc)?;
-    Ok(row)
-}
-
-/// Returns all example walks.
-pub fn rows(alloc: Global) -> Result<Vec<Row>, Fail> {
-    let mut rows = Vec::new(alloc);
+/// Returns all example walks, with their matches.
+pub fn rows<R: Abort + AllocGlobal>(rt: &R) -> Vec<Row> {
+    let mut rows = Vec::new(rt.alloc());
     for example in examples() {
-        rows.push(found_row(alloc, example)?)?;
+        let mut row = Row::of(rt, &example.fields(), output_of(example.name));
+        row.find(rt);
+        rows.push(row).expect(rt, "memory");
     }
-    Ok(rows)
+    rows
 }
 
 /// Makes these trials with each example walk, as [`fail_each_in_turn`] does.
-pub fn fail_each_over_walks<R: Abort + AllocGlobal>(rt: &R, trials: &[OfWalk]) -> Result<(), Fail> {
-    for row in rows(rt.alloc())?.iter() {
+pub fn fail_each_over_walks<R: Abort + AllocGlobal>(rt: &R, trials: &[OfWalk]) {
+    for row in rows(rt).iter() {
         for trial in trials {
-            fail_each_in_turn(rt, &Trial::OfWalk(*trial, row))?;
+            fail_each_in_turn(rt, &Trial::OfWalk(*trial, row));
         }
     }
-    Ok(())
 }

@@ -3,7 +3,6 @@
 
 use crate::tests::runs::expect;
 use std::process::Abort;
-use std::test::Fail;
 
 /// Unknown verbs, and words that are not `key=value`.
 const VERBS: &str = "\
@@ -125,16 +124,16 @@ start hay=616263 range=+1..2 => not a decimal number
 ";
 
 /// Runs the job of a line, and compares the error message.
-fn expect_message<R: Abort + AllocGlobal>(rt: &R, line: &str) -> Result<(), Fail> {
+fn expect_message<R: Abort + AllocGlobal>(rt: &R, line: &str) {
     let (job, said) = line.split_once(" => ").unwrap_or((line, ""));
-    let text = format!(in rt.alloc(); "# first\n> {job}\nnone\n")?;
-    let said = format!(in rt.alloc(); "line 2: {said}\n")?;
-    expect(rt, "", text.as_str().as_bytes(), 2, "", said.as_str())
+    let text = format!(in rt.alloc(); "# first\n> {job}\nnone\n").expect(rt, "memory");
+    let said = format!(in rt.alloc(); "line 2: {said}\n").expect(rt, "memory");
+    expect(rt, "", text.as_str().as_bytes(), 2, "", said.as_str());
 }
 
 /// Each job is run separately.
 #[test]
-fn error_messages(rt: HostRuntime) -> Result<(), Fail> {
+fn error_messages(rt: HostRuntime) {
     for jobs in [
         VERBS,
         UNKNOWN_KEYS,
@@ -145,8 +144,7 @@ fn error_messages(rt: HostRuntime) -> Result<(), Fail> {
         RANGES,
     ] {
         for line in jobs.lines() {
-            expect_message(&rt, line)?;
+            expect_message(&rt, line);
         }
     }
-    Ok(())
 }

@@ -10,30 +10,26 @@ use determinize_core::state_laws::{
 };
 use example_walks::values;
 use std::process::Abort;
-use std::test::Fail;
 
 /// Compares the results for a state with the patterns 2, 0 and 1 and the NFA states 1, 3 and 2, and
 /// for its builder.
-fn expect_laws<R: Abort + AllocGlobal>(
-    rt: &R,
-    state: &State,
-    builder: &StateBuilderNFA,
-) -> Result<(), Fail> {
+fn expect_laws<R: Abort + AllocGlobal>(rt: &R, state: &State, builder: &StateBuilderNFA) {
     for (index, wanted) in [(1, Some(PatternID::ZERO)), (3, None)] {
-        let (is_match, count, _, one) = patterns_read(state, index)?;
+        let read = patterns_read(state, index).expect(rt, "memory");
+        let (is_match, count, _, one) = read;
         same(rt, (is_match, count, one), (true, 3, wanted));
     }
-    let ids = nfa_states_read(state, rt.alloc())?;
-    holds(rt, ids == values::state_ids(rt.alloc(), "1,3,2")?);
+    let ids = nfa_states_read(state, rt.alloc()).expect(rt, "memory");
+    let wanted = values::state_ids(rt.alloc(), "1,3,2").expect(rt, "ids");
+    holds(rt, ids == wanted);
     holds(rt, same_bytes(state, state) && are_equal(state, state));
     holds(rt, same_built_bytes(builder, builder));
     holds(rt, is_built(state, builder));
-    Ok(())
 }
 
 #[test]
-fn laws_of_states(rt: HostRuntime) -> Result<(), Fail> {
-    let builder = built(rt.alloc(), "build fw=0 half=0 pids=2,0,1 ids=1,3,2")?;
-    let state = builder.to_state()?;
-    expect_laws(&rt, &state, &builder)
+fn laws_of_states(rt: HostRuntime) {
+    let builder = built(&rt, "build fw=0 half=0 pids=2,0,1 ids=1,3,2");
+    let state = builder.to_state().expect(&rt, "memory");
+    expect_laws(&rt, &state, &builder);
 }

@@ -4,7 +4,6 @@ use crate::tests::runs::{Failing, words};
 use crate::tests::{same, same_at};
 use example_walks::rows::run_rows;
 use std::process::Abort;
-use std::test::Fail;
 
 /// Arguments that are not the name of an example, one per line, each list up to a bar.
 const OTHER_WORDS: &str = "|3\n3|3\n4a|1|4|03|4A|15|21|28|-3|\n| 3|3 |3\t";
@@ -20,11 +19,10 @@ fn expect_rejected<R: Abort + AllocGlobal>(rt: &R, line: &str, words: &[String])
 }
 
 #[test]
-fn rejects_other_arguments(rt: HostRuntime) -> Result<(), Fail> {
+fn rejects_other_arguments(rt: HostRuntime) {
     for line in OTHER_WORDS.split('|') {
-        expect_rejected(&rt, line, words(&rt, line)?.as_slice());
+        expect_rejected(&rt, line, words(&rt, line).as_slice());
     }
-    Ok(())
 }
 
 /// Runs the program over a writer that fails after a number of writes, and compares the status.
@@ -36,22 +34,20 @@ fn expect_status<R: Abort + AllocGlobal>(rt: &R, words: &[String], left: u32, st
 }
 
 #[test]
-fn tells_of_output_that_fails(rt: HostRuntime) -> Result<(), Fail> {
-    let words = words(&rt, "3")?;
+fn tells_of_output_that_fails(rt: HostRuntime) {
+    let words = words(&rt, "3");
     for left in 0u32..30 {
         expect_status(&rt, words.as_slice(), left, 1);
     }
     expect_status(&rt, words.as_slice(), 1000, 0);
-    Ok(())
 }
 
 #[test]
-fn keeps_its_status_where_errors_fail(rt: HostRuntime) -> Result<(), Fail> {
-    let words = words(&rt, "none")?;
+fn keeps_its_status_where_errors_fail(rt: HostRuntime) {
+    let words = words(&rt, "none");
     let mut out = Vec::new(rt.alloc());
     let mut err = Failing { left: 0 };
     let status = run_rows(rt.alloc(), words.as_slice(), &mut out, &mut err);
     same(&rt, status, 2);
     same(&rt, out.as_slice(), [].as_slice());
-    Ok(())
 }

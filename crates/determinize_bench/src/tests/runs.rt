@@ -8,7 +8,6 @@ use std::alloc::AllocError;
 use std::io;
 use std::io::{Read, Write};
 use std::process::Abort;
-use std::test::Fail;
 
 /// A reader that fails at once.
 #[derive(Drop)]
@@ -42,12 +41,13 @@ impl Write for Failing {
 }
 
 /// Returns arguments, one per line of the text.
-pub fn words<R: AllocGlobal>(rt: &R, lines: &str) -> Result<Vec<String>, Fail> {
+pub fn words<R: Abort + AllocGlobal>(rt: &R, lines: &str) -> Vec<String> {
     let mut words = Vec::new(rt.alloc());
     for word in lines.lines() {
-        words.push(String::from_str(rt.alloc(), word)?)?;
+        let word = String::from_str(rt.alloc(), word).expect(rt, "memory");
+        words.push(word).expect(rt, "memory");
     }
-    Ok(words)
+    words
 }
 
 /// Runs the program with arguments, one per line, over an input, and compares the status and all
@@ -59,8 +59,8 @@ pub fn expect<R: Abort + AllocGlobal, I: Read + Drop>(
     status: u8,
     out_text: &str,
     err_text: &str,
-) -> Result<(), Fail> {
-    let words = words(rt, arguments)?;
+) {
+    let words = words(rt, arguments);
     let mut out = Vec::new(rt.alloc());
     let mut err = Vec::new(rt.alloc());
     let found = run(rt.alloc(), words.as_slice(), input, &mut out, &mut err);
@@ -68,7 +68,6 @@ pub fn expect<R: Abort + AllocGlobal, I: Read + Drop>(
     same_at(rt, place, err.as_slice(), err_text.as_bytes());
     same_at(rt, place, out.as_slice(), out_text.as_bytes());
     same_at(rt, place, found, status);
-    Ok(())
 }
 
 /// A job with its right output.
@@ -291,33 +290,32 @@ line 2: not an NFA state
 ";
 
 /// Makes one of these runs.
-fn expect_run<R: Abort + AllocGlobal>(rt: &R, run: &str) -> Result<(), Fail> {
+fn expect_run<R: Abort + AllocGlobal>(rt: &R, run: &str) {
     let (head, parts) = run.split_once("--\n").unwrap_or((run, ""));
     let (status, arguments) = head.split_once('\n').unwrap_or((head, ""));
     let (input, told) = parts.split_once("--\n").unwrap_or((parts, ""));
     let (out_text, err_text) = told.split_once("--\n").unwrap_or((told, ""));
-    let status = status.parse::<u8>()?;
-    expect(rt, arguments, input.as_bytes(), status, out_text, err_text)
+    let status = status.parse::<u8>().expect(rt, "a status");
+    expect(rt, arguments, input.as_bytes(), status, out_text, err_text);
 }
 
 #[test]
-fn inputs(rt: HostRuntime) -> Result<(), Fail> {
+fn inputs(rt: HostRuntime) {
     for run in RUNS.split("==\n") {
-        expect_run(&rt, run)?;
+        expect_run(&rt, run);
     }
-    expect(&rt, "", WRONG.as_bytes(), 1, DIFFERENCES, "")
+    expect(&rt, "", WRONG.as_bytes(), 1, DIFFERENCES, "");
 }
 
 /// Walks through caches of several limits, and searches.
 #[test]
-fn walks_of_jobs(rt: HostRuntime) -> Result<(), Fail> {
+fn walks_of_jobs(rt: HostRuntime) {
     for arguments in ["", "cache\n0", "cache\n1", "cache\n2", "cache\n64"] {
-        expect(&rt, arguments, JOBS.as_bytes(), 1, VERDICT, "")?;
+        expect(&rt, arguments, JOBS.as_bytes(), 1, VERDICT, "");
     }
     for arguments in ["search\n0", "search\n64"] {
-        expect(&rt, arguments, JOBS.as_bytes(), 1, SEARCHED, "")?;
+        expect(&rt, arguments, JOBS.as_bytes(), 1, SEARCHED, "");
     }
-    Ok(())
 }
 
 /// Inputs whose first line is no comment and no job, each up to a bar.
@@ -327,22 +325,21 @@ const NO_JOB: &str = "none\n> dead\n|\n> dead\n|dead\n|>dead\n";
 const OTHER_ARGUMENTS: &str = "stdin|--help|\n|cache|cache\nx|cache\n1\n2|search|find\n1";
 
 #[test]
-fn inputs_that_are_rejected(rt: HostRuntime) -> Result<(), Fail> {
+fn inputs_that_are_rejected(rt: HostRuntime) {
     for input in NO_JOB.split('|') {
         let said = "line 1: an answer without a job\n";
-        expect(&rt, "", input.as_bytes(), 2, "", said)?;
+        expect(&rt, "", input.as_bytes(), 2, "", said);
     }
     for arguments in OTHER_ARGUMENTS.split('|') {
-        expect(&rt, arguments, DEAD.as_bytes(), 2, "", NOT_TAKEN)?;
+        expect(&rt, arguments, DEAD.as_bytes(), 2, "", NOT_TAKEN);
     }
-    Ok(())
 }
 
 #[test]
-fn lines_that_cannot_be_read(rt: HostRuntime) -> Result<(), Fail> {
+fn lines_that_cannot_be_read(rt: HostRuntime) {
     let text = b"> dead\n\xff\n".as_slice();
-    expect(&rt, "", text, 2, "", "line 2: can't be read\n")?;
-    expect(&rt, "", Unreadable, 2, "", "line 1: can't be read\n")?;
+    expect(&rt, "", text, 2, "", "line 2: can't be read\n");
+    expect(&rt, "", Unreadable, 2, "", "line 1: can't be read\n");
     let text = b"> fromusize n=6\nsome LineLF\n> dead\n00".as_slice();
     expect(
         &rt,
@@ -351,7 +348,7 @@ fn lines_that_cannot_be_read(rt: HostRuntime) -> Result<(), Fail> {
         2,
         "> fromusize n=6\nexpected:\nsome LineLF\ngot:\nnone\n",
         "line 4: can't be read\n",
-    )
+    );
 }
 
 /// Compares the status and the message of a run whose output fails after a number of writes.

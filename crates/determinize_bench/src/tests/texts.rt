@@ -1,24 +1,18 @@
 //! The debug texts of states, builders, caches and NFAs.
 
 use crate::tests::caches::{WORDS, nfa};
-use crate::tests::same;
-use crate::tests::states::{built, state, with_patterns};
-use determinize_below::{Look, MatchKind};
+use crate::tests::states::{built, with_patterns};
+use crate::tests::{holds, same};
+use determinize_below::{Look, MatchKind, StateID};
 use determinize_core::state::StateBuilderEmpty;
 use determinize_lazy::Lazy;
 use std::fmt::Debug;
 use std::process::Abort;
-use std::test::Fail;
 
 /// Compares the debug text of a value.
-fn expect_text<R: Abort + AllocGlobal, T: Debug>(
-    rt: &R,
-    value: &T,
-    wanted: &str,
-) -> Result<(), Fail> {
-    let text = format!(in rt.alloc(); "{value:?}")?;
+pub fn expect_text<R: Abort + AllocGlobal, T: Debug>(rt: &R, value: &T, wanted: &str) {
+    let text = format!(in rt.alloc(); "{value:?}").expect(rt, "memory");
     same(rt, text.as_str(), wanted);
-    Ok(())
 }
 
 /// The text of a builder with the flag from-word, patterns and look-have.
@@ -34,16 +28,16 @@ look_have: LookSet { bits: 0 }, look_need: LookSet { bits: 0 }, \
 match_pattern_ids: [], nfa_state_ids: [] }";
 
 #[test]
-fn texts_of_builders(rt: HostRuntime) -> Result<(), Fail> {
-    let mut entered = with_patterns(rt.alloc(), "1,0")?;
+fn texts_of_builders(rt: HostRuntime) {
+    let mut entered = with_patterns(&rt, "1,0");
     entered.set_is_from_word();
     entered.set_look_have(|have| have.insert(Look::Start));
-    expect_text(&rt, &entered, ENTERED)?;
-    let mut half = with_patterns(rt.alloc(), "-")?;
+    expect_text(&rt, &entered, ENTERED);
+    let mut half = with_patterns(&rt, "-");
     half.set_is_half_crlf();
-    expect_text(&rt, &half, HALF)?;
+    expect_text(&rt, &half, HALF);
     let empty = StateBuilderEmpty::new(rt.alloc());
-    expect_text(&rt, &empty, "StateBuilderEmpty { .. }")
+    expect_text(&rt, &empty, "StateBuilderEmpty { .. }");
 }
 
 /// Jobs of the verb `build`, each in a line with the text of its builder and state after the type
@@ -61,41 +55,35 @@ nfa_state_ids: [StateID(1), StateID(3), StateID(2)]
 ";
 
 /// Compares the debug text of a value, which is the name of its type and these fields.
-fn expect_fields<R: Abort + AllocGlobal, T: Debug>(
-    rt: &R,
-    value: &T,
-    name: &str,
-    fields: &str,
-) -> Result<(), Fail> {
-    let wanted = format!(in rt.alloc(); "{name} {{ {fields} }}")?;
-    expect_text(rt, value, wanted.as_str())
+fn expect_fields<R: Abort + AllocGlobal, T: Debug>(rt: &R, value: &T, name: &str, fields: &str) {
+    let wanted = format!(in rt.alloc(); "{name} {{ {fields} }}").expect(rt, "memory");
+    expect_text(rt, value, wanted.as_str());
 }
 
 /// Compares the debug texts of the builder and of the state of a job.
-fn expect_built<R: Abort + AllocGlobal>(rt: &R, job: &str, fields: &str) -> Result<(), Fail> {
-    let builder = built(rt.alloc(), job)?;
-    expect_fields(rt, &builder, "StateBuilderNFA", fields)?;
-    let state = builder.to_state()?;
-    expect_fields(rt, &state, "State", fields)
+fn expect_built<R: Abort + AllocGlobal>(rt: &R, job: &str, fields: &str) {
+    let builder = built(rt, job);
+    expect_fields(rt, &builder, "StateBuilderNFA", fields);
+    let state = builder.to_state().expect(rt, "memory");
+    expect_fields(rt, &state, "State", fields);
 }
 
 #[test]
-fn texts_of_values(rt: HostRuntime) -> Result<(), Fail> {
+fn texts_of_values(rt: HostRuntime) {
     for line in TEXTS.lines() {
         let (job, fields) = line.split_once(" => ").unwrap_or((line, ""));
-        expect_built(&rt, job, fields)?;
+        expect_built(&rt, job, fields);
     }
-    Ok(())
 }
 
 #[test]
-fn text_of_ids_that_are_left(rt: HostRuntime) -> Result<(), Fail> {
-    let state = state(rt.alloc(), "build fw=0 half=0 ids=8,0,300")?;
+fn text_of_ids_that_are_left(rt: HostRuntime) {
+    let state = built(&rt, "build fw=0 half=0 ids=8,0,300").to_state();
+    let state = state.expect(&rt, "memory");
     let mut ids = state.iter_nfa_state_ids();
-    expect_text(&rt, &ids, "[StateID(8), StateID(0), StateID(300)]")?;
-    let first = ids.next().map(|id| id.as_usize());
-    same(&rt, first, Some(8));
-    expect_text(&rt, &ids, "[StateID(0), StateID(300)]")
+    expect_text(&rt, &ids, "[StateID(8), StateID(0), StateID(300)]");
+    same(&rt, ids.next(), Some(StateID::must(8)));
+    expect_text(&rt, &ids, "[StateID(0), StateID(300)]");
 }
 
 /// The text of a cache after a walk over `quartz`, with three states and seven transitions.
@@ -103,11 +91,12 @@ const CACHE: &str = "\
 Lazy { match_kind: LeftmostFirst, limit: 16, states_kept: 3, computed: 7, .. }";
 
 #[test]
-fn text_of_a_cache(rt: HostRuntime) -> Result<(), Fail> {
-    let nfa = nfa(&rt, WORDS, false)?;
+fn text_of_a_cache(rt: HostRuntime) {
+    let nfa = nfa(&rt, WORDS, false);
     let mut lazy = Lazy::new(rt.alloc(), &nfa, MatchKind::LeftmostFirst, 16);
-    lazy.walk(lazy.nfa().start_anchored(), None, b"quartz")?;
-    expect_text(&rt, &lazy, CACHE)
+    let states = lazy.walk(nfa.start_anchored(), None, b"quartz");
+    holds(&rt, states.is_ok());
+    expect_text(&rt, &lazy, CACHE);
 }
 
 /// The text of an NFA, one line per state.
@@ -121,7 +110,7 @@ start_anchored: 0, start_unanchored: 0, reverse: true, line_terminator: 0a
 )";
 
 #[test]
-fn text_of_an_nfa(rt: HostRuntime) -> Result<(), Fail> {
-    let nfa = nfa(&rt, "S:30-39>2,41-5a>3 BU:0,2 C:3 M:0", true)?;
-    expect_text(&rt, &nfa, STATES)
+fn text_of_an_nfa(rt: HostRuntime) {
+    let nfa = nfa(&rt, "S:30-39>2,41-5a>3 BU:0,2 C:3 M:0", true);
+    expect_text(&rt, &nfa, STATES);
 }

@@ -8,7 +8,6 @@ use determinize_lazy::{Lazy, Scan, Walker};
 use failing_alloc::FailingAllocator;
 use std::alloc::{AllocError, Allocator, Global};
 use std::process::Abort;
-use std::test::Fail;
 
 /// A walk, a search or a scan through a cache.
 #[derive(Clone, Copy)]
@@ -65,12 +64,17 @@ fn make_once<R: Abort, A: Allocator + Copy>(
     call: Call,
 ) -> Result<(), AllocError> {
     match call {
-        Call::Search => search(rt, lazy, row)?,
-        Call::SearchInput => same(rt, lazy.search_input(&row.input())?, row.found),
-        Call::IsMatch => same(rt, lazy.is_match(&row.input())?, row.found.is_some()),
-        _ => walk(rt, lazy, row)?,
+        Call::Search => search(rt, lazy, row),
+        Call::SearchInput => {
+            same(rt, lazy.search_input(&row.input())?, row.found);
+            Ok(())
+        }
+        Call::IsMatch => {
+            same(rt, lazy.is_match(&row.input())?, row.found.is_some());
+            Ok(())
+        }
+        _ => walk(rt, lazy, row),
     }
-    Ok(())
 }
 
 /// Makes a walk.
@@ -129,19 +133,30 @@ fn feed_each<A: Allocator + Copy>(
     Ok(is_sound)
 }
 
-/// Scans the text of a walk in pieces of two bytes. A piece that failed is fed again. The match
-/// must be the last one of the walk.
+/// Feeds the text of a walk to a scan. The match must be the last one of the walk.
+fn scan_text<R: Abort, A: Allocator + Copy>(
+    rt: &R,
+    lazy: &mut Lazy<'_, Global, A>,
+    scan: &mut Scan<A>,
+    row: &Row,
+) -> Result<(), AllocError> {
+    let is_sound = feed_each(lazy, scan, row.text.as_slice())?;
+    let found = lazy.finish(scan, row.look_ahead)?;
+    same(rt, found, row.last);
+    succeed_if(is_sound)
+}
+
+/// Scans the text of a walk in pieces of two bytes. A piece that failed is fed again.
 fn scan<R: Abort, A: Allocator + Copy>(
     rt: &R,
     lazy: &mut Lazy<'_, Global, A>,
     row: &Row,
 ) -> Result<(), AllocError> {
     let start = lazy.nfa().start_anchored();
-    let mut scan = lazy.scan(start, row.look_behind)?;
-    let is_sound = feed_each(lazy, &mut scan, row.text.as_slice())?;
-    let found = lazy.finish(&scan, row.look_ahead)?;
-    same(rt, found, row.last);
-    succeed_if(is_sound)
+    match lazy.scan(start, row.look_behind) {
+        Ok(mut scan) => scan_text(rt, lazy, &mut scan, row),
+        Err(error) => Err(error),
+    }
 }
 
 /// Takes a step, and the same step again if that fails. Returns whether the first call succeeded.
@@ -157,20 +172,20 @@ fn step<A: Allocator + Copy>(
     Ok(is_taken)
 }
 
-/// Takes the steps of a walk. Each state must be that of the walk. Returns whether no step failed.
+/// Takes the steps of a walk. Each state must be that of the walk.
 fn step_each<R: Abort, A: Allocator + Copy>(
     rt: &R,
     lazy: &mut Lazy<'_, Global, A>,
     walker: &mut Walker<A>,
     row: &Row,
-) -> Result<bool, AllocError> {
+) -> Result<(), AllocError> {
     let mut is_sound = true;
     for (index, bytes) in row.states.iter().enumerate() {
         same(rt, walker.state().as_bytes(), bytes.as_slice());
         let is_taken = step(lazy, walker, row.unit(index))?;
         is_sound = is_sound && is_taken;
     }
-    Ok(is_sound)
+    succeed_if(is_sound)
 }
 
 /// Walks over the text of a walk by steps. A step that failed is taken again.
@@ -180,13 +195,14 @@ fn walk_by_steps<R: Abort, A: Allocator + Copy>(
     row: &Row,
 ) -> Result<(), AllocError> {
     let start = lazy.nfa().start_anchored();
-    let mut walker = lazy.walker(start, row.look_behind)?;
-    let is_sound = step_each(rt, lazy, &mut walker, row)?;
-    succeed_if(is_sound)
+    match lazy.walker(start, row.look_behind) {
+        Ok(mut walker) => step_each(rt, lazy, &mut walker, row),
+        Err(error) => Err(error),
+    }
 }
 
 #[test]
-fn walks_and_searches(rt: HostRuntime) -> Result<(), Fail> {
+fn walks_and_searches(rt: HostRuntime) {
     for limit in [0, 1, 2, 64] {
         let trials = [
             OfWalk::Cached(Call::Walk, limit),
@@ -196,47 +212,26 @@ fn walks_and_searches(rt: HostRuntime) -> Result<(), Fail> {
             OfWalk::Cached(Call::Scan, limit),
             OfWalk::Cached(Call::Steps, limit),
         ];
-        fail_each_over_walks(&rt, &trials)?;
+        fail_each_over_walks(&rt, &trials);
     }
-    Ok(())
 }
 
 /// The number of times that each of two long walks goes through its three states.
 const ROUNDS: usize = 1_000;
 
-/// Returns a text of this number of rounds.
-fn long_text(alloc: Global) -> Result<Vec<u8>, AllocError> {
-    let mut text = Vec::new(alloc);
-    for _ in 0..ROUNDS {
-        text.extend_from_slice(b"abc")?;
-    }
-    Ok(text)
-}
-
 /// Walks over a long text through a cache.
-fn walk_long<R: Abort, A: Allocator + Copy>(
-    rt: &R,
-    lazy: &mut Lazy<'_, Global, A>,
-    text: &[u8],
-) -> Result<(), AllocError> {
+fn walk_long<R: Abort, A: Allocator + Copy>(rt: &R, lazy: &mut Lazy<'_, Global, A>, text: &[u8]) {
     let start = lazy.nfa().start_anchored();
-    let states = lazy.walk(start, None, text)?;
+    let states = lazy.walk(start, None, text).expect(rt, "memory");
     same(rt, states.len(), text.len().saturating_add(2));
-    Ok(())
 }
 
 /// Walks over a text twice through a cache of two states.
-fn walk_twice<R: Abort, A: Allocator + Copy>(
-    rt: &R,
-    alloc: A,
-    nfa: &NFA,
-    text: &[u8],
-) -> Result<(), AllocError> {
+fn walk_twice<R: Abort, A: Allocator + Copy>(rt: &R, alloc: A, nfa: &NFA, text: &[u8]) {
     let mut lazy = Lazy::new(alloc, nfa, MatchKind::All, 2);
-    walk_long(rt, &mut lazy, text)?;
-    walk_long(rt, &mut lazy, text)?;
+    walk_long(rt, &mut lazy, text);
+    walk_long(rt, &mut lazy, text);
     holds(rt, lazy.computed() >= 6_000);
-    Ok(())
 }
 
 /// The NFA has a loop of three states, over `a`, `b` and `c`, and a cache of two states keeps no
@@ -245,13 +240,12 @@ fn walk_twice<R: Abort, A: Allocator + Copy>(
 /// the builder and the table of the cache, a few times each. A walk that allocated any of them in
 /// each step would make 3000 requests.
 #[test]
-fn growths_of_long_walks(rt: HostRuntime) -> Result<(), Fail> {
-    let nfa = caches::nfa(&rt, "B:61>1 B:62>2 B:63>0", false)?;
-    let text = long_text(rt.alloc())?;
+fn growths_of_long_walks(rt: HostRuntime) {
+    let nfa = caches::nfa(&rt, "B:61>1 B:62>2 B:63>0", false);
+    let text = b"abc".repeat(rt.alloc(), ROUNDS).expect(&rt, "memory");
     let heap = FailingAllocator::after(rt.alloc(), u64::MAX);
     heap.begin();
-    walk_twice(&rt, &heap, &nfa, text.as_slice())?;
+    walk_twice(&rt, &heap, &nfa, text.as_slice());
     heap.end();
     holds(&rt, heap.asked() <= 100);
-    Ok(())
 }

@@ -6,9 +6,8 @@ use crate::tests::same;
 use determinize_below::{BuildError, Look};
 use determinize_pattern::{CompileError, Config, Pattern, compile};
 use example_walks::error::TextError;
-use std::alloc::{AllocError, Allocator, Global};
+use std::alloc::Allocator;
 use std::process::Abort;
-use std::test::Fail;
 
 /// Compiles patterns, and compares the number of states.
 pub fn compile_all<R: Abort, A: Allocator + Copy>(
@@ -29,21 +28,33 @@ pub fn compile_all<R: Abort, A: Allocator + Copy>(
     }
 }
 
-/// Returns `(?:a|b*|[0-9]{2,3}?)+` and `(\bcd|)`.
-fn examples(alloc: Global) -> Result<Vec<Pattern>, AllocError> {
-    let a = Pattern::literal(alloc, b"a")?;
-    let bs = Pattern::literal(alloc, b"b")?.star(alloc)?;
-    let digits = Pattern::digit(alloc)?.repeat_lazy(alloc, 2, Some(3))?;
-    let choice = Pattern::alternation(vec![in alloc; a, bs, digits]?).plus(alloc)?;
-    let cd = Pattern::literal(alloc, b"cd")?;
-    let word = Pattern::concat(vec![in alloc; Pattern::Look(Look::WordAscii), cd]?);
-    let group = Pattern::alternation(vec![in alloc; word, Pattern::Empty]?).capture(alloc)?;
-    Ok(vec![in alloc; choice, group]?)
+/// Returns `(?:a|b*|[0-9]{2,3}?)+`.
+fn choice<R: Abort + AllocGlobal>(rt: &R) -> Pattern {
+    let alloc = rt.alloc();
+    let a = Pattern::literal(alloc, b"a").expect(rt, "memory");
+    let b = Pattern::literal(alloc, b"b").expect(rt, "memory");
+    let bs = b.star(alloc).expect(rt, "memory");
+    let digit = Pattern::digit(alloc).expect(rt, "memory");
+    let digits = digit.repeat_lazy(alloc, 2, Some(3)).expect(rt, "memory");
+    let parts = vec![in alloc; a, bs, digits].expect(rt, "memory");
+    Pattern::alternation(parts).plus(alloc).expect(rt, "memory")
+}
+
+/// Returns `(\bcd|)`.
+fn group<R: Abort + AllocGlobal>(rt: &R) -> Pattern {
+    let alloc = rt.alloc();
+    let cd = Pattern::literal(alloc, b"cd").expect(rt, "memory");
+    let parts = vec![in alloc; Pattern::Look(Look::WordAscii), cd].expect(rt, "memory");
+    let word = Pattern::concat(parts);
+    let parts = vec![in alloc; word, Pattern::Empty].expect(rt, "memory");
+    Pattern::alternation(parts)
+        .capture(alloc)
+        .expect(rt, "memory")
 }
 
 #[test]
-fn patterns(rt: HostRuntime) -> Result<(), Fail> {
-    let patterns = examples(rt.alloc())?;
-    let nfa = compile(rt.alloc(), &patterns, Config::new())?;
-    fail_each_in_turn(&rt, &Trial::Compile(&patterns, nfa.len()))
+fn patterns(rt: HostRuntime) {
+    let patterns = vec![in rt.alloc(); choice(&rt), group(&rt)].expect(&rt, "memory");
+    let nfa = compile(rt.alloc(), &patterns, Config::new()).expect(&rt, "an NFA");
+    fail_each_in_turn(&rt, &Trial::Compile(&patterns, nfa.len()));
 }

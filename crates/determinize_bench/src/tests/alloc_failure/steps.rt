@@ -24,11 +24,10 @@ use example_walks::examples::examples;
 use example_walks::fields::Fields;
 use example_walks::rows::run_rows;
 use example_walks::values::{state_id, state_ids};
-use std::alloc::{AllocError, Allocator, Global};
+use std::alloc::{AllocError, Allocator};
 use std::marker::Brand;
 use std::process::Abort;
 use std::sync::ledger::{Blank, Ledger};
-use std::test::Fail;
 
 /// The closures of the start states of walks, and one with a state visited before, each with the
 /// final set after an arrow.
@@ -51,15 +50,15 @@ pub struct Closing {
 
 impl Closing {
     /// Returns the closure of a job.
-    fn of(alloc: Global, fields: &Fields<'_>) -> Result<Closing, TextError> {
-        let start = state_id(fields.value_or_none("from"))?;
-        let have = values::look_set(fields.value_or_none("look"))?;
-        let held = state_ids(alloc, fields.value_or_none("held"))?;
-        Ok(Closing {
-            nfa: fields.nfa_from(alloc, start)?,
-            have,
-            held,
-        })
+    fn of<R: Abort + AllocGlobal>(rt: &R, fields: &Fields<'_>) -> Closing {
+        let start = state_id(fields.value_or_none("from")).expect(rt, "an id");
+        let have = values::look_set(fields.value_or_none("look"));
+        let held = state_ids(rt.alloc(), fields.value_or_none("held"));
+        Closing {
+            nfa: fields.nfa_from(rt.alloc(), start).expect(rt, "an NFA"),
+            have: have.expect(rt, "assertions"),
+            held: held.expect(rt, "ids"),
+        }
     }
 }
 
@@ -91,19 +90,19 @@ pub fn close<R: Abort, A: Allocator + Copy>(
 }
 
 /// Computes the closure of a job while each allocation fails in turn.
-fn fail_each_in_closure<R: Abort + AllocGlobal>(rt: &R, job: &str, ids: &str) -> Result<(), Fail> {
-    let wanted = state_ids(rt.alloc(), ids)?;
-    let closing = Closing::of(rt.alloc(), Job::read(job)?.fields())?;
-    fail_each_in_turn(rt, &Trial::Close(&closing, wanted.as_slice()))
+fn fail_each_in_closure<R: Abort + AllocGlobal>(rt: &R, job: &str, ids: &str) {
+    let wanted = state_ids(rt.alloc(), ids).expect(rt, "ids");
+    let job = Job::read(job).expect(rt, "a job");
+    let closing = Closing::of(rt, job.fields());
+    fail_each_in_turn(rt, &Trial::Close(&closing, wanted.as_slice()));
 }
 
 #[test]
-fn closures(rt: HostRuntime) -> Result<(), Fail> {
+fn closures(rt: HostRuntime) {
     for line in CLOSURES.lines() {
         let (job, ids) = line.split_once(" => ").unwrap_or((line, ""));
-        fail_each_in_closure(&rt, job, ids)?;
+        fail_each_in_closure(&rt, job, ids);
     }
-    Ok(())
 }
 
 /// Returns the start kind of a walk.
@@ -256,7 +255,7 @@ pub fn walk_at_once<R: Abort, A: Allocator + Copy>(
 }
 
 #[test]
-fn walks(rt: HostRuntime) -> Result<(), Fail> {
+fn walks(rt: HostRuntime) {
     fail_each_over_walks(
         &rt,
         &[
@@ -266,7 +265,7 @@ fn walks(rt: HostRuntime) -> Result<(), Fail> {
             OfWalk::Steps(true),
             OfWalk::Walk,
         ],
-    )
+    );
 }
 
 /// Prints a walk by the program `rows`, which after a failed allocation has printed a prefix of it.
@@ -290,11 +289,10 @@ pub fn print<R: Abort + AllocGlobal, A: Allocator + Copy>(
 }
 
 #[test]
-fn prints_each_walk_or_fails_to_allocate(rt: HostRuntime) -> Result<(), Fail> {
+fn prints_each_walk_or_fails_to_allocate(rt: HostRuntime) {
     for example in examples() {
-        let words = words(&rt, example.name)?;
+        let words = words(&rt, example.name);
         let lines = output_of(example.name);
-        fail_each_in_turn(&rt, &Trial::Print(words.as_slice(), lines))?;
+        fail_each_in_turn(&rt, &Trial::Print(words.as_slice(), lines));
     }
-    Ok(())
 }

@@ -15,9 +15,8 @@ use determinize_core::start::Config;
 use determinize_core::state::{State, StateBuilderEmpty};
 use determinize_lazy::Lazy;
 use failing_alloc::FailingAllocator;
-use std::alloc::{AllocError, Allocator, Global};
+use std::alloc::{Allocator, Global};
 use std::process::Abort;
-use std::test::Fail;
 
 /// Inserts an id, and finds it.
 fn insert<R: Abort, A: Allocator>(rt: &R, set: &mut SparseSet<A>, id: StateID) {
@@ -42,10 +41,11 @@ fn fill<R: Abort, A: Allocator>(rt: &R, sparses: &mut SparseSets<A>) {
 
 /// Makes the dead state. Sets flags, assertions and the pattern `ZERO` in a builder, converts it to
 /// a builder of NFA states, and clears it.
-fn build<R: Abort, A: Allocator + Copy>(rt: &R, heap: &Heap, alloc: A) -> Result<(), AllocError> {
-    let mut matches = StateBuilderEmpty::new(alloc).into_matches()?;
+fn build<R: Abort, A: Allocator + Copy>(rt: &R, heap: &Heap, alloc: A) {
+    let matches = StateBuilderEmpty::new(alloc).into_matches();
+    let mut matches = matches.expect(rt, "memory");
     heap.begin();
-    let dead = State::dead(alloc)?;
+    let dead = State::dead(alloc).expect(rt, "no allocation");
     same(rt, dead.as_bytes(), [0; 9].as_slice());
     same(rt, StateBuilderEmpty::new(alloc).capacity(), 0);
     matches.set_is_from_word();
@@ -62,43 +62,35 @@ fn build<R: Abort, A: Allocator + Copy>(rt: &R, heap: &Heap, alloc: A) -> Result
     same(rt, builder.as_bytes(), bytes.as_slice());
     holds(rt, builder.clear().capacity() > 0);
     heap.end();
-    Ok(())
 }
 
 /// Converts a builder with explicit patterns to a builder of NFA states.
-fn close_patterns<R: Abort, A: Allocator>(rt: &R, heap: &Heap, alloc: A) -> Result<(), AllocError> {
-    let mut matches = StateBuilderEmpty::new(alloc).into_matches()?;
-    matches.add_match_pattern_id(PatternID::must(1))?;
+fn close_patterns<R: Abort, A: Allocator>(rt: &R, heap: &Heap, alloc: A) {
+    let matches = StateBuilderEmpty::new(alloc).into_matches();
+    let mut matches = matches.expect(rt, "memory");
+    let added = matches.add_match_pattern_id(PatternID::must(1));
+    added.expect(rt, "memory");
     heap.begin();
     let builder = matches.into_nfa();
     let bytes = [3, 0, 0, 0, 0, 0, 0, 0, 0, 1, 0, 0, 0, 1, 0, 0, 0];
     same(rt, builder.as_bytes(), bytes.as_slice());
     heap.end();
-    Ok(())
 }
 
 /// Fills two sets, and makes builders.
-fn make_each<R: Abort, A: Allocator + Copy>(
-    rt: &R,
-    heap: &Heap,
-    alloc: A,
-) -> Result<(), AllocError> {
-    let mut sparses = SparseSets::new(alloc, 70)?;
+fn make_each<R: Abort, A: Allocator + Copy>(rt: &R, heap: &Heap, alloc: A) {
+    let mut sparses = SparseSets::new(alloc, 70).expect(rt, "memory");
     heap.begin();
     fill(rt, &mut sparses);
     heap.end();
-    build(rt, heap, alloc)?;
-    close_patterns(rt, heap, alloc)
+    build(rt, heap, alloc);
+    close_patterns(rt, heap, alloc);
 }
 
 /// Reads the bytes around the text of a walk, and sets the look-behind of its start in a builder.
-fn begin_walk<R: Abort, A: Allocator>(
-    rt: &R,
-    heap: &Heap,
-    alloc: A,
-    row: &Row,
-) -> Result<(), AllocError> {
-    let mut matches = StateBuilderEmpty::new(alloc).into_matches()?;
+fn begin_walk<R: Abort, A: Allocator>(rt: &R, heap: &Heap, alloc: A, row: &Row) {
+    let matches = StateBuilderEmpty::new(alloc).into_matches();
+    let mut matches = matches.expect(rt, "memory");
     heap.begin();
     let input = Input::new(row.text.as_slice());
     let forward = Config::from_input_forward(&input).get_look_behind();
@@ -106,7 +98,6 @@ fn begin_walk<R: Abort, A: Allocator>(
     same(rt, (forward, reverse), (None, None));
     set_lookbehind_from_start(&row.nfa, &start_kind(row), &mut matches);
     heap.end();
-    Ok(())
 }
 
 /// Computes the closure of a state into an empty set, with a stack of more capacity than any walk
@@ -118,67 +109,65 @@ fn close<R: Abort, A: Allocator + Copy>(
     row: &Row,
     number: usize,
     set: &mut SparseSet<A>,
-) -> Result<(), AllocError>
+)
     requires { number < length row.now.nfa.states }
 {
     assert_eq!(rt; set.capacity(), row.nfa.len());
     let id = StateID::must(number);
     let is_epsilon = row.nfa.state(id).is_epsilon();
-    let mut stack = Vec::with_capacity(alloc, if is_epsilon { 100 } else { 0 })?;
+    let stack = Vec::with_capacity(alloc, if is_epsilon { 100 } else { 0 });
+    let mut stack = stack.expect(rt, "memory");
     heap.begin();
-    epsilon_closure(&row.nfa, id, LookSet::empty(), &mut stack, set)?;
+    let closed = epsilon_closure(&row.nfa, id, LookSet::empty(), &mut stack, set);
+    closed.expect(rt, "no allocation");
     set.clear();
     heap.end();
-    Ok(())
 }
 
 /// Computes the closures of all states.
-fn close_each<R: Abort, A: Allocator + Copy>(
-    rt: &R,
-    heap: &Heap,
-    alloc: A,
-    row: &Row,
-) -> Result<(), AllocError> {
-    let mut set = SparseSet::new(alloc, row.nfa.len())?;
+fn close_each<R: Abort, A: Allocator + Copy>(rt: &R, heap: &Heap, alloc: A, row: &Row) {
+    let mut set = SparseSet::new(alloc, row.nfa.len()).expect(rt, "memory");
     for number in 0..row.nfa.len() {
-        close(rt, heap, alloc, row, number, &mut set)?;
+        close(rt, heap, alloc, row, number, &mut set);
     }
     same(rt, set.len(), 0);
-    Ok(())
 }
 
 /// Makes a cache and clears it.
-fn make_cache<R: Abort, A: Allocator + Copy>(
-    rt: &R,
-    heap: &Heap,
-    alloc: A,
-    row: &Row,
-) -> Result<(), AllocError> {
+fn make_cache<R: Abort, A: Allocator + Copy>(rt: &R, heap: &Heap, alloc: A, row: &Row) {
     heap.begin();
     let mut lazy = Lazy::new(alloc, &row.nfa, row.kind, 100);
     same(rt, (lazy.states_kept(), lazy.computed()), (0, 0));
     lazy.clear();
     heap.end();
     let (start, text) = (row.nfa.start_anchored(), row.text.as_slice());
-    lazy.walk(start, row.look_behind, text)?;
+    holds(rt, lazy.walk(start, row.look_behind, text).is_ok());
     heap.begin();
     holds(rt, lazy.states_kept() > 0 && lazy.computed() > 0);
     lazy.clear();
     same(rt, lazy.states_kept(), 0);
     heap.end();
-    Ok(())
 }
 
-/// Searches the text of a walk through a cache: for its last match, as a haystack, and for any
-/// match.
-fn search_each<A: Allocator + Copy>(
+/// The matches of a text: the last one, that of a search of it as a haystack, and whether there is
+/// any.
+type Found = (Option<HalfMatch>, Option<HalfMatch>, bool);
+
+/// Searches the text of a walk through a cache.
+fn search_each<R: Abort, A: Allocator + Copy>(
+    rt: &R,
     lazy: &mut Lazy<'_, Global, A>,
     row: &Row,
-) -> Result<(Option<HalfMatch>, Option<HalfMatch>, bool), AllocError> {
+) -> Found {
     let (start, text) = (lazy.nfa().start_anchored(), row.text.as_slice());
-    let last = lazy.search(start, row.look_behind, text, row.look_ahead)?;
-    let found = lazy.search_input(&row.input())?;
-    Ok((last, found, lazy.is_match(&row.input())?))
+    let last = lazy.search(start, row.look_behind, text, row.look_ahead);
+    let found = lazy.search_input(&row.input());
+    let is_match = lazy.is_match(&row.input());
+    (
+        last.expect(rt, "memory"),
+        found.expect(rt, "memory"),
+        is_match.expect(rt, "memory"),
+    )
 }
 
 /// Searches three times through one cache. The first searches cache each transition, and the second
@@ -188,29 +177,22 @@ fn search_cached<R: Abort, A: Allocator + Copy>(
     heap: &Heap,
     lazy: &mut Lazy<'_, Global, A>,
     row: &Row,
-) -> Result<(), AllocError> {
-    search_each(lazy, row)?;
-    let wanted = search_each(lazy, row)?;
+) {
+    search_each(rt, lazy, row);
+    let wanted = search_each(rt, lazy, row);
     let computed = lazy.computed();
     heap.begin();
-    let found = search_each(lazy, row)?;
+    let found = search_each(rt, lazy, row);
     heap.end();
     holds(rt, found == wanted && lazy.computed() == computed);
-    Ok(())
 }
 
 /// Searches through a cache under each match kind.
-fn search_under_each<R: Abort, A: Allocator + Copy>(
-    rt: &R,
-    heap: &Heap,
-    alloc: A,
-    row: &Row,
-) -> Result<(), AllocError> {
+fn search_under_each<R: Abort, A: Allocator + Copy>(rt: &R, heap: &Heap, alloc: A, row: &Row) {
     for kind in [MatchKind::All, MatchKind::LeftmostFirst] {
         let mut lazy = Lazy::new(alloc, &row.nfa, kind, 100);
-        search_cached(rt, heap, &mut lazy, row)?;
+        search_cached(rt, heap, &mut lazy, row);
     }
-    Ok(())
 }
 
 /// Calls all readers of a state.
@@ -235,62 +217,49 @@ fn read_state<R: Abort, A: Allocator + Copy>(rt: &R, state: &State<A>, bytes: &[
 }
 
 /// Calls all readers of each state of a walk.
-fn read_states<R: Abort, A: Allocator + Copy>(
-    rt: &R,
-    heap: &Heap,
-    alloc: A,
-    row: &Row,
-) -> Result<(), AllocError> {
-    let states = row.walk(alloc)?;
+fn read_states<R: Abort, A: Allocator + Copy>(rt: &R, heap: &Heap, alloc: A, row: &Row) {
+    let states = row.walk(alloc).expect(rt, "memory");
     heap.begin();
     for (state, bytes) in states.iter().zip(row.states.iter()) {
         read_state(rt, state, bytes.as_slice());
     }
     heap.end();
-    Ok(())
 }
 
 /// Makes the calls for a walk that do not allocate.
-fn walk<R: Abort, A: Allocator + Copy>(
-    rt: &R,
-    heap: &Heap,
-    alloc: A,
-    row: &Row,
-) -> Result<(), AllocError> {
-    begin_walk(rt, heap, alloc, row)?;
-    make_cache(rt, heap, alloc, row)?;
-    close_each(rt, heap, alloc, row)?;
-    read_states(rt, heap, alloc, row)?;
-    search_under_each(rt, heap, alloc, row)
+fn walk<R: Abort, A: Allocator + Copy>(rt: &R, heap: &Heap, alloc: A, row: &Row) {
+    begin_walk(rt, heap, alloc, row);
+    make_cache(rt, heap, alloc, row);
+    close_each(rt, heap, alloc, row);
+    read_states(rt, heap, alloc, row);
+    search_under_each(rt, heap, alloc, row);
 }
 
 #[test]
-fn calls_that_do_not_allocate(rt: HostRuntime) -> Result<(), Fail> {
+fn calls_that_do_not_allocate(rt: HostRuntime) {
     let heap = FailingAllocator::after(rt.alloc(), 0);
-    make_each(&rt, &heap, &heap)?;
-    for row in rows(rt.alloc())?.iter() {
-        walk(&rt, &heap, &heap, row)?;
+    make_each(&rt, &heap, &heap);
+    for row in rows(&rt).iter() {
+        walk(&rt, &heap, &heap, row);
     }
     same(&rt, heap.asked(), 0);
-    Ok(())
 }
 
 /// Makes a state of `len` bytes and clones it. Up to 30 bytes nothing is allocated, and from 31 on
 /// something is.
-fn count_requests<A: Allocator + Copy>(heap: &Heap, alloc: A, len: u8) -> Result<u64, AllocError> {
-    let builder = builder_of(alloc, len)?;
+fn count_requests<R: Abort, A: Allocator + Copy>(rt: &R, heap: &Heap, alloc: A, len: u8) -> u64 {
+    let builder = builder_of(alloc, len).expect(rt, "memory");
     heap.begin();
-    clone_of(&builder)?;
+    holds(rt, clone_of(&builder).is_ok());
     heap.end();
-    Ok(heap.asked())
+    heap.asked()
 }
 
 #[test]
-fn short_states(rt: HostRuntime) -> Result<(), Fail> {
+fn short_states(rt: HostRuntime) {
     for len in 9..=70 {
         let heap = FailingAllocator::after(rt.alloc(), u64::MAX);
-        let asked = count_requests(&heap, &heap, len)?;
+        let asked = count_requests(&rt, &heap, &heap, len);
         holds(&rt, (asked == 0) == (len <= 30));
     }
-    Ok(())
 }
