@@ -85,7 +85,7 @@ fn push<A: Allocator>(
     Ok(())
 }
 
-/// Pushes the pair that a state leads to over the byte at a position, if there is one.
+/// Pushes the pair that a state has a transition to over the byte at a position, if any.
 fn push_target<N: Allocator, A: Allocator>(
     text: &Text<'_>,
     at: usize,
@@ -121,7 +121,7 @@ fn push_each<A: Allocator>(
     Ok(())
 }
 
-/// Pushes the pairs that a run goes on to from a pair, the most preferred last.
+/// Pushes the pairs that follow a pair in runs, the most preferred last.
 pub(crate) fn push_choices<N: Allocator, A: Allocator>(
     nfa: &NFA<N>,
     text: &Text<'_>,

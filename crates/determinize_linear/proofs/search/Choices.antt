@@ -1,4 +1,4 @@
--- The pairs that a run goes on to, by the kind of a state.
+-- The pairs that follow a pair in runs, by the kind of its state.
 -- Main statements: map_reversed, choices_look, choices_not_look, choices_union, choices_both, choices_capture,
 -- choices_byte.
 -- Used by: `push_each` and `push_choices`.

@@ -95,7 +95,7 @@ module _ (nfa : Nfa) (text : Text) where
     all_most held n,
   )
 
-  -- and at one alone
+  -- and at one only
   abbrev elsewhere : ℕ → ℕ × ℕ → Bool
   elsewhere j p = not (p.0 == j)
 

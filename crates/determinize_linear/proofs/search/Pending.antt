@@ -1,7 +1,7 @@
 -- The pending pairs of a search: their positions fall from the top of the stack on.
 -- Main statements: run_steps, step_later, IsPending, pending_more, pending_below, pending_choices.
 -- Used by: UnderWay.
--- Idea: a run stays at its position or goes on by one, so what a pair leads to is not before it.
+-- Idea: a run stays at its position or continues one further, so what follows a pair is not before it.
 use Rattle.std.specs.Prelude.{slice_get}
 use Rattle.std.proofs.Common.{◌≡◌, ◌<◌, ◌≤◌, ◌++◌, ◌∙◌, ◌∷◌, ◌||◌, ℕ, Bool, List, [], ap, append-nil, arith, false, length, map, nat_eq, refl, subst, suc, true}
 use Rattle.std.proofs.lemmas.Bool.{false≢true, or_left, or_right}
@@ -19,7 +19,7 @@ use Rattle.ordered_reach.proofs.runs.ByPosition.{member-run_edges, pair_eq, same
 use Rattle.ordered_reach.specs.Reach.{member}
 use Rattle.ordered_reach.specs.Runs.{placed, run_edges}
 
--- the pairs that a run goes on to from a pair
+-- the pairs that follow a pair in runs
 abbrev pub run_steps : Nfa → Text → ℕ × ℕ → List (ℕ × ℕ)
 run_steps nfa text = run_edges (true_edges nfa text) (byte_edges nfa text)
 
@@ -84,7 +84,7 @@ pending_steps nfa k i end (x ∷ bs) es ps a b c f g h =
     pending_placed nfa k (suc i) end (x ∷ bs) (map (placed i) es) ps (omega arith) (omega (arith, c (omega arith))) f
     (pending_more nfa k i (suc i) (map (placed i) es ++ ps) (omega arith) same)
 
--- the pairs that a pair leads to, in its place
+-- the pairs that follow a pair, in its place
 pub pending_choices : (nfa : Nfa) → IsAccepted nfa → (text : Text) (k : ℕ) (p : ℕ × ℕ) (ps : List (ℕ × ℕ))
     → IsPending nfa k (length text.bytes) (p ∷ ps)
     → IsPending nfa k (length text.bytes) (run_steps nfa text p ++ ps)

@@ -65,7 +65,7 @@ module _ {N : Type 0} {eq : N → N → Bool} (dec : (a b : N) → Decides (eq a
       found-here r rs e a = ap (λ l. find acc l) (ordered-new held r rs e)
           ∙ find-hit acc r (ordered eq edges n (with_node eq held r) (edges r ++ rs)) a
 
-      -- the visited nodes that can be met again lead to visited nodes alone, and none of them accepts
+      -- from the visited nodes that can be met again only visited nodes are reached, and none of them accepts
       module _ (inside : N → Bool) (root : N)
           (stay : (x y : N) → inside x ≡ true → member eq (edges x) y ≡ true → inside y ≡ true)
           (none : (x : N) → held x ≡ true → acc x ≡ false)

@@ -1,4 +1,4 @@
--- The pair that a state leads to over a byte, as the program finds it.
+-- The pair that a state has a transition to over a byte, as the program finds it.
 -- Main statements: one_target, no_target, past_target, reversed_target.
 -- Used by: `push_target` and `push_choices`.
 -- Idea: the byte of a text at an index is that of the list of its units.
@@ -10,7 +10,7 @@ use Rattle.determinize_below.specs.Semantics.{Node, target_of}
 use Rattle.ordered_reach.proofs.Cases.{by_option, some_injective}
 use Rattle.ordered_reach.specs.Runs.{placed}
 
--- the pair that a state leads to over the byte at a position, as a list
+-- the pair that a state has a transition to over the byte at a position, as a list
 abbrev pub over_byte : List ℕ → ℕ → Node → List (ℕ × ℕ)
 over_byte bytes at node = map (placed (suc at)) (option_to_list (target_of (slice_get bytes at) node))
 

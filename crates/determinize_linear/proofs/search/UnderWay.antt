@@ -2,7 +2,7 @@
 -- Main statements: IsUnderWay, begun, skipped, entered, ended, stopped, spent_after, fewer_held, fewer_new.
 -- Used by: the loop of a search.
 -- Idea: the first accepting pair of what is still to be searched stays the same, and what was searched is closed: a
--- visited pair leads to visited or pending pairs.
+-- visited pair is followed by visited or pending pairs.
 use Rattle.std.proofs.Common.{◌≡◌, ◌<◌, ◌≤◌, ◌+◌, ◌++◌, ◌∙◌, ◌∷◌, ◌||◌, ◌==◌, ℕ, Bool, List, None, Option, Some, [], ap, arith, cond, false, length, nat_eq, refl, replicate, reverse, subst, suc, sym, true}
 use Rattle.std.proofs.lemmas.List.{reverse-append, reverse-reverse}
 use Rattle.std.specs.List.{find, flat_map}
@@ -164,7 +164,7 @@ module _ (nfa : Nfa) (accepted : IsAccepted nfa) (text : Text) (k : ℕ) (rows :
             (λ e. absurd (true≢false (sym n ∙ h.none p e)))
             (λ e. e)
 
-    -- and behind it no visited pair leads to a pending one
+    -- and behind it no pending pair follows a visited one
     pub spent_after : p.0 < length rows → IsSpent nfa text p.0 (without_marks rows p.0)
     spent_after a = record {
       none = λ x v. h.none x (was x v).0;

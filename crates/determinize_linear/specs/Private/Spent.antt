@@ -12,7 +12,7 @@ pub record HasPlaces (nfa : Nfa) (text : Text) (rows : List (List Bool)) : Type 
   pub states : (i : ℕ) → i ≤ length text.bytes
       → length (slice_index_or rows i []) ≡ length nfa.states
 
--- no marked pair is at a `Match`, and from a position on their runs go to marked pairs alone: so no
+-- no marked pair is at a `Match`, and from a position on their runs go to marked pairs only: so no
 -- run from one of them accepts
 pub record IsSpent (nfa : Nfa) (text : Text) (k : ℕ) (rows : List (List Bool)) : Type 0 where
   pub none : (p : ℕ × ℕ) → is_marked rows p ≡ true → is_match nfa p.1 ≡ false
