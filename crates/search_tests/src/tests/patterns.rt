@@ -1,9 +1,9 @@
-//! Patterns from their texts: all matches, whether there is one, which text is in error, and how
-//! errors are written.
+//! Patterns from their texts: all matches, also in pieces, whether there is one, the parts between
+//! them, other bytes in their place, which text is in error, and how errors are written.
 
 use crate::tests::find::expect_matches;
 use crate::tests::{expect_text, same};
-use determinize_regex::{Error, ErrorKind, Input, Matcher, ParseError, Regex, RegexConfig};
+use determinize_regex::{Error, ErrorKind, Input, Matcher, ParseError, Regex, RegexConfig, Stream};
 use determinize_uses::words::Words;
 use std::alloc::AllocError;
 use std::process::Abort;
@@ -42,6 +42,57 @@ fn regex_and_matcher(rt: HostRuntime) -> Result<(), Fail> {
     expect_first(&rt, &mut regex)?;
     regex.clear();
     expect_all(&rt, &mut regex.matcher(rt.alloc(), 2))?;
+    Ok(())
+}
+
+/// A text, its parts between runs of commas and blanks, and the text with `$1` in place of each
+/// run, as Python's `re` finds them.
+const LIST: &[u8] = b"a, b,,c ";
+
+static PARTS: [&[u8]; 4] = [b"a", b"b", b"c", b""];
+
+const REPLACED: &[u8] = b"a$1b$1c$1";
+
+/// Compares the parts of the text.
+fn expect_parts<R: Abort>(rt: &R, parts: &[&[u8]]) {
+    same(rt, parts.len(), PARTS.len());
+    for (part, wanted) in parts.iter().zip(&PARTS) {
+        same(rt, *part, *wanted);
+    }
+}
+
+#[test]
+fn split_and_replace(rt: HostRuntime) -> Result<(), Fail> {
+    let mut regex = Regex::new(rt.alloc(), "[ ,]+")?;
+    let parts = regex.split(rt.alloc(), LIST)?;
+    expect_parts(&rt, &parts);
+    let text = regex.replace_all(rt.alloc(), LIST, b"$1")?;
+    same(&rt, text.as_slice(), REPLACED);
+    Ok(())
+}
+
+/// Feeds a text in two pieces. The year lies in both, and the last name may go on. It, the byte
+/// before it and the one before these are kept.
+fn expect_pieces<R: Abort + AllocGlobal>(
+    rt: &R,
+    stream: &mut Stream<'_>,
+) -> Result<(), AllocError> {
+    let mut found = Vec::new(rt.alloc());
+    stream.feed(b"In 19", &mut found)?;
+    expect_matches(rt, &found, &[(1, 0, 2)]);
+    stream.feed(b"84 Ada", &mut found)?;
+    expect_matches(rt, &found, &[(1, 0, 2), (0, 3, 7)]);
+    same(rt, (stream.bytes_read(), stream.bytes_kept()), (11, 5));
+    stream.finish(&mut found)?;
+    expect_matches(rt, &found, &[(1, 0, 2), (0, 3, 7), (1, 8, 11)]);
+    Ok(())
+}
+
+#[test]
+fn in_pieces(rt: HostRuntime) -> Result<(), Fail> {
+    let patterns = ["[0-9]+", "[A-Z][a-z]*"];
+    let regex = Regex::new_many(rt.alloc(), &patterns, RegexConfig::new())?;
+    expect_pieces(&rt, &mut regex.stream(rt.alloc(), 100))?;
     Ok(())
 }
 
