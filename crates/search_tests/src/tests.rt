@@ -7,6 +7,7 @@ mod dfa;
 mod draw;
 mod find;
 mod idle;
+mod linear;
 mod patterns;
 mod pieces;
 mod reading;
