@@ -1,6 +1,6 @@
 -- Laws of searches over the NFA of patterns, and of the parts of texts.
 use Rattle.std.specs.List.{join_by}
-use Rattle.std.specs.Prelude.{◌≡◌, ◌<◌, ◌↔◌, ◌∷◌, ℕ, All, List, Option, [], codes, length}
+use Rattle.std.specs.Prelude.{◌≡◌, ◌+◌, ◌<◌, ◌↔◌, ◌∷◌, ℕ, All, List, Option, [], codes, length}
 use Rattle.determinize_below.specs.Search.{Asked}
 use Rattle.determinize_below.specs.Semantics.{Nfa, Text}
 use Rattle.determinize_below.specs.declared.search.Match.{Match}
@@ -45,14 +45,16 @@ abbrev pub EachReplacedIsJoined : Type 0
 EachReplacedIsJoined = (by text : List ℕ) (found : List Match)
     → replaced by text 0 found ≡ join_by (λ (part : List ℕ). part) by (parts text 0 found)
 
--- the commas of `a,b,`
-abbrev pub commas : List Match
-commas = record { pattern = 0; start = 1; end = 2 } ∷ record { pattern = 0; start = 3; end = 4 } ∷ []
+-- a match of pattern 0 of one byte
+abbrev pub byte_at : ℕ → Match
+byte_at start = record { pattern = 0; start = start; end = start + 1 }
 
--- between them are `a`, `b` and nothing
+-- between the commas of `a,b,` are `a`, `b` and nothing
 abbrev pub WorkedParts : Type 0
-WorkedParts = parts (codes "a,b,") 0 commas ≡ codes "a" ∷ codes "b" ∷ [] ∷ []
+WorkedParts = parts (codes "a,b,") 0 (byte_at 1 ∷ byte_at 3 ∷ [])
+    ≡ codes "a" ∷ codes "b" ∷ [] ∷ []
 
--- and with others in their place
+-- and with ` and ` in their place
 abbrev pub WorkedReplaced : Type 0
-WorkedReplaced = replaced (codes " and ") (codes "a,b,") 0 commas ≡ codes "a and b and "
+WorkedReplaced = replaced (codes " and ") (codes "a,b,") 0 (byte_at 1 ∷ byte_at 3 ∷ [])
+    ≡ codes "a and b and "

@@ -1,5 +1,5 @@
 //! Uses of the libraries, to read and to copy. Each module is one use, and its contracts are
-//! proved. `search_tests` runs all but [`counted`] and [`patterns`].
+//! proved. `search_tests` runs all but [`counted`], [`patterns`] and [`pieces`].
 //!
 //! - [`values`] makes one value of each small type: sets, start kinds, closures, states.
 //! - [`nfa`] makes an NFA by hand, and [`built`] one by a `Builder`.
@@ -8,7 +8,8 @@
 //! - [`scanner`] finds all matches of a haystack, and [`lexer`] the longest token at each position.
 //!   [`steady`] finds all matches and never allocates while it runs.
 //! - [`input`] finds whether a haystack has a match, and both ends of the preferred one.
-//! - [`strings`] prints where strings in double quotes are in an input that it reads in pieces.
+//! - [`pieces`] finds all matches of patterns in a text of several pieces.
+//!   [`strings`] prints where strings in double quotes are in an input that it reads in pieces.
 //! - [`search`] and [`cache`] search and walk many texts through one cache.
 //! - [`walk`] finds the preferred match without a cache, and [`counted`] makes one counted step.
 //! - [`dfa`] builds the smallest whole DFA, and lists the patterns that match at a position.
@@ -23,6 +24,7 @@ pub mod input;
 pub mod lexer;
 pub mod nfa;
 pub mod patterns;
+pub mod pieces;
 pub mod scanner;
 pub mod search;
 pub mod steady;
