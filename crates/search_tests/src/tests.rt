@@ -1,5 +1,10 @@
 //! Searches whose results were worked out by hand, or are those of another search or program, and
 //! graphs written by hand.
+//!
+//! Each function of a test is proved, which takes longer than its run. So what must succeed is
+//! taken by `expect`, which ends the test if it fails: a `?` is one more exit of its function, and
+//! the drop of all that a function owns is proved at each exit. Only what runs while allocations
+//! fail returns errors, and that owns little.
 
 mod classes;
 mod dense;
@@ -18,7 +23,6 @@ mod trial;
 mod uses;
 
 use determinize_below::{HalfMatch, PatternID};
-use std::alloc::AllocError;
 use std::fmt::{Debug, Display};
 use std::process::Abort;
 
@@ -33,25 +37,15 @@ pub fn holds<R: Abort>(rt: &R, is_so: bool) {
 }
 
 /// Asserts that a value has this text.
-pub fn expect_text<R: Abort + AllocGlobal, T: Display>(
-    rt: &R,
-    value: &T,
-    wanted: &str,
-) -> Result<(), AllocError> {
-    let text = format!(in rt.alloc(); "{value}")?;
+pub fn expect_text<R: Abort + AllocGlobal, T: Display>(rt: &R, value: &T, wanted: &str) {
+    let text = format!(in rt.alloc(); "{value}").expect(rt, "memory");
     same(rt, text.as_str(), wanted);
-    Ok(())
 }
 
 /// Asserts that a value has this `Debug` text.
-pub fn expect_debug<R: Abort + AllocGlobal, T: Debug>(
-    rt: &R,
-    value: &T,
-    wanted: &str,
-) -> Result<(), AllocError> {
-    let text = format!(in rt.alloc(); "{value:?}")?;
+pub fn expect_debug<R: Abort + AllocGlobal, T: Debug>(rt: &R, value: &T, wanted: &str) {
+    let text = format!(in rt.alloc(); "{value:?}").expect(rt, "memory");
     same(rt, text.as_str(), wanted);
-    Ok(())
 }
 
 /// Returns the match of pattern 0 that ends at this offset.

@@ -6,7 +6,6 @@ use crate::tests::{expect_debug, same};
 use determinize_below::{ByteClasses, StateID, Unit};
 use determinize_uses::nfa::digits;
 use std::process::Abort;
-use std::test::Fail;
 
 /// Checks the classes of an NFA whose only ranges are the digits and all bytes.
 fn check_digits<R: Abort>(rt: &R, classes: &ByteClasses) {
@@ -20,26 +19,24 @@ fn check_digits<R: Abort>(rt: &R, classes: &ByteClasses) {
 }
 
 #[test]
-fn classes_of_digits(rt: HostRuntime) -> Result<(), Fail> {
-    let nfa = digits(rt.alloc(), false)?;
-    let classes = nfa.byte_classes();
+fn classes_of_digits(rt: HostRuntime) {
+    let classes = digits(rt.alloc(), false)
+        .expect(&rt, "memory")
+        .byte_classes();
     check_digits(&rt, &classes);
-    expect_debug(&rt, &classes, "ByteClasses(0.. => 0, 48.. => 1, 58.. => 0)")?;
-    Ok(())
+    expect_debug(&rt, &classes, "ByteClasses(0.. => 0, 48.. => 1, 58.. => 0)");
 }
 
 /// A sparse state has transitions on `a` to `c` and on `x`, a dense one on `b`, and a range is the
 /// digits.
 #[test]
-fn classes_of_all_kinds(rt: HostRuntime) -> Result<(), Fail> {
+fn classes_of_all_kinds(rt: HostRuntime) {
     let states = "U:1,2,3 S:61-63>4,78-78>4 D:62-62>4 B:30-39>4 M:0";
-    let nfa = nfa(rt.alloc(), states, StateID::ZERO)?;
-    let classes = nfa.byte_classes();
+    let classes = nfa(&rt, states, StateID::ZERO).byte_classes();
     expect_debug(
         &rt,
         &classes,
         "ByteClasses(0.. => 0, 48.. => 1, 58.. => 0, 97.. => 2, 98.. => 3, 99.. => 2, \
         100.. => 0, 120.. => 2, 121.. => 0)",
-    )?;
-    Ok(())
+    );
 }

@@ -1,7 +1,7 @@
 //! Whole DFAs of `determinize_dense`: their numbers of states, their searches over the texts of
 //! walks, the patterns where a text ends, and allocations.
 
-ghost use Rattle.std.specs.Prelude.{◌≡◌, IfOk, false};
+ghost use Rattle.std.specs.Prelude.{◌≡◌, false};
 
 use crate::tests::stored_walks::STORED;
 use crate::tests::{ended, expect_debug, expect_text, same};
@@ -9,7 +9,6 @@ use determinize_below::{Anchored, Input, LookMatcher, MatchKind, NFA, PatternID,
 use determinize_dense::{Dfa, DfaError};
 use determinize_replay::outputs::output_of;
 use determinize_uses::dfa::smallest;
-use example_walks::error::TextError;
 use example_walks::examples::examples;
 use example_walks::fields::Fields;
 use example_walks::values::LastMatch;
@@ -17,7 +16,6 @@ use example_walks::{states, walk};
 use failing_alloc::FailingAllocator;
 use std::alloc::{AllocError, Allocator, Global};
 use std::process::Abort;
-use std::test::Fail;
 
 /// The states of an NFA, its anchored start, and how many states its DFAs have under both match
 /// kinds, with all starts, and the smallest of them.
@@ -89,13 +87,26 @@ static ROWS: [Row; 5] = [
 ];
 
 /// Returns the NFA of these states, which reads forward and whose unanchored start is 0.
-pub fn nfa(alloc: Global, states: &str, start_anchored: StateID) -> Result<NFA, TextError>
-    ensures { IfOk result (λ nfa. nfa.reverse ≡ false) }
+pub fn nfa<R: Abort + AllocGlobal>(rt: &R, states: &str, start_anchored: StateID) -> NFA
+    ensures { result.reverse ≡ false }
 {
-    let states = states::states(alloc, states)?;
-    let matcher = LookMatcher::new();
-    let nfa = NFA::from_parts(alloc, states, start_anchored, StateID::ZERO, false, matcher)?;
-    Ok(nfa)
+    let (alloc, matcher) = (rt.alloc(), LookMatcher::new());
+    let states = states::states(alloc, states).expect(rt, "states");
+    let nfa = NFA::from_parts(alloc, states, start_anchored, StateID::ZERO, false, matcher);
+    nfa.expect(rt, "an NFA")
+}
+
+/// Returns the DFA of an NFA, which has at most this number of states.
+pub fn dfa<'n, R: Abort + AllocGlobal>(
+    rt: &R,
+    nfa: &'n NFA,
+    kind: MatchKind,
+    limit: usize,
+) -> Dfa<'n>
+    ensures nfa { result.nfa ≡ nfa.now }
+    ensures kind { result.kind ≡ kind }
+{
+    Dfa::build(rt.alloc(), nfa, kind, limit).expect(rt, "few states")
 }
 
 /// Returns the number of states of a DFA.
@@ -114,32 +125,33 @@ fn expect_counts<R: Abort + AllocGlobal>(
     kind: MatchKind,
     wanted: usize,
     least: usize,
-) -> Result<(), DfaError> {
+) {
     let (fewer, more) = (wanted.saturating_sub(1), wanted.saturating_add(1));
     let too_many = Err(DfaError::TooManyStates);
     same(rt, count(rt.alloc(), nfa, kind, fewer), too_many);
     same(rt, count(rt.alloc(), nfa, kind, wanted), Ok(wanted));
     same(rt, count(rt.alloc(), nfa, kind, more), Ok(wanted));
-    same(rt, smallest(rt.alloc(), nfa, kind, wanted)?.len(), least);
-    Ok(())
+    let smallest = smallest(rt.alloc(), nfa, kind, wanted).expect(rt, "few states");
+    same(rt, smallest.len(), least);
 }
 
 /// Asserts the numbers of states of a row.
-fn expect_row<R: Abort + AllocGlobal>(rt: &R, row: &Row) -> Result<(), Fail> {
-    let start = StateID::must(usize::from(row.start_anchored));
-    let nfa = nfa(rt.alloc(), row.states, start)?;
+fn expect_row<R: Abort + AllocGlobal>(rt: &R, row: &Row) {
+    let nfa = nfa(
+        rt,
+        row.states,
+        StateID::must(usize::from(row.start_anchored)),
+    );
     let (all, first) = (MatchKind::All, MatchKind::LeftmostFirst);
-    expect_counts(rt, &nfa, all, row.all, row.smallest_all)?;
-    expect_counts(rt, &nfa, first, row.leftmost_first, row.smallest_first)?;
-    Ok(())
+    expect_counts(rt, &nfa, all, row.all, row.smallest_all);
+    expect_counts(rt, &nfa, first, row.leftmost_first, row.smallest_first);
 }
 
 #[test]
-fn dense_counts(rt: HostRuntime) -> Result<(), Fail> {
+fn dense_counts(rt: HostRuntime) {
     for row in &ROWS {
-        expect_row(&rt, row)?;
+        expect_row(&rt, row);
     }
-    Ok(())
 }
 
 /// The text of a walk, and the bytes around it.
@@ -157,75 +169,58 @@ fn expect_found<R: Abort + AllocGlobal>(
     around: &Around<'_>,
     last: &str,
     patterns: &[PatternID],
-) -> Result<(), AllocError> {
+) {
     let (behind, text, ahead) = (around.look_behind, around.text, around.look_ahead);
     let found = dfa.patterns_after(Anchored::Yes, behind, text, ahead);
     same(rt, found, patterns);
     let found = dfa.search(Anchored::Yes, behind, text, ahead);
-    expect_text(rt, &LastMatch(found), last)
+    expect_text(rt, &LastMatch(found), last);
 }
 
 /// Returns the patterns of the last state of a walk.
-fn last_patterns(alloc: Global, fields: &Fields<'_>) -> Result<Vec<PatternID>, TextError> {
-    let states = walk::walk(alloc, fields)?;
-    match states.last() {
-        Some(last) => Ok(last.match_pattern_ids()?.unwrap_or(Vec::new(alloc))),
-        None => Ok(Vec::new(alloc)),
-    }
+fn last_patterns<R: Abort + AllocGlobal>(rt: &R, fields: &Fields<'_>) -> Vec<PatternID> {
+    let states = walk::walk(rt.alloc(), fields).expect(rt, "a walk");
+    let last = states.last().expect(rt, "a walk has a state");
+    let patterns = last.match_pattern_ids().expect(rt, "memory");
+    patterns.unwrap_or(Vec::new(rt.alloc()))
 }
 
 /// Asserts that searches of the text of a walk by a DFA and by the smallest one have its last
 /// match, and that the patterns where the text ends are those of its last state.
-fn expect_walk<R: Abort + AllocGlobal>(
-    rt: &R,
-    fields: &Fields<'_>,
-    dfa: &Dfa<'_>,
-    last: &str,
-) -> Result<(), TextError> {
-    let (look_behind, look_ahead) = (fields.look_behind()?, fields.look_ahead()?);
-    let least = dfa.minimize(rt.alloc())?;
-    let text = fields.text(rt.alloc())?;
+fn expect_walk<R: Abort + AllocGlobal>(rt: &R, fields: &Fields<'_>, dfa: &Dfa<'_>, last: &str) {
+    let text = fields.text(rt.alloc()).expect(rt, "bytes");
     let around = Around {
-        look_behind,
+        look_behind: fields.look_behind().expect(rt, "a byte"),
         text: text.as_slice(),
-        look_ahead,
+        look_ahead: fields.look_ahead().expect(rt, "a byte"),
     };
-    let patterns = last_patterns(rt.alloc(), fields)?;
-    expect_found(rt, dfa, &around, last, patterns.as_slice())?;
-    expect_found(rt, &least, &around, last, patterns.as_slice())?;
-    Ok(())
+    let patterns = last_patterns(rt, fields);
+    expect_found(rt, dfa, &around, last, patterns.as_slice());
+    let least = dfa.minimize(rt.alloc()).expect(rt, "memory");
+    expect_found(rt, &least, &around, last, patterns.as_slice());
 }
 
 /// Builds the DFA of a walk, of at most 1000 states, and asserts it of both.
-fn expect_job<R: Abort + AllocGlobal>(rt: &R, line: &str, last: &str) -> Result<(), Fail> {
+fn expect_job<R: Abort + AllocGlobal>(rt: &R, line: &str, last: &str) {
     let (_, fields) = Fields::split(line);
-    let (start, kind) = (fields.start()?, fields.match_kind()?);
-    let nfa = fields.nfa_from(rt.alloc(), start)?;
-    let dfa = Dfa::build(rt.alloc(), &nfa, kind, 1000)?;
-    expect_walk(rt, &fields, &dfa, last)?;
-    Ok(())
+    let start = fields.start().expect(rt, "a start");
+    let kind = fields.match_kind().expect(rt, "a match kind");
+    let nfa = fields.nfa_from(rt.alloc(), start).expect(rt, "an NFA");
+    expect_walk(rt, &fields, &dfa(rt, &nfa, kind, 1000), last);
 }
 
-/// Each of the 45 examples has a DFA of at most 1000 states.
+/// Each of the 45 examples and of the 42 stored walks has a DFA of at most 1000 states.
 #[test]
-fn dense_examples(rt: HostRuntime) -> Result<(), Fail> {
+fn dense_walks(rt: HostRuntime) {
     for example in examples() {
         let last = output_of(example.name).lines().last().unwrap_or("");
-        expect_job(&rt, example.job, last)?;
+        expect_job(&rt, example.job, last);
     }
-    same(&rt, examples().len(), 45);
-    Ok(())
-}
-
-/// Each of the 42 stored walks has a DFA of at most 1000 states.
-#[test]
-fn dense_walks(rt: HostRuntime) -> Result<(), Fail> {
     for line in STORED.lines() {
         let (job, last) = line.split_once(" = ").unwrap_or((line, ""));
-        expect_job(&rt, job, last)?;
+        expect_job(&rt, job, last);
     }
-    same(&rt, STORED.lines().count(), 42);
-    Ok(())
+    same(&rt, (examples().len(), STORED.lines().count()), (45, 42));
 }
 
 /// The states of an NFA, a match kind, a text with the byte after it, and the patterns that match
@@ -295,33 +290,31 @@ pub fn expect_patterns<R: Abort>(rt: &R, found: &[PatternID], wanted: &[usize]) 
 }
 
 /// Asserts that the patterns of a list match.
-fn expect_list<R: Abort + AllocGlobal>(rt: &R, list: &List) -> Result<(), Fail> {
-    let nfa = nfa(rt.alloc(), list.states, StateID::ZERO)?;
-    let dfa = Dfa::build(rt.alloc(), &nfa, list.kind, 100)?;
+fn expect_list<R: Abort + AllocGlobal>(rt: &R, list: &List) {
+    let nfa = nfa(rt, list.states, StateID::ZERO);
+    let dfa = dfa(rt, &nfa, list.kind, 100);
     let found = dfa.patterns_after(Anchored::Yes, None, list.text, list.look_ahead);
     expect_patterns(rt, found, list.patterns);
-    Ok(())
 }
 
 #[test]
-fn dense_patterns(rt: HostRuntime) -> Result<(), Fail> {
+fn dense_patterns(rt: HostRuntime) {
     for list in &LISTS {
-        expect_list(&rt, list)?;
+        expect_list(&rt, list);
     }
-    Ok(())
 }
 
 /// The rows have three entries: for word bytes, for other bytes and for EOI. A row takes 12 bytes
 /// for these and 24 for its list. One row lists a pattern: that after a word.
 #[test]
-fn dense_size_and_text(rt: HostRuntime) -> Result<(), Fail> {
-    let nfa = nfa(rt.alloc(), WORD, StateID::ZERO)?;
-    let dfa = Dfa::build(rt.alloc(), &nfa, MatchKind::All, 5)?;
+fn dense_size_and_text(rt: HostRuntime) {
+    let nfa = nfa(&rt, WORD, StateID::ZERO);
+    let dfa = dfa(&rt, &nfa, MatchKind::All, 5);
     same(&rt, dfa.memory_usage(), 5 * 36 + 4);
-    same(&rt, dfa.minimize(rt.alloc())?.memory_usage(), 4 * 36 + 4);
     let wanted = "Dfa { match_kind: All, len: 5, alphabet_len: 3, .. }";
-    expect_debug(&rt, &dfa, wanted)?;
-    Ok(())
+    expect_debug(&rt, &dfa, wanted);
+    let least = dfa.minimize(rt.alloc()).expect(&rt, "memory");
+    same(&rt, least.memory_usage(), 4 * 36 + 4);
 }
 
 /// Minimizes a DFA of five states, which leaves four.
@@ -329,7 +322,7 @@ fn minimize<R: Abort, A: Allocator + Copy>(
     rt: &R,
     alloc: A,
     dfa: &Dfa<'_, Global, A>,
-) -> Result<(), TextError> {
+) -> Result<(), AllocError> {
     let smallest = dfa.minimize(alloc)?;
     same(rt, (dfa.len(), smallest.len()), (5, 4));
     Ok(())
@@ -339,13 +332,13 @@ fn minimize<R: Abort, A: Allocator + Copy>(
 pub fn build_and_minimize<R: Abort + AllocGlobal, A: Allocator + Copy>(
     rt: &R,
     alloc: A,
-) -> Result<(), TextError> {
-    let nfa = nfa(rt.alloc(), WORD, StateID::ZERO)?;
+) -> Result<(), AllocError> {
+    let nfa = nfa(rt, WORD, StateID::ZERO);
     match Dfa::build(alloc, &nfa, MatchKind::All, 5) {
         Ok(dfa) => minimize(rt, alloc, &dfa),
         Err(error) => {
             same(rt, error, DfaError::OutOfMemory);
-            Err(TextError::OutOfMemory)
+            Err(AllocError)
         }
     }
 }
@@ -364,15 +357,23 @@ fn expect_searches<R: Abort, A: Allocator + Copy>(rt: &R, dfa: &Dfa<'_, Global, 
     expect_patterns(rt, patterns, &[0]);
 }
 
+/// Builds a DFA before each allocation would fail, and searches by it.
+fn search_without<R: Abort + AllocGlobal, A: Allocator + Copy>(
+    rt: &R,
+    heap: &FailingAllocator<Global>,
+    alloc: A,
+) {
+    let nfa = nfa(rt, WORD, StateID::ZERO);
+    let dfa = Dfa::build(alloc, &nfa, MatchKind::All, 5).expect(rt, "five states");
+    heap.begin();
+    expect_searches(rt, &dfa);
+    heap.end();
+}
+
 /// Searches of a whole DFA make no request for memory.
 #[test]
-fn searches_that_do_not_allocate(rt: HostRuntime) -> Result<(), Fail> {
+fn searches_that_do_not_allocate(rt: HostRuntime) {
     let heap = FailingAllocator::after(rt.alloc(), 0);
-    let nfa = nfa(rt.alloc(), WORD, StateID::ZERO)?;
-    let dfa = Dfa::build(&heap, &nfa, MatchKind::All, 5)?;
-    heap.begin();
-    expect_searches(&rt, &dfa);
-    heap.end();
+    search_without(&rt, &heap, &heap);
     same(&rt, heap.asked(), 0);
-    Ok(())
 }

@@ -9,7 +9,6 @@ use determinize_below::{Anchored, HalfMatch, MatchKind, StateID};
 use determinize_dense::Dfa;
 use determinize_uses::dfa::{patterns_at, smallest};
 use std::process::Abort;
-use std::test::Fail;
 
 /// The texts that each DFA searches.
 static TEXTS: [&str; 6] = ["foo12", "xfoo9y", "bar", "ba", "", "barfoo1"];
@@ -58,14 +57,14 @@ fn expect_counts<R: Abort>(rt: &R, dfa: &Dfa<'_>)
 }
 
 #[test]
-fn smallest_dfas(rt: HostRuntime) -> Result<(), Fail> {
-    let nfa = nfa(rt.alloc(), FOO_OR_BAR, StateID::must(2))?;
-    let first = smallest(rt.alloc(), &nfa, MatchKind::LeftmostFirst, 100)?;
+fn smallest_dfas(rt: HostRuntime) {
+    let nfa = nfa(&rt, FOO_OR_BAR, StateID::must(2));
+    let first = smallest(rt.alloc(), &nfa, MatchKind::LeftmostFirst, 100);
+    let first = first.expect(&rt, "few states");
     expect_ends(&rt, &first, true, ANCHORED);
     expect_ends(&rt, &first, false, FIRST);
-    let all = smallest(rt.alloc(), &nfa, MatchKind::All, 100)?;
+    let all = smallest(rt.alloc(), &nfa, MatchKind::All, 100).expect(&rt, "few states");
     expect_ends(&rt, &all, true, ANCHORED);
     expect_ends(&rt, &all, false, ALL);
     expect_counts(&rt, &all);
-    Ok(())
 }

@@ -1,22 +1,20 @@
 //! The leftmost match and all matches, with both ends: by `plain`, by a `Regex` over two caches or
 //! over two whole DFAs, and of a text in pieces.
 
-ghost use Rattle.std.specs.Prelude.{◌≡◌, IfOk, false};
+ghost use Rattle.std.specs.Prelude.{◌≡◌, false};
 ghost use Rattle.determinize_below.specs.declared.search.MatchKind.TheVariants as kinds;
 ghost use Rattle.determinize_find.specs.Prefix.{HasPrefix};
 ghost use Rattle.determinize_find.specs.Reversal.{IsReverseOf};
 
 use crate::tests::trial::{Trial, fail_each_in_turn, succeed_if};
 use crate::tests::{dense, ended, same};
-use determinize_below::{Input, MatchKind, NFA, StateID};
+use determinize_below::{BuildError, Input, MatchKind, NFA, StateID};
 use determinize_dense::Dfa;
 use determinize_find::{LazyRegex, Match, Pieces, Regex, Searcher, has_prefix, plain, reversed};
 use determinize_lazy::Lazy;
 use determinize_uses::steady;
-use example_walks::error::{Part, TextError};
 use std::alloc::{AllocError, Allocator, Global};
 use std::process::Abort;
-use std::test::Fail;
 
 /// Pattern, start and end of a match.
 pub type Ends = (usize, usize, usize);
@@ -83,16 +81,20 @@ static ROWS: [Row; 9] = [
 ];
 
 /// Returns an NFA that reads forward, with the usual prefix in its first two states.
-pub fn nfa(alloc: Global, states: &str) -> Result<NFA, TextError>
-    ensures forward { IfOk result (λ nfa. nfa.reverse ≡ false) }
-    ensures prefix { IfOk result (λ nfa. HasPrefix nfa) }
+pub fn nfa<R: Abort + AllocGlobal>(rt: &R, states: &str) -> NFA
+    ensures forward { result.reverse ≡ false }
+    ensures prefix { HasPrefix result }
 {
-    let nfa = dense::nfa(alloc, states, StateID::must(2))?;
-    if has_prefix(&nfa) {
-        Ok(nfa)
-    } else {
-        Err(TextError::Malformed(Part::State))
-    }
+    let nfa = dense::nfa(rt, states, StateID::must(2));
+    assert!(rt; has_prefix(&nfa));
+    nfa
+}
+
+/// Returns the reverse of an NFA.
+pub fn backward_of<R: Abort + AllocGlobal>(rt: &R, nfa: &NFA) -> NFA
+    ensures { IsReverseOf result nfa.now }
+{
+    reversed(rt.alloc(), nfa).expect(rt, "a reverse")
 }
 
 /// Returns the pattern and the ends of a match.
@@ -226,6 +228,26 @@ fn feed_piece<B: Allocator, A: Allocator + Copy>(
     Ok(false)
 }
 
+/// Feeds pieces and ends the text, and makes each call that fails again. Returns whether none
+/// failed.
+fn feed_each<B: Allocator, A: Allocator + Copy>(
+    stream: &mut Pieces<A>,
+    regex: &mut LazyRegex<'_, Global, B, A>,
+    pieces: &[&[u8]],
+    found: &mut Vec<Match, A>,
+) -> Result<bool, AllocError> {
+    let mut is_sound = true;
+    for piece in pieces {
+        let is_fed = feed_piece(stream, regex, piece, found)?;
+        is_sound = is_sound && is_fed;
+    }
+    let is_ended = stream.finish(regex, found).is_ok();
+    if !is_ended {
+        stream.finish(regex, found)?;
+    }
+    Ok(is_sound && is_ended)
+}
+
 /// Feeds a text in pieces, and makes each call that fails again, for the bytes that it did not
 /// read: no match is lost, and none is found twice.
 fn feed<R: Abort, B: Allocator, A: Allocator + Copy>(
@@ -235,19 +257,14 @@ fn feed<R: Abort, B: Allocator, A: Allocator + Copy>(
     pieces: &[&[u8]],
     wanted: &[Ends],
 ) -> Result<(), AllocError> {
-    let mut stream = Pieces::new(alloc);
-    let mut found = Vec::new(alloc);
-    let mut is_sound = true;
-    for piece in pieces {
-        let is_fed = feed_piece(&mut stream, regex, piece, &mut found)?;
-        is_sound = is_sound && is_fed;
+    let (mut stream, mut found) = (Pieces::new(alloc), Vec::new(alloc));
+    match feed_each(&mut stream, regex, pieces, &mut found) {
+        Ok(is_sound) => {
+            expect_matches(rt, found.as_slice(), wanted);
+            succeed_if(is_sound)
+        }
+        Err(error) => Err(error),
     }
-    let is_ended = stream.finish(regex, &mut found).is_ok();
-    if !is_ended {
-        stream.finish(regex, &mut found)?;
-    }
-    expect_matches(rt, found.as_slice(), wanted);
-    succeed_if(is_sound && is_ended)
 }
 
 /// Searches by a `Regex`.
@@ -257,7 +274,7 @@ fn find_by_regex<R: Abort, A: Allocator + Copy>(
     regex: &mut LazyRegex<'_, Global, A, A>,
     row: &Row,
     search: &Search,
-) -> Result<(), AllocError> {
+) -> Result<(), BuildError> {
     let (input, wanted) = (Input::new(row.haystack), row.matches.first().copied());
     match *search {
         Search::Find => same(rt, ends_of(regex.find(&input)?), wanted),
@@ -282,11 +299,10 @@ pub fn search_plain<R: Abort + AllocGlobal, A: Allocator + Copy>(
     row: &Row,
     limit: usize,
     search: &PlainSearch,
-) -> Result<(), TextError> {
-    let nfa = nfa(rt.alloc(), row.states)?;
+) -> Result<(), AllocError> {
+    let nfa = nfa(rt, row.states);
     let mut lazy = Lazy::new(alloc, &nfa, MatchKind::LeftmostFirst, limit);
-    find_plain(rt, alloc, &mut lazy, row, search)?;
-    Ok(())
+    find_plain(rt, alloc, &mut lazy, row, search)
 }
 
 /// Finds the matches of a row by an NFA and its reverse, through new caches of this limit.
@@ -296,32 +312,21 @@ pub fn search_regex<R: Abort + AllocGlobal, A: Allocator + Copy>(
     row: &Row,
     limit: usize,
     search: &Search,
-) -> Result<(), TextError> {
-    let nfa = nfa(rt.alloc(), row.states)?;
+) -> Result<(), BuildError> {
+    let nfa = nfa(rt, row.states);
     let backward = reversed(alloc, &nfa)?;
     let mut regex = Regex::new(alloc, &nfa, &backward, limit);
-    find_by_regex(rt, alloc, &mut regex, row, search)?;
-    Ok(())
+    find_by_regex(rt, alloc, &mut regex, row, search)
 }
 
 /// Finds the matches of a row in each way, through caches of this limit.
-fn fail_each<R: Abort + AllocGlobal>(rt: &R, row: &Row, limit: usize) -> Result<(), Fail> {
+fn fail_each<R: Abort + AllocGlobal>(rt: &R, row: &Row, limit: usize) {
     for search in &PLAIN_SEARCHES {
-        fail_each_in_turn(rt, &Trial::SearchPlain(row, limit, search))?;
+        fail_each_in_turn(rt, &Trial::SearchPlain(row, limit, search));
     }
     for search in &SEARCHES {
-        fail_each_in_turn(rt, &Trial::Search(row, limit, search))?;
+        fail_each_in_turn(rt, &Trial::Search(row, limit, search));
     }
-    Ok(())
-}
-
-#[test]
-fn all_matches(rt: HostRuntime) -> Result<(), Fail> {
-    for row in &ROWS {
-        fail_each(&rt, row, 0)?;
-        fail_each(&rt, row, 64)?;
-    }
-    Ok(())
 }
 
 /// Finds the matches of a row in turn by whole DFAs, and none after the last.
@@ -338,102 +343,86 @@ fn expect_in_turn<R: Abort>(rt: &R, scanner: &mut Regex<&Dfa<'_>, &Dfa<'_>>, row
 }
 
 /// Finds all matches of a haystack by whole DFAs of an NFA and of its reverse.
-fn expect_by_whole<R: Abort + AllocGlobal>(
-    rt: &R,
-    nfa: &NFA,
-    backward: &NFA,
-    row: &Row,
-) -> Result<(), Fail>
+fn expect_by_whole<R: Abort + AllocGlobal>(rt: &R, nfa: &NFA, backward: &NFA, row: &Row)
     requires forward { nfa.now.reverse ≡ false }
     requires prefix { HasPrefix nfa.now }
     requires reverse { IsReverseOf backward.now nfa.now }
 {
-    let ends = Dfa::build(rt.alloc(), nfa, MatchKind::LeftmostFirst, 100)?;
-    let starts = Dfa::build(rt.alloc(), backward, MatchKind::All, 100)?;
-    let found = steady::matches(rt.alloc(), &ends, &starts, row.haystack)?;
-    expect_matches(rt, found.as_slice(), row.matches);
+    let ends = dense::dfa(rt, nfa, MatchKind::LeftmostFirst, 100);
+    let starts = dense::dfa(rt, backward, MatchKind::All, 100);
+    let found = steady::matches(rt.alloc(), &ends, &starts, row.haystack);
+    expect_matches(rt, found.expect(rt, "memory").as_slice(), row.matches);
     expect_in_turn(rt, &mut Regex::from_engines(&ends, &starts), row);
-    Ok(())
 }
 
 /// Feeds a haystack in all ways in up to three pieces, and in pieces of 1, 2 and 3 bytes.
-fn expect_all_cuts<R: Abort + AllocGlobal>(
-    rt: &R,
-    regex: &mut LazyRegex<'_>,
-    row: &Row,
-) -> Result<(), AllocError> {
+fn expect_all_cuts<R: Abort + AllocGlobal>(rt: &R, regex: &mut LazyRegex<'_>, row: &Row) {
     for second in 0..row.haystack.len() + 1 {
         let (head, last) = row.haystack.split_at(second);
         for first in 0..head.len() + 1 {
             let (one, two) = head.split_at(first);
-            feed(rt, rt.alloc(), regex, &[one, two, last], row.matches)?;
+            let fed = feed(rt, rt.alloc(), regex, &[one, two, last], row.matches);
+            fed.expect(rt, "memory");
         }
     }
     for size in 1..4 {
-        let pieces: Vec<&[u8]> = row.haystack.chunks(size).collect(rt.alloc())?;
-        feed(rt, rt.alloc(), regex, pieces.as_slice(), row.matches)?;
+        let pieces = row.haystack.chunks(size).collect::<Vec<_>>(rt.alloc());
+        let pieces = pieces.expect(rt, "memory");
+        let fed = feed(rt, rt.alloc(), regex, pieces.as_slice(), row.matches);
+        fed.expect(rt, "memory");
     }
-    Ok(())
 }
 
 /// Finds the matches of a row by whole DFAs, and in pieces.
-fn expect_row<R: Abort + AllocGlobal>(rt: &R, row: &Row) -> Result<(), Fail> {
-    let nfa = nfa(rt.alloc(), row.states)?;
-    let backward = reversed(rt.alloc(), &nfa)?;
-    expect_by_whole(rt, &nfa, &backward, row)?;
-    let mut regex = Regex::new(rt.alloc(), &nfa, &backward, 100);
-    expect_all_cuts(rt, &mut regex, row)?;
-    Ok(())
+fn expect_row<R: Abort + AllocGlobal>(rt: &R, row: &Row) {
+    let nfa = nfa(rt, row.states);
+    let backward = backward_of(rt, &nfa);
+    expect_by_whole(rt, &nfa, &backward, row);
+    expect_all_cuts(rt, &mut Regex::new(rt.alloc(), &nfa, &backward, 100), row);
 }
 
-/// Whole DFAs find the same matches as lazy ones, and so do scans of a text in pieces, however it
-/// is cut.
+/// Whole DFAs find the same matches as lazy ones, through caches of each limit and while
+/// allocations fail, and so do scans of a text in pieces, however it is cut.
 #[test]
-fn whole_dfas_and_pieces(rt: HostRuntime) -> Result<(), Fail> {
+fn all_matches(rt: HostRuntime) {
     for row in &ROWS {
-        expect_row(&rt, row)?;
+        fail_each(&rt, row, 0);
+        fail_each(&rt, row, 64);
+        expect_row(&rt, row);
     }
-    Ok(())
 }
 
 /// Finds the leftmost word of a range of `abcd e`, by `plain`.
-fn expect_words<R: Abort>(rt: &R, lazy: &mut Lazy<'_>) -> Result<(), AllocError>
+fn expect_words<R: Abort>(rt: &R, lazy: &mut Lazy<'_>)
     requires forward { lazy.old.nfa.reverse ≡ false }
     requires kind { lazy.old.kind ≡ kinds.LeftmostFirst }
 {
     let text = b"abcd e";
-    let found = plain::find(lazy, &Input::new(text).range(0..4))?;
-    same(rt, ends_of(found), Some((0, 0, 4)));
-    let found = plain::find(lazy, &Input::new(text).range(1..4))?;
-    same(rt, ends_of(found), None);
-    let found = plain::find(lazy, &Input::new(text).range(1..6))?;
-    same(rt, ends_of(found), Some((0, 5, 6)));
-    Ok(())
+    let found = plain::find(lazy, &Input::new(text).range(0..4));
+    expect_matches(rt, found.expect(rt, "memory").as_slice(), &[(0, 0, 4)]);
+    let found = plain::find(lazy, &Input::new(text).range(1..4));
+    same(rt, found, Ok(None));
+    let found = plain::find(lazy, &Input::new(text).range(1..6));
+    expect_matches(rt, found.expect(rt, "memory").as_slice(), &[(0, 5, 6)]);
 }
 
 /// Finds where a word begins, by a search backward of a range up to its end.
-fn expect_begins<R: Abort>(rt: &R, lazy: &mut Lazy<'_>) -> Result<(), AllocError> {
+fn expect_begins<R: Abort>(rt: &R, lazy: &mut Lazy<'_>) {
     let text = b"abcd e";
-    same(
-        rt,
-        lazy.search_input(&Input::new(text).range(0..4))?,
-        ended(0),
-    );
-    same(
-        rt,
-        lazy.search_input(&Input::new(text).range(1..6))?,
-        ended(5),
-    );
-    Ok(())
+    let found = lazy.search_input(&Input::new(text).range(0..4));
+    same(rt, found, Ok(ended(0)));
+    let found = lazy.search_input(&Input::new(text).range(1..6));
+    same(rt, found, Ok(ended(5)));
 }
 
 #[test]
-fn words_of_ranges(rt: HostRuntime) -> Result<(), Fail> {
-    let nfa = nfa(rt.alloc(), WORDS)?;
-    let backward = reversed(rt.alloc(), &nfa)?;
+fn words_of_ranges(rt: HostRuntime) {
+    let nfa = nfa(&rt, WORDS);
     let mut forward = Lazy::new(rt.alloc(), &nfa, MatchKind::LeftmostFirst, 100);
-    expect_words(&rt, &mut forward)?;
-    let mut backward = Lazy::new(rt.alloc(), &backward, MatchKind::All, 100);
-    expect_begins(&rt, &mut backward)?;
-    Ok(())
+    expect_words(&rt, &mut forward);
+    let backward = backward_of(&rt, &nfa);
+    expect_begins(
+        &rt,
+        &mut Lazy::new(rt.alloc(), &backward, MatchKind::All, 100),
+    );
 }

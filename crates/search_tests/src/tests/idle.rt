@@ -5,12 +5,10 @@ ghost use Rattle.std.specs.Prelude.{◌≤◌};
 use crate::tests::dense::nfa;
 use crate::tests::find::WORDS;
 use crate::tests::same;
-use determinize_below::{MatchKind, NFA, StateID};
+use determinize_below::{MatchKind, StateID};
 use determinize_find::{has_prefix, has_prefix_apart, is_idle};
 use determinize_lazy::Lazy;
-use std::alloc::AllocError;
 use std::process::Abort;
-use std::test::Fail;
 
 /// `ab` and `a*`, with the usual prefix.
 const AB: &str = "BU:2,1 B:00-ff>0 B:61>3 B:62>4 M:0";
@@ -31,20 +29,6 @@ static PLACES: [(&str, &[u8], bool); 9] = [
     (MANY, b"b", false),
 ];
 
-/// Compares whether a scan of the bytes is idle after them.
-fn expect_idle<R: Abort>(
-    rt: &R,
-    nfa: &NFA,
-    lazy: &mut Lazy<'_>,
-    bytes: &[u8],
-    wanted: bool,
-) -> Result<(), AllocError> {
-    let start = lazy.nfa().start_unanchored();
-    let scan = lazy.scan_text(start, None, bytes)?;
-    same(rt, is_idle(nfa, &scan), wanted);
-    Ok(())
-}
-
 /// Compares whether the prefix of an NFA is apart, and whether a scan of the bytes is idle after
 /// them.
 fn expect<R: Abort + AllocGlobal>(
@@ -54,22 +38,22 @@ fn expect<R: Abort + AllocGlobal>(
     bytes: &[u8],
     is_apart: bool,
     wanted: bool,
-) -> Result<(), Fail> {
-    let nfa = nfa(rt.alloc(), states, anchored)?;
+) {
+    let nfa = nfa(rt, states, anchored);
     same(rt, has_prefix(&nfa), true);
     same(rt, has_prefix_apart(&nfa), is_apart);
     let mut lazy = Lazy::new(rt.alloc(), &nfa, MatchKind::LeftmostFirst, 100);
-    expect_idle(rt, &nfa, &mut lazy, bytes, wanted)?;
-    Ok(())
+    let scan = lazy.scan_text(nfa.start_unanchored(), None, bytes);
+    same(rt, is_idle(&nfa, &scan.expect(rt, "memory")), wanted);
 }
 
 /// Where another state has a transition to the one that reads any byte, a scan may be idle after a
 /// match has begun: in the last NFA `yz` matches from the first byte on.
 #[test]
-fn idle_places(rt: HostRuntime) -> Result<(), Fail> {
+fn idle_places(rt: HostRuntime) {
     for &(states, bytes, wanted) in &PLACES {
-        expect(&rt, states, StateID::must(2), bytes, true, wanted)?;
+        expect(&rt, states, StateID::must(2), bytes, true, wanted);
     }
     let states = "BU:1,3 U:4,3 M:0 B:00-ff>0 B:7a>2";
-    expect(&rt, states, StateID::must(1), b"y", false, true)
+    expect(&rt, states, StateID::must(1), b"y", false, true);
 }

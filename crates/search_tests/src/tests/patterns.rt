@@ -5,44 +5,42 @@ use crate::tests::find::expect_matches;
 use crate::tests::{expect_text, same};
 use determinize_regex::{Error, ErrorKind, Input, Matcher, ParseError, Regex, RegexConfig, Stream};
 use determinize_uses::words::Words;
-use std::alloc::AllocError;
 use std::process::Abort;
-use std::test::Fail;
 
 /// Compares whether a `Regex` of `a|ab` has a match in two texts, and the first match.
-fn expect_first<R: Abort>(rt: &R, regex: &mut Regex) -> Result<(), AllocError> {
-    same(rt, regex.is_match(&Input::new(b"xab"))?, true);
-    same(rt, regex.is_match(&Input::new(b"xb"))?, false);
-    let found = regex.find(&Input::new(b"xab"))?;
+fn expect_first<R: Abort>(rt: &R, regex: &mut Regex) {
+    same(rt, regex.is_match(&Input::new(b"xab")), Ok(true));
+    same(rt, regex.is_match(&Input::new(b"xb")), Ok(false));
+    let found = regex.find(&Input::new(b"xab")).expect(rt, "memory");
     expect_matches(rt, found.as_slice(), &[(0, 1, 2)]);
-    Ok(())
 }
 
 /// Compares all matches of `a|ab` in a text by a `Matcher`.
-fn expect_all<R: Abort + AllocGlobal>(rt: &R, matcher: &mut Matcher<'_>) -> Result<(), AllocError> {
-    same(rt, matcher.is_match(&Input::new(b"xab"))?, true);
-    let found = matcher.find_all(rt.alloc(), &Input::new(b"aab"))?;
+fn expect_all<R: Abort + AllocGlobal>(rt: &R, matcher: &mut Matcher<'_>) {
+    same(rt, matcher.is_match(&Input::new(b"xab")), Ok(true));
+    let found = matcher
+        .find_all(rt.alloc(), &Input::new(b"aab"))
+        .expect(rt, "memory");
     expect_matches(rt, &found, &[(0, 0, 1), (0, 1, 2)]);
-    Ok(())
 }
 
 #[test]
-fn numbers_and_names(rt: HostRuntime) -> Result<(), Fail> {
-    let mut words = Words::new(rt.alloc())?;
-    let found = words.find_all(rt.alloc(), b"In 1984 Ada")?;
+fn numbers_and_names(rt: HostRuntime) {
+    let mut words = Words::new(rt.alloc()).expect(&rt, "two patterns");
+    let found = words
+        .find_all(rt.alloc(), b"In 1984 Ada")
+        .expect(&rt, "memory");
     expect_matches(&rt, &found, &[(1, 0, 2), (0, 3, 7), (1, 8, 11)]);
-    Ok(())
 }
 
 #[test]
-fn regex_and_matcher(rt: HostRuntime) -> Result<(), Fail> {
-    let mut regex = Regex::new(rt.alloc(), "a|ab")?;
-    expect_first(&rt, &mut regex)?;
+fn regex_and_matcher(rt: HostRuntime) {
+    let mut regex = Regex::new(rt.alloc(), "a|ab").expect(&rt, "a pattern");
+    expect_first(&rt, &mut regex);
     regex.clear();
-    expect_first(&rt, &mut regex)?;
+    expect_first(&rt, &mut regex);
     regex.clear();
-    expect_all(&rt, &mut regex.matcher(rt.alloc(), 2))?;
-    Ok(())
+    expect_all(&rt, &mut regex.matcher(rt.alloc(), 2));
 }
 
 /// A text, its parts between runs of commas and blanks, and the text with `$1` in place of each
@@ -105,10 +103,9 @@ fn place_of(made: Result<Regex, Error>) -> Option<(usize, usize, usize)> {
 }
 
 #[test]
-fn second_pattern_is_in_error(rt: HostRuntime) -> Result<(), Fail> {
+fn second_pattern_is_in_error(rt: HostRuntime) {
     let result = Regex::new_many(rt.alloc(), &["a", "b("], RegexConfig::new());
     same(&rt, place_of(result), Some((1, 1, 2)));
-    Ok(())
 }
 
 /// Errors with their texts, and what is written of both.
@@ -151,16 +148,15 @@ static MARKED: [(&str, ErrorKind, usize, usize, &str); 5] = [
 ];
 
 #[test]
-fn errors_are_written(rt: HostRuntime) -> Result<(), Fail> {
+fn errors_are_written(rt: HostRuntime) {
     for (text, kind, start, end, written) in MARKED {
         expect_text(
             &rt,
             &ParseError::new(kind, start, end).display(text),
             written,
-        )?;
+        );
     }
     let error = ParseError::new(ErrorKind::GroupUnclosed, 1, 2);
     let second = Error::Parse { index: 1, error };
-    expect_text(&rt, &second, "pattern 1: the group is not closed, at 1..2")?;
-    Ok(())
+    expect_text(&rt, &second, "pattern 1: the group is not closed, at 1..2");
 }

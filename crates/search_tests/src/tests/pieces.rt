@@ -1,15 +1,11 @@
 //! A text in pieces: each match is found with its last byte, and few bytes are kept.
 
-ghost use Rattle.std.specs.Prelude.{◌≡◌};
-
-use crate::tests::find::{WORDS, nfa};
+use crate::tests::find::{WORDS, backward_of, nfa};
 use crate::tests::{ended, holds, same};
 use determinize_below::MatchKind;
-use determinize_find::{LazyRegex, Pieces, Regex, reversed};
+use determinize_find::{LazyRegex, Pieces, Regex};
 use determinize_lazy::Lazy;
-use std::alloc::AllocError;
 use std::process::Abort;
-use std::test::Fail;
 
 /// `[^\n]*\n`, a line.
 const LINE: &str = "BU:2,1 B:00-ff>0 BU:3,4 S:00-09>2,0b-ff>2 B:0a>5 M:0";
@@ -30,30 +26,29 @@ fn count_matches<R: Abort + AllocGlobal>(
     regex: &mut LazyRegex<'_>,
     block: &[u8],
     times: usize,
-) -> Result<usize, AllocError> {
+) -> usize {
     let mut stream = Pieces::new(rt.alloc());
     let mut found = Vec::new(rt.alloc());
     let mut count = 0usize;
     for _ in 0..times {
-        stream.feed(regex, block, &mut found)?;
+        stream.feed(regex, block, &mut found).expect(rt, "memory");
         holds(rt, stream.bytes_kept() <= 64);
         count = count.saturating_add(found.len());
         found.clear();
     }
-    stream.finish(regex, &mut found)?;
-    Ok(count.saturating_add(found.len()))
+    stream.finish(regex, &mut found).expect(rt, "memory");
+    count.saturating_add(found.len())
 }
 
 /// The first and the last word are halves of `seven`.
 #[test]
-fn hundred_megabytes(rt: HostRuntime) -> Result<(), Fail> {
-    let nfa = nfa(rt.alloc(), WORDS)?;
-    let backward = reversed(rt.alloc(), &nfa)?;
+fn hundred_megabytes(rt: HostRuntime) {
+    let nfa = nfa(&rt, WORDS);
+    let backward = backward_of(&rt, &nfa);
     let mut regex = Regex::new(rt.alloc(), &nfa, &backward, 100);
-    let block = TEN_WORDS.repeat(rt.alloc(), 1024)?;
-    let count = count_matches(&rt, &mut regex, block.as_slice(), 1600)?;
+    let block = TEN_WORDS.repeat(rt.alloc(), 1024).expect(&rt, "memory");
+    let count = count_matches(&rt, &mut regex, block.as_slice(), 1600);
     same(&rt, count, 1600 * 1024 * 10 + 1);
-    Ok(())
 }
 
 /// Returns the number of lines that end in a piece.
@@ -68,85 +63,58 @@ fn ended_lines(piece: &[u8]) -> usize {
 }
 
 /// Feeds a text in pieces. After each piece there must be a match for each line that has ended.
-fn expect_lines<R: Abort + AllocGlobal>(
-    rt: &R,
-    regex: &mut LazyRegex<'_>,
-    pieces: &[&[u8]],
-) -> Result<(), AllocError> {
+fn expect_lines<R: Abort + AllocGlobal>(rt: &R, regex: &mut LazyRegex<'_>, pieces: &[&[u8]]) {
     let mut stream = Pieces::new(rt.alloc());
     let mut found = Vec::new(rt.alloc());
     let mut count = 0usize;
     for piece in pieces {
-        stream.feed(regex, piece, &mut found)?;
+        stream.feed(regex, piece, &mut found).expect(rt, "memory");
         count = count.saturating_add(ended_lines(piece));
         same(rt, found.len(), count);
     }
-    stream.finish(regex, &mut found)?;
+    stream.finish(regex, &mut found).expect(rt, "memory");
     same(rt, found.len(), count);
-    Ok(())
 }
 
-/// Feeds the lines one by one, and in pieces of one byte to all bytes.
-fn expect_each<R: Abort + AllocGlobal>(
-    rt: &R,
-    regex: &mut LazyRegex<'_>,
-) -> Result<(), AllocError> {
-    expect_lines(rt, regex, &EACH_LINE)?;
-    for size in 1..=LINES.len() {
-        let pieces: Vec<&[u8]> = LINES.chunks(size).collect(rt.alloc())?;
-        expect_lines(rt, regex, pieces.as_slice())?;
-    }
-    Ok(())
-}
-
+/// The lines one by one, and in pieces of one byte to all bytes.
 #[test]
-fn each_line_at_its_last_byte(rt: HostRuntime) -> Result<(), Fail> {
-    let nfa = nfa(rt.alloc(), LINE)?;
-    let backward = reversed(rt.alloc(), &nfa)?;
+fn each_line_at_its_last_byte(rt: HostRuntime) {
+    let nfa = nfa(&rt, LINE);
+    let backward = backward_of(&rt, &nfa);
     let mut regex = Regex::new(rt.alloc(), &nfa, &backward, 100);
-    expect_each(&rt, &mut regex)?;
-    Ok(())
+    expect_lines(&rt, &mut regex, &EACH_LINE);
+    for size in 1..=LINES.len() {
+        let pieces = LINES.chunks(size).collect::<Vec<_>>(rt.alloc());
+        expect_lines(&rt, &mut regex, pieces.expect(&rt, "memory").as_slice());
+    }
 }
 
 /// Scans `ab` by a cache, while another one must not feed or finish the scan.
-fn expect_scan<R: Abort>(
-    rt: &R,
-    lazy: &mut Lazy<'_>,
-    other: &mut Lazy<'_>,
-) -> Result<(), AllocError>
-    ensures { lazy.new.nfa ≡ lazy.old.nfa }
-{
+fn expect_scan<R: Abort>(rt: &R, lazy: &mut Lazy<'_>, other: &mut Lazy<'_>) {
     let start = lazy.nfa().start_unanchored();
-    let mut scan = lazy.scan_text(start, None, b"a")?;
+    let mut scan = lazy.scan_text(start, None, b"a").expect(rt, "memory");
     holds(rt, other.feed(&mut scan, b"b").is_err());
     holds(rt, other.finish(&scan, None).is_err());
-    lazy.feed(&mut scan, b"b")?;
-    same(rt, lazy.finish(&scan, None)?, ended(2));
-    Ok(())
+    lazy.feed(&mut scan, b"b").expect(rt, "memory");
+    same(rt, lazy.finish(&scan, None), Ok(ended(2)));
 }
 
 /// Walks over `ab` by a cache, while another one must not move the walker.
-fn expect_walker<R: Abort>(
-    rt: &R,
-    lazy: &mut Lazy<'_>,
-    other: &mut Lazy<'_>,
-) -> Result<(), AllocError> {
+fn expect_walker<R: Abort>(rt: &R, lazy: &mut Lazy<'_>, other: &mut Lazy<'_>) {
     let start = lazy.nfa().start_unanchored();
-    let mut walker = lazy.walker(start, None)?;
-    lazy.next(&mut walker, Some(b'a'))?;
+    let mut walker = lazy.walker(start, None).expect(rt, "memory");
+    lazy.next(&mut walker, Some(b'a')).expect(rt, "memory");
     holds(rt, other.next(&mut walker, Some(b'b')).is_err());
-    lazy.next(&mut walker, Some(b'b'))?;
-    Ok(())
+    lazy.next(&mut walker, Some(b'b')).expect(rt, "memory");
 }
 
 /// A cache of another NFA, which has no such states, returns an error, and changes nothing.
 #[test]
-fn scans_of_another_nfa(rt: HostRuntime) -> Result<(), Fail> {
-    let words = nfa(rt.alloc(), WORDS)?;
-    let any = nfa(rt.alloc(), "BU:2,1 B:00-ff>0 M:0")?;
+fn scans_of_another_nfa(rt: HostRuntime) {
+    let words = nfa(&rt, WORDS);
+    let any = nfa(&rt, "BU:2,1 B:00-ff>0 M:0");
     let mut lazy = Lazy::new(rt.alloc(), &words, MatchKind::LeftmostFirst, 100);
     let mut other = Lazy::new(rt.alloc(), &any, MatchKind::LeftmostFirst, 100);
-    expect_scan(&rt, &mut lazy, &mut other)?;
-    expect_walker(&rt, &mut lazy, &mut other)?;
-    Ok(())
+    expect_scan(&rt, &mut lazy, &mut other);
+    expect_walker(&rt, &mut lazy, &mut other);
 }

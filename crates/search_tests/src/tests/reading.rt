@@ -3,32 +3,29 @@
 ghost use Rattle.std.specs.Prelude.{◌≡◌};
 ghost use Rattle.determinize_below.specs.declared.search.MatchKind.TheVariants as kinds;
 
-use crate::tests::dense::{TOKENS, WORD, expect_patterns, nfa};
+use crate::tests::dense::{TOKENS, WORD, dfa, expect_patterns, nfa};
 use crate::tests::{expect_debug, expect_text, same};
 use determinize_below::{MatchKind, StateID};
 use determinize_dense::{Dfa, RowId};
 use determinize_uses::steps::{all_ends, patterns_of};
-use std::alloc::AllocError;
 use std::process::Abort;
-use std::test::Fail;
 
 /// The patterns and the ends of all matches in `ab 1`.
 static ENDS: [(usize, usize); 3] = [(0, 1), (0, 2), (1, 4)];
 
 /// Patterns of texts, and all matches of one.
-fn expect_words<R: Abort + AllocGlobal>(rt: &R, dfa: &Dfa<'_>) -> Result<(), AllocError>
+fn expect_words<R: Abort + AllocGlobal>(rt: &R, dfa: &Dfa<'_>)
     requires { dfa.now.kind ≡ kinds.All }
 {
     expect_patterns(rt, patterns_of(dfa, b"ab"), &[0]);
     expect_patterns(rt, patterns_of(dfa, b"12"), &[1]);
     expect_patterns(rt, patterns_of(dfa, b"a1"), &[]);
     expect_patterns(rt, patterns_of(dfa, b""), &[]);
-    let ends = all_ends(rt.alloc(), dfa, b"ab 1")?;
+    let ends = all_ends(rt.alloc(), dfa, b"ab 1").expect(rt, "memory");
     same(rt, ends.len(), ENDS.len());
     for (found, wanted) in ends.iter().zip(&ENDS) {
         same(rt, (found.pattern.as_usize(), found.offset), *wanted);
     }
-    Ok(())
 }
 
 /// Of the four rows of the smallest DFA one lists a pattern: that after a word. It comes first
@@ -54,22 +51,21 @@ fn expect_nothing<R: Abort>(rt: &R, dfa: &Dfa<'_>, row: RowId) {
 }
 
 /// Compares the rows of a DFA of five, which does not have this row, and of the smallest one.
-fn expect_small<R: Abort + AllocGlobal>(rt: &R, row: RowId) -> Result<(), Fail> {
-    let nfa = nfa(rt.alloc(), WORD, StateID::ZERO)?;
-    let dfa = Dfa::build(rt.alloc(), &nfa, MatchKind::All, 5)?;
+fn expect_small<R: Abort + AllocGlobal>(rt: &R, row: RowId) {
+    let nfa = nfa(rt, WORD, StateID::ZERO);
+    let dfa = dfa(rt, &nfa, MatchKind::All, 5);
     expect_nothing(rt, &dfa, row);
-    expect_rows(rt, &dfa.minimize(rt.alloc())?);
-    Ok(())
+    expect_rows(rt, &dfa.minimize(rt.alloc()).expect(rt, "memory"));
 }
 
 #[test]
-fn rows(rt: HostRuntime) -> Result<(), Fail> {
-    let words = nfa(rt.alloc(), TOKENS, StateID::must(2))?;
-    let large = Dfa::build(rt.alloc(), &words, MatchKind::All, 100)?;
-    expect_words(&rt, &large)?;
+fn rows(rt: HostRuntime) {
+    let words = nfa(&rt, TOKENS, StateID::must(2));
+    let large = dfa(&rt, &words, MatchKind::All, 100);
+    expect_words(&rt, &large);
     let row = large.rows().last().unwrap_or(RowId::DEAD);
     same(&rt, row.as_usize(), 16);
-    expect_text(&rt, &row, "16")?;
-    expect_debug(&rt, &row, "RowId(16)")?;
-    expect_small(&rt, row)
+    expect_text(&rt, &row, "16");
+    expect_debug(&rt, &row, "RowId(16)");
+    expect_small(&rt, row);
 }

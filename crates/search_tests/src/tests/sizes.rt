@@ -3,16 +3,17 @@
 ghost use Rattle.std.specs.Prelude.{◌≡◌, false};
 ghost use Rattle.determinize_below.specs.declared.search.MatchKind.TheVariants as kinds;
 
-use crate::tests::find::{WORDS, nfa};
+use crate::tests::find::{WORDS, backward_of, nfa};
 use crate::tests::uses::over;
 use crate::tests::{dense, ended, holds, same};
-use determinize_below::{Anchored, BuildError, Input, Look, MatchKind, NFA, StateID};
+use determinize_below::{
+    Anchored, BuildError, HalfMatch, Input, Look, MatchKind, NFA, PatternID, StateID,
+};
 use determinize_dense::Dfa;
-use determinize_find::{Builder, LazyRegex, Match, Pieces, Regex, plain, reversed};
+use determinize_find::{Builder, LazyRegex, Match, Pieces, Regex, plain};
 use determinize_lazy::Lazy;
-use std::alloc::{AllocError, Global};
+use std::alloc::Global;
 use std::process::Abort;
-use std::test::Fail;
 
 /// Adds the states of `\<a`, patching the target of the assertion, and returns the first one.
 fn add_word(builder: &mut Builder<Global>) -> Result<StateID, BuildError> {
@@ -50,50 +51,41 @@ fn add_three(builder: &mut Builder<Global>) -> Result<StateID, BuildError> {
 static RUN: [u8; 40] = [b'e'; 40];
 
 /// Searches a text from its start, and compares the pattern and the end of the match.
-fn expect_match<R: Abort>(
-    rt: &R,
-    lazy: &mut Lazy<'_>,
-    text: &[u8],
-    wanted: Option<(usize, usize)>,
-) -> Result<(), AllocError> {
-    let found = lazy.search_input(&Input::new(text).anchored(Anchored::Yes))?;
-    match found {
-        Some(m) => same(rt, Some((m.pattern.as_usize(), m.offset)), wanted),
-        None => same(rt, None, wanted),
-    }
-    Ok(())
+fn expect_match<R: Abort>(rt: &R, lazy: &mut Lazy<'_>, text: &[u8], wanted: Option<HalfMatch>) {
+    let found = lazy.search_input(&Input::new(text).anchored(Anchored::Yes));
+    same(rt, found, Ok(wanted));
 }
 
 /// Compares the pattern that matches at the start of each of four texts.
-fn expect_three<R: Abort + AllocGlobal>(rt: &R, nfa: &NFA) -> Result<(), AllocError> {
+fn expect_three<R: Abort + AllocGlobal>(rt: &R, nfa: &NFA) {
     let mut lazy = Lazy::new(rt.alloc(), nfa, MatchKind::LeftmostFirst, 100);
-    expect_match(rt, &mut lazy, b"a", Some((0, 1)))?;
-    expect_match(rt, &mut lazy, b"d", Some((1, 1)))?;
-    expect_match(rt, &mut lazy, &RUN, Some((2, 40)))?;
-    expect_match(rt, &mut lazy, b"xa", None)
+    let (second, third) = (PatternID::must(1), PatternID::must(2));
+    expect_match(rt, &mut lazy, b"a", ended(1));
+    expect_match(rt, &mut lazy, b"d", Some(HalfMatch::new(second, 1)));
+    expect_match(rt, &mut lazy, &RUN, Some(HalfMatch::new(third, 40)));
+    expect_match(rt, &mut lazy, b"xa", None);
 }
 
 /// The reverse of the reverse of an NFA reads forward, and a run of 40 letters matches as before,
 /// as pattern 0, the only one of a reverse.
-fn expect_reversed<R: Abort + AllocGlobal>(rt: &R, nfa: &NFA) -> Result<(), BuildError> {
-    let once = reversed(rt.alloc(), nfa)?;
-    let twice = reversed(rt.alloc(), &once)?;
+fn expect_reversed<R: Abort + AllocGlobal>(rt: &R, nfa: &NFA) {
+    let once = backward_of(rt, nfa);
+    let twice = backward_of(rt, &once);
     same(rt, (once.is_reverse(), twice.is_reverse()), (true, false));
     let mut lazy = Lazy::new(rt.alloc(), &twice, MatchKind::LeftmostFirst, 100);
-    expect_match(rt, &mut lazy, &RUN, Some((0, 40)))?;
-    expect_match(rt, &mut lazy, &RUN[..39], None)?;
-    Ok(())
+    expect_match(rt, &mut lazy, &RUN, ended(40));
+    expect_match(rt, &mut lazy, &RUN[..39], None);
 }
 
 #[test]
-fn three_patterns(rt: HostRuntime) -> Result<(), Fail> {
+fn three_patterns(rt: HostRuntime) {
     let mut builder = Builder::new(rt.alloc());
-    let start = add_three(&mut builder)?;
-    let nfa = builder.build(start, StateID::ZERO)?;
-    expect_three(&rt, &builder.build_with_prefix(start)?)?;
-    expect_three(&rt, &nfa)?;
-    expect_reversed(&rt, &nfa)?;
-    Ok(())
+    let start = add_three(&mut builder).expect(&rt, "memory");
+    let nfa = builder.build(start, StateID::ZERO).expect(&rt, "an NFA");
+    let prefixed = builder.build_with_prefix(start).expect(&rt, "an NFA");
+    expect_three(&rt, &prefixed);
+    expect_three(&rt, &nfa);
+    expect_reversed(&rt, &nfa);
 }
 
 /// `[01]*1[01]{9}`.
@@ -111,21 +103,20 @@ fn expect_tenth<R: Abort>(rt: &R, dfa: &Dfa) {
 
 /// Whether each of the last ten bytes was a `1` makes 1024 rows, of which none are alike.
 #[test]
-fn many_rows(rt: HostRuntime) -> Result<(), Fail> {
-    let nfa = dense::nfa(rt.alloc(), TENTH, StateID::ZERO)?;
-    let dfa = Dfa::build(rt.alloc(), &nfa, MatchKind::All, 10_000)?;
-    let least = dfa.minimize(rt.alloc())?;
+fn many_rows(rt: HostRuntime) {
+    let nfa = dense::nfa(&rt, TENTH, StateID::ZERO);
+    let dfa = dense::dfa(&rt, &nfa, MatchKind::All, 10_000);
+    let least = dfa.minimize(rt.alloc()).expect(&rt, "memory");
     holds(&rt, 1024 <= least.len() && least.len() <= dfa.len());
     expect_tenth(&rt, &dfa);
     expect_tenth(&rt, &least);
-    Ok(())
 }
 
 /// Returns 20,000 words of two bytes, and then one of 30,000.
-fn long_text(alloc: Global) -> Result<Vec<u8>, AllocError> {
-    let mut text = b"ab ".repeat(alloc, 20_000)?;
-    text.resize(90_000, b'z')?;
-    Ok(text)
+fn long_text<R: Abort + AllocGlobal>(rt: &R) -> Vec<u8> {
+    let mut text = b"ab ".repeat(rt.alloc(), 20_000).expect(rt, "memory");
+    text.resize(90_000, b'z').expect(rt, "memory");
+    text
 }
 
 /// Finds the words of a text in one piece, of which the last is kept until the text ends.
@@ -134,83 +125,58 @@ fn expect_pieces<R: Abort + AllocGlobal>(
     regex: &mut LazyRegex<'_>,
     text: &[u8],
     wanted: &[Match],
-) -> Result<(), AllocError> {
+) {
     let mut stream = Pieces::new(rt.alloc());
     let mut found = Vec::new(rt.alloc());
-    stream.feed(regex, text, &mut found)?;
+    stream.feed(regex, text, &mut found).expect(rt, "memory");
     holds(rt, stream.bytes_kept() >= 30_000);
-    stream.finish(regex, &mut found)?;
+    stream.finish(regex, &mut found).expect(rt, "memory");
     holds(rt, found.as_slice() == wanted);
-    Ok(())
 }
 
 /// Finds 100 words by `plain`, and none in spaces.
-fn expect_plain<R: Abort + AllocGlobal>(
-    rt: &R,
-    lazy: &mut Lazy<'_>,
-    text: &[u8],
-) -> Result<(), AllocError>
+fn expect_plain<R: Abort + AllocGlobal>(rt: &R, lazy: &mut Lazy<'_>, text: &[u8])
     requires forward { lazy.old.nfa.reverse ≡ false }
     requires kind { lazy.old.kind ≡ kinds.LeftmostFirst }
-    ensures { lazy.new.nfa ≡ lazy.old.nfa }
 {
-    let some = plain::find_all(rt.alloc(), lazy, &Input::new(text))?;
+    let some = plain::find_all(rt.alloc(), lazy, &Input::new(text)).expect(rt, "memory");
     same(rt, some.len(), 100);
-    same(rt, plain::find(lazy, &Input::new(&[b' '; 40]))?, None);
-    Ok(())
+    same(rt, plain::find(lazy, &Input::new(&[b' '; 40])), Ok(None));
 }
 
 /// Scans a text twice, and walks over it.
-fn expect_scans<R: Abort + AllocGlobal>(
-    rt: &R,
-    lazy: &mut Lazy<'_>,
-    text: &[u8],
-) -> Result<(), AllocError> {
+fn expect_scans<R: Abort>(rt: &R, lazy: &mut Lazy<'_>, text: &[u8]) {
     let start = lazy.nfa().start_unanchored();
-    let mut scan = lazy.scan(start, None)?;
-    lazy.feed(&mut scan, text)?;
-    let scanned = lazy.scan_text(start, None, text)?;
-    same(rt, lazy.finish(&scan, None)?, lazy.finish(&scanned, None)?);
-    same(
-        rt,
-        lazy.walk(start, None, text)?.len(),
-        text.len().saturating_add(2),
-    );
-    Ok(())
+    let mut scan = lazy.scan(start, None).expect(rt, "memory");
+    lazy.feed(&mut scan, text).expect(rt, "memory");
+    let scanned = lazy.scan_text(start, None, text).expect(rt, "memory");
+    let last = lazy.finish(&scan, None).expect(rt, "memory");
+    same(rt, lazy.finish(&scanned, None), Ok(last));
+    let states = lazy.walk(start, None, text).expect(rt, "memory");
+    same(rt, states.len(), text.len().saturating_add(2));
 }
 
 /// Finds all words of a text, whole and in one piece.
-fn expect_all<R: Abort + AllocGlobal>(
-    rt: &R,
-    regex: &mut LazyRegex<'_>,
-    text: &[u8],
-) -> Result<(), AllocError> {
-    let all = regex.find_all(rt.alloc(), &Input::new(text))?;
+fn expect_all<R: Abort + AllocGlobal>(rt: &R, regex: &mut LazyRegex<'_>, text: &[u8]) {
+    let all = regex
+        .find_all(rt.alloc(), &Input::new(text))
+        .expect(rt, "memory");
     same(rt, all.len(), 20_001);
-    expect_pieces(rt, regex, text, all.as_slice())
+    expect_pieces(rt, regex, text, all.as_slice());
 }
 
 /// Searches a long text in each way.
-fn expect_long<R: Abort + AllocGlobal>(
-    rt: &R,
-    regex: &mut LazyRegex<'_>,
-    lazy: &mut Lazy<'_>,
-) -> Result<(), AllocError>
-    requires forward { lazy.old.nfa.reverse ≡ false }
-    requires kind { lazy.old.kind ≡ kinds.LeftmostFirst }
-{
-    let text = long_text(rt.alloc())?;
-    expect_all(rt, regex, text.as_slice())?;
-    expect_plain(rt, lazy, text.get(..300).unwrap_or(&[]))?;
-    expect_scans(rt, lazy, text.as_slice())
-}
-
 #[test]
-fn long_texts(rt: HostRuntime) -> Result<(), Fail> {
-    let nfa = nfa(rt.alloc(), WORDS)?;
-    let backward = reversed(rt.alloc(), &nfa)?;
-    let mut regex = Regex::new(rt.alloc(), &nfa, &backward, 100);
+fn long_texts(rt: HostRuntime) {
+    let nfa = nfa(&rt, WORDS);
+    let backward = backward_of(&rt, &nfa);
+    let text = long_text(&rt);
+    expect_all(
+        &rt,
+        &mut Regex::new(rt.alloc(), &nfa, &backward, 100),
+        text.as_slice(),
+    );
     let mut lazy = Lazy::new(rt.alloc(), &nfa, MatchKind::LeftmostFirst, 100);
-    expect_long(&rt, &mut regex, &mut lazy)?;
-    Ok(())
+    expect_plain(&rt, &mut lazy, text.get(..300).unwrap_or(&[]));
+    expect_scans(&rt, &mut lazy, text.as_slice());
 }

@@ -1,25 +1,23 @@
 //! Matches with both ends over the texts of walks, with the usual prefix before their NFAs: by one
 //! anchored search after another, by an NFA and its reverse, and as the original found them.
 
-ghost use Rattle.std.specs.Prelude.{◌≡◌, IfOk, false, true};
+ghost use Rattle.std.specs.Prelude.{◌≡◌, false, true};
 ghost use Rattle.determinize_below.specs.declared.search.MatchKind.TheVariants as kinds;
 ghost use Rattle.determinize_find.specs.Prefix.{HasPrefix};
 ghost use Rattle.determinize_engine.specs.Searches.{has_start};
 
+use crate::tests::find::backward_of;
 use crate::tests::{expect_text, holds, same};
 use determinize_below::nfa::State;
 use determinize_below::{Anchored, HalfMatch, Input, MatchKind, NFA, StateID, Transition};
-use determinize_find::{LazyRegex, Match, Regex, plain, prefix, reversed};
+use determinize_find::{LazyRegex, Match, Regex, plain, prefix};
 use determinize_lazy::Lazy;
 use determinize_replay::job::Job;
-use example_walks::error::TextError;
 use example_walks::examples::examples;
 use example_walks::fields::Fields;
 use example_walks::states;
 use example_walks::values::LastMatch;
-use std::alloc::{AllocError, Global};
 use std::process::Abort;
-use std::test::Fail;
 
 /// Walks of regex-automata 0.4.18 over NFAs that were made at random: in each line a job, and the
 /// last match of its states.
@@ -78,69 +76,66 @@ struct Place {
 
 impl Place {
     /// Returns the place of the text of a walk.
-    fn of(alloc: Global, fields: &Fields<'_>) -> Result<Place, TextError> {
-        let (behind, ahead) = (fields.look_behind()?, fields.look_ahead()?);
-        let mut haystack = fields.text(alloc)?;
+    fn of<R: Abort + AllocGlobal>(rt: &R, fields: &Fields<'_>) -> Place {
+        let mut haystack = fields.text(rt.alloc()).expect(rt, "bytes");
+        let behind = fields.look_behind().expect(rt, "a byte");
         if let Some(byte) = behind {
-            haystack.insert(0, byte)?;
+            haystack.insert(0, byte).expect(rt, "memory");
         }
         let (start, end) = (usize::from(behind.is_some()), haystack.len());
-        if let Some(byte) = ahead {
-            haystack.push(byte)?;
+        if let Some(byte) = fields.look_ahead().expect(rt, "a byte") {
+            haystack.push(byte).expect(rt, "memory");
         }
-        Ok(Place {
+        Place {
             haystack,
             start,
             end,
-        })
+        }
     }
 
     /// Returns the input of a search of the text.
-    fn input(&self, anchored: Anchored) -> Result<Input<'_>, Fail>
-        ensures { IfOk result (λ input. input.anchored ≡ anchored) }
+    fn input<'p, R: Abort>(&'p self, rt: &R, anchored: Anchored) -> Input<'p>
+        ensures { result.anchored ≡ anchored }
     {
-        if self.start > self.end || self.end > self.haystack.len() {
-            return Err(Fail::new("the text is a range of the haystack"));
-        }
-        Ok(
-            Input::new(self.haystack.as_slice())
-                .range(self.start..self.end)
-                .anchored(anchored),
-        )
+        assert!(rt; self.start <= self.end && self.end <= self.haystack.len());
+        Input::new(self.haystack.as_slice())
+            .range(self.start..self.end)
+            .anchored(anchored)
     }
 }
 
 /// Adds the usual prefix after states, before the one with this id. Returns the id of its first
 /// state.
-fn add_prefix(states: &mut Vec<State>, start: StateID) -> Result<StateID, Fail> {
-    let any = StateID::new(states.len())?;
-    let skip = StateID::new(any.as_usize() + 1)?;
+fn add_prefix<R: Abort>(rt: &R, states: &mut Vec<State>, start: StateID) -> StateID {
+    let any = StateID::new(states.len()).expect(rt, "few states");
+    let skip = StateID::new(any.as_usize() + 1).expect(rt, "few states");
     let (alt1, alt2) = (start, skip);
-    states.push(State::BinaryUnion { alt1, alt2 })?;
+    states
+        .push(State::BinaryUnion { alt1, alt2 })
+        .expect(rt, "memory");
     let trans = Transition {
         start: 0,
         end: 255,
         next: any,
     };
-    states.push(State::ByteRange { trans })?;
-    Ok(any)
+    states.push(State::ByteRange { trans }).expect(rt, "memory");
+    any
 }
 
 /// Returns the NFA of a walk for forward scans, with the usual prefix before its start.
-fn prefixed(alloc: Global, fields: &Fields<'_>) -> Result<NFA, Fail>
-    ensures forward { IfOk result (λ nfa. nfa.reverse ≡ false) }
-    ensures prefix { IfOk result (λ nfa. HasPrefix nfa) }
+fn prefixed<R: Abort + AllocGlobal>(rt: &R, fields: &Fields<'_>) -> NFA
+    ensures forward { result.reverse ≡ false }
+    ensures prefix { HasPrefix result }
 {
-    let start = fields.start()?;
-    let matcher = fields.matcher()?;
-    let mut states = states::states(alloc, fields.states.unwrap_or(""))?;
-    let any = add_prefix(&mut states, start)?;
-    let nfa = NFA::from_parts(alloc, states, start, any, false, matcher)?;
-    if prefix::has_prefix(&nfa) {
-        Ok(nfa)
-    } else {
-        Err(Fail::new("the NFA has the usual prefix"))
-    }
+    let start = fields.start().expect(rt, "a start");
+    let matcher = fields.matcher().expect(rt, "a line terminator");
+    let states = states::states(rt.alloc(), fields.states.unwrap_or(""));
+    let mut states = states.expect(rt, "states");
+    let any = add_prefix(rt, &mut states, start);
+    let nfa = NFA::from_parts(rt.alloc(), states, start, any, false, matcher);
+    let nfa = nfa.expect(rt, "an NFA");
+    assert!(rt; prefix::has_prefix(&nfa));
+    nfa
 }
 
 /// Returns the leftmost match of an input, and asserts that both ways find it, and the same matches
@@ -150,20 +145,20 @@ fn leftmost<R: Abort + AllocGlobal>(
     lazy: &mut Lazy<'_>,
     regex: &mut LazyRegex<'_>,
     input: &Input<'_>,
-) -> Result<Option<Match>, AllocError>
+) -> Option<Match>
     requires forward { lazy.old.nfa.reverse ≡ false }
     requires kind { lazy.old.kind ≡ kinds.LeftmostFirst }
     requires start { has_start input.now.anchored ≡ true }
     ensures nfa { lazy.new.nfa ≡ lazy.old.nfa }
     ensures kind { lazy.new.kind ≡ lazy.old.kind }
 {
-    let found = regex.find(input)?;
-    same(rt, plain::find(lazy, input)?, found);
-    same(rt, regex.is_match(input)?, found.is_some());
-    let all = plain::find_all(rt.alloc(), lazy, input)?;
+    let found = regex.find(input).expect(rt, "memory");
+    same(rt, plain::find(lazy, input), Ok(found));
+    same(rt, regex.is_match(input), Ok(found.is_some()));
+    let all = plain::find_all(rt.alloc(), lazy, input).expect(rt, "memory");
     same(rt, all.first().copied(), found);
-    holds(rt, regex.find_all(rt.alloc(), input)? == all);
-    Ok(found)
+    holds(rt, regex.find_all(rt.alloc(), input) == Ok(all));
+    found
 }
 
 /// Returns the leftmost match of a text and the one that begins with it, which is the leftmost one
@@ -173,72 +168,50 @@ fn expect_place<R: Abort + AllocGlobal>(
     lazy: &mut Lazy<'_>,
     regex: &mut LazyRegex<'_>,
     place: &Place,
-) -> Result<Option<Match>, Fail>
+) -> Option<Match>
     requires forward { lazy.old.nfa.reverse ≡ false }
     requires kind { lazy.old.kind ≡ kinds.LeftmostFirst }
 {
-    let anywhere = leftmost(rt, lazy, regex, &place.input(Anchored::No)?)?;
-    let first = leftmost(rt, lazy, regex, &place.input(Anchored::Yes)?)?;
+    let anywhere = leftmost(rt, lazy, regex, &place.input(rt, Anchored::No));
+    let first = leftmost(rt, lazy, regex, &place.input(rt, Anchored::Yes));
     if first.is_some() {
         same(rt, anywhere, first);
     }
-    Ok(first)
+    first
 }
 
-/// Returns the match of a text by [`expect_place`], through new caches of an NFA that has the usual
-/// prefix and of its reverse.
-fn expect_in<R: Abort + AllocGlobal>(
-    rt: &R,
-    nfa: &NFA,
-    place: &Place,
-) -> Result<Option<Match>, Fail>
-    requires forward { nfa.now.reverse ≡ false }
-    requires prefix { HasPrefix nfa.now }
-{
-    let backward = reversed(rt.alloc(), nfa)?;
-    let mut lazy = Lazy::new(rt.alloc(), nfa, MatchKind::LeftmostFirst, 50);
-    let mut regex = Regex::new(rt.alloc(), nfa, &backward, 50);
-    expect_place(rt, &mut lazy, &mut regex, place)
-}
-
-/// Returns the match of the text of a walk by [`expect_place`].
-fn expect_walk<R: Abort + AllocGlobal>(rt: &R, fields: &Fields<'_>) -> Result<Option<Match>, Fail> {
-    let nfa = prefixed(rt.alloc(), fields)?;
-    let place = Place::of(rt.alloc(), fields)?;
-    expect_in(rt, &nfa, &place)
+/// Returns the match of the text of a walk by [`expect_place`], through new caches of its NFA with
+/// the usual prefix, and of the reverse.
+fn expect_walk<R: Abort + AllocGlobal>(rt: &R, fields: &Fields<'_>) -> Option<Match> {
+    let nfa = prefixed(rt, fields);
+    let backward = backward_of(rt, &nfa);
+    let mut lazy = Lazy::new(rt.alloc(), &nfa, MatchKind::LeftmostFirst, 50);
+    let mut regex = Regex::new(rt.alloc(), &nfa, &backward, 50);
+    expect_place(rt, &mut lazy, &mut regex, &Place::of(rt, fields))
 }
 
 /// Asserts that the leftmost match that begins with the text is the last match of the walk. Under
 /// `All` that may be another match, so then only that there is one.
-fn expect_stored<R: Abort + AllocGlobal>(
-    rt: &R,
-    fields: &Fields<'_>,
-    last: &str,
-) -> Result<(), Fail> {
-    let kind = fields.match_kind()?;
-    let found = expect_walk(rt, fields)?;
-    if kind == MatchKind::All {
+fn expect_stored<R: Abort + AllocGlobal>(rt: &R, fields: &Fields<'_>, last: &str) {
+    let found = expect_walk(rt, fields);
+    if fields.match_kind().expect(rt, "a match kind") == MatchKind::All {
         same(rt, found.is_none(), last == "none");
-        return Ok(());
+        return;
     }
     let half = match found {
         Some(m) => Some(HalfMatch::new(m.pattern, m.end.saturating_sub(m.start))),
         None => None,
     };
-    expect_text(rt, &LastMatch(half), last)?;
-    Ok(())
+    expect_text(rt, &LastMatch(half), last);
 }
 
 #[test]
-fn stored_walks(rt: HostRuntime) -> Result<(), Fail> {
+fn stored_walks(rt: HostRuntime) {
     for example in examples() {
-        expect_walk(&rt, &example.fields())?;
+        expect_walk(&rt, &example.fields());
     }
     for line in STORED.lines() {
-        let Some((job, last)) = line.split_once(" = ") else {
-            return Err(Fail::new("a line has a job and a match"));
-        };
-        expect_stored(&rt, Job::read(job)?.fields(), last)?;
+        let (job, last) = line.split_once(" = ").expect(&rt, "a job and a match");
+        expect_stored(&rt, Job::read(job).expect(&rt, "a job").fields(), last);
     }
-    Ok(())
 }

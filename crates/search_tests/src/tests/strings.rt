@@ -5,7 +5,6 @@ use determinize_uses::strings::print_strings;
 use std::cell::Cell;
 use std::fmt::Display;
 use std::io::{self, Print, Read};
-use std::test::Fail;
 
 /// A text of which each read gives one byte, and how many it has given.
 #[derive(Drop)]
@@ -60,7 +59,7 @@ impl Print for Lines<'_> {
 }
 
 #[test]
-fn each_line_at_its_last_byte(rt: HostRuntime) -> Result<(), Fail> {
+fn each_line_at_its_last_byte(rt: HostRuntime) {
     let count = Cell::new(0);
     let mut input = Slow {
         text: b"a \"b\" \"\"\"c d\" \"e",
@@ -75,5 +74,4 @@ fn each_line_at_its_last_byte(rt: HostRuntime) -> Result<(), Fail> {
     same(&rt, is_read, true);
     same(&rt, output.printed.get(), ENDS.len());
     same(&rt, output.in_time.get(), ENDS.len());
-    Ok(())
 }

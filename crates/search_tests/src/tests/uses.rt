@@ -13,10 +13,8 @@ use determinize_core::state::State;
 use determinize_find::Builder;
 use determinize_lazy::Lazy;
 use determinize_uses::{built, cache, input, lexer, nfa, scanner, search, values, walk};
-use example_walks::error::TextError;
-use std::alloc::{AllocError, Allocator};
+use std::alloc::Allocator;
 use std::process::Abort;
-use std::test::Fail;
 
 /// Compares the ids of a set, in their order.
 fn expect_ids<R: Abort>(rt: &R, set: &SparseSet, wanted: &[StateID]) {
@@ -48,43 +46,32 @@ fn expect_kinds<R: Abort>(rt: &R) {
 static BYTES: [u8; 24] = *b"\x07\0\0\0\0\x40\0\0\0\x02\0\0\0\x01\0\0\0\0\0\0\0\x02\x04\x01";
 
 #[test]
-fn small_values(rt: HostRuntime) -> Result<(), Fail> {
+fn small_values(rt: HostRuntime) {
     expect_assertions(&rt, values::assertions());
     expect_kinds(&rt);
-    let wanted = [StateID::must(3), StateID::must(1)];
-    expect_ids(&rt, &values::ids(rt.alloc())?, &wanted);
-    let state = values::state(rt.alloc())?;
+    let ids = values::ids(rt.alloc()).expect(&rt, "memory");
+    expect_ids(&rt, &ids, &[StateID::must(3), StateID::must(1)]);
+    let state = values::state(rt.alloc()).expect(&rt, "memory");
     same(&rt, state.as_bytes(), BYTES.as_slice());
-    Ok(())
 }
 
 /// Compares at which positions of a walk there is a match.
-fn expect_positions<R: Abort>(rt: &R, states: &[State]) -> Result<(), AllocError> {
+fn expect_positions<R: Abort>(rt: &R, states: &[State]) {
     for (position, state) in states.iter().skip(1).enumerate() {
-        same(rt, state.match_pattern_ids()?.is_some(), position > 1);
+        let patterns = state.match_pattern_ids().expect(rt, "memory");
+        same(rt, patterns.is_some(), position > 1);
     }
-    Ok(())
 }
 
-/// Searches a text for a number and walks over it, through a cache for each.
-fn expect_number<R: Abort>(
-    rt: &R,
-    first: &mut Lazy<'_>,
-    all: &mut Lazy<'_>,
-) -> Result<(), AllocError> {
-    same(rt, first.search_input(&Input::new(b"a12"))?, ended(3));
-    let start = all.nfa().start_unanchored();
-    let states = all.walk(start, None, b"a12")?;
-    expect_positions(rt, states.as_slice())
-}
-
+/// A number in a text, by a search and by a walk, through a cache for each.
 #[test]
-fn first_search(rt: HostRuntime) -> Result<(), Fail> {
-    let nfa = built::digits(rt.alloc())?;
+fn first_search(rt: HostRuntime) {
+    let nfa = built::digits(rt.alloc()).expect(&rt, "an NFA");
     let mut first = Lazy::new(rt.alloc(), &nfa, MatchKind::LeftmostFirst, 100);
+    same(&rt, first.search_input(&Input::new(b"a12")), Ok(ended(3)));
     let mut all = Lazy::new(rt.alloc(), &nfa, MatchKind::All, 100);
-    expect_number(&rt, &mut first, &mut all)?;
-    Ok(())
+    let states = all.walk(nfa.start_unanchored(), None, b"a12");
+    expect_positions(&rt, states.expect(&rt, "memory").as_slice());
 }
 
 /// Returns the transition to `next` on each byte from `start` to `end`.
@@ -122,10 +109,9 @@ fn lines<A: Allocator + Copy>(alloc: A, has_prefix: bool) -> Result<NFA<A>, Buil
 }
 
 /// Searches two texts, of which only the first has a line.
-fn search_lines<R: Abort, N: Allocator>(rt: &R, lazy: &mut Lazy<'_, N>) -> Result<(), AllocError> {
-    same(rt, lazy.search_input(&Input::new(b"b!;a"))?, ended(2));
-    same(rt, lazy.search_input(&Input::new(b"b!b"))?, ended(0));
-    Ok(())
+fn search_lines<R: Abort, N: Allocator>(rt: &R, lazy: &mut Lazy<'_, N>) {
+    same(rt, lazy.search_input(&Input::new(b"b!;a")), Ok(ended(2)));
+    same(rt, lazy.search_input(&Input::new(b"b!b")), Ok(ended(0)));
 }
 
 /// Builds an NFA and searches with it. The prefix has two states.
@@ -138,7 +124,7 @@ fn expect_lines<R: Abort + AllocGlobal, A: Allocator + Copy>(
     let count = if has_prefix { 10 } else { 8 };
     same(rt, (nfa.len(), nfa.pattern_len()), (count, 1));
     let mut lazy = Lazy::new(rt.alloc(), &nfa, MatchKind::LeftmostFirst, 50);
-    search_lines(rt, &mut lazy)?;
+    search_lines(rt, &mut lazy);
     Ok(())
 }
 
@@ -146,150 +132,109 @@ fn expect_lines<R: Abort + AllocGlobal, A: Allocator + Copy>(
 pub fn build<R: Abort + AllocGlobal, A: Allocator + Copy>(
     rt: &R,
     alloc: A,
-) -> Result<(), TextError> {
+) -> Result<(), BuildError> {
     expect_lines(rt, alloc, true)?;
-    expect_lines(rt, alloc, false)?;
-    Ok(())
-}
-
-/// Asserts that an NFA is not built for this error.
-fn expect_error<R: Abort>(rt: &R, built: Result<NFA, BuildError>, wanted: BuildError) {
-    match built {
-        Ok(_) => holds(rt, false),
-        Err(error) => same(rt, error, wanted),
-    }
+    expect_lines(rt, alloc, false)
 }
 
 /// Asserts that no prefix is added to an NFA whose state 0 has a transition to this id, which it
 /// does not have.
-fn expect_unresolved<R: Abort + AllocGlobal>(rt: &R, id: u8) -> Result<(), BuildError> {
+fn expect_unresolved<R: Abort + AllocGlobal>(rt: &R, id: u8) {
     let mut builder = Builder::new(rt.alloc());
-    let first = builder.add_range(over(0, 255, StateID::must(usize::from(id))))?;
-    let built = builder.build_with_prefix(first);
-    expect_error(rt, built, BuildError::UnresolvedId(0));
-    Ok(())
+    let first = builder.add_range(over(0, 255, StateID::must(usize::from(id))));
+    let built = builder.build_with_prefix(first.expect(rt, "memory"));
+    same(rt, built.err(), Some(BuildError::UnresolvedId(0)));
 }
 
 #[test]
-fn builds_no_bad_prefix(rt: HostRuntime) -> Result<(), Fail> {
+fn builds_no_bad_prefix(rt: HostRuntime) {
     let none = Builder::new(rt.alloc()).build_with_prefix(StateID::ZERO);
-    expect_error(&rt, none, BuildError::UnresolvedStart);
+    same(&rt, none.err(), Some(BuildError::UnresolvedStart));
     // The two states of the prefix, and the first id after them.
     for id in 1..4u8 {
-        expect_unresolved(&rt, id)?;
+        expect_unresolved(&rt, id);
     }
-    Ok(())
 }
 
 /// The closure of the start of `[0-9]+` is that state, and that of the unanchored start has two
 /// more.
-fn expect_closures<R: Abort + AllocGlobal>(rt: &R, nfa: &NFA) -> Result<(), AllocError> {
+fn expect_closures<R: Abort + AllocGlobal>(rt: &R, nfa: &NFA) {
     let [zero, one, two] = [StateID::ZERO, StateID::must(1), StateID::must(2)];
-    let closure = values::closure(rt.alloc(), nfa, nfa.start_anchored())?;
-    expect_ids(rt, &closure, &[two]);
-    let closure = values::closure(rt.alloc(), nfa, nfa.start_unanchored())?;
-    expect_ids(rt, &closure, &[zero, two, one]);
-    Ok(())
+    let closure = values::closure(rt.alloc(), nfa, nfa.start_anchored());
+    expect_ids(rt, &closure.expect(rt, "memory"), &[two]);
+    let closure = values::closure(rt.alloc(), nfa, nfa.start_unanchored());
+    expect_ids(rt, &closure.expect(rt, "memory"), &[zero, two, one]);
 }
 
 /// Walks over a text from both starts.
-fn expect_walks<R: Abort + AllocGlobal>(rt: &R, nfa: &NFA) -> Result<(), AllocError> {
+fn expect_walks<R: Abort + AllocGlobal>(rt: &R, nfa: &NFA) {
     let text = b"ab 42 c";
-    let found = walk::preferred(rt.alloc(), nfa, nfa.start_unanchored(), text)?;
-    same(rt, found, ended(5));
-    let found = walk::preferred(rt.alloc(), nfa, nfa.start_anchored(), text)?;
-    same(rt, found, None);
-    Ok(())
+    let found = walk::preferred(rt.alloc(), nfa, nfa.start_unanchored(), text);
+    same(rt, found, Ok(ended(5)));
+    let found = walk::preferred(rt.alloc(), nfa, nfa.start_anchored(), text);
+    same(rt, found, Ok(None));
 }
 
 /// Searches texts through one cache of this limit.
-fn expect_searches<R: Abort + AllocGlobal>(
-    rt: &R,
-    nfa: &NFA,
-    limit: usize,
-) -> Result<(), AllocError> {
+fn expect_searches<R: Abort + AllocGlobal>(rt: &R, nfa: &NFA, limit: usize) {
     let texts: [&[u8]; 4] = [b"42 c", b"ab", b"7", b""];
-    let found = search::matches(rt.alloc(), nfa, &texts, limit)?;
+    let found = search::matches(rt.alloc(), nfa, &texts, limit).expect(rt, "memory");
     let wanted = [ended(2), None, ended(1), None];
     same(rt, found.as_slice(), wanted.as_slice());
-    Ok(())
-}
-
-/// Finds all matches of a text.
-fn expect_all<R: Abort + AllocGlobal>(rt: &R, nfa: &NFA) -> Result<(), AllocError>
-    requires { nfa.now.reverse ≡ false }
-{
-    let found = scanner::matches(rt.alloc(), nfa, b"ab 42 c7")?;
-    expect_matches(rt, found.as_slice(), &[(0, 3, 5), (0, 7, 8)]);
-    Ok(())
 }
 
 #[test]
-fn numbers(rt: HostRuntime) -> Result<(), Fail> {
-    let nfa = nfa::digits(rt.alloc(), false)?;
-    expect_closures(&rt, &nfa)?;
-    expect_walks(&rt, &nfa)?;
+fn numbers(rt: HostRuntime) {
+    let nfa = nfa::digits(rt.alloc(), false).expect(&rt, "memory");
+    expect_closures(&rt, &nfa);
+    expect_walks(&rt, &nfa);
     for limit in [0, 2, 100] {
-        expect_searches(&rt, &nfa, limit)?;
+        expect_searches(&rt, &nfa, limit);
     }
-    expect_all(&rt, &nfa)?;
-    Ok(())
+    let found = scanner::matches(rt.alloc(), &nfa, b"ab 42 c7").expect(&rt, "memory");
+    expect_matches(&rt, found.as_slice(), &[(0, 3, 5), (0, 7, 8)]);
 }
 
 /// Asserts whether a match ends at the end of the text, by a walk through the cache.
-fn expect_at_the_end<R: Abort>(
-    rt: &R,
-    lazy: &mut Lazy<'_>,
-    text: &[u8],
-    wanted: bool,
-) -> Result<(), AllocError>
+fn expect_at_the_end<R: Abort>(rt: &R, lazy: &mut Lazy<'_>, text: &[u8], wanted: bool)
     requires { lazy.old.kind ≡ kinds.All }
     ensures kind { lazy.new.kind ≡ lazy.old.kind }
     ensures nfa { lazy.new.nfa ≡ lazy.old.nfa }
 {
-    match cache::at_the_end(lazy, text)? {
-        Some(state) => same(rt, state.is_match(), wanted),
-        None => holds(rt, false),
+    match cache::at_the_end(lazy, text) {
+        Ok(Some(state)) => same(rt, state.is_match(), wanted),
+        _ => holds(rt, false),
     }
-    Ok(())
 }
 
 /// Walks twice through one cache, over a text with a match at its end and over one without. Splits
 /// a text into the longest numbers, up to the first byte that begins none.
-fn expect_longest<R: Abort + AllocGlobal>(rt: &R, lazy: &mut Lazy<'_>) -> Result<(), AllocError>
+fn expect_longest<R: Abort + AllocGlobal>(rt: &R, lazy: &mut Lazy<'_>)
     requires kind { lazy.old.kind ≡ kinds.All }
     requires forward { lazy.old.nfa.reverse ≡ false }
 {
-    expect_at_the_end(rt, lazy, b"42", true)?;
-    expect_at_the_end(rt, lazy, b"4x", false)?;
-    let found = lexer::tokens(rt.alloc(), lazy, b"427 c")?;
+    expect_at_the_end(rt, lazy, b"42", true);
+    expect_at_the_end(rt, lazy, b"4x", false);
+    let found = lexer::tokens(rt.alloc(), lazy, b"427 c").expect(rt, "memory");
     expect_matches(rt, found.as_slice(), &[(0, 0, 3)]);
-    Ok(())
 }
 
 /// Searches for both ends of a match, of a number in the middle of a text and where there is none.
-fn expect_spans<R: Abort>(
-    rt: &R,
-    forward: &mut Lazy<'_>,
-    backward: &mut Lazy<'_>,
-) -> Result<(), AllocError> {
-    let found = input::span(forward, backward, b"ab 42 c")?;
-    holds(rt, found == Some(3..5));
-    let found = input::span(forward, backward, b"ab")?;
-    holds(rt, found.is_none());
-    same(rt, input::contains(forward, b"ab 42 c")?, true);
-    same(rt, input::contains(forward, b"ab")?, false);
-    Ok(())
+fn expect_spans<R: Abort>(rt: &R, forward: &mut Lazy<'_>, backward: &mut Lazy<'_>) {
+    let found = input::span(forward, backward, b"ab 42 c");
+    holds(rt, found == Ok(Some(3..5)));
+    let found = input::span(forward, backward, b"ab");
+    holds(rt, found == Ok(None));
+    same(rt, input::contains(forward, b"ab 42 c"), Ok(true));
+    same(rt, input::contains(forward, b"ab"), Ok(false));
 }
 
 #[test]
-fn numbers_through_caches(rt: HostRuntime) -> Result<(), Fail> {
-    let nfa = nfa::digits(rt.alloc(), false)?;
-    let backward = nfa::digits(rt.alloc(), true)?;
-    let mut all = Lazy::new(rt.alloc(), &nfa, MatchKind::All, 100);
-    expect_longest(&rt, &mut all)?;
+fn numbers_through_caches(rt: HostRuntime) {
+    let nfa = nfa::digits(rt.alloc(), false).expect(&rt, "memory");
+    expect_longest(&rt, &mut Lazy::new(rt.alloc(), &nfa, MatchKind::All, 100));
+    let reversed = nfa::digits(rt.alloc(), true).expect(&rt, "memory");
     let mut forward = Lazy::new(rt.alloc(), &nfa, MatchKind::LeftmostFirst, 100);
-    let mut backward = Lazy::new(rt.alloc(), &backward, MatchKind::All, 100);
-    expect_spans(&rt, &mut forward, &mut backward)?;
-    Ok(())
+    let mut backward = Lazy::new(rt.alloc(), &reversed, MatchKind::All, 100);
+    expect_spans(&rt, &mut forward, &mut backward);
 }
