@@ -1,6 +1,6 @@
 //! Patterns that are compiled once, and searched for.
 
-ghost use Rattle.std.specs.Prelude.{◌≡◌, ◌≤◌, ◌∷◌, [], IfOk, map, true};
+ghost use Rattle.std.specs.Prelude.{◌≡◌, ◌≤◌, ◌∷◌, [], IfOk, map, false, true};
 ghost use Rattle.std.specs.Bool.{Decides};
 ghost use Rattle.std.specs.Option.{IfSome};
 ghost use Rattle.determinize_engine.specs.Searches.{has_start};
@@ -140,6 +140,7 @@ impl Regex {
     /// Returns the NFA of the patterns.
     pub fn nfa(&self) -> &NFA
         ensures means { IsNfaOf (map meaning self.now.patterns) result.now }
+        ensures forward { result.now.reverse ≡ false }
         ensures prefix { HasPrefix result.now }
         ensures terminator { result.now.terminator ≡ self.now.terminator }
     {

@@ -60,38 +60,34 @@ fn expect_parts<R: Abort>(rt: &R, parts: &[&[u8]]) {
 }
 
 #[test]
-fn split_and_replace(rt: HostRuntime) -> Result<(), Fail> {
-    let mut regex = Regex::new(rt.alloc(), "[ ,]+")?;
-    let parts = regex.split(rt.alloc(), LIST)?;
+fn split_and_replace(rt: HostRuntime) {
+    let mut regex = Regex::new(rt.alloc(), "[ ,]+").expect(&rt, "a pattern");
+    let parts = regex.split(rt.alloc(), LIST).expect(&rt, "memory");
     expect_parts(&rt, &parts);
-    let text = regex.replace_all(rt.alloc(), LIST, b"$1")?;
+    let text = regex
+        .replace_all(rt.alloc(), LIST, b"$1")
+        .expect(&rt, "memory");
     same(&rt, text.as_slice(), REPLACED);
-    Ok(())
 }
 
 /// Feeds a text in two pieces. The year lies in both, and the last name may go on. It, the byte
 /// before it and the one before these are kept.
-fn expect_pieces<R: Abort + AllocGlobal>(
-    rt: &R,
-    stream: &mut Stream<'_>,
-) -> Result<(), AllocError> {
+fn expect_pieces<R: Abort + AllocGlobal>(rt: &R, stream: &mut Stream<'_>) {
     let mut found = Vec::new(rt.alloc());
-    stream.feed(b"In 19", &mut found)?;
+    stream.feed(b"In 19", &mut found).expect(rt, "memory");
     expect_matches(rt, &found, &[(1, 0, 2)]);
-    stream.feed(b"84 Ada", &mut found)?;
+    stream.feed(b"84 Ada", &mut found).expect(rt, "memory");
     expect_matches(rt, &found, &[(1, 0, 2), (0, 3, 7)]);
     same(rt, (stream.bytes_read(), stream.bytes_kept()), (11, 5));
-    stream.finish(&mut found)?;
+    stream.finish(&mut found).expect(rt, "memory");
     expect_matches(rt, &found, &[(1, 0, 2), (0, 3, 7), (1, 8, 11)]);
-    Ok(())
 }
 
 #[test]
-fn in_pieces(rt: HostRuntime) -> Result<(), Fail> {
+fn in_pieces(rt: HostRuntime) {
     let patterns = ["[0-9]+", "[A-Z][a-z]*"];
-    let regex = Regex::new_many(rt.alloc(), &patterns, RegexConfig::new())?;
-    expect_pieces(&rt, &mut regex.stream(rt.alloc(), 100))?;
-    Ok(())
+    let regex = Regex::new_many(rt.alloc(), &patterns, RegexConfig::new()).expect(&rt, "patterns");
+    expect_pieces(&rt, &mut regex.stream(rt.alloc(), 100));
 }
 
 /// Returns the index of a text that is in error, and the place of the error.
