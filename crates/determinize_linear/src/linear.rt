@@ -275,7 +275,8 @@ fn find_all_with<N: Allocator, A: Allocator + Copy, C: Counter>(
 ///
 /// The NFA must read forward; it needs no prefix. The bytes next to the range are seen by
 /// assertions. The time is linear in the length of the range, as [`find_all_counted`] says. The
-/// memory is, too: one byte for each index of the range and state of the NFA.
+/// memory is, too: a list for each index of the range, with a byte for each state of the NFA.
+/// `Anchored::Pattern` is taken as `Anchored::Yes`.
 pub fn find_all<N: Allocator, A: Allocator + Copy>(
     alloc: A,
     nfa: &NFA<N>,

@@ -58,10 +58,19 @@ impl RegexConfig {
 /// It owns all its parts, so a function can return it, and a struct can hold it. Its caches are
 /// kept from one search to the next. To search with several caches, make a [`Matcher`] for each. To
 /// search in a text that comes in pieces, make a [`Stream`].
-#[derive(Drop)]
 pub struct Regex {
     patterns: Vec<Pattern>,
     search: OwnedRegex,
+}
+
+// Derived code is proved at each exit of each function that owns a regex.
+impl Drop for Regex {
+    fn drop(self) {
+        let Regex {
+            patterns: _,
+            search: _,
+        } = self;
+    }
 }
 
 impl Model for Regex {

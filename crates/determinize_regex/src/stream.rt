@@ -15,9 +15,10 @@ use std::marker::Model;
 /// A search for all matches of the patterns of a [`Regex`] in a text that comes in pieces, with
 /// two separate caches: `feed` reads the next piece, and `finish` says that the text ends.
 ///
-/// A match is added with the piece after which no byte that follows can change it. So a line, as a
-/// match of `[^\n]*\n`, is added with its last byte. The positions of a match count from the
-/// beginning of the text. Bytes are kept as by `Pieces` of `determinize_find`.
+/// A match is added once it is certain (`certain_match` of `determinize_find`): no byte that
+/// follows can change it. So a line, as a match of `[^\n]*\n`, is added with its last byte. The
+/// positions of a match count from the beginning of the text. Bytes are kept as by `Pieces` of
+/// `determinize_find`.
 #[derive(Drop)]
 pub struct Stream<'r, A: Allocator + Copy = Global> {
     regex: &'r Regex,

@@ -29,8 +29,8 @@ gives one, and all others are files; several patterns each need -e. Without file
   -l          print the names of the files with a selected line
   -q          print nothing, and stop at the first selected line
   -n, -b      print the number of the line, or the offset of what is printed, before it
-Patterns have the syntax of Rust's crate regex, over bytes and without Unicode. -o prints the match
-that this syntax prefers, and not the longest one as grep does: of a|ab in the text ab it is a.
+Patterns have a subset of the syntax of Rust's crate regex, over bytes and without Unicode. -o prints
+the match that this syntax prefers, and not the longest one as grep does: of a|ab in ab it is a.
 The exit status is 0 if a line is selected, 1 if none is, and 2 after an error.
 ";
 
