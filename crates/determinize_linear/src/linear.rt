@@ -7,10 +7,10 @@
 //! one: only the marks of the position where the match ends are removed. Matches begin and end in
 //! order, so no search is at an earlier position again.
 
-ghost use Rattle.std.specs.Prelude.{◌≡◌, ◌<◌, ◌≤◌, ◌-◌, ◌+◌, ◌^◌, ℕ, IfOk, IsTrue, None, OnOk, Some, cond, false, length, option_map};
+ghost use Rattle.std.specs.Prelude.{◌≡◌, ◌<◌, ◌≤◌, ◌-◌, ◌+◌, ◌^◌, ℕ, IfOk, IsTrue, None, OnOk, Some, cond, false, length, option_map, true};
 ghost use Rattle.std.specs.Option.{IfNone, IfSome};
 ghost use Rattle.determinize_below.specs.Nfa.{IsAccepted};
-ghost use Rattle.determinize_engine.specs.Searches.{text_of};
+ghost use Rattle.determinize_engine.specs.Searches.{has_start, text_of};
 ghost use Rattle.determinize_find.specs.LeftmostIn as inputs;
 ghost use Rattle.determinize_find.specs.LeftmostIn.{IsLeftmostIn};
 ghost use Rattle.determinize_find.specs.Matches as matches;
@@ -123,6 +123,7 @@ fn find_at<N: Allocator, A: Allocator, C: Counter>(
 
 /// Returns the last index at which a match may begin if the search starts at this one.
 fn latest_start<N: Allocator>(nfa: &NFA<N>, input: &Input<'_>, start: usize) -> usize
+    requires { has_start input.now.anchored ≡ true }
     ensures { result ≡ cond (inputs.is_anchored nfa.now input.now.anchored) start input.now.end }
 {
     match input.get_anchored() {
@@ -133,7 +134,8 @@ fn latest_start<N: Allocator>(nfa: &NFA<N>, input: &Input<'_>, start: usize) -> 
                 input.end()
             }
         }
-        Anchored::Yes | Anchored::Pattern(_) => start,
+        Anchored::Yes => start,
+        Anchored::Pattern(_) => unreachable!(),
     }
 }
 
@@ -152,6 +154,7 @@ fn find_from<N: Allocator, A: Allocator, C: Counter>(
     requires text { text.now ≡ text_of false input.now }
     requires haystack { input.now.end ≤ length input.now.haystack }
     requires limit { input.now.end < 2 ^ 64 }
+    requires mode { has_start input.now.anchored ≡ true }
     requires start { input.now.start ≤ start }
     requires end { start ≤ input.now.end }
     requires places { HasPlaces nfa.now text.now visited.old }
@@ -207,6 +210,7 @@ fn next_match<N: Allocator, A: Allocator, C: Counter>(
     requires text { text.now ≡ text_of false input.now }
     requires haystack { input.now.end ≤ length input.now.haystack }
     requires limit { input.now.end < 2 ^ 64 }
+    requires mode { has_start input.now.anchored ≡ true }
     requires start { input.now.start ≤ start }
     requires end { start ≤ input.now.end }
     requires last { (end : ℕ) → before ≡ Some end → end ≡ start }
@@ -241,7 +245,8 @@ fn find_all_with<N: Allocator, A: Allocator + Copy, C: Counter>(
     input: &Input<'_>,
     counter: &mut C,
 ) -> Result<Vec<Match, A>, AllocError>
-    requires { nfa.now.reverse ≡ false }
+    requires forward { nfa.now.reverse ≡ false }
+    requires start { has_start input.now.anchored ≡ true }
     ensures all { IfOk result (λ found. AreMatches nfa.now input.now None found.items) }
     ensures linear { IsTrue C.counts → C.total counter.new ≤ C.total counter.old
         + most_tries nfa.now (input.now.end - input.now.start) }
@@ -274,15 +279,16 @@ fn find_all_with<N: Allocator, A: Allocator + Copy, C: Counter>(
 /// Returns all matches of an input, in their order, as `plain::find_all` of `determinize_find`.
 ///
 /// The NFA must read forward; it needs no prefix. The bytes next to the range are seen by
-/// assertions. The time is linear in the length of the range, as [`find_all_counted`] says. The
-/// memory is, too: a list for each index of the range, with a byte for each state of the NFA.
-/// `Anchored::Pattern` is taken as `Anchored::Yes`.
+/// assertions. The number of tries is linear in the length of the range, as [`find_all_counted`]
+/// says. The memory is, too: a list for each index of the range, with a byte for each state of the
+/// NFA.
 pub fn find_all<N: Allocator, A: Allocator + Copy>(
     alloc: A,
     nfa: &NFA<N>,
     input: &Input<'_>,
 ) -> Result<Vec<Match, A>, AllocError>
-    requires { nfa.now.reverse ≡ false }
+    requires forward { nfa.now.reverse ≡ false }
+    requires start { has_start input.now.anchored ≡ true }
     ensures { IfOk result (λ found. AreMatches nfa.now input.now None found.items) }
 {
     find_all_with(alloc, nfa, input, &mut ())
@@ -297,7 +303,8 @@ pub fn find_all_counted<N: Allocator, A: Allocator + Copy, L: Ledger>(
     input: &Input<'_>,
     tries: &mut Tries<L>,
 ) -> Result<Vec<Match, A>, AllocError>
-    requires { nfa.now.reverse ≡ false }
+    requires forward { nfa.now.reverse ≡ false }
+    requires start { has_start input.now.anchored ≡ true }
     ensures all { IfOk result (λ found. AreMatches nfa.now input.now None found.items) }
     ensures linear { tries.new ≤ tries.old
         + most_tries nfa.now (input.now.end - input.now.start) }

@@ -1,5 +1,5 @@
 -- What a search over the NFA of a regex finds.
--- Main statements: searched_by, first_of, matches_of, matches_by_runs, all_of, matched_by.
+-- Main statements: searched_by, first_of, matches_of, matches_by_runs, all_of, matched_by, all_in.
 -- Used by: the searches of `Regex`, of `Matcher` and of `Stream`.
 -- Idea: the NFA is that of the patterns, so its leftmost match and its matches are theirs.
 use Rattle.std.specs.Bool.{Decides}
@@ -9,12 +9,13 @@ use Rattle.determinize_below.specs.declared.search.Match.{Match}
 use Rattle.determinize_find.specs.LeftmostIn.{IsLeftmostIn}
 use Rattle.determinize_find.specs.Matches.{AreMatches}
 use Rattle.determinize_find.specs.Regexes.{RegexValue as Searched}
+use Rattle.determinize_find.specs.Streams.{whole}
 use Rattle.determinize_find.proofs.matches.OneList.{each_leftmost_in_is_one}
 use Rattle.determinize_regex.proofs.LeftmostExists.{has_leftmost_of_in}
 use Rattle.determinize_regex.proofs.FoundOfPatterns.{each_leftmost_in_is_of, each_matches_are_of}
 use Rattle.determinize_regex.specs.Private.Searched.{IsSearchOf}
 use Rattle.determinize_regex.specs.PatternMatches.{AreMatchesOf, IsLeftmostOfIn}
-use Rattle.determinize_regex.specs.Regexes.{AreAll, HasFirst, IsFirst, RegexValue, meanings}
+use Rattle.determinize_regex.specs.Regexes.{AreAll, AreAllIn, HasFirst, IsFirst, RegexValue, meanings}
 
 -- what is known of the fields is known of the value that clauses see
 pub searched_by : (search : Searched) (inside seen : RegexValue) → inside ≡ seen
@@ -73,3 +74,9 @@ module _ (regex : RegexValue) (search : Searched) (is : IsSearchOf regex.pattern
           → HasFirst regex asked
       go some (None, h) = absurd (some (none_of h))
       go some (Some m, h) = (m, h)
+
+-- all matches of a text over the NFA of the search in the fields are those of the value that clauses see
+pub all_in : (search : Searched) (inside seen : RegexValue) → inside ≡ seen
+    → IsSearchOf inside.patterns inside.terminator search → (text : List ℕ) (found : List Match)
+    → AreMatches search.nfa (whole text) None found → AreAllIn seen text found
+all_in search inside seen same is text = all_of seen search (searched_by search inside seen same is) (whole text)

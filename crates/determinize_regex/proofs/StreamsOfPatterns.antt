@@ -128,14 +128,14 @@ module _ (patterns : List Pattern) (terminator : ℕ) (search : Searched) (old :
     few_by result few = on_ok_weaker result
         (λ (k : KeptFewInBlocks search.nfa old new piece list after).
         subst (λ v. KeptFewOf v (value_of patterns terminator now new) piece list after) same
-        record { nfa = search.nfa; means = is.regex.means; few = k }) (few is.under_way)
+        record { nfa = search.nfa; means = is.regex.means; apart = is.regex.apart; few = k }) (few is.under_way)
 
 -- a stream that has read nothing, over the NFA of another search
 pub streaming_new : (patterns : List Pattern) (terminator limit : ℕ) (old : Searched) (pieces : Streamed)
     → IsSearchOf patterns terminator old → IsAccepted old.nfa → ((nfa : Nfa) → IsSearching nfa pieces)
     → IsStreaming patterns terminator record { nfa = old.nfa; limit = limit; limit_backward = limit } pieces
 streaming_new patterns terminator limit old pieces is accepted none = record {
-  regex = record { means = is.means; prefix = is.prefix; ends = is.ends; limits = refl };
+  regex = record { means = is.means; prefix = is.prefix; apart = is.apart; ends = is.ends; limits = refl };
   accepted = accepted;
   under_way = none old.nfa;
 }

@@ -46,15 +46,15 @@ EachReplacedIsJoined = (by text : List ℕ) (found : List Match)
     → replaced by text 0 found ≡ join_by (λ (part : List ℕ). part) by (parts text 0 found)
 
 -- a match of pattern 0 of one byte
-abbrev pub byte_at : ℕ → Match
-byte_at start = record { pattern = 0; start = start; end = start + 1 }
+abbrev pub one_byte_match : ℕ → Match
+one_byte_match start = record { pattern = 0; start = start; end = start + 1 }
 
 -- between the commas of `a,b,` are `a`, `b` and nothing
 abbrev pub WorkedParts : Type 0
-WorkedParts = parts (codes "a,b,") 0 (byte_at 1 ∷ byte_at 3 ∷ [])
+WorkedParts = parts (codes "a,b,") 0 (one_byte_match 1 ∷ one_byte_match 3 ∷ [])
     ≡ codes "a" ∷ codes "b" ∷ [] ∷ []
 
 -- and with ` and ` in their place
 abbrev pub WorkedReplaced : Type 0
-WorkedReplaced = replaced (codes " and ") (codes "a,b,") 0 (byte_at 1 ∷ byte_at 3 ∷ [])
+WorkedReplaced = replaced (codes " and ") (codes "a,b,") 0 (one_byte_match 1 ∷ one_byte_match 3 ∷ [])
     ≡ codes "a and b and "

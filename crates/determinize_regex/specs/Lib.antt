@@ -6,3 +6,4 @@ pub mod Private
 pub mod Regexes
 pub mod Spelled
 pub mod Streams
+pub mod Utf8

@@ -1,8 +1,7 @@
 -- The parts of a text between matches, and texts with other bytes in place of matches.
 use Rattle.std.specs.Prelude.{◌≡◌, ◌++◌, ◌∷◌, ℕ, List, [], drop, slice_range}
 use Rattle.determinize_below.specs.declared.search.Match.{Match}
-use Rattle.determinize_find.specs.Streams.{whole}
-use Rattle.determinize_regex.specs.Regexes.{AreAll, RegexValue}
+use Rattle.determinize_regex.specs.Regexes.{AreAllIn, RegexValue}
 
 -- the parts of a text, from an index on, that lie between the matches
 abbrev pub parts : List ℕ → ℕ → List Match → List (List ℕ)
@@ -17,11 +16,11 @@ replaced by text at (m ∷ ms) = slice_range text at m.start ++ by ++ replaced b
 -- these are the parts of a text that lie between all matches of the patterns
 pub record AreParts (regex : RegexValue) (text : List ℕ) (cut : List (List ℕ)) : Type 0 where
   pub matches : List Match
-  pub all : AreAll regex (whole text) matches
+  pub all : AreAllIn regex text matches
   pub are : cut ≡ parts text 0 matches
 
 -- this is a text with these bytes in place of each match of the patterns
 pub record IsReplaced (regex : RegexValue) (text by new : List ℕ) : Type 0 where
   pub matches : List Match
-  pub all : AreAll regex (whole text) matches
+  pub all : AreAllIn regex text matches
   pub is : new ≡ replaced by text 0 matches

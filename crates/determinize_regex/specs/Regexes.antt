@@ -2,6 +2,7 @@
 use Rattle.std.specs.Prelude.{ℕ, List, None, Option, Some, map}
 use Rattle.determinize_below.specs.Search.{Asked}
 use Rattle.determinize_below.specs.declared.search.Match.{Match}
+use Rattle.determinize_find.specs.Streams.{whole}
 use Rattle.determinize_pattern.specs.Meaning.{Re}
 use Rattle.determinize_pattern.specs.Patterns.{meaning}
 use Rattle.determinize_pattern.specs.declared.pattern.Pattern.{Pattern}
@@ -25,6 +26,10 @@ IsFirst regex = IsLeftmostOfIn regex.terminator (meanings regex)
 -- all matches of the patterns in the input, in their order
 abbrev pub AreAll : RegexValue → Asked → List Match → Type 0
 AreAll regex asked = AreMatchesOf regex.terminator (meanings regex) asked None
+
+-- all matches of the patterns in a text, in their order
+abbrev pub AreAllIn : RegexValue → List ℕ → List Match → Type 0
+AreAllIn regex text = AreAll regex (whole text)
 
 -- the patterns have a match in the input
 abbrev pub HasFirst : RegexValue → Asked → Type 0

@@ -5,9 +5,10 @@ use Rattle.determinize_below.specs.declared.search.Match.{Match}
 use Rattle.determinize_find.specs.Matches.{from}
 use Rattle.determinize_find.specs.Streams.{KeptFewInBlocks, Streamed, before, count_kept, count_read}
 use Rattle.determinize_find.specs.Streams.{place, whole}
+use Rattle.determinize_nfa.specs.Prefix.{HasPrefixApart}
 use Rattle.determinize_pattern.specs.Compiled.{IsNfaOf}
 use Rattle.determinize_regex.specs.PatternMatches.{AreMatchesOf}
-use Rattle.determinize_regex.specs.Regexes.{AreAll, RegexValue, meanings}
+use Rattle.determinize_regex.specs.Regexes.{AreAllIn, RegexValue, meanings}
 
 -- what a `Stream` is seen as: the patterns, and how far the search of the pieces has come
 pub record StreamValue : Type 0 where
@@ -17,7 +18,7 @@ pub record StreamValue : Type 0 where
 -- all matches of each text that begins with these bytes begin with these matches
 abbrev pub BeginAll : RegexValue → List ℕ → List Match → Type 0
 BeginAll regex text given = (more : List ℕ) → All (λ b. b < 256) more
-    → (ms : List Match) × AreAll regex (whole (text ++ more)) (given ++ ms)
+    → (ms : List Match) × AreAllIn regex (text ++ more) (given ++ ms)
 
 -- these bytes were read and these matches were found: they are the first matches of each text that
 -- begins with the bytes, and those from the place on are the others
@@ -28,7 +29,7 @@ pub record IsStreamOf (s : StreamValue) (text : List ℕ) (given : List Match) :
   pub others : (more : List ℕ) → All (λ b. b < 256) more → (ms : List Match)
       → AreMatchesOf s.regex.terminator (meanings s.regex)
       (from (whole (text ++ more)) (place s.pieces)) (before s.pieces) ms
-      → AreAll s.regex (whole (text ++ more)) (given ++ ms)
+      → AreAllIn s.regex (text ++ more) (given ++ ms)
 
 -- some more bytes were read, and some more matches were added to a list; no more bytes are kept
 -- than before and those
@@ -46,11 +47,13 @@ abbrev pub IsPartFedOf : StreamValue → StreamValue → List ℕ → List Match
 IsPartFedOf old new piece list after =
     (count : ℕ) × (count ≤ length piece) × IsFedOf old new (take count piece) list after
 
--- few bytes were kept at the end of each block of a piece, by an NFA of the patterns
+-- few bytes were kept at the end of each block of a piece, by an NFA of the patterns whose prefix is
+-- apart
 pub record KeptFewOf (old new : StreamValue) (piece : List ℕ) (list after : List Match)
     : Type 0 where
   pub nfa : Nfa
   pub means : IsNfaOf (meanings old.regex) nfa
+  pub apart : HasPrefixApart nfa
   pub few : KeptFewInBlocks nfa old.pieces new.pieces piece list after
 
 -- the matches that are left, where the text ends, were added to a list
@@ -58,4 +61,4 @@ pub record IsFinishedOf (s : StreamValue) (list after : List Match) : Type 0 whe
   pub found : List Match
   pub added : after ≡ list ++ found
   pub all : (text : List ℕ) (given : List Match) → IsStreamOf s text given
-      → AreAll s.regex (whole text) (given ++ found)
+      → AreAllIn s.regex text (given ++ found)

@@ -14,8 +14,11 @@ pub mod matcher;
 pub mod regex;
 mod split;
 pub mod stream;
+pub mod utf8;
 
-pub use determinize_below::{Anchored, Input, Look, LookMatcher, Match, NFA};
+pub use determinize_below::{
+    Anchored, BuildError, Input, Look, LookMatcher, Match, NFA, PatternID,
+};
 pub use determinize_pattern::{ClassBytes, ClassBytesRange, CompileError, Config, Pattern};
 pub use determinize_syntax::{ErrorKind, Flags, ParseError};
 pub use error::Error;

@@ -4,7 +4,7 @@ ghost use Rattle.std.specs.Prelude.{◌≡◌, ◌≤◌, ◌∷◌, [], IfOk, m
 ghost use Rattle.std.specs.Bool.{Decides};
 ghost use Rattle.std.specs.Option.{IfSome};
 ghost use Rattle.determinize_engine.specs.Searches.{has_start};
-ghost use Rattle.determinize_nfa.specs.Prefix.{HasPrefix};
+ghost use Rattle.determinize_nfa.specs.Prefix.{HasPrefix, HasPrefixApart};
 ghost use Rattle.determinize_pattern.specs.Compiled.{IsNfaOf};
 ghost use Rattle.determinize_pattern.specs.Patterns.{meaning};
 ghost use Rattle.determinize_regex.specs.Parts.{AreParts, IsReplaced};
@@ -151,6 +151,7 @@ impl Regex {
         ensures means { IsNfaOf (map meaning self.now.patterns) result.now }
         ensures forward { result.now.reverse ≡ false }
         ensures prefix { HasPrefix result.now }
+        ensures separate { HasPrefixApart result.now }
         ensures terminator { result.now.terminator ≡ self.now.terminator }
     {
         self.search.nfa()

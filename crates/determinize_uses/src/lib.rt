@@ -3,7 +3,7 @@
 //!
 //! - [`values`] makes one value of each small type: sets, start kinds, closures, states.
 //! - [`nfa`] makes an NFA by hand, and [`built`] one by a `Builder`.
-//! - [`words`] is a struct that owns patterns from their texts, and finds all their matches.
+//! - [`words`] returns a search for two patterns that owns them, and finds all their matches.
 //!   [`patterns`] finds the leftmost match of pattern values.
 //! - [`scanner`] finds all matches of a haystack, and [`lexer`] the longest token at each position.
 //!   [`steady`] finds all matches and never allocates while it runs.

@@ -1,34 +1,19 @@
-//! Patterns from their texts, in a struct that owns them.
+//! The numbers and the names of a text.
 
-ghost use Rattle.std.specs.Prelude.{◌≡◌, IfOk, length};
-ghost use Rattle.determinize_below.specs.declared.search.Anchored.TheVariants.{No};
-ghost use Rattle.determinize_regex.specs.Regexes.{AreAll};
+ghost use Rattle.std.specs.Prelude.{IfOk};
+ghost use Rattle.determinize_regex.specs.Regexes.{AreAllIn};
 
 use determinize_regex::{Error, Input, Match, Regex, RegexConfig};
 use std::alloc::{AllocError, Global};
 
-/// The numbers and the names in a text.
-#[derive(Drop)]
-pub struct Words {
-    regex: Regex,
+/// Returns a search for numbers, which are matches of pattern 0, and names, pattern 1.
+pub fn words(alloc: Global) -> Result<Regex, Error> {
+    Regex::new_many(alloc, &["[0-9]+", "[A-Z][a-z]*"], RegexConfig::new())
 }
 
-impl Words {
-    /// Returns a search for numbers, which are matches of pattern 0, and names, pattern 1.
-    pub fn new(alloc: Global) -> Result<Words, Error> {
-        let regex = Regex::new_many(alloc, &["[0-9]+", "[A-Z][a-z]*"], RegexConfig::new())?;
-        Ok(Words { regex })
-    }
-
-    /// Returns all of them, in their order.
-    pub fn find_all(&mut self, alloc: Global, text: &[u8]) -> Result<Vec<Match>, AllocError>
-        ensures { IfOk result (λ found. AreAll self.old.regex record {
-          haystack = text.now;
-          start = 0;
-          end = length text.now;
-          anchored = No;
-        } found.items) }
-    {
-        self.regex.find_all(alloc, &Input::new(text))
-    }
+/// Returns all matches of a regex in a text, in their order.
+pub fn find_all(alloc: Global, regex: &mut Regex, text: &[u8]) -> Result<Vec<Match>, AllocError>
+    ensures all { IfOk result (λ found. AreAllIn regex.old text.now found.items) }
+{
+    regex.find_all(alloc, &Input::new(text))
 }

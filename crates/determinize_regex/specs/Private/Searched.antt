@@ -3,16 +3,18 @@ use Rattle.std.specs.Prelude.{◌≡◌, ℕ, List, map}
 use Rattle.determinize_below.specs.Nfa.{IsAccepted}
 use Rattle.determinize_find.specs.Regexes.{RegexValue}
 use Rattle.determinize_find.specs.Streams.{IsSearching, Streamed}
-use Rattle.determinize_nfa.specs.Prefix.{HasPrefix}
+use Rattle.determinize_nfa.specs.Prefix.{HasPrefix, HasPrefixApart}
 use Rattle.determinize_pattern.specs.Compiled.{IsNfaOf}
 use Rattle.determinize_pattern.specs.Patterns.{meaning}
 use Rattle.determinize_pattern.specs.declared.pattern.Pattern.{Pattern}
 
--- it is one over an NFA of the patterns, with the usual prefix, and its two caches have one limit
+-- it is one over an NFA of the patterns, with the usual prefix, which is apart, and its two caches
+-- have one limit
 pub record IsSearchOf (patterns : List Pattern) (terminator : ℕ) (search : RegexValue)
     : Type 0 where
   pub means : IsNfaOf (map meaning patterns) search.nfa
   pub prefix : HasPrefix search.nfa
+  pub apart : HasPrefixApart search.nfa
   pub ends : search.nfa.terminator ≡ terminator
   pub limits : search.limit_backward ≡ search.limit
 

@@ -4,7 +4,7 @@
 use crate::tests::find::expect_matches;
 use crate::tests::{expect_text, same};
 use determinize_regex::{Error, ErrorKind, Input, Matcher, ParseError, Regex, RegexConfig, Stream};
-use determinize_uses::words::Words;
+use determinize_uses::words;
 use std::process::Abort;
 
 /// Compares whether a `Regex` of `a|ab` has a match in two texts, and the first match.
@@ -26,10 +26,8 @@ fn expect_all<R: Abort + AllocGlobal>(rt: &R, matcher: &mut Matcher<'_>) {
 
 #[test]
 fn numbers_and_names(rt: HostRuntime) {
-    let mut words = Words::new(rt.alloc()).expect(&rt, "two patterns");
-    let found = words
-        .find_all(rt.alloc(), b"In 1984 Ada")
-        .expect(&rt, "memory");
+    let mut regex = words::words(rt.alloc()).expect(&rt, "two patterns");
+    let found = words::find_all(rt.alloc(), &mut regex, b"In 1984 Ada").expect(&rt, "memory");
     expect_matches(&rt, &found, &[(1, 0, 2), (0, 3, 7), (1, 8, 11)]);
 }
 

@@ -5,6 +5,7 @@ pub invariant_of-result : goal.invariant_of-result
 invariant_of-result g c = rw (c.new.ensures, c.nfa.ensures.value) record {
   means = c.requires.means;
   prefix = c.requires.prefix;
+  apart = c.requires.apart;
   ends = c.requires.ends;
   limits = refl;
 }

@@ -1,14 +1,12 @@
 use Rattle.std.proofs.lemmas.Result.{IfOk-weaker}
-use Rattle.determinize_find.specs.Streams.{whole}
-use Rattle.determinize_regex.proofs.FoundByRegex.{all_of, searched_by}
+use Rattle.determinize_regex.proofs.FoundByRegex.{all_in}
 use Rattle.determinize_regex.proofs.matcher.Matcher.replace_all.Goals as goal
 
 pub returns-clause-replaced : goal.returns-clause-replaced
 returns-clause-replaced g c =
-    let is = searched_by c.self.inside.search _ c.args.self.now c.self.view_is c.self.invariant in
     IfOk-weaker c.replace.result _ _ (λ new is_new. record {
       matches = c.in_ok-found.found.items;
-      all = all_of c.args.self.now c.self.inside.search is (whole c.args.haystack.now) c.in_ok-found.found.items
-          c.in_ok-found.ensures.all;
+      all = all_in c.self.inside.search _ c.args.self.now c.self.view_is c.self.invariant c.args.haystack.now
+          c.in_ok-found.found.items c.in_ok-found.ensures.all;
       is = is_new;
     }) (rw c.deref.ensures.value at c.replace.ensures)

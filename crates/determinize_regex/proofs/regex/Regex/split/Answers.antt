@@ -1,14 +1,12 @@
 use Rattle.std.proofs.lemmas.Result.{IfOk-weaker}
-use Rattle.determinize_find.specs.Streams.{whole}
-use Rattle.determinize_regex.proofs.FoundByRegex.{all_of, searched_by}
+use Rattle.determinize_regex.proofs.FoundByRegex.{all_in}
 use Rattle.determinize_regex.proofs.regex.Regex.split.Goals as goal
 
 pub returns-clause-parts : goal.returns-clause-parts
 returns-clause-parts g c =
-    let is = searched_by c.self.inside.search _ c.args.self.now c.self.view_is c.self.invariant in
     IfOk-weaker c.split_at.result _ _ (λ cut are. record {
       matches = c.in_ok-found.found.items;
-      all = all_of c.args.self.now c.self.inside.search is (whole c.args.haystack.now) c.in_ok-found.found.items
-          c.in_ok-found.ensures.all;
+      all = all_in c.self.inside.search _ c.args.self.now c.self.view_is c.self.invariant c.args.haystack.now
+          c.in_ok-found.found.items c.in_ok-found.ensures.all;
       are = are;
     }) (rw c.deref.ensures.value at c.split_at.ensures)
