@@ -1,3 +1,4 @@
+mod characters
 mod classes
 mod compiled
 pub mod entries

@@ -1,8 +1,9 @@
 -- Laws of the ends of patterns and of compiled NFAs.
-use Rattle.std.specs.Prelude.{◌↔◌, ℕ, Contains, List, Option}
-use Rattle.determinize_below.specs.Semantics.{Nfa, Text}
+use Rattle.std.specs.Prelude.{◌≡◌, ◌↔◌, ℕ, Bool, Contains, List, None, Option, [], ◌∷◌, false}
+use Rattle.determinize_below.specs.Semantics.{Nfa, Text, between}
 use Rattle.determinize_below.specs.declared.search.Match.{Match}
 use Rattle.determinize_nfa.specs.Leftmost.{IsLeftmost}
+use Rattle.determinize_pattern.specs.Characters.{IsCharClass, is_char_chosen}
 use Rattle.determinize_pattern.specs.Compiled.{IsNfaOf}
 use Rattle.determinize_pattern.specs.LeftmostOf.{IsLeftmostOf}
 use Rattle.determinize_pattern.specs.Meaning.{Matches, Re, ends}
@@ -11,6 +12,16 @@ use Rattle.determinize_pattern.specs.Meaning.{Matches, Re, ends}
 abbrev pub EachEndMatches : Type 0
 EachEndMatches = (t : ℕ) (text : Text) (re : Re) (i j : ℕ)
     → Contains (ends t text re i) j ↔ Matches t text re i j
+
+-- the class of the character U+00E9 matches its two bytes
+abbrev pub AccentMatches : Type 0
+AccentMatches = (t : ℕ) (re : Re) → IsCharClass (is_char_chosen ((0xE9, 0xE9) ∷ []) false) re
+    → Matches t (between None (0xC3 ∷ 0xA9 ∷ []) None) re 0 2
+
+-- from each position, a class of characters matches to one position at most
+abbrev pub EachCharEndsOnce : Type 0
+EachCharEndsOnce = (test : ℕ → Bool) (re : Re) → IsCharClass test re
+    → (t : ℕ) (text : Text) (i j k : ℕ) → Matches t text re i j → Matches t text re i k → j ≡ k
 
 -- the leftmost match of the runs of an NFA of patterns is that of the patterns
 abbrev pub EachLeftmostIsOf : Type 0

@@ -1,3 +1,4 @@
+pub mod Characters
 pub mod Classes
 pub mod Compiled
 pub mod Examples

@@ -1,3 +1,4 @@
+pub mod Characters
 pub mod Compiling
 pub mod Dropping
 pub mod Entries

@@ -1,7 +1,7 @@
 //! Patterns as values, and their compilation to an NFA that is proved to have their meaning.
 //!
 //! - [`pattern`] is the type of patterns, with a constructor for each kind.
-//! - [`class`] is that of classes of bytes.
+//! - [`class`] is that of classes of bytes, and [`chars`] that of ranges of characters.
 //! - [`nfa`] compiles several patterns, of which the first is preferred, to one NFA.
 //! - [`laws`] are laws of the meaning and of compiled NFAs that callers may use in addition to the
 //!   contracts.
@@ -11,6 +11,7 @@
 #![tactic(auto)]
 
 mod always_reads;
+pub mod chars;
 pub mod class;
 mod compiler;
 mod display;
@@ -19,7 +20,9 @@ mod nesting;
 pub mod nfa;
 mod parts;
 pub mod pattern;
+mod utf8;
 
+pub use chars::ClassUnicodeRange;
 pub use class::{ClassBytes, ClassBytesRange};
 pub use nfa::{CompileError, Config, compile};
 pub use pattern::Pattern;

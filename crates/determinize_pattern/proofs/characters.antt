@@ -1,0 +1,4 @@
+pub mod Branches
+pub mod Gathering
+pub mod Utf8
+pub mod Written
