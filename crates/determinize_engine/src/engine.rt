@@ -8,11 +8,14 @@ ghost use Rattle.determinize_engine.specs.Engines.{EngineValue};
 ghost use Rattle.determinize_engine.specs.Searches.{HasMatch, IsFarthestIn, IsPreferredIn, has_start, last_in};
 
 use determinize_below::{HalfMatch, Input};
+use std::alloc::AllocError;
+use std::convert::Infallible;
 
 /// A DFA that searches inputs for the matches of one NFA under one match kind.
 ///
 /// It is implemented for `Lazy` of `determinize_lazy`, and for a reference to a whole DFA of
-/// `determinize_dense`, so that one whole DFA may serve several searches at once.
+/// `determinize_dense`, so that one whole DFA may serve several searches at once. A `&mut` to an
+/// engine is an engine too, so that a search may borrow it.
 pub trait Engine {
     /// The error of a search: `AllocError`, or `Infallible` if no search fails.
     type Error: Drop;
@@ -43,4 +46,43 @@ pub trait Engine {
             (λ found. Decides found (HasMatch (engine self.old).nfa input.now)) }
         ensures done { is_done input.now ≡ true → result ≡ Ok false }
         ensures same { engine self.new ≡ engine self.old };
+}
+
+impl<E: Engine> Engine for &mut E {
+    type Error = E::Error;
+
+    ghost engine = { λ e. E.engine e.now };
+
+    #[inline(always)]
+    fn search_input(&mut self, input: &Input<'_>) -> Result<Option<HalfMatch>, E::Error> {
+        (**self).search_input(input)
+    }
+
+    #[inline(always)]
+    fn is_match(&mut self, input: &Input<'_>) -> Result<bool, E::Error> {
+        (**self).is_match(input)
+    }
+}
+
+/// An engine that cannot fail, as one whose error is `AllocError`: a whole DFA can then be paired
+/// with a lazy one, as two engines of one error.
+#[derive(Drop)]
+pub struct WithAllocError<E>(pub E);
+
+impl<E: Engine<Error = Infallible>> Engine for WithAllocError<E> {
+    type Error = AllocError;
+
+    ghost engine = { λ e. E.engine e.0 };
+
+    #[inline(always)]
+    fn search_input(&mut self, input: &Input<'_>) -> Result<Option<HalfMatch>, AllocError> {
+        let Ok(found) = self.0.search_input(input);
+        Ok(found)
+    }
+
+    #[inline(always)]
+    fn is_match(&mut self, input: &Input<'_>) -> Result<bool, AllocError> {
+        let Ok(found) = self.0.is_match(input);
+        Ok(found)
+    }
 }

@@ -2,7 +2,8 @@
 //! `determinize_dense`. Both step from state to state as `determinize_core` does, over the same
 //! texts; they differ in where they keep transitions.
 //!
-//! - [`engine`] is their trait, so that a caller, as `determinize_find`, may take either.
+//! - [`engine`] is their trait, so that a caller, as `determinize_find`, may take either, or one of
+//!   each ([`WithAllocError`]).
 //! - [`text`] is what a search of an input reads: the byte behind, on which the start state
 //!   depends; the bytes of the range, forward or backward; the byte ahead, or the end of input
 //!   (EOI).
@@ -17,4 +18,4 @@ pub mod state_table;
 #[doc(hidden)]
 pub mod text;
 
-pub use crate::engine::Engine;
+pub use crate::engine::{Engine, WithAllocError};
