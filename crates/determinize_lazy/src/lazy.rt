@@ -4,15 +4,17 @@
 //! the target of one that is added cannot be cached. No single state or transition is ever removed,
 //! so between two clears the id of a cached state stays the same.
 
-ghost use Rattle.std.specs.Prelude.{◌≡◌, ◌<◌, ◌≤◌, ◌*◌, length, IfOk, OnErr, OnOk};
+ghost use Rattle.std.specs.Prelude.{◌≡◌, ◌<◌, ◌≤◌, ◌*◌, ◌++◌, ◌∷◌, [], length, IfOk, OnErr, OnOk};
 ghost use Rattle.determinize_below.specs.Nfa.{AllResolve, IsAccepted};
 ghost use Rattle.determinize_below.specs.Semantics.{between};
 ghost use Rattle.determinize_core.specs.Chain.{future, units};
+ghost use Rattle.determinize_core.specs.Step.{start_value};
 ghost use Rattle.determinize_core.specs.WholeWalk.{IsWalk};
 ghost use Rattle.determinize_engine.specs.declared.state_table.TheConstants.{MAX_STATES};
 ghost use Rattle.determinize_lazy.specs.Cache.{Grows, IsCutOff, IsCutOffText, after_text, after_walk, cache, step_of};
 ghost use Rattle.determinize_lazy.specs.Plenty.{IsPlentyText};
-ghost use Rattle.determinize_lazy.specs.Private.Steps.{IsFollowed};
+ghost use Rattle.determinize_lazy.specs.Private.Steps.{IsFollowed, IsSound};
+ghost use Rattle.determinize_table.specs.Cursors.{IsCursor, cursor_value};
 ghost use Rattle.determinize_table.specs.Table.{IsTable, empty};
 
 use crate::view::View;
@@ -202,37 +204,76 @@ impl<'n, N: Allocator, A: Allocator + Copy> Lazy<'n, N, A> {
         Ok((id, read))
     }
 
-    /// Returns a state and the states that follow it over each unit of a text.
-    fn walk_from(
+    /// Adds a clone of the state at a cursor.
+    fn push_state(
+        &self,
+        cursor: &Cursor<A>,
+        states: &mut Vec<State<A>, A>,
+    ) -> Result<(), AllocError>
+        requires { IsCursor self.now.states cursor.now }
+        ensures { OnOk result (states.new.items
+            ≡ states.old.items ++ cursor_value self.now.states cursor.now ∷ []) }
+    {
+        states.push(self.table.state(cursor).clone()?)?;
+        Ok(())
+    }
+
+    /// Takes the steps of a walk over a text from its first state, and adds a clone of each state
+    /// that follows.
+    fn walk_on(
         &mut self,
-        first: State<A>,
+        first: Cursor<A>,
         text: &Text<'_>,
-    ) -> Result<Vec<State<A>, A>, AllocError>
-        requires { AllResolve self.old.nfa first.states }
-        ensures values { IfOk result (λ states. states.items
-            ≡ future self.old.nfa self.old.kind first (units text.now)) }
-        ensures after { OnOk result (cache self.new
-            ≡ after_walk (cache self.old) first (units text.now)) }
-        ensures failed { OnErr result (IsCutOff (cache self.old) first (units text.now)
-            (cache self.new)) }
+        states: &mut Vec<State<A>, A>,
+    ) -> Result<(), AllocError>
+        requires cursor { IsCursor self.old.states first }
+        requires resolve { AllResolve self.old.nfa (cursor_value self.old.states first).states }
+        requires begun { states.old.items ≡ cursor_value self.old.states first ∷ [] }
+        ensures values { OnOk result (states.new.items ≡ future self.old.nfa self.old.kind
+            (cursor_value self.old.states first) (units text.now)) }
+        ensures after { OnOk result (cache self.new ≡ after_walk (cache self.old)
+            (cursor_value self.old.states first) (units text.now)) }
+        ensures failed { OnErr result (IsCutOff (cache self.old)
+            (cursor_value self.old.states first) (units text.now) (cache self.new)) }
         ensures grows { Grows (cache self.old) (cache self.new) }
     {
-        let mut states = Vec::with_capacity(self.alloc, text.len() + 2)?;
-        let mut cursor = self.cursor_of(&first, None)?;
-        states.push(first)?;
+        let mut cursor = first;
         let mut read = 0;
         while read <= text.len() {
             let unit = text.unit(read);
             cursor = self.step(cursor, unit)?;
-            states.push(self.table.state(&cursor).clone()?)?;
+            self.push_state(&cursor, states)?;
             read += 1;
             if let Cursor::Cached(id) = &cursor {
-                let (id, next) = self.follow_units(*id, read, text, &mut states)?;
+                let (id, next) = self.follow_units(*id, read, text, states)?;
                 cursor = Cursor::Cached(id);
                 read = next;
             }
         }
-        Ok(states)
+        Ok(())
+    }
+
+    /// Adds the states of a walk over a text to a list that has none.
+    fn walk_from(
+        &mut self,
+        start: StateID,
+        text: &Text<'_>,
+        states: &mut Vec<State<A>, A>,
+    ) -> Result<(), AllocError>
+        requires start { start < length self.old.nfa.states }
+        requires none { states.old.items ≡ [] }
+        ensures values { OnOk result (states.new.items ≡ future self.old.nfa self.old.kind
+            (start_value self.old.nfa start text.now.behind) (units text.now)) }
+        ensures after { OnOk result (cache self.new ≡ after_walk (cache self.old)
+            (start_value self.old.nfa start text.now.behind) (units text.now)) }
+        ensures failed { OnErr result (IsCutOff (cache self.old)
+            (start_value self.old.nfa start text.now.behind) (units text.now) (cache self.new)) }
+        ensures sound { IsSound (cache self.old) }
+        ensures grows { Grows (cache self.old) (cache self.new) }
+    {
+        let first = self.start(start, text.behind())?;
+        self.push_state(&first, states)?;
+        self.walk_on(first, text, states)
     }
 
     /// Returns the states of a walk over a text, as `walk` of `determinize_core` does: the start
@@ -282,7 +323,9 @@ impl<'n, N: Allocator, A: Allocator + Copy> Lazy<'n, N, A> {
             (between look_behind text.now look_ahead) (cache self.new)) }
         ensures grows { Grows (cache self.old) (cache self.new) }
     {
-        let first = self.start_state(start, look_behind)?;
-        self.walk_from(first, &Text::new(look_behind, text, look_ahead))
+        let text = Text::new(look_behind, text, look_ahead);
+        let mut states = Vec::with_capacity(self.alloc, text.len() + 2)?;
+        self.walk_from(start, &text, &mut states)?;
+        Ok(states)
     }
 }

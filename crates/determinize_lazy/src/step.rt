@@ -1,9 +1,9 @@
 //! Steps of walks and searches: over a cached transition, or computed and cached by the rule.
 //!
-//! The start states of searches are kept by the kind of their start, which is all that they depend
-//! on besides the NFA state. Only starts from the two start states of the NFA are kept, and the
-//! table drops them when it is cleared. A search computes its start state if no id of it is kept:
-//! from any other NFA state always, and else until a search has found the state cached.
+//! The start states of walks and searches are kept by the kind of their start, which is all that
+//! they depend on besides the NFA state. Only starts from the two start states of the NFA are kept,
+//! and the table drops them when it is cleared. A start state is computed if no id of it is kept:
+//! from any other NFA state always, and else until the state was found cached.
 
 ghost use Rattle.std.specs.Prelude.{Decides, ◌≡◌, ◌<◌, ℕ, false, length, IfOk, OnOk};
 ghost use Rattle.determinize_below.specs.Nfa.{AllResolve};
@@ -47,9 +47,9 @@ impl<'n, N: Allocator, A: Allocator + Copy> Lazy<'n, N, A> {
         self.stepper.start(start, look_behind)
     }
 
-    /// Returns where a search begins. If `start` is one of the two start states of the NFA and the
-    /// start state is cached, its id is kept: the next search from it looks up and computes nothing
-    /// to begin.
+    /// Returns where a walk or a search begins. If `start` is one of the two start states of the
+    /// NFA and the start state is cached, its id is kept: the next one from it looks up and
+    /// computes nothing to begin.
     #[inline(always)]
     pub(crate) fn start(
         &mut self,
@@ -65,7 +65,8 @@ impl<'n, N: Allocator, A: Allocator + Copy> Lazy<'n, N, A> {
         }
     }
 
-    /// Returns where a search begins whose start is not kept, and keeps it if it is cached.
+    /// Returns where a walk or a search begins whose start is not kept, and keeps it if it is
+    /// cached.
     #[cold]
     #[inline(never)]
     pub(crate) fn find_start(

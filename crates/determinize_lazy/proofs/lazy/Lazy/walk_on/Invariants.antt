@@ -1,11 +1,11 @@
 use Rattle.determinize_lazy.proofs.Common.{AllResolve, cache, cursor_value, drop, Grows, IsCursor, IsWalking, length}
 use Rattle.determinize_lazy.proofs.Common.{units, ◌+◌, ◌-◌}
-use Rattle.determinize_lazy.proofs.lazy.Lazy.walk_from.Given as goal
+use Rattle.determinize_lazy.proofs.lazy.Lazy.walk_on.Given as goal
 
 abbrev pub invariant-loop-read : goal.invariant-loop-read
 invariant-loop-read g l = record {
-  walking : IsWalking (cache l.fn.self) l.fn.first (units l.text) l.states.items (cache l.self)
-      (cursor_value l.self.states l.cursor) (drop l.read (units l.text));
+  walking : IsWalking (cache l.fn.self) (cursor_value l.fn.self.states l.fn.first) (units l.text) l.states.items
+      (cache l.self) (cursor_value l.self.states l.cursor) (drop l.read (units l.text));
   resolve : AllResolve l.self.nfa (cursor_value l.self.states l.cursor).states;
   cursor : IsCursor l.self.states l.cursor;
   grows : Grows (cache l.fn.self) (cache l.self);
