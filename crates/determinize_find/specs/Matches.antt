@@ -17,6 +17,11 @@ abbrev pub touches : Option ℕ → Match → Bool
 touches None m = false
 touches (Some end) m = nat_eq m.start m.end && nat_eq m.end end
 
+-- whether there is a match and it touches the one before it
+abbrev pub is_touching : Option ℕ → Option Match → Bool
+is_touching before None = false
+is_touching before (Some m) = touches before m
+
 -- the leftmost match; if it touches the one before, the leftmost match from one byte further on
 abbrev pub IsTakenBy : (Asked → Option Match → Type 0) → Asked → Option ℕ → Option Match
     → Option Match → Type 0

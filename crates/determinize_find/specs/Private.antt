@@ -3,5 +3,5 @@ pub mod BestAt
 pub mod Left
 pub mod Pairs
 pub mod Places
-pub mod Touching
+pub mod Plains
 pub mod Windows

@@ -1,17 +1,16 @@
-//! A cursor over all matches of an input.
+//! A cursor over all matches of an input, and the list of them, by any finder.
 
-ghost use Rattle.std.specs.Prelude.{◌≡◌, ◌+◌, ◌≤◌, None, true, IfOk, OnErr};
-ghost use Rattle.std.specs.Option.{IfSome};
+ghost use Rattle.std.specs.Prelude.{◌≡◌, ◌+◌, ◌≤◌, None, false, true, IfOk, OnErr};
+ghost use Rattle.std.specs.Option.{IfNone, IfSome};
 ghost use Rattle.determinize_engine.specs.Searches.{has_start};
 ghost use Rattle.determinize_find.specs.Cursors.{after_match};
 ghost use Rattle.determinize_find.specs.LeftmostIn.{IsLeftmostIn};
 ghost use Rattle.determinize_find.specs.Matches as matches;
-ghost use Rattle.determinize_find.specs.Matches.{IsNext};
-ghost use Rattle.determinize_find.specs.Private.Touching as touching;
+ghost use Rattle.determinize_find.specs.Matches.{AreMatches, IsNext};
 
-use crate::regex::Regex;
+use crate::finder::Finder;
 use determinize_below::{Input, Match};
-use determinize_lazy::Engine;
+use std::alloc::{AllocError, Allocator};
 use std::marker::Model;
 
 /// A cursor over the matches of an input, in their order.
@@ -56,55 +55,108 @@ impl<'h> Searcher<'h> {
         }
     }
 
-    /// Returns the leftmost match of the rest of the input without its first byte.
-    fn find_further<F: Engine, B: Engine<Error = F::Error>>(
-        &self,
-        regex: &mut Regex<F, B>,
-    ) -> Result<Option<Match>, F::Error>
-        ensures leftmost { IfOk result (λ found. IsLeftmostIn regex.old.nfa
-            (matches.from self.now.asked (self.now.asked.start + 1)) found) }
-        ensures within { IfOk result (λ found. IfSome found
-            (λ m. m.end ≤ self.now.asked.end)) }
-        ensures same { regex.new ≡ regex.old }
-    {
-        let (start, end) = (self.input.start(), self.input.end());
-        if start >= end {
-            return Ok(None);
-        }
-        let further = Input::new(self.input.haystack())
-            .range(start + 1..end)
-            .anchored(self.input.get_anchored());
-        regex.find(&further)
-    }
-
     /// Returns the next match, and moves the cursor behind it. After the last match the result is
     /// `Ok(None)`. If the result is `Ok(None)` or an error, the cursor does not move.
     ///
     /// The next match is the leftmost one from the end of the match before. But if it is empty and
     /// begins where the one before ended, it is skipped: the next match is then the leftmost one
     /// from one byte further on.
-    pub fn advance<F: Engine, B: Engine<Error = F::Error>>(
-        &mut self,
-        regex: &mut Regex<F, B>,
-    ) -> Result<Option<Match>, F::Error>
+    pub fn advance<F: Finder>(&mut self, finder: &mut F) -> Result<Option<Match>, F::Error>
         ensures next { IfOk result
-            (λ found. IsNext regex.old.nfa self.old.asked self.old.before found) }
+            (λ found. IsNext (F.nfa finder.old) self.old.asked self.old.before found) }
         ensures after { IfOk result (λ found. self.new ≡ after_match self.old found) }
         ensures failed { OnErr result (self.new ≡ self.old) }
-        ensures same { regex.new ≡ regex.old }
+        ensures same { finder.new ≡ finder.old }
     {
-        let first = regex.find(&self.input)?;
-        let found = if is_touching(self.last_match_end, &first) {
-            self.find_further(regex)?
-        } else {
-            first
-        };
+        let found = next_match(finder, &self.input, self.last_match_end)?;
         if let Some(found) = &found {
             self.input.set_start(found.end);
             self.last_match_end = Some(found.end);
         }
         Ok(found)
     }
+
+    /// Moves the cursor as `advance` does, and returns any error as `AllocError`.
+    fn advance_with_alloc_error<F: Finder>(
+        &mut self,
+        finder: &mut F,
+    ) -> Result<Option<Match>, AllocError>
+        ensures next { IfOk result
+            (λ found. IsNext (F.nfa finder.old) self.old.asked self.old.before found) }
+        ensures after { IfOk result (λ found. self.new ≡ after_match self.old found) }
+        ensures same { finder.new ≡ finder.old }
+    {
+        let Ok(found) = self.advance(finder) else {
+            return Err(AllocError);
+        };
+        Ok(found)
+    }
+}
+
+/// Returns all matches of an input, in their order. Only the list is allocated from `alloc`.
+/// Returns `AllocError` if that fails, or if a search does.
+pub fn find_all<F: Finder, C: Allocator>(
+    alloc: C,
+    finder: &mut F,
+    input: &Input<'_>,
+) -> Result<Vec<Match, C>, AllocError>
+    requires start { has_start input.now.anchored ≡ true }
+    ensures all { IfOk result
+        (λ found. AreMatches (F.nfa finder.old) input.now None found.items) }
+    ensures same { finder.new ≡ finder.old }
+{
+    let whole = Input::new(input.haystack())
+        .range(input.start()..input.end())
+        .anchored(input.get_anchored());
+    let mut searcher = Searcher::new(whole);
+    let mut all = Vec::new(alloc);
+    while let Some(found) = searcher.advance_with_alloc_error(finder)? {
+        all.push(found)?;
+    }
+    Ok(all)
+}
+
+/// Returns the match of an input that follows a match which ended at `before`.
+fn next_match<F: Finder>(
+    finder: &mut F,
+    input: &Input<'_>,
+    before: Option<usize>,
+) -> Result<Option<Match>, F::Error>
+    requires start { has_start input.now.anchored ≡ true }
+    ensures next { IfOk result
+        (λ found. IsNext (F.nfa finder.old) input.now before found) }
+    ensures within { IfOk result (λ found. IfSome found (λ m. m.end ≤ input.now.end)) }
+    ensures same { finder.new ≡ finder.old }
+{
+    let first = finder.find(input)?;
+    match further(input, before, &first) {
+        Some(rest) => finder.find(&rest),
+        None => Ok(first),
+    }
+}
+
+/// Returns the input without its first byte if its leftmost match is skipped: if that is empty, and
+/// begins where the match before it ended. The next match is then the leftmost one of the result.
+pub(crate) fn further<'h>(
+    input: &Input<'h>,
+    before: Option<usize>,
+    first: &Option<Match>,
+) -> Option<Input<'h>>
+    requires { IfSome first.now (λ m.
+        (input.now.start ≤ m.start) × (m.start ≤ m.end) × (m.end ≤ input.now.end)) }
+    ensures rest { IfSome result
+        (λ rest. rest ≡ matches.from input.now (input.now.start + 1)) }
+    ensures skipped { IfSome result (λ rest. matches.is_touching before first.now ≡ true) }
+    ensures next { IfNone result (matches.is_touching before first.now ≡ false) }
+{
+    if is_touching(before, first) {
+        let (haystack, start, end) = (input.haystack(), input.start(), input.end());
+        let rest = Input::new(haystack)
+            .range(start + 1..end)
+            .anchored(input.get_anchored());
+        return Some(rest);
+    }
+    None
 }
 
 /// Returns whether the match is empty and begins where the match before it ended.
@@ -117,9 +169,10 @@ pub(crate) fn touches(before: Option<usize>, found: &Match) -> bool
     }
 }
 
-/// Returns whether there is a match and it touches the one before it.
-pub(crate) fn is_touching(before: Option<usize>, found: &Option<Match>) -> bool
-    ensures { result ≡ touching.is_touching before found.now }
+/// Returns whether there is a match, it is empty, and it begins where the one before it ended.
+#[doc(hidden)]
+pub fn is_touching(before: Option<usize>, found: &Option<Match>) -> bool
+    ensures { result ≡ matches.is_touching before found.now }
 {
     match found {
         Some(found) => touches(before, found),

@@ -5,6 +5,7 @@
 #![tactic(auto)]
 
 pub mod certain;
+pub mod finder;
 pub mod idle;
 pub mod iter;
 pub mod laws;
@@ -18,8 +19,10 @@ pub use determinize_below::search::Match;
 pub use determinize_nfa::{
     Builder, builder, has_prefix, has_prefix_apart, prefix, reversal, reversed,
 };
+pub use finder::Finder;
 pub use idle::is_idle;
-pub use iter::Searcher;
+pub use iter::{Searcher, find_all};
 pub use owned::OwnedRegex;
 pub use pieces::Pieces;
+pub use plain::Plain;
 pub use regex::{LazyRegex, Regex};

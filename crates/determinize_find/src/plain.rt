@@ -1,7 +1,8 @@
 //! The leftmost match by one anchored search after another, and all matches by it.
 //!
 //! These calls accept any NFA that reads forward, without a prefix and without a second NFA. An
-//! input may be read once from each index of its range.
+//! input may be read once from each index of its range, or only from its start if it is anchored.
+//! [`Plain`] takes any engine. The functions borrow a [`Lazy`], and say what is unchanged of it.
 
 ghost use Rattle.std.specs.Prelude.{◌≡◌, ◌≤◌, cond, false, true, None, option_map, IfOk};
 ghost use Rattle.std.specs.Option.{IfSome};
@@ -12,10 +13,56 @@ ghost use Rattle.determinize_find.specs.LeftmostIn.{IsLeftmostIn};
 ghost use Rattle.determinize_find.specs.Matches.{AreMatches, IsNext};
 ghost use Rattle.determinize_find.specs.Private.BestAt.{IsBestIn, from_index};
 
-use crate::iter::is_touching;
+use crate::finder::Finder;
+use crate::iter::further;
 use determinize_below::{Anchored, HalfMatch, Input, Match, NFA};
-use determinize_lazy::Lazy;
-use std::alloc::{AllocError, Allocator};
+use determinize_lazy::{Engine, Lazy};
+use std::alloc::{AllocError, Allocator, Global};
+use std::marker::Model;
+
+/// A search for the leftmost match by one engine, which searches from each index of a range in
+/// turn. If the input is anchored, or the NFA has one start state for both modes, it searches only
+/// from the start of the range.
+#[derive(Drop)]
+pub struct Plain<'n, E: Engine, N: Allocator = Global> {
+    nfa: &'n NFA<N>,
+    engine: E,
+}
+
+impl<'n, E: Engine, N: Allocator> Model for Plain<'n, E, N> {
+    ghost use Rattle.determinize_engine.specs.Engines.{EngineValue};
+    ghost use Rattle.determinize_find.specs.Private.Plains.{IsPlain};
+
+    ghost Value = { EngineValue };
+
+    ghost view = { λ p. E.engine p.engine };
+
+    ghost invariant = { λ p. IsPlain p.nfa.now (E.engine p.engine) };
+}
+
+impl<'n, E: Engine, N: Allocator> Plain<'n, E, N> {
+    /// Returns a search by an engine for this NFA under `MatchKind::LeftmostFirst`. The NFA must
+    /// read forward, and needs no prefix. Does not allocate, and no search does if the engine does
+    /// not.
+    pub fn new(nfa: &'n NFA<N>, engine: E) -> Plain<'n, E, N>
+        requires nfa { nfa.now ≡ (E.engine engine).nfa }
+        requires kind { (E.engine engine).kind ≡ kinds.LeftmostFirst }
+        requires forward { (E.engine engine).nfa.reverse ≡ false }
+        ensures { result ≡ E.engine engine }
+    {
+        Plain { nfa, engine }
+    }
+}
+
+impl<'n, E: Engine, N: Allocator> Finder for Plain<'n, E, N> {
+    type Error = E::Error;
+
+    ghost nfa = { λ p. p.nfa };
+
+    fn find(&mut self, input: &Input<'_>) -> Result<Option<Match>, E::Error> {
+        find_in_turn(self.nfa, &mut self.engine, input)
+    }
+}
 
 /// Returns whether a match may begin only where the search starts.
 fn begins_at_start_only<N: Allocator>(nfa: &NFA<N>, anchored: Anchored) -> bool
@@ -52,27 +99,54 @@ fn from_index(start: usize, found: Option<HalfMatch>) -> Option<Match>
 }
 
 /// Returns the most preferred match that begins at this index of the range, if any.
-fn find_at<N: Allocator, A: Allocator + Copy>(
-    lazy: &mut Lazy<'_, N, A>,
+fn find_at<E: Engine>(
+    engine: &mut E,
     input: &Input<'_>,
     at: usize,
-) -> Result<Option<Match>, AllocError>
-    requires forward { lazy.old.nfa.reverse ≡ false }
-    requires kind { lazy.old.kind ≡ kinds.LeftmostFirst }
+) -> Result<Option<Match>, E::Error>
+    requires forward { (E.engine engine.old).nfa.reverse ≡ false }
+    requires kind { (E.engine engine.old).kind ≡ kinds.LeftmostFirst }
     requires start { input.now.start ≤ at }
     requires end { at ≤ input.now.end }
-    ensures best { IfOk result (λ found. IsBestIn lazy.old.nfa input.now at found) }
+    ensures best { IfOk result
+        (λ found. IsBestIn (E.engine engine.old).nfa input.now at found) }
     ensures within { IfOk result (λ found. IfSome found
         (λ m. (m.start ≡ at) × (at ≤ m.end) × (m.end ≤ input.now.end))) }
-    ensures nfa { lazy.new.nfa ≡ lazy.old.nfa }
-    ensures kind { lazy.new.kind ≡ lazy.old.kind }
-    ensures limit { lazy.new.limit ≡ lazy.old.limit }
+    ensures same { E.engine engine.new ≡ E.engine engine.old }
 {
     let from = Input::new(input.haystack())
         .range(at..input.end())
         .anchored(Anchored::Yes);
-    let found = lazy.search_input(&from)?;
+    let found = engine.search_input(&from)?;
     Ok(from_index(at, found))
+}
+
+/// Returns the leftmost match of an input, if any, by a search from one index after another.
+fn find_in_turn<E: Engine, N: Allocator>(
+    nfa: &NFA<N>,
+    engine: &mut E,
+    input: &Input<'_>,
+) -> Result<Option<Match>, E::Error>
+    requires nfa { nfa.now ≡ (E.engine engine.old).nfa }
+    requires forward { (E.engine engine.old).nfa.reverse ≡ false }
+    requires kind { (E.engine engine.old).kind ≡ kinds.LeftmostFirst }
+    ensures leftmost { IfOk result
+        (λ found. IsLeftmostIn (E.engine engine.old).nfa input.now found) }
+    ensures within { IfOk result (λ found. IfSome found (λ m.
+        (input.now.start ≤ m.start) × (m.start ≤ m.end) × (m.end ≤ input.now.end))) }
+    ensures same { E.engine engine.new ≡ E.engine engine.old }
+{
+    let (start, end) = (input.start(), input.end());
+    if start > end {
+        return Ok(None);
+    }
+    let latest = latest_start(nfa, input);
+    for at in start..latest {
+        if let Some(found) = find_at(engine, input, at)? {
+            return Ok(Some(found));
+        }
+    }
+    find_at(engine, input, latest)
 }
 
 /// Returns the leftmost match of an input, if any: no match begins before it, and of those that
@@ -94,17 +168,8 @@ pub fn find<N: Allocator, A: Allocator + Copy>(
     ensures kind { lazy.new.kind ≡ lazy.old.kind }
     ensures limit { lazy.new.limit ≡ lazy.old.limit }
 {
-    let (start, end) = (input.start(), input.end());
-    if start > end {
-        return Ok(None);
-    }
-    let latest = latest_start(lazy.nfa(), input);
-    for at in start..latest {
-        if let Some(found) = find_at(lazy, input, at)? {
-            return Ok(Some(found));
-        }
-    }
-    find_at(lazy, input, latest)
+    let nfa = lazy.nfa();
+    find_in_turn(nfa, lazy, input)
 }
 
 /// Returns the match of an input that follows a match which ended at `before`, where the range
@@ -126,17 +191,10 @@ pub fn next_match<N: Allocator, A: Allocator + Copy>(
     ensures limit { lazy.new.limit ≡ lazy.old.limit }
 {
     let first = find(lazy, input)?;
-    if !is_touching(before, &first) {
-        return Ok(first);
+    match further(input, before, &first) {
+        Some(rest) => find(lazy, &rest),
+        None => Ok(first),
     }
-    let (start, end) = (input.start(), input.end());
-    if start >= end {
-        return Ok(None);
-    }
-    let further = Input::new(input.haystack())
-        .range(start + 1..end)
-        .anchored(input.get_anchored());
-    find(lazy, &further)
 }
 
 /// Returns all matches of an input, in their order: each is the [`next_match`] after the one before

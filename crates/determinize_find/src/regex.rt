@@ -11,8 +11,7 @@ ghost use Rattle.determinize_engine.specs.Searches.{HasMatch, has_start};
 ghost use Rattle.determinize_find.specs.Certain.{IsUnsettled};
 ghost use Rattle.determinize_find.specs.Idle.{IsIdle};
 ghost use Rattle.determinize_find.specs.LeftmostIn.{IsLeftmostIn};
-ghost use Rattle.determinize_find.specs.Cursors.{after_match};
-ghost use Rattle.determinize_find.specs.Matches.{AreMatches, IsNext};
+ghost use Rattle.determinize_find.specs.Matches.{AreMatches};
 ghost use Rattle.determinize_nfa.specs.Prefix.{HasPrefix, HasPrefixApart};
 ghost use Rattle.determinize_find.specs.Private.Begins.{HasReverse, IsBeginOf, IsEndOf, IsEnding, asked_of};
 ghost use Rattle.determinize_find.specs.Private.Windows.{IsCertain, IsFresh, IsInside};
@@ -20,8 +19,9 @@ ghost use Rattle.determinize_nfa.specs.Reversal.{IsReverseOf};
 ghost use Rattle.determinize_find.specs.Streams.{IsEndScan};
 
 use crate::certain::certain_match;
+use crate::finder::Finder;
 use crate::idle::is_idle;
-use crate::iter::Searcher;
+use crate::iter::find_all;
 use crate::prefix::has_prefix_apart;
 use determinize_below::{Anchored, HalfMatch, Input, Match, MatchKind, NFA};
 use determinize_lazy::{Engine, Lazy, Scan};
@@ -217,19 +217,6 @@ impl<F: Engine, B: Engine<Error = F::Error>> Regex<F, B> {
         self.is_match_in(input.haystack(), range, input.get_anchored())
     }
 
-    /// Moves a cursor behind the next match, and returns it. Returns any error as `AllocError`.
-    fn advance(&mut self, searcher: &mut Searcher<'_>) -> Result<Option<Match>, AllocError>
-        ensures next { IfOk result
-            (λ found. IsNext self.old.nfa searcher.old.asked searcher.old.before found) }
-        ensures after { IfOk result (λ found. searcher.new ≡ after_match searcher.old found) }
-        ensures same { self.new ≡ self.old }
-    {
-        let Ok(found) = searcher.advance(self) else {
-            return Err(AllocError);
-        };
-        Ok(found)
-    }
-
     /// Returns all matches of an input, in their order. Only the list is allocated from `alloc`.
     /// Returns `AllocError` if that fails, or if a search does.
     pub fn find_all<C: Allocator>(
@@ -241,15 +228,17 @@ impl<F: Engine, B: Engine<Error = F::Error>> Regex<F, B> {
         ensures all { IfOk result (λ found. AreMatches self.old.nfa input.now None found.items) }
         ensures same { self.new ≡ self.old }
     {
-        let whole = Input::new(input.haystack())
-            .range(input.start()..input.end())
-            .anchored(input.get_anchored());
-        let mut searcher = Searcher::new(whole);
-        let mut all = Vec::new(alloc);
-        while let Some(found) = self.advance(&mut searcher)? {
-            all.push(found)?;
-        }
-        Ok(all)
+        find_all(alloc, self, input)
+    }
+}
+
+impl<F: Engine, B: Engine<Error = F::Error>> Finder for Regex<F, B> {
+    type Error = F::Error;
+
+    ghost nfa = { λ r. r.nfa };
+
+    fn find(&mut self, input: &Input<'_>) -> Result<Option<Match>, F::Error> {
+        self.find(input)
     }
 }
 

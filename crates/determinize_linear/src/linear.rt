@@ -13,10 +13,8 @@ ghost use Rattle.determinize_below.specs.Nfa.{IsAccepted};
 ghost use Rattle.determinize_engine.specs.Searches.{has_start, text_of};
 ghost use Rattle.determinize_find.specs.LeftmostIn as inputs;
 ghost use Rattle.determinize_find.specs.LeftmostIn.{IsLeftmostIn};
-ghost use Rattle.determinize_find.specs.Matches as matches;
 ghost use Rattle.determinize_find.specs.Matches.{AreMatches, IsNext, from};
 ghost use Rattle.determinize_find.specs.Private.BestAt.{IsBestAt, IsBestIn, from_index};
-ghost use Rattle.determinize_find.specs.Private.Touching as touching;
 ghost use Rattle.determinize_linear.specs.Private.Left.{IsPaid, left};
 ghost use Rattle.determinize_linear.specs.Private.Spent.{HasPlaces, IsSpent, end_of, end_or};
 ghost use Rattle.determinize_linear.specs.Tries.{most_tries};
@@ -27,6 +25,7 @@ use crate::visited::Visited;
 use determinize_below::nfa::State;
 use determinize_below::{Anchored, HalfMatch, Input, Match, NFA, StateID};
 use determinize_engine::text::Text;
+use determinize_find::iter::is_touching;
 use std::alloc::{AllocError, Allocator};
 use std::sync::ledger::Ledger;
 
@@ -178,16 +177,6 @@ fn find_from<N: Allocator, A: Allocator, C: Counter>(
         }
     }
     find_at(nfa, input, text, latest, visited, stack, counter)
-}
-
-/// Returns whether there is a match, it is empty, and it begins where the match before it ended.
-fn is_touching(before: Option<usize>, found: &Option<Match>) -> bool
-    ensures { result ≡ touching.is_touching before found.now }
-{
-    match (before, found) {
-        (Some(end), Some(found)) => found.start == found.end && found.end == end,
-        _ => false,
-    }
 }
 
 /// Returns the match that follows a match which ended at `before`, where the search starts. If

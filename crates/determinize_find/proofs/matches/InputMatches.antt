@@ -20,9 +20,8 @@ use Rattle.determinize_nfa.specs.Leftmost.{IsLeftmost}
 use Rattle.determinize_nfa.specs.Runs.{since}
 use Rattle.determinize_find.specs.Laws.{EachInputHasMatches}
 use Rattle.determinize_find.specs.LeftmostIn.{IsLeftmostIn, latest, moved}
-use Rattle.determinize_find.specs.Matches.{AreMatches, IsNext, from}
+use Rattle.determinize_find.specs.Matches.{AreMatches, IsNext, from, is_touching}
 use Rattle.determinize_find.specs.Private.Left.{left}
-use Rattle.determinize_find.specs.Private.Touching.{is_touching}
 use Rattle.determinize_find.proofs.leftmost.PreferredRun.{each_anchored_is_leftmost}
 use Rattle.determinize_find.proofs.matches.NextMatch.{fewer, next_further, next_plain}
 use Rattle.determinize_find.proofs.streams.Rests.{leftmost_since}

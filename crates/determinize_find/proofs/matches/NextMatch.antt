@@ -1,17 +1,17 @@
 -- The next match is one of two leftmost ones, and one more match keeps what was found a prefix of the list.
--- Main statements: next_plain, next_further, fewer, after_one, after_all.
--- Used by: `next_match`, `Searcher::advance`, both `find_all` and InputMatches.
+-- Main statements: next_plain, next_further, touched_within, fewer, after_one, after_all.
+-- Used by: `further`, both `next_match`, both `find_all` and InputMatches.
 -- Idea: a list of all matches from the cursor on, after what was found, is the list of all matches.
 use Rattle.std.proofs.Common.{◌≡◌, ◌<◌, ◌≤◌, ◌+◌, ◌++◌, ◌∙◌, ◌∷◌, ℕ, List, None, Option, Some, [], append-nil, ap}
 use Rattle.std.proofs.Common.{append_assoc, arith, false, length, refl, subst, sym, true}
 use Rattle.std.proofs.lemmas.Bool.{false≢true, true≢false}
+use Rattle.std.specs.Option.{IfSome}
 use Rattle.determinize_below.specs.Semantics.{Nfa}
 use Rattle.determinize_below.specs.Search.{Asked}
 use Rattle.ordered_reach.proofs.Cases.{some_injective}
 use Rattle.determinize_find.specs.Cursors.{SearcherValue, after_match}
 use Rattle.determinize_find.specs.LeftmostIn.{IsLeftmostIn}
-use Rattle.determinize_find.specs.Matches.{AreMatches, IsNext, from}
-use Rattle.determinize_find.specs.Private.Touching.{is_touching}
+use Rattle.determinize_find.specs.Matches.{AreMatches, IsNext, from, is_touching}
 use Rattle.determinize_below.specs.declared.search.Match.{Match}
 use Rattle.determinize_find.specs.Private.Left.{left}
 use Rattle.determinize_find.proofs.matches.OneList.{IsLater, next_lies}
@@ -31,6 +31,12 @@ next_further nfa now asked further before (Some m) found n f x t y =
     = subst (λ w. IsLeftmostIn w (from asked (asked.start + 1)) found) n
     (subst (λ w. IsLeftmostIn now w found) f y) in
     (Some m, x, (λ e. z, λ e. absurd (true≢false (sym t ∙ e))))
+
+-- where a match of a range is skipped, the range does not start past its end
+pub touched_within : (before : Option ℕ) (first : Option Match) (start end : ℕ) → is_touching before first ≡ true
+    → IfSome first (λ m. (start ≤ m.start) × (m.start ≤ m.end) × (m.end ≤ end)) → start ≤ end
+touched_within before None start end t within = absurd (false≢true t)
+touched_within before (Some m) start end t (low, order, high) = omega (arith, low, order, high)
 
 -- each match leaves fewer indices
 pub fewer : (nfa now : Nfa) (asked rest : Asked) (start : ℕ) (before : Option ℕ) (m : Match) → now ≡ nfa

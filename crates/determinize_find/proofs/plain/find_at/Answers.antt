@@ -8,6 +8,6 @@ returns-clause-best g c =
     let from : c.anchored-from.result
     ≡ record { haystack = c.args.input.now.haystack; start = c.args.at; end = c.args.input.now.end; anchored = Yes }
     = search rules in
-    best_in c.args.lazy.now.nfa c.args.input.now c.anchored-from.result c.args.at c.in_ok-found.found
-    c.from_index.result from c.requires.forward c.requires.start c.requires.end
+    best_in (g.E.Engine.engine c.args.engine.now).nfa c.args.input.now c.anchored-from.result c.args.at
+    c.in_ok-found.found c.from_index.result from c.requires.forward c.requires.start c.requires.end
     (c.in_ok-found.ensures.preferred c.requires.kind) c.in_ok-found.ensures.none c.from_index.ensures

@@ -1,12 +1,12 @@
 use Rattle.std.proofs.Common.{◌≡◌, None}
 use Rattle.determinize_find.specs.Private.Left.{left}
 use Rattle.determinize_find.proofs.matches.NextMatch.{IsAfter}
-use Rattle.determinize_find.proofs.regex.Regex.find_all.Given as goal
+use Rattle.determinize_find.proofs.iter.find_all.Given as goal
 
 abbrev pub invariant-loop-all : goal.invariant-loop-all
 invariant-loop-all g l = record {
-  same : l.self ≡ l.fn.self;
-  after : IsAfter l.fn.self.nfa l.fn.input None l.searcher l.all.items;
+  same : l.finder ≡ l.fn.finder;
+  after : IsAfter (g.F.Finder.nfa l.fn.finder) l.fn.input None l.searcher l.all.items;
 }
 
 abbrev pub decreases-loop-all : goal.decreases-loop-all
