@@ -1,5 +1,5 @@
 -- Laws of the ends of patterns and of compiled NFAs.
-use Rattle.std.specs.Prelude.{◌≡◌, ◌↔◌, ℕ, Bool, Contains, List, None, Option, [], ◌∷◌, false}
+use Rattle.std.specs.Prelude.{◌≡◌, ◌↔◌, ℕ, Bool, Contains, IsUtf8, List, None, Option, [], ◌∷◌, false, slice_range}
 use Rattle.determinize_below.specs.Semantics.{Nfa, Text, between}
 use Rattle.determinize_below.specs.declared.search.Match.{Match}
 use Rattle.determinize_nfa.specs.Leftmost.{IsLeftmost}
@@ -22,6 +22,11 @@ AccentMatches = (t : ℕ) (re : Re) → IsCharClass (is_char_chosen ((0xE9, 0xE9
 abbrev pub EachCharEndsOnce : Type 0
 EachCharEndsOnce = (test : ℕ → Bool) (re : Re) → IsCharClass test re
     → (t : ℕ) (text : Text) (i j k : ℕ) → Matches t text re i j → Matches t text re i k → j ≡ k
+
+-- what a class of characters matches is UTF-8
+abbrev pub EachCharIsUtf8 : Type 0
+EachCharIsUtf8 = (test : ℕ → Bool) (re : Re) → IsCharClass test re
+    → (t : ℕ) (text : Text) (i j : ℕ) → Matches t text re i j → IsUtf8 (slice_range text.bytes i j)
 
 -- the leftmost match of the runs of an NFA of patterns is that of the patterns
 abbrev pub EachLeftmostIsOf : Type 0

@@ -25,6 +25,7 @@ pub fn push_chars(
     push_numbers(branches, alloc, 0x00, 0, start, end.min(0x80))?;
     push_numbers(branches, alloc, 0xC0, 1, start.max(0x80), end.min(0x800))?;
     push_numbers(branches, alloc, 0xE0, 2, start.max(0x800), end.min(0xD800))?;
+    // Between these are the surrogates, which are no characters.
     push_numbers(
         branches,
         alloc,

@@ -1,12 +1,10 @@
 -- What a choice matches once branches are added to it.
--- Main statements: adds_one, adds_none, adds_both, adds_same, single.
+-- Main statements: adds_one, adds_both, adds_same, all_added.
 -- Used by: the proofs of `push_numbers`, `push_chars` and `collect`, and the files characters.
 -- Idea: a choice matches what one of its branches matches, and a branch that is added is its last.
-use Rattle.std.proofs.Common.{◌↔◌, ◌⊎◌, ◌++◌, ◌∷◌, ℕ, List, [], inl, inr}
-use Rattle.std.specs.Prelude.{slice_get}
+use Rattle.std.proofs.Common.{◌↔◌, ◌≡◌, ◌⊎◌, ◌++◌, ◌∷◌, ℕ, List, None, Option, Some, [], inl, inr, slice_get, true}
 use Rattle.std.proofs.lemmas.Bool.{false≢true}
 use Rattle.ordered_reach.proofs.Cases.{by_cases}
-use Rattle.std.proofs.Common.{◌≡◌, Option, None, Some, true}
 use Rattle.determinize_below.specs.Semantics.{Text}
 use Rattle.determinize_pattern.specs.Meaning.{Matches, Re, is_in}
 use Rattle.determinize_pattern.specs.Patterns.{choice}
@@ -16,7 +14,7 @@ use Rattle.determinize_pattern.specs.Private.Characters.{Adds, choice_of}
 pub record IsExactly (P : List ℕ → ℕ → ℕ → Type 0) (re : Re) : Type 0 where
   pub each : (t : ℕ) (text : Text) (i j : ℕ) → Matches t text re i j ↔ P text.bytes i j
 
-pub in_none : (u : Option ℕ) → is_in [] u ≡ true → ⊥
+in_none : (u : Option ℕ) → is_in [] u ≡ true → ⊥
 in_none None h = false≢true h
 in_none (Some b) h = false≢true h
 
@@ -38,12 +36,12 @@ module _ (t : ℕ) (text : Text) (i j : ℕ) where
   push_new [] re h = inl h
   push_new (a ∷ old) re h = inr (push_new old re h)
 
-  pub single_choice : (res : List Re) → M (choice_of res) → M (choice res)
+  single_choice : (res : List Re) → M (choice_of res) → M (choice res)
   single_choice [] h = h
   single_choice (a ∷ []) h = inl h
   single_choice (a ∷ b ∷ rest) h = h
 
-  pub choice_single : (res : List Re) → M (choice res) → M (choice_of res)
+  choice_single : (res : List Re) → M (choice res) → M (choice_of res)
   choice_single [] h = h
   choice_single (a ∷ []) h = by_cases h (λ k. k) (λ k. absurd (in_none (slice_get text.bytes i) k.0))
   choice_single (a ∷ b ∷ rest) h = h
@@ -55,12 +53,6 @@ adds_one P old re h = record {
     λ m. by_cases (push_cases t text i j old re m) (λ k. inl k) (λ k. inr ((h.each t text i j).0 k)),
     λ m. by_cases m (λ k. push_old t text i j old re k) (λ k. push_new t text i j old re ((h.each t text i j).1 k)),
   );
-}
-
-pub adds_none : (P : List ℕ → ℕ → ℕ → Type 0) (res : List Re)
-    → ((bytes : List ℕ) (i j : ℕ) → P bytes i j → ⊥) → Adds P res res
-adds_none P res none = record {
-  each = λ t text i j. (λ m. inl m, λ m. by_cases m (λ k. k) (λ p. absurd (none text.bytes i j p)));
 }
 
 pub adds_both : (P Q R : List ℕ → ℕ → ℕ → Type 0) (a b c : List Re)

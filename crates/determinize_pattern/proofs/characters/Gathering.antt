@@ -1,15 +1,15 @@
 -- A scan of all characters in runs finds those that pass a test.
--- Main statements: run_passes, run_fails, gathered_none, gathered_more, gathered_closed, gathered_all.
--- Used by: the proofs of `run_end` and `collect`.
+-- Main statements: run_passes, run_fails, gathered_more, gathered_closed, gathered_all.
+-- Used by: the proof of `collect`.
 -- Idea: each run that is added ends before a number that does not pass.
 use mathlib.Core.Bool.{beq}
 use Rattle.std.specs.List.{list_any}
 use Rattle.std.proofs.lemmas.Bool.Decides.{nat_tests}
 use Rattle.std.proofs.lemmas.Bool.{cases_lt, false≢true}
-use Rattle.std.proofs.Common.{◌≡◌, ◌&&◌, ◌+◌, ◌<◌, ◌≤◌, ◌++◌, ◌∙◌, ◌∷◌, ◌||◌, ℕ, Bool, List, Some, [], arith, false, inl, inr, min, nat_lt, refl, sym, true}
-use Rattle.ordered_reach.proofs.Cases.{by_cases, by_test}
+use Rattle.std.proofs.Common.{◌≡◌, ◌&&◌, ◌+◌, ◌<◌, ◌≤◌, ◌∙◌, ◌∷◌, ℕ, Bool, List, Some, [], arith, false, inl, inr, nat_lt, refl, sym, true}
+use Rattle.ordered_reach.proofs.Cases.{by_cases}
 use Rattle.determinize_below.specs.Semantics.{within}
-use Rattle.determinize_pattern.proofs.characters.Branches.{adds_both, adds_none, all_added}
+use Rattle.determinize_pattern.proofs.characters.Branches.{adds_both, all_added}
 use Rattle.determinize_pattern.proofs.characters.Utf8.{char_either, from_end, from_is, from_start, scalar_end}
 use Rattle.determinize_pattern.proofs.classes.Scanning.{chosen_is}
 use Rattle.determinize_pattern.specs.Characters.{IsCharClass, IsCharFrom, char_pairs, is_char_chosen}
@@ -17,26 +17,10 @@ use Rattle.determinize_pattern.specs.Meaning.{Re, is_in}
 use Rattle.determinize_pattern.specs.Private.Characters.{Adds, IsGathered, IsRun, choice_of, is_from}
 use Rattle.determinize_pattern.specs.declared.chars.ClassUnicodeRange.{ClassUnicodeRange}
 
-pub in_some : (ranges : List ClassUnicodeRange) (c : ℕ)
+in_some : (ranges : List ClassUnicodeRange) (c : ℕ)
     → list_any (λ (r : ClassUnicodeRange). within r.start r.end c) ranges ≡ is_in (char_pairs ranges) (Some c)
 in_some [] c = refl
 in_some (r ∷ rs) c = rw (in_some rs c) refl
-
-in_push : (ranges : List ClassUnicodeRange) (r : ClassUnicodeRange) (c : ℕ)
-    → is_in (char_pairs (ranges ++ r ∷ [])) (Some c) ≡ (is_in (char_pairs ranges) (Some c) || within r.start r.end c)
-in_push [] r c = by_test (within r.start r.end c) (λ e. rw e refl) (λ e. rw e refl)
-in_push (x ∷ xs) r c = rw (in_push xs r c)
-    (by_test (within x.start x.end c) (λ e. rw e refl) (λ e. rw e refl))
-
--- one range more
-pub run_push : (ranges : List ClassUnicodeRange) (r : ClassUnicodeRange) (code last end : ℕ)
-    → IsRun (char_pairs ranges) code last
-    → ((c : ℕ) → code ≤ c → c ≤ end → within r.start r.end c ≡ within r.start r.end code)
-    → IsRun (char_pairs (ranges ++ r ∷ [])) code (min last end)
-run_push ranges r code last end h same = λ c l m.
-    let old = h c l (omega arith) in
-    let new = same c l (omega arith) in
-    rw (in_push ranges r c, in_push ranges r code, old, new) refl
 
 -- the numbers of a run are in a range if its first one is
 member : (ranges : List ClassUnicodeRange) (found : Bool) (code last : ℕ)
@@ -72,14 +56,6 @@ abbrev below : (ℕ → Bool) → ℕ → ℕ → Bool
 below test start c = nat_lt c start && test c
 
 module _ (test : ℕ → Bool) where
-  pub gathered_none : IsGathered test 0 0 []
-  gathered_none = record {
-    begun = omega arith;
-    found = adds_none (IsCharFrom (below test 0)) []
-        (λ bytes i j c. absurd (let k = before_test (test c.0) 0 c.0 c.2 in omega arith));
-    unbroken = λ c l m. absurd (omega arith);
-  }
-
   pub gathered_more : (start code next : ℕ) (a : List Re) → IsGathered test start code a → code < next
       → ((c : ℕ) → code ≤ c → c < next → test c ≡ true) → IsGathered test start next a
   gathered_more start code next a h l same = record {

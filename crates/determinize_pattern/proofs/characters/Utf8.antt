@@ -17,7 +17,7 @@ use Rattle.determinize_pattern.specs.Meaning.{Re}
 use Rattle.determinize_pattern.specs.Private.Characters.{Adds, IsNumberFrom, IsWrittenFrom, is_from}
 
 -- the bytes of a number
-abbrev pub written : ℕ → ℕ → ℕ → List ℕ
+abbrev written : ℕ → ℕ → ℕ → List ℕ
 written lead zero v = (lead + v) ∷ []
 written lead (suc count) v = written lead count (v / 64) ++ (128 + v % 64) ∷ []
 
@@ -133,7 +133,7 @@ unfolding encode_utf8
 accent f h = (0xE9, refl, h, omega arith, omega arith, refl)
 
 -- the numbers from low on and below high are characters that are written so
-pub record IsBlock (lead count low high : ℕ) : Type 0 where
+record IsBlock (lead count low high : ℕ) : Type 0 where
   pub scalar : (c : ℕ) → low ≤ c → c < high → IsScalar c
   pub bytes : (c : ℕ) → low ≤ c → c < high → encode_utf8 c ≡ written lead count c
 

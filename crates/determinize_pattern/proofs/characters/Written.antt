@@ -1,5 +1,5 @@
 -- Numbers written in base 64, and patterns of the numbers from one to another.
--- Main statements: pushed, byte_exactly, digit_exactly, cut_from, none_from.
+-- Main statements: pushed, byte_exactly, digit_exactly, cut_from.
 -- Used by: the proof of `push_numbers`.
 -- Idea: a number is 64 times the number before its last digit, and that digit.
 use Rattle.std.proofs.lemmas.Bool.Decides.{nat_tests}
@@ -142,7 +142,3 @@ cut_from lead count start cut end low high bytes i j = (
       (λ n. let k : n.0 < end = omega (arith, n.2) in (n.0, n.1, k, n.3))
       (λ n. let k : start ≤ n.0 = omega (arith, n.1) in (n.0, k, n.2, n.3)),
 )
-
-pub none_from : (lead count start end : ℕ) → end ≤ start → (bytes : List ℕ) (i j : ℕ)
-    → IsNumberFrom lead count start end bytes i j → ⊥
-none_from lead count start end l bytes i j n = omega (arith, n.1, n.2)
