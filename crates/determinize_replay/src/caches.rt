@@ -88,6 +88,19 @@ pub struct Caches<'n, 't> {
     caches: Vec<Lazy<'n>>,
 }
 
+/// Adds an empty cache of at most `limit` states for each NFA and match kind.
+fn add_caches<'n>(
+    alloc: Global,
+    caches: &mut Vec<Lazy<'n>>,
+    automata: &'n [Automaton<'_>],
+    limit: usize,
+) -> Result<(), AllocError> {
+    for automaton in automata {
+        caches.push(Lazy::new(alloc, &automaton.nfa, automaton.kind, limit))?;
+    }
+    Ok(())
+}
+
 impl<'n, 't> Caches<'n, 't> {
     /// Returns an empty cache of at most `limit` states for each NFA and match kind, for walks or
     /// for searches.
@@ -98,9 +111,7 @@ impl<'n, 't> Caches<'n, 't> {
         limit: usize,
     ) -> Result<Caches<'n, 't>, AllocError> {
         let mut caches = Vec::new(alloc);
-        for automaton in automata {
-            caches.push(Lazy::new(alloc, &automaton.nfa, automaton.kind, limit))?;
-        }
+        add_caches(alloc, &mut caches, automata, limit)?;
         Ok(Caches {
             is_search,
             automata,

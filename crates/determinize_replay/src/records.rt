@@ -1,6 +1,6 @@
 //! Builds the record of a job, the value of a state, and writes the results of its readers.
 
-ghost use Rattle.std.specs.Prelude.{◌≡◌, ◌<◌, ◌≤◌, [], All, IsTrue, IfOk};
+ghost use Rattle.std.specs.Prelude.{◌≡◌, ◌<◌, ◌≤◌, [], All, IsTrue, IfOk, OnOk};
 
 use crate::values;
 use determinize_below::{LookSet, PatternID, SparseSet, StateID};
@@ -85,6 +85,18 @@ pub fn add_patterns<A: Allocator>(
     requires { builder.old.patterns ≡ [] }
 {
     let mut patterns = Vec::new(alloc);
+    add_each(builder, &mut patterns, ids)
+}
+
+/// Adds these patterns to a builder whose patterns are `patterns`, and to these. Returns an error
+/// if one is repeated.
+fn add_each<A: Allocator>(
+    builder: &mut StateBuilderMatches<A>,
+    patterns: &mut Vec<PatternID, A>,
+    ids: &[PatternID],
+) -> Result<(), TextError>
+    requires { builder.old.patterns ≡ patterns.old.items }
+{
     for id in ids {
         if patterns.contains(id) {
             return Err(TextError::RepeatedPattern);
@@ -105,13 +117,21 @@ pub fn set<A: Allocator + Clone>(
     ensures { IfOk result (λ set. set.capacity ≡ capacity) }
 {
     let mut set = SparseSet::new(alloc, capacity)?;
+    insert_all(&mut set, ids)?;
+    Ok(set)
+}
+
+/// Adds these ids to a set. Returns an error if one is not below its capacity.
+fn insert_all<A: Allocator>(set: &mut SparseSet<A>, ids: &[StateID]) -> Result<(), TextError>
+    ensures { OnOk result (set.new.capacity ≡ set.old.capacity) }
+{
     for id in ids {
         if id.as_usize() >= set.capacity() {
             return Err(TextError::Malformed(Part::Unresolved));
         }
         set.insert(*id);
     }
-    Ok(set)
+    Ok(())
 }
 
 /// Returns whether all NFA states of a state are below a number.

@@ -101,11 +101,25 @@ fn replay_bytes<W: Write>(
         add_all(alloc, &mut automata, text)?;
     }
     let mut caches = Caches::new(alloc, automata.as_slice(), is_search, limit.unwrap_or(0))?;
+    let is_whole = end.is_ok() && text.len() == bytes.len();
+    replay_text(alloc, &mut caches, text, is_whole, end, out)
+}
+
+/// Replays the lines of a text, which is the whole input, or else what comes before its end or an
+/// error.
+fn replay_text<W: Write>(
+    alloc: Global,
+    caches: &mut Caches<'_, '_>,
+    text: &str,
+    is_whole: bool,
+    end: &io::Result<usize>,
+    out: &mut W,
+) -> Result<Tally, ReplayError> {
     let mut replay = Replay::new(alloc);
-    if end.is_ok() && text.len() == bytes.len() {
-        replay_all(&mut replay, &mut caches, text, out)
+    if is_whole {
+        replay_all(&mut replay, caches, text, out)
     } else {
-        Err(replay_part(&mut replay, &mut caches, text, end, out))
+        Err(replay_part(&mut replay, caches, text, end, out))
     }
 }
 
