@@ -7,7 +7,7 @@ ghost use Rattle.std.specs.Option.{IfNone, IfSome};
 ghost use Rattle.determinize_below.specs.Search.{is_done};
 ghost use Rattle.determinize_below.specs.declared.search.MatchKind.TheVariants as kinds;
 ghost use Rattle.determinize_start.specs.StartKinds.{byte_before};
-ghost use Rattle.determinize_engine.specs.Searches.{HasMatch, has_start};
+ghost use Rattle.determinize_engine.specs.Searches.{HasMatch, IsPreferredIn, has_start};
 ghost use Rattle.determinize_find.specs.Certain.{IsUnsettled};
 ghost use Rattle.determinize_find.specs.Idle.{IsIdle};
 ghost use Rattle.determinize_find.specs.LeftmostIn.{IsLeftmostIn};
@@ -90,6 +90,52 @@ impl<F: Engine, B: Engine<Error = F::Error>> Regex<F, B> {
             backward,
             is_apart: None,
         }
+    }
+
+    /// Returns the DFA that finds the ends of matches.
+    pub fn forward(&self) -> &F
+        ensures nfa { (F.engine result.now).nfa ≡ self.now.nfa }
+        ensures kind { (F.engine result.now).kind ≡ kinds.LeftmostFirst }
+        ensures limit { (F.engine result.now).limit ≡ self.now.limit }
+    {
+        &self.forward
+    }
+
+    /// Returns the DFA that reads backward and finds the starts of matches.
+    pub fn backward(&self) -> &B
+        ensures reverse { IsReverseOf (B.engine result.now).nfa self.now.nfa }
+        ensures kind { (B.engine result.now).kind ≡ kinds.All }
+        ensures limit { (B.engine result.now).limit ≡ self.now.limit_backward }
+    {
+        &self.backward
+    }
+
+    /// Returns both DFAs, the one that finds the ends of matches first.
+    pub fn into_engines(self) -> (F, B)
+        ensures nfa { (F.engine result.0).nfa ≡ self.nfa }
+        ensures kind { (F.engine result.0).kind ≡ kinds.LeftmostFirst }
+        ensures limit { (F.engine result.0).limit ≡ self.limit }
+        ensures reverse { IsReverseOf (B.engine result.1).nfa self.nfa }
+        ensures kind_backward { (B.engine result.1).kind ≡ kinds.All }
+        ensures limit_backward { (B.engine result.1).limit ≡ self.limit_backward }
+    {
+        (self.forward, self.backward)
+    }
+
+    /// Returns the pattern and the end of the leftmost match of an input, if any, as `find` does,
+    /// but searches for no start.
+    pub fn search_half(&mut self, input: &Input<'_>) -> Result<Option<HalfMatch>, F::Error>
+        requires start { has_start input.now.anchored ≡ true }
+        ensures preferred { IfOk result
+            (λ found. IfSome found (λ m. IsPreferredIn self.old.nfa input.now m)) }
+        ensures none { is_done input.now ≡ false → IfOk result
+            (λ found. IfNone found (HasMatch self.old.nfa input.now → ⊥)) }
+        ensures done { is_done input.now ≡ true → result ≡ Ok None }
+        ensures within { IfOk result (λ found. IfSome found
+            (λ m. (input.now.start ≤ m.offset) × (m.offset ≤ input.now.end))) }
+        ensures same { self.new ≡ self.old }
+    {
+        self.forward.search_input(input)
     }
 
     /// Returns the pattern and the end of the leftmost match of a range of a haystack, if any.
