@@ -129,6 +129,17 @@ fn print_row<A: Allocator + Copy, W: Write>(
     let Some(example) = named(word.as_str()) else {
         return Err(RowError::NoSuchRow);
     };
+    print_walk(alloc, example, out)
+}
+
+/// Prints the walk of an example.
+fn print_walk<A: Allocator + Copy, W: Write>(
+    alloc: A,
+    example: &Example,
+    out: &mut W,
+) -> Result<(), RowError>
+    ensures { IfErr result (λ error. ¬ (error ≡ RowError.NoSuchRow)) }
+{
     let states = states_of(alloc, example)?;
     print_states(states.as_slice(), out)?;
     Ok(())
@@ -145,9 +156,14 @@ fn states_of<A: Allocator + Copy>(alloc: A, example: &Example) -> Result<Vec<Sta
 /// Prints each state, and the last match.
 fn print_states<A: Allocator, W: Write>(states: &[State<A>], out: &mut W) -> io::Result<()> {
     for state in states {
-        let bytes = Hex(state.as_bytes());
-        writeln!(out, "{bytes}")?;
+        print_bytes(state.as_bytes(), out)?;
     }
     let found = LastMatch(determinize::last_match(states));
     writeln!(out, "{found}")
+}
+
+/// Prints bytes as hexadecimal digits, in a line.
+fn print_bytes<W: Write>(bytes: &[u8], out: &mut W) -> io::Result<()> {
+    let bytes = Hex(bytes);
+    writeln!(out, "{bytes}")
 }

@@ -21,10 +21,20 @@ fn add_states<A: Allocator + Copy>(
 ) -> Result<(), TextError> {
     for word in text.split(' ') {
         if !word.is_empty() {
-            let state = state(alloc, word)?;
-            states.push(state)?;
+            add_state(alloc, states, word)?;
         }
     }
+    Ok(())
+}
+
+/// Adds the state of a word.
+fn add_state<A: Allocator + Copy>(
+    alloc: A,
+    states: &mut Vec<State<A>, A>,
+    word: &str,
+) -> Result<(), TextError> {
+    let state = state(alloc, word)?;
+    states.push(state)?;
     Ok(())
 }
 

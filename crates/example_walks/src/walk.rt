@@ -4,7 +4,7 @@ ghost use Rattle.std.specs.Prelude.{◌<◌, length, IfOk};
 
 use crate::error::{Part, TextError};
 use crate::fields::Fields;
-use determinize_below::{NFA, StateID};
+use determinize_below::{MatchKind, NFA, StateID};
 use determinize_core::determinize::walk_between;
 use determinize_core::state::State;
 use std::alloc::{Allocator, Global};
@@ -33,6 +33,18 @@ pub struct Place<A: Allocator = Global> {
     pub ahead: Option<u8>,
 }
 
+/// Returns the id of the state that a walk over an NFA starts from.
+fn start_of<A: Allocator>(fields: &Fields<'_>, nfa: &NFA<A>) -> Result<StateID, TextError>
+    ensures { IfOk result (λ id. id < length nfa.now.states) }
+{
+    resolved(nfa, fields.start()?)
+}
+
+/// Returns the bytes behind and after the text of a walk.
+fn around(fields: &Fields<'_>) -> Result<(Option<u8>, Option<u8>), TextError> {
+    Ok((fields.look_behind()?, fields.look_ahead()?))
+}
+
 /// Returns the place of a walk over an NFA.
 pub fn place_of<A: Allocator, B: Allocator>(
     alloc: A,
@@ -41,8 +53,8 @@ pub fn place_of<A: Allocator, B: Allocator>(
 ) -> Result<Place<A>, TextError>
     ensures { IfOk result (λ place. place.start < length nfa.now.states) }
 {
-    let start = resolved(nfa, fields.start()?)?;
-    let (behind, ahead) = (fields.look_behind()?, fields.look_ahead()?);
+    let start = start_of(fields, nfa)?;
+    let (behind, ahead) = around(fields)?;
     let text = fields.text(alloc)?;
     Ok(Place {
         start,
@@ -68,6 +80,18 @@ pub fn walk_over<A: Allocator + Copy>(
 ) -> Result<Vec<State<A>, A>, TextError> {
     let kind = fields.match_kind()?;
     let place = place_of(alloc, fields, nfa)?;
+    walk_from(alloc, nfa, kind, &place)
+}
+
+/// Returns the states of a walk from a place over an NFA.
+fn walk_from<A: Allocator + Copy>(
+    alloc: A,
+    nfa: &NFA<A>,
+    kind: MatchKind,
+    place: &Place<A>,
+) -> Result<Vec<State<A>, A>, TextError>
+    requires { place.now.start < length nfa.now.states }
+{
     let text = place.text.as_slice();
     let states = walk_between(
         alloc,
