@@ -462,6 +462,54 @@ def of_deep():
     return found
 
 
+CHARS = [
+    [(0xE9, 0xE9)],
+    [(0x20AC, 0x20AC), (0x1D11E, 0x1D11E)],
+    [(0x61, 0x7A), (0x6D, 0xFF), (0x70, 0x70)],
+    [(0x7F, 0x80), (0x7FF, 0x800), (0xFFFF, 0x10000)],
+    [(0xD7FF, 0xE000)],
+    [(0x0, 0x10FFFF)],
+    [(0x7A, 0x61)],
+    [],
+]
+CHAR_TEXTS = [
+    'aé€𝄞z'.encode(),
+    'éa'.encode() + b'\xed\xa0\x80' + 'm€'.encode() + b'\xc0\x80\xc3' + '𝄞'.encode() + b'\xf4\x90\x80\x80\xe0\x80\x80',
+    ''.join(map(chr, [0x0, 0x7F, 0x80, 0x7FF, 0x800, 0xD7FF, 0xE000, 0xFFFF, 0x10000, 0x10FFFF])).encode(),
+]
+
+
+def character(text, i):
+    """the character at a position, and where it ends, by the codec of Python; None if there is none"""
+    for j in range(i + 1, min(i + 4, len(text)) + 1):
+        try:
+            return ord(text[i:j].decode()), j
+        except UnicodeDecodeError:
+            pass
+    return None
+
+
+def of_chars():
+    found = []
+    for ranges in CHARS:
+        for word, negated in [('U', False), ('N', True)]:
+            lines = []
+            for text in CHAR_TEXTS:
+                matches, i = [], 0
+                while i < len(text):
+                    read = character(text, i)
+                    if read and any(a <= read[0] <= b for a, b in ranges) != negated:
+                        matches.append((0, i, read[1]))
+                        i = read[1]
+                    else:
+                        i += 1
+                lines.append(line_of(text, matches))
+            shown = ','.join('%x-%x' % pair for pair in ranges)
+            head = '# %s: %s' % ('characters but these' if negated else 'these characters', shown or 'none')
+            found.append('\n'.join([head, '> | %s:%s' % (word, shown)] + lines))
+    return found
+
+
 def repeated(words):
     """the words, each as often as its number says"""
     split = [word.partition('*') for word in words.split(' ')]
@@ -482,6 +530,7 @@ def main():
         ('Loops whose body may read nothing, where regex 1.7.1 differs: by the rule of this project', jobs.loops[:35]),
         ('Sizes: the error, or at most this number of states and the prefix', of_hostile()),
         ('Depths: the error, or an NFA', of_deep()),
+        ('Classes of characters, by the codec of Python', of_chars()),
     ]
     for title, found in groups:
         print('# %s: %d jobs.' % (title, len(found)))

@@ -4,7 +4,7 @@
 //! of the word: so its parts are on top of the stack, the first of them topmost.
 
 use crate::error::JobError;
-use determinize_pattern::{ClassBytesRange, Pattern};
+use determinize_pattern::{ClassBytesRange, ClassUnicodeRange, Pattern};
 use example_walks::values;
 use std::alloc::Global;
 
@@ -38,6 +38,8 @@ fn pattern(alloc: Global, stack: &mut Vec<Pattern>, word: &str) -> Result<Patter
         "E" => Ok(Pattern::Empty),
         "L" => Ok(Pattern::Literal(values::bytes(alloc, value)?)),
         "C" => class(alloc, value),
+        "U" => Ok(Pattern::chars(alloc, &char_ranges(alloc, value)?)?),
+        "N" => Ok(Pattern::none_of_chars(alloc, &char_ranges(alloc, value)?)?),
         "K" => Ok(Pattern::Look(values::look(value)?)),
         "G" => Ok(Pattern::Capture(part(alloc, stack)?)),
         "R" => repetition(value, part(alloc, stack)?),
@@ -90,6 +92,40 @@ fn range(word: &str) -> Result<ClassBytesRange, JobError> {
             end: values::byte(end)?,
         }),
         None => Err(JobError::Malformed("a range of bytes")),
+    }
+}
+
+/// Returns the ranges of characters of words such as `e9-e9,20ac-20ac`.
+fn char_ranges(alloc: Global, value: &str) -> Result<Vec<ClassUnicodeRange>, JobError> {
+    let mut ranges = Vec::new(alloc);
+    if !value.is_empty() {
+        for word in value.split(',') {
+            let next = char_range(word)?;
+            ranges.push(next)?;
+        }
+    }
+    Ok(ranges)
+}
+
+/// Returns the range of a word such as `20ac-20ac`.
+fn char_range(word: &str) -> Result<ClassUnicodeRange, JobError> {
+    match word.split_once('-') {
+        Some((start, end)) => Ok(ClassUnicodeRange {
+            start: character(start)?,
+            end: character(end)?,
+        }),
+        None => Err(JobError::Malformed("a range of characters")),
+    }
+}
+
+/// Returns the character with this number.
+fn character(code: &str) -> Result<char, JobError> {
+    let Ok(code) = u32::from_str_radix(code, 16) else {
+        return Err(JobError::Malformed("a number in hexadecimal"));
+    };
+    match char::from_u32(code) {
+        Some(found) => Ok(found),
+        None => Err(JobError::Malformed("the number of a character")),
     }
 }
 
