@@ -1,4 +1,5 @@
 pub mod Branches
 pub mod Gathering
+pub mod Preferred
 pub mod Utf8
 pub mod Written

@@ -1,9 +1,9 @@
 -- Laws of the ends of patterns and of compiled NFAs.
-use Rattle.std.specs.Prelude.{◌≡◌, ◌↔◌, ℕ, Bool, Contains, IsUtf8, List, None, Option, [], ◌∷◌, false, slice_range}
+use Rattle.std.specs.Prelude.{◌≡◌, ◌↔◌, ℕ, Bool, Contains, IsUtf8, List, None, Option, Some, [], ◌∷◌, false, slice_get, slice_range}
 use Rattle.determinize_below.specs.Semantics.{Nfa, Text, between}
 use Rattle.determinize_below.specs.declared.search.Match.{Match}
 use Rattle.determinize_nfa.specs.Leftmost.{IsLeftmost}
-use Rattle.determinize_pattern.specs.Characters.{IsCharClass, is_char_chosen}
+use Rattle.determinize_pattern.specs.Characters.{IsCharClass, IsCharFrom, is_char_chosen}
 use Rattle.determinize_pattern.specs.Compiled.{IsNfaOf}
 use Rattle.determinize_pattern.specs.LeftmostOf.{IsLeftmostOf}
 use Rattle.determinize_pattern.specs.Meaning.{Matches, Re, ends}
@@ -22,6 +22,12 @@ AccentMatches = (t : ℕ) (re : Re) → IsCharClass (is_char_chosen ((0xE9, 0xE9
 abbrev pub EachCharEndsOnce : Type 0
 EachCharEndsOnce = (test : ℕ → Bool) (re : Re) → IsCharClass test re
     → (t : ℕ) (text : Text) (i j k : ℕ) → Matches t text re i j → Matches t text re i k → j ≡ k
+
+-- the preferred end of a class of characters is that of a character of the class
+abbrev pub EachCharIsPreferred : Type 0
+EachCharIsPreferred = (test : ℕ → Bool) (re : Re) → IsCharClass test re
+    → (t : ℕ) (text : Text) (i j : ℕ)
+    → (slice_get (ends t text re i) 0 ≡ Some j) ↔ IsCharFrom test text.bytes i j
 
 -- what a class of characters matches is UTF-8
 abbrev pub EachCharIsUtf8 : Type 0

@@ -2,7 +2,7 @@
 
 ghost use Rattle.std.specs.Prelude.{◌≡◌, Some};
 ghost use Rattle.determinize_pattern.specs.Examples.{a_or_lazy_star, a_or_nothing, a_then_lazy_b, boundary_or_a, first_end, lazy_star_inside, nothing_or_a, star_of_lazy, star_of_lazy_inside, star_of_star, star_or_b, text_aa, text_aab, text_ab, text_abb};
-ghost use Rattle.determinize_pattern.specs.Laws.{AccentMatches, EachCharEndsOnce, EachCharIsUtf8, EachEndMatches, EachLeftmostIsOf};
+ghost use Rattle.determinize_pattern.specs.Laws.{AccentMatches, EachCharEndsOnce, EachCharIsPreferred, EachCharIsUtf8, EachEndMatches, EachLeftmostIsOf};
 
 /// States that the ends of a pattern are the positions to which it matches in some way.
 pub fn ends_law()
@@ -15,10 +15,11 @@ pub fn leftmost_of_law()
 {}
 
 /// States that the class of `é` matches its two bytes, and that a class of characters matches from
-/// each position to one position at most, and only what is UTF-8.
+/// each position to one position at most, which is the preferred end, and only what is UTF-8.
 pub fn chars_law()
     ensures accent { AccentMatches }
     ensures once { EachCharEndsOnce }
+    ensures preferred { EachCharIsPreferred }
     ensures utf8 { EachCharIsUtf8 }
 {}
 
