@@ -1,8 +1,8 @@
 -- Sets of bytes and ranges that have them.
--- Main statements: class_of, in_some, has_more.
+-- Main statements: class_of, in_some, has_more, kind_class.
 -- Used by: the proofs of classes and of brackets.
 -- Idea: one more range adds its bytes.
-use Rattle.std.proofs.Common.{◌≡◌, ◌<◌, ◌∷◌, ◌++◌, ◌∙◌, ◌&&◌, ◌||◌, ◌⊎◌, inl, inr, nat_eq, [], arith, Bool, List, Some, ap, false, nat_lt, refl, ◌+◌, true, ℕ}
+use Rattle.std.proofs.Common.{◌≡◌, ◌<◌, ◌≤◌, ◌∷◌, ◌++◌, ◌∙◌, ◌&&◌, ◌||◌, ◌⊎◌, inl, inr, nat_eq, [], arith, Bool, List, Some, ap, false, nat_lt, refl, ◌+◌, true, ℕ}
 use Rattle.std.specs.Prelude.{◌==◌}
 use Rattle.std.specs.Prelude.{cond, not}
 use Rattle.std.specs.Char.{to_ascii_lowercase, to_ascii_uppercase}
@@ -61,21 +61,22 @@ pub below_without : (s : Set) (i : ℕ) (ranges : List ClassBytesRange) → HasB
     → HasBelow s (i + 1) ranges
 below_without s i ranges h f b = h b ∙ step_without (s b) b i (λ q. ap s q ∙ f)
 
-lower_small : (b : ℕ) → b < 256 → to_ascii_lowercase b < 256
-lower_small b h = grind (arith, h)
+lower_small : (n b : ℕ) → 128 ≤ n → b < n → to_ascii_lowercase b < n
+lower_small n b l h = grind (arith, l, h)
 
-upper_small : (b : ℕ) → b < 256 → to_ascii_uppercase b < 256
-upper_small b h = grind (arith, h)
+upper_small : (n b : ℕ) → 128 ≤ n → b < n → to_ascii_uppercase b < n
+upper_small n b l h = grind (arith, l, h)
 
--- the cases of two sets with the same bytes
-folded_same : (f : Flags) (r s : Set) → ((b : ℕ) → b < 256 → r b ≡ s b) → (b : ℕ) → b < 256 → folded f r b ≡ folded f s b
-folded_same f r s h b small = both f.case_insensitive where
+-- the cases of two sets with the same numbers below a limit
+pub folded_same : (n : ℕ) (f : Flags) (r s : Set) → 128 ≤ n → ((b : ℕ) → b < n → r b ≡ s b) → (b : ℕ) → b < n
+    → folded f r b ≡ folded f s b
+folded_same n f r s l h b small = both f.case_insensitive where
   both : (x : Bool) → cond x (r (to_ascii_lowercase b) || r (to_ascii_uppercase b)) (r b)
       ≡ cond x (s (to_ascii_lowercase b) || s (to_ascii_uppercase b)) (s b)
-  both true = ap (λ y. y || r (to_ascii_uppercase b)) (h (to_ascii_lowercase b) (lower_small b small))
-      ∙ ap (λ y. s (to_ascii_lowercase b) || y) (h (to_ascii_uppercase b) (upper_small b small))
+  both true = ap (λ y. y || r (to_ascii_uppercase b)) (h (to_ascii_lowercase b) (lower_small n b l small))
+      ∙ ap (λ y. s (to_ascii_lowercase b) || y) (h (to_ascii_uppercase b) (upper_small n b l small))
   both false = h b small
 
 pub kind_class : (f : Flags) (n : Bool) (s : Set) (ranges : List ClassBytesRange) (class : List (ℕ × ℕ))
     → HasBytes s (pairs ranges) → HasBytes (turned n (folded f (has ranges))) class → HasBytes (turned n (folded f s)) class
-kind_class f n s ranges class h k b small = k b small ∙ ap (λ x. cond n (not x) x) (folded_same f (has ranges) s h b small)
+kind_class f n s ranges class h k b small = k b small ∙ ap (λ x. cond n (not x) x) (folded_same 256 f (has ranges) s (omega arith) h b small)

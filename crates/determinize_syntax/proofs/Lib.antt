@@ -1,4 +1,5 @@
 pub mod Listing
 pub mod Classes
+pub mod Characters
 pub mod Numbers
 pub mod Parts

@@ -12,12 +12,11 @@ use Rattle.std.proofs.lemmas.List.{append_assoc, append-nil, map-append}
 use Rattle.determinize_pattern.specs.Meaning.{Re}
 use Rattle.determinize_pattern.specs.Patterns.{meaning, repeated}
 use Rattle.determinize_pattern.specs.declared.pattern.Pattern.{Pattern}
-use Rattle.determinize_syntax.specs.Private.Reading.{IsDigit, IsDigits, IsEscape, IsFlag, IsHexDigit, IsNamed, IsSetting, Opens, Part, SetsMore}
+use Rattle.determinize_syntax.specs.Private.Reading.{IsDigit, IsDigits, IsFlag, IsHexDigit, IsNamed, IsSetting, Opens, Part, SetsMore}
 use Rattle.determinize_syntax.proofs.Numbers.{is_decimal, number_more, number_one, value_of}
 use Rattle.determinize_syntax.specs.Spells as s
-use Rattle.determinize_syntax.specs.Spells.{Atom, Branches, Choice, Escaped, Items, Operator, Repeated, Sets, SpellsUnder, sequence_of}
+use Rattle.determinize_syntax.specs.Spells.{Atom, Branches, Choice, Escaped, Items, Operator, Repeated, Sets, SpellsUnder, Wide, sequence_of}
 use Rattle.determinize_syntax.specs.Words.{assertion, begins_name, is_in_name, is_name, number}
-use Rattle.determinize_syntax.specs.declared.escape.Escape.TheVariants.{Wide}
 use Rattle.determinize_syntax.specs.declared.flags.Flags.{Flags}
 use Rattle.std.specs.Char.{InScalarRange, IsScalar, digit_value, encode_utf8, len_utf8}
 use Rattle.std.proofs.lemmas.Str.{length-encode}
@@ -339,10 +338,11 @@ scalar_small n (inl h) = omega arith
 scalar_small n (inr h) = h.1
 
 pub wide_read : {a d x : Text} (n : ℕ) → Part a d (IsDigits n) → d ≡ 0x7D ∷ x → 128 ≤ n → IsScalar n → InScalarRange n
-    → Part a x (λ t. IsEscape (Wide n) (0x5C ∷ 0x78 ∷ 0x7B ∷ t))
+    → Part a x (λ t. Wide n (0x5C ∷ 0x78 ∷ 0x7B ∷ t))
 wide_read n h r large is range =
-    renamed (Ended (IsDigits n) 0x7D) (λ t. IsEscape (Wide n) (0x5C ∷ 0x78 ∷ 0x7B ∷ t)) (closed (IsDigits n) h r)
-    (λ v z. ((large, is), (z.0, z.1 (scalar_small n range), ap (λ w. 0x5C ∷ 0x78 ∷ 0x7B ∷ w) z.2)))
+    renamed (Ended (IsDigits n) 0x7D) (λ t. Wide n (0x5C ∷ 0x78 ∷ 0x7B ∷ t)) (closed (IsDigits n) h r)
+    (λ v z. subst (λ w. Wide n (0x5C ∷ 0x78 ∷ 0x7B ∷ w)) (sym z.2)
+    (s.by_number n z.0 (z.1 (scalar_small n range)) (large, is)))
 
 at_least_one : (c : ℕ) → 1 ≤ len_utf8 c
 at_least_one c = grind (arith)

@@ -1,15 +1,16 @@
 -- The text of a pattern: which texts denote which pattern, rule by rule. A text is a list of bytes.
-use Rattle.std.specs.Prelude.{◌≡◌, ◌<◌, ◌≤◌, ◌^◌, ◌++◌, ℕ, Bool, List, None, Option, Some, [], ◌∷◌, ◌==◌, ◌&&◌, codes, false, not, true}
+use Rattle.std.specs.Prelude.{◌≡◌, ◌<◌, ◌≤◌, ◌^◌, ◌++◌, ℕ, Bool, List, None, Option, Some, [], ◌∷◌, ◌==◌, ◌&&◌, ◌||◌, codes, false, not, true}
 use Rattle.std.specs.Char.{IsScalar, encode_utf8, is_ascii}
 use Rattle.std.specs.Int.{is_in_range}
 use Rattle.std.specs.List.{list_any}
 use Rattle.determinize_below.specs.declared.look.Look.TheVariants.{Start, End, StartLF, EndLF, StartCRLF, EndCRLF}
+use Rattle.determinize_pattern.specs.Characters.{IsCharClass}
 use Rattle.determinize_pattern.specs.Meaning.{Look, Re}
 use Rattle.determinize_pattern.specs.Patterns as patterns
 use Rattle.determinize_pattern.specs.Patterns.{IsClass, literal, repeated}
-use Rattle.determinize_syntax.specs.Words.{Set, ◌∈◌, assertion, at_line, complement, dot_set, escaped_byte, folded, is_name, joined, named_class, no_flags, number, only, perl_class, set_flag}
+use Rattle.determinize_syntax.specs.Words.{Set, ◌∈◌, assertion, at_line, complement, dot_set, escaped_byte, folded, is_end_of_text, is_name, joined, knows_cases, named_class, no_flags, number, only, perl_class, set_flag}
 use Rattle.determinize_syntax.specs.declared.bracket.Before.{Before}
-use Rattle.determinize_syntax.specs.declared.bracket.Before.TheVariants.{AfterByte, AfterClass, AfterHyphen, AfterRange, First}
+use Rattle.determinize_syntax.specs.declared.bracket.Before.TheVariants.{AfterClass, AfterHyphen, AfterOne, AfterRange, First}
 use Rattle.determinize_syntax.specs.declared.flags.Flags.{Flags}
 
 abbrev pub Bytes : Type 0
@@ -29,7 +30,12 @@ choice_of res = patterns.choice res
 abbrev pub IsWide : ℕ → Type 0
 IsWide c = (128 ≤ c) × IsScalar c
 
--- one byte by an escape: `\n`, `\*`, `\x41`, `\x{41}`
+-- one byte of the set, or where `u` holds one character of it
+abbrev pub IsOneOf : Bool → Set → Re → Type 0
+IsOneOf false = IsClass
+IsOneOf true = IsCharClass
+
+-- one byte, or where `u` holds one character, by an escape: `\n`, `\*`, `\x41`, `\x{41}`
 pub data Escaped : ℕ → Bytes → Type 0 where
   letter : (c b : ℕ) → escaped_byte c ≡ Some b → Escaped b (0x5C ∷ c ∷ [])
   two_digits : (c d b : ℕ) → number 16 (c ∷ d ∷ []) ≡ Some b
@@ -37,19 +43,31 @@ pub data Escaped : ℕ → Bytes → Type 0 where
   braces : (t : Bytes) (b : ℕ) → number 16 t ≡ Some b → b < 128
       → Escaped b (codes "\\x{" ++ t ++ codes "}")
 
+-- a character beyond ASCII, as itself or by its number
+pub data Wide : ℕ → Bytes → Type 0 where
+  itself : (c : ℕ) → IsWide c → Wide c (encode_utf8 c)
+  by_number : (c : ℕ) (t : Bytes) → number 16 t ≡ Some c → IsWide c
+      → Wide c (codes "\\x{" ++ t ++ codes "}")
+
+-- the end of a range in brackets
+pub data Bound (f : Flags) : ℕ → Bytes → Type 0 where
+  plain : (c : ℕ) → (is_ascii c && not (c ∈ "]\\-")) ≡ true → Bound f c (c ∷ [])
+  escaped : (b : ℕ) (t : Bytes) → Escaped b t → Bound f b t
+  character : (c : ℕ) (t : Bytes) → f.unicode ≡ true → Wide c t → Bound f c t
+
 -- the byte is literal; `&&` and `~~` do not
 abbrev pub stands : Before → ℕ → Bool
-stands (AfterByte false b) c =
+stands (AfterOne false b) c =
     is_ascii c && not (c ∈ "[]\\-") && not (b == c && c ∈ "&~")
 stands _ c = is_ascii c && not (c ∈ "[]\\-")
 
 -- a hyphen may be the last before the bracket closes
 abbrev pub may_end : Before → Bool
 may_end AfterClass = true
-may_end (AfterByte _ _) = true
+may_end (AfterOne _ _) = true
 may_end _ = false
 
--- the inside of brackets, and the bytes that it lists
+-- the inside of brackets, and the bytes or characters that it lists
 pub data Lists (f : Flags) : Before → Set → Bytes → Type 0 where
   nothing : Lists f First (λ c. false) []
   closing : Lists f AfterRange (only 0x5D) (codes "]")
@@ -58,22 +76,22 @@ pub data Lists (f : Flags) : Before → Set → Bytes → Type 0 where
   hyphen : (s : Set) (t : Bytes) → Lists f AfterRange s t
       → Lists f AfterHyphen (joined s (only 0x2D)) (t ++ codes "-")
   byte : (p : Before) (s : Set) (t : Bytes) (c : ℕ) → Lists f p s t → stands p c ≡ true
-      → Lists f (AfterByte false c) (joined s (only c)) (t ++ c ∷ [])
+      → Lists f (AfterOne false c) (joined s (only c)) (t ++ c ∷ [])
   escaped : (p : Before) (s : Set) (t u : Bytes) (b : ℕ) → Lists f p s t → Escaped b u
-      → Lists f (AfterByte true b) (joined s (only b)) (t ++ u)
+      → Lists f (AfterOne true b) (joined s (only b)) (t ++ u)
+  character : (p : Before) (s : Set) (t u : Bytes) (c : ℕ) → Lists f p s t → f.unicode ≡ true
+      → Wide c u → Lists f (AfterOne true c) (joined s (only c)) (t ++ u)
   class : (p : Before) (s : Set) (t : Bytes) (c : ℕ) (k : Set) → Lists f p s t
-      → perl_class c ≡ Some k → Lists f AfterClass (joined s k) (t ++ 0x5C ∷ c ∷ [])
+      → f.unicode ≡ false → perl_class c ≡ Some k
+      → Lists f AfterClass (joined s k) (t ++ 0x5C ∷ c ∷ [])
   name : (p : Before) (s : Set) (t n : Bytes) (k : Set) → Lists f p s t
       → named_class n ≡ Some k
       → Lists f AfterRange (joined s (folded f k)) (t ++ codes "[:" ++ n ++ codes ":]")
   other_name : (p : Before) (s : Set) (t n : Bytes) (k : Set) → Lists f p s t
       → named_class n ≡ Some k → Lists f AfterRange
       (joined s (complement (folded f k))) (t ++ codes "[:^" ++ n ++ codes ":]")
-  range : (e : Bool) (low high : ℕ) (s : Set) (t : Bytes) → Lists f (AfterByte e low) s t
-      → low ≤ high → (is_ascii high && not (high ∈ "]\\-")) ≡ true
-      → Lists f AfterRange (joined s (is_in_range low high)) (t ++ 0x2D ∷ high ∷ [])
-  range_escaped : (e : Bool) (low high : ℕ) (s : Set) (t u : Bytes)
-      → Lists f (AfterByte e low) s t → low ≤ high → Escaped high u
+  range : (e : Bool) (low high : ℕ) (s : Set) (t u : Bytes) → Lists f (AfterOne e low) s t
+      → low ≤ high → Bound f high u
       → Lists f AfterRange (joined s (is_in_range low high)) (t ++ codes "-" ++ u)
 
 -- the whole inside of brackets: not empty, and the last may be a hyphen
@@ -107,25 +125,25 @@ pub data Operator : ℕ → Option ℕ → Bytes → Type 0 where
 mutual
   pub data Atom : Flags → Re → Bytes → Type 0 where
     plain : (f : Flags) (c : ℕ) (re : Re)
-        → (is_ascii c && not (c ∈ "\\.+*?()|[{^$")) ≡ true → IsClass (folded f (only c)) re
-        → Atom f re (c ∷ [])
-    character : (f : Flags) (c : ℕ) → IsWide c → Atom f (literal (encode_utf8 c)) (encode_utf8 c)
-    character_by_number : (f : Flags) (c : ℕ) (t : Bytes) → number 16 t ≡ Some c → IsWide c
-        → Atom f (literal (encode_utf8 c)) (codes "\\x{" ++ t ++ codes "}")
-    dot : (f : Flags) (re : Re) → IsClass (dot_set f) re → Atom f re (codes ".")
+        → (is_ascii c && not (c ∈ "\\.+*?()|[{^$")) ≡ true → knows_cases f ≡ true
+        → IsClass (folded f (only c)) re → Atom f re (c ∷ [])
+    character : (f : Flags) (c : ℕ) (t : Bytes) → Wide c t → knows_cases f ≡ true
+        → Atom f (literal (encode_utf8 c)) t
+    dot : (f : Flags) (re : Re) → IsOneOf f.unicode (dot_set f) re → Atom f re (codes ".")
     line_start : (f : Flags) → Atom f (Look (at_line f Start StartLF StartCRLF)) (codes "^")
     line_end : (f : Flags) → Atom f (Look (at_line f End EndLF EndCRLF)) (codes "$")
-    escaped : (f : Flags) (b : ℕ) (re : Re) (t : Bytes) → Escaped b t
-        → IsClass (folded f (only b)) re → Atom f re t
-    class : (f : Flags) (c : ℕ) (s : Set) (re : Re) → perl_class c ≡ Some s → IsClass s re
-        → Atom f re (0x5C ∷ c ∷ [])
+    escaped : (f : Flags) (b : ℕ) (re : Re) (t : Bytes) → Escaped b t → knows_cases f ≡ true
+        → IsOneOf f.unicode (folded f (only b)) re → Atom f re t
+    class : (f : Flags) (c : ℕ) (s : Set) (re : Re) → perl_class c ≡ Some s → f.unicode ≡ false
+        → IsClass s re → Atom f re (0x5C ∷ c ∷ [])
     asserted : (f : Flags) (t : Bytes) (look : _) → assertion t ≡ Some look
-        → Atom f (Look look) (0x5C ∷ t)
+        → (not f.unicode || is_end_of_text look) ≡ true → Atom f (Look look) (0x5C ∷ t)
     brackets : (f : Flags) (s : Set) (re : Re) (c : ℕ) (t : Bytes) → Inside f s (c ∷ t)
-        → not (c ∈ "^") ≡ true → IsClass (folded f s) re
+        → not (c ∈ "^") ≡ true → knows_cases f ≡ true → IsOneOf f.unicode (folded f s) re
         → Atom f re (codes "[" ++ c ∷ t ++ codes "]")
     other_brackets : (f : Flags) (s : Set) (re : Re) (t : Bytes) → Inside f s t
-        → IsClass (complement (folded f s)) re → Atom f re (codes "[^" ++ t ++ codes "]")
+        → knows_cases f ≡ true → IsOneOf f.unicode (complement (folded f s)) re
+        → Atom f re (codes "[^" ++ t ++ codes "]")
     capture : (f g : Flags) (re : Re) (t : Bytes) → Choice f g re t
         → Atom f re (codes "(" ++ t ++ codes ")")
     named : (f g : Flags) (re : Re) (n t : Bytes) → is_name n ≡ true → Choice f g re t

@@ -1,6 +1,6 @@
--- The words of the grammar: sets of bytes, what a backslash makes of a letter, names, flags, and
--- numbers.
-use Rattle.std.specs.Prelude.{◌+◌, ◌*◌, ℕ, Bool, List, None, Option, Some, [], ◌∷◌, ◌==◌, ◌&&◌, ◌||◌, codes, cond, false, if◌then◌else◌, nat_eq, not}
+-- The words of the grammar: sets of bytes or characters, what a backslash makes of a letter, names,
+-- flags, and numbers.
+use Rattle.std.specs.Prelude.{◌+◌, ◌*◌, ℕ, Bool, List, None, Option, Some, [], ◌∷◌, ◌==◌, ◌&&◌, ◌||◌, codes, cond, false, if◌then◌else◌, nat_eq, not, true}
 use Rattle.std.specs.List.{list_all, list_any}
 use Rattle.std.specs.Char.{digit_value, is_ascii, is_ascii_alphabetic, is_ascii_alphanumeric, is_ascii_control, is_ascii_digit, is_ascii_graphic, is_ascii_hexdigit, is_ascii_lowercase, is_ascii_punctuation, is_ascii_uppercase, is_digit, to_ascii_lowercase, to_ascii_uppercase}
 use Rattle.std.specs.Int.{is_in_range}
@@ -10,7 +10,7 @@ use Rattle.determinize_syntax.specs.declared.flags.Flags.{Flags}
 use lib.Pointwise.{pointwise}
 use Prim.Native.String.{String}
 
--- a set of bytes
+-- a set of bytes, or under `u` of characters
 abbrev pub Set : Type 0
 Set = ℕ → Bool
 
@@ -40,7 +40,12 @@ no_flags = record {
   dot_matches_new_line = false;
   swap_greed = false;
   crlf = false;
+  unicode = false;
 }
+
+-- only the cases of ASCII letters are known, so `i` and `u` together are not supported
+abbrev pub knows_cases : Flags → Bool
+knows_cases f = not (f.unicode && f.case_insensitive)
 
 -- under `i` a byte is in the set if one of its cases is
 abbrev pub folded : Flags → Set → Set
@@ -52,7 +57,7 @@ space_set c = is_in_range 9 13 c || c == 32
 abbrev pub word_set : Set
 word_set c = is_ascii_alphanumeric c || c == 0x5F
 
--- what a dot reads: all bytes under `s`, and else all but the ends of lines
+-- what a dot reads: everything under `s`, and else all but the ends of lines
 abbrev pub dot_set : Flags → Set
 dot_set f c = f.dot_matches_new_line || not (cond f.crlf (c ∈ "\r\n") (c ∈ "\n"))
 
@@ -98,6 +103,12 @@ assertion t =
     else if is_text "b{start-half}" t then Some WordStartHalfAscii
     else if is_text "b{end-half}" t then Some WordEndHalfAscii else None
 
+-- `\A` and `\z`, which are not about words
+abbrev pub is_end_of_text : Look → Bool
+is_end_of_text Start = true
+is_end_of_text End = true
+is_end_of_text look = false
+
 -- the assertion of `^` or `$`: at the ends of the text, under `m` at those of lines too
 abbrev pub at_line : Flags → Look → Look → Look → Look
 at_line f whole lf crlf = cond f.multi_line (cond f.crlf crlf lf) whole
@@ -113,7 +124,7 @@ number radix [] = None
 number radix (c ∷ t) =
     if list_all (λ d. is_digit d radix) (c ∷ t) then Some (number_after radix 0 (c ∷ t)) else None
 
--- the flags once the letter has set or cleared one; `u` may only be cleared, which changes nothing
+-- the flags once the letter has set or cleared one
 abbrev pub set_flag : Flags → ℕ → Bool → Option Flags
 set_flag f c on =
     if c ∈ "i" then Some (record f { case_insensitive = on })
@@ -121,7 +132,7 @@ set_flag f c on =
     else if c ∈ "s" then Some (record f { dot_matches_new_line = on })
     else if c ∈ "U" then Some (record f { swap_greed = on })
     else if c ∈ "R" then Some (record f { crlf = on })
-    else if c ∈ "u" && not on then Some f else None
+    else if c ∈ "u" then Some (record f { unicode = on }) else None
 
 -- the name of a group begins with a letter or `_`, and then has letters, digits and these signs
 abbrev pub begins_name : Set

@@ -2,21 +2,24 @@
 
 ghost use Rattle.std.specs.Prelude.{◌≡◌, ◌<◌, ◌++◌, ◌∷◌, ◌&&◌, [], Bool, IfOk, OnOk, false, length, not, true};
 ghost use Rattle.std.specs.Char.{is_ascii};
-ghost use Rattle.determinize_pattern.specs.Classes.{pairs};
-ghost use Rattle.determinize_syntax.specs.Private.Brackets.{Extends, IsBegun, IsBound, IsBracketed, IsInside};
+ghost use Rattle.determinize_pattern.specs.Characters.{char_pairs};
+ghost use Rattle.determinize_pattern.specs.Patterns.{meaning};
+ghost use Rattle.determinize_syntax.specs.Private.Brackets.{Extends, IsBegun, IsInside};
 ghost use Rattle.determinize_syntax.specs.Private.Reading.{Reads, rest};
+ghost use Rattle.determinize_syntax.specs.Private.Sets.{AddsChars, set_of, turned};
 ghost use Rattle.determinize_syntax.specs.Spells as spells;
-ghost use Rattle.determinize_syntax.specs.Words.{◌∈◌};
-ghost use Rattle.determinize_syntax.specs.declared.bracket.Before.TheVariants.{AfterByte};
+ghost use Rattle.determinize_syntax.specs.Spells.{Atom, Bound, Wide};
+ghost use Rattle.determinize_syntax.specs.Words.{◌∈◌, folded};
+ghost use Rattle.determinize_syntax.specs.declared.bracket.Before.TheVariants.{AfterOne};
 ghost use Rattle.determinize_syntax.specs.declared.flags.Flags.{Flags};
 
-use crate::class::class;
+use crate::class::one_of;
 use crate::cursor::Cursor;
 use crate::error::{ErrorKind, ParseError};
 use crate::escape::{Escape, pass_letters, read_escape};
 use crate::flags::Flags;
 use crate::kind::ClassKind;
-use determinize_pattern::{ClassBytes, ClassBytesRange};
+use determinize_pattern::{ClassUnicodeRange, Pattern};
 use std::alloc::{AllocError, Global};
 
 /// What is before a place in brackets.
@@ -30,14 +33,15 @@ pub enum Before {
     AfterClass,
     /// A hyphen.
     AfterHyphen,
-    /// A byte, with whether it is escaped.
-    AfterByte(bool, u8),
+    /// A byte or a character, with whether it is escaped or beyond ASCII.
+    AfterOne(bool, char),
 }
 
 /// The items of brackets that were read.
 #[derive(Drop)]
 struct Items {
-    ranges: Vec<ClassBytesRange>,
+    /// The characters that are listed. A byte is listed as the character with its number.
+    ranges: Vec<ClassUnicodeRange>,
     before: Before,
     /// The beginning of the brackets.
     start: usize,
@@ -53,13 +57,17 @@ pub fn bracket(
     cursor: &mut Cursor<'_>,
     start: usize,
     flags: Flags,
-) -> Result<ClassBytes, ParseError>
-    ensures read { IfOk result (λ c. Reads cursor.old cursor.new (IsBracketed flags c)) }
+) -> Result<Pattern, ParseError>
+    ensures read { IfOk result (λ p. Reads cursor.old cursor.new
+        (λ t. Atom flags (meaning p) (0x5B ∷ t))) }
 {
     let negated = cursor.take(b'^');
     let ranges = inside(alloc, cursor, start, flags)?;
-    let class = class(alloc, &ranges, flags, negated)?;
-    Ok(class)
+    if !flags.know_cases() {
+        return Err(cursor.error_since(start, ErrorKind::UnicodeCaseUnavailable));
+    }
+    let pattern = one_of(alloc, &ranges, flags, negated)?;
+    Ok(pattern)
 }
 
 /// Reads the inside of brackets and the last bracket.
@@ -68,9 +76,9 @@ fn inside(
     cursor: &mut Cursor<'_>,
     start: usize,
     flags: Flags,
-) -> Result<Vec<ClassBytesRange>, ParseError>
+) -> Result<Vec<ClassUnicodeRange>, ParseError>
     ensures read { IfOk result (λ v. Reads cursor.old cursor.new
-        (IsInside flags (pairs v.items))) }
+        (IsInside flags (char_pairs v.items))) }
 {
     let mut items = front(alloc, cursor, start)?;
     loop {
@@ -87,7 +95,7 @@ fn inside(
 /// Reads a bracket that is in front.
 fn front(alloc: Global, cursor: &mut Cursor<'_>, start: usize) -> Result<Items, AllocError>
     ensures read { IfOk result (λ i. (f : Flags) → Reads cursor.old cursor.new
-        (IsBegun f i.before (pairs i.ranges.items) cursor.new)) }
+        (IsBegun f i.before (char_pairs i.ranges.items) cursor.new)) }
 {
     let mut items = Items {
         ranges: Vec::new(alloc),
@@ -99,19 +107,19 @@ fn front(alloc: Global, cursor: &mut Cursor<'_>, start: usize) -> Result<Items, 
     if !cursor.take(b']') {
         return Ok(items);
     }
-    items.add(b']', b']', Before::AfterRange)?;
+    items.add(']', ']', Before::AfterRange)?;
     items.opened = cursor.pos();
     Ok(items)
 }
 
 impl Items {
-    /// Adds the bytes from `low` to `high`.
-    fn add(&mut self, low: u8, high: u8, before: Before) -> Result<(), AllocError>
-        ensures ranges { OnOk result (pairs self.new.ranges.items
-            ≡ pairs self.old.ranges.items ++ (low, high) ∷ []) }
+    /// Adds the characters from `low` to `high`.
+    fn add(&mut self, low: char, high: char, before: Before) -> Result<(), AllocError>
+        ensures ranges { OnOk result (char_pairs self.new.ranges.items
+            ≡ char_pairs self.old.ranges.items ++ (low, high) ∷ []) }
         ensures before { OnOk result (self.new.before ≡ before) }
     {
-        let range = ClassBytesRange {
+        let range = ClassUnicodeRange {
             start: low,
             end: high,
         };
@@ -120,15 +128,42 @@ impl Items {
         Ok(())
     }
 
-    /// Adds the bytes of the class.
-    fn add_class(&mut self, class: &ClassBytes, before: Before) -> Result<(), AllocError>
-        ensures ranges { OnOk result (pairs self.new.ranges.items
-            ≡ pairs self.old.ranges.items ++ class.now) }
+    /// Adds a character that is escaped or beyond ASCII.
+    fn add_escaped(&mut self, character: char) -> Result<(), AllocError>
+        ensures ranges { OnOk result (char_pairs self.new.ranges.items
+            ≡ char_pairs self.old.ranges.items ++ (character, character) ∷ []) }
+        ensures before { OnOk result (self.new.before ≡ AfterOne true character) }
+    {
+        self.add(character, character, Before::AfterOne(true, character))
+    }
+
+    /// Adds the characters of the class, under `i` in both cases, or all others if `negated` is
+    /// set.
+    fn add_class(
+        &mut self,
+        alloc: Global,
+        kind: ClassKind,
+        flags: Flags,
+        negated: bool,
+        before: Before,
+    ) -> Result<(), AllocError>
+        ensures ranges { OnOk result (AddsChars (turned negated (folded flags (set_of kind)))
+            (char_pairs self.old.ranges.items) (char_pairs self.new.ranges.items)) }
         ensures before { OnOk result (self.new.before ≡ before) }
     {
-        self.ranges.extend_from_slice(class.ranges())?;
+        let class = kind.class(alloc, flags, negated)?;
+        let ranges = class.ranges();
+        for range in ranges {
+            if range.start.is_ascii() {
+                let end = char::from(range.end.min(0x7F));
+                self.add(char::from(range.start), end, before)?;
+            }
+        }
         self.before = before;
-        Ok(())
+        if !negated {
+            return Ok(());
+        }
+        self.add('\u{80}', '\u{10FFFF}', before)
     }
 
     /// Reads a hyphen and the last bracket, if the hyphen may be there.
@@ -136,7 +171,8 @@ impl Items {
         ensures read { IfOk result (λ b. b ≡ true
             → (spells.may_end self.old.before ≡ true)
             × (rest cursor.old ≡ 0x2D ∷ 0x5D ∷ rest cursor.new)
-            × (pairs self.new.ranges.items ≡ pairs self.old.ranges.items ++ (0x2D, 0x2D) ∷ [])) }
+            × (char_pairs self.new.ranges.items
+            ≡ char_pairs self.old.ranges.items ++ (0x2D, 0x2D) ∷ [])) }
         ensures left { IfOk result (λ b. b ≡ false
             → (cursor.new ≡ cursor.old) × (self.new ≡ self.old)) }
     {
@@ -145,7 +181,7 @@ impl Items {
             return Ok(false);
         }
         *cursor = ahead;
-        self.add(b'-', b'-', Before::AfterHyphen)?;
+        self.add('-', '-', Before::AfterHyphen)?;
         Ok(true)
     }
 
@@ -157,27 +193,28 @@ impl Items {
         flags: Flags,
     ) -> Result<(), ParseError>
         ensures read { OnOk result (Reads cursor.old cursor.new (Extends flags self.old.before
-            (pairs self.old.ranges.items) self.new.before (pairs self.new.ranges.items))) }
+            (char_pairs self.old.ranges.items) self.new.before
+            (char_pairs self.new.ranges.items))) }
         ensures progress { OnOk result (length (rest cursor.new) < length (rest cursor.old)) }
     {
         let place = cursor.pos();
         if cursor.take(b'-') {
-            return self.hyphen(alloc, cursor, place);
+            return self.hyphen(cursor, place, flags);
         }
         if cursor.take(b'\\') {
-            return self.escaped(alloc, cursor, place);
+            return self.escaped(alloc, cursor, place, flags);
         }
         if cursor.take(b'[') {
             return self.name(alloc, cursor, place, flags);
         }
-        self.plain(cursor)
+        self.plain(cursor, flags)
     }
 
-    /// Reads a literal byte.
-    fn plain(&mut self, cursor: &mut Cursor<'_>) -> Result<(), ParseError>
-        ensures read { (f : Flags) → OnOk result (Reads cursor.old cursor.new (Extends f
-            self.old.before (pairs self.old.ranges.items) self.new.before
-            (pairs self.new.ranges.items))) }
+    /// Reads a literal byte or character.
+    fn plain(&mut self, cursor: &mut Cursor<'_>, flags: Flags) -> Result<(), ParseError>
+        ensures read { OnOk result (Reads cursor.old cursor.new (Extends flags self.old.before
+            (char_pairs self.old.ranges.items) self.new.before
+            (char_pairs self.new.ranges.items))) }
         ensures progress { OnOk result (length (rest cursor.new) < length (rest cursor.old)) }
     {
         let place = cursor.pos();
@@ -185,7 +222,10 @@ impl Items {
             return Err(self.unclosed());
         };
         if !next.is_ascii() {
-            return Err(cursor.error_here(ErrorKind::UnicodeNotAllowed));
+            let character = wide(cursor, flags)?;
+            self.last = place;
+            self.add_escaped(character)?;
+            return Ok(());
         }
         if !stands(self.before, next) || !cursor.take(next) {
             return Err(ParseError::new(
@@ -195,7 +235,8 @@ impl Items {
             ));
         }
         self.last = place;
-        self.add(next, next, Before::AfterByte(false, next))?;
+        let character = char::from(next);
+        self.add(character, character, Before::AfterOne(false, character))?;
         Ok(())
     }
 
@@ -205,20 +246,27 @@ impl Items {
         alloc: Global,
         cursor: &mut Cursor<'_>,
         place: usize,
+        flags: Flags,
     ) -> Result<(), ParseError>
-        ensures read { (f : Flags) → OnOk result (Reads cursor.old cursor.new (λ t. Extends f
-            self.old.before (pairs self.old.ranges.items) self.new.before
-            (pairs self.new.ranges.items) (0x5C ∷ t))) }
+        ensures read { OnOk result (Reads cursor.old cursor.new (λ t. Extends flags
+            self.old.before (char_pairs self.old.ranges.items) self.new.before
+            (char_pairs self.new.ranges.items) (0x5C ∷ t))) }
     {
-        let escape = read_escape(alloc, cursor, place)?;
+        let escape = read_escape(cursor, place)?;
         self.last = place;
         match escape {
-            Escape::Byte(byte) => self.add(byte, byte, Before::AfterByte(true, byte))?,
-            Escape::Class(class) => self.add_class(&class, Before::AfterClass)?,
+            Escape::Byte(byte) => self.add_escaped(char::from(byte))?,
+            Escape::Wide(character) if flags.unicode => self.add_escaped(character)?,
             Escape::Wide(_) => {
                 return Err(cursor.error_since(place, ErrorKind::UnicodeNotAllowed));
             }
-            Escape::Look(_) => return Err(self.assertion_error(alloc, cursor)),
+            Escape::Class(..) if flags.unicode => {
+                return Err(cursor.error_since(place, ErrorKind::UnicodePerlClassNotFound));
+            }
+            Escape::Class(kind, negated) => {
+                self.add_class(alloc, kind, Flags::new(), negated, Before::AfterClass)?;
+            }
+            Escape::Look(_) => return Err(self.assertion_error(cursor, flags)),
         }
         Ok(())
     }
@@ -232,8 +280,8 @@ impl Items {
         flags: Flags,
     ) -> Result<(), ParseError>
         ensures read { OnOk result (Reads cursor.old cursor.new (λ t. Extends flags
-            self.old.before (pairs self.old.ranges.items) self.new.before
-            (pairs self.new.ranges.items) (0x5B ∷ t))) }
+            self.old.before (char_pairs self.old.ranges.items) self.new.before
+            (char_pairs self.new.ranges.items) (0x5B ∷ t))) }
     {
         if !cursor.take(b':') {
             return Err(ParseError::at(ErrorKind::ClassNested, place));
@@ -247,21 +295,23 @@ impl Items {
         if !cursor.take(b':') || !cursor.take(b']') {
             return Err(ParseError::at(ErrorKind::ClassNested, place));
         }
-        let class = kind.class(alloc, flags, negated)?;
-        self.add_class(&class, Before::AfterRange)?;
+        if !flags.know_cases() {
+            return Err(cursor.error_since(place, ErrorKind::UnicodeCaseUnavailable));
+        }
+        self.add_class(alloc, kind, flags, negated, Before::AfterRange)?;
         Ok(())
     }
 
     /// Reads what follows a hyphen, which is at `place`.
     fn hyphen(
         &mut self,
-        alloc: Global,
         cursor: &mut Cursor<'_>,
         place: usize,
+        flags: Flags,
     ) -> Result<(), ParseError>
-        ensures read { (f : Flags) → OnOk result (Reads cursor.old cursor.new (λ t. Extends f
-            self.old.before (pairs self.old.ranges.items) self.new.before
-            (pairs self.new.ranges.items) (0x2D ∷ t))) }
+        ensures read { OnOk result (Reads cursor.old cursor.new (λ t. Extends flags
+            self.old.before (char_pairs self.old.ranges.items) self.new.before
+            (char_pairs self.new.ranges.items) (0x2D ∷ t))) }
     {
         match self.before {
             Before::First => {
@@ -270,33 +320,33 @@ impl Items {
                     return Err(ParseError::new(ErrorKind::ClassUnclosed, start, start));
                 }
                 self.opened = cursor.pos();
-                self.add(b'-', b'-', Before::First)?;
+                self.add('-', '-', Before::First)?;
                 Ok(())
             }
             Before::AfterRange => {
                 self.last = place;
-                self.add(b'-', b'-', Before::AfterHyphen)?;
+                self.add('-', '-', Before::AfterHyphen)?;
                 Ok(())
             }
             Before::AfterHyphen => { Err(cursor.error_since(self.last, ErrorKind::ClassOperation)) }
-            Before::AfterClass => Err(self.class_in_range(alloc, cursor, place)),
-            Before::AfterByte(_, low) => self.range(alloc, cursor, place, low),
+            Before::AfterClass => Err(self.class_in_range(cursor, place, flags)),
+            Before::AfterOne(_, low) => self.range(cursor, place, low, flags),
         }
     }
 
     /// Reads the end of a range after its hyphen, which is at `place`.
     fn range(
         &mut self,
-        alloc: Global,
         cursor: &mut Cursor<'_>,
         place: usize,
-        low: u8,
+        low: char,
+        flags: Flags,
     ) -> Result<(), ParseError>
-        ensures read { (f : Flags) (e : Bool) → OnOk result (Reads cursor.old cursor.new
-            (λ t. Extends f (AfterByte e low) (pairs self.old.ranges.items) self.new.before
-            (pairs self.new.ranges.items) (0x2D ∷ t))) }
+        ensures read { (e : Bool) → OnOk result (Reads cursor.old cursor.new
+            (λ t. Extends flags (AfterOne e low) (char_pairs self.old.ranges.items)
+            self.new.before (char_pairs self.new.ranges.items) (0x2D ∷ t))) }
     {
-        let high = self.bound(alloc, cursor, place)?;
+        let high = self.bound(cursor, place, flags)?;
         if high < low {
             return Err(cursor.error_since(self.last, ErrorKind::ClassRangeInvalid));
         }
@@ -305,16 +355,18 @@ impl Items {
     }
 
     /// Reads the end of a range, whose hyphen is at `place`.
-    fn bound(&self, alloc: Global, cursor: &mut Cursor<'_>, place: usize) -> Result<u8, ParseError>
-        ensures read { IfOk result (λ h. Reads cursor.old cursor.new (IsBound h)) }
+    fn bound(&self, cursor: &mut Cursor<'_>, place: usize, flags: Flags) -> Result<char, ParseError>
+        ensures read { IfOk result (λ h. Reads cursor.old cursor.new (Bound flags h)) }
     {
         let first = cursor.pos();
         let Some(next) = cursor.peek() else {
             return Err(self.unclosed());
         };
         if cursor.take(b'\\') {
-            return match read_escape(alloc, cursor, first)? {
-                Escape::Byte(byte) => Ok(byte),
+            let escape = read_escape(cursor, first)?;
+            return match escape {
+                Escape::Byte(byte) => Ok(char::from(byte)),
+                Escape::Wide(character) if flags.unicode => Ok(character),
                 Escape::Wide(_) => Err(cursor.error_since(first, ErrorKind::UnicodeNotAllowed)),
                 _ => Err(cursor.error_since(first, ErrorKind::ClassRangeLiteral)),
             };
@@ -322,22 +374,25 @@ impl Items {
         if cursor.take(b'-') {
             return Err(cursor.error_since(place, ErrorKind::ClassOperation));
         }
+        if !next.is_ascii() {
+            return wide(cursor, flags);
+        }
         if !may_end_range(next) || !cursor.take(next) {
             return Err(cursor.error_here(ErrorKind::UnicodeNotAllowed));
         }
-        Ok(next)
+        Ok(char::from(next))
     }
 
     /// Returns the error of a class before a hyphen, which is at `place`.
-    fn class_in_range(&self, alloc: Global, cursor: &mut Cursor<'_>, place: usize) -> ParseError {
-        match self.bound(alloc, cursor, place) {
+    fn class_in_range(&self, cursor: &mut Cursor<'_>, place: usize, flags: Flags) -> ParseError {
+        match self.bound(cursor, place, flags) {
             Err(error) if error.kind != ErrorKind::ClassRangeLiteral => error,
             _ => ParseError::new(ErrorKind::ClassRangeLiteral, self.last, place),
         }
     }
 
     /// Returns the error of an assertion, which ends here.
-    fn assertion_error(&self, alloc: Global, cursor: &mut Cursor<'_>) -> ParseError {
+    fn assertion_error(&self, cursor: &mut Cursor<'_>, flags: Flags) -> ParseError {
         let place = cursor.pos();
         match cursor.rest {
             [] | [b'-'] => self.unclosed(),
@@ -346,7 +401,7 @@ impl Items {
             }
             [b'-', ..] => {
                 let _ = cursor.take(b'-');
-                self.class_in_range(alloc, cursor, place)
+                self.class_in_range(cursor, place, flags)
             }
             _ => cursor.error_since(self.last, ErrorKind::ClassEscapeInvalid),
         }
@@ -358,11 +413,27 @@ impl Items {
     }
 }
 
+/// Reads a character beyond ASCII, which brackets have only where `u` holds.
+fn wide(cursor: &mut Cursor<'_>, flags: Flags) -> Result<char, ParseError>
+    ensures read { IfOk result (λ c. Reads cursor.old cursor.new
+        (λ t. (flags.unicode ≡ true) × Wide c t)) }
+    ensures progress { OnOk result (length (rest cursor.new) < length (rest cursor.old)) }
+{
+    let error = cursor.error_here(ErrorKind::UnicodeNotAllowed);
+    if !flags.unicode {
+        return Err(error);
+    }
+    match cursor.take_wide() {
+        Some(character) => Ok(character),
+        None => Err(error),
+    }
+}
+
 /// Returns whether a hyphen may be the last before the bracket closes.
 fn may_end(before: Before) -> bool
     ensures { result ≡ spells.may_end before }
 {
-    matches!(before, Before::AfterClass | Before::AfterByte(..))
+    matches!(before, Before::AfterClass | Before::AfterOne(..))
 }
 
 /// Returns whether the byte is literal.
@@ -370,7 +441,8 @@ fn stands(before: Before, byte: u8) -> bool
     ensures { result ≡ spells.stands before byte }
 {
     match before {
-        Before::AfterByte(false, last) if last == byte && (byte == b'&' || byte == b'~') => false,
+        Before::AfterOne(false, last)
+            if last == char::from(byte) && (byte == b'&' || byte == b'~') => { false }
         _ => byte.is_ascii() && !matches!(byte, b'[' | b']' | b'\\' | b'-'),
     }
 }

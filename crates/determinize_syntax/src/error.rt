@@ -41,7 +41,7 @@ pub enum ErrorKind {
     FlagUnexpectedEof,
     /// A letter that is no flag.
     FlagUnrecognized,
-    /// A flag that is not supported: `x`, and `u` unless it is cleared.
+    /// A flag that is not supported: `x`.
     FlagUnsupported,
     /// A second group with the same name.
     GroupNameDuplicate,
@@ -73,8 +73,15 @@ pub enum ErrorKind {
     SpecialWordBoundaryUnrecognized,
     /// The text ends after `\b{`.
     SpecialWordOrRepetitionUnexpectedEof,
-    /// What only Unicode patterns have: `\u`, `\p`, or a character beyond ASCII in brackets.
+    /// The flag `i` where `u` holds: only the cases of ASCII letters are known.
+    UnicodeCaseUnavailable,
+    /// What only Unicode patterns have: `\u`, `\p`, or, where `u` does not hold, a character beyond
+    /// ASCII in brackets.
     UnicodeNotAllowed,
+    /// A class as `\d` where `u` holds: only its ASCII characters are known.
+    UnicodePerlClassNotFound,
+    /// An assertion on words, as `\b`, where `u` holds: only words of ASCII are known.
+    UnicodeWordUnavailable,
     /// A reference to a group, as `\1`.
     UnsupportedBackreference,
     /// What looks ahead or behind, as `(?=a)`.
@@ -163,7 +170,10 @@ impl ErrorKind {
             ErrorKind::SpecialWordBoundaryUnclosed => "the name of the boundary is not closed",
             ErrorKind::SpecialWordBoundaryUnrecognized => "no boundary has this name",
             ErrorKind::SpecialWordOrRepetitionUnexpectedEof => "the text ends after the brace",
+            ErrorKind::UnicodeCaseUnavailable => "the cases of Unicode are not supported",
             ErrorKind::UnicodeNotAllowed => "this is for Unicode patterns only",
+            ErrorKind::UnicodePerlClassNotFound => "this class of Unicode is not supported",
+            ErrorKind::UnicodeWordUnavailable => "the words of Unicode are not supported",
             ErrorKind::UnsupportedBackreference => "a reference to a group is not supported",
             _ => "looking ahead or behind is not supported",
         }

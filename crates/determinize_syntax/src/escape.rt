@@ -1,36 +1,55 @@
 //! What follows a backslash.
 
-ghost use Rattle.std.specs.Prelude.{◌≡◌, ◌*◌, ◌+◌, ◌<◌, ◌≤◌, ◌++◌, ◌∷◌, [], IfNone, IfOk, IfSome, OnOk, Some, codes, length, ⊤};
-ghost use Rattle.determinize_syntax.specs.Private.Reading.{IsDigits, IsEscape, IsHexDigit, Reads, rest};
+ghost use Rattle.std.specs.Prelude.{◌≡◌, ◌*◌, ◌+◌, ◌<◌, ◌≤◌, ◌++◌, ◌∷◌, [], IfNone, IfOk, IfSome, OnOk, Some, codes, length, true, ⊤};
+ghost use Rattle.determinize_syntax.specs.Private.Reading.{IsDigits, IsEscape, IsHexDigit, Reads, is_available, rest};
 ghost use Rattle.determinize_syntax.specs.Words as words;
 ghost use Rattle.determinize_syntax.specs.Words.{escaped_byte};
 
 use crate::cursor::Cursor;
 use crate::error::{ErrorKind, ParseError};
-use crate::kind::perl;
+use crate::flags::Flags;
+use crate::kind::{ClassKind, perl_kind};
 use determinize_below::Look;
-use determinize_pattern::ClassBytes;
-use std::alloc::Global;
 
 /// What an escape denotes.
-#[derive(Drop)]
+#[derive(Clone, Copy)]
 pub enum Escape {
-    /// A byte, as `\n`.
+    /// A byte, as `\n`, or, where `u` holds, the character with its number.
     Byte(u8),
     /// A character beyond ASCII, as `\x{E9}`.
     Wide(char),
-    /// A class, as `\d`.
-    Class(ClassBytes),
+    /// A class, as `\d`, with whether it has all other bytes, as `\D`.
+    Class(ClassKind, bool),
     /// An assertion, as `\b`.
     Look(Look),
 }
 
+impl Escape {
+    /// Returns the error if tables of Unicode are needed under these flags.
+    pub fn unavailable(self, flags: Flags) -> Option<ErrorKind>
+        ensures { IfNone result (is_available flags self ≡ true) }
+    {
+        let (available, kind) = match self {
+            Escape::Class(..) => (!flags.unicode, ErrorKind::UnicodePerlClassNotFound),
+            Escape::Look(look) => (
+                !flags.unicode || is_end_of_text(look),
+                ErrorKind::UnicodeWordUnavailable,
+            ),
+            _ => (flags.know_cases(), ErrorKind::UnicodeCaseUnavailable),
+        };
+        if available { None } else { Some(kind) }
+    }
+}
+
+/// Returns whether the assertion is `\A` or `\z`, which are not about words.
+fn is_end_of_text(look: Look) -> bool
+    ensures { result ≡ words.is_end_of_text look }
+{
+    matches!(look, Look::Start | Look::End)
+}
+
 /// Reads an escape after its backslash, which is at `start`.
-pub fn read_escape(
-    alloc: Global,
-    cursor: &mut Cursor<'_>,
-    start: usize,
-) -> Result<Escape, ParseError>
+pub fn read_escape(cursor: &mut Cursor<'_>, start: usize) -> Result<Escape, ParseError>
     ensures read { IfOk result (λ e.
         Reads cursor.old cursor.new (λ t. IsEscape e (0x5C ∷ t))) }
 {
@@ -49,8 +68,8 @@ pub fn read_escape(
         }
         return Ok(Escape::Byte(byte));
     }
-    match perl(alloc, next)? {
-        Some(class) if cursor.take(next) => Ok(Escape::Class(class)),
+    match perl_kind(next) {
+        Some((kind, negated)) if cursor.take(next) => Ok(Escape::Class(kind, negated)),
         _ => Err(unrecognized(cursor, start, next)),
     }
 }

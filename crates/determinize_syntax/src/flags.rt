@@ -4,7 +4,7 @@ ghost use Rattle.std.specs.Prelude.{◌≡◌, ◌<◌, Bool, IfNone, IfOk, IfSo
 ghost use Rattle.determinize_syntax.specs.Private.Reading.{IsFlag, IsSetting, Reads, SetsMore, rest};
 ghost use Rattle.determinize_syntax.specs.Spells.{Sets};
 ghost use Rattle.determinize_syntax.specs.Words as words;
-ghost use Rattle.determinize_syntax.specs.Words.{no_flags};
+ghost use Rattle.determinize_syntax.specs.Words.{knows_cases, no_flags};
 
 use crate::cursor::Cursor;
 use crate::error::{ErrorKind, ParseError};
@@ -22,6 +22,8 @@ pub struct Flags {
     pub swap_greed: bool,
     /// `R`: lines end with `\n`, `\r` or `\r\n`.
     pub crlf: bool,
+    /// `u`: `.` and brackets read characters, as their bytes in UTF-8.
+    pub unicode: bool,
 }
 
 impl Flags {
@@ -35,7 +37,15 @@ impl Flags {
             dot_matches_new_line: false,
             swap_greed: false,
             crlf: false,
+            unicode: false,
         }
+    }
+
+    /// Returns whether the cases of letters are known: under `i` they are not where `u` holds.
+    pub(crate) fn know_cases(self) -> bool
+        ensures { result ≡ knows_cases self }
+    {
+        !(self.unicode && self.case_insensitive)
     }
 }
 
@@ -137,7 +147,7 @@ fn letter(cursor: &mut Cursor<'_>, seen: &[u8], flags: Flags, on: bool) -> Resul
     }
     let Some(set) = set_flag(flags, letter, on) else {
         return Err(cursor.error_here(match letter {
-            b'x' | b'u' => ErrorKind::FlagUnsupported,
+            b'x' => ErrorKind::FlagUnsupported,
             _ => ErrorKind::FlagUnrecognized,
         }));
     };
@@ -158,7 +168,7 @@ fn set_flag(flags: Flags, letter: u8, on: bool) -> Option<Flags>
         b's' => set.dot_matches_new_line = on,
         b'U' => set.swap_greed = on,
         b'R' => set.crlf = on,
-        b'u' if !on => {}
+        b'u' => set.unicode = on,
         _ => return None,
     }
     Some(set)

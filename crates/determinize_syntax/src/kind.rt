@@ -3,7 +3,7 @@
 ghost use Rattle.std.specs.Prelude.{◌≡◌, IfOk, IfSome, Some};
 ghost use Rattle.determinize_pattern.specs.Classes.{HasBytes, pairs};
 ghost use Rattle.determinize_syntax.specs.Private.Sets.{set_of, turned};
-ghost use Rattle.determinize_syntax.specs.Words.{Set, folded, named_class, perl_class};
+ghost use Rattle.determinize_syntax.specs.Words.{folded, named_class, perl_class};
 
 use crate::class::class;
 use crate::flags::Flags;
@@ -131,20 +131,8 @@ impl ClassKind {
     }
 }
 
-/// Returns the class of a backslash and the letter, as `\d`.
-pub fn perl(alloc: Global, letter: u8) -> Result<Option<ClassBytes>, AllocError>
-    ensures { IfOk result (λ o. IfSome o (λ c.
-        (s : Set) × (perl_class letter ≡ Some s) × HasBytes s c)) }
-{
-    let Some((kind, negated)) = perl_kind(letter) else {
-        return Ok(None);
-    };
-    let class = kind.class(alloc, Flags::new(), negated)?;
-    Ok(Some(class))
-}
-
-/// Returns the class of the letter, and whether it has all other bytes.
-fn perl_kind(letter: u8) -> Option<(ClassKind, bool)>
+/// Returns the class of a backslash and the letter, as `\d`, and whether it has all other bytes.
+pub fn perl_kind(letter: u8) -> Option<(ClassKind, bool)>
     ensures { IfSome result (λ r. perl_class letter ≡ Some (turned r.1 (set_of r.0))) }
 {
     match letter {

@@ -1,4 +1,5 @@
-//! Patterns from text, in a subset of the syntax of regex-syntax 0.8 in byte mode.
+//! Patterns from text, in a subset of the syntax of regex-syntax 0.8: over bytes, and where the
+//! flag `u` holds over characters.
 #![tactic(auto)]
 
 mod bracket;

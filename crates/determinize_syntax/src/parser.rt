@@ -1,16 +1,17 @@
 //! The levels of a pattern, from its choices down to its atoms.
 
-ghost use Rattle.std.specs.Prelude.{◌≡◌, ◌<◌, ◌∷◌, Bool, IfOk, OnOk, cond, encode_utf8, length, map, not};
+ghost use Rattle.std.specs.Prelude.{◌≡◌, ◌<◌, ◌∷◌, Bool, IfOk, OnOk, cond, encode_utf8, length, map, not, true};
 ghost use Rattle.determinize_below.specs.declared.look.Look.TheVariants as looks;
 ghost use Rattle.determinize_pattern.specs.Meaning as meanings;
+ghost use Rattle.determinize_pattern.specs.Characters.{IsCharClass};
 ghost use Rattle.determinize_pattern.specs.Patterns.{IsClass, literal, meaning, repeated};
 ghost use Rattle.determinize_syntax.specs.Private.Reading.{Reads, rest};
 ghost use Rattle.determinize_syntax.specs.Spells as spells;
-ghost use Rattle.determinize_syntax.specs.Spells.{Atom, Choice, Items, Repeated, Spells, SpellsUnder};
-ghost use Rattle.determinize_syntax.specs.Words.{◌∈◌, at_line, dot_set, folded, only};
+ghost use Rattle.determinize_syntax.specs.Spells.{Atom, Choice, IsOneOf, Items, Repeated, Spells, SpellsUnder};
+ghost use Rattle.determinize_syntax.specs.Words.{◌∈◌, at_line, dot_set, folded, knows_cases, only};
 
 use crate::bracket::bracket;
-use crate::class::class;
+use crate::class::{class, of_class, one_of};
 use crate::cursor::Cursor;
 use crate::error::{ErrorKind, ParseError};
 use crate::escape::{Escape, read_escape};
@@ -18,7 +19,7 @@ use crate::flags::{Flags, setting};
 use crate::group::{Context, read_opening};
 use crate::repetition::{Bounds, operator};
 use determinize_below::Look;
-use determinize_pattern::{ClassBytes, ClassBytesRange, Pattern};
+use determinize_pattern::{ClassBytesRange, ClassUnicodeRange, Pattern};
 use std::alloc::{AllocError, Global};
 
 /// How deep groups and operators may be.
@@ -156,7 +157,7 @@ fn atom<'a>(
         return escaped_atom(alloc, cursor, start, flags);
     }
     if cursor.take(b'[') {
-        return Ok(one_of(bracket(alloc, cursor, start, flags)?));
+        return bracket(alloc, cursor, start, flags);
     }
     literal_atom(alloc, cursor, flags)
 }
@@ -171,10 +172,14 @@ fn escaped_atom(
     ensures read { IfOk result (λ p. Reads cursor.old cursor.new
         (λ t. Atom flags (meaning p) (0x5C ∷ t))) }
 {
-    match read_escape(alloc, cursor, start)? {
-        Escape::Byte(escaped) => Ok(byte(alloc, escaped, flags)?),
+    let escape = read_escape(cursor, start)?;
+    if let Some(kind) = escape.unavailable(flags) {
+        return Err(cursor.error_since(start, kind));
+    }
+    match escape {
+        Escape::Byte(escaped) => Ok(numbered(alloc, escaped, flags)?),
         Escape::Wide(character) => Ok(wide(alloc, character)?),
-        Escape::Class(class) => Ok(one_of(class)),
+        Escape::Class(kind, negated) => { Ok(of_class(kind.class(alloc, Flags::new(), negated)?)) }
         Escape::Look(look) => Ok(assertion(look)),
     }
 }
@@ -187,13 +192,19 @@ fn literal_atom(alloc: Global, cursor: &mut Cursor<'_>, flags: Flags) -> Result<
     let Some(next) = cursor.peek() else {
         return Err(cursor.error_before(ErrorKind::RepetitionMissing));
     };
+    if is_special(next) {
+        return Err(cursor.error_before(ErrorKind::RepetitionMissing));
+    }
+    if !flags.know_cases() {
+        return Err(cursor.error_here(ErrorKind::UnicodeCaseUnavailable));
+    }
     if !next.is_ascii() {
         let Some(character) = cursor.take_wide() else {
             return Err(cursor.error_here(ErrorKind::UnicodeNotAllowed));
         };
         return Ok(wide(alloc, character)?);
     }
-    if is_special(next) || !cursor.take(next) {
+    if !cursor.take(next) {
         return Err(cursor.error_before(ErrorKind::RepetitionMissing));
     }
     Ok(byte(alloc, next, flags)?)
@@ -276,13 +287,6 @@ fn repetition(
     }
 }
 
-/// Returns the pattern of one byte of the class.
-fn one_of(class: ClassBytes) -> Pattern
-    ensures { meaning result ≡ meanings.Byte class }
-{
-    Pattern::Class(class)
-}
-
 /// Returns the pattern of the assertion.
 fn assertion(look: Look) -> Pattern
     ensures { meaning result ≡ meanings.Look look }
@@ -317,6 +321,40 @@ fn line_end(flags: Flags) -> Pattern
 
 /// Returns the pattern of `.`.
 fn dot(alloc: Global, flags: Flags) -> Result<Pattern, AllocError>
+    ensures { IfOk result (λ p. IsOneOf flags.unicode (dot_set flags) (meaning p)) }
+{
+    if flags.unicode {
+        dot_of_characters(alloc, flags)
+    } else {
+        dot_of_bytes(alloc, flags)
+    }
+}
+
+/// Returns the pattern of `.` where `u` holds.
+fn dot_of_characters(alloc: Global, flags: Flags) -> Result<Pattern, AllocError>
+    ensures { IfOk result (λ p. IsCharClass (dot_set flags) (meaning p)) }
+{
+    let ends = [
+        ClassUnicodeRange {
+            start: '\n',
+            end: '\n',
+        },
+        ClassUnicodeRange {
+            start: '\r',
+            end: '\r',
+        },
+    ];
+    if flags.dot_matches_new_line {
+        return Pattern::none_of_chars(alloc, &ends[..0]);
+    }
+    if !flags.crlf {
+        return Pattern::none_of_chars(alloc, &ends[..1]);
+    }
+    Pattern::none_of_chars(alloc, &ends)
+}
+
+/// Returns the pattern of `.` where `u` does not hold.
+fn dot_of_bytes(alloc: Global, flags: Flags) -> Result<Pattern, AllocError>
     ensures { IfOk result (λ p. IsClass (dot_set flags) (meaning p)) }
 {
     if flags.dot_matches_new_line {
@@ -336,6 +374,22 @@ fn dot(alloc: Global, flags: Flags) -> Result<Pattern, AllocError>
         },
     ];
     Pattern::none_of(alloc, &ends)
+}
+
+/// Returns the pattern of one byte by an escape, or where `u` holds of the character of its number.
+fn numbered(alloc: Global, number: u8, flags: Flags) -> Result<Pattern, AllocError>
+    requires { knows_cases flags ≡ true }
+    ensures { IfOk result (λ p. IsOneOf flags.unicode (folded flags (only number)) (meaning p)) }
+{
+    if !flags.unicode {
+        return byte(alloc, number, flags);
+    }
+    let character = char::from(number);
+    let range = ClassUnicodeRange {
+        start: character,
+        end: character,
+    };
+    one_of(alloc, &[range], flags, false)
 }
 
 /// Returns the pattern of one byte, under `i` of both cases of a letter.

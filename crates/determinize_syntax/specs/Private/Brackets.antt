@@ -1,35 +1,24 @@
 -- Brackets as far as they were read.
-use Rattle.std.specs.Prelude.{◌≡◌, ◌++◌, ◌∷◌, ◌&&◌, ◌⊎◌, [], ℕ, List, codes, not, true}
-use Rattle.std.specs.Char.{is_ascii}
-use Rattle.determinize_pattern.specs.Classes.{HasBytes}
-use Rattle.determinize_pattern.specs.Meaning.{Byte, Re}
+use Rattle.std.specs.Prelude.{◌≡◌, ◌++◌, [], ℕ, List, codes}
 use Rattle.determinize_syntax.specs.Private.Reading.{IsNotAt}
 use Rattle.determinize_syntax.specs.declared.cursor.Cursor.{Cursor}
-use Rattle.determinize_syntax.specs.Spells.{Atom, Escaped, Inside, Lists}
-use Rattle.determinize_syntax.specs.Words.{Set, ◌∈◌}
+use Rattle.determinize_syntax.specs.Private.Sets.{HasChars}
+use Rattle.determinize_syntax.specs.Spells.{Inside, Lists}
+use Rattle.determinize_syntax.specs.Words.{Set}
 use Rattle.determinize_syntax.specs.declared.bracket.Before.{Before}
 use Rattle.determinize_syntax.specs.declared.flags.Flags.{Flags}
 
 -- the text makes of what is listed up to p, with these ranges, what is listed up to q, with those
 abbrev pub Extends : Flags → Before → List (ℕ × ℕ) → Before → List (ℕ × ℕ) → List ℕ → Type 0
-Extends f p ranges q more t = (s : Set) (u : List ℕ) → Lists f p s u → HasBytes s ranges
-    → (r : Set) × Lists f q r (u ++ t) × HasBytes r more
+Extends f p ranges q more t = (s : Set) (u : List ℕ) → Lists f p s u → HasChars s ranges
+    → (r : Set) × Lists f q r (u ++ t) × HasChars r more
 
 -- the inside of brackets and the last bracket
 abbrev pub IsInside : Flags → List (ℕ × ℕ) → List ℕ → Type 0
-IsInside f ranges t = (s : Set) × (u : List ℕ) × Inside f s u × HasBytes s ranges
+IsInside f ranges t = (s : Set) × (u : List ℕ) × Inside f s u × HasChars s ranges
     × (t ≡ u ++ codes "]")
-
--- brackets after the first one
-abbrev pub IsBracketed : Flags → List (ℕ × ℕ) → List ℕ → Type 0
-IsBracketed f class t = (re : Re) → re ≡ Byte class → Atom f re (0x5B ∷ t)
-
--- the end of a range
-abbrev pub IsBound : ℕ → List ℕ → Type 0
-IsBound high t = ((t ≡ high ∷ []) × ((is_ascii high && not (high ∈ "]\\-")) ≡ true))
-    ⊎ Escaped high t
 
 -- what is listed up to p, with these ranges; of nothing, no bracket follows
 abbrev pub IsBegun : Flags → Before → List (ℕ × ℕ) → Cursor → List ℕ → Type 0
-IsBegun f p ranges cursor t = (s : Set) × Lists f p s t × HasBytes s ranges
+IsBegun f p ranges cursor t = (s : Set) × Lists f p s t × HasChars s ranges
     × (t ≡ [] → IsNotAt 0x5D cursor)

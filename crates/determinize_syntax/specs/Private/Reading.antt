@@ -1,13 +1,13 @@
 -- Places in a text, and the parts between them.
-use Rattle.std.specs.Prelude.{◌≡◌, ◌-◌, ◌≤◌, ◌++◌, ◌∷◌, ◌==◌, [], ℕ, Bool, List, Some, codes, false, slice_get, true}
+use Rattle.std.specs.Prelude.{◌≡◌, ◌-◌, ◌≤◌, ◌++◌, ◌∷◌, ◌==◌, ◌||◌, [], ℕ, Bool, List, Some, codes, false, not, slice_get, true}
 use Rattle.std.specs.Char.{digit_value, is_ascii_digit, is_digit}
 use Rattle.std.specs.List.{list_any}
 use Rattle.determinize_pattern.specs.Meaning.{Re}
-use Rattle.determinize_pattern.specs.Classes.{HasBytes}
-use Rattle.determinize_syntax.specs.Spells.{Atom, Escaped, IsWide, Sets, SpellsUnder}
-use Rattle.determinize_syntax.specs.Words.{Set, assertion, is_name, number, perl_class, set_flag}
+use Rattle.determinize_syntax.specs.Private.Sets.{set_of, turned}
+use Rattle.determinize_syntax.specs.Spells.{Atom, Escaped, Sets, SpellsUnder, Wide}
+use Rattle.determinize_syntax.specs.Words.{assertion, is_end_of_text, is_name, knows_cases, number, perl_class, set_flag}
 use Rattle.determinize_syntax.specs.declared.escape.Escape.{Escape}
-use Rattle.determinize_syntax.specs.declared.escape.Escape.TheVariants.{Byte, Class, Look, Wide}
+use Rattle.determinize_syntax.specs.declared.escape.Escape.TheVariants as escape
 use Rattle.determinize_syntax.specs.declared.flags.Flags.{Flags}
 use Rattle.determinize_syntax.specs.declared.cursor.Cursor.{Cursor}
 
@@ -64,9 +64,14 @@ IsDigits n t = n ≤ 0x10_FFFF → number 16 t ≡ Some n
 
 -- the text of an escape, with its backslash
 abbrev pub IsEscape : Escape → List ℕ → Type 0
-IsEscape (Byte b) t = Escaped b t
-IsEscape (Wide c) t = IsWide c × ((u : List ℕ) × (number 16 u ≡ Some c)
-    × (t ≡ codes "\\x{" ++ u ++ codes "}"))
-IsEscape (Class k) t = (c : ℕ) × (s : Set) × (perl_class c ≡ Some s) × HasBytes s k
-    × (t ≡ 0x5C ∷ c ∷ [])
-IsEscape (Look l) t = (u : List ℕ) × (assertion u ≡ Some l) × (t ≡ 0x5C ∷ u)
+IsEscape (escape.Byte b) t = Escaped b t
+IsEscape (escape.Wide c) t = Wide c t
+IsEscape (escape.Class kind negated) t = (c : ℕ)
+    × (perl_class c ≡ Some (turned negated (set_of kind))) × (t ≡ 0x5C ∷ c ∷ [])
+IsEscape (escape.Look l) t = (u : List ℕ) × (assertion u ≡ Some l) × (t ≡ 0x5C ∷ u)
+
+-- the escape needs no tables of Unicode where it is
+abbrev pub is_available : Flags → Escape → Bool
+is_available f (escape.Class kind negated) = not f.unicode
+is_available f (escape.Look l) = not f.unicode || is_end_of_text l
+is_available f _ = knows_cases f

@@ -1,9 +1,11 @@
--- Sets of bytes as ranges.
-use Rattle.std.specs.Prelude.{◌&&◌, ◌||◌, ◌≡◌, ℕ, Bool, List, Some, cond, nat_lt, not}
+-- Sets of bytes or characters as ranges.
+use Rattle.std.specs.Prelude.{◌&&◌, ◌||◌, ◌≡◌, ◌<◌, ℕ, Bool, List, Some, cond, nat_lt, not}
 use Rattle.std.specs.Char.{is_ascii, is_ascii_alphabetic, is_ascii_alphanumeric, is_ascii_control, is_ascii_digit, is_ascii_graphic, is_ascii_hexdigit, is_ascii_lowercase, is_ascii_punctuation, is_ascii_uppercase, to_ascii_lowercase, to_ascii_uppercase}
 use Rattle.std.specs.Int.{is_in_range}
+use Rattle.determinize_pattern.specs.Characters.{char_pairs}
 use Rattle.determinize_pattern.specs.Classes.{pairs}
 use Rattle.determinize_pattern.specs.Meaning.{is_in}
+use Rattle.determinize_pattern.specs.declared.chars.ClassUnicodeRange.{ClassUnicodeRange}
 use Rattle.determinize_pattern.specs.declared.class.ClassBytesRange.{ClassBytesRange}
 use Rattle.determinize_syntax.specs.Words.{Set, ◌∈◌, space_set, word_set}
 use Rattle.determinize_syntax.specs.declared.kind.ClassKind.{ClassKind}
@@ -12,6 +14,19 @@ use Rattle.determinize_syntax.specs.declared.kind.ClassKind.TheVariants.{Alnum, 
 -- the bytes of the ranges
 abbrev pub has : List ClassBytesRange → Set
 has ranges b = is_in (pairs ranges) (Some b)
+
+-- the characters of the ranges, or the bytes with their numbers
+abbrev pub has_char : List ClassUnicodeRange → Set
+has_char ranges c = is_in (char_pairs ranges) (Some c)
+
+-- the characters of the ranges are those of the set
+abbrev pub HasChars : Set → List (ℕ × ℕ) → Type 0
+HasChars s ranges = (c : ℕ) → c < 0x11_0000 → is_in ranges (Some c) ≡ s c
+
+-- the new ranges also have the characters of the set
+abbrev pub AddsChars : Set → List (ℕ × ℕ) → List (ℕ × ℕ) → Type 0
+AddsChars s old new =
+    (c : ℕ) → c < 0x11_0000 → is_in new (Some c) ≡ (is_in old (Some c) || s c)
 
 -- one case of the byte is in the set
 abbrev pub either_case : Set → Set

@@ -1,5 +1,5 @@
 use Rattle.std.proofs.Common.{◌∷◌, ◌++◌, ◌∙◌, [], Some, ap, false, subst, sym}
-use Rattle.determinize_pattern.specs.Classes.{pairs}
+use Rattle.determinize_pattern.specs.Characters.{char_pairs}
 use Rattle.determinize_pattern.specs.Meaning.{is_in}
 use Rattle.determinize_syntax.specs.Private.Reading.{IsNotAt, rest}
 use Rattle.determinize_syntax.specs.Spells as s
@@ -16,7 +16,7 @@ returns-then-not-take c = record {
     (
       (λ b. false),
       s.nothing,
-      (λ b small. ap (λ l. is_in (pairs l) (Some b)) c.new.ensures.items),
+      (λ b small. ap (λ l. is_in (char_pairs l) (Some b)) c.new.ensures.items),
       λ e. subst (IsNotAt 0x5D) (sym (c.take.ensures.left c.if-not-take.true)) (c.take.ensures.other c.if-not-take.true),
     ),
   );
@@ -30,7 +30,7 @@ returns c = record {
     (
       only 0x5D,
       subst (λ q. Lists f q (only 0x5D) (0x5D ∷ [])) (sym c.in_ok-add.ensures.before) s.closing,
-      (λ b small. ap (λ l. is_in l (Some b)) (c.in_ok-add.ensures.ranges ∙ ap (λ l. pairs l ++ (0x5D, 0x5D) ∷ []) c.new.ensures.items)
+      (λ b small. ap (λ l. is_in l (Some b)) (c.in_ok-add.ensures.ranges ∙ ap (λ l. char_pairs l ++ (0x5D, 0x5D) ∷ []) c.new.ensures.items)
           ∙ has_only 0x5D b small),
       λ e. absurd (cc),
     ),

@@ -1,11 +1,11 @@
 use Rattle.std.proofs.Common.{length}
-use Rattle.determinize_pattern.specs.Classes.{pairs}
+use Rattle.determinize_pattern.specs.Characters.{char_pairs}
 use Rattle.determinize_syntax.specs.Private.Brackets.{IsBegun}
 use Rattle.determinize_syntax.specs.Private.Reading.{Reads, rest}
 use Rattle.determinize_syntax.proofs.bracket.inside.Given as goal
 
 abbrev pub invariant-loop-alloc : goal.invariant-loop-alloc
-invariant-loop-alloc l = Reads l.fn.cursor l.cursor (IsBegun l.fn.flags l.items.before (pairs l.items.ranges.items) l.cursor)
+invariant-loop-alloc l = Reads l.fn.cursor l.cursor (IsBegun l.fn.flags l.items.before (char_pairs l.items.ranges.items) l.cursor)
 
 abbrev pub decreases-loop-alloc : goal.decreases-loop-alloc
 decreases-loop-alloc l = length (rest l.cursor)

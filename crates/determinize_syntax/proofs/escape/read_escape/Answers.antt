@@ -1,8 +1,6 @@
-use Rattle.std.proofs.Common.{◌≡◌, ◌∷◌, ◌∙◌, IfNone, IfSome, Some, ap, refl, subst, sym}
-use Rattle.determinize_pattern.specs.Classes.{HasBytes}
+use Rattle.std.proofs.Common.{◌≡◌, ◌∷◌, ◌∙◌, IfNone, ap, refl, subst, sym}
 use Rattle.determinize_syntax.specs.Private.Reading.{IsEscape, rest}
 use Rattle.determinize_syntax.specs.Spells.{Escaped, letter}
-use Rattle.determinize_syntax.specs.Words.{Set, perl_class}
 use Rattle.determinize_syntax.specs.declared.escape.Escape.TheVariants.{Class}
 use Rattle.determinize_syntax.proofs.Parts.{took}
 use Rattle.determinize_syntax.proofs.escape.read_escape.Goals as goal
@@ -17,15 +15,13 @@ returns-in-Some-escaped c =
           (letter c.in-Some-peek.next c.in-Some-escaped.byte (sym c.escaped.ensures ∙ c.in-Some-escaped.is));
     }
 
-pub returns-in-Some-2 : goal.returns-in-Some-2
-returns-in-Some-2 c =
+pub returns-in-Some-perl_kind : goal.returns-in-Some-perl_kind
+returns-in-Some-perl_kind c =
     let next = c.in-Some-peek.next in
     let same : c.assertion.new.cursor ≡ c.take.new.self =
     subst (λ o. IfNone o (c.assertion.new.cursor ≡ c.take.new.self)) c.in_default.is c.in_ok-look.ensures.none in
-    let k = subst (λ o. IfSome o (λ k. (s : Set) × (perl_class next ≡ Some s) × HasBytes s k)) c.in-Some-2.is
-    c.in_ok-class.ensures in
     record {
-      read = took {c = next} (λ t. IsEscape (Class c.in-Some-2.class) (0x5C ∷ t))
+      read = took {c = next} (λ t. IsEscape (Class c.in-Some-perl_kind.kind c.in-Some-perl_kind.negated) (0x5C ∷ t))
           (ap rest (sym (same ∙ c.take.ensures.left c.if-take.false)) ∙ c.if-take-2.ensures.read refl)
-          (next, k.0, k.1, k.2, refl);
+          (next, c.in-Some-perl_kind.ensures, refl);
     }

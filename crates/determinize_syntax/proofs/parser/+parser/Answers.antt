@@ -1,9 +1,8 @@
 use Rattle.std.proofs.Common.{◌≡◌, ◌<◌, ◌≤◌, length, ◌∷◌, ◌∙◌, [], Bool, IfNone, IfSome, OnSome, arith, false, ap, map, refl, subst, sym, true}
 use Rattle.determinize_pattern.specs.Patterns.{meaning, repeated}
-use Rattle.determinize_syntax.specs.Private.Brackets.{IsBracketed}
 use Rattle.determinize_syntax.specs.Private.Reading.{IsNotAt, IsSetting, Part, Reads, rest}
 use Rattle.determinize_syntax.specs.Spells.{Atom, Branches, Items, Operator, Repeated, dot, SpellsUnder, line_end, line_start, no_branch, no_item, once}
-use Rattle.determinize_syntax.proofs.Parts.{again_read, branch_read, choice_read, group_read, item_read, prefixed, renamed, set_read, shorter, took}
+use Rattle.determinize_syntax.proofs.Parts.{again_read, branch_read, choice_read, group_read, item_read, ok_then, prefixed, renamed, set_read, shorter, took}
 use Rattle.determinize_syntax.proofs.parser.+parser.Goals as goal
 
 pub atom-returns-then-take-2-clause-read : goal.atom-returns-then-take-2-clause-read
@@ -29,12 +28,11 @@ atom-returns-then-take-4-clause-read t c =
 pub atom-returns-then-take-6-clause-read : goal.atom-returns-then-take-6-clause-read
 atom-returns-then-take-6-clause-read t c =
     let f = c.args.flags in
-    let re = meaning c.one_of.result in
     let start = c.take-5.ensures.left c.if-take-5.false ∙ c.take-4.ensures.left c.if-take-4.false
     ∙ c.take-3.ensures.left c.if-take-3.false ∙ c.take-2.ensures.left c.if-take-2.false ∙ c.take.ensures.left c.if-take.false in
-    prefixed (Atom f re) (ap rest (sym start) ∙ c.take-6.ensures.read c.if-take-6.true)
-    (renamed (IsBracketed f c.in_ok-bracket.field-0) (λ v. Atom f re (0x5B ∷ v)) c.in_ok-bracket.ensures.read
-    (λ v h. h re c.one_of.ensures))
+    ok_then (λ p. Reads c.take-6.new.self c.bracket.new.cursor (λ v. Atom f (meaning p) (0x5B ∷ v)))
+    (λ p. Reads c.args.cursor.now c.bracket.new.cursor (Atom f (meaning p))) c.bracket.result c.bracket.ensures.read
+    (λ p h. prefixed (Atom f (meaning p)) (ap rest (sym start) ∙ c.take-6.ensures.read c.if-take-6.true) h)
 
 pub choice-loop-branches-init : goal.choice-loop-branches-init
 choice-loop-branches-init t c = (

@@ -1,0 +1,15 @@
+use Rattle.std.specs.Prelude.{encode_utf8}
+use Rattle.determinize_syntax.specs.Private.Reading.{rest}
+use Rattle.determinize_syntax.specs.Spells.{itself}
+use Rattle.determinize_syntax.proofs.Characters.{is_true}
+use Rattle.determinize_syntax.proofs.Parts.{shorter_by_character}
+use Rattle.determinize_syntax.proofs.bracket.wide.Goals as goal
+
+pub returns-in-Some-clause-read : goal.returns-in-Some-clause-read
+returns-in-Some-clause-read c =
+    let read = c.in-Some.ensures.read in
+    (encode_utf8 c.in-Some.character, read.1, (is_true c.args.flags.unicode c.if-not-flags.false, itself c.in-Some.character read.0))
+
+pub returns-in-Some-clause-progress : goal.returns-in-Some-clause-progress
+returns-in-Some-clause-progress c =
+    shorter_by_character c.in-Some.character (rest c.args.cursor.now) (rest c.take_wide.new.self) c.in-Some.ensures.read.1
