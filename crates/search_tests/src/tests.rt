@@ -11,6 +11,7 @@ mod dense;
 mod dfa;
 mod draw;
 mod find;
+mod finders;
 mod idle;
 mod linear;
 mod patterns;

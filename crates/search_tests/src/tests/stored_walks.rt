@@ -68,7 +68,7 @@ walk start=1 lb=0a text=5f5f0a5f25 | M:0 L:WordUnicode>4 L:WordAsciiNegate>2 L:W
 
 /// The text of a walk as a range of a haystack, which has the bytes behind and ahead of the text.
 #[derive(Drop)]
-struct Place {
+pub struct Place {
     haystack: Vec<u8>,
     start: usize,
     end: usize,
@@ -76,7 +76,7 @@ struct Place {
 
 impl Place {
     /// Returns the place of the text of a walk.
-    fn of<R: Abort + AllocGlobal>(rt: &R, fields: &Fields<'_>) -> Place {
+    pub fn of<R: Abort + AllocGlobal>(rt: &R, fields: &Fields<'_>) -> Place {
         let mut haystack = fields.text(rt.alloc()).expect(rt, "bytes");
         let behind = fields.look_behind().expect(rt, "a byte");
         if let Some(byte) = behind {
@@ -94,7 +94,7 @@ impl Place {
     }
 
     /// Returns the input of a search of the text.
-    fn input<'p, R: Abort>(&'p self, rt: &R, anchored: Anchored) -> Input<'p>
+    pub fn input<'p, R: Abort>(&'p self, rt: &R, anchored: Anchored) -> Input<'p>
         ensures { result.anchored ≡ anchored }
     {
         assert!(rt; self.start <= self.end && self.end <= self.haystack.len());
@@ -123,7 +123,7 @@ fn add_prefix<R: Abort>(rt: &R, states: &mut Vec<State>, start: StateID) -> Stat
 }
 
 /// Returns the NFA of a walk for forward scans, with the usual prefix before its start.
-fn prefixed<R: Abort + AllocGlobal>(rt: &R, fields: &Fields<'_>) -> NFA
+pub fn prefixed<R: Abort + AllocGlobal>(rt: &R, fields: &Fields<'_>) -> NFA
     ensures forward { result.reverse ≡ false }
     ensures prefix { HasPrefix result }
 {

@@ -1,0 +1,163 @@
+//! All matches by each finder: by two engines, of which each is lazy or whole, and by one of them
+//! from each index in turn.
+
+ghost use Rattle.std.specs.Prelude.{◌≡◌, false, true};
+ghost use Rattle.determinize_below.specs.declared.search.MatchKind.TheVariants as kinds;
+ghost use Rattle.determinize_engine.specs.Searches.{has_start};
+ghost use Rattle.determinize_find.specs.Prefix.{HasPrefix};
+ghost use Rattle.determinize_find.specs.Reversal.{IsReverseOf};
+
+use crate::tests::find::{Ends, backward_of, expect_matches};
+use crate::tests::stored_walks::{Place, STORED, prefixed};
+use crate::tests::{dense, holds, same};
+use determinize_below::{Anchored, Input, MatchKind, NFA, StateID};
+use determinize_dense::Dfa;
+use determinize_engine::WithAllocError;
+use determinize_find::{Finder, Match, Plain, Regex, find_all};
+use determinize_lazy::Lazy;
+use determinize_replay::job::Job;
+use example_walks::examples::examples;
+use example_walks::fields::Fields;
+use std::alloc::AllocError;
+use std::process::Abort;
+
+/// Returns the leftmost match of an input by a finder, and any error as `AllocError`.
+fn first<F: Finder>(finder: &mut F, input: &Input<'_>) -> Result<Option<Match>, AllocError>
+    requires { has_start input.now.anchored ≡ true }
+{
+    let Ok(found) = finder.find(input) else {
+        return Err(AllocError);
+    };
+    Ok(found)
+}
+
+/// Asserts that a finder finds these matches of an input: the first, and all.
+fn expect_all<R: Abort + AllocGlobal, F: Finder>(
+    rt: &R,
+    finder: &mut F,
+    input: &Input<'_>,
+    wanted: &[Match],
+)
+    requires { has_start input.now.anchored ≡ true }
+{
+    same(rt, first(finder, input), Ok(wanted.first().copied()));
+    let found = find_all(rt.alloc(), finder, input).expect(rt, "memory");
+    holds(rt, found.as_slice() == wanted);
+}
+
+/// Asserts it of both engines in turn: of a lazy DFA, which is borrowed, and of a whole one.
+fn expect_in_turn<R: Abort + AllocGlobal>(
+    rt: &R,
+    nfa: &NFA,
+    whole: &Dfa<'_>,
+    input: &Input<'_>,
+    wanted: &[Match],
+)
+    requires forward { nfa.now.reverse ≡ false }
+    requires nfa { whole.now.nfa ≡ nfa.now }
+    requires kind { whole.now.kind ≡ kinds.LeftmostFirst }
+    requires start { has_start input.now.anchored ≡ true }
+{
+    let mut lazy = Lazy::new(rt.alloc(), nfa, MatchKind::LeftmostFirst, 50);
+    expect_all(rt, &mut Plain::new(nfa, &mut lazy), input, wanted);
+    expect_all(rt, &mut Plain::new(nfa, whole), input, wanted);
+}
+
+/// Asserts it of a whole DFA that finds the ends and a lazy one that finds the starts.
+fn expect_by_whole_and_lazy<R: Abort + AllocGlobal>(
+    rt: &R,
+    ends: &Dfa<'_>,
+    backward: &NFA,
+    input: &Input<'_>,
+    wanted: &[Match],
+)
+    requires kind { ends.now.kind ≡ kinds.LeftmostFirst }
+    requires forward { ends.now.nfa.reverse ≡ false }
+    requires prefix { HasPrefix ends.now.nfa }
+    requires reverse { IsReverseOf backward.now ends.now.nfa }
+    requires start { has_start input.now.anchored ≡ true }
+{
+    let mut starts = Lazy::new(rt.alloc(), backward, MatchKind::All, 50);
+    let mut regex = Regex::from_engines(WithAllocError(ends), &mut starts);
+    expect_all(rt, &mut regex, input, wanted);
+}
+
+/// Asserts it of a lazy DFA that finds the ends and a whole one that finds the starts.
+fn expect_by_lazy_and_whole<R: Abort + AllocGlobal>(
+    rt: &R,
+    nfa: &NFA,
+    starts: &Dfa<'_>,
+    input: &Input<'_>,
+    wanted: &[Match],
+)
+    requires kind { starts.now.kind ≡ kinds.All }
+    requires forward { nfa.now.reverse ≡ false }
+    requires prefix { HasPrefix nfa.now }
+    requires reverse { IsReverseOf starts.now.nfa nfa.now }
+    requires start { has_start input.now.anchored ≡ true }
+{
+    let mut ends = Lazy::new(rt.alloc(), nfa, MatchKind::LeftmostFirst, 50);
+    let mut regex = Regex::from_engines(&mut ends, WithAllocError(starts));
+    expect_all(rt, &mut regex, input, wanted);
+}
+
+/// Compares the matches of an input by each finder with those by two lazy DFAs.
+fn expect_input<R: Abort + AllocGlobal>(rt: &R, nfa: &NFA, backward: &NFA, input: &Input<'_>)
+    requires forward { nfa.now.reverse ≡ false }
+    requires prefix { HasPrefix nfa.now }
+    requires reverse { IsReverseOf backward.now nfa.now }
+    requires start { has_start input.now.anchored ≡ true }
+{
+    let mut regex = Regex::new(rt.alloc(), nfa, backward, 50);
+    let wanted = regex.find_all(rt.alloc(), input).expect(rt, "memory");
+    expect_all(rt, &mut regex, input, wanted.as_slice());
+    let ends = dense::dfa(rt, nfa, MatchKind::LeftmostFirst, 1000);
+    let starts = dense::dfa(rt, backward, MatchKind::All, 1000);
+    expect_in_turn(rt, nfa, &ends, input, wanted.as_slice());
+    expect_all(
+        rt,
+        &mut Regex::from_engines(&ends, &starts),
+        input,
+        wanted.as_slice(),
+    );
+    expect_by_whole_and_lazy(rt, &ends, backward, input, wanted.as_slice());
+    expect_by_lazy_and_whole(rt, nfa, &starts, input, wanted.as_slice());
+}
+
+/// Compares the matches of the text of a walk, anywhere and at its start.
+fn expect_walk<R: Abort + AllocGlobal>(rt: &R, fields: &Fields<'_>) {
+    let nfa = prefixed(rt, fields);
+    let backward = backward_of(rt, &nfa);
+    let place = Place::of(rt, fields);
+    expect_input(rt, &nfa, &backward, &place.input(rt, Anchored::No));
+    expect_input(rt, &nfa, &backward, &place.input(rt, Anchored::Yes));
+}
+
+/// Each finder finds the same matches of the 45 examples and of the stored walks.
+#[test]
+fn same_matches(rt: HostRuntime) {
+    for example in examples() {
+        expect_walk(&rt, &example.fields());
+    }
+    for line in STORED.lines() {
+        let (job, _) = line.split_once(" = ").expect(&rt, "a job and a match");
+        expect_walk(&rt, Job::read(job).expect(&rt, "a job").fields());
+    }
+}
+
+/// Compares all matches of an NFA that has no prefix, with their patterns and ends.
+fn expect_anchored<R: Abort + AllocGlobal>(rt: &R, nfa: &NFA, text: &[u8], wanted: &[Ends])
+    requires { nfa.now.reverse ≡ false }
+{
+    let lazy = Lazy::new(rt.alloc(), nfa, MatchKind::LeftmostFirst, 50);
+    let found = find_all(rt.alloc(), &mut Plain::new(nfa, lazy), &Input::new(text));
+    expect_matches(rt, found.expect(rt, "memory").as_slice(), wanted);
+}
+
+/// The matches of `a|b`, if its NFA has one start state: each begins where the one before ended.
+#[test]
+fn one_start(rt: HostRuntime) {
+    let nfa = dense::nfa(&rt, "S:61>1,62>1 M:0", StateID::ZERO);
+    expect_anchored(&rt, &nfa, b"abcab", &[(0, 0, 1), (0, 1, 2)]);
+    expect_anchored(&rt, &nfa, b"cab", &[]);
+}
