@@ -21,20 +21,10 @@ fn add_states<A: Allocator + Copy>(
 ) -> Result<(), TextError> {
     for word in text.split(' ') {
         if !word.is_empty() {
-            add_state(alloc, states, word)?;
+            let state = state(alloc, word)?;
+            states.push(state)?;
         }
     }
-    Ok(())
-}
-
-/// Adds the state of a word.
-fn add_state<A: Allocator + Copy>(
-    alloc: A,
-    states: &mut Vec<State<A>, A>,
-    word: &str,
-) -> Result<(), TextError> {
-    let state = state(alloc, word)?;
-    states.push(state)?;
     Ok(())
 }
 
