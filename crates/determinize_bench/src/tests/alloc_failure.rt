@@ -24,7 +24,7 @@ use determinize_core::state::State;
 use determinize_lazy::Lazy;
 use determinize_replay::outputs::output_of;
 use example_walks::error::TextError;
-use example_walks::examples::examples;
+use example_walks::examples::{Example, examples};
 use example_walks::fields::Fields;
 use example_walks::values::bytes;
 use failing_alloc::{FailingAllocator, Outcome, fail_each_allocation};
@@ -63,20 +63,24 @@ pub fn fail_each_in_turn<R: Abort + AllocGlobal>(rt: &R, trial: &Trial<'_>) {
     same(rt, outcome.expect(rt, "no other error"), Outcome::Sound);
 }
 
+/// Parses the state of each of these lines, and adds it.
+fn add_states<R: Abort + AllocGlobal>(rt: &R, states: &mut Vec<Vec<u8>>, lines: &str) {
+    for line in lines.lines() {
+        let bytes = bytes(rt.alloc(), line).expect(rt, "bytes");
+        states.push(bytes).expect(rt, "memory");
+    }
+}
+
 /// Parses the states of the lines of an output, whose last line is the match.
 fn read_states<R: Abort + AllocGlobal>(rt: &R, output: &str) -> Vec<Vec<u8>> {
     let mut states = Vec::new(rt.alloc());
     if let Some((lines, _)) = output.trim_end().rsplit_once('\n') {
-        for line in lines.lines() {
-            let bytes = bytes(rt.alloc(), line).expect(rt, "bytes");
-            states.push(bytes).expect(rt, "memory");
-        }
+        add_states(rt, &mut states, lines);
     }
     states
 }
 
 /// An example walk, and the bytes of its states. Its NFA starts where the walk does.
-#[derive(Drop)]
 pub struct Row {
     nfa: NFA,
     kind: MatchKind,
@@ -90,17 +94,56 @@ pub struct Row {
     found: Option<HalfMatch>,
 }
 
+// Derived code is proved at each exit of each function that owns a row.
+impl Drop for Row {
+    fn drop(self) {
+        let Row {
+            nfa: _,
+            kind: _,
+            look_behind: _,
+            text: _,
+            look_ahead: _,
+            states: _,
+            last: _,
+            found: _,
+        } = self;
+    }
+}
+
+/// Returns the NFA of a walk, which starts where the walk does.
+fn nfa_of<R: Abort + AllocGlobal>(rt: &R, fields: &Fields<'_>) -> NFA {
+    let start = fields.start().expect(rt, "a start");
+    fields.nfa_from(rt.alloc(), start).expect(rt, "an NFA")
+}
+
+/// Returns the match kind of a walk.
+fn kind_of<R: Abort>(rt: &R, fields: &Fields<'_>) -> MatchKind {
+    fields.match_kind().expect(rt, "a match kind")
+}
+
+/// Returns the text of a walk.
+fn text_of<R: Abort + AllocGlobal>(rt: &R, fields: &Fields<'_>) -> Vec<u8> {
+    fields.text(rt.alloc()).expect(rt, "bytes")
+}
+
+/// Returns the bytes behind and ahead of the text of a walk.
+fn bytes_around<R: Abort>(rt: &R, fields: &Fields<'_>) -> (Option<u8>, Option<u8>) {
+    let behind = fields.look_behind().expect(rt, "a byte");
+    let ahead = fields.look_ahead().expect(rt, "a byte");
+    (behind, ahead)
+}
+
 impl Row {
     /// Returns the walk of a job, given the lines of its output, whose last line is the match.
     fn of<R: Abort + AllocGlobal>(rt: &R, fields: &Fields<'_>, output: &str) -> Row {
-        let start = fields.start().expect(rt, "a start");
+        let (look_behind, look_ahead) = bytes_around(rt, fields);
         Row {
-            kind: fields.match_kind().expect(rt, "a match kind"),
-            look_behind: fields.look_behind().expect(rt, "a byte"),
-            look_ahead: fields.look_ahead().expect(rt, "a byte"),
-            text: fields.text(rt.alloc()).expect(rt, "bytes"),
+            nfa: nfa_of(rt, fields),
+            kind: kind_of(rt, fields),
+            look_behind,
+            text: text_of(rt, fields),
+            look_ahead,
             states: read_states(rt, output),
-            nfa: fields.nfa_from(rt.alloc(), start).expect(rt, "an NFA"),
             last: None,
             found: None,
         }
@@ -108,9 +151,13 @@ impl Row {
 
     /// Finds the last match of the walk, and the match of a search of the text as a haystack.
     fn find<R: Abort + AllocGlobal>(&mut self, rt: &R) {
-        let states = self.walk(rt.alloc()).expect(rt, "memory");
-        self.last = last_match(states.as_slice());
+        self.last = self.last_of_walk(rt);
         self.found = self.search(rt);
+    }
+
+    /// Returns the last match of the walk.
+    fn last_of_walk<R: Abort + AllocGlobal>(&self, rt: &R) -> Option<HalfMatch> {
+        last_match(self.walk(rt.alloc()).expect(rt, "memory").as_slice())
     }
 
     /// Returns the match of a search of the text as a haystack.
@@ -161,13 +208,18 @@ impl Row {
     }
 }
 
+/// Returns an example walk, with its matches.
+fn found_row<R: Abort + AllocGlobal>(rt: &R, example: &Example) -> Row {
+    let mut row = Row::of(rt, &example.fields(), output_of(example.name));
+    row.find(rt);
+    row
+}
+
 /// Returns all example walks, with their matches.
 pub fn rows<R: Abort + AllocGlobal>(rt: &R) -> Vec<Row> {
     let mut rows = Vec::new(rt.alloc());
     for example in examples() {
-        let mut row = Row::of(rt, &example.fields(), output_of(example.name));
-        row.find(rt);
-        rows.push(row).expect(rt, "memory");
+        rows.push(found_row(rt, example)).expect(rt, "memory");
     }
     rows
 }

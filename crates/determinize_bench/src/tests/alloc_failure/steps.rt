@@ -184,6 +184,28 @@ fn count<A: Allocator, L: Ledger>(
     )
 }
 
+/// Computes the transition from a state, with or without a count.
+fn step_from<A: Allocator + Copy>(
+    row: &Row,
+    is_counted: bool,
+    sparses: &mut SparseSets<A>,
+    stack: &mut Vec<StateID, A>,
+    state: &State<A>,
+    unit: Unit,
+    empty: StateBuilderEmpty<A>,
+) -> Result<StateBuilderNFA<A>, AllocError>
+    requires scratch { IsScratch row.now.nfa sparses.old.set1 sparses.old.set2 stack.old.items }
+    requires resolve { AllResolve row.now.nfa state.now.states }
+    ensures resolve { IfOk result (λ builder. AllResolve row.now.nfa builder.states) }
+    ensures scratch { IsScratch row.now.nfa sparses.new.set1 sparses.new.set2 stack.new.items }
+{
+    if is_counted {
+        count::<A, Brand>(row, sparses, stack, state, unit, empty, Blank::new(1))
+    } else {
+        next(&row.nfa, row.kind, sparses, stack, state, unit, empty)
+    }
+}
+
 /// Computes the transition from the state of a builder, with or without a count.
 fn step<A: Allocator + Copy>(
     row: &Row,
@@ -198,12 +220,17 @@ fn step<A: Allocator + Copy>(
     ensures resolve { IfOk result (λ builder. AllResolve row.now.nfa builder.states) }
     ensures scratch { IsScratch row.now.nfa sparses.new.set1 sparses.new.set2 stack.new.items }
 {
-    let state = builder.to_state()?;
-    let empty = builder.clear();
-    if is_counted {
-        count::<A, Brand>(row, sparses, stack, &state, unit, empty, Blank::new(1))
-    } else {
-        next(&row.nfa, row.kind, sparses, stack, &state, unit, empty)
+    match builder.to_state() {
+        Ok(state) => step_from(
+            row,
+            is_counted,
+            sparses,
+            stack,
+            &state,
+            unit,
+            builder.clear(),
+        ),
+        Err(error) => Err(error),
     }
 }
 

@@ -1,6 +1,6 @@
 //! Builders, and the states that they build.
 
-ghost use Rattle.std.specs.Prelude.{◌≡◌, []};
+ghost use Rattle.std.specs.Prelude.{◌≡◌, [], IfOk};
 
 use crate::tests::alloc_failure::trial::{OfWalk, Trial};
 use crate::tests::alloc_failure::{Row, fail_each_in_turn, fail_each_over_walks};
@@ -24,16 +24,6 @@ fn copy_patterns<A: Allocator + Copy>(
         Some(ids) => add_patterns(alloc, builder, ids.as_slice()),
         None => Ok(()),
     }
-}
-
-/// Returns a builder with the patterns of a state.
-fn with_patterns<A: Allocator + Copy>(
-    alloc: A,
-    state: &State<A>,
-) -> Result<StateBuilderMatches<A>, TextError> {
-    let mut builder = StateBuilderEmpty::new(alloc).clone()?.into_matches()?;
-    copy_patterns(alloc, &mut builder, state)?;
-    Ok(builder)
 }
 
 /// Sets the flags and look-have of a state in a builder.
@@ -61,24 +51,72 @@ fn add_states<A: Allocator>(
     Ok(())
 }
 
-/// Returns a clone of a builder with the patterns, flags and look-have of a state.
-fn with_flags<A: Allocator + Copy>(
-    alloc: A,
-    state: &State<A>,
-) -> Result<StateBuilderMatches<A>, TextError> {
-    let mut matches = with_patterns(alloc, state)?;
-    set_flags(&mut matches, state);
-    Ok(matches.clone()?)
+/// Compares the bytes of a clone of the state of a builder.
+fn expect_clone<R: Abort, A: Allocator + Copy>(
+    rt: &R,
+    builder: &StateBuilderNFA<A>,
+    bytes: &[u8],
+) -> Result<(), AllocError> {
+    match clone_of(builder) {
+        Ok(state) => {
+            same(rt, state.as_bytes(), bytes);
+            Ok(())
+        }
+        Err(error) => Err(error),
+    }
 }
 
-/// Returns a clone of a builder with the value of a state.
-fn with_states<A: Allocator + Copy>(
-    alloc: A,
+/// Adds the NFA states of a state to a builder, and compares the bytes of what a clone of the
+/// builder builds.
+fn finish_copy<R: Abort, A: Allocator + Copy>(
+    rt: &R,
+    builder: &mut StateBuilderNFA<A>,
     state: &State<A>,
-) -> Result<StateBuilderNFA<A>, TextError> {
-    let mut builder = with_flags(alloc, state)?.into_nfa();
-    add_states(&mut builder, state)?;
-    Ok(builder.clone()?)
+    bytes: &[u8],
+) -> Result<(), AllocError> {
+    add_states(builder, state)?;
+    match builder.clone() {
+        Ok(builder) => expect_clone(rt, &builder, bytes),
+        Err(error) => Err(error),
+    }
+}
+
+/// Copies the NFA states of a state to a clone of a builder with its other parts.
+fn copy_states_to<R: Abort, A: Allocator + Copy>(
+    rt: &R,
+    builder: &StateBuilderMatches<A>,
+    state: &State<A>,
+    bytes: &[u8],
+) -> Result<(), AllocError> {
+    match builder.clone() {
+        Ok(matches) => finish_copy(rt, &mut matches.into_nfa(), state, bytes),
+        Err(error) => Err(error),
+    }
+}
+
+/// Copies a state to a builder that has no patterns.
+fn copy_to<R: Abort, A: Allocator + Copy>(
+    rt: &R,
+    alloc: A,
+    builder: &mut StateBuilderMatches<A>,
+    state: &State<A>,
+    bytes: &[u8],
+) -> Result<(), TextError>
+    requires { builder.old.patterns ≡ [] }
+{
+    copy_patterns(alloc, builder, state)?;
+    set_flags(builder, state);
+    Ok(copy_states_to(rt, builder, state, bytes)?)
+}
+
+/// Returns a clone of an empty builder, for patterns.
+fn empty_matches<A: Allocator + Copy>(alloc: A) -> Result<StateBuilderMatches<A>, AllocError>
+    ensures { IfOk result (λ matches. matches.patterns ≡ []) }
+{
+    match StateBuilderEmpty::new(alloc).clone() {
+        Ok(empty) => empty.into_matches(),
+        Err(error) => Err(error),
+    }
 }
 
 /// Copies a state by way of a clone of each builder, and compares the bytes of a clone of the copy.
@@ -88,9 +126,22 @@ fn copy<R: Abort, A: Allocator + Copy>(
     state: &State<A>,
     bytes: &[u8],
 ) -> Result<(), TextError> {
-    let builder = with_states(alloc, state)?;
-    let copy = clone_of(&builder)?;
-    same(rt, copy.as_bytes(), bytes);
+    match empty_matches(alloc) {
+        Ok(mut builder) => copy_to(rt, alloc, &mut builder, state, bytes),
+        Err(_) => Err(TextError::OutOfMemory),
+    }
+}
+
+/// Copies each of these states of a walk.
+fn copy_each<R: Abort, A: Allocator + Copy>(
+    rt: &R,
+    alloc: A,
+    states: &[State<A>],
+    row: &Row,
+) -> Result<(), TextError> {
+    for (state, bytes) in states.iter().zip(row.states.iter()) {
+        copy(rt, alloc, state, bytes.as_slice())?;
+    }
     Ok(())
 }
 
@@ -100,11 +151,10 @@ pub fn copy_states<R: Abort, A: Allocator + Copy>(
     alloc: A,
     row: &Row,
 ) -> Result<(), TextError> {
-    let states = row.walk(alloc)?;
-    for (state, bytes) in states.iter().zip(row.states.iter()) {
-        copy(rt, alloc, state, bytes.as_slice())?;
+    match row.walk(alloc) {
+        Ok(states) => copy_each(rt, alloc, states.as_slice(), row),
+        Err(_) => Err(TextError::OutOfMemory),
     }
-    Ok(())
 }
 
 /// Returns the builder of a state of `len` bytes: nine, and one per NFA state.
@@ -127,11 +177,13 @@ pub fn make_and_clone<R: Abort, A: Allocator + Copy>(
     alloc: A,
     len: u8,
 ) -> Result<(), TextError> {
-    let builder = builder_of(alloc, len)?;
-    let state = clone_of(&builder)?;
-    same(rt, state.as_bytes(), builder.as_bytes());
-    same(rt, state.as_bytes().len(), usize::from(len));
-    Ok(())
+    match builder_of(alloc, len) {
+        Ok(builder) => {
+            same(rt, builder.as_bytes().len(), usize::from(len));
+            Ok(expect_clone(rt, &builder, builder.as_bytes())?)
+        }
+        Err(_) => Err(TextError::OutOfMemory),
+    }
 }
 
 #[test]
