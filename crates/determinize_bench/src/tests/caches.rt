@@ -8,26 +8,6 @@ use determinize_lazy::Lazy;
 use example_walks::states::states as read_states;
 use std::process::Abort;
 
-/// A text with its optional look-behind and look-ahead bytes.
-type Text<'t> = (Option<u8>, &'t [u8], Option<u8>);
-
-/// A call that uses a cache, with what it must find.
-#[derive(Clone, Copy)]
-enum Call<'t, 'h> {
-    /// Walks over a text: the offset of the last match.
-    Walk(Text<'t>, Option<usize>),
-    /// Walks over a text: the bytes of the second state.
-    Second(&'t [u8], &'t [u8]),
-    /// Searches a text: the offset of the match of pattern 0.
-    Text(&'t [u8], Option<usize>),
-    /// Searches an input, and tests whether it has a match: the offset of the match of pattern 0.
-    Search(&'t Input<'h>, Option<usize>),
-    /// Clears the cache.
-    Clear,
-    /// The numbers of computed transitions and of cached states.
-    Counts(u64, usize),
-}
-
 /// `\b\w+\b` of ASCII words.
 pub const WORDS: &str = "L:WordAscii>1 S:30-39>2,41-5a>2,5f-5f>2,61-7a>2 BU:1,3 L:WordAscii>4 M:0";
 
@@ -39,18 +19,49 @@ pub fn nfa<R: Abort + AllocGlobal>(rt: &R, states: &str, is_backward: bool) -> N
     nfa.expect(rt, "an NFA")
 }
 
-/// Asserts that a walk through the cache returns what a walk without it does.
-fn walk_through<R: Abort + AllocGlobal>(rt: &R, lazy: &mut Lazy<'_>, text: Text<'_>) -> Vec<State> {
-    let (behind, bytes, ahead) = text;
-    let (alloc, nfa, kind) = (rt.alloc(), lazy.nfa(), lazy.match_kind());
+/// Returns a new cache with a limit.
+fn cache<'n, R: Abort + AllocGlobal>(
+    rt: &R,
+    nfa: &'n NFA,
+    kind: MatchKind,
+    limit: usize,
+) -> Lazy<'n> {
+    let lazy = Lazy::new(rt.alloc(), nfa, kind, limit);
+    same(rt, (lazy.limit(), lazy.memory_usage()), (limit, 0));
+    lazy
+}
+
+/// Asserts that a walk without a cache has these states.
+fn expect_walked<R: Abort + AllocGlobal>(
+    rt: &R,
+    lazy: &Lazy<'_>,
+    behind: Option<u8>,
+    text: &[u8],
+    ahead: Option<u8>,
+    states: &[State],
+) {
+    let (nfa, kind) = (lazy.nfa(), lazy.match_kind());
     let start = nfa.start_anchored();
-    let wanted = walk_between(alloc, nfa, kind, start, behind, bytes, ahead);
+    let wanted = walk_between(rt.alloc(), nfa, kind, start, behind, text, ahead);
+    holds(rt, wanted.expect(rt, "memory").as_slice() == states);
+}
+
+/// Returns the states of a walk through the cache, which are those of a walk without it.
+fn walk_through<R: Abort + AllocGlobal>(
+    rt: &R,
+    lazy: &mut Lazy<'_>,
+    behind: Option<u8>,
+    text: &[u8],
+    ahead: Option<u8>,
+) -> Vec<State> {
+    let start = lazy.nfa().start_anchored();
     let states = match ahead {
-        None => lazy.walk(start, behind, bytes),
-        ahead => lazy.walk_between(start, behind, bytes, ahead),
+        None => lazy.walk(start, behind, text),
+        ahead => lazy.walk_between(start, behind, text, ahead),
     };
-    holds(rt, states == wanted);
-    states.expect(rt, "memory")
+    let states = states.expect(rt, "memory");
+    expect_walked(rt, lazy, behind, text, ahead, states.as_slice());
+    states
 }
 
 /// Searches an input, whose anchored mode names no pattern, and tests whether it has a match.
@@ -66,10 +77,12 @@ fn search<R: Abort>(rt: &R, lazy: &mut Lazy<'_>, input: &Input<'_>, wanted: Opti
 fn walk<R: Abort + AllocGlobal>(
     rt: &R,
     lazy: &mut Lazy<'_>,
-    text: Text<'_>,
+    behind: Option<u8>,
+    text: &[u8],
+    ahead: Option<u8>,
     wanted: Option<usize>,
 ) {
-    let states = walk_through(rt, lazy, text);
+    let states = walk_through(rt, lazy, behind, text, ahead);
     let found = last_match(states.as_slice());
     same_at(rt, text, found, wanted.and_then(ended));
 }
@@ -84,7 +97,7 @@ fn bytes_of_second(states: &[State]) -> &[u8] {
 
 /// Walks over a text, and compares the bytes of the second state.
 fn second<R: Abort + AllocGlobal>(rt: &R, lazy: &mut Lazy<'_>, text: &[u8], wanted: &[u8]) {
-    let states = walk_through(rt, lazy, (None, text, None));
+    let states = walk_through(rt, lazy, None, text, None);
     same(rt, bytes_of_second(states.as_slice()), wanted);
 }
 
@@ -95,79 +108,90 @@ fn search_text<R: Abort>(rt: &R, lazy: &mut Lazy<'_>, text: &[u8], wanted: Optio
     same(rt, found, Ok(wanted.and_then(ended)));
 }
 
-/// Makes a call.
-fn make<R: Abort + AllocGlobal>(rt: &R, lazy: &mut Lazy<'_>, call: Call<'_, '_>) {
-    match call {
-        Call::Walk(text, wanted) => walk(rt, lazy, text, wanted),
-        Call::Second(text, wanted) => second(rt, lazy, text, wanted),
-        Call::Text(text, wanted) => search_text(rt, lazy, text, wanted),
-        Call::Search(input, wanted) => search(rt, lazy, input, wanted),
-        Call::Clear => lazy.clear(),
-        Call::Counts(computed, kept) => {
-            let found = (lazy.computed(), lazy.states_kept());
-            same_at(rt, lazy.limit(), found, (computed, kept));
-        }
-    }
+/// Compares the numbers of computed transitions and of cached states.
+fn counts<R: Abort>(rt: &R, lazy: &Lazy<'_>, computed: u64, kept: usize) {
+    let found = (lazy.computed(), lazy.states_kept());
+    same_at(rt, lazy.limit(), found, (computed, kept));
 }
 
-/// Makes calls in order through a new cache with a limit.
-fn expect<R: Abort + AllocGlobal>(
-    rt: &R,
-    states: &str,
-    is_backward: bool,
-    kind: MatchKind,
-    limit: usize,
-    calls: &[Call<'_, '_>],
-) {
-    let nfa = nfa(rt, states, is_backward);
-    let mut lazy = Lazy::new(rt.alloc(), &nfa, kind, limit);
-    same(rt, (lazy.limit(), lazy.memory_usage()), (limit, 0));
-    for call in calls {
-        make(rt, &mut lazy, *call);
-    }
+/// Walks over a word.
+fn walk_word<R: Abort + AllocGlobal>(rt: &R, lazy: &mut Lazy<'_>) {
+    walk(rt, lazy, None, b"quartz", None, Some(6));
+}
+
+/// Walks over the word without its first byte, which is the look-behind.
+fn walk_inside<R: Abort + AllocGlobal>(rt: &R, lazy: &mut Lazy<'_>) {
+    walk(rt, lazy, Some(b'q'), b"uartz", None, None);
+}
+
+/// Walks over a word twice, where this many transitions are then computed, and states kept.
+fn expect_again<R: Abort + AllocGlobal>(rt: &R, lazy: &mut Lazy<'_>, computed: u64, kept: usize) {
+    walk_word(rt, lazy);
+    counts(rt, lazy, 7, kept);
+    walk_word(rt, lazy);
+    counts(rt, lazy, computed, kept);
+}
+
+/// Walks over a word, and again after the cache is cleared.
+fn expect_cleared<R: Abort + AllocGlobal>(rt: &R, lazy: &mut Lazy<'_>) {
+    walk_word(rt, lazy);
+    lazy.clear();
+    walk_word(rt, lazy);
+    counts(rt, lazy, 14, 3);
+}
+
+/// Walks over a word without its first byte, which is not there, and then is the look-behind.
+fn expect_rest<R: Abort + AllocGlobal>(rt: &R, lazy: &mut Lazy<'_>) {
+    walk(rt, lazy, None, b"uartz", None, Some(5));
+    counts(rt, lazy, 6, 3);
+    walk_inside(rt, lazy);
+    counts(rt, lazy, 12, 5);
+}
+
+/// Walks twice over a word without its first byte, which is the look-behind.
+fn expect_inside<R: Abort + AllocGlobal>(rt: &R, lazy: &mut Lazy<'_>) {
+    walk_inside(rt, lazy);
+    counts(rt, lazy, 6, 1);
+    walk_inside(rt, lazy);
+    counts(rt, lazy, 12, 1);
 }
 
 /// A word; the word without its first byte, which is the look-behind or not there.
 #[test]
 fn what_is_kept(rt: HostRuntime) {
-    let whole = Call::Walk((None, b"quartz", None), Some(6));
-    let inside = Call::Walk((Some(b'q'), b"uartz", None), None);
-    let rest = Call::Walk((None, b"uartz", None), Some(5));
-    let first = MatchKind::LeftmostFirst;
-    for (limit, calls) in [
-        (16, [whole, Call::Counts(7, 3), whole, Call::Counts(7, 3)]),
-        (16, [whole, Call::Clear, whole, Call::Counts(14, 3)]),
-        (2, [whole, Call::Counts(7, 2), whole, Call::Counts(14, 2)]),
-        (0, [whole, Call::Counts(7, 0), whole, Call::Counts(14, 0)]),
-        (16, [rest, Call::Counts(6, 3), inside, Call::Counts(12, 5)]),
-        (1, [inside, Call::Counts(6, 1), inside, Call::Counts(12, 1)]),
-    ] {
-        expect(&rt, WORDS, false, first, limit, &calls);
-    }
+    let (nfa, first) = (nfa(&rt, WORDS, false), MatchKind::LeftmostFirst);
+    expect_again(&rt, &mut cache(&rt, &nfa, first, 16), 7, 3);
+    expect_cleared(&rt, &mut cache(&rt, &nfa, first, 16));
+    expect_again(&rt, &mut cache(&rt, &nfa, first, 2), 14, 2);
+    expect_again(&rt, &mut cache(&rt, &nfa, first, 0), 14, 0);
+    expect_rest(&rt, &mut cache(&rt, &nfa, first, 16));
+    expect_inside(&rt, &mut cache(&rt, &nfa, first, 1));
 }
 
-/// The limit, and the ends of the last matches in a word before a word byte, before another byte,
-/// and before EOI.
+/// Walks over the beginning of a word before a word byte, before another byte, and before EOI.
+fn expect_ahead<R: Abort + AllocGlobal>(rt: &R, lazy: &mut Lazy<'_>) {
+    walk(rt, lazy, None, b"quar", Some(b't'), None);
+    walk(rt, lazy, None, b"quar", Some(b' '), Some(4));
+    walk(rt, lazy, None, b"quar", None, Some(4));
+}
+
 #[test]
 fn bytes_ahead(rt: HostRuntime) {
-    let calls = [
-        Call::Walk((None, b"quar", Some(b't')), None),
-        Call::Walk((None, b"quar", Some(b' ')), Some(4)),
-        Call::Walk((None, b"quar", None), Some(4)),
-    ];
-    expect(&rt, WORDS, false, MatchKind::LeftmostFirst, 16, &calls);
+    let nfa = nfa(&rt, WORDS, false);
+    expect_ahead(&rt, &mut cache(&rt, &nfa, MatchKind::LeftmostFirst, 16));
 }
 
-/// `\b` of Unicode words, unanchored: the second states of an empty text and of a text with a byte
-/// that is no word byte.
+/// Walks over an empty text and over one with a byte that is no word byte.
+fn expect_end<R: Abort + AllocGlobal>(rt: &R, lazy: &mut Lazy<'_>) {
+    second(rt, lazy, b"", &[0; 9]);
+    second(rt, lazy, b"\0", b"\0\0\x40\x01\0\0\x01\0\0\0\x04\x01");
+}
+
+/// `\b` of Unicode words, unanchored.
 #[test]
 fn the_end_is_no_byte(rt: HostRuntime) {
-    let calls = [
-        Call::Second(b"", &[0; 9]),
-        Call::Second(b"\0", b"\0\0\x40\x01\0\0\x01\0\0\0\x04\x01"),
-    ];
-    let states = "BU:2,1 B:00-ff>0 L:WordUnicode>3 M:0";
-    expect(&rt, states, false, MatchKind::All, 16, &calls);
+    let nfa = nfa(&rt, "BU:2,1 B:00-ff>0 L:WordUnicode>3 M:0", false);
+    expect_end(&rt, &mut cache(&rt, &nfa, MatchKind::All, 16));
 }
 
 /// A word between other bytes.
@@ -176,72 +200,82 @@ const HAYSTACK: &[u8] = b"== quartz ==";
 /// Letters after bytes ff.
 const LETTERS: &[u8] = b"\xff\xffaa\xffa";
 
-/// A whole word has a match. Its first half and its second half have none, and neither has a range
-/// that ends before its start.
+/// Searches a whole word, its first half, its second half, and a range that ends before its start.
+fn expect_ranges<R: Abort>(rt: &R, lazy: &mut Lazy<'_>) {
+    search(rt, lazy, &Input::new(HAYSTACK).range(3..9), Some(9));
+    search(rt, lazy, &Input::new(HAYSTACK).range(3..6), None);
+    search(rt, lazy, &Input::new(HAYSTACK).range(6..9), None);
+    search(rt, lazy, &Input::new(HAYSTACK).range(4..3), None);
+}
+
+/// Of these ranges only the whole word has a match.
 #[test]
 fn ranges_of_words(rt: HostRuntime) {
-    let whole = Input::new(HAYSTACK).range(3..9);
-    let begin = Input::new(HAYSTACK).range(3..6);
-    let rest = Input::new(HAYSTACK).range(6..9);
-    let done = Input::new(HAYSTACK).range(4..3);
-    let calls = [
-        Call::Search(&whole, Some(9)),
-        Call::Search(&begin, None),
-        Call::Search(&rest, None),
-        Call::Search(&done, None),
-    ];
-    for kind in [MatchKind::All, MatchKind::LeftmostFirst] {
-        expect(&rt, WORDS, false, kind, 16, &calls);
-    }
+    let nfa = nfa(&rt, WORDS, false);
+    expect_ranges(&rt, &mut cache(&rt, &nfa, MatchKind::All, 16));
+    expect_ranges(&rt, &mut cache(&rt, &nfa, MatchKind::LeftmostFirst, 16));
 }
 
-/// A range that ends before its start, and an empty one.
+/// Searches a range that ends before its start, and an empty one.
+fn expect_nothing<R: Abort>(rt: &R, lazy: &mut Lazy<'_>) {
+    search(rt, lazy, &Input::new(HAYSTACK).range(4..3), None);
+    counts(rt, lazy, 0, 0);
+    search(rt, lazy, &Input::new(HAYSTACK).range(4..4), Some(4));
+    counts(rt, lazy, 1, 2);
+}
+
+/// Searches these ranges in a direction.
+fn expect_empty<R: Abort + AllocGlobal>(rt: &R, is_backward: bool) {
+    let nfa = nfa(rt, "M:0", is_backward);
+    expect_nothing(rt, &mut cache(rt, &nfa, MatchKind::All, 16));
+}
+
 #[test]
 fn nothing_to_search(rt: HostRuntime) {
-    let done = Input::new(HAYSTACK).range(4..3);
-    same(&rt, done.is_done(), true);
-    let empty = Input::new(HAYSTACK).range(4..4);
-    let calls = [
-        Call::Search(&done, None),
-        Call::Counts(0, 0),
-        Call::Search(&empty, Some(4)),
-        Call::Counts(1, 2),
-    ];
-    for is_backward in [false, true] {
-        expect(&rt, "M:0", is_backward, MatchKind::All, 16, &calls);
-    }
+    same(&rt, Input::new(HAYSTACK).range(4..3).is_done(), true);
+    expect_empty(&rt, false);
+    expect_empty(&rt, true);
 }
 
-/// Letters after a byte ff, by searches in reverse from the end of a range: one that is in the
-/// range, and one that is before it; from after the last letter, and from before the byte ff in
-/// front of that letter.
+/// Searches for letters that begin after a byte ff which is in the range, and before it.
+fn expect_begins<R: Abort>(rt: &R, lazy: &mut Lazy<'_>) {
+    let mut input = Input::new(LETTERS).range(1..4).anchored(Anchored::Yes);
+    search(rt, lazy, &input, Some(1));
+    input.set_start(2);
+    search(rt, lazy, &input, None);
+}
+
+/// Searches for letters that end after the last letter, and before the byte ff in front of it.
+fn expect_ends<R: Abort>(rt: &R, lazy: &mut Lazy<'_>) {
+    let mut input = Input::new(LETTERS).anchored(Anchored::Yes);
+    input.set_range(1..6);
+    search(rt, lazy, &input, Some(4));
+    input.set_end(4);
+    search(rt, lazy, &input, Some(1));
+}
+
+/// Letters after a byte ff, by searches in reverse from the end of a range.
 #[test]
 fn ranges_backward(rt: HostRuntime) {
-    let inner = Input::new(LETTERS).range(1..4).anchored(Anchored::Yes);
-    let mut short = Input::new(LETTERS).range(1..4).anchored(Anchored::Yes);
-    short.set_start(2);
-    let mut last = Input::new(LETTERS).anchored(Anchored::Yes);
-    last.set_range(1..6);
-    let mut early = Input::new(LETTERS).range(1..6).anchored(Anchored::Yes);
-    early.set_end(4);
-    let calls = [
-        Call::Search(&inner, Some(1)),
-        Call::Search(&short, None),
-        Call::Search(&last, Some(4)),
-        Call::Search(&early, Some(1)),
-    ];
-    let states = "BU:1,2 B:61>0 B:ff>3 M:0";
-    expect(&rt, states, true, MatchKind::All, 16, &calls);
+    let nfa = nfa(&rt, "BU:1,2 B:61>0 B:ff>3 M:0", true);
+    let mut lazy = cache(&rt, &nfa, MatchKind::All, 16);
+    expect_begins(&rt, &mut lazy);
+    expect_ends(&rt, &mut lazy);
 }
 
-/// Searches a haystack that is one word of `len` bytes, for which three transitions and states are
-/// enough. The match ends at the end of the word or, in reverse, at its start.
+/// Searches a text, for which three transitions and states are enough.
+fn expect_three<R: Abort>(rt: &R, lazy: &mut Lazy<'_>, text: &[u8], end: usize) {
+    search(rt, lazy, &Input::new(text), Some(end));
+    counts(rt, lazy, 3, 3);
+}
+
+/// Searches a haystack that is one word of `len` bytes. The match ends at the end of the word or,
+/// in reverse, at its start.
 fn expect_word<R: Abort + AllocGlobal>(rt: &R, kind: MatchKind, is_backward: bool, len: usize) {
+    let nfa = nfa(rt, WORDS, is_backward);
     let word = vec![in rt.alloc(); b'a'; len].expect(rt, "memory");
     let end = if is_backward { 0 } else { len };
-    let input = Input::new(word.as_slice());
-    let calls = [Call::Search(&input, Some(end)), Call::Counts(3, 3)];
-    expect(rt, WORDS, is_backward, kind, 16, &calls);
+    expect_three(rt, &mut cache(rt, &nfa, kind, 16), word.as_slice(), end);
 }
 
 #[test]
@@ -256,13 +290,18 @@ fn long_haystacks_backward(rt: HostRuntime) {
     expect_word(&rt, MatchKind::LeftmostFirst, true, 1_000_000);
 }
 
+/// Searches a text that is one word of a million bytes.
+fn expect_text<R: Abort + AllocGlobal>(rt: &R, kind: MatchKind) {
+    let nfa = nfa(rt, WORDS, false);
+    let word = vec![in rt.alloc(); b'a'; 1_000_000].expect(rt, "memory");
+    let mut lazy = cache(rt, &nfa, kind, 16);
+    search_text(rt, &mut lazy, word.as_slice(), Some(1_000_000));
+}
+
 #[test]
 fn long_text_under_both_kinds(rt: HostRuntime) {
-    let word = vec![in rt.alloc(); b'a'; 1_000_000].expect(&rt, "memory");
-    for kind in [MatchKind::All, MatchKind::LeftmostFirst] {
-        let search = Call::Text(word.as_slice(), Some(1_000_000));
-        expect(&rt, WORDS, false, kind, 16, &[search]);
-    }
+    expect_text(&rt, MatchKind::All);
+    expect_text(&rt, MatchKind::LeftmostFirst);
 }
 
 /// The bytes that a cached state uses: a row of 258 numbers, the state in the list and as a key,
@@ -305,7 +344,7 @@ fn expect_memory<R: Abort + AllocGlobal>(
 ) {
     let nfa = nfa(rt, states, false);
     let mut lazy = Lazy::new(rt.alloc(), &nfa, MatchKind::All, 2_100);
-    let states = walk_through(rt, &mut lazy, (None, text, None));
+    let states = walk_through(rt, &mut lazy, None, text, None);
     same(rt, (lazy.computed(), lazy.states_kept()), (computed, kept));
     expect_taken(rt, &mut lazy, states.as_slice());
 }
