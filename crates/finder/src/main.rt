@@ -18,9 +18,9 @@ const LIMIT: usize = 10_000;
 
 const USAGE: &str = "usage: finder [-bcilnoqv] PATTERN [FILE]..
        finder [-bcilnoqv] -e PATTERN [-e PATTERN].. [FILE]..
-Prints the lines in which a pattern matches. As in grep, the first operand is the pattern unless -e
-gives one, and all others are files; several patterns each need -e. Without files, and for the file
--, reads standard input.
+Prints the lines in which a pattern matches. As in grep, the first operand is the pattern unless
+-e gives one, and all others are files; several patterns each need -e. Without files, and for the
+file -, reads standard input.
   -e PATTERN  a pattern; if there are several, the first is preferred
   -i          letters of the patterns match in both cases
   -v          select the lines without a match
@@ -29,8 +29,9 @@ gives one, and all others are files; several patterns each need -e. Without file
   -l          print the names of the files with a selected line
   -q          print nothing, and stop at the first selected line
   -n, -b      print the number of the line, or the offset of what is printed, before it
-Patterns have a subset of the syntax of Rust's crate regex, over bytes and without Unicode. -o prints
-the match that this syntax prefers, and not the longest one as grep does: of a|ab in ab it is a.
+Patterns have a subset of the syntax of Rust's crate regex, over bytes; after (?u) a dot or
+brackets match a character in UTF-8. -o prints the match that this syntax prefers, and not the
+longest one as grep does: of a|ab in ab it is a.
 The exit status is 0 if a line is selected, 1 if none is, and 2 after an error.
 ";
 
