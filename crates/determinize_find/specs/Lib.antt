@@ -4,6 +4,7 @@ pub use Rattle.determinize_nfa.specs.Reversal
 pub use Rattle.determinize_nfa.specs.Runs
 pub mod Certain
 pub mod Cursors
+pub mod Endings
 pub mod Idle
 pub mod Laws
 pub mod Leftmost

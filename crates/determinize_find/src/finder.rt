@@ -1,4 +1,4 @@
-//! What finds the leftmost match of an input.
+//! The trait of a search for the leftmost match of an input.
 
 ghost use Rattle.std.specs.Prelude.{◌≡◌, ◌≤◌, true, IfOk};
 ghost use Rattle.std.specs.Option.{IfSome};

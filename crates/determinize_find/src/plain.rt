@@ -1,6 +1,6 @@
 //! The leftmost match by one anchored search after another, and all matches by it.
 //!
-//! These calls accept any NFA that reads forward, without a prefix and without a second NFA. An
+//! These calls accept any NFA that reads forward, with a prefix or without, and no second NFA. An
 //! input may be read once from each index of its range, or only from its start if it is anchored.
 //! [`Plain`] takes any engine. The functions borrow a [`Lazy`], and say what is unchanged of it.
 

@@ -7,13 +7,14 @@ ghost use Rattle.std.specs.Option.{IfNone, IfSome};
 ghost use Rattle.determinize_below.specs.Search.{is_done};
 ghost use Rattle.determinize_below.specs.declared.search.MatchKind.TheVariants as kinds;
 ghost use Rattle.determinize_start.specs.StartKinds.{byte_before};
-ghost use Rattle.determinize_engine.specs.Searches.{HasMatch, IsPreferredIn, has_start};
+ghost use Rattle.determinize_engine.specs.Searches.{HasMatch, has_start};
 ghost use Rattle.determinize_find.specs.Certain.{IsUnsettled};
 ghost use Rattle.determinize_find.specs.Idle.{IsIdle};
 ghost use Rattle.determinize_find.specs.LeftmostIn.{IsLeftmostIn};
 ghost use Rattle.determinize_find.specs.Matches.{AreMatches};
 ghost use Rattle.determinize_nfa.specs.Prefix.{HasPrefix, HasPrefixApart};
-ghost use Rattle.determinize_find.specs.Private.Begins.{HasReverse, IsBeginOf, IsEndOf, IsEnding, asked_of};
+ghost use Rattle.determinize_find.specs.Endings.{IsEnding};
+ghost use Rattle.determinize_find.specs.Private.Begins.{HasReverse, IsBeginOf, IsEndOf, asked_of};
 ghost use Rattle.determinize_find.specs.Private.Windows.{IsCertain, IsFresh, IsInside};
 ghost use Rattle.determinize_nfa.specs.Reversal.{IsReverseOf};
 ghost use Rattle.determinize_find.specs.Streams.{IsEndScan};
@@ -95,6 +96,8 @@ impl<F: Engine, B: Engine<Error = F::Error>> Regex<F, B> {
     /// Returns the DFA that finds the ends of matches.
     pub fn forward(&self) -> &F
         ensures nfa { (F.engine result.now).nfa ≡ self.now.nfa }
+        ensures forward { self.now.nfa.reverse ≡ false }
+        ensures prefix { HasPrefix self.now.nfa }
         ensures kind { (F.engine result.now).kind ≡ kinds.LeftmostFirst }
         ensures limit { (F.engine result.now).limit ≡ self.now.limit }
     {
@@ -113,6 +116,8 @@ impl<F: Engine, B: Engine<Error = F::Error>> Regex<F, B> {
     /// Returns both DFAs, the one that finds the ends of matches first.
     pub fn into_engines(self) -> (F, B)
         ensures nfa { (F.engine result.0).nfa ≡ self.nfa }
+        ensures forward { self.nfa.reverse ≡ false }
+        ensures prefix { HasPrefix self.nfa }
         ensures kind { (F.engine result.0).kind ≡ kinds.LeftmostFirst }
         ensures limit { (F.engine result.0).limit ≡ self.limit }
         ensures reverse { IsReverseOf (B.engine result.1).nfa self.nfa }
@@ -126,16 +131,13 @@ impl<F: Engine, B: Engine<Error = F::Error>> Regex<F, B> {
     /// but searches for no start.
     pub fn search_half(&mut self, input: &Input<'_>) -> Result<Option<HalfMatch>, F::Error>
         requires start { has_start input.now.anchored ≡ true }
-        ensures preferred { IfOk result
-            (λ found. IfSome found (λ m. IsPreferredIn self.old.nfa input.now m)) }
-        ensures none { is_done input.now ≡ false → IfOk result
-            (λ found. IfNone found (HasMatch self.old.nfa input.now → ⊥)) }
-        ensures done { is_done input.now ≡ true → result ≡ Ok None }
+        ensures leftmost { IfOk result (λ found. IsEnding self.old.nfa input.now found) }
         ensures within { IfOk result (λ found. IfSome found
             (λ m. (input.now.start ≤ m.offset) × (m.offset ≤ input.now.end))) }
         ensures same { self.new ≡ self.old }
     {
-        self.forward.search_input(input)
+        let range = input.start()..input.end();
+        self.find_end(input.haystack(), range, input.get_anchored())
     }
 
     /// Returns the pattern and the end of the leftmost match of a range of a haystack, if any.
@@ -150,6 +152,8 @@ impl<F: Engine, B: Engine<Error = F::Error>> Regex<F, B> {
         requires start { has_start anchored ≡ true }
         ensures end { IfOk result (λ found.
             IsEnding self.old.nfa (asked_of haystack.now range.start range.end anchored) found) }
+        ensures within { IfOk result (λ found. IfSome found
+            (λ m. (range.start ≤ m.offset) × (m.offset ≤ range.end))) }
         ensures same { self.new ≡ self.old }
     {
         let input = Input::new(haystack).range(range).anchored(anchored);

@@ -19,7 +19,9 @@ pub mod utf8;
 pub use determinize_below::{
     Anchored, BuildError, Input, Look, LookMatcher, Match, NFA, PatternID,
 };
-pub use determinize_pattern::{ClassBytes, ClassBytesRange, CompileError, Config, Pattern};
+pub use determinize_pattern::{
+    ClassBytes, ClassBytesRange, ClassUnicodeRange, CompileError, Config, Pattern,
+};
 pub use determinize_syntax::{ErrorKind, Flags, ParseError};
 pub use error::Error;
 pub use matcher::Matcher;

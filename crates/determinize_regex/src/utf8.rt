@@ -16,12 +16,12 @@ pub fn is_char_boundary(text: &[u8], index: usize) -> bool
 {
     match text.get(index) {
         Some(byte) => *byte < 0x80 || *byte > 0xBF,
-        None => true,
+        None => index == text.len(),
     }
 }
 
 /// Removes the empty matches inside an encoded character of the text, as a search in UTF-8 mode of
-/// regex-automata leaves them out.
+/// regex-automata leaves them out if its input is not anchored.
 pub fn retain_whole<A: Allocator>(text: &[u8], found: &mut Vec<Match, A>)
     ensures { found.new.items ≡ filter (is_whole text.now) found.old.items }
 {

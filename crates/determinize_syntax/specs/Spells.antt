@@ -8,7 +8,7 @@ use Rattle.determinize_pattern.specs.Characters.{IsCharClass}
 use Rattle.determinize_pattern.specs.Meaning.{Look, Re}
 use Rattle.determinize_pattern.specs.Patterns as patterns
 use Rattle.determinize_pattern.specs.Patterns.{IsClass, literal, repeated}
-use Rattle.determinize_syntax.specs.Words.{Set, ◌∈◌, assertion, at_line, complement, dot_set, escaped_byte, folded, is_end_of_text, is_name, joined, knows_cases, named_class, no_flags, number, only, perl_class, set_flag}
+use Rattle.determinize_syntax.specs.Words.{Set, ◌∈◌, assertion, at_line, complement, dot_set, escaped_byte, folded, is_text_end, is_name, joined, knows_cases, named_class, no_flags, number, only, perl_class, set_flag}
 use Rattle.determinize_syntax.specs.declared.bracket.Before.{Before}
 use Rattle.determinize_syntax.specs.declared.bracket.Before.TheVariants.{AfterClass, AfterHyphen, AfterOne, AfterRange, First}
 use Rattle.determinize_syntax.specs.declared.flags.Flags.{Flags}
@@ -55,7 +55,7 @@ pub data Bound (f : Flags) : ℕ → Bytes → Type 0 where
   escaped : (b : ℕ) (t : Bytes) → Escaped b t → Bound f b t
   character : (c : ℕ) (t : Bytes) → f.unicode ≡ true → Wide c t → Bound f c t
 
--- the byte is literal; `&&` and `~~` do not
+-- the byte is literal; `&&` and `~~` are not
 abbrev pub stands : Before → ℕ → Bool
 stands (AfterOne false b) c =
     is_ascii c && not (c ∈ "[]\\-") && not (b == c && c ∈ "&~")
@@ -137,7 +137,7 @@ mutual
     class : (f : Flags) (c : ℕ) (s : Set) (re : Re) → perl_class c ≡ Some s → f.unicode ≡ false
         → IsClass s re → Atom f re (0x5C ∷ c ∷ [])
     asserted : (f : Flags) (t : Bytes) (look : _) → assertion t ≡ Some look
-        → (not f.unicode || is_end_of_text look) ≡ true → Atom f (Look look) (0x5C ∷ t)
+        → (not f.unicode || is_text_end look) ≡ true → Atom f (Look look) (0x5C ∷ t)
     brackets : (f : Flags) (s : Set) (re : Re) (c : ℕ) (t : Bytes) → Inside f s (c ∷ t)
         → not (c ∈ "^") ≡ true → knows_cases f ≡ true → IsOneOf f.unicode (folded f s) re
         → Atom f re (codes "[" ++ c ∷ t ++ codes "]")

@@ -104,10 +104,10 @@ assertion t =
     else if is_text "b{end-half}" t then Some WordEndHalfAscii else None
 
 -- `\A` and `\z`, which are not about words
-abbrev pub is_end_of_text : Look → Bool
-is_end_of_text Start = true
-is_end_of_text End = true
-is_end_of_text look = false
+abbrev pub is_text_end : Look → Bool
+is_text_end Start = true
+is_text_end End = true
+is_text_end look = false
 
 -- the assertion of `^` or `$`: at the ends of the text, under `m` at those of lines too
 abbrev pub at_line : Flags → Look → Look → Look → Look

@@ -75,7 +75,7 @@ pub enum ErrorKind {
     SpecialWordOrRepetitionUnexpectedEof,
     /// The flag `i` where `u` holds: only the cases of ASCII letters are known.
     UnicodeCaseUnavailable,
-    /// What only Unicode patterns have: `\u`, `\p`, or, where `u` does not hold, a character beyond
+    /// `\u` and `\p`, which are not supported, or, where `u` does not hold, a character beyond
     /// ASCII in brackets.
     UnicodeNotAllowed,
     /// A class as `\d` where `u` holds: only its ASCII characters are known.
@@ -171,7 +171,7 @@ impl ErrorKind {
             ErrorKind::SpecialWordBoundaryUnrecognized => "no boundary has this name",
             ErrorKind::SpecialWordOrRepetitionUnexpectedEof => "the text ends after the brace",
             ErrorKind::UnicodeCaseUnavailable => "the cases of Unicode are not supported",
-            ErrorKind::UnicodeNotAllowed => "this is for Unicode patterns only",
+            ErrorKind::UnicodeNotAllowed => "this needs Unicode, which is off or not supported",
             ErrorKind::UnicodePerlClassNotFound => "this class of Unicode is not supported",
             ErrorKind::UnicodeWordUnavailable => "the words of Unicode are not supported",
             ErrorKind::UnsupportedBackreference => "a reference to a group is not supported",

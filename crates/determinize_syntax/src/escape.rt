@@ -32,7 +32,7 @@ impl Escape {
         let (available, kind) = match self {
             Escape::Class(..) => (!flags.unicode, ErrorKind::UnicodePerlClassNotFound),
             Escape::Look(look) => (
-                !flags.unicode || is_end_of_text(look),
+                !flags.unicode || is_text_end(look),
                 ErrorKind::UnicodeWordUnavailable,
             ),
             _ => (flags.know_cases(), ErrorKind::UnicodeCaseUnavailable),
@@ -42,8 +42,8 @@ impl Escape {
 }
 
 /// Returns whether the assertion is `\A` or `\z`, which are not about words.
-fn is_end_of_text(look: Look) -> bool
-    ensures { result ≡ words.is_end_of_text look }
+fn is_text_end(look: Look) -> bool
+    ensures { result ≡ words.is_text_end look }
 {
     matches!(look, Look::Start | Look::End)
 }

@@ -22,7 +22,7 @@ pub struct Flags {
     pub swap_greed: bool,
     /// `R`: lines end with `\n`, `\r` or `\r\n`.
     pub crlf: bool,
-    /// `u`: `.` and brackets read characters, as their bytes in UTF-8.
+    /// `u`: `.`, brackets and escapes as `\xE9` read characters, as their bytes in UTF-8.
     pub unicode: bool,
 }
 

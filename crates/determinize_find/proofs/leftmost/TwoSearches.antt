@@ -29,7 +29,8 @@ use Rattle.determinize_nfa.specs.Runs.{AcceptsFrom}
 use Rattle.determinize_nfa.specs.Leftmost.{IsLeftmost, IsLeftmostMatch, NothingFrom}
 use Rattle.determinize_find.specs.LeftmostIn.{IsLeftmostIn, is_anchored, latest, moved}
 use Rattle.determinize_nfa.specs.Prefix.{HasPrefix, leads_to}
-use Rattle.determinize_find.specs.Private.Begins.{IsBeginOf, IsEndOf, IsEnded, IsEnding}
+use Rattle.determinize_find.specs.Endings.{IsEnding}
+use Rattle.determinize_find.specs.Private.Begins.{IsBeginOf, IsEndOf, IsEnded}
 use Rattle.determinize_nfa.specs.Reversal.{IsReverseOf, turned, upto}
 use Rattle.determinize_find.proofs.matches.OneList.{LiesIn, length-range, lies, path_within}
 use Rattle.determinize_find.proofs.leftmost.Inputs.{IsFoundIn, found_in_text}

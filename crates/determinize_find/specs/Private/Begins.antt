@@ -1,11 +1,9 @@
--- The end of a leftmost match, and its start.
-use Rattle.std.specs.Prelude.{◌≡◌, ◌≤◌, ℕ, List, Option, Some, length, option_map}
+-- The start of a leftmost match that has a given end.
+use Rattle.std.specs.Prelude.{◌≡◌, ◌≤◌, ℕ, List, Some, length}
 use Rattle.determinize_below.specs.Semantics.{Nfa}
 use Rattle.determinize_below.specs.Search.{Asked}
 use Rattle.determinize_below.specs.declared.search.Anchored.{Anchored}
-use Rattle.determinize_below.specs.declared.search.HalfMatch.{HalfMatch}
 use Rattle.determinize_below.specs.declared.search.Match.{Match}
-use Rattle.determinize_find.specs.Laws.{end_of}
 use Rattle.determinize_find.specs.LeftmostIn.{IsLeftmostIn}
 use Rattle.determinize_nfa.specs.Reversal.{IsReverseOf}
 
@@ -13,12 +11,6 @@ use Rattle.determinize_nfa.specs.Reversal.{IsReverseOf}
 abbrev pub asked_of : List ℕ → ℕ → ℕ → Anchored → Asked
 asked_of haystack start end anchored =
     record { haystack = haystack; start = start; end = end; anchored = anchored }
-
--- the pattern and the end are those of the leftmost match
-pub record IsEnding (nfa : Nfa) (asked : Asked) (found : Option HalfMatch) : Type 0 where
-  pub match : Option Match
-  pub leftmost : IsLeftmostIn nfa asked match
-  pub is : found ≡ option_map end_of match
 
 -- the match is the leftmost one of some range that starts at this index, and has this end
 pub record IsEnded (nfa : Nfa) (haystack : List ℕ) (start end : ℕ) (asked : Asked) (m : Match)

@@ -5,7 +5,7 @@ use Rattle.std.specs.List.{list_any}
 use Rattle.determinize_pattern.specs.Meaning.{Re}
 use Rattle.determinize_syntax.specs.Private.Sets.{set_of, turned}
 use Rattle.determinize_syntax.specs.Spells.{Atom, Escaped, Sets, SpellsUnder, Wide}
-use Rattle.determinize_syntax.specs.Words.{assertion, is_end_of_text, is_name, knows_cases, number, perl_class, set_flag}
+use Rattle.determinize_syntax.specs.Words.{assertion, is_text_end, is_name, knows_cases, number, perl_class, set_flag}
 use Rattle.determinize_syntax.specs.declared.escape.Escape.{Escape}
 use Rattle.determinize_syntax.specs.declared.escape.Escape.TheVariants as escape
 use Rattle.determinize_syntax.specs.declared.flags.Flags.{Flags}
@@ -73,5 +73,5 @@ IsEscape (escape.Look l) t = (u : List ℕ) × (assertion u ≡ Some l) × (t �
 -- the escape needs no tables of Unicode where it is
 abbrev pub is_available : Flags → Escape → Bool
 is_available f (escape.Class kind negated) = not f.unicode
-is_available f (escape.Look l) = not f.unicode || is_end_of_text l
+is_available f (escape.Look l) = not f.unicode || is_text_end l
 is_available f _ = knows_cases f

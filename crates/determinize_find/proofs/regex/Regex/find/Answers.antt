@@ -3,7 +3,8 @@ use Rattle.determinize_below.specs.Search.{Asked}
 use Rattle.determinize_below.specs.declared.search.HalfMatch.{HalfMatch}
 use Rattle.determinize_below.specs.declared.search.Match.{Match}
 use Rattle.determinize_find.specs.LeftmostIn.{is_anchored}
-use Rattle.determinize_find.specs.Private.Begins.{IsBeginOf, IsEnding}
+use Rattle.determinize_find.specs.Endings.{IsEnding}
+use Rattle.determinize_find.specs.Private.Begins.{IsBeginOf}
 use Rattle.determinize_find.proofs.matches.OneList.{LiesIn, lies}
 use Rattle.determinize_find.proofs.leftmost.TwoSearches.{IsStart, whole_match}
 use Rattle.determinize_find.proofs.regex.Regex.find.Goals.{in-No+in_ok-start-in-No, in-Yes}

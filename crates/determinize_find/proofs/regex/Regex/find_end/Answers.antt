@@ -1,7 +1,8 @@
 use Rattle.std.proofs.Common.{rules, ◌≡◌, IfOk, ap, subst}
 use Rattle.determinize_below.specs.Semantics.{Nfa}
 use Rattle.determinize_below.specs.Search.{Asked}
-use Rattle.determinize_find.specs.Private.Begins.{IsEnding, asked_of}
+use Rattle.determinize_find.specs.Endings.{IsEnding}
+use Rattle.determinize_find.specs.Private.Begins.{asked_of}
 use Rattle.determinize_find.specs.Regexes.{RegexValue}
 use Rattle.determinize_find.proofs.leftmost.TwoSearches.{all_bytes, ended_in}
 use Rattle.determinize_find.proofs.regex.Regex.find_end.Goals as goal
