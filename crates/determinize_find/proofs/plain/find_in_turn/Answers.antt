@@ -27,10 +27,11 @@ returns-in-Some-clause-leftmost g c =
 
 pub loop-at-preserved : goal.loop-at-preserved
 loop-at-preserved g c =
+    let same = ap (λ (v : EngineValue). v.nfa) c.loop-at.invariant.same in
     let low : c.args.input.now.start ≤ c.loop-at.at = omega (arith, c.start-start.ensures.value) in
     let is : c.in_ok-found.field-0 ≡ None = search rules in record {
       same = search rules;
-      nothing = more_nothing _ _ c.args.input.now c.loop-at.at (ap (λ (v : EngineValue). v.nfa) c.loop-at.invariant.same)
+      nothing = more_nothing _ _ c.args.input.now c.loop-at.at same
           low c.loop-at.invariant.nothing (rw is at c.in_ok-found.ensures.best);
     }
 
