@@ -37,6 +37,21 @@ pub fn holds<R: Abort>(rt: &R, is_so: bool) {
     assert!(rt; is_so);
 }
 
+/// Asserts that a call that may fail returned this value. Returns its error if it failed.
+pub fn same_if_ok<R: Abort, T: PartialEq + Debug + Copy, E>(
+    rt: &R,
+    found: Result<T, E>,
+    wanted: T,
+) -> Result<(), E> {
+    match found {
+        Ok(found) => {
+            same(rt, found, wanted);
+            Ok(())
+        }
+        Err(error) => Err(error),
+    }
+}
+
 /// Asserts that a value has this text.
 pub fn expect_text<R: Abort + AllocGlobal, T: Display>(rt: &R, value: &T, wanted: &str) {
     let text = format!(in rt.alloc(); "{value}").expect(rt, "memory");

@@ -6,6 +6,7 @@ ghost use Rattle.std.specs.Prelude.{◌≡◌, false};
 use crate::tests::stored_walks::STORED;
 use crate::tests::{ended, expect_debug, expect_text, same};
 use determinize_below::{Anchored, Input, LookMatcher, MatchKind, NFA, PatternID, StateID};
+use determinize_core::state::State;
 use determinize_dense::{Dfa, DfaError};
 use determinize_replay::outputs::output_of;
 use determinize_uses::dfa::smallest;
@@ -117,6 +118,12 @@ fn count(alloc: Global, nfa: &NFA, kind: MatchKind, limit: usize) -> Result<usiz
     }
 }
 
+/// Returns the number of states of the smallest DFA.
+fn count_least<R: Abort + AllocGlobal>(rt: &R, nfa: &NFA, kind: MatchKind, limit: usize) -> usize {
+    let smallest = smallest(rt.alloc(), nfa, kind, limit).expect(rt, "few states");
+    smallest.len()
+}
+
 /// Asserts that a DFA has this number of states: it is built with this limit and with one more,
 /// but not with one less. Asserts that the smallest one has the other number.
 fn expect_counts<R: Abort + AllocGlobal>(
@@ -131,8 +138,7 @@ fn expect_counts<R: Abort + AllocGlobal>(
     same(rt, count(rt.alloc(), nfa, kind, fewer), too_many);
     same(rt, count(rt.alloc(), nfa, kind, wanted), Ok(wanted));
     same(rt, count(rt.alloc(), nfa, kind, more), Ok(wanted));
-    let smallest = smallest(rt.alloc(), nfa, kind, wanted).expect(rt, "few states");
-    same(rt, smallest.len(), least);
+    same(rt, count_least(rt, nfa, kind, wanted), least);
 }
 
 /// Asserts the numbers of states of a row.
@@ -155,7 +161,7 @@ fn dense_counts(rt: HostRuntime) {
 }
 
 /// The text of a walk, and the bytes around it.
-#[derive(Drop)]
+#[derive(Clone, Copy)]
 struct Around<'t> {
     look_behind: Option<u8>,
     text: &'t [u8],
@@ -177,12 +183,30 @@ fn expect_found<R: Abort + AllocGlobal>(
     expect_text(rt, &LastMatch(found), last);
 }
 
-/// Returns the patterns of the last state of a walk.
-fn last_patterns<R: Abort + AllocGlobal>(rt: &R, fields: &Fields<'_>) -> Vec<PatternID> {
-    let states = walk::walk(rt.alloc(), fields).expect(rt, "a walk");
+/// Returns the patterns of the last of these states.
+fn patterns_of_last<R: Abort + AllocGlobal>(rt: &R, states: &[State]) -> Vec<PatternID> {
     let last = states.last().expect(rt, "a walk has a state");
     let patterns = last.match_pattern_ids().expect(rt, "memory");
     patterns.unwrap_or(Vec::new(rt.alloc()))
+}
+
+/// Returns the patterns of the last state of a walk.
+fn last_patterns<R: Abort + AllocGlobal>(rt: &R, fields: &Fields<'_>) -> Vec<PatternID> {
+    let states = walk::walk(rt.alloc(), fields).expect(rt, "a walk");
+    patterns_of_last(rt, states.as_slice())
+}
+
+/// Asserts the same of searches by a DFA and by the smallest one.
+fn expect_both<R: Abort + AllocGlobal>(
+    rt: &R,
+    dfa: &Dfa<'_>,
+    around: &Around<'_>,
+    last: &str,
+    patterns: &[PatternID],
+) {
+    expect_found(rt, dfa, around, last, patterns);
+    let least = dfa.minimize(rt.alloc()).expect(rt, "memory");
+    expect_found(rt, &least, around, last, patterns);
 }
 
 /// Asserts that searches of the text of a walk by a DFA and by the smallest one have its last
@@ -194,10 +218,7 @@ fn expect_walk<R: Abort + AllocGlobal>(rt: &R, fields: &Fields<'_>, dfa: &Dfa<'_
         text: text.as_slice(),
         look_ahead: fields.look_ahead().expect(rt, "a byte"),
     };
-    let patterns = last_patterns(rt, fields);
-    expect_found(rt, dfa, &around, last, patterns.as_slice());
-    let least = dfa.minimize(rt.alloc()).expect(rt, "memory");
-    expect_found(rt, &least, &around, last, patterns.as_slice());
+    expect_both(rt, dfa, &around, last, last_patterns(rt, fields).as_slice());
 }
 
 /// Builds the DFA of a walk, of at most 1000 states, and asserts it of both.
@@ -304,17 +325,21 @@ fn dense_patterns(rt: HostRuntime) {
     }
 }
 
+/// Compares the size and the text of a DFA of five states, and the size of the smallest one.
+fn expect_size_and_text<R: Abort + AllocGlobal>(rt: &R, dfa: &Dfa<'_>) {
+    same(rt, dfa.memory_usage(), 5 * 36 + 4);
+    let wanted = "Dfa { match_kind: All, len: 5, alphabet_len: 3, .. }";
+    expect_debug(rt, dfa, wanted);
+    let least = dfa.minimize(rt.alloc()).expect(rt, "memory");
+    same(rt, least.memory_usage(), 4 * 36 + 4);
+}
+
 /// The rows have three entries: for word bytes, for other bytes and for EOI. A row takes 12 bytes
 /// for these and 24 for its list. One row lists a pattern: that after a word.
 #[test]
 fn dense_size_and_text(rt: HostRuntime) {
     let nfa = nfa(&rt, WORD, StateID::ZERO);
-    let dfa = dfa(&rt, &nfa, MatchKind::All, 5);
-    same(&rt, dfa.memory_usage(), 5 * 36 + 4);
-    let wanted = "Dfa { match_kind: All, len: 5, alphabet_len: 3, .. }";
-    expect_debug(&rt, &dfa, wanted);
-    let least = dfa.minimize(rt.alloc()).expect(&rt, "memory");
-    same(&rt, least.memory_usage(), 4 * 36 + 4);
+    expect_size_and_text(&rt, &dfa(&rt, &nfa, MatchKind::All, 5));
 }
 
 /// Minimizes a DFA of five states, which leaves four.
@@ -323,9 +348,13 @@ fn minimize<R: Abort, A: Allocator + Copy>(
     alloc: A,
     dfa: &Dfa<'_, Global, A>,
 ) -> Result<(), AllocError> {
-    let smallest = dfa.minimize(alloc)?;
-    same(rt, (dfa.len(), smallest.len()), (5, 4));
-    Ok(())
+    match dfa.minimize(alloc) {
+        Ok(smallest) => {
+            same(rt, (dfa.len(), smallest.len()), (5, 4));
+            Ok(())
+        }
+        Err(error) => Err(error),
+    }
 }
 
 /// Builds the DFA of `\b\w+\b`, and minimizes it.

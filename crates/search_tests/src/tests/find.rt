@@ -1,13 +1,14 @@
 //! The leftmost match and all matches, with both ends: by `plain`, by a `Regex` over two caches or
 //! over two whole DFAs, and of a text in pieces.
 
-ghost use Rattle.std.specs.Prelude.{◌≡◌, false};
+ghost use Rattle.std.specs.Prelude.{◌≡◌, ◌<◌, false, true};
 ghost use Rattle.determinize_below.specs.declared.search.MatchKind.TheVariants as kinds;
+ghost use Rattle.determinize_engine.specs.Searches.{has_start};
 ghost use Rattle.determinize_find.specs.Prefix.{HasPrefix};
 ghost use Rattle.determinize_find.specs.Reversal.{IsReverseOf};
 
-use crate::tests::trial::{Trial, fail_each_in_turn, succeed_if};
-use crate::tests::{dense, ended, same};
+use crate::tests::trial::{Trial, build_error, fail_each_in_turn, succeed_if};
+use crate::tests::{dense, ended, same, same_if_ok};
 use determinize_below::{BuildError, Input, MatchKind, NFA, StateID};
 use determinize_dense::Dfa;
 use determinize_find::{LazyRegex, Match, Pieces, Regex, Searcher, has_prefix, plain, reversed};
@@ -113,6 +114,36 @@ pub fn expect_matches<R: Abort>(rt: &R, found: &[Match], wanted: &[Ends]) {
     }
 }
 
+/// Compares the match of a search that may fail. Returns its error if it failed.
+fn match_if_ok<R: Abort>(
+    rt: &R,
+    found: Result<Option<Match>, AllocError>,
+    wanted: Option<Ends>,
+) -> Result<(), AllocError> {
+    match found {
+        Ok(found) => {
+            same(rt, ends_of(found), wanted);
+            Ok(())
+        }
+        Err(error) => Err(error),
+    }
+}
+
+/// Compares the matches of a search that may fail. Returns its error if it failed.
+fn matches_if_ok<R: Abort, A: Allocator>(
+    rt: &R,
+    found: Result<Vec<Match, A>, AllocError>,
+    wanted: &[Ends],
+) -> Result<(), AllocError> {
+    match found {
+        Ok(found) => {
+            expect_matches(rt, found.as_slice(), wanted);
+            Ok(())
+        }
+        Err(error) => Err(error),
+    }
+}
+
 /// A search by `plain`.
 pub enum PlainSearch {
     /// For the first match.
@@ -166,14 +197,12 @@ fn find_plain<R: Abort, A: Allocator + Copy>(
 {
     let (input, wanted) = (Input::new(row.haystack), row.matches.first().copied());
     match *search {
-        PlainSearch::Find => same(rt, ends_of(plain::find(lazy, &input)?), wanted),
-        PlainSearch::NextMatch => same(rt, ends_of(plain::next_match(lazy, &input, None)?), wanted),
+        PlainSearch::Find => match_if_ok(rt, plain::find(lazy, &input), wanted),
+        PlainSearch::NextMatch => match_if_ok(rt, plain::next_match(lazy, &input, None), wanted),
         PlainSearch::FindAll => {
-            let found = plain::find_all(alloc, lazy, &input)?;
-            expect_matches(rt, found.as_slice(), row.matches);
+            matches_if_ok(rt, plain::find_all(alloc, lazy, &input), row.matches)
         }
     }
-    Ok(())
 }
 
 /// Moves a cursor to the next match, and again if that fails. Returns whether the first call
@@ -184,28 +213,36 @@ fn advance<R: Abort, A: Allocator + Copy>(
     regex: &mut LazyRegex<'_, Global, A, A>,
     wanted: Option<Ends>,
 ) -> Result<bool, AllocError> {
-    if let Ok(found) = searcher.advance(regex) {
-        same(rt, ends_of(found), wanted);
-        return Ok(true);
+    let is_first = match_if_ok(rt, searcher.advance(regex), wanted).is_ok();
+    if !is_first {
+        match_if_ok(rt, searcher.advance(regex), wanted)?;
     }
-    same(rt, ends_of(searcher.advance(regex)?), wanted);
-    Ok(false)
+    Ok(is_first)
 }
 
 /// Moves a cursor over all matches and past the last one.
+fn advance_each<R: Abort, A: Allocator + Copy>(
+    rt: &R,
+    searcher: &mut Searcher<'_>,
+    regex: &mut LazyRegex<'_, Global, A, A>,
+    wanted: &[Ends],
+) -> Result<(), AllocError> {
+    let mut is_sound = true;
+    for index in 0..wanted.len() + 1 {
+        let is_next = advance(rt, searcher, regex, wanted.get(index).copied())?;
+        is_sound = is_sound && is_next;
+    }
+    succeed_if(is_sound)
+}
+
+/// Finds the matches of a row in turn, by a cursor.
 fn advance_over<R: Abort, A: Allocator + Copy>(
     rt: &R,
     regex: &mut LazyRegex<'_, Global, A, A>,
     row: &Row,
 ) -> Result<(), AllocError> {
     let mut searcher = Searcher::new(Input::new(row.haystack));
-    let mut is_sound = true;
-    for wanted in row.matches {
-        let is_next = advance(rt, &mut searcher, regex, Some(*wanted))?;
-        is_sound = is_sound && is_next;
-    }
-    let is_end = advance(rt, &mut searcher, regex, None)?;
-    succeed_if(is_sound && is_end)
+    advance_each(rt, &mut searcher, regex, row.matches)
 }
 
 /// Feeds a piece, and if that fails, the part of it that was not read. Returns whether the first
@@ -217,19 +254,28 @@ fn feed_piece<B: Allocator, A: Allocator + Copy>(
     found: &mut Vec<Match, A>,
 ) -> Result<bool, AllocError> {
     let begin = stream.bytes_read();
-    if stream.feed(regex, piece, found).is_ok() {
-        return Ok(true);
+    let is_fed = stream.feed(regex, piece, found).is_ok();
+    if !is_fed {
+        let read = stream.bytes_read().saturating_sub(begin);
+        stream.feed(regex, piece.get(read..).unwrap_or(piece), found)?;
     }
-    let read = stream.bytes_read().saturating_sub(begin);
-    let Some(rest) = piece.get(read..) else {
-        return Err(AllocError);
-    };
-    stream.feed(regex, rest, found)?;
-    Ok(false)
+    Ok(is_fed)
 }
 
-/// Feeds pieces and ends the text, and makes each call that fails again. Returns whether none
-/// failed.
+/// Ends a text, and ends it again if that fails. Returns whether the first call succeeded.
+fn finish<B: Allocator, A: Allocator + Copy>(
+    stream: &Pieces<A>,
+    regex: &mut LazyRegex<'_, Global, B, A>,
+    found: &mut Vec<Match, A>,
+) -> Result<bool, AllocError> {
+    let is_ended = stream.finish(regex, found).is_ok();
+    if !is_ended {
+        stream.finish(regex, found)?;
+    }
+    Ok(is_ended)
+}
+
+/// Feeds pieces, and feeds each piece that fails again. Returns whether none failed.
 fn feed_each<B: Allocator, A: Allocator + Copy>(
     stream: &mut Pieces<A>,
     regex: &mut LazyRegex<'_, Global, B, A>,
@@ -241,11 +287,22 @@ fn feed_each<B: Allocator, A: Allocator + Copy>(
         let is_fed = feed_piece(stream, regex, piece, found)?;
         is_sound = is_sound && is_fed;
     }
-    let is_ended = stream.finish(regex, found).is_ok();
-    if !is_ended {
-        stream.finish(regex, found)?;
-    }
-    Ok(is_sound && is_ended)
+    Ok(is_sound)
+}
+
+/// Feeds pieces and ends the text, and compares the matches.
+fn feed_all<R: Abort, B: Allocator, A: Allocator + Copy>(
+    rt: &R,
+    stream: &mut Pieces<A>,
+    regex: &mut LazyRegex<'_, Global, B, A>,
+    pieces: &[&[u8]],
+    found: &mut Vec<Match, A>,
+    wanted: &[Ends],
+) -> Result<(), AllocError> {
+    let is_sound = feed_each(stream, regex, pieces, found)?;
+    let is_ended = finish(stream, regex, found)?;
+    expect_matches(rt, found.as_slice(), wanted);
+    succeed_if(is_sound && is_ended)
 }
 
 /// Feeds a text in pieces, and makes each call that fails again, for the bytes that it did not
@@ -258,13 +315,18 @@ fn feed<R: Abort, B: Allocator, A: Allocator + Copy>(
     wanted: &[Ends],
 ) -> Result<(), AllocError> {
     let (mut stream, mut found) = (Pieces::new(alloc), Vec::new(alloc));
-    match feed_each(&mut stream, regex, pieces, &mut found) {
-        Ok(is_sound) => {
-            expect_matches(rt, found.as_slice(), wanted);
-            succeed_if(is_sound)
-        }
-        Err(error) => Err(error),
-    }
+    feed_all(rt, &mut stream, regex, pieces, &mut found, wanted)
+}
+
+/// Feeds a haystack in two pieces.
+fn feed_halves<R: Abort, A: Allocator + Copy>(
+    rt: &R,
+    alloc: A,
+    regex: &mut LazyRegex<'_, Global, A, A>,
+    row: &Row,
+) -> Result<(), AllocError> {
+    let (first, second) = row.haystack.split_at(row.haystack.len().min(2));
+    feed(rt, alloc, regex, &[first, second], row.matches)
 }
 
 /// Searches by a `Regex`.
@@ -274,22 +336,15 @@ fn find_by_regex<R: Abort, A: Allocator + Copy>(
     regex: &mut LazyRegex<'_, Global, A, A>,
     row: &Row,
     search: &Search,
-) -> Result<(), BuildError> {
+) -> Result<(), AllocError> {
     let (input, wanted) = (Input::new(row.haystack), row.matches.first().copied());
     match *search {
-        Search::Find => same(rt, ends_of(regex.find(&input)?), wanted),
-        Search::IsMatch => same(rt, regex.is_match(&input)?, wanted.is_some()),
-        Search::FindAll => {
-            let found = regex.find_all(alloc, &input)?;
-            expect_matches(rt, found.as_slice(), row.matches);
-        }
-        Search::Advance => advance_over(rt, regex, row)?,
-        Search::Pieces => {
-            let (first, second) = row.haystack.split_at(row.haystack.len().min(2));
-            feed(rt, alloc, regex, &[first, second], row.matches)?;
-        }
+        Search::Find => match_if_ok(rt, regex.find(&input), wanted),
+        Search::IsMatch => same_if_ok(rt, regex.is_match(&input), wanted.is_some()),
+        Search::FindAll => matches_if_ok(rt, regex.find_all(alloc, &input), row.matches),
+        Search::Advance => advance_over(rt, regex, row),
+        Search::Pieces => feed_halves(rt, alloc, regex, row),
     }
-    Ok(())
 }
 
 /// Finds the matches of a row by `plain`, through a new cache of this limit.
@@ -306,6 +361,24 @@ pub fn search_plain<R: Abort + AllocGlobal, A: Allocator + Copy>(
 }
 
 /// Finds the matches of a row by an NFA and its reverse, through new caches of this limit.
+fn search_both<R: Abort, A: Allocator + Copy>(
+    rt: &R,
+    alloc: A,
+    nfa: &NFA,
+    backward: &NFA<A>,
+    row: &Row,
+    limit: usize,
+    search: &Search,
+) -> Result<(), AllocError>
+    requires forward { nfa.now.reverse ≡ false }
+    requires prefix { HasPrefix nfa.now }
+    requires reverse { IsReverseOf backward.now nfa.now }
+{
+    let mut regex = Regex::new(alloc, nfa, backward, limit);
+    find_by_regex(rt, alloc, &mut regex, row, search)
+}
+
+/// Finds the matches of a row by its NFA and the reverse, through new caches of this limit.
 pub fn search_regex<R: Abort + AllocGlobal, A: Allocator + Copy>(
     rt: &R,
     alloc: A,
@@ -314,9 +387,10 @@ pub fn search_regex<R: Abort + AllocGlobal, A: Allocator + Copy>(
     search: &Search,
 ) -> Result<(), BuildError> {
     let nfa = nfa(rt, row.states);
-    let backward = reversed(alloc, &nfa)?;
-    let mut regex = Regex::new(alloc, &nfa, &backward, limit);
-    find_by_regex(rt, alloc, &mut regex, row, search)
+    match reversed(alloc, &nfa) {
+        Ok(backward) => build_error(search_both(rt, alloc, &nfa, &backward, row, limit, search)),
+        Err(error) => Err(error),
+    }
 }
 
 /// Finds the matches of a row in each way, through caches of this limit.
@@ -332,14 +406,10 @@ fn fail_each<R: Abort + AllocGlobal>(rt: &R, row: &Row, limit: usize) {
 /// Finds the matches of a row in turn by whole DFAs, and none after the last.
 fn expect_in_turn<R: Abort>(rt: &R, scanner: &mut Regex<&Dfa<'_>, &Dfa<'_>>, row: &Row) {
     let mut searcher = Searcher::new(Input::new(row.haystack));
-    for wanted in row.matches {
-        same(
-            rt,
-            ends_of(steady::next(scanner, &mut searcher)),
-            Some(*wanted),
-        );
+    for index in 0..row.matches.len() + 1 {
+        let found = steady::next(scanner, &mut searcher);
+        same(rt, ends_of(found), row.matches.get(index).copied());
     }
-    same(rt, ends_of(steady::next(scanner, &mut searcher)), None);
 }
 
 /// Finds all matches of a haystack by whole DFAs of an NFA and of its reverse.
@@ -355,22 +425,47 @@ fn expect_by_whole<R: Abort + AllocGlobal>(rt: &R, nfa: &NFA, backward: &NFA, ro
     expect_in_turn(rt, &mut Regex::from_engines(&ends, &starts), row);
 }
 
+/// Feeds pieces of a haystack.
+fn expect_fed<R: Abort + AllocGlobal>(
+    rt: &R,
+    regex: &mut LazyRegex<'_>,
+    pieces: &[&[u8]],
+    wanted: &[Ends],
+) {
+    feed(rt, rt.alloc(), regex, pieces, wanted).expect(rt, "memory");
+}
+
+/// Feeds a haystack in all ways in three pieces, of which the last is this one.
+fn expect_cuts<R: Abort + AllocGlobal>(
+    rt: &R,
+    regex: &mut LazyRegex<'_>,
+    head: &[u8],
+    last: &[u8],
+    wanted: &[Ends],
+) {
+    for first in 0..head.len() + 1 {
+        let (one, two) = head.split_at(first);
+        expect_fed(rt, regex, &[one, two, last], wanted);
+    }
+}
+
+/// Feeds a haystack in pieces of this size.
+fn expect_chunks<R: Abort + AllocGlobal>(rt: &R, regex: &mut LazyRegex<'_>, row: &Row, size: usize)
+    requires { 0 < size }
+{
+    let pieces = row.haystack.chunks(size).collect::<Vec<_>>(rt.alloc());
+    expect_fed(rt, regex, &pieces.expect(rt, "memory"), row.matches);
+}
+
 /// Feeds a haystack in all ways in up to three pieces, and in pieces of 1, 2 and 3 bytes.
 fn expect_all_cuts<R: Abort + AllocGlobal>(rt: &R, regex: &mut LazyRegex<'_>, row: &Row) {
     for second in 0..row.haystack.len() + 1 {
         let (head, last) = row.haystack.split_at(second);
-        for first in 0..head.len() + 1 {
-            let (one, two) = head.split_at(first);
-            let fed = feed(rt, rt.alloc(), regex, &[one, two, last], row.matches);
-            fed.expect(rt, "memory");
-        }
+        expect_cuts(rt, regex, head, last, row.matches);
     }
-    for size in 1..4 {
-        let pieces = row.haystack.chunks(size).collect::<Vec<_>>(rt.alloc());
-        let pieces = pieces.expect(rt, "memory");
-        let fed = feed(rt, rt.alloc(), regex, pieces.as_slice(), row.matches);
-        fed.expect(rt, "memory");
-    }
+    expect_chunks(rt, regex, row, 1);
+    expect_chunks(rt, regex, row, 2);
+    expect_chunks(rt, regex, row, 3);
 }
 
 /// Finds the matches of a row by whole DFAs, and in pieces.
@@ -392,34 +487,45 @@ fn all_matches(rt: HostRuntime) {
     }
 }
 
-/// Finds the leftmost word of a range of `abcd e`, by `plain`.
+const TEXT: &[u8] = b"abcd e";
+
+/// Finds the leftmost word of an input, by `plain`.
+fn expect_word<R: Abort>(rt: &R, lazy: &mut Lazy<'_>, input: &Input<'_>, wanted: Option<Ends>)
+    requires forward { lazy.old.nfa.reverse ≡ false }
+    requires kind { lazy.old.kind ≡ kinds.LeftmostFirst }
+    requires start { has_start input.now.anchored ≡ true }
+    ensures nfa { lazy.new.nfa ≡ lazy.old.nfa }
+    ensures kind { lazy.new.kind ≡ lazy.old.kind }
+{
+    let found = plain::find(lazy, input).expect(rt, "memory");
+    same(rt, ends_of(found), wanted);
+}
+
+/// Finds the leftmost word of ranges of the text, by `plain`.
 fn expect_words<R: Abort>(rt: &R, lazy: &mut Lazy<'_>)
     requires forward { lazy.old.nfa.reverse ≡ false }
     requires kind { lazy.old.kind ≡ kinds.LeftmostFirst }
 {
-    let text = b"abcd e";
-    let found = plain::find(lazy, &Input::new(text).range(0..4));
-    expect_matches(rt, found.expect(rt, "memory").as_slice(), &[(0, 0, 4)]);
-    let found = plain::find(lazy, &Input::new(text).range(1..4));
-    same(rt, found, Ok(None));
-    let found = plain::find(lazy, &Input::new(text).range(1..6));
-    expect_matches(rt, found.expect(rt, "memory").as_slice(), &[(0, 5, 6)]);
+    expect_word(rt, lazy, &Input::new(TEXT).range(0..4), Some((0, 0, 4)));
+    expect_word(rt, lazy, &Input::new(TEXT).range(1..4), None);
+    expect_word(rt, lazy, &Input::new(TEXT).range(1..6), Some((0, 5, 6)));
 }
 
-/// Finds where a word begins, by a search backward of a range up to its end.
+/// Finds where a word of the text begins, by a search backward of a range up to its end.
 fn expect_begins<R: Abort>(rt: &R, lazy: &mut Lazy<'_>) {
-    let text = b"abcd e";
-    let found = lazy.search_input(&Input::new(text).range(0..4));
+    let found = lazy.search_input(&Input::new(TEXT).range(0..4));
     same(rt, found, Ok(ended(0)));
-    let found = lazy.search_input(&Input::new(text).range(1..6));
+    let found = lazy.search_input(&Input::new(TEXT).range(1..6));
     same(rt, found, Ok(ended(5)));
 }
 
 #[test]
 fn words_of_ranges(rt: HostRuntime) {
     let nfa = nfa(&rt, WORDS);
-    let mut forward = Lazy::new(rt.alloc(), &nfa, MatchKind::LeftmostFirst, 100);
-    expect_words(&rt, &mut forward);
+    expect_words(
+        &rt,
+        &mut Lazy::new(rt.alloc(), &nfa, MatchKind::LeftmostFirst, 100),
+    );
     let backward = backward_of(&rt, &nfa);
     expect_begins(
         &rt,

@@ -1,11 +1,19 @@
 //! Patterns from their texts: all matches, also in pieces, whether there is one, the parts between
 //! them, other bytes in their place, which text is in error, and how errors are written.
 
-use crate::tests::find::expect_matches;
+use crate::tests::find::{Ends, expect_matches};
 use crate::tests::{expect_text, same};
-use determinize_regex::{Error, ErrorKind, Input, Matcher, ParseError, Regex, RegexConfig, Stream};
+use determinize_regex::{
+    Error, ErrorKind, Input, Match, Matcher, ParseError, Regex, RegexConfig, Stream,
+};
 use determinize_uses::words;
 use std::process::Abort;
+
+/// Returns the regex of these patterns.
+fn regex_of<R: Abort + AllocGlobal>(rt: &R, patterns: &[&str]) -> Regex {
+    let made = Regex::new_many(rt.alloc(), patterns, RegexConfig::new());
+    made.expect(rt, "patterns")
+}
 
 /// Compares whether a `Regex` of `a|ab` has a match in two texts, and the first match.
 fn expect_first<R: Abort>(rt: &R, regex: &mut Regex) {
@@ -24,21 +32,33 @@ fn expect_all<R: Abort + AllocGlobal>(rt: &R, matcher: &mut Matcher<'_>) {
     expect_matches(rt, &found, &[(0, 0, 1), (0, 1, 2)]);
 }
 
+/// Compares the numbers and names of a text.
+fn expect_words<R: Abort + AllocGlobal>(rt: &R, regex: &mut Regex) {
+    let found = words::find_all(rt.alloc(), regex, b"In 1984 Ada");
+    expect_matches(
+        rt,
+        &found.expect(rt, "memory"),
+        &[(1, 0, 2), (0, 3, 7), (1, 8, 11)],
+    );
+}
+
 #[test]
 fn numbers_and_names(rt: HostRuntime) {
-    let mut regex = words::words(rt.alloc()).expect(&rt, "two patterns");
-    let found = words::find_all(rt.alloc(), &mut regex, b"In 1984 Ada").expect(&rt, "memory");
-    expect_matches(&rt, &found, &[(1, 0, 2), (0, 3, 7), (1, 8, 11)]);
+    expect_words(&rt, &mut words::words(rt.alloc()).expect(&rt, "patterns"));
+}
+
+/// Searches by a `Regex` twice, and by a `Matcher`.
+fn expect_each<R: Abort + AllocGlobal>(rt: &R, regex: &mut Regex) {
+    expect_first(rt, regex);
+    regex.clear();
+    expect_first(rt, regex);
+    regex.clear();
+    expect_all(rt, &mut regex.matcher(rt.alloc(), 2));
 }
 
 #[test]
 fn regex_and_matcher(rt: HostRuntime) {
-    let mut regex = Regex::new(rt.alloc(), "a|ab").expect(&rt, "a pattern");
-    expect_first(&rt, &mut regex);
-    regex.clear();
-    expect_first(&rt, &mut regex);
-    regex.clear();
-    expect_all(&rt, &mut regex.matcher(rt.alloc(), 2));
+    expect_each(&rt, &mut regex_of(&rt, &["a|ab"]));
 }
 
 /// A text, its parts between runs of commas and blanks, and the text with `$1` in place of each
@@ -57,35 +77,50 @@ fn expect_parts<R: Abort>(rt: &R, parts: &[&[u8]]) {
     }
 }
 
+/// Splits the text, and replaces its separators.
+fn expect_list<R: Abort + AllocGlobal>(rt: &R, regex: &mut Regex) {
+    expect_parts(rt, &regex.split(rt.alloc(), LIST).expect(rt, "memory"));
+    let text = regex.replace_all(rt.alloc(), LIST, b"$1");
+    same(rt, text.expect(rt, "memory").as_slice(), REPLACED);
+}
+
 #[test]
 fn split_and_replace(rt: HostRuntime) {
-    let mut regex = Regex::new(rt.alloc(), "[ ,]+").expect(&rt, "a pattern");
-    let parts = regex.split(rt.alloc(), LIST).expect(&rt, "memory");
-    expect_parts(&rt, &parts);
-    let text = regex
-        .replace_all(rt.alloc(), LIST, b"$1")
-        .expect(&rt, "memory");
-    same(&rt, text.as_slice(), REPLACED);
+    expect_list(&rt, &mut regex_of(&rt, &["[ ,]+"]));
+}
+
+/// The numbers and names in the text.
+static FOUND: [Ends; 3] = [(1, 0, 2), (0, 3, 7), (1, 8, 11)];
+
+/// Feeds a piece.
+fn feed<R: Abort>(rt: &R, stream: &mut Stream<'_>, piece: &[u8], found: &mut Vec<Match>) {
+    stream.feed(piece, found).expect(rt, "memory");
 }
 
 /// Feeds a text in two pieces. The year lies in both, and the last name may go on. It, the byte
 /// before it and the one before these are kept.
-fn expect_pieces<R: Abort + AllocGlobal>(rt: &R, stream: &mut Stream<'_>) {
-    let mut found = Vec::new(rt.alloc());
-    stream.feed(b"In 19", &mut found).expect(rt, "memory");
-    expect_matches(rt, &found, &[(1, 0, 2)]);
-    stream.feed(b"84 Ada", &mut found).expect(rt, "memory");
-    expect_matches(rt, &found, &[(1, 0, 2), (0, 3, 7)]);
+fn expect_pieces<R: Abort>(rt: &R, stream: &mut Stream<'_>, found: &mut Vec<Match>) {
+    feed(rt, stream, b"In 19", found);
+    expect_matches(rt, found, &FOUND[..1]);
+    feed(rt, stream, b"84 Ada", found);
+    expect_matches(rt, found, &FOUND[..2]);
     same(rt, (stream.bytes_read(), stream.bytes_kept()), (11, 5));
-    stream.finish(&mut found).expect(rt, "memory");
-    expect_matches(rt, &found, &[(1, 0, 2), (0, 3, 7), (1, 8, 11)]);
+    stream.finish(found).expect(rt, "memory");
+    expect_matches(rt, found, &FOUND);
+}
+
+/// Searches by a stream of a `Regex`.
+fn expect_stream<R: Abort + AllocGlobal>(rt: &R, regex: &Regex) {
+    expect_pieces(
+        rt,
+        &mut regex.stream(rt.alloc(), 100),
+        &mut Vec::new(rt.alloc()),
+    );
 }
 
 #[test]
 fn in_pieces(rt: HostRuntime) {
-    let patterns = ["[0-9]+", "[A-Z][a-z]*"];
-    let regex = Regex::new_many(rt.alloc(), &patterns, RegexConfig::new()).expect(&rt, "patterns");
-    expect_pieces(&rt, &mut regex.stream(rt.alloc(), 100));
+    expect_stream(&rt, &regex_of(&rt, &["[0-9]+", "[A-Z][a-z]*"]));
 }
 
 /// Returns the index of a text that is in error, and the place of the error.

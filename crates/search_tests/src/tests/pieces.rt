@@ -3,8 +3,8 @@
 use crate::tests::find::{WORDS, backward_of, nfa};
 use crate::tests::{ended, holds, same};
 use determinize_below::MatchKind;
-use determinize_find::{LazyRegex, Pieces, Regex};
-use determinize_lazy::Lazy;
+use determinize_find::{LazyRegex, Match, Pieces, Regex};
+use determinize_lazy::{Lazy, Scan, Walker};
 use std::process::Abort;
 
 /// `[^\n]*\n`, a line.
@@ -19,25 +19,43 @@ static EACH_LINE: [&[u8]; 6] = [b"ab\n", b"\n", b"c d\n", b"\n", b"\n", b"e"];
 /// The words from one to ten, in 64 bytes. `seven` begins at their end and ends at their beginning.
 const TEN_WORDS: &[u8] = b"ven; one, two, three, four, five, six; eight, nine, ten...   sev";
 
-/// Feeds a block many times, and returns how many matches there are. After each piece at most 64
-/// bytes may be kept.
-fn count_matches<R: Abort + AllocGlobal>(
+/// Feeds a block, after which at most 64 bytes may be kept, and returns how many matches it adds.
+fn feed_block<R: Abort>(
     rt: &R,
+    stream: &mut Pieces,
     regex: &mut LazyRegex<'_>,
     block: &[u8],
-    times: usize,
+    found: &mut Vec<Match>,
 ) -> usize {
-    let mut stream = Pieces::new(rt.alloc());
-    let mut found = Vec::new(rt.alloc());
+    found.clear();
+    stream.feed(regex, block, found).expect(rt, "memory");
+    holds(rt, stream.bytes_kept() <= 64);
+    found.len()
+}
+
+/// Feeds a block many times, and returns how many matches there are.
+fn count_matches<R: Abort>(
+    rt: &R,
+    stream: &mut Pieces,
+    regex: &mut LazyRegex<'_>,
+    block: &[u8],
+    found: &mut Vec<Match>,
+) -> usize {
     let mut count = 0usize;
-    for _ in 0..times {
-        stream.feed(regex, block, &mut found).expect(rt, "memory");
-        holds(rt, stream.bytes_kept() <= 64);
-        count = count.saturating_add(found.len());
-        found.clear();
+    for _ in 0..1600u32 {
+        count = count.saturating_add(feed_block(rt, stream, regex, block, found));
     }
-    stream.finish(regex, &mut found).expect(rt, "memory");
+    found.clear();
+    stream.finish(regex, found).expect(rt, "memory");
     count.saturating_add(found.len())
+}
+
+/// Feeds 1024 times the ten words 1600 times, and counts the words.
+fn expect_words<R: Abort + AllocGlobal>(rt: &R, regex: &mut LazyRegex<'_>) {
+    let block = TEN_WORDS.repeat(rt.alloc(), 1024).expect(rt, "memory");
+    let (mut stream, mut found) = (Pieces::new(rt.alloc()), Vec::new(rt.alloc()));
+    let count = count_matches(rt, &mut stream, regex, block.as_slice(), &mut found);
+    same(rt, count, 1600 * 1024 * 10 + 1);
 }
 
 /// The first and the last word are halves of `seven`.
@@ -45,10 +63,7 @@ fn count_matches<R: Abort + AllocGlobal>(
 fn hundred_megabytes(rt: HostRuntime) {
     let nfa = nfa(&rt, WORDS);
     let backward = backward_of(&rt, &nfa);
-    let mut regex = Regex::new(rt.alloc(), &nfa, &backward, 100);
-    let block = TEN_WORDS.repeat(rt.alloc(), 1024).expect(&rt, "memory");
-    let count = count_matches(&rt, &mut regex, block.as_slice(), 1600);
-    same(&rt, count, 1600 * 1024 * 10 + 1);
+    expect_words(&rt, &mut Regex::new(rt.alloc(), &nfa, &backward, 100));
 }
 
 /// Returns the number of lines that end in a piece.
@@ -63,49 +78,72 @@ fn ended_lines(piece: &[u8]) -> usize {
 }
 
 /// Feeds a text in pieces. After each piece there must be a match for each line that has ended.
-fn expect_lines<R: Abort + AllocGlobal>(rt: &R, regex: &mut LazyRegex<'_>, pieces: &[&[u8]]) {
-    let mut stream = Pieces::new(rt.alloc());
-    let mut found = Vec::new(rt.alloc());
+fn feed_lines<R: Abort>(
+    rt: &R,
+    stream: &mut Pieces,
+    regex: &mut LazyRegex<'_>,
+    pieces: &[&[u8]],
+    found: &mut Vec<Match>,
+) {
     let mut count = 0usize;
     for piece in pieces {
-        stream.feed(regex, piece, &mut found).expect(rt, "memory");
+        stream.feed(regex, piece, found).expect(rt, "memory");
         count = count.saturating_add(ended_lines(piece));
         same(rt, found.len(), count);
     }
-    stream.finish(regex, &mut found).expect(rt, "memory");
+    stream.finish(regex, found).expect(rt, "memory");
     same(rt, found.len(), count);
 }
 
-/// The lines one by one, and in pieces of one byte to all bytes.
+/// Finds the lines of a text in pieces.
+fn expect_lines<R: Abort + AllocGlobal>(rt: &R, regex: &mut LazyRegex<'_>, pieces: &[&[u8]]) {
+    let (mut stream, mut found) = (Pieces::new(rt.alloc()), Vec::new(rt.alloc()));
+    feed_lines(rt, &mut stream, regex, pieces, &mut found);
+}
+
+/// Finds the lines one by one, and in pieces of one byte to all bytes.
+fn expect_each<R: Abort + AllocGlobal>(rt: &R, regex: &mut LazyRegex<'_>) {
+    expect_lines(rt, regex, &EACH_LINE);
+    for size in 1..=LINES.len() {
+        let pieces = LINES.chunks(size).collect::<Vec<_>>(rt.alloc());
+        expect_lines(rt, regex, pieces.expect(rt, "memory").as_slice());
+    }
+}
+
 #[test]
 fn each_line_at_its_last_byte(rt: HostRuntime) {
     let nfa = nfa(&rt, LINE);
     let backward = backward_of(&rt, &nfa);
-    let mut regex = Regex::new(rt.alloc(), &nfa, &backward, 100);
-    expect_lines(&rt, &mut regex, &EACH_LINE);
-    for size in 1..=LINES.len() {
-        let pieces = LINES.chunks(size).collect::<Vec<_>>(rt.alloc());
-        expect_lines(&rt, &mut regex, pieces.expect(&rt, "memory").as_slice());
-    }
+    expect_each(&rt, &mut Regex::new(rt.alloc(), &nfa, &backward, 100));
+}
+
+/// Feeds `b` to a scan of `a`, which another cache must not feed or finish.
+fn expect_rest<R: Abort>(rt: &R, lazy: &mut Lazy<'_>, other: &mut Lazy<'_>, scan: &mut Scan) {
+    holds(rt, other.feed(scan, b"b").is_err());
+    holds(rt, other.finish(scan, None).is_err());
+    lazy.feed(scan, b"b").expect(rt, "memory");
+    same(rt, lazy.finish(scan, None), Ok(ended(2)));
 }
 
 /// Scans `ab` by a cache, while another one must not feed or finish the scan.
 fn expect_scan<R: Abort>(rt: &R, lazy: &mut Lazy<'_>, other: &mut Lazy<'_>) {
     let start = lazy.nfa().start_unanchored();
     let mut scan = lazy.scan_text(start, None, b"a").expect(rt, "memory");
-    holds(rt, other.feed(&mut scan, b"b").is_err());
-    holds(rt, other.finish(&scan, None).is_err());
-    lazy.feed(&mut scan, b"b").expect(rt, "memory");
-    same(rt, lazy.finish(&scan, None), Ok(ended(2)));
+    expect_rest(rt, lazy, other, &mut scan);
+}
+
+/// Moves a walker over `ab`, which another cache must not move.
+fn expect_steps<R: Abort>(rt: &R, lazy: &mut Lazy<'_>, other: &mut Lazy<'_>, walker: &mut Walker) {
+    lazy.next(walker, Some(b'a')).expect(rt, "memory");
+    holds(rt, other.next(walker, Some(b'b')).is_err());
+    lazy.next(walker, Some(b'b')).expect(rt, "memory");
 }
 
 /// Walks over `ab` by a cache, while another one must not move the walker.
 fn expect_walker<R: Abort>(rt: &R, lazy: &mut Lazy<'_>, other: &mut Lazy<'_>) {
     let start = lazy.nfa().start_unanchored();
     let mut walker = lazy.walker(start, None).expect(rt, "memory");
-    lazy.next(&mut walker, Some(b'a')).expect(rt, "memory");
-    holds(rt, other.next(&mut walker, Some(b'b')).is_err());
-    lazy.next(&mut walker, Some(b'b')).expect(rt, "memory");
+    expect_steps(rt, lazy, other, &mut walker);
 }
 
 /// A cache of another NFA, which has no such states, returns an error, and changes nothing.

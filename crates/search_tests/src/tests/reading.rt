@@ -5,13 +5,21 @@ ghost use Rattle.determinize_below.specs.declared.search.MatchKind.TheVariants a
 
 use crate::tests::dense::{TOKENS, WORD, dfa, expect_patterns, nfa};
 use crate::tests::{expect_debug, expect_text, same};
-use determinize_below::{MatchKind, StateID};
+use determinize_below::{HalfMatch, MatchKind, StateID};
 use determinize_dense::{Dfa, RowId};
 use determinize_uses::steps::{all_ends, patterns_of};
 use std::process::Abort;
 
 /// The patterns and the ends of all matches in `ab 1`.
 static ENDS: [(usize, usize); 3] = [(0, 1), (0, 2), (1, 4)];
+
+/// Compares the matches of the text.
+fn expect_ends<R: Abort>(rt: &R, ends: &[HalfMatch]) {
+    same(rt, ends.len(), ENDS.len());
+    for (found, wanted) in ends.iter().zip(&ENDS) {
+        same(rt, (found.pattern.as_usize(), found.offset), *wanted);
+    }
+}
 
 /// Patterns of texts, and all matches of one.
 fn expect_words<R: Abort + AllocGlobal>(rt: &R, dfa: &Dfa<'_>)
@@ -22,10 +30,7 @@ fn expect_words<R: Abort + AllocGlobal>(rt: &R, dfa: &Dfa<'_>)
     expect_patterns(rt, patterns_of(dfa, b"a1"), &[]);
     expect_patterns(rt, patterns_of(dfa, b""), &[]);
     let ends = all_ends(rt.alloc(), dfa, b"ab 1").expect(rt, "memory");
-    same(rt, ends.len(), ENDS.len());
-    for (found, wanted) in ends.iter().zip(&ENDS) {
-        same(rt, (found.pattern.as_usize(), found.offset), *wanted);
-    }
+    expect_ends(rt, ends.as_slice());
 }
 
 /// Of the four rows of the smallest DFA one lists a pattern: that after a word. It comes first
@@ -58,14 +63,18 @@ fn expect_small<R: Abort + AllocGlobal>(rt: &R, row: RowId) {
     expect_rows(rt, &dfa.minimize(rt.alloc()).expect(rt, "memory"));
 }
 
+/// Compares the last row of a DFA of 17.
+fn expect_last<R: Abort + AllocGlobal>(rt: &R, row: RowId) {
+    same(rt, row.as_usize(), 16);
+    expect_text(rt, &row, "16");
+    expect_debug(rt, &row, "RowId(16)");
+    expect_small(rt, row);
+}
+
 #[test]
 fn rows(rt: HostRuntime) {
     let words = nfa(&rt, TOKENS, StateID::must(2));
     let large = dfa(&rt, &words, MatchKind::All, 100);
     expect_words(&rt, &large);
-    let row = large.rows().last().unwrap_or(RowId::DEAD);
-    same(&rt, row.as_usize(), 16);
-    expect_text(&rt, &row, "16");
-    expect_debug(&rt, &row, "RowId(16)");
-    expect_small(&rt, row);
+    expect_last(&rt, large.rows().last().unwrap_or(RowId::DEAD));
 }

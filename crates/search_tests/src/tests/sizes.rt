@@ -2,6 +2,7 @@
 
 ghost use Rattle.std.specs.Prelude.{◌≡◌, false};
 ghost use Rattle.determinize_below.specs.declared.search.MatchKind.TheVariants as kinds;
+ghost use Rattle.determinize_find.specs.Prefix.{HasPrefix};
 
 use crate::tests::find::{WORDS, backward_of, nfa};
 use crate::tests::uses::over;
@@ -33,16 +34,21 @@ fn add_run(builder: &mut Builder<Global>) -> Result<StateID, BuildError> {
     Ok(first)
 }
 
-/// Adds the states of the patterns `\<a`, `[bcd]` and `e{40}`, and returns the first one.
-fn add_three(builder: &mut Builder<Global>) -> Result<StateID, BuildError> {
-    let word = add_word(builder)?;
+/// Adds the states of `[bcd]`, and returns the first one.
+fn add_letters(builder: &mut Builder<Global>) -> Result<StateID, BuildError> {
     let done = builder.add_match()?;
     let letters = [
         over(b'b', b'b', done),
         over(b'c', b'c', done),
         over(b'd', b'd', done),
     ];
-    let letters = builder.add_sparse(&letters)?;
+    builder.add_sparse(&letters)
+}
+
+/// Adds the states of the patterns `\<a`, `[bcd]` and `e{40}`, and returns the first one.
+fn add_three(builder: &mut Builder<Global>) -> Result<StateID, BuildError> {
+    let word = add_word(builder)?;
+    let letters = add_letters(builder)?;
     let run = add_run(builder)?;
     builder.add_union(&[word, letters, run])
 }
@@ -77,15 +83,20 @@ fn expect_reversed<R: Abort + AllocGlobal>(rt: &R, nfa: &NFA) {
     expect_match(rt, &mut lazy, &RUN[..39], None);
 }
 
+/// Builds an NFA of these states without the usual prefix, and one with it.
+fn expect_built<R: Abort + AllocGlobal>(rt: &R, builder: &Builder<Global>, start: StateID) {
+    let nfa = builder.build(start, StateID::ZERO).expect(rt, "an NFA");
+    expect_three(rt, &nfa);
+    expect_reversed(rt, &nfa);
+    let prefixed = builder.build_with_prefix(start).expect(rt, "an NFA");
+    expect_three(rt, &prefixed);
+}
+
 #[test]
 fn three_patterns(rt: HostRuntime) {
     let mut builder = Builder::new(rt.alloc());
     let start = add_three(&mut builder).expect(&rt, "memory");
-    let nfa = builder.build(start, StateID::ZERO).expect(&rt, "an NFA");
-    let prefixed = builder.build_with_prefix(start).expect(&rt, "an NFA");
-    expect_three(&rt, &prefixed);
-    expect_three(&rt, &nfa);
-    expect_reversed(&rt, &nfa);
+    expect_built(&rt, &builder, start);
 }
 
 /// `[01]*1[01]{9}`.
@@ -119,18 +130,28 @@ fn long_text<R: Abort + AllocGlobal>(rt: &R) -> Vec<u8> {
     text
 }
 
-/// Finds the words of a text in one piece, of which the last is kept until the text ends.
+/// Feeds a text in one piece, of which the last word is kept until the text ends.
+fn feed<R: Abort>(
+    rt: &R,
+    stream: &mut Pieces,
+    regex: &mut LazyRegex<'_>,
+    text: &[u8],
+    found: &mut Vec<Match>,
+) {
+    stream.feed(regex, text, found).expect(rt, "memory");
+    holds(rt, stream.bytes_kept() >= 30_000);
+    stream.finish(regex, found).expect(rt, "memory");
+}
+
+/// Finds the words of a text in one piece.
 fn expect_pieces<R: Abort + AllocGlobal>(
     rt: &R,
     regex: &mut LazyRegex<'_>,
     text: &[u8],
     wanted: &[Match],
 ) {
-    let mut stream = Pieces::new(rt.alloc());
-    let mut found = Vec::new(rt.alloc());
-    stream.feed(regex, text, &mut found).expect(rt, "memory");
-    holds(rt, stream.bytes_kept() >= 30_000);
-    stream.finish(regex, &mut found).expect(rt, "memory");
+    let (mut stream, mut found) = (Pieces::new(rt.alloc()), Vec::new(rt.alloc()));
+    feed(rt, &mut stream, regex, text, &mut found);
     holds(rt, found.as_slice() == wanted);
 }
 
@@ -144,16 +165,31 @@ fn expect_plain<R: Abort + AllocGlobal>(rt: &R, lazy: &mut Lazy<'_>, text: &[u8]
     same(rt, plain::find(lazy, &Input::new(&[b' '; 40])), Ok(None));
 }
 
-/// Scans a text twice, and walks over it.
-fn expect_scans<R: Abort>(rt: &R, lazy: &mut Lazy<'_>, text: &[u8]) {
+/// Returns the last match of a text by a scan that begins before it.
+fn fed<R: Abort>(rt: &R, lazy: &mut Lazy<'_>, text: &[u8]) -> Option<HalfMatch> {
     let start = lazy.nfa().start_unanchored();
     let mut scan = lazy.scan(start, None).expect(rt, "memory");
     lazy.feed(&mut scan, text).expect(rt, "memory");
-    let scanned = lazy.scan_text(start, None, text).expect(rt, "memory");
-    let last = lazy.finish(&scan, None).expect(rt, "memory");
-    same(rt, lazy.finish(&scanned, None), Ok(last));
-    let states = lazy.walk(start, None, text).expect(rt, "memory");
-    same(rt, states.len(), text.len().saturating_add(2));
+    lazy.finish(&scan, None).expect(rt, "memory")
+}
+
+/// Returns the last match of a text by a scan of it all.
+fn scanned<R: Abort>(rt: &R, lazy: &mut Lazy<'_>, text: &[u8]) -> Option<HalfMatch> {
+    let start = lazy.nfa().start_unanchored();
+    let scan = lazy.scan_text(start, None, text).expect(rt, "memory");
+    lazy.finish(&scan, None).expect(rt, "memory")
+}
+
+/// Returns the number of states of a walk over a text.
+fn walked<R: Abort>(rt: &R, lazy: &mut Lazy<'_>, text: &[u8]) -> usize {
+    let start = lazy.nfa().start_unanchored();
+    lazy.walk(start, None, text).expect(rt, "memory").len()
+}
+
+/// Scans a text twice, and walks over it.
+fn expect_scans<R: Abort>(rt: &R, lazy: &mut Lazy<'_>, text: &[u8]) {
+    same(rt, fed(rt, lazy, text), scanned(rt, lazy, text));
+    same(rt, walked(rt, lazy, text), text.len().saturating_add(2));
 }
 
 /// Finds all words of a text, whole and in one piece.
@@ -165,18 +201,30 @@ fn expect_all<R: Abort + AllocGlobal>(rt: &R, regex: &mut LazyRegex<'_>, text: &
     expect_pieces(rt, regex, text, all.as_slice());
 }
 
+/// Searches a long text by an NFA and its reverse.
+fn expect_regex<R: Abort + AllocGlobal>(rt: &R, nfa: &NFA, text: &[u8])
+    requires forward { nfa.now.reverse ≡ false }
+    requires prefix { HasPrefix nfa.now }
+{
+    let backward = backward_of(rt, nfa);
+    let mut regex = Regex::new(rt.alloc(), nfa, &backward, 100);
+    expect_all(rt, &mut regex, text);
+}
+
+/// Searches the first 300 bytes of a long text by `plain`, scans it, and walks over it.
+fn expect_cache<R: Abort + AllocGlobal>(rt: &R, lazy: &mut Lazy<'_>, text: &[u8])
+    requires forward { lazy.old.nfa.reverse ≡ false }
+    requires kind { lazy.old.kind ≡ kinds.LeftmostFirst }
+{
+    expect_plain(rt, lazy, text.get(..300).unwrap_or(&[]));
+    expect_scans(rt, lazy, text);
+}
+
 /// Searches a long text in each way.
 #[test]
 fn long_texts(rt: HostRuntime) {
-    let nfa = nfa(&rt, WORDS);
-    let backward = backward_of(&rt, &nfa);
-    let text = long_text(&rt);
-    expect_all(
-        &rt,
-        &mut Regex::new(rt.alloc(), &nfa, &backward, 100),
-        text.as_slice(),
-    );
+    let (nfa, text) = (nfa(&rt, WORDS), long_text(&rt));
+    expect_regex(&rt, &nfa, text.as_slice());
     let mut lazy = Lazy::new(rt.alloc(), &nfa, MatchKind::LeftmostFirst, 100);
-    expect_plain(&rt, &mut lazy, text.get(..300).unwrap_or(&[]));
-    expect_scans(&rt, &mut lazy, text.as_slice());
+    expect_cache(&rt, &mut lazy, text.as_slice());
 }

@@ -7,7 +7,7 @@ ghost use Rattle.determinize_find.specs.Prefix.{HasPrefix};
 ghost use Rattle.determinize_engine.specs.Searches.{has_start};
 
 use crate::tests::find::backward_of;
-use crate::tests::{expect_text, holds, same};
+use crate::tests::{expect_text, same};
 use determinize_below::nfa::State;
 use determinize_below::{Anchored, HalfMatch, Input, MatchKind, NFA, StateID, Transition};
 use determinize_find::{LazyRegex, Match, Regex, plain, prefix};
@@ -74,18 +74,25 @@ pub struct Place {
     end: usize,
 }
 
+/// Adds the bytes behind and ahead of the text of a walk. Returns where the text then begins and
+/// ends.
+fn enclose<R: Abort>(rt: &R, fields: &Fields<'_>, text: &mut Vec<u8>) -> (usize, usize) {
+    let behind = fields.look_behind().expect(rt, "a byte");
+    if let Some(byte) = behind {
+        text.insert(0, byte).expect(rt, "memory");
+    }
+    let (start, end) = (usize::from(behind.is_some()), text.len());
+    if let Some(byte) = fields.look_ahead().expect(rt, "a byte") {
+        text.push(byte).expect(rt, "memory");
+    }
+    (start, end)
+}
+
 impl Place {
     /// Returns the place of the text of a walk.
     pub fn of<R: Abort + AllocGlobal>(rt: &R, fields: &Fields<'_>) -> Place {
         let mut haystack = fields.text(rt.alloc()).expect(rt, "bytes");
-        let behind = fields.look_behind().expect(rt, "a byte");
-        if let Some(byte) = behind {
-            haystack.insert(0, byte).expect(rt, "memory");
-        }
-        let (start, end) = (usize::from(behind.is_some()), haystack.len());
-        if let Some(byte) = fields.look_ahead().expect(rt, "a byte") {
-            haystack.push(byte).expect(rt, "memory");
-        }
+        let (start, end) = enclose(rt, fields, &mut haystack);
         Place {
             haystack,
             start,
@@ -138,6 +145,19 @@ pub fn prefixed<R: Abort + AllocGlobal>(rt: &R, fields: &Fields<'_>) -> NFA
     nfa
 }
 
+/// Compares all matches of an input.
+fn expect_all<R: Abort + AllocGlobal>(
+    rt: &R,
+    regex: &mut LazyRegex<'_>,
+    input: &Input<'_>,
+    wanted: &[Match],
+)
+    requires { has_start input.now.anchored ≡ true }
+{
+    let found = regex.find_all(rt.alloc(), input).expect(rt, "memory");
+    same(rt, found.as_slice(), wanted);
+}
+
 /// Returns the leftmost match of an input, and asserts that both ways find it, and the same matches
 /// after it.
 fn leftmost<R: Abort + AllocGlobal>(
@@ -157,7 +177,7 @@ fn leftmost<R: Abort + AllocGlobal>(
     same(rt, regex.is_match(input), Ok(found.is_some()));
     let all = plain::find_all(rt.alloc(), lazy, input).expect(rt, "memory");
     same(rt, all.first().copied(), found);
-    holds(rt, regex.find_all(rt.alloc(), input) == Ok(all));
+    expect_all(rt, regex, input, all.as_slice());
     found
 }
 
@@ -205,13 +225,18 @@ fn expect_stored<R: Abort + AllocGlobal>(rt: &R, fields: &Fields<'_>, last: &str
     expect_text(rt, &LastMatch(half), last);
 }
 
+/// Asserts the same of a line of the stored walks.
+fn expect_line<R: Abort + AllocGlobal>(rt: &R, line: &str) {
+    let (job, last) = line.split_once(" = ").expect(rt, "a job and a match");
+    expect_stored(rt, Job::read(job).expect(rt, "a job").fields(), last);
+}
+
 #[test]
 fn stored_walks(rt: HostRuntime) {
     for example in examples() {
         expect_walk(&rt, &example.fields());
     }
     for line in STORED.lines() {
-        let (job, last) = line.split_once(" = ").expect(&rt, "a job and a match");
-        expect_stored(&rt, Job::read(job).expect(&rt, "a job").fields(), last);
+        expect_line(&rt, line);
     }
 }

@@ -29,10 +29,10 @@ impl Trial<'_> {
         match *self {
             Trial::Build => uses::build(rt, alloc),
             Trial::SearchPlain(row, limit, search) => {
-                Ok(find::search_plain(rt, alloc, row, limit, search)?)
+                build_error(find::search_plain(rt, alloc, row, limit, search))
             }
             Trial::Search(row, limit, search) => find::search_regex(rt, alloc, row, limit, search),
-            Trial::Minimize => Ok(dense::build_and_minimize(rt, alloc)?),
+            Trial::Minimize => build_error(dense::build_and_minimize(rt, alloc)),
         }
     }
 }
@@ -56,6 +56,11 @@ fn has_run<R: Abort + AllocGlobal>(
 /// Returns the error of a failed allocation, if a call of a trial failed and was made again.
 pub fn succeed_if(is_sound: bool) -> Result<(), AllocError> {
     if is_sound { Ok(()) } else { Err(AllocError) }
+}
+
+/// Returns an outcome with its error as that of a trial.
+pub fn build_error(outcome: Result<(), AllocError>) -> Result<(), BuildError> {
+    Ok(outcome?)
 }
 
 /// Repeats a trial with its first allocation failing, then its second, and so on, until there is no

@@ -1,6 +1,6 @@
 //! Runs of each caller, and NFAs of a `Builder`.
 
-ghost use Rattle.std.specs.Prelude.{◌≡◌, false};
+ghost use Rattle.std.specs.Prelude.{◌≡◌, ◌<◌, ◌≤◌, false, length};
 ghost use Rattle.determinize_below.specs.declared.search.MatchKind.TheVariants as kinds;
 
 use crate::tests::find::expect_matches;
@@ -14,6 +14,7 @@ use determinize_find::Builder;
 use determinize_lazy::Lazy;
 use determinize_uses::{built, cache, input, lexer, nfa, scanner, search, values, walk};
 use std::alloc::Allocator;
+use std::ops::Range;
 use std::process::Abort;
 
 /// Compares the ids of a set, in their order.
@@ -28,18 +29,22 @@ fn expect_assertions<R: Abort>(rt: &R, set: LookSet) {
     same(rt, set.contains_anchor_haystack(), false);
 }
 
+/// Compares the start kind of a text from this position on.
+fn expect_kind<R: Abort>(rt: &R, matcher: &LookMatcher, start: usize, wanted: Start)
+    requires { start ≤ 4 }
+{
+    let input = Input::new(b"\nabc").range(start..4);
+    same(rt, values::start_kind(matcher, &input), wanted);
+}
+
 /// Compares the start kinds of ranges of a text.
 fn expect_kinds<R: Abort>(rt: &R) {
     let mut matcher = LookMatcher::new();
-    let input = Input::new(b"\nabc");
-    same(rt, values::start_kind(&matcher, &input), Start::Text);
-    let input = input.range(1..4);
-    same(rt, values::start_kind(&matcher, &input), Start::LineLF);
-    let input = input.range(2..4);
-    same(rt, values::start_kind(&matcher, &input), Start::WordByte);
+    expect_kind(rt, &matcher, 0, Start::Text);
+    expect_kind(rt, &matcher, 1, Start::LineLF);
+    expect_kind(rt, &matcher, 2, Start::WordByte);
     matcher.set_line_terminator(b'a');
-    let custom = Start::CustomLineTerminator;
-    same(rt, values::start_kind(&matcher, &input), custom);
+    expect_kind(rt, &matcher, 2, Start::CustomLineTerminator);
 }
 
 /// The bytes of a state.
@@ -49,8 +54,11 @@ static BYTES: [u8; 24] = *b"\x07\0\0\0\0\x40\0\0\0\x02\0\0\0\x01\0\0\0\0\0\0\0\x
 fn small_values(rt: HostRuntime) {
     expect_assertions(&rt, values::assertions());
     expect_kinds(&rt);
-    let ids = values::ids(rt.alloc()).expect(&rt, "memory");
-    expect_ids(&rt, &ids, &[StateID::must(3), StateID::must(1)]);
+    expect_ids(
+        &rt,
+        &values::ids(rt.alloc()).expect(&rt, "memory"),
+        &[StateID::must(3), StateID::must(1)],
+    );
     let state = values::state(rt.alloc()).expect(&rt, "memory");
     same(&rt, state.as_bytes(), BYTES.as_slice());
 }
@@ -63,15 +71,26 @@ fn expect_positions<R: Abort>(rt: &R, states: &[State]) {
     }
 }
 
+/// Finds where the first number of a text ends.
+fn expect_search<R: Abort>(rt: &R, lazy: &mut Lazy<'_>) {
+    same(rt, lazy.search_input(&Input::new(b"a12")), Ok(ended(3)));
+}
+
+/// Walks over the same text.
+fn expect_walk<R: Abort>(rt: &R, lazy: &mut Lazy<'_>) {
+    let states = lazy.walk(lazy.nfa().start_unanchored(), None, b"a12");
+    expect_positions(rt, states.expect(rt, "memory").as_slice());
+}
+
 /// A number in a text, by a search and by a walk, through a cache for each.
 #[test]
 fn first_search(rt: HostRuntime) {
     let nfa = built::digits(rt.alloc()).expect(&rt, "an NFA");
-    let mut first = Lazy::new(rt.alloc(), &nfa, MatchKind::LeftmostFirst, 100);
-    same(&rt, first.search_input(&Input::new(b"a12")), Ok(ended(3)));
-    let mut all = Lazy::new(rt.alloc(), &nfa, MatchKind::All, 100);
-    let states = all.walk(nfa.start_unanchored(), None, b"a12");
-    expect_positions(&rt, states.expect(&rt, "memory").as_slice());
+    expect_search(
+        &rt,
+        &mut Lazy::new(rt.alloc(), &nfa, MatchKind::LeftmostFirst, 100),
+    );
+    expect_walk(&rt, &mut Lazy::new(rt.alloc(), &nfa, MatchKind::All, 100));
 }
 
 /// Returns the transition to `next` on each byte from `start` to `end`.
@@ -79,33 +98,57 @@ pub fn over(start: u8, end: u8, next: StateID) -> Transition {
     Transition { start, end, next }
 }
 
+/// Adds the states of `[a-cx]` before `next`, the first of them an empty one, and returns it.
+fn add_letters<A: Allocator + Copy>(
+    builder: &mut Builder<A>,
+    next: StateID,
+) -> Result<StateID, BuildError> {
+    let letters = builder.add_sparse(&[over(b'a', b'c', next), over(b'x', b'x', next)])?;
+    let joint = builder.add_empty()?;
+    builder.patch(joint, letters)?;
+    Ok(joint)
+}
+
+/// Adds the states of `(?m)^[a-cx]!$` before `next`, and returns the first one.
+fn add_line<A: Allocator + Copy>(
+    builder: &mut Builder<A>,
+    next: StateID,
+) -> Result<StateID, BuildError> {
+    let end = builder.add_look(next, Look::EndLF)?;
+    let mark = builder.add_range(over(b'!', b'!', end))?;
+    let joint = add_letters(builder, mark)?;
+    builder.add_look(joint, Look::StartLF)
+}
+
 /// Adds the states of `(?m)^[a-cx]!$|`, and returns the first one.
 fn add_lines<A: Allocator + Copy>(builder: &mut Builder<A>) -> Result<StateID, BuildError> {
     let done = builder.add_match()?;
-    let end = builder.add_look(done, Look::EndLF)?;
-    let mark = builder.add_range(over(b'!', b'!', end))?;
-    let letters = builder.add_sparse(&[over(b'a', b'c', mark), over(b'x', b'x', mark)])?;
-    let joint = builder.add_empty()?;
-    builder.patch(joint, letters)?;
-    let start = builder.add_look(joint, Look::StartLF)?;
+    let start = add_line(builder, done)?;
     let fail = builder.add_fail()?;
     let either = builder.add_union(&[fail, start])?;
     builder.patch(either, done)?;
     Ok(either)
 }
 
-/// Returns the NFA of these states, where `;` ends a line, with the usual prefix or without one.
+/// Adds these states, and returns the NFA, with the usual prefix or without one.
+fn build_lines<A: Allocator + Copy>(
+    builder: &mut Builder<A>,
+    has_prefix: bool,
+) -> Result<NFA<A>, BuildError> {
+    match add_lines(builder) {
+        Ok(start) if has_prefix => builder.build_with_prefix(start),
+        Ok(start) => builder.build(start, start),
+        Err(error) => Err(error),
+    }
+}
+
+/// Returns the NFA of these states, where `;` ends a line.
 fn lines<A: Allocator + Copy>(alloc: A, has_prefix: bool) -> Result<NFA<A>, BuildError> {
     let mut builder = Builder::new(alloc);
     let mut matcher = LookMatcher::new();
     matcher.set_line_terminator(b';');
     builder.set_look_matcher(matcher);
-    let start = add_lines(&mut builder)?;
-    if has_prefix {
-        builder.build_with_prefix(start)
-    } else {
-        builder.build(start, start)
-    }
+    build_lines(&mut builder, has_prefix)
 }
 
 /// Searches two texts, of which only the first has a line.
@@ -114,27 +157,38 @@ fn search_lines<R: Abort, N: Allocator>(rt: &R, lazy: &mut Lazy<'_, N>) {
     same(rt, lazy.search_input(&Input::new(b"b!b")), Ok(ended(0)));
 }
 
-/// Builds an NFA and searches with it. The prefix has two states.
+/// Compares the number of states of an NFA, and searches with it.
+fn expect_nfa<R: Abort + AllocGlobal, N: Allocator>(rt: &R, nfa: &NFA<N>, count: usize) {
+    same(rt, (nfa.len(), nfa.pattern_len()), (count, 1));
+    search_lines(
+        rt,
+        &mut Lazy::new(rt.alloc(), nfa, MatchKind::LeftmostFirst, 50),
+    );
+}
+
+/// Builds an NFA of this number of states, and searches with it.
 fn expect_lines<R: Abort + AllocGlobal, A: Allocator + Copy>(
     rt: &R,
     alloc: A,
     has_prefix: bool,
+    count: usize,
 ) -> Result<(), BuildError> {
-    let nfa = lines(alloc, has_prefix)?;
-    let count = if has_prefix { 10 } else { 8 };
-    same(rt, (nfa.len(), nfa.pattern_len()), (count, 1));
-    let mut lazy = Lazy::new(rt.alloc(), &nfa, MatchKind::LeftmostFirst, 50);
-    search_lines(rt, &mut lazy);
-    Ok(())
+    match lines(alloc, has_prefix) {
+        Ok(nfa) => {
+            expect_nfa(rt, &nfa, count);
+            Ok(())
+        }
+        Err(error) => Err(error),
+    }
 }
 
-/// Builds an NFA with the usual prefix, and one without.
+/// Builds an NFA with the usual prefix, which has two states, and one without.
 pub fn build<R: Abort + AllocGlobal, A: Allocator + Copy>(
     rt: &R,
     alloc: A,
 ) -> Result<(), BuildError> {
-    expect_lines(rt, alloc, true)?;
-    expect_lines(rt, alloc, false)
+    expect_lines(rt, alloc, true, 10)?;
+    expect_lines(rt, alloc, false, 8)
 }
 
 /// Asserts that no prefix is added to an NFA whose state 0 has a transition to this id, which it
@@ -156,14 +210,20 @@ fn builds_no_bad_prefix(rt: HostRuntime) {
     }
 }
 
+/// Compares the closure of a state.
+fn expect_closure<R: Abort + AllocGlobal>(rt: &R, nfa: &NFA, start: StateID, wanted: &[StateID])
+    requires { start < length nfa.now.states }
+{
+    let closure = values::closure(rt.alloc(), nfa, start);
+    expect_ids(rt, &closure.expect(rt, "memory"), wanted);
+}
+
 /// The closure of the start of `[0-9]+` is that state, and that of the unanchored start has two
 /// more.
 fn expect_closures<R: Abort + AllocGlobal>(rt: &R, nfa: &NFA) {
     let [zero, one, two] = [StateID::ZERO, StateID::must(1), StateID::must(2)];
-    let closure = values::closure(rt.alloc(), nfa, nfa.start_anchored());
-    expect_ids(rt, &closure.expect(rt, "memory"), &[two]);
-    let closure = values::closure(rt.alloc(), nfa, nfa.start_unanchored());
-    expect_ids(rt, &closure.expect(rt, "memory"), &[zero, two, one]);
+    expect_closure(rt, nfa, nfa.start_anchored(), &[two]);
+    expect_closure(rt, nfa, nfa.start_unanchored(), &[zero, two, one]);
 }
 
 /// Walks over a text from both starts.
@@ -173,6 +233,14 @@ fn expect_walks<R: Abort + AllocGlobal>(rt: &R, nfa: &NFA) {
     same(rt, found, Ok(ended(5)));
     let found = walk::preferred(rt.alloc(), nfa, nfa.start_anchored(), text);
     same(rt, found, Ok(None));
+}
+
+/// Compares all numbers of a text.
+fn expect_all<R: Abort + AllocGlobal>(rt: &R, nfa: &NFA)
+    requires { nfa.now.reverse ≡ false }
+{
+    let found = scanner::matches(rt.alloc(), nfa, b"ab 42 c7").expect(rt, "memory");
+    expect_matches(rt, found.as_slice(), &[(0, 3, 5), (0, 7, 8)]);
 }
 
 /// Searches texts through one cache of this limit.
@@ -191,8 +259,7 @@ fn numbers(rt: HostRuntime) {
     for limit in [0, 2, 100] {
         expect_searches(&rt, &nfa, limit);
     }
-    let found = scanner::matches(rt.alloc(), &nfa, b"ab 42 c7").expect(&rt, "memory");
-    expect_matches(&rt, found.as_slice(), &[(0, 3, 5), (0, 7, 8)]);
+    expect_all(&rt, &nfa);
 }
 
 /// Asserts whether a match ends at the end of the text, by a walk through the cache.
@@ -219,14 +286,25 @@ fn expect_longest<R: Abort + AllocGlobal>(rt: &R, lazy: &mut Lazy<'_>)
     expect_matches(rt, found.as_slice(), &[(0, 0, 3)]);
 }
 
-/// Searches for both ends of a match, of a number in the middle of a text and where there is none.
-fn expect_spans<R: Abort>(rt: &R, forward: &mut Lazy<'_>, backward: &mut Lazy<'_>) {
-    let found = input::span(forward, backward, b"ab 42 c");
-    holds(rt, found == Ok(Some(3..5)));
-    let found = input::span(forward, backward, b"ab");
-    holds(rt, found == Ok(None));
-    same(rt, input::contains(forward, b"ab 42 c"), Ok(true));
-    same(rt, input::contains(forward, b"ab"), Ok(false));
+/// Searches a text for both ends of a number, and for whether there is one.
+fn expect_span<R: Abort>(
+    rt: &R,
+    forward: &mut Lazy<'_>,
+    backward: &mut Lazy<'_>,
+    text: &[u8],
+    wanted: Option<Range<usize>>,
+) {
+    same(rt, input::contains(forward, text), Ok(wanted.is_some()));
+    let found = input::span(forward, backward, text).expect(rt, "memory");
+    holds(rt, found == wanted);
+}
+
+/// Searches a text with a number in its middle, and one without.
+fn expect_spans<R: Abort + AllocGlobal>(rt: &R, nfa: &NFA, reversed: &NFA) {
+    let mut forward = Lazy::new(rt.alloc(), nfa, MatchKind::LeftmostFirst, 100);
+    let mut backward = Lazy::new(rt.alloc(), reversed, MatchKind::All, 100);
+    expect_span(rt, &mut forward, &mut backward, b"ab 42 c", Some(3..5));
+    expect_span(rt, &mut forward, &mut backward, b"ab", None);
 }
 
 #[test]
@@ -234,7 +312,5 @@ fn numbers_through_caches(rt: HostRuntime) {
     let nfa = nfa::digits(rt.alloc(), false).expect(&rt, "memory");
     expect_longest(&rt, &mut Lazy::new(rt.alloc(), &nfa, MatchKind::All, 100));
     let reversed = nfa::digits(rt.alloc(), true).expect(&rt, "memory");
-    let mut forward = Lazy::new(rt.alloc(), &nfa, MatchKind::LeftmostFirst, 100);
-    let mut backward = Lazy::new(rt.alloc(), &reversed, MatchKind::All, 100);
-    expect_spans(&rt, &mut forward, &mut backward);
+    expect_spans(&rt, &nfa, &reversed);
 }
