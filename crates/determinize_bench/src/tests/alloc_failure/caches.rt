@@ -5,7 +5,7 @@ use crate::tests::alloc_failure::{Row, fail_each_over_walks, succeed_if};
 use crate::tests::{caches, holds, same};
 use determinize_below::{MatchKind, NFA};
 use determinize_lazy::{Lazy, Scan, Walker};
-use failing_alloc::FailingAllocator;
+use determinize_replay::failing_alloc::FailingAllocator;
 use std::alloc::{AllocError, Allocator, Global};
 use std::process::Abort;
 
