@@ -7,7 +7,7 @@
 //!   [`patterns`] finds the leftmost match of pattern values.
 //! - [`scanner`] finds all matches of a haystack, and [`lexer`] the longest token at each position.
 //!   [`steady`] finds all matches and never allocates while it runs.
-//! - [`input`] finds whether a haystack has a match, and both ends of the preferred one.
+//! - [`input`] finds whether a haystack has a match.
 //! - [`pieces`] finds all matches of patterns in a text of several pieces.
 //!   [`strings`] prints where strings in double quotes are in an input that it reads in pieces.
 //! - [`search`] and [`cache`] search and walk many texts through one cache.

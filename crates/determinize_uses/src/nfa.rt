@@ -1,6 +1,6 @@
 //! An NFA by hand, with contracts that say which states it has.
 
-ghost use Rattle.std.specs.Prelude.{◌≡◌, [], ◌∷◌, IfErr, IfOk};
+ghost use Rattle.std.specs.Prelude.{◌≡◌, [], ◌∷◌, IfErr, IfOk, false};
 ghost use Rattle.determinize_below.specs.Semantics as nodes;
 ghost use Rattle.determinize_below.specs.Node.{node_of};
 
@@ -29,17 +29,17 @@ fn either<A: Allocator>(first: u8, second: u8) -> State<A>
     }
 }
 
-/// Returns the NFA of `[0-9]+`, for reverse scans if `reverse` is set.
+/// Returns the NFA of `[0-9]+`.
 ///
 /// State 2 is the anchored start state. State 0 is the unanchored one, a loop over any byte that
 /// prefers to begin a match. Returns `OutOfMemory` if an allocation fails, and no other error.
-pub fn digits<A: Allocator + Copy>(alloc: A, reverse: bool) -> Result<NFA<A>, BuildError>
+pub fn digits<A: Allocator + Copy>(alloc: A) -> Result<NFA<A>, BuildError>
     ensures states { IfOk result (λ nfa. nfa.states ≡ nodes.BinaryUnion 2 1
         ∷ nodes.ByteRange record { start = 0; end = 255; next = 0 }
         ∷ nodes.ByteRange record { start = 48; end = 57; next = 3 }
         ∷ nodes.BinaryUnion 2 4
         ∷ nodes.Match 0 ∷ []) }
-    ensures reverse { IfOk result (λ nfa. nfa.reverse ≡ reverse) }
+    ensures forward { IfOk result (λ nfa. nfa.reverse ≡ false) }
     ensures err { IfErr result (λ error. error ≡ BuildError.OutOfMemory) }
 {
     let pattern_id = PatternID::ZERO;
@@ -51,6 +51,6 @@ pub fn digits<A: Allocator + Copy>(alloc: A, reverse: bool) -> Result<NFA<A>, Bu
     states.push(State::Match { pattern_id })?;
     let (anchored, anywhere) = (StateID::must(2), StateID::ZERO);
     let matcher = LookMatcher::new();
-    let nfa = NFA::from_parts(alloc, states, anchored, anywhere, reverse, matcher)?;
+    let nfa = NFA::from_parts(alloc, states, anchored, anywhere, false, matcher)?;
     Ok(nfa)
 }

@@ -6,8 +6,7 @@ ghost use Rattle.determinize_pattern.specs.Patterns.{meaning};
 ghost use Rattle.determinize_regex.specs.PatternMatches.{IsLeftmostOfIn};
 
 use determinize_below::Input;
-use determinize_find::{Match, Regex};
-use determinize_nfa::reversed;
+use determinize_find::{Match, OwnedRegex};
 use determinize_pattern::{CompileError, Config, Pattern, compile};
 use std::alloc::Allocator;
 
@@ -23,7 +22,6 @@ pub fn leftmost<A: Allocator + Copy>(
         IsLeftmostOfIn 10 (map meaning patterns.now) input.now found) }
 {
     let nfa = compile(alloc, patterns, Config::new())?;
-    let backward = reversed(alloc, &nfa)?;
-    let mut regex = Regex::new(alloc, &nfa, &backward, 1000);
+    let mut regex = OwnedRegex::from_nfa(alloc, nfa, 1000)?;
     Ok(regex.find(input)?)
 }

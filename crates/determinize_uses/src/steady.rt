@@ -1,12 +1,10 @@
-//! A scanner that never allocates while it runs: over whole DFAs, which are built in advance.
+//! A scanner that never allocates while it runs: over whole DFAs, which are built in advance. Other
+//! scanners may use the same DFAs.
 
-ghost use Rattle.std.specs.Prelude.{◌≡◌, IfOk, None, false, length};
+ghost use Rattle.std.specs.Prelude.{◌≡◌, IfOk, None, length};
 ghost use Rattle.determinize_below.specs.declared.search.Anchored.TheVariants.{No};
-ghost use Rattle.determinize_below.specs.declared.search.MatchKind.TheVariants as kinds;
 ghost use Rattle.determinize_find.specs.Cursors.{after_match};
 ghost use Rattle.determinize_find.specs.Matches.{AreMatches, IsNext};
-ghost use Rattle.determinize_find.specs.Prefix.{HasPrefix};
-ghost use Rattle.determinize_find.specs.Reversal.{IsReverseOf};
 
 use determinize_below::Input;
 use determinize_dense::Dfa;
@@ -26,29 +24,19 @@ pub fn next<N: Allocator, B: Allocator, A: Allocator + Copy>(
     found
 }
 
-/// Returns all matches of a haystack. Only the list is allocated. The DFAs are unchanged, and may
-/// serve other scanners at the same time.
-///
-/// `forward` finds the ends of matches, under `MatchKind::LeftmostFirst`, and `backward` their
-/// starts, under `MatchKind::All`, for the reverse of the NFA.
+/// Returns all matches of a haystack. Only the list is allocated.
 pub fn matches<N: Allocator, B: Allocator, A: Allocator + Copy>(
     alloc: A,
-    forward: &Dfa<'_, N, A>,
-    backward: &Dfa<'_, B, A>,
+    scanner: &mut Regex<&Dfa<'_, N, A>, &Dfa<'_, B, A>>,
     haystack: &[u8],
 ) -> Result<Vec<Match, A>, AllocError>
-    requires kind { forward.now.kind ≡ kinds.LeftmostFirst }
-    requires kind_backward { backward.now.kind ≡ kinds.All }
-    requires reads_forward { forward.now.nfa.reverse ≡ false }
-    requires prefix { HasPrefix forward.now.nfa }
-    requires reverse { IsReverseOf backward.now.nfa forward.now.nfa }
-    ensures { IfOk result (λ found. AreMatches forward.now.nfa record {
+    ensures all { IfOk result (λ found. AreMatches scanner.old.nfa record {
       haystack = haystack.now;
       start = 0;
       end = length haystack.now;
       anchored = No;
     } None found.items) }
+    ensures same { scanner.new ≡ scanner.old }
 {
-    let mut scanner = Regex::from_engines(forward, backward);
     scanner.find_all(alloc, &Input::new(haystack))
 }

@@ -420,9 +420,10 @@ fn expect_by_whole<R: Abort + AllocGlobal>(rt: &R, nfa: &NFA, backward: &NFA, ro
 {
     let ends = dense::dfa(rt, nfa, MatchKind::LeftmostFirst, 100);
     let starts = dense::dfa(rt, backward, MatchKind::All, 100);
-    let found = steady::matches(rt.alloc(), &ends, &starts, row.haystack);
+    let mut scanner = Regex::from_engines(&ends, &starts);
+    let found = steady::matches(rt.alloc(), &mut scanner, row.haystack);
     expect_matches(rt, found.expect(rt, "memory").as_slice(), row.matches);
-    expect_in_turn(rt, &mut Regex::from_engines(&ends, &starts), row);
+    expect_in_turn(rt, &mut scanner, row);
 }
 
 /// Feeds pieces of a haystack.

@@ -6,14 +6,15 @@ ghost use Rattle.determinize_below.specs.declared.search.MatchKind.TheVariants a
 use crate::tests::find::expect_matches;
 use crate::tests::{ended, holds, same};
 use determinize_below::{
-    BuildError, Input, Look, LookMatcher, LookSet, MatchKind, NFA, SparseSet, StateID, Transition,
+    Anchored, BuildError, Input, Look, LookMatcher, LookSet, MatchKind, NFA, SparseSet, StateID,
+    Transition,
 };
 use determinize_core::start::Start;
 use determinize_core::state::State;
-use determinize_find::Builder;
+use determinize_find::{Builder, reversed};
 use determinize_lazy::Lazy;
 use determinize_uses::{built, cache, input, lexer, nfa, scanner, search, values, walk};
-use std::alloc::Allocator;
+use std::alloc::{AllocError, Allocator};
 use std::ops::Range;
 use std::process::Abort;
 
@@ -253,7 +254,7 @@ fn expect_searches<R: Abort + AllocGlobal>(rt: &R, nfa: &NFA, limit: usize) {
 
 #[test]
 fn numbers(rt: HostRuntime) {
-    let nfa = nfa::digits(rt.alloc(), false).expect(&rt, "memory");
+    let nfa = nfa::digits(rt.alloc()).expect(&rt, "memory");
     expect_closures(&rt, &nfa);
     expect_walks(&rt, &nfa);
     for limit in [0, 2, 100] {
@@ -286,6 +287,24 @@ fn expect_longest<R: Abort + AllocGlobal>(rt: &R, lazy: &mut Lazy<'_>)
     expect_matches(rt, found.as_slice(), &[(0, 0, 3)]);
 }
 
+/// Returns where the first match of a text begins and ends, by a search in either direction.
+fn span(
+    forward: &mut Lazy<'_>,
+    backward: &mut Lazy<'_>,
+    text: &[u8],
+) -> Result<Option<Range<usize>>, AllocError> {
+    let Some(last) = forward.search_input(&Input::new(text))? else {
+        return Ok(None);
+    };
+    let before = Input::new(text)
+        .range(0..last.offset)
+        .anchored(Anchored::Yes);
+    let Some(first) = backward.search_input(&before)? else {
+        return Ok(None);
+    };
+    Ok(Some(first.offset..last.offset))
+}
+
 /// Searches a text for both ends of a number, and for whether there is one.
 fn expect_span<R: Abort>(
     rt: &R,
@@ -295,7 +314,7 @@ fn expect_span<R: Abort>(
     wanted: Option<Range<usize>>,
 ) {
     same(rt, input::contains(forward, text), Ok(wanted.is_some()));
-    let found = input::span(forward, backward, text).expect(rt, "memory");
+    let found = span(forward, backward, text).expect(rt, "memory");
     holds(rt, found == wanted);
 }
 
@@ -309,8 +328,8 @@ fn expect_spans<R: Abort + AllocGlobal>(rt: &R, nfa: &NFA, reversed: &NFA) {
 
 #[test]
 fn numbers_through_caches(rt: HostRuntime) {
-    let nfa = nfa::digits(rt.alloc(), false).expect(&rt, "memory");
+    let nfa = nfa::digits(rt.alloc()).expect(&rt, "memory");
     expect_longest(&rt, &mut Lazy::new(rt.alloc(), &nfa, MatchKind::All, 100));
-    let reversed = nfa::digits(rt.alloc(), true).expect(&rt, "memory");
+    let reversed = reversed(rt.alloc(), &nfa).expect(&rt, "a reverse");
     expect_spans(&rt, &nfa, &reversed);
 }
