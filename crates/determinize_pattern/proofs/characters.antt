@@ -1,5 +1,5 @@
 pub mod Branches
-pub mod Gathering
 pub mod Preferred
+pub mod Sweeping
 pub mod Utf8
 pub mod Written

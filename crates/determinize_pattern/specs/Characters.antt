@@ -2,17 +2,12 @@
 use Rattle.std.specs.Char.{IsScalar, encode_utf8}
 use Rattle.std.specs.Prelude.{◌≡◌, ◌≤◌, ◌↔◌, ℕ, Bool, List, length, map, slice_range, true}
 use Rattle.determinize_below.specs.Semantics.{Text}
-use Rattle.determinize_pattern.specs.Classes.{is_chosen}
 use Rattle.determinize_pattern.specs.Meaning.{Matches, Re}
 use Rattle.determinize_pattern.specs.declared.chars.ClassUnicodeRange.{ClassUnicodeRange}
 
 -- the first and the last character of each range
 abbrev pub char_pairs : List ClassUnicodeRange → List (ℕ × ℕ)
 char_pairs ranges = map (λ r. (r.start, r.end)) ranges
-
--- whether the character is in one of the ranges, or in none if `negated` is set
-abbrev pub is_char_chosen : List (ℕ × ℕ) → Bool → ℕ → Bool
-is_char_chosen ranges negated c = is_chosen ranges negated c
 
 -- the bytes from i to j are the UTF-8 of a character that passes the test
 abbrev pub IsCharFrom : (ℕ → Bool) → List ℕ → ℕ → ℕ → Type 0

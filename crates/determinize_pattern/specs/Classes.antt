@@ -17,6 +17,6 @@ is_apart low (r ∷ rs) = nat_le low r.0 && (nat_le r.0 r.1 && is_apart (suc (su
 abbrev pub HasBytes : (ℕ → Bool) → List (ℕ × ℕ) → Type 0
 HasBytes test class = (b : ℕ) → b < 256 → is_in class (Some b) ≡ test b
 
--- whether the byte is in one of the ranges, or in none if `negated` is set
+-- whether the byte or the character is in one of the ranges, or in none if `negated` is set
 abbrev pub is_chosen : List (ℕ × ℕ) → Bool → ℕ → Bool
 is_chosen ranges negated b = cond negated (not (is_in ranges (Some b))) (is_in ranges (Some b))

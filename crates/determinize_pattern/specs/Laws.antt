@@ -3,7 +3,8 @@ use Rattle.std.specs.Prelude.{◌≡◌, ◌↔◌, ℕ, Bool, Contains, IsUtf8,
 use Rattle.determinize_below.specs.Semantics.{Nfa, Text, between}
 use Rattle.determinize_below.specs.declared.search.Match.{Match}
 use Rattle.determinize_nfa.specs.Leftmost.{IsLeftmost}
-use Rattle.determinize_pattern.specs.Characters.{IsCharClass, IsCharFrom, is_char_chosen}
+use Rattle.determinize_pattern.specs.Characters.{IsCharClass, IsCharFrom}
+use Rattle.determinize_pattern.specs.Classes.{is_chosen}
 use Rattle.determinize_pattern.specs.Compiled.{IsNfaOf}
 use Rattle.determinize_pattern.specs.LeftmostOf.{IsLeftmostOf}
 use Rattle.determinize_pattern.specs.Meaning.{Matches, Re, ends}
@@ -15,7 +16,7 @@ EachEndMatches = (t : ℕ) (text : Text) (re : Re) (i j : ℕ)
 
 -- the class of the character U+00E9 matches its two bytes
 abbrev pub AccentMatches : Type 0
-AccentMatches = (t : ℕ) (re : Re) → IsCharClass (is_char_chosen ((0xE9, 0xE9) ∷ []) false) re
+AccentMatches = (t : ℕ) (re : Re) → IsCharClass (is_chosen ((0xE9, 0xE9) ∷ []) false) re
     → Matches t (between None (0xC3 ∷ 0xA9 ∷ []) None) re 0 2
 
 -- from each position, a class of characters matches to one position at most

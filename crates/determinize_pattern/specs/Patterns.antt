@@ -16,6 +16,11 @@ abbrev pub choice : List Re → Re
 choice [] = Byte []
 choice (a ∷ rest) = Or a (choice rest)
 
+-- a choice between patterns; a single one is itself
+abbrev pub choice_of : List Re → Re
+choice_of (re ∷ []) = re
+choice_of res = choice res
+
 -- these bytes
 abbrev pub literal : List ℕ → Re
 literal [] = Empty

@@ -6,8 +6,8 @@
 ghost use Rattle.std.specs.Prelude.{◌≡◌, ◌∷◌, ◌+◌, ◌<◌, ◌≤◌, IfOk, MatchOption, OnOk, [], map};
 ghost use Rattle.determinize_pattern.specs.Characters.{IsCharFrom};
 ghost use Rattle.determinize_pattern.specs.Meaning as meanings;
-ghost use Rattle.determinize_pattern.specs.Patterns.{meaning, sequence};
-ghost use Rattle.determinize_pattern.specs.Private.Characters.{Adds, IsNumberFrom, IsWhole, capacity, choice_of, is_from};
+ghost use Rattle.determinize_pattern.specs.Patterns.{choice_of, meaning, sequence};
+ghost use Rattle.determinize_pattern.specs.Private.Characters.{Adds, IsNumberFrom, IsWhole, capacity, is_from};
 
 use crate::pattern::Pattern;
 use std::alloc::{AllocError, Global};

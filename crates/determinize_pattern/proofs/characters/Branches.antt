@@ -7,8 +7,8 @@ use Rattle.std.proofs.lemmas.Bool.{false≢true}
 use Rattle.ordered_reach.proofs.Cases.{by_cases}
 use Rattle.determinize_below.specs.Semantics.{Text}
 use Rattle.determinize_pattern.specs.Meaning.{Matches, Re, is_in}
-use Rattle.determinize_pattern.specs.Patterns.{choice}
-use Rattle.determinize_pattern.specs.Private.Characters.{Adds, choice_of}
+use Rattle.determinize_pattern.specs.Patterns.{choice, choice_of}
+use Rattle.determinize_pattern.specs.Private.Characters.{Adds}
 
 -- the pattern matches what P says
 pub record IsExactly (P : List ℕ → ℕ → ℕ → Type 0) (re : Re) : Type 0 where

@@ -9,8 +9,8 @@ use Rattle.std.proofs.Common.{◌↔◌, ◌⊎◌, ◌≡◌, ◌*◌, ◌+◌,
 use Rattle.ordered_reach.proofs.Cases.{by_cases}
 use Rattle.determinize_pattern.proofs.characters.Branches.{IsExactly, adds_one, all_added}
 use Rattle.determinize_pattern.specs.Meaning.{Byte, Re, is_in}
-use Rattle.determinize_pattern.specs.Patterns.{meaning, sequence}
-use Rattle.determinize_pattern.specs.Private.Characters.{Adds, IsNumberFrom, IsWhole, choice_of}
+use Rattle.determinize_pattern.specs.Patterns.{choice_of, meaning, sequence}
+use Rattle.determinize_pattern.specs.Private.Characters.{Adds, IsNumberFrom, IsWhole}
 use Rattle.determinize_pattern.specs.declared.pattern.Pattern.{Pattern}
 
 low_in : (low high b : ℕ) → is_in ((low, high) ∷ []) (Some b) ≡ true → low ≤ b

@@ -1,5 +1,5 @@
 -- A scan of all bytes finds the ranges of those that pass a test.
--- Main statements: in_some, chosen_is, scanned_more, scanned_closed, all_scanned, all_apart.
+-- Main statements: in_some, chosen_is, in_push, scanned_more, scanned_closed, all_scanned, all_apart.
 -- Used by: the proofs of `collect` and `negated`.
 -- Idea: each range ends before a byte that does not pass.
 use Rattle.std.specs.List.{list_any}
@@ -44,7 +44,7 @@ not_after low [] b a l = refl
 not_after low (x ∷ xs) b a l =
     grind (arith, nat_tests, after_later (suc (suc x.1)) xs, not_after (suc (suc x.1)) xs b)
 
-in_push : (xs : List (ℕ × ℕ)) (s e b : ℕ)
+pub in_push : (xs : List (ℕ × ℕ)) (s e b : ℕ)
     → is_in (xs ++ (s, e) ∷ []) (Some b) ≡ (is_in xs (Some b) || (within s e b || false))
 in_push xs s e b = list_any-append (λ r. within r.0 r.1 b) xs ((s, e) ∷ [])
 

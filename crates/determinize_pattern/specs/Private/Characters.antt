@@ -1,7 +1,8 @@
 -- Characters as numbers in base 64, and the branches of a choice that match ranges of them.
-use Rattle.std.specs.Prelude.{◌&&◌, ◌*◌, ◌+◌, ◌-◌, ◌/◌, ◌%◌, ◌<◌, ◌≡◌, ◌≤◌, ◌↔◌, ◌⊎◌, ℕ, Bool, List, Some, [], ◌∷◌, nat_le, nat_lt, slice_get, suc, true, zero}
+use Rattle.std.specs.Prelude.{◌&&◌, ◌*◌, ◌+◌, ◌-◌, ◌/◌, ◌%◌, ◌<◌, ◌≡◌, ◌≤◌, ◌↔◌, ◌⊎◌, ℕ, Bool, List, Some, [], false, nat_le, nat_lt, slice_get, suc, true, zero}
 use Rattle.determinize_below.specs.Semantics.{Text}
 use Rattle.determinize_pattern.specs.Characters.{IsCharFrom}
+use Rattle.determinize_pattern.specs.Classes.{is_chosen}
 use Rattle.determinize_pattern.specs.Meaning.{Matches, Re, is_in}
 use Rattle.determinize_pattern.specs.Patterns.{choice}
 
@@ -30,24 +31,16 @@ IsWhole start last = (start / 64 ≡ last / 64) ⊎ ((start % 64 ≡ 0) × (last
 abbrev pub is_from : ℕ → ℕ → ℕ → Bool
 is_from start end c = nat_le start c && nat_lt c end
 
--- the numbers from `code` to `last` are in the same ranges
-abbrev pub IsRun : List (ℕ × ℕ) → ℕ → ℕ → Type 0
-IsRun ranges code last =
-    (c : ℕ) → code ≤ c → c ≤ last → is_in ranges (Some c) ≡ is_in ranges (Some code)
-
--- a choice between patterns; a single one is itself
-abbrev pub choice_of : List Re → Re
-choice_of (re ∷ []) = re
-choice_of res = choice res
-
 -- the branches match what they matched before, and what is added
 pub record Adds (Added : List ℕ → ℕ → ℕ → Type 0) (old new : List Re) : Type 0 where
   pub each : (t : ℕ) (text : Text) (i j : ℕ) → Matches t text (choice new) i j
       ↔ (Matches t text (choice old) i j ⊎ Added text.bytes i j)
 
--- the branches match the characters below `start` that pass the test, and those from there on and
--- below `code` pass it
-pub record IsGathered (test : ℕ → Bool) (start code : ℕ) (branches : List Re) : Type 0 where
-  pub begun : start ≤ code
-  pub found : Adds (IsCharFrom (λ c. nat_lt c start && test c)) [] branches
-  pub unbroken : (c : ℕ) → start ≤ c → c < code → test c ≡ true
+-- after a sweep over the ranges, the last run of numbers that are in one of them is from `start` on
+-- and below `end`, and the branches match the characters before it that are chosen
+pub record IsSwept (ranges : List (ℕ × ℕ)) (negated : Bool) (start end : ℕ) (branches : List Re)
+    : Type 0 where
+  pub begun : start ≤ end
+  pub run : (c : ℕ) → start ≤ c → c < end → is_in ranges (Some c) ≡ true
+  pub after : (c : ℕ) → end ≤ c → is_in ranges (Some c) ≡ false
+  pub found : Adds (IsCharFrom (λ c. nat_lt c start && is_chosen ranges negated c)) [] branches

@@ -1,13 +1,16 @@
-use Rattle.std.proofs.Common.{◌+◌, ◌-◌, map}
-use Rattle.determinize_pattern.specs.Characters.{char_pairs, is_char_chosen}
+use Rattle.std.proofs.Common.{ℕ, ◌<◌, ◌≤◌, get_or, length, map, take}
+use Rattle.determinize_pattern.specs.Characters.{char_pairs}
 use Rattle.determinize_pattern.specs.Patterns.{meaning}
-use Rattle.determinize_pattern.specs.Private.Characters.{IsGathered}
-use Rattle.determinize_pattern.specs.declared.chars.TheConstants.{LAST}
+use Rattle.determinize_pattern.specs.Private.Characters.{IsSwept}
+use Rattle.determinize_pattern.specs.declared.chars.ClassUnicodeRange.{ClassUnicodeRange}
+use Rattle.determinize_pattern.specs.declared.chars.TheConstants.{PAST}
 use Rattle.determinize_pattern.proofs.chars.collect.Given as goal
 
-abbrev pub invariant-loop-code : goal.invariant-loop-code
-invariant-loop-code l =
-    IsGathered (is_char_chosen (char_pairs l.ranges) l.negated) l.start l.code (map meaning l.branches.items)
-
-abbrev pub decreases-loop-code : goal.decreases-loop-code
-decreases-loop-code l = LAST + 1 - l.code
+abbrev pub invariant-loop-range : goal.invariant-loop-range
+invariant-loop-range l = record {
+  lowest : (k : ℕ) (d : ClassUnicodeRange) → l.range-index ≤ k → k < length l.range-items
+      → l.start ≤ (get_or l.range-items k d).start;
+  within : l.end ≤ PAST;
+  swept : IsSwept (char_pairs (take l.range-index l.range-items)) l.negated l.start l.end
+      (map meaning l.branches.items);
+}
