@@ -4,13 +4,13 @@
 //! start states, and then the next states of each row. An entry is computed for one byte of each
 //! class, and for the end of input (EOI).
 
-ghost use Rattle.std.specs.Prelude.{◌≡◌, ◌<◌, ◌≤◌, ◌+◌, ◌*◌, ℕ, All, Option, [], Err, Some, None, IfOk, IfNone, OnOk, cond, length, map, min, nat_lt, slice_get};
+ghost use Rattle.std.specs.Prelude.{◌≡◌, ◌<◌, ◌≤◌, ◌+◌, ◌*◌, ◌∷◌, ℕ, All, Option, [], Err, Some, None, IfOk, IfNone, OnOk, cond, length, map, min, nat_lt, slice_get};
 ghost use Rattle.std.specs.Option.{IfSome};
 ghost use Rattle.determinize_below.specs.Truth.{IsUnit};
 ghost use Rattle.determinize_below.specs.Unit.{byte_of};
 ghost use Rattle.determinize_start.specs.StartKinds.{number_of, start_kind_of};
 ghost use Rattle.determinize_below.specs.Nfa.{AllResolve};
-ghost use Rattle.determinize_core.specs.Value.{Value as StateValue};
+ghost use Rattle.determinize_core.specs.Value.{Value as StateValue, dead};
 ghost use Rattle.determinize_dense.specs.Dfa.{HasMoreStates, HasStates, IsReachedValue, start_in};
 ghost use Rattle.determinize_dense.specs.Private.Building.{AreStarts, IsStart, Stays, columns_of, unit_at};
 ghost use Rattle.determinize_dense.specs.declared.error.DfaError.TheVariants.{TooManyStates};
@@ -117,6 +117,15 @@ fn look_behind_of(terminator: u8, kind: usize) -> Option<Option<u8>>
     None
 }
 
+/// Returns a table with the dead state only.
+fn dead_only<A: Allocator + Copy>(alloc: A) -> Result<StateTable<A>, AllocError>
+    ensures { IfOk result (λ states. states ≡ dead ∷ []) }
+{
+    let mut states = StateTable::new(alloc);
+    states.intern(State::dead(alloc)?)?;
+    Ok(states)
+}
+
 /// Returns the patterns of a state, in a list that is not allocated if there are none.
 fn patterns_of<A: Allocator + Copy>(
     alloc: A,
@@ -182,10 +191,9 @@ impl<'n, N: Allocator, A: Allocator + Copy> Builder<'n, N, A> {
         if limit == 0 {
             return Err(DfaError::TooManyStates);
         }
+        let states = dead_only(alloc)?;
         let classes = nfa.byte_classes();
         let next = Vec::with_capacity(alloc, classes.alphabet_len())?;
-        let mut states = StateTable::new(alloc);
-        states.intern(State::dead(alloc)?)?;
         Ok(Builder {
             stepper: Stepper::new(alloc, nfa, match_kind),
             classes,
@@ -241,7 +249,7 @@ impl<'n, N: Allocator, A: Allocator + Copy> Builder<'n, N, A> {
     }
 
     /// Returns the rows of all starts.
-    pub(crate) fn starts(&mut self) -> Result<[u32; STARTS], DfaError>
+    fn starts(&mut self) -> Result<[u32; STARTS], DfaError>
         ensures starts { IfOk result (λ starts. AreStarts self.old.nfa self.new.values 12 starts) }
         ensures stays { OnOk result (Stays self.old self.new) }
         ensures next { self.new.next ≡ self.old.next }
@@ -296,7 +304,7 @@ impl<'n, N: Allocator, A: Allocator + Copy> Builder<'n, N, A> {
     }
 
     /// Computes the entries of all rows, also of those that are found meanwhile.
-    pub(crate) fn fill(&mut self) -> Result<(), DfaError>
+    fn fill(&mut self) -> Result<(), DfaError>
         ensures whole { OnOk result
             (length self.new.next ≡ length self.new.values * columns_of self.new.classes) }
         ensures stays { OnOk result (Stays self.old self.new) }
@@ -310,14 +318,25 @@ impl<'n, N: Allocator, A: Allocator + Copy> Builder<'n, N, A> {
         Ok(())
     }
 
+    /// Returns the rows of all states that a search can reach.
+    pub(crate) fn rows(&mut self, alloc: A) -> Result<Rows<'n, N, A>, DfaError>
+        ensures nfa { IfOk result (λ rows. rows.nfa ≡ self.old.nfa) }
+        ensures kind { IfOk result (λ rows. rows.kind ≡ self.old.kind) }
+        ensures states { IfOk result
+            (λ rows. HasStates self.old.nfa self.old.kind (length rows.table.patterns)) }
+        ensures few { IfOk result (λ rows. length rows.table.patterns ≤ self.old.limit) }
+        ensures many { result ≡ Err TooManyStates
+            → HasMoreStates self.old.nfa self.old.kind self.old.limit }
+    {
+        let starts = self.starts()?;
+        self.fill()?;
+        Ok(self.finish(alloc, starts)?)
+    }
+
     /// Returns the rows, once all entries are computed.
     ///
     /// - `starts` are the rows of the starts.
-    pub(crate) fn finish(
-        &self,
-        alloc: A,
-        starts: [u32; STARTS],
-    ) -> Result<Rows<'n, N, A>, AllocError>
+    fn finish(&self, alloc: A, starts: [u32; STARTS]) -> Result<Rows<'n, N, A>, AllocError>
         requires whole { length self.now.next
             ≡ length self.now.values * columns_of self.now.classes }
         requires starts { AreStarts self.now.nfa self.now.values 12 starts }

@@ -81,9 +81,7 @@ impl<'n, N: Allocator, A: Allocator + Copy> Dfa<'n, N, A> {
         ensures zero { limit ≡ 0 → result ≡ Err TooManyStates }
     {
         let mut builder = Builder::new(alloc, nfa, match_kind, limit)?;
-        let starts = builder.starts()?;
-        builder.fill()?;
-        let rows = builder.finish(alloc, starts)?;
+        let rows = builder.rows(alloc)?;
         // The states found are not kept while the rows are copied in order.
         drop(builder);
         Ok(rows.arranged(alloc)?)

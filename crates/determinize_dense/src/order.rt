@@ -5,6 +5,7 @@ ghost use Rattle.std.specs.Prelude.{◌≡◌, ◌<◌, IfOk, length};
 ghost use Rattle.determinize_dense.specs.Dfa.{IsDfaOf};
 ghost use Rattle.determinize_dense.specs.Least.{IsLeast};
 ghost use Rattle.determinize_dense.specs.Private.Order.{AreRanks, IsRank};
+ghost use Rattle.determinize_dense.specs.Private.Partition.{IsByRank};
 
 use crate::dfa::{Dfa, SCALE};
 use crate::partition::Partition;
@@ -83,11 +84,31 @@ impl<'n, N: Allocator, A: Allocator + Copy> Rows<'n, N, A> {
     {
         let ranks = self.ranks(alloc)?;
         let order = Partition::by_rank(alloc, ranks.as_slice())?;
+        self.in_order(alloc, ranks.as_slice(), &order)
+    }
+
+    /// Returns the DFA with these rows in the order of their ranks.
+    fn in_order(
+        &self,
+        alloc: A,
+        ranks: &[usize],
+        order: &Partition<A>,
+    ) -> Result<Dfa<'n, N, A>, AllocError>
+        requires ranks { AreRanks self.now.table ranks.now }
+        requires order { IsByRank ranks.now order.now }
+        ensures nfa { IfOk result (λ dfa. dfa.nfa ≡ self.now.nfa) }
+        ensures kind { IfOk result (λ dfa. dfa.kind ≡ self.now.kind) }
+        ensures means { IfOk result (λ dfa. IsDfaOf dfa.nfa dfa.kind dfa.table) }
+        ensures rows { IfOk result
+            (λ dfa. length dfa.table.patterns ≡ length self.now.table.patterns) }
+        ensures least { IsLeast self.now.nfa self.now.table
+            → IfOk result (λ dfa. IsLeast dfa.nfa dfa.table) }
+    {
         let columns = self.classes.alphabet_len();
         Ok(Dfa {
-            rows: self.merged(alloc, &order)?,
-            last_match: order.last_upto(ranks.as_slice(), 1) * columns,
-            last_special: order.last_upto(ranks.as_slice(), 2) * columns,
+            rows: self.merged(alloc, order)?,
+            last_match: order.last_upto(ranks, 1) * columns,
+            last_special: order.last_upto(ranks, 2) * columns,
             inverse: SCALE / columns + 1,
         })
     }

@@ -1,4 +1,4 @@
-use Rattle.determinize_core.proofs.Common.{ap, arith, dead, min, subst, sym, [], ◌++◌, ◌∙◌, ◌∷◌, ◌≡◌}
+use Rattle.determinize_core.proofs.Common.{arith, min, subst, sym, [], ◌∙◌, ◌≡◌}
 use Rattle.determinize_dense.proofs.Common.{IsBuilding}
 use Rattle.determinize_core.specs.Stepper.{StepperValue}
 use Rattle.determinize_dense.proofs.Building.{building-first, more-than-none}
@@ -11,9 +11,6 @@ returns-then-limit-eq0-clause-many g c = λ _.
 
 pub invariant_of-result : goal.invariant_of-result
 invariant_of-result g c =
-    let values : c.intern.new.self ≡ dead ∷ [] =
-    c.in_ok-intern.ensures.states ∙ ap (λ vs. vs ++ c.in_ok-dead.field-0 ∷ []) c.new-states.ensures
-    ∙ ap (λ v. v ∷ []) c.in_ok-dead.ensures.value in
     let apart : c.min-limit.result ≡ 0 → ⊥ = c.if-limit-eq0.false in
     let least : c.min-limit.result ≡ min c.args.limit MAX_STATES = c.min-limit.ensures in
     subst (λ (s : StepperValue). IsBuilding record {
@@ -21,7 +18,7 @@ invariant_of-result g c =
       kind = s.kind;
       classes = c.byte_classes-classes.result;
       limit = c.min-limit.result;
-      values = c.intern.new.self;
+      values = c.in_ok-states.states;
       next = c.in_ok-next.next.items;
     }) (sym c.new.ensures)
     (subst (λ ns. IsBuilding record {
@@ -29,7 +26,7 @@ invariant_of-result g c =
       kind = c.args.match_kind;
       classes = c.byte_classes-classes.result;
       limit = c.min-limit.result;
-      values = c.intern.new.self;
+      values = c.in_ok-states.states;
       next = ns;
     }) (sym c.in_ok-next.ensures.items)
     (subst (λ vs. IsBuilding record {
@@ -39,7 +36,7 @@ invariant_of-result g c =
       limit = c.min-limit.result;
       values = vs;
       next = [];
-    }) (sym values)
+    }) (sym c.in_ok-states.ensures)
     (building-first c.args.nfa.now c.args.match_kind c.byte_classes-classes.result c.min-limit.result
     c.byte_classes-classes.ensures.accepted c.byte_classes-classes.ensures.classes c.alphabet_len.ensures.sound
     (grind (arith, apart)) (grind (arith, least)))))
