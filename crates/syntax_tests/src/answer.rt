@@ -9,7 +9,7 @@ use std::fmt;
 use std::io::{self, Write};
 
 /// An error from a row.
-#[derive(Clone, Copy, Debug)]
+#[derive(Clone, Copy)]
 pub enum RowError {
     /// An allocation failed.
     OutOfMemory,
@@ -75,6 +75,21 @@ impl Tally {
     {
         if self.differ == 0 { 0 } else { 1 }
     }
+
+    /// Adds a row to the counts, and returns whether its results are the expected one. A pattern
+    /// that is written deeper than it was read may exceed the limit of nesting.
+    fn add(&mut self, answer: &str, again: &str, expected: &str) -> bool {
+        self.rows = self.rows.saturating_add(1);
+        if answer.starts_with("error") {
+            self.errors = self.errors.saturating_add(1);
+        }
+        let is_deep = again.starts_with("error NestLimitExceeded");
+        let is_expected = answer == expected && (again == expected || is_deep);
+        if !is_expected {
+            self.differ = self.differ.saturating_add(1);
+        }
+        is_expected
+    }
 }
 
 impl fmt::Display for Tally {
@@ -103,21 +118,26 @@ pub fn judge<W: Write>(
         return Err(RowError::Malformed);
     };
     let bytes = decoded(alloc, hex)?;
-    let Ok(text) = str::from_utf8(&bytes) else {
-        return Err(RowError::Malformed);
-    };
+    match str::from_utf8(&bytes) {
+        Ok(text) => judge_text(alloc, text, expected, tally, out),
+        Err(_) => Err(RowError::Malformed),
+    }
+}
+
+/// Judges the text of a row.
+fn judge_text<W: Write>(
+    alloc: Global,
+    text: &str,
+    expected: &str,
+    tally: &mut Tally,
+    out: &mut W,
+) -> Result<(), RowError> {
     let answer = answer(alloc, text)?;
     let again = answer_again(alloc, text)?;
-    tally.rows = tally.rows.saturating_add(1);
-    if answer.as_str().starts_with("error") {
-        tally.errors = tally.errors.saturating_add(1);
+    if tally.add(answer.as_str(), again.as_str(), expected) {
+        return Ok(());
     }
-    let is_deep = again.as_str().starts_with("error NestLimitExceeded");
-    if answer.as_str() != expected || (again.as_str() != expected && !is_deep) {
-        tally.differ = tally.differ.saturating_add(1);
-        report(text, answer.as_str(), again.as_str(), expected, out)?;
-    }
-    Ok(())
+    report(text, answer.as_str(), again.as_str(), expected, out)
 }
 
 /// Writes a text whose result, or that of the pattern as it is written, is not the expected one.
@@ -156,37 +176,53 @@ fn decoded(alloc: Global, hex: &str) -> Result<Vec<u8>, RowError> {
 /// Returns what the text is read as.
 pub fn answer(alloc: Global, text: &str) -> Result<String, RowError> {
     let mut out = String::new(alloc);
+    write_answer(alloc, text, &mut out)?;
+    Ok(out)
+}
+
+/// Writes what the text is read as.
+fn write_answer(alloc: Global, text: &str, out: &mut String) -> Result<(), AllocError> {
     match parse(alloc, text) {
-        Ok(pattern) => write_tree(&mut out, &pattern)?,
+        Ok(pattern) => write_tree(out, &pattern),
         Err(error) => {
             let (kind, start, end) = (error.kind, error.start, error.end);
-            write!(out, "error {kind:?} {start} {end}")?;
+            write!(out, "error {kind:?} {start} {end}")
         }
     }
-    Ok(out)
 }
 
 /// Returns what the text is read as that the pattern of this text is written as.
 pub fn answer_again(alloc: Global, text: &str) -> Result<String, RowError> {
     let mut written = String::new(alloc);
-    match parse(alloc, text) {
-        Ok(pattern) => write!(written, "{pattern}")?,
-        Err(_) => return answer(alloc, text),
+    if write_again(alloc, text, &mut written)? {
+        answer(alloc, written.as_str())
+    } else {
+        answer(alloc, text)
     }
-    answer(alloc, written.as_str())
+}
+
+/// Writes the pattern of a text, and returns whether it is the text of one.
+fn write_again(alloc: Global, text: &str, written: &mut String) -> Result<bool, AllocError> {
+    match parse(alloc, text) {
+        Ok(pattern) => {
+            write!(written, "{pattern}")?;
+            Ok(true)
+        }
+        Err(_) => Ok(false),
+    }
 }
 
 /// Writes the pattern, with its concatenations and alternations flattened.
 #[cycle(tree)]
 fn write_tree(out: &mut String, pattern: &Pattern) -> Result<(), AllocError> {
     match pattern {
-        Pattern::Empty => write!(out, "empty"),
+        Pattern::Empty => out.push_str("empty"),
         Pattern::Class(class) => write_class(out, class),
         Pattern::Look(look) => write!(out, "{look:?}"),
         Pattern::Capture(sub) => {
-            write!(out, "(cap ")?;
+            out.push_str("(cap ")?;
             write_tree(out, sub)?;
-            write!(out, ")")
+            out.push(')')
         }
         Pattern::Repetition {
             min,
@@ -196,26 +232,26 @@ fn write_tree(out: &mut String, pattern: &Pattern) -> Result<(), AllocError> {
         } => {
             write_operator(out, *min, *max, *greedy)?;
             write_tree(out, sub)?;
-            write!(out, ")")
+            out.push(')')
         }
         Pattern::Literal(bytes) => {
-            write!(out, "(cat")?;
+            out.push_str("(cat")?;
             write_bytes(out, bytes)?;
-            write!(out, ")")
+            out.push(')')
         }
         Pattern::Concat(subs) => match count_parts(pattern) {
-            0 => write!(out, "empty"),
+            0 => out.push_str("empty"),
             1 => write_all(out, subs, ""),
             _ => {
-                write!(out, "(cat")?;
+                out.push_str("(cat")?;
                 write_all(out, subs, " ")?;
-                write!(out, ")")
+                out.push(')')
             }
         },
         Pattern::Alternation(subs) => {
-            write!(out, "(alt")?;
+            out.push_str("(alt")?;
             write_branches(out, subs)?;
-            write!(out, ")")
+            out.push(')')
         }
     }
 }
@@ -229,7 +265,7 @@ fn write_all(out: &mut String, subs: &[Pattern], space: &str) -> Result<(), Allo
             Pattern::Literal(bytes) => write_bytes(out, bytes)?,
             Pattern::Concat(subs) => write_all(out, subs, space)?,
             sub => {
-                write!(out, "{space}")?;
+                out.push_str(space)?;
                 write_tree(out, sub)?;
             }
         }
@@ -244,7 +280,7 @@ fn write_branches(out: &mut String, subs: &[Pattern]) -> Result<(), AllocError> 
         match &subs[i] {
             Pattern::Alternation(subs) => write_branches(out, subs)?,
             sub => {
-                write!(out, " ")?;
+                out.push(' ')?;
                 write_tree(out, sub)?;
             }
         }
@@ -294,16 +330,20 @@ fn write_operator(
 
 /// Writes the ranges of a class.
 fn write_class(out: &mut String, class: &ClassBytes) -> Result<(), AllocError> {
-    write!(out, "[")?;
+    out.push('[')?;
     let mut space = "";
     for range in class.ranges() {
-        let (start, end) = (range.start, range.end);
-        if start == end {
-            write!(out, "{space}{start:02x}")?;
-        } else {
-            write!(out, "{space}{start:02x}-{end:02x}")?;
-        }
+        write_range(out, space, range.start, range.end)?;
         space = " ";
     }
-    write!(out, "]")
+    out.push(']')
+}
+
+/// Writes a range of bytes, or its only byte, after `space`.
+fn write_range(out: &mut String, space: &str, start: u8, end: u8) -> Result<(), AllocError> {
+    if start == end {
+        write!(out, "{space}{start:02x}")
+    } else {
+        write!(out, "{space}{start:02x}-{end:02x}")
+    }
 }
