@@ -4,7 +4,7 @@ use crate::error::Error;
 use crate::options::{Options, Shows};
 use determinize_regex::{Input, Match, Matcher};
 use std::alloc::Global;
-use std::io::{BufRead, BufReader, Read, Write};
+use std::io::{self, BufRead, BufReader, Read, Write};
 
 /// A search of texts for the lines that the options select.
 #[derive(Drop)]
@@ -15,7 +15,7 @@ pub struct Lines<'a> {
 }
 
 /// Where a line is in its text.
-#[derive(Clone, Copy, Debug, Default, PartialEq, Eq)]
+#[derive(Clone, Copy, Default)]
 struct Place {
     /// How many lines are before it.
     lines: u64,
@@ -45,14 +45,21 @@ impl<'a> Lines<'a> {
     ) -> Result<u64, Error> {
         let mut reader = BufReader::new(self.alloc, input)?;
         let mut line = Vec::new(self.alloc);
+        self.read_lines(name, &mut reader, &mut line, out)
+    }
+
+    /// Reads all lines of a text, each into `line`, as `read` does.
+    fn read_lines<R: Read + Drop, W: Write>(
+        &mut self,
+        name: &str,
+        reader: &mut BufReader<R>,
+        line: &mut Vec<u8>,
+        out: &mut W,
+    ) -> Result<u64, Error> {
         let mut place = Place::default();
         let mut count = 0u64;
         for _ in 0..u64::MAX {
-            if !reader.buffer().contains(&b'\n') {
-                out.flush()?;
-            }
-            line.clear();
-            let length = reader.read_until(b'\n', &mut line)?;
+            let length = read_line(reader, line, out)?;
             if length == 0 {
                 break;
             }
@@ -97,13 +104,25 @@ impl<'a> Lines<'a> {
         place: Place,
         out: &mut W,
     ) -> Result<(), Error> {
-        for found in self.matcher.find_all(self.alloc, &Input::new(line))? {
-            let Some(bytes) = line.get(found.start..found.end) else {
-                continue;
-            };
+        let found = self.matcher.find_all(self.alloc, &Input::new(line))?;
+        self.print_each(name, line, place, found.as_slice(), out)?;
+        Ok(())
+    }
+
+    /// Prints each of these matches of a line, unless it is empty.
+    fn print_each<W: Write>(
+        &self,
+        name: &str,
+        line: &[u8],
+        place: Place,
+        found: &[Match],
+        out: &mut W,
+    ) -> io::Result<()> {
+        for found in found {
+            let bytes = line.get(found.start..found.end).unwrap_or(&[]);
             if !bytes.is_empty() {
                 let offset = place.bytes.saturating_add(found.start as u64);
-                self.print(name, place, offset, Some(&found), bytes, out)?;
+                self.print(name, place, offset, Some(found), bytes, out)?;
             }
         }
         Ok(())
@@ -119,7 +138,7 @@ impl<'a> Lines<'a> {
         found: Option<&Match>,
         bytes: &[u8],
         out: &mut W,
-    ) -> Result<(), Error> {
+    ) -> io::Result<()> {
         if self.options.files.len() > 1 {
             write!(out, "{name}:")?;
         }
@@ -133,28 +152,41 @@ impl<'a> Lines<'a> {
             self.print_pattern(found, out)?;
         }
         out.write_all(bytes)?;
-        out.write_all(b"\n")?;
-        Ok(())
+        out.write_all(b"\n")
     }
 
     /// Prints the number of the pattern of a match, if there are several.
-    fn print_pattern<W: Write>(&self, found: &Match, out: &mut W) -> Result<(), Error> {
+    fn print_pattern<W: Write>(&self, found: &Match, out: &mut W) -> io::Result<()> {
         if self.options.patterns.len() > 1 {
-            write!(out, "{}:", found.pattern.as_usize())?;
+            let pattern = found.pattern.as_usize();
+            write!(out, "{pattern}:")?;
         }
         Ok(())
     }
 
     /// Prints what the options select where a text ends: its number of lines, or its name.
-    fn print_total<W: Write>(&self, name: &str, count: u64, out: &mut W) -> Result<(), Error> {
+    fn print_total<W: Write>(&self, name: &str, count: u64, out: &mut W) -> io::Result<()> {
         match self.options.shows {
-            Shows::Count if self.options.files.len() > 1 => writeln!(out, "{name}:{count}")?,
-            Shows::Count => writeln!(out, "{count}")?,
-            Shows::Names if count > 0 => writeln!(out, "{name}")?,
-            _ => {}
+            Shows::Count if self.options.files.len() > 1 => writeln!(out, "{name}:{count}"),
+            Shows::Count => writeln!(out, "{count}"),
+            Shows::Names if count > 0 => writeln!(out, "{name}"),
+            _ => Ok(()),
         }
-        Ok(())
     }
+}
+
+/// Reads the next line with the byte that ends it, and returns its length, or 0 after the last one.
+/// Flushes what was printed, unless the whole line was read before.
+fn read_line<R: Read + Drop, W: Write>(
+    reader: &mut BufReader<R>,
+    line: &mut Vec<u8>,
+    out: &mut W,
+) -> io::Result<usize> {
+    if !reader.buffer().contains(&b'\n') {
+        out.flush()?;
+    }
+    line.clear();
+    reader.read_until(b'\n', line)
 }
 
 /// Returns the line without the byte that ends it.

@@ -36,7 +36,7 @@ The exit status is 0 if a line is selected, 1 if none is, and 2 after an error.
 ";
 
 /// What a search of all files has come to.
-#[derive(Clone, Copy, Debug, Default, PartialEq, Eq)]
+#[derive(Clone, Copy, Default)]
 struct Outcome {
     is_selected: bool,
     is_failed: bool,
@@ -130,10 +130,19 @@ fn search_all<W: Write>(
 
 /// Searches for the patterns, and returns the exit status.
 fn search(rt: &HostRuntime, options: &Options, regex: &Regex) -> Result<ExitCode, Error> {
-    let alloc = rt.alloc();
-    let mut out = BufWriter::new(alloc, io::writer(rt))?;
-    let mut lines = Lines::new(alloc, options, regex.matcher(alloc, LIMIT));
-    let outcome = search_all(rt, options, &mut lines, &mut out)?;
+    let mut out = BufWriter::new(rt.alloc(), io::writer(rt))?;
+    let mut lines = Lines::new(rt.alloc(), options, regex.matcher(rt.alloc(), LIMIT));
+    search_and_flush(rt, options, &mut lines, &mut out)
+}
+
+/// Searches all files, writes what is left of the output, and returns the exit status.
+fn search_and_flush<W: Write>(
+    rt: &HostRuntime,
+    options: &Options,
+    lines: &mut Lines<'_>,
+    out: &mut W,
+) -> Result<ExitCode, Error> {
+    let outcome = search_all(rt, options, lines, out)?;
     out.flush()?;
     Ok(outcome.status(options.shows))
 }
@@ -145,15 +154,20 @@ fn read_options(rt: &HostRuntime) -> Result<Options, Error> {
     Ok(Options::read(rt.alloc(), args)?)
 }
 
-/// Runs the program, and returns the exit status.
-fn run(rt: &HostRuntime) -> Result<ExitCode, Error> {
-    let options = read_options(rt)?;
+/// Prints the usage, or searches as the options say, and returns the exit status.
+fn run_with(rt: &HostRuntime, options: &Options) -> Result<ExitCode, Error> {
     if options.helps {
         io::writer(rt).write_all(USAGE.as_bytes())?;
         return Ok(ExitCode::SUCCESS);
     }
     let regex = options.regex(rt.alloc())?;
-    search(rt, &options, &regex)
+    search(rt, options, &regex)
+}
+
+/// Runs the program, and returns the exit status.
+fn run(rt: &HostRuntime) -> Result<ExitCode, Error> {
+    let options = read_options(rt)?;
+    run_with(rt, &options)
 }
 
 fn main(rt: HostRuntime) -> ExitCode {

@@ -28,7 +28,7 @@ pub struct Options {
 }
 
 /// What is printed of the lines that are selected. Of two options the later one here counts.
-#[derive(Clone, Copy, Debug, PartialEq, Eq, PartialOrd, Ord)]
+#[derive(Clone, Copy, PartialEq, Eq, PartialOrd, Ord)]
 pub enum Shows {
     /// Each line.
     Lines,
@@ -85,7 +85,7 @@ impl From<io::Error> for UsageError {
 }
 
 /// What the next argument is taken for.
-#[derive(Clone, Copy, Debug, PartialEq, Eq)]
+#[derive(Clone, Copy, PartialEq, Eq)]
 enum Next {
     /// An option, or else an operand.
     Any,
@@ -114,33 +114,69 @@ impl Options {
     /// the pattern, unless `-e` gives one, and the others are files.
     pub fn read(alloc: Global, args: Args) -> Result<Options, UsageError> {
         let mut options = Options::new(alloc);
-        let mut operands = Vec::new(alloc);
-        let mut next = Next::Any;
-        for arg in args {
-            next = options.take(alloc, arg, next, &mut operands)?;
+        match options.take_all(alloc, args) {
+            Ok(()) => Ok(options),
+            Err(error) => Err(error),
         }
+    }
+
+    /// Takes all arguments.
+    fn take_all(&mut self, alloc: Global, args: Args) -> Result<(), UsageError> {
+        let mut operands = Vec::new(alloc);
+        let next = self.take_each(alloc, args, &mut operands)?;
         if next == Next::Pattern {
             return Err(UsageError::MissingPattern);
         }
-        options.take_operands(operands)?;
-        Ok(options)
+        self.take_operands(operands)
+    }
+
+    /// Takes each argument, and returns what one after the last would be.
+    fn take_each(
+        &mut self,
+        alloc: Global,
+        args: Args,
+        operands: &mut Vec<String>,
+    ) -> Result<Next, UsageError> {
+        let mut next = Next::Any;
+        for arg in args {
+            next = self.take(alloc, arg, next, operands)?;
+        }
+        Ok(next)
     }
 
     /// Returns the patterns, compiled.
     pub fn regex(&self, alloc: Global) -> Result<Regex, Error> {
         let mut config = RegexConfig::new();
         config.flags.case_insensitive = self.ignores_case;
+        let texts = self.texts(alloc)?;
+        match Regex::new_many(alloc, texts.as_slice(), config) {
+            Ok(regex) => Ok(regex),
+            Err(error) => Err(self.error_of(alloc, error)),
+        }
+    }
+
+    /// Returns the texts of the patterns.
+    fn texts(&self, alloc: Global) -> Result<Vec<&str>, AllocError> {
         let mut texts = Vec::new(alloc);
         for pattern in &self.patterns {
             texts.push(pattern.as_str())?;
         }
-        match Regex::new_many(alloc, texts.as_slice(), config) {
-            Ok(regex) => Ok(regex),
-            Err(RegexError::Compile(error)) => Err(Error::Compile(error)),
-            Err(RegexError::Parse { index, error }) => {
-                let text = texts.get(index).copied().unwrap_or("");
-                let text = String::from_str(alloc, text)?;
-                Err(Error::Parse { text, error })
+        Ok(texts)
+    }
+
+    /// Returns an error of the patterns with the text in which it is.
+    fn error_of(&self, alloc: Global, error: RegexError) -> Error {
+        match error {
+            RegexError::Compile(error) => Error::Compile(error),
+            RegexError::Parse { index, error } => {
+                let text = match self.patterns.get(index) {
+                    Some(pattern) => pattern.as_str(),
+                    None => "",
+                };
+                match String::from_str(alloc, text) {
+                    Ok(text) => Error::Parse { text, error },
+                    Err(error) => Error::from(error),
+                }
             }
         }
     }
@@ -166,22 +202,24 @@ impl Options {
                 operands.push(arg)?;
                 Ok(Next::Any)
             }
-            Next::Any => self.take_option(alloc, arg),
+            Next::Any => match self.take_option(alloc, arg.as_str()) {
+                Ok(Some(next)) => Ok(next),
+                Ok(None) => Err(UsageError::UnknownOption(arg)),
+                Err(error) => Err(error),
+            },
         }
     }
 
-    /// Takes an option: `--help`, `--`, which ends the options, or letters after a hyphen.
-    fn take_option(&mut self, alloc: Global, option: String) -> Result<Next, UsageError> {
-        if option.as_str() == "--" {
-            return Ok(Next::Operand);
-        }
-        if option.as_str() == "--help" {
-            self.helps = true;
-            return Ok(Next::Any);
-        }
-        match self.take_letters(alloc, option.as_str())? {
-            Some(next) => Ok(next),
-            None => Err(UsageError::UnknownOption(option)),
+    /// Takes an option: `--help`, `--`, which ends the options, or letters after a hyphen. Returns
+    /// what the next argument is, or `None` if there is no such option.
+    fn take_option(&mut self, alloc: Global, option: &str) -> Result<Option<Next>, UsageError> {
+        match option {
+            "--" => Ok(Some(Next::Operand)),
+            "--help" => {
+                self.helps = true;
+                Ok(Some(Next::Any))
+            }
+            _ => self.take_letters(alloc, option),
         }
     }
 
