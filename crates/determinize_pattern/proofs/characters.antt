@@ -1,3 +1,4 @@
+pub mod Boundaries
 pub mod Branches
 pub mod Preferred
 pub mod Sweeping

@@ -1,6 +1,6 @@
 -- Classes of characters, as the bytes of their UTF-8.
 use Rattle.std.specs.Char.{IsScalar, encode_utf8}
-use Rattle.std.specs.Prelude.{◌≡◌, ◌≤◌, ◌↔◌, ℕ, Bool, List, length, map, slice_range, true}
+use Rattle.std.specs.Prelude.{◌≡◌, ◌≤◌, ◌↔◌, ℕ, Bool, IsUtf8, List, length, map, slice_range, true}
 use Rattle.determinize_below.specs.Semantics.{Text}
 use Rattle.determinize_pattern.specs.Meaning.{Matches, Re}
 use Rattle.determinize_pattern.specs.declared.chars.ClassUnicodeRange.{ClassUnicodeRange}
@@ -18,3 +18,8 @@ IsCharFrom test bytes i j = (c : ℕ) × IsScalar c × (test c ≡ true) × (i �
 abbrev pub IsCharClass : (ℕ → Bool) → Re → Type 0
 IsCharClass test re = (t : ℕ) (text : Text) (i j : ℕ)
     → Matches t text re i j ↔ IsCharFrom test text.bytes i j
+
+-- in a text that is UTF-8, what the pattern matches is UTF-8
+abbrev pub ReadsCharacters : Re → Type 0
+ReadsCharacters re = (t : ℕ) (text : Text) → IsUtf8 text.bytes → (i j : ℕ)
+    → Matches t text re i j → IsUtf8 (slice_range text.bytes i j)

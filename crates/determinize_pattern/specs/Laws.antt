@@ -1,9 +1,10 @@
 -- Laws of the ends of patterns and of compiled NFAs.
-use Rattle.std.specs.Prelude.{◌≡◌, ◌↔◌, ℕ, Bool, Contains, IsUtf8, List, None, Option, Some, [], ◌∷◌, false, slice_get, slice_range}
+use Rattle.std.specs.Prelude.{◌≡◌, ◌<◌, ◌↔◌, ℕ, Bool, Contains, IsUtf8, List, None, Option, Some, [], ◌∷◌, false, slice_get, slice_range}
+use Rattle.std.specs.Str.{IsCharBoundary}
 use Rattle.determinize_below.specs.Semantics.{Nfa, Text, between}
 use Rattle.determinize_below.specs.declared.search.Match.{Match}
 use Rattle.determinize_nfa.specs.Leftmost.{IsLeftmost}
-use Rattle.determinize_pattern.specs.Characters.{IsCharClass, IsCharFrom}
+use Rattle.determinize_pattern.specs.Characters.{IsCharClass, IsCharFrom, ReadsCharacters}
 use Rattle.determinize_pattern.specs.Classes.{is_chosen}
 use Rattle.determinize_pattern.specs.Compiled.{IsNfaOf}
 use Rattle.determinize_pattern.specs.LeftmostOf.{IsLeftmostOf}
@@ -34,6 +35,18 @@ EachCharIsPreferred = (test : ℕ → Bool) (re : Re) → IsCharClass test re
 abbrev pub EachCharIsUtf8 : Type 0
 EachCharIsUtf8 = (test : ℕ → Bool) (re : Re) → IsCharClass test re
     → (t : ℕ) (text : Text) (i j : ℕ) → Matches t text re i j → IsUtf8 (slice_range text.bytes i j)
+
+-- in a text that is UTF-8, a match of characters ends at a boundary if it begins at one
+abbrev pub EachEndIsBoundary : Type 0
+EachEndIsBoundary = (re : Re) → ReadsCharacters re
+    → (t : ℕ) (text : Text) → IsUtf8 text.bytes → (i j : ℕ)
+    → IsCharBoundary text.bytes i → Contains (ends t text re i) j → IsCharBoundary text.bytes j
+
+-- and it begins at one if it is not empty
+abbrev pub EachStartIsBoundary : Type 0
+EachStartIsBoundary = (re : Re) → ReadsCharacters re
+    → (t : ℕ) (text : Text) → IsUtf8 text.bytes → (i j : ℕ)
+    → Contains (ends t text re i) j → i < j → IsCharBoundary text.bytes i
 
 -- the leftmost match of the runs of an NFA of patterns is that of the patterns
 abbrev pub EachLeftmostIsOf : Type 0

@@ -1,6 +1,6 @@
 //! Classes of characters, as patterns of the bytes of their UTF-8.
 
-ghost use Rattle.std.specs.Prelude.{◌≡◌, IfOk, OnOk, cond, false, map, true};
+ghost use Rattle.std.specs.Prelude.{IfOk, OnOk, cond, false, map, true};
 ghost use Rattle.std.specs.List.Sorted.{IsNonDecreasingBy, IsPermutation};
 ghost use Rattle.determinize_pattern.specs.Characters.{IsCharClass, IsCharFrom, char_pairs};
 ghost use Rattle.determinize_pattern.specs.Classes.{is_chosen};

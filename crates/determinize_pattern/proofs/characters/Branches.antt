@@ -14,7 +14,7 @@ use Rattle.determinize_pattern.specs.Private.Characters.{Adds}
 pub record IsExactly (P : List ℕ → ℕ → ℕ → Type 0) (re : Re) : Type 0 where
   pub each : (t : ℕ) (text : Text) (i j : ℕ) → Matches t text re i j ↔ P text.bytes i j
 
-in_none : (u : Option ℕ) → is_in [] u ≡ true → ⊥
+pub in_none : (u : Option ℕ) → is_in [] u ≡ true → ⊥
 in_none None h = false≢true h
 in_none (Some b) h = false≢true h
 

@@ -21,7 +21,7 @@ abbrev written : ℕ → ℕ → ℕ → List ℕ
 written lead zero v = (lead + v) ∷ []
 written lead (suc count) v = written lead count (v / 64) ++ (128 + v % 64) ∷ []
 
-reads : (bytes : List ℕ) (i b : ℕ) → slice_get bytes i ≡ Some b → drop i bytes ≡ b ∷ drop (suc i) bytes
+pub reads : (bytes : List ℕ) (i b : ℕ) → slice_get bytes i ≡ Some b → drop i bytes ≡ b ∷ drop (suc i) bytes
 reads [] i b e = cc
 reads (x ∷ xs) zero b e = ap (λ (y : ℕ). y ∷ xs) (some_injective x b e)
 reads (x ∷ xs) (suc i) b e = reads xs i b e

@@ -1,0 +1,16 @@
+use Rattle.std.proofs.lemmas.Str.{IsUtf8-encode}
+use Rattle.determinize_pattern.proofs.characters.Boundaries.{choice_reads, end_boundary, literal_reads, look_reads, repeated_reads, sequence_reads, start_boundary}
+use Rattle.determinize_pattern.proofs.laws.boundaries_law.Goals as goal
+
+pub returns : goal.returns
+returns c = record {
+  class = λ test re class t text u i j m.
+      let c = (class t text i j).0 m in rw c.5 (IsUtf8-encode c.0 c.1);
+  literal = literal_reads;
+  look = look_reads;
+  sequence = sequence_reads;
+  choice = choice_reads;
+  repeated = repeated_reads;
+  end = end_boundary;
+  start = start_boundary;
+}
