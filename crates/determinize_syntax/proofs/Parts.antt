@@ -10,7 +10,7 @@ use Rattle.determinize_below.specs.declared.look.Look.{Look}
 use Rattle.std.proofs.lemmas.List.Folds.{list_all-append}
 use Rattle.std.proofs.lemmas.List.{append_assoc, append-nil, map-append}
 use Rattle.determinize_pattern.specs.Meaning.{Re}
-use Rattle.determinize_pattern.specs.Patterns.{meaning, repeated}
+use Rattle.determinize_pattern.specs.Patterns.{choice_of, meaning, repeated}
 use Rattle.determinize_pattern.specs.declared.pattern.Pattern.{Pattern}
 use Rattle.determinize_syntax.specs.Private.Reading.{IsDigit, IsDigits, IsFlag, IsHexDigit, IsNamed, IsSetting, Opens, Part, SetsMore}
 use Rattle.determinize_syntax.proofs.Numbers.{is_decimal, number_more, number_one, value_of}
@@ -135,13 +135,13 @@ branch_read f g h ps qs p res before items r e m =
 -- the last branch
 pub choice_read : {a b d : Text} (f g h : Flags) (ps qs : List Pattern) (p whole : Pattern) (res : List Re)
     → Part a b (Branches f g (map meaning ps)) → Part b d (Items g h res)
-    → qs ≡ ps ++ p ∷ [] → meaning p ≡ sequence_of res → meaning whole ≡ s.choice_of (map meaning qs)
+    → qs ≡ ps ++ p ∷ [] → meaning p ≡ sequence_of res → meaning whole ≡ choice_of (map meaning qs)
     → Part a d (SpellsUnder f (meaning whole))
 choice_read f g h ps qs p whole res before items e m w =
     onward (Branches f g (map meaning ps)) (Items g h res) (SpellsUnder f (meaning whole)) before items
     (λ t u y z. (
       h,
-      subst (λ re. Choice f h re (t ++ u)) (sym (w ∙ ap s.choice_of (more ps qs p res e m)))
+      subst (λ re. Choice f h re (t ++ u)) (sym (w ∙ ap choice_of (more ps qs p res e m)))
           (s.branches f g h (map meaning ps) res t u y z),
     ))
 

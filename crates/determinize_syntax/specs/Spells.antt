@@ -7,7 +7,7 @@ use Rattle.determinize_below.specs.declared.look.Look.TheVariants.{Start, End, S
 use Rattle.determinize_pattern.specs.Characters.{IsCharClass}
 use Rattle.determinize_pattern.specs.Meaning.{Look, Re}
 use Rattle.determinize_pattern.specs.Patterns as patterns
-use Rattle.determinize_pattern.specs.Patterns.{IsClass, literal, repeated}
+use Rattle.determinize_pattern.specs.Patterns.{IsClass, choice_of, literal, repeated}
 use Rattle.determinize_syntax.specs.Words.{Set, ◌∈◌, assertion, at_line, complement, dot_set, escaped_byte, folded, is_text_end, is_name, joined, knows_cases, named_class, no_flags, number, only, perl_class, set_flag}
 use Rattle.determinize_syntax.specs.declared.bracket.Before.{Before}
 use Rattle.determinize_syntax.specs.declared.bracket.Before.TheVariants.{AfterClass, AfterHyphen, AfterOne, AfterRange, First}
@@ -20,11 +20,6 @@ Bytes = List ℕ
 abbrev pub sequence_of : List Re → Re
 sequence_of (re ∷ []) = re
 sequence_of res = patterns.sequence res
-
--- a choice between patterns; a single one is itself
-abbrev pub choice_of : List Re → Re
-choice_of (re ∷ []) = re
-choice_of res = patterns.choice res
 
 -- a character beyond ASCII
 abbrev pub IsWide : ℕ → Type 0

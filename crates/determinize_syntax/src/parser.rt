@@ -4,7 +4,7 @@ ghost use Rattle.std.specs.Prelude.{◌≡◌, ◌<◌, ◌∷◌, Bool, IfOk, O
 ghost use Rattle.determinize_below.specs.declared.look.Look.TheVariants as looks;
 ghost use Rattle.determinize_pattern.specs.Meaning as meanings;
 ghost use Rattle.determinize_pattern.specs.Characters.{IsCharClass};
-ghost use Rattle.determinize_pattern.specs.Patterns.{IsClass, literal, meaning, repeated};
+ghost use Rattle.determinize_pattern.specs.Patterns.{IsClass, choice_of, literal, meaning, repeated};
 ghost use Rattle.determinize_syntax.specs.Private.Reading.{Reads, rest};
 ghost use Rattle.determinize_syntax.specs.Spells as spells;
 ghost use Rattle.determinize_syntax.specs.Spells.{Atom, Choice, IsOneOf, Items, Repeated, Spells, SpellsUnder};
@@ -254,7 +254,7 @@ fn sequence(mut items: Vec<Pattern>) -> Pattern
 
 /// Returns a choice between the patterns, or the single one.
 fn alternatives(mut branches: Vec<Pattern>) -> Pattern
-    ensures { meaning result ≡ spells.choice_of (map meaning branches.items) }
+    ensures { meaning result ≡ choice_of (map meaning branches.items) }
 {
     if branches.len() == 1 {
         if let Some(branch) = branches.pop() {
