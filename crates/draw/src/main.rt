@@ -3,7 +3,7 @@
 //! that unanchored searches enter.
 #![tactic(auto)]
 
-use determinize_below::{Anchored, MatchKind};
+use determinize_below::{Anchored, MatchKind, NFA};
 use determinize_dense::{Dfa, DfaError};
 use determinize_draw::{DfaGraph, NfaGraph, SearchGraph};
 use determinize_pattern::{CompileError, Config, Pattern, compile};
@@ -16,7 +16,7 @@ use std::io::{self, Print};
 const LIMIT: usize = 1000;
 
 /// A graph of the patterns.
-#[derive(Clone, Copy, Debug, PartialEq, Eq)]
+#[derive(Clone, Copy)]
 enum Graph {
     Nfa,
     Dfa,
@@ -96,6 +96,13 @@ fn read_patterns(alloc: Global, args: Args) -> Result<Vec<Pattern>, Error> {
     Ok(patterns)
 }
 
+/// Prints the graph of an NFA.
+fn print_nfa(rt: &impl Print, nfa: &NFA) -> Result<(), Error> {
+    let graph = NfaGraph::new(nfa);
+    print!(rt; "{graph}")?;
+    Ok(())
+}
+
 /// Prints the graph of a DFA.
 fn print_dfa(rt: &impl Print, dfa: &Dfa<'_>) -> Result<(), Error> {
     let graph = DfaGraph::new(dfa);
@@ -117,18 +124,40 @@ fn args(rt: &HostRuntime) -> Result<Args, Error> {
     Ok(args)
 }
 
-fn main(rt: HostRuntime) -> Result<(), Error> {
-    let alloc = rt.alloc();
-    let patterns = read_patterns(alloc, args(&rt)?)?;
-    let nfa = compile(alloc, &patterns, Config::new())?;
-    let dfa = Dfa::build(alloc, &nfa, MatchKind::LeftmostFirst, LIMIT)?.minimize(alloc)?;
-    for arg in args(&rt)? {
+/// Returns the DFA of an NFA with the fewest states.
+fn smallest(alloc: Global, nfa: &NFA) -> Result<Dfa<'_>, Error> {
+    let dfa = Dfa::build(alloc, nfa, MatchKind::LeftmostFirst, LIMIT)?;
+    Ok(dfa.minimize(alloc)?)
+}
+
+/// Prints each graph that the arguments name before the patterns.
+fn print_graphs(rt: &HostRuntime, nfa: &NFA, dfa: &Dfa<'_>) -> Result<(), Error> {
+    for arg in args(rt)? {
         match Graph::from_name(arg.as_str()) {
-            Some(Graph::Nfa) => print!(rt; "{}", NfaGraph::new(&nfa))?,
-            Some(Graph::Dfa) => print_dfa(&rt, &dfa)?,
-            Some(Graph::Search) => print_search(&rt, alloc, &dfa)?,
+            Some(graph) => print_graph(rt, graph, nfa, dfa)?,
             None => break,
         }
     }
     Ok(())
+}
+
+/// Prints a graph.
+fn print_graph(rt: &HostRuntime, graph: Graph, nfa: &NFA, dfa: &Dfa<'_>) -> Result<(), Error> {
+    match graph {
+        Graph::Nfa => print_nfa(rt, nfa),
+        Graph::Dfa => print_dfa(rt, dfa),
+        Graph::Search => print_search(rt, rt.alloc(), dfa),
+    }
+}
+
+/// Prints the graphs of patterns.
+fn print_patterns(rt: &HostRuntime, patterns: &[Pattern]) -> Result<(), Error> {
+    let nfa = compile(rt.alloc(), patterns, Config::new())?;
+    let dfa = smallest(rt.alloc(), &nfa)?;
+    print_graphs(rt, &nfa, &dfa)
+}
+
+fn main(rt: HostRuntime) -> Result<(), Error> {
+    let patterns = read_patterns(rt.alloc(), args(&rt)?)?;
+    print_patterns(&rt, patterns.as_slice())
 }
