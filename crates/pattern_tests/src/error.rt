@@ -6,7 +6,7 @@ use std::alloc::{AllocError, AllocFailed};
 use std::{fmt, io};
 
 /// An error from a job.
-#[derive(Clone, Copy, Debug)]
+#[derive(Clone, Copy)]
 pub enum JobError {
     /// An allocation failed.
     OutOfMemory,
@@ -45,7 +45,7 @@ impl From<BuildError> for JobError {
 }
 
 /// A reason why a replay has no verdict.
-#[derive(Clone, Copy, Debug)]
+#[derive(Clone, Copy)]
 pub enum ReplayError {
     /// A line cannot be read, or is not UTF-8.
     Unreadable,

@@ -46,12 +46,15 @@ impl<'a> Head<'a> {
 
     /// Sets the value of a word `key=value`.
     fn set(&mut self, word: &'a str) -> Result<(), JobError> {
-        match word.split_once('=') {
-            Some(("states", value)) => self.states = Some(values::number(value)?),
-            Some(("limit", value)) => self.limit = Some(values::number(value)?),
-            Some(("nest", value)) => self.nest = Some(notation::count(value)?),
-            Some(("error", value)) => self.error = Some(value),
-            Some(("term", value)) => self.terminator = values::byte(value)?,
+        let Some((key, value)) = word.split_once('=') else {
+            return Err(JobError::Malformed("a key with a value"));
+        };
+        match key {
+            "states" => self.states = Some(values::number(value)?),
+            "limit" => self.limit = Some(values::number(value)?),
+            "nest" => self.nest = Some(notation::count(value)?),
+            "error" => self.error = Some(value),
+            "term" => self.terminator = values::byte(value)?,
             _ => return Err(JobError::Malformed("a key with a value")),
         }
         Ok(())

@@ -8,7 +8,7 @@ use crate::error::JobError;
 use crate::head::Head;
 use crate::notation;
 use determinize_below::{BuildError, Input, NFA};
-use determinize_find::{Match, Regex};
+use determinize_find::{LazyRegex, Match, Regex};
 use determinize_nfa::reversed;
 use determinize_pattern::{CompileError, Pattern, compile};
 use example_walks::values;
@@ -46,23 +46,48 @@ pub fn judge(
         matches: 0,
         report: String::new(alloc),
     };
-    judged.judge_printed(alloc, &patterns, printed)?;
-    match compile(alloc, patterns.as_slice(), head.config()) {
-        Ok(nfa) => {
-            judged.judge_no_error(&head)?;
-            judged.judge_states(&head, nfa.len())?;
-            if !texts.is_empty() {
-                let backward = reversed(alloc, &nfa)?;
-                judged.judge_texts(alloc, &nfa, &backward, texts)?;
-            }
-        }
-        Err(CompileError::Build(BuildError::OutOfMemory)) => return Err(JobError::OutOfMemory),
-        Err(error) => judged.judge_error(&head, error)?,
-    }
+    judged.judge_patterns(alloc, &head, patterns.as_slice(), printed, texts)?;
     Ok(judged)
 }
 
 impl Judged {
+    /// Judges the patterns of a job.
+    fn judge_patterns(
+        &mut self,
+        alloc: Global,
+        head: &Head<'_>,
+        patterns: &[Pattern],
+        printed: &[String],
+        texts: &[String],
+    ) -> Result<(), JobError> {
+        self.judge_printed(alloc, patterns, printed)?;
+        match compile(alloc, patterns, head.config()) {
+            Ok(nfa) => self.judge_nfa(alloc, head, &nfa, texts),
+            Err(CompileError::Build(BuildError::OutOfMemory)) => Err(JobError::OutOfMemory),
+            Err(error) => Ok(self.judge_error(head, error)?),
+        }
+    }
+
+    /// Judges the NFA of a job.
+    fn judge_nfa(
+        &mut self,
+        alloc: Global,
+        head: &Head<'_>,
+        nfa: &NFA,
+        texts: &[String],
+    ) -> Result<(), JobError>
+        requires forward { nfa.now.reverse ≡ false }
+        requires prefix { HasPrefix nfa.now }
+    {
+        self.judge_no_error(head)?;
+        self.judge_states(head, nfa.len())?;
+        if texts.is_empty() {
+            return Ok(());
+        }
+        let backward = reversed(alloc, nfa)?;
+        self.judge_texts(alloc, nfa, &backward, texts)
+    }
+
     /// Compares the texts of the first patterns with the expected ones.
     fn judge_printed(
         &mut self,
@@ -71,13 +96,21 @@ impl Judged {
         printed: &[String],
     ) -> Result<(), AllocError> {
         for (pattern, wanted) in patterns.iter().zip(printed.iter()) {
-            let mut text = String::new(alloc);
-            write!(text, "{pattern} {pattern:?}")?;
-            let mut twice = String::new(alloc);
-            write!(twice, "{wanted} {wanted}")?;
-            if text.as_str() != twice.as_str() {
-                writeln!(self.report, "{text}, and not {wanted}")?;
-            }
+            self.judge_text_of(alloc, pattern, wanted.as_str())?;
+        }
+        Ok(())
+    }
+
+    /// Compares what `Display` and `Debug` write of a pattern with the expected text.
+    fn judge_text_of(
+        &mut self,
+        alloc: Global,
+        pattern: &Pattern,
+        wanted: &str,
+    ) -> Result<(), AllocError> {
+        let text = format!(in alloc; "{pattern} {pattern:?}")?;
+        if !is_twice(text.as_str(), wanted) {
+            writeln!(self.report, "{text}, and not {wanted}")?;
         }
         Ok(())
     }
@@ -133,13 +166,23 @@ impl Judged {
     {
         let mut regex = Regex::new(alloc, nfa, backward, CACHE_LIMIT);
         for line in lines {
-            let Some((text, wanted)) = line.as_str().split_once(' ') else {
-                return Err(JobError::Malformed("a text and its matches"));
-            };
-            let bytes = values::bytes(alloc, text)?;
-            let found = regex.find_all(alloc, &Input::new(bytes.as_slice()))?;
-            self.judge_matches(alloc, text, found.as_slice(), wanted)?;
+            self.judge_line(alloc, &mut regex, line.as_str())?;
         }
+        Ok(())
+    }
+
+    /// Finds all matches of the text of a line, and compares them with the expected ones.
+    fn judge_line(
+        &mut self,
+        alloc: Global,
+        regex: &mut LazyRegex<'_>,
+        line: &str,
+    ) -> Result<(), JobError> {
+        let Some((text, wanted)) = line.split_once(' ') else {
+            return Err(JobError::Malformed("a text and its matches"));
+        };
+        let found = matches_of(alloc, regex, text)?;
+        self.judge_matches(alloc, text, found.as_slice(), wanted)?;
         Ok(())
     }
 
@@ -164,18 +207,42 @@ impl Judged {
     }
 }
 
+/// Returns all matches of the bytes of a text.
+fn matches_of(
+    alloc: Global,
+    regex: &mut LazyRegex<'_>,
+    text: &str,
+) -> Result<Vec<Match>, JobError> {
+    let bytes = values::bytes(alloc, text)?;
+    Ok(regex.find_all(alloc, &Input::new(bytes.as_slice()))?)
+}
+
+/// Returns whether a text is another one twice, with a space between.
+fn is_twice(text: &str, once: &str) -> bool {
+    match text.strip_prefix(once) {
+        Some(rest) => rest.strip_prefix(' ') == Some(once),
+        None => false,
+    }
+}
+
 /// Returns the text of matches: pattern, start and end of each, as in `0:1-3,0:4-5`, or `-`.
 fn shown(alloc: Global, found: &[Match]) -> Result<String, AllocError> {
     let mut text = String::new(alloc);
-    for found in found {
-        if !text.is_empty() {
+    write_matches(&mut text, found)?;
+    Ok(text)
+}
+
+/// Writes the pattern, the start and the end of each match, or `-` if there is none.
+fn write_matches(text: &mut String, found: &[Match]) -> Result<(), AllocError> {
+    if found.is_empty() {
+        return text.push('-');
+    }
+    for (index, found) in found.iter().enumerate() {
+        if index > 0 {
             text.push(',')?;
         }
-        let pattern = found.pattern.as_usize();
-        write!(text, "{pattern}:{}-{}", found.start, found.end)?;
+        let (pattern, start, end) = (found.pattern.as_usize(), found.start, found.end);
+        write!(text, "{pattern}:{start}-{end}")?;
     }
-    if text.is_empty() {
-        text.push('-')?;
-    }
-    Ok(text)
+    Ok(())
 }

@@ -24,12 +24,28 @@ fn run<R: Read + Drop, W: Write>(
         return Err(ReplayError::OutOfMemory);
     };
     let mut replay = Replay::new(alloc);
+    take_lines(alloc, &mut replay, input, out)?;
+    finish(&mut replay, out)
+}
+
+/// Takes all lines of the input.
+fn take_lines<R: Read + Drop, W: Write>(
+    alloc: Global,
+    replay: &mut Replay,
+    input: BufReader<R>,
+    out: &mut W,
+) -> Result<(), ReplayError> {
     for line in input.lines(alloc) {
         match line {
             Ok(line) => replay.take_line(line.as_str(), out)?,
             Err(_) => return Err(ReplayError::Unreadable),
         }
     }
+    Ok(())
+}
+
+/// Judges the last job, and writes the counts.
+fn finish<W: Write>(replay: &mut Replay, out: &mut W) -> Result<Tally, ReplayError> {
     let tally = replay.finish(out)?;
     writeln!(out, "{tally}")?;
     Ok(tally)

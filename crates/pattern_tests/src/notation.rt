@@ -38,11 +38,11 @@ fn pattern(alloc: Global, stack: &mut Vec<Pattern>, word: &str) -> Result<Patter
         "E" => Ok(Pattern::Empty),
         "L" => Ok(Pattern::Literal(values::bytes(alloc, value)?)),
         "C" => class(alloc, value),
-        "U" => Ok(Pattern::chars(alloc, &char_ranges(alloc, value)?)?),
-        "N" => Ok(Pattern::none_of_chars(alloc, &char_ranges(alloc, value)?)?),
+        "U" => chars(alloc, value),
+        "N" => none_of_chars(alloc, value),
         "K" => Ok(Pattern::Look(values::look(value)?)),
         "G" => Ok(Pattern::Capture(part(alloc, stack)?)),
-        "R" => repetition(value, part(alloc, stack)?),
+        "R" => repetition(alloc, stack, value),
         "S" => Ok(Pattern::Concat(parts(alloc, stack, value)?)),
         "A" => Ok(Pattern::Alternation(parts(alloc, stack, value)?)),
         _ => Err(JobError::Malformed("a word of a pattern")),
@@ -65,23 +65,37 @@ fn part(alloc: Global, stack: &mut Vec<Pattern>) -> Result<Box<Pattern>, JobErro
 /// Takes this number of patterns from the stack.
 fn parts(alloc: Global, stack: &mut Vec<Pattern>, count: &str) -> Result<Vec<Pattern>, JobError> {
     let mut found = Vec::new(alloc);
-    for _ in 0..values::number(count)? {
-        let next = pop(stack)?;
-        found.push(next)?;
-    }
+    move_parts(stack, values::number(count)?, &mut found)?;
     Ok(found)
+}
+
+/// Moves this number of patterns from the stack to a list.
+fn move_parts(
+    stack: &mut Vec<Pattern>,
+    count: usize,
+    found: &mut Vec<Pattern>,
+) -> Result<(), JobError> {
+    for _ in 0..count {
+        found.push(pop(stack)?)?;
+    }
+    Ok(())
 }
 
 /// Returns the class of ranges such as `30-39,61-7a`.
 fn class(alloc: Global, value: &str) -> Result<Pattern, JobError> {
     let mut ranges = Vec::new(alloc);
+    add_ranges(&mut ranges, value)?;
+    Ok(Pattern::class(alloc, ranges.as_slice())?)
+}
+
+/// Adds ranges such as `30-39,61-7a`.
+fn add_ranges(ranges: &mut Vec<ClassBytesRange>, value: &str) -> Result<(), JobError> {
     if !value.is_empty() {
         for word in value.split(',') {
-            let next = range(word)?;
-            ranges.push(next)?;
+            ranges.push(range(word)?)?;
         }
     }
-    Ok(Pattern::class(alloc, ranges.as_slice())?)
+    Ok(())
 }
 
 /// Returns the range of a word such as `61-7a`.
@@ -95,16 +109,33 @@ fn range(word: &str) -> Result<ClassBytesRange, JobError> {
     }
 }
 
+/// Returns the pattern of a character in ranges such as `e9-e9,20ac-20ac`.
+fn chars(alloc: Global, value: &str) -> Result<Pattern, JobError> {
+    let ranges = char_ranges(alloc, value)?;
+    Ok(Pattern::chars(alloc, ranges.as_slice())?)
+}
+
+/// Returns the pattern of a character in none of the ranges.
+fn none_of_chars(alloc: Global, value: &str) -> Result<Pattern, JobError> {
+    let ranges = char_ranges(alloc, value)?;
+    Ok(Pattern::none_of_chars(alloc, ranges.as_slice())?)
+}
+
 /// Returns the ranges of characters of words such as `e9-e9,20ac-20ac`.
 fn char_ranges(alloc: Global, value: &str) -> Result<Vec<ClassUnicodeRange>, JobError> {
     let mut ranges = Vec::new(alloc);
+    add_char_ranges(&mut ranges, value)?;
+    Ok(ranges)
+}
+
+/// Adds ranges of characters.
+fn add_char_ranges(ranges: &mut Vec<ClassUnicodeRange>, value: &str) -> Result<(), JobError> {
     if !value.is_empty() {
         for word in value.split(',') {
-            let next = char_range(word)?;
-            ranges.push(next)?;
+            ranges.push(char_range(word)?)?;
         }
     }
-    Ok(ranges)
+    Ok(())
 }
 
 /// Returns the range of a word such as `20ac-20ac`.
@@ -129,8 +160,30 @@ fn character(code: &str) -> Result<char, JobError> {
     }
 }
 
-/// Returns the repetition of counts such as `1,-,g`.
-fn repetition(value: &str, sub: Box<Pattern>) -> Result<Pattern, JobError> {
+/// The counts of a repetition, and whether it is greedy.
+#[derive(Clone, Copy)]
+struct Rounds {
+    min: u32,
+    max: Option<u32>,
+    greedy: bool,
+}
+
+/// Returns the repetition of the topmost pattern of the stack.
+fn repetition(alloc: Global, stack: &mut Vec<Pattern>, value: &str) -> Result<Pattern, JobError> {
+    let sub = part(alloc, stack)?;
+    match read_rounds(value) {
+        Ok(Rounds { min, max, greedy }) => Ok(Pattern::Repetition {
+            min,
+            max,
+            greedy,
+            sub,
+        }),
+        Err(error) => Err(error),
+    }
+}
+
+/// Returns the counts of a text such as `1,-,g`.
+fn read_rounds(value: &str) -> Result<Rounds, JobError> {
     let Some((min, rest)) = value.split_once(',') else {
         return Err(JobError::Malformed("the counts of a repetition"));
     };
@@ -139,11 +192,10 @@ fn repetition(value: &str, sub: Box<Pattern>) -> Result<Pattern, JobError> {
         Some((max, "l")) => (max, false),
         _ => return Err(JobError::Malformed("a greedy or a lazy repetition")),
     };
-    Ok(Pattern::Repetition {
+    Ok(Rounds {
         min: count(min)?,
         max: if max == "-" { None } else { Some(count(max)?) },
         greedy,
-        sub,
     })
 }
 

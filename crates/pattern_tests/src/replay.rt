@@ -4,7 +4,7 @@ ghost use Rattle.std.specs.Prelude.{◌≡◌, ◌≤◌};
 
 use crate::error::ReplayError;
 use crate::judge::{Judged, judge};
-use std::alloc::Global;
+use std::alloc::{AllocError, Global};
 use std::fmt;
 use std::io::Write;
 
@@ -54,6 +54,27 @@ struct Pending {
     texts: Vec<String>,
 }
 
+impl Pending {
+    /// Returns a job of which only the first line is read.
+    fn new(alloc: Global, line: u64, head: &str) -> Result<Pending, AllocError> {
+        Ok(Pending {
+            line,
+            head: String::from_str(alloc, head)?,
+            printed: Vec::new(alloc),
+            texts: Vec::new(alloc),
+        })
+    }
+
+    /// Adds a line: the expected text of a pattern, or a text that is searched.
+    fn add(&mut self, alloc: Global, text: &str) -> Result<(), ReplayError> {
+        match text.strip_prefix("= ") {
+            Some(printed) => self.printed.push(String::from_str(alloc, printed)?)?,
+            None => self.texts.push(String::from_str(alloc, text)?)?,
+        }
+        Ok(())
+    }
+}
+
 /// A replay in progress.
 #[derive(Drop)]
 pub struct Replay {
@@ -91,45 +112,38 @@ impl Replay {
         }
         if let Some(head) = text.strip_prefix("> ") {
             self.judge(out)?;
-            self.job = Some(Pending {
-                line: self.line,
-                head: String::from_str(self.alloc, head)?,
-                printed: Vec::new(self.alloc),
-                texts: Vec::new(self.alloc),
-            });
+            self.job = Some(Pending::new(self.alloc, self.line, head)?);
             return Ok(());
         }
-        let Some(job) = self.job.as_mut() else {
-            return Err(ReplayError::NoJob(self.line));
-        };
-        match text.strip_prefix("= ") {
-            Some(printed) => job.printed.push(String::from_str(self.alloc, printed)?)?,
-            None => job.texts.push(String::from_str(self.alloc, text)?)?,
+        match self.job.as_mut() {
+            Some(job) => job.add(self.alloc, text),
+            None => Err(ReplayError::NoJob(self.line)),
         }
-        Ok(())
     }
 
     /// Judges the last job and returns the counts.
-    pub fn finish<W: Write>(mut self, out: &mut W) -> Result<Tally, ReplayError> {
+    pub fn finish<W: Write>(&mut self, out: &mut W) -> Result<Tally, ReplayError> {
         self.judge(out)?;
         Ok(self.tally)
     }
 
     /// Judges the current job, if there is one, and clears it.
     fn judge<W: Write>(&mut self, out: &mut W) -> Result<(), ReplayError> {
-        let Some(job) = self.job.take() else {
-            return Ok(());
-        };
-        let judged = match judge(self.alloc, job.head.as_str(), &job.printed, &job.texts) {
-            Ok(judged) => judged,
-            Err(error) => return Err(ReplayError::of_job(job.line, error)),
-        };
-        self.count(&judged);
-        if !judged.report.is_empty() {
-            let (line, report) = (job.line, judged.report.as_str());
-            write!(out, "job at line {line}:\n{report}")?;
+        match self.job.take() {
+            Some(job) => self.judge_job(&job, out),
+            None => Ok(()),
         }
-        Ok(())
+    }
+
+    /// Judges a job.
+    fn judge_job<W: Write>(&mut self, job: &Pending, out: &mut W) -> Result<(), ReplayError> {
+        match judge(self.alloc, job.head.as_str(), &job.printed, &job.texts) {
+            Ok(judged) => {
+                self.count(&judged);
+                report(job.line, judged.report.as_str(), out)
+            }
+            Err(error) => Err(ReplayError::of_job(job.line, error)),
+        }
     }
 
     /// Adds a job to the counts.
@@ -142,4 +156,12 @@ impl Replay {
             tally.differ = tally.differ.saturating_add(1);
         }
     }
+}
+
+/// Writes what is not as expected of the job at a line, if anything.
+fn report<W: Write>(line: u64, report: &str, out: &mut W) -> Result<(), ReplayError> {
+    if !report.is_empty() {
+        write!(out, "job at line {line}:\n{report}")?;
+    }
+    Ok(())
 }
