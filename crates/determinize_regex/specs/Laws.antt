@@ -56,5 +56,6 @@ WorkedParts = parts (codes "a,b,") 0 (one_byte_match 1 ∷ one_byte_match 3 ∷ 
 
 -- and with ` and ` in their place
 abbrev pub WorkedReplaced : Type 0
-WorkedReplaced = replaced (codes " and ") (codes "a,b,") 0 (one_byte_match 1 ∷ one_byte_match 3 ∷ [])
+WorkedReplaced =
+    replaced (codes " and ") (codes "a,b,") 0 (one_byte_match 1 ∷ one_byte_match 3 ∷ [])
     ≡ codes "a and b and "

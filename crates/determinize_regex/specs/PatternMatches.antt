@@ -16,8 +16,8 @@ latest_in No n = n
 latest_in Yes n = 0
 latest_in (Pattern pattern) n = 0
 
--- the leftmost match of the patterns in the input, with indices of the haystack; `None` if the range
--- starts past its end
+-- the leftmost match of the patterns in the input, with indices of the haystack; `None` if the
+-- range starts past its end
 pub record IsLeftmostOfIn (terminator : ℕ) (res : List Re) (asked : Asked)
     (answer : Option Match) : Type 0 where
   pub done : is_done asked ≡ true → answer ≡ None

@@ -47,8 +47,8 @@ abbrev pub IsPartFedOf : StreamValue → StreamValue → List ℕ → List Match
 IsPartFedOf old new piece list after =
     (count : ℕ) × (count ≤ length piece) × IsFedOf old new (take count piece) list after
 
--- few bytes were kept at the end of each block of a piece, by an NFA of the patterns whose prefix is
--- apart
+-- few bytes were kept at the end of each block of a piece, by an NFA of the patterns whose prefix
+-- is apart
 pub record KeptFewOf (old new : StreamValue) (piece : List ℕ) (list after : List Match)
     : Type 0 where
   pub nfa : Nfa
