@@ -1,6 +1,8 @@
 -- Laws of searches over the NFA of patterns, and of the parts of texts.
+use Rattle.std.specs.Bool.{Decides}
 use Rattle.std.specs.List.{join_by}
 use Rattle.std.specs.Prelude.{◌≡◌, ◌+◌, ◌<◌, ◌↔◌, ◌∷◌, ℕ, All, List, Option, [], codes, length}
+use Rattle.std.specs.Str.{IsCharBoundary}
 use Rattle.determinize_below.specs.Search.{Asked}
 use Rattle.determinize_below.specs.Semantics.{Nfa, Text}
 use Rattle.determinize_below.specs.declared.search.Match.{Match}
@@ -13,6 +15,7 @@ use Rattle.determinize_pattern.specs.Meaning.{Re}
 use Rattle.determinize_regex.specs.Parts.{parts, replaced}
 use Rattle.determinize_regex.specs.PatternMatches.{AreMatchesOf, IsLeftmostOfIn}
 use Rattle.determinize_regex.specs.PatternsAt.{ArePatternsAt}
+use Rattle.determinize_regex.specs.Utf8.{is_boundary}
 
 -- the leftmost match of an input over the NFA of patterns is that of the patterns
 abbrev pub EachLeftmostInIsOf : Type 0
@@ -39,6 +42,11 @@ EachListIsOf = (res : List Re) (nfa : Nfa) → IsNfaOf res nfa → HasPrefix nfa
     → (text : Text) → All (λ b. b < 256) text.bytes
     → (i : ℕ) (xs : List ℕ) → ListsAccepted nfa text nfa.start_unanchored i xs
     → ArePatternsAt nfa.terminator res text (length text.bytes) i xs
+
+-- `is_boundary` is whether a text may be cut at the index
+abbrev pub EachBoundaryIsDecided : Type 0
+EachBoundaryIsDecided =
+    (text : List ℕ) (i : ℕ) → Decides (is_boundary text i) (IsCharBoundary text i)
 
 -- a text with other bytes in place of each match is its parts, joined by these bytes
 abbrev pub EachReplacedIsJoined : Type 0

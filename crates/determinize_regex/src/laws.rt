@@ -1,7 +1,7 @@
 //! Laws of searches over the NFA of patterns and of the parts of texts, as contracts of public
 //! functions.
 
-ghost use Rattle.determinize_regex.specs.Laws.{EachAnchoredListIsOf, EachLeftmostInIsOf, EachListIsOf, EachMatchesAreOf, EachReplacedIsJoined, WorkedParts, WorkedReplaced};
+ghost use Rattle.determinize_regex.specs.Laws.{EachAnchoredListIsOf, EachBoundaryIsDecided, EachLeftmostInIsOf, EachListIsOf, EachMatchesAreOf, EachReplacedIsJoined, WorkedParts, WorkedReplaced};
 
 /// States that over the NFA of patterns, with the usual prefix, the leftmost match of an input is
 /// that of the patterns, and all its matches are those of the patterns.
@@ -18,6 +18,11 @@ pub fn matches_of_law()
 pub fn patterns_at_law()
     ensures anchored { EachAnchoredListIsOf }
     ensures unanchored { EachListIsOf }
+{}
+
+/// States that `is_boundary` says whether a `str` of these bytes may be cut at the index.
+pub fn boundary_law()
+    ensures { EachBoundaryIsDecided }
 {}
 
 /// States that a text with other bytes in place of its matches is its parts, joined by these bytes,
