@@ -3,5 +3,6 @@ pub mod Finish
 pub mod FirstMatch
 pub mod Fresh
 pub mod Kept
+pub mod Moves
 pub mod Rests
 pub mod Steps

@@ -1,6 +1,7 @@
 -- All matches of a text that comes in pieces.
-use Rattle.std.specs.Prelude.{◌≡◌, ◌*◌, ◌+◌, ◌<◌, ◌≤◌, ◌++◌, ◌⊎◌, ℕ, All, Bool, List, None, OnErr}
-use Rattle.std.specs.Prelude.{OnOk, Option, Result, Some, cond, drop, length, take}
+use Rattle.std.specs.Prelude.{◌≡◌, ◌*◌, ◌+◌, ◌-◌, ◌<◌, ◌≤◌, ◌++◌, ◌⊎◌, ℕ, [], All, Bool, IfOk, List}
+use Rattle.std.specs.Prelude.{None, OnErr, OnOk, Option, Result, Some, cond, drop, length}
+use Rattle.std.specs.Prelude.{option_to_list, take}
 use Rattle.std.specs.Option.{IfSome}
 use Rattle.determinize_below.specs.Nfa.{AllResolve, IsAccepted}
 use Rattle.determinize_below.specs.Semantics.{Nfa}
@@ -93,6 +94,31 @@ pub record IsFeeding {T E : Type 0} (nfa : Nfa) (old new : Streamed) (piece : Li
   pub failed : OnErr result (IsPartFed nfa old new piece list after)
   pub searching : IsSearching nfa new
 
+-- the bytes of a piece up to its rest were read, and these matches were found
+pub record IsFrontFed (nfa : Nfa) (old new : Streamed) (piece rest : List ℕ) (found : List Match)
+    : Type 0 where
+  pub front : List ℕ
+  pub cut : front ++ rest ≡ piece
+  pub fed : IsFed nfa old new front [] found
+
+-- a piece was read up to its rest, and the result is the next match, or no match was found
+pub record IsAdvance {E : Type 0} (nfa : Nfa) (old new : Streamed) (piece rest : List ℕ)
+    (result : Result (Option Match) E) : Type 0 where
+  pub fed : IfOk result (λ next. IsFrontFed nfa old new piece rest (option_to_list next))
+  pub failed : OnErr result (IsFrontFed nfa old new piece rest [])
+  pub searching : IsSearching nfa new
+
+-- how many more matches there may be in the kept bytes and a piece: two for each byte, since an
+-- empty match may be followed by another, which is skipped
+abbrev pub left_in : List ℕ → Streamed → ℕ
+left_in piece s = 2 * (length piece + (length s.kept - s.start)) + cond s.is_after 0 1
+
+-- all bytes of a match are kept
+pub record IsKept (s : Streamed) (m : Match) : Type 0 where
+  pub low : s.dropped ≤ m.start
+  pub order : m.start ≤ m.end
+  pub high : m.end ≤ count_read s
+
 -- the search of the kept bytes from the start on is under way, and no match of it is certain; at
 -- most one byte before its start is kept, and no other where it is idle
 pub record KeepsFew (nfa : Nfa) (s : Streamed) : Type 0 where
@@ -124,9 +150,10 @@ abbrev pub KeptFewInBlocks : Nfa → Streamed → Streamed → List ℕ → List
 KeptFewInBlocks nfa old new piece list after =
     (i : ℕ) → IsBlockEnd piece i → KeptFewAt nfa old new piece list after i
 
--- the matches that are left, where the text ends, were added to a list
+-- the matches that are left, where the text ends, were added to a list; their bytes are kept
 pub record IsFinished (nfa : Nfa) (s : Streamed) (list after : List Match) : Type 0 where
   pub found : List Match
   pub added : after ≡ list ++ found
+  pub kept : All (IsKept s) found
   pub all : (bytes : List ℕ) (given : List Match) → IsStream nfa bytes given s
       → AreMatches nfa (whole bytes) None (given ++ found)

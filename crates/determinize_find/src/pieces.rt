@@ -1,20 +1,23 @@
 //! All matches of a text that comes in pieces, as from a socket or a file.
 
-ghost use Rattle.std.specs.Prelude.{◌≡◌, ◌-◌, ◌<◌, ◌≤◌, ◌⊎◌, [], List, None, Some, cond, drop};
-ghost use Rattle.std.specs.Prelude.{length, take, IfOk, OnErr, OnOk};
+ghost use Rattle.std.specs.Prelude.{◌≡◌, ◌++◌, ◌-◌, ◌<◌, ◌≤◌, ◌∷◌, ◌↔◌, ℕ, [], List, None, Some};
+ghost use Rattle.std.specs.Prelude.{cond, drop, length, take, IfOk, IsSome, OnErr, OnOk};
+ghost use Rattle.std.specs.List.{slice_range};
+ghost use Rattle.std.specs.Option.{IfNone, IfSome};
 ghost use Rattle.determinize_below.specs.Semantics.{Nfa};
 ghost use Rattle.determinize_below.specs.declared.search.Match.{Match as Found};
 ghost use Rattle.determinize_find.specs.Certain.{IsUnsettled};
 ghost use Rattle.determinize_find.specs.Idle.{IsIdle};
 ghost use Rattle.determinize_find.specs.LeftmostIn.{moved};
 ghost use Rattle.determinize_nfa.specs.Prefix.{HasPrefixApart};
-ghost use Rattle.determinize_find.specs.Private.Windows.{IsCertain, IsInside, left_in, unsearched};
-ghost use Rattle.determinize_find.specs.Private.Windows.{with_bytes, without_first};
-ghost use Rattle.determinize_find.specs.Streams.{IsFed, IsFeeding, IsFinished, IsKeptScan};
-ghost use Rattle.determinize_find.specs.Streams.{IsSearching, IsStream, KeepsFew};
-ghost use Rattle.determinize_find.specs.Streams.{KeptFewInBlocks, count_kept, count_read};
+ghost use Rattle.determinize_find.specs.Private.Windows.{HasMoved, IsCertain, IsInside, IsPlaceOf};
+ghost use Rattle.determinize_find.specs.Private.Windows.{after_match, with_bytes, with_scan};
+ghost use Rattle.determinize_find.specs.Private.Windows.{without_first};
+ghost use Rattle.determinize_find.specs.Streams.{IsAdvance, IsFed, IsFeeding, IsFinished, IsKept};
+ghost use Rattle.determinize_find.specs.Streams.{IsKeptScan, IsSearching, IsStream, KeepsFew};
+ghost use Rattle.determinize_find.specs.Streams.{KeptFewInBlocks, count_kept, count_read, left_in};
 
-use crate::iter::{Searcher, touches};
+use crate::iter::{Searcher, is_touching};
 use crate::regex::LazyRegex;
 use determinize_below::{Input, Match};
 use determinize_lazy::Scan;
@@ -24,8 +27,8 @@ use std::marker::Model;
 /// The most bytes that are read at once, and between two places where bytes may be dropped.
 const BLOCK: usize = 4096;
 
-/// A search for all matches of a text that comes in pieces: `feed` reads the next piece, and
-/// `finish` says that the text ends.
+/// A search for all matches of a text that comes in pieces: `feed` reads the next piece, `advance`
+/// returns the next match of it, and `finish` says that the text ends.
 ///
 /// A piece is read in blocks of 4096 bytes. At the end of a block each match is added that is
 /// certain (`certain_match`): no NFA state is left, or the first one is a `Match`, so no byte that
@@ -108,56 +111,48 @@ impl<A: Allocator + Copy> Pieces<A> {
         self.is_after_match.then_some(self.start)
     }
 
-    /// Keeps the next bytes, and returns the search of all kept bytes from the start on.
+    /// Keeps the next bytes of the text, which the search under way reads too. If that fails, none
+    /// is read.
     fn keep<N: Allocator, B: Allocator>(
         &mut self,
         regex: &mut LazyRegex<'_, N, B, A>,
         block: &[u8],
-    ) -> Result<Scan<A>, AllocError>
-        ensures kept { OnOk result (self.new ≡ with_bytes block.now self.old) }
-        ensures failed { OnErr result ((self.new ≡ unsearched self.old)
-            ⊎ (self.new ≡ with_bytes block.now self.old)) }
-        ensures scan { IsSearching regex.old.nfa self.old
-            → IfOk result (λ scan. IsKeptScan regex.old.nfa self.new scan) }
-        ensures read { IfOk result
-            (λ scan. scan.read ≡ length self.new.kept - self.new.start) }
+    ) -> Result<(), AllocError>
+        ensures kept { OnOk result
+            (self.new ≡ with_scan self.new.scan (with_bytes block.now self.old)) }
+        ensures fed { OnOk result ((nfa : Nfa) (list : List Found)
+            → IsFed nfa self.old self.new block.now list list) }
+        ensures failed { OnErr result (self.new ≡ with_scan None self.old) }
+        ensures searching { IsSearching regex.old.nfa self.old
+            → IsSearching regex.old.nfa self.new }
         ensures same { regex.new ≡ regex.old }
     {
         let scan = self.scan.take();
         if self.bytes_read().checked_add(block.len()).is_none() {
             return Err(AllocError);
         }
+        let scan = regex.feed(scan, block)?;
         self.kept.extend_from_slice(block)?;
-        let Some(mut scan) = scan else {
-            return regex.scan(self.kept.as_slice(), self.start);
-        };
-        regex.feed(&mut scan, block)?;
-        Ok(scan)
+        self.scan = scan;
+        Ok(())
     }
 
-    /// Adds a match that is certain, and moves the start to its end. But an empty match where the
-    /// one before ended is skipped, and the start is moved by one byte.
-    fn add<C: Allocator>(
+    /// Returns the search of all kept bytes from the start on, which is then no longer under way.
+    fn take_scan<N: Allocator, B: Allocator>(
         &mut self,
-        next: Match,
-        found: &mut Vec<Match, C>,
-    ) -> Result<(), AllocError>
-        requires none { self.old.scan ≡ None }
-        requires inside { IsInside (length self.old.kept) self.old.start next }
-        ensures fed { (nfa : Nfa) → IsCertain nfa self.old.kept self.old.start next
-            → IsFed nfa self.old self.new [] found.old.items found.new.items }
-        ensures fewer { OnOk result (left_in self.new < left_in self.old) }
-        ensures scan { self.new.scan ≡ self.old.scan }
+        regex: &mut LazyRegex<'_, N, B, A>,
+    ) -> Result<Scan<A>, AllocError>
+        ensures scan { IsSearching regex.old.nfa self.old
+            → IfOk result (λ scan. IsKeptScan regex.old.nfa self.new scan) }
+        ensures read { IfOk result
+            (λ scan. scan.read ≡ length self.new.kept - self.new.start) }
+        ensures taken { self.new ≡ with_scan None self.old }
+        ensures same { regex.new ≡ regex.old }
     {
-        if touches(self.last_match_end(), &next) {
-            self.start += 1;
-            self.is_after_match = false;
-            return Ok(());
+        match self.scan.take() {
+            Some(scan) => Ok(scan),
+            None => regex.scan(self.kept.as_slice(), self.start),
         }
-        found.push(self.in_text(&next))?;
-        self.start = next.end;
-        self.is_after_match = true;
-        Ok(())
     }
 
     /// Returns a match in the kept bytes, as a match in the text.
@@ -203,6 +198,7 @@ impl<A: Allocator + Copy> Pieces<A> {
         ensures read { IfOk result
             (λ rest. rest.read ≡ length self.new.kept - self.new.start) }
         ensures taken { self.new.scan ≡ self.old.scan }
+        ensures left { left_in [] self.new ≤ left_in [] self.old }
         ensures same { regex.new ≡ regex.old }
     {
         if !regex.is_idle(self.kept.as_slice(), self.start, &scan) {
@@ -211,6 +207,182 @@ impl<A: Allocator + Copy> Pieces<A> {
         self.start = self.kept.len();
         self.is_after_match = false;
         regex.scan(self.kept.as_slice(), self.start)
+    }
+
+    /// Keeps the search of the kept bytes under way, of which no match is certain, and drops the
+    /// bytes that it does not need.
+    fn settle<N: Allocator, B: Allocator>(
+        &mut self,
+        regex: &mut LazyRegex<'_, N, B, A>,
+        scan: Scan<A>,
+    ) -> Result<(), AllocError>
+        requires none { self.old.scan ≡ None }
+        requires read { scan.read ≡ length self.old.kept - self.old.start }
+        ensures moved { IsKeptScan regex.old.nfa self.old scan
+            → HasMoved regex.old.nfa self.old self.new }
+        ensures few { IsKeptScan regex.old.nfa self.old scan → IsUnsettled regex.old.nfa scan
+            → OnOk result (KeepsFew regex.old.nfa self.new) }
+        ensures left { left_in [] self.new ≤ left_in [] self.old }
+        ensures same { regex.new ≡ regex.old }
+    {
+        let rest = self.skip_idle(regex, scan)?;
+        self.scan = Some(rest);
+        self.drop_passed();
+        Ok(())
+    }
+
+    /// Returns the leftmost match of the kept bytes from the start on if it is certain, by indices
+    /// into these bytes. If none is, drops the bytes that no search needs any more.
+    fn certain<N: Allocator, B: Allocator>(
+        &mut self,
+        regex: &mut LazyRegex<'_, N, B, A>,
+    ) -> Result<Option<Match>, AllocError>
+        ensures moved { IsSearching regex.old.nfa self.old
+            → HasMoved regex.old.nfa self.old self.new }
+        ensures certain { IsSearching regex.old.nfa self.old → IfOk result (λ next. IfSome next
+            (λ m. IsCertain regex.old.nfa self.new.kept self.new.start m)) }
+        ensures few { IsSearching regex.old.nfa self.old → IfOk result
+            (λ next. IfNone next (KeepsFew regex.old.nfa self.new)) }
+        ensures inside { IfOk result (λ next. IfSome next
+            (λ m. IsInside (length self.new.kept) self.new.start m)) }
+        ensures taken { IfOk result (λ next. IfSome next
+            (λ m. self.new ≡ with_scan None self.old)) }
+        ensures left { left_in [] self.new ≤ left_in [] self.old }
+        ensures same { regex.new ≡ regex.old }
+    {
+        let scan = self.take_scan(regex)?;
+        let next = regex.certain(self.kept.as_slice(), self.start, &scan)?;
+        if next.is_none() {
+            self.settle(regex, scan)?;
+        }
+        Ok(next)
+    }
+
+    /// Returns the next match if it is certain, as `certain` does. But an empty match where the one
+    /// before ended is skipped, and the start is moved by one byte.
+    fn next_certain<N: Allocator, B: Allocator>(
+        &mut self,
+        regex: &mut LazyRegex<'_, N, B, A>,
+    ) -> Result<Option<Match>, AllocError>
+        ensures moved { IsSearching regex.old.nfa self.old
+            → HasMoved regex.old.nfa self.old self.new }
+        ensures certain { IsSearching regex.old.nfa self.old → IfOk result (λ next. IfSome next
+            (λ m. IsCertain regex.old.nfa self.new.kept self.new.start m)) }
+        ensures few { IsSearching regex.old.nfa self.old → IfOk result
+            (λ next. IfNone next (KeepsFew regex.old.nfa self.new)) }
+        ensures place { IfOk result (λ next. IfSome next (λ m. IsPlaceOf m self.new)) }
+        ensures left { left_in [] self.new ≤ left_in [] self.old }
+        ensures same { regex.new ≡ regex.old }
+    {
+        let first = self.certain(regex)?;
+        if !is_touching(self.last_match_end(), &first) {
+            return Ok(first);
+        }
+        self.start += 1;
+        self.is_after_match = false;
+        self.certain(regex)
+    }
+
+    /// Moves the start to the end of the next match.
+    fn pass(&mut self, next: &Match)
+        requires { IsPlaceOf next.now self.old }
+        ensures value { self.new ≡ after_match next.now self.old }
+        ensures fed { (nfa : Nfa) → IsCertain nfa self.old.kept self.old.start next.now
+            → (list : List Found) → IsFed nfa self.old self.new [] list
+            (list ++ moved self.old.dropped next.now ∷ []) }
+    {
+        self.start = next.end;
+        self.is_after_match = true;
+    }
+
+    /// Returns the next match in the text if it is certain, and moves the start to its end.
+    fn take_next<N: Allocator, B: Allocator>(
+        &mut self,
+        regex: &mut LazyRegex<'_, N, B, A>,
+    ) -> Result<Option<Match>, AllocError>
+        ensures read { IsSearching regex.old.nfa self.old → (piece : List ℕ)
+            → IsAdvance regex.old.nfa self.old self.new piece piece result }
+        ensures few { IsSearching regex.old.nfa self.old → IfOk result
+            (λ next. IfNone next (KeepsFew regex.old.nfa self.new)) }
+        ensures kept { IfOk result (λ next. IfSome next (λ m. IsKept self.new m)) }
+        ensures left { left_in [] self.new ≤ left_in [] self.old }
+        ensures fewer { IfOk result (λ next. IfSome next
+            (λ m. left_in [] self.new < left_in [] self.old)) }
+        ensures same { regex.new ≡ regex.old }
+    {
+        let Some(next) = self.next_certain(regex)? else {
+            return Ok(None);
+        };
+        let found = self.in_text(&next);
+        self.pass(&next);
+        Ok(Some(found))
+    }
+
+    /// Reads the first block of a piece, and returns the next match if it is then certain.
+    fn read_next<N: Allocator, B: Allocator>(
+        &mut self,
+        regex: &mut LazyRegex<'_, N, B, A>,
+        piece: &mut &[u8],
+    ) -> Result<Option<Match>, AllocError>
+        ensures read { IsSearching regex.old.nfa self.old → IsAdvance regex.old.nfa
+            self.old self.new piece.old.now piece.new.now result }
+        ensures few { IsSearching regex.old.nfa self.old → IfOk result
+            (λ next. IfNone next (KeepsFew regex.old.nfa self.new)) }
+        ensures kept { IfOk result (λ next. IfSome next (λ m. IsKept self.new m)) }
+        ensures left { left_in piece.new.now self.new ≤ left_in piece.old.now self.old }
+        ensures fewer { IfOk result (λ next. IfSome next
+            (λ m. left_in piece.new.now self.new < left_in piece.old.now self.old)) }
+        ensures shorter { IfOk result (λ next. 0 < length piece.old.now
+            → length piece.new.now < length piece.old.now) }
+        ensures same { regex.new ≡ regex.old }
+    {
+        let (block, rest) = piece.split_at(piece.len().min(BLOCK));
+        self.keep(regex, block)?;
+        *piece = rest;
+        self.take_next(regex)
+    }
+
+    /// Reads a piece of the text until the next match is certain, and returns that match. The piece
+    /// is then what is left of it. `None` means that all of it was read.
+    ///
+    /// The piece is read in blocks of 4096 bytes, and a match is returned with the block that makes
+    /// it certain. Its bytes are kept (`bytes_of`) until the next call of `advance` or `feed`.
+    ///
+    /// Returns `AllocError` as `feed` does. To continue, call it again with what is left.
+    pub fn advance<N: Allocator, B: Allocator>(
+        &mut self,
+        regex: &mut LazyRegex<'_, N, B, A>,
+        piece: &mut &[u8],
+    ) -> Result<Option<Match>, AllocError>
+        ensures read { IsSearching regex.old.nfa self.old → IsAdvance regex.old.nfa
+            self.old self.new piece.old.now piece.new.now result }
+        ensures end { IfOk result (λ next. IfNone next (piece.new.now ≡ [])) }
+        ensures few { IsSearching regex.old.nfa self.old → IfOk result
+            (λ next. IfNone next (KeepsFew regex.old.nfa self.new)) }
+        ensures kept { IfOk result (λ next. IfSome next (λ m. IsKept self.new m)) }
+        ensures fewer { IfOk result (λ next. IfSome next
+            (λ m. left_in piece.new.now self.new < left_in piece.old.now self.old)) }
+        ensures same { regex.new ≡ regex.old }
+    {
+        let mut next = self.take_next(regex)?;
+        while next.is_none() && !piece.is_empty() {
+            next = self.read_next(regex, piece)?;
+        }
+        Ok(next)
+    }
+
+    /// Returns the bytes of a match, if all of them are kept.
+    pub fn bytes_of(&self, found: &Match) -> Option<&[u8]>
+        ensures some { IsSome result ↔ IsKept self.now found.now }
+        ensures bytes { IfSome result (λ bytes. bytes.now ≡ slice_range self.now.kept
+            (found.now.start - self.now.dropped) (found.now.end - self.now.dropped)) }
+        ensures text { IfSome result (λ bytes. (text : List ℕ)
+            → self.now.kept ≡ drop self.now.dropped text
+            → bytes.now ≡ slice_range text found.now.start found.now.end) }
+    {
+        let start = found.start.checked_sub(self.dropped)?;
+        let end = found.end.checked_sub(self.dropped)?;
+        self.kept.get(start..end)
     }
 
     /// Reads the next bytes, and adds each match that is certain.
@@ -227,14 +399,11 @@ impl<A: Allocator + Copy> Pieces<A> {
             → OnOk result (KeepsFew regex.old.nfa self.new) }
         ensures same { regex.new ≡ regex.old }
     {
-        let mut scan = self.keep(regex, block)?;
-        while let Some(next) = regex.certain(self.kept.as_slice(), self.start, &scan)? {
-            self.add(next, found)?;
-            scan = regex.scan(self.kept.as_slice(), self.start)?;
+        self.keep(regex, block)?;
+        while let Some(next) = self.next_certain(regex)? {
+            found.push(self.in_text(&next))?;
+            self.pass(&next);
         }
-        let rest = self.skip_idle(regex, scan)?;
-        self.scan = Some(rest);
-        self.drop_passed();
         Ok(())
     }
 

@@ -331,17 +331,25 @@ impl<'n, N: Allocator, B: Allocator, A: Allocator + Copy> LazyRegex<'n, N, B, A>
             .scan_text(unanchored, behind, &haystack[start..])
     }
 
-    /// Reads the next piece of the text of such a search. If the result is an error, the search is
-    /// unchanged.
-    pub(crate) fn feed(&mut self, scan: &mut Scan<A>, piece: &[u8]) -> Result<(), AllocError>
+    /// Returns such a search, if one is under way, after the next piece of the text.
+    pub(crate) fn feed(
+        &mut self,
+        scan: Option<Scan<A>>,
+        piece: &[u8],
+    ) -> Result<Option<Scan<A>>, AllocError>
         ensures fed { (behind : Option ℕ) (bytes : List ℕ)
-            → IsEndScan self.old.nfa behind bytes scan.old
-            → OnOk result (IsEndScan self.old.nfa behind (bytes ++ piece.now) scan.new) }
-        ensures read { OnOk result (scan.new.read ≡ scan.old.read + length piece.now) }
-        ensures failed { OnErr result (scan.new ≡ scan.old) }
+            → IfSome scan (λ s. IsEndScan self.old.nfa behind bytes s)
+            → IfOk result (λ new. IfSome new
+            (λ s. IsEndScan self.old.nfa behind (bytes ++ piece.now) s)) }
+        ensures read { (count : ℕ) → IfSome scan (λ s. s.read ≡ count) → IfOk result
+            (λ new. IfSome new (λ s. s.read ≡ count + length piece.now)) }
         ensures same { self.new ≡ self.old }
     {
-        self.forward.feed(scan, piece)
+        let Some(mut scan) = scan else {
+            return Ok(None);
+        };
+        self.forward.feed(&mut scan, piece)?;
+        Ok(Some(scan))
     }
 
     /// Returns the leftmost match of a haystack from an index on, if it is certain by `scan`, the
@@ -402,6 +410,7 @@ impl<'n, N: Allocator, B: Allocator, A: Allocator + Copy> LazyRegex<'n, N, B, A>
             → IsFresh self.now.nfa haystack.now start }
         ensures idle { HasPrefixApart self.now.nfa → IsIdle self.now.nfa scan.now
             → start < length haystack.now → result ≡ true }
+        ensures some { result ≡ true → start < length haystack.now }
     {
         if !self.is_apart() {
             return false;

@@ -2,24 +2,25 @@
 -- Main statements: shift_matches, finished.
 -- Used by: `Pieces::finish`.
 -- Idea: each leftmost match is the same, as much later as bytes were dropped.
-use Rattle.std.specs.Prelude.{map, option_map}
+use Rattle.std.specs.Prelude.{All, map, option_map}
 use Rattle.std.proofs.Common.{◌≡◌, ◌<◌, ◌≤◌, ◌+◌, ◌++◌, ◌-◌, ◌∙◌, ◌∷◌, ℕ, Bool, List, None, Option, Some, [], ap}
 use Rattle.std.proofs.Common.{append-nil, append_assoc, arith, cond, drop, false, length, subst, sym, true}
 use Rattle.std.proofs.lemmas.Bool.{cases_lt, lt-ltb}
 use Rattle.std.proofs.lemmas.List.{length-drop, map-append}
-use Rattle.std.proofs.lemmas.List.Elements.{All-nil}
+use Rattle.std.proofs.lemmas.List.Elements.{All-cons, All-nil}
 use Rattle.determinize_below.specs.Semantics.{Nfa}
 use Rattle.determinize_below.specs.declared.search.Match.{Match}
 use Rattle.ordered_reach.proofs.Cases.{by_cases, some_injective}
 use Rattle.determinize_find.specs.Cursors.{SearcherValue}
 use Rattle.determinize_find.specs.LeftmostIn.{IsLeftmostIn, moved}
 use Rattle.determinize_find.specs.Matches.{AreMatches, IsNext, IsTaken, from}
-use Rattle.determinize_find.specs.Streams.{IsFinished, Streamed, before, place, whole}
+use Rattle.determinize_find.specs.Private.Windows.{end_before}
+use Rattle.determinize_find.specs.Streams.{IsFinished, IsKept, Streamed, before, place, whole}
 use Rattle.determinize_find.proofs.leftmost.SearchInTurn.{found_past}
 use Rattle.determinize_find.proofs.matches.NextMatch.{IsAfter}
 use Rattle.determinize_find.proofs.matches.OneList.{IsLater, next_lies}
 use Rattle.determinize_find.proofs.streams.Rests.{shift_leftmost}
-use Rattle.determinize_find.proofs.streams.Steps.{before-kept, end_before, touches_moved}
+use Rattle.determinize_find.proofs.streams.Steps.{before-kept, touches_moved}
 
 module _ (nfa : Nfa) (d : ℕ) (xs : List ℕ) where
   -- the leftmost match from one byte further on, also at the end of the haystack
@@ -77,6 +78,20 @@ end_is s end e = last s.is_after e
     last true e = sym (some_injective s.start end e)
     last false e = absurd (let z : None ≡ Some end = e in cc)
 
+-- the bytes of matches of what is kept are kept
+matches_kept : (nfa : Nfa) (s : Streamed) (i : ℕ) (end : Option ℕ) (ms : List Match)
+    → ((last : ℕ) → end ≡ Some last → last ≡ i) → AreMatches nfa (from (whole s.kept) i) end ms
+    → All (IsKept s) (map (moved s.dropped) ms)
+matches_kept nfa s i end [] last h = All-nil (IsKept s)
+matches_kept nfa s i end (m ∷ ms) last h =
+    let inside : length s.kept ≤ length s.kept = omega arith in
+    let l : IsLater (from (whole s.kept) i) end m = next_lies nfa (from (whole s.kept) i) end m inside last h.0 in
+    let order : m.start ≤ m.end = l.order in
+    let high : m.end ≤ length s.kept = l.high in
+    All-cons (IsKept s) (moved s.dropped m) (map (moved s.dropped) ms)
+    record { low = omega arith; order = omega arith; high = omega arith }
+    (matches_kept nfa s m.end (Some m.end) ms (λ last e. sym (some_injective m.end last e)) h.1)
+
 -- all matches that are left were added
 pub finished : (nfa : Nfa) (s : Streamed) (list after ms : List Match) → (s.start ≡ 0 → s.dropped ≡ 0)
     → s.start ≤ length s.kept → AreMatches nfa (from (whole s.kept) s.start) (end_before s) ms
@@ -84,6 +99,7 @@ pub finished : (nfa : Nfa) (s : Streamed) (list after ms : List Match) → (s.st
 finished nfa s list after ms behind within h e = record {
   found = map (moved s.dropped) ms;
   added = e;
+  kept = matches_kept nfa s s.start (end_before s) ms (end_is s) h;
   all = λ bytes given is.
       let n : s.dropped + length s.kept ≡ length bytes = is.read in
       let k : AreMatches nfa (from (whole (drop s.dropped bytes)) s.start) (end_before s) ms

@@ -26,10 +26,10 @@ use Rattle.determinize_engine.specs.UnitsRead.{units_read}
 use Rattle.determinize_find.specs.Certain.{IsUnsettled, certain_after}
 use Rattle.determinize_find.specs.Idle.{IsIdle}
 use Rattle.determinize_nfa.specs.Prefix.{HasPrefix, HasPrefixApart}
-use Rattle.determinize_find.specs.Private.Windows.{unsearched, with_bytes, without_first}
+use Rattle.determinize_find.specs.Private.Windows.{with_scan, without_first}
 use Rattle.determinize_find.specs.Streams.{IsEndScan, IsFed, IsPartFed, IsSearching, KeepsFew}
 use Rattle.determinize_find.specs.Streams.{KeptFewAt, KeptFewInBlocks, Streamed}
-use Rattle.determinize_find.proofs.streams.Steps.{fed_nothing, joined, part_fed, with_scan}
+use Rattle.determinize_find.proofs.streams.Steps.{fed_nothing, joined, part_fed}
 
 -- without a search under way there is nothing to say of it
 pub none_searching : (nfa : Nfa) (s : Streamed) → s.scan ≡ None → IsSearching nfa s
@@ -39,11 +39,6 @@ none_searching nfa s e = none s.scan e
         (drop s.start s.kept) scan)
     none None e = tt
     none (Some scan) e = absurd (let z : Some scan ≡ None = e in cc)
-
-pub failed_searching : (nfa : Nfa) (old new : Streamed) (block : List ℕ)
-    → (new ≡ unsearched old) ⊎ (new ≡ with_bytes block old) → IsSearching nfa new
-failed_searching nfa old new block (inl e) = subst (λ s. IsSearching nfa s) (sym e) tt
-failed_searching nfa old new block (inr e) = subst (λ s. IsSearching nfa s) (sym e) tt
 
 -- before the first unit, the first state is the unanchored start
 start_first : (nfa : Nfa) (behind : Option ℕ) → HasPrefix nfa

@@ -5,8 +5,8 @@
 use Rattle.std.specs.Option.{IfNone, IfSome}
 use Rattle.std.specs.Prelude.{All, nat_eq, option_map}
 use mathlib.Core.Bool.{◌&&◌}
-use Rattle.std.proofs.Common.{◌≡◌, ◌<◌, ◌≤◌, ◌+◌, ◌++◌, ◌-◌, ◌⊎◌, ◌∙◌, ◌∷◌, ℕ, Bool, List, None, Option, Some, [], ap}
-use Rattle.std.proofs.Common.{append-nil, append_assoc, arith, cond, drop, false, inl, inr, length, refl, subst, suc}
+use Rattle.std.proofs.Common.{◌≡◌, ◌<◌, ◌≤◌, ◌+◌, ◌++◌, ◌-◌, ◌∙◌, ◌∷◌, ℕ, Bool, List, None, Option, Some, [], ap}
+use Rattle.std.proofs.Common.{append-nil, append_assoc, arith, cond, drop, false, length, refl, subst, suc}
 use Rattle.std.proofs.Common.{sym, take, true}
 use Rattle.std.proofs.lemmas.Bool.{true≢false}
 use Rattle.std.proofs.lemmas.List.{drop-append-le, drop-drop, length-append, length-drop, take-append-le, take_all}
@@ -20,7 +20,8 @@ use Rattle.determinize_engine.specs.Scans.{Scanned}
 use Rattle.determinize_nfa.specs.Leftmost.{NothingFrom}
 use Rattle.determinize_find.specs.LeftmostIn.{IsLeftmostIn, moved}
 use Rattle.determinize_find.specs.Matches.{AreMatches, IsNext, IsTaken, from, touches}
-use Rattle.determinize_find.specs.Private.Windows.{IsCertain, IsFresh, unsearched, with_bytes, without_first}
+use Rattle.determinize_find.specs.Private.Windows.{IsCertain, IsFresh, after_match, end_before, with_bytes, with_scan}
+use Rattle.determinize_find.specs.Private.Windows.{without_first}
 use Rattle.determinize_find.specs.Certain.{IsUnsettled}
 use Rattle.determinize_find.specs.Streams.{IsEndScan, IsFed, IsKeptScan, IsPartFed, IsSearching, IsStream, Streamed}
 use Rattle.determinize_find.specs.Streams.{before, count_read, place, whole}
@@ -75,9 +76,6 @@ pub fed_nothing : (nfa : Nfa) (s : Streamed) (list : List Match) → IsFed nfa s
 fed_nothing nfa s list = nothing refl (no_more s) (λ bytes given is. is) list
 
 -- another search, if any
-abbrev pub with_scan : Option Scanned → Streamed → Streamed
-with_scan scan s = record s { scan = scan }
-
 pub fed_scan : (nfa : Nfa) (s : Streamed) (scan : Option Scanned) (list : List Match)
     → IsFed nfa s (with_scan scan s) [] list list
 fed_scan nfa s scan list =
@@ -147,10 +145,6 @@ touches_moved d (Some end) m =
     ap (λ b. b && nat_eq (d + m.end) (d + end)) (same_eq d m.start m.end)
     ∙ ap (λ b. nat_eq m.start m.end && b) (same_eq d m.end end)
 
--- the end of the match before, in the kept bytes
-abbrev pub end_before : Streamed → Option ℕ
-end_before s = cond s.is_after (Some s.start) None
-
 pub before-kept : (s : Streamed) → before s ≡ option_map (λ n. s.dropped + n) (end_before s)
 before-kept s = by_test s.is_after (λ e. rw e refl) (λ e. rw e refl)
 
@@ -159,9 +153,6 @@ touches_before s m = ap (λ o. touches o (moved s.dropped m)) (before-kept s)
     ∙ touches_moved s.dropped (end_before s) m
 
 -- the start is at the end of a match
-abbrev pub after_match : Match → Streamed → Streamed
-after_match m s = record s { start = m.end; is_after = true }
-
 pub fed_match : (nfa : Nfa) (s : Streamed) (m : Match) (list : List Match)
     → (s.start ≡ 0 → s.dropped ≡ 0) → s.start ≤ length s.kept → IsCertain nfa s.kept s.start m
     → touches (end_before s) m ≡ false
@@ -350,20 +341,18 @@ part_fed {nfa} {old} {now} {new} {done} {block} {list} {mid} {after} others piec
     = ap (λ x. take (length done + b.0) x) (sym e) ∙ take-after done block others b.0 l in
     (length done + b.0, w, subst (λ x. IsFed nfa old new x list after) (sym t) (joined a b.2))
 
--- what is left of a block that was kept
+-- after a block was kept, and where it was not
 pub kept_fed : (nfa : Nfa) (old new : Streamed) (block : List ℕ) (list : List Match) → All (λ b. b < 256) block
-    → new ≡ with_bytes block old → IsFed nfa old new block list list
+    → new ≡ with_scan new.scan (with_bytes block old) → IsFed nfa old new block list list
 kept_fed nfa old new block list small e =
     subst (λ s. IsFed nfa old s block list list) (sym e)
-    (joined_none (fed_kept nfa old block list small) (fed_scan nfa (record old { kept = old.kept ++ block }) None list))
+    (joined_none (fed_kept nfa old block list small) (fed_scan nfa (with_bytes block old) new.scan list))
 
-pub keep_failed : (nfa : Nfa) (old new : Streamed) (block : List ℕ) (list : List Match) → All (λ b. b < 256) block
-    → (new ≡ unsearched old) ⊎ (new ≡ with_bytes block old) → IsPartFed nfa old new block list list
-keep_failed nfa old new block list small (inl e) =
-    none_fed block (subst (λ s. IsFed nfa old s [] list list) (sym e) (fed_scan nfa old None list))
-keep_failed nfa old new block list small (inr e) = all_fed (kept_fed nfa old new block list small e)
+pub keep_failed : (nfa : Nfa) (old new : Streamed) (list : List Match) → new ≡ with_scan None old
+    → IsFed nfa old new [] list list
+keep_failed nfa old new list e = subst (λ s. IsFed nfa old s [] list list) (sym e) (fed_scan nfa old None list)
 
--- and after it was read
+-- after the bytes before the start were dropped
 pub ended_fed : (nfa : Nfa) (old now new : Streamed) (scan : Scanned) (block : List ℕ) (list after : List Match)
     → IsFed nfa old now block list after → now.start ≤ length now.kept
     → new ≡ without_first (now.start - 1) (with_scan (Some scan) now) → IsFed nfa old new block list after
@@ -388,6 +377,21 @@ scan_more nfa s block scan xs i e z within h =
     let t : between (byte_before s.kept s.start) (drop s.start s.kept ++ block) None ≡ rest xs i
     = sym (rest-append s.kept block s.start within) ∙ ap (λ w. rest w s.start) (sym e) ∙ ap (λ n. rest xs n) (sym z) in
     subst (λ w. IsEndScan nfa w.behind w.bytes scan) t h
+
+pub searching_more : (nfa : Nfa) (s : Streamed) (block : List ℕ) (scan : Option Scanned) (xs : List ℕ) (i : ℕ)
+    → xs ≡ s.kept ++ block → i ≡ s.start → s.start ≤ length s.kept
+    → IfSome scan (λ v. IsEndScan nfa (byte_before s.kept s.start) (drop s.start s.kept ++ block) v)
+    → IfSome scan (λ v. IsEndScan nfa (byte_before xs i) (drop i xs) v)
+searching_more nfa s block None xs i e z within h = tt
+searching_more nfa s block (Some scan) xs i e z within h = scan_more nfa s block scan xs i e z within h
+
+-- how many bytes it has read then
+pub read_more : (scan : Option Scanned) (size start count total : ℕ) → start ≤ size → total ≡ size + count
+    → IfSome scan (λ v. v.read ≡ size - start + count) → IfSome scan (λ v. v.read ≡ total - start)
+read_more None size start count total l e h = tt
+read_more (Some v) size start count total l e h =
+    let z : v.read ≡ size - start + count = h in
+    let y : v.read ≡ total - start = omega arith in y
 
 -- the same of equal values
 pub scan_at : (nfa own : Nfa) (xs kept : List ℕ) (i start : ℕ) (s : Scanned) → own ≡ nfa → xs ≡ kept → i ≡ start

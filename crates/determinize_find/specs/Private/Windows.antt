@@ -1,6 +1,6 @@
 -- What is true of every `Pieces`, and of the match that it is sure of.
-use Rattle.std.specs.Prelude.{◌≡◌, ◌*◌, ◌+◌, ◌++◌, ◌-◌, ◌<◌, ◌≤◌, ℕ, All, List, None, Option, Some, cond}
-use Rattle.std.specs.Prelude.{drop, length}
+use Rattle.std.specs.Prelude.{◌≡◌, ◌+◌, ◌++◌, ◌-◌, ◌<◌, ◌≤◌, ℕ, All, List, None, Option, Some, [], cond}
+use Rattle.std.specs.Prelude.{drop, false, length, true}
 use Rattle.std.specs.Option.{IfSome}
 use Rattle.determinize_below.specs.Semantics.{Nfa, between}
 use Rattle.determinize_below.specs.declared.search.Match.{Match}
@@ -8,9 +8,9 @@ use Rattle.determinize_start.specs.StartKinds.{byte_before}
 use Rattle.determinize_engine.specs.Scans.{Scanned}
 use Rattle.determinize_find.specs.Idle.{NothingBefore}
 use Rattle.determinize_find.specs.LeftmostIn.{IsLeftmostIn}
-use Rattle.determinize_find.specs.Matches.{from}
+use Rattle.determinize_find.specs.Matches.{from, touches}
 use Rattle.determinize_nfa.specs.Prefix.{HasPrefix}
-use Rattle.determinize_find.specs.Streams.{Streamed, whole}
+use Rattle.determinize_find.specs.Streams.{IsFed, IsSearching, Streamed, whole}
 
 -- the search begins in the kept bytes and has read the rest of them, the byte before it is kept,
 -- and what was read has a count
@@ -42,18 +42,32 @@ pub record IsFresh (nfa : Nfa) (haystack : List ℕ) (start : ℕ) : Type 0 wher
       → NothingBefore nfa (between (byte_before haystack start) (drop start haystack ++ more) None)
       (length haystack - start)
 
--- how many more matches may be certain: two for each byte after the start, since an empty match may
--- be followed by another, which is skipped
-abbrev pub left_in : Streamed → ℕ
-left_in s = 2 * (length s.kept - s.start) + cond s.is_after 0 1
+-- with another search under way, if any
+abbrev pub with_scan : Option Scanned → Streamed → Streamed
+with_scan scan s = record s { scan = scan }
 
--- no search is under way
-abbrev pub unsearched : Streamed → Streamed
-unsearched s = record s { scan = None }
-
--- more bytes are kept, and no search is under way
+-- with more bytes kept
 abbrev pub with_bytes : List ℕ → Streamed → Streamed
-with_bytes more s = record s { kept = s.kept ++ more; scan = None }
+with_bytes more s = record s { kept = s.kept ++ more }
+
+-- the start is at the end of a match
+abbrev pub after_match : Match → Streamed → Streamed
+after_match m s = record s { start = m.end; is_after = true }
+
+-- the end of the match before, in the kept bytes
+abbrev pub end_before : Streamed → Option ℕ
+end_before s = cond s.is_after (Some s.start) None
+
+-- the match is in the kept bytes and does not touch the one before, and no search is under way
+pub record IsPlaceOf (m : Match) (s : Streamed) : Type 0 where
+  pub inside : IsInside (length s.kept) s.start m
+  pub apart : touches (end_before s) m ≡ false
+  pub none : s.scan ≡ None
+
+-- nothing was read and nothing found, but the start may have moved
+pub record HasMoved (nfa : Nfa) (old new : Streamed) : Type 0 where
+  pub fed : (list : List Match) → IsFed nfa old new [] list list
+  pub searching : IsSearching nfa new
 
 -- the first bytes are dropped
 abbrev pub without_first : ℕ → Streamed → Streamed

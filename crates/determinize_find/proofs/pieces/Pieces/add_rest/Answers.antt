@@ -6,11 +6,11 @@ use Rattle.determinize_below.specs.declared.search.Match.{Match}
 use Rattle.determinize_find.specs.Cursors.{after_match}
 use Rattle.determinize_find.specs.LeftmostIn.{moved}
 use Rattle.determinize_find.specs.Matches.{from}
+use Rattle.determinize_find.specs.Private.Windows.{end_before}
 use Rattle.determinize_find.specs.Regexes.{RegexValue}
 use Rattle.determinize_find.specs.Streams.{Streamed, whole}
 use Rattle.determinize_find.proofs.matches.NextMatch.{after_all, after_none, after_one}
 use Rattle.determinize_find.proofs.streams.Finish.{end_is, finished, next_is, next_within, one_moved}
-use Rattle.determinize_find.proofs.streams.Steps.{end_before}
 use Rattle.determinize_find.proofs.pieces.Pieces.add_rest.Goals as goal
 
 pub in_text-requires : goal.in_text-requires

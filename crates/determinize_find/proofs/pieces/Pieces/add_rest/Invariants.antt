@@ -3,9 +3,9 @@ use Rattle.determinize_below.specs.declared.search.Match.{Match}
 use Rattle.determinize_find.specs.LeftmostIn.{moved}
 use Rattle.determinize_find.specs.Matches.{from}
 use Rattle.determinize_find.specs.Private.Left.{left}
+use Rattle.determinize_find.specs.Private.Windows.{end_before}
 use Rattle.determinize_find.specs.Streams.{whole}
 use Rattle.determinize_find.proofs.matches.NextMatch.{IsAfter}
-use Rattle.determinize_find.proofs.streams.Steps.{end_before}
 use Rattle.determinize_find.proofs.pieces.Pieces.add_rest.Given as goal
 
 abbrev pub invariant-loop-next : goal.invariant-loop-next
