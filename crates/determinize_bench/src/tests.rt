@@ -33,7 +33,7 @@ use std::process::Abort;
 
 /// Asserts that two values are equal.
 pub fn same<R: Abort, T: PartialEq + Debug + Copy>(rt: &R, found: T, wanted: T) {
-    assert_eq!(rt; found, wanted);
+    same_at(rt, "", found, wanted);
 }
 
 /// Asserts that two values are equal, and prints `place` if they are not.
@@ -51,9 +51,52 @@ pub fn holds<R: Abort>(rt: &R, is_so: bool) {
     assert!(rt; is_so);
 }
 
-/// Returns the match of pattern 0 that ends at this offset.
-pub fn ended(offset: usize) -> Option<HalfMatch> {
-    Some(HalfMatch::new(PatternID::ZERO, offset))
+/// Asserts that a call that may fail returned this value. Returns its error if it failed.
+pub fn same_if_ok<R: Abort, T: PartialEq + Debug + Copy, E>(
+    rt: &R,
+    found: Result<T, E>,
+    wanted: T,
+) -> Result<(), E> {
+    match found {
+        Ok(found) => {
+            same(rt, found, wanted);
+            Ok(())
+        }
+        Err(error) => Err(error),
+    }
+}
+
+/// Returns the match of pattern 0 that ends at this offset, if there is one.
+pub fn ended(offset: Option<usize>) -> Option<HalfMatch> {
+    match offset {
+        Some(offset) => Some(HalfMatch::new(PatternID::ZERO, offset)),
+        None => None,
+    }
+}
+
+/// Writes the numbers from one up to another, exclusive, each between two texts.
+pub fn write_numbers<R: Abort>(
+    rt: &R,
+    text: &mut String,
+    before: &str,
+    first: usize,
+    end: usize,
+    after: &str,
+) {
+    for number in first..end {
+        write!(text, "{before}{number}{after}").expect(rt, "memory");
+    }
+}
+
+/// Returns what is before and after the first separator of a text, which is at the end if there is
+/// none.
+pub fn parts_of<'t>(text: &'t str, separator: &str) -> (&'t str, &'t str) {
+    text.split_once(separator).unwrap_or((text, ""))
+}
+
+/// Returns a text between two others.
+pub fn joined<R: Abort + AllocGlobal>(rt: &R, before: &str, text: &str, after: &str) -> String {
+    format!(in rt.alloc(); "{before}{text}{after}").expect(rt, "memory")
 }
 
 /// Runs the job of an example and compares its output.

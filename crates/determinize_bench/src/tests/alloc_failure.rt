@@ -17,6 +17,7 @@ mod values;
 mod without;
 
 use crate::tests::alloc_failure::trial::{OfWalk, Trial};
+use crate::tests::caches::start_of;
 use crate::tests::same;
 use determinize_below::{Anchored, HalfMatch, Input, MatchKind, NFA};
 use determinize_core::determinize::{last_match, walk, walk_between};
@@ -163,7 +164,44 @@ impl Row {
     /// Returns the match of a search of the text as a haystack.
     fn search<R: Abort + AllocGlobal>(&self, rt: &R) -> Option<HalfMatch> {
         let mut lazy = Lazy::new(rt.alloc(), &self.nfa, self.kind, 64);
-        lazy.search_input(&self.input()).expect(rt, "memory")
+        self.search_input(&mut lazy).expect(rt, "memory")
+    }
+
+    /// Returns the match of a search of the text as a haystack through a cache.
+    fn search_input<A: Allocator + Copy>(
+        &self,
+        lazy: &mut Lazy<'_, Global, A>,
+    ) -> Result<Option<HalfMatch>, AllocError> {
+        lazy.search_input(&self.input())
+    }
+
+    /// Returns whether a search of the text as a haystack through a cache finds a match.
+    fn is_match<A: Allocator + Copy>(
+        &self,
+        lazy: &mut Lazy<'_, Global, A>,
+    ) -> Result<bool, AllocError> {
+        lazy.is_match(&self.input())
+    }
+
+    /// Returns the last match of the walk, by a search through a cache.
+    fn search_text<A: Allocator + Copy>(
+        &self,
+        lazy: &mut Lazy<'_, Global, A>,
+    ) -> Result<Option<HalfMatch>, AllocError> {
+        let (behind, text) = (self.look_behind, self.text.as_slice());
+        lazy.search(start_of(lazy), behind, text, self.look_ahead)
+    }
+
+    /// Returns the states of the walk through a cache.
+    fn walk_through<A: Allocator + Copy>(
+        &self,
+        lazy: &mut Lazy<'_, Global, A>,
+    ) -> Result<Vec<State<A>, A>, AllocError> {
+        let (start, behind, text) = (start_of(lazy), self.look_behind, self.text.as_slice());
+        match self.look_ahead {
+            None => lazy.walk(start, behind, text),
+            ahead => lazy.walk_between(start, behind, text, ahead),
+        }
     }
 
     /// Returns the states of the walk.
@@ -199,6 +237,22 @@ impl Row {
         same(rt, states.len(), self.states.len());
         for (index, state) in states.iter().enumerate() {
             same(rt, state.as_bytes(), self.bytes(index));
+        }
+    }
+
+    /// Asserts that a call that may fail returned the states of the walk. Returns its error if it
+    /// failed.
+    fn expect_if_ok<A: Allocator>(
+        &self,
+        rt: &impl Abort,
+        states: Result<Vec<State<A>, A>, AllocError>,
+    ) -> Result<(), AllocError> {
+        match states {
+            Ok(states) => {
+                self.expect(rt, states.as_slice());
+                Ok(())
+            }
+            Err(error) => Err(error),
         }
     }
 

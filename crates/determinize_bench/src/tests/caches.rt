@@ -1,11 +1,14 @@
 //! Walks and searches through one cache: what they find, what is cached, and what is computed.
 
-use crate::tests::{ended, holds, same, same_at};
+ghost use Rattle.std.specs.Prelude.{◌≤◌, ◌<◌, ◌+◌, length};
+
+use crate::tests::{ended, holds, same, same_at, texts, write_numbers};
 use determinize_below::{Anchored, Input, LookMatcher, MatchKind, NFA, StateID};
 use determinize_core::determinize::{last_match, walk_between};
 use determinize_core::state::State;
 use determinize_lazy::Lazy;
 use example_walks::states::states as read_states;
+use std::alloc::{Allocator, Global};
 use std::process::Abort;
 
 /// `\b\w+\b` of ASCII words.
@@ -17,6 +20,13 @@ pub fn nfa<R: Abort + AllocGlobal>(rt: &R, states: &str, is_backward: bool) -> N
     let (zero, matcher) = (StateID::ZERO, LookMatcher::new());
     let nfa = NFA::from_parts(rt.alloc(), states, zero, zero, is_backward, matcher);
     nfa.expect(rt, "an NFA")
+}
+
+/// Returns the state of the NFA of a cache where its walks start.
+pub fn start_of<A: Allocator + Copy>(lazy: &Lazy<'_, Global, A>) -> StateID
+    ensures { result < length lazy.now.nfa.states }
+{
+    lazy.nfa().start_anchored()
 }
 
 /// Returns a new cache with a limit.
@@ -54,7 +64,7 @@ fn walk_through<R: Abort + AllocGlobal>(
     text: &[u8],
     ahead: Option<u8>,
 ) -> Vec<State> {
-    let start = lazy.nfa().start_anchored();
+    let start = start_of(lazy);
     let states = match ahead {
         None => lazy.walk(start, behind, text),
         ahead => lazy.walk_between(start, behind, text, ahead),
@@ -69,7 +79,7 @@ fn search<R: Abort>(rt: &R, lazy: &mut Lazy<'_>, input: &Input<'_>, wanted: Opti
     if let Anchored::Pattern(_) = input.get_anchored() {
         panic!(rt; "an input names no pattern");
     }
-    same(rt, lazy.search_input(input), Ok(wanted.and_then(ended)));
+    same(rt, lazy.search_input(input), Ok(ended(wanted)));
     same(rt, lazy.is_match(input), Ok(wanted.is_some()));
 }
 
@@ -84,7 +94,7 @@ fn walk<R: Abort + AllocGlobal>(
 ) {
     let states = walk_through(rt, lazy, behind, text, ahead);
     let found = last_match(states.as_slice());
-    same_at(rt, text, found, wanted.and_then(ended));
+    same_at(rt, text, found, ended(wanted));
 }
 
 /// Returns the bytes of the second state, or nothing if there is none.
@@ -103,9 +113,8 @@ fn second<R: Abort + AllocGlobal>(rt: &R, lazy: &mut Lazy<'_>, text: &[u8], want
 
 /// Searches a text, whose match of pattern 0 ends at this offset.
 fn search_text<R: Abort>(rt: &R, lazy: &mut Lazy<'_>, text: &[u8], wanted: Option<usize>) {
-    let start = lazy.nfa().start_anchored();
-    let found = lazy.search(start, None, text, None);
-    same(rt, found, Ok(wanted.and_then(ended)));
+    let found = lazy.search(start_of(lazy), None, text, None);
+    same(rt, found, Ok(ended(wanted)));
 }
 
 /// Compares the numbers of computed transitions and of cached states.
@@ -159,13 +168,13 @@ fn expect_inside<R: Abort + AllocGlobal>(rt: &R, lazy: &mut Lazy<'_>) {
 /// A word; the word without its first byte, which is the look-behind or not there.
 #[test]
 fn what_is_kept(rt: HostRuntime) {
-    let (nfa, first) = (nfa(&rt, WORDS, false), MatchKind::LeftmostFirst);
-    expect_again(&rt, &mut cache(&rt, &nfa, first, 16), 7, 3);
-    expect_cleared(&rt, &mut cache(&rt, &nfa, first, 16));
-    expect_again(&rt, &mut cache(&rt, &nfa, first, 2), 14, 2);
-    expect_again(&rt, &mut cache(&rt, &nfa, first, 0), 14, 0);
-    expect_rest(&rt, &mut cache(&rt, &nfa, first, 16));
-    expect_inside(&rt, &mut cache(&rt, &nfa, first, 1));
+    let first = MatchKind::LeftmostFirst;
+    make(&rt, WORDS, false, first, 16, Calls::Again(7, 3));
+    make(&rt, WORDS, false, first, 16, Calls::Cleared);
+    make(&rt, WORDS, false, first, 2, Calls::Again(14, 2));
+    make(&rt, WORDS, false, first, 0, Calls::Again(14, 0));
+    make(&rt, WORDS, false, first, 16, Calls::Rest);
+    make(&rt, WORDS, false, first, 1, Calls::Inside);
 }
 
 /// Walks over the beginning of a word before a word byte, before another byte, and before EOI.
@@ -177,8 +186,8 @@ fn expect_ahead<R: Abort + AllocGlobal>(rt: &R, lazy: &mut Lazy<'_>) {
 
 #[test]
 fn bytes_ahead(rt: HostRuntime) {
-    let nfa = nfa(&rt, WORDS, false);
-    expect_ahead(&rt, &mut cache(&rt, &nfa, MatchKind::LeftmostFirst, 16));
+    let first = MatchKind::LeftmostFirst;
+    make(&rt, WORDS, false, first, 16, Calls::Ahead);
 }
 
 /// Walks over an empty text and over one with a byte that is no word byte.
@@ -190,8 +199,8 @@ fn expect_end<R: Abort + AllocGlobal>(rt: &R, lazy: &mut Lazy<'_>) {
 /// `\b` of Unicode words, unanchored.
 #[test]
 fn the_end_is_no_byte(rt: HostRuntime) {
-    let nfa = nfa(&rt, "BU:2,1 B:00-ff>0 L:WordUnicode>3 M:0", false);
-    expect_end(&rt, &mut cache(&rt, &nfa, MatchKind::All, 16));
+    let states = "BU:2,1 B:00-ff>0 L:WordUnicode>3 M:0";
+    make(&rt, states, false, MatchKind::All, 16, Calls::End);
 }
 
 /// A word between other bytes.
@@ -200,41 +209,49 @@ const HAYSTACK: &[u8] = b"== quartz ==";
 /// Letters after bytes ff.
 const LETTERS: &[u8] = b"\xff\xffaa\xffa";
 
+/// Searches a range of the haystack of a word.
+fn search_range<R: Abort>(
+    rt: &R,
+    lazy: &mut Lazy<'_>,
+    start: usize,
+    end: usize,
+    wanted: Option<usize>,
+)
+    requires end { end ≤ 12 }
+    requires near { start ≤ end + 1 }
+{
+    search(rt, lazy, &Input::new(HAYSTACK).range(start..end), wanted);
+}
+
 /// Searches a whole word, its first half, its second half, and a range that ends before its start.
 fn expect_ranges<R: Abort>(rt: &R, lazy: &mut Lazy<'_>) {
-    search(rt, lazy, &Input::new(HAYSTACK).range(3..9), Some(9));
-    search(rt, lazy, &Input::new(HAYSTACK).range(3..6), None);
-    search(rt, lazy, &Input::new(HAYSTACK).range(6..9), None);
-    search(rt, lazy, &Input::new(HAYSTACK).range(4..3), None);
+    search_range(rt, lazy, 3, 9, Some(9));
+    search_range(rt, lazy, 3, 6, None);
+    search_range(rt, lazy, 6, 9, None);
+    search_range(rt, lazy, 4, 3, None);
 }
 
 /// Of these ranges only the whole word has a match.
 #[test]
 fn ranges_of_words(rt: HostRuntime) {
-    let nfa = nfa(&rt, WORDS, false);
-    expect_ranges(&rt, &mut cache(&rt, &nfa, MatchKind::All, 16));
-    expect_ranges(&rt, &mut cache(&rt, &nfa, MatchKind::LeftmostFirst, 16));
+    let (all, first) = (MatchKind::All, MatchKind::LeftmostFirst);
+    make(&rt, WORDS, false, all, 16, Calls::Ranges);
+    make(&rt, WORDS, false, first, 16, Calls::Ranges);
 }
 
 /// Searches a range that ends before its start, and an empty one.
 fn expect_nothing<R: Abort>(rt: &R, lazy: &mut Lazy<'_>) {
-    search(rt, lazy, &Input::new(HAYSTACK).range(4..3), None);
+    search_range(rt, lazy, 4, 3, None);
     counts(rt, lazy, 0, 0);
-    search(rt, lazy, &Input::new(HAYSTACK).range(4..4), Some(4));
+    search_range(rt, lazy, 4, 4, Some(4));
     counts(rt, lazy, 1, 2);
-}
-
-/// Searches these ranges in a direction.
-fn expect_empty<R: Abort + AllocGlobal>(rt: &R, is_backward: bool) {
-    let nfa = nfa(rt, "M:0", is_backward);
-    expect_nothing(rt, &mut cache(rt, &nfa, MatchKind::All, 16));
 }
 
 #[test]
 fn nothing_to_search(rt: HostRuntime) {
     same(&rt, Input::new(HAYSTACK).range(4..3).is_done(), true);
-    expect_empty(&rt, false);
-    expect_empty(&rt, true);
+    make(&rt, "M:0", false, MatchKind::All, 16, Calls::Nothing);
+    make(&rt, "M:0", true, MatchKind::All, 16, Calls::Nothing);
 }
 
 /// Searches for letters that begin after a byte ff which is in the range, and before it.
@@ -257,10 +274,68 @@ fn expect_ends<R: Abort>(rt: &R, lazy: &mut Lazy<'_>) {
 /// Letters after a byte ff, by searches in reverse from the end of a range.
 #[test]
 fn ranges_backward(rt: HostRuntime) {
-    let nfa = nfa(&rt, "BU:1,2 B:61>0 B:ff>3 M:0", true);
-    let mut lazy = cache(&rt, &nfa, MatchKind::All, 16);
-    expect_begins(&rt, &mut lazy);
-    expect_ends(&rt, &mut lazy);
+    let states = "BU:1,2 B:61>0 B:ff>3 M:0";
+    make(&rt, states, true, MatchKind::All, 16, Calls::Backward);
+}
+
+/// Calls through one cache.
+#[derive(Clone, Copy)]
+pub enum Calls {
+    /// Those of [`expect_again`], with these numbers.
+    Again(u64, usize),
+    /// Those of [`expect_cleared`].
+    Cleared,
+    /// Those of [`expect_rest`].
+    Rest,
+    /// Those of [`expect_inside`].
+    Inside,
+    /// Those of [`expect_ahead`].
+    Ahead,
+    /// Those of [`expect_end`].
+    End,
+    /// Those of [`expect_ranges`].
+    Ranges,
+    /// Those of [`expect_nothing`].
+    Nothing,
+    /// Those of [`expect_begins`] and [`expect_ends`].
+    Backward,
+    /// A walk over a word, after which the debug text is [`texts::CACHE`].
+    Text,
+}
+
+/// Makes these calls through a cache.
+fn make_calls<R: Abort + AllocGlobal>(rt: &R, lazy: &mut Lazy<'_>, calls: Calls) {
+    match calls {
+        Calls::Again(computed, kept) => expect_again(rt, lazy, computed, kept),
+        Calls::Cleared => expect_cleared(rt, lazy),
+        Calls::Rest => expect_rest(rt, lazy),
+        Calls::Inside => expect_inside(rt, lazy),
+        Calls::Ahead => expect_ahead(rt, lazy),
+        Calls::End => expect_end(rt, lazy),
+        Calls::Ranges => expect_ranges(rt, lazy),
+        Calls::Nothing => expect_nothing(rt, lazy),
+        Calls::Backward => {
+            expect_begins(rt, lazy);
+            expect_ends(rt, lazy);
+        }
+        Calls::Text => {
+            walk_word(rt, lazy);
+            texts::expect_text(rt, lazy, texts::CACHE);
+        }
+    }
+}
+
+/// Makes calls through a new cache with a limit, over the NFA of these states.
+pub fn make<R: Abort + AllocGlobal>(
+    rt: &R,
+    states: &str,
+    is_backward: bool,
+    kind: MatchKind,
+    limit: usize,
+    calls: Calls,
+) {
+    let nfa = nfa(rt, states, is_backward);
+    make_calls(rt, &mut cache(rt, &nfa, kind, limit), calls);
 }
 
 /// Searches a text, for which three transitions and states are enough.
@@ -269,11 +344,16 @@ fn expect_three<R: Abort>(rt: &R, lazy: &mut Lazy<'_>, text: &[u8], end: usize) 
     counts(rt, lazy, 3, 3);
 }
 
+/// Returns a word of `len` bytes.
+fn word<R: Abort + AllocGlobal>(rt: &R, len: usize) -> Vec<u8> {
+    vec![in rt.alloc(); b'a'; len].expect(rt, "memory")
+}
+
 /// Searches a haystack that is one word of `len` bytes. The match ends at the end of the word or,
 /// in reverse, at its start.
 fn expect_word<R: Abort + AllocGlobal>(rt: &R, kind: MatchKind, is_backward: bool, len: usize) {
     let nfa = nfa(rt, WORDS, is_backward);
-    let word = vec![in rt.alloc(); b'a'; len].expect(rt, "memory");
+    let word = word(rt, len);
     let end = if is_backward { 0 } else { len };
     expect_three(rt, &mut cache(rt, &nfa, kind, 16), word.as_slice(), end);
 }
@@ -293,9 +373,9 @@ fn long_haystacks_backward(rt: HostRuntime) {
 /// Searches a text that is one word of a million bytes.
 fn expect_text<R: Abort + AllocGlobal>(rt: &R, kind: MatchKind) {
     let nfa = nfa(rt, WORDS, false);
-    let word = vec![in rt.alloc(); b'a'; 1_000_000].expect(rt, "memory");
-    let mut lazy = cache(rt, &nfa, kind, 16);
-    search_text(rt, &mut lazy, word.as_slice(), Some(1_000_000));
+    let word = word(rt, 1_000_000);
+    let lazy = &mut cache(rt, &nfa, kind, 16);
+    search_text(rt, lazy, word.as_slice(), Some(1_000_000));
 }
 
 #[test]
@@ -343,20 +423,18 @@ fn expect_memory<R: Abort + AllocGlobal>(
     kept: usize,
 ) {
     let nfa = nfa(rt, states, false);
-    let mut lazy = Lazy::new(rt.alloc(), &nfa, MatchKind::All, 2_100);
+    let mut lazy = cache(rt, &nfa, MatchKind::All, 2_100);
     let states = walk_through(rt, &mut lazy, None, text, None);
-    same(rt, (lazy.computed(), lazy.states_kept()), (computed, kept));
+    counts(rt, &lazy, computed, kept);
     expect_taken(rt, &mut lazy, states.as_slice());
 }
 
 /// Returns the `count` states of `[01]*1[01]{n}`, where `n` is `count` minus 4. A match ends after
 /// each byte that is `n` bytes after a `1`.
-fn far_from_the_end<R: Abort + AllocGlobal>(rt: &R, count: u32) -> String {
+fn far_from_the_end<R: Abort + AllocGlobal>(rt: &R, count: usize) -> String {
     let states = String::from_str(rt.alloc(), "BU:1,2 B:30-31>0 B:31>3");
     let mut states = states.expect(rt, "memory");
-    for next in 4..count {
-        write!(states, " B:30-31>{next}").expect(rt, "memory");
-    }
+    write_numbers(rt, &mut states, " B:30-31>", 4, count, "");
     states.push_str(" M:0").expect(rt, "memory");
     states
 }

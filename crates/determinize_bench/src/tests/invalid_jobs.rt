@@ -2,6 +2,7 @@
 //! table, since the prover would read a table entry by entry wherever it is named.
 
 use crate::tests::runs::expect;
+use crate::tests::{joined, parts_of};
 use std::process::Abort;
 
 /// Unknown verbs, and words that are not `key=value`.
@@ -125,26 +126,27 @@ start hay=616263 range=+1..2 => not a decimal number
 
 /// Runs the job of a line, and compares the error message.
 fn expect_message<R: Abort + AllocGlobal>(rt: &R, line: &str) {
-    let (job, said) = line.split_once(" => ").unwrap_or((line, ""));
-    let text = format!(in rt.alloc(); "# first\n> {job}\nnone\n").expect(rt, "memory");
-    let said = format!(in rt.alloc(); "line 2: {said}\n").expect(rt, "memory");
+    let (job, said) = parts_of(line, " => ");
+    let text = joined(rt, "# first\n> ", job, "\nnone\n");
+    let said = joined(rt, "line 2: ", said, "\n");
     expect(rt, "", text.as_str().as_bytes(), 2, "", said.as_str());
+}
+
+/// Runs the job of each line.
+fn expect_messages<R: Abort + AllocGlobal>(rt: &R, jobs: &str) {
+    for line in jobs.lines() {
+        expect_message(rt, line);
+    }
 }
 
 /// Each job is run separately.
 #[test]
 fn error_messages(rt: HostRuntime) {
-    for jobs in [
-        VERBS,
-        UNKNOWN_KEYS,
-        REPEATED_KEYS,
-        MISSING_KEYS,
-        STATES,
-        VALUES,
-        RANGES,
-    ] {
-        for line in jobs.lines() {
-            expect_message(&rt, line);
-        }
-    }
+    expect_messages(&rt, VERBS);
+    expect_messages(&rt, UNKNOWN_KEYS);
+    expect_messages(&rt, REPEATED_KEYS);
+    expect_messages(&rt, MISSING_KEYS);
+    expect_messages(&rt, STATES);
+    expect_messages(&rt, VALUES);
+    expect_messages(&rt, RANGES);
 }

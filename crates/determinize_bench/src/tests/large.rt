@@ -40,11 +40,16 @@ impl Link {
     }
 }
 
+/// Adds a state.
+fn add<R: Abort>(rt: &R, states: &mut Vec<nfa::State>, state: nfa::State) {
+    states.push(state).expect(rt, "memory");
+}
+
 /// Adds the states of a chain to an empty list.
 fn add_links<R: Abort>(rt: &R, states: &mut Vec<nfa::State>, link: Link) {
     for next in 1..=LINKS {
         let next = StateID::new(next).expect(rt, "an id");
-        states.push(link.before(next)).expect(rt, "memory");
+        add(rt, states, link.before(next));
     }
 }
 
@@ -55,24 +60,24 @@ fn nfa_of<R: Abort + AllocGlobal>(rt: &R, states: Vec<nfa::State>, start: StateI
     nfa.expect(rt, "an NFA")
 }
 
+/// Adds a union of `a`, which continues at the first state, and a match of pattern 0.
+fn add_end<R: Abort>(rt: &R, states: &mut Vec<nfa::State>) {
+    let alt1 = StateID::new(LINKS + 1).expect(rt, "an id");
+    let alt2 = StateID::new(LINKS + 2).expect(rt, "an id");
+    add(rt, states, nfa::State::BinaryUnion { alt1, alt2 });
+    let (start, end, next) = (b'a', b'a', StateID::ZERO);
+    let trans = Transition { start, end, next };
+    add(rt, states, nfa::State::ByteRange { trans });
+    let pattern_id = PatternID::ZERO;
+    add(rt, states, nfa::State::Match { pattern_id });
+}
+
 /// Returns the NFA of a chain, and after it a union of `a`, which continues at the first state, and
 /// a match of pattern 0.
 fn chain<R: Abort + AllocGlobal>(rt: &R, link: Link) -> NFA {
     let mut states = Vec::new(rt.alloc());
     add_links(rt, &mut states, link);
-    let alt1 = StateID::new(LINKS + 1).expect(rt, "an id");
-    let alt2 = StateID::new(LINKS + 2).expect(rt, "an id");
-    let union = nfa::State::BinaryUnion { alt1, alt2 };
-    states.push(union).expect(rt, "memory");
-    let (start, end, next) = (b'a', b'a', StateID::ZERO);
-    let trans = Transition { start, end, next };
-    states
-        .push(nfa::State::ByteRange { trans })
-        .expect(rt, "memory");
-    let pattern_id = PatternID::ZERO;
-    states
-        .push(nfa::State::Match { pattern_id })
-        .expect(rt, "memory");
+    add_end(rt, &mut states);
     nfa_of(rt, states, StateID::ZERO)
 }
 
@@ -84,6 +89,13 @@ fn union_of_itself<R: Abort + AllocGlobal>(rt: &R) -> NFA {
     nfa_of(rt, states, StateID::ZERO)
 }
 
+/// Adds a match of a pattern. Returns its id.
+fn add_match<R: Abort>(rt: &R, states: &mut Vec<nfa::State>, pattern_id: PatternID) -> StateID {
+    let id = StateID::new(states.len()).expect(rt, "an id");
+    add(rt, states, nfa::State::Match { pattern_id });
+    id
+}
+
 /// Adds a match of each of these patterns, and then a union of the matches. Returns its id.
 fn add_matches<R: Abort + AllocGlobal>(
     rt: &R,
@@ -92,27 +104,26 @@ fn add_matches<R: Abort + AllocGlobal>(
 ) -> StateID {
     let mut alternates = Vec::new(rt.alloc());
     for pattern_id in patterns {
-        let id = StateID::new(states.len()).expect(rt, "an id");
+        let id = add_match(rt, states, *pattern_id);
         alternates.push(id).expect(rt, "memory");
-        let pattern_id = *pattern_id;
-        states
-            .push(nfa::State::Match { pattern_id })
-            .expect(rt, "memory");
     }
     let last = StateID::new(states.len()).expect(rt, "an id");
-    states
-        .push(nfa::State::Union { alternates })
-        .expect(rt, "memory");
+    add(rt, states, nfa::State::Union { alternates });
     last
+}
+
+/// Adds this number of `Fail` states.
+fn add_dead_ends<R: Abort>(rt: &R, states: &mut Vec<nfa::State>, count: usize) {
+    for _ in 0..count {
+        add(rt, states, nfa::State::Fail);
+    }
 }
 
 /// Returns an NFA of this number of `Fail` states, then a match of each of these patterns, and last
 /// a union of the matches, where it starts.
 fn behind_dead_ends<R: Abort + AllocGlobal>(rt: &R, count: usize, patterns: &[PatternID]) -> NFA {
     let mut states = Vec::new(rt.alloc());
-    for _ in 0..count {
-        states.push(nfa::State::Fail).expect(rt, "memory");
-    }
+    add_dead_ends(rt, &mut states, count);
     let last = add_matches(rt, &mut states, patterns);
     nfa_of(rt, states, last)
 }
@@ -130,6 +141,21 @@ fn first_patterns<R: Abort + AllocGlobal>(rt: &R, count: usize) -> Vec<PatternID
 /// The numbers of patterns and of NFA states of a state.
 type Sizes = (usize, usize);
 
+/// Returns the numbers of patterns and of NFA states of a state.
+fn sizes_of<R: Abort + AllocGlobal>(rt: &R, state: &State) -> Sizes {
+    let ids = state.iter_nfa_state_ids().collect::<Vec<_>>(rt.alloc());
+    (state.match_len(), ids.expect(rt, "memory").len())
+}
+
+/// Compares the sizes of each state.
+fn expect_sizes<R: Abort + AllocGlobal>(rt: &R, states: &[State], wanted: &[Sizes]) {
+    same(rt, states.len(), wanted.len());
+    for (index, state) in states.iter().enumerate() {
+        let sizes = Some(sizes_of(rt, state));
+        same_at(rt, index, sizes, wanted.get(index).copied());
+    }
+}
+
 /// Walks over `ab`, and compares the numbers of patterns and NFA states of each state, and the last
 /// match.
 fn expect<R: Abort + AllocGlobal>(
@@ -141,13 +167,14 @@ fn expect<R: Abort + AllocGlobal>(
 ) {
     let states = walk(rt.alloc(), nfa, kind, nfa.start_anchored(), None, b"ab");
     let states = states.expect(rt, "memory");
-    same(rt, states.len(), 4);
-    for (index, (state, sizes)) in states.iter().zip(wanted).enumerate() {
-        let ids = state.iter_nfa_state_ids().collect::<Vec<_>>(rt.alloc());
-        let count = ids.expect(rt, "memory").len();
-        same_at(rt, index, (state.match_len(), count), sizes);
-    }
+    expect_sizes(rt, states.as_slice(), &wanted);
     same(rt, last_match(states.as_slice()), last);
+}
+
+/// Walks over `ab` by the NFA of a chain.
+fn expect_chain<R: Abort + AllocGlobal>(rt: &R, link: Link, wanted: [Sizes; 4], end: usize) {
+    let nfa = chain(rt, link);
+    expect(rt, MatchKind::All, &nfa, wanted, ended(Some(end)));
 }
 
 /// The walk follows the whole chain of unions or captures before `a` and after it. Captures are not
@@ -156,22 +183,13 @@ fn expect<R: Abort + AllocGlobal>(
 #[test]
 fn chains(rt: HostRuntime) {
     let all = LINKS + 3;
-    for (link, wanted, end) in [
-        (Link::BinaryUnion, [(0, all), (1, all), (1, 0), (0, 0)], 1),
-        (Link::Capture, [(0, 3), (1, 3), (1, 0), (0, 0)], 1),
-        (
-            Link::Look(Look::StartLF),
-            [(0, all), (1, 1), (0, 0), (0, 0)],
-            0,
-        ),
-        (
-            Link::Look(Look::WordAscii),
-            [(0, 1), (1, 1), (0, 0), (0, 0)],
-            0,
-        ),
-    ] {
-        expect(&rt, MatchKind::All, &chain(&rt, link), wanted, ended(end));
-    }
+    let wanted = [(0, all), (1, all), (1, 0), (0, 0)];
+    expect_chain(&rt, Link::BinaryUnion, wanted, 1);
+    expect_chain(&rt, Link::Capture, [(0, 3), (1, 3), (1, 0), (0, 0)], 1);
+    let wanted = [(0, all), (1, 1), (0, 0), (0, 0)];
+    expect_chain(&rt, Link::Look(Look::StartLF), wanted, 0);
+    let wanted = [(0, 1), (1, 1), (0, 0), (0, 0)];
+    expect_chain(&rt, Link::Look(Look::WordAscii), wanted, 0);
 }
 
 #[test]
@@ -186,7 +204,7 @@ fn many_patterns_at_once(rt: HostRuntime) {
     let nfa = behind_dead_ends(&rt, 0, patterns.as_slice());
     for (kind, count) in [(MatchKind::All, PATTERNS), (MatchKind::LeftmostFirst, 1)] {
         let wanted = [(0, PATTERNS + 1), (count, 0), (0, 0), (0, 0)];
-        expect(&rt, kind, &nfa, wanted, ended(0));
+        expect(&rt, kind, &nfa, wanted, ended(Some(0)));
     }
 }
 
@@ -196,13 +214,9 @@ const DEAD_ENDS: usize = 300_000;
 /// A pattern id that needs more than 16 bits.
 const WIDE: usize = 65_536;
 
-/// Asserts that the first state lists the union behind the dead ends and then the three matches,
-/// and the second one these patterns.
-fn expect_great<R: Abort + AllocGlobal>(rt: &R, states: &[State], patterns: &[PatternID]) {
-    let [first, second] = states else {
-        panic!(rt; "a walk over nothing has two states");
-    };
-    let ids = first.iter_nfa_state_ids().collect::<Vec<_>>(rt.alloc());
+/// Asserts that a state lists the union behind the dead ends and then the three matches.
+fn expect_great_states<R: Abort + AllocGlobal>(rt: &R, state: &State) {
+    let ids = state.iter_nfa_state_ids().collect::<Vec<_>>(rt.alloc());
     let great = [
         StateID::must(300_003),
         StateID::must(300_000),
@@ -210,6 +224,15 @@ fn expect_great<R: Abort + AllocGlobal>(rt: &R, states: &[State], patterns: &[Pa
         StateID::must(300_002),
     ];
     same(rt, ids.expect(rt, "memory").as_slice(), great.as_slice());
+}
+
+/// Asserts that the first state lists the union behind the dead ends and then the three matches,
+/// and the second one these patterns.
+fn expect_great<R: Abort + AllocGlobal>(rt: &R, states: &[State], patterns: &[PatternID]) {
+    let [first, second] = states else {
+        panic!(rt; "a walk over nothing has two states");
+    };
+    expect_great_states(rt, first);
     let found = second.match_pattern_ids().expect(rt, "memory");
     let found = found.expect(rt, "the second state matches");
     same(rt, found.as_slice(), patterns);

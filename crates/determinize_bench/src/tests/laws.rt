@@ -11,14 +11,17 @@ use determinize_core::state_laws::{
 use example_walks::values;
 use std::process::Abort;
 
+/// Compares the results for one of the patterns of a state.
+fn expect_pattern<R: Abort>(rt: &R, state: &State, index: usize, wanted: Option<PatternID>) {
+    let (is_match, count, _, one) = patterns_read(state, index).expect(rt, "memory");
+    same(rt, (is_match, count, one), (true, 3, wanted));
+}
+
 /// Compares the results for a state with the patterns 2, 0 and 1 and the NFA states 1, 3 and 2, and
 /// for its builder.
 fn expect_laws<R: Abort + AllocGlobal>(rt: &R, state: &State, builder: &StateBuilderNFA) {
-    for (index, wanted) in [(1, Some(PatternID::ZERO)), (3, None)] {
-        let read = patterns_read(state, index).expect(rt, "memory");
-        let (is_match, count, _, one) = read;
-        same(rt, (is_match, count, one), (true, 3, wanted));
-    }
+    expect_pattern(rt, state, 1, Some(PatternID::ZERO));
+    expect_pattern(rt, state, 3, None);
     let ids = nfa_states_read(state, rt.alloc()).expect(rt, "memory");
     let wanted = values::state_ids(rt.alloc(), "1,3,2").expect(rt, "ids");
     holds(rt, ids == wanted);

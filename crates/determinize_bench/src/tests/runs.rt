@@ -1,6 +1,6 @@
 //! The work of the program: its exit statuses, and readers and writers that fail.
 
-use crate::tests::{same, same_at};
+use crate::tests::{parts_of, same, same_at};
 use determinize_replay::error::{ReadError, ReplayError};
 use determinize_replay::run::{report, run};
 use example_walks::error::TextError;
@@ -64,10 +64,9 @@ pub fn expect<R: Abort + AllocGlobal, I: Read + Drop>(
     let mut out = Vec::new(rt.alloc());
     let mut err = Vec::new(rt.alloc());
     let found = run(rt.alloc(), words.as_slice(), input, &mut out, &mut err);
-    let place = (arguments, out_text, err_text);
-    same_at(rt, place, err.as_slice(), err_text.as_bytes());
-    same_at(rt, place, out.as_slice(), out_text.as_bytes());
-    same_at(rt, place, found, status);
+    same_at(rt, arguments, err.as_slice(), err_text.as_bytes());
+    same_at(rt, arguments, out.as_slice(), out_text.as_bytes());
+    same_at(rt, arguments, found, status);
 }
 
 /// A job with its right output.
@@ -291,10 +290,10 @@ line 2: not an NFA state
 
 /// Makes one of these runs.
 fn expect_run<R: Abort + AllocGlobal>(rt: &R, run: &str) {
-    let (head, parts) = run.split_once("--\n").unwrap_or((run, ""));
-    let (status, arguments) = head.split_once('\n').unwrap_or((head, ""));
-    let (input, told) = parts.split_once("--\n").unwrap_or((parts, ""));
-    let (out_text, err_text) = told.split_once("--\n").unwrap_or((told, ""));
+    let (head, parts) = parts_of(run, "--\n");
+    let (status, arguments) = parts_of(head, "\n");
+    let (input, told) = parts_of(parts, "--\n");
+    let (out_text, err_text) = parts_of(told, "--\n");
     let status = status.parse::<u8>().expect(rt, "a status");
     expect(rt, arguments, input.as_bytes(), status, out_text, err_text);
 }

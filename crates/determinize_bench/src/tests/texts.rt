@@ -1,11 +1,10 @@
 //! The debug texts of states, builders, caches and NFAs.
 
-use crate::tests::caches::{WORDS, nfa};
+use crate::tests::caches::{Calls, WORDS, nfa};
 use crate::tests::states::{built, with_patterns};
-use crate::tests::{holds, same};
+use crate::tests::{caches, joined, parts_of, same};
 use determinize_below::{Look, MatchKind, StateID};
 use determinize_core::state::StateBuilderEmpty;
-use determinize_lazy::Lazy;
 use std::fmt::Debug;
 use std::process::Abort;
 
@@ -54,24 +53,23 @@ match_pattern_ids: [PatternID(2), PatternID(0), PatternID(1)], \
 nfa_state_ids: [StateID(1), StateID(3), StateID(2)]
 ";
 
-/// Compares the debug text of a value, which is the name of its type and these fields.
+/// Compares the debug text of a value, which is a name and a brace, and these fields.
 fn expect_fields<R: Abort + AllocGlobal, T: Debug>(rt: &R, value: &T, name: &str, fields: &str) {
-    let wanted = format!(in rt.alloc(); "{name} {{ {fields} }}").expect(rt, "memory");
-    expect_text(rt, value, wanted.as_str());
+    expect_text(rt, value, joined(rt, name, fields, " }").as_str());
 }
 
 /// Compares the debug texts of the builder and of the state of a job.
 fn expect_built<R: Abort + AllocGlobal>(rt: &R, job: &str, fields: &str) {
     let builder = built(rt, job);
-    expect_fields(rt, &builder, "StateBuilderNFA", fields);
+    expect_fields(rt, &builder, "StateBuilderNFA { ", fields);
     let state = builder.to_state().expect(rt, "memory");
-    expect_fields(rt, &state, "State", fields);
+    expect_fields(rt, &state, "State { ", fields);
 }
 
 #[test]
 fn texts_of_values(rt: HostRuntime) {
     for line in TEXTS.lines() {
-        let (job, fields) = line.split_once(" => ").unwrap_or((line, ""));
+        let (job, fields) = parts_of(line, " => ");
         expect_built(&rt, job, fields);
     }
 }
@@ -87,16 +85,13 @@ fn text_of_ids_that_are_left(rt: HostRuntime) {
 }
 
 /// The text of a cache after a walk over `quartz`, with three states and seven transitions.
-const CACHE: &str = "\
+pub const CACHE: &str = "\
 Lazy { match_kind: LeftmostFirst, limit: 16, states_kept: 3, computed: 7, .. }";
 
 #[test]
 fn text_of_a_cache(rt: HostRuntime) {
-    let nfa = nfa(&rt, WORDS, false);
-    let mut lazy = Lazy::new(rt.alloc(), &nfa, MatchKind::LeftmostFirst, 16);
-    let states = lazy.walk(nfa.start_anchored(), None, b"quartz");
-    holds(&rt, states.is_ok());
-    expect_text(&rt, &lazy, CACHE);
+    let kind = MatchKind::LeftmostFirst;
+    caches::make(&rt, WORDS, false, kind, 16, Calls::Text);
 }
 
 /// The text of an NFA, one line per state.

@@ -2,7 +2,8 @@
 
 use crate::tests::alloc_failure::trial::OfWalk;
 use crate::tests::alloc_failure::{Row, fail_each_over_walks, succeed_if};
-use crate::tests::{caches, holds, same};
+use crate::tests::caches::{nfa, start_of};
+use crate::tests::{holds, same, same_if_ok};
 use determinize_below::{MatchKind, NFA};
 use determinize_lazy::{Lazy, Scan, Walker};
 use determinize_replay::failing_alloc::FailingAllocator;
@@ -64,46 +65,11 @@ fn make_once<R: Abort, A: Allocator + Copy>(
     call: Call,
 ) -> Result<(), AllocError> {
     match call {
-        Call::Search => search(rt, lazy, row),
-        Call::SearchInput => {
-            same(rt, lazy.search_input(&row.input())?, row.found);
-            Ok(())
-        }
-        Call::IsMatch => {
-            same(rt, lazy.is_match(&row.input())?, row.found.is_some());
-            Ok(())
-        }
-        _ => walk(rt, lazy, row),
+        Call::Search => same_if_ok(rt, row.search_text(lazy), row.last),
+        Call::SearchInput => same_if_ok(rt, row.search_input(lazy), row.found),
+        Call::IsMatch => same_if_ok(rt, row.is_match(lazy), row.found.is_some()),
+        _ => row.expect_if_ok(rt, row.walk_through(lazy)),
     }
-}
-
-/// Makes a walk.
-fn walk<R: Abort, A: Allocator + Copy>(
-    rt: &R,
-    lazy: &mut Lazy<'_, Global, A>,
-    row: &Row,
-) -> Result<(), AllocError> {
-    let start = lazy.nfa().start_anchored();
-    let text = row.text.as_slice();
-    let states = match row.look_ahead {
-        None => lazy.walk(start, row.look_behind, text)?,
-        ahead => lazy.walk_between(start, row.look_behind, text, ahead)?,
-    };
-    row.expect(rt, states.as_slice());
-    Ok(())
-}
-
-/// Searches the text of a walk. The match must be the last one of the walk.
-fn search<R: Abort, A: Allocator + Copy>(
-    rt: &R,
-    lazy: &mut Lazy<'_, Global, A>,
-    row: &Row,
-) -> Result<(), AllocError> {
-    let start = lazy.nfa().start_anchored();
-    let text = row.text.as_slice();
-    let found = lazy.search(start, row.look_behind, text, row.look_ahead)?;
-    same(rt, found, row.last);
-    Ok(())
 }
 
 /// Feeds a piece, and the same piece again if that fails. Returns whether the first call succeeded.
@@ -141,8 +107,7 @@ fn scan_text<R: Abort, A: Allocator + Copy>(
     row: &Row,
 ) -> Result<(), AllocError> {
     let is_sound = feed_each(lazy, scan, row.text.as_slice())?;
-    let found = lazy.finish(scan, row.look_ahead)?;
-    same(rt, found, row.last);
+    same_if_ok(rt, lazy.finish(scan, row.look_ahead), row.last)?;
     succeed_if(is_sound)
 }
 
@@ -152,8 +117,7 @@ fn scan<R: Abort, A: Allocator + Copy>(
     lazy: &mut Lazy<'_, Global, A>,
     row: &Row,
 ) -> Result<(), AllocError> {
-    let start = lazy.nfa().start_anchored();
-    match lazy.scan(start, row.look_behind) {
+    match lazy.scan(start_of(lazy), row.look_behind) {
         Ok(mut scan) => scan_text(rt, lazy, &mut scan, row),
         Err(error) => Err(error),
     }
@@ -194,8 +158,7 @@ fn walk_by_steps<R: Abort, A: Allocator + Copy>(
     lazy: &mut Lazy<'_, Global, A>,
     row: &Row,
 ) -> Result<(), AllocError> {
-    let start = lazy.nfa().start_anchored();
-    match lazy.walker(start, row.look_behind) {
+    match lazy.walker(start_of(lazy), row.look_behind) {
         Ok(mut walker) => step_each(rt, lazy, &mut walker, row),
         Err(error) => Err(error),
     }
@@ -221,17 +184,21 @@ const ROUNDS: usize = 1_000;
 
 /// Walks over a long text through a cache.
 fn walk_long<R: Abort, A: Allocator + Copy>(rt: &R, lazy: &mut Lazy<'_, Global, A>, text: &[u8]) {
-    let start = lazy.nfa().start_anchored();
-    let states = lazy.walk(start, None, text).expect(rt, "memory");
+    let states = lazy.walk(start_of(lazy), None, text).expect(rt, "memory");
     same(rt, states.len(), text.len().saturating_add(2));
+}
+
+/// Walks over a text twice through a cache.
+fn walk_again<R: Abort, A: Allocator + Copy>(rt: &R, lazy: &mut Lazy<'_, Global, A>, text: &[u8]) {
+    walk_long(rt, lazy, text);
+    walk_long(rt, lazy, text);
+    holds(rt, lazy.computed() >= 6_000);
 }
 
 /// Walks over a text twice through a cache of two states.
 fn walk_twice<R: Abort, A: Allocator + Copy>(rt: &R, alloc: A, nfa: &NFA, text: &[u8]) {
     let mut lazy = Lazy::new(alloc, nfa, MatchKind::All, 2);
-    walk_long(rt, &mut lazy, text);
-    walk_long(rt, &mut lazy, text);
-    holds(rt, lazy.computed() >= 6_000);
+    walk_again(rt, &mut lazy, text);
 }
 
 /// The NFA has a loop of three states, over `a`, `b` and `c`, and a cache of two states keeps no
@@ -241,7 +208,7 @@ fn walk_twice<R: Abort, A: Allocator + Copy>(rt: &R, alloc: A, nfa: &NFA, text: 
 /// each step would make 3000 requests.
 #[test]
 fn growths_of_long_walks(rt: HostRuntime) {
-    let nfa = caches::nfa(&rt, "B:61>1 B:62>2 B:63>0", false);
+    let nfa = nfa(&rt, "B:61>1 B:62>2 B:63>0", false);
     let text = b"abc".repeat(rt.alloc(), ROUNDS).expect(&rt, "memory");
     let heap = FailingAllocator::after(rt.alloc(), u64::MAX);
     heap.begin();

@@ -9,6 +9,12 @@ use example_walks::error::TextError;
 use std::alloc::Allocator;
 use std::process::Abort;
 
+/// Asserts that an error is that of a failed allocation, and returns it.
+fn out_of_memory<R: Abort>(rt: &R, error: CompileError) -> TextError {
+    same(rt, error, CompileError::Build(BuildError::OutOfMemory));
+    TextError::OutOfMemory
+}
+
 /// Compiles patterns, and compares the number of states.
 pub fn compile_all<R: Abort, A: Allocator + Copy>(
     rt: &R,
@@ -21,35 +27,46 @@ pub fn compile_all<R: Abort, A: Allocator + Copy>(
             same(rt, nfa.len(), states);
             Ok(())
         }
-        Err(error) => {
-            same(rt, error, CompileError::Build(BuildError::OutOfMemory));
-            Err(TextError::OutOfMemory)
-        }
+        Err(error) => Err(out_of_memory(rt, error)),
     }
+}
+
+/// Returns the pattern of these bytes.
+fn literal<R: Abort + AllocGlobal>(rt: &R, bytes: &[u8]) -> Pattern {
+    Pattern::literal(rt.alloc(), bytes).expect(rt, "memory")
+}
+
+/// Returns `b*`.
+fn bs<R: Abort + AllocGlobal>(rt: &R) -> Pattern {
+    literal(rt, b"b").star(rt.alloc()).expect(rt, "memory")
+}
+
+/// Returns `[0-9]{2,3}?`.
+fn digits<R: Abort + AllocGlobal>(rt: &R) -> Pattern {
+    let digit = Pattern::digit(rt.alloc()).expect(rt, "memory");
+    let digits = digit.repeat_lazy(rt.alloc(), 2, Some(3));
+    digits.expect(rt, "memory")
 }
 
 /// Returns `(?:a|b*|[0-9]{2,3}?)+`.
 fn choice<R: Abort + AllocGlobal>(rt: &R) -> Pattern {
-    let alloc = rt.alloc();
-    let a = Pattern::literal(alloc, b"a").expect(rt, "memory");
-    let b = Pattern::literal(alloc, b"b").expect(rt, "memory");
-    let bs = b.star(alloc).expect(rt, "memory");
-    let digit = Pattern::digit(alloc).expect(rt, "memory");
-    let digits = digit.repeat_lazy(alloc, 2, Some(3)).expect(rt, "memory");
-    let parts = vec![in alloc; a, bs, digits].expect(rt, "memory");
-    Pattern::alternation(parts).plus(alloc).expect(rt, "memory")
+    let parts = vec![in rt.alloc(); literal(rt, b"a"), bs(rt), digits(rt)].expect(rt, "memory");
+    let choice = Pattern::alternation(parts).plus(rt.alloc());
+    choice.expect(rt, "memory")
+}
+
+/// Returns `\bcd`.
+fn word<R: Abort + AllocGlobal>(rt: &R) -> Pattern {
+    let look = Pattern::Look(Look::WordAscii);
+    let parts = vec![in rt.alloc(); look, literal(rt, b"cd")].expect(rt, "memory");
+    Pattern::concat(parts)
 }
 
 /// Returns `(\bcd|)`.
 fn group<R: Abort + AllocGlobal>(rt: &R) -> Pattern {
-    let alloc = rt.alloc();
-    let cd = Pattern::literal(alloc, b"cd").expect(rt, "memory");
-    let parts = vec![in alloc; Pattern::Look(Look::WordAscii), cd].expect(rt, "memory");
-    let word = Pattern::concat(parts);
-    let parts = vec![in alloc; word, Pattern::Empty].expect(rt, "memory");
-    Pattern::alternation(parts)
-        .capture(alloc)
-        .expect(rt, "memory")
+    let parts = vec![in rt.alloc(); word(rt), Pattern::Empty].expect(rt, "memory");
+    let group = Pattern::alternation(parts).capture(rt.alloc());
+    group.expect(rt, "memory")
 }
 
 #[test]

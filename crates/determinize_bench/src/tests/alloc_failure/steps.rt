@@ -7,7 +7,7 @@ ghost use Rattle.determinize_core.specs.Scratch.{IsScratch};
 use crate::tests::alloc_failure::trial::{OfWalk, Trial};
 use crate::tests::alloc_failure::{Row, fail_each_in_turn, fail_each_over_walks};
 use crate::tests::runs::words;
-use crate::tests::{holds, same};
+use crate::tests::{holds, parts_of, same};
 use determinize_below::{Look, LookSet, NFA, SparseSet, SparseSets, StateID, Unit};
 use determinize_core::determinize::{
     Steps, add_nfa_states, epsilon_closure, next, next_counted, set_lookbehind_from_start,
@@ -84,9 +84,13 @@ pub fn close<R: Abort, A: Allocator + Copy>(
     closing: &Closing,
     wanted: &[StateID],
 ) -> Result<(), TextError> {
-    let set = closed(alloc, &closing.nfa, closing.have, closing.held.as_slice())?;
-    holds(rt, set.iter().eq(wanted.iter().copied()));
-    Ok(())
+    match closed(alloc, &closing.nfa, closing.have, closing.held.as_slice()) {
+        Ok(set) => {
+            holds(rt, set.iter().eq(wanted.iter().copied()));
+            Ok(())
+        }
+        Err(error) => Err(error),
+    }
 }
 
 /// Computes the closure of a job while each allocation fails in turn.
@@ -100,7 +104,7 @@ fn fail_each_in_closure<R: Abort + AllocGlobal>(rt: &R, job: &str, ids: &str) {
 #[test]
 fn closures(rt: HostRuntime) {
     for line in CLOSURES.lines() {
-        let (job, ids) = line.split_once(" => ").unwrap_or((line, ""));
+        let (job, ids) = parts_of(line, " => ");
         fail_each_in_closure(&rt, job, ids);
     }
 }
@@ -113,15 +117,30 @@ pub fn start_kind(row: &Row) -> Start {
     }
 }
 
-/// Records the first closure of a walk.
-pub fn record<R: Abort, A: Allocator + Copy>(rt: &R, alloc: A, row: &Row) -> Result<(), TextError> {
+/// Returns a builder with the look-behind of the start of a walk.
+fn begun<A: Allocator + Copy>(alloc: A, row: &Row) -> Result<StateBuilderNFA<A>, AllocError> {
     let mut matches = StateBuilderEmpty::new(alloc).into_matches()?;
     set_lookbehind_from_start(&row.nfa, &start_kind(row), &mut matches);
-    let set = closed(alloc, &row.nfa, matches.look_have(), &[])?;
-    let mut builder = matches.into_nfa();
-    add_nfa_states(&row.nfa, &set, &mut builder)?;
+    Ok(matches.into_nfa())
+}
+
+/// Records the first closure of a walk in a builder with the look-behind of its start.
+fn record_in<R: Abort, A: Allocator + Copy>(
+    rt: &R,
+    alloc: A,
+    row: &Row,
+    builder: &mut StateBuilderNFA<A>,
+) -> Result<(), TextError> {
+    let set = closed(alloc, &row.nfa, builder.look_have(), &[])?;
+    add_nfa_states(&row.nfa, &set, builder)?;
     same(rt, builder.as_bytes(), row.bytes(0));
     Ok(())
+}
+
+/// Records the first closure of a walk.
+pub fn record<R: Abort, A: Allocator + Copy>(rt: &R, alloc: A, row: &Row) -> Result<(), TextError> {
+    let mut builder = begun(alloc, row)?;
+    record_in(rt, alloc, row, &mut builder)
 }
 
 /// Returns a builder with an assertion.
@@ -249,10 +268,35 @@ fn step_each<R: Abort, A: Allocator + Copy>(
     let mut state = first;
     for (index, bytes) in row.states.iter().skip(1).enumerate() {
         let unit = Unit::from(row.unit(index));
-        state = step(row, is_counted, sparses, stack, state, unit)?;
+        match step(row, is_counted, sparses, stack, state, unit) {
+            Ok(next) => state = next,
+            Err(error) => return Err(error),
+        }
         same(rt, state.as_bytes(), bytes.as_slice());
     }
     Ok(())
+}
+
+/// Makes a walk by single steps in these sets, and compares each state.
+fn walk_in<R: Abort, A: Allocator + Copy>(
+    rt: &R,
+    alloc: A,
+    row: &Row,
+    is_counted: bool,
+    sparses: &mut SparseSets<A>,
+    stack: &mut Vec<StateID, A>,
+) -> Result<(), AllocError>
+    requires { IsScratch row.now.nfa sparses.old.set1 sparses.old.set2 stack.old.items }
+{
+    let (nfa, start) = (&row.nfa, row.nfa.start_anchored());
+    let empty = StateBuilderEmpty::new(alloc);
+    match start_state(nfa, start, row.look_behind, sparses, stack, empty) {
+        Ok(first) => {
+            same(rt, first.as_bytes(), row.bytes(0));
+            step_each(rt, row, is_counted, sparses, stack, first)
+        }
+        Err(error) => Err(error),
+    }
 }
 
 /// Makes a walk by single steps, and compares each state.
@@ -262,12 +306,13 @@ pub fn walk<R: Abort, A: Allocator + Copy>(
     row: &Row,
     is_counted: bool,
 ) -> Result<(), AllocError> {
-    let (nfa, start) = (&row.nfa, row.nfa.start_anchored());
-    let mut sparses = SparseSets::new(alloc, nfa.len())?;
-    let (mut stack, empty) = (Vec::new(alloc), StateBuilderEmpty::new(alloc));
-    let first = start_state(nfa, start, row.look_behind, &mut sparses, &mut stack, empty)?;
-    same(rt, first.as_bytes(), row.bytes(0));
-    step_each(rt, row, is_counted, &mut sparses, &mut stack, first)
+    match SparseSets::new(alloc, row.nfa.len()) {
+        Ok(mut sparses) => {
+            let mut stack = Vec::new(alloc);
+            walk_in(rt, alloc, row, is_counted, &mut sparses, &mut stack)
+        }
+        Err(error) => Err(error),
+    }
 }
 
 /// Makes a whole walk.
@@ -275,10 +320,8 @@ pub fn walk_at_once<R: Abort, A: Allocator + Copy>(
     rt: &R,
     alloc: A,
     row: &Row,
-) -> Result<(), TextError> {
-    let states = row.walk(alloc)?;
-    row.expect(rt, states.as_slice());
-    Ok(())
+) -> Result<(), AllocError> {
+    row.expect_if_ok(rt, row.walk(alloc))
 }
 
 #[test]
@@ -295,24 +338,35 @@ fn walks(rt: HostRuntime) {
     );
 }
 
+/// Compares the status and the output of a run, which may be a prefix if an allocation failed.
+fn expect_printed<R: Abort>(
+    rt: &R,
+    status: u8,
+    out: &[u8],
+    err: &[u8],
+    lines: &str,
+) -> Result<(), AllocError> {
+    if status == 0 {
+        same(rt, out, lines.as_bytes());
+        same(rt, err, [].as_slice());
+        return Ok(());
+    }
+    same(rt, status, 1);
+    same(rt, err, b"out of memory\n".as_slice());
+    holds(rt, lines.as_bytes().starts_with(out));
+    Err(AllocError)
+}
+
 /// Prints a walk by the program `rows`, which after a failed allocation has printed a prefix of it.
 pub fn print<R: Abort + AllocGlobal, A: Allocator + Copy>(
     rt: &R,
     alloc: A,
     words: &[String],
     lines: &str,
-) -> Result<(), TextError> {
+) -> Result<(), AllocError> {
     let (mut out, mut err) = (Vec::new(rt.alloc()), Vec::new(rt.alloc()));
     let status = run_rows(alloc, words, &mut out, &mut err);
-    if status != 0 {
-        same(rt, status, 1);
-        same(rt, err.as_slice(), b"out of memory\n".as_slice());
-        holds(rt, lines.as_bytes().starts_with(out.as_slice()));
-        return Err(TextError::OutOfMemory);
-    }
-    same(rt, out.as_slice(), lines.as_bytes());
-    same(rt, err.as_slice(), [].as_slice());
-    Ok(())
+    expect_printed(rt, status, out.as_slice(), err.as_slice(), lines)
 }
 
 #[test]

@@ -4,7 +4,7 @@ use crate::tests::alloc_failure::{Row, caches, patterns, steps, values};
 use determinize_below::StateID;
 use determinize_pattern::Pattern;
 use example_walks::error::TextError;
-use std::alloc::Allocator;
+use std::alloc::{AllocError, Allocator};
 use std::process::Abort;
 
 /// A trial: it runs with an allocator that may fail, and compares what it finds.
@@ -39,6 +39,14 @@ pub enum OfWalk {
     Cached(caches::Call, usize),
 }
 
+/// Returns the result of a trial with its error as one of texts.
+pub fn told(made: Result<(), AllocError>) -> Result<(), TextError> {
+    match made {
+        Ok(()) => Ok(()),
+        Err(_) => Err(TextError::OutOfMemory),
+    }
+}
+
 impl Trial<'_> {
     /// Makes the trial.
     pub fn run<R: Abort + AllocGlobal, A: Allocator + Copy>(
@@ -50,7 +58,7 @@ impl Trial<'_> {
             Trial::OfWalk(trial, row) => trial.run(rt, alloc, row),
             Trial::StateOfLen(len) => values::make_and_clone(rt, alloc, len),
             Trial::Close(closing, wanted) => steps::close(rt, alloc, closing, wanted),
-            Trial::Print(words, lines) => steps::print(rt, alloc, words, lines),
+            Trial::Print(words, lines) => told(steps::print(rt, alloc, words, lines)),
             Trial::Compile(patterns, states) => patterns::compile_all(rt, alloc, patterns, states),
         }
     }
@@ -68,9 +76,9 @@ impl OfWalk {
             OfWalk::CopyStates => values::copy_states(rt, alloc, row),
             OfWalk::Record => steps::record(rt, alloc, row),
             OfWalk::RecordOne => steps::record_one(rt, alloc, row),
-            OfWalk::Steps(is_counted) => Ok(steps::walk(rt, alloc, row, is_counted)?),
-            OfWalk::Walk => steps::walk_at_once(rt, alloc, row),
-            OfWalk::Cached(call, limit) => Ok(caches::make(rt, alloc, row, call, limit)?),
+            OfWalk::Steps(is_counted) => told(steps::walk(rt, alloc, row, is_counted)),
+            OfWalk::Walk => told(steps::walk_at_once(rt, alloc, row)),
+            OfWalk::Cached(call, limit) => told(caches::make(rt, alloc, row, call, limit)),
         }
     }
 }

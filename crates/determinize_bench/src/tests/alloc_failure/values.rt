@@ -2,7 +2,7 @@
 
 ghost use Rattle.std.specs.Prelude.{◌≡◌, [], IfOk};
 
-use crate::tests::alloc_failure::trial::{OfWalk, Trial};
+use crate::tests::alloc_failure::trial::{OfWalk, Trial, told};
 use crate::tests::alloc_failure::{Row, fail_each_in_turn, fail_each_over_walks};
 use crate::tests::same;
 use determinize_below::StateID;
@@ -106,7 +106,7 @@ fn copy_to<R: Abort, A: Allocator + Copy>(
 {
     copy_patterns(alloc, builder, state)?;
     set_flags(builder, state);
-    Ok(copy_states_to(rt, builder, state, bytes)?)
+    told(copy_states_to(rt, builder, state, bytes))
 }
 
 /// Returns a clone of an empty builder, for patterns.
@@ -139,8 +139,10 @@ fn copy_each<R: Abort, A: Allocator + Copy>(
     states: &[State<A>],
     row: &Row,
 ) -> Result<(), TextError> {
-    for (state, bytes) in states.iter().zip(row.states.iter()) {
-        copy(rt, alloc, state, bytes.as_slice())?;
+    for (index, state) in states.iter().enumerate() {
+        if let Err(error) = copy(rt, alloc, state, row.bytes(index)) {
+            return Err(error);
+        }
     }
     Ok(())
 }
@@ -180,7 +182,7 @@ pub fn make_and_clone<R: Abort, A: Allocator + Copy>(
     match builder_of(alloc, len) {
         Ok(builder) => {
             same(rt, builder.as_bytes().len(), usize::from(len));
-            Ok(expect_clone(rt, &builder, builder.as_bytes())?)
+            told(expect_clone(rt, &builder, builder.as_bytes()))
         }
         Err(_) => Err(TextError::OutOfMemory),
     }

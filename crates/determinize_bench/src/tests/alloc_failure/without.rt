@@ -1,7 +1,7 @@
 //! The calls that do not allocate: they succeed while every allocation would fail, and request
 //! none.
 
-ghost use Rattle.std.specs.Prelude.{◌<◌, length};
+ghost use Rattle.std.specs.Prelude.{◌≡◌, ◌<◌, [], length};
 
 use crate::tests::alloc_failure::steps::start_kind;
 use crate::tests::alloc_failure::values::{builder_of, clone_of};
@@ -12,7 +12,7 @@ use determinize_below::{
 };
 use determinize_core::determinize::{epsilon_closure, set_lookbehind_from_start};
 use determinize_core::start::Config;
-use determinize_core::state::{State, StateBuilderEmpty};
+use determinize_core::state::{State, StateBuilderEmpty, StateBuilderMatches, StateBuilderNFA};
 use determinize_lazy::Lazy;
 use determinize_replay::failing_alloc::FailingAllocator;
 use std::alloc::{Allocator, Global};
@@ -26,41 +26,76 @@ fn insert<R: Abort, A: Allocator>(rt: &R, set: &mut SparseSet<A>, id: StateID) {
     holds(rt, set.contains(id));
 }
 
-/// Inserts, finds and removes ids.
-fn fill<R: Abort, A: Allocator>(rt: &R, sparses: &mut SparseSets<A>) {
-    for number in [5, 69, 0] {
-        insert(rt, &mut sparses.set1, StateID::must(number));
-    }
-    same(rt, sparses.set1.iter().count(), 3);
-    sparses.swap();
-    same(rt, (sparses.set1.len(), sparses.set2.len()), (0, 3));
+/// Inserts three ids.
+fn insert_three<R: Abort, A: Allocator>(rt: &R, set: &mut SparseSet<A>) {
+    insert(rt, set, StateID::must(5));
+    insert(rt, set, StateID::must(69));
+    insert(rt, set, StateID::must(0));
+    same(rt, set.iter().count(), 3);
+}
+
+/// Clears two sets, and one of them again.
+fn clear_both<R: Abort, A: Allocator>(rt: &R, sparses: &mut SparseSets<A>) {
     sparses.clear();
     sparses.set1.clear();
     holds(rt, sparses.set1.is_empty() && sparses.set2.is_empty());
 }
 
-/// Makes the dead state. Sets flags, assertions and the pattern `ZERO` in a builder, converts it to
-/// a builder of NFA states, and clears it.
-fn build<R: Abort, A: Allocator + Copy>(rt: &R, heap: &Heap, alloc: A) {
-    let matches = StateBuilderEmpty::new(alloc).into_matches();
-    let mut matches = matches.expect(rt, "memory");
-    heap.begin();
+/// Inserts, finds and removes ids.
+fn fill<R: Abort, A: Allocator>(rt: &R, sparses: &mut SparseSets<A>) {
+    insert_three(rt, &mut sparses.set1);
+    sparses.swap();
+    same(rt, (sparses.set1.len(), sparses.set2.len()), (0, 3));
+    clear_both(rt, sparses);
+}
+
+/// Makes the dead state and an empty builder.
+fn make_dead<R: Abort, A: Allocator + Copy>(rt: &R, alloc: A) {
     let dead = State::dead(alloc).expect(rt, "no allocation");
     same(rt, dead.as_bytes(), [0; 9].as_slice());
     same(rt, StateBuilderEmpty::new(alloc).capacity(), 0);
+}
+
+/// Sets flags, an assertion and the pattern `ZERO`.
+fn set_flags<R: Abort, A: Allocator>(rt: &R, matches: &mut StateBuilderMatches<A>)
+    requires { matches.old.patterns ≡ [] }
+{
     matches.set_is_from_word();
     matches.set_is_half_crlf();
     matches.set_look_have(|have| have.insert(Look::Start));
     holds(rt, matches.look_have().contains(Look::Start));
     holds(rt, matches.add_match_pattern_id(PatternID::ZERO).is_ok());
-    let mut builder = matches.into_nfa();
+}
+
+/// Removes this assertion, and sets another one.
+fn set_looks<R: Abort, A: Allocator>(rt: &R, builder: &mut StateBuilderNFA<A>) {
     builder.set_look_have(|have| have.remove(Look::Start));
     builder.set_look_need(|need| need.insert(Look::End));
     holds(rt, builder.look_have().is_empty());
     holds(rt, builder.look_need().contains(Look::End));
     let bytes = [13, 0, 0, 0, 0, 2, 0, 0, 0];
     same(rt, builder.as_bytes(), bytes.as_slice());
+}
+
+/// Sets flags, assertions and a pattern in a builder, converts it to one of NFA states, and clears
+/// it.
+fn build_in<R: Abort, A: Allocator>(rt: &R, matches: StateBuilderMatches<A>)
+    requires { matches.patterns ≡ [] }
+{
+    let mut matches = matches;
+    set_flags(rt, &mut matches);
+    let mut builder = matches.into_nfa();
+    set_looks(rt, &mut builder);
     holds(rt, builder.clear().capacity() > 0);
+}
+
+/// Makes the dead state, and uses a builder.
+fn build<R: Abort, A: Allocator + Copy>(rt: &R, heap: &Heap, alloc: A) {
+    let matches = StateBuilderEmpty::new(alloc).into_matches();
+    let matches = matches.expect(rt, "memory");
+    heap.begin();
+    make_dead(rt, alloc);
+    build_in(rt, matches);
     heap.end();
 }
 
@@ -133,19 +168,32 @@ fn close_each<R: Abort, A: Allocator + Copy>(rt: &R, heap: &Heap, alloc: A, row:
     same(rt, set.len(), 0);
 }
 
-/// Makes a cache and clears it.
+/// Walks through a cache.
+fn fill_cache<R: Abort, A: Allocator + Copy>(rt: &R, lazy: &mut Lazy<'_, Global, A>, row: &Row) {
+    holds(rt, row.walk_through(lazy).is_ok());
+}
+
+/// Clears a cache, which has states and computed transitions if it is filled.
+fn clear_cache<R: Abort, A: Allocator + Copy>(
+    rt: &R,
+    lazy: &mut Lazy<'_, Global, A>,
+    is_filled: bool,
+) {
+    same(rt, lazy.states_kept() > 0, is_filled);
+    same(rt, lazy.computed() > 0, is_filled);
+    lazy.clear();
+    same(rt, lazy.states_kept(), 0);
+}
+
+/// Makes a cache and clears it, empty and with states.
 fn make_cache<R: Abort, A: Allocator + Copy>(rt: &R, heap: &Heap, alloc: A, row: &Row) {
     heap.begin();
     let mut lazy = Lazy::new(alloc, &row.nfa, row.kind, 100);
-    same(rt, (lazy.states_kept(), lazy.computed()), (0, 0));
-    lazy.clear();
+    clear_cache(rt, &mut lazy, false);
     heap.end();
-    let (start, text) = (row.nfa.start_anchored(), row.text.as_slice());
-    holds(rt, lazy.walk(start, row.look_behind, text).is_ok());
+    fill_cache(rt, &mut lazy, row);
     heap.begin();
-    holds(rt, lazy.states_kept() > 0 && lazy.computed() > 0);
-    lazy.clear();
-    same(rt, lazy.states_kept(), 0);
+    clear_cache(rt, &mut lazy, true);
     heap.end();
 }
 
@@ -159,15 +207,10 @@ fn search_each<R: Abort, A: Allocator + Copy>(
     lazy: &mut Lazy<'_, Global, A>,
     row: &Row,
 ) -> Found {
-    let (start, text) = (lazy.nfa().start_anchored(), row.text.as_slice());
-    let last = lazy.search(start, row.look_behind, text, row.look_ahead);
-    let found = lazy.search_input(&row.input());
-    let is_match = lazy.is_match(&row.input());
-    (
-        last.expect(rt, "memory"),
-        found.expect(rt, "memory"),
-        is_match.expect(rt, "memory"),
-    )
+    let last = row.search_text(lazy).expect(rt, "memory");
+    let found = row.search_input(lazy).expect(rt, "memory");
+    let is_match = row.is_match(lazy).expect(rt, "memory");
+    (last, found, is_match)
 }
 
 /// Searches three times through one cache. The first searches cache each transition, and the second
@@ -195,6 +238,15 @@ fn search_under_each<R: Abort, A: Allocator + Copy>(rt: &R, heap: &Heap, alloc: 
     }
 }
 
+/// Compares the flags of a state with its first byte, and its assertions with each other.
+fn read_flags<R: Abort, A: Allocator>(rt: &R, state: &State<A>, bytes: &[u8]) {
+    let flags = bytes.first().copied().unwrap_or_default();
+    let told = (state.is_from_word(), state.is_half_crlf());
+    same(rt, (flags & 4 != 0, flags & 8 != 0), told);
+    let (have, need) = (state.look_have(), state.look_need());
+    holds(rt, have.is_empty() || !need.is_empty());
+}
+
 /// Calls all readers of a state.
 fn read_state<R: Abort, A: Allocator + Copy>(rt: &R, state: &State<A>, bytes: &[u8]) {
     same(rt, state.as_bytes(), bytes);
@@ -206,23 +258,22 @@ fn read_state<R: Abort, A: Allocator + Copy>(rt: &R, state: &State<A>, bytes: &[
     } else {
         holds(rt, matches!(state.match_pattern_ids(), Ok(None)));
     }
-    let flags = bytes.first().copied().unwrap_or_default();
-    let told = (state.is_from_word(), state.is_half_crlf());
-    same(rt, (flags & 4 != 0, flags & 8 != 0), told);
-    holds(
-        rt,
-        state.look_have().is_empty() || !state.look_need().is_empty(),
-    );
+    read_flags(rt, state, bytes);
     for _ in state.iter_nfa_state_ids() {}
+}
+
+/// Calls all readers of each of these states.
+fn read_each<R: Abort, A: Allocator + Copy>(rt: &R, states: &[State<A>], row: &Row) {
+    for (index, state) in states.iter().enumerate() {
+        read_state(rt, state, row.bytes(index));
+    }
 }
 
 /// Calls all readers of each state of a walk.
 fn read_states<R: Abort, A: Allocator + Copy>(rt: &R, heap: &Heap, alloc: A, row: &Row) {
     let states = row.walk(alloc).expect(rt, "memory");
     heap.begin();
-    for (state, bytes) in states.iter().zip(row.states.iter()) {
-        read_state(rt, state, bytes.as_slice());
-    }
+    read_each(rt, states.as_slice(), row);
     heap.end();
 }
 
