@@ -60,6 +60,14 @@ impl Counts {
     pub fn agree(self) -> bool {
         self.differ == 0
     }
+
+    /// Adds a long text, which is read as expected if `is_read` is set.
+    fn count_long(&mut self, is_read: bool) {
+        self.long = self.long.saturating_add(1);
+        if !is_read {
+            self.differ = self.differ.saturating_add(1);
+        }
+    }
 }
 
 impl fmt::Display for Counts {
@@ -143,15 +151,27 @@ fn is_read(alloc: Global, text: &str, expected: &str) -> Result<bool, RowError> 
     }
 }
 
+/// Returns brackets of characters that are all different, no two of them neighbours, of a megabyte.
+fn make_brackets(alloc: Global) -> Result<String, RowError> {
+    let mut text = String::new(alloc);
+    text.push_str("(?u)[")?;
+    for i in 0..LONG as u32 / 4 {
+        if let Some(character) = char::from_u32(0x1_0000 + 2 * i) {
+            text.push(character)?;
+        }
+    }
+    text.push_str("]")?;
+    Ok(text)
+}
+
 /// Parses long texts.
 fn parse_long(alloc: Global, counts: &mut Counts) -> Result<(), RowError> {
     for (first, repeated, expected) in long_texts() {
         let text = long_text(alloc, first, repeated)?;
-        counts.long = counts.long.saturating_add(1);
-        if !is_read(alloc, &text, expected)? {
-            counts.differ = counts.differ.saturating_add(1);
-        }
+        counts.count_long(is_read(alloc, &text, expected)?);
     }
+    let brackets = make_brackets(alloc)?;
+    counts.count_long(is_read(alloc, &brackets, "")?);
     Ok(())
 }
 
