@@ -1,24 +1,24 @@
 -- A search in pieces over an NFA of patterns, in words of the patterns.
--- Main statements: stream_of, fed_by, part_fed_by, few_by, finished_by, streaming_by, streaming_new.
+-- Main statements: stream_of, fed_by, part_fed_by, few_by, next_by, none_by, finished_by, streaming_by, streaming_new.
 -- Used by: the calls of `Stream`.
 -- Idea: the matches of the runs are those of the patterns, so what keeps the list of the one keeps that of the other.
-use Rattle.std.specs.Prelude.{OnErr, OnOk, Result}
-use Rattle.std.proofs.Common.{◌≡◌, ◌≤◌, ◌++◌, ℕ, Bool, List, None, Some, arith, cond, false, length}
+use Rattle.std.specs.Prelude.{IfOk, OnErr, OnOk, Option, Result, option_to_list}
+use Rattle.std.proofs.Common.{◌≡◌, ◌≤◌, ◌++◌, ℕ, [], Bool, List, None, Some, arith, cond, false, length}
 use Rattle.std.proofs.Common.{refl, subst, sym, take, true}
-use Rattle.std.proofs.lemmas.Result.{on_err_weaker, on_ok_weaker}
+use Rattle.std.proofs.lemmas.Result.{IfOk-weaker, on_err_weaker, on_ok_weaker}
 use Rattle.determinize_below.specs.Nfa.{IsAccepted}
 use Rattle.determinize_below.specs.Semantics.{Nfa}
 use Rattle.determinize_below.specs.declared.search.Match.{Match}
 use Rattle.determinize_find.proofs.matches.InputMatches.{each_input_has_matches}
 use Rattle.determinize_find.specs.Matches.{from}
 use Rattle.determinize_find.specs.Regexes.{RegexValue as Searched}
-use Rattle.determinize_find.specs.Streams.{IsFed, IsFeeding, IsFinished, IsPartFed, IsSearching, IsStream}
+use Rattle.determinize_find.specs.Streams.{IsAdvance, IsFed, IsFeeding, IsFinished, IsFrontFed, IsPartFed, IsSearching, IsStream}
 use Rattle.determinize_find.specs.Streams.{KeptFewInBlocks, Streamed, before, place, whole}
 use Rattle.determinize_pattern.specs.declared.pattern.Pattern.{Pattern}
 use Rattle.determinize_regex.proofs.FoundByRegex.{all_of, matches_by_runs, matches_of}
 use Rattle.determinize_regex.specs.Private.Searched.{IsSearchOf, IsStreaming}
 use Rattle.determinize_regex.specs.Regexes.{RegexValue}
-use Rattle.determinize_regex.specs.Streams.{BeginAll, IsFedOf, IsFinishedOf, IsPartFedOf, IsStreamOf, KeptFewOf}
+use Rattle.determinize_regex.specs.Streams.{BeginAll, IsFedOf, IsFinishedOf, IsFrontFedOf, IsPartFedOf, IsStreamOf, KeptFewOf}
 use Rattle.determinize_regex.specs.Streams.{StreamValue}
 use Rattle.ordered_reach.proofs.Cases.{some_injective}
 
@@ -79,6 +79,7 @@ module _ (regex : RegexValue) (search : Searched) (is : IsSearchOf regex.pattern
   finished_of s list after h = record {
     found = h.found;
     added = h.added;
+    kept = h.kept;
     all = λ text given is_old. all_of regex search is (whole text) (given ++ h.found)
         (h.all text given (stream_by_runs s text given is_old));
   }
@@ -99,36 +100,58 @@ module _ (patterns : List Pattern) (terminator : ℕ) (search : Searched) (old :
       (λ (f : IsFinished search.nfa old list after). subst (λ v. IsFinishedOf v list after) same
       (finished_of (value_of patterns terminator search old).regex search is.regex is.accepted old list after f)) h
 
-  module _ (now : Searched) (new : Streamed) (kept : now ≡ search) (piece : List ℕ) (list after : List Match) where
+  module _ (now : Searched) (new : Streamed) (kept : now ≡ search) where
     -- where these bytes were read
-    one_fed : (more : List ℕ) → IsFed search.nfa old new more list after
+    one_fed : (list after : List Match) (more : List ℕ) → IsFed search.nfa old new more list after
         → IsFedOf seen (value_of patterns terminator now new) more list after
-    one_fed more h = subst (λ v. IsFedOf v (value_of patterns terminator now new) more list after) same
+    one_fed list after more h = subst (λ v. IsFedOf v (value_of patterns terminator now new) more list after) same
         (subst (λ v. IsFedOf (value_of patterns terminator search old) (value_of patterns terminator v new) more list
         after) (sym kept)
         (fed_of (value_of patterns terminator search old).regex search is.regex is.accepted old new more list after h))
 
-    module _ {T E : Type 0} (result : Result T E)
-        (fed : IsSearching search.nfa old → IsFeeding search.nfa old new piece list after result) where
-      pub fed_by : OnOk result (IsFedOf seen (value_of patterns terminator now new) piece list after)
-      fed_by = on_ok_weaker result (one_fed piece) (fed is.under_way).fed
+    front_fed : {piece rest : List ℕ} {found : List Match} → IsFrontFed search.nfa old new piece rest found
+        → IsFrontFedOf seen (value_of patterns terminator now new) piece rest found
+    front_fed {piece} {rest} {found} h =
+        record { front = h.front; cut = h.cut; fed = one_fed [] found h.front h.fed }
 
-      pub part_fed_by : OnErr result (IsPartFedOf seen (value_of patterns terminator now new) piece list after)
-      part_fed_by = on_err_weaker result
-          (λ (p : IsPartFed search.nfa old new piece list after). (p.0, p.1, one_fed (take p.0 piece) p.2))
-          (fed is.under_way).failed
+    streaming : IsSearching search.nfa new → IsStreaming patterns terminator now new
+    streaming under_way = subst (λ v. IsStreaming patterns terminator v new) (sym kept)
+        record { regex = is.regex; accepted = is.accepted; under_way = under_way }
 
-      pub streaming_by : IsStreaming patterns terminator now new
-      streaming_by = subst (λ v. IsStreaming patterns terminator v new) (sym kept)
-          record { regex = is.regex; accepted = is.accepted; under_way = (fed is.under_way).searching }
+    module _ {E : Type 0} (piece rest : List ℕ) (result : Result (Option Match) E)
+        (read : IsSearching search.nfa old → IsAdvance search.nfa old new piece rest result) where
+      pub next_by : IfOk result (λ next. IsFrontFedOf seen (value_of patterns terminator now new) piece rest
+          (option_to_list next))
+      next_by = IfOk-weaker result _ _ (λ next h. front_fed h) (read is.under_way).fed
 
-    pub few_by : {T E : Type 0} (result : Result T E)
-        → (IsSearching search.nfa old → OnOk result (KeptFewInBlocks search.nfa old new piece list after))
-        → OnOk result (KeptFewOf seen (value_of patterns terminator now new) piece list after)
-    few_by result few = on_ok_weaker result
-        (λ (k : KeptFewInBlocks search.nfa old new piece list after).
-        subst (λ v. KeptFewOf v (value_of patterns terminator now new) piece list after) same
-        record { nfa = search.nfa; means = is.regex.means; apart = is.regex.apart; few = k }) (few is.under_way)
+      pub none_by : OnErr result (IsFrontFedOf seen (value_of patterns terminator now new) piece rest [])
+      none_by = on_err_weaker result (λ (h : IsFrontFed search.nfa old new piece rest []). front_fed h)
+          (read is.under_way).failed
+
+      pub advancing_by : IsStreaming patterns terminator now new
+      advancing_by = streaming (read is.under_way).searching
+
+    module _ (piece : List ℕ) (list after : List Match) where
+      module _ {T E : Type 0} (result : Result T E)
+          (fed : IsSearching search.nfa old → IsFeeding search.nfa old new piece list after result) where
+        pub fed_by : OnOk result (IsFedOf seen (value_of patterns terminator now new) piece list after)
+        fed_by = on_ok_weaker result (one_fed list after piece) (fed is.under_way).fed
+
+        pub part_fed_by : OnErr result (IsPartFedOf seen (value_of patterns terminator now new) piece list after)
+        part_fed_by = on_err_weaker result
+            (λ (p : IsPartFed search.nfa old new piece list after). (p.0, p.1, one_fed list after (take p.0 piece) p.2))
+            (fed is.under_way).failed
+
+        pub streaming_by : IsStreaming patterns terminator now new
+        streaming_by = streaming (fed is.under_way).searching
+
+      pub few_by : {T E : Type 0} (result : Result T E)
+          → (IsSearching search.nfa old → OnOk result (KeptFewInBlocks search.nfa old new piece list after))
+          → OnOk result (KeptFewOf seen (value_of patterns terminator now new) piece list after)
+      few_by result few = on_ok_weaker result
+          (λ (k : KeptFewInBlocks search.nfa old new piece list after).
+          subst (λ v. KeptFewOf v (value_of patterns terminator now new) piece list after) same
+          record { nfa = search.nfa; means = is.regex.means; apart = is.regex.apart; few = k }) (few is.under_way)
 
 -- a stream that has read nothing, over the NFA of another search
 pub streaming_new : (patterns : List Pattern) (terminator limit : ℕ) (old : Searched) (pieces : Streamed)

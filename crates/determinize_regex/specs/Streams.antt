@@ -1,10 +1,10 @@
 -- All matches of patterns in a text that comes in pieces.
-use Rattle.std.specs.Prelude.{◌≡◌, ◌+◌, ◌<◌, ◌≤◌, ◌++◌, ℕ, All, List, drop, length, take}
+use Rattle.std.specs.Prelude.{◌≡◌, ◌+◌, ◌<◌, ◌≤◌, ◌++◌, ℕ, [], All, List, drop, length, take}
 use Rattle.determinize_below.specs.Semantics.{Nfa}
 use Rattle.determinize_below.specs.declared.search.Match.{Match}
 use Rattle.determinize_find.specs.Matches.{from}
-use Rattle.determinize_find.specs.Streams.{KeptFewInBlocks, Streamed, before, count_kept, count_read}
-use Rattle.determinize_find.specs.Streams.{place, whole}
+use Rattle.determinize_find.specs.Streams.{IsKept, KeptFewInBlocks, Streamed, before, count_kept}
+use Rattle.determinize_find.specs.Streams.{count_read, place, whole}
 use Rattle.determinize_nfa.specs.Prefix.{HasPrefixApart}
 use Rattle.determinize_pattern.specs.Compiled.{IsNfaOf}
 use Rattle.determinize_regex.specs.PatternMatches.{AreMatchesOf}
@@ -47,6 +47,13 @@ abbrev pub IsPartFedOf : StreamValue → StreamValue → List ℕ → List Match
 IsPartFedOf old new piece list after =
     (count : ℕ) × (count ≤ length piece) × IsFedOf old new (take count piece) list after
 
+-- the bytes of a piece up to its rest were read, and these matches were found
+pub record IsFrontFedOf (old new : StreamValue) (piece rest : List ℕ) (found : List Match)
+    : Type 0 where
+  pub front : List ℕ
+  pub cut : front ++ rest ≡ piece
+  pub fed : IsFedOf old new front [] found
+
 -- few bytes were kept at the end of each block of a piece, by an NFA of the patterns whose prefix
 -- is apart
 pub record KeptFewOf (old new : StreamValue) (piece : List ℕ) (list after : List Match)
@@ -56,9 +63,10 @@ pub record KeptFewOf (old new : StreamValue) (piece : List ℕ) (list after : Li
   pub apart : HasPrefixApart nfa
   pub few : KeptFewInBlocks nfa old.pieces new.pieces piece list after
 
--- the matches that are left, where the text ends, were added to a list
+-- the matches that are left, where the text ends, were added to a list; their bytes are kept
 pub record IsFinishedOf (s : StreamValue) (list after : List Match) : Type 0 where
   pub found : List Match
   pub added : after ≡ list ++ found
+  pub kept : All (IsKept s.pieces) found
   pub all : (text : List ℕ) (given : List Match) → IsStreamOf s text given
       → AreAllIn s.regex text (given ++ found)

@@ -1,10 +1,13 @@
 //! All matches of patterns in a text that comes in pieces.
 
-ghost use Rattle.std.specs.Prelude.{◌≡◌, [], OnErr, OnOk};
-ghost use Rattle.determinize_find.specs.Streams.{count_kept, count_read};
+ghost use Rattle.std.specs.Prelude.{◌≡◌, ◌<◌, ◌↔◌, ℕ, [], List, drop, option_to_list};
+ghost use Rattle.std.specs.Prelude.{IfOk, IsSome, OnErr, OnOk};
+ghost use Rattle.std.specs.List.{slice_range};
+ghost use Rattle.std.specs.Option.{IfNone, IfSome};
+ghost use Rattle.determinize_find.specs.Streams.{IsKept, count_kept, count_read, left_in};
 ghost use Rattle.determinize_regex.specs.Private.Searched.{IsSearchOf};
-ghost use Rattle.determinize_regex.specs.Streams.{IsFedOf, IsFinishedOf, IsPartFedOf, IsStreamOf};
-ghost use Rattle.determinize_regex.specs.Streams.{KeptFewOf};
+ghost use Rattle.determinize_regex.specs.Streams.{IsFedOf, IsFinishedOf, IsFrontFedOf};
+ghost use Rattle.determinize_regex.specs.Streams.{IsPartFedOf, IsStreamOf, KeptFewOf};
 
 use crate::regex::Regex;
 use determinize_below::Match;
@@ -105,6 +108,37 @@ impl<'r, A: Allocator + Copy> Stream<'r, A> {
         ensures same { self.new.regex ≡ self.old.regex }
     {
         self.pieces.feed(&mut self.search, piece, found)
+    }
+
+    /// Reads a piece of the text until the next match is certain, and returns that match. The piece
+    /// is then what is left of it. `None` means that all of it was read.
+    ///
+    /// The piece is read in blocks of 4096 bytes, and a match is returned with the block that makes
+    /// it certain. Its bytes are kept (`bytes_of`) until the next call of `advance` or `feed`.
+    ///
+    /// Returns `AllocError` as `feed` does. To continue, call it again with what is left.
+    pub fn advance(&mut self, piece: &mut &[u8]) -> Result<Option<Match>, AllocError>
+        ensures read { IfOk result (λ next. IsFrontFedOf self.old self.new
+            piece.old.now piece.new.now (option_to_list next)) }
+        ensures failed { OnErr result
+            (IsFrontFedOf self.old self.new piece.old.now piece.new.now []) }
+        ensures end { IfOk result (λ next. IfNone next (piece.new.now ≡ [])) }
+        ensures kept { IfOk result (λ next. IfSome next (λ m. IsKept self.new.pieces m)) }
+        ensures fewer { IfOk result (λ next. IfSome next (λ m.
+            left_in piece.new.now self.new.pieces < left_in piece.old.now self.old.pieces)) }
+        ensures same { self.new.regex ≡ self.old.regex }
+    {
+        self.pieces.advance(&mut self.search, piece)
+    }
+
+    /// Returns the bytes of a match, if all of them are kept.
+    pub fn bytes_of(&self, found: &Match) -> Option<&[u8]>
+        ensures some { IsSome result ↔ IsKept self.now.pieces found.now }
+        ensures bytes { IfSome result (λ bytes. (text : List ℕ)
+            → self.now.pieces.kept ≡ drop self.now.pieces.dropped text
+            → bytes.now ≡ slice_range text found.now.start found.now.end) }
+    {
+        self.pieces.bytes_of(found)
     }
 
     /// Adds the matches that are left, if the text ends after the pieces so far. The text may still
