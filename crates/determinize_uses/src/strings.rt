@@ -45,19 +45,43 @@ impl From<io::Error> for Error {
     }
 }
 
-/// Prints the ends of each match.
-fn print(output: &impl Print, found: &[Match]) -> io::Result<()> {
-    for found in found {
-        println!(output; "{}..{}", found.start, found.end)?;
+/// Prints the ends of a match and its bytes, and ends the line.
+fn print(stream: &Stream<'_>, found: &Match, output: &impl Print) -> io::Result<()> {
+    print!(output; "{}..{} ", found.start, found.end)?;
+    if let Some(bytes) = stream.bytes_of(found) {
+        output.write_all(bytes)?;
+    }
+    println!(output; "")
+}
+
+/// Reads a piece of the input, and prints each match that is certain.
+fn print_piece(
+    stream: &mut Stream<'_>,
+    mut piece: &[u8],
+    output: &impl Print,
+) -> Result<(), Error> {
+    while let Some(found) = stream.advance(&mut piece)? {
+        print(stream, &found, output)?;
     }
     Ok(())
 }
 
-/// Reads an input into a buffer, again and again, and prints the ends of each match as soon as it
-/// is certain.
+/// Prints the matches that are left where the input ends.
+fn print_rest(
+    stream: &mut Stream<'_>,
+    rest: &mut Vec<Match>,
+    output: &impl Print,
+) -> Result<(), Error> {
+    stream.finish(rest)?;
+    for found in rest.as_slice() {
+        print(stream, found, output)?;
+    }
+    Ok(())
+}
+
+/// Reads an input into a buffer, again and again, and prints each match as soon as it is certain.
 fn print_matches(
     stream: &mut Stream<'_>,
-    found: &mut Vec<Match>,
     buffer: &mut [u8],
     input: &mut impl Read,
     output: &impl Print,
@@ -67,16 +91,12 @@ fn print_matches(
         if count == 0 {
             break;
         }
-        stream.feed(&buffer[..count], found)?;
-        print(output, found.as_slice())?;
-        found.clear();
+        print_piece(stream, &buffer[..count], output)?;
     }
-    stream.finish(found)?;
-    print(output, found.as_slice())?;
     Ok(())
 }
 
-/// Prints where each string of an input begins and ends, one on a line, as soon as its closing
+/// Prints where each string of an input begins and ends, and its bytes, as soon as its closing
 /// quote is read. The input is read in pieces of at most 64 KB.
 pub fn print_strings(
     alloc: Global,
@@ -86,7 +106,7 @@ pub fn print_strings(
     let mut buffer = Vec::from_elem(alloc, 0u8, 65536)?;
     let regex = Regex::new(alloc, STRING)?;
     let mut stream = regex.stream(alloc, 1000);
-    let mut found = Vec::new(alloc);
-    let buffer = buffer.as_mut_slice();
-    print_matches(&mut stream, &mut found, buffer, input, output)
+    let mut rest = Vec::new(alloc);
+    print_matches(&mut stream, buffer.as_mut_slice(), input, output)?;
+    print_rest(&mut stream, &mut rest, output)
 }

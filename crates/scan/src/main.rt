@@ -1,6 +1,6 @@
-//! Prints where each string in double quotes in standard input begins and ends, one on a line, as
-//! soon as its closing quote is read. The input is read in pieces of at most 64 KB, and a string
-//! may lie in several.
+//! Prints each string in double quotes in standard input, after where it begins and ends, as soon
+//! as its closing quote is read. The input is read in pieces of at most 64 KB, and a string may lie
+//! in several.
 #![tactic(auto)]
 
 use determinize_uses::strings::{Error, print_strings};

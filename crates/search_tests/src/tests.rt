@@ -13,6 +13,7 @@ mod draw;
 mod find;
 mod finders;
 mod idle;
+mod kept;
 mod linear;
 mod patterns;
 mod pieces;
