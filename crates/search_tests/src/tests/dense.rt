@@ -110,6 +110,11 @@ pub fn dfa<'n, R: Abort + AllocGlobal>(
     Dfa::build(rt.alloc(), nfa, kind, limit).expect(rt, "few states")
 }
 
+/// Returns the smallest DFA that lists the same as another one.
+pub fn least<'n, R: Abort + AllocGlobal>(rt: &R, dfa: &Dfa<'n>) -> Dfa<'n> {
+    dfa.minimize(rt.alloc()).expect(rt, "memory")
+}
+
 /// Returns the number of states of a DFA.
 fn count(alloc: Global, nfa: &NFA, kind: MatchKind, limit: usize) -> Result<usize, DfaError> {
     match Dfa::build(alloc, nfa, kind, limit) {
@@ -124,6 +129,17 @@ fn count_least<R: Abort + AllocGlobal>(rt: &R, nfa: &NFA, kind: MatchKind, limit
     smallest.len()
 }
 
+/// Asserts that the DFA of at most this number of states has this number, or that there is none.
+fn expect_count<R: Abort + AllocGlobal>(
+    rt: &R,
+    nfa: &NFA,
+    kind: MatchKind,
+    limit: usize,
+    wanted: Result<usize, DfaError>,
+) {
+    same(rt, count(rt.alloc(), nfa, kind, limit), wanted);
+}
+
 /// Asserts that a DFA has this number of states: it is built with this limit and with one more,
 /// but not with one less. Asserts that the smallest one has the other number.
 fn expect_counts<R: Abort + AllocGlobal>(
@@ -134,10 +150,9 @@ fn expect_counts<R: Abort + AllocGlobal>(
     least: usize,
 ) {
     let (fewer, more) = (wanted.saturating_sub(1), wanted.saturating_add(1));
-    let too_many = Err(DfaError::TooManyStates);
-    same(rt, count(rt.alloc(), nfa, kind, fewer), too_many);
-    same(rt, count(rt.alloc(), nfa, kind, wanted), Ok(wanted));
-    same(rt, count(rt.alloc(), nfa, kind, more), Ok(wanted));
+    expect_count(rt, nfa, kind, fewer, Err(DfaError::TooManyStates));
+    expect_count(rt, nfa, kind, wanted, Ok(wanted));
+    expect_count(rt, nfa, kind, more, Ok(wanted));
     same(rt, count_least(rt, nfa, kind, wanted), least);
 }
 
@@ -205,8 +220,7 @@ fn expect_both<R: Abort + AllocGlobal>(
     patterns: &[PatternID],
 ) {
     expect_found(rt, dfa, around, last, patterns);
-    let least = dfa.minimize(rt.alloc()).expect(rt, "memory");
-    expect_found(rt, &least, around, last, patterns);
+    expect_found(rt, &least(rt, dfa), around, last, patterns);
 }
 
 /// Asserts that searches of the text of a walk by a DFA and by the smallest one have its last
@@ -330,8 +344,7 @@ fn expect_size_and_text<R: Abort + AllocGlobal>(rt: &R, dfa: &Dfa<'_>) {
     same(rt, dfa.memory_usage(), 5 * 36 + 4);
     let wanted = "Dfa { match_kind: All, len: 5, alphabet_len: 3, .. }";
     expect_debug(rt, dfa, wanted);
-    let least = dfa.minimize(rt.alloc()).expect(rt, "memory");
-    same(rt, least.memory_usage(), 4 * 36 + 4);
+    same(rt, least(rt, dfa).memory_usage(), 4 * 36 + 4);
 }
 
 /// The rows have three entries: for word bytes, for other bytes and for EOI. A row takes 12 bytes

@@ -14,11 +14,11 @@ use std::process::Abort;
 static TEXTS: [&str; 6] = ["foo12", "xfoo9y", "bar", "ba", "", "barfoo1"];
 
 /// The ends of their matches: by anchored searches, and by others of the first and of all matches.
-const ANCHORED: [Option<usize>; 6] = [Some(5), None, Some(3), None, None, Some(3)];
+static ANCHORED: [Option<usize>; 6] = [Some(5), None, Some(3), None, None, Some(3)];
 
-const FIRST: [Option<usize>; 6] = [Some(5), Some(5), Some(3), None, None, Some(3)];
+static FIRST: [Option<usize>; 6] = [Some(5), Some(5), Some(3), None, None, Some(3)];
 
-const ALL: [Option<usize>; 6] = [Some(5), Some(5), Some(3), None, None, Some(7)];
+static ALL: [Option<usize>; 6] = [Some(5), Some(5), Some(3), None, None, Some(7)];
 
 /// How many patterns match at each position of `barfoo1`: one after `bar`, and one at the end.
 static COUNTS: [usize; 8] = [0, 0, 0, 1, 0, 0, 0, 1];
@@ -41,9 +41,9 @@ fn search(dfa: &Dfa<'_>, is_anchored: bool, text: &str) -> Option<HalfMatch> {
 }
 
 /// Searches the texts, and compares the ends of the matches.
-fn expect_ends<R: Abort>(rt: &R, dfa: &Dfa<'_>, is_anchored: bool, ends: [Option<usize>; 6]) {
+fn expect_ends<R: Abort>(rt: &R, dfa: &Dfa<'_>, is_anchored: bool, ends: &[Option<usize>]) {
     for (text, end) in TEXTS.iter().zip(ends) {
-        expect_end(rt, search(dfa, is_anchored, text), end);
+        expect_end(rt, search(dfa, is_anchored, text), *end);
     }
 }
 
@@ -61,10 +61,10 @@ fn smallest_dfas(rt: HostRuntime) {
     let nfa = nfa(&rt, FOO_OR_BAR, StateID::must(2));
     let first = smallest(rt.alloc(), &nfa, MatchKind::LeftmostFirst, 100);
     let first = first.expect(&rt, "few states");
-    expect_ends(&rt, &first, true, ANCHORED);
-    expect_ends(&rt, &first, false, FIRST);
+    expect_ends(&rt, &first, true, &ANCHORED);
+    expect_ends(&rt, &first, false, &FIRST);
     let all = smallest(rt.alloc(), &nfa, MatchKind::All, 100).expect(&rt, "few states");
-    expect_ends(&rt, &all, true, ANCHORED);
-    expect_ends(&rt, &all, false, ALL);
+    expect_ends(&rt, &all, true, &ANCHORED);
+    expect_ends(&rt, &all, false, &ALL);
     expect_counts(&rt, &all);
 }

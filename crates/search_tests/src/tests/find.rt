@@ -9,7 +9,7 @@ ghost use Rattle.determinize_find.specs.Reversal.{IsReverseOf};
 
 use crate::tests::trial::{Trial, build_error, fail_each_in_turn, succeed_if};
 use crate::tests::{dense, ended, same, same_if_ok};
-use determinize_below::{BuildError, Input, MatchKind, NFA, StateID};
+use determinize_below::{BuildError, HalfMatch, Input, MatchKind, NFA, StateID};
 use determinize_dense::Dfa;
 use determinize_find::{LazyRegex, Match, Pieces, Regex, Searcher, has_prefix, plain, reversed};
 use determinize_lazy::Lazy;
@@ -114,6 +114,32 @@ pub fn expect_matches<R: Abort>(rt: &R, found: &[Match], wanted: &[Ends]) {
     }
 }
 
+/// Asserts that a call that may fail returned this match.
+pub fn same_end<R: Abort>(
+    rt: &R,
+    found: Result<Option<HalfMatch>, AllocError>,
+    wanted: Option<HalfMatch>,
+) {
+    same(rt, found, Ok(wanted));
+}
+
+/// Asserts that a search of an input through a cache finds this match.
+pub fn expect_search<R: Abort, N: Allocator>(
+    rt: &R,
+    lazy: &mut Lazy<'_, N>,
+    input: &Input<'_>,
+    wanted: Option<HalfMatch>,
+)
+    requires { has_start input.now.anchored ≡ true }
+{
+    same_end(rt, lazy.search_input(input), wanted);
+}
+
+/// Asserts that a search found these matches.
+pub fn expect_same<R: Abort>(rt: &R, found: &[Match], wanted: &[Match]) {
+    same(rt, found, wanted);
+}
+
 /// Compares the match of a search that may fail. Returns its error if it failed.
 fn match_if_ok<R: Abort>(
     rt: &R,
@@ -205,6 +231,16 @@ fn find_plain<R: Abort, A: Allocator + Copy>(
     }
 }
 
+/// Moves a cursor to the next match, and compares it. Returns the error of a search that failed.
+fn step<R: Abort, A: Allocator + Copy>(
+    rt: &R,
+    searcher: &mut Searcher<'_>,
+    regex: &mut LazyRegex<'_, Global, A, A>,
+    wanted: Option<Ends>,
+) -> Result<(), AllocError> {
+    match_if_ok(rt, searcher.advance(regex), wanted)
+}
+
 /// Moves a cursor to the next match, and again if that fails. Returns whether the first call
 /// succeeded.
 fn advance<R: Abort, A: Allocator + Copy>(
@@ -213,9 +249,9 @@ fn advance<R: Abort, A: Allocator + Copy>(
     regex: &mut LazyRegex<'_, Global, A, A>,
     wanted: Option<Ends>,
 ) -> Result<bool, AllocError> {
-    let is_first = match_if_ok(rt, searcher.advance(regex), wanted).is_ok();
+    let is_first = step(rt, searcher, regex, wanted).is_ok();
     if !is_first {
-        match_if_ok(rt, searcher.advance(regex), wanted)?;
+        step(rt, searcher, regex, wanted)?;
     }
     Ok(is_first)
 }
@@ -245,6 +281,18 @@ fn advance_over<R: Abort, A: Allocator + Copy>(
     advance_each(rt, &mut searcher, regex, row.matches)
 }
 
+/// Feeds the part of a piece that was not read, if the piece begins at this offset of the text.
+fn feed_rest<B: Allocator, A: Allocator + Copy>(
+    stream: &mut Pieces<A>,
+    regex: &mut LazyRegex<'_, Global, B, A>,
+    piece: &[u8],
+    begin: usize,
+    found: &mut Vec<Match, A>,
+) -> Result<(), AllocError> {
+    let read = stream.bytes_read().saturating_sub(begin);
+    stream.feed(regex, piece.get(read..).unwrap_or(piece), found)
+}
+
 /// Feeds a piece, and if that fails, the part of it that was not read. Returns whether the first
 /// call succeeded.
 fn feed_piece<B: Allocator, A: Allocator + Copy>(
@@ -254,10 +302,9 @@ fn feed_piece<B: Allocator, A: Allocator + Copy>(
     found: &mut Vec<Match, A>,
 ) -> Result<bool, AllocError> {
     let begin = stream.bytes_read();
-    let is_fed = stream.feed(regex, piece, found).is_ok();
+    let is_fed = feed_rest(stream, regex, piece, begin, found).is_ok();
     if !is_fed {
-        let read = stream.bytes_read().saturating_sub(begin);
-        stream.feed(regex, piece.get(read..).unwrap_or(piece), found)?;
+        feed_rest(stream, regex, piece, begin, found)?;
     }
     Ok(is_fed)
 }
@@ -412,6 +459,17 @@ fn expect_in_turn<R: Abort>(rt: &R, scanner: &mut Regex<&Dfa<'_>, &Dfa<'_>>, row
     }
 }
 
+/// Finds all matches of a row by whole DFAs: at once, and in turn.
+fn expect_by_scanner<R: Abort + AllocGlobal>(
+    rt: &R,
+    scanner: &mut Regex<&Dfa<'_>, &Dfa<'_>>,
+    row: &Row,
+) {
+    let found = steady::matches(rt.alloc(), scanner, row.haystack).expect(rt, "memory");
+    expect_matches(rt, found.as_slice(), row.matches);
+    expect_in_turn(rt, scanner, row);
+}
+
 /// Finds all matches of a haystack by whole DFAs of an NFA and of its reverse.
 fn expect_by_whole<R: Abort + AllocGlobal>(rt: &R, nfa: &NFA, backward: &NFA, row: &Row)
     requires forward { nfa.now.reverse ≡ false }
@@ -420,10 +478,7 @@ fn expect_by_whole<R: Abort + AllocGlobal>(rt: &R, nfa: &NFA, backward: &NFA, ro
 {
     let ends = dense::dfa(rt, nfa, MatchKind::LeftmostFirst, 100);
     let starts = dense::dfa(rt, backward, MatchKind::All, 100);
-    let mut scanner = Regex::from_engines(&ends, &starts);
-    let found = steady::matches(rt.alloc(), &mut scanner, row.haystack);
-    expect_matches(rt, found.expect(rt, "memory").as_slice(), row.matches);
-    expect_in_turn(rt, &mut scanner, row);
+    expect_by_scanner(rt, &mut Regex::from_engines(&ends, &starts), row);
 }
 
 /// Feeds pieces of a haystack.
@@ -514,10 +569,8 @@ fn expect_words<R: Abort>(rt: &R, lazy: &mut Lazy<'_>)
 
 /// Finds where a word of the text begins, by a search backward of a range up to its end.
 fn expect_begins<R: Abort>(rt: &R, lazy: &mut Lazy<'_>) {
-    let found = lazy.search_input(&Input::new(TEXT).range(0..4));
-    same(rt, found, Ok(ended(0)));
-    let found = lazy.search_input(&Input::new(TEXT).range(1..6));
-    same(rt, found, Ok(ended(5)));
+    expect_search(rt, lazy, &Input::new(TEXT).range(0..4), ended(0));
+    expect_search(rt, lazy, &Input::new(TEXT).range(1..6), ended(5));
 }
 
 #[test]

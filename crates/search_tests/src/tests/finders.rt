@@ -7,9 +7,9 @@ ghost use Rattle.determinize_engine.specs.Searches.{has_start};
 ghost use Rattle.determinize_find.specs.Prefix.{HasPrefix};
 ghost use Rattle.determinize_find.specs.Reversal.{IsReverseOf};
 
-use crate::tests::find::{Ends, backward_of, expect_matches};
+use crate::tests::find::{Ends, backward_of, expect_matches, expect_same};
 use crate::tests::stored_walks::{Place, STORED, prefixed};
-use crate::tests::{dense, holds, same};
+use crate::tests::{dense, same};
 use determinize_below::{Anchored, Input, MatchKind, NFA, StateID};
 use determinize_dense::Dfa;
 use determinize_engine::WithAllocError;
@@ -42,7 +42,7 @@ fn expect_all<R: Abort + AllocGlobal, F: Finder>(
 {
     same(rt, first(finder, input), Ok(wanted.first().copied()));
     let found = find_all(rt.alloc(), finder, input).expect(rt, "memory");
-    holds(rt, found.as_slice() == wanted);
+    expect_same(rt, found.as_slice(), wanted);
 }
 
 /// Asserts it of both engines in turn: of a lazy DFA, which is borrowed, and of a whole one.
@@ -101,6 +101,45 @@ fn expect_by_lazy_and_whole<R: Abort + AllocGlobal>(
     expect_all(rt, &mut regex, input, wanted);
 }
 
+/// Asserts it of two whole DFAs.
+fn expect_by_whole<R: Abort + AllocGlobal>(
+    rt: &R,
+    ends: &Dfa<'_>,
+    starts: &Dfa<'_>,
+    input: &Input<'_>,
+    wanted: &[Match],
+)
+    requires kind { ends.now.kind ≡ kinds.LeftmostFirst }
+    requires kind_backward { starts.now.kind ≡ kinds.All }
+    requires forward { ends.now.nfa.reverse ≡ false }
+    requires prefix { HasPrefix ends.now.nfa }
+    requires reverse { IsReverseOf starts.now.nfa ends.now.nfa }
+    requires start { has_start input.now.anchored ≡ true }
+{
+    expect_all(rt, &mut Regex::from_engines(ends, starts), input, wanted);
+}
+
+/// Asserts it of each finder that has a whole DFA of an NFA or of its reverse.
+fn expect_by_each<R: Abort + AllocGlobal>(
+    rt: &R,
+    nfa: &NFA,
+    backward: &NFA,
+    input: &Input<'_>,
+    wanted: &[Match],
+)
+    requires forward { nfa.now.reverse ≡ false }
+    requires prefix { HasPrefix nfa.now }
+    requires reverse { IsReverseOf backward.now nfa.now }
+    requires start { has_start input.now.anchored ≡ true }
+{
+    let ends = dense::dfa(rt, nfa, MatchKind::LeftmostFirst, 1000);
+    let starts = dense::dfa(rt, backward, MatchKind::All, 1000);
+    expect_in_turn(rt, nfa, &ends, input, wanted);
+    expect_by_whole(rt, &ends, &starts, input, wanted);
+    expect_by_whole_and_lazy(rt, &ends, backward, input, wanted);
+    expect_by_lazy_and_whole(rt, nfa, &starts, input, wanted);
+}
+
 /// Compares the matches of an input by each finder with those by two lazy DFAs.
 fn expect_input<R: Abort + AllocGlobal>(rt: &R, nfa: &NFA, backward: &NFA, input: &Input<'_>)
     requires forward { nfa.now.reverse ≡ false }
@@ -111,17 +150,7 @@ fn expect_input<R: Abort + AllocGlobal>(rt: &R, nfa: &NFA, backward: &NFA, input
     let mut regex = Regex::new(rt.alloc(), nfa, backward, 50);
     let wanted = regex.find_all(rt.alloc(), input).expect(rt, "memory");
     expect_all(rt, &mut regex, input, wanted.as_slice());
-    let ends = dense::dfa(rt, nfa, MatchKind::LeftmostFirst, 1000);
-    let starts = dense::dfa(rt, backward, MatchKind::All, 1000);
-    expect_in_turn(rt, nfa, &ends, input, wanted.as_slice());
-    expect_all(
-        rt,
-        &mut Regex::from_engines(&ends, &starts),
-        input,
-        wanted.as_slice(),
-    );
-    expect_by_whole_and_lazy(rt, &ends, backward, input, wanted.as_slice());
-    expect_by_lazy_and_whole(rt, nfa, &starts, input, wanted.as_slice());
+    expect_by_each(rt, nfa, backward, input, wanted.as_slice());
 }
 
 /// Compares the matches of the text of a walk, anywhere and at its start.

@@ -69,17 +69,10 @@ static PARTS: [&[u8]; 4] = [b"a", b"b", b"c", b""];
 
 const REPLACED: &[u8] = b"a$1b$1c$1";
 
-/// Compares the parts of the text.
-fn expect_parts<R: Abort>(rt: &R, parts: &[&[u8]]) {
-    same(rt, parts.len(), PARTS.len());
-    for (part, wanted) in parts.iter().zip(&PARTS) {
-        same(rt, *part, *wanted);
-    }
-}
-
 /// Splits the text, and replaces its separators.
 fn expect_list<R: Abort + AllocGlobal>(rt: &R, regex: &mut Regex) {
-    expect_parts(rt, &regex.split(rt.alloc(), LIST).expect(rt, "memory"));
+    let parts = regex.split(rt.alloc(), LIST);
+    same(rt, parts.expect(rt, "memory").as_slice(), PARTS.as_slice());
     let text = regex.replace_all(rt.alloc(), LIST, b"$1");
     same(rt, text.expect(rt, "memory").as_slice(), REPLACED);
 }
@@ -178,7 +171,7 @@ static MARKED: [(&str, ErrorKind, usize, usize, &str); 5] = [
 
 #[test]
 fn errors_are_written(rt: HostRuntime) {
-    for (text, kind, start, end, written) in MARKED {
+    for &(text, kind, start, end, written) in &MARKED {
         expect_text(
             &rt,
             &ParseError::new(kind, start, end).display(text),

@@ -1,8 +1,8 @@
 //! A text in pieces: each match is found with its last byte, and few bytes are kept.
 
-use crate::tests::find::{WORDS, backward_of, nfa};
+use crate::tests::find::{WORDS, backward_of, nfa, same_end};
 use crate::tests::{ended, holds, same};
-use determinize_below::MatchKind;
+use determinize_below::{MatchKind, NFA};
 use determinize_find::{LazyRegex, Match, Pieces, Regex};
 use determinize_lazy::{Lazy, Scan, Walker};
 use std::process::Abort;
@@ -19,6 +19,22 @@ static EACH_LINE: [&[u8]; 6] = [b"ab\n", b"\n", b"c d\n", b"\n", b"\n", b"e"];
 /// The words from one to ten, in 64 bytes. `seven` begins at their end and ends at their beginning.
 const TEN_WORDS: &[u8] = b"ven; one, two, three, four, five, six; eight, nine, ten...   sev";
 
+/// Feeds a piece.
+pub fn put<R: Abort>(
+    rt: &R,
+    stream: &mut Pieces,
+    regex: &mut LazyRegex<'_>,
+    piece: &[u8],
+    found: &mut Vec<Match>,
+) {
+    stream.feed(regex, piece, found).expect(rt, "memory");
+}
+
+/// Ends a text.
+pub fn end<R: Abort>(rt: &R, stream: &Pieces, regex: &mut LazyRegex<'_>, found: &mut Vec<Match>) {
+    stream.finish(regex, found).expect(rt, "memory");
+}
+
 /// Feeds a block, after which at most 64 bytes may be kept, and returns how many matches it adds.
 fn feed_block<R: Abort>(
     rt: &R,
@@ -28,7 +44,7 @@ fn feed_block<R: Abort>(
     found: &mut Vec<Match>,
 ) -> usize {
     found.clear();
-    stream.feed(regex, block, found).expect(rt, "memory");
+    put(rt, stream, regex, block, found);
     holds(rt, stream.bytes_kept() <= 64);
     found.len()
 }
@@ -46,7 +62,7 @@ fn count_matches<R: Abort>(
         count = count.saturating_add(feed_block(rt, stream, regex, block, found));
     }
     found.clear();
-    stream.finish(regex, found).expect(rt, "memory");
+    end(rt, stream, regex, found);
     count.saturating_add(found.len())
 }
 
@@ -87,11 +103,11 @@ fn feed_lines<R: Abort>(
 ) {
     let mut count = 0usize;
     for piece in pieces {
-        stream.feed(regex, piece, found).expect(rt, "memory");
+        put(rt, stream, regex, piece, found);
         count = count.saturating_add(ended_lines(piece));
         same(rt, found.len(), count);
     }
-    stream.finish(regex, found).expect(rt, "memory");
+    end(rt, stream, regex, found);
     same(rt, found.len(), count);
 }
 
@@ -122,7 +138,7 @@ fn expect_rest<R: Abort>(rt: &R, lazy: &mut Lazy<'_>, other: &mut Lazy<'_>, scan
     holds(rt, other.feed(scan, b"b").is_err());
     holds(rt, other.finish(scan, None).is_err());
     lazy.feed(scan, b"b").expect(rt, "memory");
-    same(rt, lazy.finish(scan, None), Ok(ended(2)));
+    same_end(rt, lazy.finish(scan, None), ended(2));
 }
 
 /// Scans `ab` by a cache, while another one must not feed or finish the scan.
@@ -146,13 +162,16 @@ fn expect_walker<R: Abort>(rt: &R, lazy: &mut Lazy<'_>, other: &mut Lazy<'_>) {
     expect_steps(rt, lazy, other, &mut walker);
 }
 
+/// Scans and walks by a cache of an NFA, and by one of another NFA.
+fn expect_caches<R: Abort + AllocGlobal>(rt: &R, nfa: &NFA, other: &NFA) {
+    let mut lazy = Lazy::new(rt.alloc(), nfa, MatchKind::LeftmostFirst, 100);
+    let mut other = Lazy::new(rt.alloc(), other, MatchKind::LeftmostFirst, 100);
+    expect_scan(rt, &mut lazy, &mut other);
+    expect_walker(rt, &mut lazy, &mut other);
+}
+
 /// A cache of another NFA, which has no such states, returns an error, and changes nothing.
 #[test]
 fn scans_of_another_nfa(rt: HostRuntime) {
-    let words = nfa(&rt, WORDS);
-    let any = nfa(&rt, "BU:2,1 B:00-ff>0 M:0");
-    let mut lazy = Lazy::new(rt.alloc(), &words, MatchKind::LeftmostFirst, 100);
-    let mut other = Lazy::new(rt.alloc(), &any, MatchKind::LeftmostFirst, 100);
-    expect_scan(&rt, &mut lazy, &mut other);
-    expect_walker(&rt, &mut lazy, &mut other);
+    expect_caches(&rt, &nfa(&rt, WORDS), &nfa(&rt, "BU:2,1 B:00-ff>0 M:0"));
 }

@@ -3,22 +3,22 @@
 ghost use Rattle.std.specs.Prelude.{◌≡◌};
 ghost use Rattle.determinize_below.specs.declared.search.MatchKind.TheVariants as kinds;
 
-use crate::tests::dense::{TOKENS, WORD, dfa, expect_patterns, nfa};
+use crate::tests::dense::{TOKENS, WORD, dfa, expect_patterns, least, nfa};
 use crate::tests::{expect_debug, expect_text, same};
-use determinize_below::{HalfMatch, MatchKind, StateID};
+use determinize_below::{HalfMatch, MatchKind, PatternID, StateID};
 use determinize_dense::{Dfa, RowId};
 use determinize_uses::steps::{all_ends, patterns_of};
 use std::process::Abort;
 
-/// The patterns and the ends of all matches in `ab 1`.
-static ENDS: [(usize, usize); 3] = [(0, 1), (0, 2), (1, 4)];
-
-/// Compares the matches of the text.
-fn expect_ends<R: Abort>(rt: &R, ends: &[HalfMatch]) {
-    same(rt, ends.len(), ENDS.len());
-    for (found, wanted) in ends.iter().zip(&ENDS) {
-        same(rt, (found.pattern.as_usize(), found.offset), *wanted);
-    }
+/// Compares all matches of `ab 1` with their patterns and ends.
+fn expect_ends<R: Abort>(rt: &R, found: &[HalfMatch]) {
+    let (word, number) = (PatternID::ZERO, PatternID::must(1));
+    let wanted = [
+        HalfMatch::new(word, 1),
+        HalfMatch::new(word, 2),
+        HalfMatch::new(number, 4),
+    ];
+    same(rt, found, wanted.as_slice());
 }
 
 /// Patterns of texts, and all matches of one.
@@ -60,7 +60,7 @@ fn expect_small<R: Abort + AllocGlobal>(rt: &R, row: RowId) {
     let nfa = nfa(rt, WORD, StateID::ZERO);
     let dfa = dfa(rt, &nfa, MatchKind::All, 5);
     expect_nothing(rt, &dfa, row);
-    expect_rows(rt, &dfa.minimize(rt.alloc()).expect(rt, "memory"));
+    expect_rows(rt, &least(rt, &dfa));
 }
 
 /// Compares the last row of a DFA of 17.

@@ -4,53 +4,57 @@ ghost use Rattle.std.specs.Prelude.{◌≡◌, false};
 ghost use Rattle.determinize_below.specs.declared.search.MatchKind.TheVariants as kinds;
 ghost use Rattle.determinize_find.specs.Prefix.{HasPrefix};
 
-use crate::tests::find::{WORDS, backward_of, nfa};
+use crate::tests::find::{WORDS, backward_of, expect_same, expect_search, nfa};
+use crate::tests::pieces::{end, put};
 use crate::tests::uses::over;
 use crate::tests::{dense, ended, holds, same};
-use determinize_below::{
-    Anchored, BuildError, HalfMatch, Input, Look, MatchKind, NFA, PatternID, StateID,
-};
+use determinize_below::{Anchored, HalfMatch, Input, Look, MatchKind, NFA, PatternID, StateID};
 use determinize_dense::Dfa;
 use determinize_find::{Builder, LazyRegex, Match, Pieces, Regex, plain};
-use determinize_lazy::Lazy;
+use determinize_lazy::{Lazy, Scan};
 use std::alloc::Global;
 use std::process::Abort;
 
 /// Adds the states of `\<a`, patching the target of the assertion, and returns the first one.
-fn add_word(builder: &mut Builder<Global>) -> Result<StateID, BuildError> {
-    let word = builder.add_look(StateID::ZERO, Look::WordStartAscii)?;
-    let done = builder.add_match()?;
-    let letter = builder.add_range(over(b'a', b'a', done))?;
-    builder.patch(word, letter)?;
-    Ok(word)
+fn add_word<R: Abort>(rt: &R, builder: &mut Builder<Global>) -> StateID {
+    let word = builder.add_look(StateID::ZERO, Look::WordStartAscii);
+    let word = word.expect(rt, "memory");
+    let done = builder.add_match().expect(rt, "memory");
+    let letter = builder.add_range(over(b'a', b'a', done));
+    builder
+        .patch(word, letter.expect(rt, "memory"))
+        .expect(rt, "memory");
+    word
 }
 
 /// Adds the states of `e{40}`, and returns the first one.
-fn add_run(builder: &mut Builder<Global>) -> Result<StateID, BuildError> {
-    let mut first = builder.add_match()?;
+fn add_run<R: Abort>(rt: &R, builder: &mut Builder<Global>) -> StateID {
+    let mut first = builder.add_match().expect(rt, "memory");
     for _ in 0..40u32 {
-        first = builder.add_range(over(b'e', b'e', first))?;
+        let letter = builder.add_range(over(b'e', b'e', first));
+        first = letter.expect(rt, "memory");
     }
-    Ok(first)
+    first
 }
 
 /// Adds the states of `[bcd]`, and returns the first one.
-fn add_letters(builder: &mut Builder<Global>) -> Result<StateID, BuildError> {
-    let done = builder.add_match()?;
+fn add_letters<R: Abort>(rt: &R, builder: &mut Builder<Global>) -> StateID {
+    let done = builder.add_match().expect(rt, "memory");
     let letters = [
         over(b'b', b'b', done),
         over(b'c', b'c', done),
         over(b'd', b'd', done),
     ];
-    builder.add_sparse(&letters)
+    builder.add_sparse(&letters).expect(rt, "memory")
 }
 
 /// Adds the states of the patterns `\<a`, `[bcd]` and `e{40}`, and returns the first one.
-fn add_three(builder: &mut Builder<Global>) -> Result<StateID, BuildError> {
-    let word = add_word(builder)?;
-    let letters = add_letters(builder)?;
-    let run = add_run(builder)?;
-    builder.add_union(&[word, letters, run])
+fn add_three<R: Abort>(rt: &R, builder: &mut Builder<Global>) -> StateID {
+    let word = add_word(rt, builder);
+    let letters = add_letters(rt, builder);
+    let run = add_run(rt, builder);
+    let first = builder.add_union(&[word, letters, run]);
+    first.expect(rt, "memory")
 }
 
 /// A text that the last pattern matches.
@@ -58,8 +62,8 @@ static RUN: [u8; 40] = [b'e'; 40];
 
 /// Searches a text from its start, and compares the pattern and the end of the match.
 fn expect_match<R: Abort>(rt: &R, lazy: &mut Lazy<'_>, text: &[u8], wanted: Option<HalfMatch>) {
-    let found = lazy.search_input(&Input::new(text).anchored(Anchored::Yes));
-    same(rt, found, Ok(wanted));
+    let input = Input::new(text).anchored(Anchored::Yes);
+    expect_search(rt, lazy, &input, wanted);
 }
 
 /// Compares the pattern that matches at the start of each of four texts.
@@ -95,7 +99,7 @@ fn expect_built<R: Abort + AllocGlobal>(rt: &R, builder: &Builder<Global>, start
 #[test]
 fn three_patterns(rt: HostRuntime) {
     let mut builder = Builder::new(rt.alloc());
-    let start = add_three(&mut builder).expect(&rt, "memory");
+    let start = add_three(&rt, &mut builder);
     expect_built(&rt, &builder, start);
 }
 
@@ -117,7 +121,7 @@ fn expect_tenth<R: Abort>(rt: &R, dfa: &Dfa) {
 fn many_rows(rt: HostRuntime) {
     let nfa = dense::nfa(&rt, TENTH, StateID::ZERO);
     let dfa = dense::dfa(&rt, &nfa, MatchKind::All, 10_000);
-    let least = dfa.minimize(rt.alloc()).expect(&rt, "memory");
+    let least = dense::least(&rt, &dfa);
     holds(&rt, 1024 <= least.len() && least.len() <= dfa.len());
     expect_tenth(&rt, &dfa);
     expect_tenth(&rt, &least);
@@ -130,17 +134,20 @@ fn long_text<R: Abort + AllocGlobal>(rt: &R) -> Vec<u8> {
     text
 }
 
-/// Feeds a text in one piece, of which the last word is kept until the text ends.
+/// Feeds a text in one piece, of which the last word is kept until the text ends, and compares the
+/// matches.
 fn feed<R: Abort>(
     rt: &R,
     stream: &mut Pieces,
     regex: &mut LazyRegex<'_>,
     text: &[u8],
     found: &mut Vec<Match>,
+    wanted: &[Match],
 ) {
-    stream.feed(regex, text, found).expect(rt, "memory");
+    put(rt, stream, regex, text, found);
     holds(rt, stream.bytes_kept() >= 30_000);
-    stream.finish(regex, found).expect(rt, "memory");
+    end(rt, stream, regex, found);
+    expect_same(rt, found.as_slice(), wanted);
 }
 
 /// Finds the words of a text in one piece.
@@ -151,8 +158,7 @@ fn expect_pieces<R: Abort + AllocGlobal>(
     wanted: &[Match],
 ) {
     let (mut stream, mut found) = (Pieces::new(rt.alloc()), Vec::new(rt.alloc()));
-    feed(rt, &mut stream, regex, text, &mut found);
-    holds(rt, found.as_slice() == wanted);
+    feed(rt, &mut stream, regex, text, &mut found, wanted);
 }
 
 /// Finds 100 words by `plain`, and none in spaces.
@@ -165,19 +171,24 @@ fn expect_plain<R: Abort + AllocGlobal>(rt: &R, lazy: &mut Lazy<'_>, text: &[u8]
     same(rt, plain::find(lazy, &Input::new(&[b' '; 40])), Ok(None));
 }
 
+/// Returns the last match of a scan whose text ends.
+fn finished<R: Abort>(rt: &R, lazy: &mut Lazy<'_>, scan: &Scan) -> Option<HalfMatch> {
+    lazy.finish(scan, None).expect(rt, "memory")
+}
+
 /// Returns the last match of a text by a scan that begins before it.
 fn fed<R: Abort>(rt: &R, lazy: &mut Lazy<'_>, text: &[u8]) -> Option<HalfMatch> {
     let start = lazy.nfa().start_unanchored();
     let mut scan = lazy.scan(start, None).expect(rt, "memory");
     lazy.feed(&mut scan, text).expect(rt, "memory");
-    lazy.finish(&scan, None).expect(rt, "memory")
+    finished(rt, lazy, &scan)
 }
 
 /// Returns the last match of a text by a scan of it all.
 fn scanned<R: Abort>(rt: &R, lazy: &mut Lazy<'_>, text: &[u8]) -> Option<HalfMatch> {
     let start = lazy.nfa().start_unanchored();
     let scan = lazy.scan_text(start, None, text).expect(rt, "memory");
-    lazy.finish(&scan, None).expect(rt, "memory")
+    finished(rt, lazy, &scan)
 }
 
 /// Returns the number of states of a walk over a text.

@@ -6,7 +6,7 @@ ghost use Rattle.determinize_below.specs.declared.search.MatchKind.TheVariants a
 ghost use Rattle.determinize_find.specs.Prefix.{HasPrefix};
 ghost use Rattle.determinize_engine.specs.Searches.{has_start};
 
-use crate::tests::find::backward_of;
+use crate::tests::find::{backward_of, expect_same};
 use crate::tests::{expect_text, same};
 use determinize_below::nfa::State;
 use determinize_below::{Anchored, HalfMatch, Input, MatchKind, NFA, StateID, Transition};
@@ -155,7 +155,7 @@ fn expect_all<R: Abort + AllocGlobal>(
     requires { has_start input.now.anchored ≡ true }
 {
     let found = regex.find_all(rt.alloc(), input).expect(rt, "memory");
-    same(rt, found.as_slice(), wanted);
+    expect_same(rt, found.as_slice(), wanted);
 }
 
 /// Returns the leftmost match of an input, and asserts that both ways find it, and the same matches

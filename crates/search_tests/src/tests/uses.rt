@@ -3,7 +3,7 @@
 ghost use Rattle.std.specs.Prelude.{◌≡◌, ◌<◌, ◌≤◌, false, length};
 ghost use Rattle.determinize_below.specs.declared.search.MatchKind.TheVariants as kinds;
 
-use crate::tests::find::expect_matches;
+use crate::tests::find::{expect_matches, expect_search, same_end};
 use crate::tests::{ended, holds, same};
 use determinize_below::{
     Anchored, BuildError, Input, Look, LookMatcher, LookSet, MatchKind, NFA, SparseSet, StateID,
@@ -64,17 +64,12 @@ fn small_values(rt: HostRuntime) {
     same(&rt, state.as_bytes(), BYTES.as_slice());
 }
 
-/// Compares at which positions of a walk there is a match.
+/// Compares which states of a walk over `a12` are match states: the last two.
 fn expect_positions<R: Abort>(rt: &R, states: &[State]) {
-    for (position, state) in states.iter().skip(1).enumerate() {
+    for (index, state) in states.iter().enumerate() {
         let patterns = state.match_pattern_ids().expect(rt, "memory");
-        same(rt, patterns.is_some(), position > 1);
+        same(rt, patterns.is_some(), index > 2);
     }
-}
-
-/// Finds where the first number of a text ends.
-fn expect_search<R: Abort>(rt: &R, lazy: &mut Lazy<'_>) {
-    same(rt, lazy.search_input(&Input::new(b"a12")), Ok(ended(3)));
 }
 
 /// Walks over the same text.
@@ -90,6 +85,8 @@ fn first_search(rt: HostRuntime) {
     expect_search(
         &rt,
         &mut Lazy::new(rt.alloc(), &nfa, MatchKind::LeftmostFirst, 100),
+        &Input::new(b"a12"),
+        ended(3),
     );
     expect_walk(&rt, &mut Lazy::new(rt.alloc(), &nfa, MatchKind::All, 100));
 }
@@ -154,8 +151,8 @@ fn lines<A: Allocator + Copy>(alloc: A, has_prefix: bool) -> Result<NFA<A>, Buil
 
 /// Searches two texts, of which only the first has a line.
 fn search_lines<R: Abort, N: Allocator>(rt: &R, lazy: &mut Lazy<'_, N>) {
-    same(rt, lazy.search_input(&Input::new(b"b!;a")), Ok(ended(2)));
-    same(rt, lazy.search_input(&Input::new(b"b!b")), Ok(ended(0)));
+    expect_search(rt, lazy, &Input::new(b"b!;a"), ended(2));
+    expect_search(rt, lazy, &Input::new(b"b!b"), ended(0));
 }
 
 /// Compares the number of states of an NFA, and searches with it.
@@ -231,9 +228,9 @@ fn expect_closures<R: Abort + AllocGlobal>(rt: &R, nfa: &NFA) {
 fn expect_walks<R: Abort + AllocGlobal>(rt: &R, nfa: &NFA) {
     let text = b"ab 42 c";
     let found = walk::preferred(rt.alloc(), nfa, nfa.start_unanchored(), text);
-    same(rt, found, Ok(ended(5)));
+    same_end(rt, found, ended(5));
     let found = walk::preferred(rt.alloc(), nfa, nfa.start_anchored(), text);
-    same(rt, found, Ok(None));
+    same_end(rt, found, None);
 }
 
 /// Compares all numbers of a text.
