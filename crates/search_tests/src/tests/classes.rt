@@ -20,9 +20,7 @@ fn check_digits<R: Abort>(rt: &R, classes: &ByteClasses) {
 
 #[test]
 fn classes_of_digits(rt: HostRuntime) {
-    let classes = digits(rt.alloc(), false)
-        .expect(&rt, "memory")
-        .byte_classes();
+    let classes = digits(rt.alloc()).expect(&rt, "memory").byte_classes();
     check_digits(&rt, &classes);
     expect_debug(&rt, &classes, "ByteClasses(0.. => 0, 48.. => 1, 58.. => 0)");
 }
