@@ -30,10 +30,10 @@ const BLOCK: usize = 4096;
 /// A search for all matches of a text that comes in pieces: `feed` reads the next piece, `advance`
 /// returns the next match of it, and `finish` says that the text ends.
 ///
-/// A piece is read in blocks of 4096 bytes. At the end of a block each match is added that is
-/// certain (`certain_match`): no NFA state is left, or the first one is a `Match`, so no byte that
-/// follows can change it. So a line, as a match of `[^\n]*\n`, is added with its last byte. The
-/// positions of a match count from the beginning of the text.
+/// A piece is read in blocks of 4096 bytes. At the end of a block `feed` adds each match that is
+/// certain (`certain_match`), and `advance` returns the first: no NFA state is left, or the first
+/// one is a `Match`, so no byte that follows can change it. So a line, as a match of `[^\n]*\n`, is
+/// found with its last byte. The positions of a match count from the beginning of the text.
 ///
 /// If the search is idle at the end of a block (`is_idle`), and the prefix of the NFA is apart
 /// (`has_prefix_apart`), a new one begins there. The bytes before a search are dropped, but for the

@@ -1,8 +1,9 @@
 -- A search in pieces over an NFA of patterns, in words of the patterns.
--- Main statements: stream_of, fed_by, part_fed_by, few_by, next_by, none_by, finished_by, streaming_by, streaming_new.
+-- Main statements: stream_of, fed_by, part_fed_by, few_by, next_by, none_by, keeps_by, finished_by, streaming_by, streaming_new.
 -- Used by: the calls of `Stream`.
 -- Idea: the matches of the runs are those of the patterns, so what keeps the list of the one keeps that of the other.
 use Rattle.std.specs.Prelude.{IfOk, OnErr, OnOk, Option, Result, option_to_list}
+use Rattle.std.specs.Option.{IfNone}
 use Rattle.std.proofs.Common.{◌≡◌, ◌≤◌, ◌++◌, ℕ, [], Bool, List, None, Some, arith, cond, false, length}
 use Rattle.std.proofs.Common.{refl, subst, sym, take, true}
 use Rattle.std.proofs.lemmas.Result.{IfOk-weaker, on_err_weaker, on_ok_weaker}
@@ -13,12 +14,12 @@ use Rattle.determinize_find.proofs.matches.InputMatches.{each_input_has_matches}
 use Rattle.determinize_find.specs.Matches.{from}
 use Rattle.determinize_find.specs.Regexes.{RegexValue as Searched}
 use Rattle.determinize_find.specs.Streams.{IsAdvance, IsFed, IsFeeding, IsFinished, IsFrontFed, IsPartFed, IsSearching, IsStream}
-use Rattle.determinize_find.specs.Streams.{KeptFewInBlocks, Streamed, before, place, whole}
+use Rattle.determinize_find.specs.Streams.{KeepsFew, KeptFewInBlocks, Streamed, before, place, whole}
 use Rattle.determinize_pattern.specs.declared.pattern.Pattern.{Pattern}
 use Rattle.determinize_regex.proofs.FoundByRegex.{all_of, matches_by_runs, matches_of}
 use Rattle.determinize_regex.specs.Private.Searched.{IsSearchOf, IsStreaming}
 use Rattle.determinize_regex.specs.Regexes.{RegexValue}
-use Rattle.determinize_regex.specs.Streams.{BeginAll, IsFedOf, IsFinishedOf, IsFrontFedOf, IsPartFedOf, IsStreamOf, KeptFewOf}
+use Rattle.determinize_regex.specs.Streams.{BeginAll, IsFedOf, IsFinishedOf, IsFrontFedOf, IsPartFedOf, IsStreamOf, KeepsFewOf, KeptFewOf}
 use Rattle.determinize_regex.specs.Streams.{StreamValue}
 use Rattle.ordered_reach.proofs.Cases.{some_injective}
 
@@ -130,6 +131,16 @@ module _ (patterns : List Pattern) (terminator : ℕ) (search : Searched) (old :
 
       pub advancing_by : IsStreaming patterns terminator now new
       advancing_by = streaming (read is.under_way).searching
+
+    none_keeps : (next : Option Match) → IfNone next (KeepsFew search.nfa new)
+        → IfNone next (KeepsFewOf (value_of patterns terminator now new))
+    none_keeps None k = record { nfa = search.nfa; means = is.regex.means; apart = is.regex.apart; few = k }
+    none_keeps (Some m) k = tt
+
+    pub keeps_by : {E : Type 0} (result : Result (Option Match) E)
+        → (IsSearching search.nfa old → IfOk result (λ next. IfNone next (KeepsFew search.nfa new)))
+        → IfOk result (λ next. IfNone next (KeepsFewOf (value_of patterns terminator now new)))
+    keeps_by result few = IfOk-weaker result _ _ none_keeps (few is.under_way)
 
     module _ (piece : List ℕ) (list after : List Match) where
       module _ {T E : Type 0} (result : Result T E)

@@ -3,8 +3,8 @@ use Rattle.std.specs.Prelude.{◌≡◌, ◌+◌, ◌<◌, ◌≤◌, ◌++◌, 
 use Rattle.determinize_below.specs.Semantics.{Nfa}
 use Rattle.determinize_below.specs.declared.search.Match.{Match}
 use Rattle.determinize_find.specs.Matches.{from}
-use Rattle.determinize_find.specs.Streams.{IsKept, KeptFewInBlocks, Streamed, before, count_kept}
-use Rattle.determinize_find.specs.Streams.{count_read, place, whole}
+use Rattle.determinize_find.specs.Streams.{IsKept, KeepsFew, KeptFewInBlocks, Streamed, before}
+use Rattle.determinize_find.specs.Streams.{count_kept, count_read, place, whole}
 use Rattle.determinize_nfa.specs.Prefix.{HasPrefixApart}
 use Rattle.determinize_pattern.specs.Compiled.{IsNfaOf}
 use Rattle.determinize_regex.specs.PatternMatches.{AreMatchesOf}
@@ -62,6 +62,14 @@ pub record KeptFewOf (old new : StreamValue) (piece : List ℕ) (list after : Li
   pub means : IsNfaOf (meanings old.regex) nfa
   pub apart : HasPrefixApart nfa
   pub few : KeptFewInBlocks nfa old.pieces new.pieces piece list after
+
+-- no match of the search under way is certain, and few bytes are kept, by an NFA of the patterns
+-- whose prefix is apart
+pub record KeepsFewOf (s : StreamValue) : Type 0 where
+  pub nfa : Nfa
+  pub means : IsNfaOf (meanings s.regex) nfa
+  pub apart : HasPrefixApart nfa
+  pub few : KeepsFew nfa s.pieces
 
 -- the matches that are left, where the text ends, were added to a list; their bytes are kept
 pub record IsFinishedOf (s : StreamValue) (list after : List Match) : Type 0 where

@@ -7,7 +7,7 @@ ghost use Rattle.std.specs.Option.{IfNone, IfSome};
 ghost use Rattle.determinize_find.specs.Streams.{IsKept, count_kept, count_read, left_in};
 ghost use Rattle.determinize_regex.specs.Private.Searched.{IsSearchOf};
 ghost use Rattle.determinize_regex.specs.Streams.{IsFedOf, IsFinishedOf, IsFrontFedOf};
-ghost use Rattle.determinize_regex.specs.Streams.{IsPartFedOf, IsStreamOf, KeptFewOf};
+ghost use Rattle.determinize_regex.specs.Streams.{IsPartFedOf, IsStreamOf, KeepsFewOf, KeptFewOf};
 
 use crate::regex::Regex;
 use determinize_below::Match;
@@ -16,10 +16,11 @@ use std::alloc::{AllocError, Allocator, Global};
 use std::marker::Model;
 
 /// A search for all matches of the patterns of a [`Regex`] in a text that comes in pieces, with
-/// two separate caches: `feed` reads the next piece, and `finish` says that the text ends.
+/// two separate caches: `feed` reads the next piece, `advance` returns the next match of it, and
+/// `finish` says that the text ends.
 ///
-/// A match is added once it is certain (`certain_match` of `determinize_find`): no byte that
-/// follows can change it. So a line, as a match of `[^\n]*\n`, is added with its last byte. The
+/// A match is found once it is certain (`certain_match` of `determinize_find`): no byte that
+/// follows can change it. So a line, as a match of `[^\n]*\n`, is found with its last byte. The
 /// positions of a match count from the beginning of the text. Bytes are kept as by `Pieces` of
 /// `determinize_find`.
 #[derive(Drop)]
@@ -123,6 +124,7 @@ impl<'r, A: Allocator + Copy> Stream<'r, A> {
         ensures failed { OnErr result
             (IsFrontFedOf self.old self.new piece.old.now piece.new.now []) }
         ensures end { IfOk result (λ next. IfNone next (piece.new.now ≡ [])) }
+        ensures few { IfOk result (λ next. IfNone next (KeepsFewOf self.new)) }
         ensures kept { IfOk result (λ next. IfSome next (λ m. IsKept self.new.pieces m)) }
         ensures fewer { IfOk result (λ next. IfSome next (λ m.
             left_in piece.new.now self.new.pieces < left_in piece.old.now self.old.pieces)) }

@@ -4,6 +4,7 @@ use crate::tests::find::{Row, WORDS, backward_of, expect_matches, nfa};
 use crate::tests::{holds, same};
 use determinize_below::PatternID;
 use determinize_find::{LazyRegex, Match, Pieces, Regex};
+use determinize_regex::Stream;
 use determinize_replay::failing_alloc::{FailingAllocator, Outcome, fail_each_allocation};
 use std::alloc::{AllocError, Allocator, Global};
 use std::process::Abort;
@@ -156,12 +157,14 @@ fn count_sevens<R: Abort>(
             break;
         };
         same(rt, stream.bytes_of(&next), Some(b"seven".as_slice()));
+        holds(rt, stream.bytes_kept() <= 4096 + 8);
         count = count.saturating_add(1);
     }
     count
 }
 
-/// Reads 1500 words in one piece of more than two blocks. The bytes of the first are then dropped.
+/// Reads 1500 words in one piece of three blocks, of which never more than one and the beginning of
+/// a word are kept. The bytes of the first word are then dropped.
 fn expect_sevens<R: Abort + AllocGlobal>(rt: &R, stream: &mut Pieces, regex: &mut LazyRegex<'_>) {
     let text = b"seven, ".repeat(rt.alloc(), 1500).expect(rt, "memory");
     same(rt, count_sevens(rt, stream, regex, text.as_slice()), 1500);
@@ -180,4 +183,37 @@ fn dropped_bytes(rt: HostRuntime) {
     let backward = backward_of(&rt, &nfa);
     let mut regex = Regex::new(rt.alloc(), &nfa, &backward, 100);
     expect_sevens(&rt, &mut Pieces::new(rt.alloc()), &mut regex);
+}
+
+/// Compares the next match in a piece of a text, and its bytes, or that there is none.
+fn expect_next<R: Abort>(
+    rt: &R,
+    stream: &mut Stream<'_>,
+    piece: &mut &[u8],
+    wanted: Option<(usize, &[u8])>,
+) {
+    match (stream.advance(piece).expect(rt, "memory"), wanted) {
+        (Some(found), Some((start, bytes))) => {
+            same(rt, found.start, start);
+            same(rt, stream.bytes_of(&found), Some(bytes));
+        }
+        (found, wanted) => holds(rt, found.is_none() && wanted.is_none() && piece.is_empty()),
+    }
+}
+
+/// Finds two words in a piece, and one that ends in the next piece.
+fn expect_words<R: Abort>(rt: &R, stream: &mut Stream<'_>) {
+    let mut first = b"ab, cd, e".as_slice();
+    expect_next(rt, stream, &mut first, Some((0, b"ab")));
+    expect_next(rt, stream, &mut first, Some((4, b"cd")));
+    expect_next(rt, stream, &mut first, None);
+    let mut second = b"f;".as_slice();
+    expect_next(rt, stream, &mut second, Some((8, b"ef")));
+    expect_next(rt, stream, &mut second, None);
+}
+
+#[test]
+fn bytes_of_patterns(rt: HostRuntime) {
+    let regex = determinize_regex::Regex::new(rt.alloc(), "[a-z]+").expect(&rt, "a regex");
+    expect_words(&rt, &mut regex.stream(rt.alloc(), 100));
 }
