@@ -1,6 +1,6 @@
 -- All matches of a text that comes in pieces.
-use Rattle.std.specs.Prelude.{◌≡◌, ◌*◌, ◌+◌, ◌-◌, ◌<◌, ◌≤◌, ◌++◌, ◌⊎◌, ℕ, [], All, Bool, IfOk, List}
-use Rattle.std.specs.Prelude.{None, OnErr, OnOk, Option, Result, Some, cond, drop, length}
+use Rattle.std.specs.Prelude.{◌≡◌, ◌*◌, ◌+◌, ◌-◌, ◌<◌, ◌≤◌, ◌++◌, ◌∷◌, ◌⊎◌, ℕ, [], All, Bool}
+use Rattle.std.specs.Prelude.{IfOk, List, None, OnErr, OnOk, Option, Result, Some, cond, drop, length}
 use Rattle.std.specs.Prelude.{option_to_list, take}
 use Rattle.std.specs.Option.{IfSome}
 use Rattle.determinize_below.specs.Nfa.{AllResolve, IsAccepted}
@@ -128,6 +128,17 @@ pub record KeepsFew (nfa : Nfa) (s : Streamed) : Type 0 where
   pub unsettled : IsUnsettled nfa scan
   pub behind : s.start ≤ 1
   pub idle : HasPrefixApart nfa → IsIdle nfa scan → count_kept s ≤ 1
+
+-- before the last bytes that were read, at most 4096, no match was certain and few bytes were kept;
+-- with them this match was found
+pub record IsFoundInBlock (nfa : Nfa) (old new : Streamed) (piece rest : List ℕ) (m : Match)
+    : Type 0 where
+  pub now : Streamed
+  pub block : List ℕ
+  pub small : length block ≤ 4096
+  pub first : IsFrontFed nfa old now piece (block ++ rest) []
+  pub few : KeepsFew nfa now
+  pub last : IsFed nfa now new block [] (m ∷ [])
 
 -- the end of a piece, or of a block of 4096 bytes of it
 abbrev pub IsBlockEnd : List ℕ → ℕ → Type 0

@@ -1,6 +1,7 @@
 //! All matches of a text that comes in pieces, as from a socket or a file.
 
-ghost use Rattle.std.specs.Prelude.{◌≡◌, ◌++◌, ◌-◌, ◌<◌, ◌≤◌, ◌∷◌, ◌↔◌, ℕ, [], List, None, Some};
+ghost use Rattle.std.specs.Prelude.{◌≡◌, ◌++◌, ◌+◌, ◌-◌, ◌<◌, ◌≤◌, ◌∷◌, ◌⊎◌, ◌↔◌};
+ghost use Rattle.std.specs.Prelude.{ℕ, [], List, None, Some};
 ghost use Rattle.std.specs.Prelude.{cond, drop, length, take, IfOk, IsSome, OnErr, OnOk};
 ghost use Rattle.std.specs.List.{slice_range};
 ghost use Rattle.std.specs.Option.{IfNone, IfSome};
@@ -13,9 +14,10 @@ ghost use Rattle.determinize_nfa.specs.Prefix.{HasPrefixApart};
 ghost use Rattle.determinize_find.specs.Private.Windows.{HasMoved, IsCertain, IsInside, IsPlaceOf};
 ghost use Rattle.determinize_find.specs.Private.Windows.{after_match, with_bytes, with_scan};
 ghost use Rattle.determinize_find.specs.Private.Windows.{without_first};
-ghost use Rattle.determinize_find.specs.Streams.{IsAdvance, IsFed, IsFeeding, IsFinished, IsKept};
-ghost use Rattle.determinize_find.specs.Streams.{IsKeptScan, IsSearching, IsStream, KeepsFew};
-ghost use Rattle.determinize_find.specs.Streams.{KeptFewInBlocks, count_kept, count_read, left_in};
+ghost use Rattle.determinize_find.specs.Streams.{IsAdvance, IsFed, IsFeeding, IsFinished};
+ghost use Rattle.determinize_find.specs.Streams.{IsFoundInBlock, IsKept, IsKeptScan, IsSearching};
+ghost use Rattle.determinize_find.specs.Streams.{IsStream, KeepsFew, KeptFewInBlocks, count_kept};
+ghost use Rattle.determinize_find.specs.Streams.{count_read, left_in};
 
 use crate::iter::{Searcher, is_touching};
 use crate::regex::LazyRegex;
@@ -334,6 +336,7 @@ impl<A: Allocator + Copy> Pieces<A> {
             (λ m. left_in piece.new.now self.new < left_in piece.old.now self.old)) }
         ensures shorter { IfOk result (λ next. 0 < length piece.old.now
             → length piece.new.now < length piece.old.now) }
+        ensures small { length piece.old.now ≤ length piece.new.now + 4096 }
         ensures same { regex.new ≡ regex.old }
     {
         let (block, rest) = piece.split_at(piece.len().min(BLOCK));
@@ -357,6 +360,9 @@ impl<A: Allocator + Copy> Pieces<A> {
         ensures read { IsSearching regex.old.nfa self.old → IsAdvance regex.old.nfa
             self.old self.new piece.old.now piece.new.now result }
         ensures end { IfOk result (λ next. IfNone next (piece.new.now ≡ [])) }
+        ensures block { IsSearching regex.old.nfa self.old → IfOk result (λ next. IfSome next
+            (λ m. (piece.new.now ≡ piece.old.now) ⊎ IsFoundInBlock regex.old.nfa
+            self.old self.new piece.old.now piece.new.now m)) }
         ensures few { IsSearching regex.old.nfa self.old → IfOk result
             (λ next. IfNone next (KeepsFew regex.old.nfa self.new)) }
         ensures kept { IfOk result (λ next. IfSome next (λ m. IsKept self.new m)) }

@@ -1,13 +1,13 @@
 -- How far a search for the next match moves in a text.
--- Main statements: moved_none, moved_on, settled, skipped, advanced, next_of.
+-- Main statements: moved_none, moved_on, settled, skipped, advanced, next_of, in_block.
 -- Used by: `Pieces::advance`, and what it calls.
 -- Idea: moves that read nothing and find nothing are chained; then a match is found, or bytes are read.
 use Rattle.std.specs.Option.{IfSome}
 use Rattle.std.specs.Prelude.{Err, IfOk, Ok, OnErr, Result, option_to_list}
-use Rattle.std.proofs.Common.{◌≡◌, ◌<◌, ◌≤◌, ◌*◌, ◌+◌, ◌++◌, ◌-◌, ◌∙◌, ℕ, Bool, List, None, Option, Some, [], ap}
-use Rattle.std.proofs.Common.{append_assoc, arith, cond, drop, length, refl, subst, sym, true}
+use Rattle.std.proofs.Common.{◌≡◌, ◌<◌, ◌≤◌, ◌*◌, ◌+◌, ◌++◌, ◌-◌, ◌⊎◌, ◌∙◌, ℕ, Bool, List, None, Option, Some}
+use Rattle.std.proofs.Common.{[], ap, append_assoc, arith, cond, drop, inl, inr, length, refl, subst, sym, true}
 use Rattle.std.proofs.lemmas.Bool.{false≢true}
-use Rattle.std.proofs.lemmas.List.{length-drop}
+use Rattle.std.proofs.lemmas.List.{length-append, length-drop}
 use Rattle.std.proofs.lemmas.Result.{IfOk-weaker, on_err_weaker}
 use Rattle.determinize_below.specs.Semantics.{Nfa}
 use Rattle.determinize_below.specs.declared.search.Match.{Match}
@@ -15,7 +15,8 @@ use Rattle.determinize_start.specs.StartKinds.{byte_before}
 use Rattle.determinize_engine.specs.Scans.{Scanned}
 use Rattle.determinize_find.specs.Matches.{is_touching}
 use Rattle.determinize_find.specs.Private.Windows.{HasMoved, IsCertain, end_before, with_scan, without_first}
-use Rattle.determinize_find.specs.Streams.{IsAdvance, IsEndScan, IsFed, IsFrontFed, IsSearching, Streamed, left_in}
+use Rattle.determinize_find.specs.Streams.{IsAdvance, IsEndScan, IsFed, IsFoundInBlock, IsFrontFed, IsSearching, KeepsFew}
+use Rattle.determinize_find.specs.Streams.{Streamed, left_in}
 use Rattle.determinize_find.proofs.streams.Kept.{none_searching}
 use Rattle.determinize_find.proofs.streams.Steps.{after_byte, ended_fed, ended_searching, fed_scan, fed_skipped, joined}
 use Rattle.determinize_find.proofs.streams.Steps.{joined_none}
@@ -100,6 +101,30 @@ module _ {E : Type 0} {nfa : Nfa} {old new : Streamed} {piece rest : List ℕ} {
 
   pub none_of : {error : E} → result ≡ Err error → IsFrontFed nfa old new piece rest []
   none_of e = subst (λ r. OnErr r (IsFrontFed nfa old new piece rest [])) e read.failed
+
+-- a match that is found with the next block of a piece, where few bytes were kept before
+pub in_block : {nfa : Nfa} {old now new : Streamed} {piece rest others : List ℕ} (next : Option Match)
+    → IsFrontFed nfa old now piece rest [] → KeepsFew nfa now
+    → IsFrontFed nfa now new rest others (option_to_list next) → length rest ≤ length others + 4096
+    → IfSome next (λ m. (others ≡ piece) ⊎ IsFoundInBlock nfa old new piece others m)
+in_block None first few last small = tt
+in_block {nfa} {old} {now} {new} {piece} {rest} {others} (Some m) first few last small = inr record {
+  now = now;
+  block = last.front;
+  small = (let n : length (last.front ++ others) ≡ length last.front + length others
+      = length-append last.front others in
+      let e : length (last.front ++ others) ≡ length rest = ap length last.cut in
+      let l : length last.front ≤ 4096 = omega arith in l);
+  first = record { front = first.front; cut = ap (λ w. first.front ++ w) last.cut ∙ first.cut; fed = first.fed };
+  few = few;
+  last = last.fed;
+}
+
+-- nothing of the piece was read
+pub no_block : (nfa : Nfa) (old new : Streamed) (piece : List ℕ) (next : Option Match)
+    → IfSome next (λ m. (piece ≡ piece) ⊎ IsFoundInBlock nfa old new piece piece m)
+no_block nfa old new piece None = tt
+no_block nfa old new piece (Some m) = inl refl
 
 -- fewer matches may follow, also with a piece, and than before
 pub fewer_with : (old new : Streamed) (o : Option Match) (piece : List ℕ)

@@ -1,7 +1,7 @@
-use Rattle.std.proofs.Common.{◌≡◌, ◌<◌, ◌≤◌, length}
+use Rattle.std.proofs.Common.{◌≡◌, ◌<◌, ◌≤◌, ◌⊎◌, length}
 use Rattle.std.specs.Option.{IfNone, IfSome}
 use Rattle.std.specs.Prelude.{option_to_list}
-use Rattle.determinize_find.specs.Streams.{IsFrontFed, IsKept, IsSearching, KeepsFew, left_in}
+use Rattle.determinize_find.specs.Streams.{IsFoundInBlock, IsFrontFed, IsKept, IsSearching, KeepsFew, left_in}
 use Rattle.determinize_find.proofs.pieces.Pieces.advance.Given as goal
 
 abbrev pub invariant-loop-next : goal.invariant-loop-next
@@ -11,6 +11,8 @@ invariant-loop-next g l = record {
       → IsFrontFed l.fn.regex.nfa l.fn.self l.self l.fn.piece.now l.piece.now (option_to_list l.next)
       × IsSearching l.fn.regex.nfa l.self;
   few : IsSearching l.fn.regex.nfa l.fn.self → IfNone l.next (KeepsFew l.fn.regex.nfa l.self);
+  block : IsSearching l.fn.regex.nfa l.fn.self → IfSome l.next (λ m. (l.piece.now ≡ l.fn.piece.now)
+      ⊎ IsFoundInBlock l.fn.regex.nfa l.fn.self l.self l.fn.piece.now l.piece.now m);
   kept : IfSome l.next (λ m. IsKept l.self m);
   left : left_in l.piece.now l.self ≤ left_in l.fn.piece.now l.fn.self;
   fewer : IfSome l.next (λ m. left_in l.piece.now l.self < left_in l.fn.piece.now l.fn.self);
